@@ -1,0 +1,2 @@
+//! tmpl_run
+#![tactic(auto)]

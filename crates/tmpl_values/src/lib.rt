@@ -1,0 +1,6 @@
+//! Values of templates.
+#![tactic(auto)]
+
+mod bytes;
+
+pub use bytes::Bytes;
