@@ -1,0 +1,9 @@
+//! The command `tmpl`.
+#![tactic(auto)]
+
+mod command;
+mod help;
+mod request;
+mod words;
+
+fn main() {}
