@@ -1,1 +1,14 @@
 pub mod Value
+pub mod Weight
+pub mod Codes
+pub mod Data
+pub mod Falls
+pub mod View
+pub mod Json
+pub mod Truth
+pub mod Field
+pub mod Put
+pub mod Text
+pub mod Rune
+pub mod Printable
+pub mod Quote

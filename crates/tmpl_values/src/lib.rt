@@ -1,6 +1,22 @@
-//! Values of templates.
+//! Values of templates: data from JSON, what a template may ask of a value, its text and its quote.
 #![tactic(auto)]
 
 mod bytes;
+mod data;
+mod field;
+mod json;
+mod put;
+mod quote;
+mod shared;
+mod text;
+mod value;
 
 pub use bytes::Bytes;
+pub use data::{Data, Row, Table};
+pub use field::Field;
+pub use json::DataFault;
+pub use put::Put;
+pub use quote::put_quoted;
+pub use shared::Made;
+pub use text::put_text;
+pub use value::Val;

@@ -1,0 +1,10 @@
+pub mod Then
+pub mod Runes
+pub mod Inside
+pub mod Trees
+pub mod Rest
+pub mod Rising
+pub mod Walks
+pub mod Keys
+pub mod Truths
+pub mod Parted

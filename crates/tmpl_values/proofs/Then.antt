@@ -1,0 +1,42 @@
+-- One put after another.
+use Rattle.std.proofs.Common.{◌≡◌, ◌∙◌, ℕ, List, [], ◌++◌, Option, Some, None, Result, Ok, Err, refl, sym, ap, append_assoc, append-nil, arith, subst}
+use Rattle.std.specs.Result.{IsErr}
+use Rattle.tmpl_values.specs.Put.{Puts, appended, IsPut, Took}
+
+appended-append : (old : Option (List ℕ)) (a b : List ℕ) → appended (appended old a) b ≡ appended old (a ++ b)
+appended-append None a b = refl
+appended-append (Some t) a b = ap Some (append_assoc t a b)
+
+appended-nil : (old : Option (List ℕ)) → old ≡ appended old []
+appended-nil None = refl
+appended-nil (Some t) = ap Some (sym (append-nil t))
+
+took_then : {F : Type 0} (r : Result (Unit {0}) F) (old mid new : Option (List ℕ)) (a b : List ℕ) → mid ≡ appended old a → Took r mid new b → Took r old new (a ++ b)
+took_then (Ok u) old mid new a b first second = second ∙ ap (λ t. appended t b) first ∙ appended-append old a b
+took_then (Err e) old mid new a b first second = (
+  a ++ second.0,
+  second.1,
+  ap (λ t. a ++ t) second.2 ∙ sym (append_assoc a second.0 second.1),
+  second.3 ∙ ap (λ t. appended t second.0) first ∙ appended-append old a second.0,
+)
+
+-- nothing is put
+pub none : {F : Type 0} (p : Puts) → IsPut {F = F} (Ok tt) p p []
+none p = record { count = omega arith; bytes = appended-nil p.bytes }
+
+-- a text is put after another
+pub then : {F : Type 0} {old mid new : Puts} {a b : List ℕ} {r : Result (Unit {0}) F} → IsPut {F = F} (Ok tt) old mid a → IsPut r mid new b → IsPut r old new (a ++ b)
+then {old = old} {mid = mid} {new = new} {a = a} {b = b} {r = r} first second = record {
+  count = omega (arith, first.count, second.count);
+  bytes = took_then r old.bytes mid.bytes new.bytes a b first.bytes second.bytes;
+}
+
+-- the put of the first of two texts fails
+pub stop : {F : Type 0} {r : Result (Unit {0}) F} {old new : Puts} {a : List ℕ} {e : F} (b : List ℕ) → IsErr r → IsPut {F = F} (Err e) old new a → IsPut r old new (a ++ b)
+stop {r = Ok u} b err h = cc
+stop {r = Err f} {old = old} {a = a} b err h =
+    let begins = h.bytes in
+    record { count = h.count; bytes = (begins.0, begins.1 ++ b, ap (λ t. t ++ b) begins.2 ∙ append_assoc begins.0 begins.1 b, begins.3) }
+
+pub along : {F : Type 0} {r : Result (Unit {0}) F} {old new : Puts} {a b : List ℕ} → IsPut r old new a → a ≡ b → IsPut r old new b
+along {F} {r} {old} {new} h e = subst (IsPut r old new) e h

@@ -1,0 +1,57 @@
+-- The value of JSON bytes, over `serde_json`'s own definition of what they read as.
+use Rattle.std.specs.Prelude.{◌≡◌, List, ℕ, Option, Some, None, Result, Ok, Err, option_map, option_and_then, if◌then◌else◌}
+use Rattle.std.specs.Str.{is_utf8}
+use Rattle.serde_json.specs.Data as json
+use Rattle.serde_json.specs.Find.{as_i64}
+use Rattle.serde_json.specs.Read.{read}
+use Rattle.tmpl_values.specs.declared.json.DataFault.{DataFault}
+use Rattle.tmpl_values.specs.declared.json.DataFault.TheVariants.{NotJson, NotWhole, OutOfMemory}
+use Rattle.tmpl_values.specs.declared.data.Data.{Data}
+use Rattle.tmpl_values.specs.Data.{value_of}
+use Rattle.tmpl_values.specs.Value.{Value, null, boolean, number, string, sequence, mapping, Items, no_item, item, Entries, no_entry, entry}
+
+-- the value of a JSON tree: none where a number is held as a float or is outside 64 signed bits
+abbrev mutual
+  pub tree_value : json.Data → Option Value
+  tree_value json.null = Some null
+  tree_value (json.boolean b) = Some (boolean b)
+  tree_value (json.number n) = option_map number (as_i64 n)
+  tree_value (json.string s) = Some (string s)
+  tree_value (json.array ds) = option_map sequence (tree_items ds)
+  tree_value (json.object ms) = option_map mapping (tree_entries ms)
+
+  pub tree_items : json.Items → Option Items
+  tree_items json.no_items = Some no_item
+  tree_items (json.item d ds) = option_and_then (λ v. option_map (item v) (tree_items ds)) (tree_value d)
+
+  pub tree_entries : json.Members → Option Entries
+  tree_entries json.no_members = Some no_entry
+  tree_entries (json.member k d ms) = option_and_then (λ v. option_map (entry k v) (tree_entries ms)) (tree_value d)
+
+-- the tree that bytes are: UTF-8 that `serde_json`'s definition reads, nested no deeper than 127
+abbrev pub tree_of : List ℕ → Option json.Data
+tree_of bytes = if is_utf8 bytes then read bytes else None
+
+-- a value that is there, or else the fault that a number is not whole
+abbrev pub if_whole : {A : Type 0} → Option A → Result A DataFault
+if_whole None = Err NotWhole
+if_whole (Some v) = Ok v
+
+abbrev pub if_json : Option json.Data → Result Value DataFault
+if_json None = Err NotJson
+if_json (Some d) = if_whole (tree_value d)
+
+-- the value of data
+abbrev pub data_of : List ℕ → Result Value DataFault
+data_of bytes = if_json (tree_of bytes)
+
+-- what was answered is what was asked for, unless memory was wanting
+abbrev pub IsAnswer : {A B : Type 0} → (A → B) → Result A DataFault → Result B DataFault → Type 0
+IsAnswer view (Ok a) asked = asked ≡ Ok (view a)
+IsAnswer view (Err NotJson) asked = asked ≡ Err NotJson
+IsAnswer view (Err NotWhole) asked = asked ≡ Err NotWhole
+IsAnswer view (Err OutOfMemory) asked = Unit {0}
+
+-- the data that these bytes are, or the fault that they have
+abbrev pub IsData : List ℕ → Result Data DataFault → Type 0
+IsData bytes result = IsAnswer value_of result (data_of bytes)

@@ -1,0 +1,129 @@
+//! Data: what a JSON file holds.
+ghost use Rattle.std.specs.Prelude.{◌≡◌};
+
+use crate::bytes::Bytes;
+use std::marker::Model;
+
+/// A JSON value whose numbers are whole and whose maps stand in the order of their keys.
+#[cycle(data)]
+#[derive(Drop)]
+pub enum Data {
+    Null,
+    Bool(bool),
+    Num(i64),
+    Text(Bytes),
+    List(Row),
+    Map(Table),
+}
+
+/// The items of a list, in order.
+#[cycle(data)]
+#[derive(Drop)]
+pub struct Row {
+    items: Vec<Data>,
+}
+
+/// The entries of a map. Their keys rise in the order of their bytes, so no two are the same.
+#[cycle(data)]
+#[derive(Drop)]
+pub struct Table {
+    entries: Vec<(Bytes, Data)>,
+}
+
+impl Model for Row {
+    ghost use Rattle.tmpl_values.specs.Value.{Items};
+    ghost use Rattle.tmpl_values.specs.Weight.{items_weight};
+
+    ghost Value = { Items };
+
+    ghost use Rattle.tmpl_values.specs.Codes.{items_coded};
+
+    ghost coded = { items_coded };
+
+    ghost use Rattle.tmpl_values.specs.Data.{items_of};
+
+    ghost view = { λ r. items_of r.items.items };
+
+    ghost size = { items_weight };
+
+    ghost use Rattle.tmpl_values.specs.Falls.{row_le};
+
+    ghost size_decreases = { λ r h. row_le r.items.items };
+}
+
+impl Model for Table {
+    ghost use Rattle.tmpl_values.specs.Value.{Entries, AreRising};
+    ghost use Rattle.tmpl_values.specs.Weight.{entries_weight};
+
+    ghost Value = { Entries };
+
+    ghost use Rattle.tmpl_values.specs.Codes.{entries_coded};
+
+    ghost coded = { entries_coded };
+
+    ghost use Rattle.tmpl_values.specs.Data.{entries_of};
+
+    ghost view = { λ t. entries_of t.entries.items };
+
+    ghost invariant = { λ t. AreRising (entries_of t.entries.items) };
+
+    ghost size = { entries_weight };
+
+    ghost use Rattle.tmpl_values.specs.Falls.{table_le};
+
+    ghost size_decreases = { λ t h. table_le t.entries.items };
+}
+
+impl Row {
+    ghost use Rattle.tmpl_values.specs.Data.{items_of};
+
+    /// The list of these items.
+    pub(crate) fn new(items: Vec<Data>) -> Row
+        ensures { result ≡ items_of items.items }
+    {
+        Row { items }
+    }
+
+    /// The items.
+    pub(crate) fn as_slice(&self) -> &[Data]
+        ensures { items_of result.now ≡ self.now }
+    {
+        self.items.as_slice()
+    }
+}
+
+impl Table {
+    ghost use Rattle.std.specs.Prelude.{MatchOption};
+    ghost use Rattle.tmpl_values.specs.Data.{value_of, entries_of};
+    ghost use Rattle.tmpl_values.specs.Field.{found, missing, entry_at};
+    ghost use Rattle.tmpl_values.specs.Value.{AreRising};
+
+    /// The map of these entries, whose keys rise.
+    pub(crate) fn new(entries: Vec<(Bytes, Data)>) -> Table
+        requires { AreRising (entries_of entries.items) }
+        ensures { result ≡ entries_of entries.items }
+    {
+        Table { entries }
+    }
+
+    /// The entries, by rising keys.
+    pub(crate) fn as_slice(&self) -> &[(Bytes, Data)]
+        ensures same { entries_of result.now ≡ self.now }
+        ensures rising { AreRising self.now }
+    {
+        self.entries.as_slice()
+    }
+
+    /// The value of this key, found by halves.
+    pub(crate) fn get(&self, key: &[u8]) -> Option<&Data>
+        ensures { MatchOption result
+            (entry_at key.now self.now ≡ missing)
+            (λ d. entry_at key.now self.now ≡ found (value_of d.now)) }
+    {
+        let entries = self.as_slice();
+        match entries.binary_search_by(|entry| entry.0.as_slice().cmp(&key)) {
+            Ok(place) => Some(&entries[place].1),
+            Err(_) => None,
+        }
+    }
+}

@@ -1,0 +1,104 @@
+//! Data from JSON.
+ghost use Rattle.std.specs.Prelude.{◌≡◌};
+ghost use Rattle.serde_json.specs.View.{view, items_view, members_view};
+ghost use Rattle.tmpl_values.specs.Data.{value_of, items_of};
+ghost use Rattle.tmpl_values.specs.Json.{tree_value, tree_items, tree_entries, if_whole, IsAnswer, IsData};
+
+use crate::bytes::Bytes;
+use crate::data::{Data, Row, Table};
+use serde_json::Value;
+use std::alloc::{AllocError, AllocFailed, Global};
+use std::collections::BTreeMap;
+use thiserror::Error;
+
+/// Why bytes are no data.
+#[derive(Clone, Copy, Debug, PartialEq, Eq, Error)]
+pub enum DataFault {
+    /// They are not UTF-8, or no JSON value, or nest deeper than 127.
+    #[error("not JSON")]
+    NotJson,
+    /// A number is held as a float, as `1.5`, `1e3` and `-0` are, or is outside 64 signed bits.
+    #[error("number not whole or out of range")]
+    NotWhole,
+    /// Memory was refused.
+    #[error("out of memory")]
+    OutOfMemory,
+}
+
+impl From<AllocError> for DataFault {
+    ghost use Rattle.tmpl_values.specs.declared.json.DataFault.{DataFault};
+
+    ghost from_gives = { λ _ e. e ≡ DataFault.OutOfMemory };
+
+    fn from(_: AllocError) -> DataFault {
+        DataFault::OutOfMemory
+    }
+}
+
+impl<T: Drop> From<AllocFailed<T>> for DataFault {
+    ghost use Rattle.tmpl_values.specs.declared.json.DataFault.{DataFault};
+
+    ghost from_gives = { λ _ e. e ≡ DataFault.OutOfMemory };
+
+    fn from(_: AllocFailed<T>) -> DataFault {
+        DataFault::OutOfMemory
+    }
+}
+
+impl Data {
+    /// The data that JSON bytes are. Where a key stands twice in an object, its last value counts.
+    pub fn from_json(alloc: Global, bytes: &[u8]) -> Result<Data, DataFault>
+        ensures { IsData bytes.now result }
+    {
+        match Value::from_slice(alloc, bytes) {
+            Ok(value) => data_of(alloc, &value),
+            Err(error) => {
+                if error.is_memory() {
+                    Err(DataFault::OutOfMemory)
+                } else {
+                    Err(DataFault::NotJson)
+                }
+            }
+        }
+    }
+}
+
+#[cycle(data)]
+fn data_of(alloc: Global, value: &Value) -> Result<Data, DataFault>
+    ensures { IsAnswer value_of result (if_whole (tree_value (view value.now))) }
+{
+    match value {
+        Value::Null => Ok(Data::Null),
+        Value::Bool(b) => Ok(Data::Bool(*b)),
+        Value::Number(n) => match n.as_i64() {
+            Some(n) => Ok(Data::Num(n)),
+            None => Err(DataFault::NotWhole),
+        },
+        Value::String(text) => Ok(Data::Text(Bytes::new(text.as_bytes().to_vec(alloc)?))),
+        Value::Array(items) => Ok(Data::List(Row::new(items_of(alloc, items)?))),
+        Value::Object(members) => Ok(Data::Map(table_of(alloc, members)?)),
+    }
+}
+
+#[cycle(data)]
+fn items_of(alloc: Global, items: &Vec<Value>) -> Result<Vec<Data>, DataFault>
+    ensures { IsAnswer (λ v. items_of v.items) result (if_whole (tree_items (items_view items.now.items))) }
+{
+    let mut done = Vec::with_capacity(alloc, items.len())?;
+    for item in items {
+        done.push(data_of(alloc, item)?)?;
+    }
+    Ok(done)
+}
+
+#[cycle(data)]
+fn table_of(alloc: Global, members: &BTreeMap<String, Value>) -> Result<Table, DataFault>
+    ensures { IsAnswer (λ t. t) result (if_whole (tree_entries (members_view members.now.entries))) }
+{
+    let mut done = Vec::with_capacity(alloc, members.len())?;
+    for (key, member) in members.iter() {
+        let name = Bytes::new(key.as_bytes().to_vec(alloc)?);
+        done.push((name, data_of(alloc, member)?))?;
+    }
+    Ok(Table::new(done))
+}

@@ -1,0 +1,118 @@
+//! The text of a value.
+ghost use Rattle.std.specs.Prelude.{◌-◌, ◌^◌, ◌<◌, ◌∷◌, ◌++◌, codes};
+ghost use Rattle.std.specs.Fmt.{signed_decimal};
+ghost use Rattle.tmpl_values.specs.Data.{value_of, items_of, entries_of};
+ghost use Rattle.tmpl_values.specs.View.{val_of};
+ghost use Rattle.tmpl_values.specs.Put.{IsPut};
+ghost use Rattle.tmpl_values.specs.Text.{text_of, inner_text, truth_text, item_texts, entry_texts, parted};
+
+use crate::bytes::Bytes;
+use crate::data::Data;
+use crate::put::Put;
+use crate::value::Val;
+use itoa::Buffer;
+
+/// Puts the text that a value has as an action.
+///
+/// Nothing and null are `<no value>`, texts are raw, numbers decimal, a list is `[a b]`, and a map is
+/// `map[key:value key:value]` by rising keys. Inside lists and maps null is `<nil>`.
+pub fn put_text<P: Put>(value: &Val<'_>, out: &mut P) -> Result<(), P::Fault>
+    requires { (P.so_far out.old).failures < 2 ^ 64 - 1 }
+    ensures { IsPut result (P.so_far out.old) (P.so_far out.new) (text_of (val_of value.now)) }
+{
+    match value {
+        Val::Nothing | Val::Null => out.put(b"<no value>"),
+        Val::Bool(b) => put_truth(*b, out),
+        Val::Num(n) => put_number(*n, out),
+        Val::Text(text) => out.put(text),
+        Val::Made(text) => out.put(text.as_slice()),
+        Val::List(items) => put_items(items, out),
+        Val::Map(table) => put_entries(table.as_slice(), out),
+    }
+}
+
+fn put_truth<P: Put>(b: bool, out: &mut P) -> Result<(), P::Fault>
+    requires { (P.so_far out.old).failures < 2 ^ 64 - 1 }
+    ensures { IsPut result (P.so_far out.old) (P.so_far out.new) (truth_text b) }
+{
+    if b {
+        out.put(b"true")
+    } else {
+        out.put(b"false")
+    }
+}
+
+fn put_number<P: Put>(n: i64, out: &mut P) -> Result<(), P::Fault>
+    requires { (P.so_far out.old).failures < 2 ^ 64 - 1 }
+    ensures { IsPut result (P.so_far out.old) (P.so_far out.new) (signed_decimal n) }
+{
+    let mut buffer = Buffer::new();
+    out.put(buffer.format(n).as_bytes())
+}
+
+#[cycle(put)]
+fn put_inner<P: Put>(held: &Data, out: &mut P) -> Result<(), P::Fault>
+    requires { (P.so_far out.old).failures < 2 ^ 64 - 1 }
+    ensures { IsPut result (P.so_far out.old) (P.so_far out.new) (inner_text (value_of held.now)) }
+{
+    match held {
+        Data::Null => out.put(b"<nil>"),
+        Data::Bool(b) => put_truth(*b, out),
+        Data::Num(n) => put_number(*n, out),
+        Data::Text(text) => out.put(text.as_slice()),
+        Data::List(items) => put_items(items.as_slice(), out),
+        Data::Map(table) => put_entries(table.as_slice(), out),
+    }
+}
+
+#[cycle(put)]
+fn put_items<P: Put>(items: &[Data], out: &mut P) -> Result<(), P::Fault>
+    requires { (P.so_far out.old).failures < 2 ^ 64 - 1 }
+    ensures { IsPut result (P.so_far out.old) (P.so_far out.new)
+        (codes "[" ++ (parted (item_texts (items_of items.now)) ++ codes "]")) }
+{
+    out.put(b"[")?;
+    put_parted_items(items, out)?;
+    out.put(b"]")
+}
+
+#[cycle(put)]
+fn put_parted_items<P: Put>(items: &[Data], out: &mut P) -> Result<(), P::Fault>
+    requires { (P.so_far out.old).failures < 2 ^ 64 - 1 }
+    ensures { IsPut result (P.so_far out.old) (P.so_far out.new) (parted (item_texts (items_of items.now))) }
+{
+    let mut lead: &[u8] = b"";
+    for held in items {
+        out.put(lead)?;
+        put_inner(held, out)?;
+        lead = b" ";
+    }
+    Ok(())
+}
+
+#[cycle(put)]
+fn put_entries<P: Put>(entries: &[(Bytes, Data)], out: &mut P) -> Result<(), P::Fault>
+    requires { (P.so_far out.old).failures < 2 ^ 64 - 1 }
+    ensures { IsPut result (P.so_far out.old) (P.so_far out.new)
+        (codes "map[" ++ (parted (entry_texts (entries_of entries.now)) ++ codes "]")) }
+{
+    out.put(b"map[")?;
+    put_parted_entries(entries, out)?;
+    out.put(b"]")
+}
+
+#[cycle(put)]
+fn put_parted_entries<P: Put>(entries: &[(Bytes, Data)], out: &mut P) -> Result<(), P::Fault>
+    requires { (P.so_far out.old).failures < 2 ^ 64 - 1 }
+    ensures { IsPut result (P.so_far out.old) (P.so_far out.new) (parted (entry_texts (entries_of entries.now))) }
+{
+    let mut lead: &[u8] = b"";
+    for (key, held) in entries {
+        out.put(lead)?;
+        out.put(key.as_slice())?;
+        out.put(b":")?;
+        put_inner(held, out)?;
+        lead = b" ";
+    }
+    Ok(())
+}
