@@ -9,10 +9,13 @@ cause_of (kind.StepsSpent limit) = steps_spent limit
 cause_of (kind.NoField name) = lacks_field name.now
 cause_of (kind.NoEntry name) = lacks_entry name.now
 
-abbrev pub fault_seen : RunFault → Fault
-fault_seen f = record {
+abbrev pub fault_by : RunFault → RunFaultKind → Fault
+fault_by f kind = record {
   file = f.file.now;
   line = f.line;
   template = f.template.now;
-  cause = cause_of f.kind;
+  cause = cause_of kind;
 }
+
+abbrev pub fault_seen : RunFault → Fault
+fault_seen f = fault_by f f.kind

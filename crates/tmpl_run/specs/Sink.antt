@@ -1,14 +1,7 @@
 -- What a sink has taken, where it tells that, and what a failure leaves there.
-use Rattle.std.specs.Prelude.{◌≡◌, ◌+◌, ◌≤◌, ℕ, List, length, take, ◌++◌, Option, option_map, Result, Ok, Err}
+use Rattle.std.specs.Prelude.{◌≡◌, ◌+◌, ℕ, List, Option, Result, Ok, Err}
+pub use Rattle.tmpl_values.specs.Put.{appended, Begins}
 use Rattle.tmpl_run.specs.declared.sink.SinkFault.{SinkFault}
-
--- what was taken, with these bytes after it
-abbrev pub appended : Option (List ℕ) → List ℕ → Option (List ℕ)
-appended taken bytes = option_map (λ known. known ++ bytes) taken
-
--- new is old and a beginning of the text: perhaps none of it, perhaps all
-abbrev pub TakesBeginning : Option (List ℕ) → List ℕ → Option (List ℕ) → Type 0
-TakesBeginning old text new = (n : ℕ) × (n ≤ length text) × (new ≡ appended old (take n text))
 
 -- a sink before and after: what it has taken, where it tells that, and how often it has failed
 pub record Sunk : Type 0 where
@@ -26,7 +19,7 @@ Whole text s = (s.is ≡ s.was) × (s.after ≡ appended s.before text)
 
 -- the sink failed once, and took a beginning of the text
 abbrev pub Cut : List ℕ → Sunk → Type 0
-Cut text s = (s.is ≡ s.was + 1) × TakesBeginning s.before text s.after
+Cut text s = (s.is ≡ s.was + 1) × Begins s.before s.after text
 
 -- the sink was not touched, as far as it tells
 abbrev pub Untouched : Sunk → Type 0
