@@ -7,4 +7,6 @@ pub mod Rising
 pub mod Walks
 pub mod Keys
 pub mod Truths
+pub mod Texts
+pub mod Items
 pub mod Parted

@@ -7,6 +7,8 @@ pub mod View
 pub mod Json
 pub mod Truth
 pub mod Field
+pub mod Compare
+pub mod Item
 pub mod Put
 pub mod Text
 pub mod Rune

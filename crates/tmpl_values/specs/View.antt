@@ -1,5 +1,6 @@
 -- What the values of a run, and the fields that they answer, stand for.
-use Rattle.std.specs.Prelude.{Bool, true, false, not}
+use Rattle.std.specs.Prelude.{◌≡◌, Bool, true, false, not, Result, Ok, Err}
+use Rattle.std.specs.declared.alloc.AllocError.{AllocError}
 use Rattle.tmpl_values.specs.Value.{Value, nothing, null, boolean, number, string, sequence, mapping}
 use Rattle.tmpl_values.specs.declared.value.Val.{Val}
 use Rattle.tmpl_values.specs.declared.value.Val.TheVariants as kind
@@ -43,3 +44,12 @@ is_borrowed (answer.Found v) = not (is_made v)
 is_borrowed answer.Missing = true
 is_borrowed answer.OfNothing = true
 is_borrowed answer.NoField = true
+
+-- the same value once more, or a refusal, which a made text alone may meet
+abbrev pub IsShared : Val → Result Val AllocError → Type 0
+IsShared v (Ok w) = (val_of w ≡ val_of v) × (is_made w ≡ is_made v)
+IsShared v (Err e) = is_made v ≡ true
+
+-- the element at a place, behind its index or key
+abbrev pub element_of : Val × Val → Value × Value
+element_of p = (val_of p.0, val_of p.1)

@@ -2,6 +2,7 @@
 #![tactic(auto)]
 
 mod bytes;
+mod compare;
 mod data;
 mod field;
 mod json;
@@ -12,6 +13,7 @@ mod text;
 mod value;
 
 pub use bytes::Bytes;
+pub use compare::CompareFault;
 pub use data::{Data, Row, Table};
 pub use field::Field;
 pub use json::DataFault;
@@ -19,4 +21,4 @@ pub use put::Put;
 pub use quote::put_quoted;
 pub use shared::Made;
 pub use text::put_text;
-pub use value::Val;
+pub use value::{Cell, Val};

@@ -1,5 +1,5 @@
 //! A text that was made during a run.
-ghost use Rattle.std.specs.Prelude.{◌≡◌, IfOk};
+ghost use Rattle.std.specs.Prelude.{◌≡◌, ◌≤◌, length, slice_range, IfOk};
 
 use std::alloc::{AllocError, Global};
 use std::marker::Model;
@@ -41,5 +41,27 @@ impl Made {
         ensures { result.now ≡ self.now }
     {
         &self.text.as_slice()[self.start..self.end]
+    }
+
+    /// The same bytes once more.
+    pub(crate) fn share(&self) -> Result<Made, AllocError>
+        ensures { IfOk result (λ m. m ≡ self.now) }
+    {
+        Ok(Made {
+            text: Rc::clone(&self.text)?,
+            start: self.start,
+            end: self.end,
+        })
+    }
+
+    /// The bytes from i to before j.
+    pub(crate) fn part(self, i: usize, j: usize) -> Made
+        requires { (i ≤ j) × (j ≤ length self) }
+        ensures { result ≡ slice_range self i j }
+    {
+        let start = self.start + i;
+        let end = self.start + j;
+        let Made { text, .. } = self;
+        Made { text, start, end }
     }
 }

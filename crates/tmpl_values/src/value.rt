@@ -1,12 +1,16 @@
 //! The values of a run.
-ghost use Rattle.std.specs.Prelude.{◌≡◌, true, false};
-ghost use Rattle.tmpl_values.specs.View.{value_of, val_of, is_made, field_of, is_borrowed};
+ghost use Rattle.std.specs.Prelude.{◌≡◌, ◌-◌, ◌≤◌, length, true, false, IfOk, IfSome, option_map};
+ghost use Rattle.tmpl_values.specs.Value.{string, sequence, mapping};
+ghost use Rattle.tmpl_values.specs.View.{value_of, items_of, entries_of, val_of, is_made, field_of, is_borrowed, element_of, IsShared};
 ghost use Rattle.tmpl_values.specs.Truth.{truth};
 ghost use Rattle.tmpl_values.specs.Field.{field_at};
+ghost use Rattle.tmpl_values.specs.Item.{item_at, bytes_of, size_of, HasPart, part_of, items_from, first_items};
 
+use crate::bytes::Bytes;
 use crate::data::{Data, Table};
 use crate::field::Field;
 use crate::shared::Made;
+use std::alloc::{AllocError, Global};
 
 /// A value of a template. It borrows from the data and from the template's constants.
 #[derive(Drop)]
@@ -22,6 +26,13 @@ pub enum Val<'a> {
     Made(Made),
     List(&'a [Data]),
     Map(&'a Table),
+}
+
+/// One place of a lent stack: a value, and a number beside it.
+#[derive(Drop)]
+pub struct Cell<'a> {
+    pub val: Val<'a>,
+    pub num: u64,
 }
 
 impl<'a> Val<'a> {
@@ -70,4 +81,111 @@ impl<'a> Val<'a> {
                 Field::NoField,
         }
     }
+
+    /// The element at a place and its index or key: the items of a list in order, those of a map by rising keys.
+    pub fn item(&self, i: u64) -> Option<(Val<'a>, Val<'a>)>
+        ensures value { option_map element_of result ≡ item_at i (val_of self.now) }
+        ensures borrowed { IfSome result (λ p. (is_made p.0 ≡ false) × (is_made p.1 ≡ false)) }
+    {
+        match self {
+            Val::List(items) => list_item(items, i as usize),
+            Val::Map(table) => map_item(table.as_slice(), i as usize),
+            Val::Nothing | Val::Null | Val::Bool(_) | Val::Num(_) | Val::Text(_) | Val::Made(_) => {
+                None
+            }
+        }
+    }
+
+    /// The same value once more. It takes no memory but for a made text, whose count of owners may be refused.
+    pub fn share(&self) -> Result<Val<'a>, AllocError>
+        ensures { IsShared self.now result }
+    {
+        match self {
+            Val::Nothing => Ok(Val::Nothing),
+            Val::Null => Ok(Val::Null),
+            Val::Bool(b) => Ok(Val::Bool(*b)),
+            Val::Num(n) => Ok(Val::Num(*n)),
+            Val::Text(text) => Ok(Val::Text(text)),
+            Val::Made(text) => Ok(Val::Made(text.share()?)),
+            Val::List(items) => Ok(Val::List(items)),
+            Val::Map(table) => Ok(Val::Map(table)),
+        }
+    }
+
+    /// A text of these bytes.
+    pub fn made(alloc: Global, bytes: Vec<u8>) -> Result<Val<'a>, AllocError>
+        ensures { IfOk result (λ v. val_of v ≡ string bytes.items) }
+    {
+        Ok(Val::Made(Made::new(alloc, bytes)?))
+    }
+
+    /// The bytes of a text, made or not.
+    pub fn bytes(&self) -> Option<&[u8]>
+        ensures { option_map (λ b. b.now) result ≡ bytes_of (val_of self.now) }
+    {
+        match self {
+            Val::Text(text) => Some(text),
+            Val::Made(text) => Some(text.as_slice()),
+            Val::Nothing | Val::Null | Val::Bool(_) | Val::Num(_) | Val::List(_) | Val::Map(_) => {
+                None
+            }
+        }
+    }
+
+    /// How many bytes a text has, or how many items a list or a map has.
+    pub fn size(&self) -> Option<u64>
+        ensures { result ≡ size_of (val_of self.now) }
+    {
+        match self {
+            Val::Text(text) => Some(text.len() as u64),
+            Val::Made(text) => Some(text.as_slice().len() as u64),
+            Val::List(items) => Some(items.len() as u64),
+            Val::Map(table) => Some(table.as_slice().len() as u64),
+            Val::Nothing | Val::Null | Val::Bool(_) | Val::Num(_) => None,
+        }
+    }
+
+    /// The bytes of a text or the items of a list, from i to before j. It shares them and copies nothing.
+    pub fn part(self, i: u64, j: u64) -> Val<'a>
+        requires { HasPart i j (val_of self) }
+        ensures value { val_of result ≡ part_of i j (val_of self.entry) }
+        ensures kind { is_made result ≡ is_made self.entry }
+    {
+        match self {
+            Val::Text(text) => Val::Text(&text[i as usize..j as usize]),
+            Val::Made(text) => Val::Made(text.part(i as usize, j as usize)),
+            Val::List(items) => Val::List(items_between(items, i as usize, j as usize)),
+            other => other,
+        }
+    }
+}
+
+fn list_item<'a>(items: &'a [Data], i: usize) -> Option<(Val<'a>, Val<'a>)>
+    ensures value { option_map element_of result ≡ item_at i (sequence (items_of items.now)) }
+    ensures borrowed { IfSome result (λ p. (is_made p.0 ≡ false) × (is_made p.1 ≡ false)) }
+{
+    if i < items.len() {
+        Some((Val::Num(i as i64), Val::of(&items[i])))
+    } else {
+        None
+    }
+}
+
+fn map_item<'a>(entries: &'a [(Bytes, Data)], i: usize) -> Option<(Val<'a>, Val<'a>)>
+    ensures value { option_map element_of result ≡ item_at i (mapping (entries_of entries.now)) }
+    ensures borrowed { IfSome result (λ p. (is_made p.0 ≡ false) × (is_made p.1 ≡ false)) }
+{
+    if i < entries.len() {
+        let (key, held) = &entries[i];
+        Some((Val::Text(key.as_slice()), Val::of(held)))
+    } else {
+        None
+    }
+}
+
+fn items_between(items: &[Data], i: usize, j: usize) -> &[Data]
+    requires { (i ≤ j) × (j ≤ length items.now) }
+    ensures { items_of result.now ≡ first_items (j - i) (items_from i (items_of items.now)) }
+{
+    &items[i..j]
 }

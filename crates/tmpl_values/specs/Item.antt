@@ -1,0 +1,85 @@
+-- The elements of a value, which a range visits ("Actions", at `range`), and its size and parts.
+use Rattle.std.specs.Prelude.{◌≤◌, ◌-◌, ℕ, zero, suc, pos, List, length, slice_range, Option, Some, None, option_map}
+use Rattle.tmpl_values.specs.Value.{Value, nothing, null, boolean, number, string, sequence, mapping, Items, no_item, item, Entries, no_entry, entry}
+
+-- the value at a place
+abbrev pub nth_item : ℕ → Items → Option Value
+nth_item i no_item = None
+nth_item zero (item v vs) = Some v
+nth_item (suc i) (item v vs) = nth_item i vs
+
+-- the key and the value at a place
+abbrev pub nth_entry : ℕ → Entries → Option (Value × Value)
+nth_entry i no_entry = None
+nth_entry zero (entry k v es) = Some (string k, v)
+nth_entry (suc i) (entry k v es) = nth_entry i es
+
+-- the element at a place, behind its index or key: the items of a sequence in order, those of a mapping by key
+abbrev pub item_at : ℕ → Value → Option (Value × Value)
+item_at i nothing = None
+item_at i null = None
+item_at i (boolean b) = None
+item_at i (number n) = None
+item_at i (string s) = None
+item_at i (sequence vs) = option_map (λ v. (number (pos i), v)) (nth_item i vs)
+item_at i (mapping es) = nth_entry i es
+
+abbrev pub item_count : Items → ℕ
+item_count no_item = 0
+item_count (item v vs) = suc (item_count vs)
+
+abbrev pub entry_count : Entries → ℕ
+entry_count no_entry = 0
+entry_count (entry k v es) = suc (entry_count es)
+
+-- the bytes of a string
+abbrev pub bytes_of : Value → Option (List ℕ)
+bytes_of nothing = None
+bytes_of null = None
+bytes_of (boolean b) = None
+bytes_of (number n) = None
+bytes_of (string s) = Some s
+bytes_of (sequence vs) = None
+bytes_of (mapping es) = None
+
+-- how many bytes a string has, or how many items a sequence or a mapping has
+abbrev pub size_of : Value → Option ℕ
+size_of nothing = None
+size_of null = None
+size_of (boolean b) = None
+size_of (number n) = None
+size_of (string s) = Some (length s)
+size_of (sequence vs) = Some (item_count vs)
+size_of (mapping es) = Some (entry_count es)
+
+-- the items without the first i
+abbrev pub items_from : ℕ → Items → Items
+items_from zero vs = vs
+items_from (suc i) no_item = no_item
+items_from (suc i) (item v vs) = items_from i vs
+
+-- the first n items
+abbrev pub first_items : ℕ → Items → Items
+first_items zero vs = no_item
+first_items (suc n) no_item = no_item
+first_items (suc n) (item v vs) = item v (first_items n vs)
+
+-- the value is a string or a sequence, and has a part from i to before j
+abbrev pub HasPart : ℕ → ℕ → Value → Type 0
+HasPart i j nothing = ⊥
+HasPart i j null = ⊥
+HasPart i j (boolean b) = ⊥
+HasPart i j (number n) = ⊥
+HasPart i j (string s) = (i ≤ j) × (j ≤ length s)
+HasPart i j (sequence vs) = (i ≤ j) × (j ≤ item_count vs)
+HasPart i j (mapping es) = ⊥
+
+-- the bytes or the items from i to before j, and any other value itself
+abbrev pub part_of : ℕ → ℕ → Value → Value
+part_of i j nothing = nothing
+part_of i j null = null
+part_of i j (boolean b) = boolean b
+part_of i j (number n) = number n
+part_of i j (string s) = string (slice_range s i j)
+part_of i j (sequence vs) = sequence (first_items (j - i) (items_from i vs))
+part_of i j (mapping es) = mapping es
