@@ -44,7 +44,7 @@ struct TextSoFar {
 impl Put for TextSoFar {
     type Fault = AllocError;
 
-    ghost so_far = { λ t. record { bytes = Some t.bytes.items; failures = t.failures } };
+    ghost so_far = { λ t. record { bytes = Some t.bytes.items; failures = t.failures; through = 0 } };
 
     fn put(&mut self, bytes: &[u8]) -> Result<(), AllocError> {
         match self.bytes.extend_from_slice(bytes) {
@@ -174,7 +174,7 @@ fn operand_value<'a>(
 ) -> Result<Result<Val<'a>, RunFaultKind<'a>>, AllocError>
     ensures { IfOk result (λ r. value_seen r ≡ operand_value missing (val_of dot.now) (operand_of operand.now)) }
 {
-    let value = Val::Nothing; let _ = dot;
+    let value = dot.share()?;
     match operand {
         Operand::Dot => Ok(Ok(value)),
         Operand::Fields(names) => Ok(chain(missing, value, names.as_slice())),

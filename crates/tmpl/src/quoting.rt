@@ -7,6 +7,7 @@ use tmpl_run::{Sink, SinkFault, put_all};
 use tmpl_values::{Put, put_quoted};
 
 /// A sink as something that takes whole texts.
+#[derive(Drop)]
 struct WholePuts<'a, S> {
     sink: &'a mut S,
 }
@@ -14,7 +15,11 @@ struct WholePuts<'a, S> {
 impl<'a, S: Sink> Put for WholePuts<'a, S> {
     type Fault = SinkFault;
 
-    ghost so_far = { λ p. record { bytes = S.taken p.sink.now; failures = S.failures p.sink.now } };
+    ghost so_far = { λ p. record {
+        bytes = S.taken p.sink.now;
+        failures = S.failures p.sink.now;
+        through = p.sink.ghost_name;
+    } };
 
     fn put(&mut self, bytes: &[u8]) -> Result<(), SinkFault> {
         put_all(self.sink, bytes)
@@ -28,7 +33,5 @@ pub(crate) fn put_quote<S: Sink>(sink: &mut S, name: &[u8]) -> Result<(), SinkFa
         (sunk (S.taken sink.old) (S.taken sink.new) (S.failures sink.old) (S.failures sink.new)) result }
 {
     let mut puts = WholePuts { sink };
-    let result = put_quoted(name, &mut puts);
-    let WholePuts { sink: _ } = puts;
-    result
+    put_quoted(name, &mut puts)
 }
