@@ -1,6 +1,12 @@
 //! Template files read into trees, and the set of templates.
 #![tactic(auto)]
 
+mod fault;
+mod parse;
+mod set;
 mod tree;
 
+pub use fault::{ParseFault, ParseKind};
+pub use parse::parse_file;
+pub use set::{Names, Set};
 pub use tree::{Node, Operand, Tree};
