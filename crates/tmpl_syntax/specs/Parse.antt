@@ -67,7 +67,7 @@ parsed set file bytes =
     if nat_lt most_bytes (length bytes) then Err (1, TooLong) else placed set file (body_of (cut_of bytes))
 
 -- what is known of a refusal: not which one it is where memory ran out
-abbrev pub IsRefusal : Result (List Template) Refusal → ℕ → ParseKind → Type 0
+abbrev pub IsRefusal : {T : Type 0} → Result T Refusal → ℕ → ParseKind → Type 0
 IsRefusal r line OutOfMemory = line ≡ 1
 IsRefusal r line kind = r ≡ Err (line, kind)
 

@@ -1,7 +1,7 @@
 -- The reading of one action's tokens ("Actions" and "Arguments" in the documentation of Go's text/template): white
 -- space, one operand, white space.
-use Rattle.std.specs.Prelude.{ℕ, Bool, true, false, ◌&&◌, not, List, [], ◌∷◌, drop, map, reverse, Option, Some, None}
-use Rattle.std.specs.List.{list_all, prefix_len}
+use Rattle.std.specs.Prelude.{ℕ, ◌-◌, Bool, true, false, ◌&&◌, not, List, [], ◌∷◌, length, take, drop, map, Option, Some, None, if◌then◌else◌}
+use Rattle.std.specs.List.{list_all, prefix_len, suffix_len}
 use Rattle.std.specs.Char.{is_ascii_digit}
 use Rattle.tmpl_lex.specs.declared.piece.TokenKind.{TokenKind}
 use Rattle.tmpl_lex.specs.declared.piece.TokenKind.TheVariants.{Space, Dot, Field}
@@ -12,6 +12,10 @@ abbrev pub is_space_kind : TokenKind → Bool
 is_space_kind Space = true
 is_space_kind kind = false
 
+abbrev pub is_dot_kind : TokenKind → Bool
+is_dot_kind Dot = true
+is_dot_kind kind = false
+
 abbrev pub is_field_kind : TokenKind → Bool
 is_field_kind Field = true
 is_field_kind kind = false
@@ -19,42 +23,41 @@ is_field_kind kind = false
 abbrev pub is_white : Token → Bool
 is_white t = is_space_kind t.kind
 
--- without the white space at the front
+-- without the white space at the front, and at the back
 abbrev pub without_front : List Token → List Token
 without_front ts = drop (prefix_len is_white ts) ts
 
--- without the white space at the front and the back
-abbrev pub without_white : List Token → List Token
-without_white ts = reverse (without_front (reverse (without_front ts)))
+abbrev pub without_back : List Token → List Token
+without_back ts = take (length ts - suffix_len is_white ts) ts
 
 -- the name in a field's bytes, which a dot begins
 abbrev pub name_in : Token → List ℕ
 name_in t = drop 1 t.bytes
 
-abbrev pub begins_with_digit : List ℕ → Bool
-begins_with_digit [] = false
-begins_with_digit (b ∷ bs) = is_ascii_digit b
+-- a name has a first byte, which is no digit
+abbrev pub begins_name : List ℕ → Bool
+begins_name [] = false
+begins_name (b ∷ bs) = not (is_ascii_digit b)
 
--- a field that may stand in a chain: one whose name begins with no digit
+-- a field that may stand in a chain
 abbrev pub is_link : Token → Bool
-is_link t = is_field_kind t.kind && not (begins_with_digit (name_in t))
+is_link t = is_field_kind t.kind && begins_name (name_in t)
 
-abbrev pub chain : Bool → List Token → Option Operand
-chain true ts = Some (fields (map name_in ts))
-chain false ts = None
+-- one token, a dot
+abbrev pub is_dot : List Token → Bool
+is_dot [] = false
+is_dot (t ∷ []) = is_dot_kind t.kind
+is_dot (t ∷ u ∷ ts) = false
 
--- a lone token: a dot, or a chain of one field
-abbrev pub alone : TokenKind → Token → Option Operand
-alone Dot t = Some dot
-alone kind t = chain (is_link t) (t ∷ [])
+-- one or more fields with nothing between them
+abbrev pub is_chain : List Token → Bool
+is_chain [] = false
+is_chain (t ∷ ts) = list_all is_link (t ∷ ts)
 
--- the operand that these tokens spell, of which the first and the last are no white space: a dot alone, or fields
--- with nothing between them
+-- the operand that these tokens spell, if they spell one
 abbrev pub spelled : List Token → Option Operand
-spelled [] = None
-spelled (t ∷ []) = alone t.kind t
-spelled (t ∷ u ∷ ts) = chain (list_all is_link (t ∷ u ∷ ts)) (t ∷ u ∷ ts)
+spelled ts = if is_dot ts then Some dot else if is_chain ts then Some (fields (map name_in ts)) else None
 
 -- the operand of an action, if its tokens have a reading
 unfoldable pub operand_in : List Token → Option Operand
-operand_in ts = spelled (without_white ts)
+operand_in ts = spelled (without_back (without_front ts))

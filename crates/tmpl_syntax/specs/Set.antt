@@ -6,7 +6,7 @@ use Rattle.std.specs.Str.{bytes_eq}
 use Rattle.std.specs.declared.alloc.Global.{Global}
 use Rattle.tmpl_lex.specs.Token.{is_space}
 use Rattle.tmpl_syntax.specs.Tree as tree
-use Rattle.tmpl_syntax.specs.Tree.{Tree, Nodes, tree_of}
+use Rattle.tmpl_syntax.specs.Tree.{Tree, Node, Nodes, tree_of}
 use Rattle.tmpl_syntax.specs.declared.tree.Tree as held_tree
 use Rattle.tmpl_syntax.specs.declared.set.Set.{Set}
 use Rattle.tmpl_syntax.specs.declared.set.Names.{Names}
@@ -32,11 +32,14 @@ has_name name t = bytes_eq name t.0
 abbrev pub tree_named : List ℕ → List Template → Option Tree
 tree_named name ts = option_map (λ t. t.1) (find (has_name name) ts)
 
+abbrev pub is_blank_node : Node → Bool
+is_blank_node (tree.text line bytes) = list_all is_space bytes
+is_blank_node (tree.action line operand) = false
+
 -- whether all nodes are texts of white space
 abbrev pub is_blank : Nodes → Bool
 is_blank tree.none = true
-is_blank (tree.then (tree.text line bytes) ns) = list_all is_space bytes && is_blank ns
-is_blank (tree.then (tree.action line operand) ns) = false
+is_blank (tree.then n ns) = is_blank_node n && is_blank ns
 
 -- of a body that is there and a new one, the one that stays: a blank one replaces none
 abbrev pub chosen : Tree → Tree → Tree

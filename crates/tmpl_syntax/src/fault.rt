@@ -1,4 +1,8 @@
 //! Why a file is refused.
+ghost use Rattle.std.specs.Prelude.{◌≡◌};
+ghost use Rattle.tmpl_syntax.specs.Memory.{out_of_memory};
+
+use std::alloc::AllocError;
 
 /// A file that was refused, and the line, counted from 1, at which it was.
 #[derive(Clone, Copy, Debug)]
@@ -20,4 +24,22 @@ pub enum ParseKind {
     TooLong,
     /// Memory ran out; the line is 1.
     OutOfMemory,
+}
+
+/// Why a file was refused, and the line, but not which file it was.
+#[derive(Clone, Copy, Debug)]
+pub(crate) struct Refusal {
+    pub(crate) line: u64,
+    pub(crate) kind: ParseKind,
+}
+
+impl From<AllocError> for Refusal {
+    ghost from_gives = { λ _ r. r ≡ out_of_memory };
+
+    fn from(_error: AllocError) -> Refusal {
+        Refusal {
+            line: 1,
+            kind: ParseKind::OutOfMemory,
+        }
+    }
 }

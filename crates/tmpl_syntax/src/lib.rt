@@ -1,8 +1,11 @@
 //! Template files read into trees, and the set of templates.
 #![tactic(auto)]
 
+mod blank;
+mod build;
 mod fault;
 mod parse;
+mod read;
 mod set;
 mod tree;
 

@@ -1,13 +1,14 @@
 //! The set of templates.
-ghost use Rattle.std.specs.Prelude.{◌≡◌, [], map, option_map};
+ghost use Rattle.std.specs.Prelude.{◌≡◌, ◌&&◌, [], OnOk, OnErr, is_some, map, option_map};
 ghost use Rattle.std.specs.Iterator.{YieldsFirstRef, item_count};
 ghost use Rattle.tmpl_syntax.specs.Tree.{tree_of};
-ghost use Rattle.tmpl_syntax.specs.Set.{set_view, tree_named, names_left};
+ghost use Rattle.tmpl_syntax.specs.Set.{set_view, defined, is_blank, tree_named, names_left};
 
+use crate::blank::is_blank;
 use crate::tree::Tree;
 use indexmap::IndexMap;
 use indexmap::map::Keys;
-use std::alloc::Global;
+use std::alloc::{AllocError, Global};
 
 /// Templates by their names, in the order in which the names were first defined. A name is bytes that need not
 /// be UTF-8.
@@ -37,6 +38,26 @@ impl Set {
         ensures { option_map (λ t. tree_of t.now) result ≡ tree_named name.now (set_view self.now) }
     {
         self.templates.get(name)
+    }
+
+    /// Adds a definition: a new name goes last, and a name that is there keeps its place and gets the new body, unless
+    /// that is blank. After an error the set is as it was.
+    pub(crate) fn define(&mut self, name: Vec<u8>, tree: Tree) -> Result<(), AllocError>
+        ensures ok { OnOk result (set_view self.new ≡ defined (set_view self.old) name.items (tree_of tree)) }
+        ensures err { OnErr result (set_view self.new ≡ set_view self.old) }
+    {
+        if self.keeps(name.as_slice(), &tree) {
+            return Ok(());
+        }
+        self.templates.insert(name, tree)?;
+        Ok(())
+    }
+
+    /// Whether a definition leaves the set as it is: a blank one of a name that is there.
+    fn keeps(&self, name: &[u8], tree: &Tree) -> bool
+        ensures { result ≡ (is_blank (tree_of tree.now).nodes && is_some (tree_named name.now (set_view self.now))) }
+    {
+        is_blank(tree.nodes.as_slice()) && self.get(name).is_some()
     }
 
     /// The names, in the order in which they were first defined.

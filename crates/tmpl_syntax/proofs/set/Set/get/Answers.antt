@@ -2,7 +2,7 @@ use Rattle.std.proofs.Common.{◌≡◌, Option, Some, None, Bor, refl, ap, ◌�
 use Rattle.std.specs.Option.{option_map, option_copied}
 use Rattle.tmpl_syntax.specs.Tree.{tree_of}
 use Rattle.tmpl_syntax.specs.declared.tree.Tree as held
-use Rattle.tmpl_syntax.specs.Set.{set_view, tree_named}
+use Rattle.tmpl_syntax.specs.Set.{set_view}
 use Rattle.tmpl_syntax.proofs.Templates.{lookup-view}
 use Rattle.tmpl_syntax.proofs.set.Set.get.Goals as goal
 

@@ -1,5 +1,5 @@
-use Rattle.std.proofs.Common.{◌≡◌, ℕ, Vec, Global, ap, ◌∙◌, map}
-use Rattle.tmpl_syntax.specs.Set.{set_view, names_left}
+use Rattle.std.proofs.Common.{ℕ, Vec, Global, ap, ◌∙◌, map}
+use Rattle.tmpl_syntax.specs.Set.{set_view}
 use Rattle.tmpl_syntax.proofs.Templates.{names-view}
 use Rattle.tmpl_syntax.proofs.set.Set.names.Goals as goal
 

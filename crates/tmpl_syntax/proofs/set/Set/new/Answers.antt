@@ -1,4 +1,4 @@
-use Rattle.std.proofs.Common.{◌≡◌, ap, map}
+use Rattle.std.proofs.Common.{ap, map}
 use Rattle.tmpl_syntax.specs.Set.{set_view, template_of}
 use Rattle.tmpl_syntax.proofs.set.Set.new.Goals as goal
 
