@@ -8,3 +8,4 @@ mod token;
 
 pub use file::{cut, one_cut};
 pub use piece::{Piece, Token, TokenKind};
+pub use token::is_space;
