@@ -1,6 +1,7 @@
 //! What the program says where it does not end well.
 ghost use Rattle.std.specs.Prelude.{◌≡◌, ◌≢◌, ◌<◌, ◌^◌, ◌-◌};
-ghost use Rattle.tmpl_run.specs.Seen.{fault_by};
+ghost use Rattle.tmpl_run.specs.Seen.{fault_by, fault_with};
+ghost use Rattle.tmpl_run.specs.Meaning.{lacks_entry, lacks_field, steps_spent};
 ghost use Rattle.tmpl_run.specs.Sink.{sunk};
 ghost use Rattle.tmpl.specs.Outcome.{Once, Says, memory_line, write_line};
 ghost use Rattle.tmpl.specs.Loads.{stop_answer};
@@ -160,6 +161,71 @@ pub(crate) fn refuse<E: Sink>(err: &mut E, stop: &Stop<'_>) -> Status
     }
 }
 
+fn say_steps_spent<E: Sink>(err: &mut E, fault: &RunFault<'_>, limit: u64)
+    requires { E.failures err.old < 2 ^ 64 - 1 }
+    ensures cuts { Once (E.failures err.old) (E.failures err.new) }
+    ensures line { Says (fault_line (fault_with fault.now (steps_spent limit)))
+        (sunk (E.taken err.old) (E.taken err.new) (E.failures err.old) (E.failures err.new)) }
+{
+    let parts = [
+        Part::Text("tmpl: "),
+        Part::Bytes(fault.file),
+        Part::Text(":"),
+        Part::Number(fault.line),
+        Part::Text(": in "),
+        Part::Quoted(fault.template),
+        Part::Text(": "),
+        Part::Text("more than "),
+        Part::Number(limit),
+        Part::Text(" steps"),
+        Part::Text("\n"),
+    ];
+    say(err, parts.as_slice());
+}
+
+fn say_no_field<'a, E: Sink>(err: &mut E, fault: &RunFault<'a>, name: &'a [u8])
+    requires { E.failures err.old < 2 ^ 64 - 1 }
+    ensures cuts { Once (E.failures err.old) (E.failures err.new) }
+    ensures line { Says (fault_line (fault_with fault.now (lacks_field name.now)))
+        (sunk (E.taken err.old) (E.taken err.new) (E.failures err.old) (E.failures err.new)) }
+{
+    let parts = [
+        Part::Text("tmpl: "),
+        Part::Bytes(fault.file),
+        Part::Text(":"),
+        Part::Number(fault.line),
+        Part::Text(": in "),
+        Part::Quoted(fault.template),
+        Part::Text(": "),
+        Part::Text("no field "),
+        Part::Quoted(name),
+        Part::Text(" here"),
+        Part::Text("\n"),
+    ];
+    say(err, parts.as_slice());
+}
+
+fn say_no_entry<'a, E: Sink>(err: &mut E, fault: &RunFault<'a>, name: &'a [u8])
+    requires { E.failures err.old < 2 ^ 64 - 1 }
+    ensures cuts { Once (E.failures err.old) (E.failures err.new) }
+    ensures line { Says (fault_line (fault_with fault.now (lacks_entry name.now)))
+        (sunk (E.taken err.old) (E.taken err.new) (E.failures err.old) (E.failures err.new)) }
+{
+    let parts = [
+        Part::Text("tmpl: "),
+        Part::Bytes(fault.file),
+        Part::Text(":"),
+        Part::Number(fault.line),
+        Part::Text(": in "),
+        Part::Quoted(fault.template),
+        Part::Text(": "),
+        Part::Text("no entry for key "),
+        Part::Quoted(name),
+        Part::Text("\n"),
+    ];
+    say(err, parts.as_slice());
+}
+
 /// Says why and where a run failed.
 pub(crate) fn run_failed<E: Sink>(err: &mut E, fault: &RunFault<'_>) -> Status
     requires { E.failures err.old < 2 ^ 64 - 1 }
@@ -169,53 +235,9 @@ pub(crate) fn run_failed<E: Sink>(err: &mut E, fault: &RunFault<'_>) -> Status
         (sunk (E.taken err.old) (E.taken err.new) (E.failures err.old) (E.failures err.new)) }
 {
     match fault.kind {
-        RunFaultKind::StepsSpent(limit) => {
-            let parts = [
-                Part::Text("tmpl: "),
-                Part::Bytes(fault.file),
-                Part::Text(":"),
-                Part::Number(fault.line),
-                Part::Text(": in "),
-                Part::Quoted(fault.template),
-                Part::Text(": "),
-                Part::Text("more than "),
-                Part::Number(limit),
-                Part::Text(" steps"),
-                Part::Text("\n"),
-            ];
-            say(err, parts.as_slice());
-        }
-        RunFaultKind::NoField(name) => {
-            let parts = [
-                Part::Text("tmpl: "),
-                Part::Bytes(fault.file),
-                Part::Text(":"),
-                Part::Number(fault.line),
-                Part::Text(": in "),
-                Part::Quoted(fault.template),
-                Part::Text(": "),
-                Part::Text("no field "),
-                Part::Quoted(name),
-                Part::Text(" here"),
-                Part::Text("\n"),
-            ];
-            say(err, parts.as_slice());
-        }
-        RunFaultKind::NoEntry(name) => {
-            let parts = [
-                Part::Text("tmpl: "),
-                Part::Bytes(fault.file),
-                Part::Text(":"),
-                Part::Number(fault.line),
-                Part::Text(": in "),
-                Part::Quoted(fault.template),
-                Part::Text(": "),
-                Part::Text("no entry for key "),
-                Part::Quoted(name),
-                Part::Text("\n"),
-            ];
-            say(err, parts.as_slice());
-        }
+        RunFaultKind::StepsSpent(limit) => say_steps_spent(err, fault, limit),
+        RunFaultKind::NoField(name) => say_no_field(err, fault, name),
+        RunFaultKind::NoEntry(name) => say_no_entry(err, fault, name),
     }
     Status { code: 1 }
 }

@@ -16,7 +16,7 @@ use crate::request::Request;
 use crate::status::Status;
 use std::alloc::Global;
 use tmpl_run::{Options, Sink, put_all};
-use tmpl_syntax::{Set, Tree};
+use tmpl_syntax::{Set, Tree, base_name};
 use tmpl_values::Data;
 
 /// Puts a whole text out.
@@ -89,7 +89,7 @@ fn asked_name<'a>(request: &Request<'a>) -> &'a [u8]
     match request.name {
         Some(name) => name.as_bytes(),
         None => match request.files.first() {
-            Some(name) => name.as_bytes(),
+            Some(name) => base_name(*name),
             None => b"",
         },
     }

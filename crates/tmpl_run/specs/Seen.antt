@@ -9,13 +9,13 @@ cause_of (kind.StepsSpent limit) = steps_spent limit
 cause_of (kind.NoField name) = lacks_field name.now
 cause_of (kind.NoEntry name) = lacks_entry name.now
 
+-- this cause, where the fault is
+abbrev pub fault_with : RunFault → Cause → Fault
+fault_with f cause =
+    record { file = f.file.now; line = f.line; template = f.template.now; cause = cause }
+
 abbrev pub fault_by : RunFault → RunFaultKind → Fault
-fault_by f kind = record {
-  file = f.file.now;
-  line = f.line;
-  template = f.template.now;
-  cause = cause_of kind;
-}
+fault_by f kind = fault_with f (cause_of kind)
 
 abbrev pub fault_seen : RunFault → Fault
 fault_seen f = fault_by f f.kind

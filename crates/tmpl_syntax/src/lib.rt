@@ -10,6 +10,6 @@ mod set;
 mod tree;
 
 pub use fault::{ParseFault, ParseKind};
-pub use parse::parse_file;
+pub use parse::{base_name, parse_file};
 pub use set::{Names, Set};
 pub use tree::{Node, Operand, Tree};

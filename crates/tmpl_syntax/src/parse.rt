@@ -66,8 +66,8 @@ fn copy_of(alloc: Global, bytes: &[u8]) -> Result<Vec<u8>, AllocError>
     bytes.to_vec(alloc)
 }
 
-/// The part of a path after its last `/`.
-fn base_name(path: &str) -> &[u8]
+/// The part of a path after its last `/`, which names the own template of a file: the whole of it where it has none.
+pub fn base_name(path: &str) -> &[u8]
     ensures { result.now ≡ spec.base_name path.now }
 {
     let bytes = path.as_bytes();

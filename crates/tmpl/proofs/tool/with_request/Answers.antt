@@ -19,8 +19,8 @@ returns-in-Ok-clause-told g c =
     ∙ of_told _ _ files told c.in-Ok.ensures.loads in
     goes_on _ c.with_set.result.code _ _ _ w files set _ c.in-Ok.ensures.counts loads (of_told _ _ files (c.in-Ok.ensures.contents ∙ told) c.with_set.ensures.told))
 
-pub returns-in-Err-clause-told : goal.returns-in-Err-clause-told
-returns-in-Err-clause-told g c =
+pub returns-clause-told : goal.returns-clause-told
+returns-clause-told g c =
     let w = seen c.args.request.now in
     if_told _ (g.S.Source.contents c.args.source.now) (λ files told.
     let stops = of_told _ _ files told c.in-Err.ensures.loads in
