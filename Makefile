@@ -6,9 +6,9 @@ SOURCES = $(shell find crates crates.txt -name out -prune -o -type f -print)
 demo: $(PROGRAM)
 	cd examples/hello && ../../$(PROGRAM) --data data.json hello.tmpl
 
-# the gate: every proof from nothing, then the tests over the program that it left
+# the gate: every proof from nothing, then the tests over the program that it left, as each of the two compilers built it
 test:
-	python3 tests/gate.py "rt ci" "python3 tests/run.py" "python3 tests/sweep.py"
+	python3 tests/gate.py "rt ci" "python3 tests/run.py" "env TMPL=$(PROGRAM).by-rattle python3 tests/run.py" "python3 tests/sweep.py"
 
 bench: $(PROGRAM)
 	python3 tests/bench.py
