@@ -1,7 +1,9 @@
 """Runs the built program over each small row with its Nth allocation refused, N from 1 until none is.
 Each run must answer as the row does, or put out nothing and end with status 7 and its line. Then each
-test of the program's crate is run so, where they are built: it must pass, or end for want of memory of
-its own. TMPL=PATH names another build."""
+test of a module `memory` is run so, of each crate whose tests the gate built: it must pass, or end for
+want of memory of its own. Other tests are left out, since they hold that memory is there.
+TMPL=PATH names another build."""
+import glob
 import os
 import subprocess
 import sys
@@ -12,7 +14,6 @@ import harness
 
 SMALL = 65536  # bytes in the files and the output of a row
 MOST = 100000  # allocations of one run
-TESTS = f"{harness.PROGRAM}_tests"
 
 
 def build_shim(to):
@@ -62,10 +63,10 @@ def sweep_row(shim, row):
         return (row.name, *sweep(shim, lambda *how: harness.run(row, folder, *how), wrong))
 
 
-def sweep_test(shim, name):
+def sweep_test(shim, program, name):
     def once(environment, keep):
         how = {"stdin": subprocess.DEVNULL, "stdout": subprocess.PIPE, "stderr": subprocess.STDOUT, "timeout": harness.SECONDS}
-        ran = subprocess.run([TESTS, name], env={**os.environ, **environment}, pass_fds=keep, cwd="/", **how)
+        ran = subprocess.run([program, name], env={**os.environ, **environment}, pass_fds=keep, cwd="/", **how)
         return ran.returncode, ran.stdout
 
     def wrong(got, refused):
@@ -73,14 +74,15 @@ def sweep_test(shim, name):
         ended = status == 0 or refused and output.startswith(b"error: AllocError\n")
         return [] if ended else [f"    status: {status}", f"    output: {harness.short(output)}"]
 
-    return (f"test {name}", *sweep(shim, once, wrong))
+    return (f"{os.path.basename(program)} {name}", *sweep(shim, once, wrong))
 
 
-def tests():
-    if not os.access(TESTS, os.X_OK):
-        return []
-    listed = subprocess.run([TESTS, "--list"], stdout=subprocess.PIPE, check=True).stdout.decode()
-    return [it[: -len(": test")] for it in listed.splitlines() if it.endswith(": test")]
+def memory_tests():
+    """The tests of modules named memory, with the program that holds each."""
+    for program in sorted(glob.glob(f"{harness.TOP}/crates/*/out/*_tests")):
+        listed = subprocess.run([program, "--list"], stdout=subprocess.PIPE, check=True).stdout.decode()
+        names = [it[: -len(": test")] for it in listed.splitlines() if it.endswith(": test")]
+        yield from ((program, name) for name in names if "memory" in name.split("::")[:-1])
 
 
 def main():
@@ -92,7 +94,7 @@ def main():
         shim = f"{folder}/fail_alloc.so"
         build_shim(shim)
         done = [pool.submit(sweep_row, shim, it) for it in rows]
-        done += [pool.submit(sweep_test, shim, it) for it in tests()]
+        done += [pool.submit(sweep_test, shim, *it) for it in memory_tests()]
         passed = failed = runs = 0
         for name, count, wrong in (it.result() for it in done):
             if wrong:
