@@ -33,7 +33,7 @@ def once(words, to_pipe=False):
     _, status, usage = os.wait4(child, 0)
     seconds = time.perf_counter() - begun
     if status:
-        sys.exit(f"{words[0]} ended with status {status}")
+        sys.exit(f"{words[0]} did not end well: wait status {status:#x}")
     return seconds, usage.ru_maxrss
 
 
@@ -51,10 +51,11 @@ def judge(what, factor, most):
     print(f"  {what}: {factor:.2f} times, at most {most:g} wanted: {'holds' if factor <= most else 'DOES NOT HOLD'}")
 
 
-def is_linear(what, points):
-    """Whether the cost of each further byte stays the same: by the rise between neighbours of (size, seconds)."""
-    rises = [(b[1] - a[1]) / (b[0] - a[0]) for a, b in zip(points, points[1:])]
-    judge(f"{what} is linear: the dearest further byte to the cheapest", max(rises) / max(min(rises), 1e-12), 2)
+def judge_linear(points):
+    """Whether a byte costs as much in a long file as in one of a quarter of its length, start-up aside: by the
+    rise from the first of three sizes, each with its seconds. A cost that grows by the square shows as 3 or more."""
+    rises = [(seconds - points[0][1]) / (size - points[0][0]) for size, seconds in points[1:]]
+    judge("tmpl's further bytes to those of a quarter of the length", rises[-1] / max(rises[0], 1e-12), 2)
 
 
 def write(path, pieces):
@@ -86,19 +87,19 @@ def bench_text(folder):
             points.append((size * MIB, ours[0]))
             print(f"  {size:2} MiB {name}: tmpl {milliseconds(ours[0])} in {ours[1] // 1024:.0f} MiB, cat {milliseconds(cat[0])}")
         judge("tmpl to cat at 16 MiB", ours[0] / cat[0], 10)
-        is_linear("tmpl", points[1:])
+        judge_linear([points[0], points[2], points[4]])
 
 
 def bench_actions(folder):
     print("A file of actions, to /dev/null")
     data = write(f"{folder}/data", [b'{"user":{"name":"Ada"},"n":7}'])
     points = []
-    for size in (1, 2, 4, 8):
-        file = write(f"{folder}/actions", [b"{{.user.name}} has {{ .n }}.\n" * (MIB // 29)] * size)
+    for size in (0.5, 2, 8):
+        file = write(f"{folder}/actions", [b"{{.user.name}} has {{ .n }}.\n" * (MIB // 58)] * int(2 * size))
         (ours,) = medians(11, [harness.PROGRAM, "--data", data, file])
         points.append((size * MIB, ours[0]))
-        print(f"  {size:2} MiB: tmpl {milliseconds(ours[0])} in {ours[1] // 1024:.0f} MiB")
-    is_linear("tmpl", points)
+        print(f"  {size:3} MiB: tmpl {milliseconds(ours[0])} in {ours[1] // 1024:.0f} MiB")
+    judge_linear(points)
 
 
 def members(size):
@@ -107,7 +108,7 @@ def members(size):
     yield b"["
     while written < size:
         it = b'%s{"id":%d,"name":"account %d","is_open":%s,"owner":null,"tags":["a","b","%d"],"sums":[%d,-%d,0]}' % (
-            b"," * (number > 0), number, number, b"true" if number % 3 else b"false", number % 97, number * 17, number)
+            b"," * (number > 0), number, number, b"true" if number % 3 else b"false", number % 97, number * 17, number + 1)
         yield it
         written, number = written + len(it), number + 1
     yield b"]"
@@ -117,12 +118,12 @@ def bench_values(folder):
     print("Data put as text, to /dev/null")
     file = write(f"{folder}/dot", [b"{{.}}"])
     points = []
-    for size in (2_500_000, 5_000_000, 10_000_000):
+    for size in (1_000_000, 2_500_000, 10_000_000):
         data = write(f"{folder}/data", members(size))
         ours, python = medians(7, [harness.PROGRAM, "--data", data, file], [sys.executable, "-c", LOAD, data])
         points.append((size, ours[0]))
         print(f"  {size / 1e6:4.1f} MB of JSON: tmpl {milliseconds(ours[0])} in {ours[1] // 1024:.0f} MiB, python3's json.load alone {milliseconds(python[0])} in {python[1] // 1024:.0f} MiB")
-    is_linear("tmpl", points)
+    judge_linear(points)
 
 
 def main():
