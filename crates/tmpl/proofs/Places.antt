@@ -44,7 +44,7 @@ module _ (m n : Modes) where
   found p e _ _ (both _ _ c d (same a) rest) = pick (p a) a a _ _ (same a) (found p e c d rest)
   found p e _ _ (both _ _ c d mode rest) =
       subst (λ (b : Bool). MayLike m n (find p (placed m ∷ c)) (cond b (Some (placed n)) (find p d))) e
-          (pick (p (placed m)) (placed m) (placed n) _ _ mode (found p e c d rest))
+      (pick (p (placed m)) (placed m) (placed n) _ _ mode (found p e c d rest))
 
   rules_like : AllLike m n (built (tool_app m)).top.rules (built (tool_app n)).top.rules
   rules_like = both _ _ _ _ (same _) (both _ _ _ _ mode (both _ _ _ _ (same _) (both _ _ _ _ (same _) (both _ _ _ _ (same _) (both _ _ _ _ (same _) nil)))))
@@ -228,6 +228,7 @@ module _ (m n : Modes) where
               → option_map_or (λ a. use_fault again a values h.rows) o [] ≡ option_map_or (λ a. use_fault again a values h.rows) p []
           at values none = refl
           at values (some a b l) = use_fault_same l again values h.rows
+
           go : (p : Option (Text × List Text))
               → option_map_or (λ p. option_map_or (λ a. use_fault again a p.1 h.rows) (arg_by_id c p.0) []) p []
               ≡ option_map_or (λ p. option_map_or (λ a. use_fault again a p.1 h.rows) (arg_by_id d p.0) []) p []
@@ -309,7 +310,7 @@ module _ (m n : Modes) where
         let y = word_met (top n).rules [] w.is_trailing w.waiting w.position word w.held in
         let met : x ≡ y = word_met_same _ _ rules_like [] w.is_trailing w.waiting w.position word w.held in
         let step : step_fault (top m) w.position x.0 x.1 ≡ step_fault (top n) w.position y.0 y.1 =
-            ap (λ (z : Held × Step). step_fault (top m) w.position z.0 z.1) met ∙ step_fault_same w.position y.0 y.1 in
+        ap (λ (z : Held × Step). step_fault (top m) w.position z.0 z.1) met ∙ step_fault_same w.position y.0 y.1 in
         λ i. cond (is_some w.stopped) [] (or_else (word_fault_same w.is_trailing w.waiting word w.held i) (step i))
 
     walk_fault_same : (w : Walk) (words : List Text) → walk_fault (top m) [] w words ≡ walk_fault (top n) [] w words
@@ -343,10 +344,10 @@ module _ (m n : Modes) where
     rest_fault_same : (w : Walk) → rest_fault m w ≡ rest_fault n w
     rest_fault_same w =
         let defaults : defaults_fault (settled (top m).rules w.held).rows (top m).rules ≡ defaults_fault (settled (top n).rules w.held).rows (top n).rules =
-            ap (λ (x : Held). defaults_fault x.rows (top m).rules) (settled_same _ _ rules_like w.held) ∙ defaults_fault_same _ _ rules_like (settled (top n).rules w.held).rows in
+        ap (λ (x : Held). defaults_fault x.rows (top m).rules) (settled_same _ _ rules_like w.held) ∙ defaults_fault_same _ _ rules_like (settled (top n).rules w.held).rows in
         let given = is_some (entered (built (tool_app m)) w.stopped) in
         let checks : check_fault (top m) (finished (top m).rules w.held) given ≡ check_fault (top n) (finished (top n).rules w.held) given =
-            ap (λ (rows : List Row). check_fault (top m) rows given) (finished_same _ _ rules_like w.held) in
+        ap (λ (rows : List Row). check_fault (top m) rows given) (finished_same _ _ rules_like w.held) in
         λ i. or_else (entered_fault (built (tool_app m)) w.stopped) (or_else (settle_fault_same _ _ rules_like false w.held i) (or_else (defaults i) (checks i)))
 
     -- the faults of the command

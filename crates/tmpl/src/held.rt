@@ -24,7 +24,11 @@ pub(crate) fn held_data<'a, S: Source>(
     }
 }
 
-fn data_in<'a, S: Source>(alloc: Global, source: &mut S, name: &'a str) -> Result<Option<Data>, Stop<'a>>
+fn data_in<'a, S: Source>(
+    alloc: Global,
+    source: &mut S,
+    name: &'a str,
+) -> Result<Option<Data>, Stop<'a>>
     requires { S.failures source.old < 2 ^ 64 - 1 }
     ensures counts { Counts (S.failures source.old) (S.failures source.new) result }
     ensures finds { IfSome (S.contents source.old) (λ files.

@@ -16,9 +16,9 @@ impl<'a, S: Sink> Put for WholePuts<'a, S> {
     type Fault = SinkFault;
 
     ghost so_far = { λ p. record {
-        bytes = S.taken p.sink.now;
-        failures = S.failures p.sink.now;
-        through = p.sink.ghost_name;
+      bytes = S.taken p.sink.now;
+      failures = S.failures p.sink.now;
+      through = p.sink.ghost_name;
     } };
 
     fn put(&mut self, bytes: &[u8]) -> Result<(), SinkFault> {

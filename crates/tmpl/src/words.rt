@@ -4,8 +4,8 @@ ghost use Rattle.clap.specs.Words.{all_of, first_of, one_of, found_of, rows_of, 
 ghost use Rattle.tmpl.specs.Words.{Answers, Parses, mode_named, mode_of, number_in, options_seen, options_wanted, seen, wanted, wanted_in};
 ghost use Rattle.std.specs.String.{string_bytes};
 
-use crate::request::{Refused, Request};
 use crate::command::command;
+use crate::request::{Refused, Request};
 use clap::error::ErrorKind;
 use clap::{ArgMatches, Error};
 use std::alloc::{AllocError, Global};

@@ -37,6 +37,7 @@ fn owned(rt: &impl Abort, alloc: Global, words: &[&str]) -> Vec<String> {
 }
 
 /// What a run of the command came to.
+#[derive(Drop)]
 struct Ran {
     code: u8,
     out: ArraySink<128>,
@@ -99,15 +100,28 @@ fn survives_output(rt: &impl Abort, alloc: Global, row: &Row<'_>, most: usize, f
     requires { 1 ≤ most }
 {
     for at in 1..200u64 {
-        let ran = run(rt, alloc, row, sink(most, Failing { at, for_good }), sink(most, NEVER), 0);
+        let ran = run(
+            rt,
+            alloc,
+            row,
+            sink(most, Failing { at, for_good }),
+            sink(most, NEVER),
+            0,
+        );
         if ran.out.failures == 0 {
-            assert!(rt; ran.code == row.code && ran.out.as_slice() == row.out, "whole");
+            assert!(rt;
+                ran.code == row.code && ran.out.as_slice() == row.out,
+                "whole"
+            );
             return;
         }
         assert!(rt; ran.code == 6, "status of a failed write");
         assert!(rt; ran.out.puts == at, "a put after the failed one");
         assert!(rt; row.out.starts_with(ran.out.as_slice()), "beginning");
-        assert!(rt; ran.err.as_slice() == b"tmpl: write failed\n".as_slice(), "line of a failed write");
+        assert!(rt;
+            ran.err.as_slice() == b"tmpl: write failed\n".as_slice(),
+            "line of a failed write"
+        );
     }
     assert!(rt; false, "a put still fails");
 }
@@ -117,14 +131,27 @@ fn survives_errors(rt: &impl Abort, alloc: Global, row: &Row<'_>, most: usize, f
     requires { 1 ≤ most }
 {
     for at in 1..200u64 {
-        let ran = run(rt, alloc, row, sink(most, NEVER), sink(most, Failing { at, for_good }), 0);
-        assert!(rt; ran.code == row.code && ran.out.as_slice() == row.out, "status and output");
+        let ran = run(
+            rt,
+            alloc,
+            row,
+            sink(most, NEVER),
+            sink(most, Failing { at, for_good }),
+            0,
+        );
+        assert!(rt;
+            ran.code == row.code && ran.out.as_slice() == row.out,
+            "status and output"
+        );
         if ran.err.failures == 0 {
             assert!(rt; ran.err.as_slice() == row.line, "whole line");
             return;
         }
         assert!(rt; ran.err.puts == at, "a put after the failed one");
-        assert!(rt; row.line.starts_with(ran.err.as_slice()), "beginning of the line");
+        assert!(rt;
+            row.line.starts_with(ran.err.as_slice()),
+            "beginning of the line"
+        );
     }
     assert!(rt; false, "a put still fails");
 }
@@ -170,7 +197,13 @@ fn rendered<'a>(
 
 #[test]
 fn greets(rt: HostRuntime) {
-    let row = rendered(b"Hello, {{.name}}!", b"{\"name\":\"Ada\"}", b"Hello, Ada!", b"", 0);
+    let row = rendered(
+        b"Hello, {{.name}}!",
+        b"{\"name\":\"Ada\"}",
+        b"Hello, Ada!",
+        b"",
+        0,
+    );
     holds(&rt, rt.alloc(), &row);
 }
 
@@ -195,18 +228,32 @@ fn puts_the_text_before_a_fault(rt: HostRuntime) {
 #[test]
 fn refuses_an_action_that_is_not_closed(rt: HostRuntime) {
     let line = b"tmpl: m:2: unclosed or unreadable action\n";
-    holds(&rt, rt.alloc(), &rendered(b"a\n{{\"b", b"null", b"", line, 4));
+    holds(
+        &rt,
+        rt.alloc(),
+        &rendered(b"a\n{{\"b", b"null", b"", line, 4),
+    );
 }
 
 #[test]
 fn refuses_what_is_no_action(rt: HostRuntime) {
     let line = b"tmpl: m:1: action not understood\n";
-    holds(&rt, rt.alloc(), &rendered(b"a{{. .}}", b"null", b"", line, 4));
+    holds(
+        &rt,
+        rt.alloc(),
+        &rendered(b"a{{. .}}", b"null", b"", line, 4),
+    );
 }
 
 #[test]
 fn prints_a_map_by_key(rt: HostRuntime) {
-    let row = rendered(b"{{.}}", b"{\"b\":\"2\",\"a\":null}", b"map[a:<nil> b:2]", b"", 0);
+    let row = rendered(
+        b"{{.}}",
+        b"{\"b\":\"2\",\"a\":null}",
+        b"map[a:<nil> b:2]",
+        b"",
+        0,
+    );
     holds(&rt, rt.alloc(), &row);
 }
 
@@ -215,7 +262,11 @@ fn refuses_data(rt: HostRuntime) {
     let row = rendered(b"x{{.}}", b"[1", b"", b"tmpl: d: not JSON\n", 5);
     holds(&rt, rt.alloc(), &row);
     let line = b"tmpl: d: number not whole or out of range\n";
-    holds(&rt, rt.alloc(), &rendered(b"x{{.}}", b"[1.5]", b"", line, 5));
+    holds(
+        &rt,
+        rt.alloc(),
+        &rendered(b"x{{.}}", b"[1.5]", b"", line, 5),
+    );
 }
 
 #[test]
@@ -240,7 +291,14 @@ fn stops_at_the_read_that_fails(rt: HostRuntime) {
     ];
     let row = three_reads(b"a");
     for (at, line) in lines.iter().enumerate() {
-        let ran = run(&rt, alloc, &row, sink(64, NEVER), sink(64, NEVER), at as u64 + 1);
+        let ran = run(
+            &rt,
+            alloc,
+            &row,
+            sink(64, NEVER),
+            sink(64, NEVER),
+            at as u64 + 1,
+        );
         assert_eq!(rt; ran.code, 3);
         assert!(rt; ran.out.as_slice().is_empty());
         assert!(rt; ran.err.as_slice() == *line);

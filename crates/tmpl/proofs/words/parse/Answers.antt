@@ -43,4 +43,4 @@ returns-in-Err c =
     let named : HasModeNames modes = search rules in
     let has = subst (λ (a : App). HasKind (fault_of a words) c.in-Err.error) is_app (c.in-Err.ensures.kinds free) in
     failed words (kind_of c.in-Err.error) c.refusal.result c.refusal.ensures
-        (subst (λ kinds. HasKind kinds c.in-Err.error) (faults_here modes named words) has)
+    (subst (λ kinds. HasKind kinds c.in-Err.error) (faults_here modes named words) has)
