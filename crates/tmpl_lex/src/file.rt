@@ -3,10 +3,11 @@ ghost use Rattle.std.specs.Prelude.{◌≡◌, ◌++◌, ◌≤◌, IfOk, OnOk, 
 ghost use Rattle.tmpl_lex.specs.Piece as mirror;
 ghost use Rattle.tmpl_lex.specs.Piece.{piece_of};
 ghost use Rattle.tmpl_lex.specs.Cut as spec;
-ghost use Rattle.tmpl_lex.specs.Held.{pair_of};
+ghost use Rattle.tmpl_lex.specs.Held.{opened_from, pair_of};
 
-use crate::inside::read_inside;
+use crate::inside::{after, read_inside};
 use crate::piece::Piece;
+use memchr::memchr;
 use std::alloc::{AllocError, Global};
 
 /// The pieces of a file in order: its texts and its actions, of which an unreadable one can only be last.
@@ -83,12 +84,25 @@ fn newlines(bytes: &[u8]) -> u64
 fn split_open(bytes: &[u8]) -> Option<(&[u8], &[u8])>
     ensures { pair_of result ≡ spec.split_open bytes.now }
 {
-    let mut i = 0;
+    let mut i = next_brace(bytes, 0);
     while i + 1 < bytes.len() {
         if bytes[i] == b'{' && bytes[i + 1] == b'{' {
             return Some((&bytes[..i], &bytes[i + 2..]));
         }
-        i += 1;
+        i = next_brace(bytes, i + 1);
     }
     None
+}
+
+/// The first place of a `{` from this one on, or the end where there is none: no `{{` stands before it.
+fn next_brace(bytes: &[u8], from: usize) -> usize
+    requires { from ≤ length bytes.now }
+    ensures further { from ≤ result }
+    ensures within { result ≤ length bytes.now }
+    ensures same { opened_from from bytes.now ≡ opened_from result bytes.now }
+{
+    match memchr(b'{', after(bytes, from)) {
+        Some(skipped) => from + skipped,
+        None => bytes.len(),
+    }
 }

@@ -18,7 +18,7 @@ fn closes(bytes: &[u8]) -> bool
 }
 
 /// The bytes after so many.
-fn after(bytes: &[u8], len: usize) -> &[u8]
+pub(crate) fn after(bytes: &[u8], len: usize) -> &[u8]
     requires { len ≤ length bytes.now }
     ensures { result.now ≡ drop len bytes.now }
 {
