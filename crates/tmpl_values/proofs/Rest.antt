@@ -1,10 +1,7 @@
 -- A list or a map half read: what is done stands before what the rest is read as.
-use Rattle.std.proofs.Common.{◌≡◌, ℕ, suc, ◌+◌, ◌<◌, List, [], ◌∷◌, ◌++◌, length, get_or, drop, Option, Some, None, Ok, option_map, refl, sym, ap, ◌∙◌}
-use Rattle.std.proofs.Math.Seq.{drop-cons}
-use Rattle.std.proofs.Math.Numerals.{add-one}
+use Rattle.std.proofs.Common.{◌≡◌, ℕ, List, [], ◌∷◌, ◌++◌, Option, Some, None, Ok, option_map, String, Global, string_bytes, refl, sym, ap, ◌∙◌}
 use Rattle.serde_json.specs.declared.value.Value as json
-use Rattle.serde_json.specs.Data as tree
-use Rattle.serde_json.specs.View.{view, items_view}
+use Rattle.serde_json.specs.View.{view, items_view, members_view}
 use Rattle.tmpl_values.specs.declared.data.Data.{Data}
 use Rattle.tmpl_values.specs.Value.{Items, no_item, item, Entries, no_entry, entry}
 use Rattle.tmpl_values.specs.Data.{value_of, items_of, entries_of}
@@ -42,14 +39,33 @@ map_twice : {A B C : Type 0} (f : B → C) (g : A → B) (h : A → C) (o : Opti
 map_twice f g h None e = refl
 map_twice f g h (Some a) e = ap Some (e a)
 
-pub items_step : (vs : List json.Value) (i : ℕ) (v : json.Value) (ds : List Data) (d : Data) → i < length vs → v ≡ get_or vs i v → tree_value (view v) ≡ Some (value_of d)
-    → option_map (before ds) (tree_items (items_view (drop i vs))) ≡ option_map (before (ds ++ d ∷ [])) (tree_items (items_view (drop (i + 1) vs)))
-items_step vs i v ds d h e r =
-    ap (λ rest. option_map (before ds) (tree_items (items_view rest))) (drop-cons vs i v h) ∙
-    ap (λ x. option_map (before ds) (tree_items (tree.item (view x) (items_view (drop (suc i) vs))))) (sym e) ∙
-    rw r (map_twice (before ds) (item (value_of d)) (before (ds ++ d ∷ [])) _ (before-one ds d)) ∙
-    ap (λ n. option_map (before (ds ++ d ∷ [])) (tree_items (items_view (drop n vs)))) (sym (add-one i))
+module _ (whole : Option Items) (ds ds' : List Data) (rest rest' : List json.Value) (v : json.Value) (d : Data) where
+  -- one item more is done
+  pub items_step : whole ≡ option_map (before ds) (tree_items (items_view rest)) → rest ≡ v ∷ rest' → if_whole (tree_value (view v)) ≡ Ok (value_of d) → ds' ≡ ds ++ d ∷ []
+      → whole ≡ option_map (before ds') (tree_items (items_view rest'))
+  items_step so_far cut read done =
+      so_far ∙
+      ap (λ vs. option_map (before ds) (tree_items (items_view vs))) cut ∙
+      rw (found _ _ read) (map_twice (before ds) (item (value_of d)) (before (ds ++ d ∷ [])) _ (before-one ds d)) ∙
+      ap (λ es. option_map (before es) (tree_items (items_view rest'))) (sym done)
 
-pub members_step : (k : List ℕ) (t : tree.Data) (ms : tree.Members) (ds : List (List ℕ × Data)) (d : Data) → tree_value t ≡ Some (value_of d)
-    → option_map (before_entries ds) (tree_entries (tree.member k t ms)) ≡ option_map (before_entries (ds ++ (k, d) ∷ [])) (tree_entries ms)
-members_step k t ms ds d r = rw r (map_twice (before_entries ds) (entry k (value_of d)) (before_entries (ds ++ (k, d) ∷ [])) _ (before_entries-one ds (k, d)))
+-- all items are done
+pub items_end : (whole : Option Items) (ds : List Data) (rest : List json.Value) → whole ≡ option_map (before ds) (tree_items (items_view rest)) → rest ≡ [] → whole ≡ Some (items_of ds)
+items_end whole ds rest so_far past =
+    so_far ∙ ap (λ vs. option_map (before ds) (tree_items (items_view vs))) past ∙ ap Some (before-all ds)
+
+module _ (whole : Option Entries) (ds ds' : List (List ℕ × Data)) (rest rest' : List (String Global × json.Value)) (k : String Global) (v : json.Value) (d : Data) where
+  -- one member more is done
+  pub members_step : whole ≡ option_map (before_entries ds) (tree_entries (members_view rest)) → rest ≡ (k, v) ∷ rest' → if_whole (tree_value (view v)) ≡ Ok (value_of d)
+      → ds' ≡ ds ++ (string_bytes k, d) ∷ [] → whole ≡ option_map (before_entries ds') (tree_entries (members_view rest'))
+  members_step so_far cut read done =
+      so_far ∙
+      ap (λ ms. option_map (before_entries ds) (tree_entries (members_view ms))) cut ∙
+      rw (found _ _ read) (map_twice (before_entries ds) (entry (string_bytes k) (value_of d)) (before_entries (ds ++ (string_bytes k, d) ∷ [])) _ (before_entries-one ds (string_bytes k, d))) ∙
+      ap (λ es. option_map (before_entries es) (tree_entries (members_view rest'))) (sym done)
+
+-- all members are done
+pub members_end : (whole : Option Entries) (ds : List (List ℕ × Data)) (rest : List (String Global × json.Value)) → whole ≡ option_map (before_entries ds) (tree_entries (members_view rest)) → rest ≡ []
+    → whole ≡ Some (entries_of ds)
+members_end whole ds rest so_far past =
+    so_far ∙ ap (λ ms. option_map (before_entries ds) (tree_entries (members_view ms))) past ∙ ap Some (before_entries-all ds)

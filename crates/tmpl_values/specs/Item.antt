@@ -24,10 +24,12 @@ item_at i (string s) = None
 item_at i (sequence vs) = option_map (λ v. (number (pos i), v)) (nth_item i vs)
 item_at i (mapping es) = nth_entry i es
 
+-- how many items there are
 abbrev pub item_count : Items → ℕ
 item_count no_item = 0
 item_count (item v vs) = suc (item_count vs)
 
+-- how many entries there are
 abbrev pub entry_count : Entries → ℕ
 entry_count no_entry = 0
 entry_count (entry k v es) = suc (entry_count es)

@@ -37,6 +37,7 @@ abbrev pub if_whole : {A : Type 0} → Option A → Result A DataFault
 if_whole None = Err NotWhole
 if_whole (Some v) = Ok v
 
+-- the value of a tree that is there, or else the fault that there is none
 abbrev pub if_json : Option json.Data → Result Value DataFault
 if_json None = Err NotJson
 if_json (Some d) = if_whole (tree_value d)

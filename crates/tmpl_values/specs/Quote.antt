@@ -1,4 +1,5 @@
--- The quote of a text, by what prints.
+-- The quote of a text, as `strconv.Quote` has it: its runes, each spelled so that it can be read back. Which
+-- characters print is taken from the tables of `unicode` (this project's own rule).
 use Rattle.std.specs.Prelude.{ℕ, zero, suc, ◌/◌, ◌%◌, ◌||◌, ◌==◌, nat_lt, Bool, List, [], ◌∷◌, ◌++◌, Option, Some, None, if◌then◌else◌}
 use Rattle.std.specs.List.{flat_map}
 use Rattle.std.specs.Char.{encode_utf8, digit_char}
@@ -9,10 +10,12 @@ use Rattle.tmpl_values.specs.Printable.{printable}
 abbrev pub letters : List (ℕ × ℕ)
 letters = (34, 34) ∷ (92, 92) ∷ (7, 97) ∷ (8, 98) ∷ (9, 116) ∷ (10, 110) ∷ (11, 118) ∷ (12, 102) ∷ (13, 114) ∷ []
 
+-- the letter of a code
 abbrev pub second_of : ℕ → List (ℕ × ℕ) → Option ℕ
 second_of c [] = None
 second_of c (p ∷ ps) = if c == p.0 then Some p.1 else second_of c ps
 
+-- the code of a letter
 abbrev pub first_of_second : ℕ → List (ℕ × ℕ) → Option ℕ
 first_of_second e [] = None
 first_of_second e (p ∷ ps) = if e == p.1 then Some p.0 else first_of_second e ps
@@ -22,21 +25,24 @@ unfoldable pub hexes : ℕ → ℕ → List ℕ
 hexes zero c = []
 hexes (suc n) c = hexes n (c / 16) ++ digit_char (c % 16) ∷ []
 
--- a character with no letter of its own
+-- a character with no letter of its own: itself where it prints, else its code in two, four or eight digits
 abbrev pub plain_or_code : (ℕ → Bool) → ℕ → List ℕ
 plain_or_code prints c =
     if prints c then encode_utf8 c
     else (if nat_lt c 32 || c == 127 then 92 ∷ 120 ∷ hexes 2 c
     else (if nat_lt c 65536 then 92 ∷ 117 ∷ hexes 4 c else 92 ∷ 85 ∷ hexes 8 c))
 
+-- a character by its letter, if it has one
 abbrev pub spelled : (ℕ → Bool) → ℕ → Option ℕ → List ℕ
 spelled prints c (Some e) = 92 ∷ e ∷ []
 spelled prints c None = plain_or_code prints c
 
+-- a rune as it stands in a quote
 abbrev pub spelling : (ℕ → Bool) → Rune → List ℕ
 spelling prints (char c) = spelled prints c (second_of c letters)
 spelling prints (byte b) = 92 ∷ 120 ∷ hexes 2 b
 
+-- what stands between the quotation marks
 abbrev pub inside : (ℕ → Bool) → List ℕ → List ℕ
 inside prints bs = flat_map (spelling prints) (runes bs)
 
@@ -44,6 +50,6 @@ inside prints bs = flat_map (spelling prints) (runes bs)
 abbrev pub quote_by : (ℕ → Bool) → List ℕ → List ℕ
 quote_by prints bs = 34 ∷ (inside prints bs ++ 34 ∷ [])
 
--- the quote, as `strconv.Quote` has it over the tables of `unicode`
+-- the quote
 unfoldable pub quote : List ℕ → List ℕ
 quote = quote_by printable

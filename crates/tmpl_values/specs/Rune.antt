@@ -4,10 +4,12 @@ use Rattle.std.specs.Char.{encode_utf8, len_utf8}
 use Rattle.std.specs.Str.{chars}
 use lib.Utf8.{scalar}
 
+-- a character, or a byte that begins no well-formed encoding
 pub data Rune : Type 0 where
   char : ℕ → Rune
   byte : ℕ → Rune
 
+-- the bytes of a rune
 abbrev pub bytes_in : Rune → List ℕ
 bytes_in (char c) = encode_utf8 c
 bytes_in (byte b) = b ∷ []
@@ -31,5 +33,6 @@ runes_after n [] = []
 runes_after (suc n) (b ∷ bs) = runes_after n bs
 runes_after zero (b ∷ bs) = first_rune (b ∷ bs) ∷ runes_after (tail_len (first_rune (b ∷ bs))) bs
 
+-- the runes from left to right
 unfoldable pub runes : List ℕ → List Rune
 runes bs = runes_after 0 bs

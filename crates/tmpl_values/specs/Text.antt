@@ -13,6 +13,7 @@ abbrev pub parted : List (List ℕ) → List ℕ
 parted [] = []
 parted (t ∷ ts) = t ++ spaced ts
 
+-- the text of a truth value
 abbrev pub truth_text : Bool → List ℕ
 truth_text true = codes "true"
 truth_text false = codes "false"

@@ -51,7 +51,7 @@ impl Data {
         ensures { IsData bytes.now result }
     {
         match Value::from_slice(alloc, bytes) {
-            Ok(value) => data_of(alloc, &value),
+            Ok(value) => data_of(alloc, value),
             Err(error) => {
                 if error.is_memory() {
                     Err(DataFault::OutOfMemory)
@@ -64,25 +64,25 @@ impl Data {
 }
 
 #[cycle(data)]
-fn data_of(alloc: Global, value: &Value) -> Result<Data, DataFault>
-    ensures { IsAnswer value_of result (if_whole (tree_value (view value.now))) }
+fn data_of(alloc: Global, value: Value) -> Result<Data, DataFault>
+    ensures { IsAnswer value_of result (if_whole (tree_value (view value))) }
 {
     match value {
         Value::Null => Ok(Data::Null),
-        Value::Bool(b) => Ok(Data::Bool(*b)),
+        Value::Bool(b) => Ok(Data::Bool(b)),
         Value::Number(n) => match n.as_i64() {
             Some(n) => Ok(Data::Num(n)),
             None => Err(DataFault::NotWhole),
         },
-        Value::String(text) => Ok(Data::Text(Bytes::new(text.as_bytes().to_vec(alloc)?))),
+        Value::String(text) => Ok(Data::Text(Bytes::new(text.into_bytes()))),
         Value::Array(items) => Ok(Data::List(Row::new(items_of(alloc, items)?))),
         Value::Object(members) => Ok(Data::Map(table_of(alloc, members)?)),
     }
 }
 
 #[cycle(data)]
-fn items_of(alloc: Global, items: &Vec<Value>) -> Result<Vec<Data>, DataFault>
-    ensures { IsAnswer (λ v. items_of v.items) result (if_whole (tree_items (items_view items.now.items))) }
+fn items_of(alloc: Global, items: Vec<Value>) -> Result<Vec<Data>, DataFault>
+    ensures { IsAnswer (λ v. items_of v.items) result (if_whole (tree_items (items_view items.items))) }
 {
     let mut done = Vec::with_capacity(alloc, items.len())?;
     for item in items {
@@ -92,13 +92,12 @@ fn items_of(alloc: Global, items: &Vec<Value>) -> Result<Vec<Data>, DataFault>
 }
 
 #[cycle(data)]
-fn table_of(alloc: Global, members: &BTreeMap<String, Value>) -> Result<Table, DataFault>
-    ensures { IsAnswer (λ t. t) result (if_whole (tree_entries (members_view members.now.entries))) }
+fn table_of(alloc: Global, members: BTreeMap<String, Value>) -> Result<Table, DataFault>
+    ensures { IsAnswer (λ t. t) result (if_whole (tree_entries (members_view members.entries))) }
 {
     let mut done = Vec::with_capacity(alloc, members.len())?;
-    for (key, member) in members.iter() {
-        let name = Bytes::new(key.as_bytes().to_vec(alloc)?);
-        done.push((name, data_of(alloc, member)?))?;
+    for (key, member) in members {
+        done.push((Bytes::new(key.into_bytes()), data_of(alloc, member)?))?;
     }
     Ok(Table::new(done))
 }

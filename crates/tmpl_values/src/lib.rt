@@ -9,6 +9,8 @@ mod json;
 mod put;
 mod quote;
 mod shared;
+#[cfg(test)]
+mod tests;
 mod text;
 mod value;
 

@@ -77,8 +77,10 @@ impl<'a> Val<'a> {
                 Some(held) => Field::Found(Val::of(held)),
                 None => Field::Missing,
             },
-            Val::Null | Val::Bool(_) | Val::Num(_) | Val::Text(_) | Val::Made(_) | Val::List(_) =>
-                Field::NoField,
+            Val::Null => Field::NoField,
+            Val::Bool(_) | Val::Num(_) | Val::Text(_) | Val::Made(_) | Val::List(_) => {
+                Field::NoField
+            }
         }
     }
 

@@ -1,0 +1,6 @@
+//! Worked rows, and what the contracts leave to tests.
+mod compared;
+mod data;
+mod page;
+mod parts;
+mod quoted;
