@@ -9,9 +9,9 @@ use crate::inside::read_inside;
 use crate::piece::Piece;
 use std::alloc::{AllocError, Global};
 
-/// The pieces of a file in order: its texts and its actions, of which an unreadable one can only be last.
-/// Actions stand between `{{` and `}}` ("Actions" in the documentation of Go's text/template), and all other
-/// bytes are text, also those that are not UTF-8. Nothing is copied.
+/// The pieces of a file in order: its texts and its actions, each with its line, counted from 1. Actions stand
+/// between `{{` and `}}`, and all other bytes are text (the overview in the documentation of Go's text/template), also
+/// those that are not UTF-8 (our own rule). An unreadable action can only be last. Nothing is copied.
 ///
 /// # Errors
 ///

@@ -10,8 +10,8 @@ use indexmap::IndexMap;
 use indexmap::map::Keys;
 use std::alloc::{AllocError, Global};
 
-/// Templates by their names, in the order in which the names were first defined. A name is bytes that need not
-/// be UTF-8.
+/// Templates by their names, in the order in which the names were first defined (our own rule; Go keeps no order). A
+/// name is bytes that need not be UTF-8.
 #[derive(Drop)]
 pub struct Set {
     templates: IndexMap<Vec<u8>, Tree>,
@@ -33,7 +33,7 @@ impl Set {
         }
     }
 
-    /// The tree of the template of this name.
+    /// The tree of the template of this name, if there is one.
     pub fn get(&self, name: &[u8]) -> Option<&Tree>
         ensures { option_map (λ t. tree_of t.now) result ≡ tree_named name.now (set_view self.now) }
     {
