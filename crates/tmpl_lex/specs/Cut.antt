@@ -1,5 +1,5 @@
--- The cut of a file into texts and actions (the documentation of Go's text/template, "Text and spaces" and
--- "Actions"): actions stand between `{{` and `}}`, and all other bytes are text.
+-- The cut of a file into texts and actions: actions stand between `{{` and `}}`, and all other bytes are text (the
+-- overview in the documentation of Go's text/template). That it is told by bytes, and the lines, are our own rules.
 use Rattle.std.specs.Prelude.{◌≡◌, ◌+◌, ◌-◌, ℕ, zero, suc, Bool, true, false, ◌&&◌, ◌==◌, List, [], ◌∷◌, ◌++◌, length, take, drop, count_by, Option, Some, None}
 use Rattle.tmpl_lex.specs.Piece.{Token, Piece, text, action, unreadable}
 use Rattle.tmpl_lex.specs.Token.{front_token}

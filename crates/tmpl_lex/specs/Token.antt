@@ -1,4 +1,5 @@
--- The token at the front of bytes of an action.
+-- The token at the front of bytes of an action: white space ("Text and spaces" in the documentation of Go's
+-- text/template), a dot or a field ("Arguments").
 use Rattle.std.specs.Prelude.{ℕ, Bool, ◌||◌, ◌==◌, nat_le, List, [], ◌∷◌, drop, take_while, Option, Some, None, if◌then◌else◌}
 use Rattle.std.specs.Char.{is_ascii_alphanumeric}
 use Rattle.tmpl_lex.specs.Piece.{Token}
@@ -8,7 +9,8 @@ use Rattle.tmpl_lex.specs.declared.piece.TokenKind.TheVariants.{Space, Dot, Fiel
 abbrev pub is_space : ℕ → Bool
 is_space b = b == 32 || b == 9 || b == 13 || b == 10
 
--- a byte of a name: a letter or digit of ASCII, `_`, or any byte from 80h
+-- a byte of a name: a letter or digit of ASCII, `_`, or any byte from 80h, so that each name that Go takes is taken
+-- (our own rule)
 abbrev pub is_name_byte : ℕ → Bool
 is_name_byte b = is_ascii_alphanumeric b || b == 95 || nat_le 128 b
 

@@ -10,9 +10,10 @@ use crate::piece::Piece;
 use memchr::memchr;
 use std::alloc::{AllocError, Global};
 
-/// The pieces of a file in order: its texts and its actions, of which an unreadable one can only be last.
-/// Actions stand between `{{` and `}}` ("Actions" in the documentation of Go's text/template), and all other
-/// bytes are text, also those that are not UTF-8. Nothing is copied.
+/// The pieces of a file in order: its texts and its actions, each with its line, counted from 1.
+/// Actions stand between `{{` and `}}`, and all other bytes are text (the overview in the
+/// documentation of Go's text/template), also those that are not UTF-8 (our own rule). An
+/// unreadable action can only be last. Nothing is copied.
 ///
 /// # Errors
 ///
@@ -48,14 +49,16 @@ pub fn cut(alloc: Global, bytes: &[u8]) -> Result<Vec<Piece<'_>>, AllocError>
 #[tactic(auto, using(crate::proofs::Whole::laws))]
 pub fn one_cut(bytes: &[u8])
     ensures exists { spec.Cuts 1 bytes.now (spec.cut_of bytes.now) }
-    ensures one { (pieces : List mirror.Piece) → spec.Cuts 1 bytes.now pieces → pieces ≡ spec.cut_of bytes.now }
+    ensures one { (pieces : List mirror.Piece) → spec.Cuts 1 bytes.now pieces
+        → pieces ≡ spec.cut_of bytes.now }
 {
     let _ = bytes;
 }
 
 /// Adds a text, unless it is empty.
 fn push_text<'b>(pieces: &mut Vec<Piece<'b>>, line: u64, bytes: &'b [u8]) -> Result<(), AllocError>
-    ensures { OnOk result (map piece_of pieces.new.items ≡ map piece_of pieces.old.items ++ spec.texts line bytes.now) }
+    ensures { OnOk result (map piece_of pieces.new.items
+        ≡ map piece_of pieces.old.items ++ spec.texts line bytes.now) }
 {
     if !bytes.is_empty() {
         pieces.push(Piece::Text { line, bytes })?;

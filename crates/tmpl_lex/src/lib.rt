@@ -9,3 +9,6 @@ mod token;
 pub use file::{cut, one_cut};
 pub use piece::{Piece, Token, TokenKind};
 pub use token::is_space;
+
+#[cfg(test)]
+mod tests;

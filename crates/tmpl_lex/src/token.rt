@@ -6,8 +6,8 @@ ghost use Rattle.tmpl_lex.specs.Token as spec;
 
 use crate::piece::{Token, TokenKind};
 
-/// Whether this is white space: space, tab, carriage return or newline ("Text and spaces" in the documentation of
-/// Go's text/template).
+/// Whether this is white space: space, tab, carriage return or newline ("Text and spaces" in the
+/// documentation of Go's text/template).
 pub fn is_space(byte: u8) -> bool
     ensures { result ≡ spec.is_space byte }
 {

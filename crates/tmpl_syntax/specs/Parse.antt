@@ -1,4 +1,5 @@
--- What a file adds to the set, or why it is refused.
+-- What a file adds to the set, or why it is refused. A file is one template, named by the file's base name as by Go's
+-- `ParseFiles`; the limit on its length, and the kinds and lines of refusals, are our own rules.
 use Rattle.std.specs.Prelude.{◌≡◌, ◌==◌, ℕ, List, [], ◌∷◌, Option, Some, None, Result, Ok, Err, length, nat_lt, slice_get, filter_map, if◌then◌else◌}
 use Rattle.std.specs.List.{after_last}
 use Rattle.std.specs.Borrow.{Bor}

@@ -1,5 +1,5 @@
--- The set of templates: a list of names and trees, in the order in which the names were first defined ("Nested
--- template definitions" in the documentation of Go's text/template; the order is our own).
+-- The set of templates: a list of names and trees, in the order in which the names were first defined, which is our
+-- own rule. That a blank definition replaces no body is from the documentation of Go's `Template.Parse`.
 use Rattle.std.specs.Prelude.{ℕ, Bool, true, false, ◌&&◌, List, [], ◌∷◌, Option, map, find, option_map, if◌then◌else◌, Vec}
 use Rattle.std.specs.List.{list_all}
 use Rattle.std.specs.Str.{bytes_eq}

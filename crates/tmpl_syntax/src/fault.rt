@@ -16,9 +16,9 @@ pub struct ParseFault<'f> {
 /// Why a file was refused.
 #[derive(Clone, Copy, Debug, PartialEq, Eq)]
 pub enum ParseKind {
-    /// An action that is not closed, or that has a place where no token begins.
+    /// An action that is not closed by `}}`, or that has a place where no token begins.
     Unreadable,
-    /// An action whose tokens have no reading.
+    /// An action whose tokens are neither a dot nor one chain of fields.
     NotAnAction,
     /// More than 16,777,216 bytes; the line is 1.
     TooLong,

@@ -13,3 +13,6 @@ pub use fault::{ParseFault, ParseKind};
 pub use parse::{base_name, parse_file};
 pub use set::{Names, Set};
 pub use tree::{Node, Operand, Tree};
+
+#[cfg(test)]
+mod tests;

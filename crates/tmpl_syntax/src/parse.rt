@@ -17,14 +17,16 @@ use tmpl_values::Bytes;
 /// The most bytes that a file may have.
 const MOST_BYTES: usize = 16_777_216;
 
-/// Adds the template of a file to the set. Its name is the part of the path after the last `/`. A new name goes
-/// last; a name that is there keeps its place and gets the new body, unless that is blank: nothing but white
-/// space.
+/// Adds the template of a file to the set. Its name is the part of the path after the last `/`, as
+/// Go's `ParseFiles` has it. A new name goes last. A name that is there keeps its place and gets the
+/// new body, unless that is blank, nothing but white space (Go's `Template.Parse`); that a blank body
+/// replaces no blank one either is our own rule.
 ///
 /// # Errors
 ///
-/// The first action of the file that is unreadable or has no reading; before that, a file of more than
-/// 16,777,216 bytes; and want of memory at any time. The set is then as it was.
+/// The first action of the file that is unreadable or has no reading, at the line of its `{{`.
+/// Before that, at line 1, a file of more than 16,777,216 bytes (our own limit). Want of memory at
+/// any time, at line 1. After an error the set is as it was.
 pub fn parse_file<'f>(
     alloc: Global,
     set: &mut Set,

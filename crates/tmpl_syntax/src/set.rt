@@ -10,8 +10,8 @@ use indexmap::IndexMap;
 use indexmap::map::Keys;
 use std::alloc::{AllocError, Global};
 
-/// Templates by their names, in the order in which the names were first defined. A name is bytes that need not
-/// be UTF-8.
+/// Templates by their names, in the order in which the names were first defined (our own rule; Go
+/// keeps no order). A name is bytes that need not be UTF-8.
 #[derive(Drop)]
 pub struct Set {
     templates: IndexMap<Vec<u8>, Tree>,
@@ -33,17 +33,18 @@ impl Set {
         }
     }
 
-    /// The tree of the template of this name.
+    /// The tree of the template of this name, if there is one.
     pub fn get(&self, name: &[u8]) -> Option<&Tree>
         ensures { option_map (λ t. tree_of t.now) result ≡ tree_named name.now (set_view self.now) }
     {
         self.templates.get(name)
     }
 
-    /// Adds a definition: a new name goes last, and a name that is there keeps its place and gets the new body, unless
-    /// that is blank. After an error the set is as it was.
+    /// Adds a definition: a new name goes last, and a name that is there keeps its place and gets
+    /// the new body, unless that is blank. After an error the set is as it was.
     pub(crate) fn define(&mut self, name: Vec<u8>, tree: Tree) -> Result<(), AllocError>
-        ensures ok { OnOk result (set_view self.new ≡ defined (set_view self.old) name.items (tree_of tree)) }
+        ensures ok { OnOk result (set_view self.new
+            ≡ defined (set_view self.old) name.items (tree_of tree)) }
         ensures err { OnErr result (set_view self.new ≡ set_view self.old) }
     {
         if self.keeps(name.as_slice(), &tree) {
@@ -55,7 +56,8 @@ impl Set {
 
     /// Whether a definition leaves the set as it is: a blank one of a name that is there.
     fn keeps(&self, name: &[u8], tree: &Tree) -> bool
-        ensures { result ≡ (is_blank (tree_of tree.now).nodes && is_some (tree_named name.now (set_view self.now))) }
+        ensures { result ≡ (is_blank (tree_of tree.now).nodes
+            && is_some (tree_named name.now (set_view self.now))) }
     {
         is_blank(tree.nodes.as_slice()) && self.get(name).is_some()
     }
