@@ -1,5 +1,6 @@
 PREFIX ?= /usr/local
 PROGRAM = crates/tmpl/out/tmpl
+READER = crates/bench_values/out/bench_values
 SOURCES = $(shell find crates crates.txt -name out -prune -o -type f -print)
 
 # renders an example by the proved program
@@ -10,7 +11,8 @@ demo: $(PROGRAM)
 test:
 	python3 tests/gate.py "rt ci" "python3 tests/run.py" "env TMPL=$(PROGRAM).by-rattle python3 tests/run.py" "python3 tests/sweep.py"
 
-bench: $(PROGRAM)
+# times the program beside others
+bench: $(PROGRAM) $(READER)
 	python3 tests/bench.py
 
 install: $(PROGRAM)
@@ -19,5 +21,8 @@ install: $(PROGRAM)
 # proves the program and what it stands on, where that is not done yet, and builds it
 $(PROGRAM): $(SOURCES)
 	cd crates/tmpl && rt run -- --help > /dev/null
+
+$(READER): $(SOURCES)
+	cd crates/bench_values && rt run -- text data/numbers.json > /dev/null
 
 .PHONY: demo test bench install

@@ -10,6 +10,7 @@ import harness
 
 MIB = 1 << 20
 LINE = b"All the world's a stage, and all the men and women merely players.\n"
+READER = f"{harness.TOP}/crates/bench_values/out/bench_values"
 LOAD = "import json, sys; json.load(open(sys.argv[1], 'rb'))"
 
 
@@ -114,6 +115,17 @@ def members(size):
     yield b"]"
 
 
+def bench_reading(folder):
+    """What the conversion to data costs beside serde_json's own read of the same file, and its text after that."""
+    print("A JSON file of 10 MB, by parts")
+    file = write(f"{folder}/data", members(10_000_000))
+    loads = [sys.executable, "-c", LOAD, file]
+    read, data, text, python = medians(7, *([READER, part, file] for part in ("read", "data", "text")), loads)
+    for name, told in (("serde_json's read", read), ("data", data), ("data and its text", text), ("python3's json.load", python)):
+        print(f"  {name}: {milliseconds(told[0])} in {told[1] // 1024:.0f} MiB")
+    judge("conversion to read", (data[0] - read[0]) / read[0], 0.5)
+
+
 def bench_values(folder):
     print("Data put as text, to /dev/null")
     file = write(f"{folder}/dot", [b"{{.}}"])
@@ -135,6 +147,7 @@ def main():
         bench_text(folder)
         bench_actions(folder)
         bench_values(folder)
+        bench_reading(folder)
 
 
 if __name__ == "__main__":

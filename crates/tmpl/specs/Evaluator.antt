@@ -7,6 +7,7 @@ use Rattle.tmpl_values.specs.declared.value.Val.{Val}
 use Rattle.tmpl_run.specs.Meaning.{Cause, Setting, Run, End, done, faulted, Next, Ran, with_value, putting}
 use Rattle.tmpl_run.specs.Seen.{cause_of, fault_seen}
 use Rattle.tmpl_run.specs.declared.fault.RunFaultKind.{RunFaultKind}
+use Rattle.tmpl.specs.Rope.{rope_bytes}
 use Rattle.tmpl.specs.declared.evaluator.Setting as held_setting
 use Rattle.tmpl.specs.declared.evaluator.Machine as held_machine
 use Rattle.tmpl.specs.declared.evaluator.End as held_end
@@ -22,7 +23,7 @@ setting_seen s = record {
 }
 
 abbrev pub run_of : held_machine.Machine → Run
-run_of m = record { text = m.text.bytes.items; left = m.left }
+run_of m = record { text = rope_bytes m.text; left = m.left }
 
 abbrev pub end_seen : held_end.End → End
 end_seen ending.Done = done
@@ -33,7 +34,7 @@ value_seen (Ok v) = Ok (val_of v)
 value_seen (Err kind) = Err (cause_of kind)
 
 abbrev pub ran_seen : held_run.Rendered → Ran
-ran_seen r = record { text = r.text.items; fault = option_map fault_seen r.fault }
+ran_seen r = record { text = rope_bytes r.text; fault = option_map fault_seen r.fault }
 
 -- an action, once its step is taken
 abbrev pub acting : Setting → ℕ → Result Value Cause → Next

@@ -5,4 +5,5 @@ pub mod Message
 pub mod Outcome
 pub mod Tool
 pub mod Loads
+pub mod Rope
 pub mod Evaluator

@@ -1,5 +1,5 @@
-//! A plain evaluator: it walks the tree and builds the whole text in memory.
-ghost use Rattle.std.specs.Prelude.{◌≡◌, IfOk, OnOk, option_map, Some};
+//! A plain evaluator: it walks the tree and builds the whole text in memory, as a rope.
+ghost use Rattle.std.specs.Prelude.{◌≡◌, IfOk, OnOk, option_map};
 ghost use Rattle.tmpl_values.specs.View.{val_of, value_of};
 ghost use Rattle.tmpl_values.specs.Field.{field_at};
 ghost use Rattle.tmpl_syntax.specs.Tree.{node_of, nodes_in, operand_of, tree_of};
@@ -7,15 +7,16 @@ ghost use Rattle.tmpl_run.specs.Meaning.{by_mode, chain, field_value, meaning, m
 ghost use Rattle.tmpl_run.specs.Seen.{cause_of};
 ghost use Rattle.tmpl.specs.Evaluator.{acting, end_seen, ran_seen, run_of, setting_seen, value_seen};
 
+use crate::rope::Rope;
 use std::alloc::{AllocError, Global};
 use tmpl_run::{MissingKey, Options, RunFault, RunFaultKind};
 use tmpl_syntax::{Node, Operand, Tree};
-use tmpl_values::{Bytes, Data, Field, Put, Val, put_text};
+use tmpl_values::{Bytes, Data, Field, Val, put_text};
 
 /// What a run came to: its text, and the fault that ended it.
 #[derive(Drop)]
 pub(crate) struct Rendered<'a> {
-    pub text: Vec<u8>,
+    pub text: Rope<'a>,
     pub fault: Option<RunFault<'a>>,
 }
 
@@ -34,33 +35,10 @@ enum End<'a> {
     Faulted(RunFault<'a>),
 }
 
-/// The text so far.
-#[derive(Drop)]
-struct TextSoFar {
-    bytes: Vec<u8>,
-    failures: u64,
-}
-
-impl Put for TextSoFar {
-    type Fault = AllocError;
-
-    ghost so_far = { λ t. record { bytes = Some t.bytes.items; failures = t.failures; through = 0 } };
-
-    fn put(&mut self, bytes: &[u8]) -> Result<(), AllocError> {
-        match self.bytes.extend_from_slice(bytes) {
-            Ok(()) => Ok(()),
-            Err(error) => {
-                self.failures += 1;
-                Err(error)
-            }
-        }
-    }
-}
-
 /// Where a run stands.
 #[derive(Drop)]
-struct Machine {
-    text: TextSoFar,
+struct Machine<'a> {
+    text: Rope<'a>,
     left: u64,
 }
 
@@ -78,9 +56,9 @@ impl<'a> Setting<'a> {
     }
 }
 
-impl Machine {
+impl<'a> Machine<'a> {
     /// Runs the nodes, one after the other.
-    fn nodes<'a>(
+    fn nodes(
         &mut self,
         setting: &Setting<'a>,
         nodes: &'a [Node],
@@ -101,7 +79,7 @@ impl Machine {
         Ok(End::Done)
     }
 
-    fn node<'a>(
+    fn node(
         &mut self,
         setting: &Setting<'a>,
         node: &'a Node,
@@ -122,7 +100,7 @@ impl Machine {
         self.left -= 1;
         match node {
             Node::Text { line: _, bytes } => {
-                self.text.put(bytes.as_slice())?;
+                self.text.add(bytes.as_slice())?;
                 Ok(End::Done)
             }
             Node::Action { line, operand } => self.action(setting, *line, operand, dot),
@@ -130,7 +108,7 @@ impl Machine {
     }
 
     /// Puts the text of a pipeline's value.
-    fn action<'a>(
+    fn action(
         &mut self,
         setting: &Setting<'a>,
         line: u64,
@@ -269,22 +247,18 @@ pub(crate) fn evaluate<'a>(
         template: name,
     };
     let mut machine = Machine {
-        text: TextSoFar {
-            bytes: Vec::new(alloc),
-            failures: 0,
-        },
+        text: Rope::new(alloc),
         left: options.steps,
     };
     let end = machine.nodes(&setting, tree.nodes.as_slice(), &starting_dot(held))?;
     let Machine { text, left: _ } = machine;
-    let TextSoFar { bytes, failures: _ } = text;
     match end {
         End::Done => Ok(Rendered {
-            text: bytes,
+            text,
             fault: None,
         }),
         End::Faulted(fault) => Ok(Rendered {
-            text: bytes,
+            text,
             fault: Some(fault),
         }),
     }

@@ -12,6 +12,7 @@ mod message;
 mod quoting;
 mod render;
 mod request;
+mod rope;
 mod source;
 mod status;
 mod stop;

@@ -47,7 +47,7 @@ fn put_run<O: Sink, E: Sink>(run: &Rendered<'_>, out: &mut O, err: &mut E) -> St
         (sunk (E.taken err.old) (E.taken err.new) (E.failures err.old) (E.failures err.new))
         result.code }
 {
-    match put_all(out, run.text.as_slice()) {
+    match run.text.put_to(out) {
         Ok(()) => match &run.fault {
             None => Status { code: 0 },
             Some(fault) => run_failed(err, fault),
