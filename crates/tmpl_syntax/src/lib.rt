@@ -1,6 +1,18 @@
 //! Template files read into trees, and the set of templates.
 #![tactic(auto)]
 
+mod blank;
+mod build;
+mod fault;
+mod parse;
+mod read;
+mod set;
 mod tree;
 
+pub use fault::{ParseFault, ParseKind};
+pub use parse::{base_name, parse_file};
+pub use set::{Names, Set};
 pub use tree::{Node, Operand, Tree};
+
+#[cfg(test)]
+mod tests;

@@ -22,13 +22,14 @@ took_then (Err e) old mid new a b first second = (
 
 -- nothing is put
 pub none : {F : Type 0} (p : Puts) → IsPut {F = F} (Ok tt) p p []
-none p = record { count = omega arith; bytes = appended-nil p.bytes }
+none p = record { count = omega arith; bytes = appended-nil p.bytes; through = refl }
 
 -- a text is put after another
 pub then : {F : Type 0} {old mid new : Puts} {a b : List ℕ} {r : Result (Unit {0}) F} → IsPut {F = F} (Ok tt) old mid a → IsPut r mid new b → IsPut r old new (a ++ b)
 then {old = old} {mid = mid} {new = new} {a = a} {b = b} {r = r} first second = record {
   count = omega (arith, first.count, second.count);
   bytes = took_then r old.bytes mid.bytes new.bytes a b first.bytes second.bytes;
+  through = second.through ∙ first.through;
 }
 
 -- the put of the first of two texts fails
@@ -36,7 +37,7 @@ pub stop : {F : Type 0} {r : Result (Unit {0}) F} {old new : Puts} {a : List ℕ
 stop {r = Ok u} b err h = cc
 stop {r = Err f} {old = old} {a = a} b err h =
     let begins = h.bytes in
-    record { count = h.count; bytes = (begins.0, begins.1 ++ b, ap (λ t. t ++ b) begins.2 ∙ append_assoc begins.0 begins.1 b, begins.3) }
+    record { count = h.count; bytes = (begins.0, begins.1 ++ b, ap (λ t. t ++ b) begins.2 ∙ append_assoc begins.0 begins.1 b, begins.3); through = h.through }
 
 pub along : {F : Type 0} {r : Result (Unit {0}) F} {old new : Puts} {a b : List ℕ} → IsPut r old new a → a ≡ b → IsPut r old new b
 along {F} {r} {old} {new} h e = subst (IsPut r old new) e h

@@ -51,5 +51,5 @@ abbrev pub quote_by : (ℕ → Bool) → List ℕ → List ℕ
 quote_by prints bs = 34 ∷ (inside prints bs ++ 34 ∷ [])
 
 -- the quote
-abbrev pub quote : List ℕ → List ℕ
+unfoldable pub quote : List ℕ → List ℕ
 quote = quote_by printable

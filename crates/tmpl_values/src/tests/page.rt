@@ -64,7 +64,7 @@ impl Put for Page {
 
     type Fault = Refused;
 
-    ghost so_far = { λ p. record { bytes = Some (take p.used p.bytes); failures = p.failures } };
+    ghost so_far = { λ p. record { bytes = Some (take p.used p.bytes); failures = p.failures; through = 0 } };
 
     fn put(&mut self, bytes: &[u8]) -> Result<(), Refused> {
         self.puts = self.puts.saturating_add(1);

@@ -1,0 +1,8 @@
+use Rattle.tmpl.proofs.words.options_in.Goals as goal
+
+pub returns : goal.returns
+returns c = λ i. record {
+  missing = c.mode_of.ensures i;
+  depth = c.depth_of.ensures.value i;
+  steps = c.steps_of.ensures.value i;
+}

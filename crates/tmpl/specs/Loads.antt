@@ -1,0 +1,63 @@
+-- What the parts of the program that read files answer.
+use Rattle.std.specs.Prelude.{true, false, ◌≡◌, ◌+◌, ℕ, List, Option, Some, None, Result, Ok, Err, option_map}
+use Rattle.tmpl_values.specs.Value.{Value}
+use Rattle.tmpl_values.specs.View.{value_of}
+use Rattle.tmpl_values.specs.declared.data.Data.{Data}
+use Rattle.tmpl_syntax.specs.Set.{Template}
+use Rattle.tmpl.specs.Source.{Bytes, Files}
+use Rattle.tmpl.specs.Outcome.{Answer}
+use Rattle.tmpl.specs.Tool.{data_answer, data_found, loaded, memory_answer, missing_answer, read_in, refused_answer, unread_answer}
+use Rattle.tmpl.specs.declared.stop.Stop.{Stop}
+use Rattle.tmpl.specs.declared.stop.Stop.TheVariants as stop
+
+-- what the program comes to where it stops before it puts anything out
+abbrev pub stop_answer : Stop → Answer
+stop_answer (stop.Missing name) = missing_answer name.now
+stop_answer (stop.Failed name) = unread_answer name.now
+stop_answer (stop.Template f) = refused_answer f.file.now (f.line, f.kind)
+stop_answer (stop.Values name f) = data_answer name.now f
+stop_answer stop.OutOfMemory = memory_answer
+
+-- the count of failures rose exactly where a read failed
+abbrev pub Counts : {T : Type 0} → ℕ → ℕ → Result T Stop → Type 0
+Counts was is (Ok u) = is ≡ was
+Counts was is (Err (stop.Failed name)) = is ≡ was + 1
+Counts was is (Err stop) = is ≡ was
+
+-- where one file stops the program
+abbrev pub FileStops : Files → List Template → Bytes → Stop → Type 0
+FileStops files old name (stop.Failed failed) = failed.now ≡ name
+FileStops files old name stop.OutOfMemory = Unit {0}
+FileStops files old name stop = read_in old name (files name) ≡ Err (stop_answer stop)
+
+-- one file
+abbrev pub TakesIn : Files → List Template → Bytes → List Template → Result (Unit {0}) Stop → Type 0
+TakesIn files old name new (Ok u) = read_in old name (files name) ≡ Ok new
+TakesIn files old name new (Err stop) = FileStops files old name stop
+
+-- where the files stop the program
+abbrev pub LoadStops : Files → List Template → List Bytes → Stop → Type 0
+LoadStops files old names (stop.Failed name) =
+    (k : ℕ) × (loaded files (Some k) old names ≡ Err (unread_answer name.now))
+LoadStops files old names stop.OutOfMemory = Unit {0}
+LoadStops files old names stop = loaded files None old names ≡ Err (stop_answer stop)
+
+-- all the files
+abbrev pub Loads : Files → List Template → List Bytes → List Template → Result (Unit {0}) Stop → Type 0
+Loads files old names new (Ok u) = loaded files None old names ≡ Ok new
+Loads files old names new (Err stop) = LoadStops files old names stop
+
+-- the value of the data that the program holds, if there is any
+abbrev pub held_value : Option Data → Option Value
+held_value held = option_map value_of held
+
+-- where the data stops the program
+abbrev pub DataStops : Files → Option Bytes → Stop → Type 0
+DataStops files name (stop.Failed failed) = data_found files true name ≡ Err (unread_answer failed.now)
+DataStops files name stop.OutOfMemory = Unit {0}
+DataStops files name stop = data_found files false name ≡ Err (stop_answer stop)
+
+-- the data
+abbrev pub Finds : Files → Option Bytes → Result (Option Data) Stop → Type 0
+Finds files name (Ok held) = data_found files false name ≡ Ok (held_value held)
+Finds files name (Err stop) = DataStops files name stop

@@ -1,0 +1,123 @@
+//! The template looked up and run, and its text put out.
+ghost use Rattle.std.specs.Prelude.{◌≡◌, ◌<◌, ◌^◌, ◌-◌, option_map};
+ghost use Rattle.tmpl_values.specs.View.{value_of};
+ghost use Rattle.tmpl_syntax.specs.Set.{set_view};
+ghost use Rattle.tmpl_syntax.specs.Tree.{tree_of};
+ghost use Rattle.tmpl_run.specs.Meaning.{ran};
+ghost use Rattle.tmpl_run.specs.Sink.{sunk};
+ghost use Rattle.tmpl.specs.Evaluator.{ran_seen};
+ghost use Rattle.tmpl.specs.Outcome.{Counted, Once, Outcome};
+ghost use Rattle.tmpl.specs.Tool.{asked_name, done, rendered, run_answer};
+ghost use Rattle.tmpl.specs.Words.{options_seen, seen};
+
+use crate::evaluator::{Rendered, evaluate};
+use crate::lines::{out_of_memory, run_failed, unnamed, write_failed};
+use crate::request::Request;
+use crate::status::Status;
+use std::alloc::Global;
+use tmpl_run::{Options, Sink, put_all};
+use tmpl_syntax::{Set, Tree, base_name};
+use tmpl_values::Data;
+
+/// Puts a whole text out.
+pub(crate) fn put_out<O: Sink, E: Sink>(text: &[u8], out: &mut O, err: &mut E) -> Status
+    requires out { O.failures out.old < 2 ^ 64 - 1 }
+    requires err { E.failures err.old < 2 ^ 64 - 1 }
+    ensures counts { Counted (O.failures out.old) (O.failures out.new) result.code }
+    ensures cuts { Once (E.failures err.old) (E.failures err.new) }
+    ensures outcome { Outcome (done text.now)
+        (sunk (O.taken out.old) (O.taken out.new) (O.failures out.old) (O.failures out.new))
+        (sunk (E.taken err.old) (E.taken err.new) (E.failures err.old) (E.failures err.new))
+        result.code }
+{
+    match put_all(out, text) {
+        Ok(()) => Status { code: 0 },
+        Err(_) => write_failed(err),
+    }
+}
+
+/// Puts out what a run came to, and says its fault.
+fn put_run<O: Sink, E: Sink>(run: &Rendered<'_>, out: &mut O, err: &mut E) -> Status
+    requires out { O.failures out.old < 2 ^ 64 - 1 }
+    requires err { E.failures err.old < 2 ^ 64 - 1 }
+    ensures counts { Counted (O.failures out.old) (O.failures out.new) result.code }
+    ensures cuts { Once (E.failures err.old) (E.failures err.new) }
+    ensures outcome { Outcome (run_answer (ran_seen run.now))
+        (sunk (O.taken out.old) (O.taken out.new) (O.failures out.old) (O.failures out.new))
+        (sunk (E.taken err.old) (E.taken err.new) (E.failures err.old) (E.failures err.new))
+        result.code }
+{
+    match put_all(out, run.text.as_slice()) {
+        Ok(()) => match &run.fault {
+            None => Status { code: 0 },
+            Some(fault) => run_failed(err, fault),
+        },
+        Err(_) => write_failed(err),
+    }
+}
+
+/// Runs a template.
+fn run_tree<O: Sink, E: Sink>(
+    alloc: Global,
+    options: &Options,
+    name: &[u8],
+    tree: &Tree,
+    held: Option<&Data>,
+    out: &mut O,
+    err: &mut E,
+) -> Status
+    requires out { O.failures out.old < 2 ^ 64 - 1 }
+    requires err { E.failures err.old < 2 ^ 64 - 1 }
+    ensures counts { Counted (O.failures out.old) (O.failures out.new) result.code }
+    ensures cuts { Once (E.failures err.old) (E.failures err.new) }
+    ensures outcome { Outcome (run_answer (ran options.now.missing options.now.steps name.now
+        (tree_of tree.now) (option_map (λ d. value_of d.now) held.entry)))
+        (sunk (O.taken out.old) (O.taken out.new) (O.failures out.old) (O.failures out.new))
+        (sunk (E.taken err.old) (E.taken err.new) (E.failures err.old) (E.failures err.new))
+        result.code }
+{
+    match evaluate(alloc, options, name, tree, held) {
+        Ok(run) => put_run(&run, out, err),
+        Err(_) => out_of_memory(err),
+    }
+}
+
+/// The name that is asked for, or that of the first file's own template.
+fn asked_name<'a>(request: &Request<'a>) -> &'a [u8]
+    ensures { result.now ≡ asked_name (seen request.now).name (seen request.now).files }
+{
+    match request.name {
+        Some(name) => name.as_bytes(),
+        None => match request.files.first() {
+            Some(name) => base_name(*name),
+            None => b"",
+        },
+    }
+}
+
+/// Looks the name up, and runs its template.
+pub(crate) fn render<O: Sink, E: Sink>(
+    alloc: Global,
+    request: &Request<'_>,
+    set: &Set,
+    held: Option<&Data>,
+    out: &mut O,
+    err: &mut E,
+) -> Status
+    requires out { O.failures out.old < 2 ^ 64 - 1 }
+    requires err { E.failures err.old < 2 ^ 64 - 1 }
+    ensures counts { Counted (O.failures out.old) (O.failures out.new) result.code }
+    ensures cuts { Once (E.failures err.old) (E.failures err.new) }
+    ensures outcome { Outcome (rendered (options_seen request.now.options)
+        (asked_name (seen request.now).name (seen request.now).files) (set_view set.now)
+        (option_map (λ d. value_of d.now) held.entry))
+        (sunk (O.taken out.old) (O.taken out.new) (O.failures out.old) (O.failures out.new))
+        (sunk (E.taken err.old) (E.taken err.new) (E.failures err.old) (E.failures err.new))
+        result.code }
+{
+    let name = asked_name(request);
+    match set.get(name) {
+        Some(tree) => run_tree(alloc, &request.options, name, tree, held, out, err),
+        None => unnamed(err, name),
+    }
+}

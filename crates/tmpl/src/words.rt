@@ -1,0 +1,143 @@
+//! What clap's matches of the words ask for.
+ghost use Rattle.std.specs.Prelude.{◌≡◌, ◌≢◌, ◌≤◌, ◌<◌, ◌^◌, codes, option_map, map, unwrap_or, [], Some, IfOk, IfErr};
+ghost use Rattle.clap.specs.Words.{all_of, first_of, one_of, found_of, rows_of, kind_of};
+ghost use Rattle.tmpl.specs.Words.{Answers, Parses, mode_named, mode_of, number_in, options_seen, options_wanted, seen, wanted, wanted_in};
+ghost use Rattle.std.specs.String.{string_bytes};
+
+use crate::command::command;
+use crate::request::{Refused, Request};
+use clap::error::ErrorKind;
+use clap::{ArgMatches, Error};
+use std::alloc::{AllocError, Global};
+use tmpl_run::{MissingKey, Options};
+
+static MODES: [&str; 4] = ["default", "invalid", "zero", "error"];
+
+fn mode_named(word: &str) -> MissingKey
+    ensures { result ≡ mode_named word.now }
+{
+    match word {
+        "invalid" => MissingKey::Invalid,
+        "zero" => MissingKey::Zero,
+        "error" => MissingKey::Error,
+        _ => MissingKey::Default,
+    }
+}
+
+fn mode_of(matches: &ArgMatches<'_>) -> MissingKey
+    ensures { result ≡ mode_of (first_of (codes "missingkey") (rows_of (found_of matches.now))) }
+{
+    match matches.get_str("missingkey") {
+        None => MissingKey::Default,
+        Some(word) => mode_named(word),
+    }
+}
+
+fn number_in(text: Option<&str>, default: u64, low: u64, high: u64) -> u64
+    requires { (low ≤ default) × (default ≤ high) }
+    ensures value { result ≡ number_in default low high (option_map (λ s. s.now) text.entry) }
+    ensures least { low ≤ result }
+    ensures most { result ≤ high }
+{
+    match text {
+        Some(text) => parsed_in(text, default, low, high),
+        None => default,
+    }
+}
+
+fn parsed_in(text: &str, default: u64, low: u64, high: u64) -> u64
+    requires { (low ≤ default) × (default ≤ high) }
+    ensures value { result ≡ number_in default low high (Some text.now) }
+    ensures least { low ≤ result }
+    ensures most { result ≤ high }
+{
+    match text.parse::<u64>() {
+        Ok(number) if low <= number && number <= high => number,
+        _ => default,
+    }
+}
+
+fn depth_of(matches: &ArgMatches<'_>) -> u32
+    ensures value { result ≡ number_in 1000 1 100000 (first_of (codes "depth") (rows_of (found_of matches.now))) }
+    ensures least { 1 ≤ result }
+    ensures most { result ≤ 100000 }
+{
+    number_in(matches.get_str("depth"), 1000, 1, 100_000) as u32
+}
+
+fn steps_of(matches: &ArgMatches<'_>) -> u64
+    ensures value { result ≡ number_in 1000000000 1 4611686018427387904 (first_of (codes "steps") (rows_of (found_of matches.now))) }
+    ensures least { 1 ≤ result }
+    ensures most { result ≤ 4611686018427387904 }
+{
+    number_in(
+        matches.get_str("steps"),
+        1_000_000_000,
+        1,
+        4_611_686_018_427_387_904,
+    )
+}
+
+fn copied<'a>(alloc: Global, given: &[&'a str]) -> Result<Vec<&'a str>, AllocError>
+    ensures { IfOk result (λ files. files.items ≡ given.now) }
+{
+    given.iter().copied().collect(alloc)
+}
+
+fn files_of<'a>(alloc: Global, matches: &ArgMatches<'a>) -> Result<Vec<&'a str>, AllocError>
+    ensures { IfOk result (λ files. map (λ s. s.now) files.items
+        ≡ unwrap_or (all_of (codes "file") (rows_of (found_of matches.now))) []) }
+{
+    match matches.get_strs("file") {
+        Some(given) => copied(alloc, given),
+        None => Ok(Vec::new(alloc)),
+    }
+}
+
+fn request_in<'a>(alloc: Global, matches: &ArgMatches<'a>) -> Result<Request<'a>, AllocError>
+    ensures { IfOk result (λ request. seen request ≡ wanted_in (rows_of (found_of matches.now))) }
+{
+    Ok(Request {
+        data_file: matches.get_str("data"),
+        name: matches.get_str("name"),
+        options: options_in(matches),
+        files: files_of(alloc, matches)?,
+    })
+}
+
+fn options_in(matches: &ArgMatches<'_>) -> Options
+    ensures { options_seen result ≡ options_wanted (rows_of (found_of matches.now)) }
+{
+    Options {
+        missing: mode_of(matches),
+        depth: depth_of(matches),
+        steps: steps_of(matches),
+    }
+}
+
+fn refusal(error: &Error) -> Refused
+    ensures { result ≡ Refused.Words → kind_of error.now ≢ ErrorKind.OutOfMemory }
+{
+    if error.kind() == ErrorKind::OutOfMemory {
+        Refused::OutOfMemory
+    } else {
+        Refused::Words
+    }
+}
+
+fn parse<'a>(alloc: Global, words: &'a [String]) -> Result<ArgMatches<'a>, Refused>
+    ensures { Parses (map (λ word. string_bytes word) words.entry.now) result }
+{
+    match command(alloc, MODES.as_slice())?.try_get_matches_from(words) {
+        Ok(matches) => Ok(matches),
+        Err(error) => Err(refusal(&error)),
+    }
+}
+
+/// What the words ask for. The first word is the program's name.
+pub(crate) fn request_of<'a>(alloc: Global, words: &'a [String]) -> Result<Request<'a>, Refused>
+    ensures { Answers (wanted (map (λ word. string_bytes word) words.entry.now)) result }
+{
+    let matches = parse(alloc, words)?;
+    Ok(request_in(alloc, &matches)?)
+}

@@ -1,0 +1,3 @@
+pub mod Insides
+pub mod Opening
+pub mod Whole

@@ -1,0 +1,21 @@
+-- What a fault of a run stands for.
+use Rattle.tmpl_run.specs.Meaning.{Cause, steps_spent, lacks_field, lacks_entry, Fault}
+use Rattle.tmpl_run.specs.declared.fault.RunFaultKind.{RunFaultKind}
+use Rattle.tmpl_run.specs.declared.fault.RunFaultKind.TheVariants as kind
+use Rattle.tmpl_run.specs.declared.fault.RunFault.{RunFault}
+
+abbrev pub cause_of : RunFaultKind → Cause
+cause_of (kind.StepsSpent limit) = steps_spent limit
+cause_of (kind.NoField name) = lacks_field name.now
+cause_of (kind.NoEntry name) = lacks_entry name.now
+
+-- this cause, where the fault is
+abbrev pub fault_with : RunFault → Cause → Fault
+fault_with f cause =
+    record { file = f.file.now; line = f.line; template = f.template.now; cause = cause }
+
+abbrev pub fault_by : RunFault → RunFaultKind → Fault
+fault_by f kind = fault_with f (cause_of kind)
+
+abbrev pub fault_seen : RunFault → Fault
+fault_seen f = fault_by f f.kind

@@ -1,0 +1,31 @@
+-- A file and the set before and after it.
+use Rattle.std.proofs.Common.{◌≡◌, ◌<◌, ◌≤◌, ℕ, List, Result, Ok, Err, refl, sym, ap, subst, ◌∙◌, length, cond}
+use Rattle.std.proofs.lemmas.Bool.{lt-ltb, le-ltb}
+use Rattle.std.specs.Result.{IsErrAnd}
+use Rattle.tmpl_lex.specs.Cut.{cut_of}
+use Rattle.tmpl_syntax.specs.declared.fault.ParseKind.{ParseKind}
+use Rattle.tmpl_syntax.specs.declared.fault.ParseKind.TheVariants.{Unreadable, NotAnAction, TooLong, OutOfMemory}
+use Rattle.tmpl_syntax.specs.declared.fault.Refusal as held_refusal
+use Rattle.tmpl_syntax.specs.Set.{Template}
+use Rattle.tmpl_syntax.specs.Parse.{IsRefusal, body_of, placed, parsed, most_bytes}
+use Rattle.tmpl_syntax.specs.Steps.{IsAdded}
+
+module _ (set : List Template) (file bytes : List ℕ) where
+  pub parsed-long : most_bytes < length bytes → parsed set file bytes ≡ Err (1, TooLong)
+  unfolding parsed
+  parsed-long h = ap (λ b. cond b (Err (1, TooLong)) (placed set file (body_of (cut_of bytes)))) (lt-ltb most_bytes (length bytes) h)
+
+  pub parsed-short : length bytes ≤ most_bytes → parsed set file bytes ≡ placed set file (body_of (cut_of bytes))
+  unfolding parsed
+  parsed-short h = ap (λ b. cond b (Err (1, TooLong)) (placed set file (body_of (cut_of bytes)))) (le-ltb most_bytes (length bytes) h)
+
+  -- the refusal of a body is that of its file
+  pub refusal-placed : (line : ℕ) (kind : ParseKind) → length bytes ≤ most_bytes → IsRefusal (body_of (cut_of bytes)) line kind → IsRefusal (parsed set file bytes) line kind
+  refusal-placed line OutOfMemory h e = e
+  refusal-placed line Unreadable h e = parsed-short h ∙ ap (placed set file) e
+  refusal-placed line NotAnAction h e = parsed-short h ∙ ap (placed set file) e
+  refusal-placed line TooLong h e = parsed-short h ∙ ap (placed set file) e
+
+  pub adding-ends : (r : Result (Unit {0}) held_refusal.Refusal) (f : held_refusal.Refusal) → IsErrAnd r (λ e. e ≡ f) → IsRefusal (parsed set file bytes) f.line f.kind → IsAdded set file bytes set r
+  adding-ends (Ok u) f h k = absurd h
+  adding-ends (Err e) f h k = (refl, subst (λ (g : held_refusal.Refusal). IsRefusal (parsed set file bytes) g.line g.kind) (sym h) k)

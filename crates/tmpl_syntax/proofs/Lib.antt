@@ -1,0 +1,4 @@
+pub mod Files
+pub mod Pieces
+pub mod Templates
+pub mod Tokens

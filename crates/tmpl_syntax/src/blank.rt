@@ -1,0 +1,38 @@
+//! Blank bodies.
+ghost use Rattle.std.specs.Prelude.{◌≡◌};
+ghost use Rattle.std.specs.List.{list_all};
+ghost use Rattle.tmpl_lex.specs.Token as token;
+ghost use Rattle.tmpl_syntax.specs.Tree.{node_of, nodes_in};
+ghost use Rattle.tmpl_syntax.specs.Set as spec;
+
+use crate::tree::Node;
+use tmpl_lex::is_space;
+
+/// Whether all nodes are texts of white space.
+#[tactic(auto, using(crate::proofs::Templates::blanks))]
+pub(crate) fn is_blank(nodes: &[Node]) -> bool
+    ensures { result ≡ spec.is_blank (nodes_in nodes.now) }
+{
+    all_blank(nodes)
+}
+
+fn all_blank(nodes: &[Node]) -> bool
+    ensures { result ≡ list_all (λ n. spec.is_blank_node (node_of n)) nodes.now }
+{
+    nodes.iter().all(|node| is_blank_node(node))
+}
+
+fn is_blank_node(node: &Node) -> bool
+    ensures { result ≡ spec.is_blank_node (node_of node.now) }
+{
+    match node {
+        Node::Text { bytes, .. } => is_white(bytes.as_slice()),
+        Node::Action { .. } => false,
+    }
+}
+
+fn is_white(bytes: &[u8]) -> bool
+    ensures { result ≡ list_all token.is_space bytes.now }
+{
+    bytes.iter().all(|b| is_space(*b))
+}

@@ -1,0 +1,86 @@
+//! Reading a file into the set.
+ghost use Rattle.std.specs.Prelude.{◌≡◌, ◌≤◌, ◌==◌, IfOk, length, not};
+ghost use Rattle.std.specs.List.{suffix_len};
+ghost use Rattle.tmpl_syntax.specs.Set.{set_view};
+ghost use Rattle.tmpl_syntax.specs.Parse as spec;
+ghost use Rattle.tmpl_syntax.specs.Parse.{IsParse};
+ghost use Rattle.tmpl_syntax.specs.Steps.{IsAdded};
+
+use crate::build::build;
+use crate::fault::{ParseFault, ParseKind, Refusal};
+use crate::set::Set;
+use crate::tree::Tree;
+use std::alloc::{AllocError, Global};
+use tmpl_lex::cut;
+use tmpl_values::Bytes;
+
+/// The most bytes that a file may have.
+const MOST_BYTES: usize = 16_777_216;
+
+/// Adds the template of a file to the set. Its name is the part of the path after the last `/`, as
+/// Go's `ParseFiles` has it. A new name goes last. A name that is there keeps its place and gets the
+/// new body, unless that is blank, nothing but white space (Go's `Template.Parse`); that a blank body
+/// replaces no blank one either is our own rule.
+///
+/// # Errors
+///
+/// The first action of the file that is unreadable or has no reading, at the line of its `{{`.
+/// Before that, at line 1, a file of more than 16,777,216 bytes (our own limit). Want of memory at
+/// any time, at line 1. After an error the set is as it was.
+pub fn parse_file<'f>(
+    alloc: Global,
+    set: &mut Set,
+    file: &'f str,
+    bytes: &[u8],
+) -> Result<(), ParseFault<'f>>
+    ensures { IsParse (set_view set.old) file.entry bytes.now (set_view set.new) result }
+{
+    match add_file(alloc, set, file, bytes) {
+        Ok(()) => Ok(()),
+        Err(refusal) => Err(ParseFault {
+            file,
+            line: refusal.line,
+            kind: refusal.kind,
+        }),
+    }
+}
+
+fn add_file(alloc: Global, set: &mut Set, file: &str, bytes: &[u8]) -> Result<(), Refusal>
+    ensures { IsAdded (set_view set.old) file.now bytes.now (set_view set.new) result }
+{
+    if bytes.len() > MOST_BYTES {
+        return Err(Refusal {
+            line: 1,
+            kind: ParseKind::TooLong,
+        });
+    }
+    let pieces = cut(alloc, bytes)?;
+    let nodes = build(alloc, pieces.as_slice())?;
+    let name = copy_of(alloc, base_name(file))?;
+    let file = Bytes::new(copy_of(alloc, file.as_bytes())?);
+    set.define(name, Tree { file, nodes })?;
+    Ok(())
+}
+
+fn copy_of(alloc: Global, bytes: &[u8]) -> Result<Vec<u8>, AllocError>
+    ensures { IfOk result (λ v. v.items ≡ bytes.now) }
+{
+    bytes.to_vec(alloc)
+}
+
+/// The part of a path after its last `/`, which names the own template of a file: the whole of it where it has none.
+pub fn base_name(path: &str) -> &[u8]
+    ensures { result.now ≡ spec.base_name path.now }
+{
+    let bytes = path.as_bytes();
+    &bytes[bytes.len() - name_len(bytes)..]
+}
+
+/// How many bytes follow the last `/`.
+#[tactic(auto, using(crate::proofs::Tokens::runs))]
+fn name_len(path: &[u8]) -> usize
+    ensures count { result ≡ suffix_len (λ b. not (b == 47)) path.now }
+    ensures within { result ≤ length path.now }
+{
+    path.iter().rev().take_while(|b| **b != b'/').count()
+}

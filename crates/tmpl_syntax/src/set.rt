@@ -1,0 +1,88 @@
+//! The set of templates.
+ghost use Rattle.std.specs.Prelude.{◌≡◌, ◌&&◌, [], OnOk, OnErr, is_some, map, option_map};
+ghost use Rattle.std.specs.Iterator.{YieldsFirstRef, item_count};
+ghost use Rattle.tmpl_syntax.specs.Tree.{tree_of};
+ghost use Rattle.tmpl_syntax.specs.Set.{set_view, defined, is_blank, tree_named, names_left};
+
+use crate::blank::is_blank;
+use crate::tree::Tree;
+use indexmap::IndexMap;
+use indexmap::map::Keys;
+use std::alloc::{AllocError, Global};
+
+/// Templates by their names, in the order in which the names were first defined (our own rule; Go
+/// keeps no order). A name is bytes that need not be UTF-8.
+#[derive(Drop)]
+pub struct Set {
+    templates: IndexMap<Vec<u8>, Tree>,
+}
+
+/// The names of a set, in its order.
+#[derive(Drop)]
+pub struct Names<'s> {
+    keys: Keys<'s, Vec<u8>, Tree>,
+}
+
+impl Set {
+    /// A set of no templates.
+    pub fn new(alloc: Global) -> Set
+        ensures { set_view result ≡ [] }
+    {
+        Set {
+            templates: IndexMap::new(alloc),
+        }
+    }
+
+    /// The tree of the template of this name, if there is one.
+    pub fn get(&self, name: &[u8]) -> Option<&Tree>
+        ensures { option_map (λ t. tree_of t.now) result ≡ tree_named name.now (set_view self.now) }
+    {
+        self.templates.get(name)
+    }
+
+    /// Adds a definition: a new name goes last, and a name that is there keeps its place and gets
+    /// the new body, unless that is blank. After an error the set is as it was.
+    pub(crate) fn define(&mut self, name: Vec<u8>, tree: Tree) -> Result<(), AllocError>
+        ensures ok { OnOk result (set_view self.new
+            ≡ defined (set_view self.old) name.items (tree_of tree)) }
+        ensures err { OnErr result (set_view self.new ≡ set_view self.old) }
+    {
+        if self.keeps(name.as_slice(), &tree) {
+            return Ok(());
+        }
+        self.templates.insert(name, tree)?;
+        Ok(())
+    }
+
+    /// Whether a definition leaves the set as it is: a blank one of a name that is there.
+    fn keeps(&self, name: &[u8], tree: &Tree) -> bool
+        ensures { result ≡ (is_blank (tree_of tree.now).nodes
+            && is_some (tree_named name.now (set_view self.now))) }
+    {
+        is_blank(tree.nodes.as_slice()) && self.get(name).is_some()
+    }
+
+    /// The names, in the order in which they were first defined.
+    pub fn names(&self) -> Names<'_>
+        ensures { names_left result ≡ map (λ t. t.0) (set_view self.now) }
+    {
+        Names {
+            keys: self.templates.keys(),
+        }
+    }
+}
+
+impl<'s> Iterator for Names<'s> {
+    type Item = &'s [u8];
+
+    ghost next_gives = { YieldsFirstRef names_left };
+
+    ghost remaining = { item_count names_left };
+
+    fn next(&mut self) -> Option<&'s [u8]> {
+        match self.keys.next() {
+            Some(name) => Some(name.as_slice()),
+            None => None,
+        }
+    }
+}

@@ -1,0 +1,140 @@
+use super::*;
+use std::alloc::{AllocError, Global};
+use std::test::Fail;
+
+fn text(bytes: &[u8]) -> &str {
+    std::str::from_utf8(bytes).unwrap_or("not UTF-8")
+}
+
+// `[LINE TEXT]` for a text, `(LINE .)` or `(LINE NAME NAME ..)` for an action.
+fn shown(alloc: Global, tree: &Tree) -> Result<String, AllocError> {
+    let mut all = String::new(alloc);
+    for node in &tree.nodes {
+        match node {
+            Node::Text { line, bytes } => {
+                let bytes = text(bytes.as_slice());
+                all.push_str(format!(in alloc; "[{line} {bytes}]")?.as_str())?;
+            }
+            Node::Action { line, operand } => {
+                all.push_str(format!(in alloc; "({line}")?.as_str())?;
+                match operand {
+                    Operand::Dot => all.push_str(" .")?,
+                    Operand::Fields(names) => {
+                        for name in names {
+                            let name = text(name.as_slice());
+                            all.push_str(format!(in alloc; " {name}")?.as_str())?;
+                        }
+                    }
+                }
+                all.push_str(")")?;
+            }
+        }
+    }
+    Ok(all)
+}
+
+// The templates of a set, each by its name, its file and its nodes.
+fn templates(alloc: Global, set: &Set) -> Result<String, AllocError> {
+    let mut all = String::new(alloc);
+    for name in set.names() {
+        let shown_name = text(name);
+        match set.get(name) {
+            Some(tree) => {
+                let file = text(tree.file.as_slice());
+                let nodes = shown(alloc, tree)?;
+                all.push_str(format!(in alloc; "{shown_name} of {file}: {nodes};")?.as_str())?;
+            }
+            None => all.push_str("lost;")?,
+        }
+    }
+    Ok(all)
+}
+
+#[test]
+fn a_file_becomes_a_template(rt: HostRuntime) -> Result<(), Fail> {
+    for (file, body, want) in [
+        (
+            "greeting",
+            "Hello, {{.name}}!",
+            "greeting of greeting: [1 Hello, ](1 name)[1 !];",
+        ),
+        ("a/b/c.tmpl", "", "c.tmpl of a/b/c.tmpl: ;"),
+        ("a/", "{{\n.\n}}\n", " of a/: (1 .)[3 \n];"),
+        (
+            "/x",
+            "a\n{{ .a.b0._c }}{{.é}}",
+            "x of /x: [1 a\n](2 a b0 _c)(2 é);",
+        ),
+    ] {
+        let mut set = Set::new(rt.alloc());
+        match parse_file(rt.alloc(), &mut set, file, body.as_bytes()) {
+            Ok(()) => assert_eq!(rt; templates(rt.alloc(), &set)?.as_str(), want),
+            Err(_) => panic!(rt; "refused: {body}"),
+        }
+    }
+    Ok(())
+}
+
+#[test]
+fn refusals(rt: HostRuntime) -> Result<(), Fail> {
+    for (body, line, kind) in [
+        ("{{.}", 1, ParseKind::Unreadable),
+        ("a\nb\n{{.a}}\n{{name}}", 4, ParseKind::Unreadable),
+        ("{{}}", 1, ParseKind::NotAnAction),
+        ("\n{{ \n }}", 2, ParseKind::NotAnAction),
+        ("{{. .}}", 1, ParseKind::NotAnAction),
+        ("{{.a .b}}", 1, ParseKind::NotAnAction),
+        ("{{..a}}", 1, ParseKind::NotAnAction),
+        ("{{.a.}}", 1, ParseKind::NotAnAction),
+        ("{{.1}}", 1, ParseKind::NotAnAction),
+        ("{{.a.9}}", 1, ParseKind::NotAnAction),
+        ("{{.}}\n{{..}}{{.1}}\n{{", 2, ParseKind::NotAnAction),
+    ] {
+        let mut set = Set::new(rt.alloc());
+        match parse_file(rt.alloc(), &mut set, "a/f", body.as_bytes()) {
+            Ok(()) => panic!(rt; "accepted: {body}"),
+            Err(fault) => {
+                assert_eq!(rt; fault.file, "a/f");
+                assert_eq!(rt; fault.line, line, "at {body}");
+                assert_eq!(rt; fault.kind, kind, "at {body}");
+            }
+        }
+        assert_eq!(rt; set.names().count(), 0);
+    }
+    Ok(())
+}
+
+#[test]
+fn definitions_of_one_name(rt: HostRuntime) -> Result<(), Fail> {
+    let mut set = Set::new(rt.alloc());
+    for (file, body) in [
+        ("x/a", " \n"),
+        ("b", "B"),
+        ("y/a", "A{{.}}"),
+        ("z/a", " \t\r\n"),
+        ("z/b", "{{..}}"),
+        ("c/b", " {{.}}"),
+    ] {
+        let _ = parse_file(rt.alloc(), &mut set, file, body.as_bytes());
+    }
+    let want = "a of y/a: [1 A](1 .);b of c/b: [1  ](1 .);";
+    assert_eq!(rt; templates(rt.alloc(), &set)?.as_str(), want);
+    assert!(rt; set.get(b"c").is_none());
+    Ok(())
+}
+
+#[test]
+fn the_longest_file(rt: HostRuntime) -> Result<(), Fail> {
+    let mut bytes = vec![in rt.alloc(); b'a'; 16_777_216]?;
+    let mut set = Set::new(rt.alloc());
+    assert!(rt; parse_file(rt.alloc(), &mut set, "f", bytes.as_slice()).is_ok());
+    bytes.push(b'a')?;
+    match parse_file(rt.alloc(), &mut set, "f", bytes.as_slice()) {
+        Ok(()) => panic!(rt; "a file that is too long"),
+        Err(fault) => {
+            assert_eq!(rt; fault.line, 1);
+            assert_eq!(rt; fault.kind, ParseKind::TooLong);
+        }
+    }
+    Ok(())
+}

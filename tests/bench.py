@@ -1,0 +1,141 @@
+"""Times the built program beside other programs, in one run: each pair turn by turn, and of each the median.
+TMPL=PATH names another build."""
+import os
+import statistics
+import sys
+import tempfile
+import time
+
+import harness
+
+MIB = 1 << 20
+LINE = b"All the world's a stage, and all the men and women merely players.\n"
+LOAD = "import json, sys; json.load(open(sys.argv[1], 'rb'))"
+
+
+def once(words, to_pipe=False):
+    """Seconds and peak KiB of one process, from its start until it has ended, with its output to /dev/null,
+    or read from a pipe as it comes."""
+    actions = [(os.POSIX_SPAWN_OPEN, 0, os.devnull, os.O_RDONLY, 0)]
+    read = None
+    begun = time.perf_counter()
+    if to_pipe:
+        read, write = os.pipe()
+        actions += [(os.POSIX_SPAWN_DUP2, write, 1), (os.POSIX_SPAWN_CLOSE, read)]
+    else:
+        actions += [(os.POSIX_SPAWN_OPEN, 1, os.devnull, os.O_WRONLY, 0)]
+    child = os.posix_spawnp(words[0], words, os.environ, file_actions=actions)
+    if to_pipe:
+        os.close(write)
+        while os.read(read, MIB):
+            pass
+        os.close(read)
+    _, status, usage = os.wait4(child, 0)
+    seconds = time.perf_counter() - begun
+    if status:
+        sys.exit(f"{words[0]} did not end well: wait status {status:#x}")
+    return seconds, usage.ru_maxrss
+
+
+def medians(rounds, *runs, to_pipe=False):
+    """The median seconds and peak KiB of each command, run turn by turn."""
+    told = [[once(it, to_pipe) for it in runs] for _ in range(rounds)]
+    return [[statistics.median(which) for which in zip(*column)] for column in zip(*told)]
+
+
+def milliseconds(seconds):
+    return f"{seconds * 1000:.2f} ms"
+
+
+def judge(what, factor, most):
+    print(f"  {what}: {factor:.2f} times, at most {most:g} wanted: {'holds' if factor <= most else 'DOES NOT HOLD'}")
+
+
+def judge_linear(points):
+    """Whether a byte costs as much in a long file as in one of a quarter of its length, start-up aside: by the
+    rise from the first of three sizes, each with its seconds. A cost that grows by the square shows as 3 or more."""
+    rises = [(seconds - points[0][1]) / (size - points[0][0]) for size, seconds in points[1:]]
+    judge("tmpl's further bytes to those of a quarter of the length", rises[-1] / max(rises[0], 1e-12), 2)
+
+
+def write(path, pieces):
+    """Writes in pieces, since a child's peak memory counts from what its parent held."""
+    with open(path, "wb") as it:
+        for piece in pieces:
+            it.write(piece)
+    return path
+
+
+def bench_start():
+    at = f"{harness.TOP}/examples/hello"
+    whole = [harness.PROGRAM, "--data", f"{at}/data.json", f"{at}/hello.tmpl"]
+    once(whole)
+    ours, bare = medians(201, whole, ["/bin/true"])
+    print("A whole render of examples/hello")
+    print(f"  tmpl {milliseconds(ours[0])}, /bin/true {milliseconds(bare[0])}")
+    judge("tmpl to /bin/true", ours[0] / bare[0], 1.5)
+
+
+def bench_text(folder):
+    print("A file of plain text")
+    for name, to_pipe in (("to /dev/null", False), ("to a pipe that is read", True)):
+        points = []
+        for size in (1, 2, 4, 8, 16):
+            chunk = (LINE * (MIB // len(LINE) + 1))[: MIB - 1] + b"\n"
+            file = write(f"{folder}/text", [chunk] * size)
+            ours, cat = medians(21, [harness.PROGRAM, file], ["cat", file], to_pipe=to_pipe)
+            points.append((size * MIB, ours[0]))
+            print(f"  {size:2} MiB {name}: tmpl {milliseconds(ours[0])} in {ours[1] // 1024:.0f} MiB, cat {milliseconds(cat[0])}")
+        judge("tmpl to cat at 16 MiB", ours[0] / cat[0], 10)
+        judge_linear([points[0], points[2], points[4]])
+
+
+def bench_actions(folder):
+    print("A file of actions, to /dev/null")
+    data = write(f"{folder}/data", [b'{"user":{"name":"Ada"},"n":7}'])
+    points = []
+    for size in (0.5, 2, 8):
+        file = write(f"{folder}/actions", [b"{{.user.name}} has {{ .n }}.\n" * (MIB // 58)] * int(2 * size))
+        (ours,) = medians(11, [harness.PROGRAM, "--data", data, file])
+        points.append((size * MIB, ours[0]))
+        print(f"  {size:3} MiB: tmpl {milliseconds(ours[0])} in {ours[1] // 1024:.0f} MiB")
+    judge_linear(points)
+
+
+def members(size):
+    """A JSON list of that many bytes, nearly: members as an export of accounts has them."""
+    written, number = 1, 0
+    yield b"["
+    while written < size:
+        it = b'%s{"id":%d,"name":"account %d","is_open":%s,"owner":null,"tags":["a","b","%d"],"sums":[%d,-%d,0]}' % (
+            b"," * (number > 0), number, number, b"true" if number % 3 else b"false", number % 97, number * 17, number + 1)
+        yield it
+        written, number = written + len(it), number + 1
+    yield b"]"
+
+
+def bench_values(folder):
+    print("Data put as text, to /dev/null")
+    file = write(f"{folder}/dot", [b"{{.}}"])
+    points = []
+    for size in (1_000_000, 2_500_000, 10_000_000):
+        data = write(f"{folder}/data", members(size))
+        ours, python = medians(7, [harness.PROGRAM, "--data", data, file], [sys.executable, "-c", LOAD, data])
+        points.append((size, ours[0]))
+        print(f"  {size / 1e6:4.1f} MB of JSON: tmpl {milliseconds(ours[0])} in {ours[1] // 1024:.0f} MiB, python3's json.load alone {milliseconds(python[0])} in {python[1] // 1024:.0f} MiB")
+    judge_linear(points)
+
+
+def main():
+    if not os.access(harness.PROGRAM, os.X_OK):
+        sys.exit("there is no program: build it by `make demo`, or name one by TMPL=PATH")
+    print(f"Peak memory is told from {once(['/bin/true'])[1] / 1024:.0f} MiB on: a new process counts what this script held")
+    bench_start()
+    with tempfile.TemporaryDirectory() as folder:
+        bench_text(folder)
+        bench_actions(folder)
+        bench_values(folder)
+
+
+if __name__ == "__main__":
+    main()

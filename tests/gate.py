@@ -1,0 +1,37 @@
+"""Runs each command that it is given, one after the other, whatever the others came to, and adds up their
+last lines 'N passed, N failed'. A command without such a line, or with a status that it does not
+explain, counts as one failure."""
+import re
+import shlex
+import subprocess
+import sys
+
+
+def run(command):
+    """Runs the command, shows its output as it comes, and returns what passed and what failed."""
+    print(f"== {command}", flush=True)
+    last = ""
+    with subprocess.Popen(shlex.split(command), stdout=subprocess.PIPE) as ran:
+        for line in ran.stdout:
+            sys.stdout.buffer.write(line)
+            sys.stdout.flush()
+            last = line.decode(errors="replace").strip() or last
+    told = re.fullmatch(r"(\d+) passed, (\d+) failed", last)
+    passed, failed = map(int, told.groups()) if told else (0, 1)
+    if not failed and (ran.returncode or not passed):
+        failed = 1
+    return passed, failed
+
+
+def main(commands):
+    told = [run(it) for it in commands]
+    print("== in all")
+    for command, (passed, failed) in zip(commands, told):
+        print(f"{command}: {passed} passed, {failed} failed")
+    failed = sum(it[1] for it in told)
+    print(f"{sum(it[0] for it in told)} passed, {failed} failed")
+    return 1 if failed or not told else 0
+
+
+if __name__ == "__main__":
+    sys.exit(main(sys.argv[1:]))

@@ -1,0 +1,108 @@
+"""Runs the built program over each small row with its Nth allocation refused, N from 1 until none is.
+Each run must answer as the row does, or put out nothing and end with status 7 and its line. Then each
+test of a module `memory` is run so, of each crate whose tests the gate built: it must pass, or end for
+want of memory of its own. Other tests are left out, since they hold that memory is there.
+TMPL=PATH names another build."""
+import glob
+import os
+import subprocess
+import sys
+import tempfile
+from concurrent.futures import ThreadPoolExecutor
+
+import harness
+
+SMALL = 65536  # bytes in the files and the output of a row
+MOST = 100000  # allocations of one run
+
+
+def build_shim(to):
+    """Compiles fail_alloc.c with the clang of the toolchain, which stands beside the page that `rt doc` names."""
+    page = subprocess.run(["rt", "doc"], stdout=subprocess.PIPE, check=True).stdout.decode().strip()
+    tools = f"{os.path.dirname(page)}/toolchain/bin"
+    flags = ["-O1", "-fPIC", "-shared", "-nostdlib", f"-fuse-ld={tools}/ld.lld"]
+    subprocess.run([f"{tools}/clang", *flags, f"{harness.TESTS}/fail_alloc.c", "-o", to], check=True)
+
+
+def refusing(number, shim, once):
+    """What once gives where the allocation of that number is refused, and whether there was one."""
+    read, write = os.pipe()
+    try:
+        got = once({"LD_PRELOAD": shim, "FAIL_ALLOC": str(number), "FAIL_FD": str(write)}, (write,))
+    finally:
+        os.close(write)
+        with os.fdopen(read, "rb") as it:
+            refused = bool(it.read())
+    return got, refused
+
+
+def sweep(shim, once, wrong):
+    """Refuses each allocation in turn: how many there were, and the first that led to something wrong."""
+    for number in range(1, MOST):
+        try:
+            got, refused = refusing(number, shim, once)
+        except subprocess.TimeoutExpired:
+            return number, [f"    with allocation {number} refused it had not ended after {harness.SECONDS} seconds"]
+        said = wrong(got, refused)
+        if said:
+            return number, [f"    with {f'allocation {number}' if refused else 'none'} refused", *said]
+        if not refused:
+            # a sweep in which nothing was refused would show nothing
+            return number - 1, [] if number > 1 else ["    no allocation was refused"]
+    return MOST, ["    its allocations do not end"]
+
+
+def sweep_row(shim, row):
+    memory = (7, b"", b"tmpl: out of memory\n" if row.stderr == "pipe" else b"")
+
+    def wrong(got, refused):
+        return [] if refused and got == memory else harness.differences(row, got)
+
+    with tempfile.TemporaryDirectory() as folder:
+        row.lay(folder)
+        return (row.name, *sweep(shim, lambda *how: harness.run(row, folder, *how), wrong))
+
+
+def sweep_test(shim, program, name):
+    def once(environment, keep):
+        how = {"stdin": subprocess.DEVNULL, "stdout": subprocess.PIPE, "stderr": subprocess.STDOUT, "timeout": harness.SECONDS}
+        ran = subprocess.run([program, name], env={**os.environ, **environment}, pass_fds=keep, cwd="/", **how)
+        return ran.returncode, ran.stdout
+
+    def wrong(got, refused):
+        status, output = got
+        ended = status == 0 or refused and output.startswith(b"error: AllocError\n")
+        return [] if ended else [f"    status: {status}", f"    output: {harness.short(output)}"]
+
+    return (f"{os.path.basename(program)} {name}", *sweep(shim, once, wrong))
+
+
+def memory_tests():
+    """The tests of modules named memory, with the program that holds each."""
+    for program in sorted(glob.glob(f"{harness.TOP}/crates/*/out/*_tests")):
+        listed = subprocess.run([program, "--list"], stdout=subprocess.PIPE, check=True).stdout.decode()
+        names = [it[: -len(": test")] for it in listed.splitlines() if it.endswith(": test")]
+        yield from ((program, name) for name in names if "memory" in name.split("::")[:-1])
+
+
+def main():
+    if not os.access(harness.PROGRAM, os.X_OK):
+        print("there is no program: build it by `make demo`, or name one by TMPL=PATH")
+        return harness.closing(0, 1)
+    rows = [it for it in harness.read_rows() if it.is_plain() and it.size() <= SMALL]
+    with tempfile.TemporaryDirectory() as folder, ThreadPoolExecutor(len(os.sched_getaffinity(0))) as pool:
+        shim = f"{folder}/fail_alloc.so"
+        build_shim(shim)
+        done = [pool.submit(sweep_row, shim, it) for it in rows]
+        done += [pool.submit(sweep_test, shim, *it) for it in memory_tests()]
+        passed = failed = runs = 0
+        for name, count, wrong in (it.result() for it in done):
+            if wrong:
+                print(f"FAILED {name}", *wrong, sep="\n")
+            passed, failed, runs = passed + (not wrong), failed + bool(wrong), runs + count
+    print(f"{runs} allocations were refused, one in each run")
+    return harness.closing(passed, failed)
+
+
+if __name__ == "__main__":
+    sys.exit(main())
