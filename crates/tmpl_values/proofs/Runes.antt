@@ -120,6 +120,9 @@ front_char bs _ (encoding c s e) = (s, e)
 pub front_fits : (bs : List ℕ) (c : ℕ) → first_rune bs ≡ char c → len_utf8 c ≤ length bs
 front_fits bs c is = omega (arith, length-take (len_utf8 c) bs, ap length ((front_char bs c (subst (Front bs) is (front bs))).1), length-encode c)
 
+pub front_encoding : (bs : List ℕ) (c : ℕ) → first_rune bs ≡ char c → take (len_utf8 c) bs ≡ encode_utf8 c
+front_encoding bs c is = (front_char bs c (subst (Front bs) is (front bs))).1
+
 skip_to : (n : ℕ) (bs : List ℕ) → n ≤ length bs → runes_after n bs ≡ runes_after 0 (drop n bs)
 skip_to zero bs h = refl
 skip_to (suc n) [] h = refl

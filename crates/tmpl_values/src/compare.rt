@@ -11,10 +11,10 @@ use crate::value::Val;
 pub struct CompareFault;
 
 impl<'a> Val<'a> {
-    /// Whether two values are equal.
+    /// Whether two values are equal ("Functions" in the documentation of `text/template`, at `eq`).
     ///
-    /// Truth values, numbers and texts are compared among themselves. Nothing and null equal each other and differ
-    /// from all else. Any other two kinds can't be compared, nor can lists or maps.
+    /// Truth values, numbers and texts are compared among themselves. By our own rule nothing and null equal each other
+    /// and differ from all else, and lists and maps can be compared with these alone. Any other two kinds are a fault.
     pub fn equal(&self, other: &Val<'_>) -> Result<bool, CompareFault>
         ensures { IsCompared (equality (val_of self.now) (val_of other.now)) result }
     {
@@ -34,7 +34,8 @@ impl<'a> Val<'a> {
         }
     }
 
-    /// Whether this value is below the other: numbers by size, texts byte by byte. All else can't be compared.
+    /// Whether this value is below the other: numbers by size, texts byte by byte ("Functions" in the documentation of
+    /// `text/template`, at `lt`). All else is a fault.
     pub fn less(&self, other: &Val<'_>) -> Result<bool, CompareFault>
         ensures { IsCompared (order (val_of self.now) (val_of other.now)) result }
     {

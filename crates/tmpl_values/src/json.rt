@@ -46,7 +46,8 @@ impl<T: Drop> From<AllocFailed<T>> for DataFault {
 }
 
 impl Data {
-    /// The data that JSON bytes are. Where a key stands twice in an object, its last value counts.
+    /// The data that JSON bytes are, by our own profile: numbers are whole and have 64 signed bits, and a map stands by
+    /// rising keys. Where a key stands twice in an object, its last value counts.
     pub fn from_json(alloc: Global, bytes: &[u8]) -> Result<Data, DataFault>
         ensures { IsData bytes.now result }
     {

@@ -1,5 +1,5 @@
 //! The quote of a text.
-ghost use Rattle.std.specs.Prelude.{◌≡◌, ◌+◌, ◌-◌, ◌^◌, ◌<◌, ◌≤◌, drop, ◌||◌, ◌==◌, ◌++◌, ◌∷◌, [], length, slice_index, MatchOption, Some};
+ghost use Rattle.std.specs.Prelude.{◌≡◌, ◌+◌, ◌-◌, ◌^◌, ◌<◌, ◌≤◌, drop, ◌||◌, ◌==◌, ◌++◌, ◌∷◌, [], length, slice_index, take, IfSome, MatchOption, Some};
 ghost use Rattle.std.specs.Char.{digit_char, encode_utf8, len_utf8};
 ghost use Rattle.std.specs.Str.{continuation_len};
 ghost use Rattle.tmpl_values.specs.Put.{IsPut};
@@ -10,7 +10,9 @@ ghost use Rattle.tmpl_values.specs.Printable.{printable, of_category};
 use crate::put::Put;
 use unicode::properties::{GeneralCategory, GeneralCategoryGroup};
 
-/// Puts the quote of a text.
+/// Puts the quote of a text, as `strconv.Quote` has it over the categories of `unicode`'s own version.
+///
+/// It takes no memory, and fails only where `out` does.
 pub fn put_quoted<P: Put>(bytes: &[u8], out: &mut P) -> Result<(), P::Fault>
     requires { (P.so_far out.old).failures < 2 ^ 64 - 1 }
     ensures { IsPut result (P.so_far out.old) (P.so_far out.new) (quote bytes.now) }
@@ -26,18 +28,54 @@ fn put_inside<P: Put>(bytes: &[u8], out: &mut P) -> Result<(), P::Fault>
 {
     let mut rest = bytes;
     while rest.len() > 0 {
-        match first_char(rest) {
-            Some(c) => {
-                put_char(c, out)?;
-                rest = after(rest, c.len_utf8());
-            }
-            None => {
-                put_byte(rest[0], out)?;
-                rest = after(rest, 1);
+        let plain = plain_len(rest);
+        if plain > 0 {
+            out.put(&rest[..plain])?;
+            rest = after(rest, plain);
+        } else {
+            match first_char(rest) {
+                Some(c) => {
+                    put_char(c, out)?;
+                    rest = after(rest, c.len_utf8());
+                }
+                None => {
+                    put_byte(rest[0], out)?;
+                    rest = after(rest, 1);
+                }
             }
         }
     }
     Ok(())
+}
+
+/// How many bytes at the front stand for themselves, since they are characters that print and have no letter.
+fn plain_len(bytes: &[u8]) -> usize
+    ensures within { result ≤ length bytes.now }
+    ensures plain { inside printable bytes.now ≡ take result bytes.now ++ inside printable (drop result bytes.now) }
+{
+    let mut len = 0;
+    while let Some(c) = plain_char(after(bytes, len)) {
+        len += c.len_utf8();
+    }
+    len
+}
+
+/// The character at the front, if it stands for itself.
+fn plain_char(bytes: &[u8]) -> Option<char>
+    ensures { IfSome result (λ c. (len_utf8 c ≤ length bytes.now)
+        × (inside printable bytes.now ≡ take (len_utf8 c) bytes.now ++ inside printable (drop (len_utf8 c) bytes.now))) }
+{
+    if bytes.is_empty() {
+        return None;
+    }
+    match first_char(bytes) {
+        Some(c) => if letter_of(c).is_none() && is_printable(c) {
+            Some(c)
+        } else {
+            None
+        },
+        None => None,
+    }
 }
 
 fn after(bytes: &[u8], n: usize) -> &[u8]

@@ -12,10 +12,12 @@ use crate::put::Put;
 use crate::value::Val;
 use itoa::Buffer;
 
-/// Puts the text that a value has as an action.
+/// Puts the text that a value has as an action, as `fmt.Print` would ("Actions" in the documentation of
+/// `text/template`).
 ///
-/// Nothing and null are `<no value>`, texts are raw, numbers decimal, a list is `[a b]`, and a map is
-/// `map[key:value key:value]` by rising keys. Inside lists and maps null is `<nil>`.
+/// Texts are raw, numbers decimal, a list is `[a b]`, and a map is `map[key:value key:value]` by rising keys. By our own
+/// rule nothing and null are `<no value>`, and null inside a list or a map is `<nil>`. It takes no memory, and fails
+/// only where `out` does.
 pub fn put_text<P: Put>(value: &Val<'_>, out: &mut P) -> Result<(), P::Fault>
     requires { (P.so_far out.old).failures < 2 ^ 64 - 1 }
     ensures { IsPut result (P.so_far out.old) (P.so_far out.new) (text_of (val_of value.now)) }

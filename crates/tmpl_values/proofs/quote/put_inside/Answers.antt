@@ -1,17 +1,21 @@
-use Rattle.std.proofs.Common.{◌∙◌, ap, sym, append_assoc, append-nil, ◌++◌, arith, get_or, drop, List, ℕ}
-use Rattle.std.specs.Char.{len_utf8}
-use Rattle.tmpl_values.proofs.Then.{then, stop, along}
+use Rattle.std.proofs.Common.{◌∙◌, ap, sym, append-nil, ◌++◌, arith, get_or, take, drop, List, ℕ}
 use Rattle.tmpl_values.specs.Rune.{char, byte}
 use Rattle.tmpl_values.specs.Printable.{printable}
 use Rattle.tmpl_values.specs.Quote.{inside, spelling}
-use Rattle.tmpl_values.proofs.Inside.{inside-char, inside-byte, inside-nil}
+use Rattle.tmpl_values.proofs.Then.{then, stop, along}
+use Rattle.tmpl_values.proofs.Inside.{inside-char, inside-byte, inside-nil, done_more}
 use Rattle.tmpl_values.proofs.quote.put_inside.Goals as goal
+
+pub returns-in_err-put : goal.returns-in_err-put
+returns-in_err-put g c =
+    let done = c.loop-rest.invariant in
+    along (then done.2 (stop _ c.from_residual.ensures.0 c.in_err-put.ensures)) (sym (done.1 ∙ ap (λ t. done.0 ++ t) c.plain_len-plain.ensures.plain))
 
 pub returns-in_err-put_char-in-Some : goal.returns-in_err-put_char-in-Some
 returns-in_err-put_char-in-Some g c =
     let done = c.loop-rest.invariant in
     let rest : List ℕ = c.loop-rest.rest.now in
-    along (then done.2 (stop _ c.from_residual.ensures.0 c.in_err-put_char-in-Some.ensures))
+    along (then done.2 (stop _ c.from_residual-in_err-put_char-in-Some.ensures.0 c.in_err-put_char-in-Some.ensures))
     (sym (done.1 ∙ ap (λ t. done.0 ++ t) (inside-char printable rest c.in-Some.c (omega arith) c.in-Some.ensures.0)))
 
 pub returns-in_err-put_byte-in-None : goal.returns-in_err-put_byte-in-None
@@ -21,15 +25,23 @@ returns-in_err-put_byte-in-None g c =
     along (then done.2 (stop _ c.from_residual-in_err-put_byte-in-None.ensures.0 c.in_err-put_byte-in-None.ensures))
     (sym (done.1 ∙ ap (λ t. done.0 ++ t) (inside-byte printable rest (get_or rest 0 0) (omega arith) c.in-None.ensures)))
 
+pub loop-rest-preserved-then-plain-gt0 : goal.loop-rest-preserved-then-plain-gt0
+loop-rest-preserved-then-plain-gt0 g c =
+    let done = c.loop-rest.invariant in
+    let run : List ℕ = take c.plain_len-plain.result c.loop-rest.rest.now in (
+      done.0 ++ run,
+      done_more _ done.0 _ run _ done.1 (c.plain_len-plain.ensures.plain ∙ ap (λ r. run ++ inside printable r) (sym c.after-rest.ensures)),
+      then done.2 c.in_ok-put.ensures,
+    )
+
 pub loop-rest-preserved-in-Some : goal.loop-rest-preserved-in-Some
 loop-rest-preserved-in-Some g c =
     let done = c.loop-rest.invariant in
     let rest : List ℕ = c.loop-rest.rest.now in
-    let past = c.after-rest.ensures ∙ ap (λ n. drop n rest) c.len_utf8.ensures.value in (
-      done.0 ++ spelling printable (char c.in-Some.c),
-      done.1 ∙ ap (λ t. done.0 ++ t) (inside-char printable rest c.in-Some.c (omega arith) c.in-Some.ensures.0)
-          ∙ sym (append_assoc done.0 (spelling printable (char c.in-Some.c)) (inside printable (drop (len_utf8 c.in-Some.c) rest)))
-          ∙ ap (λ r. (done.0 ++ spelling printable (char c.in-Some.c)) ++ inside printable r) (sym past),
+    let past = c.after-rest-in-Some.ensures ∙ ap (λ n. drop n rest) c.len_utf8.ensures.value in
+    let spelled : List ℕ = spelling printable (char c.in-Some.c) in (
+      done.0 ++ spelled,
+      done_more _ done.0 _ spelled _ done.1 (inside-char printable rest c.in-Some.c (omega arith) c.in-Some.ensures.0 ∙ ap (λ r. spelled ++ inside printable r) (sym past)),
       then done.2 c.in_ok-put_char-in-Some.ensures,
     )
 
@@ -37,11 +49,10 @@ pub loop-rest-preserved : goal.loop-rest-preserved
 loop-rest-preserved g c =
     let done = c.loop-rest.invariant in
     let rest : List ℕ = c.loop-rest.rest.now in
-    let b : ℕ = get_or rest 0 0 in (
-      done.0 ++ spelling printable (byte b),
-      done.1 ∙ ap (λ t. done.0 ++ t) (inside-byte printable rest b (omega arith) c.in-None.ensures)
-          ∙ sym (append_assoc done.0 (spelling printable (byte b)) (inside printable (drop 1 rest)))
-          ∙ ap (λ r. (done.0 ++ spelling printable (byte b)) ++ inside printable r) (sym c.after-rest-in-None.ensures),
+    let b : ℕ = get_or rest 0 0 in
+    let spelled : List ℕ = spelling printable (byte b) in (
+      done.0 ++ spelled,
+      done_more _ done.0 _ spelled _ done.1 (inside-byte printable rest b (omega arith) c.in-None.ensures ∙ ap (λ r. spelled ++ inside printable r) (sym c.after-rest-in-None.ensures)),
       then done.2 c.in_ok-put_byte-in-None.ensures,
     )
 
