@@ -107,15 +107,16 @@ fn refusals(rt: HostRuntime) -> Result<(), Fail> {
 #[test]
 fn definitions_of_one_name(rt: HostRuntime) -> Result<(), Fail> {
     let mut set = Set::new(rt.alloc());
-    for (file, body) in [
-        ("x/a", " \n"),
-        ("b", "B"),
-        ("y/a", "A{{.}}"),
-        ("z/a", " \t\r\n"),
-        ("z/b", "{{..}}"),
-        ("c/b", " {{.}}"),
+    for (file, body, accepted) in [
+        ("x/a", " \n", true),
+        ("b", "B", true),
+        ("y/a", "A{{.}}", true),
+        ("z/a", " \t\r\n", true),
+        ("z/b", "{{..}}", false),
+        ("c/b", " {{.}}", true),
     ] {
-        let _ = parse_file(rt.alloc(), &mut set, file, body.as_bytes());
+        let done = parse_file(rt.alloc(), &mut set, file, body.as_bytes());
+        assert_eq!(rt; done.is_ok(), accepted, "at {file}");
     }
     let want = "a of y/a: [1 A](1 .);b of c/b: [1  ](1 .);";
     assert_eq!(rt; templates(rt.alloc(), &set)?.as_str(), want);
