@@ -253,10 +253,7 @@ pub(crate) fn evaluate<'a>(
     let end = machine.nodes(&setting, tree.nodes.as_slice(), &starting_dot(held))?;
     let Machine { text, left: _ } = machine;
     match end {
-        End::Done => Ok(Rendered {
-            text,
-            fault: None,
-        }),
+        End::Done => Ok(Rendered { text, fault: None }),
         End::Faulted(fault) => Ok(Rendered {
             text,
             fault: Some(fault),
