@@ -12,8 +12,10 @@ abbrev mutual
   code (boolean b) = gcons (gcons gnil gnil) (coded_bool.code b)
   code (number n) = gcons (gcons (gcons gnil gnil) gnil) (coded_ℤ.code n)
   code (string s) = gcons (gcons (gcons (gcons gnil gnil) gnil) gnil) ((coded_list coded_ℕ).code s)
-  code (sequence vs) = gcons (gcons (gcons (gcons (gcons gnil gnil) gnil) gnil) gnil) (items_code vs)
-  code (mapping es) = gcons (gcons (gcons (gcons (gcons (gcons gnil gnil) gnil) gnil) gnil) gnil) (entries_code es)
+  code (sequence vs) =
+      gcons (gcons (gcons (gcons (gcons gnil gnil) gnil) gnil) gnil) (items_code vs)
+  code (mapping es) =
+      gcons (gcons (gcons (gcons (gcons (gcons gnil gnil) gnil) gnil) gnil) gnil) (entries_code es)
 
   pub items_code : Items → Gv
   items_code no_item = gnil
@@ -21,7 +23,8 @@ abbrev mutual
 
   pub entries_code : Entries → Gv
   entries_code no_entry = gnil
-  entries_code (entry k v es) = gcons ((coded_list coded_ℕ).code k) (gcons (code v) (entries_code es))
+  entries_code (entry k v es) =
+      gcons ((coded_list coded_ℕ).code k) (gcons (code v) (entries_code es))
 
 mutual
   same : (v w : Value) → code v ≡ code w → v ≡ w

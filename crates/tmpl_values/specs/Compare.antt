@@ -1,6 +1,6 @@
--- Which values are equal, and which are below others ("Functions", at `eq` and `lt`). That nothing and null are
--- equal and differ from all else, and that sequences and mappings can be compared with these alone, are this
--- project's own rules.
+-- Which values are equal, and which are below others ("Functions", at `eq` and `lt`). That nothing
+-- and null are equal and differ from all else, and that sequences and mappings can be compared with
+-- these alone, are this project's own rules.
 use Rattle.std.specs.Prelude.{◌≡◌, int_lt, bytes_eq, Bool, true, false, Option, Some, None, Result, Ok, Err}
 use Rattle.std.specs.Ordering.{nat_cmp, int_eq, is_lt}
 use Rattle.std.specs.Cmp.Lexicographic.{slice_cmp}
@@ -76,7 +76,8 @@ equality (mapping es) (string t) = None
 equality (mapping es) (sequence ws) = None
 equality (mapping es) (mapping fs) = None
 
--- whether a value is below another: numbers by size, strings byte by byte, and nothing else can be compared
+-- whether a value is below another: numbers by size, strings byte by byte, and nothing else can be
+-- compared
 abbrev pub order : Value → Value → Option Bool
 order nothing w = None
 order null w = None

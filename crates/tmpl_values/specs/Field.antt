@@ -2,8 +2,8 @@
 use Rattle.std.specs.Prelude.{ℕ, List, bytes_eq, if◌then◌else◌}
 use Rattle.tmpl_values.specs.Value.{Value, nothing, null, boolean, number, string, sequence, mapping, Entries, no_entry, entry}
 
--- what a value has under a name: a value; no entry, though it is a mapping; nothing, as it is nothing
--- itself; or no field, as its kind has none
+-- what a value has under a name: a value; no entry, though it is a mapping; nothing, as it is
+-- nothing itself; or no field, as its kind has none
 pub data FieldValue : Type 0 where
   found : Value → FieldValue
   missing : FieldValue

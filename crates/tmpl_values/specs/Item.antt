@@ -14,7 +14,8 @@ nth_entry i no_entry = None
 nth_entry zero (entry k v es) = Some (string k, v)
 nth_entry (suc i) (entry k v es) = nth_entry i es
 
--- the element at a place, behind its index or key: the items of a sequence in order, those of a mapping by key
+-- the element at a place, behind its index or key: the items of a sequence in order, those of a
+-- mapping by key
 abbrev pub item_at : ℕ → Value → Option (Value × Value)
 item_at i nothing = None
 item_at i null = None

@@ -22,11 +22,13 @@ abbrev mutual
 
   pub tree_items : json.Items → Option Items
   tree_items json.no_items = Some no_item
-  tree_items (json.item d ds) = option_and_then (λ v. option_map (item v) (tree_items ds)) (tree_value d)
+  tree_items (json.item d ds) =
+      option_and_then (λ v. option_map (item v) (tree_items ds)) (tree_value d)
 
   pub tree_entries : json.Members → Option Entries
   tree_entries json.no_members = Some no_entry
-  tree_entries (json.member k d ms) = option_and_then (λ v. option_map (entry k v) (tree_entries ms)) (tree_value d)
+  tree_entries (json.member k d ms) =
+      option_and_then (λ v. option_map (entry k v) (tree_entries ms)) (tree_value d)
 
 -- the tree that bytes are: UTF-8 that `serde_json`'s definition reads, nested no deeper than 127
 abbrev pub tree_of : List ℕ → Option json.Data

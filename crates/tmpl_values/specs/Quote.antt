@@ -1,5 +1,5 @@
--- The quote of a text, as `strconv.Quote` has it: its runes, each spelled so that it can be read back. Which
--- characters print is taken from the tables of `unicode` (this project's own rule).
+-- The quote of a text, as `strconv.Quote` has it: its runes, each spelled so that it can be read
+-- back. Which characters print is taken from the tables of `unicode` (this project's own rule).
 use Rattle.std.specs.Prelude.{ℕ, zero, suc, ◌/◌, ◌%◌, ◌||◌, ◌==◌, nat_lt, Bool, List, [], ◌∷◌, ◌++◌, Option, Some, None, if◌then◌else◌}
 use Rattle.std.specs.List.{flat_map}
 use Rattle.std.specs.Char.{encode_utf8, digit_char}
@@ -8,7 +8,9 @@ use Rattle.tmpl_values.specs.Printable.{printable}
 
 -- the codes with a letter of their own behind a backslash: the code, and the letter
 abbrev pub letters : List (ℕ × ℕ)
-letters = (34, 34) ∷ (92, 92) ∷ (7, 97) ∷ (8, 98) ∷ (9, 116) ∷ (10, 110) ∷ (11, 118) ∷ (12, 102) ∷ (13, 114) ∷ []
+letters =
+    (34, 34) ∷ (92, 92) ∷ (7, 97) ∷ (8, 98) ∷ (9, 116) ∷ (10, 110) ∷ (11, 118) ∷ (12, 102)
+    ∷ (13, 114) ∷ []
 
 -- the letter of a code
 abbrev pub second_of : ℕ → List (ℕ × ℕ) → Option ℕ
@@ -25,7 +27,8 @@ unfoldable pub hexes : ℕ → ℕ → List ℕ
 hexes zero c = []
 hexes (suc n) c = hexes n (c / 16) ++ digit_char (c % 16) ∷ []
 
--- a character with no letter of its own: itself where it prints, else its code in two, four or eight digits
+-- a character with no letter of its own: itself where it prints, else its code in two, four or
+-- eight digits
 abbrev pub plain_or_code : (ℕ → Bool) → ℕ → List ℕ
 plain_or_code prints c =
     if prints c then encode_utf8 c

@@ -20,7 +20,9 @@ begins_with c bs = scalar c && bytes_eq (take (len_utf8 c) bs) (encode_utf8 c)
 
 -- the first rune of bytes that are not empty
 unfoldable pub first_rune : List ℕ → Rune
-first_rune bs = let c = slice_index (chars bs) 0 in if begins_with c bs then char c else byte (slice_index bs 0)
+first_rune bs =
+    let c = slice_index (chars bs) 0 in
+    if begins_with c bs then char c else byte (slice_index bs 0)
 
 -- how many bytes of a rune follow its first
 abbrev pub tail_len : Rune → ℕ

@@ -18,7 +18,8 @@ abbrev pub truth_text : Bool → List ℕ
 truth_text true = codes "true"
 truth_text false = codes "false"
 
--- the text inside a sequence or a mapping, as `fmt` prints a default format; null is this project's own
+-- the text inside a sequence or a mapping, as `fmt` prints a default format; null is this project's
+-- own
 abbrev mutual
   pub inner_text : Value → List ℕ
   inner_text nothing = codes "<nil>"

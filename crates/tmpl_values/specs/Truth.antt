@@ -1,6 +1,6 @@
--- Which values are empty: false, 0, nothing, null, and a string, sequence or mapping with nothing in it
--- ("Actions", at `if`: "The empty values are false, 0, any nil pointer or interface value, and any array,
--- slice, map, or string of length zero").
+-- Which values are empty: false, 0, nothing, null, and a string, sequence or mapping with nothing
+-- in it ("Actions", at `if`: "The empty values are false, 0, any nil pointer or interface value,
+-- and any array, slice, map, or string of length zero").
 use Rattle.std.specs.Prelude.{zero, suc, pos, negsuc, Bool, true, false, [], ◌∷◌}
 use Rattle.tmpl_values.specs.Value.{Value, nothing, null, boolean, number, string, sequence, mapping, no_item, item, no_entry, entry}
 

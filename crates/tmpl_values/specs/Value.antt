@@ -1,5 +1,5 @@
--- A value of a template: nothing, null, a truth value, a whole number, a string of bytes, a sequence of
--- values, or a mapping from strings to values.
+-- A value of a template: nothing, null, a truth value, a whole number, a string of bytes, a
+-- sequence of values, or a mapping from strings to values.
 use Rattle.std.specs.Prelude.{◌≡◌, ℕ, ℤ, Bool, List}
 use Rattle.std.specs.Ordering.{nat_cmp}
 use Rattle.std.specs.Cmp.Lexicographic.{slice_cmp}

@@ -13,8 +13,9 @@ pub struct CompareFault;
 impl<'a> Val<'a> {
     /// Whether two values are equal ("Functions" in the documentation of `text/template`, at `eq`).
     ///
-    /// Truth values, numbers and texts are compared among themselves. By our own rule nothing and null equal each other
-    /// and differ from all else, and lists and maps can be compared with these alone. Any other two kinds are a fault.
+    /// Truth values, numbers and texts are compared among themselves. By our own rule nothing and
+    /// null equal each other and differ from all else, and lists and maps can be compared with
+    /// these alone. Any other two kinds are a fault.
     pub fn equal(&self, other: &Val<'_>) -> Result<bool, CompareFault>
         ensures { IsCompared (equality (val_of self.now) (val_of other.now)) result }
     {
@@ -34,8 +35,8 @@ impl<'a> Val<'a> {
         }
     }
 
-    /// Whether this value is below the other: numbers by size, texts byte by byte ("Functions" in the documentation of
-    /// `text/template`, at `lt`). All else is a fault.
+    /// Whether this value is below the other: numbers by size, texts byte by byte ("Functions" in
+    /// the documentation of `text/template`, at `lt`). All else is a fault.
     pub fn less(&self, other: &Val<'_>) -> Result<bool, CompareFault>
         ensures { IsCompared (order (val_of self.now) (val_of other.now)) result }
     {

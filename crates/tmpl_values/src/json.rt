@@ -46,8 +46,9 @@ impl<T: Drop> From<AllocFailed<T>> for DataFault {
 }
 
 impl Data {
-    /// The data that JSON bytes are, by our own profile: numbers are whole and have 64 signed bits, and a map stands by
-    /// rising keys. Where a key stands twice in an object, its last value counts.
+    /// The data that JSON bytes are, by our own profile: numbers are whole and have 64 signed bits,
+    /// and a map stands by rising keys. Where a key stands twice in an object, its last value
+    /// counts.
     pub fn from_json(alloc: Global, bytes: &[u8]) -> Result<Data, DataFault>
         ensures { IsData bytes.now result }
     {
@@ -83,7 +84,8 @@ fn data_of(alloc: Global, value: Value) -> Result<Data, DataFault>
 
 #[cycle(data)]
 fn items_of(alloc: Global, items: Vec<Value>) -> Result<Vec<Data>, DataFault>
-    ensures { IsAnswer (λ v. items_of v.items) result (if_whole (tree_items (items_view items.items))) }
+    ensures { IsAnswer (λ v. items_of v.items) result
+        (if_whole (tree_items (items_view items.items))) }
 {
     let mut done = Vec::with_capacity(alloc, items.len())?;
     for item in items {

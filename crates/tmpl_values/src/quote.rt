@@ -10,7 +10,8 @@ ghost use Rattle.tmpl_values.specs.Printable.{printable, of_category};
 use crate::put::Put;
 use unicode::properties::{GeneralCategory, GeneralCategoryGroup};
 
-/// Puts the quote of a text, as `strconv.Quote` has it over the categories of `unicode`'s own version.
+/// Puts the quote of a text, as `strconv.Quote` has it over the categories of `unicode`'s own
+/// version.
 ///
 /// It takes no memory, and fails only where `out` does.
 pub fn put_quoted<P: Put>(bytes: &[u8], out: &mut P) -> Result<(), P::Fault>
@@ -48,10 +49,12 @@ fn put_inside<P: Put>(bytes: &[u8], out: &mut P) -> Result<(), P::Fault>
     Ok(())
 }
 
-/// How many bytes at the front stand for themselves, since they are characters that print and have no letter.
+/// How many bytes at the front stand for themselves, since they are characters that print and have
+/// no letter.
 fn plain_len(bytes: &[u8]) -> usize
     ensures within { result ≤ length bytes.now }
-    ensures plain { inside printable bytes.now ≡ take result bytes.now ++ inside printable (drop result bytes.now) }
+    ensures plain { inside printable bytes.now
+        ≡ take result bytes.now ++ inside printable (drop result bytes.now) }
 {
     let mut len = 0;
     while let Some(c) = plain_char(after(bytes, len)) {
@@ -63,7 +66,8 @@ fn plain_len(bytes: &[u8]) -> usize
 /// The character at the front, if it stands for itself.
 fn plain_char(bytes: &[u8]) -> Option<char>
     ensures { IfSome result (λ c. (len_utf8 c ≤ length bytes.now)
-        × (inside printable bytes.now ≡ take (len_utf8 c) bytes.now ++ inside printable (drop (len_utf8 c) bytes.now))) }
+        × (inside printable bytes.now
+        ≡ take (len_utf8 c) bytes.now ++ inside printable (drop (len_utf8 c) bytes.now))) }
 {
     if bytes.is_empty() {
         return None;
@@ -88,7 +92,9 @@ fn after(bytes: &[u8], n: usize) -> &[u8]
 /// The character whose well-formed encoding stands at the front.
 fn first_char(bytes: &[u8]) -> Option<char>
     requires { 0 < length bytes.now }
-    ensures { MatchOption result (first_rune bytes.now ≡ byte_rune (slice_index bytes.now 0)) (λ c. (first_rune bytes.now ≡ char_rune c) × (len_utf8 c ≤ length bytes.now)) }
+    ensures { MatchOption result
+        (first_rune bytes.now ≡ byte_rune (slice_index bytes.now 0))
+        (λ c. (first_rune bytes.now ≡ char_rune c) × (len_utf8 c ≤ length bytes.now)) }
 {
     let n = char_len(bytes[0]).min(bytes.len());
     match std::str::from_utf8(&bytes[..n]) {
@@ -144,7 +150,8 @@ fn is_of_category(category: GeneralCategory) -> bool
 
 fn put_char<P: Put>(c: char, out: &mut P) -> Result<(), P::Fault>
     requires { (P.so_far out.old).failures < 2 ^ 64 - 1 }
-    ensures { IsPut result (P.so_far out.old) (P.so_far out.new) (spelling printable (char_rune c)) }
+    ensures { IsPut result (P.so_far out.old) (P.so_far out.new)
+        (spelling printable (char_rune c)) }
 {
     match letter_of(c) {
         Some(letter) => out.put(&[b'\\', letter]),
@@ -193,7 +200,8 @@ fn put_unlettered<P: Put>(c: char, out: &mut P) -> Result<(), P::Fault>
 #[tactic(auto, unfolding(crate::specs::Quote::hexes))]
 fn put_byte<P: Put>(b: u8, out: &mut P) -> Result<(), P::Fault>
     requires { (P.so_far out.old).failures < 2 ^ 64 - 1 }
-    ensures { IsPut result (P.so_far out.old) (P.so_far out.new) (spelling printable (byte_rune b)) }
+    ensures { IsPut result (P.so_far out.old) (P.so_far out.new)
+        (spelling printable (byte_rune b)) }
 {
     out.put(&[b'\\', b'x', hex(b as u32 / 16 % 16), hex(b as u32 % 16)])
 }

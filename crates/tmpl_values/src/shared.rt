@@ -5,7 +5,8 @@ use std::alloc::{AllocError, Global};
 use std::marker::Model;
 use std::rc::Rc;
 
-/// A part of a text that a function made. Its bytes are shared, and sharing them counts but copies nothing.
+/// A part of a text that a function made. Its bytes are shared, and sharing them counts but copies
+/// nothing.
 #[derive(Drop)]
 pub struct Made {
     text: Rc<Vec<u8>>,

@@ -12,12 +12,12 @@ use crate::put::Put;
 use crate::value::Val;
 use itoa::Buffer;
 
-/// Puts the text that a value has as an action, as `fmt.Print` would ("Actions" in the documentation of
-/// `text/template`).
+/// Puts the text that a value has as an action, as `fmt.Print` would ("Actions" in the
+/// documentation of `text/template`).
 ///
-/// Texts are raw, numbers decimal, a list is `[a b]`, and a map is `map[key:value key:value]` by rising keys. By our own
-/// rule nothing and null are `<no value>`, and null inside a list or a map is `<nil>`. It takes no memory, and fails
-/// only where `out` does.
+/// Texts are raw, numbers decimal, a list is `[a b]`, and a map is `map[key:value key:value]` by
+/// rising keys. By our own rule nothing and null are `<no value>`, and null inside a list or a map
+/// is `<nil>`. It takes no memory, and fails only where `out` does.
 pub fn put_text<P: Put>(value: &Val<'_>, out: &mut P) -> Result<(), P::Fault>
     requires { (P.so_far out.old).failures < 2 ^ 64 - 1 }
     ensures { IsPut result (P.so_far out.old) (P.so_far out.new) (text_of (val_of value.now)) }
@@ -81,7 +81,8 @@ fn put_items<P: Put>(items: &[Data], out: &mut P) -> Result<(), P::Fault>
 #[cycle(put)]
 fn put_parted_items<P: Put>(items: &[Data], out: &mut P) -> Result<(), P::Fault>
     requires { (P.so_far out.old).failures < 2 ^ 64 - 1 }
-    ensures { IsPut result (P.so_far out.old) (P.so_far out.new) (parted (item_texts (items_of items.now))) }
+    ensures { IsPut result (P.so_far out.old) (P.so_far out.new)
+        (parted (item_texts (items_of items.now))) }
 {
     let mut lead: &[u8] = b"";
     for held in items {
@@ -106,7 +107,8 @@ fn put_entries<P: Put>(entries: &[(Bytes, Data)], out: &mut P) -> Result<(), P::
 #[cycle(put)]
 fn put_parted_entries<P: Put>(entries: &[(Bytes, Data)], out: &mut P) -> Result<(), P::Fault>
     requires { (P.so_far out.old).failures < 2 ^ 64 - 1 }
-    ensures { IsPut result (P.so_far out.old) (P.so_far out.new) (parted (entry_texts (entries_of entries.now))) }
+    ensures { IsPut result (P.so_far out.old) (P.so_far out.new)
+        (parted (entry_texts (entries_of entries.now))) }
 {
     let mut lead: &[u8] = b"";
     for (key, held) in entries {

@@ -51,8 +51,8 @@ impl<'a> Val<'a> {
         }
     }
 
-    /// Whether the value is not empty, as `if` has it: empty are false, 0, nothing, null, and a text, list or map of
-    /// length zero ("Actions" in the documentation of `text/template`).
+    /// Whether the value is not empty, as `if` has it: empty are false, 0, nothing, null, and a
+    /// text, list or map of length zero ("Actions" in the documentation of `text/template`).
     pub fn truth(&self) -> bool
         ensures { result ≡ truth (val_of self.now) }
     {
@@ -67,8 +67,8 @@ impl<'a> Val<'a> {
         }
     }
 
-    /// The field of this name: the entry of a map under this key ("Arguments" in the documentation of
-    /// `text/template`). That nothing has fields, and null none, is our own rule.
+    /// The field of this name: the entry of a map under this key ("Arguments" in the documentation
+    /// of `text/template`). That nothing has fields, and null none, is our own rule.
     pub fn field(&self, name: &[u8]) -> Field<'a>
         ensures value { field_of result ≡ field_at name.now (val_of self.now) }
         ensures borrowed { is_borrowed result ≡ true }
@@ -86,8 +86,9 @@ impl<'a> Val<'a> {
         }
     }
 
-    /// The index or key at a place, and the element: the items of a list in order, from 0 on, and those of a map by
-    /// rising keys ("Actions" in the documentation of `text/template`, at `range`). Other kinds have none.
+    /// The index or key at a place, and the element: the items of a list in order, from 0 on, and
+    /// those of a map by rising keys ("Actions" in the documentation of `text/template`, at
+    /// `range`). Other kinds have none.
     pub fn item(&self, i: u64) -> Option<(Val<'a>, Val<'a>)>
         ensures value { option_map element_of result ≡ item_at i (val_of self.now) }
         ensures borrowed { IfSome result (λ p. (is_made p.0 ≡ false) × (is_made p.1 ≡ false)) }
@@ -101,7 +102,8 @@ impl<'a> Val<'a> {
         }
     }
 
-    /// The same value once more. It takes no memory but for a made text, whose count of owners may be refused.
+    /// The same value once more. It takes no memory but for a made text, whose count of owners may
+    /// be refused.
     pub fn share(&self) -> Result<Val<'a>, AllocError>
         ensures { IsShared self.now result }
     {
@@ -137,8 +139,8 @@ impl<'a> Val<'a> {
         }
     }
 
-    /// How many bytes a text has, or how many items a list or a map has ("Functions" in the documentation of
-    /// `text/template`, at `len`). Other kinds have no size.
+    /// How many bytes a text has, or how many items a list or a map has ("Functions" in the
+    /// documentation of `text/template`, at `len`). Other kinds have no size.
     pub fn size(&self) -> Option<u64>
         ensures { result ≡ size_of (val_of self.now) }
     {
@@ -151,8 +153,8 @@ impl<'a> Val<'a> {
         }
     }
 
-    /// The bytes of a text or the items of a list, from place i to before place j ("Functions" in the documentation of
-    /// `text/template`, at `slice`). It shares them and copies nothing.
+    /// The bytes of a text or the items of a list, from place i to before place j ("Functions" in
+    /// the documentation of `text/template`, at `slice`). It shares them and copies nothing.
     pub fn part(self, i: u64, j: u64) -> Val<'a>
         requires { HasPart i j (val_of self) }
         ensures value { val_of result ≡ part_of i j (val_of self.entry) }

@@ -3,7 +3,8 @@ use crate::{CompareFault, Data, Field, Val};
 use std::alloc::Global;
 use std::test::Fail;
 
-/// A value of each kind: nothing, null, a truth value, a number, a text, a made text, a list and a map.
+/// A value of each kind: nothing, null, a truth value, a number, a text, a made text, a list and a
+/// map.
 fn each_kind<'a>(alloc: Global, held: &'a Data) -> Result<Vec<Val<'a>>, Fail> {
     let mut values = Vec::new(alloc);
     values.push(Val::Nothing)?;

@@ -7,8 +7,8 @@ use crate::Put;
 #[derive(Clone, Copy, Debug, PartialEq, Eq)]
 pub struct Refused;
 
-/// Takes bytes. The put of the given number, counted from 1, takes half of its bytes and fails, as does one that finds
-/// no room.
+/// Takes bytes. The put of the given number, counted from 1, takes half of its bytes and fails, as
+/// does one that finds no room.
 #[derive(Drop)]
 pub struct Page {
     bytes: [u8; 512],
@@ -64,7 +64,11 @@ impl Put for Page {
 
     type Fault = Refused;
 
-    ghost so_far = { λ p. record { bytes = Some (take p.used p.bytes); failures = p.failures; through = 0 } };
+    ghost so_far = { λ p. record {
+      bytes = Some (take p.used p.bytes);
+      failures = p.failures;
+      through = 0;
+    } };
 
     fn put(&mut self, bytes: &[u8]) -> Result<(), Refused> {
         self.puts = self.puts.saturating_add(1);

@@ -72,7 +72,8 @@ fn escapes_what_does_not_print(rt: HostRuntime) {
     }
 }
 
-/// An ill-formed byte at each place of an encoding, an encoding cut short, too long, of a surrogate and past the last.
+/// An ill-formed byte at each place of an encoding, an encoding cut short, too long, of a surrogate
+/// and past the last.
 #[test]
 fn escapes_ill_formed_bytes(rt: HostRuntime) {
     let rows: [(&[u8], &[u8]); 13] = [
