@@ -115,14 +115,29 @@ def members(size):
     yield b"]"
 
 
+def timed(part, file):
+    """Nanoseconds that the reader says a part took, and peak KiB. Each time is that of a new process."""
+    read, write = os.pipe()
+    actions = [(os.POSIX_SPAWN_DUP2, write, 1), (os.POSIX_SPAWN_CLOSE, read)]
+    child = os.posix_spawn(READER, [READER, part, file], os.environ, file_actions=actions)
+    os.close(write)
+    with os.fdopen(read) as it:
+        told = int(it.read())
+    _, status, usage = os.wait4(child, 0)
+    if status:
+        sys.exit(f"{READER} did not end well: wait status {status:#x}")
+    return told / 1e9, usage.ru_maxrss
+
+
 def bench_reading(folder):
-    """What the conversion to data costs beside serde_json's own read of the same file, and its text after that."""
+    """What the conversion to data costs beside serde_json's own read of the same file: what from_json takes longer."""
     print("A JSON file of 10 MB, by parts")
     file = write(f"{folder}/data", members(10_000_000))
-    loads = [sys.executable, "-c", LOAD, file]
-    read, data, text, python = medians(7, *([READER, part, file] for part in ("read", "data", "text")), loads)
-    for name, told in (("serde_json's read", read), ("data", data), ("data and its text", text), ("python3's json.load", python)):
-        print(f"  {name}: {milliseconds(told[0])} in {told[1] // 1024:.0f} MiB")
+    rounds = [(timed("read", file), timed("data", file)) for _ in range(15)]
+    read, data = ([statistics.median(which) for which in zip(*column)] for column in zip(*rounds))
+    text, python = medians(7, [READER, "text", file], [sys.executable, "-c", LOAD, file])
+    print(f"  serde_json's read {milliseconds(read[0])} in {read[1] // 1024:.0f} MiB, from_json {milliseconds(data[0])} in {data[1] // 1024:.0f} MiB")
+    print(f"  a process that puts its text {milliseconds(text[0])} in {text[1] // 1024:.0f} MiB, one of python3's json.load {milliseconds(python[0])} in {python[1] // 1024:.0f} MiB")
     judge("conversion to read", (data[0] - read[0]) / read[0], 0.5)
 
 
