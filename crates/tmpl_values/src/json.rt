@@ -66,6 +66,7 @@ impl Data {
 }
 
 #[cycle(data)]
+#[inline(always)]
 fn data_of(alloc: Global, value: Value) -> Result<Data, DataFault>
     ensures { IsAnswer value_of result (if_whole (tree_value (view value))) }
 {
