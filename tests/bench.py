@@ -134,11 +134,12 @@ def bench_reading(folder):
     print("A JSON file of 10 MB, by parts")
     file = write(f"{folder}/data", members(10_000_000))
     rounds = [(timed("read", file), timed("data", file)) for _ in range(21)]
-    # the least of each: what else the machine does only adds, and here to the small rest of two large numbers
-    read, data = ([min(which) for which in zip(*column)] for column in zip(*rounds))
+    read, data = ([statistics.median(which) for which in zip(*column)] for column in zip(*rounds))
+    least_read, least_data = (min(told[0] for told in column) for column in zip(*rounds))
     text, python = medians(7, [READER, "text", file], [sys.executable, "-c", LOAD, file])
     print(f"  serde_json's read {milliseconds(read[0])} in {read[1] // 1024:.0f} MiB, from_json {milliseconds(data[0])} in {data[1] // 1024:.0f} MiB")
     print(f"  a process that puts its text {milliseconds(text[0])} in {text[1] // 1024:.0f} MiB, one of python3's json.load {milliseconds(python[0])} in {python[1] // 1024:.0f} MiB")
+    print(f"  by the least of each: {(least_data - least_read) / least_read:.2f} times")
     judge("conversion to read", (data[0] - read[0]) / read[0], 0.5)
 
 
