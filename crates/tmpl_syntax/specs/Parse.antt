@@ -6,7 +6,7 @@ use Rattle.std.specs.Borrow.{Bor}
 use Rattle.tmpl_lex.specs.Piece as piece
 use Rattle.tmpl_lex.specs.Cut.{cut_of}
 use Rattle.tmpl_syntax.specs.Tree as tree
-use Rattle.tmpl_syntax.specs.Tree.{Operand, Node, text, action, Nodes}
+use Rattle.tmpl_syntax.specs.Tree.{Operand, unbound, pipeline, Node, text, action, Nodes}
 use Rattle.tmpl_syntax.specs.Reading.{operand_in}
 use Rattle.tmpl_syntax.specs.Set.{Template, defined}
 use Rattle.tmpl_syntax.specs.declared.fault.ParseKind.{ParseKind}
@@ -30,7 +30,7 @@ refusal_of (piece.unreadable line) = Some (line, Unreadable)
 
 abbrev pub put_out : ℕ → Option Operand → Option Node
 put_out line None = None
-put_out line (Some o) = Some (action line o)
+put_out line (Some o) = Some (action line unbound (pipeline o))
 
 -- the node of a piece that is not refused
 abbrev pub node_for : piece.Piece → Option Node

@@ -34,7 +34,12 @@ tree_named name ts = option_map (λ t. t.1) (find (has_name name) ts)
 
 abbrev pub is_blank_node : Node → Bool
 is_blank_node (tree.text line bytes) = list_all is_space bytes
-is_blank_node (tree.action line operand) = false
+is_blank_node (tree.action line b p) = false
+is_blank_node (tree.if_node line b p body other) = false
+is_blank_node (tree.with_node line b p body other) = false
+is_blank_node (tree.range_node line v p body other) = false
+is_blank_node (tree.break_node line) = false
+is_blank_node (tree.continue_node line) = false
 
 -- whether all nodes are texts of white space
 abbrev pub is_blank : Nodes → Bool

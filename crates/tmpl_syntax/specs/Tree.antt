@@ -1,21 +1,48 @@
 -- The tree of a template, apart from how it is held.
-use Rattle.std.specs.Prelude.{ℕ, List, [], ◌∷◌}
+use Rattle.std.specs.Prelude.{ℕ, List, [], ◌∷◌, map}
 use Rattle.tmpl_syntax.specs.declared.tree.Operand as held_operand
 use Rattle.tmpl_syntax.specs.declared.tree.Operand.TheVariants as operand
+use Rattle.tmpl_syntax.specs.declared.tree.Pipeline as held_pipeline
+use Rattle.tmpl_syntax.specs.declared.tree.Binding as held_binding
+use Rattle.tmpl_syntax.specs.declared.tree.Binding.TheVariants as binding
+use Rattle.tmpl_syntax.specs.declared.tree.RangeVariables as held_variables
+use Rattle.tmpl_syntax.specs.declared.tree.RangeVariables.TheVariants as variables
 use Rattle.tmpl_syntax.specs.declared.tree.Node as held_node
-use Rattle.tmpl_syntax.specs.declared.tree.Node.TheVariants as node
+use Rattle.tmpl_syntax.specs.declared.tree.Node.{fold-Node}
+use Rattle.tmpl_syntax.specs.declared.tree.Node.TheOpen.{Node-F}
 use Rattle.tmpl_syntax.specs.declared.tree.Tree as held_tree
 
--- what a pipeline's value comes from: dot, or a chain of field names from dot
+-- what a value comes from: dot, a chain of field names from dot, or a variable and a chain from it
 pub data Operand : Type 0 where
   dot : Operand
   fields : List (List ℕ) → Operand
+  variable : List ℕ → List (List ℕ) → Operand
 
--- a node, with its line
+pub data Pipeline : Type 0 where
+  pipeline : Operand → Pipeline
+
+-- the variable that takes a pipeline's value: none, a new one, or one that is there
+pub data Binding : Type 0 where
+  unbound : Binding
+  declare : List ℕ → Binding
+  assign : List ℕ → Binding
+
+-- the variables of a range: none, one for the element, or one for its index or key and one for it
+pub data RangeVariables : Type 0 where
+  unnamed : RangeVariables
+  element : List ℕ → RangeVariables
+  key_and_element : List ℕ → List ℕ → RangeVariables
+
+-- a node, with its line; a control has its body and its else part
 mutual
   pub data Node : Type 0 where
     text : ℕ → List ℕ → Node
-    action : ℕ → Operand → Node
+    action : ℕ → Binding → Pipeline → Node
+    if_node : ℕ → Binding → Pipeline → Nodes → Nodes → Node
+    with_node : ℕ → Binding → Pipeline → Nodes → Nodes → Node
+    range_node : ℕ → RangeVariables → Pipeline → Nodes → Nodes → Node
+    break_node : ℕ → Node
+    continue_node : ℕ → Node
 
   pub data Nodes : Type 0 where
     none : Nodes
@@ -29,14 +56,43 @@ pub record Tree : Type 0 where
 abbrev pub operand_of : held_operand.Operand → Operand
 operand_of operand.Dot = dot
 operand_of (operand.Fields names) = fields names.items
+operand_of (operand.Variable name names) = variable name names.items
+
+abbrev pub pipeline_of : held_pipeline.Pipeline → Pipeline
+pipeline_of p = pipeline (operand_of p.operand)
+
+abbrev pub binding_of : held_binding.Binding → Binding
+binding_of binding.Unbound = unbound
+binding_of (binding.Declare name) = declare name
+binding_of (binding.Assign name) = assign name
+
+abbrev pub variables_of : held_variables.RangeVariables → RangeVariables
+variables_of variables.Unnamed = unnamed
+variables_of (variables.Element name) = element name
+variables_of (variables.KeyAndElement key name) = key_and_element key name
+
+abbrev pub nodes_of : List Node → Nodes
+nodes_of [] = none
+nodes_of (n ∷ ns) = then n (nodes_of ns)
+
+-- one level, with the nodes inside already seen
+abbrev pub node_step : Node-F Node → Node
+node_step (Node-F.Text line bytes) = text line bytes
+node_step (Node-F.Action line b p) = action line (binding_of b) (pipeline_of p)
+node_step (Node-F.If line b p body other) =
+    if_node line (binding_of b) (pipeline_of p) (nodes_of body.items) (nodes_of other.items)
+node_step (Node-F.With line b p body other) =
+    with_node line (binding_of b) (pipeline_of p) (nodes_of body.items) (nodes_of other.items)
+node_step (Node-F.Range line v p body other) =
+    range_node line (variables_of v) (pipeline_of p) (nodes_of body.items) (nodes_of other.items)
+node_step (Node-F.Break line) = break_node line
+node_step (Node-F.Continue line) = continue_node line
 
 abbrev pub node_of : held_node.Node → Node
-node_of (node.Text line bytes) = text line bytes
-node_of (node.Action line operand) = action line (operand_of operand)
+node_of = fold-Node Node node_step
 
 abbrev pub nodes_in : List held_node.Node → Nodes
-nodes_in [] = none
-nodes_in (n ∷ ns) = then (node_of n) (nodes_in ns)
+nodes_in ns = nodes_of (map node_of ns)
 
 abbrev pub tree_of : held_tree.Tree → Tree
 tree_of t = record { file = t.file; nodes = nodes_in t.nodes.items }

@@ -27,7 +27,7 @@ fn is_blank_node(node: &Node) -> bool
 {
     match node {
         Node::Text { bytes, .. } => is_white(bytes.as_slice()),
-        Node::Action { .. } => false,
+        _ => false,
     }
 }
 

@@ -5,7 +5,7 @@ ghost use Rattle.tmpl_syntax.specs.Steps.{IsBody, IsBuilt};
 
 use crate::fault::{ParseKind, Refusal};
 use crate::read::read;
-use crate::tree::Node;
+use crate::tree::{Binding, Node, Pipeline};
 use std::alloc::{AllocError, Global};
 use tmpl_lex::Piece;
 use tmpl_values::Bytes;
@@ -34,7 +34,8 @@ fn node_of(alloc: Global, piece: &Piece<'_>) -> Result<Node, Refusal>
         Piece::Action { line, tokens } => match read(alloc, tokens.as_slice())? {
             Some(operand) => Ok(Node::Action {
                 line: *line,
-                operand,
+                binding: Binding::Unbound,
+                pipeline: Pipeline { operand },
             }),
             None => Err(Refusal {
                 line: *line,

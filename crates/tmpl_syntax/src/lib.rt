@@ -1,6 +1,7 @@
 //! Template files read into trees, and the set of templates.
 #![tactic(auto)]
 
+mod action;
 mod blank;
 mod build;
 mod fault;
@@ -12,7 +13,7 @@ mod tree;
 pub use fault::{ParseFault, ParseKind};
 pub use parse::{base_name, parse_file};
 pub use set::{Names, Set};
-pub use tree::{Node, Operand, Tree};
+pub use tree::{Binding, Node, Operand, Pipeline, RangeVariables, Tree};
 
 #[cfg(test)]
 mod tests;

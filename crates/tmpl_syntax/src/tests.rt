@@ -15,9 +15,9 @@ fn shown(alloc: Global, tree: &Tree) -> Result<String, AllocError> {
                 let bytes = text(bytes.as_slice());
                 all.push_str(format!(in alloc; "[{line} {bytes}]")?.as_str())?;
             }
-            Node::Action { line, operand } => {
+            Node::Action { line, pipeline, .. } => {
                 all.push_str(format!(in alloc; "({line}")?.as_str())?;
-                match operand {
+                match &pipeline.operand {
                     Operand::Dot => all.push_str(" .")?,
                     Operand::Fields(names) => {
                         for name in names {
@@ -25,9 +25,11 @@ fn shown(alloc: Global, tree: &Tree) -> Result<String, AllocError> {
                             all.push_str(format!(in alloc; " {name}")?.as_str())?;
                         }
                     }
+                    Operand::Variable { .. } => all.push_str(" $")?,
                 }
                 all.push_str(")")?;
             }
+            _ => all.push_str("?")?,
         }
     }
     Ok(all)
