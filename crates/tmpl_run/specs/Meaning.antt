@@ -1,20 +1,25 @@
 -- The meaning of a template: its text, and the fault that ends it if there is one.
-use Rattle.std.specs.Prelude.{ℕ, ◌-◌, nat_eq, Bool, true, false, List, [], ◌∷◌, ◌++◌, Option, Some, None, Result, Ok, Err}
+use Rattle.std.specs.Prelude.{ℕ, ◌-◌, nat_eq, Bool, true, false, List, [], ◌∷◌, ◌++◌, length, drop, Option, Some, None, Result, Ok, Err, if◌then◌else◌}
+use Rattle.std.specs.Str.{bytes_eq}
 use Rattle.tmpl_values.specs.Value.{Value, nothing, null, boolean, number, string, sequence, mapping}
+use Rattle.tmpl_values.specs.Elements.{Element, elements}
 use Rattle.tmpl_values.specs.Text.{text_of}
+use Rattle.tmpl_values.specs.Truth.{truth}
 use Rattle.tmpl_values.specs.Field.{FieldValue, found, missing, of_nothing, no_field, field_at}
-use Rattle.tmpl_syntax.specs.Tree.{Operand, dot, fields, Node, text, action, Nodes, none, then, Tree}
+use Rattle.tmpl_syntax.specs.Tree as tree
+use Rattle.tmpl_syntax.specs.Tree.{Operand, dot, fields, variable, Pipeline, pipeline, Binding, unbound, declare, assign, RangeVariables, unnamed, element, key_and_element, Node, text, action, if_node, with_node, range_node, break_node, continue_node, Nodes, Tree, line_of}
 use Rattle.tmpl_run.specs.declared.options.MissingKey.{MissingKey}
 use Rattle.tmpl_run.specs.declared.options.MissingKey.TheVariants.{Default, Invalid, Zero, Error}
 
 -- ---- faults
 
 -- why a run stops: no step is left of so many; a value has no fields, and one of this name is asked for;
--- a map has no entry of this name
+-- a map has no entry of this name; a value is not what a range visits
 pub data Cause : Type 0 where
   steps_spent : ℕ → Cause
   lacks_field : List ℕ → Cause
   lacks_entry : List ℕ → Cause
+  not_a_range : Cause
 
 -- why a run stops, and where
 pub record Fault : Type 0 where
@@ -22,6 +27,32 @@ pub record Fault : Type 0 where
   pub line : ℕ
   pub template : List ℕ
   pub cause : Cause
+
+-- ---- variables
+
+-- the variables in scope, the newest first; that of the empty name, written `$`, is the dot at the start
+abbrev pub Environment : Type 0
+Environment = List (List ℕ × Value)
+
+-- the value of the newest variable of a name; a template that is accepted names none that is not there
+abbrev pub lookup : List ℕ → Environment → Value
+lookup name [] = nothing
+lookup name (v ∷ env) = if bytes_eq v.0 name then v.1 else lookup name env
+
+-- a value assigned to the newest variable of a name
+abbrev pub assigned : List ℕ → Value → Environment → Environment
+assigned name x [] = []
+assigned name x (v ∷ env) = if bytes_eq v.0 name then (v.0, x) ∷ env else v ∷ assigned name x env
+
+-- the oldest so many variables
+abbrev pub oldest : ℕ → Environment → Environment
+oldest n env = drop (length env - n) env
+
+-- the index or key and the element of a range as its variables
+abbrev pub element_bound : RangeVariables → Element → Environment → Environment
+element_bound unnamed e env = env
+element_bound (element name) e env = (name, e.1) ∷ env
+element_bound (key_and_element key name) e env = (name, e.1) ∷ (key, e.0) ∷ env
 
 -- ---- values
 
@@ -53,9 +84,10 @@ abbrev pub chain : MissingKey → List (List ℕ) → Value → Result Value Cau
 chain mode [] v = Ok v
 chain mode (name ∷ names) v = and_then (field_value mode name (field_at name v)) (chain mode names)
 
-abbrev pub operand_value : MissingKey → Value → Operand → Result Value Cause
-operand_value mode d dot = Ok d
-operand_value mode d (fields names) = chain mode names d
+abbrev pub operand_value : MissingKey → Value → Environment → Operand → Result Value Cause
+operand_value mode d env dot = Ok d
+operand_value mode d env (fields names) = chain mode names d
+operand_value mode d env (variable name names) = chain mode names (lookup name env)
 
 -- a null that a command gives is nothing
 abbrev pub without_null : Value → Value
@@ -72,8 +104,8 @@ command_value (Ok v) = Ok (without_null v)
 command_value (Err cause) = Err cause
 
 -- the value of a pipeline, here of one command of one operand
-abbrev pub pipeline_value : MissingKey → Value → Operand → Result Value Cause
-pipeline_value mode d p = command_value (operand_value mode d p)
+abbrev pub pipeline_value : MissingKey → Value → Environment → Pipeline → Result Value Cause
+pipeline_value mode d env (pipeline o) = command_value (operand_value mode d env o)
 
 -- ---- runs
 
@@ -84,14 +116,17 @@ pub record Setting : Type 0 where
   pub file : List ℕ
   pub template : List ℕ
 
--- where a run stands: the text so far, and the steps left
+-- where a run stands: the variables, the text so far, and the steps left
 pub record Run : Type 0 where
+  pub env : Environment
   pub text : List ℕ
   pub left : ℕ
 
--- how a part of a template ends
+-- how a part of a template ends: at a break or continue it is left for the range around it to go on
 pub data End : Type 0 where
   done : End
+  broke : End
+  continued : End
   faulted : Fault → End
 
 abbrev pub Next : Type 0
@@ -112,6 +147,8 @@ spend s line go r = spend_if (nat_eq r.left 0) s line go r
 -- goes on from where a part is done
 abbrev pub on_end : End → Run → Next → Run × End
 on_end done r go = go r
+on_end broke r go = (r, broke)
+on_end continued r go = (r, continued)
 on_end (faulted f) r go = (r, faulted f)
 
 abbrev pub after : Run × End → Next → Run × End
@@ -122,21 +159,101 @@ abbrev pub with_value : Setting → ℕ → Result Value Cause → (Value → Ne
 with_value s line (Ok v) go r = go v r
 with_value s line (Err cause) go r = (r, stopped s line cause)
 
+-- the variables are as many again as they were: those declared since are gone, and values assigned stay
+abbrev pub scoped : ℕ → Run × End → Run × End
+scoped n part = (record part.0 { env = oldest n part.0.env }, part.1)
+
+-- a part whose variables last to its end
+abbrev pub scope : Next → Next
+scope part r = scoped (length r.env) (part r)
+
 -- puts bytes after the text so far
 abbrev pub putting : List ℕ → Next
 putting bytes r = (record r { text = r.text ++ bytes }, done)
 
--- a node with this dot: it costs a step before anything else
-abbrev mutual
-  pub meaning : Setting → Node → Value → Next
-  meaning s (text line bytes) d = spend s line (putting bytes)
-  meaning s (action line p) d =
-      spend s line (with_value s line (pipeline_value s.mode d p) (λ v. putting (text_of v)))
+-- binds a variable to a value
+abbrev pub bound : Binding → Value → Run → Run
+bound unbound v r = r
+bound (declare name) v r = record r { env = (name, v) ∷ r.env }
+bound (assign name) v r = record r { env = assigned name v r.env }
 
-  -- the nodes one after the other, up to the first that is not done
+-- puts the text of a value, or binds a variable to it
+abbrev pub shown : Binding → Value → Next
+shown unbound v r = putting (text_of v) r
+shown (declare name) v r = (bound (declare name) v r, done)
+shown (assign name) v r = (bound (assign name) v r, done)
+
+-- an action
+abbrev pub acting : Setting → ℕ → Binding → Pipeline → Value → Next
+acting s line b p d r = with_value s line (pipeline_value s.mode d r.env p) (shown b) r
+
+-- one of two parts, by whether the value is empty
+abbrev pub one_of : Bool → Next → Next → Next
+one_of true body other r = body r
+one_of false body other r = other r
+
+-- an `if` or a `with`: the body, which may take the value as its dot, where the value is not empty, else the other part
+abbrev pub choosing : Setting → ℕ → Binding → Pipeline → Value → (Value → Next) → Next → Next
+choosing s line b p d body other r =
+    with_value s line (pipeline_value s.mode d r.env p)
+    (λ v r. one_of (truth v) (body v) other (bound b v r)) r
+
+-- goes on from where the body of a range ends for one element: a break ends the range
+abbrev pub on_turn : End → Run → Next → Run × End
+on_turn done r go = go r
+on_turn broke r go = (r, done)
+on_turn continued r go = go r
+on_turn (faulted f) r go = (r, faulted f)
+
+abbrev pub after_turn : Run × End → Next → Run × End
+after_turn part go = on_turn part.1 part.0 go
+
+abbrev pub with_element : RangeVariables → Element → Run → Run
+with_element names e r = record r { env = element_bound names e r.env }
+
+-- the body for one element, which costs a step and has the element as its dot
+abbrev pub turn : Setting → ℕ → RangeVariables → (Value → Next) → Element → Next
+turn s line names body e = spend s line (scope (λ r. body e.1 (with_element names e r)))
+
+-- the body for each element in order
+abbrev pub turns : Setting → ℕ → RangeVariables → (Value → Next) → List Element → Next
+turns s line names body [] r = (r, done)
+turns s line names body (e ∷ es) r =
+    after_turn (turn s line names body e r) (turns s line names body es)
+
+-- a range over the elements, or its other part where there are none
+abbrev pub over : Setting → ℕ → RangeVariables → (Value → Next) → Next → Option (List Element) → Next
+over s line names body other None r = (r, stopped s line not_a_range)
+over s line names body other (Some []) r = other r
+over s line names body other (Some (e ∷ es)) r = turns s line names body (e ∷ es) r
+
+abbrev pub ranging : Setting → ℕ → RangeVariables → Pipeline → Value → (Value → Next) → Next → Next
+ranging s line names p d body other r =
+    with_value s line (pipeline_value s.mode d r.env p)
+    (λ v. over s line names body other (elements v)) r
+
+abbrev mutual
+  -- a node with this dot, once its step is taken
+  pub stepped : Setting → Node → Value → Next
+  stepped s (text line bytes) d = putting bytes
+  stepped s (action line b p) d = acting s line b p d
+  stepped s (if_node line b p body other) d =
+      scope (choosing s line b p d (λ v. meanings s body d) (meanings s other d))
+  stepped s (with_node line b p body other) d =
+      scope (choosing s line b p d (λ v. meanings s body v) (meanings s other d))
+  stepped s (range_node line names p body other) d =
+      scope (ranging s line names p d (λ v. meanings s body v) (meanings s other d))
+  stepped s (break_node line) d = λ r. (r, broke)
+  stepped s (continue_node line) d = λ r. (r, continued)
+
+  -- the nodes one after the other, up to the first that is not done; each costs a step before anything else
   pub meanings : Setting → Nodes → Value → Next
-  meanings s none d r = (r, done)
-  meanings s (then n ns) d r = after (meaning s n d r) (meanings s ns d)
+  meanings s tree.none d r = (r, done)
+  meanings s (tree.then n ns) d r = after (spend s (line_of n) (stepped s n d) r) (meanings s ns d)
+
+-- a node with this dot
+abbrev pub meaning : Setting → Node → Value → Next
+meaning s n d = spend s (line_of n) (stepped s n d)
 
 -- ---- whole templates
 
@@ -145,13 +262,16 @@ pub record Ran : Type 0 where
   pub text : List ℕ
   pub fault : Option Fault
 
+-- a template that is accepted breaks out of nothing but a range of its own
 abbrev pub fault_of : End → Option Fault
 fault_of done = None
+fault_of broke = None
+fault_of continued = None
 fault_of (faulted f) = Some f
 
 abbrev pub setting_of : MissingKey → ℕ → List ℕ → Tree → Setting
-setting_of mode limit name tree =
-    record { mode = mode; limit = limit; file = tree.file; template = name }
+setting_of mode limit name t =
+    record { mode = mode; limit = limit; file = t.file; template = name }
 
 abbrev pub ran_of : Run × End → Ran
 ran_of r = record { text = r.0.text; fault = fault_of r.1 }
@@ -161,7 +281,14 @@ abbrev pub starting_dot : Option Value → Value
 starting_dot None = nothing
 starting_dot (Some v) = without_null v
 
+-- the run at its start, with this dot
+abbrev pub started : ℕ → Value → Run
+started limit d = record { env = ([], d) ∷ []; text = []; left = limit }
+
+abbrev pub ran_with : MissingKey → ℕ → List ℕ → Tree → Value → Ran
+ran_with mode limit name t d =
+    ran_of (meanings (setting_of mode limit name t) t.nodes d (started limit d))
+
 -- what a template of this name puts out over the data
 abbrev pub ran : MissingKey → ℕ → List ℕ → Tree → Option Value → Ran
-ran mode limit name tree held = ran_of (meanings (setting_of mode limit name tree) tree.nodes
-    (starting_dot held) (record { text = []; left = limit }))
+ran mode limit name t held = ran_with mode limit name t (starting_dot held)

@@ -1,5 +1,5 @@
 -- What a fault of a run stands for.
-use Rattle.tmpl_run.specs.Meaning.{Cause, steps_spent, lacks_field, lacks_entry, Fault}
+use Rattle.tmpl_run.specs.Meaning.{Cause, steps_spent, lacks_field, lacks_entry, not_a_range, Fault}
 use Rattle.tmpl_run.specs.declared.fault.RunFaultKind.{RunFaultKind}
 use Rattle.tmpl_run.specs.declared.fault.RunFaultKind.TheVariants as kind
 use Rattle.tmpl_run.specs.declared.fault.RunFault.{RunFault}
@@ -8,6 +8,7 @@ abbrev pub cause_of : RunFaultKind → Cause
 cause_of (kind.StepsSpent limit) = steps_spent limit
 cause_of (kind.NoField name) = lacks_field name.now
 cause_of (kind.NoEntry name) = lacks_entry name.now
+cause_of kind.NotARange = not_a_range
 
 -- this cause, where the fault is
 abbrev pub fault_with : RunFault → Cause → Fault

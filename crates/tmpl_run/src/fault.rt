@@ -9,6 +9,8 @@ pub enum RunFaultKind<'a> {
     NoField(&'a [u8]),
     /// A field, of this name, for which there is no entry, where that is to be a fault.
     NoEntry(&'a [u8]),
+    /// A range over a truth value, a number or a text.
+    NotARange,
 }
 
 /// A run that failed: why, and where. The text before the fault is put out all the same.

@@ -48,6 +48,15 @@ mutual
     none : Nodes
     then : Node → Nodes → Nodes
 
+abbrev pub line_of : Node → ℕ
+line_of (text line bytes) = line
+line_of (action line b p) = line
+line_of (if_node line b p body other) = line
+line_of (with_node line b p body other) = line
+line_of (range_node line v p body other) = line
+line_of (break_node line) = line
+line_of (continue_node line) = line
+
 -- a body, and the path of the file that it stands in
 pub record Tree : Type 0 where
   pub file : List ℕ

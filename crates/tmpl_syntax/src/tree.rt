@@ -1,4 +1,7 @@
 //! The tree of a template.
+ghost use Rattle.std.specs.Prelude.{◌≡◌};
+ghost use Rattle.tmpl_syntax.specs.Tree.{line_of, node_of};
+
 use tmpl_values::Bytes;
 
 /// What a value comes from ("Arguments" in the documentation of Go's text/template).
@@ -87,6 +90,23 @@ pub enum Node {
     Continue {
         line: u64,
     },
+}
+
+impl Node {
+    /// The line of the node, from 1: an action's is that of its `{{`, a text's that of its first byte.
+    pub fn line(&self) -> u64
+        ensures { result ≡ line_of (node_of self.now) }
+    {
+        match self {
+            Node::Text { line, .. }
+            | Node::Action { line, .. }
+            | Node::If { line, .. }
+            | Node::With { line, .. }
+            | Node::Range { line, .. }
+            | Node::Break { line }
+            | Node::Continue { line } => *line,
+        }
+    }
 }
 
 /// The body of a template, and the file that it stands in.

@@ -10,3 +10,4 @@ pub mod Truths
 pub mod Texts
 pub mod Items
 pub mod Parted
+pub mod Elements

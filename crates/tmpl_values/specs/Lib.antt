@@ -2,6 +2,7 @@ pub mod Value
 pub mod Weight
 pub mod Codes
 pub mod Data
+pub mod Elements
 pub mod Falls
 pub mod View
 pub mod Json

@@ -1,0 +1,28 @@
+-- The elements that a range visits ("Actions", at `range`), each behind its index or key: the items of a sequence in order
+-- and those of a mapping by key. That nothing and null have none, and that no other value may be ranged over, are our own
+-- rules.
+use Rattle.std.specs.Prelude.{ℕ, suc, pos, List, [], ◌∷◌, Option, Some, None}
+use Rattle.tmpl_values.specs.Value.{Value, nothing, null, boolean, number, string, sequence, mapping, Items, no_item, item, Entries, no_entry, entry}
+
+-- an index or key, and the element
+abbrev pub Element : Type 0
+Element = Value × Value
+
+-- items, of which the first has this index
+abbrev pub indexed : ℕ → Items → List Element
+indexed i no_item = []
+indexed i (item v vs) = (number (pos i), v) ∷ indexed (suc i) vs
+
+abbrev pub keyed : Entries → List Element
+keyed no_entry = []
+keyed (entry k v es) = (string k, v) ∷ keyed es
+
+-- the elements of a value, if it may be ranged over
+abbrev pub elements : Value → Option (List Element)
+elements nothing = Some []
+elements null = Some []
+elements (boolean b) = None
+elements (number n) = None
+elements (string s) = None
+elements (sequence vs) = Some (indexed 0 vs)
+elements (mapping es) = Some (keyed es)
