@@ -1,18 +1,33 @@
 -- What the evaluator's state stands for.
-use Rattle.std.specs.Prelude.{ℕ, Option, Some, None, Result, Ok, Err, option_map}
+use Rattle.std.specs.Prelude.{ℕ, List, Option, Some, None, Result, Ok, Err, map, option_map, reverse}
 use Rattle.tmpl_values.specs.Value.{Value}
+use Rattle.tmpl_values.specs.Elements.{Element}
 use Rattle.tmpl_values.specs.View.{val_of}
-use Rattle.tmpl_values.specs.Text.{text_of}
 use Rattle.tmpl_values.specs.declared.value.Val.{Val}
-use Rattle.tmpl_run.specs.Meaning.{Cause, Setting, Run, End, done, faulted, Next, Ran, with_value, putting}
+use Rattle.tmpl_syntax.specs.Tree.{binding_of, nodes_in, pipeline_of, variables_of}
+use Rattle.tmpl_run.specs.Meaning.{Cause, Environment, Setting, Run, End, done, broke, continued, faulted, Next, Ran, choosing, meanings, ranging, turn, turns}
 use Rattle.tmpl_run.specs.Seen.{cause_of, fault_seen}
 use Rattle.tmpl_run.specs.declared.fault.RunFaultKind.{RunFaultKind}
 use Rattle.tmpl.specs.Rope.{rope_bytes}
+use Rattle.tmpl.specs.declared.variables.Variable.{Variable}
+use Rattle.tmpl.specs.declared.variables.Variables.{Variables}
 use Rattle.tmpl.specs.declared.evaluator.Setting as held_setting
+use Rattle.tmpl.specs.declared.evaluator.Choice.{Choice}
+use Rattle.tmpl.specs.declared.evaluator.Loop.{Loop}
 use Rattle.tmpl.specs.declared.evaluator.Machine as held_machine
 use Rattle.tmpl.specs.declared.evaluator.End as held_end
 use Rattle.tmpl.specs.declared.evaluator.End.TheVariants as ending
 use Rattle.tmpl.specs.declared.evaluator.Rendered as held_run
+
+abbrev pub variable_of : Variable → List ℕ × Value
+variable_of v = (v.name.now, val_of v.value)
+
+-- the variables, the newest first
+abbrev pub env_in : List Variable → Environment
+env_in vs = reverse (map variable_of vs)
+
+abbrev pub env_of : Variables → Environment
+env_of vs = env_in vs.items.items
 
 abbrev pub setting_seen : held_setting.Setting → Setting
 setting_seen s = record {
@@ -23,10 +38,12 @@ setting_seen s = record {
 }
 
 abbrev pub run_of : held_machine.Machine → Run
-run_of m = record { text = rope_bytes m.text; left = m.left }
+run_of m = record { env = env_of m.variables; text = rope_bytes m.text; left = m.left }
 
 abbrev pub end_seen : held_end.End → End
 end_seen ending.Done = done
+end_seen ending.Broke = broke
+end_seen ending.Continued = continued
 end_seen (ending.Faulted f) = faulted (fault_seen f)
 
 abbrev pub value_seen : Result Val RunFaultKind → Result Value Cause
@@ -36,6 +53,27 @@ value_seen (Err kind) = Err (cause_of kind)
 abbrev pub ran_seen : held_run.Rendered → Ran
 ran_seen r = record { text = rope_bytes r.text; fault = option_map fault_seen r.fault }
 
--- an action, once its step is taken
-abbrev pub acting : Setting → ℕ → Result Value Cause → Next
-acting s line v = with_value s line v (λ v. putting (text_of v))
+-- an `if` with this dot
+abbrev pub if_seen : Setting → Choice → Value → Next
+if_seen s c d = choosing s c.line (binding_of c.binding.now) (pipeline_of c.pipeline.now) d
+    (λ v. meanings s (nodes_in c.body.now) d) (meanings s (nodes_in c.other.now) d)
+
+-- a `with` with this dot
+abbrev pub with_seen : Setting → Choice → Value → Next
+with_seen s c d = choosing s c.line (binding_of c.binding.now) (pipeline_of c.pipeline.now) d
+    (λ v. meanings s (nodes_in c.body.now) v) (meanings s (nodes_in c.other.now) d)
+
+-- a range with this dot
+abbrev pub range_seen : Setting → Loop → Value → Next
+range_seen s l d = ranging s l.line (variables_of l.variables.now) (pipeline_of l.pipeline.now) d
+    (λ v. meanings s (nodes_in l.body.now) v) (meanings s (nodes_in l.other.now) d)
+
+-- the body of a range for one element
+abbrev pub turn_seen : Setting → Loop → Element → Next
+turn_seen s l e = turn s l.line (variables_of l.variables.now) (λ v. meanings s (nodes_in l.body.now) v) e
+
+-- the body of a range for each of the elements, if there are any to visit
+abbrev pub turns_seen : Setting → Loop → Option (List Element) → Next
+turns_seen s l None r = (r, done)
+turns_seen s l (Some es) r =
+    turns s l.line (variables_of l.variables.now) (λ v. meanings s (nodes_in l.body.now) v) es r

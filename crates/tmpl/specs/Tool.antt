@@ -10,7 +10,7 @@ use Rattle.tmpl_syntax.specs.Parse.{Refusal, base_name, parsed}
 use Rattle.tmpl_syntax.specs.declared.fault.ParseKind.{ParseKind}
 use Rattle.tmpl_syntax.specs.declared.fault.ParseKind.TheVariants as kind
 use Rattle.tmpl_run.specs.Sink.{Sunk}
-use Rattle.tmpl_run.specs.Meaning.{Cause, steps_spent, lacks_field, lacks_entry, Fault, Ran, ran}
+use Rattle.tmpl_run.specs.Meaning.{Cause, steps_spent, lacks_field, lacks_entry, not_a_range, Fault, Ran, ran}
 use Rattle.tmpl.specs.Help.{asks_help}
 use Rattle.tmpl.specs.Words.{Wanted, WantedOptions, wanted}
 use Rattle.tmpl.specs.Source.{Bytes, Files}
@@ -67,6 +67,7 @@ cause_pieces (steps_spent limit) =
 cause_pieces (lacks_field name) =
     plain (codes "no field ") ∷ quoted name ∷ plain (codes " here") ∷ end
 cause_pieces (lacks_entry name) = plain (codes "no entry for key ") ∷ quoted name ∷ end
+cause_pieces not_a_range = plain (codes "can't range over this value") ∷ end
 
 abbrev pub fault_line : Fault → Bytes
 fault_line f = line (plain f.file ∷ plain (codes ":") ∷ number f.line ∷ plain (codes ": in ")

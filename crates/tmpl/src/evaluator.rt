@@ -1,17 +1,19 @@
 //! A plain evaluator: it walks the tree and builds the whole text in memory, as a rope.
-ghost use Rattle.std.specs.Prelude.{◌≡◌, IfOk, OnOk, option_map};
+ghost use Rattle.std.specs.Prelude.{◌≡◌, ◌≤◌, IfOk, OnOk, Some, length, option_map};
+ghost use Rattle.tmpl_values.specs.Elements.{elements};
 ghost use Rattle.tmpl_values.specs.View.{val_of, value_of};
-ghost use Rattle.tmpl_values.specs.Field.{field_at};
-ghost use Rattle.tmpl_syntax.specs.Tree.{node_of, nodes_in, operand_of, tree_of};
-ghost use Rattle.tmpl_run.specs.Meaning.{by_mode, chain, field_value, meaning, meanings, nothing_by_mode, operand_value, pipeline_value, ran, starting_dot, stopped, without_null};
+ghost use Rattle.tmpl_syntax.specs.Tree.{binding_of, node_of, nodes_in, pipeline_of, tree_of, variables_of};
+ghost use Rattle.tmpl_run.specs.Meaning.{acting, bound, done, meaning, meanings, putting, ran, scope, shown, starting_dot, stepped, stopped, with_element};
 ghost use Rattle.tmpl_run.specs.Seen.{cause_of};
-ghost use Rattle.tmpl.specs.Evaluator.{acting, end_seen, ran_seen, run_of, setting_seen, value_seen};
+ghost use Rattle.tmpl.specs.Evaluator.{end_seen, if_seen, ran_seen, range_seen, run_of, setting_seen, turn_seen, turns_seen, with_seen};
 
+use crate::pipeline::{element_count, pipeline_value, without_null};
 use crate::rope::Rope;
+use crate::variables::Variables;
 use std::alloc::{AllocError, Global};
 use tmpl_run::{MissingKey, Options, RunFault, RunFaultKind};
-use tmpl_syntax::{Node, Operand, Tree};
-use tmpl_values::{Bytes, Data, Field, Val, put_text};
+use tmpl_syntax::{Binding, Node, Pipeline, RangeVariables, Tree};
+use tmpl_values::{Bytes, Data, Val, put_text};
 
 /// What a run came to: its text, and the fault that ended it.
 #[derive(Drop)]
@@ -29,15 +31,38 @@ struct Setting<'a> {
     template: &'a [u8],
 }
 
+/// An `if` or a `with`.
+#[derive(Clone, Copy)]
+struct Choice<'a> {
+    line: u64,
+    binding: &'a Binding,
+    pipeline: &'a Pipeline,
+    body: &'a [Node],
+    other: &'a [Node],
+}
+
+/// A range.
+#[derive(Clone, Copy)]
+struct Loop<'a> {
+    line: u64,
+    variables: &'a RangeVariables,
+    pipeline: &'a Pipeline,
+    body: &'a [Node],
+    other: &'a [Node],
+}
+
 /// How a part of a template ended.
 enum End<'a> {
     Done,
+    Broke,
+    Continued,
     Faulted(RunFault<'a>),
 }
 
 /// Where a run stands.
 #[derive(Drop)]
 struct Machine<'a> {
+    variables: Variables<'a>,
     text: Rope<'a>,
     left: u64,
 }
@@ -57,7 +82,8 @@ impl<'a> Setting<'a> {
 }
 
 impl<'a> Machine<'a> {
-    /// Runs the nodes, one after the other.
+    /// Runs the nodes one after the other, up to the first that is not done.
+    #[cycle(run)]
     fn nodes(
         &mut self,
         setting: &Setting<'a>,
@@ -66,6 +92,7 @@ impl<'a> Machine<'a> {
     ) -> Result<End<'a>, AllocError>
         requires { self.old.text.failures ≡ 0 }
         ensures whole { OnOk result (self.new.text.failures ≡ 0) }
+        ensures left { self.new.left ≤ self.old.left }
         ensures run { IfOk result (λ end.
             meanings (setting_seen setting.now) (nodes_in nodes.now) (val_of dot.now) (run_of self.old)
             ≡ (run_of self.new, end_seen end)) }
@@ -79,6 +106,7 @@ impl<'a> Machine<'a> {
         Ok(End::Done)
     }
 
+    #[cycle(run)]
     fn node(
         &mut self,
         setting: &Setting<'a>,
@@ -87,135 +115,383 @@ impl<'a> Machine<'a> {
     ) -> Result<End<'a>, AllocError>
         requires { self.old.text.failures ≡ 0 }
         ensures whole { OnOk result (self.new.text.failures ≡ 0) }
+        ensures left { self.new.left ≤ self.old.left }
         ensures run { IfOk result (λ end.
             meaning (setting_seen setting.now) (node_of node.now) (val_of dot.now) (run_of self.old)
             ≡ (run_of self.new, end_seen end)) }
     {
-        let line = match node {
-            Node::Text { line, .. } | Node::Action { line, .. } => *line,
-        };
         if self.left == 0 {
-            return Ok(setting.stopped(line, RunFaultKind::StepsSpent(setting.limit)));
+            return Ok(setting.stopped(node.line(), RunFaultKind::StepsSpent(setting.limit)));
         }
         self.left -= 1;
-        match node {
-            Node::Text { line: _, bytes } => {
-                self.text.add(bytes.as_slice())?;
-                Ok(End::Done)
-            }
-            Node::Action { line, operand } => self.action(setting, *line, operand, dot),
-        }
+        self.step(setting, node, dot)
     }
 
-    /// Puts the text of a pipeline's value.
-    fn action(
+    /// Runs a node whose step is taken.
+    #[cycle(run)]
+    #[tactic(auto, using(crate::proofs::Nodes::parts))]
+    fn step(
         &mut self,
         setting: &Setting<'a>,
-        line: u64,
-        operand: &'a Operand,
+        node: &'a Node,
         dot: &Val<'a>,
     ) -> Result<End<'a>, AllocError>
         requires { self.old.text.failures ≡ 0 }
         ensures whole { OnOk result (self.new.text.failures ≡ 0) }
-        ensures run { IfOk result (λ end. acting (setting_seen setting.now) line
-            (pipeline_value setting.now.missing (val_of dot.now) (operand_of operand.now)) (run_of self.old)
+        ensures left { self.new.left ≤ self.old.left }
+        ensures run { IfOk result (λ end.
+            stepped (setting_seen setting.now) (node_of node.now) (val_of dot.now) (run_of self.old)
             ≡ (run_of self.new, end_seen end)) }
     {
-        match pipeline_value(setting.missing, dot, operand)? {
+        match node {
+            Node::Text { line: _, bytes } => self.put(bytes),
+            Node::Action {
+                line,
+                binding,
+                pipeline,
+            } => { self.action(setting, *line, binding, pipeline, dot) }
+            Node::If {
+                line,
+                binding,
+                pipeline,
+                body,
+                other,
+            } => {
+                let choice = Choice {
+                    line: *line,
+                    binding,
+                    pipeline,
+                    body: body.as_slice(),
+                    other: other.as_slice(),
+                };
+                self.run_if(setting, &choice, dot)
+            }
+            Node::With {
+                line,
+                binding,
+                pipeline,
+                body,
+                other,
+            } => {
+                let choice = Choice {
+                    line: *line,
+                    binding,
+                    pipeline,
+                    body: body.as_slice(),
+                    other: other.as_slice(),
+                };
+                self.run_with(setting, &choice, dot)
+            }
+            Node::Range {
+                line,
+                variables,
+                pipeline,
+                body,
+                other,
+            } => {
+                let range = Loop {
+                    line: *line,
+                    variables,
+                    pipeline,
+                    body: body.as_slice(),
+                    other: other.as_slice(),
+                };
+                self.run_range(setting, &range, dot)
+            }
+            Node::Break { .. } => Ok(End::Broke),
+            Node::Continue { .. } => Ok(End::Continued),
+        }
+    }
+
+    /// Puts a text of the template.
+    fn put(&mut self, bytes: &'a Bytes) -> Result<End<'a>, AllocError>
+        requires { self.old.text.failures ≡ 0 }
+        ensures whole { OnOk result (self.new.text.failures ≡ 0) }
+        ensures left { self.new.left ≡ self.old.left }
+        ensures run { IfOk result (λ end.
+            putting bytes.now (run_of self.old) ≡ (run_of self.new, end_seen end)) }
+    {
+        self.text.add(bytes.as_slice())?;
+        Ok(End::Done)
+    }
+
+    /// Puts the text of a pipeline's value, or binds a variable to it.
+    fn action(
+        &mut self,
+        setting: &Setting<'a>,
+        line: u64,
+        binding: &'a Binding,
+        pipeline: &'a Pipeline,
+        dot: &Val<'a>,
+    ) -> Result<End<'a>, AllocError>
+        requires { self.old.text.failures ≡ 0 }
+        ensures whole { OnOk result (self.new.text.failures ≡ 0) }
+        ensures left { self.new.left ≡ self.old.left }
+        ensures run { IfOk result (λ end. acting (setting_seen setting.now) line
+            (binding_of binding.now) (pipeline_of pipeline.now) (val_of dot.now) (run_of self.old)
+            ≡ (run_of self.new, end_seen end)) }
+    {
+        match pipeline_value(setting.missing, dot, &self.variables, pipeline)? {
             Ok(value) => {
-                put_text(&value, &mut self.text)?;
+                self.show(binding, value)?;
                 Ok(End::Done)
             }
             Err(kind) => Ok(setting.stopped(line, kind)),
         }
     }
-}
 
-/// The value of a pipeline, of which null is nothing.
-fn pipeline_value<'a>(
-    missing: MissingKey,
-    dot: &Val<'a>,
-    operand: &'a Operand,
-) -> Result<Result<Val<'a>, RunFaultKind<'a>>, AllocError>
-    ensures { IfOk result (λ r. value_seen r ≡ pipeline_value missing (val_of dot.now) (operand_of operand.now)) }
-{
-    match operand_value(missing, dot, operand)? {
-        Ok(value) => Ok(Ok(without_null(value))),
-        Err(kind) => Ok(Err(kind)),
+    fn show(&mut self, binding: &'a Binding, value: Val<'a>) -> Result<(), AllocError>
+        requires { self.old.text.failures ≡ 0 }
+        ensures whole { OnOk result (self.new.text.failures ≡ 0) }
+        ensures left { self.new.left ≡ self.old.left }
+        ensures run { OnOk result (shown (binding_of binding.now) (val_of value.entry) (run_of self.old)
+            ≡ (run_of self.new, done)) }
+    {
+        match binding {
+            Binding::Unbound => {
+                put_text(&value, &mut self.text)?;
+                Ok(())
+            }
+            Binding::Declare(_) | Binding::Assign(_) => self.bind(binding, value),
+        }
     }
-}
 
-fn operand_value<'a>(
-    missing: MissingKey,
-    dot: &Val<'a>,
-    operand: &'a Operand,
-) -> Result<Result<Val<'a>, RunFaultKind<'a>>, AllocError>
-    ensures { IfOk result (λ r. value_seen r ≡ operand_value missing (val_of dot.now) (operand_of operand.now)) }
-{
-    let value = dot.share()?;
-    match operand {
-        Operand::Dot => Ok(Ok(value)),
-        Operand::Fields(names) => Ok(chain(missing, value, names.as_slice())),
+    fn bind(&mut self, binding: &'a Binding, value: Val<'a>) -> Result<(), AllocError>
+        requires { self.old.text.failures ≡ 0 }
+        ensures whole { self.new.text.failures ≡ 0 }
+        ensures left { self.new.left ≡ self.old.left }
+        ensures run { OnOk result (run_of self.new
+            ≡ bound (binding_of binding.now) (val_of value.entry) (run_of self.old)) }
+    {
+        match binding {
+            Binding::Unbound => Ok(()),
+            Binding::Declare(name) => self.variables.declare(name.as_slice(), value),
+            Binding::Assign(name) => {
+                self.variables.assign(name.as_slice(), value);
+                Ok(())
+            }
+        }
     }
-}
 
-/// The field of the field of .. of a value.
-fn chain<'a>(
-    missing: MissingKey,
-    value: Val<'a>,
-    names: &'a [Bytes],
-) -> Result<Val<'a>, RunFaultKind<'a>>
-    ensures { value_seen result ≡ chain missing names.now (val_of value.entry) }
-{
-    let mut value = value;
-    for name in names {
-        value = field_value(missing, &value, name.as_slice())?;
+    #[cycle(run)]
+    fn run_if(
+        &mut self,
+        setting: &Setting<'a>,
+        choice: &Choice<'a>,
+        dot: &Val<'a>,
+    ) -> Result<End<'a>, AllocError>
+        requires { self.old.text.failures ≡ 0 }
+        ensures whole { OnOk result (self.new.text.failures ≡ 0) }
+        ensures left { self.new.left ≤ self.old.left }
+        ensures run { IfOk result (λ end.
+            scope (if_seen (setting_seen setting.now) choice.now (val_of dot.now)) (run_of self.old)
+            ≡ (run_of self.new, end_seen end)) }
+    {
+        let count = self.variables.len();
+        let end = self.choose(setting, choice, dot)?;
+        self.variables.truncate(count);
+        Ok(end)
     }
-    Ok(value)
-}
 
-fn field_value<'a>(
-    missing: MissingKey,
-    value: &Val<'a>,
-    name: &'a [u8],
-) -> Result<Val<'a>, RunFaultKind<'a>>
-    ensures { value_seen result ≡ field_value missing name.now (field_at name.now (val_of value.now)) }
-{
-    match value.field(name) {
-        Field::Found(found) => Ok(found),
-        Field::Missing => by_mode(missing, name),
-        Field::OfNothing => nothing_by_mode(missing, name),
-        Field::NoField => Err(RunFaultKind::NoField(name)),
+    /// Runs one part of an `if`.
+    #[cycle(run)]
+    fn choose(
+        &mut self,
+        setting: &Setting<'a>,
+        choice: &Choice<'a>,
+        dot: &Val<'a>,
+    ) -> Result<End<'a>, AllocError>
+        requires { self.old.text.failures ≡ 0 }
+        ensures whole { OnOk result (self.new.text.failures ≡ 0) }
+        ensures left { self.new.left ≤ self.old.left }
+        ensures run { IfOk result (λ end.
+            if_seen (setting_seen setting.now) choice.now (val_of dot.now) (run_of self.old)
+            ≡ (run_of self.new, end_seen end)) }
+    {
+        match pipeline_value(setting.missing, dot, &self.variables, choice.pipeline)? {
+            Ok(value) => {
+                let holds = value.truth();
+                self.bind(choice.binding, value)?;
+                let nodes = if holds { choice.body } else { choice.other };
+                self.nodes(setting, nodes, dot)
+            }
+            Err(kind) => Ok(setting.stopped(choice.line, kind)),
+        }
     }
-}
 
-/// What a map without the entry comes to.
-fn by_mode(missing: MissingKey, name: &[u8]) -> Result<Val<'_>, RunFaultKind<'_>>
-    ensures { value_seen result ≡ by_mode missing name.now }
-{
-    match missing {
-        MissingKey::Default | MissingKey::Invalid => Ok(Val::Nothing),
-        MissingKey::Zero => Ok(Val::Null),
-        MissingKey::Error => Err(RunFaultKind::NoEntry(name)),
+    #[cycle(run)]
+    fn run_with(
+        &mut self,
+        setting: &Setting<'a>,
+        choice: &Choice<'a>,
+        dot: &Val<'a>,
+    ) -> Result<End<'a>, AllocError>
+        requires { self.old.text.failures ≡ 0 }
+        ensures whole { OnOk result (self.new.text.failures ≡ 0) }
+        ensures left { self.new.left ≤ self.old.left }
+        ensures run { IfOk result (λ end.
+            scope (with_seen (setting_seen setting.now) choice.now (val_of dot.now)) (run_of self.old)
+            ≡ (run_of self.new, end_seen end)) }
+    {
+        let count = self.variables.len();
+        let end = self.choose_dot(setting, choice, dot)?;
+        self.variables.truncate(count);
+        Ok(end)
     }
-}
 
-/// What a field of nothing comes to.
-fn nothing_by_mode(missing: MissingKey, name: &[u8]) -> Result<Val<'_>, RunFaultKind<'_>>
-    ensures { value_seen result ≡ nothing_by_mode missing name.now }
-{
-    match missing {
-        MissingKey::Default | MissingKey::Invalid | MissingKey::Zero => Ok(Val::Nothing),
-        MissingKey::Error => Err(RunFaultKind::NoEntry(name)),
+    /// Runs one part of a `with`.
+    #[cycle(run)]
+    fn choose_dot(
+        &mut self,
+        setting: &Setting<'a>,
+        choice: &Choice<'a>,
+        dot: &Val<'a>,
+    ) -> Result<End<'a>, AllocError>
+        requires { self.old.text.failures ≡ 0 }
+        ensures whole { OnOk result (self.new.text.failures ≡ 0) }
+        ensures left { self.new.left ≤ self.old.left }
+        ensures run { IfOk result (λ end.
+            with_seen (setting_seen setting.now) choice.now (val_of dot.now) (run_of self.old)
+            ≡ (run_of self.new, end_seen end)) }
+    {
+        match pipeline_value(setting.missing, dot, &self.variables, choice.pipeline)? {
+            Ok(value) => {
+                self.bind(choice.binding, value.share()?)?;
+                if value.truth() {
+                    self.nodes(setting, choice.body, &value)
+                } else {
+                    self.nodes(setting, choice.other, dot)
+                }
+            }
+            Err(kind) => Ok(setting.stopped(choice.line, kind)),
+        }
     }
-}
 
-fn without_null(value: Val<'_>) -> Val<'_>
-    ensures { val_of result ≡ without_null (val_of value.entry) }
-{
-    match value {
-        Val::Null => Val::Nothing,
-        value => value,
+    #[cycle(run)]
+    fn run_range(
+        &mut self,
+        setting: &Setting<'a>,
+        range: &Loop<'a>,
+        dot: &Val<'a>,
+    ) -> Result<End<'a>, AllocError>
+        requires { self.old.text.failures ≡ 0 }
+        ensures whole { OnOk result (self.new.text.failures ≡ 0) }
+        ensures left { self.new.left ≤ self.old.left }
+        ensures run { IfOk result (λ end.
+            scope (range_seen (setting_seen setting.now) range.now (val_of dot.now)) (run_of self.old)
+            ≡ (run_of self.new, end_seen end)) }
+    {
+        let count = self.variables.len();
+        let end = self.visit(setting, range, dot)?;
+        self.variables.truncate(count);
+        Ok(end)
+    }
+
+    /// Visits the elements of a range, or runs its other part.
+    #[cycle(run)]
+    fn visit(
+        &mut self,
+        setting: &Setting<'a>,
+        range: &Loop<'a>,
+        dot: &Val<'a>,
+    ) -> Result<End<'a>, AllocError>
+        requires { self.old.text.failures ≡ 0 }
+        ensures whole { OnOk result (self.new.text.failures ≡ 0) }
+        ensures left { self.new.left ≤ self.old.left }
+        ensures run { IfOk result (λ end.
+            range_seen (setting_seen setting.now) range.now (val_of dot.now) (run_of self.old)
+            ≡ (run_of self.new, end_seen end)) }
+    {
+        match pipeline_value(setting.missing, dot, &self.variables, range.pipeline)? {
+            Ok(value) => match element_count(&value) {
+                None => Ok(setting.stopped(range.line, RunFaultKind::NotARange)),
+                Some(0) => self.nodes(setting, range.other, dot),
+                Some(count) => self.turns(setting, range, &value, count),
+            },
+            Err(kind) => Ok(setting.stopped(range.line, kind)),
+        }
+    }
+
+    /// Runs the body of a range for each of the elements.
+    #[cycle(run)]
+    fn turns(
+        &mut self,
+        setting: &Setting<'a>,
+        range: &Loop<'a>,
+        value: &Val<'a>,
+        count: u64,
+    ) -> Result<End<'a>, AllocError>
+        requires whole { self.old.text.failures ≡ 0 }
+        requires count { Some count ≡ option_map length (elements (val_of value.now)) }
+        ensures whole { OnOk result (self.new.text.failures ≡ 0) }
+        ensures left { self.new.left ≤ self.old.left }
+        ensures run { IfOk result (λ end.
+            turns_seen (setting_seen setting.now) range.now (elements (val_of value.now)) (run_of self.old)
+            ≡ (run_of self.new, end_seen end)) }
+    {
+        for i in 0..count {
+            if let Some((key, element)) = value.item(i) {
+                match self.turn(setting, range, key, element)? {
+                    End::Done | End::Continued => {}
+                    End::Broke => return Ok(End::Done),
+                    End::Faulted(fault) => return Ok(End::Faulted(fault)),
+                }
+            }
+        }
+        Ok(End::Done)
+    }
+
+    /// Runs the body of a range for one element.
+    #[cycle(run)]
+    fn turn(
+        &mut self,
+        setting: &Setting<'a>,
+        range: &Loop<'a>,
+        key: Val<'a>,
+        element: Val<'a>,
+    ) -> Result<End<'a>, AllocError>
+        requires { self.old.text.failures ≡ 0 }
+        ensures whole { OnOk result (self.new.text.failures ≡ 0) }
+        ensures left { self.new.left ≤ self.old.left }
+        ensures run { IfOk result (λ end. turn_seen (setting_seen setting.now) range.now
+            (val_of key.entry, val_of element.entry) (run_of self.old)
+            ≡ (run_of self.new, end_seen end)) }
+    {
+        if self.left == 0 {
+            return Ok(setting.stopped(range.line, RunFaultKind::StepsSpent(setting.limit)));
+        }
+        self.left -= 1;
+        let count = self.variables.len();
+        self.bind_element(range.variables, key, &element)?;
+        let end = self.nodes(setting, range.body, &element)?;
+        self.variables.truncate(count);
+        Ok(end)
+    }
+
+    /// Binds the variables of a range to one of its elements.
+    fn bind_element(
+        &mut self,
+        names: &'a RangeVariables,
+        key: Val<'a>,
+        element: &Val<'a>,
+    ) -> Result<(), AllocError>
+        requires { self.old.text.failures ≡ 0 }
+        ensures whole { self.new.text.failures ≡ 0 }
+        ensures left { self.new.left ≡ self.old.left }
+        ensures run { OnOk result (run_of self.new ≡ with_element (variables_of names.now)
+            (val_of key.entry, val_of element.now) (run_of self.old)) }
+    {
+        match names {
+            RangeVariables::Unnamed => {}
+            RangeVariables::Element(name) => {
+                self.variables.declare(name.as_slice(), element.share()?)?
+            }
+            RangeVariables::KeyAndElement(first, second) => {
+                self.variables.declare(first.as_slice(), key)?;
+                self.variables.declare(second.as_slice(), element.share()?)?
+            }
+        }
+        Ok(())
     }
 }
 
@@ -246,17 +522,24 @@ pub(crate) fn evaluate<'a>(
         file: tree.file.as_slice(),
         template: name,
     };
+    let dot = starting_dot(held);
     let mut machine = Machine {
+        variables: Variables::new(alloc),
         text: Rope::new(alloc),
         left: options.steps,
     };
-    let end = machine.nodes(&setting, tree.nodes.as_slice(), &starting_dot(held))?;
-    let Machine { text, left: _ } = machine;
+    machine.variables.declare(b"", dot.share()?)?;
+    let end = machine.nodes(&setting, tree.nodes.as_slice(), &dot)?;
+    let Machine {
+        variables: _,
+        text,
+        left: _,
+    } = machine;
     match end {
-        End::Done => Ok(Rendered { text, fault: None }),
         End::Faulted(fault) => Ok(Rendered {
             text,
             fault: Some(fault),
         }),
+        End::Done | End::Broke | End::Continued => Ok(Rendered { text, fault: None }),
     }
 }

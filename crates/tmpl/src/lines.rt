@@ -1,7 +1,7 @@
 //! What the program says where it does not end well.
 ghost use Rattle.std.specs.Prelude.{◌≡◌, ◌≢◌, ◌<◌, ◌^◌, ◌-◌};
 ghost use Rattle.tmpl_run.specs.Seen.{fault_by, fault_with};
-ghost use Rattle.tmpl_run.specs.Meaning.{lacks_entry, lacks_field, steps_spent};
+ghost use Rattle.tmpl_run.specs.Meaning.{lacks_entry, lacks_field, not_a_range, steps_spent};
 ghost use Rattle.tmpl_run.specs.Sink.{sunk};
 ghost use Rattle.tmpl.specs.Outcome.{Once, Says, memory_line, write_line};
 ghost use Rattle.tmpl.specs.Loads.{stop_answer};
@@ -226,6 +226,26 @@ fn say_no_entry<'a, E: Sink>(err: &mut E, fault: &RunFault<'a>, name: &'a [u8])
     say(err, parts.as_slice());
 }
 
+fn say_not_a_range<E: Sink>(err: &mut E, fault: &RunFault<'_>)
+    requires { E.failures err.old < 2 ^ 64 - 1 }
+    ensures cuts { Once (E.failures err.old) (E.failures err.new) }
+    ensures line { Says (fault_line (fault_with fault.now not_a_range))
+        (sunk (E.taken err.old) (E.taken err.new) (E.failures err.old) (E.failures err.new)) }
+{
+    let parts = [
+        Part::Text("tmpl: "),
+        Part::Bytes(fault.file),
+        Part::Text(":"),
+        Part::Number(fault.line),
+        Part::Text(": in "),
+        Part::Quoted(fault.template),
+        Part::Text(": "),
+        Part::Text("can't range over this value"),
+        Part::Text("\n"),
+    ];
+    say(err, parts.as_slice());
+}
+
 /// Says why and where a run failed.
 pub(crate) fn run_failed<E: Sink>(err: &mut E, fault: &RunFault<'_>) -> Status
     requires { E.failures err.old < 2 ^ 64 - 1 }
@@ -238,6 +258,7 @@ pub(crate) fn run_failed<E: Sink>(err: &mut E, fault: &RunFault<'_>) -> Status
         RunFaultKind::StepsSpent(limit) => say_steps_spent(err, fault, limit),
         RunFaultKind::NoField(name) => say_no_field(err, fault, name),
         RunFaultKind::NoEntry(name) => say_no_entry(err, fault, name),
+        RunFaultKind::NotARange => say_not_a_range(err, fault),
     }
     Status { code: 1 }
 }

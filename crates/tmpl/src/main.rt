@@ -9,6 +9,7 @@ mod help;
 mod lines;
 mod load;
 mod message;
+mod pipeline;
 mod quoting;
 mod render;
 mod request;
@@ -19,6 +20,7 @@ mod stop;
 #[cfg(test)]
 mod tests;
 mod tool;
+mod variables;
 mod words;
 
 use crate::adapters::{FileSource, WriterSink};

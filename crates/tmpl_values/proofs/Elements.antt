@@ -26,21 +26,22 @@ keyed-at i no_entry = refl
 keyed-at zero (entry k v es) = refl
 keyed-at (suc i) (entry k v es) = keyed-at i es
 
-abbrev at : Option (List Element) → ℕ → Option Element
+-- the element at a place of a list that may be missing
+abbrev pub at : Option (List Element) → ℕ → Option Element
 at None i = None
 at (Some es) i = slice_get es i
 
 -- the element at a place is that of the list
-pub element-at : (v : Value) (es : List Element) (i : ℕ) → elements v ≡ Some es → item_at i v ≡ slice_get es i
-element-at nothing es i h = ap (λ o. at o i) h
-element-at null es i h = ap (λ o. at o i) h
-element-at (boolean b) es i h = ap (λ o. at o i) h
-element-at (number n) es i h = ap (λ o. at o i) h
-element-at (string s) es i h = ap (λ o. at o i) h
-element-at (sequence vs) es i h =
+pub element-at : (v : Value) (i : ℕ) → item_at i v ≡ at (elements v) i
+element-at nothing i = refl
+element-at null i = refl
+element-at (boolean b) i = refl
+element-at (number n) i = refl
+element-at (string s) i = refl
+element-at (sequence vs) i =
     let e : i ≡ 0 + i = omega arith in
-    ap (λ k. option_map (λ v. (number (pos k), v)) (nth_item i vs)) e ∙ indexed-at 0 i vs ∙ ap (λ o. at o i) h
-element-at (mapping entries) es i h = keyed-at i entries ∙ ap (λ o. at o i) h
+    ap (λ k. option_map (λ v. (number (pos k), v)) (nth_item i vs)) e ∙ indexed-at 0 i vs
+element-at (mapping entries) i = keyed-at i entries
 
 -- how many elements a value has that may be ranged over
 abbrev pub count : Value → Option ℕ

@@ -20,3 +20,8 @@ pub returns-in-NoEntry-clause-line : goal.returns-in-NoEntry-clause-line
 returns-in-NoEntry-clause-line g c =
     let s = sunk (g.E.Sink.taken c.args.err.now) (g.E.Sink.taken c.say_no_entry.new.err) (g.E.Sink.failures c.args.err.now) (g.E.Sink.failures c.say_no_entry.new.err) in
     subst (λ (k : RunFaultKind). Says (fault_line (fault_by c.args.fault.now k)) s) (sym c.in-NoEntry.is) c.say_no_entry.ensures.line
+
+pub returns-in-NotARange-clause-line : goal.returns-in-NotARange-clause-line
+returns-in-NotARange-clause-line g c =
+    let s = sunk (g.E.Sink.taken c.args.err.now) (g.E.Sink.taken c.say_not_a_range.new.err) (g.E.Sink.failures c.args.err.now) (g.E.Sink.failures c.say_not_a_range.new.err) in
+    subst (λ (k : RunFaultKind). Says (fault_line (fault_by c.args.fault.now k)) s) (sym c.in-NotARange.is) c.say_not_a_range.ensures.line

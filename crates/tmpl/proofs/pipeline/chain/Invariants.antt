@@ -1,7 +1,7 @@
 use Rattle.std.proofs.Common.{◌≡◌, drop}
 use Rattle.tmpl_values.specs.View.{val_of}
 use Rattle.tmpl_run.specs.Meaning.{chain}
-use Rattle.tmpl.proofs.evaluator.chain.Given as goal
+use Rattle.tmpl.proofs.pipeline.chain.Given as goal
 
 abbrev pub invariant-loop-name : goal.invariant-loop-name
 invariant-loop-name l =

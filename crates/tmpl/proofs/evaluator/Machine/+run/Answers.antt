@@ -1,0 +1,65 @@
+use Rattle.std.proofs.Common.{◌≡◌, ◌∙◌, ◌+◌, ◌≤◌, IfOk, ap, arith, sym, subst}
+use Rattle.tmpl_values.specs.Elements.{elements}
+use Rattle.std.specs.Option.{option_map}
+use Rattle.tmpl_values.specs.View.{element_of, val_of}
+use Rattle.tmpl_values.proofs.Elements.{element-at}
+use Rattle.tmpl_syntax.specs.Tree.{Node, node_of, nodes_in, pipeline_of, variables_of, range_node}
+use Rattle.tmpl_run.specs.Meaning.{after_turn, stepped}
+use Rattle.tmpl.specs.Evaluator.{end_seen, run_of, setting_seen, turns_seen}
+use Rattle.tmpl.proofs.Nodes.{node_of-Range}
+use Rattle.tmpl.proofs.Ranges.{from, not-past, turn_on, turns-next}
+use Rattle.tmpl.proofs.evaluator.Machine.+run.Goals.{turns-in-Some+in_ok-turn+in-Done, turns-in_default}
+use Rattle.tmpl.proofs.evaluator.Machine.+run.Goals as goal
+
+pub step-returns-in-Range-clause-run : goal.step-returns-in-Range-clause-run
+step-returns-in-Range-clause-run t c =
+    let node = c.in-Range in
+    let seen : node_of c.args.node.now ≡ range_node node.line (variables_of node.variables) (pipeline_of node.pipeline) (nodes_in c.as_slice-in-Range.result.now) (nodes_in c.as_slice-in-Range-2.result.now) =
+    ap node_of node.is ∙ node_of-Range _ _ _ _ _
+    ∙ ap (λ body. range_node node.line (variables_of node.variables) (pipeline_of node.pipeline) (nodes_in body) (nodes_in node.other.items)) (sym c.as_slice-in-Range.ensures.value)
+    ∙ ap (λ other. range_node node.line (variables_of node.variables) (pipeline_of node.pipeline) (nodes_in c.as_slice-in-Range.result.now) (nodes_in other)) (sym c.as_slice-in-Range-2.ensures.value) in
+    subst (λ (n : Node). IfOk c.run_range.result (λ end. stepped (setting_seen c.args.setting.now) n (val_of c.args.dot.now) (run_of c.args.self.now) ≡ (run_of c.run_range.new.self, end_seen end))) (sym seen) c.run_range.ensures.run
+
+pub turns-returns-in-Broke-clause-run : goal.turns-returns-in-Broke-clause-run
+turns-returns-in-Broke-clause-run t c =
+    let s = setting_seen c.args.setting.now in
+    let l = c.args.range.now in
+    let v = val_of c.args.value.now in
+    let i = c.loop-i.i in
+    let rest = turns_seen s l (from (i + 1) (elements v)) in
+    c.loop-i.invariant.run
+    ∙ turns-next s l (run_of c.loop-i.self) (elements v) i (val_of c.in-Some.key, val_of c.in-Some.element) (sym (element-at v i) ∙ sym c.in-Some.ensures.value)
+    ∙ ap (λ part. after_turn part rest) c.in_ok-turn.ensures.run
+    ∙ ap (λ end. after_turn (run_of c.turn.new.self, end_seen end) rest) c.in-Broke.is
+
+pub turns-returns-in-Faulted-clause-run : goal.turns-returns-in-Faulted-clause-run
+turns-returns-in-Faulted-clause-run t c =
+    let s = setting_seen c.args.setting.now in
+    let l = c.args.range.now in
+    let v = val_of c.args.value.now in
+    let i = c.loop-i.i in
+    let rest = turns_seen s l (from (i + 1) (elements v)) in
+    c.loop-i.invariant.run
+    ∙ turns-next s l (run_of c.loop-i.self) (elements v) i (val_of c.in-Some.key, val_of c.in-Some.element) (sym (element-at v i) ∙ sym c.in-Some.ensures.value)
+    ∙ ap (λ part. after_turn part rest) c.in_ok-turn.ensures.run
+    ∙ ap (λ end. after_turn (run_of c.turn.new.self, end_seen end) rest) c.in-Faulted.is
+
+pub turns-loop-i-preserved : goal.turns-loop-i-preserved
+turns-loop-i-preserved t c =
+    let s = setting_seen c.args.setting.now in
+    let l = c.args.range.now in
+    let v = val_of c.args.value.now in
+    let i = c.loop-i.i in
+    let rest = turns_seen s l (from (i + 1) (elements v)) in
+    elim c.match-item.branch [
+      | turns-in-Some+in_ok-turn+in-Done w ↦
+          let goes_on = c.loop-i.invariant.run
+          ∙ turns-next s l (run_of c.loop-i.self) (elements v) i (val_of w.in-Some.key, val_of w.in-Some.element) (sym (element-at v i) ∙ sym w.in-Some.ensures.value)
+          ∙ ap (λ part. after_turn part rest) w.in_ok-turn.ensures.run in
+          record {
+            whole = ap (λ m. m.text.failures) w.self-is ∙ w.in_ok-turn.ensures.whole;
+            left = subst (λ m. m.left ≤ c.args.self.now.left) (sym w.self-is) (omega (arith, w.in_ok-turn.ensures.left, c.loop-i.invariant.left));
+            run = goes_on ∙ turn_on (run_of w.turn.new.self) rest w.in_ok-turn.field-0 w.in-Done.is ∙ ap (λ m. rest (run_of m)) (sym w.self-is);
+          }
+      | turns-in_default w ↦ absurd (not-past v c.args.count i c.requires.count c.loop-i-test.true (sym c.item.ensures.value ∙ ap (option_map element_of) w.in_default.is))
+    ]
