@@ -1,3 +1,6 @@
+pub mod Fronts
 pub mod Insides
-pub mod Opening
+pub mod Pairs
+pub mod Quotes
+pub mod Runs
 pub mod Whole

@@ -1,36 +1,51 @@
 -- The pieces of a whole file, from action to action.
-use Rattle.std.proofs.Common.{arith, ◌≡◌, ℕ, zero, suc, ◌+◌, ◌-◌, ◌<◌, ◌≤◌, List, [], ◌∷◌, ◌++◌, Option, Some, None, refl, sym, ap, subst, ◌∙◌, length, append_assoc, length-take, nat_eq}
+use Rattle.std.proofs.Common.{arith, ◌≡◌, ℕ, zero, suc, ◌+◌, ◌-◌, ◌<◌, ◌≤◌, Bool, true, false, List, [], ◌∷◌, ◌++◌, Option, Some, None, refl, sym, ap, subst, ◌∙◌, length, drop, append_assoc, append-nil, length-take, length-drop, nat_eq}
 use Rattle.std.proofs.lemmas.List.Sums.{count_by-le-length}
-use Rattle.tmpl_lex.specs.Piece.{Token, Piece, action, unreadable}
-use Rattle.tmpl_lex.specs.Cut.{newlines, stretch, texts, split_open, inside, Inside, Cuts, last, unclosed, closed, acted, pieces_from, cut_within, cut_of}
-use Rattle.tmpl_lex.proofs.Opening.{split_lengths}
-use Rattle.tmpl_lex.proofs.Insides.{inside_shorter}
+use Rattle.tmpl_lex.specs.Marker.{End, left_marked, past_left, behind_marker}
+use Rattle.tmpl_lex.specs.Piece.{Piece, action, unreadable}
+use Rattle.tmpl_lex.specs.Cut.{newlines, stretch, texts, split_pair, split_open, comment_end, comment_closed, opens_comment, inside, Inside, Opened, comment, tokens, neither, opened, opened_by, Cuts, last, dropped, closed, unclosed, pieces_at, pieces_from, cut_within, cut_of}
+use Rattle.tmpl_lex.specs.Held.{pieces_of, ends_at}
+use Rattle.tmpl_lex.proofs.Pairs.{split_lengths}
+use Rattle.tmpl_lex.proofs.Insides.{closing_shorter, inside_shorter}
 
--- these pieces, with those that the rest is cut into, are what the whole is cut into
-pub record Completed (whole : List ℕ) (done : List Piece) (line : ℕ) (rest : List ℕ) : Type 0 where
-  pub completes : (more : List Piece) → Cuts line rest more → Cuts 1 whole (done ++ more)
+-- ---- what stands behind a comment or an action is shorter than what stands behind its `{{`
 
-pub completed_start : (whole : List ℕ) (done : List Piece) → done ≡ [] → Completed whole done 1 whole
-completed_start whole done e = record { completes = λ more h. subst (λ d. Cuts 1 whole (d ++ more)) (sym e) h }
+closed_shorter : (t : Bool) (o : Option (List ℕ × List ℕ)) (n : ℕ) (e : End) → ((p : List ℕ × List ℕ) → o ≡ Some p → length p.1 ≤ n) → comment_closed t o ≡ Some e → length e.rest < n
+closed_shorter false o n e within h = let g : ◌≡◌ {A = Option End} None (Some e) = h in cc
+closed_shorter true None n e within h = let g : ◌≡◌ {A = Option End} None (Some e) = h in cc
+closed_shorter true (Some p) n e within h = omega (arith, closing_shorter p.1 e h, within p refl)
 
-module _ (whole : List ℕ) (old mid new : List Piece) (line : ℕ) (bs before after : List ℕ) (so_far : Completed whole old line bs) where
-  pub completed_more : (next : ℕ) (rest : List ℕ) (tokens : List Token) → Some (before, after) ≡ split_open bs → Some (tokens, rest) ≡ inside after → mid ≡ old ++ texts line before → new ≡ mid ++ action (line + newlines before) tokens ∷ [] → next ≡ line + newlines before + newlines (stretch after rest) → Completed whole new next rest
-  completed_more next rest tokens e f g h n = record {
-    completes = λ more cuts.
-        subst (λ d. Cuts 1 whole d) (sym (
-        ap (λ d. d ++ more) (h ∙ ap (λ d. d ++ action (line + newlines before) tokens ∷ []) g)
-        ∙ append_assoc (old ++ texts line before) (action (line + newlines before) tokens ∷ []) more
-        ∙ append_assoc old (texts line before) (action (line + newlines before) tokens ∷ more)))
-        (so_far.completes (texts line before ++ action (line + newlines before) tokens ∷ more) (closed (sym e) (sym f) (subst (λ (k : ℕ). Cuts k rest more) n cuts)));
-  }
+comment_shorter : (bs : List ℕ) (e : End) → comment_end bs ≡ Some e → length e.rest < length bs
+unfolding comment_end
+comment_shorter bs e h =
+    closed_shorter (opens_comment bs) (split_pair 42 47 (drop 2 bs)) (length bs) e (λ p at. omega (arith, split_lengths 42 47 (drop 2 bs) p.0 p.1 at, length-drop 2 bs)) h
 
-  pub completed_unclosed : Some (before, after) ≡ split_open bs → None ≡ inside after → mid ≡ old ++ texts line before → new ≡ mid ++ unreadable (line + newlines before) ∷ [] → Cuts 1 whole new
-  completed_unclosed e f g h =
-      subst (λ d. Cuts 1 whole d) (sym (h ∙ ap (λ d. d ++ unreadable (line + newlines before) ∷ []) g ∙ append_assoc old (texts line before) (unreadable (line + newlines before) ∷ [])))
-      (so_far.completes (texts line before ++ unreadable (line + newlines before) ∷ []) (unclosed (sym e) (sym f)))
+opened_shorter : (bs : List ℕ) (e : End) → Some e ≡ ends_at (opened bs) → length e.rest < length bs
+unfolding opened
+opened_shorter bs e h = go (comment_end bs) refl (inside bs) refl h
+  where
+    go : (o : Option End) → comment_end bs ≡ o → (i : Option Inside) → inside bs ≡ i → Some e ≡ ends_at (opened_by o i) → length e.rest < length bs
+    go (Some end) c i d h =
+        let same : end ≡ e = cc in
+        omega (arith, comment_shorter bs end c, ap (λ (x : End). length x.rest) same)
+    go None c (Some i) d h =
+        let same : i.1 ≡ e = cc in
+        omega (arith, inside_shorter bs i d, ap (λ (x : End). length x.rest) same)
+    go None c None d h = let g : ◌≡◌ {A = Option End} (Some e) None = h in cc
 
-pub completed_last : (whole : List ℕ) (old new : List Piece) (line : ℕ) (bs : List ℕ) → Completed whole old line bs → None ≡ split_open bs → new ≡ old ++ texts line bs → Cuts 1 whole new
-completed_last whole old new line bs so_far e g = subst (λ d. Cuts 1 whole d) (sym g) (so_far.completes (texts line bs) (last (sym e)))
+past_left_within : (bs : List ℕ) → length (past_left bs) ≤ length bs
+past_left_within bs = go (left_marked bs)
+  where
+    go : (t : Bool) → length (behind_marker t bs) ≤ length bs
+    go true = omega (arith, length-drop 2 bs)
+    go false = omega arith
+
+pub end_shorter : (after : List ℕ) (e : End) → Some e ≡ ends_at (opened (past_left after)) → length e.rest < length after
+end_shorter after e h = omega (arith, opened_shorter (past_left after) e h, past_left_within after)
+
+-- the rest behind what a `{{` begins is shorter
+pub rest_shorter : (bs before after : List ℕ) (e : End) → Some (before, after) ≡ split_open bs → Some e ≡ ends_at (opened (past_left after)) → (length before + length after + 2 ≡ length bs) × (length e.rest < length after)
+rest_shorter bs before after e h f = (split_lengths 123 123 bs before after (sym h), end_shorter after e f)
 
 -- a line and what follows it take no more than the bytes that there were
 pub lines_within : (before after rest : List ℕ) → length rest < length after → newlines before + newlines (stretch after rest) ≤ length before + length after - length rest
@@ -39,49 +54,98 @@ lines_within before after rest h =
     let b = count_by-le-length (λ b. nat_eq b 10) (stretch after rest) in
     omega (arith, a, b, length-take (length after - length rest) after)
 
--- the rest after an action is shorter
-pub rest_shorter : (bs before after rest : List ℕ) (tokens : List Token) → Some (before, after) ≡ split_open bs → Some (tokens, rest) ≡ inside after → (length before + length after + 2 ≡ length bs) × (length rest < length after)
-rest_shorter bs before after rest tokens e f = (split_lengths bs before after (sym e), inside_shorter after rest tokens (sym f))
+-- ---- the pieces so far
+
+-- these pieces, with those that the rest is cut into, are what the whole is cut into
+pub record Completed (whole : List ℕ) (done : List Piece) (right : Bool) (line : ℕ) (rest : List ℕ) : Type 0 where
+  pub completes : (more : List Piece) → Cuts right line rest more → Cuts false 1 whole (done ++ more)
+
+pub completed_start : (whole : List ℕ) (done : List Piece) → done ≡ [] → Completed whole done false 1 whole
+completed_start whole done e = record { completes = λ more h. subst (λ d. Cuts false 1 whole (d ++ more)) (sym e) h }
+
+module _ (whole : List ℕ) (old mid new : List Piece) (right : Bool) (line : ℕ) (bs before after : List ℕ) (so_far : Completed whole old right line bs)
+    (here : Some (before, after) ≡ split_open bs) (put : mid ≡ old ++ texts right (left_marked after) line before) where
+  joined : (now more : List Piece) → new ≡ mid ++ now → new ++ more ≡ old ++ (texts right (left_marked after) line before ++ (now ++ more))
+  joined now more grown =
+      ap (λ d. d ++ more) (grown ∙ ap (λ d. d ++ now) put)
+      ∙ append_assoc (old ++ texts right (left_marked after) line before) now more
+      ∙ append_assoc old (texts right (left_marked after) line before) (now ++ more)
+
+  pub completed_more : (o : Opened) (e : End) (next : ℕ) → o ≡ opened (past_left after) → Some e ≡ ends_at o → new ≡ mid ++ pieces_of (line + newlines before) o → next ≡ line + newlines before + newlines (stretch after e.rest) → Completed whole new e.trims next e.rest
+  completed_more (comment end) e next is at grown n = record {
+    completes = λ more cuts.
+        let same : e ≡ end = cc in
+        let on = subst (λ (x : End). Cuts x.trims (line + newlines before + newlines (stretch after x.rest)) x.rest more) same (subst (λ (k : ℕ). Cuts e.trims k e.rest more) n cuts) in
+        subst (λ d. Cuts false 1 whole d) (sym (joined [] more grown))
+        (so_far.completes (texts right (left_marked after) line before ++ more) (dropped (sym here) (sym is) on));
+  }
+  completed_more (tokens ts end) e next is at grown n = record {
+    completes = λ more cuts.
+        let same : e ≡ end = cc in
+        let on = subst (λ (x : End). Cuts x.trims (line + newlines before + newlines (stretch after x.rest)) x.rest more) same (subst (λ (k : ℕ). Cuts e.trims k e.rest more) n cuts) in
+        subst (λ d. Cuts false 1 whole d) (sym (joined (action (line + newlines before) ts ∷ []) more grown))
+        (so_far.completes (texts right (left_marked after) line before ++ action (line + newlines before) ts ∷ more) (closed (sym here) (sym is) on));
+  }
+  completed_more neither e next is at grown n = let g : ◌≡◌ {A = Option End} (Some e) None = at in cc
+
+  pub completed_unclosed : (o : Opened) → o ≡ opened (past_left after) → None ≡ ends_at o → new ≡ mid ++ pieces_of (line + newlines before) o → Cuts false 1 whole new
+  completed_unclosed (comment end) is at grown = let g : ◌≡◌ {A = Option End} None (Some end) = at in cc
+  completed_unclosed (tokens ts end) is at grown = let g : ◌≡◌ {A = Option End} None (Some end) = at in cc
+  completed_unclosed neither is at grown =
+      subst (λ d. Cuts false 1 whole d) (sym (sym (append-nil new) ∙ joined (unreadable (line + newlines before) ∷ []) [] grown))
+      (so_far.completes (texts right (left_marked after) line before ++ unreadable (line + newlines before) ∷ []) (unclosed (sym here) (sym is)))
+
+pub completed_last : (whole : List ℕ) (old new : List Piece) (right : Bool) (line : ℕ) (bs : List ℕ) → Completed whole old right line bs → None ≡ split_open bs → new ≡ old ++ texts right false line bs → Cuts false 1 whole new
+completed_last whole old new right line bs so_far e g = subst (λ d. Cuts false 1 whole d) (sym g) (so_far.completes (texts right false line bs) (last (sym e)))
+
+-- ---- one list of pieces
 
 -- bytes are cut into the pieces of `cut_within`
-cuts_within : (n line : ℕ) (bs : List ℕ) → length bs < n → Cuts line bs (cut_within n line bs)
+cuts_within : (n : ℕ) (right : Bool) (line : ℕ) (bs : List ℕ) → length bs < n → Cuts right line bs (cut_within n right line bs)
 unfolding cut_within
-cuts_within zero line bs h = absurd (omega arith)
-cuts_within (suc n) line bs h =
-    go (λ next rest (less : length rest < length bs). cuts_within n next rest (omega arith)) (split_open bs) refl
+cuts_within zero right line bs h = absurd (omega arith)
+cuts_within (suc n) right line bs h =
+    go (λ t next rest (less : length rest < length bs). cuts_within n t next rest (omega arith)) (split_open bs) refl
   where
-    tell : ((next : ℕ) (rest : List ℕ) → length rest < length bs → Cuts next rest (cut_within n next rest)) → (before after : List ℕ) → split_open bs ≡ Some (before, after) → (i : Option Inside) → inside after ≡ i → Cuts line bs (texts line before ++ acted (line + newlines before) after i (λ next rest. cut_within n next rest))
-    tell ih before after e None f = unclosed e f
-    tell ih before after e (Some i) f =
-        closed e f (ih (line + newlines before + newlines (stretch after i.1)) i.1 (omega (arith, split_lengths bs before after e, inside_shorter after i.1 i.0 f)))
+    tell : ((t : Bool) (next : ℕ) (rest : List ℕ) → length rest < length bs → Cuts t next rest (cut_within n t next rest)) → (before after : List ℕ) → split_open bs ≡ Some (before, after) → (o : Opened) → opened (past_left after) ≡ o → Cuts right line bs (texts right (left_marked after) line before ++ pieces_at (line + newlines before) after o (cut_within n))
+    tell ih before after e neither f = unclosed e f
+    tell ih before after e (comment end) f =
+        dropped e f (ih end.trims (line + newlines before + newlines (stretch after end.rest)) end.rest (omega (arith, rest_shorter bs before after end (sym e) (ap ends_at (sym f)))))
+    tell ih before after e (tokens ts end) f =
+        closed e f (ih end.trims (line + newlines before + newlines (stretch after end.rest)) end.rest (omega (arith, rest_shorter bs before after end (sym e) (ap ends_at (sym f)))))
 
-    go : ((next : ℕ) (rest : List ℕ) → length rest < length bs → Cuts next rest (cut_within n next rest)) → (o : Option (List ℕ × List ℕ)) → split_open bs ≡ o → Cuts line bs (pieces_from line bs o (λ next rest. cut_within n next rest))
+    go : ((t : Bool) (next : ℕ) (rest : List ℕ) → length rest < length bs → Cuts t next rest (cut_within n t next rest)) → (o : Option (List ℕ × List ℕ)) → split_open bs ≡ o → Cuts right line bs (pieces_from right line bs o (cut_within n))
     go ih None e = last e
-    go ih (Some p) e = tell ih p.0 p.1 e (inside p.1) refl
+    go ih (Some p) e = tell ih p.0 p.1 e (opened (past_left p.1)) refl
 
 -- and into no others
-pub only_within : (n line : ℕ) (bs : List ℕ) (ps : List Piece) → Cuts line bs ps → length bs < n → ps ≡ cut_within n line bs
+pub only_within : (n : ℕ) (right : Bool) (line : ℕ) (bs : List ℕ) (ps : List Piece) → Cuts right line bs ps → length bs < n → ps ≡ cut_within n right line bs
 unfolding cut_within
-only_within zero line bs ps cuts h = absurd (omega arith)
-only_within (suc n) line bs _ (last e) h = ap (λ o. pieces_from line bs o (λ next rest. cut_within n next rest)) (sym e)
-only_within (suc n) line bs _ (unclosed {before = before} {after = after} e f) h =
-    ap (λ i. texts line before ++ acted (line + newlines before) after i (λ next rest. cut_within n next rest)) (sym f)
-    ∙ ap (λ o. pieces_from line bs o (λ next rest. cut_within n next rest)) (sym e)
-only_within (suc n) line bs _ (closed {before = before} {after = after} {rest = rest} {tokens = tokens} {ps = ps} e f cuts) h =
-    ap (λ more. texts line before ++ action (line + newlines before) tokens ∷ more)
-    (only_within n (line + newlines before + newlines (stretch after rest)) rest ps cuts (omega (arith, split_lengths bs before after e, inside_shorter after rest tokens f)))
-    ∙ ap (λ i. texts line before ++ acted (line + newlines before) after i (λ next rest. cut_within n next rest)) (sym f)
-    ∙ ap (λ o. pieces_from line bs o (λ next rest. cut_within n next rest)) (sym e)
+only_within zero right line bs ps cuts h = absurd (omega arith)
+only_within (suc n) right line bs _ (last e) h = ap (λ o. pieces_from right line bs o (cut_within n)) (sym e)
+only_within (suc n) right line bs _ (unclosed {before = before} {after = after} e f) h =
+    ap (λ o. texts right (left_marked after) line before ++ pieces_at (line + newlines before) after o (cut_within n)) (sym f)
+    ∙ ap (λ o. pieces_from right line bs o (cut_within n)) (sym e)
+only_within (suc n) right line bs _ (dropped {before = before} {after = after} {end = end} {ps = ps} e f cuts) h =
+    ap (λ more. texts right (left_marked after) line before ++ more)
+    (only_within n end.trims (line + newlines before + newlines (stretch after end.rest)) end.rest ps cuts (omega (arith, rest_shorter bs before after end (sym e) (ap ends_at (sym f)))))
+    ∙ ap (λ o. texts right (left_marked after) line before ++ pieces_at (line + newlines before) after o (cut_within n)) (sym f)
+    ∙ ap (λ o. pieces_from right line bs o (cut_within n)) (sym e)
+only_within (suc n) right line bs _ (closed {before = before} {after = after} {ts = ts} {end = end} {ps = ps} e f cuts) h =
+    ap (λ more. texts right (left_marked after) line before ++ action (line + newlines before) ts ∷ more)
+    (only_within n end.trims (line + newlines before + newlines (stretch after end.rest)) end.rest ps cuts (omega (arith, rest_shorter bs before after end (sym e) (ap ends_at (sym f)))))
+    ∙ ap (λ o. texts right (left_marked after) line before ++ pieces_at (line + newlines before) after o (cut_within n)) (sym f)
+    ∙ ap (λ o. pieces_from right line bs o (cut_within n)) (sym e)
 
 -- each file is cut into the pieces of `cut_of`
-pub cut-cuts : (bs : List ℕ) → Cuts 1 bs (cut_of bs)
+pub cut-cuts : (bs : List ℕ) → Cuts false 1 bs (cut_of bs)
 unfolding cut_of
-cut-cuts bs = cuts_within (length bs + 1) 1 bs (omega arith)
+cut-cuts bs = cuts_within (length bs + 1) false 1 bs (omega arith)
 
 -- and into no others
-pub cut-only : (bs : List ℕ) (ps : List Piece) → Cuts 1 bs ps → ps ≡ cut_of bs
+pub cut-only : (bs : List ℕ) (ps : List Piece) → Cuts false 1 bs ps → ps ≡ cut_of bs
 unfolding cut_of
-cut-only bs ps cuts = only_within (length bs + 1) 1 bs ps cuts (omega arith)
+cut-only bs ps cuts = only_within (length bs + 1) false 1 bs ps cuts (omega arith)
 
 pub ruleset cutting = (completed_start, completed_more, completed_unclosed, completed_last, rest_shorter)
 

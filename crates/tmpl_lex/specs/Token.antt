@@ -1,40 +1,108 @@
--- The token at the front of bytes of an action: white space ("Text and spaces" in the documentation of Go's
--- text/template), a dot or a field ("Arguments").
-use Rattle.std.specs.Prelude.{ℕ, Bool, ◌||◌, ◌==◌, nat_le, List, [], ◌∷◌, drop, take_while, Option, Some, None, if◌then◌else◌}
-use Rattle.std.specs.Char.{is_ascii_alphanumeric}
+-- The token at the front of bytes of an action ("Arguments", "Pipelines" and "Variables" in the documentation of Go's
+-- text/template; which bytes a token is spelled with is our own rule).
+use Rattle.std.specs.Prelude.{ℕ, Bool, true, false, ◌||◌, ◌&&◌, not, ◌==◌, List, [], ◌∷◌, take_while, Option, Some, None, option_map, if◌then◌else◌}
+use Rattle.std.specs.Char.{is_ascii_digit}
+pub use Rattle.tmpl_lex.specs.Byte.{is_space, is_name_byte, is_number_byte}
+use Rattle.tmpl_lex.specs.Marker.{right_marked}
+use Rattle.tmpl_lex.specs.Quoted.{through, quoted}
 use Rattle.tmpl_lex.specs.Piece.{Token}
-use Rattle.tmpl_lex.specs.declared.piece.TokenKind.TheVariants.{Space, Dot, Field}
+use Rattle.tmpl_lex.specs.declared.piece.TokenKind.{TokenKind}
+use Rattle.tmpl_lex.specs.declared.piece.TokenKind.TheVariants.{Space, Word, Number, Field, Dot, Variable, String, RawString, Character, Declare, Assign, Comma, Pipe, LeftParenthesis, RightParenthesis}
+use Rattle.tmpl_lex.specs.declared.front.Front.{Front}
+use Rattle.tmpl_lex.specs.declared.front.Front.TheVariants as front
 
--- white space: space, tab, carriage return and newline
-abbrev pub is_space : ℕ → Bool
-is_space b = b == 32 || b == 9 || b == 13 || b == 10
+-- what a token that begins with this byte is, apart from white space and names
+abbrev pub mark_of : ℕ → Front
+mark_of b =
+    if b == 43 || b == 45 then front.Sign
+    else if b == 46 then front.Period
+    else if b == 36 then front.Dollar
+    else if b == 34 then front.DoubleQuote
+    else if b == 96 then front.Backquote
+    else if b == 39 then front.SingleQuote
+    else if b == 58 then front.Colon
+    else if b == 61 then front.Equals
+    else if b == 44 then front.Comma
+    else if b == 124 then front.Bar
+    else if b == 40 then front.LeftParenthesis
+    else if b == 41 then front.RightParenthesis
+    else front.Other
 
--- a byte of a name: a letter or digit of ASCII, `_`, or any byte from 80h, so that each name that Go takes is taken
--- (our own rule)
-abbrev pub is_name_byte : ℕ → Bool
-is_name_byte b = is_ascii_alphanumeric b || b == 95 || nat_le 128 b
-
--- what the first byte of a token says of it
-pub data Front : Type 0 where
-  white : Front
-  period : Front
-  other : Front
-
+-- what a token that begins with this byte is
 abbrev pub front_of : ℕ → Front
-front_of b = if is_space b then white else if b == 46 then period else other
+front_of b =
+    if is_space b then front.White
+    else if is_ascii_digit b then front.Digit
+    else if is_name_byte b then front.Letter
+    else mark_of b
 
--- a dot and this name behind it
-abbrev pub dot_and : List ℕ → Token
-dot_and [] = record { kind = Dot; bytes = 46 ∷ [] }
-dot_and (b ∷ bs) = record { kind = Field; bytes = 46 ∷ b ∷ bs }
+abbrev pub kept_while : Bool → ℕ → List ℕ → List ℕ
+kept_while true b bs = b ∷ bs
+kept_while false b bs = []
 
--- the token at the front of the bytes, by their first one: a longest run of white space, a dot and a longest
--- run of name bytes, which may be empty, or none
-abbrev pub begun : Front → List ℕ → Option Token
-begun white bs = Some (record { kind = Space; bytes = take_while is_space bs })
-begun period bs = Some (dot_and (take_while is_name_byte (drop 1 bs)))
-begun other bs = None
+-- the white space at the front, up to the first other byte or the first right trim marker
+abbrev pub space_run : List ℕ → List ℕ
+space_run [] = []
+space_run (b ∷ bs) = kept_while (is_space b && not (right_marked (b ∷ bs))) b (space_run bs)
 
+-- the kind of a token, and its bytes behind the first
+abbrev pub Begun : Type 0
+Begun = TokenKind × List ℕ
+
+abbrev pub number : Bool → ℕ → List ℕ → Option Begun
+number true b bs = Some (Number, b ∷ take_while is_number_byte bs)
+number false b bs = None
+
+-- behind a `+` or `-`: a digit, and the longest run of bytes of a number
+abbrev pub signed : List ℕ → Option Begun
+signed [] = None
+signed (b ∷ bs) = number (is_ascii_digit b) b bs
+
+-- the longest name at the front, perhaps empty
+abbrev pub name_run : List ℕ → List ℕ
+name_run bs = take_while is_name_byte bs
+
+-- behind a dot: this name, if there is one
+abbrev pub dotted : List ℕ → Begun
+dotted [] = (Dot, [])
+dotted (b ∷ bs) = (Field, b ∷ bs)
+
+abbrev pub declare : Bool → Option Begun
+declare true = Some (Declare, 61 ∷ [])
+declare false = None
+
+-- behind a colon: an equals sign
+abbrev pub assigned : List ℕ → Option Begun
+assigned [] = None
+assigned (b ∷ bs) = declare (b == 61)
+
+abbrev pub of_kind : TokenKind → Option (List ℕ) → Option Begun
+of_kind kind o = option_map (λ bs. (kind, bs)) o
+
+-- the token that begins so, behind whose first byte these bytes stand
+abbrev pub begun : Front → List ℕ → Option Begun
+begun front.White bs = Some (Space, space_run bs)
+begun front.Letter bs = Some (Word, name_run bs)
+begun front.Digit bs = Some (Number, take_while is_number_byte bs)
+begun front.Sign bs = signed bs
+begun front.Period bs = Some (dotted (name_run bs))
+begun front.Dollar bs = Some (Variable, name_run bs)
+begun front.DoubleQuote bs = of_kind String (quoted 34 false bs)
+begun front.Backquote bs = of_kind RawString (through 96 bs)
+begun front.SingleQuote bs = of_kind Character (quoted 39 false bs)
+begun front.Colon bs = assigned bs
+begun front.Equals bs = Some (Assign, [])
+begun front.Comma bs = Some (Comma, [])
+begun front.Bar bs = Some (Pipe, [])
+begun front.LeftParenthesis bs = Some (LeftParenthesis, [])
+begun front.RightParenthesis bs = Some (RightParenthesis, [])
+begun front.Other bs = None
+
+abbrev pub token_from : ℕ → Option Begun → Option Token
+token_from b None = None
+token_from b (Some p) = Some (record { kind = p.0; bytes = b ∷ p.1 })
+
+-- the token at the front of the bytes, if one begins there
 abbrev pub front_token : List ℕ → Option Token
 front_token [] = None
-front_token (b ∷ bs) = begun (front_of b) (b ∷ bs)
+front_token (b ∷ bs) = token_from b (begun (front_of b) bs)

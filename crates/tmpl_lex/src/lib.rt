@@ -1,14 +1,24 @@
 //! A template file cut into texts and actions.
 #![tactic(auto)]
 
+mod bytes;
 mod file;
-mod inside;
+mod front;
+mod marker;
+mod opened;
+mod pair;
 mod piece;
+mod quoted;
+mod text;
 mod token;
 
+pub use bytes::is_space;
 pub use file::{cut, one_cut};
 pub use piece::{Piece, Token, TokenKind};
-pub use token::is_space;
 
 #[cfg(test)]
 mod tests;
+#[cfg(test)]
+mod tests_tokens;
+#[cfg(test)]
+mod tests_trims;

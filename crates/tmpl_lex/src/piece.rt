@@ -1,14 +1,39 @@
 //! What a template file is cut into.
 
-/// The kind of a token of an action.
+/// The kind of a token of an action. A name is a run of name bytes: letters and digits of ASCII, `_`
+/// and every byte from 80h.
 #[derive(Clone, Copy, Debug, PartialEq, Eq)]
 pub enum TokenKind {
     /// A longest run of white space.
     Space,
+    /// A longest name that does not begin with a digit.
+    Word,
+    /// A `+` or `-` or none, a digit, and the longest run of name bytes and dots.
+    Number,
+    /// A dot and a longest name, not empty.
+    Field,
     /// A dot with no name behind it.
     Dot,
-    /// A dot and a name.
-    Field,
+    /// A `$` and a longest name, perhaps empty.
+    Variable,
+    /// A `"` to the next `"` that no backslash escapes, with no newline inside.
+    String,
+    /// A backquote to the next backquote.
+    RawString,
+    /// A `'` to the next `'` that no backslash escapes, with no newline inside.
+    Character,
+    /// `:=`
+    Declare,
+    /// `=`
+    Assign,
+    /// `,`
+    Comma,
+    /// One bar.
+    Pipe,
+    /// `(`
+    LeftParenthesis,
+    /// `)`
+    RightParenthesis,
 }
 
 /// A token of an action: its kind, and its bytes in the file.

@@ -1,74 +1,105 @@
 //! The tokens of an action.
-ghost use Rattle.std.specs.Prelude.{◌≡◌, ◌∷◌, Some, option_map, take_while};
-ghost use Rattle.std.specs.List.{prefix_len};
+ghost use Rattle.std.specs.Prelude.{◌≡◌, ◌≤◌, ◌∷◌, IfSome, length, option_map, take};
+ghost use Rattle.tmpl_lex.specs.Held.{begun_of};
 ghost use Rattle.tmpl_lex.specs.Piece.{token_of};
 ghost use Rattle.tmpl_lex.specs.Token as spec;
 
+use crate::bytes::{after, name_len, number_len, white_len};
+use crate::front::{Front, front_of};
+use crate::marker::dash_closes;
 use crate::piece::{Token, TokenKind};
-
-/// Whether this is white space: space, tab, carriage return or newline ("Text and spaces" in the
-/// documentation of Go's text/template).
-pub fn is_space(byte: u8) -> bool
-    ensures { result ≡ spec.is_space byte }
-{
-    matches!(byte, b' ' | b'\t' | b'\r' | b'\n')
-}
-
-/// Whether this byte may stand in a name.
-fn is_name_byte(byte: u8) -> bool
-    ensures { result ≡ spec.is_name_byte byte }
-{
-    byte.is_ascii_alphanumeric() || byte == b'_' || byte >= 0x80
-}
-
-/// How many bytes of white space there are at the front.
-fn space_len(bytes: &[u8]) -> usize
-    ensures { result ≡ prefix_len spec.is_space bytes.now }
-{
-    bytes.iter().take_while(|b| is_space(**b)).count()
-}
-
-/// How many bytes of a name there are at the front.
-fn name_len(bytes: &[u8]) -> usize
-    ensures { result ≡ prefix_len spec.is_name_byte bytes.now }
-{
-    bytes.iter().take_while(|b| is_name_byte(**b)).count()
-}
+use crate::quoted::{quoted, through};
 
 /// The token at the front of the bytes, if one begins there.
 pub(crate) fn front_token(bytes: &[u8]) -> Option<Token<'_>>
     ensures { option_map token_of result ≡ spec.front_token bytes.now }
 {
-    match bytes {
-        [first, ..] if is_space(*first) => Some(space_token(bytes)),
-        [b'.', name @ ..] => Some(dot_token(bytes, name)),
+    let [first, rest @ ..] = bytes else {
+        return None;
+    };
+    let (kind, len) = begun(front_of(*first), rest)?;
+    Some(Token {
+        kind,
+        bytes: &bytes[..len + 1],
+    })
+}
+
+/// The kind of the token that begins so, and how many of the bytes behind its first are its own.
+fn begun(front: Front, rest: &[u8]) -> Option<(TokenKind, usize)>
+    ensures value { begun_of rest.now result ≡ spec.begun front rest.now }
+    ensures within { IfSome result (λ p. p.1 ≤ length rest.now) }
+{
+    match front {
+        Front::White => Some((TokenKind::Space, space_len(rest))),
+        Front::Letter => Some((TokenKind::Word, name_len(rest))),
+        Front::Digit => Some((TokenKind::Number, number_len(rest))),
+        Front::Sign => signed(rest),
+        Front::Period => Some(dotted(rest)),
+        Front::Dollar => Some((TokenKind::Variable, name_len(rest))),
+        Front::DoubleQuote => of_kind(TokenKind::String, quoted(b'"', rest)),
+        Front::Backquote => of_kind(TokenKind::RawString, through(b'`', rest)),
+        Front::SingleQuote => of_kind(TokenKind::Character, quoted(b'\'', rest)),
+        Front::Colon => assigned(rest),
+        Front::Equals => Some((TokenKind::Assign, 0)),
+        Front::Comma => Some((TokenKind::Comma, 0)),
+        Front::Bar => Some((TokenKind::Pipe, 0)),
+        Front::LeftParenthesis => Some((TokenKind::LeftParenthesis, 0)),
+        Front::RightParenthesis => Some((TokenKind::RightParenthesis, 0)),
+        Front::Other => None,
+    }
+}
+
+/// How much of the white space at the front stands before a right trim marker, if one ends it.
+fn space_len(bytes: &[u8]) -> usize
+    ensures value { take result bytes.now ≡ spec.space_run bytes.now }
+    ensures within { result ≤ length bytes.now }
+{
+    let white = white_len(bytes);
+    if dash_closes(after(bytes, white)) {
+        white.saturating_sub(1)
+    } else {
+        white
+    }
+}
+
+/// Behind a `+` or `-`: a number, if a digit stands there.
+fn signed(rest: &[u8]) -> Option<(TokenKind, usize)>
+    ensures value { begun_of rest.now result ≡ spec.signed rest.now }
+    ensures within { IfSome result (λ p. p.1 ≤ length rest.now) }
+{
+    match rest {
+        [digit, more @ ..] if digit.is_ascii_digit() => {
+            Some((TokenKind::Number, number_len(more) + 1))
+        }
         _ => None,
     }
 }
 
-/// The white space at the front.
-fn space_token(bytes: &[u8]) -> Token<'_>
-    ensures { Some (token_of result) ≡ spec.begun spec.white bytes.now }
+/// Behind a dot: a field, if a name stands there.
+fn dotted(rest: &[u8]) -> (TokenKind, usize)
+    ensures value { (result.0, take result.1 rest.now) ≡ spec.dotted (spec.name_run rest.now) }
+    ensures within { result.1 ≤ length rest.now }
 {
-    Token {
-        kind: TokenKind::Space,
-        bytes: &bytes[..space_len(bytes)],
+    match name_len(rest) {
+        0 => (TokenKind::Dot, 0),
+        len => (TokenKind::Field, len),
     }
 }
 
-/// The dot at the front of the bytes, with the name behind it, if there is one.
-fn dot_token<'b>(bytes: &'b [u8], name: &'b [u8]) -> Token<'b>
-    requires { bytes.now ≡ 46 ∷ name.now }
-    ensures { token_of result ≡ spec.dot_and (take_while spec.is_name_byte name.now) }
+/// Behind a colon: the sign that declares, if `=` stands there.
+fn assigned(rest: &[u8]) -> Option<(TokenKind, usize)>
+    ensures value { begun_of rest.now result ≡ spec.assigned rest.now }
+    ensures within { IfSome result (λ p. p.1 ≤ length rest.now) }
 {
-    match name_len(name) {
-        0 => Token {
-            kind: TokenKind::Dot,
-            bytes: &bytes[..1],
-        },
-        len => Token {
-            kind: TokenKind::Field,
-            bytes: &bytes[..len + 1],
-        },
+    match rest {
+        [b'=', ..] => Some((TokenKind::Declare, 1)),
+        _ => None,
     }
+}
+
+/// A token of this kind, where its closing quote was found.
+fn of_kind(kind: TokenKind, len: Option<usize>) -> Option<(TokenKind, usize)>
+    ensures { result ≡ option_map (λ n. (kind, n)) len }
+{
+    Some((kind, len?))
 }

@@ -5,7 +5,7 @@ use Rattle.tmpl_lex.proofs.file.cut.Given as goal
 
 abbrev pub invariant-loop-before : goal.invariant-loop-before
 invariant-loop-before l = record {
-  so_far : Completed l.bytes (map piece_of l.pieces.items) l.line l.rest;
+  so_far : Completed l.bytes (map piece_of l.pieces.items) l.trims l.line l.rest;
   within : l.line + length l.rest ≤ 1 + length l.bytes;
 }
 

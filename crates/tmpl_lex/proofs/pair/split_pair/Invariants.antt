@@ -1,12 +1,12 @@
 use Rattle.std.proofs.Common.{◌≡◌, ◌≤◌, ◌-◌, length}
-use Rattle.tmpl_lex.specs.Cut.{split_open}
-use Rattle.tmpl_lex.specs.Held.{opened_from}
-use Rattle.tmpl_lex.proofs.file.split_open.Given as goal
+use Rattle.tmpl_lex.specs.Cut.{split_pair}
+use Rattle.tmpl_lex.specs.Held.{split_from}
+use Rattle.tmpl_lex.proofs.pair.split_pair.Given as goal
 
 abbrev pub invariant-loop-i : goal.invariant-loop-i
 invariant-loop-i l = record {
   within : l.i ≤ length l.bytes;
-  same : split_open l.bytes ≡ opened_from l.i l.bytes;
+  same : split_pair l.first l.second l.bytes ≡ split_from l.first l.second l.i l.bytes;
 }
 
 abbrev pub decreases-loop-i : goal.decreases-loop-i
