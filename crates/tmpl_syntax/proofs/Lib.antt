@@ -1,4 +1,5 @@
 pub mod Files
 pub mod Pieces
+pub mod Slices
 pub mod Templates
 pub mod Tokens

@@ -5,8 +5,12 @@ mod action;
 mod blank;
 mod build;
 mod fault;
+mod header;
+mod keyword;
+mod operand;
 mod parse;
 mod read;
+mod reader;
 mod set;
 mod tree;
 

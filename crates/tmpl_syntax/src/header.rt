@@ -1,0 +1,174 @@
+//! The reading of headers: a pipeline, perhaps behind variables.
+ghost use Rattle.std.specs.Prelude.{◌≡◌, IfOk, map, option_map};
+ghost use Rattle.tmpl_lex.specs.Piece.{token_of};
+ghost use Rattle.tmpl_syntax.specs.Grammar as spec;
+ghost use Rattle.tmpl_syntax.specs.Held.{front_of, header_of, name_of, range_front_of, range_header_of};
+ghost use Rattle.tmpl_syntax.specs.Tree.{binding_of, pipeline_of, variables_of};
+
+use crate::operand::{name_in, next, pipeline};
+use crate::tree::{Binding, Pipeline, RangeVariables};
+use std::alloc::{AllocError, Global};
+use tmpl_lex::{Token, TokenKind};
+use tmpl_values::Bytes;
+
+/// What comes first in a header, and the tokens behind it.
+#[derive(Clone, Copy)]
+enum Front<'t, 'b> {
+    Plain,
+    /// `$x :=`
+    Declare(&'b [u8], &'t [Token<'b>]),
+    /// `$x =`
+    Assign(&'b [u8], &'t [Token<'b>]),
+}
+
+/// What comes first in the header of a range, and the tokens behind it.
+#[derive(Clone, Copy)]
+enum RangeFront<'t, 'b> {
+    Plain,
+    /// `$x :=`
+    Element(&'b [u8], &'t [Token<'b>]),
+    /// `$i, $x :=`
+    KeyAndElement(&'b [u8], &'b [u8], &'t [Token<'b>]),
+}
+
+/// The variable that comes first, by its name of at least one byte, and the tokens behind it.
+fn named<'t, 'b>(tokens: &'t [Token<'b>]) -> Option<(&'b [u8], &'t [Token<'b>])>
+    ensures { option_map name_of result ≡ spec.named (map token_of tokens.now) }
+{
+    let (first, rest) = next(tokens)?;
+    match first.kind {
+        TokenKind::Variable => named_by(name_in(&first), rest),
+        _ => None,
+    }
+}
+
+fn named_by<'t, 'b>(name: &'b [u8], rest: &'t [Token<'b>]) -> Option<(&'b [u8], &'t [Token<'b>])>
+    ensures { option_map name_of result ≡ spec.named_by name.now (map token_of rest.now) }
+{
+    match name {
+        [] => None,
+        _ => Some((name, rest)),
+    }
+}
+
+fn header_front<'t, 'b>(tokens: &'t [Token<'b>]) -> Front<'t, 'b>
+    ensures { front_of result ≡ spec.front_in (map token_of tokens.now) }
+{
+    let Some((name, rest)) = named(tokens) else {
+        return Front::Plain;
+    };
+    let Some((sign, rest)) = next(rest) else {
+        return Front::Plain;
+    };
+    match sign.kind {
+        TokenKind::Declare => Front::Declare(name, rest),
+        TokenKind::Assign => Front::Assign(name, rest),
+        _ => Front::Plain,
+    }
+}
+
+fn range_front<'t, 'b>(tokens: &'t [Token<'b>]) -> RangeFront<'t, 'b>
+    ensures { range_front_of result ≡ spec.range_front (map token_of tokens.now) }
+{
+    let Some((name, rest)) = named(tokens) else {
+        return RangeFront::Plain;
+    };
+    let Some((sign, rest)) = next(rest) else {
+        return RangeFront::Plain;
+    };
+    match sign.kind {
+        TokenKind::Declare => RangeFront::Element(name, rest),
+        TokenKind::Comma => second_name(name, rest),
+        _ => RangeFront::Plain,
+    }
+}
+
+/// The second variable of a range, behind the comma.
+fn second_name<'t, 'b>(key: &'b [u8], tokens: &'t [Token<'b>]) -> RangeFront<'t, 'b>
+    ensures { range_front_of result ≡ spec.second_named key.now (spec.named (map token_of tokens.now)) }
+{
+    let Some((name, rest)) = named(tokens) else {
+        return RangeFront::Plain;
+    };
+    let Some((sign, rest)) = next(rest) else {
+        return RangeFront::Plain;
+    };
+    match sign.kind {
+        TokenKind::Declare => RangeFront::KeyAndElement(key, name, rest),
+        _ => RangeFront::Plain,
+    }
+}
+
+fn copied(alloc: Global, name: &[u8]) -> Result<Bytes, AllocError>
+    ensures { IfOk result (λ b. b ≡ name.now) }
+{
+    Ok(Bytes::new(name.to_vec(alloc)?))
+}
+
+/// The header that these tokens spell, if they spell one.
+#[tactic(auto, unfolding(crate::specs::Grammar::header_in))]
+pub(crate) fn header(
+    alloc: Global,
+    tokens: &[Token<'_>],
+) -> Result<Option<(Binding, Pipeline)>, AllocError>
+    ensures { IfOk result (λ o. option_map header_of o ≡ spec.header_in (map token_of tokens.now)) }
+{
+    match header_front(tokens) {
+        Front::Plain => Ok(bound(Binding::Unbound, pipeline(alloc, tokens)?)),
+        Front::Declare(name, rest) => {
+            let binding = Binding::Declare(copied(alloc, name)?);
+            Ok(bound(binding, pipeline(alloc, rest)?))
+        }
+        Front::Assign(name, rest) => {
+            let binding = Binding::Assign(copied(alloc, name)?);
+            Ok(bound(binding, pipeline(alloc, rest)?))
+        }
+    }
+}
+
+fn bound(binding: Binding, pipeline: Option<Pipeline>) -> Option<(Binding, Pipeline)>
+    ensures { option_map header_of result ≡ spec.bound_to (binding_of binding) (option_map pipeline_of pipeline) }
+{
+    match pipeline {
+        Some(pipeline) => Some((binding, pipeline)),
+        None => None,
+    }
+}
+
+/// The header of a range that these tokens spell, if they spell one.
+#[tactic(auto, unfolding(crate::specs::Grammar::range_header_in))]
+pub(crate) fn range_header(
+    alloc: Global,
+    tokens: &[Token<'_>],
+) -> Result<Option<(RangeVariables, Pipeline)>, AllocError>
+    ensures { IfOk result (λ o. option_map range_header_of o
+        ≡ spec.range_header_in (map token_of tokens.now)) }
+{
+    match range_front(tokens) {
+        RangeFront::Plain => Ok(ranged(RangeVariables::Unnamed, pipeline(alloc, tokens)?)),
+        RangeFront::Element(name, rest) => {
+            let variables = RangeVariables::Element(copied(alloc, name)?);
+            Ok(ranged(variables, pipeline(alloc, rest)?))
+        }
+        RangeFront::KeyAndElement(key, name, rest) => {
+            let variables = RangeVariables::KeyAndElement(
+                copied(alloc, key)?,
+                copied(alloc, name)?,
+            );
+            Ok(ranged(variables, pipeline(alloc, rest)?))
+        }
+    }
+}
+
+fn ranged(
+    variables: RangeVariables,
+    pipeline: Option<Pipeline>,
+) -> Option<(RangeVariables, Pipeline)>
+    ensures { option_map range_header_of result
+        ≡ spec.ranged_by (variables_of variables) (option_map pipeline_of pipeline) }
+{
+    match pipeline {
+        Some(pipeline) => Some((variables, pipeline)),
+        None => None,
+    }
+}
