@@ -1,12 +1,13 @@
 -- The reading of one action's tokens ("Actions" and "Arguments" in the documentation of Go's text/template): white
 -- space, one operand, white space.
-use Rattle.std.specs.Prelude.{ℕ, ◌-◌, Bool, true, false, ◌&&◌, not, List, [], ◌∷◌, length, take, drop, map, Option, Some, None, if◌then◌else◌}
+use Rattle.std.specs.Prelude.{ℕ, ◌-◌, Bool, true, false, ◌&&◌, not, List, [], ◌∷◌, length, take, drop, map, Option, Some, None, option_map, if◌then◌else◌}
 use Rattle.std.specs.List.{list_all, prefix_len, suffix_len}
 use Rattle.std.specs.Char.{is_ascii_digit}
 use Rattle.tmpl_lex.specs.declared.piece.TokenKind.{TokenKind}
 use Rattle.tmpl_lex.specs.declared.piece.TokenKind.TheVariants.{Space, Dot, Field}
 use Rattle.tmpl_lex.specs.Piece.{Token}
-use Rattle.tmpl_syntax.specs.Tree.{Operand, dot, fields}
+use Rattle.tmpl_syntax.specs.Action.{Action, pipeline_action}
+use Rattle.tmpl_syntax.specs.Tree.{Operand, dot, fields, unbound, pipeline}
 
 abbrev pub is_space_kind : TokenKind → Bool
 is_space_kind Space = true
@@ -61,3 +62,10 @@ spelled ts = if is_dot ts then Some dot else if is_chain ts then Some (fields (m
 -- the operand of an action, if its tokens have a reading
 unfoldable pub operand_in : List Token → Option Operand
 operand_in ts = spelled (without_back (without_front ts))
+
+abbrev pub put_out : Operand → Action
+put_out o = pipeline_action unbound (pipeline o)
+
+-- the action that these tokens spell, if they spell one
+unfoldable pub action_in : List Token → Option Action
+action_in ts = option_map put_out (operand_in ts)

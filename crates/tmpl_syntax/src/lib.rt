@@ -4,9 +4,14 @@
 mod action;
 mod blank;
 mod build;
+mod check;
 mod fault;
+mod frame;
+mod item;
+mod known;
 mod parse;
 mod read;
+mod scan;
 mod set;
 mod tree;
 

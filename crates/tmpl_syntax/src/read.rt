@@ -3,15 +3,30 @@ ghost use Rattle.std.specs.Prelude.{◌≡◌, ◌≤◌, IfOk, length, map, opt
 ghost use Rattle.std.specs.List.{list_all, prefix_len, suffix_len};
 ghost use Rattle.tmpl_lex.specs.Piece.{token_of};
 ghost use Rattle.tmpl_syntax.specs.Reading as spec;
+ghost use Rattle.tmpl_syntax.specs.Action.{action_of};
 ghost use Rattle.tmpl_syntax.specs.Tree.{operand_of};
 
-use crate::tree::Operand;
+use crate::action::Action;
+use crate::tree::{Binding, Operand, Pipeline};
 use std::alloc::{AllocError, Global};
 use tmpl_lex::{Token, TokenKind};
 use tmpl_values::Bytes;
 
+/// What an action says, if its tokens have a reading.
+pub(crate) fn read(alloc: Global, tokens: &[Token<'_>]) -> Result<Option<Action>, AllocError>
+    ensures { IfOk result (λ a. option_map action_of a ≡ spec.action_in (map token_of tokens.now)) }
+{
+    match operand(alloc, tokens)? {
+        Some(operand) => Ok(Some(Action::Pipeline {
+            binding: Binding::Unbound,
+            pipeline: Pipeline { operand },
+        })),
+        None => Ok(None),
+    }
+}
+
 /// The operand of an action, if its tokens have a reading.
-pub(crate) fn read(alloc: Global, tokens: &[Token<'_>]) -> Result<Option<Operand>, AllocError>
+fn operand(alloc: Global, tokens: &[Token<'_>]) -> Result<Option<Operand>, AllocError>
     ensures { IfOk result (λ o. option_map operand_of o ≡ spec.operand_in (map token_of tokens.now)) }
 {
     let inner = without_back(without_front(tokens));

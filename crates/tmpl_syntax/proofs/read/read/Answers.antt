@@ -1,16 +1,15 @@
-use Rattle.std.proofs.Common.{sym, ◌∙◌, map}
-use Rattle.tmpl_lex.specs.Piece.{token_of}
-use Rattle.tmpl_syntax.proofs.Tokens.{reads_dot, reads_chain, reads_none}
+use Rattle.std.proofs.Common.{◌≡◌, Option, Some, None, map, refl, sym, ap, ◌∙◌}
+use Rattle.std.specs.Option.{option_map}
+use Rattle.tmpl_lex.specs.Piece.{Token, token_of}
+use Rattle.tmpl_syntax.specs.declared.tree.Operand as held
+use Rattle.tmpl_syntax.specs.Tree.{Operand, operand_of}
+use Rattle.tmpl_syntax.specs.Reading.{put_out, operand_in, action_in}
 use Rattle.tmpl_syntax.proofs.read.read.Goals as goal
 
-pub returns-then-is_dot : goal.returns-then-is_dot
-returns-then-is_dot c =
-    reads_dot (map token_of c.args.tokens.now) (map token_of c.without_front.result.now) (map token_of c.without_back-inner.result.now) c.without_front.ensures c.without_back-inner.ensures (sym c.is_dot.ensures ∙ c.if-is_dot.true)
+pub returns-in-Some : goal.returns-in-Some
+unfolding action_in
+returns-in-Some c = ap (λ (o : Option held.Operand). option_map put_out (option_map operand_of o)) (sym c.in-Some.is) ∙ ap (option_map put_out) c.in_ok-operand.ensures
 
-pub returns-then-is_chain : goal.returns-then-is_chain
-returns-then-is_chain c =
-    reads_chain (map token_of c.args.tokens.now) (map token_of c.without_front.result.now) (map token_of c.without_back-inner.result.now) c.without_front.ensures c.without_back-inner.ensures c.in_ok-names.field-0.items (sym c.is_dot.ensures ∙ c.if-is_dot.false) (sym c.is_chain.ensures ∙ c.if-is_chain.true) c.in_ok-names.ensures
-
-pub returns : goal.returns
-returns c =
-    reads_none (map token_of c.args.tokens.now) (map token_of c.without_front.result.now) (map token_of c.without_back-inner.result.now) c.without_front.ensures c.without_back-inner.ensures (sym c.is_dot.ensures ∙ c.if-is_dot.false) (sym c.is_chain.ensures ∙ c.if-is_chain.false)
+pub returns-in-None : goal.returns-in-None
+unfolding action_in
+returns-in-None c = ap (λ (o : Option held.Operand). option_map put_out (option_map operand_of o)) (sym c.in-None.is) ∙ ap (option_map put_out) c.in_ok-operand.ensures
