@@ -43,6 +43,10 @@ memory_answer = stopped (plain (codes "out of memory") ∷ end) 7
 abbrev pub parse_text : ParseKind → Bytes
 parse_text kind.Unreadable = codes "unclosed or unreadable action"
 parse_text kind.NotAnAction = codes "action not understood"
+parse_text kind.OutOfPlace = codes "out of place"
+parse_text kind.UndeclaredVariable = codes "undeclared variable"
+parse_text kind.OpenAtEnd = codes "file ends inside a control"
+parse_text kind.NestedTooDeeply = codes "nested too deeply"
 parse_text kind.TooLong = codes "file longer than 16777216 bytes"
 parse_text kind.OutOfMemory = codes "out of memory"
 

@@ -89,6 +89,10 @@ fn parse_text(kind: ParseKind) -> &'static str
     match kind {
         ParseKind::Unreadable => "unclosed or unreadable action",
         ParseKind::NotAnAction => "action not understood",
+        ParseKind::OutOfPlace => "out of place",
+        ParseKind::UndeclaredVariable => "undeclared variable",
+        ParseKind::OpenAtEnd => "file ends inside a control",
+        ParseKind::NestedTooDeeply => "nested too deeply",
         ParseKind::TooLong => "file longer than 16777216 bytes",
         ParseKind::OutOfMemory => "out of memory",
     }

@@ -9,7 +9,7 @@ use Rattle.tmpl_lex.specs.declared.piece.Token as held
 use Rattle.tmpl_lex.specs.Piece.{Token, token_of}
 use Rattle.tmpl_syntax.specs.Tree as tree
 use Rattle.tmpl_syntax.specs.Tree.{Operand}
-use Rattle.tmpl_syntax.specs.Grammar.{is_white, is_blank, is_link, name_in, chain_in, without_front, operand_at, operand_in, pipeline_in}
+use Rattle.tmpl_syntax.specs.Reading.{is_white, is_blank, is_link, name_in, chain_in, without_front, operand_at, operand_in, pipeline_in}
 use Rattle.tmpl_syntax.proofs.Tokens.{prefix-map, take-rest}
 
 pub blank-view : (ts : List held.Token) → list_all (λ t. is_white (token_of t)) ts ≡ is_blank (map token_of ts)

@@ -3,8 +3,8 @@ use Rattle.std.specs.Prelude.{ℕ, List, map}
 use Rattle.std.specs.Borrow.{Bor}
 use Rattle.tmpl_lex.specs.declared.piece.Token as held_token
 use Rattle.tmpl_lex.specs.Piece.{Token, token_of}
-use Rattle.tmpl_syntax.specs.Grammar as grammar
-use Rattle.tmpl_syntax.specs.Grammar.{Header, RangeHeader}
+use Rattle.tmpl_syntax.specs.Reading as grammar
+use Rattle.tmpl_syntax.specs.Reading.{Header, RangeHeader}
 use Rattle.tmpl_syntax.specs.Tree.{binding_of, pipeline_of, variables_of}
 use Rattle.tmpl_syntax.specs.declared.tree.Binding as held_binding
 use Rattle.tmpl_syntax.specs.declared.tree.Pipeline as held_pipeline

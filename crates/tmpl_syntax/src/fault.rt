@@ -1,6 +1,7 @@
 //! Why a file is refused.
 ghost use Rattle.std.specs.Prelude.{◌≡◌};
 ghost use Rattle.tmpl_syntax.specs.Memory.{out_of_memory};
+ghost use Rattle.tmpl_syntax.specs.Kinds.{parse_kind};
 
 use std::alloc::AllocError;
 
@@ -18,12 +19,46 @@ pub struct ParseFault<'f> {
 pub enum ParseKind {
     /// An action that is not closed by `}}`, or that has a place where no token begins.
     Unreadable,
-    /// An action whose tokens are neither a dot nor one chain of fields.
+    /// An action whose tokens have no reading.
     NotAnAction,
+    /// An `end`, `else` or `else if` at which nothing is open; an `else` or `else if` after the `else`
+    /// of the same control; an `else if` of a `with` or `range`; a `break` or `continue` that stands
+    /// in no range's body.
+    OutOfPlace,
+    /// A control or `else if` inside 500 others (our own limit).
+    NestedTooDeeply,
+    /// A variable that is used or assigned where none of its name is in scope.
+    UndeclaredVariable,
+    /// A control that has no `end`; the line is the last one of the file.
+    OpenAtEnd,
     /// More than 16,777,216 bytes; the line is 1.
     TooLong,
     /// Memory ran out; the line is 1.
     OutOfMemory,
+}
+
+/// Why an action of a file is refused, in the order in which that is asked.
+#[derive(Clone, Copy, Debug, PartialEq, Eq)]
+pub(crate) enum Fault {
+    Unreadable,
+    NotAnAction,
+    OutOfPlace,
+    NestedTooDeeply,
+    UndeclaredVariable,
+}
+
+impl Fault {
+    pub(crate) fn kind(self) -> ParseKind
+        ensures { result ≡ parse_kind self }
+    {
+        match self {
+            Fault::Unreadable => ParseKind::Unreadable,
+            Fault::NotAnAction => ParseKind::NotAnAction,
+            Fault::OutOfPlace => ParseKind::OutOfPlace,
+            Fault::NestedTooDeeply => ParseKind::NestedTooDeeply,
+            Fault::UndeclaredVariable => ParseKind::UndeclaredVariable,
+        }
+    }
 }
 
 /// Why a file was refused, and the line, but not which file it was.

@@ -1,7 +1,7 @@
 //! The reading of headers: a pipeline, perhaps behind variables.
 ghost use Rattle.std.specs.Prelude.{◌≡◌, IfOk, map, option_map};
 ghost use Rattle.tmpl_lex.specs.Piece.{token_of};
-ghost use Rattle.tmpl_syntax.specs.Grammar as spec;
+ghost use Rattle.tmpl_syntax.specs.Reading as spec;
 ghost use Rattle.tmpl_syntax.specs.Held.{front_of, header_of, name_of, range_front_of, range_header_of};
 ghost use Rattle.tmpl_syntax.specs.Tree.{binding_of, pipeline_of, variables_of};
 
@@ -106,7 +106,7 @@ fn copied(alloc: Global, name: &[u8]) -> Result<Bytes, AllocError>
 }
 
 /// The header that these tokens spell, if they spell one.
-#[tactic(auto, unfolding(crate::specs::Grammar::header_in))]
+#[tactic(auto, unfolding(crate::specs::Reading::header_in))]
 pub(crate) fn header(
     alloc: Global,
     tokens: &[Token<'_>],
@@ -136,7 +136,7 @@ fn bound(binding: Binding, pipeline: Option<Pipeline>) -> Option<(Binding, Pipel
 }
 
 /// The header of a range that these tokens spell, if they spell one.
-#[tactic(auto, unfolding(crate::specs::Grammar::range_header_in))]
+#[tactic(auto, unfolding(crate::specs::Reading::range_header_in))]
 pub(crate) fn range_header(
     alloc: Global,
     tokens: &[Token<'_>],

@@ -1,7 +1,7 @@
 //! The words that begin an action.
 ghost use Rattle.std.specs.Prelude.{◌≡◌};
 ghost use Rattle.tmpl_lex.specs.Piece.{token_of};
-ghost use Rattle.tmpl_syntax.specs.Grammar.{keyword_of, spells_keyword};
+ghost use Rattle.tmpl_syntax.specs.Reading.{keyword_of, spells_keyword};
 
 use tmpl_lex::{Token, TokenKind};
 
@@ -18,7 +18,7 @@ pub(crate) enum Keyword {
 }
 
 /// The keyword that a token is, if it is one.
-#[tactic(auto, unfolding(crate::specs::Grammar::keyword_of))]
+#[tactic(auto, unfolding(crate::specs::Reading::keyword_of))]
 pub(crate) fn keyword_in(token: Token<'_>) -> Option<Keyword>
     ensures { result ≡ keyword_of (token_of token.entry) }
 {

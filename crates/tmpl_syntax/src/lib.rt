@@ -4,13 +4,17 @@
 mod action;
 mod blank;
 mod build;
+mod check;
 mod fault;
+mod frame;
 mod header;
+mod item;
 mod keyword;
+mod known;
 mod operand;
 mod parse;
 mod read;
-mod reader;
+mod scan;
 mod set;
 mod tree;
 

@@ -2,7 +2,7 @@
 ghost use Rattle.std.specs.Prelude.{◌≡◌, ◌≤◌, IfOk, length, map, option_map};
 ghost use Rattle.std.specs.List.{list_all, prefix_len};
 ghost use Rattle.tmpl_lex.specs.Piece.{token_of};
-ghost use Rattle.tmpl_syntax.specs.Grammar as spec;
+ghost use Rattle.tmpl_syntax.specs.Reading as spec;
 ghost use Rattle.tmpl_syntax.specs.Held.{next_of};
 ghost use Rattle.tmpl_syntax.specs.Tree as tree;
 ghost use Rattle.tmpl_syntax.specs.Tree.{operand_of, pipeline_of};

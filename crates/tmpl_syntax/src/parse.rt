@@ -3,11 +3,13 @@ ghost use Rattle.std.specs.Prelude.{◌≡◌, ◌≤◌, ◌==◌, IfOk, length
 ghost use Rattle.std.specs.List.{suffix_len};
 ghost use Rattle.tmpl_syntax.specs.Set.{set_view};
 ghost use Rattle.tmpl_syntax.specs.Parse as spec;
-ghost use Rattle.tmpl_syntax.specs.Parse.{IsParse};
+ghost use Rattle.tmpl_syntax.specs.Parse.{IsParse, IsReading};
 ghost use Rattle.tmpl_syntax.specs.Steps.{IsAdded};
 
 use crate::build::build;
+use crate::check::check;
 use crate::fault::{ParseFault, ParseKind, Refusal};
+use crate::item::read_all;
 use crate::set::Set;
 use crate::tree::Tree;
 use std::alloc::{AllocError, Global};
@@ -24,16 +26,20 @@ const MOST_BYTES: usize = 16_777_216;
 ///
 /// # Errors
 ///
-/// The first action of the file that is unreadable or has no reading, at the line of its `{{`.
-/// Before that, at line 1, a file of more than 16,777,216 bytes (our own limit). Want of memory at
-/// any time, at line 1. After an error the set is as it was.
+/// The first action of the file that is unreadable, has no reading, is out of place, is nested too
+/// deeply or uses a variable that is not in scope, at the line of its `{{`: of these the first that
+/// applies to it, in this order. If no action is refused and a control has no `end`, the file is
+/// refused at its last line, which is 1 and the number of its newlines. Before all that, at line 1,
+/// a file of more than 16,777,216 bytes (our own limit). Want of memory at any time, at line 1.
+/// After an error the set is as it was.
 pub fn parse_file<'f>(
     alloc: Global,
     set: &mut Set,
     file: &'f str,
     bytes: &[u8],
 ) -> Result<(), ParseFault<'f>>
-    ensures { IsParse (set_view set.old) file.entry bytes.now (set_view set.new) result }
+    ensures reading { IsReading (set_view set.old) file.entry bytes.now (set_view set.new) result }
+    ensures value { IsParse (set_view set.old) file.entry bytes.now (set_view set.new) result }
 {
     match add_file(alloc, set, file, bytes) {
         Ok(()) => Ok(()),
@@ -55,7 +61,9 @@ fn add_file(alloc: Global, set: &mut Set, file: &str, bytes: &[u8]) -> Result<()
         });
     }
     let pieces = cut(alloc, bytes)?;
-    let nodes = build(alloc, pieces.as_slice())?;
+    let items = read_all(alloc, pieces.as_slice())?;
+    check(alloc, items.as_slice(), bytes)?;
+    let nodes = build(alloc, items)?;
     let name = copy_of(alloc, base_name(file))?;
     let file = Bytes::new(copy_of(alloc, file.as_bytes())?);
     set.define(name, Tree { file, nodes })?;

@@ -1,126 +1,120 @@
 //! The reading of one action's tokens.
-ghost use Rattle.std.specs.Prelude.{◌≡◌, ◌≤◌, IfOk, length, map, option_map};
-ghost use Rattle.std.specs.List.{list_all, prefix_len, suffix_len};
+ghost use Rattle.std.specs.Prelude.{◌≡◌, IfOk, map, option_map};
 ghost use Rattle.tmpl_lex.specs.Piece.{token_of};
+ghost use Rattle.tmpl_syntax.specs.Action.{action_of, else_branch, if_control, opening, pipeline_action, range_control, with_control};
+ghost use Rattle.tmpl_syntax.specs.declared.action.Branch.TheVariants.{If};
 ghost use Rattle.tmpl_syntax.specs.Reading as spec;
-ghost use Rattle.tmpl_syntax.specs.Tree.{operand_of};
 
-use crate::tree::Operand;
+use crate::action::{Action, Branch, Control};
+use crate::header::{header, range_header};
+use crate::keyword::{Keyword, keyword_in};
+use crate::operand::{is_blank, next};
 use std::alloc::{AllocError, Global};
-use tmpl_lex::{Token, TokenKind};
-use tmpl_values::Bytes;
+use tmpl_lex::Token;
 
-/// The operand of an action, if its tokens have a reading.
-pub(crate) fn read(alloc: Global, tokens: &[Token<'_>]) -> Result<Option<Operand>, AllocError>
-    ensures { IfOk result (λ o. option_map operand_of o ≡ spec.operand_in (map token_of tokens.now)) }
+/// What an action's tokens say, if they are an action of the grammar.
+#[tactic(auto, unfolding(crate::specs::Reading::action_in))]
+pub(crate) fn read(alloc: Global, tokens: &[Token<'_>]) -> Result<Option<Action>, AllocError>
+    ensures { IfOk result (λ a. option_map action_of a ≡ spec.action_in (map token_of tokens.now)) }
 {
-    let inner = without_back(without_front(tokens));
-    if is_dot(inner) {
-        return Ok(Some(Operand::Dot));
-    }
-    if is_chain(inner) {
-        return Ok(Some(Operand::Fields(names(alloc, inner)?)));
-    }
-    Ok(None)
-}
-
-fn is_white(token: &Token<'_>) -> bool
-    ensures { result ≡ spec.is_white (token_of token.now) }
-{
-    matches!(token.kind, TokenKind::Space)
-}
-
-/// How many tokens of white space there are at the front.
-#[tactic(auto, using(crate::proofs::Tokens::runs))]
-fn front_len(tokens: &[Token<'_>]) -> usize
-    ensures count { result ≡ prefix_len (λ t. spec.is_white (token_of t)) tokens.now }
-    ensures within { result ≤ length tokens.now }
-{
-    tokens.iter().take_while(|t| is_white(t)).count()
-}
-
-/// How many tokens of white space there are at the back.
-#[tactic(auto, using(crate::proofs::Tokens::runs))]
-fn back_len(tokens: &[Token<'_>]) -> usize
-    ensures count { result ≡ suffix_len (λ t. spec.is_white (token_of t)) tokens.now }
-    ensures within { result ≤ length tokens.now }
-{
-    tokens.iter().rev().take_while(|t| is_white(t)).count()
-}
-
-/// The tokens without the white space at their front.
-fn without_front<'t, 'b>(tokens: &'t [Token<'b>]) -> &'t [Token<'b>]
-    ensures { map token_of result.now ≡ spec.without_front (map token_of tokens.now) }
-{
-    &tokens[front_len(tokens)..]
-}
-
-/// The tokens without the white space at their back.
-fn without_back<'t, 'b>(tokens: &'t [Token<'b>]) -> &'t [Token<'b>]
-    ensures { map token_of result.now ≡ spec.without_back (map token_of tokens.now) }
-{
-    &tokens[..tokens.len() - back_len(tokens)]
-}
-
-/// Whether this is a dot alone.
-fn is_dot(tokens: &[Token<'_>]) -> bool
-    ensures { result ≡ spec.is_dot (map token_of tokens.now) }
-{
-    match tokens {
-        [token] => matches!(token.kind, TokenKind::Dot),
-        _ => false,
+    match next(tokens) {
+        Some((first, rest)) => match keyword_in(first) {
+            Some(keyword) => behind(alloc, keyword, rest),
+            None => standing_alone(alloc, tokens),
+        },
+        None => Ok(None),
     }
 }
 
-/// Whether these are one or more fields.
-fn is_chain(tokens: &[Token<'_>]) -> bool
-    ensures { result ≡ spec.is_chain (map token_of tokens.now) }
+/// A pipeline that stands alone.
+fn standing_alone(alloc: Global, tokens: &[Token<'_>]) -> Result<Option<Action>, AllocError>
+    ensures { IfOk result (λ a. option_map action_of a
+        ≡ option_map (λ h. pipeline_action h.0 h.1) (spec.header_in (map token_of tokens.now))) }
 {
-    match tokens {
-        [] => false,
-        links => all_links(links),
+    match header(alloc, tokens)? {
+        Some((binding, pipeline)) => Ok(Some(Action::Pipeline { binding, pipeline })),
+        None => Ok(None),
     }
 }
 
-fn all_links(tokens: &[Token<'_>]) -> bool
-    ensures { result ≡ list_all (λ t. spec.is_link (token_of t)) tokens.now }
+/// The action that begins with this keyword, behind which these tokens stand.
+fn behind(alloc: Global, keyword: Keyword, rest: &[Token<'_>]) -> Result<Option<Action>, AllocError>
+    ensures { IfOk result (λ a. option_map action_of a ≡ spec.action_by keyword (map token_of rest.now)) }
 {
-    tokens.iter().all(|t| is_link(t))
-}
-
-/// Whether a chain may have this token: a field whose name begins with no digit.
-fn is_link(token: &Token<'_>) -> bool
-    ensures { result ≡ spec.is_link (token_of token.now) }
-{
-    matches!(token.kind, TokenKind::Field) && begins_name(name_in(token))
-}
-
-/// The name of a field, without its dot.
-fn name_in<'b>(token: &Token<'b>) -> &'b [u8]
-    ensures { result.now ≡ spec.name_in (token_of token.now) }
-{
-    match token.bytes {
-        [_, name @ ..] => name,
-        [] => &[],
+    match keyword {
+        Keyword::If => opened_if(alloc, rest),
+        Keyword::With => opened_with(alloc, rest),
+        Keyword::Range => opened_range(alloc, rest),
+        Keyword::Else => else_part(alloc, rest),
+        Keyword::End => Ok(alone(Action::End, rest)),
+        Keyword::Break => Ok(alone(Action::Break, rest)),
+        Keyword::Continue => Ok(alone(Action::Continue, rest)),
     }
 }
 
-fn begins_name(name: &[u8]) -> bool
-    ensures { result ≡ spec.begins_name name.now }
+/// An action of one keyword and nothing else.
+fn alone(action: Action, rest: &[Token<'_>]) -> Option<Action>
+    ensures { option_map action_of result ≡ spec.alone (action_of action) (map token_of rest.now) }
 {
-    match name {
-        [first, ..] => !first.is_ascii_digit(),
-        [] => false,
+    if is_blank(rest) { Some(action) } else { None }
+}
+
+fn opened_if(alloc: Global, rest: &[Token<'_>]) -> Result<Option<Action>, AllocError>
+    ensures { IfOk result (λ a. option_map action_of a
+        ≡ option_map (λ h. opening (if_control h.0 h.1)) (spec.header_in (map token_of rest.now))) }
+{
+    match header(alloc, rest)? {
+        Some((binding, pipeline)) => Ok(Some(Action::Open(Control::If { binding, pipeline }))),
+        None => Ok(None),
     }
 }
 
-/// The names of the fields.
-fn names(alloc: Global, tokens: &[Token<'_>]) -> Result<Vec<Bytes>, AllocError>
-    ensures { IfOk result (λ v. v.items ≡ map spec.name_in (map token_of tokens.now)) }
+fn opened_with(alloc: Global, rest: &[Token<'_>]) -> Result<Option<Action>, AllocError>
+    ensures { IfOk result (λ a. option_map action_of a
+        ≡ option_map (λ h. opening (with_control h.0 h.1)) (spec.header_in (map token_of rest.now))) }
 {
-    let mut names = Vec::new(alloc);
-    for token in tokens {
-        names.push(Bytes::new(name_in(token).to_vec(alloc)?))?;
+    match header(alloc, rest)? {
+        Some((binding, pipeline)) => Ok(Some(Action::Open(Control::With { binding, pipeline }))),
+        None => Ok(None),
     }
-    Ok(names)
+}
+
+fn opened_range(alloc: Global, rest: &[Token<'_>]) -> Result<Option<Action>, AllocError>
+    ensures { IfOk result (λ a. option_map action_of a
+        ≡ option_map (λ h. opening (range_control h.0 h.1)) (spec.range_header_in (map token_of rest.now))) }
+{
+    match range_header(alloc, rest)? {
+        Some((variables, pipeline)) => Ok(Some(Action::Open(Control::Range {
+            variables,
+            pipeline,
+        }))),
+        None => Ok(None),
+    }
+}
+
+/// An `else`, behind which nothing or an `if` stands.
+fn else_part(alloc: Global, rest: &[Token<'_>]) -> Result<Option<Action>, AllocError>
+    ensures { IfOk result (λ a. option_map action_of a ≡ spec.else_by (spec.next (map token_of rest.now))) }
+{
+    match next(rest) {
+        None => Ok(Some(Action::Else)),
+        Some((first, rest)) => match keyword_in(first) {
+            Some(Keyword::If) => else_if(alloc, rest),
+            _ => Ok(None),
+        },
+    }
+}
+
+fn else_if(alloc: Global, rest: &[Token<'_>]) -> Result<Option<Action>, AllocError>
+    ensures { IfOk result (λ a. option_map action_of a
+        ≡ option_map (λ h. else_branch If h.0 h.1) (spec.header_in (map token_of rest.now))) }
+{
+    match header(alloc, rest)? {
+        Some((binding, pipeline)) => Ok(Some(Action::ElseBranch {
+            branch: Branch::If,
+            binding,
+            pipeline,
+        })),
+        None => Ok(None),
+    }
 }

@@ -1,33 +1,36 @@
-use Rattle.std.proofs.Common.{◌++◌, ◌∷◌, [], suc, sym, ap, ◌∙◌, map, take, drop}
-use Rattle.std.proofs.lemmas.List.{map-append, map_more}
-use Rattle.tmpl_lex.specs.Piece.{piece_of}
-use Rattle.tmpl_syntax.specs.Tree.{node_of}
-use Rattle.tmpl_syntax.specs.Parse.{body_of}
-use Rattle.tmpl_syntax.proofs.Pieces.{so_far_more, body-done, body-stops, body-ends, map-around}
-use Rattle.tmpl_syntax.proofs.Tokens.{take-full}
+use Rattle.std.proofs.Common.{arith, length, ◌≡◌, List, [], ◌∷◌, ◌++◌, ap, map, reverse, sym, refl, ◌∙◌}
+use Rattle.std.proofs.lemmas.List.{map-append}
+use Rattle.tmpl_syntax.specs.Tree.{nodes_in}
+use Rattle.tmpl_syntax.specs.Item.{Item, item_of}
+use Rattle.tmpl_syntax.specs.declared.item.Item as held
+use Rattle.tmpl_syntax.specs.Build as build
+use Rattle.tmpl_syntax.specs.Build.{parts_before, no_parts, nodes_from}
+use Rattle.tmpl_syntax.specs.Levels.{level_of, parts_of}
+use Rattle.tmpl_syntax.proofs.Building.{before-last, same_parts}
+use Rattle.tmpl_syntax.proofs.Lists.{none-left}
 use Rattle.tmpl_syntax.proofs.build.build.Goals as goal
 
-pub returns-in_err-node : goal.returns-in_err-node
-returns-in_err-node c =
-    let i = c.loop-piece.piece-index in
-    let pieces = c.args.pieces.now in
-    let refusal = c.in_err-node.field-0.0 in
-    body-ends (map piece_of pieces) c.from_residual.result refusal c.from_residual.ensures.1
-    (body-stops (map piece_of pieces) (map piece_of (take i pieces)) (map piece_of (drop (suc i) pieces)) (map node_of c.loop-piece.nodes.items) (piece_of c.piece-item.result) refusal.line refusal.kind
-    c.loop-piece.invariant (map-around piece_of pieces i c.piece-item.result c.loop-piece-test.true c.piece-item.is) c.in_err-node.ensures)
+pub loop-item-init : goal.loop-item-init
+unfolding parts_of
+loop-item-init c =
+    ap (parts_before (map item_of c.args.items.items))
+    (same_parts _ _ _ _ _ _ (ap (λ (l : build.Level). l.nodes) c.new.ensures) (ap (λ (l : build.Level). l.other) c.new.ensures)
+    (ap (λ ls. map level_of (reverse ls)) c.new-2.ensures.items))
 
-pub loop-piece-preserved : goal.loop-piece-preserved
-loop-piece-preserved c =
-    let i = c.loop-piece.piece-index in
-    let pieces = c.args.pieces.now in
-    so_far_more (map piece_of (take i pieces)) _ (map node_of c.loop-piece.nodes.items) _ (piece_of c.piece-item.result) (node_of c.in_ok-node.node)
-    c.loop-piece.invariant
-    (map_more piece_of pieces i c.piece-item.result c.loop-piece-test.true ∙ ap (λ p. map piece_of (take i pieces) ++ piece_of p ∷ []) (sym c.piece-item.is))
-    (ap (map node_of) c.in_ok-push.ensures ∙ map-append node_of c.loop-piece.nodes.items (c.in_ok-node.node ∷ []))
-    c.in_ok-node.ensures.0 c.in_ok-node.ensures.1
+pub loop-item-preserved : goal.loop-item-preserved
+loop-item-preserved c =
+    let rest = c.pop.new.self.items in
+    let item = c.in-Some.item in
+    ap (parts_before (map item_of rest)) c.in_ok-parts.ensures
+    ∙ sym (before-last (map item_of rest) (item_of item) (parts_of c.loop-item.parts))
+    ∙ ap (λ xs. parts_before xs (parts_of c.loop-item.parts)) (sym (ap (map item_of) c.in-Some.ensures.items ∙ map-append item_of rest (item ∷ [])))
+    ∙ c.loop-item.invariant
 
 pub returns : goal.returns
+unfolding nodes_from parts_of
 returns c =
-    let pieces = c.args.pieces.now in
-    ap (λ ps. body_of (map piece_of ps)) (sym (take-full pieces c.loop-piece.piece-index c.loop-piece-test.false))
-    ∙ body-done (map piece_of (take c.loop-piece.piece-index pieces)) c.loop-piece.nodes.items c.loop-piece.invariant
+    let items = c.loop-item.items.items in
+    let left : length items ≡ 0 = omega (arith, c.in_default.ensures.cases.0) in
+    let all : parts_of c.loop-item.parts ≡ parts_before (map item_of c.args.items.items) no_parts =
+    ap (λ xs. parts_before (map item_of xs) (parts_of c.loop-item.parts)) (sym (none-left items left)) ∙ c.loop-item.invariant in
+    ap nodes_in c.in_order.ensures ∙ ap (λ (p : build.Parts). p.inner.nodes) all

@@ -1,8 +1,12 @@
-use Rattle.std.proofs.Common.{map, take}
-use Rattle.tmpl_lex.specs.Piece.{piece_of}
-use Rattle.tmpl_syntax.specs.Tree.{node_of}
-use Rattle.tmpl_syntax.proofs.Pieces.{IsSoFar}
+use Rattle.std.proofs.Common.{◌≡◌, map, length}
+use Rattle.tmpl_syntax.specs.Item.{item_of}
+use Rattle.tmpl_syntax.specs.Build.{parts_before, no_parts}
+use Rattle.tmpl_syntax.specs.Levels.{parts_of}
 use Rattle.tmpl_syntax.proofs.build.build.Given as goal
 
-abbrev pub invariant-loop-piece : goal.invariant-loop-piece
-invariant-loop-piece l = IsSoFar (map piece_of (take l.piece-index l.pieces)) (map node_of l.nodes.items)
+abbrev pub invariant-loop-item : goal.invariant-loop-item
+invariant-loop-item l =
+    parts_before (map item_of l.items.items) (parts_of l.parts) ≡ parts_before (map item_of l.fn.items.items) no_parts
+
+abbrev pub decreases-loop-item : goal.decreases-loop-item
+decreases-loop-item l = length l.items.items

@@ -1,6 +1,6 @@
 use Rattle.std.proofs.Common.{arith, ◌≤◌, sym, ap, ◌∙◌, map, length}
 use Rattle.tmpl_lex.specs.Piece.{token_of}
-use Rattle.tmpl_syntax.specs.Grammar.{name_in}
+use Rattle.tmpl_syntax.specs.Reading.{name_in}
 use Rattle.tmpl_syntax.proofs.Tokens.{take-full, map-map}
 use Rattle.tmpl_syntax.proofs.operand.names.Goals as goal
 

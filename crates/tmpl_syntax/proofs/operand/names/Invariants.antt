@@ -1,6 +1,6 @@
 use Rattle.std.proofs.Common.{◌≡◌, map, take}
 use Rattle.tmpl_lex.specs.Piece.{token_of}
-use Rattle.tmpl_syntax.specs.Grammar.{name_in}
+use Rattle.tmpl_syntax.specs.Reading.{name_in}
 use Rattle.tmpl_syntax.proofs.operand.names.Given as goal
 
 abbrev pub invariant-loop-token : goal.invariant-loop-token

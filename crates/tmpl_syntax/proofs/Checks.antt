@@ -1,0 +1,91 @@
+-- The check, from item to item.
+use Rattle.std.proofs.Common.{arith, ◌≡◌, ◌≢◌, ℕ, suc, ◌+◌, ◌<◌, ◌≤◌, List, [], ◌∷◌, reverse, refl, sym, ap, ◌∙◌, subst, length, map, drop, get_or, drop-cons, add-one, Option, Some, None, Result, Ok, Err}
+use Rattle.std.specs.Prelude.{slice_get}
+use Rattle.std.specs.Option.{option_map}
+use Rattle.std.proofs.lemmas.List.{drop_all}
+use Rattle.std.proofs.lemmas.Option.{slice_get_read, slice_get_within, slice_get-map, get_or_from_slice_get}
+use Rattle.tmpl_syntax.specs.declared.fault.Fault.{Fault}
+use Rattle.tmpl_syntax.specs.declared.fault.Fault.TheVariants.{Unreadable, NotAnAction, OutOfPlace, NestedTooDeeply, UndeclaredVariable}
+use Rattle.tmpl_syntax.specs.declared.fault.ParseKind.{ParseKind}
+use Rattle.tmpl_syntax.specs.declared.fault.ParseKind.TheVariants as kind
+use Rattle.tmpl_syntax.specs.declared.frame.Frame.{Frame}
+use Rattle.tmpl_syntax.specs.declared.item.Item as held
+use Rattle.tmpl_syntax.specs.Kinds.{parse_kind}
+use Rattle.tmpl_syntax.specs.Item.{Item, item_of, line_of}
+use Rattle.tmpl_syntax.specs.Mark.{Name, Mark, mark_of, marks_of}
+use Rattle.tmpl_syntax.specs.Body.{Verdict, fine, refused, left_open}
+use Rattle.tmpl_syntax.specs.Stack.{top, part, fault_at, frames_past, names_past, at_end, unless_fault, verdict_from, verdict_of}
+use Rattle.tmpl_syntax.specs.Parse.{Refusal, IsRefusal, last_line, line_in, by_verdict, checked}
+use Rattle.tmpl_syntax.proofs.Finds.{FindsMark, finds}
+use Rattle.tmpl_syntax.proofs.Sound.{Sound, sound_start, sound_past, sound_within}
+
+-- up to the place i none is refused, and there these frames and names stand
+pub record IsChecking (xs : List Mark) (i : ℕ) (names : List Name) (fs : List Frame) : Type 0 where
+  pub sound : Sound xs i names fs
+  pub goes : verdict_of xs ≡ verdict_from i fs names (drop i xs)
+
+pub checking_start : (xs : List Mark) (names : List Name) (fs : List Frame) → names ≡ [] → fs ≡ [] → IsChecking xs 0 names fs
+unfolding verdict_of
+checking_start xs names fs e f = subst (λ n. IsChecking xs 0 n fs) (sym e) (subst (λ s. IsChecking xs 0 [] s) (sym f) start)
+  where
+    start : IsChecking xs 0 [] []
+    start = record { sound = sound_start xs; goes = refl }
+
+pub checking_within : (xs : List Mark) (i : ℕ) (names : List Name) (fs : List Frame) (t : Option Frame) → t ≡ top fs → IsChecking xs i names fs → part t (length names) ≤ length names
+checking_within xs i names fs t e c = subst (λ u. part u (length names) ≤ length names) (sym e) (sound_within xs i names fs c.sound)
+
+drop-at : (xs : List Mark) (i : ℕ) (x : Mark) → slice_get xs i ≡ Some x → drop i xs ≡ x ∷ drop (i + 1) xs
+drop-at xs i x at =
+    let within : i < length xs = slice_get_within xs i x at in
+    drop-cons xs i x within ∙ ap (λ y. y ∷ drop (suc i) xs) (get_or_from_slice_get xs i x x at) ∙ ap (λ k. x ∷ drop k xs) (sym (add-one i))
+
+module _ (xs : List Mark) (i : ℕ) (names : List Name) (fs : List Frame) (x : Mark) (at : slice_get xs i ≡ Some x) (c : IsChecking xs i names fs) where
+  here : (o : Option Fault) → fault_at x (top fs) names ≡ o → verdict_of xs ≡ unless_fault o i (verdict_from (i + 1) (frames_past x fs (length names)) (names_past x (top fs) names) (drop (i + 1) xs))
+  here o e = c.goes ∙ ap (verdict_from i fs names) (drop-at xs i x at) ∙ ap (λ p. unless_fault p i (verdict_from (i + 1) (frames_past x fs (length names)) (names_past x (top fs) names) (drop (i + 1) xs))) e
+
+  pub checking_past : (ms : List Name) (gs : List Frame) → ms ≡ names_past x (top fs) names → gs ≡ frames_past x fs (length names) → fault_at x (top fs) names ≡ None → IsChecking xs (i + 1) ms gs
+  checking_past ms gs e f none = subst (λ n. IsChecking xs (i + 1) n gs) (sym e) (subst (λ s. IsChecking xs (i + 1) (names_past x (top fs) names) s) (sym f) (record {
+    sound = sound_past xs i names fs x at (subst (FindsMark x (top fs) names) none (finds x (top fs) names)) c.sound;
+    goes = here None none;
+  }))
+
+  pub checking_refused : (f : Fault) → fault_at x (top fs) names ≡ Some f → verdict_of xs ≡ refused i f
+  checking_refused f e = here (Some f) e
+
+-- the item at a place, as it is held and by its mark
+pub item-at : (items : List held.Item) (i : ℕ) (x : held.Item) → i < length items → x ≡ get_or items i x → slice_get (map item_of items) i ≡ Some (item_of x)
+item-at items i x lt is = slice_get-map item_of items i ∙ ap (option_map item_of) (slice_get_read items (length items) i x refl lt is)
+
+pub mark-at : (items : List Item) (i : ℕ) (x : Item) → slice_get items i ≡ Some x → slice_get (marks_of items) i ≡ Some (mark_of x)
+mark-at items i x at = slice_get-map mark_of items i ∙ ap (option_map mark_of) at
+
+drop-none : (xs : List Mark) (i : ℕ) → length xs ≤ i → drop i xs ≡ []
+drop-none xs i le = drop_all i xs le
+
+pub checking_ended : (xs : List Mark) (i : ℕ) (names : List Name) (fs : List Frame) → length xs ≤ i → IsChecking xs i names fs → verdict_of xs ≡ at_end fs
+checking_ended xs i names fs le c = c.goes ∙ ap (verdict_from i fs names) (drop-none xs i le)
+
+fault_refusal : {T : Type 0} (r : Result T Refusal) (line : ℕ) (f : Fault) → r ≡ Err (line, parse_kind f) → IsRefusal r line (parse_kind f)
+fault_refusal r line Unreadable e = e
+fault_refusal r line NotAnAction e = e
+fault_refusal r line OutOfPlace e = e
+fault_refusal r line NestedTooDeeply e = e
+fault_refusal r line UndeclaredVariable e = e
+
+module _ (bytes : List ℕ) (items : List Item) where
+  by : (v : Verdict) → verdict_of (marks_of items) ≡ v → checked bytes items ≡ by_verdict (last_line bytes) items v
+  unfolding checked
+  by v e = ap (by_verdict (last_line bytes) items) e
+
+  pub checked_refused : (i : ℕ) (x : Item) (f : Fault) (line : ℕ) (k : ParseKind) → slice_get items i ≡ Some x → verdict_of (marks_of items) ≡ refused i f → line ≡ line_of x → k ≡ parse_kind f → IsRefusal (checked bytes items) line k
+  checked_refused i x f line k at e is kind_is =
+      subst (λ n. IsRefusal (checked bytes items) n k) (sym is) (subst (λ z. IsRefusal (checked bytes items) (line_of x) z) (sym kind_is)
+      (fault_refusal (checked bytes items) (line_of x) f (by (refused i f) e ∙ ap (λ o. Err (line_in o, parse_kind f)) at)))
+
+  pub checked_fine : (fs : List Frame) → length fs ≡ 0 → verdict_of (marks_of items) ≡ at_end fs → checked bytes items ≡ Ok tt
+  checked_fine [] n e = by fine e
+  checked_fine (f ∷ fs) n e = absurd (omega arith)
+
+  pub checked_open : (fs : List Frame) → length fs ≢ 0 → verdict_of (marks_of items) ≡ at_end fs → checked bytes items ≡ Err (last_line bytes, kind.OpenAtEnd)
+  checked_open [] n e = absurd (n refl)
+  checked_open (f ∷ fs) n e = by left_open e

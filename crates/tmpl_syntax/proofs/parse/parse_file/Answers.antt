@@ -1,0 +1,11 @@
+use Rattle.std.proofs.Common.{refl}
+use Rattle.tmpl_syntax.specs.Set.{set_view}
+use Rattle.tmpl_syntax.proofs.Readings.{accepted, refusal-of}
+use Rattle.tmpl_syntax.proofs.parse.parse_file.Goals as goal
+
+pub returns-in-Ok-clause-reading : goal.returns-in-Ok-clause-reading
+returns-in-Ok-clause-reading c = accepted (set_view c.args.set.now) c.args.file.now c.args.bytes.now (set_view c.add_file.new.set) c.in-Ok.ensures
+
+pub returns-in-Err-clause-reading : goal.returns-in-Err-clause-reading
+returns-in-Err-clause-reading c =
+    (refl, c.in-Err.ensures.0, refusal-of (set_view c.args.set.now) c.args.file.now c.args.bytes.now c.in-Err.refusal.line c.in-Err.refusal.kind c.in-Err.ensures.1)

@@ -1,0 +1,204 @@
+-- The verdict in one pass: what stands at a place is a stack of frames, the newest first, and the names declared so far.
+use Rattle.std.specs.Prelude.{ℕ, ◌+◌, Bool, true, false, not, ◌&&◌, ◌||◌, leb, List, [], ◌∷◌, ◌++◌, length, take, slice_range, Option, Some, None}
+use Rattle.std.specs.List.{list_any, list_all}
+use Rattle.std.specs.Str.{bytes_eq}
+use Rattle.tmpl_syntax.specs.declared.action.Branch.{Branch}
+use Rattle.tmpl_syntax.specs.declared.frame.Kind.{Kind}
+use Rattle.tmpl_syntax.specs.declared.frame.Kind.TheVariants.{If, With, Range}
+use Rattle.tmpl_syntax.specs.declared.frame.Frame.{Frame}
+use Rattle.tmpl_syntax.specs.declared.fault.Fault.{Fault}
+use Rattle.tmpl_syntax.specs.declared.fault.Fault.TheVariants.{Unreadable, NotAnAction, OutOfPlace, NestedTooDeeply, UndeclaredVariable}
+use Rattle.tmpl_syntax.specs.Mark.{Name, Names, Act, plain, opener, bare_else, turning, closer, jump, Mark, text_mark, unreadable_mark, unread_mark, act_mark}
+use Rattle.tmpl_syntax.specs.Open.{is_template}
+use Rattle.tmpl_syntax.specs.Body.{joins, names_in, opens_level, most_levels, Verdict, fine, refused, left_open}
+
+abbrev pub top : List Frame → Option Frame
+top [] = None
+top (f ∷ fs) = Some f
+
+-- inside a control: may a break stand there
+abbrev pub loops : Kind → Bool → Bool → Bool
+loops If has_else around = around
+loops With has_else around = around
+loops Range has_else around = not has_else || around
+
+abbrev pub in_loop : Option Frame → Bool
+in_loop None = false
+in_loop (Some f) = loops f.kind f.has_else f.around
+
+abbrev pub levels : Option Frame → ℕ
+levels None = 0
+levels (Some f) = f.levels
+
+-- where the names of the place's template begin: a file is one template
+abbrev pub floor : Option Frame → ℕ
+floor t = 0
+
+abbrev pub takes_else : Option Frame → Bool
+takes_else None = false
+takes_else (Some f) = not (is_template f.kind) && not f.has_else
+
+abbrev pub takes_turn : Branch → Option Frame → Bool
+takes_turn b None = false
+takes_turn b (Some f) = joins b f.kind
+
+abbrev pub is_inside : Option Frame → Bool
+is_inside None = false
+is_inside (Some f) = true
+
+-- not out of place
+abbrev pub is_placed : Act → Option Frame → Bool
+is_placed (plain p) t = true
+is_placed (opener c p) t = true
+is_placed bare_else t = takes_else t
+is_placed (turning b p) t = takes_else t && takes_turn b t
+is_placed closer t = is_inside t
+is_placed jump t = in_loop t
+
+abbrev pub used : Option Names → List Name
+used None = []
+used (Some p) = p.uses
+
+abbrev pub is_too_deep : Act → Option Frame → Bool
+is_too_deep a t = opens_level a && leb most_levels (levels t)
+
+abbrev pub part : Option Frame → ℕ → ℕ
+part None n = n
+part (Some f) n = f.part
+
+-- how many names the action sees
+abbrev pub seen : Act → Option Frame → ℕ → ℕ
+seen (plain p) t n = n
+seen (opener c p) t n = n
+seen bare_else t n = n
+seen (turning b p) t n = part t n
+seen closer t n = n
+seen jump t n = n
+
+abbrev pub scope : Act → Option Frame → List Name → List Name
+scope a t names = slice_range names (floor t) (seen a t (length names))
+
+abbrev pub is_known : List Name → Name → Bool
+is_known names name = list_any (λ n. bytes_eq name n) names
+
+abbrev pub knows : List Name → List Name → Bool
+knows names uses = list_all (is_known names) uses
+
+-- the first fault, of an action that is placed, is too deep and knows its names, or not
+abbrev pub first_fault : Bool → Bool → Bool → Option Fault
+first_fault false deep known = Some OutOfPlace
+first_fault true true known = Some NestedTooDeeply
+first_fault true false false = Some UndeclaredVariable
+first_fault true false true = None
+
+abbrev pub fault_in : Act → Option Frame → List Name → Option Fault
+fault_in a t names = first_fault (is_placed a t) (is_too_deep a t) (knows (scope a t names) (used (names_in a)))
+
+-- the fault of an item, if it has one
+abbrev pub fault_at : Mark → Option Frame → List Name → Option Fault
+fault_at text_mark t names = None
+fault_at unreadable_mark t names = Some Unreadable
+fault_at unread_mark t names = Some NotAnAction
+fault_at (act_mark a) t names = fault_in a t names
+
+-- how many levels an opening adds
+abbrev pub level_of : Kind → ℕ
+level_of If = 1
+level_of With = 1
+level_of Range = 1
+
+-- of the names in the header, those that an else part sees
+abbrev pub lasting : Kind → List Name → List Name
+lasting If names = names
+lasting With names = names
+lasting Range names = []
+
+-- .. and those that the first part sees
+abbrev pub heading : Kind → List Name → List Name
+heading If names = names
+heading With names = names
+heading Range names = names
+
+-- how many names an else part sees, of those before the header and those after it
+abbrev pub part_of : Kind → ℕ → ℕ → ℕ
+part_of If before after = after
+part_of With before after = after
+part_of Range before after = before
+
+abbrev pub entered : Kind → Names → Option Frame → ℕ → Frame
+entered c p t n = record {
+  kind = c;
+  has_else = false;
+  around = in_loop t;
+  levels = levels t + level_of c;
+  start = n;
+  part = n + length (lasting c p.declares);
+}
+
+abbrev pub elsed : Frame → Frame
+elsed f = record f { has_else = true }
+
+-- an else if that declares these names
+abbrev pub turned : Frame → List Name → Frame
+turned f declares = record f { levels = f.levels + 1; part = f.part + length declares }
+
+abbrev pub turned_all : List Name → List Frame → List Frame
+turned_all declares [] = []
+turned_all declares (f ∷ fs) = turned f declares ∷ fs
+
+abbrev pub turned_names : List Name → Option Frame → List Name → List Name
+turned_names declares None names = names
+turned_names declares (Some f) names = take f.part names ++ declares
+
+-- the frames after an action that is in place, before which there are n names
+abbrev pub frames_after : Act → List Frame → ℕ → List Frame
+frames_after (plain p) fs n = fs
+frames_after (opener c p) fs n = entered c p (top fs) n ∷ fs
+frames_after bare_else [] n = []
+frames_after bare_else (f ∷ fs) n = elsed f ∷ fs
+frames_after (turning b p) fs n = turned_all p.declares fs
+frames_after closer [] n = []
+frames_after closer (f ∷ fs) n = fs
+frames_after jump fs n = fs
+
+-- .. and the names
+abbrev pub names_after : Act → Option Frame → List Name → List Name
+names_after (plain p) t names = names ++ p.declares
+names_after (opener c p) t names = names ++ heading c p.declares
+names_after bare_else None names = names
+names_after bare_else (Some f) names = take f.part names
+names_after (turning b p) t names = turned_names p.declares t names
+names_after closer None names = names
+names_after closer (Some f) names = take f.start names
+names_after jump t names = names
+
+-- the same after an item
+abbrev pub frames_past : Mark → List Frame → ℕ → List Frame
+frames_past text_mark fs n = fs
+frames_past unreadable_mark fs n = fs
+frames_past unread_mark fs n = fs
+frames_past (act_mark a) fs n = frames_after a fs n
+
+abbrev pub names_past : Mark → Option Frame → List Name → List Name
+names_past text_mark t names = names
+names_past unreadable_mark t names = names
+names_past unread_mark t names = names
+names_past (act_mark a) t names = names_after a t names
+
+abbrev pub at_end : List Frame → Verdict
+at_end [] = fine
+at_end (f ∷ fs) = left_open
+
+abbrev pub unless_fault : Option Fault → ℕ → Verdict → Verdict
+unless_fault None i v = v
+unless_fault (Some f) i v = refused i f
+
+-- the verdict of the items from the place i on, where these frames and names stand
+abbrev pub verdict_from : ℕ → List Frame → List Name → List Mark → Verdict
+verdict_from i fs names [] = at_end fs
+verdict_from i fs names (x ∷ xs) =
+    unless_fault (fault_at x (top fs) names) i
+    (verdict_from (i + 1) (frames_past x fs (length names)) (names_past x (top fs) names) xs)
+
+unfoldable pub verdict_of : List Mark → Verdict
+verdict_of xs = verdict_from 0 [] [] xs
