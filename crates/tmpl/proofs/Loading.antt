@@ -1,10 +1,14 @@
 -- The files read so far, and those that are left.
 use Rattle.std.proofs.Common.{◌≡◌, ◌∙◌, ◌+◌, ℕ, suc, List, ◌∷◌, Option, Some, None, Ok, Err, ap, sym, arith}
 use Rattle.tmpl_syntax.specs.Set.{Template}
+use Rattle.tmpl_syntax.specs.Parse.{IsRefusal, parsed}
+use Rattle.tmpl_syntax.specs.declared.fault.ParseFault.{ParseFault}
+use Rattle.tmpl_syntax.specs.declared.fault.ParseKind.{ParseKind}
+use Rattle.tmpl_syntax.specs.declared.fault.ParseKind.TheVariants as kind
 use Rattle.tmpl.specs.Source.{Bytes, Files}
 use Rattle.tmpl.specs.Outcome.{Answer}
-use Rattle.tmpl.specs.Tool.{and_then, loaded, read_in, unread_answer}
-use Rattle.tmpl.specs.Loads.{FileStops, LoadStops}
+use Rattle.tmpl.specs.Tool.{and_then, loaded, or_refused, read_in, refused_answer, unread_answer}
+use Rattle.tmpl.specs.Loads.{AddStops, FileStops, LoadStops, stop_by}
 use Rattle.tmpl.specs.declared.stop.Stop.{Stop}
 use Rattle.tmpl.specs.declared.stop.Stop.TheVariants as stop
 
@@ -37,3 +41,19 @@ module _ (files : Files) (start : List Template) (names : List Bytes) (i : ℕ) 
   stops_there (stop.Template f) is = refused _ is
   stops_there (stop.Values m f) is = refused _ is
   stops_there stop.OutOfMemory is = tt
+
+-- a file that is refused stops the program
+module _ (old : List Template) (name bytes : Bytes) (f : ParseFault) (file : f.file.now ≡ name) where
+  refusal_stops : (k : ParseKind) → f.kind ≡ k → parsed old name bytes ≡ Err (f.line, k) → or_refused name (parsed old name bytes) ≡ Err (refused_answer f.file.now (f.line, f.kind))
+  refusal_stops k is e =
+      ap (or_refused name) e ∙ ap (λ n. Err (refused_answer n (f.line, k))) (sym file) ∙ ap (λ k. Err (refused_answer f.file.now (f.line, k))) (sym is)
+
+  pub add_stops : (k : ParseKind) → f.kind ≡ k → IsRefusal (parsed old name bytes) f.line k → AddStops old name bytes (stop_by f k)
+  add_stops kind.OutOfMemory is e = tt
+  add_stops kind.Unreadable is e = refusal_stops kind.Unreadable is e
+  add_stops kind.NotAnAction is e = refusal_stops kind.NotAnAction is e
+  add_stops kind.OutOfPlace is e = refusal_stops kind.OutOfPlace is e
+  add_stops kind.NestedTooDeeply is e = refusal_stops kind.NestedTooDeeply is e
+  add_stops kind.UndeclaredVariable is e = refusal_stops kind.UndeclaredVariable is e
+  add_stops kind.OpenAtEnd is e = refusal_stops kind.OpenAtEnd is e
+  add_stops kind.TooLong is e = refusal_stops kind.TooLong is e

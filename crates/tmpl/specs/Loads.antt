@@ -4,9 +4,13 @@ use Rattle.tmpl_values.specs.Value.{Value}
 use Rattle.tmpl_values.specs.View.{value_of}
 use Rattle.tmpl_values.specs.declared.data.Data.{Data}
 use Rattle.tmpl_syntax.specs.Set.{Template}
+use Rattle.tmpl_syntax.specs.Parse.{parsed}
+use Rattle.tmpl_syntax.specs.declared.fault.ParseFault.{ParseFault}
+use Rattle.tmpl_syntax.specs.declared.fault.ParseKind.{ParseKind}
+use Rattle.tmpl_syntax.specs.declared.fault.ParseKind.TheVariants as kind
 use Rattle.tmpl.specs.Source.{Bytes, Files}
 use Rattle.tmpl.specs.Outcome.{Answer}
-use Rattle.tmpl.specs.Tool.{data_answer, data_found, loaded, memory_answer, missing_answer, read_in, refused_answer, unread_answer}
+use Rattle.tmpl.specs.Tool.{data_answer, data_found, loaded, memory_answer, missing_answer, or_refused, read_in, refused_answer, unread_answer}
 use Rattle.tmpl.specs.declared.stop.Stop.{Stop}
 use Rattle.tmpl.specs.declared.stop.Stop.TheVariants as stop
 
@@ -23,6 +27,23 @@ abbrev pub Counts : {T : Type 0} → ℕ → ℕ → Result T Stop → Type 0
 Counts was is (Ok u) = is ≡ was
 Counts was is (Err (stop.Failed name)) = is ≡ was + 1
 Counts was is (Err stop) = is ≡ was
+
+-- a template file that is refused, by the kind of its refusal
+abbrev pub stop_by : ParseFault → ParseKind → Stop
+stop_by f kind.OutOfMemory = stop.OutOfMemory
+stop_by f k = stop.Template f
+
+-- where a file of these bytes stops the program
+abbrev pub AddStops : List Template → Bytes → Bytes → Stop → Type 0
+AddStops old name bytes stop.OutOfMemory = Unit {0}
+AddStops old name bytes (stop.Template f) =
+    or_refused name (parsed old name bytes) ≡ Err (stop_answer (stop.Template f))
+AddStops old name bytes stop = ⊥
+
+-- a file of these bytes
+abbrev pub Adds : List Template → Bytes → Bytes → List Template → Result (Unit {0}) Stop → Type 0
+Adds old name bytes new (Ok u) = parsed old name bytes ≡ Ok new
+Adds old name bytes new (Err stop) = AddStops old name bytes stop
 
 -- where one file stops the program
 abbrev pub FileStops : Files → List Template → Bytes → Stop → Type 0

@@ -1,12 +1,12 @@
 //! Each FILE in turn, read and then parsed.
 ghost use Rattle.std.specs.Prelude.{◌≡◌, ◌<◌, ◌^◌, ◌-◌, IfSome, map};
 ghost use Rattle.tmpl_syntax.specs.Set.{set_view};
-ghost use Rattle.tmpl.specs.Loads.{Counts, Loads, TakesIn};
+ghost use Rattle.tmpl.specs.Loads.{Adds, Counts, Loads, TakesIn, stop_by};
 
 use crate::source::{Source, SourceFault};
 use crate::stop::Stop;
 use std::alloc::Global;
-use tmpl_syntax::{ParseKind, Set, parse_file};
+use tmpl_syntax::{ParseFault, ParseKind, Set, parse_file};
 
 /// Adds the templates of the files to the set.
 pub(crate) fn load<'a, S: Source>(
@@ -41,17 +41,28 @@ fn take_in<'a, S: Source>(
         TakesIn files (set_view set.old) name.entry.now (set_view set.new) result) }
 {
     match source.read(alloc, name) {
-        Ok(bytes) => match parse_file(alloc, set, name, bytes.as_slice()) {
-            Ok(()) => Ok(()),
-            Err(fault) => match fault.kind {
-                ParseKind::OutOfMemory => Err(Stop::OutOfMemory),
-                ParseKind::Unreadable | ParseKind::NotAnAction | ParseKind::TooLong => {
-                    Err(Stop::Template(fault))
-                }
-            },
-        },
+        Ok(bytes) => add(alloc, set, name, bytes.as_slice()),
         Err(SourceFault::Missing) => Err(Stop::Missing(name)),
         Err(SourceFault::Failed) => Err(Stop::Failed(name)),
         Err(SourceFault::OutOfMemory) => Err(Stop::OutOfMemory),
+    }
+}
+
+/// Adds the template of a file of these bytes.
+fn add<'a>(alloc: Global, set: &mut Set, name: &'a str, bytes: &[u8]) -> Result<(), Stop<'a>>
+    ensures { Adds (set_view set.old) name.entry.now bytes.now (set_view set.new) result }
+{
+    match parse_file(alloc, set, name, bytes) {
+        Ok(()) => Ok(()),
+        Err(fault) => Err(stop_of(fault)),
+    }
+}
+
+fn stop_of(fault: ParseFault<'_>) -> Stop<'_>
+    ensures { result ≡ stop_by fault.entry fault.entry.kind }
+{
+    match fault.kind {
+        ParseKind::OutOfMemory => Stop::OutOfMemory,
+        _ => Stop::Template(fault),
     }
 }
