@@ -107,7 +107,7 @@ impl Table {
     }
 
     /// The entries, by rising keys.
-    pub(crate) fn as_slice(&self) -> &[(Bytes, Data)]
+    pub fn as_slice(&self) -> &[(Bytes, Data)]
         ensures same { entries_of result.now ≡ self.now }
         ensures rising { AreRising self.now }
     {
