@@ -115,7 +115,7 @@ impl Table {
     }
 
     /// The value of this key, found by halves.
-    pub(crate) fn get(&self, key: &[u8]) -> Option<&Data>
+    pub fn get(&self, key: &[u8]) -> Option<&Data>
         ensures { MatchOption result
             (entry_at key.now self.now ≡ missing)
             (λ d. entry_at key.now self.now ≡ found (value_of d.now)) }
