@@ -1,0 +1,7 @@
+pub mod Func
+pub mod Answer
+pub mod Count
+pub mod Index
+pub mod Slice
+pub mod Comparison
+pub mod Called

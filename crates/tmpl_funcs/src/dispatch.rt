@@ -1,0 +1,72 @@
+//! Calls.
+ghost use Rattle.std.specs.Prelude.{◌≡◌, ◌<◌, ◌∷◌, true, drop, length};
+ghost use Rattle.tmpl_values.specs.View.{val_of};
+ghost use Rattle.tmpl_funcs.specs.Answer.{values_of, IsAnswer};
+ghost use Rattle.tmpl_funcs.specs.Func.{is_called, takes};
+ghost use Rattle.tmpl_funcs.specs.Called.{answer, IsCall};
+
+use crate::compare::{eq, ge, gt, le, lt, ne};
+use crate::count::{len, not};
+use crate::fault::CallFault;
+use crate::func::Func;
+use crate::index::index;
+use crate::slice::slice;
+use std::alloc::Global;
+use std::mem;
+use tmpl_values::{Cell, Val};
+
+/// Calls a function, over the values that the cells have at entry; it may move them out.
+///
+/// It is the table of functions in the documentation of `text/template`. Memory is taken only by
+/// those that make a text: `print`, `println`, `html` and `urlquery`.
+pub fn call<'a>(alloc: Global, func: Func, arguments: &mut [Cell<'a>]) -> Result<Val<'a>, CallFault>
+    requires { is_called func ≡ true }
+    ensures { IsCall func (values_of arguments.old) result }
+{
+    if func.takes(arguments.len() as u64) {
+        answer(alloc, func, arguments)
+    } else {
+        Err(CallFault::WrongCount)
+    }
+}
+
+fn answer<'a>(_alloc: Global, func: Func, arguments: &mut [Cell<'a>]) -> Result<Val<'a>, CallFault>
+    requires called { is_called func ≡ true }
+    requires takes { takes func (length arguments.old) ≡ true }
+    ensures { IsAnswer (answer func (values_of arguments.old)) result }
+{
+    match func {
+        Func::And | Func::Or => unreachable!(),
+        Func::Not => not(arguments),
+        Func::Len => len(arguments),
+        Func::Index => {
+            let item = take_first(arguments);
+            index(item, behind_first(arguments))
+        }
+        Func::Slice => {
+            let value = take_first(arguments);
+            slice(value, behind_first(arguments))
+        }
+        Func::Eq => eq(arguments),
+        Func::Ne => ne(arguments),
+        Func::Lt => lt(arguments),
+        Func::Le => le(arguments),
+        Func::Gt => gt(arguments),
+        Func::Ge => ge(arguments),
+    }
+}
+
+/// Takes the first value out of the cells.
+fn take_first<'a>(arguments: &mut [Cell<'a>]) -> Val<'a>
+    requires { 0 < length arguments.old }
+    ensures { values_of arguments.old ≡ val_of result ∷ drop 1 (values_of arguments.new) }
+{
+    mem::replace(&mut arguments[0].val, Val::Nothing)
+}
+
+fn behind_first<'a, 'b>(arguments: &'b [Cell<'a>]) -> &'b [Cell<'a>]
+    requires { 0 < length arguments.now }
+    ensures { values_of result.now ≡ drop 1 (values_of arguments.now) }
+{
+    &arguments[1..]
+}
