@@ -1,1 +1,3 @@
 pub mod Places
+pub mod Joined
+pub mod Escaped

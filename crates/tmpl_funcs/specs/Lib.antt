@@ -4,4 +4,7 @@ pub mod Count
 pub mod Index
 pub mod Slice
 pub mod Comparison
+pub mod Join
+pub mod Escape
+pub mod Kind
 pub mod Called

@@ -1,15 +1,17 @@
 //! Calls.
-ghost use Rattle.std.specs.Prelude.{◌≡◌, ◌<◌, ◌∷◌, true, drop, length};
+ghost use Rattle.std.specs.Prelude.{◌≡◌, ◌<◌, ◌∷◌, false, true, drop, length};
 ghost use Rattle.tmpl_values.specs.View.{val_of};
-ghost use Rattle.tmpl_funcs.specs.Answer.{values_of, IsAnswer};
-ghost use Rattle.tmpl_funcs.specs.Func.{is_called, takes};
+ghost use Rattle.tmpl_funcs.specs.Answer.{values_of, IsAnswer, IsMade};
+ghost use Rattle.tmpl_funcs.specs.Func.{is_called, makes_text, takes};
 ghost use Rattle.tmpl_funcs.specs.Called.{answer, IsCall};
 
 use crate::compare::{eq, ge, gt, le, lt, ne};
 use crate::count::{len, not};
+use crate::escape::{html, urlquery};
 use crate::fault::CallFault;
 use crate::func::Func;
 use crate::index::index;
+use crate::join::{print, println};
 use crate::slice::slice;
 use std::alloc::Global;
 use std::mem;
@@ -23,20 +25,52 @@ pub fn call<'a>(alloc: Global, func: Func, arguments: &mut [Cell<'a>]) -> Result
     requires { is_called func ≡ true }
     ensures { IsCall func (values_of arguments.old) result }
 {
-    if func.takes(arguments.len() as u64) {
-        answer(alloc, func, arguments)
+    if !func.takes(arguments.len() as u64) {
+        return Err(CallFault::WrongCount);
+    }
+    if func.makes_text() {
+        make(alloc, func, arguments)
     } else {
-        Err(CallFault::WrongCount)
+        answer(func, arguments)
     }
 }
 
-fn answer<'a>(_alloc: Global, func: Func, arguments: &mut [Cell<'a>]) -> Result<Val<'a>, CallFault>
+/// What a function that makes a text gives.
+fn make<'a>(alloc: Global, func: Func, arguments: &[Cell<'_>]) -> Result<Val<'a>, CallFault>
+    requires { makes_text func ≡ true }
+    ensures { IsMade (answer func (values_of arguments.now)) result }
+{
+    match func {
+        Func::Print => print(alloc, arguments),
+        Func::Println => println(alloc, arguments),
+        Func::Html => html(alloc, arguments),
+        Func::Urlquery => urlquery(alloc, arguments),
+        Func::And
+        | Func::Or
+        | Func::Not
+        | Func::Len
+        | Func::Index
+        | Func::Slice
+        | Func::Eq
+        | Func::Ne
+        | Func::Lt
+        | Func::Le
+        | Func::Gt
+        | Func::Ge => unreachable!(),
+    }
+}
+
+/// What any other function gives for arguments of a number that it takes.
+fn answer<'a>(func: Func, arguments: &mut [Cell<'a>]) -> Result<Val<'a>, CallFault>
     requires called { is_called func ≡ true }
+    requires silent { makes_text func ≡ false }
     requires takes { takes func (length arguments.old) ≡ true }
     ensures { IsAnswer (answer func (values_of arguments.old)) result }
 {
     match func {
-        Func::And | Func::Or => unreachable!(),
+        Func::And | Func::Or | Func::Print | Func::Println | Func::Html | Func::Urlquery => {
+            unreachable!()
+        }
         Func::Not => not(arguments),
         Func::Len => len(arguments),
         Func::Index => {

@@ -1,5 +1,5 @@
 //! Why a call has no value.
-use std::alloc::AllocError;
+use std::alloc::{AllocError, AllocFailed};
 use tmpl_values::CompareFault;
 
 /// Why a call has no value. Where several reasons apply, it is the one that stands first here.
@@ -37,6 +37,17 @@ impl From<AllocError> for CallFault {
     ghost from_gives = { λ _ e. e ≡ CallFault.OutOfMemory };
 
     fn from(_: AllocError) -> CallFault {
+        CallFault::OutOfMemory
+    }
+}
+
+impl<T: Drop> From<AllocFailed<T>> for CallFault {
+    ghost use Rattle.std.specs.Prelude.{◌≡◌};
+    ghost use Rattle.tmpl_funcs.specs.declared.fault.CallFault.{CallFault};
+
+    ghost from_gives = { λ _ e. e ≡ CallFault.OutOfMemory };
+
+    fn from(_: AllocFailed<T>) -> CallFault {
         CallFault::OutOfMemory
     }
 }

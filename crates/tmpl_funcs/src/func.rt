@@ -1,6 +1,6 @@
 //! The functions by name.
 ghost use Rattle.std.specs.Prelude.{◌≡◌, ◌≢◌, IfSome, IfNone};
-ghost use Rattle.tmpl_funcs.specs.Func.{name_of, takes};
+ghost use Rattle.tmpl_funcs.specs.Func.{makes_text, name_of, takes};
 ghost use Rattle.tmpl_funcs.specs.declared.func.Func.{Func};
 
 /// A function that a template may call.
@@ -12,6 +12,10 @@ pub enum Func {
     Len,
     Index,
     Slice,
+    Print,
+    Println,
+    Html,
+    Urlquery,
     Eq,
     Ne,
     Lt,
@@ -21,13 +25,17 @@ pub enum Func {
 }
 
 /// The functions, each once.
-const FUNCS: [Func; 12] = [
+const FUNCS: [Func; 16] = [
     Func::And,
     Func::Or,
     Func::Not,
     Func::Len,
     Func::Index,
     Func::Slice,
+    Func::Print,
+    Func::Println,
+    Func::Html,
+    Func::Urlquery,
     Func::Eq,
     Func::Ne,
     Func::Lt,
@@ -61,6 +69,10 @@ impl Func {
             Func::Len => "len",
             Func::Index => "index",
             Func::Slice => "slice",
+            Func::Print => "print",
+            Func::Println => "println",
+            Func::Html => "html",
+            Func::Urlquery => "urlquery",
             Func::Eq => "eq",
             Func::Ne => "ne",
             Func::Lt => "lt",
@@ -78,8 +90,19 @@ impl Func {
             Func::And | Func::Or | Func::Index => count >= 1,
             Func::Not | Func::Len => count == 1,
             Func::Slice => count >= 1 && count <= 3,
+            Func::Print | Func::Println | Func::Html | Func::Urlquery => true,
             Func::Eq => count >= 2,
             Func::Ne | Func::Lt | Func::Le | Func::Gt | Func::Ge => count == 2,
         }
+    }
+
+    /// Whether it makes a text, and so takes memory.
+    pub(crate) fn makes_text(self) -> bool
+        ensures { result ≡ makes_text self }
+    {
+        matches!(
+            self,
+            Func::Print | Func::Println | Func::Html | Func::Urlquery
+        )
     }
 }

@@ -4,9 +4,12 @@
 mod compare;
 mod count;
 mod dispatch;
+mod escape;
 mod fault;
 mod func;
+mod growing;
 mod index;
+mod join;
 mod slice;
 
 pub use dispatch::call;
