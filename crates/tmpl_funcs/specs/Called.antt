@@ -11,9 +11,10 @@ use Rattle.tmpl_funcs.specs.Index.{index_of}
 use Rattle.tmpl_funcs.specs.Slice.{slice_of}
 use Rattle.tmpl_funcs.specs.Comparison.{eq_of, of_two, unequal, at_most, above, at_least}
 use Rattle.tmpl_funcs.specs.Join.{print_of, println_of}
+use Rattle.tmpl_funcs.specs.Printf.{printf_of}
 use Rattle.tmpl_funcs.specs.Escape.{html_of, urlquery_of}
 use Rattle.tmpl_funcs.specs.declared.func.Func.{Func}
-use Rattle.tmpl_funcs.specs.declared.func.Func.TheVariants.{And, Or, Not, Len, Index, Slice, Print, Println, Html, Urlquery, Eq, Ne, Lt, Le, Gt, Ge}
+use Rattle.tmpl_funcs.specs.declared.func.Func.TheVariants.{And, Or, Not, Len, Index, Slice, Print, Println, Printf, Html, Urlquery, Eq, Ne, Lt, Le, Gt, Ge}
 use Rattle.tmpl_funcs.specs.declared.fault.CallFault.{CallFault}
 use Rattle.tmpl_funcs.specs.declared.fault.CallFault.TheVariants.{WrongCount, WrongKind, OutOfRange, NotComparable, FormatRefused, OutOfMemory}
 
@@ -47,6 +48,7 @@ answer Index vs = index_of vs
 answer Slice vs = slice_of vs
 answer Print vs = print_of vs
 answer Println vs = println_of vs
+answer Printf vs = printf_of vs
 answer Html vs = html_of vs
 answer Urlquery vs = urlquery_of vs
 answer Eq vs = eq_of vs

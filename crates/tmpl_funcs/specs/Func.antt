@@ -1,7 +1,7 @@
 -- The functions by name, and how many arguments each takes ("Functions").
 use Rattle.std.specs.Prelude.{ℕ, Bool, true, false, ◌&&◌, ◌==◌, nat_le, List, codes}
 use Rattle.tmpl_funcs.specs.declared.func.Func.{Func}
-use Rattle.tmpl_funcs.specs.declared.func.Func.TheVariants.{And, Or, Not, Len, Index, Slice, Print, Println, Html, Urlquery, Eq, Ne, Lt, Le, Gt, Ge}
+use Rattle.tmpl_funcs.specs.declared.func.Func.TheVariants.{And, Or, Not, Len, Index, Slice, Print, Println, Printf, Html, Urlquery, Eq, Ne, Lt, Le, Gt, Ge}
 
 -- the name of a function
 abbrev pub name_of : Func → List ℕ
@@ -13,6 +13,7 @@ name_of Index = codes "index"
 name_of Slice = codes "slice"
 name_of Print = codes "print"
 name_of Println = codes "println"
+name_of Printf = codes "printf"
 name_of Html = codes "html"
 name_of Urlquery = codes "urlquery"
 name_of Eq = codes "eq"
@@ -32,6 +33,7 @@ takes Index n = nat_le 1 n
 takes Slice n = nat_le 1 n && nat_le n 3
 takes Print n = true
 takes Println n = true
+takes Printf n = nat_le 1 n
 takes Html n = true
 takes Urlquery n = true
 takes Eq n = nat_le 2 n
@@ -51,6 +53,7 @@ makes_text Index = false
 makes_text Slice = false
 makes_text Print = true
 makes_text Println = true
+makes_text Printf = true
 makes_text Html = true
 makes_text Urlquery = true
 makes_text Eq = false
@@ -71,6 +74,7 @@ is_called Index = true
 is_called Slice = true
 is_called Print = true
 is_called Println = true
+is_called Printf = true
 is_called Html = true
 is_called Urlquery = true
 is_called Eq = true

@@ -7,4 +7,8 @@ pub mod Comparison
 pub mod Join
 pub mod Escape
 pub mod Kind
+pub mod Form
+pub mod Class
+pub mod Directive
+pub mod Printf
 pub mod Called

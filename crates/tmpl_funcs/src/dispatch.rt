@@ -9,6 +9,7 @@ use crate::compare::{eq, ge, gt, le, lt, ne};
 use crate::count::{len, not};
 use crate::escape::{html, urlquery};
 use crate::fault::CallFault;
+use crate::format::printf;
 use crate::func::Func;
 use crate::index::index;
 use crate::join::{print, println};
@@ -20,7 +21,7 @@ use tmpl_values::{Cell, Val};
 /// Calls a function, over the values that the cells have at entry; it may move them out.
 ///
 /// It is the table of functions in the documentation of `text/template`. Memory is taken only by
-/// those that make a text: `print`, `println`, `html` and `urlquery`.
+/// those that make a text: `print`, `println`, `printf`, `html` and `urlquery`.
 pub fn call<'a>(alloc: Global, func: Func, arguments: &mut [Cell<'a>]) -> Result<Val<'a>, CallFault>
     requires { is_called func ≡ true }
     ensures { IsCall func (values_of arguments.old) result }
@@ -43,6 +44,7 @@ fn make<'a>(alloc: Global, func: Func, arguments: &[Cell<'_>]) -> Result<Val<'a>
     match func {
         Func::Print => print(alloc, arguments),
         Func::Println => println(alloc, arguments),
+        Func::Printf => printf(alloc, arguments),
         Func::Html => html(alloc, arguments),
         Func::Urlquery => urlquery(alloc, arguments),
         Func::And
@@ -68,9 +70,13 @@ fn answer<'a>(func: Func, arguments: &mut [Cell<'a>]) -> Result<Val<'a>, CallFau
     ensures { IsAnswer (answer func (values_of arguments.old)) result }
 {
     match func {
-        Func::And | Func::Or | Func::Print | Func::Println | Func::Html | Func::Urlquery => {
-            unreachable!()
-        }
+        Func::And
+        | Func::Or
+        | Func::Print
+        | Func::Println
+        | Func::Printf
+        | Func::Html
+        | Func::Urlquery => { unreachable!() }
         Func::Not => not(arguments),
         Func::Len => len(arguments),
         Func::Index => {

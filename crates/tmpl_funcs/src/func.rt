@@ -14,6 +14,7 @@ pub enum Func {
     Slice,
     Print,
     Println,
+    Printf,
     Html,
     Urlquery,
     Eq,
@@ -25,7 +26,7 @@ pub enum Func {
 }
 
 /// The functions, each once.
-const FUNCS: [Func; 16] = [
+const FUNCS: [Func; 17] = [
     Func::And,
     Func::Or,
     Func::Not,
@@ -34,6 +35,7 @@ const FUNCS: [Func; 16] = [
     Func::Slice,
     Func::Print,
     Func::Println,
+    Func::Printf,
     Func::Html,
     Func::Urlquery,
     Func::Eq,
@@ -71,6 +73,7 @@ impl Func {
             Func::Slice => "slice",
             Func::Print => "print",
             Func::Println => "println",
+            Func::Printf => "printf",
             Func::Html => "html",
             Func::Urlquery => "urlquery",
             Func::Eq => "eq",
@@ -87,7 +90,7 @@ impl Func {
         ensures { result ≡ takes self count }
     {
         match self {
-            Func::And | Func::Or | Func::Index => count >= 1,
+            Func::And | Func::Or | Func::Index | Func::Printf => count >= 1,
             Func::Not | Func::Len => count == 1,
             Func::Slice => count >= 1 && count <= 3,
             Func::Print | Func::Println | Func::Html | Func::Urlquery => true,
@@ -102,7 +105,7 @@ impl Func {
     {
         matches!(
             self,
-            Func::Print | Func::Println | Func::Html | Func::Urlquery
+            Func::Print | Func::Println | Func::Printf | Func::Html | Func::Urlquery
         )
     }
 }

@@ -1,10 +1,11 @@
 //! A vector of bytes as what takes bytes.
 ghost use Rattle.std.specs.Prelude.{◌≡◌, ◌++◌, OnOk};
+ghost use Rattle.tmpl_values.specs.Quote.{quote};
 ghost use Rattle.tmpl_values.specs.Text.{text_of};
 ghost use Rattle.tmpl_values.specs.View.{val_of};
 
 use std::alloc::AllocError;
-use tmpl_values::{Put, Val, put_text};
+use tmpl_values::{Put, Val, put_quoted, put_text};
 
 /// A vector that takes bytes until memory is refused.
 #[derive(Drop)]
@@ -41,4 +42,12 @@ pub(crate) fn add_text(value: &Val<'_>, bytes: &mut Vec<u8>) -> Result<(), Alloc
 {
     let mut growing = Growing { bytes, failures: 0 };
     put_text(value, &mut growing)
+}
+
+/// Adds the quote of a text.
+pub(crate) fn add_quote(text: &[u8], bytes: &mut Vec<u8>) -> Result<(), AllocError>
+    ensures { OnOk result (bytes.new.items ≡ bytes.old.items ++ quote text.now) }
+{
+    let mut growing = Growing { bytes, failures: 0 };
+    put_quoted(text, &mut growing)
 }
