@@ -107,7 +107,7 @@ impl Table {
     }
 
     /// The entries, by rising keys.
-    pub(crate) fn as_slice(&self) -> &[(Bytes, Data)]
+    pub fn as_slice(&self) -> &[(Bytes, Data)]
         ensures same { entries_of result.now ≡ self.now }
         ensures rising { AreRising self.now }
     {
@@ -115,7 +115,7 @@ impl Table {
     }
 
     /// The value of this key, found by halves.
-    pub(crate) fn get(&self, key: &[u8]) -> Option<&Data>
+    pub fn get(&self, key: &[u8]) -> Option<&Data>
         ensures { MatchOption result
             (entry_at key.now self.now ≡ missing)
             (λ d. entry_at key.now self.now ≡ found (value_of d.now)) }

@@ -20,7 +20,7 @@ pub use data::{Data, Row, Table};
 pub use field::Field;
 pub use json::DataFault;
 pub use put::Put;
-pub use quote::put_quoted;
+pub use quote::{first_char, put_quoted};
 pub use shared::Made;
 pub use text::put_text;
 pub use value::{Cell, Val};

@@ -89,8 +89,8 @@ fn after(bytes: &[u8], n: usize) -> &[u8]
     &bytes[n..]
 }
 
-/// The character whose well-formed encoding stands at the front.
-fn first_char(bytes: &[u8]) -> Option<char>
+/// The character whose well-formed UTF-8 encoding stands at the front, if there is one.
+pub fn first_char(bytes: &[u8]) -> Option<char>
     requires { 0 < length bytes.now }
     ensures { MatchOption result
         (first_rune bytes.now ≡ byte_rune (slice_index bytes.now 0))

@@ -1,0 +1,9 @@
+use Rattle.std.proofs.Common.{◌≡◌, drop}
+use Rattle.tmpl_values.specs.View.{val_of}
+use Rattle.tmpl_funcs.specs.Answer.{values_of}
+use Rattle.tmpl_funcs.specs.Index.{indexed_by}
+use Rattle.tmpl_funcs.proofs.index.index_by.Given as goal
+
+abbrev pub invariant-loop-index : goal.invariant-loop-index
+invariant-loop-index l =
+    indexed_by (val_of l.fn.first) (values_of l.indexes) ≡ indexed_by (val_of l.item) (values_of (drop l.index-index l.indexes))

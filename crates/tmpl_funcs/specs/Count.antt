@@ -1,0 +1,24 @@
+-- Whether a value is empty, and its size ("Functions", at `not` and `len`).
+use Rattle.std.specs.Prelude.{ℕ, pos, List, [], ◌∷◌, not, Option, Some, None, Result, Ok, Err}
+use Rattle.tmpl_values.specs.Value.{Value, boolean, number}
+use Rattle.tmpl_values.specs.Truth.{truth}
+use Rattle.tmpl_values.specs.Item.{size_of}
+use Rattle.tmpl_funcs.specs.declared.fault.CallFault.{CallFault}
+use Rattle.tmpl_funcs.specs.declared.fault.CallFault.TheVariants.{WrongCount, WrongKind}
+
+-- whether the value is empty
+abbrev pub not_of : List Value → Result Value CallFault
+not_of [] = Err WrongCount
+not_of (v ∷ []) = Ok (boolean (not (truth v)))
+not_of (v ∷ w ∷ vs) = Err WrongCount
+
+-- a size as a number; what has no size is of the wrong kind
+abbrev pub sized : Option ℕ → Result Value CallFault
+sized None = Err WrongKind
+sized (Some n) = Ok (number (pos n))
+
+-- the bytes of a string, or the items of a sequence or a mapping
+abbrev pub len_of : List Value → Result Value CallFault
+len_of [] = Err WrongCount
+len_of (v ∷ []) = sized (size_of v)
+len_of (v ∷ w ∷ vs) = Err WrongCount

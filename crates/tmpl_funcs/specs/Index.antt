@@ -1,0 +1,87 @@
+-- The item of a value at indexes ("Functions", at `index`: "the result of indexing its first argument
+-- by the following arguments. Thus `index x 1 2 3` is, in Go syntax, x[1][2][3]").
+use Rattle.std.specs.Prelude.{ℕ, ℤ, pos, negsuc, List, [], ◌∷◌, slice_get, Option, Some, None, Result, Ok, Err}
+use Rattle.tmpl_values.specs.Value.{Value, nothing, null, boolean, number, string, sequence, mapping, Items, Entries}
+use Rattle.tmpl_values.specs.Field.{FieldValue, found, missing, of_nothing, no_field, entry_at}
+use Rattle.tmpl_values.specs.Item.{nth_item, bytes_of}
+use Rattle.tmpl_funcs.specs.declared.fault.CallFault.{CallFault}
+use Rattle.tmpl_funcs.specs.declared.fault.CallFault.TheVariants.{WrongCount, WrongKind, OutOfRange}
+
+-- the number that a value is
+abbrev pub number_of : Value → Option ℤ
+number_of nothing = None
+number_of null = None
+number_of (boolean b) = None
+number_of (number n) = Some n
+number_of (string s) = None
+number_of (sequence vs) = None
+number_of (mapping es) = None
+
+-- a value that is there; a place with none is out of range
+abbrev pub in_range : Option Value → Result Value CallFault
+in_range None = Err OutOfRange
+in_range (Some v) = Ok v
+
+-- a byte that is there, as a number
+abbrev pub byte_in_range : Option ℕ → Result Value CallFault
+byte_in_range None = Err OutOfRange
+byte_in_range (Some b) = Ok (number (pos b))
+
+-- the byte at a place, counted from 0
+abbrev pub byte_at : List ℕ → Option ℤ → Result Value CallFault
+byte_at s None = Err WrongKind
+byte_at s (Some (pos i)) = byte_in_range (slice_get s i)
+byte_at s (Some (negsuc i)) = Err OutOfRange
+
+-- the item at a place, counted from 0
+abbrev pub item_of : Items → Option ℤ → Result Value CallFault
+item_of vs None = Err WrongKind
+item_of vs (Some (pos i)) = in_range (nth_item i vs)
+item_of vs (Some (negsuc i)) = Err OutOfRange
+
+-- an entry that is there, else null
+abbrev pub entry_or_null : FieldValue → Value
+entry_or_null (found v) = v
+entry_or_null missing = null
+entry_or_null of_nothing = null
+entry_or_null no_field = null
+
+-- the entry of a key, which is a string
+abbrev pub entry_of : Entries → Option (List ℕ) → Result Value CallFault
+entry_of es None = Err WrongKind
+entry_of es (Some k) = Ok (entry_or_null (entry_at k es))
+
+-- a value at one index
+abbrev pub indexed : Value → Value → Result Value CallFault
+indexed nothing i = Err WrongKind
+indexed null i = Err WrongKind
+indexed (boolean b) i = Err WrongKind
+indexed (number n) i = Err WrongKind
+indexed (string s) i = byte_at s (number_of i)
+indexed (sequence vs) i = item_of vs (number_of i)
+indexed (mapping es) i = entry_of es (bytes_of i)
+
+-- what follows from a value that is there
+abbrev pub and_then : Result Value CallFault → (Value → Result Value CallFault) → Result Value CallFault
+and_then (Ok v) f = f v
+and_then (Err e) f = Err e
+
+-- a value at indexes, from left to right
+abbrev pub indexed_by : Value → List Value → Result Value CallFault
+indexed_by v [] = Ok v
+indexed_by v (i ∷ is) = and_then (indexed v i) (λ w. indexed_by w is)
+
+-- with no index the value itself, of any kind but nothing
+abbrev pub something : Value → Result Value CallFault
+something nothing = Err WrongKind
+something null = Err WrongKind
+something (boolean b) = Ok (boolean b)
+something (number n) = Ok (number n)
+something (string s) = Ok (string s)
+something (sequence vs) = Ok (sequence vs)
+something (mapping es) = Ok (mapping es)
+
+-- the first argument at the others
+abbrev pub index_of : List Value → Result Value CallFault
+index_of [] = Err WrongCount
+index_of (v ∷ is) = and_then (something v) (λ w. indexed_by w is)

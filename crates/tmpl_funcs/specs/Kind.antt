@@ -1,0 +1,24 @@
+-- The two ways in which nothing is written, and the two ways in which a text is escaped.
+use Rattle.std.specs.Prelude.{ℕ, List, [], ◌∷◌, Option, Some, None}
+use Rattle.tmpl_values.specs.Value.{Value}
+use Rattle.tmpl_funcs.specs.Join.{as_text}
+use Rattle.tmpl_funcs.specs.Escape.{html_byte, query_byte}
+use Rattle.tmpl_funcs.specs.declared.join.Missing.{Missing}
+use Rattle.tmpl_funcs.specs.declared.join.Missing.TheVariants.{Nil, NoValue}
+use Rattle.tmpl_funcs.specs.declared.escape.Escape.{Escape}
+use Rattle.tmpl_funcs.specs.declared.escape.Escape.TheVariants.{Html, Query}
+
+-- the value that is joined in place of a value
+abbrev pub shown : Missing → Value → Value
+shown Nil v = v
+shown NoValue v = as_text v
+
+-- a byte as it is escaped
+abbrev pub escaped_byte : Escape → ℕ → List ℕ
+escaped_byte Html b = html_byte b
+escaped_byte Query b = query_byte b
+
+-- what replaces a byte; with nothing it stays
+abbrev pub or_itself : ℕ → Option (List ℕ) → List ℕ
+or_itself b None = b ∷ []
+or_itself b (Some text) = text

@@ -1,0 +1,14 @@
+pub mod Func
+pub mod Answer
+pub mod Count
+pub mod Index
+pub mod Slice
+pub mod Comparison
+pub mod Join
+pub mod Escape
+pub mod Kind
+pub mod Form
+pub mod Class
+pub mod Directive
+pub mod Printf
+pub mod Called

@@ -1,0 +1,44 @@
+//! `not` and `len`.
+ghost use Rattle.std.specs.Prelude.{◌≡◌};
+ghost use Rattle.tmpl_values.specs.View.{val_of};
+ghost use Rattle.tmpl_values.specs.Item.{size_of};
+ghost use Rattle.tmpl_funcs.specs.Answer.{values_of, IsAnswer};
+ghost use Rattle.tmpl_funcs.specs.Count.{not_of, len_of, sized};
+
+use crate::fault::CallFault;
+use tmpl_values::{Cell, Val};
+
+/// Whether the one argument is empty.
+pub(crate) fn not<'a>(arguments: &[Cell<'a>]) -> Result<Val<'a>, CallFault>
+    ensures { IsAnswer (not_of (values_of arguments.now)) result }
+{
+    match arguments {
+        [only] => Ok(Val::Bool(!only.val.truth())),
+        _ => Err(CallFault::WrongCount),
+    }
+}
+
+/// How many bytes or items the one argument has.
+pub(crate) fn len<'a>(arguments: &[Cell<'a>]) -> Result<Val<'a>, CallFault>
+    ensures { IsAnswer (len_of (values_of arguments.now)) result }
+{
+    match arguments {
+        [only] => size(&only.val),
+        _ => Err(CallFault::WrongCount),
+    }
+}
+
+fn size<'a>(value: &Val<'_>) -> Result<Val<'a>, CallFault>
+    ensures { IsAnswer (sized (size_of (val_of value.now))) result }
+{
+    if let Some(text) = value.bytes() {
+        return Ok(Val::Num(text.len() as i64));
+    }
+    match value {
+        Val::List(items) => Ok(Val::Num(items.len() as i64)),
+        Val::Map(table) => Ok(Val::Num(table.as_slice().len() as i64)),
+        Val::Nothing | Val::Null | Val::Bool(_) | Val::Num(_) | Val::Text(_) | Val::Made(_) => {
+            Err(CallFault::WrongKind)
+        }
+    }
+}

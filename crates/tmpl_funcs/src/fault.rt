@@ -1,0 +1,53 @@
+//! Why a call has no value.
+use std::alloc::{AllocError, AllocFailed};
+use tmpl_values::CompareFault;
+
+/// Why a call has no value. Where several reasons apply, it is the one that stands first here.
+#[derive(Clone, Copy, Debug, PartialEq, Eq)]
+pub enum CallFault {
+    /// The function does not take so many arguments.
+    WrongCount,
+    /// It does not take an argument of that kind.
+    WrongKind,
+    /// An index or a bound lies outside.
+    OutOfRange,
+    /// Two values can't be compared.
+    NotComparable,
+    /// The format of `printf` has a form that is none, or its forms do not fit the arguments.
+    FormatRefused,
+    /// Memory was refused.
+    OutOfMemory,
+}
+
+impl From<CompareFault> for CallFault {
+    ghost use Rattle.std.specs.Prelude.{◌≡◌};
+    ghost use Rattle.tmpl_funcs.specs.declared.fault.CallFault.{CallFault};
+
+    ghost from_gives = { λ _ e. e ≡ CallFault.NotComparable };
+
+    fn from(_: CompareFault) -> CallFault {
+        CallFault::NotComparable
+    }
+}
+
+impl From<AllocError> for CallFault {
+    ghost use Rattle.std.specs.Prelude.{◌≡◌};
+    ghost use Rattle.tmpl_funcs.specs.declared.fault.CallFault.{CallFault};
+
+    ghost from_gives = { λ _ e. e ≡ CallFault.OutOfMemory };
+
+    fn from(_: AllocError) -> CallFault {
+        CallFault::OutOfMemory
+    }
+}
+
+impl<T: Drop> From<AllocFailed<T>> for CallFault {
+    ghost use Rattle.std.specs.Prelude.{◌≡◌};
+    ghost use Rattle.tmpl_funcs.specs.declared.fault.CallFault.{CallFault};
+
+    ghost from_gives = { λ _ e. e ≡ CallFault.OutOfMemory };
+
+    fn from(_: AllocFailed<T>) -> CallFault {
+        CallFault::OutOfMemory
+    }
+}

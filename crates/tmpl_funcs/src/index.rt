@@ -1,0 +1,106 @@
+//! `index`.
+ghost use Rattle.std.specs.Prelude.{◌≡◌, ◌∷◌, option_map};
+ghost use Rattle.tmpl_values.specs.Item.{bytes_of};
+ghost use Rattle.tmpl_values.specs.View.{items_of, val_of};
+ghost use Rattle.tmpl_funcs.specs.Answer.{values_of, IsAnswer};
+ghost use Rattle.tmpl_funcs.specs.Index.{number_of, byte_at, item_of, entry_of, indexed, indexed_by, index_of};
+
+use crate::fault::CallFault;
+use tmpl_values::{Cell, Data, Table, Val};
+
+/// An item at indexes, from left to right; with no index the item itself.
+pub(crate) fn index<'a>(item: Val<'a>, indexes: &[Cell<'_>]) -> Result<Val<'a>, CallFault>
+    ensures { IsAnswer (index_of (val_of item.entry ∷ values_of indexes.now)) result }
+{
+    match item {
+        Val::Nothing | Val::Null => Err(CallFault::WrongKind),
+        item => index_by(item, indexes),
+    }
+}
+
+fn index_by<'a>(first: Val<'a>, indexes: &[Cell<'_>]) -> Result<Val<'a>, CallFault>
+    ensures { IsAnswer (indexed_by (val_of first.entry) (values_of indexes.now)) result }
+{
+    let mut item = first;
+    for index in indexes {
+        item = item_at(&item, &index.val)?;
+    }
+    Ok(item)
+}
+
+fn item_at<'a>(item: &Val<'a>, index: &Val<'_>) -> Result<Val<'a>, CallFault>
+    ensures { IsAnswer (indexed (val_of item.now) (val_of index.now)) result }
+{
+    if let Some(bytes) = item.bytes() {
+        return byte_at(bytes, number(index));
+    }
+    match item {
+        Val::List(items) => list_item(items, number(index)),
+        Val::Map(table) => map_entry(table, index.bytes()),
+        Val::Nothing | Val::Null | Val::Bool(_) | Val::Num(_) | Val::Text(_) | Val::Made(_) => {
+            Err(CallFault::WrongKind)
+        }
+    }
+}
+
+/// The number that a value is.
+pub(crate) fn number(value: &Val<'_>) -> Option<i64>
+    ensures { result ≡ number_of (val_of value.now) }
+{
+    match value {
+        Val::Num(n) => Some(*n),
+        Val::Nothing
+        | Val::Null
+        | Val::Bool(_)
+        | Val::Text(_)
+        | Val::Made(_)
+        | Val::List(_)
+        | Val::Map(_) => None,
+    }
+}
+
+fn byte_at<'a>(bytes: &[u8], place: Option<i64>) -> Result<Val<'a>, CallFault>
+    ensures { IsAnswer (byte_at bytes.now place) result }
+{
+    let Some(place) = place else {
+        return Err(CallFault::WrongKind);
+    };
+    if place < 0 {
+        return Err(CallFault::OutOfRange);
+    }
+    let i = place as usize;
+    if i < bytes.len() {
+        Ok(Val::Num(i64::from(bytes[i])))
+    } else {
+        Err(CallFault::OutOfRange)
+    }
+}
+
+fn list_item<'a>(items: &'a [Data], place: Option<i64>) -> Result<Val<'a>, CallFault>
+    ensures { IsAnswer (item_of (items_of items.now) place) result }
+{
+    let Some(place) = place else {
+        return Err(CallFault::WrongKind);
+    };
+    if place < 0 {
+        return Err(CallFault::OutOfRange);
+    }
+    let i = place as usize;
+    if i < items.len() {
+        Ok(Val::of(&items[i]))
+    } else {
+        Err(CallFault::OutOfRange)
+    }
+}
+
+fn map_entry<'a>(table: &'a Table, key: Option<&[u8]>) -> Result<Val<'a>, CallFault>
+    ensures { IsAnswer (entry_of table.now (option_map (λ k. k.now) key.entry)) result }
+{
+    let Some(key) = key else {
+        return Err(CallFault::WrongKind);
+    };
+    match table.get(key) {
+        Some(held) => Ok(Val::of(held)),
+        None => Ok(Val::Null),
+    }
+}

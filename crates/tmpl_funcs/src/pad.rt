@@ -1,0 +1,56 @@
+//! Texts and numbers padded to a width.
+ghost use Rattle.std.specs.Prelude.{◌≡◌, ◌++◌, OnOk, replicate};
+ghost use Rattle.tmpl_funcs.specs.Directive.{laid_out, padded};
+
+use crate::form::Form;
+use crate::rune::rune_count;
+use std::alloc::AllocError;
+
+/// Adds a text with the spaces that it lacks to the width, counted in runes.
+pub(crate) fn add_padded(form: Form, text: &[u8], bytes: &mut Vec<u8>) -> Result<(), AllocError>
+    ensures { OnOk result (bytes.new.items ≡ bytes.old.items ++ padded form text.now) }
+{
+    let missing = form.width.saturating_sub(rune_count(text));
+    if form.minus {
+        bytes.extend_from_slice(text)?;
+        add_repeated(b' ', missing, bytes)
+    } else {
+        add_repeated(b' ', missing, bytes)?;
+        bytes.extend_from_slice(text)
+    }
+}
+
+/// Adds a sign and digits with the spaces or zeros that they lack to the width.
+pub(crate) fn add_laid_out(
+    form: Form,
+    sign: &[u8],
+    digits: &[u8],
+    bytes: &mut Vec<u8>,
+) -> Result<(), AllocError>
+    ensures { OnOk result (bytes.new.items
+        ≡ bytes.old.items ++ laid_out form sign.now digits.now) }
+{
+    let missing = form.width.saturating_sub(sign.len() + digits.len());
+    if form.minus {
+        bytes.extend_from_slice(sign)?;
+        bytes.extend_from_slice(digits)?;
+        add_repeated(b' ', missing, bytes)
+    } else if form.zero {
+        bytes.extend_from_slice(sign)?;
+        add_repeated(b'0', missing, bytes)?;
+        bytes.extend_from_slice(digits)
+    } else {
+        add_repeated(b' ', missing, bytes)?;
+        bytes.extend_from_slice(sign)?;
+        bytes.extend_from_slice(digits)
+    }
+}
+
+fn add_repeated(byte: u8, count: usize, bytes: &mut Vec<u8>) -> Result<(), AllocError>
+    ensures { OnOk result (bytes.new.items ≡ bytes.old.items ++ replicate count byte) }
+{
+    for _ in 0..count {
+        bytes.push(byte)?;
+    }
+    Ok(())
+}

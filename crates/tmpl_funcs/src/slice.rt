@@ -1,0 +1,61 @@
+//! `slice`.
+ghost use Rattle.std.specs.Prelude.{◌≡◌, ◌∷◌};
+ghost use Rattle.tmpl_values.specs.View.{val_of};
+ghost use Rattle.tmpl_funcs.specs.Answer.{values_of, IsAnswer};
+ghost use Rattle.tmpl_funcs.specs.Slice.{extent, part_by, slice_of, whole};
+
+use crate::fault::CallFault;
+use crate::index::number;
+use tmpl_values::{Cell, Val};
+
+/// A value from the first bound to before the second, which default to its ends. It shares the bytes
+/// or items.
+pub(crate) fn slice<'a>(value: Val<'a>, bounds: &[Cell<'_>]) -> Result<Val<'a>, CallFault>
+    ensures { IsAnswer (slice_of (val_of value.entry ∷ values_of bounds.now)) result }
+{
+    let size = extent(&value);
+    match bounds {
+        [] => part(value, size, Some(0), size),
+        [from] => part(value, size, number(&from.val), size),
+        [from, to] => part(value, size, number(&from.val), number(&to.val)),
+        _ => Err(CallFault::WrongCount),
+    }
+}
+
+/// How many bytes a text or items a list has.
+fn extent(value: &Val<'_>) -> Option<i64>
+    ensures { result ≡ whole (extent (val_of value.now)) }
+{
+    if let Some(text) = value.bytes() {
+        return Some(text.len() as i64);
+    }
+    match value {
+        Val::List(items) => Some(items.len() as i64),
+        Val::Nothing
+        | Val::Null
+        | Val::Bool(_)
+        | Val::Num(_)
+        | Val::Text(_)
+        | Val::Made(_)
+        | Val::Map(_) => None,
+    }
+}
+
+fn part<'a>(
+    value: Val<'a>,
+    size: Option<i64>,
+    from: Option<i64>,
+    to: Option<i64>,
+) -> Result<Val<'a>, CallFault>
+    requires { size ≡ whole (extent (val_of value)) }
+    ensures { IsAnswer (part_by (val_of value.entry) (extent (val_of value.entry)) from to) result }
+{
+    let (Some(size), Some(i), Some(j)) = (size, from, to) else {
+        return Err(CallFault::WrongKind);
+    };
+    if 0 <= i && i <= j && j <= size {
+        Ok(value.part(i as u64, j as u64))
+    } else {
+        Err(CallFault::OutOfRange)
+    }
+}
