@@ -5,7 +5,6 @@ use Rattle.tmpl_lex.specs.Piece.{Token}
 use Rattle.tmpl_lex.specs.Marker.{End, closing}
 use Rattle.tmpl_lex.specs.Token.{front_token}
 use Rattle.tmpl_lex.specs.Cut.{Inside, inside, inside_after, inside_from, with_token, spelled, IsSpelled}
-use Rattle.tmpl_lex.proofs.Runs.{IsFront}
 use Rattle.tmpl_lex.proofs.Fronts.{IsAtFront, token-front}
 use Rattle.tmpl_lex.proofs.Insides.{drop_first}
 

@@ -30,13 +30,14 @@ pub fn cut(alloc: Global, bytes: &[u8]) -> Result<Vec<Piece<'_>>, AllocError>
     ensures value { IfOk result (λ v. map piece_of v.items ≡ spec.cut_of bytes.now) }
 {
     let mut pieces = Vec::new(alloc);
+    let mut room = Vec::new(alloc);
     let mut rest = bytes;
     let mut line = 1;
     let mut trims = false;
     while let Some((before, after)) = split_pair(rest, b'{', b'{') {
         push_text(&mut pieces, line, before, trims, left_marked(after))?;
         line += newlines(before);
-        let opened = read_opened(alloc, past_left(after))?;
+        let opened = read_opened(alloc, &mut room, past_left(after))?;
         let Some(end) = push_opened(&mut pieces, line, opened)? else {
             return Ok(pieces);
         };
