@@ -1,5 +1,5 @@
 //! The cut of a file into pieces.
-ghost use Rattle.std.specs.Prelude.{◌≡◌, ◌+◌, ◌^◌, ◌<◌, ◌++◌, ◌≤◌, IfOk, OnOk, List, false, length, map, option_map};
+ghost use Rattle.std.specs.Prelude.{◌≡◌, ◌++◌, ◌≤◌, IfOk, OnOk, List, false, length, map, option_map};
 ghost use Rattle.tmpl_lex.specs.Piece as mirror;
 ghost use Rattle.tmpl_lex.specs.Piece.{piece_of};
 ghost use Rattle.tmpl_lex.specs.Marker as marker;
@@ -35,8 +35,14 @@ pub fn cut(alloc: Global, bytes: &[u8]) -> Result<Vec<Piece<'_>>, AllocError>
     let mut line = 1;
     let mut trims = false;
     while let Some((before, after)) = split_pair(rest, b'{', b'{') {
-        push_text(&mut pieces, line, before, trims, left_marked(after))?;
-        line += newlines(before);
+        let (taken, text) = split_leading(before, trims);
+        line += newlines(taken);
+        push_text(
+            &mut pieces,
+            line,
+            without_trailing(text, left_marked(after)),
+        )?;
+        line += newlines(text);
         let opened = read_opened(alloc, &mut room, past_left(after))?;
         let Some(end) = push_opened(&mut pieces, line, opened)? else {
             return Ok(pieces);
@@ -45,7 +51,8 @@ pub fn cut(alloc: Global, bytes: &[u8]) -> Result<Vec<Piece<'_>>, AllocError>
         trims = end.trims;
         rest = end.rest;
     }
-    push_text(&mut pieces, line, rest, trims, false)?;
+    let (taken, text) = split_leading(rest, trims);
+    push_text(&mut pieces, line + newlines(taken), text)?;
     Ok(pieces)
 }
 
@@ -68,26 +75,8 @@ pub fn tokens_spell(bytes: &[u8])
     let _ = bytes;
 }
 
-/// Adds the text between two actions, of which the first byte stands on this line, with a right
-/// trim marker before it or none and a left one behind it or none.
-fn push_text<'b>(
-    pieces: &mut Vec<Piece<'b>>,
-    line: u64,
-    bytes: &'b [u8],
-    right: bool,
-    left: bool,
-) -> Result<(), AllocError>
-    requires { line + length bytes.now < 2 ^ 64 }
-    ensures { OnOk result (map piece_of pieces.new.items
-        ≡ map piece_of pieces.old.items ++ spec.texts right left line bytes.now) }
-{
-    let (taken, kept) = split_leading(bytes, right);
-    let first = line + newlines(taken);
-    push_kept(pieces, first, without_trailing(kept, left))
-}
-
 /// Adds a text, unless it is empty.
-fn push_kept<'b>(pieces: &mut Vec<Piece<'b>>, line: u64, bytes: &'b [u8]) -> Result<(), AllocError>
+fn push_text<'b>(pieces: &mut Vec<Piece<'b>>, line: u64, bytes: &'b [u8]) -> Result<(), AllocError>
     ensures { OnOk result (map piece_of pieces.new.items
         ≡ map piece_of pieces.old.items ++ text_piece line bytes.now) }
 {
