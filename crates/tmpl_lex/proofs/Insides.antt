@@ -59,7 +59,7 @@ inside_none (b ∷ bs) e f =
     ap (λ o. inside_from o (front_token (b ∷ bs)) (λ t. inside_after (length t.bytes - 1) bs)) (sym e)
     ∙ ap (λ o. inside_from None o (λ t. inside_after (length t.bytes - 1) bs)) (sym f)
 
-drop_first : (n b : ℕ) (bs : List ℕ) → 0 < n → drop (n - 1) bs ≡ drop n (b ∷ bs)
+pub drop_first : (n b : ℕ) (bs : List ℕ) → 0 < n → drop (n - 1) bs ≡ drop n (b ∷ bs)
 drop_first zero b bs h = absurd (omega arith)
 drop_first (suc n) b bs h = ap (λ k. drop k bs) (omega arith)
 

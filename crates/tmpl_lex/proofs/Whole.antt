@@ -1,6 +1,8 @@
 -- The pieces of a whole file, from action to action.
-use Rattle.std.proofs.Common.{arith, ◌≡◌, ℕ, zero, suc, ◌+◌, ◌-◌, ◌<◌, ◌≤◌, Bool, true, false, List, [], ◌∷◌, ◌++◌, Option, Some, None, refl, sym, ap, subst, ◌∙◌, length, drop, append_assoc, append-nil, length-take, length-drop, nat_eq}
-use Rattle.std.proofs.lemmas.List.Sums.{count_by-le-length}
+use Rattle.std.proofs.Common.{arith, ◌≡◌, ℕ, zero, suc, ◌+◌, ◌-◌, ◌<◌, ◌≤◌, Bool, true, false, List, [], ◌∷◌, ◌++◌, Option, Some, None, refl, sym, ap, subst, ◌∙◌, length, take, drop, cond, append_assoc, append-nil, length-take, length-drop, nat_eq}
+use Rattle.std.proofs.lemmas.List.{take_all}
+use Rattle.std.proofs.lemmas.List.Sums.{count_by-le-length, sum_by-take-drop}
+use Rattle.tmpl_lex.specs.Text.{leading, without_leading, without_trailing, text_piece}
 use Rattle.tmpl_lex.specs.Marker.{End, left_marked, past_left, behind_marker}
 use Rattle.tmpl_lex.specs.Piece.{Piece, action, unreadable}
 use Rattle.tmpl_lex.specs.Cut.{newlines, stretch, texts, split_pair, split_open, comment_end, comment_closed, opens_comment, inside, Inside, Opened, comment, tokens, neither, opened, opened_by, Cuts, last, dropped, closed, unclosed, pieces_at, pieces_from, cut_within, cut_of}
@@ -53,6 +55,25 @@ lines_within before after rest h =
     let a = count_by-le-length (λ b. nat_eq b 10) before in
     let b = count_by-le-length (λ b. nat_eq b 10) (stretch after rest) in
     omega (arith, a, b, length-take (length after - length rest) after)
+
+-- ---- a text, by what a right trim marker takes of it
+
+-- its newlines are those of what is taken and of what is kept
+pub lines_of : (right : Bool) (before taken kept : List ℕ) → taken ≡ take (leading right before) before → kept ≡ without_leading right before → newlines taken + newlines kept ≡ newlines before
+lines_of right before taken kept e f =
+    ap (λ xs. newlines xs + newlines kept) e
+    ∙ ap (λ xs. newlines (take (leading right before) before) + newlines xs) f
+    ∙ sum_by-take-drop (λ b. cond (nat_eq b 10) 1 0) before (leading right before)
+
+pub put_text : (old mid : List Piece) (right left : Bool) (line count : ℕ) (before taken kept text : List ℕ) → taken ≡ take (leading right before) before → kept ≡ without_leading right before → count ≡ newlines taken → text ≡ without_trailing left kept → mid ≡ old ++ text_piece (line + count) text → mid ≡ old ++ texts right left line before
+put_text old mid right left line count before taken kept text e f n t put =
+    put
+    ∙ ap (λ k. old ++ text_piece (line + k) text) (n ∙ ap newlines e)
+    ∙ ap (λ xs. old ++ text_piece (line + newlines (take (leading right before) before)) xs) (t ∙ ap (without_trailing left) f)
+
+-- with no marker behind it all is kept
+pub all_kept : (bs : List ℕ) → bs ≡ without_trailing false bs
+all_kept bs = sym (take_all (length bs - 0) bs (omega arith))
 
 -- ---- the pieces so far
 

@@ -55,6 +55,17 @@ inside_after zero (b ∷ bs) =
 unfoldable pub inside : List ℕ → Option Inside
 inside bs = inside_after 0 bs
 
+-- the bytes of tokens, one behind the other
+abbrev pub spelled : List Token → List ℕ
+spelled [] = []
+spelled (t ∷ ts) = t.bytes ++ spelled ts
+
+-- the bytes are those of the tokens, and behind them those that begin with this end
+pub record IsSpelled (bs : List ℕ) (ts : List Token) (end : End) : Type 0 where
+  pub behind : List ℕ
+  pub all : spelled ts ++ behind ≡ bs
+  pub ends : closing behind ≡ Some end
+
 -- the bytes begin with `/*`
 abbrev pub opens_comment : List ℕ → Bool
 opens_comment [] = false

@@ -1,6 +1,5 @@
 -- What the parts of the cut give, apart from how it is held.
-use Rattle.std.specs.Prelude.{ℕ, List, [], ◌∷◌, ◌++◌, map, take, drop, Option, Some, None, Vec}
-use Rattle.std.specs.declared.alloc.Global.{Global}
+use Rattle.std.specs.Prelude.{ℕ, List, [], ◌∷◌, ◌++◌, map, take, drop, Option, Some, None}
 use Rattle.std.specs.Borrow.{Bor}
 use Rattle.tmpl_lex.specs.declared.piece.TokenKind.{TokenKind}
 use Rattle.tmpl_lex.specs.declared.piece.Token as held_token
@@ -29,9 +28,10 @@ pair_of (Some p) = Some (p.0.now, p.1.now)
 abbrev pub end_of : held_end.End → End
 end_of e = record { trims = e.trims; rest = e.rest.now }
 
-abbrev pub inside_of : Option (Vec held_token.Token Global × held_end.End) → Option Inside
-inside_of None = None
-inside_of (Some p) = Some (map token_of p.0.items, end_of p.1)
+-- the tokens that were read, and the end that was found
+abbrev pub inside_of : List held_token.Token → Option held_end.End → Option Inside
+inside_of ts None = None
+inside_of ts (Some e) = Some (map token_of ts, end_of e)
 
 abbrev pub opened_of : held_opened.Opened → Opened
 opened_of (held.Comment e) = comment (end_of e)

@@ -1,7 +1,8 @@
 //! The cut of a file into pieces.
-ghost use Rattle.std.specs.Prelude.{◌≡◌, ◌+◌, ◌^◌, ◌<◌, ◌++◌, ◌≤◌, IfOk, OnOk, List, false, length, map, option_map};
+ghost use Rattle.std.specs.Prelude.{◌≡◌, ◌++◌, ◌≤◌, IfOk, OnOk, List, false, length, map, option_map};
 ghost use Rattle.tmpl_lex.specs.Piece as mirror;
 ghost use Rattle.tmpl_lex.specs.Piece.{piece_of};
+ghost use Rattle.tmpl_lex.specs.Marker as marker;
 ghost use Rattle.tmpl_lex.specs.Cut as spec;
 ghost use Rattle.tmpl_lex.specs.Text.{text_piece};
 ghost use Rattle.tmpl_lex.specs.Held.{end_of, ends_at, opened_of, pieces_of};
@@ -29,13 +30,20 @@ pub fn cut(alloc: Global, bytes: &[u8]) -> Result<Vec<Piece<'_>>, AllocError>
     ensures value { IfOk result (λ v. map piece_of v.items ≡ spec.cut_of bytes.now) }
 {
     let mut pieces = Vec::new(alloc);
+    let mut room = Vec::new(alloc);
     let mut rest = bytes;
     let mut line = 1;
     let mut trims = false;
     while let Some((before, after)) = split_pair(rest, b'{', b'{') {
-        push_text(&mut pieces, line, before, trims, left_marked(after))?;
-        line += newlines(before);
-        let opened = read_opened(alloc, past_left(after))?;
+        let (taken, text) = split_leading(before, trims);
+        line += newlines(taken);
+        push_text(
+            &mut pieces,
+            line,
+            without_trailing(text, left_marked(after)),
+        )?;
+        line += newlines(text);
+        let opened = read_opened(alloc, &mut room, past_left(after))?;
         let Some(end) = push_opened(&mut pieces, line, opened)? else {
             return Ok(pieces);
         };
@@ -43,7 +51,8 @@ pub fn cut(alloc: Global, bytes: &[u8]) -> Result<Vec<Piece<'_>>, AllocError>
         trims = end.trims;
         rest = end.rest;
     }
-    push_text(&mut pieces, line, rest, trims, false)?;
+    let (taken, text) = split_leading(rest, trims);
+    push_text(&mut pieces, line + newlines(taken), text)?;
     Ok(pieces)
 }
 
@@ -57,26 +66,17 @@ pub fn one_cut(bytes: &[u8])
     let _ = bytes;
 }
 
-/// Adds the text between two actions, of which the first byte stands on this line, with a right
-/// trim marker before it or none and a left one behind it or none.
-fn push_text<'b>(
-    pieces: &mut Vec<Piece<'b>>,
-    line: u64,
-    bytes: &'b [u8],
-    right: bool,
-    left: bool,
-) -> Result<(), AllocError>
-    requires { line + length bytes.now < 2 ^ 64 }
-    ensures { OnOk result (map piece_of pieces.new.items
-        ≡ map piece_of pieces.old.items ++ spec.texts right left line bytes.now) }
+/// The law that the tokens of a closed action are all of its bytes, in order, up to its end.
+#[tactic(auto, using(crate::proofs::Spelling::spelling))]
+pub fn tokens_spell(bytes: &[u8])
+    ensures { (tokens : List mirror.Token) → (end : marker.End)
+        → spec.inside bytes.now ≡ Some (tokens, end) → spec.IsSpelled bytes.now tokens end }
 {
-    let (taken, kept) = split_leading(bytes, right);
-    let first = line + newlines(taken);
-    push_kept(pieces, first, without_trailing(kept, left))
+    let _ = bytes;
 }
 
 /// Adds a text, unless it is empty.
-fn push_kept<'b>(pieces: &mut Vec<Piece<'b>>, line: u64, bytes: &'b [u8]) -> Result<(), AllocError>
+fn push_text<'b>(pieces: &mut Vec<Piece<'b>>, line: u64, bytes: &'b [u8]) -> Result<(), AllocError>
     ensures { OnOk result (map piece_of pieces.new.items
         ≡ map piece_of pieces.old.items ++ text_piece line bytes.now) }
 {

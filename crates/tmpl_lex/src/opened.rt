@@ -9,6 +9,10 @@ use crate::pair::split_pair;
 use crate::piece::Token;
 use crate::token::front_token;
 use std::alloc::{AllocError, Global};
+use std::mem;
+
+/// So many tokens are copied out of the room that they were read into.
+const COPIED: usize = 64;
 
 /// What begins behind a `{{` or its left trim marker.
 #[derive(Drop)]
@@ -20,20 +24,34 @@ pub(crate) enum Opened<'b> {
     Neither,
 }
 
-/// The tokens of an action, and its end.
-type Inside<'b> = (Vec<Token<'b>>, End<'b>);
-
-/// Reads what begins behind a `{{` or its left trim marker.
+/// Reads what begins behind a `{{` or its left trim marker. The tokens are read into room that is
+/// used again, so that an action holds no more memory than its tokens take.
 #[tactic(auto, unfolding(crate::specs::Cut::opened))]
-pub(crate) fn read_opened(alloc: Global, bytes: &[u8]) -> Result<Opened<'_>, AllocError>
+pub(crate) fn read_opened<'b>(
+    alloc: Global,
+    room: &mut Vec<Token<'b>>,
+    bytes: &'b [u8],
+) -> Result<Opened<'b>, AllocError>
     ensures { IfOk result (λ o. opened_of o ≡ spec.opened bytes.now) }
 {
     if let Some(end) = comment_end(bytes) {
         return Ok(Opened::Comment(end));
     }
-    match read_inside(alloc, bytes)? {
-        Some((tokens, end)) => Ok(Opened::Action(tokens, end)),
+    match read_inside(room, bytes)? {
+        Some(end) => Ok(Opened::Action(moved_out(alloc, room)?, end)),
         None => Ok(Opened::Neither),
+    }
+}
+
+/// The tokens that were read: a copy of a few, which leaves the room for the next action, and the
+/// room itself where they are many.
+fn moved_out<'b>(alloc: Global, room: &mut Vec<Token<'b>>) -> Result<Vec<Token<'b>>, AllocError>
+    ensures { IfOk result (λ v. v.items ≡ room.old.items) }
+{
+    if room.len() <= COPIED {
+        room.to_vec(alloc)
+    } else {
+        Ok(mem::replace(room, Vec::new(alloc)))
     }
 }
 
@@ -51,16 +69,20 @@ fn comment_end(bytes: &[u8]) -> Option<End<'_>>
     }
 }
 
-/// Reads the tokens of an action; `None` where it is not closed or some place begins no token.
+/// Reads the tokens of an action, and says where it ends; `None` where it is not closed or some
+/// place begins no token.
 #[tactic(auto, using(crate::proofs::Insides::reading))]
-fn read_inside(alloc: Global, bytes: &[u8]) -> Result<Option<Inside<'_>>, AllocError>
-    ensures { IfOk result (λ o. inside_of o ≡ spec.inside bytes.now) }
+fn read_inside<'b>(
+    tokens: &mut Vec<Token<'b>>,
+    bytes: &'b [u8],
+) -> Result<Option<End<'b>>, AllocError>
+    ensures { IfOk result (λ o. inside_of tokens.new.items o ≡ spec.inside bytes.now) }
 {
-    let mut tokens = Vec::new(alloc);
+    tokens.clear();
     let mut rest = bytes;
     loop {
         if let Some(end) = closing(rest) {
-            return Ok(Some((tokens, end)));
+            return Ok(Some(end));
         }
         let Some(token) = front_token(rest) else {
             return Ok(None);

@@ -1,5 +1,5 @@
 //! What the trim markers beside a text take of it, and its lines.
-ghost use Rattle.std.specs.Prelude.{◌≡◌, ◌≤◌, length, take};
+ghost use Rattle.std.specs.Prelude.{◌≡◌, ◌+◌, ◌≤◌, length, take};
 ghost use Rattle.tmpl_lex.specs.Text as spec;
 
 use crate::bytes::{is_space, white_len};
@@ -8,6 +8,7 @@ use crate::bytes::{is_space, white_len};
 pub(crate) fn split_leading(text: &[u8], trims: bool) -> (&[u8], &[u8])
     ensures taken { result.0.now ≡ take (spec.leading trims text.now) text.now }
     ensures kept { result.1.now ≡ spec.without_leading trims text.now }
+    ensures len { length result.0.now + length result.1.now ≡ length text.now }
 {
     let taken = if trims { white_len(text) } else { 0 };
     text.split_at(taken)
