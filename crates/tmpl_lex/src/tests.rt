@@ -149,7 +149,6 @@ fn bytes_that_are_no_text(rt: HostRuntime) -> Result<(), Fail> {
         }
     }
     one_cut(&[0xff]);
-    tokens_spell(b".}}");
     assert!(rt; is_space(b'\t') && !is_space(0x0b));
     Ok(())
 }
