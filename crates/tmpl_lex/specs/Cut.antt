@@ -124,7 +124,9 @@ pieces_at line after (tokens ts end) further =
     action line ts ∷ further end.trims (line + newlines (stretch after end.rest)) end.rest
 pieces_at line after neither further = unreadable line ∷ []
 
-abbrev pub pieces_from : Bool → ℕ → List ℕ → Option (List ℕ × List ℕ) → (Bool → ℕ → List ℕ → List Piece) → List Piece
+-- the pieces of bytes by where their first `{{` stands
+abbrev pub pieces_from : Bool → ℕ → List ℕ → Option (List ℕ × List ℕ)
+    → (Bool → ℕ → List ℕ → List Piece) → List Piece
 pieces_from right line bs None further = texts right false line bs
 pieces_from right line bs (Some p) further =
     texts right (left_marked p.1) line p.0 ++ pieces_at (line + newlines p.0) p.1 (opened (past_left p.1)) further
