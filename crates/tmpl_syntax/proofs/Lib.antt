@@ -3,6 +3,7 @@ pub mod Checks
 pub mod ElseParts
 pub mod Files
 pub mod Finds
+pub mod Groups
 pub mod Judge
 pub mod Lists
 pub mod One

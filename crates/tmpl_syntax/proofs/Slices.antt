@@ -7,9 +7,8 @@ use Rattle.std.proofs.lemmas.List.Folds.{list_all-map}
 use Rattle.std.proofs.lemmas.List.Sums.{prefix_len-le-length}
 use Rattle.tmpl_lex.specs.declared.piece.Token as held
 use Rattle.tmpl_lex.specs.Piece.{Token, token_of}
-use Rattle.tmpl_syntax.specs.Tree as tree
 use Rattle.tmpl_syntax.specs.Tree.{Operand}
-use Rattle.tmpl_syntax.specs.Reading.{is_white, is_blank, is_link, name_in, chain_in, without_front, operand_at, operand_in, pipeline_in}
+use Rattle.tmpl_syntax.specs.Reading.{is_white, is_blank, is_link, name_in, chain_in, without_front, operand_at, operand_in, of_one, pipeline_in}
 use Rattle.tmpl_syntax.proofs.Tokens.{prefix-map, take-rest}
 
 pub blank-view : (ts : List held.Token) → list_all (λ t. is_white (token_of t)) ts ≡ is_blank (map token_of ts)
@@ -20,9 +19,9 @@ pub ruleset views = (blank-view, list_all-map)
 pub ruleset runs = (prefix_len-le-length, list_all-map)
 
 -- the pipeline of an operand, behind white space
-pub pipeline-reads : (ts front : List Token) (o : Option Operand) → front ≡ without_front ts → o ≡ operand_at front → option_map tree.pipeline o ≡ pipeline_in ts
+pub pipeline-reads : (ts front : List Token) (o : Option Operand) → front ≡ without_front ts → o ≡ operand_at front → option_map of_one o ≡ pipeline_in ts
 unfolding pipeline_in operand_in
-pipeline-reads ts front o at is = ap (option_map tree.pipeline) (is ∙ ap operand_at at)
+pipeline-reads ts front o at is = ap (option_map of_one) (is ∙ ap operand_at at)
 
 -- a chain of this many links, and what stands behind it
 module _ (ts : List held.Token) (n : ℕ) (is : n ≡ prefix_len (λ t. is_link (token_of t)) ts) (within : n ≤ length ts) where

@@ -1,7 +1,7 @@
 -- What counts of an item for the place in which it stands: which kind of action it is, and the names in it. Names
 -- are without their `$`.
 use Rattle.std.specs.Prelude.{ℕ, List, [], ◌∷◌, ◌++◌, map}
-use Rattle.tmpl_syntax.specs.Tree.{Operand, dot, fields, variable, Pipeline, pipeline, Binding, unbound, declare, assign, RangeVariables, unnamed, element, key_and_element}
+use Rattle.tmpl_syntax.specs.Tree.{Operand, dot, fields, variable, bool_constant, number_constant, text_constant, nil, function, group, Operands, no_operand, operand, Commands, no_command, command, Pipeline, pipeline, Binding, unbound, declare, assign, RangeVariables, unnamed, element, key_and_element}
 use Rattle.tmpl_syntax.specs.Action.{Control, if_control, with_control, range_control, Action, pipeline_action, opening, plain_else, else_branch, end_action, break_action, continue_action}
 use Rattle.tmpl_syntax.specs.Item.{Item, text_item, unreadable_item, unread_item, action_item}
 use Rattle.tmpl_syntax.specs.declared.action.Branch.{Branch}
@@ -37,13 +37,28 @@ abbrev pub named : Name → List Name
 named [] = []
 named (b ∷ bs) = (b ∷ bs) ∷ []
 
-abbrev pub used_by_operand : Operand → List Name
-used_by_operand dot = []
-used_by_operand (fields names) = []
-used_by_operand (variable name names) = named name
+abbrev mutual
+  pub used_by_operand : Operand → List Name
+  used_by_operand dot = []
+  used_by_operand (fields names) = []
+  used_by_operand (variable name names) = named name
+  used_by_operand (bool_constant b) = []
+  used_by_operand (number_constant n) = []
+  used_by_operand (text_constant bytes) = []
+  used_by_operand nil = []
+  used_by_operand (function f) = []
+  used_by_operand (group commands names) = used_by_commands commands
+
+  pub used_by_operands : Operands → List Name
+  used_by_operands no_operand = []
+  used_by_operands (operand o os) = used_by_operand o ++ used_by_operands os
+
+  pub used_by_commands : Commands → List Name
+  used_by_commands no_command = []
+  used_by_commands (command os cs) = used_by_operands os ++ used_by_commands cs
 
 abbrev pub used_by : Pipeline → List Name
-used_by (pipeline operand) = used_by_operand operand
+used_by (pipeline commands) = used_by_commands commands
 
 abbrev pub assigned_by : Binding → List Name
 assigned_by unbound = []

@@ -77,9 +77,13 @@ operand_at (t ∷ ts) = operand_by t.kind t ts
 unfoldable pub operand_in : List Token → Option Operand
 operand_in ts = operand_at (without_front ts)
 
+-- the pipeline of one operand
+abbrev pub of_one : Operand → Pipeline
+of_one o = tree.pipeline (tree.command (tree.operand o tree.no_operand) tree.no_command)
+
 -- a pipeline, here of one operand
 unfoldable pub pipeline_in : List Token → Option Pipeline
-pipeline_in ts = option_map tree.pipeline (operand_in ts)
+pipeline_in ts = option_map of_one (operand_in ts)
 
 -- ---- declarations and assignments
 

@@ -21,7 +21,7 @@ mod tree;
 pub use fault::{ParseFault, ParseKind};
 pub use parse::{base_name, parse_file};
 pub use set::{Names, Set};
-pub use tree::{Binding, Node, Operand, Pipeline, RangeVariables, Tree};
+pub use tree::{Binding, Command, Node, Operand, Pipeline, RangeVariables, Tree};
 
 #[cfg(test)]
 mod tests;

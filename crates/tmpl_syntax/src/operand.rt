@@ -7,7 +7,7 @@ ghost use Rattle.tmpl_syntax.specs.Held.{next_of};
 ghost use Rattle.tmpl_syntax.specs.Tree as tree;
 ghost use Rattle.tmpl_syntax.specs.Tree.{operand_of, pipeline_of};
 
-use crate::tree::{Operand, Pipeline};
+use crate::tree::{Command, Operand, Pipeline};
 use std::alloc::{AllocError, Global};
 use tmpl_lex::{Token, TokenKind};
 use tmpl_values::Bytes;
@@ -163,7 +163,16 @@ pub(crate) fn pipeline(alloc: Global, tokens: &[Token<'_>]) -> Result<Option<Pip
     ensures { IfOk result (λ o. option_map pipeline_of o ≡ spec.pipeline_in (map token_of tokens.now)) }
 {
     match operand(alloc, without_front(tokens))? {
-        Some(operand) => Ok(Some(Pipeline { operand })),
+        Some(operand) => Ok(Some(of_one(alloc, operand)?)),
         None => Ok(None),
     }
+}
+
+/// The pipeline of one operand.
+fn of_one(alloc: Global, operand: Operand) -> Result<Pipeline, AllocError>
+    ensures { IfOk result (λ p. pipeline_of p ≡ spec.of_one (operand_of operand)) }
+{
+    let operands = vec![in alloc; operand]?;
+    let commands = vec![in alloc; Command { operands }]?;
+    Ok(Pipeline { commands })
 }

@@ -1,6 +1,6 @@
 //! What is asked of an action in its place, and what stands after it.
 ghost use Rattle.std.specs.Prelude.{◌≡◌, ◌≤◌, ◌<◌, ◌++◌, ◌∷◌, IfOk, reverse, true, false, Some, None, length, take};
-ghost use Rattle.tmpl_syntax.specs.Tree.{operand_of, pipeline_of, binding_of, variables_of};
+ghost use Rattle.tmpl_syntax.specs.Tree.{commands_in, operand_of, operands_in, pipeline_of, binding_of, variables_of};
 ghost use Rattle.tmpl_syntax.specs.Action.{control_of, action_of};
 ghost use Rattle.tmpl_syntax.specs.Item.{item_of};
 ghost use Rattle.tmpl_syntax.specs.Mark as mark;
@@ -15,7 +15,7 @@ use crate::fault::Fault;
 use crate::frame::{Frame, Kind};
 use crate::item::Item;
 use crate::known::KnownNames;
-use crate::tree::{Binding, Operand, Pipeline, RangeVariables};
+use crate::tree::{Binding, Command, Operand, Pipeline, RangeVariables};
 use std::alloc::AllocError;
 
 /// The most levels that may stand (our own limit): an open control is one, and an `else if` up to its `end`.
@@ -193,16 +193,51 @@ fn knows_pipeline(names: &KnownNames<'_>, count: usize, pipeline: &Pipeline) -> 
     requires { count ≤ length (known_names names.now) }
     ensures { result ≡ knows (take count (known_names names.now)) (mark.used_by (pipeline_of pipeline.now)) }
 {
-    knows_operand(names, count, &pipeline.operand)
+    knows_commands(names, count, pipeline.commands.as_slice())
 }
 
+#[cycle(knows)]
+fn knows_commands(names: &KnownNames<'_>, count: usize, commands: &[Command]) -> bool
+    requires { count ≤ length (known_names names.now) }
+    ensures { result ≡ knows (take count (known_names names.now)) (mark.used_by_commands (commands_in commands.now)) }
+{
+    for command in commands {
+        if !knows_operands(names, count, command.operands.as_slice()) {
+            return false;
+        }
+    }
+    true
+}
+
+#[cycle(knows)]
+fn knows_operands(names: &KnownNames<'_>, count: usize, operands: &[Operand]) -> bool
+    requires { count ≤ length (known_names names.now) }
+    ensures { result ≡ knows (take count (known_names names.now)) (mark.used_by_operands (operands_in operands.now)) }
+{
+    for operand in operands {
+        if !knows_operand(names, count, operand) {
+            return false;
+        }
+    }
+    true
+}
+
+#[cycle(knows)]
+#[tactic(auto, using(crate::proofs::Groups::group_seen))]
 fn knows_operand(names: &KnownNames<'_>, count: usize, operand: &Operand) -> bool
     requires { count ≤ length (known_names names.now) }
     ensures { result ≡ knows (take count (known_names names.now)) (mark.used_by_operand (operand_of operand.now)) }
 {
     match operand {
         Operand::Variable { name, .. } => knows_variable(names, count, name.as_slice()),
-        Operand::Dot | Operand::Fields(_) => true,
+        Operand::Group { commands, .. } => knows_commands(names, count, commands.as_slice()),
+        Operand::Dot
+        | Operand::Fields(_)
+        | Operand::Bool(_)
+        | Operand::Number(_)
+        | Operand::Text(_)
+        | Operand::Nil
+        | Operand::Function(_) => true,
     }
 }
 
