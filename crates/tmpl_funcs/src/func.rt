@@ -100,7 +100,7 @@ impl Func {
     }
 
     /// Whether it makes a text, and so takes memory.
-    pub(crate) fn makes_text(self) -> bool
+    pub fn makes_text(self) -> bool
         ensures { result ≡ makes_text self }
     {
         matches!(

@@ -1,11 +1,11 @@
 -- The value of a pipeline ("Arguments", "Pipelines", "Variables" and "Functions" in the documentation of Go's
 -- text/template). What nothing, null and the modes for missing keys do is our own rule, also where Go differs.
-use Rattle.std.specs.Prelude.{ℕ, ◌+◌, Bool, true, false, not, ◌||◌, List, [], ◌∷◌, ◌++◌, Option, Some, None, Result, Ok, Err, if◌then◌else◌}
+use Rattle.std.specs.Prelude.{ℕ, suc, ◌+◌, Bool, true, false, not, ◌||◌, List, [], ◌∷◌, ◌++◌, Option, Some, None, Result, Ok, Err, if◌then◌else◌}
 use Rattle.std.specs.Str.{bytes_eq}
 use Rattle.tmpl_values.specs.Value.{Value, nothing, null, boolean, number, string, sequence, mapping}
 use Rattle.tmpl_values.specs.Truth.{truth}
 use Rattle.tmpl_values.specs.Field.{FieldValue, found, missing, of_nothing, no_field, field_at}
-use Rattle.tmpl_funcs.specs.Called.{answer}
+use Rattle.tmpl_funcs.specs.Called.{called}
 use Rattle.tmpl_funcs.specs.Func.{makes_text, takes}
 use Rattle.tmpl_funcs.specs.declared.func.Func.{Func}
 use Rattle.tmpl_funcs.specs.declared.func.Func.TheVariants.{And, Or}
@@ -119,7 +119,7 @@ or_call_failed f (Err fault) = Err (call_failed f fault)
 -- a function over the values of its operands, and a piped value behind them
 abbrev pub applied : Func → Option Value → Result (List Value) Cause → Bool → Given
 applied f piped (Ok vs) made =
-    record { result = or_call_failed f (answer f (piped_after vs piped)); made = made || makes_text f }
+    record { result = or_call_failed f (called f (piped_after vs piped)); made = made || makes_text f }
 applied f piped (Err cause) made = record { result = Err cause; made = made }
 
 -- by the function: `and` and `or` evaluate their operands themselves
@@ -138,7 +138,7 @@ piped_count (Some v) = 1
 
 abbrev pub operand_count : Operands → ℕ
 operand_count no_operand = 0
-operand_count (operand o os) = 1 + operand_count os
+operand_count (operand o os) = suc (operand_count os)
 
 -- whether a value decides an `or`, as the first that is not empty, or an `and`, as the first that is
 abbrev pub decides : Bool → Value → Bool
@@ -175,6 +175,13 @@ pub record Place : Type 0 where
   pub dot : Value
   pub env : Environment
 
+-- a function as an argument: a call without arguments
+abbrev pub bare_call : Func → Given
+bare_call f = counted f (takes f 0) (applied f None (Ok []) false)
+
+abbrev pub argument_count : Operands → Option Value → ℕ
+argument_count os piped = operand_count os + piped_count piped
+
 abbrev mutual
   -- as an argument: null stays null, `nil` is nothing, and a function is a call without arguments
   pub operand_value : Place → Operand → Given
@@ -185,8 +192,7 @@ abbrev mutual
   operand_value s (number_constant n) = given (Ok (number n))
   operand_value s (text_constant bytes) = given (Ok (string bytes))
   operand_value s nil = given (Ok nothing)
-  operand_value s (function f) =
-      counted f (takes f 0) (applied f None (Ok []) false)
+  operand_value s (function f) = bare_call f
   operand_value s (group commands names) =
       given_then (commands_value s commands None) (λ v. given (chain s.mode names v))
 
@@ -206,7 +212,7 @@ abbrev mutual
   pub command_value : Place → Operands → Option Value → Given
   command_value s no_operand piped = given (Err not_a_function)
   command_value s (operand o os) piped = commanded o os piped (operand_value s o)
-      (λ f. counted f (takes f (operand_count os + piped_count piped))
+      (λ f. counted f (takes f (argument_count os piped))
       (by_function f piped (operand_values s os)
       (junction false s nothing os piped) (junction true s nothing os piped)))
 
@@ -216,6 +222,12 @@ abbrev mutual
   commands_value s no_command (Some v) = given (Ok v)
   commands_value s (command os cs) piped =
       given_then (command_value s os piped) (λ v. commands_value s cs (Some (without_null v)))
+
+-- a call with operands and perhaps a piped value
+abbrev pub call_value : Place → Func → Operands → Option Value → Given
+call_value s f os piped = counted f (takes f (argument_count os piped))
+    (by_function f piped (operand_values s os)
+    (junction false s nothing os piped) (junction true s nothing os piped))
 
 -- the value of a pipeline
 abbrev pub pipeline_value : Place → Pipeline → Given
