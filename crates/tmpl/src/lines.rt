@@ -233,7 +233,7 @@ fn say_no_entry<'a, E: Sink>(err: &mut E, fault: &RunFault<'a>, name: &'a [u8])
 }
 
 /// Says where a run stopped, and this.
-fn say_reason<E: Sink>(err: &mut E, fault: &RunFault<'_>, reason: &str)
+fn say_reason<'a, E: Sink>(err: &mut E, fault: &RunFault<'a>, reason: &'a str)
     requires { E.failures err.old < 2 ^ 64 - 1 }
     ensures cuts { Once (E.failures err.old) (E.failures err.new) }
     ensures line { Says (located fault.now.file.now fault.now.line fault.now.template.now (plain reason.now ∷ end))
