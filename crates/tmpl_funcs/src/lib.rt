@@ -24,3 +24,6 @@ pub use dispatch::call;
 pub use fault::CallFault;
 pub use format::one_reading;
 pub use func::Func;
+
+#[cfg(test)]
+mod tests;
