@@ -8,3 +8,4 @@ pub mod Formats
 pub mod Added
 pub mod Fronts
 pub mod Law
+pub mod Rows
