@@ -7,7 +7,7 @@ use Rattle.tmpl_values.specs.Value.{Value, string}
 use Rattle.tmpl_funcs.specs.Join.{joined, as_text}
 use Rattle.tmpl_funcs.specs.declared.fault.CallFault.{CallFault}
 
--- a byte in HTML, as `html/template`'s `HTMLEscaper` has it: NUL is U+FFFD
+-- a byte in HTML, as `HTMLEscapeString` has it: NUL is U+FFFD
 abbrev pub html_byte : ℕ → List ℕ
 html_byte b =
     if b == 34 then codes "&#34;"

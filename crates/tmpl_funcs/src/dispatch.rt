@@ -1,7 +1,7 @@
 //! Calls.
 ghost use Rattle.std.specs.Prelude.{◌≡◌, ◌<◌, ◌∷◌, false, true, drop, length};
-ghost use Rattle.tmpl_values.specs.View.{val_of};
-ghost use Rattle.tmpl_funcs.specs.Answer.{values_of, IsAnswer, IsMade};
+ghost use Rattle.tmpl_values.specs.View.{is_made, val_of};
+ghost use Rattle.tmpl_funcs.specs.Answer.{values_of, AreBorrowed, IsAnswer, IsBorrowed, IsMade};
 ghost use Rattle.tmpl_funcs.specs.Func.{is_called, makes_text, takes};
 ghost use Rattle.tmpl_funcs.specs.Called.{answer, IsCall};
 
@@ -24,7 +24,8 @@ use tmpl_values::{Cell, Val};
 /// those that make a text: `print`, `println`, `printf`, `html` and `urlquery`.
 pub fn call<'a>(alloc: Global, func: Func, arguments: &mut [Cell<'a>]) -> Result<Val<'a>, CallFault>
     requires { is_called func ≡ true }
-    ensures { IsCall func (values_of arguments.old) result }
+    ensures table { IsCall func (values_of arguments.old) result }
+    ensures borrowed { makes_text func ≡ false → AreBorrowed arguments.old → IsBorrowed result }
 {
     if !func.takes(arguments.len() as u64) {
         return Err(CallFault::WrongCount);
@@ -67,7 +68,8 @@ fn answer<'a>(func: Func, arguments: &mut [Cell<'a>]) -> Result<Val<'a>, CallFau
     requires called { is_called func ≡ true }
     requires silent { makes_text func ≡ false }
     requires takes { takes func (length arguments.old) ≡ true }
-    ensures { IsAnswer (answer func (values_of arguments.old)) result }
+    ensures table { IsAnswer (answer func (values_of arguments.old)) result }
+    ensures borrowed { AreBorrowed arguments.old → IsBorrowed result }
 {
     match func {
         Func::And
@@ -99,7 +101,8 @@ fn answer<'a>(func: Func, arguments: &mut [Cell<'a>]) -> Result<Val<'a>, CallFau
 /// Takes the first value out of the cells.
 fn take_first<'a>(arguments: &mut [Cell<'a>]) -> Val<'a>
     requires { 0 < length arguments.old }
-    ensures { values_of arguments.old ≡ val_of result ∷ drop 1 (values_of arguments.new) }
+    ensures value { values_of arguments.old ≡ val_of result ∷ drop 1 (values_of arguments.new) }
+    ensures borrowed { AreBorrowed arguments.old → is_made result ≡ false }
 {
     mem::replace(&mut arguments[0].val, Val::Nothing)
 }

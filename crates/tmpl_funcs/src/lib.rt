@@ -22,4 +22,8 @@ mod slice;
 
 pub use dispatch::call;
 pub use fault::CallFault;
+pub use format::one_reading;
 pub use func::Func;
+
+#[cfg(test)]
+mod tests;
