@@ -9,6 +9,7 @@ use Rattle.tmpl_lex.specs.Cut.{newlines, stretch, texts, split_pair, split_open,
 use Rattle.tmpl_lex.specs.Held.{pieces_of, ends_at}
 use Rattle.tmpl_lex.proofs.Pairs.{split_lengths}
 use Rattle.tmpl_lex.proofs.Insides.{closing_shorter, inside_shorter}
+use Rattle.tmpl_lex.proofs.Spelling.{opened_comment, opened_tokens, opened_neither, comment_opened, tokens_opened, neither_opened}
 
 -- ---- what stands behind a comment or an action is shorter than what stands behind its `{{`
 
@@ -98,14 +99,14 @@ module _ (whole : List ℕ) (old mid new : List Piece) (right : Bool) (line : �
         let same : e ≡ end = cc in
         let on = subst (λ (x : End). Cuts x.trims (line + newlines before + newlines (stretch after x.rest)) x.rest more) same (subst (λ (k : ℕ). Cuts e.trims k e.rest more) n cuts) in
         subst (λ d. Cuts false 1 whole d) (sym (joined [] more grown))
-        (so_far.completes (texts right (left_marked after) line before ++ more) (dropped (sym here) (sym is) on));
+        (so_far.completes (texts right (left_marked after) line before ++ more) (dropped (sym here) (opened_comment (past_left after) end (sym is)) on));
   }
   completed_more (tokens ts end) e next is at grown n = record {
     completes = λ more cuts.
         let same : e ≡ end = cc in
         let on = subst (λ (x : End). Cuts x.trims (line + newlines before + newlines (stretch after x.rest)) x.rest more) same (subst (λ (k : ℕ). Cuts e.trims k e.rest more) n cuts) in
         subst (λ d. Cuts false 1 whole d) (sym (joined (action (line + newlines before) ts ∷ []) more grown))
-        (so_far.completes (texts right (left_marked after) line before ++ action (line + newlines before) ts ∷ more) (closed (sym here) (sym is) on));
+        (so_far.completes (texts right (left_marked after) line before ++ action (line + newlines before) ts ∷ more) (let acted = opened_tokens (past_left after) ts end (sym is) in closed (sym here) acted.0 acted.1 on));
   }
   completed_more neither e next is at grown n = let g : ◌≡◌ {A = Option End} (Some e) None = at in cc
 
@@ -114,7 +115,7 @@ module _ (whole : List ℕ) (old mid new : List Piece) (right : Bool) (line : �
   completed_unclosed (tokens ts end) is at grown = let g : ◌≡◌ {A = Option End} None (Some end) = at in cc
   completed_unclosed neither is at grown =
       subst (λ d. Cuts false 1 whole d) (sym (sym (append-nil new) ∙ joined (unreadable (line + newlines before) ∷ []) [] grown))
-      (so_far.completes (texts right (left_marked after) line before ++ unreadable (line + newlines before) ∷ []) (unclosed (sym here) (sym is)))
+      (so_far.completes (texts right (left_marked after) line before ++ unreadable (line + newlines before) ∷ []) (let open_one = opened_neither (past_left after) (sym is) in unclosed (sym here) open_one.0 open_one.1.1))
 
 pub completed_last : (whole : List ℕ) (old new : List Piece) (right : Bool) (line : ℕ) (bs : List ℕ) → Completed whole old right line bs → None ≡ split_open bs → new ≡ old ++ texts right false line bs → Cuts false 1 whole new
 completed_last whole old new right line bs so_far e g = subst (λ d. Cuts false 1 whole d) (sym g) (so_far.completes (texts right false line bs) (last (sym e)))
@@ -129,11 +130,13 @@ cuts_within (suc n) right line bs h =
     go (λ t next rest (less : length rest < length bs). cuts_within n t next rest (omega arith)) (split_open bs) refl
   where
     tell : ((t : Bool) (next : ℕ) (rest : List ℕ) → length rest < length bs → Cuts t next rest (cut_within n t next rest)) → (before after : List ℕ) → split_open bs ≡ Some (before, after) → (o : Opened) → opened (past_left after) ≡ o → Cuts right line bs (texts right (left_marked after) line before ++ pieces_at (line + newlines before) after o (cut_within n))
-    tell ih before after e neither f = unclosed e f
+    tell ih before after e neither f =
+        let open_one = opened_neither (past_left after) f in unclosed e open_one.0 open_one.1.1
     tell ih before after e (comment end) f =
-        dropped e f (ih end.trims (line + newlines before + newlines (stretch after end.rest)) end.rest (omega (arith, rest_shorter bs before after end (sym e) (ap ends_at (sym f)))))
+        dropped e (opened_comment (past_left after) end f) (ih end.trims (line + newlines before + newlines (stretch after end.rest)) end.rest (omega (arith, rest_shorter bs before after end (sym e) (ap ends_at (sym f)))))
     tell ih before after e (tokens ts end) f =
-        closed e f (ih end.trims (line + newlines before + newlines (stretch after end.rest)) end.rest (omega (arith, rest_shorter bs before after end (sym e) (ap ends_at (sym f)))))
+        let acted = opened_tokens (past_left after) ts end f in
+        closed e acted.0 acted.1 (ih end.trims (line + newlines before + newlines (stretch after end.rest)) end.rest (omega (arith, rest_shorter bs before after end (sym e) (ap ends_at (sym f)))))
 
     go : ((t : Bool) (next : ℕ) (rest : List ℕ) → length rest < length bs → Cuts t next rest (cut_within n t next rest)) → (o : Option (List ℕ × List ℕ)) → split_open bs ≡ o → Cuts right line bs (pieces_from right line bs o (cut_within n))
     go ih None e = last e
@@ -144,15 +147,18 @@ pub only_within : (n : ℕ) (right : Bool) (line : ℕ) (bs : List ℕ) (ps : Li
 unfolding cut_within
 only_within zero right line bs ps cuts h = absurd (omega arith)
 only_within (suc n) right line bs _ (last e) h = ap (λ o. pieces_from right line bs o (cut_within n)) (sym e)
-only_within (suc n) right line bs _ (unclosed {before = before} {after = after} e f) h =
+only_within (suc n) right line bs _ (unclosed {before = before} {after = after} {ts = ts} e no_comment spelt) h =
+    let f = neither_opened (past_left after) ts no_comment spelt in
     ap (λ o. texts right (left_marked after) line before ++ pieces_at (line + newlines before) after o (cut_within n)) (sym f)
     ∙ ap (λ o. pieces_from right line bs o (cut_within n)) (sym e)
-only_within (suc n) right line bs _ (dropped {before = before} {after = after} {end = end} {ps = ps} e f cuts) h =
+only_within (suc n) right line bs _ (dropped {before = before} {after = after} {end = end} {ps = ps} e commented cuts) h =
+    let f = comment_opened (past_left after) end commented in
     ap (λ more. texts right (left_marked after) line before ++ more)
     (only_within n end.trims (line + newlines before + newlines (stretch after end.rest)) end.rest ps cuts (omega (arith, rest_shorter bs before after end (sym e) (ap ends_at (sym f)))))
     ∙ ap (λ o. texts right (left_marked after) line before ++ pieces_at (line + newlines before) after o (cut_within n)) (sym f)
     ∙ ap (λ o. pieces_from right line bs o (cut_within n)) (sym e)
-only_within (suc n) right line bs _ (closed {before = before} {after = after} {ts = ts} {end = end} {ps = ps} e f cuts) h =
+only_within (suc n) right line bs _ (closed {before = before} {after = after} {ts = ts} {end = end} {ps = ps} e no_comment spelt cuts) h =
+    let f = tokens_opened (past_left after) ts end no_comment spelt in
     ap (λ more. texts right (left_marked after) line before ++ action (line + newlines before) ts ∷ more)
     (only_within n end.trims (line + newlines before + newlines (stretch after end.rest)) end.rest ps cuts (omega (arith, rest_shorter bs before after end (sym e) (ap ends_at (sym f)))))
     ∙ ap (λ o. texts right (left_marked after) line before ++ pieces_at (line + newlines before) after o (cut_within n)) (sym f)

@@ -29,6 +29,55 @@ split_pair x y (a ∷ b ∷ bs) = split_here (a == x && b == y) a (b ∷ bs) (sp
 abbrev pub split_open : List ℕ → Option (List ℕ × List ℕ)
 split_open bs = split_pair 123 123 bs
 
+-- the bytes behind a `{{` or its left trim marker spell these tokens, one behind the other, up to the first end where a
+-- token could begin; or, with no end, up to a place where neither an end nor a token begins
+pub data Spells : List ℕ → List Token → Option End → Type 0 where
+  ended : {bs : List ℕ} {end : End} → closing bs ≡ Some end → Spells bs [] (Some end)
+  stuck : {bs : List ℕ} → closing bs ≡ None → front_token bs ≡ None → Spells bs [] None
+  spelled : {t : Token} {rest : List ℕ} {ts : List Token} {end : Option End}
+      → closing (t.bytes ++ rest) ≡ None → front_token (t.bytes ++ rest) ≡ Some t → Spells rest ts end
+      → Spells (t.bytes ++ rest) (t ∷ ts) end
+
+-- the bytes begin with `/*`
+abbrev pub opens_comment : List ℕ → Bool
+opens_comment [] = false
+opens_comment (a ∷ []) = false
+opens_comment (a ∷ b ∷ bs) = a == 47 && b == 42
+
+abbrev pub comment_closed : Bool → Option (List ℕ × List ℕ) → Option End
+comment_closed false p = None
+comment_closed true None = None
+comment_closed true (Some p) = closing p.1
+
+-- the end of the comment that the bytes begin with: directly behind the first `*/` after `/*`
+unfoldable pub comment_end : List ℕ → Option End
+comment_end bs = comment_closed (opens_comment bs) (split_pair 42 47 (drop 2 bs))
+
+-- the bytes, of which the first stands on this line, are cut into these pieces; `right` says that a right trim marker
+-- stands before them
+pub data Cuts : Bool → ℕ → List ℕ → List Piece → Type 0 where
+  -- no action: all is text
+  last : {right : Bool} {line : ℕ} {bs : List ℕ}
+      → split_open bs ≡ None → Cuts right line bs (texts right false line bs)
+  -- a comment, which is no piece, and what the bytes behind it are cut into
+  dropped : {right : Bool} {line : ℕ} {bs before after : List ℕ} {end : End} {ps : List Piece}
+      → split_open bs ≡ Some (before, after) → comment_end (past_left after) ≡ Some end
+      → Cuts end.trims (line + newlines before + newlines (stretch after end.rest)) end.rest ps
+      → Cuts right line bs (texts right (left_marked after) line before ++ ps)
+  -- an action, and what the bytes behind it are cut into
+  closed : {right : Bool} {line : ℕ} {bs before after : List ℕ} {ts : List Token} {end : End} {ps : List Piece}
+      → split_open bs ≡ Some (before, after) → comment_end (past_left after) ≡ None
+      → Spells (past_left after) ts (Some end)
+      → Cuts end.trims (line + newlines before + newlines (stretch after end.rest)) end.rest ps
+      → Cuts right line bs (texts right (left_marked after) line before ++ action (line + newlines before) ts ∷ ps)
+  -- a `{{` behind which no closed comment and no closed action begins
+  unclosed : {right : Bool} {line : ℕ} {bs before after : List ℕ} {ts : List Token}
+      → split_open bs ≡ Some (before, after) → comment_end (past_left after) ≡ None
+      → Spells (past_left after) ts None
+      → Cuts right line bs (texts right (left_marked after) line before ++ unreadable (line + newlines before) ∷ [])
+
+-- ---- the same, computed
+
 -- the tokens of an action, and its end
 abbrev pub Inside : Type 0
 Inside = List Token × End
@@ -50,36 +99,9 @@ inside_after (suc n) (b ∷ bs) = inside_after n bs
 inside_after zero (b ∷ bs) =
     inside_from (closing (b ∷ bs)) (front_token (b ∷ bs)) (λ t. inside_after (length t.bytes - 1) bs)
 
--- what stands behind a `{{` or its left trim marker: tokens up to the first end where a token could begin; none where
--- before that some place begins no token or the bytes end
+-- the tokens that the bytes spell and their end, if they have one
 unfoldable pub inside : List ℕ → Option Inside
 inside bs = inside_after 0 bs
-
--- the bytes of tokens, one behind the other
-abbrev pub spelled : List Token → List ℕ
-spelled [] = []
-spelled (t ∷ ts) = t.bytes ++ spelled ts
-
--- the bytes are those of the tokens, and behind them those that begin with this end
-pub record IsSpelled (bs : List ℕ) (ts : List Token) (end : End) : Type 0 where
-  pub behind : List ℕ
-  pub all : spelled ts ++ behind ≡ bs
-  pub ends : closing behind ≡ Some end
-
--- the bytes begin with `/*`
-abbrev pub opens_comment : List ℕ → Bool
-opens_comment [] = false
-opens_comment (a ∷ []) = false
-opens_comment (a ∷ b ∷ bs) = a == 47 && b == 42
-
-abbrev pub comment_closed : Bool → Option (List ℕ × List ℕ) → Option End
-comment_closed false p = None
-comment_closed true None = None
-comment_closed true (Some p) = closing p.1
-
--- the end of the comment that the bytes begin with: directly behind the first `*/` after `/*`
-unfoldable pub comment_end : List ℕ → Option End
-comment_end bs = comment_closed (opens_comment bs) (split_pair 42 47 (drop 2 bs))
 
 -- what begins behind a `{{` or its left trim marker: a closed comment, the tokens of a closed action, or neither
 pub data Opened : Type 0 where
@@ -95,27 +117,6 @@ opened_by None None = neither
 unfoldable pub opened : List ℕ → Opened
 opened bs = opened_by (comment_end bs) (inside bs)
 
--- the bytes, of which the first stands on this line, are cut into these pieces; `right` says that a right trim marker
--- stands before them
-pub data Cuts : Bool → ℕ → List ℕ → List Piece → Type 0 where
-  -- no action: all is text
-  last : {right : Bool} {line : ℕ} {bs : List ℕ}
-      → split_open bs ≡ None → Cuts right line bs (texts right false line bs)
-  -- a comment, which is no piece, and what the bytes behind it are cut into
-  dropped : {right : Bool} {line : ℕ} {bs before after : List ℕ} {end : End} {ps : List Piece}
-      → split_open bs ≡ Some (before, after) → opened (past_left after) ≡ comment end
-      → Cuts end.trims (line + newlines before + newlines (stretch after end.rest)) end.rest ps
-      → Cuts right line bs (texts right (left_marked after) line before ++ ps)
-  -- an action, and what the bytes behind it are cut into
-  closed : {right : Bool} {line : ℕ} {bs before after : List ℕ} {ts : List Token} {end : End} {ps : List Piece}
-      → split_open bs ≡ Some (before, after) → opened (past_left after) ≡ tokens ts end
-      → Cuts end.trims (line + newlines before + newlines (stretch after end.rest)) end.rest ps
-      → Cuts right line bs (texts right (left_marked after) line before ++ action (line + newlines before) ts ∷ ps)
-  -- a `{{` behind which no closed comment and no closed action begins
-  unclosed : {right : Bool} {line : ℕ} {bs before after : List ℕ}
-      → split_open bs ≡ Some (before, after) → opened (past_left after) ≡ neither
-      → Cuts right line bs (texts right (left_marked after) line before ++ unreadable (line + newlines before) ∷ [])
-
 -- the pieces that begin with a `{{` on this line, behind which these bytes stand and this begins
 abbrev pub pieces_at : ℕ → List ℕ → Opened → (Bool → ℕ → List ℕ → List Piece) → List Piece
 pieces_at line after (comment end) further = further end.trims (line + newlines (stretch after end.rest)) end.rest
@@ -123,7 +124,9 @@ pieces_at line after (tokens ts end) further =
     action line ts ∷ further end.trims (line + newlines (stretch after end.rest)) end.rest
 pieces_at line after neither further = unreadable line ∷ []
 
-abbrev pub pieces_from : Bool → ℕ → List ℕ → Option (List ℕ × List ℕ) → (Bool → ℕ → List ℕ → List Piece) → List Piece
+-- the pieces of bytes by where their first `{{` stands
+abbrev pub pieces_from : Bool → ℕ → List ℕ → Option (List ℕ × List ℕ)
+    → (Bool → ℕ → List ℕ → List Piece) → List Piece
 pieces_from right line bs None further = texts right false line bs
 pieces_from right line bs (Some p) further =
     texts right (left_marked p.1) line p.0 ++ pieces_at (line + newlines p.0) p.1 (opened (past_left p.1)) further

@@ -12,9 +12,9 @@ use Rattle.tmpl_lex.specs.Token.{Begun}
 use Rattle.tmpl_lex.specs.Cut.{Inside, Opened, comment, tokens, neither, split_pair}
 
 -- the first so many of the bytes
-abbrev pub front_of : List ℕ → Option ℕ → Option (List ℕ)
-front_of bs None = None
-front_of bs (Some n) = Some (take n bs)
+abbrev pub taken_of : List ℕ → Option ℕ → Option (List ℕ)
+taken_of bs None = None
+taken_of bs (Some n) = Some (take n bs)
 
 -- the kind of a token, and its bytes behind the first, which are the first so many of these
 abbrev pub begun_of : List ℕ → Option (TokenKind × ℕ) → Option Begun

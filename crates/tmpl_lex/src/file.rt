@@ -2,7 +2,6 @@
 ghost use Rattle.std.specs.Prelude.{◌≡◌, ◌++◌, ◌≤◌, IfOk, OnOk, List, false, length, map, option_map};
 ghost use Rattle.tmpl_lex.specs.Piece as mirror;
 ghost use Rattle.tmpl_lex.specs.Piece.{piece_of};
-ghost use Rattle.tmpl_lex.specs.Marker as marker;
 ghost use Rattle.tmpl_lex.specs.Cut as spec;
 ghost use Rattle.tmpl_lex.specs.Text.{text_piece};
 ghost use Rattle.tmpl_lex.specs.Held.{end_of, ends_at, opened_of, pieces_of};
@@ -62,15 +61,6 @@ pub fn one_cut(bytes: &[u8])
     ensures exists { spec.Cuts false 1 bytes.now (spec.cut_of bytes.now) }
     ensures one { (pieces : List mirror.Piece) → spec.Cuts false 1 bytes.now pieces
         → pieces ≡ spec.cut_of bytes.now }
-{
-    let _ = bytes;
-}
-
-/// The law that the tokens of a closed action are all of its bytes, in order, up to its end.
-#[tactic(auto, using(crate::proofs::Spelling::spelling))]
-pub fn tokens_spell(bytes: &[u8])
-    ensures { (tokens : List mirror.Token) → (end : marker.End)
-        → spec.inside bytes.now ≡ Some (tokens, end) → spec.IsSpelled bytes.now tokens end }
 {
     let _ = bytes;
 }

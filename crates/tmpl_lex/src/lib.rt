@@ -13,7 +13,7 @@ mod text;
 mod token;
 
 pub use bytes::is_space;
-pub use file::{cut, one_cut, tokens_spell};
+pub use file::{cut, one_cut};
 pub use piece::{Piece, Token, TokenKind};
 
 #[cfg(test)]

@@ -1,7 +1,7 @@
 //! What a template file is cut into.
 
-/// The kind of a token of an action. A name is a run of name bytes: letters and digits of ASCII, `_`
-/// and every byte from 80h.
+/// The kind of a token of an action. A name is a run of name bytes: letters and digits of ASCII,
+/// `_` and every byte from 80h.
 #[derive(Clone, Copy, Debug, PartialEq, Eq)]
 pub enum TokenKind {
     /// A longest run of white space.

@@ -1,13 +1,13 @@
 //! What stands behind an opening quote, up to its closing one.
 ghost use Rattle.std.specs.Prelude.{◌≡◌, ◌≤◌, ◌==◌, ◌&&◌, IfSome, false, length, not};
 ghost use Rattle.tmpl_lex.specs.Quoted as spec;
-ghost use Rattle.tmpl_lex.specs.Held.{front_of};
+ghost use Rattle.tmpl_lex.specs.Held.{taken_of};
 
 use memchr::memchr;
 
 /// How many bytes there are up to and with the next such byte.
 pub(crate) fn through(byte: u8, bytes: &[u8]) -> Option<usize>
-    ensures value { front_of bytes.now result ≡ spec.through byte bytes.now }
+    ensures value { taken_of bytes.now result ≡ spec.through byte bytes.now }
     ensures within { IfSome result (λ n. n ≤ length bytes.now) }
 {
     Some(memchr(byte, bytes)? + 1)
@@ -16,7 +16,7 @@ pub(crate) fn through(byte: u8, bytes: &[u8]) -> Option<usize>
 /// How many bytes there are up to and with the next such quote that no backslash escapes, with no
 /// newline among them.
 pub(crate) fn quoted(quote: u8, bytes: &[u8]) -> Option<usize>
-    ensures value { front_of bytes.now result ≡ spec.quoted quote false bytes.now }
+    ensures value { taken_of bytes.now result ≡ spec.quoted quote false bytes.now }
     ensures within { IfSome result (λ n. n ≤ length bytes.now) }
 {
     let mut escaped = false;

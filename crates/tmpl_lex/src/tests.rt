@@ -7,7 +7,8 @@ fn text(bytes: &[u8]) -> &str {
     std::str::from_utf8(bytes).unwrap_or("not UTF-8")
 }
 
-// `[LINE TEXT]` for a text, `(LINE KIND<SPELLING> ..)` for an action, `!LINE` for an unreadable one.
+// `[LINE TEXT]` for a text, `(LINE KIND<SPELLING> ..)` for an action, `!LINE` for an unreadable
+// one.
 pub(crate) fn shown(alloc: Global, bytes: &[u8]) -> Result<String, AllocError> {
     let mut all = String::new(alloc);
     for piece in &cut(alloc, bytes)? {
@@ -149,7 +150,6 @@ fn bytes_that_are_no_text(rt: HostRuntime) -> Result<(), Fail> {
         }
     }
     one_cut(&[0xff]);
-    tokens_spell(b".}}");
     assert!(rt; is_space(b'\t') && !is_space(0x0b));
     Ok(())
 }

@@ -82,8 +82,8 @@ fn strings_and_characters(rt: HostRuntime) -> Result<(), Fail> {
     Ok(())
 }
 
-// The bytes that are a token of an action on their own: 4 of white space, 10 digits, 52 letters, `_`,
-// 128 from 80h, and 7 signs.
+// The bytes that are a token of an action on their own: 4 of white space, 10 digits, 52 letters,
+// `_`, 128 from 80h, and 7 signs.
 #[test]
 fn single_bytes(rt: HostRuntime) -> Result<(), Fail> {
     let mut readable = 0u32;

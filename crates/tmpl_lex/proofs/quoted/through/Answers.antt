@@ -1,12 +1,12 @@
 use Rattle.std.proofs.Common.{◌∙◌, Option, ℕ, sym, ap, subst}
 use Rattle.memchr.specs.Find.{IsFirstByte, is_byte}
-use Rattle.tmpl_lex.specs.Held.{front_of}
+use Rattle.tmpl_lex.specs.Held.{taken_of}
 use Rattle.tmpl_lex.proofs.Quotes.{through_none, through_some}
 use Rattle.tmpl_lex.proofs.quoted.through.Goals as goal
 
 pub returns-in_err-memchr-clause-value : goal.returns-in_err-memchr-clause-value
 returns-in_err-memchr-clause-value c =
-    ap (front_of c.args.bytes.now) c.from_residual.ensures
+    ap (taken_of c.args.bytes.now) c.from_residual.ensures
     ∙ sym (through_none c.args.byte c.args.bytes.now c.in_err-memchr.ensures)
 
 pub returns-clause-value : goal.returns-clause-value
