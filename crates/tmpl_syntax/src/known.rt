@@ -42,12 +42,10 @@ impl<'i> KnownNames<'i> {
         self.names.truncate(count);
     }
 
-    /// Whether one of the first names, so many of them, is this one.
-    pub(crate) fn knows(&self, name: &[u8], count: usize) -> bool
-        requires { count ≤ length (known_names self.now) }
-        ensures { result ≡ is_known (take count (known_names self.now)) name.now }
+    pub(crate) fn knows(&self, name: &[u8]) -> bool
+        ensures { result ≡ is_known (known_names self.now) name.now }
     {
-        is_among(name, &self.names[..count])
+        is_among(name, self.names.as_slice())
     }
 }
 
