@@ -3,6 +3,7 @@ pub mod Checks
 pub mod Counts
 pub mod ElseParts
 pub mod Files
+pub mod Examples
 pub mod Finds
 pub mod Judge
 pub mod Lists

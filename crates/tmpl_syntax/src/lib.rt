@@ -9,6 +9,7 @@ mod fault;
 mod frame;
 mod item;
 mod known;
+mod laws;
 mod parse;
 mod read;
 mod scan;
@@ -16,6 +17,7 @@ mod set;
 mod tree;
 
 pub use fault::{ParseFault, ParseKind};
+pub use laws::{one_spelling, one_verdict};
 pub use parse::{base_name, parse_file};
 pub use set::{Names, Set};
 pub use tree::{Binding, Node, Operand, Pipeline, RangeVariables, Tree};
