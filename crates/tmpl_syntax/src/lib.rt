@@ -24,3 +24,5 @@ pub use tree::{Binding, Node, Operand, Pipeline, RangeVariables, Tree};
 
 #[cfg(test)]
 mod tests;
+#[cfg(test)]
+mod tests_lists;
