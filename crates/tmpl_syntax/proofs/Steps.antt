@@ -1,5 +1,5 @@
 -- What stands after each action.
-use Rattle.std.proofs.Common.{arith, ◌≡◌, ◌≢◌, ℕ, ◌+◌, ◌<◌, ◌≤◌, Bool, true, false, List, ◌∷◌, ◌++◌, refl, sym, ap, ◌∙◌, subst, length, take, drop, add-zero, Option, Some, inl, inr, ⊎_elim, ◌⊎◌}
+use Rattle.std.proofs.Common.{arith, ◌≡◌, ◌≢◌, ℕ, ◌+◌, ◌<◌, ◌≤◌, Bool, true, false, List, ◌∷◌, ◌++◌, refl, sym, ap, ◌∙◌, subst, length, take,  Option, Some, inl, inr, ⊎_elim, ◌⊎◌}
 use Rattle.std.specs.Prelude.{slice_get, Contains}
 use Rattle.std.specs.Bool.{Decides}
 use Rattle.std.proofs.lemmas.Bool.{cases_order, cases_lt}
@@ -9,7 +9,7 @@ use Rattle.std.proofs.lemmas.List.{length-append, length-take-le, take-take, tak
 use Rattle.tmpl_syntax.specs.declared.frame.Frame.{Frame}
 use Rattle.tmpl_syntax.specs.Open.{opens, ends, IsOpening, IsLast, HasElse, is_template}
 use Rattle.tmpl_syntax.specs.Body.{IsLoop, Levels}
-use Rattle.tmpl_syntax.specs.Stack.{top, loops, lasting, heading, entered}
+use Rattle.tmpl_syntax.specs.Stack.{top, loops, part_of, heading, entered}
 use Rattle.tmpl_syntax.proofs.Open.{count_split, count_none, same_control, same_piece, cut, through, Even, shut_at, even_step, opened_new}
 use Rattle.tmpl_syntax.proofs.Place.{alike_back, alike_even, alike_last, template_moves, InLoop, loop_moves, else_before}
 use Rattle.tmpl_syntax.proofs.Scopes.{Reaches, Brought}
@@ -33,10 +33,16 @@ module _ (xs : List Mark) (i : ℕ) (names : List Name) (c : Kind) (p : Names) (
       inr (subst (λ z. Contains z.declares n) (sym gp) k, λ z. r (sym gc ∙ z))
   part_new n (turn lt e k l) = not_after _ lt l
 
-  lasting_short : (d : Kind) → length (lasting d p.declares) ≤ length (heading d p.declares)
-  lasting_short If = omega arith
-  lasting_short With = omega arith
-  lasting_short Range = omega arith
+  -- an else part sees no fewer names than there were before, and no more than there are in the body
+  part_above : (d : Kind) → length names ≤ part_of d (length names) (length names + length p.declares)
+  part_above If = omega arith
+  part_above With = omega arith
+  part_above Range = omega arith
+
+  part_below : (d : Kind) → part_of d (length names) (length names + length p.declares) ≤ length names + length (heading d p.declares)
+  part_below If = omega arith
+  part_below With = omega arith
+  part_below Range = omega arith
 
   -- what the parts see at first: for an if or with
   part_wide : c ≢ Range → (n : Name) → Contains (take (length names + length p.declares) (names ++ p.declares)) n → Part xs i (i + 1) n
@@ -53,18 +59,18 @@ module _ (xs : List Mark) (i : ℕ) (names : List Name) (c : Kind) (p : Names) (
       (λ r. Contains-append_right names p.declares n r.0)
       (part_new n k))
 
-  part_first : (d : Kind) → c ≡ d → is_template d ≡ false → (n : Name) → Contains (take (length names + length (lasting d p.declares)) (names ++ heading d p.declares)) n → Part xs i (i + 1) n
+  part_first : (d : Kind) → c ≡ d → is_template d ≡ false → (n : Name) → Contains (take (part_of d (length names) (length names + length p.declares)) (names ++ heading d p.declares)) n → Part xs i (i + 1) n
   part_first If e own n k = part_wide (λ r. let g : If ≡ Range = sym e ∙ r in cc) n k
   part_first With e own n k = part_wide (λ r. let g : With ≡ Range = sym e ∙ r in cc) n k
   part_first Range e own n k =
-      let s : take (length names + 0) (names ++ p.declares) ≡ names = take_at names p.declares (length names + 0) (sym (add-zero (length names))) in
+      let s : take (length names) (names ++ p.declares) ≡ names = take_at names p.declares (length names) refl in
       earlier (h.to n (subst (λ l. Contains l n) s k))
 
-  part_first_back : (d : Kind) → c ≡ d → is_template d ≡ false → (n : Name) → Part xs i (i + 1) n → Contains (take (length names + length (lasting d p.declares)) (names ++ heading d p.declares)) n
+  part_first_back : (d : Kind) → c ≡ d → is_template d ≡ false → (n : Name) → Part xs i (i + 1) n → Contains (take (part_of d (length names) (length names + length p.declares)) (names ++ heading d p.declares)) n
   part_first_back If e own n k = part_wide_back n k
   part_first_back With e own n k = part_wide_back n k
   part_first_back Range e own n k =
-      let s : take (length names + 0) (names ++ p.declares) ≡ names = take_at names p.declares (length names + 0) (sym (add-zero (length names))) in
+      let s : take (length names) (names ++ p.declares) ≡ names = take_at names p.declares (length names) refl in
       subst (λ l. Contains l n) (sym s) (⊎_elim (λ b. h.back n b) (λ r. absurd (r.1 e)) (part_new n k))
 
   stood_opened : Stood xs (i + 1) (names ++ heading c p.declares) (entered c p t (length names)) i
@@ -75,8 +81,8 @@ module _ (xs : List Mark) (i : ℕ) (names : List Name) (c : Kind) (p : Names) (
     has = (λ e. let g : true ≡ false = sym e in cc, λ e. let a = e.1 in let b = e.2.belongs.is_open.before in absurd (omega arith));
     around = h.looped;
     within = record {
-      started = omega arith;
-      parted = let s = lasting_short c in omega (arith, length-append names (heading c p.declares));
+      started = part_above c;
+      parted = let s = part_below c in omega (arith, length-append names (heading c p.declares));
     };
     to = λ own n k. part_first c refl own n k;
     back = λ own n k. part_first_back c refl own n k;

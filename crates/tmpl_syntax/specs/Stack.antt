@@ -93,24 +93,19 @@ level_of If = 1
 level_of With = 1
 level_of Range = 1
 
--- of the names in the header, those that an else part sees
-abbrev pub lasting : Kind → List Name → List Name
-lasting If names = names
-lasting With names = names
-lasting Range names = []
-
--- .. and those that the first part sees
+-- of the names in the header of a control, those that its body sees
 abbrev pub heading : Kind → List Name → List Name
 heading If names = names
 heading With names = names
 heading Range names = names
 
--- how many names an else part sees, of those before the header and those after it
+-- how many names an else part sees, of those before the header and those with it: a range's own are not seen there
 abbrev pub part_of : Kind → ℕ → ℕ → ℕ
 part_of If before after = after
 part_of With before after = after
 part_of Range before after = before
 
+-- a control in whose outside this frame is the newest and there are n names
 abbrev pub entered : Kind → Names → Option Frame → ℕ → Frame
 entered c p t n = record {
   kind = c;
@@ -118,7 +113,7 @@ entered c p t n = record {
   around = in_loop t;
   levels = levels t + level_of c;
   start = n;
-  part = n + length (lasting c p.declares);
+  part = part_of c n (n + length p.declares);
 }
 
 abbrev pub elsed : Frame → Frame
