@@ -1,5 +1,5 @@
 -- How often each name is there.
-use Rattle.std.proofs.Common.{arith, ◌≡◌, ◌≢◌, ℕ, ◌+◌, ◌-◌, ◌<◌, Bool, true, false, cond, List, [], ◌∷◌, ◌++◌, ◌||◌, refl, sym, ap, ◌∙◌, subst, length, map, take, Bor, Option, Some, None, ltb, zero-add}
+use Rattle.std.proofs.Common.{arith, ◌≡◌, ℕ, ◌+◌, ◌-◌, Bool, true, false, cond, List, [], ◌∷◌, ◌||◌, refl, sym, ap, ◌∙◌, map, Bor, Option, Some, ltb, zero-add}
 use Rattle.std.specs.List.{list_any, count_by}
 use Rattle.std.specs.Option.{unwrap_or}
 use Rattle.std.specs.Map.{update}

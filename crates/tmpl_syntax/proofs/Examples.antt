@@ -1,9 +1,9 @@
 -- What the definitions say of some lists of actions.
-use Rattle.std.proofs.Common.{◌≡◌, ℕ, List, [], ◌∷◌, refl, sym, subst}
+use Rattle.std.proofs.Common.{◌≡◌, ℕ, List, [], ◌∷◌, refl, subst}
 use Rattle.tmpl_syntax.specs.declared.action.Branch.TheVariants.{If as if_branch}
-use Rattle.tmpl_syntax.specs.declared.fault.Fault.TheVariants.{Unreadable, NotAnAction, OutOfPlace, UndeclaredVariable}
-use Rattle.tmpl_syntax.specs.Tree.{Operand, dot, variable, Pipeline, pipeline, Binding, unbound, declare, assign, RangeVariables, unnamed, element, key_and_element, Nodes, none, then, text, action, if_node, range_node, break_node}
-use Rattle.tmpl_syntax.specs.Action.{Control, if_control, with_control, range_control, pipeline_action, opening, plain_else, else_branch, end_action, break_action, continue_action}
+use Rattle.tmpl_syntax.specs.declared.fault.Fault.TheVariants.{NotAnAction, OutOfPlace, UndeclaredVariable}
+use Rattle.tmpl_syntax.specs.Tree.{dot, variable, pipeline, unbound, declare, assign, unnamed, key_and_element, Nodes, none, then, text, action, if_node, range_node, break_node}
+use Rattle.tmpl_syntax.specs.Action.{if_control, with_control, range_control, pipeline_action, opening, plain_else, else_branch, end_action, break_action}
 use Rattle.tmpl_syntax.specs.Item.{Item, text_item, unreadable_item, unread_item, action_item}
 use Rattle.tmpl_syntax.specs.Mark.{marks_of}
 use Rattle.tmpl_syntax.specs.Body.{Verdict, fine, refused, left_open, Judged}

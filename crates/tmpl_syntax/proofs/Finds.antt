@@ -9,7 +9,7 @@ use Rattle.tmpl_syntax.specs.declared.fault.Fault.TheVariants.{Unreadable, NotAn
 use Rattle.tmpl_syntax.specs.declared.frame.Frame.{Frame}
 use Rattle.tmpl_syntax.specs.Mark.{Name, Act, Mark, text_mark, unreadable_mark, unread_mark, act_mark}
 use Rattle.tmpl_syntax.specs.Body.{names_in}
-use Rattle.tmpl_syntax.specs.Stack.{is_placed, is_too_deep, used, is_known, knows, first_fault, fault_in, fault_at}
+use Rattle.tmpl_syntax.specs.Stack.{is_placed, is_too_deep, used, is_known, knows, first_fault, fault_at}
 
 -- the places that a frame holds are in order
 pub record IsWithin (f : Frame) (count : ℕ) : Type 0 where

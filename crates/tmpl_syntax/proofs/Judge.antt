@@ -1,8 +1,7 @@
 -- What the scanner finds is the fault.
-use Rattle.std.proofs.Common.{arith, ◌≡◌, ◌≢◌, ℕ, ◌+◌, ◌-◌, ◌<◌, ◌≤◌, Bool, true, false, not, ◌&&◌, ◌||◌, ltb, leb, List, [], ◌∷◌, refl, sym, ap, ◌∙◌, subst, length, take, drop, Option, Some, None, inl, inr, ⊎_elim, ◌⊎◌}
+use Rattle.std.proofs.Common.{arith, ◌≡◌, ◌≢◌, ℕ, ◌+◌, ◌≤◌, Bool, true, false, not, ◌&&◌, ◌||◌, leb, List, [], ◌∷◌, refl, sym, ap, ◌∙◌, subst, take, Option, Some, None, inl, inr, ⊎_elim, ◌⊎◌}
 use Rattle.std.specs.Prelude.{slice_get, Contains}
-use Rattle.std.proofs.lemmas.Bool.Decides.{leb_tells, Decides-ltb}
-use Rattle.std.proofs.lemmas.List.{take_rest, drop-take}
+use Rattle.std.proofs.lemmas.Bool.Decides.{leb_tells}
 use Rattle.tmpl_syntax.specs.declared.action.Branch.{Branch}
 use Rattle.tmpl_syntax.specs.declared.frame.Frame.{Frame}
 use Rattle.tmpl_syntax.specs.Open.{IsOpening, IsLast, HasElse, is_template}
@@ -15,7 +14,7 @@ use Rattle.tmpl_syntax.proofs.Place.{levels_unique, not_turn}
 use Rattle.tmpl_syntax.proofs.Scopes.{to_scope, from_scope, at_place, at_place_back}
 use Rattle.tmpl_syntax.proofs.ElseParts.{by_turn, to_part, from_part}
 use Rattle.tmpl_syntax.proofs.Stands.{Here, Stands, here_of}
-use Rattle.tmpl_syntax.proofs.Turns.{and_parts, not_true, else_parts, joins_no_range, in_nothing}
+use Rattle.tmpl_syntax.proofs.Turns.{and_parts, else_parts, joins_no_range, in_nothing}
 use Rattle.tmpl_syntax.specs.declared.frame.Kind.TheVariants.{Range}
 use Rattle.tmpl_syntax.specs.Mark.{Name, Names, Act, plain, opener, bare_else, turning, closer, jump, Mark, act_mark}
 

@@ -1,19 +1,19 @@
 -- What stands on the stack is what is open, and the names are those in scope.
-use Rattle.std.proofs.Common.{arith, ◌≡◌, ◌≢◌, ℕ, ◌+◌, ◌≤◌, Bool, true, false, List, [], ◌∷◌, ◌++◌, refl, sym, ap, ◌∙◌, subst, length, take, drop, Option, Some, None, ⊎_elim, ◌⊎◌}
+use Rattle.std.proofs.Common.{arith, ◌≡◌, ◌≢◌, ℕ, ◌+◌, ◌≤◌, Bool, true, false, List, [], ◌∷◌, ◌++◌, refl, sym, ap, ◌∙◌, subst, length, take, Option, Some, None, ⊎_elim}
 use Rattle.std.specs.Prelude.{slice_get, Contains}
 use Rattle.std.specs.Bool.{Decides}
 use Rattle.std.proofs.lemmas.Bool.{cases_lt}
 use Rattle.std.proofs.lemmas.Bool.Decides.{Decides-like}
-use Rattle.std.proofs.lemmas.List.{length-append, take-append-le, drop-append-le, drop_at}
+use Rattle.std.proofs.lemmas.List.{length-append, take-append-le}
 use Rattle.std.proofs.lemmas.List.Elements.{Contains-append_left, Contains-append_right, Contains-append_cases}
 use Rattle.tmpl_syntax.specs.declared.frame.Frame.{Frame}
-use Rattle.tmpl_syntax.specs.Open.{opens, ends, IsOpening, NothingOpen, IsLast, IsElseOf, HasElse, is_template, IsBody, IsTemplate}
+use Rattle.tmpl_syntax.specs.Open.{opens, ends, IsOpening, NothingOpen, IsLast, IsElseOf, HasElse, is_template, IsTemplate}
 use Rattle.tmpl_syntax.specs.Body.{IsLoop, Levels}
 use Rattle.tmpl_syntax.specs.Stack.{top, loops, in_loop, levels, heading, entered}
 use Rattle.tmpl_syntax.proofs.Finds.{IsWithin}
 use Rattle.tmpl_syntax.proofs.Open.{ups, downs, count_split, same_control, same_piece, cut, Same, opened_keeps, opened_new}
 use Rattle.tmpl_syntax.proofs.Place.{alike_back, alike_even, alike_opened, template_moves, levels_same, levels_opened, InLoop, loop_moves, else_before, else_same, loop_same, loop_same_back}
-use Rattle.tmpl_syntax.proofs.Scopes.{Brought, brought_same, brought_same_back, brought_opened, brought_header, brought_opened_back, brought_none}
+use Rattle.tmpl_syntax.proofs.Scopes.{Brought, brought_same, brought_same_back, brought_opened, brought_header, brought_opened_back}
 use Rattle.tmpl_syntax.proofs.ElseParts.{Part, part_later, part_sooner}
 use Rattle.tmpl_syntax.specs.declared.frame.Kind.{Kind}
 use Rattle.tmpl_syntax.specs.declared.frame.Kind.TheVariants.{If, With, Range}

@@ -1,4 +1,4 @@
-use Rattle.std.proofs.Common.{arith, ◌≡◌, ◌≢◌, ℕ, ◌≤◌, List, reverse, length, map, sym, ap, ◌∙◌, Err}
+use Rattle.std.proofs.Common.{arith, ◌≡◌, ◌≢◌, ◌≤◌, reverse, length, map, sym, ap, ◌∙◌, Err}
 use Rattle.std.proofs.lemmas.Grind.{common_steps}
 use Rattle.std.proofs.lemmas.List.{length-map, length-reverse}
 use Rattle.tmpl_syntax.specs.declared.fault.ParseKind.TheVariants.{OpenAtEnd}

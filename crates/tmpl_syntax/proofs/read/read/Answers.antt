@@ -1,9 +1,8 @@
-use Rattle.std.proofs.Common.{◌≡◌, Option, Some, None, map, refl, sym, ap, ◌∙◌}
+use Rattle.std.proofs.Common.{Option, sym, ap, ◌∙◌}
 use Rattle.std.specs.Option.{option_map}
-use Rattle.tmpl_lex.specs.Piece.{Token, token_of}
 use Rattle.tmpl_syntax.specs.declared.tree.Operand as held
-use Rattle.tmpl_syntax.specs.Tree.{Operand, operand_of}
-use Rattle.tmpl_syntax.specs.Reading.{put_out, operand_in, action_in}
+use Rattle.tmpl_syntax.specs.Tree.{operand_of}
+use Rattle.tmpl_syntax.specs.Reading.{put_out, action_in}
 use Rattle.tmpl_syntax.proofs.read.read.Goals as goal
 
 pub returns-in-Some : goal.returns-in-Some
