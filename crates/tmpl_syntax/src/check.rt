@@ -1,6 +1,6 @@
 //! Whether the actions of a file stand where they may.
-ghost use Rattle.tmpl_syntax.specs.Item.{item_of};
 ghost use Rattle.std.specs.Prelude.{◌≡◌, map};
+ghost use Rattle.tmpl_syntax.specs.Item.{item_of};
 ghost use Rattle.tmpl_syntax.specs.Parse as spec;
 ghost use Rattle.tmpl_syntax.specs.Steps.{IsChecked};
 

@@ -1,5 +1,5 @@
 //! What is asked of an action in its place, and what stands after it.
-ghost use Rattle.std.specs.Prelude.{◌≡◌, ◌≤◌, ◌<◌, ◌++◌, ◌∷◌, ◌+◌, IfOk, reverse, true, false, Some, None, length, take};
+ghost use Rattle.std.specs.Prelude.{◌≡◌, ◌<◌, ◌++◌, ◌∷◌, ◌+◌, IfOk, reverse, false, Some, None, length};
 ghost use Rattle.tmpl_syntax.specs.Tree.{operand_of, pipeline_of, binding_of, variables_of};
 ghost use Rattle.tmpl_syntax.specs.Action.{control_of, action_of};
 ghost use Rattle.tmpl_syntax.specs.Item.{item_of};
@@ -308,7 +308,7 @@ fn enter<'i>(
     names: &mut KnownNames<'i>,
     control: &'i Control,
 ) -> Result<(), AllocError>
-    requires { levels (top (reverse stack.old.items)) < 500 }
+    requires { levels (top (reverse stack.old.items)) < body.most_levels }
     ensures frames { let c = control_of control.now in IfOk result (λ u. reverse stack.new.items
         ≡ entered (mark.kind_of c) (header_of c) (top (reverse stack.old.items)) (length (known_names names.old)) ∷ reverse stack.old.items) }
     ensures names { let c = control_of control.now in IfOk result (λ u. known_names names.new
@@ -356,7 +356,7 @@ fn pass_branch<'i>(
     names: &mut KnownNames<'i>,
     binding: &'i Binding,
 ) -> Result<(), AllocError>
-    requires { levels (top (reverse stack.old.items)) < 500 }
+    requires { levels (top (reverse stack.old.items)) < body.most_levels }
     ensures frames { IfOk result (λ u. reverse stack.new.items
         ≡ turned_all (length (known_names names.old) + length (mark.declared_by (binding_of binding.now))) (reverse stack.old.items)) }
     ensures names { IfOk result (λ u. known_names names.new ≡ known_names names.old ++ mark.declared_by (binding_of binding.now)) }
