@@ -1,7 +1,9 @@
 pub mod Building
 pub mod Checks
+pub mod Counts
 pub mod ElseParts
 pub mod Files
+pub mod Examples
 pub mod Finds
 pub mod Groups
 pub mod Judge

@@ -17,15 +17,10 @@ fn shown(alloc: Global, tree: &Tree) -> Result<String, AllocError> {
             }
             Node::Action { line, pipeline, .. } => {
                 all.push_str(format!(in alloc; "({line}")?.as_str())?;
-                match &pipeline.operand {
-                    Operand::Dot => all.push_str(" .")?,
-                    Operand::Fields(names) => {
-                        for name in names {
-                            let name = text(name.as_slice());
-                            all.push_str(format!(in alloc; " {name}")?.as_str())?;
-                        }
+                for command in &pipeline.commands {
+                    for operand in &command.operands {
+                        push_operand(alloc, &mut all, operand)?;
                     }
-                    Operand::Variable { .. } => all.push_str(" $")?,
                 }
                 all.push_str(")")?;
             }
@@ -33,6 +28,20 @@ fn shown(alloc: Global, tree: &Tree) -> Result<String, AllocError> {
         }
     }
     Ok(all)
+}
+
+fn push_operand(alloc: Global, all: &mut String, operand: &Operand) -> Result<(), AllocError> {
+    match operand {
+        Operand::Dot => all.push_str(" ."),
+        Operand::Fields(names) => {
+            for name in names {
+                let name = text(name.as_slice());
+                all.push_str(format!(in alloc; " {name}")?.as_str())?;
+            }
+            Ok(())
+        }
+        _ => all.push_str(" ?"),
+    }
 }
 
 // The templates of a set, each by its name, its file and its nodes.
@@ -81,7 +90,8 @@ fn a_file_becomes_a_template(rt: HostRuntime) -> Result<(), Fail> {
 fn refusals(rt: HostRuntime) -> Result<(), Fail> {
     for (body, line, kind) in [
         ("{{.}", 1, ParseKind::Unreadable),
-        ("a\nb\n{{.a}}\n{{name}}", 4, ParseKind::Unreadable),
+        ("a\nb\n{{.a}}\n{{+}}", 4, ParseKind::Unreadable),
+        ("a\n{{name}}", 2, ParseKind::NotAnAction),
         ("{{}}", 1, ParseKind::NotAnAction),
         ("\n{{ \n }}", 2, ParseKind::NotAnAction),
         ("{{. .}}", 1, ParseKind::NotAnAction),
