@@ -308,7 +308,7 @@ fn stops_at_the_read_that_fails(rt: HostRuntime) {
 
 #[test]
 fn parses_a_file_before_the_next_read(rt: HostRuntime) {
-    let row = three_reads(b"{{x}}");
+    let row = three_reads(b"{{+}}");
     let ran = run(&rt, rt.alloc(), &row, sink(64, NEVER), sink(64, NEVER), 2);
     assert_eq!(rt; ran.code, 4);
     assert!(rt; ran.err.as_slice() == b"tmpl: m:1: unclosed or unreadable action\n".as_slice());
