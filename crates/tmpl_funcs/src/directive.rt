@@ -42,6 +42,9 @@ pub(crate) fn add_printed(form: Form, value: &Val<'_>, bytes: &mut Vec<u8>) -> R
 fn add_value(form: Form, value: &Val<'_>, bytes: &mut Vec<u8>) -> Result<(), CallFault>
     ensures { IsAdded (value_form form (val_of value.now)) bytes.old.items bytes.new.items result }
 {
+    if let Some(text) = value.bytes() {
+        return add_text_form(form, text, bytes);
+    }
     match value {
         Val::List(_) | Val::Map(_) => {
             if !form.is_bare() {
