@@ -22,8 +22,8 @@ html_byte b =
 abbrev pub is_unreserved : ℕ → Bool
 is_unreserved b = is_ascii_alphanumeric b || (b == 45 || (b == 95 || (b == 46 || b == 126)))
 
--- a byte in a query, as `url.QueryEscape` has it: a space is `+`, and every other byte that does not
--- stand for itself is `%` and two digits in upper case
+-- a byte in a query, as `url.QueryEscape` has it: a space is `+`, and every other byte that does
+-- not stand for itself is `%` and two digits in upper case
 abbrev pub query_byte : ℕ → List ℕ
 query_byte b =
     if is_unreserved b then b ∷ [] else (if b == 32 then codes "+" else percent_encode_byte b)

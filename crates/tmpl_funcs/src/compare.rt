@@ -8,7 +8,8 @@ ghost use Rattle.tmpl_funcs.specs.Comparison.{above, at_least, at_most, eq_of, e
 use crate::fault::CallFault;
 use tmpl_values::{Cell, CompareFault, Val};
 
-/// Whether the first argument equals one of the others, compared in order up to the first equal one.
+/// Whether the first argument equals one of the others, compared in order up to the first equal
+/// one.
 pub(crate) fn eq<'a>(arguments: &[Cell<'a>]) -> Result<Val<'a>, CallFault>
     ensures table { IsAnswer (eq_of (values_of arguments.now)) result }
     ensures borrowed { IsBorrowed result }

@@ -18,16 +18,17 @@ use std::alloc::Global;
 use std::mem;
 use tmpl_values::{Cell, Val};
 
-/// Calls a function, over the values that the cells have at entry; it may move them out, and nothing
-/// is said of the cells afterwards.
+/// Calls a function, over the values that the cells have at entry; it may move them out, and
+/// nothing is said of the cells afterwards.
 ///
 /// It is the table of functions in the documentation of `text/template` ("Functions"). Texts are
 /// indexed, cut and measured by bytes, and `printf` pads them by runes. The number of arguments is
-/// looked at first, then their kinds, then ranges. `and` and `or`, which look at no argument after the
-/// deciding one, are no calls.
+/// looked at first, then their kinds, then ranges. `and` and `or`, which look at no argument after
+/// the deciding one, are no calls.
 ///
 /// Memory is taken only by those that make a text: `print`, `println`, `printf`, `html` and
-/// `urlquery`. No other answers want of it, or gives a made text where none was among the arguments.
+/// `urlquery`. No other answers want of it, or gives a made text where none was among the
+/// arguments.
 pub fn call<'a>(alloc: Global, func: Func, arguments: &mut [Cell<'a>]) -> Result<Val<'a>, CallFault>
     requires { is_called func ≡ true }
     ensures table { IsCall func (values_of arguments.old) result }

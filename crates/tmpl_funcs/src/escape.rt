@@ -59,7 +59,8 @@ fn sole_text<'o>(operands: &'o [Cell<'_>]) -> Option<&'o [u8]>
 
 /// Adds the escape of a text, runs of plain bytes at once.
 fn add_escaped(text: &[u8], escape: Escape, bytes: &mut Vec<u8>) -> Result<(), AllocError>
-    ensures { OnOk result (bytes.new.items ≡ bytes.old.items ++ flat_map (escaped_byte escape) text.now) }
+    ensures { OnOk result (bytes.new.items
+        ≡ bytes.old.items ++ flat_map (escaped_byte escape) text.now) }
 {
     let mut start = 0;
     for i in 0..text.len() {

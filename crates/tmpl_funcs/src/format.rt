@@ -55,8 +55,8 @@ fn add_formatted(format: &[u8], operands: &[Cell<'_>], bytes: &mut Vec<u8>) -> R
     }
 }
 
-/// Adds the text of the piece at the front, and gives what stands behind it and how many operands it
-/// took.
+/// Adds the text of the piece at the front, and gives what stands behind it and how many operands
+/// it took.
 fn add_piece<'f>(
     format: &'f [u8],
     operands: &[Cell<'_>],
@@ -109,7 +109,8 @@ fn add_form<'f>(
 pub fn one_reading(format: &[u8])
     ensures reads { (ps : List Piece) → reading format.now ≡ Some ps → IsReading format.now ps }
     ensures read { (ps : List Piece) → IsReading format.now ps → reading format.now ≡ Some ps }
-    ensures one { (ps qs : List Piece) → IsReading format.now ps → IsReading format.now qs → ps ≡ qs }
+    ensures one { (ps qs : List Piece) → IsReading format.now ps → IsReading format.now qs
+        → ps ≡ qs }
 {
     let _ = format;
 }

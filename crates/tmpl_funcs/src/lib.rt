@@ -1,5 +1,5 @@
-//! The functions of templates over values ("Functions" in the documentation of `text/template`), and
-//! the formats of `printf` ("Printing" in the documentation of `fmt`).
+//! The functions of templates over values ("Functions" in the documentation of `text/template`),
+//! and the formats of `printf` ("Printing" in the documentation of `fmt`).
 #![tactic(auto)]
 
 mod class;

@@ -8,8 +8,8 @@ use crate::fault::CallFault;
 use crate::index::number;
 use tmpl_values::{Cell, Val};
 
-/// A value from the first bound to before the second, which default to its ends. It shares the bytes
-/// or items.
+/// A value from the first bound to before the second, which default to its ends. It shares the
+/// bytes or items.
 pub(crate) fn slice<'a>(value: Val<'a>, bounds: &[Cell<'_>]) -> Result<Val<'a>, CallFault>
     ensures table { IsAnswer (slice_of (val_of value.entry ∷ values_of bounds.now)) result }
     ensures borrowed { is_made value.entry ≡ false → IsBorrowed result }
@@ -49,7 +49,8 @@ fn part<'a>(
     to: Option<i64>,
 ) -> Result<Val<'a>, CallFault>
     requires { size ≡ whole (extent (val_of value)) }
-    ensures table { IsAnswer (part_by (val_of value.entry) (extent (val_of value.entry)) from to) result }
+    ensures table { IsAnswer
+        (part_by (val_of value.entry) (extent (val_of value.entry)) from to) result }
     ensures borrowed { is_made value.entry ≡ false → IsBorrowed result }
 {
     let (Some(size), Some(i), Some(j)) = (size, from, to) else {
