@@ -1,10 +1,14 @@
 pub mod Building
 pub mod Checks
+pub mod Constants
+pub mod Depths
 pub mod ElseParts
 pub mod Files
 pub mod Finds
 pub mod Groups
+pub mod Halves
 pub mod Judge
+pub mod Limits
 pub mod Lists
 pub mod One
 pub mod OneSpelling
@@ -15,9 +19,11 @@ pub mod Scopes
 pub mod Slices
 pub mod Sound
 pub mod Spelling
+pub mod Spots
 pub mod Stands
 pub mod Steps
 pub mod Templates
 pub mod Tokens
 pub mod Turns
 pub mod Verdicts
+pub mod Words
