@@ -1,8 +1,9 @@
 -- The pieces of a file with each action read.
-use Rattle.std.specs.Prelude.{ℕ, List, Option, Some, None, map}
+use Rattle.std.specs.Prelude.{ℕ, List, map}
 use Rattle.tmpl_lex.specs.Piece as piece
 use Rattle.tmpl_syntax.specs.Action.{Action, action_of}
-use Rattle.tmpl_syntax.specs.Reading.{action_in}
+use Rattle.tmpl_syntax.specs.Reading.{reading_in}
+use Rattle.tmpl_syntax.specs.Depth.{Reading, unread_action, deep_action, read_action}
 use Rattle.tmpl_syntax.specs.declared.item.Item as held_item
 use Rattle.tmpl_syntax.specs.declared.item.Item.TheVariants as held
 
@@ -19,13 +20,14 @@ item_of (held.Unreadable line) = unreadable_item line
 item_of (held.Unread line) = unread_item line
 item_of (held.Action line action) = action_item line (action_of action)
 
-abbrev pub read_item : ℕ → Option Action → Item
-read_item line None = unread_item line
-read_item line (Some a) = action_item line a
+abbrev pub read_item : ℕ → Reading → Item
+read_item line unread_action = unread_item line
+read_item line (deep_action s) = unread_item line
+read_item line (read_action a) = action_item line a
 
 abbrev pub item_in : piece.Piece → Item
 item_in (piece.text line bytes) = text_item line bytes
-item_in (piece.action line tokens) = read_item line (action_in tokens)
+item_in (piece.action line tokens) = read_item line (reading_in tokens)
 item_in (piece.unreadable line) = unreadable_item line
 
 -- the items of a file's pieces
