@@ -8,7 +8,9 @@ pub mod Judge
 pub mod Lists
 pub mod One
 pub mod OneSpelling
+pub mod Numerals
 pub mod Open
+pub mod Parts
 pub mod Place
 pub mod Readings
 pub mod Scopes
