@@ -12,9 +12,11 @@ pub mod Halves
 pub mod Judge
 pub mod Limits
 pub mod Lists
+pub mod Numerals
 pub mod One
 pub mod OneSpelling
 pub mod Open
+pub mod Parts
 pub mod Place
 pub mod Readings
 pub mod Scopes
