@@ -85,3 +85,68 @@ flat-by kind.RightParenthesis t = tt
 pub flat-at : (t : Token) → IsFlat (operand_at t)
 unfolding operand_at
 flat-at t = flat-by t.kind t
+
+-- an operand of one token
+abbrev pub IsToken : Option Operand → Type 0
+IsToken None = Unit {0}
+IsToken (Some tree.dot) = Unit {0}
+IsToken (Some (tree.fields names)) = (n : List ℕ) × (names ≡ n ∷ [])
+IsToken (Some (tree.variable name names)) = names ≡ []
+IsToken (Some (tree.bool_constant b)) = Unit {0}
+IsToken (Some (tree.number_constant n)) = Unit {0}
+IsToken (Some (tree.text_constant bytes)) = Unit {0}
+IsToken (Some tree.nil) = Unit {0}
+IsToken (Some (tree.function f)) = Unit {0}
+IsToken (Some (tree.group commands names)) = ⊥
+
+value-token : (o : Option Operand) → IsValue o → IsToken o
+value-token None v = tt
+value-token (Some tree.dot) v = tt
+value-token (Some (tree.fields names)) v = absurd v
+value-token (Some (tree.variable name names)) v = absurd v
+value-token (Some (tree.bool_constant b)) v = tt
+value-token (Some (tree.number_constant n)) v = tt
+value-token (Some (tree.text_constant bytes)) v = tt
+value-token (Some tree.nil) v = tt
+value-token (Some (tree.function f)) v = tt
+value-token (Some (tree.group commands names)) v = absurd v
+
+function-token : (o : Option Func) → IsToken (option_map tree.function o)
+function-token None = tt
+function-token (Some f) = tt
+
+cond-token : (b : Bool) (o p : Option Operand) → IsToken o → IsToken p → IsToken (cond b o p)
+cond-token true o p x y = x
+cond-token false o p x y = y
+
+word-token : (name : List ℕ) → IsToken (word_operand name)
+unfolding word_operand
+word-token name =
+    cond-token (bytes_eq name (codes "true")) (Some (tree.bool_constant true)) _ tt
+    (cond-token (bytes_eq name (codes "false")) (Some (tree.bool_constant false)) _ tt
+    (cond-token (bytes_eq name (codes "nil")) (Some tree.nil) _ tt (function-token (func_named name))))
+
+field-token : (b : Bool) (name : List ℕ) → IsToken (field_operand b name)
+field-token true name = (name, refl)
+field-token false name = tt
+
+token-by : (k : TokenKind) (t : Token) → IsToken (operand_by k t)
+token-by kind.Dot t = tt
+token-by kind.Field t = field-token (begins_name (name_in t)) (name_in t)
+token-by kind.Variable t = refl
+token-by kind.Word t = word-token t.bytes
+token-by kind.Number t = value-token (constant_of t) (constant-value t)
+token-by kind.String t = value-token (constant_of t) (constant-value t)
+token-by kind.RawString t = value-token (constant_of t) (constant-value t)
+token-by kind.Character t = value-token (constant_of t) (constant-value t)
+token-by kind.Space t = tt
+token-by kind.Declare t = tt
+token-by kind.Assign t = tt
+token-by kind.Comma t = tt
+token-by kind.Pipe t = tt
+token-by kind.LeftParenthesis t = tt
+token-by kind.RightParenthesis t = tt
+
+pub token-form : (t : Token) → IsToken (operand_at t)
+unfolding operand_at
+token-form t = token-by t.kind t

@@ -1,5 +1,6 @@
 pub mod Building
 pub mod Checks
+pub mod Completed
 pub mod Constants
 pub mod Depths
 pub mod ElseParts
@@ -11,6 +12,7 @@ pub mod Judge
 pub mod Limits
 pub mod Lists
 pub mod One
+pub mod OneReading
 pub mod OneSpelling
 pub mod Open
 pub mod Place
@@ -18,6 +20,7 @@ pub mod Readings
 pub mod Scopes
 pub mod Slices
 pub mod Sound
+pub mod Spelled
 pub mod Spelling
 pub mod Spots
 pub mod Stands
