@@ -2,8 +2,10 @@ pub mod Building
 pub mod Checks
 pub mod Completed
 pub mod Constants
+pub mod Counts
 pub mod Depths
 pub mod ElseParts
+pub mod Examples
 pub mod Files
 pub mod Finds
 pub mod Groups

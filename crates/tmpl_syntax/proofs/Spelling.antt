@@ -1,15 +1,15 @@
 -- The items of an accepted file spell the nodes that are built from them.
-use Rattle.std.proofs.Common.{◌≡◌, ℕ, Bool, true, false, List, [], ◌∷◌, refl, sym, ap, ◌∙◌, subst, length, Option, Some, None}
+use Rattle.std.proofs.Common.{◌≡◌, ℕ, Bool, true, false, List, [], ◌∷◌, refl, sym, subst, length, Option, Some, None}
 use Rattle.tmpl_syntax.specs.declared.fault.Fault.{Fault}
 use Rattle.tmpl_syntax.specs.declared.fault.Fault.TheVariants.{Unreadable, NotAnAction}
 use Rattle.tmpl_syntax.specs.declared.frame.Frame.{Frame}
 use Rattle.tmpl_syntax.specs.Tree.{Nodes, none, then, Node, text, action, break_node, continue_node}
 use Rattle.tmpl_syntax.specs.Action.{pipeline_action, opening, plain_else, else_branch, end_action, break_action, continue_action}
 use Rattle.tmpl_syntax.specs.Item.{Item, text_item, unreadable_item, unread_item, action_item}
-use Rattle.tmpl_syntax.specs.Mark.{Name, act_of, mark_of, marks_of}
+use Rattle.tmpl_syntax.specs.Mark.{Name, mark_of, marks_of}
 use Rattle.tmpl_syntax.specs.Body.{Verdict, fine, refused, left_open}
-use Rattle.tmpl_syntax.specs.Stack.{top, takes_else, is_placed, fault_at, frames_past, names_past, unless_fault, verdict_from, verdict_of}
-use Rattle.tmpl_syntax.specs.Spells.{control_node, branch_node, Leads, nothing, a_text, an_action, a_break, a_continue, a_control, Closes, an_end, an_else, an_else_branch, Spells}
+use Rattle.tmpl_syntax.specs.Stack.{top, seen_at, fault_at, frames_past, unless_fault, verdict_from, verdict_of}
+use Rattle.tmpl_syntax.specs.Spells.{control_node, Leads, nothing, a_text, an_action, a_break, a_continue, a_control, Closes, an_end, an_else, an_else_branch, Spells}
 use Rattle.tmpl_syntax.specs.Build as build
 use Rattle.tmpl_syntax.specs.Build.{no_level, no_parts, first_of, rest_of, with_node_before, parts_with, parts_before, nodes_from}
 use Rattle.tmpl_syntax.proofs.Finds.{FindsMark, finds}
@@ -81,8 +81,9 @@ rest-from : (xs : List Item) (i : ℕ) (names : List Name) (fs : List Frame) →
 rest-from [] i names [] e = nothing
 rest-from [] i names (f ∷ fs) e = let g : left_open ≡ fine = e in cc
 rest-from (x ∷ xs) i names fs e =
-    let h = unless-fine (fault_at (mark_of x) (top fs) names) i _ e in
-    step names xs (parts_before xs no_parts) x fs h.0 (rest-from xs _ _ _ h.1)
+    let seen = seen_at (mark_of x) (top fs) names in
+    let h = unless-fine (fault_at (mark_of x) (top fs) seen) i _ e in
+    step seen xs (parts_before xs no_parts) x fs h.0 (rest-from xs _ _ _ h.1)
 
 -- an accepted file's items spell the nodes that are built from them
 pub spells-fine : (items : List Item) → verdict_of (marks_of items) ≡ fine → Spells items (nodes_from items)

@@ -1,5 +1,5 @@
 //! The nodes of a file.
-ghost use Rattle.std.specs.Prelude.{◌≡◌, ◌++◌, ◌∷◌, [], IfOk, map, reverse};
+ghost use Rattle.std.specs.Prelude.{◌≡◌, IfOk, map, reverse};
 ghost use Rattle.tmpl_syntax.specs.Tree.{node_of, nodes_in, binding_of, pipeline_of};
 ghost use Rattle.tmpl_syntax.specs.Action.{action_of, control_of};
 ghost use Rattle.tmpl_syntax.specs.Item.{item_of, action_item};

@@ -15,6 +15,7 @@ mod header;
 mod item;
 mod keyword;
 mod known;
+mod laws;
 mod operand;
 mod parse;
 mod pipeline;
@@ -25,9 +26,12 @@ mod tree;
 
 pub use fault::{ParseFault, ParseKind};
 pub use grammar::one_reading;
+pub use laws::{one_spelling, one_verdict};
 pub use parse::{base_name, parse_file};
 pub use set::{Names, Set};
 pub use tree::{Binding, Command, Node, Operand, Pipeline, RangeVariables, Tree};
 
 #[cfg(test)]
 mod tests;
+#[cfg(test)]
+mod tests_lists;
