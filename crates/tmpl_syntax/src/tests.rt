@@ -16,6 +16,7 @@ fn names_shown(alloc: Global, names: &[Bytes]) -> Result<String, AllocError> {
     Ok(all)
 }
 
+#[cycle(shown)]
 fn operand_shown(alloc: Global, operand: &Operand) -> Result<String, AllocError> {
     Ok(match operand {
         Operand::Dot => ".".to_string(alloc)?,
@@ -42,6 +43,7 @@ fn operand_shown(alloc: Global, operand: &Operand) -> Result<String, AllocError>
 }
 
 // Operands behind a space, commands parted by bars.
+#[cycle(shown)]
 fn commands_shown(alloc: Global, commands: &[Command]) -> Result<String, AllocError> {
     let mut all = String::new(alloc);
     for (index, command) in commands.iter().enumerate() {
