@@ -1,11 +1,13 @@
 -- What the operands of one token are.
-use Rattle.std.proofs.Common.{◌≡◌, ℕ, Bool, true, false, List, [], ◌∷◌, Option, Some, None, refl, find, cond, bytes_eq, codes}
+use Rattle.std.proofs.Common.{◌≡◌, ℕ, ℤ, pos, Bool, true, false, List, [], ◌∷◌, Option, Some, None, refl, find, cond, bytes_eq, codes}
 use Rattle.std.specs.Option.{option_map}
 use Rattle.tmpl_funcs.specs.declared.func.Func.{Func}
 use Rattle.tmpl_lex.specs.declared.piece.TokenKind.{TokenKind}
 use Rattle.tmpl_lex.specs.declared.piece.TokenKind.TheVariants as kind
 use Rattle.tmpl_lex.specs.Piece.{Token}
-use Rattle.tmpl_syntax.specs.Constant.{constant_of}
+use Rattle.tmpl_syntax.specs.Constant.{constant_of, constant_by}
+use Rattle.tmpl_syntax.specs.Numeral.{whole}
+use Rattle.tmpl_syntax.specs.Unquoted.{between, unquoted, rune_code}
 use Rattle.tmpl_syntax.specs.Token.{begins_name, name_in}
 use Rattle.tmpl_syntax.specs.Tree as tree
 use Rattle.tmpl_syntax.specs.Tree.{Operand}
@@ -25,9 +27,38 @@ IsValue (Some tree.nil) = ⊥
 IsValue (Some (tree.function f)) = ⊥
 IsValue (Some (tree.group commands names)) = ⊥
 
+number-value : (o : Option ℤ) → IsValue (option_map tree.number_constant o)
+number-value None = tt
+number-value (Some n) = tt
+
+text-value : (o : Option (List ℕ)) → IsValue (option_map tree.text_constant o)
+text-value None = tt
+text-value (Some bytes) = tt
+
+rune-value : (o : Option ℕ) → IsValue (option_map (λ n. tree.number_constant (pos n)) o)
+rune-value None = tt
+rune-value (Some n) = tt
+
+value-by : (k : TokenKind) (bytes : List ℕ) → IsValue (constant_by k bytes)
+value-by kind.Number bytes = number-value (whole bytes)
+value-by kind.String bytes = text-value (unquoted 34 (between bytes))
+value-by kind.RawString bytes = tt
+value-by kind.Character bytes = rune-value (rune_code 39 (between bytes))
+value-by kind.Space bytes = tt
+value-by kind.Word bytes = tt
+value-by kind.Field bytes = tt
+value-by kind.Dot bytes = tt
+value-by kind.Variable bytes = tt
+value-by kind.Declare bytes = tt
+value-by kind.Assign bytes = tt
+value-by kind.Comma bytes = tt
+value-by kind.Pipe bytes = tt
+value-by kind.LeftParenthesis bytes = tt
+value-by kind.RightParenthesis bytes = tt
+
 pub constant-value : (t : Token) → IsValue (constant_of t)
 unfolding constant_of
-constant-value t = tt
+constant-value t = value-by t.kind t.bytes
 
 -- an operand without parentheses
 abbrev pub IsFlat : Option Operand → Type 0

@@ -16,7 +16,9 @@ pub mod Lists
 pub mod One
 pub mod OneReading
 pub mod OneSpelling
+pub mod Numerals
 pub mod Open
+pub mod Parts
 pub mod Place
 pub mod Readings
 pub mod Scopes
