@@ -5,9 +5,9 @@ use Rattle.tmpl_funcs.specs.declared.func.Func.{Func}
 use Rattle.tmpl_lex.specs.declared.piece.TokenKind.{TokenKind}
 use Rattle.tmpl_lex.specs.declared.piece.TokenKind.TheVariants as kind
 use Rattle.tmpl_lex.specs.Piece.{Token}
-use Rattle.tmpl_syntax.specs.Constant.{constant_by, constant_of}
+use Rattle.tmpl_syntax.specs.Constant.{constant_of, constant_by}
 use Rattle.tmpl_syntax.specs.Numeral.{whole}
-use Rattle.tmpl_syntax.specs.Unquoted.{between, rune_code, unquoted}
+use Rattle.tmpl_syntax.specs.Unquoted.{between, unquoted, rune_code}
 use Rattle.tmpl_syntax.specs.Token.{begins_name, name_in}
 use Rattle.tmpl_syntax.specs.Tree as tree
 use Rattle.tmpl_syntax.specs.Tree.{Operand}
@@ -35,30 +35,30 @@ text-value : (o : Option (List ℕ)) → IsValue (option_map tree.text_constant 
 text-value None = tt
 text-value (Some bytes) = tt
 
-code-value : (o : Option ℕ) → IsValue (option_map (λ n. tree.number_constant (pos n)) o)
-code-value None = tt
-code-value (Some n) = tt
+rune-value : (o : Option ℕ) → IsValue (option_map (λ n. tree.number_constant (pos n)) o)
+rune-value None = tt
+rune-value (Some n) = tt
 
-kind-value : (k : TokenKind) (bytes : List ℕ) → IsValue (constant_by k bytes)
-kind-value kind.Number bytes = number-value (whole bytes)
-kind-value kind.String bytes = text-value (unquoted 34 (between bytes))
-kind-value kind.RawString bytes = tt
-kind-value kind.Character bytes = code-value (rune_code 39 (between bytes))
-kind-value kind.Space bytes = tt
-kind-value kind.Word bytes = tt
-kind-value kind.Field bytes = tt
-kind-value kind.Dot bytes = tt
-kind-value kind.Variable bytes = tt
-kind-value kind.Declare bytes = tt
-kind-value kind.Assign bytes = tt
-kind-value kind.Comma bytes = tt
-kind-value kind.Pipe bytes = tt
-kind-value kind.LeftParenthesis bytes = tt
-kind-value kind.RightParenthesis bytes = tt
+value-by : (k : TokenKind) (bytes : List ℕ) → IsValue (constant_by k bytes)
+value-by kind.Number bytes = number-value (whole bytes)
+value-by kind.String bytes = text-value (unquoted 34 (between bytes))
+value-by kind.RawString bytes = tt
+value-by kind.Character bytes = rune-value (rune_code 39 (between bytes))
+value-by kind.Space bytes = tt
+value-by kind.Word bytes = tt
+value-by kind.Field bytes = tt
+value-by kind.Dot bytes = tt
+value-by kind.Variable bytes = tt
+value-by kind.Declare bytes = tt
+value-by kind.Assign bytes = tt
+value-by kind.Comma bytes = tt
+value-by kind.Pipe bytes = tt
+value-by kind.LeftParenthesis bytes = tt
+value-by kind.RightParenthesis bytes = tt
 
 pub constant-value : (t : Token) → IsValue (constant_of t)
 unfolding constant_of
-constant-value t = kind-value t.kind t.bytes
+constant-value t = value-by t.kind t.bytes
 
 -- an operand without parentheses
 abbrev pub IsFlat : Option Operand → Type 0
@@ -116,3 +116,68 @@ flat-by kind.RightParenthesis t = tt
 pub flat-at : (t : Token) → IsFlat (operand_at t)
 unfolding operand_at
 flat-at t = flat-by t.kind t
+
+-- an operand of one token
+abbrev pub IsToken : Option Operand → Type 0
+IsToken None = Unit {0}
+IsToken (Some tree.dot) = Unit {0}
+IsToken (Some (tree.fields names)) = (n : List ℕ) × (names ≡ n ∷ [])
+IsToken (Some (tree.variable name names)) = names ≡ []
+IsToken (Some (tree.bool_constant b)) = Unit {0}
+IsToken (Some (tree.number_constant n)) = Unit {0}
+IsToken (Some (tree.text_constant bytes)) = Unit {0}
+IsToken (Some tree.nil) = Unit {0}
+IsToken (Some (tree.function f)) = Unit {0}
+IsToken (Some (tree.group commands names)) = ⊥
+
+value-token : (o : Option Operand) → IsValue o → IsToken o
+value-token None v = tt
+value-token (Some tree.dot) v = tt
+value-token (Some (tree.fields names)) v = absurd v
+value-token (Some (tree.variable name names)) v = absurd v
+value-token (Some (tree.bool_constant b)) v = tt
+value-token (Some (tree.number_constant n)) v = tt
+value-token (Some (tree.text_constant bytes)) v = tt
+value-token (Some tree.nil) v = tt
+value-token (Some (tree.function f)) v = tt
+value-token (Some (tree.group commands names)) v = absurd v
+
+function-token : (o : Option Func) → IsToken (option_map tree.function o)
+function-token None = tt
+function-token (Some f) = tt
+
+cond-token : (b : Bool) (o p : Option Operand) → IsToken o → IsToken p → IsToken (cond b o p)
+cond-token true o p x y = x
+cond-token false o p x y = y
+
+word-token : (name : List ℕ) → IsToken (word_operand name)
+unfolding word_operand
+word-token name =
+    cond-token (bytes_eq name (codes "true")) (Some (tree.bool_constant true)) _ tt
+    (cond-token (bytes_eq name (codes "false")) (Some (tree.bool_constant false)) _ tt
+    (cond-token (bytes_eq name (codes "nil")) (Some tree.nil) _ tt (function-token (func_named name))))
+
+field-token : (b : Bool) (name : List ℕ) → IsToken (field_operand b name)
+field-token true name = (name, refl)
+field-token false name = tt
+
+token-by : (k : TokenKind) (t : Token) → IsToken (operand_by k t)
+token-by kind.Dot t = tt
+token-by kind.Field t = field-token (begins_name (name_in t)) (name_in t)
+token-by kind.Variable t = refl
+token-by kind.Word t = word-token t.bytes
+token-by kind.Number t = value-token (constant_of t) (constant-value t)
+token-by kind.String t = value-token (constant_of t) (constant-value t)
+token-by kind.RawString t = value-token (constant_of t) (constant-value t)
+token-by kind.Character t = value-token (constant_of t) (constant-value t)
+token-by kind.Space t = tt
+token-by kind.Declare t = tt
+token-by kind.Assign t = tt
+token-by kind.Comma t = tt
+token-by kind.Pipe t = tt
+token-by kind.LeftParenthesis t = tt
+token-by kind.RightParenthesis t = tt
+
+pub token-form : (t : Token) → IsToken (operand_at t)
+unfolding operand_at
+token-form t = token-by t.kind t

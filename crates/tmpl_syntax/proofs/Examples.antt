@@ -2,7 +2,7 @@
 use Rattle.std.proofs.Common.{◌≡◌, ℕ, List, [], ◌∷◌, refl, subst}
 use Rattle.tmpl_syntax.specs.declared.action.Branch.TheVariants.{If as if_branch}
 use Rattle.tmpl_syntax.specs.declared.fault.Fault.TheVariants.{NotAnAction, OutOfPlace, UndeclaredVariable}
-use Rattle.tmpl_syntax.specs.Tree.{Operand, dot, variable, Pipeline, pipeline, no_operand, operand, no_command, command, unbound, declare, assign, unnamed, key_and_element, Nodes, none, then, text, action, if_node, range_node, break_node}
+use Rattle.tmpl_syntax.specs.Tree.{Operand, dot, variable, operand, no_operand, command, no_command, Pipeline, pipeline, unbound, declare, assign, unnamed, key_and_element, Nodes, none, then, text, action, if_node, range_node, break_node}
 use Rattle.tmpl_syntax.specs.Action.{if_control, with_control, range_control, pipeline_action, opening, plain_else, else_branch, end_action, break_action}
 use Rattle.tmpl_syntax.specs.Item.{Item, text_item, unreadable_item, unread_item, action_item}
 use Rattle.tmpl_syntax.specs.Mark.{marks_of}
@@ -20,51 +20,51 @@ x = 120 ∷ []
 abbrev y : List ℕ
 y = 121 ∷ []
 
--- the pipeline of one operand
-abbrev only : Operand → Pipeline
-only o = pipeline (command (operand o no_operand) no_command)
+-- a pipeline of one operand
+abbrev single : Operand → Pipeline
+single o = pipeline (command (operand o no_operand) no_command)
 
 abbrev word : ℕ → Item
 word line = text_item line (119 ∷ [])
 
 -- `{{.}}`, `{{$x}}`, `{{$x := .}}`, `{{$x = .}}`
 abbrev puts : ℕ → Item
-puts line = action_item line (pipeline_action unbound (only dot))
+puts line = action_item line (pipeline_action unbound (single dot))
 
 abbrev uses : List ℕ → Item
-uses name = action_item 1 (pipeline_action unbound (only (variable name [])))
+uses name = action_item 1 (pipeline_action unbound (single (variable name [])))
 
 abbrev declares : List ℕ → Item
-declares name = action_item 1 (pipeline_action (declare name) (only dot))
+declares name = action_item 1 (pipeline_action (declare name) (single dot))
 
 abbrev assigns : List ℕ → Item
-assigns name = action_item 1 (pipeline_action (assign name) (only dot))
+assigns name = action_item 1 (pipeline_action (assign name) (single dot))
 
 -- `{{if .}}`, `{{if $x := .}}`, `{{with .}}`, `{{range .}}`, `{{range $y, $x := .}}`
 abbrev if_it : ℕ → Item
-if_it line = action_item line (opening (if_control unbound (only dot)))
+if_it line = action_item line (opening (if_control unbound (single dot)))
 
 abbrev if_new : List ℕ → Item
-if_new name = action_item 1 (opening (if_control (declare name) (only dot)))
+if_new name = action_item 1 (opening (if_control (declare name) (single dot)))
 
 abbrev with_it : ℕ → Item
-with_it line = action_item line (opening (with_control unbound (only dot)))
+with_it line = action_item line (opening (with_control unbound (single dot)))
 
 abbrev range_it : ℕ → Item
-range_it line = action_item line (opening (range_control unnamed (only dot)))
+range_it line = action_item line (opening (range_control unnamed (single dot)))
 
 abbrev range_new : List ℕ → List ℕ → Item
-range_new key name = action_item 1 (opening (range_control (key_and_element key name) (only dot)))
+range_new key name = action_item 1 (opening (range_control (key_and_element key name) (single dot)))
 
 -- `{{else}}`, `{{else if .}}`, `{{else if $x}}`, `{{end}}`, `{{break}}`
 abbrev else_it : ℕ → Item
 else_it line = action_item line plain_else
 
 abbrev else_if : ℕ → Item
-else_if line = action_item line (else_branch if_branch unbound (only dot))
+else_if line = action_item line (else_branch if_branch unbound (single dot))
 
 abbrev else_if_uses : List ℕ → Item
-else_if_uses name = action_item 1 (else_branch if_branch unbound (only (variable name [])))
+else_if_uses name = action_item 1 (else_branch if_branch unbound (single (variable name [])))
 
 abbrev end_it : ℕ → Item
 end_it line = action_item line end_action
@@ -162,9 +162,9 @@ chain = if_it 1 ∷ word 2 ∷ else_if 3 ∷ puts 4 ∷ else_it 5 ∷ word 6 ∷
 
 abbrev chain_nodes : Nodes
 chain_nodes =
-    then (if_node 1 unbound (only dot) (then (text 2 (119 ∷ [])) none)
-    (then (if_node 3 unbound (only dot) (then (action 4 unbound (only dot)) none) (then (text 6 (119 ∷ [])) none)) none))
-    (then (action 8 unbound (only dot)) none)
+    then (if_node 1 unbound (single dot) (then (text 2 (119 ∷ [])) none)
+    (then (if_node 3 unbound (single dot) (then (action 4 unbound (single dot)) none) (then (text 6 (119 ∷ [])) none)) none))
+    (then (action 8 unbound (single dot)) none)
 
 an-else-if-is-the-whole-else-part : Spells chain chain_nodes
 unfolding verdict_of nodes_from
@@ -174,6 +174,6 @@ an-else-if-is-the-whole-else-part = spells-fine chain refl
 abbrev inner_break : List Item
 inner_break = range_it 1 ∷ range_it 1 ∷ else_it 1 ∷ break_it 1 ∷ end_it 1 ∷ end_it 1 ∷ []
 
-an-inner-else-part : Spells inner_break (then (range_node 1 unnamed (only dot) (then (range_node 1 unnamed (only dot) none (then (break_node 1) none)) none) none) none)
+an-inner-else-part : Spells inner_break (then (range_node 1 unnamed (single dot) (then (range_node 1 unnamed (single dot) none (then (break_node 1) none)) none) none) none)
 unfolding verdict_of nodes_from
 an-inner-else-part = spells-fine inner_break refl

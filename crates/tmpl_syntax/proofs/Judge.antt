@@ -6,8 +6,8 @@ use Rattle.tmpl_syntax.specs.declared.action.Branch.{Branch}
 use Rattle.tmpl_syntax.specs.declared.frame.Frame.{Frame}
 use Rattle.tmpl_syntax.specs.Open.{IsOpening, IsLast, HasElse, is_template}
 use Rattle.tmpl_syntax.specs.Scope.{IsInScope}
-use Rattle.tmpl_syntax.specs.Body.{joins, HasNoElsePart, nothing_open, of_a_template, after_an_else, IsJoinless, IsMisplaced, names_in, opens_level, most_levels, IsTooDeep, in_levels, IsUndeclared}
-use Rattle.tmpl_syntax.specs.Stack.{top, in_loop, levels, takes_else, takes_turn, is_placed, used, is_too_deep, names_at}
+use Rattle.tmpl_syntax.specs.Body.{joins, HasNoElsePart, nothing_open, of_a_template, after_an_else, IsJoinless, IsMisplaced, names_in, opens_level, most_levels, IsTooDeep, in_levels, in_parentheses, IsUndeclared}
+use Rattle.tmpl_syntax.specs.Stack.{top, in_loop, levels, takes_else, takes_turn, is_placed, used, is_nested, is_too_deep, names_at}
 use Rattle.tmpl_syntax.proofs.Finds.{IsKnown, IsUnknown}
 use Rattle.tmpl_syntax.proofs.Open.{same_control, same_piece, one_last}
 use Rattle.tmpl_syntax.proofs.Place.{levels_unique, not_turn}
@@ -103,14 +103,33 @@ placed xs i names fs jump s e h = let l = (here_of xs i names fs s).looped.0 e i
 
 -- depths
 
+nested-or : (xs : List Mark) (i : ℕ) (a : Act) (o : Option Names) → names_in a ≡ o → (b : Bool) → (is_nested o || b) ≡ true → (b ≡ true → IsTooDeep xs i a) → IsTooDeep xs i a
+nested-or xs i a None is b e levels = levels e
+nested-or xs i a (Some p) is b e levels = by p.nested refl e
+  where
+    by : (n : Bool) → p.nested ≡ n → (n || b) ≡ true → IsTooDeep xs i a
+    by true nests e = in_parentheses is nests
+    by false nests e = levels e
+
+nested-not : {A : Type 0} (a : Act) (b : Bool) (p : Names) → names_in a ≡ Some p → p.nested ≡ true → (is_nested (names_in a) || b) ≡ false → A
+nested-not a b p is nests e =
+    let nested : is_nested (names_in a) ≡ true = ap is_nested is ∙ nests in
+    absurd (let g : true ≡ false = ap (λ n. n || b) (sym nested) ∙ e in let h : ⊥ = cc in h)
+
+or-false : (a b : Bool) → (a || b) ≡ false → b ≡ false
+or-false true b e = absurd (let h : ⊥ = cc in h)
+or-false false b e = e
+
 pub deep : (xs : List Mark) (i : ℕ) (a : Act) (t : Option Frame) (names : List Name) → Here xs i t names → is_too_deep a t ≡ true → IsTooDeep xs i a
-deep xs i a t names h e = let b = and_parts (opens_level a) (leb most_levels (levels t)) e in in_levels b.0 h.levels_are (leb_means most_levels (levels t) b.1)
+deep xs i a t names h e = nested-or xs i a (names_in a) refl (opens_level a && leb most_levels (levels t)) e
+    (λ e. let b = and_parts (opens_level a) (leb most_levels (levels t)) e in in_levels b.0 h.levels_are (leb_means most_levels (levels t) b.1))
 
 pub shallow : (xs : List Mark) (i : ℕ) (a : Act) (t : Option Frame) (names : List Name) → Here xs i t names → is_too_deep a t ≡ false → IsTooDeep xs i a → ⊥
+shallow xs i a t names h e (in_parentheses {names = p} is nests) = nested-not a (opens_level a && leb most_levels (levels t)) p is nests e
 shallow xs i a t names h e (in_levels {n = n} is count le) =
     let same : n ≡ levels t = levels_unique count h.levels_are in
     let full : leb most_levels (levels t) ≡ true = leb_at most_levels (levels t) (subst (λ k. most_levels ≤ k) same le) in
-    ⊎_elim (λ no_level. opposite (opens_level a) is no_level) (λ room. opposite (leb most_levels (levels t)) full room) (and_false (opens_level a) (leb most_levels (levels t)) e)
+    ⊎_elim (λ no_level. opposite (opens_level a) is no_level) (λ room. opposite (leb most_levels (levels t)) full room) (and_false (opens_level a) (leb most_levels (levels t)) (or-false (is_nested (names_in a)) _ e))
 
 -- names
 

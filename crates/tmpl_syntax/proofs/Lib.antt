@@ -1,5 +1,6 @@
 pub mod Building
 pub mod Checks
+pub mod Completed
 pub mod Constants
 pub mod Counts
 pub mod Depths
@@ -12,9 +13,10 @@ pub mod Halves
 pub mod Judge
 pub mod Limits
 pub mod Lists
-pub mod Numerals
 pub mod One
+pub mod OneReading
 pub mod OneSpelling
+pub mod Numerals
 pub mod Open
 pub mod Parts
 pub mod Place
@@ -22,6 +24,7 @@ pub mod Readings
 pub mod Scopes
 pub mod Slices
 pub mod Sound
+pub mod Spelled
 pub mod Spelling
 pub mod Spots
 pub mod Stands

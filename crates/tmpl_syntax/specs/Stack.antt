@@ -55,8 +55,12 @@ abbrev pub used : Option Names → List Name
 used None = []
 used (Some p) = p.uses
 
+abbrev pub is_nested : Option Names → Bool
+is_nested None = false
+is_nested (Some p) = p.nested
+
 abbrev pub is_too_deep : Act → Option Frame → Bool
-is_too_deep a t = opens_level a && leb most_levels (levels t)
+is_too_deep a t = is_nested (names_in a) || (opens_level a && leb most_levels (levels t))
 
 -- of the names before an action, those that it sees: an else or else if ends the part before it, and an `end` the control
 abbrev pub names_at : Act → Option Frame → List Name → List Name

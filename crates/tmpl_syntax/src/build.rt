@@ -75,7 +75,7 @@ fn put(alloc: Global, parts: Parts, item: Item<'_>) -> Result<Parts, AllocError>
             let bytes = Bytes::new(bytes.to_vec(alloc)?);
             put_node(parts, Node::Text { line, bytes })
         }
-        Item::Unreadable { .. } | Item::Unread { .. } => Ok(parts),
+        Item::Unreadable { .. } | Item::Unread { .. } | Item::TooDeep { .. } => Ok(parts),
         Item::Action { line, action } => put_action(alloc, parts, line, action),
     }
 }

@@ -9,6 +9,7 @@ mod constant;
 mod deep;
 mod fault;
 mod frame;
+mod grammar;
 mod half;
 mod header;
 mod item;
@@ -26,6 +27,7 @@ mod set;
 mod tree;
 
 pub use fault::{ParseFault, ParseKind};
+pub use grammar::one_reading;
 pub use laws::{one_spelling, one_verdict};
 pub use parse::{base_name, parse_file};
 pub use set::{Names, Set};

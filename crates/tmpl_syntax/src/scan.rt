@@ -1,16 +1,16 @@
 //! What is asked of an action in its place, and what stands after it.
-ghost use Rattle.std.specs.Prelude.{◌≡◌, ◌<◌, ◌++◌, ◌∷◌, ◌+◌, IfOk, reverse, true, false, Some, None, length};
+ghost use Rattle.std.specs.Prelude.{◌≡◌, ◌<◌, List, ◌++◌, ◌∷◌, ◌+◌, IfOk, reverse, false, Some, None, length};
 ghost use Rattle.tmpl_syntax.specs.Tree.{commands_in, operand_of, operands_in, pipeline_of, binding_of, variables_of};
 ghost use Rattle.tmpl_syntax.specs.Action.{control_of, action_of};
 ghost use Rattle.tmpl_syntax.specs.Item.{item_of};
 ghost use Rattle.tmpl_syntax.specs.Mark as mark;
-ghost use Rattle.tmpl_syntax.specs.Mark.{act_of, mark_of, header_of, bound};
+ghost use Rattle.tmpl_syntax.specs.Mark.{act_of, act_of_shape, mark_of, header_of, bound};
 ghost use Rattle.tmpl_syntax.specs.Body as body;
 ghost use Rattle.tmpl_syntax.specs.Known.{known_names};
 ghost use Rattle.tmpl_syntax.specs.Stack as stand;
 ghost use Rattle.tmpl_syntax.specs.Stack.{top, in_loop, levels, takes_else, takes_turn, is_placed, is_too_deep, used, knows, names_at, seen_at, fault_in, fault_at, entered, heading, elsed_all, added, added_by, frames_after, frames_past, turned_all};
 
-use crate::action::{Action, Branch, Control};
+use crate::action::{Action, Branch, Control, Shape};
 use crate::fault::Fault;
 use crate::frame::{Frame, Kind};
 use crate::item::Item;
@@ -33,6 +33,7 @@ pub(crate) fn fault_of(
         Item::Text { .. } => None,
         Item::Unreadable { .. } => Some(Fault::Unreadable),
         Item::Unread { .. } => Some(Fault::NotAnAction),
+        Item::TooDeep { shape, .. } => Some(deep_fault(*shape, outside)),
         Item::Action { action, .. } => action_fault(action, outside, names),
     }
 }
@@ -48,6 +49,26 @@ fn action_fault(action: &Action, outside: Option<Frame>, names: &KnownNames<'_>)
         Some(Fault::UndeclaredVariable)
     } else {
         None
+    }
+}
+
+/// The fault of an action of this shape whose parentheses nest too deep: its place is looked at first.
+fn deep_fault(shape: Shape, outside: Option<Frame>) -> Fault
+    ensures { (names : List mark.Name) → Some result ≡ fault_in (act_of_shape shape) outside names }
+{
+    if is_shape_in_place(shape, outside) {
+        Fault::NestedTooDeeply
+    } else {
+        Fault::OutOfPlace
+    }
+}
+
+fn is_shape_in_place(shape: Shape, outside: Option<Frame>) -> bool
+    ensures { result ≡ is_placed (act_of_shape shape) outside }
+{
+    match shape {
+        Shape::Pipeline | Shape::Open(_) => true,
+        Shape::ElseBranch(branch) => may_take_else(outside) && may_take_branch(branch, outside),
     }
 }
 
@@ -236,8 +257,22 @@ pub(crate) fn newest(stack: &Vec<Frame>) -> Option<Frame>
 pub(crate) fn forget(names: &mut KnownNames<'_>, item: &Item<'_>, outside: Option<Frame>)
     ensures { known_names names.new ≡ seen_at (mark_of (item_of item.now)) outside (known_names names.old) }
 {
-    if let (Item::Action { action, .. }, Some(frame)) = (item, outside) {
-        forget_at(names, action, frame);
+    let Some(frame) = outside else {
+        return;
+    };
+    match item {
+        Item::Action { action, .. } => forget_at(names, action, frame),
+        Item::TooDeep { shape, .. } => forget_part(names, *shape, frame),
+        Item::Text { .. } | Item::Unreadable { .. } | Item::Unread { .. } => {}
+    }
+}
+
+fn forget_part(names: &mut KnownNames<'_>, shape: Shape, frame: Frame)
+    ensures { known_names names.new ≡ names_at (act_of_shape shape) (Some frame) (known_names names.old) }
+{
+    match shape {
+        Shape::ElseBranch(_) => names.truncate(frame.part),
+        Shape::Pipeline | Shape::Open(_) => {}
     }
 }
 

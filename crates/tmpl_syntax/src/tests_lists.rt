@@ -63,9 +63,11 @@ fn pipeline(alloc: Global, behind: Behind<'_>) -> Result<Pipeline, AllocError> {
         },
         Behind::Nothing | Behind::Declares(_) | Behind::Assigns(_) => Operand::Dot,
     };
-    let operands = vec![in alloc; operand]?;
+    let command = Command {
+        operands: vec![in alloc; operand]?,
+    };
     Ok(Pipeline {
-        commands: vec![in alloc; Command { operands }]?,
+        commands: vec![in alloc; command]?,
     })
 }
 

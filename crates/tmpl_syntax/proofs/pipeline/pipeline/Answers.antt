@@ -1,4 +1,4 @@
-use Rattle.std.proofs.Common.{arith, ◌≡◌, ◌∙◌, Some, None, IfOk, refl, sym, ap, subst, map, take, drop, length, ◌-◌}
+use Rattle.std.proofs.Common.{arith, ◌∙◌, None, refl, sym, ap, map, take, drop, length, ◌-◌}
 use Rattle.std.specs.Option.{option_map}
 use Rattle.tmpl_lex.specs.Piece.{token_of}
 use Rattle.tmpl_syntax.specs.Deep.{ends_pipeline}

@@ -1,4 +1,4 @@
-use Rattle.std.proofs.Common.{◌≡◌, ◌∙◌, ◌∷◌, Some, sym, ap, map, reverse}
+use Rattle.std.proofs.Common.{◌∙◌, ◌∷◌, Some, sym, ap, map, reverse}
 use Rattle.std.specs.Option.{option_map}
 use Rattle.tmpl_syntax.specs.Half as spec
 use Rattle.tmpl_syntax.specs.Held.{half_of, level_of}
