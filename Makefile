@@ -1,6 +1,6 @@
 PREFIX ?= /usr/local
 PROGRAM = crates/tmpl/out/tmpl
-READER = crates/bench_values/out/bench_values
+PARTS = crates/bench_parts/out/bench_parts
 SOURCES = $(shell find crates crates.txt -name out -prune -o -type f -print)
 
 # renders an example by the proved program
@@ -9,10 +9,10 @@ demo: $(PROGRAM)
 
 # the gate: every proof from nothing, then the tests over the program that it left, as each of the two compilers built it
 test:
-	python3 tests/gate.py "rt ci" "python3 tests/run.py" "env TMPL=$(PROGRAM).by-rattle python3 tests/run.py" "python3 tests/sweep.py"
+	python3 tests/gate.py "rt ci" "python3 tests/run.py" "env TMPL=$(PROGRAM).by-rattle python3 tests/run.py" "python3 tests/places.py" "python3 tests/sweep.py"
 
 # times the program beside others
-bench: $(PROGRAM) $(READER)
+bench: $(PROGRAM) $(PARTS)
 	python3 tests/bench.py
 
 install: $(PROGRAM)
@@ -22,7 +22,7 @@ install: $(PROGRAM)
 $(PROGRAM): $(SOURCES)
 	cd crates/tmpl && rt run -- --help > /dev/null
 
-$(READER): $(SOURCES)
-	cd crates/bench_values && rt run -- text data/numbers.json > /dev/null
+$(PARTS): $(SOURCES)
+	cd crates/bench_parts && rt run -- text data/numbers.json > /dev/null
 
 .PHONY: demo test bench install

@@ -2,15 +2,17 @@
 TMPL=PATH names another build."""
 import os
 import statistics
+import subprocess
 import sys
 import tempfile
 import time
 
 import harness
+import sweep
 
 MIB = 1 << 20
 LINE = b"All the world's a stage, and all the men and women merely players.\n"
-READER = f"{harness.TOP}/crates/bench_values/out/bench_values"
+PARTS = f"{harness.TOP}/crates/bench_parts/out/bench_parts"
 LOAD = "import json, sys; json.load(open(sys.argv[1], 'rb'))"
 
 
@@ -49,6 +51,7 @@ def milliseconds(seconds):
 
 
 def judge(what, factor, most):
+    """Says whether a factor is at most what is wanted."""
     print(f"  {what}: {factor:.2f} times, at most {most:g} wanted: {'holds' if factor <= most else 'DOES NOT HOLD'}")
 
 
@@ -115,18 +118,88 @@ def members(size):
     yield b"]"
 
 
-def timed(part, file):
-    """Nanoseconds that the reader says a part took, and peak KiB. Each time is that of a new process."""
+def timed(part, file, *more):
+    """Seconds that the program of parts says a part took, and peak KiB. Each time is that of a new process."""
     read, write = os.pipe()
     actions = [(os.POSIX_SPAWN_DUP2, write, 1), (os.POSIX_SPAWN_CLOSE, read)]
-    child = os.posix_spawn(READER, [READER, part, file], os.environ, file_actions=actions)
+    child = os.posix_spawn(PARTS, [PARTS, part, file, *more], os.environ, file_actions=actions)
     os.close(write)
     with os.fdopen(read) as it:
         told = int(it.read())
     _, status, usage = os.wait4(child, 0)
     if status:
-        sys.exit(f"{READER} did not end well: wait status {status:#x}")
+        sys.exit(f"{PARTS} did not end well: wait status {status:#x}")
     return told / 1e9, usage.ru_maxrss
+
+
+def bench_cut(folder):
+    """The cut alone, beside whole processes of cat and wc over the same file."""
+    print("The cut of a file")
+    for name, piece in (("plain text", LINE), ("a newline at every second byte", b"a\n"), ("short actions", b"{{.a}}")):
+        points = []
+        for size in (1, 4, 16):
+            file = write(f"{folder}/cut", [(piece * (MIB // len(piece) + 1))[: MIB // len(piece) * len(piece)]] * size)
+            rounds = [(timed("cut", file), once(["wc", "-l", file]), once(["cat", file])) for _ in range(11)]
+            ours, lines, cat = ([statistics.median(which) for which in zip(*column)] for column in zip(*rounds))
+            points.append((size * MIB, ours[0]))
+            print(f"  {size:2} MiB of {name}: {size * MIB / 1e6 / ours[0]:.0f} MB/s ({milliseconds(ours[0])} in {ours[1] // 1024:.0f} MiB), wc -l {milliseconds(lines[0])}, cat {milliseconds(cat[0])}")
+        if piece == LINE:
+            judge("the cut to wc -l at 16 MiB of plain text", ours[0] / lines[0], 3)
+            judge("its memory to the file, all of the process", ours[1] / 1024 / 16, 3)
+        judge_linear(points)
+
+
+def bench_parsing(folder):
+    """Files that are parsed and not run: the template that is run has one byte."""
+    print("The parsing of small actions")
+    tiny = write(f"{folder}/tiny", [b"x"])
+    piece = b"{{if .a}}{{$x := .b}}{{$x}}{{else}}{{range .c}}{{.}}{{end}}{{end}}\n"
+    points = []
+    for size in (10_000, 250_000, 1_000_000):
+        file = write(f"{folder}/parsed", [piece * (size // len(piece))])
+        ours, bare = medians(21, [harness.PROGRAM, tiny, file], [harness.PROGRAM, tiny])
+        points.append((size, ours[0]))
+        print(f"  {size:7} bytes: tmpl {milliseconds(ours[0])} in {ours[1] // 1024:.0f} MiB, without the file {milliseconds(bare[0])}")
+    judge_linear(points)
+
+
+def bench_range(folder):
+    print("A range over elements with an if inside, to /dev/null")
+    file = write(f"{folder}/range", [b"{{range .}}{{if .}}{{.}},{{end}}{{end}}"])
+    points = []
+    for count in (10_000, 25_000, 100_000):
+        data = write(f"{folder}/elements", [b"[7", b",7" * (count - 1), b"]"])
+        (ours,) = medians(11, [harness.PROGRAM, "--data", data, file])
+        points.append((count, ours[0]))
+        print(f"  {count:6} elements: tmpl {milliseconds(ours[0])} in {ours[1] // 1024:.0f} MiB")
+    judge_linear(points)
+
+
+def allocations(shim, part, file, count):
+    """How many allocations a process of the parts makes: the greatest number whose allocation can be refused."""
+    def is_reached(number):
+        _, refused = sweep.refusing(number, shim, lambda more, keep: subprocess.run(
+            [PARTS, part, file, str(count)], env={**os.environ, **more}, pass_fds=keep, stdout=subprocess.DEVNULL, stderr=subprocess.DEVNULL))
+        return refused
+
+    low, high = 0, 1 << 24
+    while low < high:
+        middle = (low + high + 1) // 2
+        low, high = (middle, high) if is_reached(middle) else (low, middle - 1)
+    return low
+
+
+def bench_calls(folder):
+    print("Calls of functions, a million each")
+    shim = f"{folder}/shim.so"
+    sweep.build_shim(shim)
+    short = write(f"{folder}/short", [b"Ada"])
+    long = write(f"{folder}/long", [(b"a <b> & c/d=\"e\" " * 64)[:1000]])
+    for part, file, most in (("print", short, 1), ("printf", short, 1), ("html", long, 1), ("urlquery", long, 1), ("eq", long, 0)):
+        seconds = statistics.median(timed(part, file, "1000000")[0] for _ in range(3))
+        each = (allocations(shim, part, file, 300) - allocations(shim, part, file, 100)) / 200
+        print(f"  {part}: {seconds * 1000:.0f} ns a call")
+        judge("allocations a call", each, most)
 
 
 def bench_reading(folder):
@@ -136,14 +209,14 @@ def bench_reading(folder):
     rounds = [(timed("read", file), timed("data", file)) for _ in range(21)]
     read, data = ([statistics.median(which) for which in zip(*column)] for column in zip(*rounds))
     least_read, least_data = (min(told[0] for told in column) for column in zip(*rounds))
-    text, python = medians(7, [READER, "text", file], [sys.executable, "-c", LOAD, file])
+    text, python = medians(7, [PARTS, "text", file], [sys.executable, "-c", LOAD, file])
     print(f"  serde_json's read {milliseconds(read[0])} in {read[1] // 1024:.0f} MiB, from_json {milliseconds(data[0])} in {data[1] // 1024:.0f} MiB")
     print(f"  a process that puts its text {milliseconds(text[0])} in {text[1] // 1024:.0f} MiB, one of python3's json.load {milliseconds(python[0])} in {python[1] // 1024:.0f} MiB")
     print(f"  by the least of each: {(least_data - least_read) / least_read:.2f} times")
     judge("conversion to read", (data[0] - read[0]) / read[0], 0.5)
 
 
-def bench_values(folder):
+def bench_parts(folder):
     print("Data put as text, to /dev/null")
     file = write(f"{folder}/dot", [b"{{.}}"])
     points = []
@@ -162,8 +235,12 @@ def main():
     bench_start()
     with tempfile.TemporaryDirectory() as folder:
         bench_text(folder)
+        bench_cut(folder)
+        bench_parsing(folder)
         bench_actions(folder)
-        bench_values(folder)
+        bench_range(folder)
+        bench_calls(folder)
+        bench_parts(folder)
         bench_reading(folder)
 
 

@@ -1,14 +1,21 @@
 -- What the evaluator's state stands for.
-use Rattle.std.specs.Prelude.{ℕ, List, Option, Some, None, Result, Ok, Err, map, option_map, reverse}
+use Rattle.std.specs.Prelude.{◌≡◌, ◌||◌, ℕ, List, Option, Some, None, Result, Ok, Err, Vec, map, option_map, reverse}
+use Rattle.std.specs.declared.alloc.Global.{Global}
 use Rattle.tmpl_values.specs.Value.{Value}
 use Rattle.tmpl_values.specs.Elements.{Element}
 use Rattle.tmpl_values.specs.View.{val_of}
 use Rattle.tmpl_values.specs.declared.value.Val.{Val}
-use Rattle.tmpl_syntax.specs.Tree.{binding_of, nodes_in, pipeline_of, variables_of}
-use Rattle.tmpl_run.specs.Meaning.{Cause, Environment, Setting, Run, End, done, broke, continued, faulted, Next, Ran, choosing, meanings, ranging, turn, turns}
+use Rattle.tmpl_values.specs.declared.value.Cell.{Cell}
+use Rattle.tmpl_funcs.specs.Answer.{values_of}
+use Rattle.tmpl_syntax.specs.Tree.{Pipeline, binding_of, nodes_in, pipeline_of, variables_of}
+use Rattle.tmpl_run.specs.Meaning.{Cause, Setting, Run, End, done, broke, continued, faulted, Next, Ran, choosing, meanings, ranging, turn, turns}
+use Rattle.tmpl_run.specs.Pipeline.{Environment, Given, GivenAll, Place, pipeline_value}
 use Rattle.tmpl_run.specs.Seen.{cause_of, fault_seen}
 use Rattle.tmpl_run.specs.declared.fault.RunFaultKind.{RunFaultKind}
 use Rattle.tmpl.specs.Rope.{rope_bytes}
+use Rattle.tmpl.specs.declared.pipeline.Given as held_given
+use Rattle.tmpl.specs.declared.pipeline.Arguments as held_arguments
+use Rattle.tmpl.specs.declared.pipeline.Place as held_place
 use Rattle.tmpl.specs.declared.variables.Variable.{Variable}
 use Rattle.tmpl.specs.declared.variables.Variables.{Variables}
 use Rattle.tmpl.specs.declared.evaluator.Setting as held_setting
@@ -38,7 +45,7 @@ setting_seen s = record {
 }
 
 abbrev pub run_of : held_machine.Machine → Run
-run_of m = record { env = env_of m.variables; text = rope_bytes m.text; left = m.left }
+run_of m = record { env = env_of m.variables; text = rope_bytes m.text; left = m.left; made = m.made }
 
 abbrev pub end_seen : held_end.End → End
 end_seen ending.Done = done
@@ -50,8 +57,21 @@ abbrev pub value_seen : Result Val RunFaultKind → Result Value Cause
 value_seen (Ok v) = Ok (val_of v)
 value_seen (Err kind) = Err (cause_of kind)
 
+abbrev pub given_seen : held_given.Given → Given
+given_seen g = record { result = value_seen g.result; made = g.made }
+
+abbrev pub values_seen : Result (Vec Cell Global) RunFaultKind → Result (List Value) Cause
+values_seen (Ok cells) = Ok (values_of cells.items)
+values_seen (Err kind) = Err (cause_of kind)
+
+abbrev pub arguments_seen : held_arguments.Arguments → GivenAll
+arguments_seen a = record { results = values_seen a.results; made = a.made }
+
+abbrev pub place_seen : held_place.Place → Place
+place_seen p = record { mode = p.missing; dot = val_of p.dot.now; env = env_of p.variables.now }
+
 abbrev pub ran_seen : held_run.Rendered → Ran
-ran_seen r = record { text = rope_bytes r.text; fault = option_map fault_seen r.fault }
+ran_seen r = record { text = rope_bytes r.text; fault = option_map fault_seen r.fault; made = r.made }
 
 -- an `if` with this dot
 abbrev pub if_seen : Setting → Choice → Value → Next
@@ -77,3 +97,9 @@ abbrev pub turns_seen : Setting → Loop → Option (List Element) → Next
 turns_seen s l None r = (r, done)
 turns_seen s l (Some es) r =
     turns s l.line (variables_of l.variables.now) (λ v. meanings s (nodes_in l.body.now) v) es r
+
+-- what a pipeline gives in a run, and the run after it
+abbrev pub HasValue : Setting → Pipeline → Value → Run → Result Value Cause → Run → Type 0
+HasValue s p d old v new =
+    let g = pipeline_value (record { mode = s.mode; dot = d; env = old.env }) p in
+    (v ≡ g.result) × (new ≡ record old { made = old.made || g.made })

@@ -10,7 +10,10 @@ use Rattle.tmpl_syntax.specs.Parse.{Refusal, base_name, parsed}
 use Rattle.tmpl_syntax.specs.declared.fault.ParseKind.{ParseKind}
 use Rattle.tmpl_syntax.specs.declared.fault.ParseKind.TheVariants as kind
 use Rattle.tmpl_run.specs.Sink.{Sunk}
-use Rattle.tmpl_run.specs.Meaning.{Cause, steps_spent, lacks_field, lacks_entry, not_a_range, Fault, Ran, ran}
+use Rattle.tmpl_run.specs.Meaning.{Cause, steps_spent, not_a_function, nil_command, lacks_field, lacks_entry, not_a_range, call_failed, Fault, Ran, ran}
+use Rattle.tmpl_funcs.specs.Func.{name_of}
+use Rattle.tmpl_funcs.specs.declared.fault.CallFault.{CallFault}
+use Rattle.tmpl_funcs.specs.declared.fault.CallFault.TheVariants as call
 use Rattle.tmpl.specs.Help.{asks_help}
 use Rattle.tmpl.specs.Words.{Wanted, WantedOptions, wanted}
 use Rattle.tmpl.specs.Source.{Bytes, Files}
@@ -65,6 +68,14 @@ data_answer file f = stopped (plain file ∷ plain (data_text f) ∷ end) 5
 abbrev pub unnamed_answer : Bytes → Answer
 unnamed_answer name = stopped (plain (codes "no template ") ∷ quoted name ∷ end) 4
 
+abbrev pub call_text : CallFault → Bytes
+call_text call.WrongCount = codes "wrong number of arguments"
+call_text call.WrongKind = codes "wrong kind of argument"
+call_text call.OutOfRange = codes "out of range"
+call_text call.NotComparable = codes "can't be compared"
+call_text call.FormatRefused = codes "format refused"
+call_text call.OutOfMemory = codes "out of memory"
+
 abbrev pub cause_pieces : Cause → List Piece
 cause_pieces (steps_spent limit) =
     plain (codes "more than ") ∷ number limit ∷ plain (codes " steps") ∷ end
@@ -72,10 +83,17 @@ cause_pieces (lacks_field name) =
     plain (codes "no field ") ∷ quoted name ∷ plain (codes " here") ∷ end
 cause_pieces (lacks_entry name) = plain (codes "no entry for key ") ∷ quoted name ∷ end
 cause_pieces not_a_range = plain (codes "can't range over this value") ∷ end
+cause_pieces not_a_function = plain (codes "not a function") ∷ end
+cause_pieces nil_command = plain (codes "nil is not a command") ∷ end
+cause_pieces (call_failed f fault) = plain (name_of f) ∷ plain (codes ": ") ∷ plain (call_text fault) ∷ end
+
+-- a line that says where a run stopped, and why
+abbrev pub located : Bytes → ℕ → Bytes → List Piece → Bytes
+located file at template why = line (plain file ∷ plain (codes ":") ∷ number at ∷ plain (codes ": in ")
+    ∷ quoted template ∷ plain (codes ": ") ∷ why)
 
 abbrev pub fault_line : Fault → Bytes
-fault_line f = line (plain f.file ∷ plain (codes ":") ∷ number f.line ∷ plain (codes ": in ")
-    ∷ quoted f.template ∷ plain (codes ": ") ∷ cause_pieces f.cause)
+fault_line f = located f.file f.line f.template (cause_pieces f.cause)
 
 abbrev pub run_line : Option Fault → Bytes
 run_line None = []

@@ -5,9 +5,9 @@ ghost use Rattle.tmpl_values.specs.View.{val_of, value_of};
 ghost use Rattle.tmpl_syntax.specs.Tree.{binding_of, node_of, nodes_in, pipeline_of, tree_of, variables_of};
 ghost use Rattle.tmpl_run.specs.Meaning.{acting, bound, done, meaning, meanings, putting, ran, scope, shown, starting_dot, stepped, stopped, with_element};
 ghost use Rattle.tmpl_run.specs.Seen.{cause_of};
-ghost use Rattle.tmpl.specs.Evaluator.{end_seen, if_seen, ran_seen, range_seen, run_of, setting_seen, turn_seen, turns_seen, with_seen};
+ghost use Rattle.tmpl.specs.Evaluator.{HasValue, end_seen, if_seen, ran_seen, range_seen, run_of, setting_seen, turn_seen, turns_seen, value_seen, with_seen};
 
-use crate::pipeline::{element_count, pipeline_value, without_null};
+use crate::pipeline::{Place, element_count, pipeline_value, without_null};
 use crate::rope::Rope;
 use crate::variables::Variables;
 use std::alloc::{AllocError, Global};
@@ -20,6 +20,8 @@ use tmpl_values::{Bytes, Data, Val, put_text};
 pub(crate) struct Rendered<'a> {
     pub text: Rope<'a>,
     pub fault: Option<RunFault<'a>>,
+    /// Whether a function that makes a text was called with all its arguments.
+    pub made: bool,
 }
 
 /// How a template is run, and which one.
@@ -62,9 +64,11 @@ enum End<'a> {
 /// Where a run stands.
 #[derive(Drop)]
 struct Machine<'a> {
+    alloc: Global,
     variables: Variables<'a>,
     text: Rope<'a>,
     left: u64,
+    made: bool,
 }
 
 impl<'a> Setting<'a> {
@@ -231,13 +235,36 @@ impl<'a> Machine<'a> {
             (binding_of binding.now) (pipeline_of pipeline.now) (val_of dot.now) (run_of self.old)
             ≡ (run_of self.new, end_seen end)) }
     {
-        match pipeline_value(setting.missing, dot, &self.variables, pipeline)? {
+        match self.value(setting, pipeline, dot)? {
             Ok(value) => {
                 self.show(binding, value)?;
                 Ok(End::Done)
             }
             Err(kind) => Ok(setting.stopped(line, kind)),
         }
+    }
+
+    /// The value of a pipeline, or why there is none.
+    fn value(
+        &mut self,
+        setting: &Setting<'a>,
+        pipeline: &'a Pipeline,
+        dot: &Val<'a>,
+    ) -> Result<Result<Val<'a>, RunFaultKind<'a>>, AllocError>
+        requires { self.old.text.failures ≡ 0 }
+        ensures whole { self.new.text.failures ≡ 0 }
+        ensures left { self.new.left ≡ self.old.left }
+        ensures run { IfOk result (λ r. HasValue (setting_seen setting.now) (pipeline_of pipeline.now)
+            (val_of dot.now) (run_of self.old) (value_seen r) (run_of self.new)) }
+    {
+        let place = Place {
+            missing: setting.missing,
+            dot,
+            variables: &self.variables,
+        };
+        let given = pipeline_value(self.alloc, &place, pipeline)?;
+        self.made = self.made || given.made;
+        Ok(given.result)
     }
 
     fn show(&mut self, binding: &'a Binding, value: Val<'a>) -> Result<(), AllocError>
@@ -308,7 +335,7 @@ impl<'a> Machine<'a> {
             if_seen (setting_seen setting.now) choice.now (val_of dot.now) (run_of self.old)
             ≡ (run_of self.new, end_seen end)) }
     {
-        match pipeline_value(setting.missing, dot, &self.variables, choice.pipeline)? {
+        match self.value(setting, choice.pipeline, dot)? {
             Ok(value) => {
                 let holds = value.truth();
                 self.bind(choice.binding, value)?;
@@ -354,7 +381,7 @@ impl<'a> Machine<'a> {
             with_seen (setting_seen setting.now) choice.now (val_of dot.now) (run_of self.old)
             ≡ (run_of self.new, end_seen end)) }
     {
-        match pipeline_value(setting.missing, dot, &self.variables, choice.pipeline)? {
+        match self.value(setting, choice.pipeline, dot)? {
             Ok(value) => {
                 self.bind(choice.binding, value.share()?)?;
                 if value.truth() {
@@ -402,7 +429,7 @@ impl<'a> Machine<'a> {
             range_seen (setting_seen setting.now) range.now (val_of dot.now) (run_of self.old)
             ≡ (run_of self.new, end_seen end)) }
     {
-        match pipeline_value(setting.missing, dot, &self.variables, range.pipeline)? {
+        match self.value(setting, range.pipeline, dot)? {
             Ok(value) => match element_count(&value) {
                 None => Ok(setting.stopped(range.line, RunFaultKind::NotARange)),
                 Some(0) => self.nodes(setting, range.other, dot),
@@ -524,22 +551,25 @@ pub(crate) fn evaluate<'a>(
     };
     let dot = starting_dot(held);
     let mut machine = Machine {
+        alloc,
         variables: Variables::new(alloc),
         text: Rope::new(alloc),
         left: options.steps,
+        made: false,
     };
     machine.variables.declare(b"", dot.share()?)?;
     let end = machine.nodes(&setting, tree.nodes.as_slice(), &dot)?;
-    let Machine {
-        variables: _,
-        text,
-        left: _,
-    } = machine;
+    let Machine { text, made, .. } = machine;
     match end {
         End::Faulted(fault) => Ok(Rendered {
             text,
             fault: Some(fault),
+            made,
         }),
-        End::Done | End::Broke | End::Continued => Ok(Rendered { text, fault: None }),
+        End::Done | End::Broke | End::Continued => Ok(Rendered {
+            text,
+            fault: None,
+            made,
+        }),
     }
 }

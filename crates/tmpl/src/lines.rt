@@ -1,15 +1,17 @@
 //! What the program says where it does not end well.
-ghost use Rattle.std.specs.Prelude.{◌≡◌, ◌≢◌, ◌<◌, ◌^◌, ◌-◌};
+ghost use Rattle.std.specs.Prelude.{◌≡◌, ◌≢◌, ◌<◌, ◌^◌, ◌-◌, ◌∷◌};
 ghost use Rattle.tmpl_run.specs.Seen.{fault_by, fault_with};
-ghost use Rattle.tmpl_run.specs.Meaning.{lacks_entry, lacks_field, not_a_range, steps_spent};
+ghost use Rattle.tmpl_run.specs.Fault.{call_failed, lacks_entry, lacks_field, steps_spent};
 ghost use Rattle.tmpl_run.specs.Sink.{sunk};
+ghost use Rattle.tmpl.specs.Message.{end, plain};
 ghost use Rattle.tmpl.specs.Outcome.{Once, Says, memory_line, write_line};
 ghost use Rattle.tmpl.specs.Loads.{stop_answer};
-ghost use Rattle.tmpl.specs.Tool.{data_text, fault_line, parse_text, unnamed_answer, words_answer};
+ghost use Rattle.tmpl.specs.Tool.{call_text, data_text, fault_line, located, parse_text, unnamed_answer, words_answer};
 
 use crate::message::{Part, say};
 use crate::status::Status;
 use crate::stop::Stop;
+use tmpl_funcs::{CallFault, Func};
 use tmpl_run::{RunFault, RunFaultKind, Sink};
 use tmpl_syntax::{ParseFault, ParseKind};
 use tmpl_values::DataFault;
@@ -230,10 +232,11 @@ fn say_no_entry<'a, E: Sink>(err: &mut E, fault: &RunFault<'a>, name: &'a [u8])
     say(err, parts.as_slice());
 }
 
-fn say_not_a_range<E: Sink>(err: &mut E, fault: &RunFault<'_>)
+/// Says where a run stopped, and this.
+fn say_reason<'a, E: Sink>(err: &mut E, fault: &RunFault<'a>, reason: &'a str)
     requires { E.failures err.old < 2 ^ 64 - 1 }
     ensures cuts { Once (E.failures err.old) (E.failures err.new) }
-    ensures line { Says (fault_line (fault_with fault.now not_a_range))
+    ensures line { Says (located fault.now.file.now fault.now.line fault.now.template.now (plain reason.now ∷ end))
         (sunk (E.taken err.old) (E.taken err.new) (E.failures err.old) (E.failures err.new)) }
 {
     let parts = [
@@ -244,7 +247,42 @@ fn say_not_a_range<E: Sink>(err: &mut E, fault: &RunFault<'_>)
         Part::Text(": in "),
         Part::Quoted(fault.template),
         Part::Text(": "),
-        Part::Text("can't range over this value"),
+        Part::Text(reason),
+        Part::Text("\n"),
+    ];
+    say(err, parts.as_slice());
+}
+
+fn call_text(fault: CallFault) -> &'static str
+    ensures { result.now ≡ call_text fault }
+{
+    match fault {
+        CallFault::WrongCount => "wrong number of arguments",
+        CallFault::WrongKind => "wrong kind of argument",
+        CallFault::OutOfRange => "out of range",
+        CallFault::NotComparable => "can't be compared",
+        CallFault::FormatRefused => "format refused",
+        CallFault::OutOfMemory => "out of memory",
+    }
+}
+
+fn say_call<E: Sink>(err: &mut E, fault: &RunFault<'_>, func: Func, refused: CallFault)
+    requires { E.failures err.old < 2 ^ 64 - 1 }
+    ensures cuts { Once (E.failures err.old) (E.failures err.new) }
+    ensures line { Says (fault_line (fault_with fault.now (call_failed func refused)))
+        (sunk (E.taken err.old) (E.taken err.new) (E.failures err.old) (E.failures err.new)) }
+{
+    let parts = [
+        Part::Text("tmpl: "),
+        Part::Bytes(fault.file),
+        Part::Text(":"),
+        Part::Number(fault.line),
+        Part::Text(": in "),
+        Part::Quoted(fault.template),
+        Part::Text(": "),
+        Part::Text(func.name()),
+        Part::Text(": "),
+        Part::Text(call_text(refused)),
         Part::Text("\n"),
     ];
     say(err, parts.as_slice());
@@ -262,7 +300,10 @@ pub(crate) fn run_failed<E: Sink>(err: &mut E, fault: &RunFault<'_>) -> Status
         RunFaultKind::StepsSpent(limit) => say_steps_spent(err, fault, limit),
         RunFaultKind::NoField(name) => say_no_field(err, fault, name),
         RunFaultKind::NoEntry(name) => say_no_entry(err, fault, name),
-        RunFaultKind::NotARange => say_not_a_range(err, fault),
+        RunFaultKind::NotARange => say_reason(err, fault, "can't range over this value"),
+        RunFaultKind::NotAFunction => say_reason(err, fault, "not a function"),
+        RunFaultKind::NilCommand => say_reason(err, fault, "nil is not a command"),
+        RunFaultKind::Call(func, refused) => say_call(err, fault, func, refused),
     }
     Status { code: 1 }
 }

@@ -1,7 +1,8 @@
 //! The variables of a run.
 ghost use Rattle.std.specs.Prelude.{◌≡◌, ◌∷◌, [], IfOk, OnOk, length};
 ghost use Rattle.tmpl_values.specs.View.{val_of};
-ghost use Rattle.tmpl_run.specs.Meaning.{assigned, lookup, oldest};
+ghost use Rattle.tmpl_run.specs.Meaning.{assigned, oldest};
+ghost use Rattle.tmpl_run.specs.Pipeline.{lookup};
 ghost use Rattle.tmpl.specs.Evaluator.{env_in, env_of};
 
 use std::alloc::{AllocError, Global};

@@ -6,3 +6,6 @@ pub mod Forms
 pub mod Runes
 pub mod Formats
 pub mod Added
+pub mod Fronts
+pub mod Law
+pub mod Rows

@@ -1,7 +1,7 @@
 -- What a call comes to.
-use Rattle.std.specs.Prelude.{◌≡◌, List, map, Result, Ok, Err}
+use Rattle.std.specs.Prelude.{◌≡◌, List, [], ◌∷◌, map, false, Result, Ok, Err}
 use Rattle.tmpl_values.specs.Value.{Value}
-use Rattle.tmpl_values.specs.View.{val_of}
+use Rattle.tmpl_values.specs.View.{val_of, is_made}
 use Rattle.tmpl_values.specs.declared.value.Val.{Val}
 use Rattle.tmpl_values.specs.declared.value.Cell.{Cell}
 use Rattle.tmpl_funcs.specs.declared.fault.CallFault.{CallFault}
@@ -30,3 +30,13 @@ IsMade asked (Err OutOfRange) = asked ≡ Err OutOfRange
 IsMade asked (Err NotComparable) = asked ≡ Err NotComparable
 IsMade asked (Err FormatRefused) = asked ≡ Err FormatRefused
 IsMade asked (Err OutOfMemory) = Unit {0}
+
+-- no value in the cells is a made text
+abbrev pub AreBorrowed : List Cell → Type 0
+AreBorrowed [] = Unit {0}
+AreBorrowed (c ∷ cells) = (is_made c.val ≡ false) × AreBorrowed cells
+
+-- the answer, if there is one, is no made text, which alone takes memory to share
+abbrev pub IsBorrowed : Result Val CallFault → Type 0
+IsBorrowed (Ok v) = is_made v ≡ false
+IsBorrowed (Err e) = Unit {0}

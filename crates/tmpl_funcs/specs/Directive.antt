@@ -1,5 +1,5 @@
--- What a form of `printf` prints of a value ("Printing" in the documentation of `fmt`). Which flags a
--- verb takes, and that any other is refused, is this project's own rule.
+-- What a form of `printf` prints of a value ("Printing" in the documentation of `fmt`). Which flags
+-- a verb takes, and that any other is refused, is this project's own rule.
 use Rattle.std.specs.Prelude.{ℕ, ℤ, pos, negsuc, nat_abs, ◌+◌, ◌-◌, ◌*◌, ◌/◌, ◌%◌, ◌||◌, ◌&&◌, ◌==◌, not, Bool, true, false, List, [], ◌∷◌, ◌++◌, length, take, replicate, Option, Some, None, option_map, if◌then◌else◌}
 use Rattle.std.specs.List.{flat_map, list_any}
 use Rattle.std.specs.Char.{encode_utf8}
@@ -87,8 +87,8 @@ abbrev pub sign : Form → ℤ → List ℕ
 sign f (negsuc n) = 45 ∷ []
 sign f (pos n) = if f.plus then 43 ∷ [] else (if f.space then 32 ∷ [] else [])
 
--- a sign and digits with what they lack to the width: spaces behind them with the flag `-`, else with
--- the flag `0` zeros between them, else spaces before them
+-- a sign and digits with what they lack to the width: spaces behind them with the flag `-`, else
+-- with the flag `0` zeros between them, else spaces before them
 abbrev pub laid_out : Form → List ℕ → List ℕ → List ℕ
 laid_out f s ds =
     if f.minus then s ++ (ds ++ replicate (f.width - (length s + length ds)) 32)

@@ -7,7 +7,7 @@ use Rattle.tmpl_values.specs.Value.{Value, string}
 use Rattle.tmpl_funcs.specs.Join.{joined, as_text}
 use Rattle.tmpl_funcs.specs.declared.fault.CallFault.{CallFault}
 
--- a byte in HTML, as `html/template`'s `HTMLEscaper` has it: NUL is U+FFFD
+-- a byte in HTML, as `HTMLEscapeString` has it: NUL is U+FFFD
 abbrev pub html_byte : ℕ → List ℕ
 html_byte b =
     if b == 34 then codes "&#34;"
@@ -22,8 +22,8 @@ html_byte b =
 abbrev pub is_unreserved : ℕ → Bool
 is_unreserved b = is_ascii_alphanumeric b || (b == 45 || (b == 95 || (b == 46 || b == 126)))
 
--- a byte in a query, as `url.QueryEscape` has it: a space is `+`, and every other byte that does not
--- stand for itself is `%` and two digits in upper case
+-- a byte in a query, as `url.QueryEscape` has it: a space is `+`, and every other byte that does
+-- not stand for itself is `%` and two digits in upper case
 abbrev pub query_byte : ℕ → List ℕ
 query_byte b =
     if is_unreserved b then b ∷ [] else (if b == 32 then codes "+" else percent_encode_byte b)

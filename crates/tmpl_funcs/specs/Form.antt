@@ -6,8 +6,8 @@ use Rattle.std.specs.List.{flat_map, prefix_len, take_while, list_all}
 use Rattle.tmpl_funcs.specs.declared.form.Verb.{Verb}
 use Rattle.tmpl_funcs.specs.declared.form.Verb.TheVariants.{Value, Decimal, Octal, Binary, Hex, UpperHex, Text, Quoted, Char, Truth}
 
--- a form as it stands in a format: its flags, the digits of its width, of which there are none where
--- it has no width, the digits of its precision, if it has one, and its verb
+-- a form as it stands in a format: its flags, the digits of its width, of which there are none
+-- where it has no width, the digits of its precision, if it has one, and its verb
 pub record Spelled : Type 0 where
   pub flags : List ℕ
   pub width : List ℕ

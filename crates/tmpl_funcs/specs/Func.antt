@@ -63,8 +63,8 @@ makes_text Le = false
 makes_text Gt = false
 makes_text Ge = false
 
--- the function can be called with values; `and` and `or` look at no argument after the deciding one,
--- and so are no calls
+-- the function can be called with values; `and` and `or` look at no argument after the deciding
+-- one, and so are no calls
 abbrev pub is_called : Func → Bool
 is_called And = false
 is_called Or = false

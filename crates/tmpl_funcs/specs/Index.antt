@@ -1,5 +1,5 @@
--- The item of a value at indexes ("Functions", at `index`: "the result of indexing its first argument
--- by the following arguments. Thus `index x 1 2 3` is, in Go syntax, x[1][2][3]").
+-- The item of a value at indexes ("Functions", at `index`: "the result of indexing its first
+-- argument by the following arguments. Thus `index x 1 2 3` is, in Go syntax, x[1][2][3]").
 use Rattle.std.specs.Prelude.{ℕ, ℤ, pos, negsuc, List, [], ◌∷◌, slice_get, Option, Some, None, Result, Ok, Err}
 use Rattle.tmpl_values.specs.Value.{Value, nothing, null, boolean, number, string, sequence, mapping, Items, Entries}
 use Rattle.tmpl_values.specs.Field.{FieldValue, found, missing, of_nothing, no_field, entry_at}
@@ -62,7 +62,8 @@ indexed (sequence vs) i = item_of vs (number_of i)
 indexed (mapping es) i = entry_of es (bytes_of i)
 
 -- what follows from a value that is there
-abbrev pub and_then : Result Value CallFault → (Value → Result Value CallFault) → Result Value CallFault
+abbrev pub and_then : Result Value CallFault → (Value → Result Value CallFault)
+    → Result Value CallFault
 and_then (Ok v) f = f v
 and_then (Err e) f = Err e
 

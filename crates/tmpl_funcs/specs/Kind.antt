@@ -1,8 +1,9 @@
 -- The two ways in which nothing is written, and the two ways in which a text is escaped.
-use Rattle.std.specs.Prelude.{ℕ, List, [], ◌∷◌, Option, Some, None}
+use Rattle.std.specs.Prelude.{ℕ, List, [], ◌∷◌, Option, Some, None, Result}
 use Rattle.tmpl_values.specs.Value.{Value}
 use Rattle.tmpl_funcs.specs.Join.{as_text}
-use Rattle.tmpl_funcs.specs.Escape.{html_byte, query_byte}
+use Rattle.tmpl_funcs.specs.Escape.{html_byte, query_byte, html_of, urlquery_of}
+use Rattle.tmpl_funcs.specs.declared.fault.CallFault.{CallFault}
 use Rattle.tmpl_funcs.specs.declared.join.Missing.{Missing}
 use Rattle.tmpl_funcs.specs.declared.join.Missing.TheVariants.{Nil, NoValue}
 use Rattle.tmpl_funcs.specs.declared.escape.Escape.{Escape}
@@ -22,3 +23,8 @@ escaped_byte Query b = query_byte b
 abbrev pub or_itself : ℕ → Option (List ℕ) → List ℕ
 or_itself b None = b ∷ []
 or_itself b (Some text) = text
+
+-- the operands joined and escaped
+abbrev pub escaped_of : Escape → List Value → Result Value CallFault
+escaped_of Html vs = html_of vs
+escaped_of Query vs = urlquery_of vs

@@ -65,9 +65,10 @@ IsRead asked whole None = asked ≡ None
 IsRead asked whole (Some read) = (f : Spelled) × (asked ≡ Some f) × (read.0 ≡ form_of f)
     × (whole ≡ spelled f ++ read.1.now)
 
--- a piece at the front was added, and what stands behind it and the values behind those that it took
--- come to the rest; or there is no text, and the format was refused; or memory was
-abbrev pub IsPieceAdded : List ℕ → List Value → List ℕ → List ℕ → Result (Bor (List ℕ) × ℕ) CallFault → Type 0
+-- a piece at the front was added, and what stands behind it and the values behind those that it
+-- took come to the rest; or there is no text, and the format was refused; or memory was
+abbrev pub IsPieceAdded : List ℕ → List Value → List ℕ → List ℕ
+    → Result (Bor (List ℕ) × ℕ) CallFault → Type 0
 IsPieceAdded format vs old new (Ok left) = (text : List ℕ) × (new ≡ old ++ text)
     × (formatted format vs ≡ both (Some text) (formatted left.0.now (drop left.1 vs)))
     × (left.1 ≤ length vs) × (length left.0.now < length format)

@@ -1,6 +1,6 @@
 -- A part of a string or a sequence ("Functions", at `slice`: "`slice x 1 2` is, in Go syntax,
--- x[1:2], while `slice x` is x[:], `slice x 1` is x[1:]"). That no part goes past the length is this
--- project's own rule.
+-- x[1:2], while `slice x` is x[:], `slice x 1` is x[1:]"). That no part goes past the length is
+-- this project's own rule.
 use Rattle.std.specs.Prelude.{ℕ, ℤ, pos, negsuc, ◌&&◌, nat_le, Bool, true, false, List, [], ◌∷◌, length, Option, Some, None, Result, Ok, Err}
 use Rattle.tmpl_values.specs.Value.{Value, nothing, null, boolean, number, string, sequence, mapping}
 use Rattle.tmpl_values.specs.Item.{item_count, part_of}

@@ -2,15 +2,17 @@
 ghost use Rattle.std.specs.Prelude.{◌≡◌};
 ghost use Rattle.tmpl_values.specs.Compare.{equality, order, IsCompared};
 ghost use Rattle.tmpl_values.specs.View.{val_of};
-ghost use Rattle.tmpl_funcs.specs.Answer.{values_of, IsAnswer};
+ghost use Rattle.tmpl_funcs.specs.Answer.{values_of, IsAnswer, IsBorrowed};
 ghost use Rattle.tmpl_funcs.specs.Comparison.{above, at_least, at_most, eq_of, equal_to_one, of_two, unequal};
 
 use crate::fault::CallFault;
 use tmpl_values::{Cell, CompareFault, Val};
 
-/// Whether the first argument equals one of the others, compared in order up to the first equal one.
+/// Whether the first argument equals one of the others, compared in order up to the first equal
+/// one.
 pub(crate) fn eq<'a>(arguments: &[Cell<'a>]) -> Result<Val<'a>, CallFault>
-    ensures { IsAnswer (eq_of (values_of arguments.now)) result }
+    ensures table { IsAnswer (eq_of (values_of arguments.now)) result }
+    ensures borrowed { IsBorrowed result }
 {
     match arguments {
         [] | [_] => Err(CallFault::WrongCount),
@@ -31,7 +33,8 @@ fn equals_one(first: &Val<'_>, others: &[Cell<'_>]) -> Result<bool, CompareFault
 
 /// Whether the two arguments differ.
 pub(crate) fn ne<'a>(arguments: &[Cell<'a>]) -> Result<Val<'a>, CallFault>
-    ensures { IsAnswer (of_two unequal (values_of arguments.now)) result }
+    ensures table { IsAnswer (of_two unequal (values_of arguments.now)) result }
+    ensures borrowed { IsBorrowed result }
 {
     match arguments {
         [left, right] => Ok(Val::Bool(!left.val.equal(&right.val)?)),
@@ -41,7 +44,8 @@ pub(crate) fn ne<'a>(arguments: &[Cell<'a>]) -> Result<Val<'a>, CallFault>
 
 /// Whether the first of two arguments is below the second.
 pub(crate) fn lt<'a>(arguments: &[Cell<'a>]) -> Result<Val<'a>, CallFault>
-    ensures { IsAnswer (of_two order (values_of arguments.now)) result }
+    ensures table { IsAnswer (of_two order (values_of arguments.now)) result }
+    ensures borrowed { IsBorrowed result }
 {
     match arguments {
         [left, right] => Ok(Val::Bool(left.val.less(&right.val)?)),
@@ -51,7 +55,8 @@ pub(crate) fn lt<'a>(arguments: &[Cell<'a>]) -> Result<Val<'a>, CallFault>
 
 /// Whether the first of two arguments is below the second or equal to it.
 pub(crate) fn le<'a>(arguments: &[Cell<'a>]) -> Result<Val<'a>, CallFault>
-    ensures { IsAnswer (of_two at_most (values_of arguments.now)) result }
+    ensures table { IsAnswer (of_two at_most (values_of arguments.now)) result }
+    ensures borrowed { IsBorrowed result }
 {
     match arguments {
         [left, right] => Ok(Val::Bool(is_at_most(&left.val, &right.val)?)),
@@ -61,7 +66,8 @@ pub(crate) fn le<'a>(arguments: &[Cell<'a>]) -> Result<Val<'a>, CallFault>
 
 /// Whether the first of two arguments is above the second.
 pub(crate) fn gt<'a>(arguments: &[Cell<'a>]) -> Result<Val<'a>, CallFault>
-    ensures { IsAnswer (of_two above (values_of arguments.now)) result }
+    ensures table { IsAnswer (of_two above (values_of arguments.now)) result }
+    ensures borrowed { IsBorrowed result }
 {
     match arguments {
         [left, right] => Ok(Val::Bool(!is_at_most(&left.val, &right.val)?)),
@@ -71,7 +77,8 @@ pub(crate) fn gt<'a>(arguments: &[Cell<'a>]) -> Result<Val<'a>, CallFault>
 
 /// Whether the first of two arguments is not below the second.
 pub(crate) fn ge<'a>(arguments: &[Cell<'a>]) -> Result<Val<'a>, CallFault>
-    ensures { IsAnswer (of_two at_least (values_of arguments.now)) result }
+    ensures table { IsAnswer (of_two at_least (values_of arguments.now)) result }
+    ensures borrowed { IsBorrowed result }
 {
     match arguments {
         [left, right] => Ok(Val::Bool(!left.val.less(&right.val)?)),

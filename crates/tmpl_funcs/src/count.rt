@@ -2,7 +2,7 @@
 ghost use Rattle.std.specs.Prelude.{◌≡◌};
 ghost use Rattle.tmpl_values.specs.View.{val_of};
 ghost use Rattle.tmpl_values.specs.Item.{size_of};
-ghost use Rattle.tmpl_funcs.specs.Answer.{values_of, IsAnswer};
+ghost use Rattle.tmpl_funcs.specs.Answer.{values_of, IsAnswer, IsBorrowed};
 ghost use Rattle.tmpl_funcs.specs.Count.{not_of, len_of, sized};
 
 use crate::fault::CallFault;
@@ -10,7 +10,8 @@ use tmpl_values::{Cell, Val};
 
 /// Whether the one argument is empty.
 pub(crate) fn not<'a>(arguments: &[Cell<'a>]) -> Result<Val<'a>, CallFault>
-    ensures { IsAnswer (not_of (values_of arguments.now)) result }
+    ensures table { IsAnswer (not_of (values_of arguments.now)) result }
+    ensures borrowed { IsBorrowed result }
 {
     match arguments {
         [only] => Ok(Val::Bool(!only.val.truth())),
@@ -20,7 +21,8 @@ pub(crate) fn not<'a>(arguments: &[Cell<'a>]) -> Result<Val<'a>, CallFault>
 
 /// How many bytes or items the one argument has.
 pub(crate) fn len<'a>(arguments: &[Cell<'a>]) -> Result<Val<'a>, CallFault>
-    ensures { IsAnswer (len_of (values_of arguments.now)) result }
+    ensures table { IsAnswer (len_of (values_of arguments.now)) result }
+    ensures borrowed { IsBorrowed result }
 {
     match arguments {
         [only] => size(&only.val),
@@ -29,7 +31,8 @@ pub(crate) fn len<'a>(arguments: &[Cell<'a>]) -> Result<Val<'a>, CallFault>
 }
 
 fn size<'a>(value: &Val<'_>) -> Result<Val<'a>, CallFault>
-    ensures { IsAnswer (sized (size_of (val_of value.now))) result }
+    ensures table { IsAnswer (sized (size_of (val_of value.now))) result }
+    ensures borrowed { IsBorrowed result }
 {
     if let Some(text) = value.bytes() {
         return Ok(Val::Num(text.len() as i64));

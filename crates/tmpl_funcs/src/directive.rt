@@ -42,6 +42,9 @@ pub(crate) fn add_printed(form: Form, value: &Val<'_>, bytes: &mut Vec<u8>) -> R
 fn add_value(form: Form, value: &Val<'_>, bytes: &mut Vec<u8>) -> Result<(), CallFault>
     ensures { IsAdded (value_form form (val_of value.now)) bytes.old.items bytes.new.items result }
 {
+    if let Some(text) = value.bytes() {
+        return add_text_form(form, text, bytes);
+    }
     match value {
         Val::List(_) | Val::Map(_) => {
             if !form.is_bare() {
@@ -71,7 +74,8 @@ fn add_text_form(form: Form, text: &[u8], bytes: &mut Vec<u8>) -> Result<(), Cal
 
 /// `%s`.
 fn add_string(form: Form, text: Option<&[u8]>, bytes: &mut Vec<u8>) -> Result<(), CallFault>
-    ensures { IsAdded (text_form form (option_map (cut form.precision) (option_map (λ t. t.now) text.entry)))
+    ensures { IsAdded
+        (text_form form (option_map (cut form.precision) (option_map (λ t. t.now) text.entry)))
         bytes.old.items bytes.new.items result }
 {
     match text {
@@ -97,7 +101,8 @@ fn add_quoted(form: Form, text: Option<&[u8]>, bytes: &mut Vec<u8>) -> Result<()
 
 /// `%c`.
 fn add_char(form: Form, code: Option<i64>, bytes: &mut Vec<u8>) -> Result<(), CallFault>
-    ensures { IsAdded (text_form form (option_map char_text code)) bytes.old.items bytes.new.items result }
+    ensures { IsAdded (text_form form (option_map char_text code))
+        bytes.old.items bytes.new.items result }
 {
     match code {
         Some(code) => {
@@ -124,7 +129,8 @@ fn char_of(code: i64) -> char
 
 /// `%t`.
 fn add_truth(form: Form, value: &Val<'_>, bytes: &mut Vec<u8>) -> Result<(), CallFault>
-    ensures { IsAdded (text_form form (truth_of (val_of value.now))) bytes.old.items bytes.new.items result }
+    ensures { IsAdded (text_form form (truth_of (val_of value.now)))
+        bytes.old.items bytes.new.items result }
 {
     match value {
         Val::Bool(true) => add_text_form(form, b"true", bytes),
@@ -141,7 +147,8 @@ fn add_truth(form: Form, value: &Val<'_>, bytes: &mut Vec<u8>) -> Result<(), Cal
 
 /// `%d`.
 fn add_decimal(form: Form, n: Option<i64>, bytes: &mut Vec<u8>) -> Result<(), CallFault>
-    ensures { IsAdded (option_map (number_form 10 false form) n) bytes.old.items bytes.new.items result }
+    ensures { IsAdded (option_map (number_form 10 false form) n)
+        bytes.old.items bytes.new.items result }
 {
     match n {
         Some(n) => {
@@ -164,7 +171,8 @@ fn add_in_base(
 ) -> Result<(), CallFault>
     requires low { 2 ≤ base }
     requires high { base ≤ 16 }
-    ensures { IsAdded (option_map (number_form base upper form) n) bytes.old.items bytes.new.items result }
+    ensures { IsAdded (option_map (number_form base upper form) n)
+        bytes.old.items bytes.new.items result }
 {
     match n {
         Some(n) => {
@@ -195,7 +203,8 @@ fn sign(form: Form, n: i64) -> &'static [u8]
 
 /// `%x` and `%X`.
 fn add_hex(upper: bool, form: Form, value: &Val<'_>, bytes: &mut Vec<u8>) -> Result<(), CallFault>
-    ensures { IsAdded (hex_form upper form (val_of value.now)) bytes.old.items bytes.new.items result }
+    ensures { IsAdded (hex_form upper form (val_of value.now))
+        bytes.old.items bytes.new.items result }
 {
     match value.bytes() {
         Some(text) => {
@@ -209,7 +218,8 @@ fn add_hex(upper: bool, form: Form, value: &Val<'_>, bytes: &mut Vec<u8>) -> Res
 
 /// Adds each byte in two digits.
 fn add_pairs(text: &[u8], upper: bool, bytes: &mut Vec<u8>) -> Result<(), AllocError>
-    ensures { OnOk result (bytes.new.items ≡ bytes.old.items ++ flat_map (hex_pair upper) text.now) }
+    ensures { OnOk result (bytes.new.items
+        ≡ bytes.old.items ++ flat_map (hex_pair upper) text.now) }
 {
     for byte in text {
         let byte = u64::from(*byte);

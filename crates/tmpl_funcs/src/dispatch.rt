@@ -1,7 +1,7 @@
 //! Calls.
 ghost use Rattle.std.specs.Prelude.{◌≡◌, ◌<◌, ◌∷◌, false, true, drop, length};
-ghost use Rattle.tmpl_values.specs.View.{val_of};
-ghost use Rattle.tmpl_funcs.specs.Answer.{values_of, IsAnswer, IsMade};
+ghost use Rattle.tmpl_values.specs.View.{is_made, val_of};
+ghost use Rattle.tmpl_funcs.specs.Answer.{values_of, AreBorrowed, IsAnswer, IsBorrowed, IsMade};
 ghost use Rattle.tmpl_funcs.specs.Func.{is_called, makes_text, takes};
 ghost use Rattle.tmpl_funcs.specs.Called.{answer, IsCall};
 
@@ -18,13 +18,21 @@ use std::alloc::Global;
 use std::mem;
 use tmpl_values::{Cell, Val};
 
-/// Calls a function, over the values that the cells have at entry; it may move them out.
+/// Calls a function, over the values that the cells have at entry; it may move them out, and
+/// nothing is said of the cells afterwards.
 ///
-/// It is the table of functions in the documentation of `text/template`. Memory is taken only by
-/// those that make a text: `print`, `println`, `printf`, `html` and `urlquery`.
+/// It is the table of functions in the documentation of `text/template` ("Functions"). Texts are
+/// indexed, cut and measured by bytes, and `printf` pads them by runes. The number of arguments is
+/// looked at first, then their kinds, then ranges. `and` and `or`, which look at no argument after
+/// the deciding one, are no calls.
+///
+/// Memory is taken only by those that make a text: `print`, `println`, `printf`, `html` and
+/// `urlquery`. No other answers want of it, or gives a made text where none was among the
+/// arguments.
 pub fn call<'a>(alloc: Global, func: Func, arguments: &mut [Cell<'a>]) -> Result<Val<'a>, CallFault>
     requires { is_called func ≡ true }
-    ensures { IsCall func (values_of arguments.old) result }
+    ensures table { IsCall func (values_of arguments.old) result }
+    ensures borrowed { makes_text func ≡ false → AreBorrowed arguments.old → IsBorrowed result }
 {
     if !func.takes(arguments.len() as u64) {
         return Err(CallFault::WrongCount);
@@ -67,7 +75,8 @@ fn answer<'a>(func: Func, arguments: &mut [Cell<'a>]) -> Result<Val<'a>, CallFau
     requires called { is_called func ≡ true }
     requires silent { makes_text func ≡ false }
     requires takes { takes func (length arguments.old) ≡ true }
-    ensures { IsAnswer (answer func (values_of arguments.old)) result }
+    ensures table { IsAnswer (answer func (values_of arguments.old)) result }
+    ensures borrowed { AreBorrowed arguments.old → IsBorrowed result }
 {
     match func {
         Func::And
@@ -99,7 +108,8 @@ fn answer<'a>(func: Func, arguments: &mut [Cell<'a>]) -> Result<Val<'a>, CallFau
 /// Takes the first value out of the cells.
 fn take_first<'a>(arguments: &mut [Cell<'a>]) -> Val<'a>
     requires { 0 < length arguments.old }
-    ensures { values_of arguments.old ≡ val_of result ∷ drop 1 (values_of arguments.new) }
+    ensures value { values_of arguments.old ≡ val_of result ∷ drop 1 (values_of arguments.new) }
+    ensures borrowed { AreBorrowed arguments.old → is_made result ≡ false }
 {
     mem::replace(&mut arguments[0].val, Val::Nothing)
 }

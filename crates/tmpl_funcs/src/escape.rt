@@ -1,9 +1,10 @@
 //! `html` and `urlquery`.
-ghost use Rattle.std.specs.Prelude.{◌≡◌, ◌++◌, OnOk, option_map};
+ghost use Rattle.std.specs.Prelude.{◌≡◌, ◌++◌, IfSome, OnOk, map, option_map};
 ghost use Rattle.std.specs.List.{flat_map};
 ghost use Rattle.tmpl_funcs.specs.Answer.{values_of, IsMade};
 ghost use Rattle.tmpl_funcs.specs.Escape.{html_byte, html_of, query_byte, urlquery_of};
-ghost use Rattle.tmpl_funcs.specs.Kind.{escaped_byte, or_itself};
+ghost use Rattle.tmpl_funcs.specs.Join.{as_text, joined};
+ghost use Rattle.tmpl_funcs.specs.Kind.{escaped_byte, escaped_of, or_itself};
 
 use crate::fault::CallFault;
 use crate::join::{Missing, add_joined};
@@ -22,27 +23,44 @@ enum Escape {
 pub(crate) fn html<'a>(alloc: Global, operands: &[Cell<'_>]) -> Result<Val<'a>, CallFault>
     ensures { IsMade (html_of (values_of operands.now)) result }
 {
-    let mut plain = Vec::new(alloc);
-    add_joined(operands, Missing::NoValue, &mut plain)?;
-    let mut bytes = Vec::new(alloc);
-    add_escaped(plain.as_slice(), Escape::Html, &mut bytes)?;
-    Ok(Val::made(alloc, bytes)?)
+    escaped(alloc, operands, Escape::Html)
 }
 
 /// The operands joined and escaped for the query of a URL.
 pub(crate) fn urlquery<'a>(alloc: Global, operands: &[Cell<'_>]) -> Result<Val<'a>, CallFault>
     ensures { IsMade (urlquery_of (values_of operands.now)) result }
 {
+    escaped(alloc, operands, Escape::Query)
+}
+
+fn escaped<'a>(alloc: Global, operands: &[Cell<'_>], escape: Escape) -> Result<Val<'a>, CallFault>
+    ensures { IsMade (escaped_of escape (values_of operands.now)) result }
+{
+    let mut bytes = Vec::new(alloc);
+    if let Some(text) = sole_text(operands) {
+        add_escaped(text, escape, &mut bytes)?;
+        return Ok(Val::made(alloc, bytes)?);
+    }
     let mut plain = Vec::new(alloc);
     add_joined(operands, Missing::NoValue, &mut plain)?;
-    let mut bytes = Vec::new(alloc);
-    add_escaped(plain.as_slice(), Escape::Query, &mut bytes)?;
+    add_escaped(plain.as_slice(), escape, &mut bytes)?;
     Ok(Val::made(alloc, bytes)?)
+}
+
+/// The text that is the only operand, which needs no joining.
+fn sole_text<'o>(operands: &'o [Cell<'_>]) -> Option<&'o [u8]>
+    ensures { IfSome result (λ t. joined (map as_text (values_of operands.now)) ≡ t.now) }
+{
+    match operands {
+        [only] => only.val.bytes(),
+        _ => None,
+    }
 }
 
 /// Adds the escape of a text, runs of plain bytes at once.
 fn add_escaped(text: &[u8], escape: Escape, bytes: &mut Vec<u8>) -> Result<(), AllocError>
-    ensures { OnOk result (bytes.new.items ≡ bytes.old.items ++ flat_map (escaped_byte escape) text.now) }
+    ensures { OnOk result (bytes.new.items
+        ≡ bytes.old.items ++ flat_map (escaped_byte escape) text.now) }
 {
     let mut start = 0;
     for i in 0..text.len() {

@@ -1,7 +1,7 @@
 //! `printf`.
-ghost use Rattle.std.specs.Prelude.{◌≡◌, ◌∷◌, ◌<◌, true, length, slice_index};
+ghost use Rattle.std.specs.Prelude.{◌≡◌, ◌∷◌, ◌<◌, List, true, length, slice_index};
 ghost use Rattle.tmpl_funcs.specs.Answer.{values_of, IsMade};
-ghost use Rattle.tmpl_funcs.specs.Form.{is_plain};
+ghost use Rattle.tmpl_funcs.specs.Form.{Piece, is_plain, reading, IsReading};
 ghost use Rattle.tmpl_funcs.specs.Printf.{formatted, formatted_if, printf_of, IsAdded, IsPieceAdded};
 
 use crate::class::Class;
@@ -55,8 +55,8 @@ fn add_formatted(format: &[u8], operands: &[Cell<'_>], bytes: &mut Vec<u8>) -> R
     }
 }
 
-/// Adds the text of the piece at the front, and gives what stands behind it and how many operands it
-/// took.
+/// Adds the text of the piece at the front, and gives what stands behind it and how many operands
+/// it took.
 fn add_piece<'f>(
     format: &'f [u8],
     operands: &[Cell<'_>],
@@ -102,4 +102,15 @@ fn add_form<'f>(
             Ok((behind, 1))
         }
     }
+}
+
+/// The law that a format has one reading: the function that reads it gives a reading, and every
+/// reading is the one that it gives.
+pub fn one_reading(format: &[u8])
+    ensures reads { (ps : List Piece) → reading format.now ≡ Some ps → IsReading format.now ps }
+    ensures read { (ps : List Piece) → IsReading format.now ps → reading format.now ≡ Some ps }
+    ensures one { (ps qs : List Piece) → IsReading format.now ps → IsReading format.now qs
+        → ps ≡ qs }
+{
+    let _ = format;
 }

@@ -3,7 +3,7 @@ ghost use Rattle.std.specs.Prelude.{◌≡◌, ◌≢◌, IfSome, IfNone};
 ghost use Rattle.tmpl_funcs.specs.Func.{makes_text, name_of, takes};
 ghost use Rattle.tmpl_funcs.specs.declared.func.Func.{Func};
 
-/// A function that a template may call.
+/// A function that a template may call ("Functions" in the documentation of `text/template`).
 #[derive(Clone, Copy, Debug, PartialEq, Eq)]
 pub enum Func {
     And,
@@ -85,7 +85,7 @@ impl Func {
         }
     }
 
-    /// Whether it takes so many arguments.
+    /// Whether it takes so many arguments. `slice` takes at most three, by our own profile.
     pub fn takes(self, count: u64) -> bool
         ensures { result ≡ takes self count }
     {
@@ -100,7 +100,7 @@ impl Func {
     }
 
     /// Whether it makes a text, and so takes memory.
-    pub(crate) fn makes_text(self) -> bool
+    pub fn makes_text(self) -> bool
         ensures { result ≡ makes_text self }
     {
         matches!(

@@ -1,8 +1,8 @@
 //! `index`.
-ghost use Rattle.std.specs.Prelude.{◌≡◌, ◌∷◌, option_map};
+ghost use Rattle.std.specs.Prelude.{◌≡◌, ◌∷◌, false, option_map};
 ghost use Rattle.tmpl_values.specs.Item.{bytes_of};
-ghost use Rattle.tmpl_values.specs.View.{items_of, val_of};
-ghost use Rattle.tmpl_funcs.specs.Answer.{values_of, IsAnswer};
+ghost use Rattle.tmpl_values.specs.View.{is_made, items_of, val_of};
+ghost use Rattle.tmpl_funcs.specs.Answer.{values_of, IsAnswer, IsBorrowed};
 ghost use Rattle.tmpl_funcs.specs.Index.{number_of, byte_at, item_of, entry_of, indexed, indexed_by, index_of};
 
 use crate::fault::CallFault;
@@ -10,7 +10,8 @@ use tmpl_values::{Cell, Data, Table, Val};
 
 /// An item at indexes, from left to right; with no index the item itself.
 pub(crate) fn index<'a>(item: Val<'a>, indexes: &[Cell<'_>]) -> Result<Val<'a>, CallFault>
-    ensures { IsAnswer (index_of (val_of item.entry ∷ values_of indexes.now)) result }
+    ensures table { IsAnswer (index_of (val_of item.entry ∷ values_of indexes.now)) result }
+    ensures borrowed { is_made item.entry ≡ false → IsBorrowed result }
 {
     match item {
         Val::Nothing | Val::Null => Err(CallFault::WrongKind),
@@ -19,7 +20,8 @@ pub(crate) fn index<'a>(item: Val<'a>, indexes: &[Cell<'_>]) -> Result<Val<'a>, 
 }
 
 fn index_by<'a>(first: Val<'a>, indexes: &[Cell<'_>]) -> Result<Val<'a>, CallFault>
-    ensures { IsAnswer (indexed_by (val_of first.entry) (values_of indexes.now)) result }
+    ensures table { IsAnswer (indexed_by (val_of first.entry) (values_of indexes.now)) result }
+    ensures borrowed { is_made first.entry ≡ false → IsBorrowed result }
 {
     let mut item = first;
     for index in indexes {
@@ -29,7 +31,8 @@ fn index_by<'a>(first: Val<'a>, indexes: &[Cell<'_>]) -> Result<Val<'a>, CallFau
 }
 
 fn item_at<'a>(item: &Val<'a>, index: &Val<'_>) -> Result<Val<'a>, CallFault>
-    ensures { IsAnswer (indexed (val_of item.now) (val_of index.now)) result }
+    ensures table { IsAnswer (indexed (val_of item.now) (val_of index.now)) result }
+    ensures borrowed { IsBorrowed result }
 {
     if let Some(bytes) = item.bytes() {
         return byte_at(bytes, number(index));
@@ -60,7 +63,8 @@ pub(crate) fn number(value: &Val<'_>) -> Option<i64>
 }
 
 fn byte_at<'a>(bytes: &[u8], place: Option<i64>) -> Result<Val<'a>, CallFault>
-    ensures { IsAnswer (byte_at bytes.now place) result }
+    ensures table { IsAnswer (byte_at bytes.now place) result }
+    ensures borrowed { IsBorrowed result }
 {
     let Some(place) = place else {
         return Err(CallFault::WrongKind);
@@ -77,7 +81,8 @@ fn byte_at<'a>(bytes: &[u8], place: Option<i64>) -> Result<Val<'a>, CallFault>
 }
 
 fn list_item<'a>(items: &'a [Data], place: Option<i64>) -> Result<Val<'a>, CallFault>
-    ensures { IsAnswer (item_of (items_of items.now) place) result }
+    ensures table { IsAnswer (item_of (items_of items.now) place) result }
+    ensures borrowed { IsBorrowed result }
 {
     let Some(place) = place else {
         return Err(CallFault::WrongKind);
@@ -94,7 +99,8 @@ fn list_item<'a>(items: &'a [Data], place: Option<i64>) -> Result<Val<'a>, CallF
 }
 
 fn map_entry<'a>(table: &'a Table, key: Option<&[u8]>) -> Result<Val<'a>, CallFault>
-    ensures { IsAnswer (entry_of table.now (option_map (λ k. k.now) key.entry)) result }
+    ensures table { IsAnswer (entry_of table.now (option_map (λ k. k.now) key.entry)) result }
+    ensures borrowed { IsBorrowed result }
 {
     let Some(key) = key else {
         return Err(CallFault::WrongKind);

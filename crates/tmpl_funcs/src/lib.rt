@@ -1,4 +1,5 @@
-//! The functions of templates over values ("Functions" in the documentation of `text/template`).
+//! The functions of templates over values ("Functions" in the documentation of `text/template`),
+//! and the formats of `printf` ("Printing" in the documentation of `fmt`).
 #![tactic(auto)]
 
 mod class;
@@ -22,4 +23,8 @@ mod slice;
 
 pub use dispatch::call;
 pub use fault::CallFault;
+pub use format::one_reading;
 pub use func::Func;
+
+#[cfg(test)]
+mod tests;

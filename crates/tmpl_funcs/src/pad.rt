@@ -1,5 +1,6 @@
 //! Texts and numbers padded to a width.
-ghost use Rattle.std.specs.Prelude.{◌≡◌, ◌++◌, OnOk, replicate};
+ghost use Rattle.std.specs.Prelude.{◌≡◌, ◌-◌, ◌++◌, OnOk, length, replicate};
+ghost use Rattle.tmpl_values.specs.Rune.{runes};
 ghost use Rattle.tmpl_funcs.specs.Directive.{laid_out, padded};
 
 use crate::form::Form;
@@ -10,7 +11,7 @@ use std::alloc::AllocError;
 pub(crate) fn add_padded(form: Form, text: &[u8], bytes: &mut Vec<u8>) -> Result<(), AllocError>
     ensures { OnOk result (bytes.new.items ≡ bytes.old.items ++ padded form text.now) }
 {
-    let missing = form.width.saturating_sub(rune_count(text));
+    let missing = missing_runes(form.width, text);
     if form.minus {
         bytes.extend_from_slice(text)?;
         add_repeated(b' ', missing, bytes)
@@ -18,6 +19,16 @@ pub(crate) fn add_padded(form: Form, text: &[u8], bytes: &mut Vec<u8>) -> Result
         add_repeated(b' ', missing, bytes)?;
         bytes.extend_from_slice(text)
     }
+}
+
+/// How many runes a text lacks to a width.
+fn missing_runes(width: usize, text: &[u8]) -> usize
+    ensures { result ≡ width - length (runes text.now) }
+{
+    if width == 0 {
+        return 0;
+    }
+    width.saturating_sub(rune_count(text))
 }
 
 /// Adds a sign and digits with the spaces or zeros that they lack to the width.

@@ -1,17 +1,18 @@
 //! `slice`.
-ghost use Rattle.std.specs.Prelude.{◌≡◌, ◌∷◌};
-ghost use Rattle.tmpl_values.specs.View.{val_of};
-ghost use Rattle.tmpl_funcs.specs.Answer.{values_of, IsAnswer};
+ghost use Rattle.std.specs.Prelude.{◌≡◌, ◌∷◌, false};
+ghost use Rattle.tmpl_values.specs.View.{is_made, val_of};
+ghost use Rattle.tmpl_funcs.specs.Answer.{values_of, IsAnswer, IsBorrowed};
 ghost use Rattle.tmpl_funcs.specs.Slice.{extent, part_by, slice_of, whole};
 
 use crate::fault::CallFault;
 use crate::index::number;
 use tmpl_values::{Cell, Val};
 
-/// A value from the first bound to before the second, which default to its ends. It shares the bytes
-/// or items.
+/// A value from the first bound to before the second, which default to its ends. It shares the
+/// bytes or items.
 pub(crate) fn slice<'a>(value: Val<'a>, bounds: &[Cell<'_>]) -> Result<Val<'a>, CallFault>
-    ensures { IsAnswer (slice_of (val_of value.entry ∷ values_of bounds.now)) result }
+    ensures table { IsAnswer (slice_of (val_of value.entry ∷ values_of bounds.now)) result }
+    ensures borrowed { is_made value.entry ≡ false → IsBorrowed result }
 {
     let size = extent(&value);
     match bounds {
@@ -48,7 +49,9 @@ fn part<'a>(
     to: Option<i64>,
 ) -> Result<Val<'a>, CallFault>
     requires { size ≡ whole (extent (val_of value)) }
-    ensures { IsAnswer (part_by (val_of value.entry) (extent (val_of value.entry)) from to) result }
+    ensures table { IsAnswer
+        (part_by (val_of value.entry) (extent (val_of value.entry)) from to) result }
+    ensures borrowed { is_made value.entry ≡ false → IsBorrowed result }
 {
     let (Some(size), Some(i), Some(j)) = (size, from, to) else {
         return Err(CallFault::WrongKind);

@@ -1,3 +1,5 @@
-pub mod Sink
+pub mod Fault
 pub mod Meaning
+pub mod Pipeline
 pub mod Seen
+pub mod Sink

@@ -1,43 +1,17 @@
 -- The meaning of a template: its text, and the fault that ends it if there is one.
-use Rattle.std.specs.Prelude.{ℕ, ◌-◌, nat_eq, Bool, true, false, List, [], ◌∷◌, ◌++◌, length, drop, Option, Some, None, Result, Ok, Err, if◌then◌else◌}
+use Rattle.std.specs.Prelude.{ℕ, ◌-◌, nat_eq, Bool, true, false, ◌||◌, List, [], ◌∷◌, ◌++◌, length, drop, Option, Some, None, Result, Ok, Err, if◌then◌else◌}
 use Rattle.std.specs.Str.{bytes_eq}
-use Rattle.tmpl_values.specs.Value.{Value, nothing, null, boolean, number, string, sequence, mapping}
+use Rattle.tmpl_values.specs.Value.{Value, nothing}
 use Rattle.tmpl_values.specs.Elements.{Element, elements}
 use Rattle.tmpl_values.specs.Text.{text_of}
 use Rattle.tmpl_values.specs.Truth.{truth}
-use Rattle.tmpl_values.specs.Field.{FieldValue, found, missing, of_nothing, no_field, field_at}
 use Rattle.tmpl_syntax.specs.Tree as tree
-use Rattle.tmpl_syntax.specs.Tree.{Operand, dot, fields, variable, Pipeline, pipeline, Binding, unbound, declare, assign, RangeVariables, unnamed, element, key_and_element, Node, text, action, if_node, with_node, range_node, break_node, continue_node, Nodes, Tree, line_of}
+use Rattle.tmpl_syntax.specs.Tree.{Pipeline, Binding, unbound, declare, assign, RangeVariables, unnamed, element, key_and_element, Node, text, action, if_node, with_node, range_node, break_node, continue_node, Nodes, Tree, line_of}
+pub use Rattle.tmpl_run.specs.Fault.{Cause, Fault, steps_spent, not_a_function, nil_command, lacks_field, lacks_entry, not_a_range, call_failed}
+use Rattle.tmpl_run.specs.Pipeline.{Environment, Given, Place, pipeline_value, without_null}
 use Rattle.tmpl_run.specs.declared.options.MissingKey.{MissingKey}
-use Rattle.tmpl_run.specs.declared.options.MissingKey.TheVariants.{Default, Invalid, Zero, Error}
-
--- ---- faults
-
--- why a run stops: no step is left of so many; a value has no fields, and one of this name is asked for;
--- a map has no entry of this name; a value is not what a range visits
-pub data Cause : Type 0 where
-  steps_spent : ℕ → Cause
-  lacks_field : List ℕ → Cause
-  lacks_entry : List ℕ → Cause
-  not_a_range : Cause
-
--- why a run stops, and where
-pub record Fault : Type 0 where
-  pub file : List ℕ
-  pub line : ℕ
-  pub template : List ℕ
-  pub cause : Cause
 
 -- ---- variables
-
--- the variables in scope, the newest first; that of the empty name, written `$`, is the dot at the start
-abbrev pub Environment : Type 0
-Environment = List (List ℕ × Value)
-
--- the value of the newest variable of a name; a template that is accepted names none that is not there
-abbrev pub lookup : List ℕ → Environment → Value
-lookup name [] = nothing
-lookup name (v ∷ env) = if bytes_eq v.0 name then v.1 else lookup name env
 
 -- a value assigned to the newest variable of a name
 abbrev pub assigned : List ℕ → Value → Environment → Environment
@@ -54,59 +28,6 @@ element_bound unnamed e env = env
 element_bound (element name) e env = (name, e.1) ∷ env
 element_bound (key_and_element key name) e env = (name, e.1) ∷ (key, e.0) ∷ env
 
--- ---- values
-
--- a field, by what its value has under the name (own rules, also where Go differs)
-abbrev pub by_mode : MissingKey → List ℕ → Result Value Cause
-by_mode Default name = Ok nothing
-by_mode Invalid name = Ok nothing
-by_mode Zero name = Ok null
-by_mode Error name = Err (lacks_entry name)
-
-abbrev pub nothing_by_mode : MissingKey → List ℕ → Result Value Cause
-nothing_by_mode Default name = Ok nothing
-nothing_by_mode Invalid name = Ok nothing
-nothing_by_mode Zero name = Ok nothing
-nothing_by_mode Error name = Err (lacks_entry name)
-
-abbrev pub field_value : MissingKey → List ℕ → FieldValue → Result Value Cause
-field_value mode name (found v) = Ok v
-field_value mode name missing = by_mode mode name
-field_value mode name of_nothing = nothing_by_mode mode name
-field_value mode name no_field = Err (lacks_field name)
-
-abbrev pub and_then : Result Value Cause → (Value → Result Value Cause) → Result Value Cause
-and_then (Ok v) next = next v
-and_then (Err cause) next = Err cause
-
--- the field of the field of .. of a value
-abbrev pub chain : MissingKey → List (List ℕ) → Value → Result Value Cause
-chain mode [] v = Ok v
-chain mode (name ∷ names) v = and_then (field_value mode name (field_at name v)) (chain mode names)
-
-abbrev pub operand_value : MissingKey → Value → Environment → Operand → Result Value Cause
-operand_value mode d env dot = Ok d
-operand_value mode d env (fields names) = chain mode names d
-operand_value mode d env (variable name names) = chain mode names (lookup name env)
-
--- a null that a command gives is nothing
-abbrev pub without_null : Value → Value
-without_null nothing = nothing
-without_null null = nothing
-without_null (boolean b) = boolean b
-without_null (number n) = number n
-without_null (string bytes) = string bytes
-without_null (sequence items) = sequence items
-without_null (mapping entries) = mapping entries
-
-abbrev pub command_value : Result Value Cause → Result Value Cause
-command_value (Ok v) = Ok (without_null v)
-command_value (Err cause) = Err cause
-
--- the value of a pipeline, here of one command of one operand
-abbrev pub pipeline_value : MissingKey → Value → Environment → Pipeline → Result Value Cause
-pipeline_value mode d env (pipeline o) = command_value (operand_value mode d env o)
-
 -- ---- runs
 
 -- how a template is run: the mode, the limit of steps, and the file and name of the template
@@ -116,11 +37,13 @@ pub record Setting : Type 0 where
   pub file : List ℕ
   pub template : List ℕ
 
--- where a run stands: the variables, the text so far, and the steps left
+-- where a run stands: the variables, the text so far, the steps left, and whether a function that makes a text was
+-- called with all its arguments
 pub record Run : Type 0 where
   pub env : Environment
   pub text : List ℕ
   pub left : ℕ
+  pub made : Bool
 
 -- how a part of a template ends: at a break or continue it is left for the range around it to go on
 pub data End : Type 0 where
@@ -154,10 +77,18 @@ on_end (faulted f) r go = (r, faulted f)
 abbrev pub after : Run × End → Next → Run × End
 after part go = on_end part.1 part.0 go
 
--- goes on with a value, or stops
 abbrev pub with_value : Setting → ℕ → Result Value Cause → (Value → Next) → Next
 with_value s line (Ok v) go r = go v r
 with_value s line (Err cause) go r = (r, stopped s line cause)
+
+-- goes on with what a pipeline gave, or stops
+abbrev pub with_given : Setting → ℕ → Given → (Value → Next) → Next
+with_given s line g go r = with_value s line g.result go (record r { made = r.made || g.made })
+
+-- goes on with the value of a pipeline, or stops
+abbrev pub with_pipeline : Setting → ℕ → Pipeline → Value → (Value → Next) → Next
+with_pipeline s line p d go r =
+    with_given s line (pipeline_value (record { mode = s.mode; dot = d; env = r.env }) p) go r
 
 -- the variables are as many again as they were: those declared since are gone, and values assigned stay
 abbrev pub scoped : ℕ → Run × End → Run × End
@@ -185,7 +116,7 @@ shown (assign name) v r = (bound (assign name) v r, done)
 
 -- an action
 abbrev pub acting : Setting → ℕ → Binding → Pipeline → Value → Next
-acting s line b p d r = with_value s line (pipeline_value s.mode d r.env p) (shown b) r
+acting s line b p d = with_pipeline s line p d (shown b)
 
 -- one of two parts, by whether the value is empty
 abbrev pub one_of : Bool → Next → Next → Next
@@ -194,9 +125,8 @@ one_of false body other r = other r
 
 -- an `if` or a `with`: the body, which may take the value as its dot, where the value is not empty, else the other part
 abbrev pub choosing : Setting → ℕ → Binding → Pipeline → Value → (Value → Next) → Next → Next
-choosing s line b p d body other r =
-    with_value s line (pipeline_value s.mode d r.env p)
-    (λ v r. one_of (truth v) (body v) other (bound b v r)) r
+choosing s line b p d body other =
+    with_pipeline s line p d (λ v r. one_of (truth v) (body v) other (bound b v r))
 
 -- goes on from where the body of a range ends for one element: a break ends the range
 abbrev pub on_turn : End → Run → Next → Run × End
@@ -228,9 +158,8 @@ over s line names body other (Some []) r = other r
 over s line names body other (Some (e ∷ es)) r = turns s line names body (e ∷ es) r
 
 abbrev pub ranging : Setting → ℕ → RangeVariables → Pipeline → Value → (Value → Next) → Next → Next
-ranging s line names p d body other r =
-    with_value s line (pipeline_value s.mode d r.env p)
-    (λ v. over s line names body other (elements v)) r
+ranging s line names p d body other =
+    with_pipeline s line p d (λ v. over s line names body other (elements v))
 
 abbrev mutual
   -- a node with this dot, once its step is taken
@@ -257,10 +186,12 @@ meaning s n d = spend s (line_of n) (stepped s n d)
 
 -- ---- whole templates
 
--- the text that a template puts out, and the fault that ends it
+-- the text that a template puts out, the fault that ends it, and whether the run makes text: it calls a function that
+-- makes one with all its arguments
 pub record Ran : Type 0 where
   pub text : List ℕ
   pub fault : Option Fault
+  pub made : Bool
 
 -- a template that is accepted breaks out of nothing but a range of its own
 abbrev pub fault_of : End → Option Fault
@@ -274,7 +205,7 @@ setting_of mode limit name t =
     record { mode = mode; limit = limit; file = t.file; template = name }
 
 abbrev pub ran_of : Run × End → Ran
-ran_of r = record { text = r.0.text; fault = fault_of r.1 }
+ran_of r = record { text = r.0.text; fault = fault_of r.1; made = r.0.made }
 
 -- the starting dot: the data, of which null is nothing; nothing where there is no data
 abbrev pub starting_dot : Option Value → Value
@@ -283,7 +214,7 @@ starting_dot (Some v) = without_null v
 
 -- the run at its start, with this dot
 abbrev pub started : ℕ → Value → Run
-started limit d = record { env = ([], d) ∷ []; text = []; left = limit }
+started limit d = record { env = ([], d) ∷ []; text = []; left = limit; made = false }
 
 abbrev pub ran_with : MissingKey → ℕ → List ℕ → Tree → Value → Ran
 ran_with mode limit name t d =

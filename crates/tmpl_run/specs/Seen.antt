@@ -1,5 +1,5 @@
 -- What a fault of a run stands for.
-use Rattle.tmpl_run.specs.Meaning.{Cause, steps_spent, lacks_field, lacks_entry, not_a_range, Fault}
+use Rattle.tmpl_run.specs.Fault.{Cause, steps_spent, not_a_function, nil_command, lacks_field, lacks_entry, not_a_range, call_failed, Fault}
 use Rattle.tmpl_run.specs.declared.fault.RunFaultKind.{RunFaultKind}
 use Rattle.tmpl_run.specs.declared.fault.RunFaultKind.TheVariants as kind
 use Rattle.tmpl_run.specs.declared.fault.RunFault.{RunFault}
@@ -9,6 +9,9 @@ cause_of (kind.StepsSpent limit) = steps_spent limit
 cause_of (kind.NoField name) = lacks_field name.now
 cause_of (kind.NoEntry name) = lacks_entry name.now
 cause_of kind.NotARange = not_a_range
+cause_of kind.NotAFunction = not_a_function
+cause_of kind.NilCommand = nil_command
+cause_of (kind.Call f fault) = call_failed f fault
 
 -- this cause, where the fault is
 abbrev pub fault_with : RunFault → Cause → Fault

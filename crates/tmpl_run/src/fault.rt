@@ -1,4 +1,5 @@
 //! How a run may fail.
+use tmpl_funcs::{CallFault, Func};
 
 /// Why a run failed.
 #[derive(Clone, Copy, Debug)]
@@ -11,6 +12,12 @@ pub enum RunFaultKind<'a> {
     NoEntry(&'a [u8]),
     /// A range over a truth value, a number or a text.
     NotARange,
+    /// An argument or a piped value for what is no function.
+    NotAFunction,
+    /// `nil` as a whole command.
+    NilCommand,
+    /// A function refused its arguments.
+    Call(Func, CallFault),
 }
 
 /// A run that failed: why, and where. The text before the fault is put out all the same.

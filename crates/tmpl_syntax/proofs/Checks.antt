@@ -1,5 +1,5 @@
 -- The check, from item to item.
-use Rattle.std.proofs.Common.{arith, ◌≡◌, ◌≢◌, ℕ, suc, ◌+◌, ◌<◌, ◌≤◌, List, [], ◌∷◌, reverse, refl, sym, ap, ◌∙◌, subst, length, map, drop, get_or, drop-cons, add-one, Option, Some, None, Result, Ok, Err}
+use Rattle.std.proofs.Common.{arith, ◌≡◌, ◌≢◌, ℕ, suc, ◌+◌, ◌<◌, ◌≤◌, List, [], ◌∷◌, ◌++◌, refl, sym, ap, ◌∙◌, subst, length, map, drop, get_or, drop-cons, add-one, Option, Some, None, Result, Ok, Err}
 use Rattle.std.specs.Prelude.{slice_get}
 use Rattle.std.specs.Option.{option_map}
 use Rattle.std.proofs.lemmas.List.{drop_all}
@@ -14,10 +14,10 @@ use Rattle.tmpl_syntax.specs.Kinds.{parse_kind}
 use Rattle.tmpl_syntax.specs.Item.{Item, item_of, line_of}
 use Rattle.tmpl_syntax.specs.Mark.{Name, Mark, mark_of, marks_of}
 use Rattle.tmpl_syntax.specs.Body.{Verdict, fine, refused, left_open}
-use Rattle.tmpl_syntax.specs.Stack.{top, part, fault_at, frames_past, names_past, at_end, unless_fault, verdict_from, verdict_of}
+use Rattle.tmpl_syntax.specs.Stack.{top, seen_at, fault_at, frames_past, added_by, at_end, unless_fault, verdict_from, verdict_of}
 use Rattle.tmpl_syntax.specs.Parse.{Refusal, IsRefusal, last_line, line_in, by_verdict, checked}
 use Rattle.tmpl_syntax.proofs.Finds.{FindsMark, finds}
-use Rattle.tmpl_syntax.proofs.Sound.{Sound, sound_start, sound_past, sound_within}
+use Rattle.tmpl_syntax.proofs.Sound.{Sound, sound_start, sound_past}
 
 -- up to the place i none is refused, and there these frames and names stand
 pub record IsChecking (xs : List Mark) (i : ℕ) (names : List Name) (fs : List Frame) : Type 0 where
@@ -31,26 +31,35 @@ checking_start xs names fs e f = subst (λ n. IsChecking xs 0 n fs) (sym e) (sub
     start : IsChecking xs 0 [] []
     start = record { sound = sound_start xs; goes = refl }
 
-pub checking_within : (xs : List Mark) (i : ℕ) (names : List Name) (fs : List Frame) (t : Option Frame) → t ≡ top fs → IsChecking xs i names fs → part t (length names) ≤ length names
-checking_within xs i names fs t e c = subst (λ u. part u (length names) ≤ length names) (sym e) (sound_within xs i names fs c.sound)
-
 drop-at : (xs : List Mark) (i : ℕ) (x : Mark) → slice_get xs i ≡ Some x → drop i xs ≡ x ∷ drop (i + 1) xs
 drop-at xs i x at =
     let within : i < length xs = slice_get_within xs i x at in
     drop-cons xs i x within ∙ ap (λ y. y ∷ drop (suc i) xs) (get_or_from_slice_get xs i x x at) ∙ ap (λ k. x ∷ drop k xs) (sym (add-one i))
 
 module _ (xs : List Mark) (i : ℕ) (names : List Name) (fs : List Frame) (x : Mark) (at : slice_get xs i ≡ Some x) (c : IsChecking xs i names fs) where
-  here : (o : Option Fault) → fault_at x (top fs) names ≡ o → verdict_of xs ≡ unless_fault o i (verdict_from (i + 1) (frames_past x fs (length names)) (names_past x (top fs) names) (drop (i + 1) xs))
-  here o e = c.goes ∙ ap (verdict_from i fs names) (drop-at xs i x at) ∙ ap (λ p. unless_fault p i (verdict_from (i + 1) (frames_past x fs (length names)) (names_past x (top fs) names) (drop (i + 1) xs))) e
+  here : (o : Option Fault) → fault_at x (top fs) (seen_at x (top fs) names) ≡ o → verdict_of xs ≡ unless_fault o i (verdict_from (i + 1) (frames_past x fs (length (seen_at x (top fs) names))) (seen_at x (top fs) names ++ added_by x) (drop (i + 1) xs))
+  here o e = c.goes ∙ ap (verdict_from i fs names) (drop-at xs i x at) ∙ ap (λ p. unless_fault p i (verdict_from (i + 1) (frames_past x fs (length (seen_at x (top fs) names))) (seen_at x (top fs) names ++ added_by x) (drop (i + 1) xs))) e
 
-  pub checking_past : (ms : List Name) (gs : List Frame) → ms ≡ names_past x (top fs) names → gs ≡ frames_past x fs (length names) → fault_at x (top fs) names ≡ None → IsChecking xs (i + 1) ms gs
-  checking_past ms gs e f none = subst (λ n. IsChecking xs (i + 1) n gs) (sym e) (subst (λ s. IsChecking xs (i + 1) (names_past x (top fs) names) s) (sym f) (record {
-    sound = sound_past xs i names fs x at (subst (FindsMark x (top fs) names) none (finds x (top fs) names)) c.sound;
+  past : fault_at x (top fs) (seen_at x (top fs) names) ≡ None → IsChecking xs (i + 1) (seen_at x (top fs) names ++ added_by x) (frames_past x fs (length (seen_at x (top fs) names)))
+  past none = record {
+    sound = sound_past xs i names fs x at (subst (FindsMark x (top fs) (seen_at x (top fs) names)) none (finds x (top fs) (seen_at x (top fs) names))) c.sound;
     goes = here None none;
-  }))
+  }
 
-  pub checking_refused : (f : Fault) → fault_at x (top fs) names ≡ Some f → verdict_of xs ≡ refused i f
-  checking_refused f e = here (Some f) e
+  module _ (t : Option Frame) (ms : List Name) (same : t ≡ top fs) (sees : ms ≡ seen_at x t names) where
+    sees' : ms ≡ seen_at x (top fs) names
+    sees' = sees ∙ ap (λ u. seen_at x u names) same
+
+    fault_same : (o : Option Fault) → fault_at x t ms ≡ o → fault_at x (top fs) (seen_at x (top fs) names) ≡ o
+    fault_same o e = sym (ap (λ u. fault_at x u ms) same ∙ ap (fault_at x (top fs)) sees') ∙ e
+
+    pub checking_past : (ns : List Name) (gs : List Frame) → ns ≡ ms ++ added_by x → gs ≡ frames_past x fs (length ms) → fault_at x t ms ≡ None → IsChecking xs (i + 1) ns gs
+    checking_past ns gs e f none =
+        subst (λ n. IsChecking xs (i + 1) n gs) (sym (e ∙ ap (λ l. l ++ added_by x) sees'))
+        (subst (λ s. IsChecking xs (i + 1) (seen_at x (top fs) names ++ added_by x) s) (sym (f ∙ ap (λ l. frames_past x fs (length l)) sees')) (past (fault_same None none)))
+
+    pub checking_refused : (f : Fault) → fault_at x t ms ≡ Some f → verdict_of xs ≡ refused i f
+    checking_refused f e = here (Some f) (fault_same (Some f) e)
 
 -- the item at a place, as it is held and by its mark
 pub item-at : (items : List held.Item) (i : ℕ) (x : held.Item) → i < length items → x ≡ get_or items i x → slice_get (map item_of items) i ≡ Some (item_of x)

@@ -5,8 +5,6 @@ use Rattle.std.specs.Result.{IsErrAnd}
 use Rattle.tmpl_syntax.specs.declared.fault.ParseKind.{ParseKind}
 use Rattle.tmpl_syntax.specs.declared.fault.ParseKind.TheVariants.{Unreadable, NotAnAction, OutOfPlace, NestedTooDeeply, UndeclaredVariable, OpenAtEnd, TooLong, OutOfMemory}
 use Rattle.tmpl_syntax.specs.declared.fault.Refusal as held_refusal
-use Rattle.tmpl_syntax.specs.Item.{Item}
-use Rattle.tmpl_syntax.specs.Tree.{Nodes}
 use Rattle.tmpl_syntax.specs.Set.{Template}
 use Rattle.tmpl_syntax.specs.Build.{nodes_from}
 use Rattle.tmpl_syntax.specs.Parse.{Refusal, IsRefusal, checked, spelled, body_of, items_of, placed, parsed, most_bytes}

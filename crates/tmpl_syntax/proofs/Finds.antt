@@ -9,7 +9,7 @@ use Rattle.tmpl_syntax.specs.declared.fault.Fault.TheVariants.{Unreadable, NotAn
 use Rattle.tmpl_syntax.specs.declared.frame.Frame.{Frame}
 use Rattle.tmpl_syntax.specs.Mark.{Name, Act, Mark, text_mark, unreadable_mark, unread_mark, act_mark}
 use Rattle.tmpl_syntax.specs.Body.{names_in}
-use Rattle.tmpl_syntax.specs.Stack.{floor, is_placed, is_too_deep, used, scope, is_known, knows, first_fault, fault_in, fault_at}
+use Rattle.tmpl_syntax.specs.Stack.{is_placed, is_too_deep, used, is_known, knows, first_fault, fault_at}
 
 -- the places that a frame holds are in order
 pub record IsWithin (f : Frame) (count : ℕ) : Type 0 where
@@ -23,13 +23,13 @@ abbrev pub IsUnknown : List Name → List Name → Type 0
 IsUnknown uses names = (n : Name) × Contains uses n × (Contains names n → ⊥)
 
 abbrev pub Finds : Act → Option Frame → List Name → Option Fault → Type 0
-Finds a t names None = (is_placed a t ≡ true) × (is_too_deep a t ≡ false) × IsKnown (used (names_in a)) (scope a t names)
+Finds a t names None = (is_placed a t ≡ true) × (is_too_deep a t ≡ false) × IsKnown (used (names_in a)) names
 Finds a t names (Some Unreadable) = ⊥
 Finds a t names (Some NotAnAction) = ⊥
 Finds a t names (Some OutOfPlace) = is_placed a t ≡ false
 Finds a t names (Some NestedTooDeeply) = (is_placed a t ≡ true) × (is_too_deep a t ≡ true)
 Finds a t names (Some UndeclaredVariable) =
-    (is_placed a t ≡ true) × (is_too_deep a t ≡ false) × IsUnknown (used (names_in a)) (scope a t names)
+    (is_placed a t ≡ true) × (is_too_deep a t ≡ false) × IsUnknown (used (names_in a)) names
 
 abbrev pub FindsMark : Mark → Option Frame → List Name → Option Fault → Type 0
 FindsMark text_mark t names r = r ≡ None
@@ -96,15 +96,15 @@ module _ (names : List Name) where
       (not_both (is_known names u) (knows names us) e)
 
 module _ (a : Act) (t : Option Frame) (names : List Name) where
-  finds_by : (p d k : Bool) → is_placed a t ≡ p → is_too_deep a t ≡ d → knows (scope a t names) (used (names_in a)) ≡ k → Finds a t names (first_fault p d k)
+  finds_by : (p d k : Bool) → is_placed a t ≡ p → is_too_deep a t ≡ d → knows names (used (names_in a)) ≡ k → Finds a t names (first_fault p d k)
   finds_by false d k e f g = e
   finds_by true true k e f g = (e, f)
-  finds_by true false false e f g = (e, f, unknown (scope a t names) (used (names_in a)) g)
-  finds_by true false true e f g = (e, f, known (scope a t names) (used (names_in a)) g)
+  finds_by true false false e f g = (e, f, unknown names (used (names_in a)) g)
+  finds_by true false true e f g = (e, f, known names (used (names_in a)) g)
 
 -- the fault that the definition gives is the one that these facts say
 pub finds : (x : Mark) (t : Option Frame) (names : List Name) → FindsMark x t names (fault_at x t names)
 finds text_mark t names = refl
 finds unreadable_mark t names = refl
 finds unread_mark t names = refl
-finds (act_mark a) t names = finds_by a t names (is_placed a t) (is_too_deep a t) (knows (scope a t names) (used (names_in a))) refl refl refl
+finds (act_mark a) t names = finds_by a t names (is_placed a t) (is_too_deep a t) (knows names (used (names_in a))) refl refl refl

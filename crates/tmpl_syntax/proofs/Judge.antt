@@ -1,21 +1,20 @@
 -- What the scanner finds is the fault.
-use Rattle.std.proofs.Common.{arith, ◌≡◌, ◌≢◌, ℕ, ◌+◌, ◌-◌, ◌<◌, ◌≤◌, Bool, true, false, not, ◌&&◌, ◌||◌, ltb, leb, List, [], ◌∷◌, refl, sym, ap, ◌∙◌, subst, length, take, drop, Option, Some, None, inl, inr, ⊎_elim, ◌⊎◌}
+use Rattle.std.proofs.Common.{arith, ◌≡◌, ◌≢◌, ℕ, ◌+◌, ◌≤◌, Bool, true, false, not, ◌&&◌, ◌||◌, leb, List, [], ◌∷◌, refl, sym, ap, ◌∙◌, subst, take, Option, Some, None, inl, inr, ⊎_elim, ◌⊎◌}
 use Rattle.std.specs.Prelude.{slice_get, Contains}
-use Rattle.std.proofs.lemmas.Bool.Decides.{leb_tells, Decides-ltb}
-use Rattle.std.proofs.lemmas.List.{take_rest, drop-take}
+use Rattle.std.proofs.lemmas.Bool.Decides.{leb_tells}
 use Rattle.tmpl_syntax.specs.declared.action.Branch.{Branch}
 use Rattle.tmpl_syntax.specs.declared.frame.Frame.{Frame}
 use Rattle.tmpl_syntax.specs.Open.{IsOpening, IsLast, HasElse, is_template}
 use Rattle.tmpl_syntax.specs.Scope.{IsInScope}
-use Rattle.tmpl_syntax.specs.Body.{joins, HasNoElsePart, nothing_open, of_a_template, after_an_else, IsJoinless, IsMisplaced, names_in, opens_level, most_levels, IsTooDeep, in_levels, IsUndeclared}
-use Rattle.tmpl_syntax.specs.Stack.{top, in_loop, levels, floor, takes_else, takes_turn, is_placed, used, is_too_deep, scope}
+use Rattle.tmpl_syntax.specs.Body.{joins, HasNoElsePart, nothing_open, of_a_template, after_an_else, IsJoinless, IsMisplaced, names_in, opens_level, most_levels, IsTooDeep, in_levels, in_parentheses, IsUndeclared}
+use Rattle.tmpl_syntax.specs.Stack.{top, in_loop, levels, takes_else, takes_turn, is_placed, used, is_nested, is_too_deep, names_at}
 use Rattle.tmpl_syntax.proofs.Finds.{IsKnown, IsUnknown}
 use Rattle.tmpl_syntax.proofs.Open.{same_control, same_piece, one_last}
 use Rattle.tmpl_syntax.proofs.Place.{levels_unique, not_turn}
 use Rattle.tmpl_syntax.proofs.Scopes.{to_scope, from_scope, at_place, at_place_back}
 use Rattle.tmpl_syntax.proofs.ElseParts.{by_turn, to_part, from_part}
 use Rattle.tmpl_syntax.proofs.Stands.{Here, Stands, here_of}
-use Rattle.tmpl_syntax.proofs.Turns.{and_parts, not_true, else_parts, joins_no_range, in_nothing}
+use Rattle.tmpl_syntax.proofs.Turns.{and_parts, else_parts, joins_no_range, in_nothing}
 use Rattle.tmpl_syntax.specs.declared.frame.Kind.TheVariants.{Range}
 use Rattle.tmpl_syntax.specs.Mark.{Name, Names, Act, plain, opener, bare_else, turning, closer, jump, Mark, act_mark}
 
@@ -104,32 +103,44 @@ placed xs i names fs jump s e h = let l = (here_of xs i names fs s).looped.0 e i
 
 -- depths
 
+nested-or : (xs : List Mark) (i : ℕ) (a : Act) (o : Option Names) → names_in a ≡ o → (b : Bool) → (is_nested o || b) ≡ true → (b ≡ true → IsTooDeep xs i a) → IsTooDeep xs i a
+nested-or xs i a None is b e levels = levels e
+nested-or xs i a (Some p) is b e levels = by p.nested refl e
+  where
+    by : (n : Bool) → p.nested ≡ n → (n || b) ≡ true → IsTooDeep xs i a
+    by true nests e = in_parentheses is nests
+    by false nests e = levels e
+
+nested-not : {A : Type 0} (a : Act) (b : Bool) (p : Names) → names_in a ≡ Some p → p.nested ≡ true → (is_nested (names_in a) || b) ≡ false → A
+nested-not a b p is nests e =
+    let nested : is_nested (names_in a) ≡ true = ap is_nested is ∙ nests in
+    absurd (let g : true ≡ false = ap (λ n. n || b) (sym nested) ∙ e in let h : ⊥ = cc in h)
+
+or-false : (a b : Bool) → (a || b) ≡ false → b ≡ false
+or-false true b e = absurd (let h : ⊥ = cc in h)
+or-false false b e = e
+
 pub deep : (xs : List Mark) (i : ℕ) (a : Act) (t : Option Frame) (names : List Name) → Here xs i t names → is_too_deep a t ≡ true → IsTooDeep xs i a
-deep xs i a t names h e = let b = and_parts (opens_level a) (leb most_levels (levels t)) e in in_levels b.0 h.levels_are (leb_means most_levels (levels t) b.1)
+deep xs i a t names h e = nested-or xs i a (names_in a) refl (opens_level a && leb most_levels (levels t)) e
+    (λ e. let b = and_parts (opens_level a) (leb most_levels (levels t)) e in in_levels b.0 h.levels_are (leb_means most_levels (levels t) b.1))
 
 pub shallow : (xs : List Mark) (i : ℕ) (a : Act) (t : Option Frame) (names : List Name) → Here xs i t names → is_too_deep a t ≡ false → IsTooDeep xs i a → ⊥
+shallow xs i a t names h e (in_parentheses {names = p} is nests) = nested-not a (opens_level a && leb most_levels (levels t)) p is nests e
 shallow xs i a t names h e (in_levels {n = n} is count le) =
     let same : n ≡ levels t = levels_unique count h.levels_are in
     let full : leb most_levels (levels t) ≡ true = leb_at most_levels (levels t) (subst (λ k. most_levels ≤ k) same le) in
-    ⊎_elim (λ no_level. opposite (opens_level a) is no_level) (λ room. opposite (leb most_levels (levels t)) full room) (and_false (opens_level a) (leb most_levels (levels t)) e)
+    ⊎_elim (λ no_level. opposite (opens_level a) is no_level) (λ room. opposite (leb most_levels (levels t)) full room) (and_false (opens_level a) (leb most_levels (levels t)) (or-false (is_nested (names_in a)) _ e))
 
 -- names
 
 module _ (xs : List Mark) (i : ℕ) (names : List Name) where
-  wide : (fs : List Frame) → Stands xs i names fs → (x : Mark) → slice_get xs i ≡ Some x → x ≢ act_mark bare_else → ((b : Branch) (p : Names) → x ≢ act_mark (turning b p)) → (n : Name) → Contains (take (length names - floor (top fs)) (drop (floor (top fs)) names)) n → IsInScope xs i n
-  wide fs s x at ne nt n k =
-      at_place xs i n (λ j e. ne (same_piece xs i x (act_mark bare_else) at e.at)) (λ j t. not_turn xs x i j at nt t)
-      ((here_of xs i names fs s).to n (subst (λ l. Contains l n) (take_rest names (floor (top fs))) k))
+  wide : (fs : List Frame) → Stands xs i names fs → (x : Mark) → slice_get xs i ≡ Some x → x ≢ act_mark bare_else → ((b : Branch) (p : Names) → x ≢ act_mark (turning b p)) → (n : Name) → Contains names n → IsInScope xs i n
+  wide fs s x at ne nt n k = at_place xs i n (λ j e. ne (same_piece xs i x (act_mark bare_else) at e.at)) (λ j t. not_turn xs x i j at nt t) ((here_of xs i names fs s).to n k)
 
-  wide_back : (fs : List Frame) → Stands xs i names fs → (n : Name) → IsInScope xs i n → Contains (take (length names - floor (top fs)) (drop (floor (top fs)) names)) n
-  wide_back fs s n k = subst (λ l. Contains l n) (sym (take_rest names (floor (top fs)))) ((here_of xs i names fs s).back n (at_place_back xs i n k))
+  wide_back : (fs : List Frame) → Stands xs i names fs → (n : Name) → IsInScope xs i n → Contains names n
+  wide_back fs s n k = (here_of xs i names fs s).back n (at_place_back xs i n k)
 
   module _ (f : Frame) (fs : List Frame) (s : Stands xs i names (f ∷ fs)) (b : Branch) (p : Names) (at : slice_get xs i ≡ Some (act_mark (turning b p))) (takes : takes_else (Some f) ≡ true) (joining : joins b f.kind ≡ true) where
-    narrow_list : take (f.part - floor (Some f)) (drop (floor (Some f)) names) ≡ drop (floor (Some f)) (take f.part names)
-    narrow_list =
-        let e : floor (Some f) + (f.part - floor (Some f)) ≡ f.part = omega arith in
-        sym (drop-take (floor (Some f)) (f.part - floor (Some f)) names) ∙ ap (λ k. drop (floor (Some f)) (take k names)) e
-
     own : is_template s.2.last.is_open.kind ≡ false
     own = ap is_template (top_control xs i names f fs s s.1 s.2.last) ∙ (else_parts f takes).0
 
@@ -139,22 +150,22 @@ module _ (xs : List Mark) (i : ℕ) (names : List Name) where
     below : Here xs s.1 (top fs) (take f.start names)
     below = here_of xs s.1 (take f.start names) fs s.3
 
-    narrow : (n : Name) → Contains (take (f.part - floor (Some f)) (drop (floor (Some f)) names)) n → IsInScope xs i n
+    narrow : (n : Name) → Contains (take f.part names) n → IsInScope xs i n
     narrow n k =
         let low = s.2.last.is_open.before in
         let v = from_part xs s.1 i i (i + 1) s.2.last own (by_turn (record { branch = b; names = p; at = at; belongs = s.2.last })) low (omega arith) (omega arith) (omega arith) not_ranged below.template below.is_template_here n
-        (s.2.to (else_parts f takes).0 n (subst (λ l. Contains l n) narrow_list k)) in
+        (s.2.to (else_parts f takes).0 n k) in
         to_scope xs i n (record { by = v.by; before = v.before; template = v.template; reaches = v.reaches })
 
-    narrow_back : (n : Name) → IsInScope xs i n → Contains (take (f.part - floor (Some f)) (drop (floor (Some f)) names)) n
+    narrow_back : (n : Name) → IsInScope xs i n → Contains (take f.part names) n
     narrow_back n k =
         let low = s.2.last.is_open.before in
         let v = from_scope xs i n k in
-        subst (λ l. Contains l n) (sym narrow_list) (s.2.back (else_parts f takes).0 n
+        s.2.back (else_parts f takes).0 n
         (to_part xs s.1 i i (i + 1) s.2.last own (by_turn (record { branch = b; names = p; at = at; belongs = s.2.last })) low (omega arith) (omega arith) (omega arith) not_ranged n
-        (record { by = v.by; before = v.before; template = v.template; reaches = v.reaches })))
+        (record { by = v.by; before = v.before; template = v.template; reaches = v.reaches }))
 
-  pub in_scope : (fs : List Frame) → Stands xs i names fs → (a : Act) → slice_get xs i ≡ Some (act_mark a) → is_placed a (top fs) ≡ true → (p : Names) → names_in a ≡ Some p → (n : Name) → Contains (scope a (top fs) names) n → IsInScope xs i n
+  pub in_scope : (fs : List Frame) → Stands xs i names fs → (a : Act) → slice_get xs i ≡ Some (act_mark a) → is_placed a (top fs) ≡ true → (p : Names) → names_in a ≡ Some p → (n : Name) → Contains (names_at a (top fs) names) n → IsInScope xs i n
   in_scope fs s (plain q) at e p is n k = wide fs s (act_mark (plain q)) at (λ g. cc) (λ b r g. cc) n k
   in_scope fs s (opener c q) at e p is n k = wide fs s (act_mark (opener c q)) at (λ g. cc) (λ b r g. cc) n k
   in_scope fs s bare_else at e p is n k = let g : None ≡ Some p = is in cc
@@ -163,7 +174,7 @@ module _ (xs : List Mark) (i : ℕ) (names : List Name) where
   in_scope fs s closer at e p is n k = let g : None ≡ Some p = is in cc
   in_scope fs s jump at e p is n k = let g : None ≡ Some p = is in cc
 
-  pub scope_has : (fs : List Frame) → Stands xs i names fs → (a : Act) → slice_get xs i ≡ Some (act_mark a) → is_placed a (top fs) ≡ true → (p : Names) → names_in a ≡ Some p → (n : Name) → IsInScope xs i n → Contains (scope a (top fs) names) n
+  pub scope_has : (fs : List Frame) → Stands xs i names fs → (a : Act) → slice_get xs i ≡ Some (act_mark a) → is_placed a (top fs) ≡ true → (p : Names) → names_in a ≡ Some p → (n : Name) → IsInScope xs i n → Contains (names_at a (top fs) names) n
   scope_has fs s (plain q) at e p is n k = wide_back fs s n k
   scope_has fs s (opener c q) at e p is n k = wide_back fs s n k
   scope_has fs s bare_else at e p is n k = let g : None ≡ Some p = is in cc
@@ -173,10 +184,10 @@ module _ (xs : List Mark) (i : ℕ) (names : List Name) where
   scope_has fs s jump at e p is n k = let g : None ≡ Some p = is in cc
 
   module _ (fs : List Frame) (s : Stands xs i names fs) (a : Act) (at : slice_get xs i ≡ Some (act_mark a)) (e : is_placed a (top fs) ≡ true) where
-    pub known : IsKnown (used (names_in a)) (scope a (top fs) names) → IsUndeclared xs i a → ⊥
+    pub known : IsKnown (used (names_in a)) (names_at a (top fs) names) → IsUndeclared xs i a → ⊥
     known k u = u.unknown (in_scope fs s a at e u.names u.of_action u.name (k u.name (subst (λ o. Contains (used o) u.name) (sym u.of_action) u.uses)))
 
-    pub unknown : IsUnknown (used (names_in a)) (scope a (top fs) names) → IsUndeclared xs i a
+    pub unknown : IsUnknown (used (names_in a)) (names_at a (top fs) names) → IsUndeclared xs i a
     unknown u = go (names_in a) refl (u.1)
       where
         go : (o : Option Names) → names_in a ≡ o → Contains (used o) u.0 → IsUndeclared xs i a

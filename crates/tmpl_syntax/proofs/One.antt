@@ -1,11 +1,10 @@
 -- A list has one verdict.
-use Rattle.std.proofs.Common.{arith, ◌≡◌, ℕ, ◌<◌, List, length, refl, sym, ap, ◌∙◌, subst, Option, Some, ⊎_elim, ◌⊎◌}
-use Rattle.std.specs.Prelude.{slice_get}
+use Rattle.std.proofs.Common.{arith, ◌≡◌, ℕ, ◌<◌, List, length, refl, subst, ⊎_elim}
 use Rattle.std.proofs.lemmas.Bool.{cases_order}
 use Rattle.std.proofs.lemmas.Option.{slice_get_within}
 use Rattle.tmpl_syntax.specs.declared.fault.Fault.{Fault}
 use Rattle.tmpl_syntax.specs.declared.fault.Fault.TheVariants.{Unreadable, NotAnAction, OutOfPlace, NestedTooDeeply, UndeclaredVariable}
-use Rattle.tmpl_syntax.specs.Body.{Applies, unreadable, unread, misplaced, too_deep, undeclared, rank, NoneRefused, IsRefused, Verdict, fine, refused, left_open, Judged}
+use Rattle.tmpl_syntax.specs.Body.{Applies, unreadable, unread, misplaced, too_deep, undeclared, rank, IsRefused, Verdict, fine, refused, left_open, Judged}
 use Rattle.tmpl_syntax.specs.Mark.{Mark, unreadable_mark, unread_mark, act_mark}
 
 pub within : (xs : List Mark) (i : ℕ) (f : Fault) → Applies xs i f → i < length xs

@@ -1,8 +1,8 @@
 -- A list of items spells at most one list of nodes.
-use Rattle.std.proofs.Common.{◌≡◌, ℕ, Bool, true, false, List, [], ◌∷◌, refl, sym, ap, ◌∙◌, subst, drop}
+use Rattle.std.proofs.Common.{◌≡◌, Bool, true, false, List, [], ◌∷◌, refl, sym, ap, ◌∙◌, subst, drop}
 use Rattle.tmpl_syntax.specs.Tree.{Nodes, none, then, Node, text, action, break_node, continue_node}
 use Rattle.tmpl_syntax.specs.Action.{Action, pipeline_action, opening, plain_else, else_branch, end_action, break_action, continue_action}
-use Rattle.tmpl_syntax.specs.Item.{Item, text_item, unreadable_item, unread_item, action_item}
+use Rattle.tmpl_syntax.specs.Item.{Item, text_item, unreadable_item, unread_item, deep_item, action_item}
 use Rattle.tmpl_syntax.specs.Spells.{control_node, branch_node, Leads, nothing, a_text, an_action, a_break, a_continue, a_control, Closes, an_end, an_else, an_else_branch, Spells}
 
 -- an action that ends a part
@@ -20,6 +20,7 @@ stops [] = true
 stops (text_item line bytes ∷ xs) = false
 stops (unreadable_item line ∷ xs) = false
 stops (unread_item line ∷ xs) = false
+stops (deep_item line shape ∷ xs) = false
 stops (action_item line a ∷ xs) = ends_part a
 
 closes-stops : {xs ys : List Item} {ns : Nodes} → Closes xs ns ys → stops xs ≡ true

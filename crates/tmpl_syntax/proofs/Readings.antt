@@ -9,13 +9,13 @@ use Rattle.tmpl_syntax.specs.declared.fault.Fault.TheVariants as fault
 use Rattle.tmpl_syntax.specs.declared.fault.ParseKind.{ParseKind}
 use Rattle.tmpl_syntax.specs.declared.fault.ParseKind.TheVariants.{Unreadable, NotAnAction, OutOfPlace, NestedTooDeeply, UndeclaredVariable, OpenAtEnd, TooLong, OutOfMemory}
 use Rattle.tmpl_syntax.specs.Kinds.{parse_kind}
-use Rattle.tmpl_syntax.specs.Item.{Item, line_of}
-use Rattle.tmpl_syntax.specs.Mark.{Mark, mark_of, marks_of}
+use Rattle.tmpl_syntax.specs.Item.{Item}
+use Rattle.tmpl_syntax.specs.Mark.{mark_of, marks_of}
 use Rattle.tmpl_syntax.specs.Body.{Verdict, fine, refused, left_open, Judged}
 use Rattle.tmpl_syntax.specs.Stack.{verdict_of}
 use Rattle.tmpl_syntax.specs.Build.{nodes_from}
-use Rattle.tmpl_syntax.specs.Set.{Template, defined}
-use Rattle.tmpl_syntax.specs.Parse.{Refusal, IsRefusal, last_line, line_in, line_at, by_verdict, checked, spelled, items_of, base_name, placed, parsed, most_bytes, IsDefined, IsRefusedAt, IsRefusedBy}
+use Rattle.tmpl_syntax.specs.Set.{Template}
+use Rattle.tmpl_syntax.specs.Parse.{Refusal, IsRefusal, last_line, line_in, line_at, by_verdict, checked, spelled, items_of, placed, parsed, most_bytes, IsDefined, IsRefusedAt, IsRefusedBy}
 use Rattle.tmpl_syntax.proofs.One.{within}
 use Rattle.tmpl_syntax.proofs.Verdicts.{judged_all}
 use Rattle.tmpl_syntax.proofs.Spelling.{spells-fine}

@@ -1,12 +1,13 @@
 -- So far nothing is refused, and the stack is what is open.
-use Rattle.std.proofs.Common.{arith, ◌≡◌, ◌≢◌, ℕ, ◌+◌, ◌<◌, ◌≤◌, true, false, List, [], ◌∷◌, refl, sym, subst, length, Some, None, ⊎_elim}
+use Rattle.std.proofs.Common.{arith, ◌≡◌, ◌≢◌, ℕ, ◌+◌, ◌<◌, true, false, List, [], ◌∷◌, ◌++◌, take, refl, sym, subst, length, Some, None, ⊎_elim}
 use Rattle.std.specs.Prelude.{slice_get}
 use Rattle.std.proofs.lemmas.Bool.{cases_lt}
+use Rattle.std.proofs.lemmas.List.{append-nil, length-take-le}
 use Rattle.tmpl_syntax.specs.declared.fault.Fault.{Fault}
 use Rattle.tmpl_syntax.specs.declared.fault.Fault.TheVariants.{Unreadable, NotAnAction, OutOfPlace, NestedTooDeeply, UndeclaredVariable}
 use Rattle.tmpl_syntax.specs.declared.frame.Frame.{Frame}
 use Rattle.tmpl_syntax.specs.Body.{joins, IsMisplaced, none, IsTooDeep, IsUndeclared, Applies, unreadable, unread, misplaced, too_deep, undeclared, rank, NoneRefused, IsRefused, Judged}
-use Rattle.tmpl_syntax.specs.Stack.{top, takes_else, is_placed, is_too_deep, part, frames_after, names_after, frames_past, names_past, at_end}
+use Rattle.tmpl_syntax.specs.Stack.{top, takes_else, is_placed, is_too_deep, names_at, seen_at, added, added_by, frames_after, frames_past, elsed, turned, at_end}
 use Rattle.tmpl_syntax.proofs.Finds.{Finds, FindsMark}
 use Rattle.tmpl_syntax.proofs.Open.{same_piece}
 use Rattle.tmpl_syntax.proofs.Stands.{Here, Stands, here_of}
@@ -28,18 +29,12 @@ sound_start xs = record {
       is_template_here = λ j b. let lt = b.is_open.before in omega arith;
       levels_are = none;
       looped = (λ e. let g : false ≡ true = e in cc, λ l. let lt = l.1.is_open.before in absurd (omega arith));
-      floored = omega arith;
       to = λ n c. in_nothing n c;
       back = λ n b. let lt = b.before in absurd (omega arith);
     },
   );
   none_refused = λ k f lt h. omega arith;
 }
-
--- an else part sees no more names than there are
-pub sound_within : (xs : List Mark) (i : ℕ) (names : List Name) (fs : List Frame) → Sound xs i names fs → part (top fs) (length names) ≤ length names
-sound_within xs i names [] s = omega arith
-sound_within xs i names (f ∷ fs) s = s.stands.2.within.parted
 
 -- what applies at an action
 same_action : (xs : List Mark) (i : ℕ) (a b : Act) → slice_get xs i ≡ Some (act_mark a) → slice_get xs i ≡ Some (act_mark b) → a ≡ b
@@ -81,14 +76,14 @@ module _ (xs : List Mark) (i : ℕ) (names : List Name) (fs : List Frame) (s : S
     not_deep : is_too_deep a (top fs) ≡ false → Applies xs i NestedTooDeeply → ⊥
     not_deep e = no_deep xs i (act_mark a) at (λ b g m. shallow xs i a (top fs) names h e (own (IsTooDeep xs i) b g m))
 
-    fine_action : Finds a (top fs) names None → (f : Fault) → Applies xs i f → ⊥
+    fine_action : Finds a (top fs) (names_at a (top fs) names) None → (f : Fault) → Applies xs i f → ⊥
     fine_action e Unreadable = no_unreadable xs i (act_mark a) at (λ g. cc)
     fine_action e NotAnAction = no_unread xs i (act_mark a) at (λ g. cc)
     fine_action e OutOfPlace = not_misplaced e.0
     fine_action e NestedTooDeeply = not_deep e.1
     fine_action e UndeclaredVariable = no_undeclared xs i (act_mark a) at (λ b g m. known xs i names fs s.stands a at e.0 e.2 (own (IsUndeclared xs i) b g m))
 
-    refused_action : (fault : Fault) → Finds a (top fs) names (Some fault) → IsRefused xs i fault
+    refused_action : (fault : Fault) → Finds a (top fs) (names_at a (top fs) names) (Some fault) → IsRefused xs i fault
     refused_action Unreadable e = absurd e
     refused_action NotAnAction e = absurd e
     refused_action OutOfPlace e = record { applies = misplaced at (unplaced xs i names fs a s.stands e); first_fault = first; first_item = s.none_refused }
@@ -116,7 +111,7 @@ module _ (xs : List Mark) (i : ℕ) (names : List Name) (fs : List Frame) (s : S
         first NestedTooDeeply lt = not_deep e.1
         first UndeclaredVariable lt = absurd (omega arith)
 
-  pub refused_here : (x : Mark) (fault : Fault) → slice_get xs i ≡ Some x → FindsMark x (top fs) names (Some fault) → IsRefused xs i fault
+  pub refused_here : (x : Mark) (fault : Fault) → slice_get xs i ≡ Some x → FindsMark x (top fs) (seen_at x (top fs) names) (Some fault) → IsRefused xs i fault
   refused_here text_mark fault at e = let g : Some fault ≡ None = e in cc
   refused_here (act_mark a) fault at e = refused_action a at fault e
   refused_here unreadable_mark fault at e = let g : fault ≡ Unreadable = cc in subst (IsRefused xs i) (sym g) (record { applies = unreadable at; first_fault = λ f lt. absurd (omega arith); first_item = s.none_refused })
@@ -129,29 +124,32 @@ module _ (xs : List Mark) (i : ℕ) (names : List Name) (fs : List Frame) (s : S
       first NestedTooDeeply lt = absurd (omega arith)
       first UndeclaredVariable lt = absurd (omega arith)
 
-  fine_here : (x : Mark) → slice_get xs i ≡ Some x → FindsMark x (top fs) names None → (f : Fault) → Applies xs i f → ⊥
+  fine_here : (x : Mark) → slice_get xs i ≡ Some x → FindsMark x (top fs) (seen_at x (top fs) names) None → (f : Fault) → Applies xs i f → ⊥
   fine_here text_mark at e = fine_text text_mark at (λ a g. cc) (λ g. cc) (λ g. cc)
   fine_here (act_mark a) at e = fine_action a at e
   fine_here unreadable_mark at e = let g : None ≡ Some Unreadable = e in cc
   fine_here unread_mark at e = let g : None ≡ Some NotAnAction = e in cc
 
-  more : (x : Mark) → slice_get xs i ≡ Some x → FindsMark x (top fs) names None → NoneRefused xs (i + 1)
+  more : (x : Mark) → slice_get xs i ≡ Some x → FindsMark x (top fs) (seen_at x (top fs) names) None → NoneRefused xs (i + 1)
   more x at e k f lt a = ⊎_elim (λ low. s.none_refused k f low a) (λ ge. let g : k ≡ i = omega arith in fine_here x at e f (subst (λ n. Applies xs n f) g a)) (cases_lt k i)
 
-after : (xs : List Mark) (i : ℕ) (names : List Name) (fs : List Frame) (a : Act) → slice_get xs i ≡ Some (act_mark a) → is_placed a (top fs) ≡ true → Stands xs i names fs → Stands xs (i + 1) (names_after a (top fs) names) (frames_after a fs (length names))
+no-more : (xs : List Mark) (i : ℕ) (names : List Name) (fs : List Frame) → Stands xs i names fs → Stands xs i (names ++ []) fs
+no-more xs i names fs s = subst (λ l. Stands xs i l fs) (sym (append-nil names)) s
+
+after : (xs : List Mark) (i : ℕ) (names : List Name) (fs : List Frame) (a : Act) → slice_get xs i ≡ Some (act_mark a) → is_placed a (top fs) ≡ true → Stands xs i names fs → Stands xs (i + 1) (names_at a (top fs) names ++ added a) (frames_after a fs (length (names_at a (top fs) names)))
 after xs i names fs (plain p) at e s = stands_declared xs i names p fs at s
 after xs i names fs (opener c p) at e s = stands_opened xs i names c p fs at s
 after xs i names [] bare_else at e s = let g : false ≡ true = e in cc
-after xs i names (f ∷ fs) bare_else at e s = stands_elsed xs i names f fs at e s
+after xs i names (f ∷ fs) bare_else at e s = no-more xs (i + 1) (take f.part names) (elsed f ∷ fs) (stands_elsed xs i names f fs at e s)
 after xs i names [] (turning b p) at e s = let g : false ≡ true = e in cc
-after xs i names (f ∷ fs) (turning b p) at e s = let k = and_parts (takes_else (Some f)) (joins b f.kind) e in stands_turned xs i names f fs b p at k.0 k.1 s
+after xs i names (f ∷ fs) (turning b p) at e s = let k = and_parts (takes_else (Some f)) (joins b f.kind) e in let l = length-take-le f.part names s.2.within.parted in subst (λ n. Stands xs (i + 1) (take f.part names ++ p.declares) (turned f (n + length p.declares) ∷ fs)) (sym l) (stands_turned xs i names f fs b p at k.0 k.1 s)
 after xs i names [] closer at e s = let g : false ≡ true = e in cc
-after xs i names (f ∷ fs) closer at e s = stands_ended xs i names f fs at s
-after xs i names fs jump at e s = stands_still xs i names (act_mark jump) fs at refl refl (λ g. cc) (λ q g. cc) (λ c q g. cc) (λ b q g. cc) s
+after xs i names (f ∷ fs) closer at e s = no-more xs (i + 1) (take f.start names) fs (stands_ended xs i names f fs at s)
+after xs i names fs jump at e s = no-more xs (i + 1) names fs (stands_still xs i names (act_mark jump) fs at refl refl (λ g. cc) (λ q g. cc) (λ c q g. cc) (λ b q g. cc) s)
 
 -- what stands after an item that is not refused
-pub sound_past : (xs : List Mark) (i : ℕ) (names : List Name) (fs : List Frame) (x : Mark) → slice_get xs i ≡ Some x → FindsMark x (top fs) names None → Sound xs i names fs → Sound xs (i + 1) (names_past x (top fs) names) (frames_past x fs (length names))
-sound_past xs i names fs text_mark at e s = record { stands = stands_still xs i names text_mark fs at refl refl (λ g. cc) (λ q g. cc) (λ c q g. cc) (λ b q g. cc) s.stands; none_refused = more xs i names fs s text_mark at e }
+pub sound_past : (xs : List Mark) (i : ℕ) (names : List Name) (fs : List Frame) (x : Mark) → slice_get xs i ≡ Some x → FindsMark x (top fs) (seen_at x (top fs) names) None → Sound xs i names fs → Sound xs (i + 1) (seen_at x (top fs) names ++ added_by x) (frames_past x fs (length (seen_at x (top fs) names)))
+sound_past xs i names fs text_mark at e s = record { stands = no-more xs (i + 1) names fs (stands_still xs i names text_mark fs at refl refl (λ g. cc) (λ q g. cc) (λ c q g. cc) (λ b q g. cc) s.stands); none_refused = more xs i names fs s text_mark at e }
 sound_past xs i names fs unreadable_mark at e s = let g : None ≡ Some Unreadable = e in cc
 sound_past xs i names fs unread_mark at e s = let g : None ≡ Some NotAnAction = e in cc
 sound_past xs i names fs (act_mark a) at e s = record { stands = after xs i names fs a at e.0 s.stands; none_refused = more xs i names fs s (act_mark a) at e }

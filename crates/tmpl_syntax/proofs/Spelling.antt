@@ -1,15 +1,17 @@
 -- The items of an accepted file spell the nodes that are built from them.
-use Rattle.std.proofs.Common.{◌≡◌, ℕ, Bool, true, false, List, [], ◌∷◌, refl, sym, ap, ◌∙◌, subst, length, Option, Some, None}
+use Rattle.std.proofs.Common.{◌≡◌, ◌∙◌, ℕ, Bool, true, false, List, [], ◌∷◌, refl, sym, subst, length, Option, Some, None}
 use Rattle.tmpl_syntax.specs.declared.fault.Fault.{Fault}
 use Rattle.tmpl_syntax.specs.declared.fault.Fault.TheVariants.{Unreadable, NotAnAction}
 use Rattle.tmpl_syntax.specs.declared.frame.Frame.{Frame}
 use Rattle.tmpl_syntax.specs.Tree.{Nodes, none, then, Node, text, action, break_node, continue_node}
 use Rattle.tmpl_syntax.specs.Action.{pipeline_action, opening, plain_else, else_branch, end_action, break_action, continue_action}
-use Rattle.tmpl_syntax.specs.Item.{Item, text_item, unreadable_item, unread_item, action_item}
-use Rattle.tmpl_syntax.specs.Mark.{Name, act_of, mark_of, marks_of}
+use Rattle.tmpl_syntax.specs.Item.{Item, text_item, unreadable_item, unread_item, deep_item, action_item}
+use Rattle.tmpl_syntax.specs.Mark.{Name, act_of_shape, mark_of, marks_of}
+use Rattle.tmpl_syntax.specs.declared.action.Shape.{Shape}
+use Rattle.tmpl_syntax.specs.declared.action.Shape.TheVariants as shape
 use Rattle.tmpl_syntax.specs.Body.{Verdict, fine, refused, left_open}
-use Rattle.tmpl_syntax.specs.Stack.{top, takes_else, is_placed, fault_at, frames_past, names_past, unless_fault, verdict_from, verdict_of}
-use Rattle.tmpl_syntax.specs.Spells.{control_node, branch_node, Leads, nothing, a_text, an_action, a_break, a_continue, a_control, Closes, an_end, an_else, an_else_branch, Spells}
+use Rattle.tmpl_syntax.specs.Stack.{top, is_too_deep, seen_at, fault_at, frames_past, unless_fault, verdict_from, verdict_of}
+use Rattle.tmpl_syntax.specs.Spells.{control_node, Leads, nothing, a_text, an_action, a_break, a_continue, a_control, Closes, an_end, an_else, an_else_branch, Spells}
 use Rattle.tmpl_syntax.specs.Build as build
 use Rattle.tmpl_syntax.specs.Build.{no_level, no_parts, first_of, rest_of, with_node_before, parts_with, parts_before, nodes_from}
 use Rattle.tmpl_syntax.proofs.Finds.{FindsMark, finds}
@@ -39,6 +41,11 @@ closing-of b ys other zs e c = subst (λ k. Closing k ys other zs) (sym e) c
 closes-of : (b : Bool) (ys : List Item) (other : Nodes) (zs : List Item) → b ≡ false → Closing b ys other zs → Closes ys other zs
 closes-of b ys other zs e c = subst (λ k. Closing k ys other zs) e c
 
+pub too-deep : (shape : Shape) (t : Option Frame) → is_too_deep (act_of_shape shape) t ≡ true
+too-deep shape.Pipeline t = refl
+too-deep (shape.Open kind) t = refl
+too-deep (shape.ElseBranch branch) t = refl
+
 module _ (names : List Name) (xs : List Item) (p : build.Parts) where
   placed : (x : Item) (t : Option Frame) → fault_at (mark_of x) t names ≡ None → FindsMark (mark_of x) t names None
   placed x t e = subst (FindsMark (mark_of x) t names) e (finds (mark_of x) t names)
@@ -47,6 +54,10 @@ module _ (names : List Name) (xs : List Item) (p : build.Parts) where
   step (text_item line bytes) fs e r = rest-node fs _ xs (text line bytes) p.inner p.around (λ ns ys d. a_text d) r
   step (unreadable_item line) fs e r = let g : Some Unreadable ≡ None = e in cc
   step (unread_item line) fs e r = let g : Some NotAnAction ≡ None = e in cc
+  step (deep_item line shape) fs e r =
+      let deep : true ≡ false = sym (too-deep shape (top fs)) ∙ (placed (deep_item line shape) (top fs) e).1 in
+      let g : ⊥ = cc in
+      absurd g
   step (action_item line (pipeline_action b q)) fs e r = rest-node fs _ xs (action line b q) p.inner p.around (λ ns ys d. an_action d) r
   step (action_item line (opening c)) fs e r = rest-node fs _ r.2 (control_node line c p.inner.nodes p.inner.other) (first_of p.around) (rest_of p.around) (λ ns ys d. a_control r.1 r.3 d) r.4
   step (action_item line plain_else) [] e r = let g : false ≡ true = (placed (action_item line plain_else) None e).0 in cc
@@ -81,8 +92,9 @@ rest-from : (xs : List Item) (i : ℕ) (names : List Name) (fs : List Frame) →
 rest-from [] i names [] e = nothing
 rest-from [] i names (f ∷ fs) e = let g : left_open ≡ fine = e in cc
 rest-from (x ∷ xs) i names fs e =
-    let h = unless-fine (fault_at (mark_of x) (top fs) names) i _ e in
-    step names xs (parts_before xs no_parts) x fs h.0 (rest-from xs _ _ _ h.1)
+    let seen = seen_at (mark_of x) (top fs) names in
+    let h = unless-fine (fault_at (mark_of x) (top fs) seen) i _ e in
+    step seen xs (parts_before xs no_parts) x fs h.0 (rest-from xs _ _ _ h.1)
 
 -- an accepted file's items spell the nodes that are built from them
 pub spells-fine : (items : List Item) → verdict_of (marks_of items) ≡ fine → Spells items (nodes_from items)

@@ -1,19 +1,19 @@
 -- What stands on the stack is what is open, and the names are those in scope.
-use Rattle.std.proofs.Common.{arith, ◌≡◌, ◌≢◌, ℕ, ◌+◌, ◌≤◌, Bool, true, false, List, [], ◌∷◌, ◌++◌, refl, sym, ap, ◌∙◌, subst, length, take, drop, Option, Some, None, ⊎_elim, ◌⊎◌}
+use Rattle.std.proofs.Common.{arith, ◌≡◌, ◌≢◌, ℕ, ◌+◌, ◌≤◌, Bool, true, false, List, [], ◌∷◌, ◌++◌, refl, sym, ap, ◌∙◌, subst, length, take, Option, Some, None, ⊎_elim}
 use Rattle.std.specs.Prelude.{slice_get, Contains}
 use Rattle.std.specs.Bool.{Decides}
 use Rattle.std.proofs.lemmas.Bool.{cases_lt}
 use Rattle.std.proofs.lemmas.Bool.Decides.{Decides-like}
-use Rattle.std.proofs.lemmas.List.{length-append, take-append-le, drop-append-le, drop_at}
+use Rattle.std.proofs.lemmas.List.{length-append, take-append-le}
 use Rattle.std.proofs.lemmas.List.Elements.{Contains-append_left, Contains-append_right, Contains-append_cases}
 use Rattle.tmpl_syntax.specs.declared.frame.Frame.{Frame}
-use Rattle.tmpl_syntax.specs.Open.{opens, ends, IsOpening, NothingOpen, IsLast, IsElseOf, HasElse, is_template, IsBody, IsTemplate}
+use Rattle.tmpl_syntax.specs.Open.{opens, ends, IsOpening, NothingOpen, IsLast, IsElseOf, HasElse, is_template, IsTemplate}
 use Rattle.tmpl_syntax.specs.Body.{IsLoop, Levels}
-use Rattle.tmpl_syntax.specs.Stack.{top, loops, in_loop, levels, floor, heading, entered}
+use Rattle.tmpl_syntax.specs.Stack.{top, loops, in_loop, levels, heading, entered}
 use Rattle.tmpl_syntax.proofs.Finds.{IsWithin}
 use Rattle.tmpl_syntax.proofs.Open.{ups, downs, count_split, same_control, same_piece, cut, Same, opened_keeps, opened_new}
 use Rattle.tmpl_syntax.proofs.Place.{alike_back, alike_even, alike_opened, template_moves, levels_same, levels_opened, InLoop, loop_moves, else_before, else_same, loop_same, loop_same_back}
-use Rattle.tmpl_syntax.proofs.Scopes.{Brought, brought_same, brought_same_back, brought_opened, brought_header, brought_opened_back, brought_none}
+use Rattle.tmpl_syntax.proofs.Scopes.{Brought, brought_same, brought_same_back, brought_opened, brought_header, brought_opened_back}
 use Rattle.tmpl_syntax.proofs.ElseParts.{Part, part_later, part_sooner}
 use Rattle.tmpl_syntax.specs.declared.frame.Kind.{Kind}
 use Rattle.tmpl_syntax.specs.declared.frame.Kind.TheVariants.{If, With, Range}
@@ -25,9 +25,8 @@ pub record Here (xs : List Mark) (i : ℕ) (t : Option Frame) (names : List Name
   pub is_template_here : IsTemplate xs i template
   pub levels_are : Levels xs i i (levels t)
   pub looped : Decides (in_loop t) (InLoop xs i)
-  pub floored : floor t ≤ length names
-  pub to : (n : Name) → Contains (drop (floor t) names) n → Brought xs i i n
-  pub back : (n : Name) → Brought xs i i n → Contains (drop (floor t) names) n
+  pub to : (n : Name) → Contains names n → Brought xs i i n
+  pub back : (n : Name) → Brought xs i i n → Contains names n
 
 -- the frame stands for the opening at j, the last one open at i
 pub record Stood (xs : List Mark) (i : ℕ) (names : List Name) (f : Frame) (j : ℕ) : Type 0 where
@@ -37,8 +36,8 @@ pub record Stood (xs : List Mark) (i : ℕ) (names : List Name) (f : Frame) (j :
   pub has : Decides f.has_else (HasElse xs j i)
   pub around : Decides f.around (InLoop xs j)
   pub within : IsWithin f (length names)
-  pub to : is_template f.kind ≡ false → (n : Name) → Contains (drop (floor (Some f)) (take f.part names)) n → Part xs j i n
-  pub back : is_template f.kind ≡ false → (n : Name) → Part xs j i n → Contains (drop (floor (Some f)) (take f.part names)) n
+  pub to : is_template f.kind ≡ false → (n : Name) → Contains (take f.part names) n → Part xs j i n
+  pub back : is_template f.kind ≡ false → (n : Name) → Part xs j i n → Contains (take f.part names) n
 
 -- .. and the frames below it stand as they stood at j
 abbrev pub Stands : List Mark → ℕ → List Name → List Frame → Type 0
@@ -49,17 +48,6 @@ pub here_of : (xs : List Mark) (i : ℕ) (names : List Name) (fs : List Frame) �
 here_of xs i names [] s = s.1
 here_of xs i names (f ∷ fs) s = s.0
 
--- names added at the end
-module _ (names ds : List Name) (a : ℕ) (n : Name) (le : a ≤ length names) where
-  pub in_appended : Contains (drop a (names ++ ds)) n → Contains (drop a names) n ⊎ Contains ds n
-  in_appended c = Contains-append_cases (drop a names) ds n (subst (λ l. Contains l n) (drop-append-le a names ds le) c)
-
-  pub appended_left : Contains (drop a names) n → Contains (drop a (names ++ ds)) n
-  appended_left c = subst (λ l. Contains l n) (sym (drop-append-le a names ds le)) (Contains-append_left (drop a names) ds n c)
-
-  pub appended_right : Contains ds n → Contains (drop a (names ++ ds)) n
-  appended_right c = subst (λ l. Contains l n) (sym (drop-append-le a names ds le)) (Contains-append_right (drop a names) ds n c)
-
 -- to a place where the same stands, with what was declared on the way
 module _ (xs : List Mark) (j m : ℕ) (s : Same xs j m) (names ds : List Name) (new : (n : Name) → Contains ds n → Brought xs m m n) (old : (n : Name) → (b : Brought xs m m n) → j ≤ b.by → Contains ds n) where
   here_moves : (t : Option Frame) → Here xs j t names → Here xs m t (names ++ ds)
@@ -68,11 +56,10 @@ module _ (xs : List Mark) (j m : ℕ) (s : Same xs j m) (names ds : List Name) (
     is_template_here = template_moves xs j m (alike_even xs j m s.even) h.template h.is_template_here;
     levels_are = levels_same xs j m (levels t) s h.levels_are;
     looped = Decides-like (in_loop t) (loop_same xs j m s) (loop_same_back xs j m s) h.looped;
-    floored = let le = h.floored in omega (arith, length-append names ds);
-    to = λ n c. ⊎_elim (λ l. brought_same xs j m n s (h.to n l)) (λ r. new n r) (in_appended names ds (floor t) n h.floored c);
+    to = λ n c. ⊎_elim (λ l. brought_same xs j m n s (h.to n l)) (λ r. new n r) (Contains-append_cases names ds n c);
     back = λ n b. ⊎_elim
-        (λ lt. appended_left names ds (floor t) n h.floored (h.back n (brought_same_back xs j m n s b lt)))
-        (λ ge. appended_right names ds (floor t) n h.floored (old n b ge))
+        (λ lt. Contains-append_left names ds n (h.back n (brought_same_back xs j m n s b lt)))
+        (λ ge. Contains-append_right names ds n (old n b ge))
         (cases_lt b.by j);
   }
 
@@ -89,8 +76,8 @@ module _ (xs : List Mark) (j m : ℕ) (s : Same xs j m) (names ds : List Name) (
         has = Decides-like f.has_else (else_before xs q j m le) (else_same xs q j m s o) h.has;
         around = h.around;
         within = record { started = h.within.started; parted = let p = h.within.parted in omega (arith, length-append names ds) };
-        to = λ own n c. part_later xs q j m n le (h.to own n (subst (λ l. Contains (drop (floor (Some f)) l) n) e c));
-        back = λ own n p. subst (λ l. Contains (drop (floor (Some f)) l) n) (sym e) (h.back own n (part_sooner xs q j m n (λ k from to. s.no_turn q k from to o) p));
+        to = λ own n c. part_later xs q j m n le (h.to own n (subst (λ l. Contains l n) e c));
+        back = λ own n p. subst (λ l. Contains l n) (sym e) (h.back own n (part_sooner xs q j m n (λ k from to. s.no_turn q k from to o) p));
       }
 
   pub stands_moves : (fs : List Frame) → Stands xs j names fs → Stands xs m (names ++ ds) fs
@@ -128,21 +115,20 @@ module _ (xs : List Mark) (i : ℕ) (names : List Name) (c : Kind) (p : Names) (
     is_template_here = template_moves xs i (i + 1) (alike_opened xs (act_mark (opener c p)) i c at refl o own) h.template h.is_template_here;
     levels_are = levels_opened xs i (levels t) c p at o h.levels_are;
     looped = subst (λ b. Decides b (InLoop xs (i + 1))) dl d;
-    floored = let g = h.floored in omega (arith, length-append names (heading c p.declares));
     to = λ n k. to n k;
     back = λ n b. back n b;
   }
     where
-      to : (n : Name) → Contains (drop (floor t) (names ++ heading c p.declares)) n → Brought xs (i + 1) (i + 1) n
+      to : (n : Name) → Contains (names ++ heading c p.declares) n → Brought xs (i + 1) (i + 1) n
       to n k = ⊎_elim
           (λ l. brought_opened xs i n c p at o own (h.to n l))
           (λ r. brought_header xs i n h.template c p at o own h.is_template_here (subst (λ z. Contains z n) eh r))
-          (in_appended names (heading c p.declares) (floor t) n h.floored k)
+          (Contains-append_cases names (heading c p.declares) n k)
 
-      back : (n : Name) → Brought xs (i + 1) (i + 1) n → Contains (drop (floor t) (names ++ heading c p.declares)) n
+      back : (n : Name) → Brought xs (i + 1) (i + 1) n → Contains (names ++ heading c p.declares) n
       back n b = ⊎_elim
-          (λ old. appended_left names (heading c p.declares) (floor t) n h.floored (h.back n old))
-          (λ new. appended_right names (heading c p.declares) (floor t) n h.floored (subst (λ z. Contains z n) (sym eh) new))
+          (λ old. Contains-append_left names (heading c p.declares) n (h.back n old))
+          (λ new. Contains-append_right names (heading c p.declares) n (subst (λ z. Contains z n) (sym eh) new))
           (brought_opened_back xs i n c p at o own b)
 
   pub here_opened : (d : Kind) → c ≡ d → Here xs (i + 1) (Some (entered c p t (length names))) (names ++ heading c p.declares)

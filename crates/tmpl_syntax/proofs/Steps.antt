@@ -1,19 +1,20 @@
 -- What stands after each action.
-use Rattle.std.proofs.Common.{arith, ◌≡◌, ◌≢◌, ℕ, ◌+◌, ◌<◌, ◌≤◌, Bool, true, false, List, ◌∷◌, ◌++◌, refl, sym, ap, ◌∙◌, subst, length, take, drop, add-zero, Option, Some, inl, inr, ⊎_elim, ◌⊎◌}
+use Rattle.std.proofs.Common.{arith, ◌≡◌, ◌≢◌, ℕ, ◌+◌, ◌<◌, ◌≤◌, Bool, true, false, List, ◌∷◌, ◌++◌, refl, sym, ap, ◌∙◌, subst, length, take, Option, Some, inl, inr, ⊎_elim, ◌⊎◌}
 use Rattle.std.specs.Prelude.{slice_get, Contains}
 use Rattle.std.specs.Bool.{Decides}
 use Rattle.std.proofs.lemmas.Bool.{cases_order, cases_lt}
 use Rattle.std.proofs.lemmas.Bool.Decides.{Decides-like}
+use Rattle.std.proofs.lemmas.List.Elements.{Contains-append_left, Contains-append_right, Contains-append_cases}
 use Rattle.std.proofs.lemmas.List.{length-append, length-take-le, take-take, take_at, take_all, take-append-le}
 use Rattle.tmpl_syntax.specs.declared.frame.Frame.{Frame}
 use Rattle.tmpl_syntax.specs.Open.{opens, ends, IsOpening, IsLast, HasElse, is_template}
 use Rattle.tmpl_syntax.specs.Body.{IsLoop, Levels}
-use Rattle.tmpl_syntax.specs.Stack.{top, loops, floor, lasting, heading, entered}
+use Rattle.tmpl_syntax.specs.Stack.{top, loops, part_of, heading, entered}
 use Rattle.tmpl_syntax.proofs.Open.{count_split, count_none, same_control, same_piece, cut, through, Even, shut_at, even_step, opened_new}
 use Rattle.tmpl_syntax.proofs.Place.{alike_back, alike_even, alike_last, template_moves, InLoop, loop_moves, else_before}
 use Rattle.tmpl_syntax.proofs.Scopes.{Reaches, Brought}
 use Rattle.tmpl_syntax.proofs.ElseParts.{Part, earlier, header, turn, part_later, IsPartAt, BroughtFrom, to_part, from_part}
-use Rattle.tmpl_syntax.proofs.Stands.{Here, Stood, Stands, here_of, in_appended, appended_left, appended_right, here_opened}
+use Rattle.tmpl_syntax.proofs.Stands.{Here, Stood, Stands, here_of, here_opened}
 use Rattle.tmpl_syntax.specs.declared.frame.Kind.{Kind}
 use Rattle.tmpl_syntax.specs.declared.frame.Kind.TheVariants.{If, With, Range}
 use Rattle.tmpl_syntax.specs.Mark.{Name, Names, opener, bare_else, Mark, act_mark}
@@ -32,39 +33,45 @@ module _ (xs : List Mark) (i : ℕ) (names : List Name) (c : Kind) (p : Names) (
       inr (subst (λ z. Contains z.declares n) (sym gp) k, λ z. r (sym gc ∙ z))
   part_new n (turn lt e k l) = not_after _ lt l
 
-  lasting_short : (d : Kind) → length (lasting d p.declares) ≤ length (heading d p.declares)
-  lasting_short If = omega arith
-  lasting_short With = omega arith
-  lasting_short Range = omega arith
+  -- an else part sees no fewer names than there were before, and no more than there are in the body
+  part_above : (d : Kind) → length names ≤ part_of d (length names) (length names + length p.declares)
+  part_above If = omega arith
+  part_above With = omega arith
+  part_above Range = omega arith
+
+  part_below : (d : Kind) → part_of d (length names) (length names + length p.declares) ≤ length names + length (heading d p.declares)
+  part_below If = omega arith
+  part_below With = omega arith
+  part_below Range = omega arith
 
   -- what the parts see at first: for an if or with
-  part_wide : c ≢ Range → (n : Name) → Contains (drop (floor t) (take (length names + length p.declares) (names ++ p.declares))) n → Part xs i (i + 1) n
+  part_wide : c ≢ Range → (n : Name) → Contains (take (length names + length p.declares) (names ++ p.declares)) n → Part xs i (i + 1) n
   part_wide nr n k =
       let e : take (length names + length p.declares) (names ++ p.declares) ≡ names ++ p.declares = take_all (length names + length p.declares) (names ++ p.declares) (omega (arith, length-append names p.declares)) in
       ⊎_elim (λ l. earlier (h.to n l)) (λ r. header at r nr)
-      (in_appended names p.declares (floor t) n h.floored (subst (λ l. Contains (drop (floor t) l) n) e k))
+      (Contains-append_cases names p.declares n (subst (λ l. Contains l n) e k))
 
-  part_wide_back : (n : Name) → Part xs i (i + 1) n → Contains (drop (floor t) (take (length names + length p.declares) (names ++ p.declares))) n
+  part_wide_back : (n : Name) → Part xs i (i + 1) n → Contains (take (length names + length p.declares) (names ++ p.declares)) n
   part_wide_back n k =
       let e : take (length names + length p.declares) (names ++ p.declares) ≡ names ++ p.declares = take_all (length names + length p.declares) (names ++ p.declares) (omega (arith, length-append names p.declares)) in
-      subst (λ l. Contains (drop (floor t) l) n) (sym e) (⊎_elim
-      (λ b. appended_left names p.declares (floor t) n h.floored (h.back n b))
-      (λ r. appended_right names p.declares (floor t) n h.floored r.0)
+      subst (λ l. Contains l n) (sym e) (⊎_elim
+      (λ b. Contains-append_left names p.declares n (h.back n b))
+      (λ r. Contains-append_right names p.declares n r.0)
       (part_new n k))
 
-  part_first : (d : Kind) → c ≡ d → is_template d ≡ false → (n : Name) → Contains (drop (floor t) (take (length names + length (lasting d p.declares)) (names ++ heading d p.declares))) n → Part xs i (i + 1) n
+  part_first : (d : Kind) → c ≡ d → is_template d ≡ false → (n : Name) → Contains (take (part_of d (length names) (length names + length p.declares)) (names ++ heading d p.declares)) n → Part xs i (i + 1) n
   part_first If e own n k = part_wide (λ r. let g : If ≡ Range = sym e ∙ r in cc) n k
   part_first With e own n k = part_wide (λ r. let g : With ≡ Range = sym e ∙ r in cc) n k
   part_first Range e own n k =
-      let s : take (length names + 0) (names ++ p.declares) ≡ names = take_at names p.declares (length names + 0) (sym (add-zero (length names))) in
-      earlier (h.to n (subst (λ l. Contains (drop (floor t) l) n) s k))
+      let s : take (length names) (names ++ p.declares) ≡ names = take_at names p.declares (length names) refl in
+      earlier (h.to n (subst (λ l. Contains l n) s k))
 
-  part_first_back : (d : Kind) → c ≡ d → is_template d ≡ false → (n : Name) → Part xs i (i + 1) n → Contains (drop (floor t) (take (length names + length (lasting d p.declares)) (names ++ heading d p.declares))) n
+  part_first_back : (d : Kind) → c ≡ d → is_template d ≡ false → (n : Name) → Part xs i (i + 1) n → Contains (take (part_of d (length names) (length names + length p.declares)) (names ++ heading d p.declares)) n
   part_first_back If e own n k = part_wide_back n k
   part_first_back With e own n k = part_wide_back n k
   part_first_back Range e own n k =
-      let s : take (length names + 0) (names ++ p.declares) ≡ names = take_at names p.declares (length names + 0) (sym (add-zero (length names))) in
-      subst (λ l. Contains (drop (floor t) l) n) (sym s) (⊎_elim (λ b. h.back n b) (λ r. absurd (r.1 e)) (part_new n k))
+      let s : take (length names) (names ++ p.declares) ≡ names = take_at names p.declares (length names) refl in
+      subst (λ l. Contains l n) (sym s) (⊎_elim (λ b. h.back n b) (λ r. absurd (r.1 e)) (part_new n k))
 
   stood_opened : Stood xs (i + 1) (names ++ heading c p.declares) (entered c p t (length names)) i
   stood_opened = record {
@@ -74,8 +81,8 @@ module _ (xs : List Mark) (i : ℕ) (names : List Name) (c : Kind) (p : Names) (
     has = (λ e. let g : true ≡ false = sym e in cc, λ e. let a = e.1 in let b = e.2.belongs.is_open.before in absurd (omega arith));
     around = h.looped;
     within = record {
-      started = omega arith;
-      parted = let s = lasting_short c in omega (arith, length-append names (heading c p.declares));
+      started = part_above c;
+      parted = let s = part_below c in omega (arith, length-append names (heading c p.declares));
     };
     to = λ own n k. part_first c refl own n k;
     back = λ own n k. part_first_back c refl own n k;
@@ -142,9 +149,6 @@ module _ (xs : List Mark) (i : ℕ) (names : List Name) (f : Frame) (fs : List F
     front : length (take f.part names) ≡ f.part
     front = length-take-le f.part names s.2.within.parted
 
-    floored : floor (Some f) ≤ length (take f.part names)
-    floored = omega arith
-
     ranged_last : last_after.is_open.kind ≡ Range → HasElse xs s.1 (i + 1)
     ranged_last e = ranged (same_control xs s.1 f.kind last_after.is_open.kind s.2.kind last_after.is_open.at ∙ e)
 
@@ -157,15 +161,14 @@ module _ (xs : List Mark) (i : ℕ) (names : List Name) (f : Frame) (fs : List F
       is_template_here = template_moves xs i (i + 1) (alike_even xs i (i + 1) even) s.0.template s.0.is_template_here;
       levels_are = leveled;
       looped = subst (λ b. Decides b (InLoop xs (i + 1))) (sym looped) (Decides-like f.around loop_in (loop_out ranged) s.2.around);
-      floored = let a = floored in omega (arith, length-append (take f.part names) ds);
       to = λ n k. ⊎_elim
           (λ l. let b = seen n (s.2.to own n l) in record { by = b.by; before = let lt = b.before in omega arith; template = b.template; reaches = b.reaches })
           (λ r. record { by = i; before = omega arith; template = (s.0.template, s.0.is_template_here, template_moves xs i (i + 1) (alike_even xs i (i + 1) even) s.0.template s.0.is_template_here); reaches = new n r })
-          (in_appended (take f.part names) ds (floor (Some f)) n floored k);
+          (Contains-append_cases (take f.part names) ds n k);
       back = λ n b. ⊎_elim
-          (λ lt. appended_left (take f.part names) ds (floor (Some f)) n floored (s.2.back own n
+          (λ lt. Contains-append_left (take f.part names) ds n (s.2.back own n
           (to_part xs s.1 i (i + 1) (i + 1) last_after own_after part low (omega arith) (omega arith) (omega arith) ranged_last n (record { by = b.by; before = lt; template = b.template; reaches = b.reaches }))))
-          (λ ge. let u = b.before in let e : b.by ≡ i = omega arith in appended_right (take f.part names) ds (floor (Some f)) n floored (old n (subst (λ k. Reaches xs k (i + 1) (i + 1) n) e b.reaches)))
+          (λ ge. let u = b.before in let e : b.by ≡ i = omega arith in Contains-append_right (take f.part names) ds n (old n (subst (λ k. Reaches xs k (i + 1) (i + 1) n) e b.reaches)))
           (cases_lt b.by i);
     }
 
@@ -183,10 +186,10 @@ module _ (xs : List Mark) (i : ℕ) (names : List Name) (f : Frame) (fs : List F
       to = λ o n k. ⊎_elim
           (λ l. part_later xs s.1 i (i + 1) n (omega arith) (s.2.to own n l))
           (λ r. new_part n r)
-          (in_appended (take f.part names) ds (floor (Some f)) n floored (subst (λ l. Contains (drop (floor (Some f)) l) n) whole k));
-      back = λ o n k. subst (λ l. Contains (drop (floor (Some f)) l) n) (sym whole) (⊎_elim
-          (λ l. appended_left (take f.part names) ds (floor (Some f)) n floored (s.2.back own n l))
-          (λ r. appended_right (take f.part names) ds (floor (Some f)) n floored r)
+          (Contains-append_cases (take f.part names) ds n (subst (λ l. Contains l n) whole k));
+      back = λ o n k. subst (λ l. Contains l n) (sym whole) (⊎_elim
+          (λ l. Contains-append_left (take f.part names) ds n (s.2.back own n l))
+          (λ r. Contains-append_right (take f.part names) ds n r)
           (old_part n k));
     }
 

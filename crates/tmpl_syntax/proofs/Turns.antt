@@ -1,5 +1,5 @@
 -- What stands after an else, an else if, an end, and an action that changes no frame.
-use Rattle.std.proofs.Common.{arith, ◌≡◌, ◌≢◌, ℕ, ◌+◌, Bool, true, false, not, ◌&&◌, List, [], ◌∷◌, ◌++◌, refl, sym, ap, ◌∙◌, subst, take, add-zero, Some, inl, inr, ⊎_elim, ◌⊎◌}
+use Rattle.std.proofs.Common.{arith, ◌≡◌, ◌≢◌, ℕ, ◌+◌, Bool, true, false, not, ◌&&◌, List, [], ◌∷◌, ◌++◌, refl, sym, ap, ◌∙◌, subst, length, take, add-zero, Some, inl, inr, ⊎_elim, ◌⊎◌}
 use Rattle.std.specs.Prelude.{slice_get, Contains}
 use Rattle.std.proofs.lemmas.Bool.{cases_lt}
 use Rattle.std.proofs.lemmas.Bool.Decides.{Decides-like}
@@ -95,7 +95,7 @@ module _ (xs : List Mark) (i : ℕ) (b : Branch) (p : Names) (at : slice_get xs 
       (λ ge. let u = h.1 in let s : h.0 ≡ i = omega arith in let g : act_mark (turning b p) ≡ act_mark bare_else = same_piece xs i (act_mark (turning b p)) (act_mark bare_else) at (subst (λ z. slice_get xs z ≡ Some (act_mark bare_else)) s h.2.at) in cc)
       (cases_lt h.0 i)
 
-pub stands_turned : (xs : List Mark) (i : ℕ) (names : List Name) (f : Frame) (fs : List Frame) (b : Branch) (p : Names) → slice_get xs i ≡ Some (act_mark (turning b p)) → takes_else (Some f) ≡ true → joins b f.kind ≡ true → Stands xs i names (f ∷ fs) → Stands xs (i + 1) (take f.part names ++ p.declares) (turned f p.declares ∷ fs)
+pub stands_turned : (xs : List Mark) (i : ℕ) (names : List Name) (f : Frame) (fs : List Frame) (b : Branch) (p : Names) → slice_get xs i ≡ Some (act_mark (turning b p)) → takes_else (Some f) ≡ true → joins b f.kind ≡ true → Stands xs i names (f ∷ fs) → Stands xs (i + 1) (take f.part names ++ p.declares) (turned f (f.part + length p.declares) ∷ fs)
 stands_turned xs i names f fs b p at takes joined s =
     let own = (else_parts f takes).0 in
     let even = even_step xs (act_mark (turning b p)) i at refl refl in

@@ -1,13 +1,13 @@
 -- The verdict in one pass is the one that the definition gives.
-use Rattle.std.proofs.Common.{arith, ◌≡◌, ℕ, suc, ◌+◌, ◌<◌, List, [], ◌∷◌, refl, sym, ap, ◌∙◌, subst, length, drop, get_or, length-drop, get_or-drop, Option, Some, None}
+use Rattle.std.proofs.Common.{arith, ◌≡◌, ℕ, suc, ◌+◌, ◌<◌, List, [], ◌∷◌, ◌++◌, refl, sym, ap, ◌∙◌, length, drop, get_or, length-drop, get_or-drop, Option, Some, None}
 use Rattle.std.specs.Prelude.{slice_get}
 use Rattle.std.proofs.lemmas.List.{drop-drop}
 use Rattle.std.proofs.lemmas.Option.{slice_get-get_or}
 use Rattle.tmpl_syntax.specs.declared.fault.Fault.{Fault}
 use Rattle.tmpl_syntax.specs.declared.frame.Frame.{Frame}
 use Rattle.tmpl_syntax.specs.Mark.{Name, Mark}
-use Rattle.tmpl_syntax.specs.Body.{Judged}
-use Rattle.tmpl_syntax.specs.Stack.{top, fault_at, frames_past, names_past, unless_fault, verdict_from, verdict_of}
+use Rattle.tmpl_syntax.specs.Body.{Verdict, Judged}
+use Rattle.tmpl_syntax.specs.Stack.{top, fault_at, seen_at, frames_past, added_by, unless_fault, verdict_from, verdict_of}
 use Rattle.tmpl_syntax.proofs.Finds.{FindsMark, finds}
 use Rattle.tmpl_syntax.proofs.Sound.{Sound, sound_start, sound_past, sound_end, refused_here}
 
@@ -25,11 +25,13 @@ module _ (xs : List Mark) where
   judged_from [] i names fs e n s = sound_end xs i names fs (omega arith) s
   judged_from (x ∷ ys) i names fs e n s =
       let at = at-drop xs i x ys e in
-      go at.0 (fault_at x (top fs) names) (finds x (top fs) names) (λ h. judged_from ys (i + 1) (names_past x (top fs) names) (frames_past x fs (length names)) at.1 (omega arith) (sound_past xs i names fs x at.0 h s))
+      let seen = seen_at x (top fs) names in
+      go at.0 (fault_at x (top fs) seen) (finds x (top fs) seen) (verdict_from (i + 1) (frames_past x fs (length seen)) (seen ++ added_by x) ys)
+      (λ h. judged_from ys (i + 1) (seen ++ added_by x) (frames_past x fs (length seen)) at.1 (omega arith) (sound_past xs i names fs x at.0 h s))
     where
-      go : slice_get xs i ≡ Some x → (o : Option Fault) → FindsMark x (top fs) names o → (FindsMark x (top fs) names None → Judged xs (verdict_from (i + 1) (frames_past x fs (length names)) (names_past x (top fs) names) ys)) → Judged xs (unless_fault o i (verdict_from (i + 1) (frames_past x fs (length names)) (names_past x (top fs) names) ys))
-      go at None h further = further h
-      go at (Some f) h further = refused_here xs i names fs s x f at h
+      go : slice_get xs i ≡ Some x → (o : Option Fault) → FindsMark x (top fs) (seen_at x (top fs) names) o → (v : Verdict) → (FindsMark x (top fs) (seen_at x (top fs) names) None → Judged xs v) → Judged xs (unless_fault o i v)
+      go at None h v further = further h
+      go at (Some f) h v further = refused_here xs i names fs s x f at h
 
   pub judged_all : Judged xs (verdict_of xs)
   unfolding verdict_of

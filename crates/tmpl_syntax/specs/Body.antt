@@ -84,9 +84,10 @@ opens_level jump = false
 abbrev pub most_levels : ℕ
 most_levels = 500
 
--- a level more where as many stand as may
+-- a level more where as many stand as may, or parentheses that nest too deep
 pub data IsTooDeep (xs : List Mark) (i : ℕ) (a : Act) : Type 0 where
   in_levels : {n : ℕ} → opens_level a ≡ true → Levels xs i i n → most_levels ≤ n → IsTooDeep xs i a
+  in_parentheses : {names : Names} → names_in a ≡ Some names → names.nested ≡ true → IsTooDeep xs i a
 
 -- a name used or assigned that is not in scope
 pub record IsUndeclared (xs : List Mark) (i : ℕ) (a : Act) : Type 0 where

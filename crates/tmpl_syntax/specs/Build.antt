@@ -3,7 +3,7 @@
 use Rattle.std.specs.Prelude.{ℕ, List, [], ◌∷◌}
 use Rattle.tmpl_syntax.specs.Tree.{Binding, Pipeline, Nodes, none, then, Node, text, action, break_node, continue_node}
 use Rattle.tmpl_syntax.specs.Action.{Control, pipeline_action, opening, plain_else, else_branch, end_action, break_action, continue_action}
-use Rattle.tmpl_syntax.specs.Item.{Item, text_item, unreadable_item, unread_item, action_item}
+use Rattle.tmpl_syntax.specs.Item.{Item, text_item, unreadable_item, unread_item, deep_item, action_item}
 use Rattle.tmpl_syntax.specs.declared.action.Branch.{Branch}
 use Rattle.tmpl_syntax.specs.Spells.{control_node, branch_node}
 
@@ -60,6 +60,7 @@ abbrev pub parts_with : Item → Parts → Parts
 parts_with (text_item line bytes) p = put_before (text line bytes) p
 parts_with (unreadable_item line) p = p
 parts_with (unread_item line) p = p
+parts_with (deep_item line shape) p = p
 parts_with (action_item line (pipeline_action b q)) p = put_before (action line b q) p
 parts_with (action_item line (opening c)) p = control_before line c p
 parts_with (action_item line plain_else) p = else_before p

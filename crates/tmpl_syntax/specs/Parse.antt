@@ -15,7 +15,7 @@ use Rattle.tmpl_syntax.specs.Kinds.{parse_kind}
 use Rattle.tmpl_syntax.specs.Set.{Template, defined}
 use Rattle.tmpl_syntax.specs.declared.fault.Fault.{Fault}
 use Rattle.tmpl_syntax.specs.declared.fault.ParseKind.{ParseKind}
-use Rattle.tmpl_syntax.specs.declared.fault.ParseKind.TheVariants.{Unreadable, NotAnAction, OutOfPlace, NestedTooDeeply, UndeclaredVariable, OpenAtEnd, TooLong, OutOfMemory}
+use Rattle.tmpl_syntax.specs.declared.fault.ParseKind.TheVariants.{OpenAtEnd, TooLong, OutOfMemory}
 use Rattle.tmpl_syntax.specs.declared.fault.ParseFault.{ParseFault}
 
 -- the line and the kind of a refusal

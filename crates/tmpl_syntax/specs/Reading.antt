@@ -1,85 +1,32 @@
 -- The reading of one action's tokens ("Actions", "Arguments", "Pipelines" and "Variables" in the documentation of Go's
 -- text/template). White space may stand between any two tokens, also where Go asks for it, but not inside a chain.
-use Rattle.std.specs.Prelude.{ℕ, Bool, true, false, ◌&&◌, not, List, [], ◌∷◌, take, drop, map, Option, Some, None, option_map, codes, if◌then◌else◌}
-use Rattle.std.specs.List.{list_all, prefix_len}
-use Rattle.std.specs.Char.{is_ascii_digit}
+use Rattle.std.specs.Prelude.{ℕ, Bool, List, [], ◌∷◌, Option, Some, None, option_map, codes, if◌then◌else◌}
 use Rattle.std.specs.Str.{bytes_eq}
 use Rattle.tmpl_lex.specs.declared.piece.TokenKind.{TokenKind}
 use Rattle.tmpl_lex.specs.declared.piece.TokenKind.TheVariants as kind
 use Rattle.tmpl_lex.specs.Piece.{Token}
+pub use Rattle.tmpl_syntax.specs.Token.{is_white, is_blank, without_front, next, name_in, begins_name, is_link}
+use Rattle.tmpl_syntax.specs.Half.{start, commands_after}
 use Rattle.tmpl_syntax.specs.Tree as tree
-use Rattle.tmpl_syntax.specs.Tree.{Operand, Pipeline, Binding, RangeVariables}
+use Rattle.tmpl_syntax.specs.Tree.{Operands, Pipeline, Binding, RangeVariables, commands_from}
+use Rattle.tmpl_syntax.specs.Depth.{Reading, reading_of, Limited, limited}
 use Rattle.tmpl_syntax.specs.Action.{Action, if_control, with_control, range_control, pipeline_action, opening, plain_else, else_branch, end_action, break_action, continue_action}
 use Rattle.tmpl_syntax.specs.declared.action.Branch.TheVariants as branch
 use Rattle.tmpl_syntax.specs.declared.keyword.Keyword.{Keyword}
 use Rattle.tmpl_syntax.specs.declared.keyword.Keyword.TheVariants as word
 
--- ---- tokens
+-- ---- pipelines
 
-abbrev pub is_space_kind : TokenKind → Bool
-is_space_kind kind.Space = true
-is_space_kind k = false
+abbrev pub pipeline_from : List Operands → Pipeline
+pipeline_from cs = tree.pipeline (commands_from cs)
 
-abbrev pub is_field_kind : TokenKind → Bool
-is_field_kind kind.Field = true
-is_field_kind k = false
-
-abbrev pub is_white : Token → Bool
-is_white t = is_space_kind t.kind
-
--- nothing but white space
-abbrev pub is_blank : List Token → Bool
-is_blank ts = list_all is_white ts
-
--- without the white space at the front
-abbrev pub without_front : List Token → List Token
-without_front ts = drop (prefix_len is_white ts) ts
-
-abbrev pub first : List Token → Option (Token × List Token)
-first [] = None
-first (t ∷ ts) = Some (t, ts)
-
--- the first token that is no white space, and those behind it
-abbrev pub next : List Token → Option (Token × List Token)
-next ts = first (without_front ts)
-
--- the name in a field or a variable, behind its first byte
-abbrev pub name_in : Token → List ℕ
-name_in t = drop 1 t.bytes
-
--- ---- operands
-
--- a name of a field has a first byte, which is no digit
-abbrev pub begins_name : List ℕ → Bool
-begins_name [] = false
-begins_name (b ∷ bs) = not (is_ascii_digit b)
-
--- a field that may stand in a chain
-abbrev pub is_link : Token → Bool
-is_link t = is_field_kind t.kind && begins_name (name_in t)
-
--- the names of a chain, behind which only white space stands
-abbrev pub chain_in : List Token → Option (List (List ℕ))
-chain_in ts =
-    if is_blank (drop (prefix_len is_link ts) ts) then Some (map name_in (take (prefix_len is_link ts) ts)) else None
-
-abbrev pub operand_by : TokenKind → Token → List Token → Option Operand
-operand_by kind.Dot t ts = if is_blank ts then Some tree.dot else None
-operand_by kind.Field t ts = option_map tree.fields (chain_in (t ∷ ts))
-operand_by kind.Variable t ts = option_map (tree.variable (name_in t)) (chain_in ts)
-operand_by k t ts = None
-
-abbrev pub operand_at : List Token → Option Operand
-operand_at [] = None
-operand_at (t ∷ ts) = operand_by t.kind t ts
-
--- the operand that these tokens spell: a dot, a chain of fields, or a variable and perhaps a chain
-unfoldable pub operand_in : List Token → Option Operand
-operand_in ts = operand_at (without_front ts)
-
--- a pipeline, here of one operand
+-- the pipeline that the tokens spell, if they spell one
 unfoldable pub pipeline_in : List Token → Option Pipeline
-pipeline_in ts = option_map tree.pipeline (operand_in ts)
+pipeline_in ts = option_map pipeline_from (commands_after start ts)
+
+-- .. within the limit of its depth
+abbrev pub limited_in : List Token → Limited
+limited_in ts = limited (pipeline_in ts)
 
 -- ---- declarations and assignments
 
@@ -129,13 +76,20 @@ Header = Binding × Pipeline
 abbrev pub bound_to : Binding → Option Pipeline → Option Header
 bound_to b o = option_map (λ p. (b, p)) o
 
-abbrev pub header_by : Front → List Token → Option Header
-header_by plain ts = bound_to tree.unbound (pipeline_in ts)
-header_by (declares name rest) ts = bound_to (tree.declare name) (pipeline_in rest)
-header_by (assigns name rest) ts = bound_to (tree.assign name) (pipeline_in rest)
+-- the binding, and the tokens of the pipeline
+abbrev pub parted_by : Front → List Token → Binding × List Token
+parted_by plain ts = (tree.unbound, ts)
+parted_by (declares name rest) ts = (tree.declare name, rest)
+parted_by (assigns name rest) ts = (tree.assign name, rest)
 
-unfoldable pub header_in : List Token → Option Header
-header_in ts = header_by (front_in ts) ts
+unfoldable pub parted : List Token → Binding × List Token
+parted ts = parted_by (front_in ts) ts
+
+abbrev pub header_by : Binding × List Token → Option Header
+header_by h = bound_to h.0 (pipeline_in h.1)
+
+abbrev pub header_in : List Token → Option Header
+header_in ts = header_by (parted ts)
 
 -- ---- headers of ranges
 
@@ -180,13 +134,20 @@ RangeHeader = RangeVariables × Pipeline
 abbrev pub ranged_by : RangeVariables → Option Pipeline → Option RangeHeader
 ranged_by v o = option_map (λ p. (v, p)) o
 
-abbrev pub range_header_by : RangeFront → List Token → Option RangeHeader
-range_header_by plain_range ts = ranged_by tree.unnamed (pipeline_in ts)
-range_header_by (one_name name rest) ts = ranged_by (tree.element name) (pipeline_in rest)
-range_header_by (two_names key name rest) ts = ranged_by (tree.key_and_element key name) (pipeline_in rest)
+-- the variables, and the tokens of the pipeline
+abbrev pub range_parted_by : RangeFront → List Token → RangeVariables × List Token
+range_parted_by plain_range ts = (tree.unnamed, ts)
+range_parted_by (one_name name rest) ts = (tree.element name, rest)
+range_parted_by (two_names key name rest) ts = (tree.key_and_element key name, rest)
 
-unfoldable pub range_header_in : List Token → Option RangeHeader
-range_header_in ts = range_header_by (range_front ts) ts
+unfoldable pub range_parted : List Token → RangeVariables × List Token
+range_parted ts = range_parted_by (range_front ts) ts
+
+abbrev pub range_header_by : RangeVariables × List Token → Option RangeHeader
+range_header_by h = ranged_by h.0 (pipeline_in h.1)
+
+abbrev pub range_header_in : List Token → Option RangeHeader
+range_header_in ts = range_header_by (range_parted ts)
 
 -- ---- actions
 
@@ -243,3 +204,7 @@ action_at (Some p) ts = action_with (keyword_of p.0) p.1 ts
 -- what the tokens of an action say, if they are an action of the grammar
 unfoldable pub action_in : List Token → Option Action
 action_in ts = action_at (next ts) ts
+
+-- .. where its parentheses are within the limit
+abbrev pub reading_in : List Token → Reading
+reading_in ts = reading_of (action_in ts)

@@ -1,5 +1,5 @@
 -- The verdict in one pass: what stands at a place is a stack of frames, the newest first, and the names declared so far.
-use Rattle.std.specs.Prelude.{ℕ, ◌+◌, Bool, true, false, not, ◌&&◌, ◌||◌, leb, List, [], ◌∷◌, ◌++◌, length, take, slice_range, Option, Some, None}
+use Rattle.std.specs.Prelude.{ℕ, ◌+◌, Bool, true, false, not, ◌&&◌, ◌||◌, leb, List, [], ◌∷◌, ◌++◌, length, take, Option, Some, None}
 use Rattle.std.specs.List.{list_any, list_all}
 use Rattle.std.specs.Str.{bytes_eq}
 use Rattle.tmpl_syntax.specs.declared.action.Branch.{Branch}
@@ -30,10 +30,6 @@ abbrev pub levels : Option Frame → ℕ
 levels None = 0
 levels (Some f) = f.levels
 
--- where the names of the place's template begin: a file is one template
-abbrev pub floor : Option Frame → ℕ
-floor t = 0
-
 abbrev pub takes_else : Option Frame → Bool
 takes_else None = false
 takes_else (Some f) = not (is_template f.kind) && not f.has_else
@@ -59,24 +55,24 @@ abbrev pub used : Option Names → List Name
 used None = []
 used (Some p) = p.uses
 
+abbrev pub is_nested : Option Names → Bool
+is_nested None = false
+is_nested (Some p) = p.nested
+
 abbrev pub is_too_deep : Act → Option Frame → Bool
-is_too_deep a t = opens_level a && leb most_levels (levels t)
+is_too_deep a t = is_nested (names_in a) || (opens_level a && leb most_levels (levels t))
 
-abbrev pub part : Option Frame → ℕ → ℕ
-part None n = n
-part (Some f) n = f.part
-
--- how many names the action sees
-abbrev pub seen : Act → Option Frame → ℕ → ℕ
-seen (plain p) t n = n
-seen (opener c p) t n = n
-seen bare_else t n = n
-seen (turning b p) t n = part t n
-seen closer t n = n
-seen jump t n = n
-
-abbrev pub scope : Act → Option Frame → List Name → List Name
-scope a t names = slice_range names (floor t) (seen a t (length names))
+-- of the names before an action, those that it sees: an else or else if ends the part before it, and an `end` the control
+abbrev pub names_at : Act → Option Frame → List Name → List Name
+names_at (plain p) t names = names
+names_at (opener c p) t names = names
+names_at bare_else None names = names
+names_at bare_else (Some f) names = take f.part names
+names_at (turning b p) None names = names
+names_at (turning b p) (Some f) names = take f.part names
+names_at closer None names = names
+names_at closer (Some f) names = take f.start names
+names_at jump t names = names
 
 abbrev pub is_known : List Name → Name → Bool
 is_known names name = list_any (λ n. bytes_eq name n) names
@@ -91,15 +87,9 @@ first_fault true true known = Some NestedTooDeeply
 first_fault true false false = Some UndeclaredVariable
 first_fault true false true = None
 
+-- the fault of an action that sees these names, if it has one
 abbrev pub fault_in : Act → Option Frame → List Name → Option Fault
-fault_in a t names = first_fault (is_placed a t) (is_too_deep a t) (knows (scope a t names) (used (names_in a)))
-
--- the fault of an item, if it has one
-abbrev pub fault_at : Mark → Option Frame → List Name → Option Fault
-fault_at text_mark t names = None
-fault_at unreadable_mark t names = Some Unreadable
-fault_at unread_mark t names = Some NotAnAction
-fault_at (act_mark a) t names = fault_in a t names
+fault_in a t names = first_fault (is_placed a t) (is_too_deep a t) (knows names (used (names_in a)))
 
 -- how many levels an opening adds
 abbrev pub level_of : Kind → ℕ
@@ -107,24 +97,19 @@ level_of If = 1
 level_of With = 1
 level_of Range = 1
 
--- of the names in the header, those that an else part sees
-abbrev pub lasting : Kind → List Name → List Name
-lasting If names = names
-lasting With names = names
-lasting Range names = []
-
--- .. and those that the first part sees
+-- of the names in the header of a control, those that its body sees
 abbrev pub heading : Kind → List Name → List Name
 heading If names = names
 heading With names = names
 heading Range names = names
 
--- how many names an else part sees, of those before the header and those after it
+-- how many names an else part sees, of those before the header and those with it: a range's own are not seen there
 abbrev pub part_of : Kind → ℕ → ℕ → ℕ
 part_of If before after = after
 part_of With before after = after
 part_of Range before after = before
 
+-- a control in whose outside this frame is the newest and there are n names
 abbrev pub entered : Kind → Names → Option Frame → ℕ → Frame
 entered c p t n = record {
   kind = c;
@@ -132,58 +117,70 @@ entered c p t n = record {
   around = in_loop t;
   levels = levels t + level_of c;
   start = n;
-  part = n + length (lasting c p.declares);
+  part = part_of c n (n + length p.declares);
 }
 
 abbrev pub elsed : Frame → Frame
 elsed f = record f { has_else = true }
 
--- an else if that declares these names
-abbrev pub turned : Frame → List Name → Frame
-turned f declares = record f { levels = f.levels + 1; part = f.part + length declares }
+abbrev pub elsed_all : List Frame → List Frame
+elsed_all [] = []
+elsed_all (f ∷ fs) = elsed f ∷ fs
 
-abbrev pub turned_all : List Name → List Frame → List Frame
-turned_all declares [] = []
-turned_all declares (f ∷ fs) = turned f declares ∷ fs
+-- an else if with so many names at the beginning of its part
+abbrev pub turned : Frame → ℕ → Frame
+turned f part = record f { levels = f.levels + 1; part = part }
 
-abbrev pub turned_names : List Name → Option Frame → List Name → List Name
-turned_names declares None names = names
-turned_names declares (Some f) names = take f.part names ++ declares
+abbrev pub turned_all : ℕ → List Frame → List Frame
+turned_all part [] = []
+turned_all part (f ∷ fs) = turned f part ∷ fs
 
--- the frames after an action that is in place, before which there are n names
+abbrev pub ended_all : List Frame → List Frame
+ended_all [] = []
+ended_all (f ∷ fs) = fs
+
+-- the frames after an action that is in place, and sees n names
 abbrev pub frames_after : Act → List Frame → ℕ → List Frame
 frames_after (plain p) fs n = fs
 frames_after (opener c p) fs n = entered c p (top fs) n ∷ fs
-frames_after bare_else [] n = []
-frames_after bare_else (f ∷ fs) n = elsed f ∷ fs
-frames_after (turning b p) fs n = turned_all p.declares fs
-frames_after closer [] n = []
-frames_after closer (f ∷ fs) n = fs
+frames_after bare_else fs n = elsed_all fs
+frames_after (turning b p) fs n = turned_all (n + length p.declares) fs
+frames_after closer fs n = ended_all fs
 frames_after jump fs n = fs
 
--- .. and the names
-abbrev pub names_after : Act → Option Frame → List Name → List Name
-names_after (plain p) t names = names ++ p.declares
-names_after (opener c p) t names = names ++ heading c p.declares
-names_after bare_else None names = names
-names_after bare_else (Some f) names = take f.part names
-names_after (turning b p) t names = turned_names p.declares t names
-names_after closer None names = names
-names_after closer (Some f) names = take f.start names
-names_after jump t names = names
+-- the names that it adds for those behind it
+abbrev pub added : Act → List Name
+added (plain p) = p.declares
+added (opener c p) = heading c p.declares
+added bare_else = []
+added (turning b p) = p.declares
+added closer = []
+added jump = []
 
--- the same after an item
+-- the same for an item
+abbrev pub seen_at : Mark → Option Frame → List Name → List Name
+seen_at text_mark t names = names
+seen_at unreadable_mark t names = names
+seen_at unread_mark t names = names
+seen_at (act_mark a) t names = names_at a t names
+
+abbrev pub fault_at : Mark → Option Frame → List Name → Option Fault
+fault_at text_mark t names = None
+fault_at unreadable_mark t names = Some Unreadable
+fault_at unread_mark t names = Some NotAnAction
+fault_at (act_mark a) t names = fault_in a t names
+
 abbrev pub frames_past : Mark → List Frame → ℕ → List Frame
 frames_past text_mark fs n = fs
 frames_past unreadable_mark fs n = fs
 frames_past unread_mark fs n = fs
 frames_past (act_mark a) fs n = frames_after a fs n
 
-abbrev pub names_past : Mark → Option Frame → List Name → List Name
-names_past text_mark t names = names
-names_past unreadable_mark t names = names
-names_past unread_mark t names = names
-names_past (act_mark a) t names = names_after a t names
+abbrev pub added_by : Mark → List Name
+added_by text_mark = []
+added_by unreadable_mark = []
+added_by unread_mark = []
+added_by (act_mark a) = added a
 
 abbrev pub at_end : List Frame → Verdict
 at_end [] = fine
@@ -197,8 +194,9 @@ unless_fault (Some f) i v = refused i f
 abbrev pub verdict_from : ℕ → List Frame → List Name → List Mark → Verdict
 verdict_from i fs names [] = at_end fs
 verdict_from i fs names (x ∷ xs) =
-    unless_fault (fault_at x (top fs) names) i
-    (verdict_from (i + 1) (frames_past x fs (length names)) (names_past x (top fs) names) xs)
+    let seen = seen_at x (top fs) names in
+    unless_fault (fault_at x (top fs) seen) i
+    (verdict_from (i + 1) (frames_past x fs (length seen)) (seen ++ added_by x) xs)
 
 unfoldable pub verdict_of : List Mark → Verdict
 verdict_of xs = verdict_from 0 [] [] xs

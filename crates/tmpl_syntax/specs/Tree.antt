@@ -1,7 +1,10 @@
 -- The tree of a template, apart from how it is held.
-use Rattle.std.specs.Prelude.{ℕ, List, [], ◌∷◌, map}
+use Rattle.std.specs.Prelude.{ℕ, ℤ, Bool, List, [], ◌∷◌, map}
+use Rattle.tmpl_funcs.specs.declared.func.Func.{Func}
 use Rattle.tmpl_syntax.specs.declared.tree.Operand as held_operand
-use Rattle.tmpl_syntax.specs.declared.tree.Operand.TheVariants as operand
+use Rattle.tmpl_syntax.specs.declared.tree.Operand.{fold-Operand}
+use Rattle.tmpl_syntax.specs.declared.tree.Operand.TheOpen.{Operand-F, Command-F}
+use Rattle.tmpl_syntax.specs.declared.tree.Command as held_command
 use Rattle.tmpl_syntax.specs.declared.tree.Pipeline as held_pipeline
 use Rattle.tmpl_syntax.specs.declared.tree.Binding as held_binding
 use Rattle.tmpl_syntax.specs.declared.tree.Binding.TheVariants as binding
@@ -12,14 +15,32 @@ use Rattle.tmpl_syntax.specs.declared.tree.Node.{fold-Node}
 use Rattle.tmpl_syntax.specs.declared.tree.Node.TheOpen.{Node-F}
 use Rattle.tmpl_syntax.specs.declared.tree.Tree as held_tree
 
--- what a value comes from: dot, a chain of field names from dot, or a variable and a chain from it
-pub data Operand : Type 0 where
-  dot : Operand
-  fields : List (List ℕ) → Operand
-  variable : List ℕ → List (List ℕ) → Operand
+mutual
+  -- what a value comes from: dot, a chain of field names from dot, a variable and a chain from it, a constant, `nil`, a
+  -- function, or a pipeline in parentheses and a chain from it
+  pub data Operand : Type 0 where
+    dot : Operand
+    fields : List (List ℕ) → Operand
+    variable : List ℕ → List (List ℕ) → Operand
+    bool_constant : Bool → Operand
+    number_constant : ℤ → Operand
+    text_constant : List ℕ → Operand
+    nil : Operand
+    function : Func → Operand
+    group : Commands → List (List ℕ) → Operand
+
+  -- those of a command
+  pub data Operands : Type 0 where
+    no_operand : Operands
+    operand : Operand → Operands → Operands
+
+  -- those of a pipeline
+  pub data Commands : Type 0 where
+    no_command : Commands
+    command : Operands → Commands → Commands
 
 pub data Pipeline : Type 0 where
-  pipeline : Operand → Pipeline
+  pipeline : Commands → Pipeline
 
 -- the variable that takes a pipeline's value: none, a new one, or one that is there
 pub data Binding : Type 0 where
@@ -62,13 +83,43 @@ pub record Tree : Type 0 where
   pub file : List ℕ
   pub nodes : Nodes
 
+abbrev pub operands_from : List Operand → Operands
+operands_from [] = no_operand
+operands_from (o ∷ os) = operand o (operands_from os)
+
+abbrev pub commands_from : List Operands → Commands
+commands_from [] = no_command
+commands_from (c ∷ cs) = command c (commands_from cs)
+
+-- one level, with what stands inside already seen
+abbrev pub operand_step : Operand-F Operand Operands → Operand
+operand_step Operand-F.Dot = dot
+operand_step (Operand-F.Fields names) = fields names.items
+operand_step (Operand-F.Variable name names) = variable name names.items
+operand_step (Operand-F.Bool b) = bool_constant b
+operand_step (Operand-F.Number n) = number_constant n
+operand_step (Operand-F.Text bytes) = text_constant bytes
+operand_step Operand-F.Nil = nil
+operand_step (Operand-F.Function f) = function f
+operand_step (Operand-F.Group commands names) = group (commands_from commands.items) names.items
+
+abbrev pub command_step : Command-F Operand Operands → Operands
+command_step c = operands_from c.operands.items
+
 abbrev pub operand_of : held_operand.Operand → Operand
-operand_of operand.Dot = dot
-operand_of (operand.Fields names) = fields names.items
-operand_of (operand.Variable name names) = variable name names.items
+operand_of = fold-Operand Operand Operands operand_step command_step
+
+abbrev pub operands_in : List held_operand.Operand → Operands
+operands_in os = operands_from (map operand_of os)
+
+abbrev pub command_of : held_command.Command → Operands
+command_of c = operands_in c.operands.items
+
+abbrev pub commands_in : List held_command.Command → Commands
+commands_in cs = commands_from (map command_of cs)
 
 abbrev pub pipeline_of : held_pipeline.Pipeline → Pipeline
-pipeline_of p = pipeline (operand_of p.operand)
+pipeline_of p = pipeline (commands_in p.commands.items)
 
 abbrev pub binding_of : held_binding.Binding → Binding
 binding_of binding.Unbound = unbound

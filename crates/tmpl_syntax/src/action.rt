@@ -1,4 +1,5 @@
 //! What one action says.
+use crate::frame::Kind;
 use crate::tree::{Binding, Pipeline, RangeVariables};
 
 /// What opens a part that an `end` closes, with its header.
@@ -41,4 +42,22 @@ pub(crate) enum Action {
     End,
     Break,
     Continue,
+}
+
+/// Which kind of action one with a pipeline is.
+#[derive(Clone, Copy, Debug, PartialEq, Eq)]
+pub(crate) enum Shape {
+    Pipeline,
+    Open(Kind),
+    ElseBranch(Branch),
+}
+
+/// What an action's tokens are.
+#[derive(Drop)]
+pub(crate) enum Reading {
+    /// No action of the grammar.
+    Unread,
+    /// An action of the grammar whose parentheses nest deeper than 100 (our own limit).
+    TooDeep(Shape),
+    Read(Action),
 }

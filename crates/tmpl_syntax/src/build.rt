@@ -1,5 +1,5 @@
 //! The nodes of a file.
-ghost use Rattle.std.specs.Prelude.{◌≡◌, ◌++◌, ◌∷◌, [], IfOk, map, reverse};
+ghost use Rattle.std.specs.Prelude.{◌≡◌, IfOk, map, reverse};
 ghost use Rattle.tmpl_syntax.specs.Tree.{node_of, nodes_in, binding_of, pipeline_of};
 ghost use Rattle.tmpl_syntax.specs.Action.{action_of, control_of};
 ghost use Rattle.tmpl_syntax.specs.Item.{item_of, action_item};
@@ -75,7 +75,7 @@ fn put(alloc: Global, parts: Parts, item: Item<'_>) -> Result<Parts, AllocError>
             let bytes = Bytes::new(bytes.to_vec(alloc)?);
             put_node(parts, Node::Text { line, bytes })
         }
-        Item::Unreadable { .. } | Item::Unread { .. } => Ok(parts),
+        Item::Unreadable { .. } | Item::Unread { .. } | Item::TooDeep { .. } => Ok(parts),
         Item::Action { line, action } => put_action(alloc, parts, line, action),
     }
 }

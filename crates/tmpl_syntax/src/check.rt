@@ -1,6 +1,6 @@
 //! Whether the actions of a file stand where they may.
-ghost use Rattle.tmpl_syntax.specs.Item.{item_of};
 ghost use Rattle.std.specs.Prelude.{◌≡◌, map};
+ghost use Rattle.tmpl_syntax.specs.Item.{item_of};
 ghost use Rattle.tmpl_syntax.specs.Parse as spec;
 ghost use Rattle.tmpl_syntax.specs.Steps.{IsChecked};
 
@@ -8,7 +8,7 @@ use crate::fault::{ParseKind, Refusal};
 use crate::frame::Frame;
 use crate::item::Item;
 use crate::known::KnownNames;
-use crate::scan::{fault_of, newest, take_in};
+use crate::scan::{fault_of, forget, newest, take_in};
 use std::alloc::Global;
 
 /// Refuses the first action that is refused, or else at its last line a file that ends inside a control.
@@ -18,7 +18,9 @@ pub(crate) fn check(alloc: Global, items: &[Item<'_>], bytes: &[u8]) -> Result<(
     let mut stack: Vec<Frame> = Vec::new(alloc);
     let mut names = KnownNames::new(alloc);
     for item in items {
-        if let Some(fault) = fault_of(item, newest(&stack), &names) {
+        let outside = newest(&stack);
+        forget(&mut names, item, outside);
+        if let Some(fault) = fault_of(item, outside, &names) {
             return Err(Refusal {
                 line: item.line(),
                 kind: fault.kind(),

@@ -25,7 +25,7 @@ pub enum ParseKind {
     /// of the same control; an `else if` of a `with` or `range`; a `break` or `continue` that stands
     /// in no range's body.
     OutOfPlace,
-    /// A control or `else if` inside 500 others (our own limit).
+    /// A control or `else if` inside 500 others, or parentheses inside 100 others (our own limits).
     NestedTooDeeply,
     /// A variable that is used or assigned where none of its name is in scope.
     UndeclaredVariable,

@@ -1,12 +1,11 @@
-//! The reading of headers: a pipeline, perhaps behind variables.
+//! The reading of headers: a pipeline's tokens, perhaps behind variables.
 ghost use Rattle.std.specs.Prelude.{◌≡◌, IfOk, map, option_map};
 ghost use Rattle.tmpl_lex.specs.Piece.{token_of};
 ghost use Rattle.tmpl_syntax.specs.Reading as spec;
-ghost use Rattle.tmpl_syntax.specs.Held.{front_of, header_of, name_of, range_front_of, range_header_of};
-ghost use Rattle.tmpl_syntax.specs.Tree.{binding_of, pipeline_of, variables_of};
+ghost use Rattle.tmpl_syntax.specs.Held.{front_of, name_of, parted_of, range_front_of, range_parted_of};
 
-use crate::operand::{name_in, next, pipeline};
-use crate::tree::{Binding, Pipeline, RangeVariables};
+use crate::operand::{name_in, next};
+use crate::tree::{Binding, RangeVariables};
 use std::alloc::{AllocError, Global};
 use tmpl_lex::{Token, TokenKind};
 use tmpl_values::Bytes;
@@ -105,70 +104,38 @@ fn copied(alloc: Global, name: &[u8]) -> Result<Bytes, AllocError>
     Ok(Bytes::new(name.to_vec(alloc)?))
 }
 
-/// The header that these tokens spell, if they spell one.
-#[tactic(auto, unfolding(crate::specs::Reading::header_in))]
-pub(crate) fn header(
+/// The binding of a header, and the tokens of its pipeline.
+#[tactic(auto, unfolding(crate::specs::Reading::parted))]
+pub(crate) fn header<'t, 'b>(
     alloc: Global,
-    tokens: &[Token<'_>],
-) -> Result<Option<(Binding, Pipeline)>, AllocError>
-    ensures { IfOk result (λ o. option_map header_of o ≡ spec.header_in (map token_of tokens.now)) }
+    tokens: &'t [Token<'b>],
+) -> Result<(Binding, &'t [Token<'b>]), AllocError>
+    ensures { IfOk result (λ h. parted_of h ≡ spec.parted (map token_of tokens.now)) }
 {
     match header_front(tokens) {
-        Front::Plain => Ok(bound(Binding::Unbound, pipeline(alloc, tokens)?)),
-        Front::Declare(name, rest) => {
-            let binding = Binding::Declare(copied(alloc, name)?);
-            Ok(bound(binding, pipeline(alloc, rest)?))
-        }
-        Front::Assign(name, rest) => {
-            let binding = Binding::Assign(copied(alloc, name)?);
-            Ok(bound(binding, pipeline(alloc, rest)?))
-        }
+        Front::Plain => Ok((Binding::Unbound, tokens)),
+        Front::Declare(name, rest) => Ok((Binding::Declare(copied(alloc, name)?), rest)),
+        Front::Assign(name, rest) => Ok((Binding::Assign(copied(alloc, name)?), rest)),
     }
 }
 
-fn bound(binding: Binding, pipeline: Option<Pipeline>) -> Option<(Binding, Pipeline)>
-    ensures { option_map header_of result ≡ spec.bound_to (binding_of binding) (option_map pipeline_of pipeline) }
-{
-    match pipeline {
-        Some(pipeline) => Some((binding, pipeline)),
-        None => None,
-    }
-}
-
-/// The header of a range that these tokens spell, if they spell one.
-#[tactic(auto, unfolding(crate::specs::Reading::range_header_in))]
-pub(crate) fn range_header(
+/// The variables of a range's header, and the tokens of its pipeline.
+#[tactic(auto, unfolding(crate::specs::Reading::range_parted))]
+pub(crate) fn range_header<'t, 'b>(
     alloc: Global,
-    tokens: &[Token<'_>],
-) -> Result<Option<(RangeVariables, Pipeline)>, AllocError>
-    ensures { IfOk result (λ o. option_map range_header_of o
-        ≡ spec.range_header_in (map token_of tokens.now)) }
+    tokens: &'t [Token<'b>],
+) -> Result<(RangeVariables, &'t [Token<'b>]), AllocError>
+    ensures { IfOk result (λ h. range_parted_of h ≡ spec.range_parted (map token_of tokens.now)) }
 {
     match range_front(tokens) {
-        RangeFront::Plain => Ok(ranged(RangeVariables::Unnamed, pipeline(alloc, tokens)?)),
+        RangeFront::Plain => Ok((RangeVariables::Unnamed, tokens)),
         RangeFront::Element(name, rest) => {
-            let variables = RangeVariables::Element(copied(alloc, name)?);
-            Ok(ranged(variables, pipeline(alloc, rest)?))
+            Ok((RangeVariables::Element(copied(alloc, name)?), rest))
         }
         RangeFront::KeyAndElement(key, name, rest) => {
-            let variables = RangeVariables::KeyAndElement(
-                copied(alloc, key)?,
-                copied(alloc, name)?,
-            );
-            Ok(ranged(variables, pipeline(alloc, rest)?))
+            let key = copied(alloc, key)?;
+            let name = copied(alloc, name)?;
+            Ok((RangeVariables::KeyAndElement(key, name), rest))
         }
-    }
-}
-
-fn ranged(
-    variables: RangeVariables,
-    pipeline: Option<Pipeline>,
-) -> Option<(RangeVariables, Pipeline)>
-    ensures { option_map range_header_of result
-        ≡ spec.ranged_by (variables_of variables) (option_map pipeline_of pipeline) }
-{
-    match pipeline {
-        Some(pipeline) => Some((variables, pipeline)),
-        None => None,
     }
 }

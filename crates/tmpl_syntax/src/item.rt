@@ -3,7 +3,7 @@ ghost use Rattle.std.specs.Prelude.{◌≡◌, IfOk, map};
 ghost use Rattle.tmpl_lex.specs.Piece.{piece_of};
 ghost use Rattle.tmpl_syntax.specs.Item.{item_of, item_in, items_in, line_of};
 
-use crate::action::Action;
+use crate::action::{Action, Reading, Shape};
 use crate::read::read;
 use std::alloc::{AllocError, Global};
 use tmpl_lex::Piece;
@@ -16,6 +16,8 @@ pub(crate) enum Item<'b> {
     Unreadable { line: u64 },
     /// An action whose tokens have no reading.
     Unread { line: u64 },
+    /// An action whose parentheses nest deeper than 100.
+    TooDeep { line: u64, shape: Shape },
     Action { line: u64, action: Action },
 }
 
@@ -27,6 +29,7 @@ impl<'b> Item<'b> {
             Item::Text { line, .. }
             | Item::Unreadable { line }
             | Item::Unread { line }
+            | Item::TooDeep { line, .. }
             | Item::Action { line, .. } => *line,
         }
     }
@@ -49,11 +52,12 @@ fn read_piece<'b>(alloc: Global, piece: &Piece<'b>) -> Result<Item<'b>, AllocErr
     match piece {
         Piece::Text { line, bytes } => Ok(Item::Text { line: *line, bytes }),
         Piece::Action { line, tokens } => match read(alloc, tokens.as_slice())? {
-            Some(action) => Ok(Item::Action {
+            Reading::Unread => Ok(Item::Unread { line: *line }),
+            Reading::TooDeep(shape) => Ok(Item::TooDeep { line: *line, shape }),
+            Reading::Read(action) => Ok(Item::Action {
                 line: *line,
                 action,
             }),
-            None => Ok(Item::Unread { line: *line }),
         },
         Piece::Unreadable { line } => Ok(Item::Unreadable { line: *line }),
     }

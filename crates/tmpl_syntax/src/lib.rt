@@ -5,23 +5,35 @@ mod action;
 mod blank;
 mod build;
 mod check;
+mod constant;
+mod deep;
 mod fault;
 mod frame;
+mod grammar;
+mod half;
 mod header;
 mod item;
 mod keyword;
 mod known;
+mod laws;
+mod numeral;
 mod operand;
 mod parse;
+mod pipeline;
+mod quoted;
 mod read;
 mod scan;
 mod set;
 mod tree;
 
 pub use fault::{ParseFault, ParseKind};
+pub use grammar::one_reading;
+pub use laws::{one_spelling, one_verdict};
 pub use parse::{base_name, parse_file};
 pub use set::{Names, Set};
-pub use tree::{Binding, Node, Operand, Pipeline, RangeVariables, Tree};
+pub use tree::{Binding, Command, Node, Operand, Pipeline, RangeVariables, Tree};
 
 #[cfg(test)]
 mod tests;
+#[cfg(test)]
+mod tests_lists;

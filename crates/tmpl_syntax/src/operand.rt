@@ -1,14 +1,16 @@
-//! The reading of pipelines and their operands.
+//! The operands that are one token.
 ghost use Rattle.std.specs.Prelude.{◌≡◌, ◌≤◌, IfOk, length, map, option_map};
 ghost use Rattle.std.specs.List.{list_all, prefix_len};
 ghost use Rattle.tmpl_lex.specs.Piece.{token_of};
-ghost use Rattle.tmpl_syntax.specs.Reading as spec;
+ghost use Rattle.tmpl_syntax.specs.Token as spec;
+ghost use Rattle.tmpl_syntax.specs.Word as word;
 ghost use Rattle.tmpl_syntax.specs.Held.{next_of};
-ghost use Rattle.tmpl_syntax.specs.Tree as tree;
-ghost use Rattle.tmpl_syntax.specs.Tree.{operand_of, pipeline_of};
+ghost use Rattle.tmpl_syntax.specs.Tree.{operand_of};
 
-use crate::tree::{Operand, Pipeline};
+use crate::constant::constant;
+use crate::tree::Operand;
 use std::alloc::{AllocError, Global};
+use tmpl_funcs::Func;
 use tmpl_lex::{Token, TokenKind};
 use tmpl_values::Bytes;
 
@@ -68,7 +70,8 @@ pub(crate) fn name_in<'b>(token: &Token<'b>) -> &'b [u8]
     }
 }
 
-fn begins_name(name: &[u8]) -> bool
+/// Whether a field may have this name: its first byte is no digit.
+pub(crate) fn begins_name(name: &[u8]) -> bool
     ensures { result ≡ spec.begins_name name.now }
 {
     match name {
@@ -77,93 +80,65 @@ fn begins_name(name: &[u8]) -> bool
     }
 }
 
-/// Whether a chain may have this token: a field whose name begins with no digit.
-fn is_link(token: &Token<'_>) -> bool
-    ensures { result ≡ spec.is_link (token_of token.now) }
+fn function_named(name: &[u8]) -> Option<Func>
+    ensures { result ≡ word.func_named name.now }
 {
-    matches!(token.kind, TokenKind::Field) && begins_name(name_in(token))
+    Func::named(name)
 }
 
-/// How many links of a chain there are at the front.
-#[tactic(auto, using(crate::proofs::Slices::runs))]
-fn chain_len(tokens: &[Token<'_>]) -> usize
-    ensures count { result ≡ prefix_len (λ t. spec.is_link (token_of t)) tokens.now }
-    ensures within { result ≤ length tokens.now }
+/// The operand that a word is.
+#[tactic(auto, unfolding(crate::specs::Word::word_operand))]
+fn word(name: &[u8]) -> Option<Operand>
+    ensures { option_map operand_of result ≡ word.word_operand name.now }
 {
-    tokens.iter().take_while(|t| is_link(t)).count()
-}
-
-/// The names of the fields.
-fn names(alloc: Global, tokens: &[Token<'_>]) -> Result<Vec<Bytes>, AllocError>
-    ensures { IfOk result (λ v. v.items ≡ map spec.name_in (map token_of tokens.now)) }
-{
-    let mut names = Vec::new(alloc);
-    for token in tokens {
-        names.push(Bytes::new(name_in(token).to_vec(alloc)?))?;
+    if name == b"true".as_slice() {
+        Some(Operand::Bool(true))
+    } else if name == b"false".as_slice() {
+        Some(Operand::Bool(false))
+    } else if name == b"nil".as_slice() {
+        Some(Operand::Nil)
+    } else {
+        match function_named(name) {
+            Some(func) => Some(Operand::Function(func)),
+            None => None,
+        }
     }
-    Ok(names)
 }
 
-/// The names of a chain, behind which only white space stands.
-fn chain(alloc: Global, tokens: &[Token<'_>]) -> Result<Option<Vec<Bytes>>, AllocError>
-    ensures { IfOk result (λ o. option_map (λ v. v.items) o ≡ spec.chain_in (map token_of tokens.now)) }
+fn field(alloc: Global, name: &[u8]) -> Result<Option<Operand>, AllocError>
+    ensures { IfOk result (λ o. option_map operand_of o
+        ≡ word.field_operand (spec.begins_name name.now) name.now) }
 {
-    let len = chain_len(tokens);
-    if is_blank(&tokens[len..]) {
-        Ok(Some(names(alloc, &tokens[..len])?))
+    if begins_name(name) {
+        let name = Bytes::new(name.to_vec(alloc)?);
+        Ok(Some(Operand::Fields(vec![in alloc; name]?)))
     } else {
         Ok(None)
     }
 }
 
-fn fields(alloc: Global, tokens: &[Token<'_>]) -> Result<Option<Operand>, AllocError>
-    ensures { IfOk result (λ o. option_map operand_of o
-        ≡ option_map tree.fields (spec.chain_in (map token_of tokens.now))) }
+fn variable(alloc: Global, name: &[u8]) -> Result<Operand, AllocError>
+    ensures { IfOk result (λ o. operand_of o ≡ word.variable_operand name.now) }
 {
-    match chain(alloc, tokens)? {
-        Some(names) => Ok(Some(Operand::Fields(names))),
-        None => Ok(None),
-    }
+    Ok(Operand::Variable {
+        name: Bytes::new(name.to_vec(alloc)?),
+        fields: Vec::new(alloc),
+    })
 }
 
-fn variable(
-    alloc: Global,
-    token: &Token<'_>,
-    rest: &[Token<'_>],
-) -> Result<Option<Operand>, AllocError>
-    ensures { IfOk result (λ o. option_map operand_of o
-        ≡ option_map (tree.variable (spec.name_in (token_of token.now))) (spec.chain_in (map token_of rest.now))) }
+/// The operand that a token is, to which a chain may still be added.
+#[tactic(auto, unfolding(crate::specs::Word::operand_at))]
+pub(crate) fn operand_at(alloc: Global, token: &Token<'_>) -> Result<Option<Operand>, AllocError>
+    ensures { IfOk result (λ o. option_map operand_of o ≡ word.operand_at (token_of token.now)) }
 {
-    match chain(alloc, rest)? {
-        Some(fields) => Ok(Some(Operand::Variable {
-            name: Bytes::new(name_in(token).to_vec(alloc)?),
-            fields,
-        })),
-        None => Ok(None),
-    }
-}
-
-/// The operand that begins with the first of the tokens.
-fn operand(alloc: Global, tokens: &[Token<'_>]) -> Result<Option<Operand>, AllocError>
-    ensures { IfOk result (λ o. option_map operand_of o ≡ spec.operand_at (map token_of tokens.now)) }
-{
-    match tokens {
-        [first, rest @ ..] => match first.kind {
-            TokenKind::Dot if is_blank(rest) => Ok(Some(Operand::Dot)),
-            TokenKind::Field => fields(alloc, tokens),
-            TokenKind::Variable => variable(alloc, first, rest),
-            _ => Ok(None),
-        },
-        [] => Ok(None),
-    }
-}
-
-/// The pipeline that these tokens spell, if they spell one.
-pub(crate) fn pipeline(alloc: Global, tokens: &[Token<'_>]) -> Result<Option<Pipeline>, AllocError>
-    ensures { IfOk result (λ o. option_map pipeline_of o ≡ spec.pipeline_in (map token_of tokens.now)) }
-{
-    match operand(alloc, without_front(tokens))? {
-        Some(operand) => Ok(Some(Pipeline { operand })),
-        None => Ok(None),
+    match token.kind {
+        TokenKind::Dot => Ok(Some(Operand::Dot)),
+        TokenKind::Field => field(alloc, name_in(token)),
+        TokenKind::Variable => Ok(Some(variable(alloc, name_in(token))?)),
+        TokenKind::Word => Ok(word(token.bytes)),
+        TokenKind::Number | TokenKind::String | TokenKind::RawString | TokenKind::Character => {
+            constant(alloc, token)
+        }
+        _ => Ok(None),
     }
 }

@@ -2,9 +2,11 @@
 ghost use Rattle.std.specs.Prelude.{◌≡◌};
 ghost use Rattle.tmpl_syntax.specs.Tree.{line_of, node_of};
 
+use tmpl_funcs::Func;
 use tmpl_values::Bytes;
 
 /// What a value comes from ("Arguments" in the documentation of Go's text/template).
+#[cycle(pipeline)]
 #[derive(Drop)]
 pub enum Operand {
     /// `.`
@@ -13,13 +15,39 @@ pub enum Operand {
     Fields(Vec<Bytes>),
     /// A variable, `$x`, by its name without the `$`, and the chain of fields behind it, if there is one.
     /// The variable of the empty name is the dot with which the template started.
-    Variable { name: Bytes, fields: Vec<Bytes> },
+    Variable {
+        name: Bytes,
+        fields: Vec<Bytes>,
+    },
+    /// `true` or `false`
+    Bool(bool),
+    /// A whole number, or the code of a character.
+    Number(i64),
+    /// A string or a raw string, by what it stands for.
+    Text(Bytes),
+    /// `nil`
+    Nil,
+    /// A function: what its command calls, or else a call without arguments.
+    Function(Func),
+    /// A pipeline in parentheses, by its commands, and the chain of fields behind it, if there is one.
+    Group {
+        commands: Vec<Command>,
+        fields: Vec<Bytes>,
+    },
 }
 
-/// What an action's value comes from ("Pipelines").
+/// One command of a pipeline, of at least one operand ("Pipelines").
+#[cycle(pipeline)]
+#[derive(Drop)]
+pub struct Command {
+    pub operands: Vec<Operand>,
+}
+
+/// What an action's value comes from: at least one command, of which each gives its value to the next
+/// as its last argument ("Pipelines").
 #[derive(Drop)]
 pub struct Pipeline {
-    pub operand: Operand,
+    pub commands: Vec<Command>,
 }
 
 /// The variable that takes the value of a pipeline ("Variables"), by its name without the `$`.

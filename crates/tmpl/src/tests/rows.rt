@@ -246,6 +246,55 @@ fn refuses_what_is_no_action(rt: HostRuntime) {
 }
 
 #[test]
+fn renders_controls(rt: HostRuntime) {
+    let alloc = rt.alloc();
+    let broken =
+        b"{{range $i, $e := .}}{{if $e.s}}{{break}}{{end}}{{$i}}={{$e.v}};{{else}}none{{end}}";
+    let data = b"[{\"v\":1},{\"v\":2},{\"v\":3,\"s\":true}]";
+    holds(&rt, alloc, &rendered(broken, data, b"0=1;1=2;", b"", 0));
+    holds(&rt, alloc, &rendered(broken, b"[]", b"none", b"", 0));
+    let restored = b"{{range .}}{{with .k}}{{if .s}}{{break}}{{end}}{{.v}}{{end}};{{end}}{{.}}";
+    let data = b"[{\"k\":{\"v\":1}},{\"k\":{\"s\":true}}]";
+    let out = b"1;[map[k:map[v:1]] map[k:map[s:true]]]";
+    holds(&rt, alloc, &rendered(restored, data, out, b"", 0));
+    let assigned =
+        b"{{$x := .a}}{{if .t}}{{$x = .b}}{{end}}{{$x}}{{if .t}}{{$x := .c}}{{end}}{{$x}}";
+    let data = b"{\"a\":1,\"b\":2,\"c\":3,\"t\":true}";
+    holds(&rt, alloc, &rendered(assigned, data, b"22", b"", 0));
+}
+
+#[test]
+fn puts_the_text_before_a_fault_inside_a_range(rt: HostRuntime) {
+    let alloc = rt.alloc();
+    let line = b"tmpl: m:2: in \"m\": no field \"x\" here\n";
+    let row = rendered(
+        b"a{{range .}}\n{{.x}}{{end}}",
+        b"[{\"x\":1},2]",
+        b"a\n1\n",
+        line,
+        1,
+    );
+    holds(&rt, alloc, &row);
+    let line = b"tmpl: m:1: in \"m\": can't range over this value\n";
+    holds(
+        &rt,
+        alloc,
+        &rendered(b"a{{range .}}x{{end}}", b"true", b"a", line, 1),
+    );
+}
+
+#[test]
+fn refuses_what_stands_in_no_place(rt: HostRuntime) {
+    let alloc = rt.alloc();
+    let line = b"tmpl: m:1: out of place\n";
+    holds(&rt, alloc, &rendered(b"a{{end}}", b"1", b"", line, 4));
+    let line = b"tmpl: m:1: undeclared variable\n";
+    holds(&rt, alloc, &rendered(b"a{{$q}}", b"1", b"", line, 4));
+    let line = b"tmpl: m:2: file ends inside a control\n";
+    holds(&rt, alloc, &rendered(b"a{{if .}}\n", b"1", b"", line, 4));
+}
+
+#[test]
 fn prints_a_map_by_key(rt: HostRuntime) {
     let row = rendered(
         b"{{.}}",
@@ -308,7 +357,7 @@ fn stops_at_the_read_that_fails(rt: HostRuntime) {
 
 #[test]
 fn parses_a_file_before_the_next_read(rt: HostRuntime) {
-    let row = three_reads(b"{{x}}");
+    let row = three_reads(b"{{+}}");
     let ran = run(&rt, rt.alloc(), &row, sink(64, NEVER), sink(64, NEVER), 2);
     assert_eq!(rt; ran.code, 4);
     assert!(rt; ran.err.as_slice() == b"tmpl: m:1: unclosed or unreadable action\n".as_slice());

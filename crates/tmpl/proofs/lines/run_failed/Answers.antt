@@ -23,5 +23,20 @@ returns-in-NoEntry-clause-line g c =
 
 pub returns-in-NotARange-clause-line : goal.returns-in-NotARange-clause-line
 returns-in-NotARange-clause-line g c =
-    let s = sunk (g.E.Sink.taken c.args.err.now) (g.E.Sink.taken c.say_not_a_range.new.err) (g.E.Sink.failures c.args.err.now) (g.E.Sink.failures c.say_not_a_range.new.err) in
-    subst (λ (k : RunFaultKind). Says (fault_line (fault_by c.args.fault.now k)) s) (sym c.in-NotARange.is) c.say_not_a_range.ensures.line
+    let s = sunk (g.E.Sink.taken c.args.err.now) (g.E.Sink.taken c.say_reason.new.err) (g.E.Sink.failures c.args.err.now) (g.E.Sink.failures c.say_reason.new.err) in
+    subst (λ (k : RunFaultKind). Says (fault_line (fault_by c.args.fault.now k)) s) (sym c.in-NotARange.is) c.say_reason.ensures.line
+
+pub returns-in-NotAFunction-clause-line : goal.returns-in-NotAFunction-clause-line
+returns-in-NotAFunction-clause-line g c =
+    let s = sunk (g.E.Sink.taken c.args.err.now) (g.E.Sink.taken c.say_reason-in-NotAFunction.new.err) (g.E.Sink.failures c.args.err.now) (g.E.Sink.failures c.say_reason-in-NotAFunction.new.err) in
+    subst (λ (k : RunFaultKind). Says (fault_line (fault_by c.args.fault.now k)) s) (sym c.in-NotAFunction.is) c.say_reason-in-NotAFunction.ensures.line
+
+pub returns-in-NilCommand-clause-line : goal.returns-in-NilCommand-clause-line
+returns-in-NilCommand-clause-line g c =
+    let s = sunk (g.E.Sink.taken c.args.err.now) (g.E.Sink.taken c.say_reason-in-NilCommand.new.err) (g.E.Sink.failures c.args.err.now) (g.E.Sink.failures c.say_reason-in-NilCommand.new.err) in
+    subst (λ (k : RunFaultKind). Says (fault_line (fault_by c.args.fault.now k)) s) (sym c.in-NilCommand.is) c.say_reason-in-NilCommand.ensures.line
+
+pub returns-in-Call-clause-line : goal.returns-in-Call-clause-line
+returns-in-Call-clause-line g c =
+    let s = sunk (g.E.Sink.taken c.args.err.now) (g.E.Sink.taken c.say_call.new.err) (g.E.Sink.failures c.args.err.now) (g.E.Sink.failures c.say_call.new.err) in
+    subst (λ (k : RunFaultKind). Says (fault_line (fault_by c.args.fault.now k)) s) (sym c.in-Call.is) c.say_call.ensures.line

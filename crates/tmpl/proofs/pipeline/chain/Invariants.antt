@@ -1,6 +1,6 @@
 use Rattle.std.proofs.Common.{◌≡◌, drop}
 use Rattle.tmpl_values.specs.View.{val_of}
-use Rattle.tmpl_run.specs.Meaning.{chain}
+use Rattle.tmpl_run.specs.Pipeline.{chain}
 use Rattle.tmpl.proofs.pipeline.chain.Given as goal
 
 abbrev pub invariant-loop-name : goal.invariant-loop-name

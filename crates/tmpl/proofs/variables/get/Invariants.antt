@@ -1,5 +1,5 @@
 use Rattle.std.proofs.Common.{◌≡◌, ◌≤◌, take, length}
-use Rattle.tmpl_run.specs.Meaning.{lookup}
+use Rattle.tmpl_run.specs.Pipeline.{lookup}
 use Rattle.tmpl.specs.Evaluator.{env_in}
 use Rattle.tmpl.proofs.variables.get.Given as goal
 

@@ -7,13 +7,13 @@ use Rattle.tmpl_values.proofs.Items.{item_count-of, entry_count-of}
 use Rattle.tmpl_funcs.specs.Count.{sized}
 use Rattle.tmpl_funcs.proofs.count.size.Goals as goal
 
-pub returns-in-List : goal.returns-in-List
-returns-in-List c =
+pub returns-in-List-clause-table : goal.returns-in-List-clause-table
+returns-in-List-clause-table c =
     ap (λ v. sized (size_of (val_of v))) c.in-List.is ∙ ap (λ n. sized (Some n)) (item_count-of c.in-List.items.now) ∙
     sym (ap (λ (z : ℤ). Ok (number z)) (to_z_pos w64 (length c.in-List.items.now) (omega arith)))
 
-pub returns-in-Map : goal.returns-in-Map
-returns-in-Map c =
+pub returns-in-Map-clause-table : goal.returns-in-Map-clause-table
+returns-in-Map-clause-table c =
     ap (λ v. sized (size_of (val_of v))) c.in-Map.is ∙
     ap (λ es. sized (size_of (mapping es))) (sym c.as_slice.ensures.same) ∙
     ap (λ n. sized (Some n)) (entry_count-of c.as_slice.result.now) ∙

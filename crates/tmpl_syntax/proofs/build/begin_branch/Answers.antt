@@ -3,7 +3,7 @@ use Rattle.tmpl_syntax.specs.Tree as tree
 use Rattle.tmpl_syntax.specs.Tree.{node_of, nodes_in, binding_of, pipeline_of}
 use Rattle.tmpl_syntax.specs.declared.tree.Node.{Node}
 use Rattle.tmpl_syntax.specs.Spells.{branch_node}
-use Rattle.tmpl_syntax.specs.Levels.{level_of, parts_of}
+use Rattle.tmpl_syntax.specs.Levels.{parts_of}
 use Rattle.tmpl_syntax.proofs.Building.{same_parts}
 use Rattle.tmpl_syntax.proofs.build.begin_branch.Goals as goal
 

@@ -1,8 +1,7 @@
-use Rattle.std.proofs.Common.{arith, length, ◌≡◌, List, [], ◌∷◌, ◌++◌, ap, map, reverse, sym, refl, ◌∙◌}
+use Rattle.std.proofs.Common.{arith, length, ◌≡◌, [], ◌∷◌, ap, map, reverse, sym, ◌∙◌}
 use Rattle.std.proofs.lemmas.List.{map-append}
 use Rattle.tmpl_syntax.specs.Tree.{nodes_in}
-use Rattle.tmpl_syntax.specs.Item.{Item, item_of}
-use Rattle.tmpl_syntax.specs.declared.item.Item as held
+use Rattle.tmpl_syntax.specs.Item.{item_of}
 use Rattle.tmpl_syntax.specs.Build as build
 use Rattle.tmpl_syntax.specs.Build.{parts_before, no_parts, nodes_from}
 use Rattle.tmpl_syntax.specs.Levels.{level_of, parts_of}

@@ -1,4 +1,4 @@
-use Rattle.std.proofs.Common.{refl, ap, map, reverse}
+use Rattle.std.proofs.Common.{ap, map}
 use Rattle.tmpl_syntax.specs.Build as build
 use Rattle.tmpl_syntax.specs.Levels.{level_of, parts_of}
 use Rattle.tmpl_syntax.proofs.Building.{same_parts, reverse-push}

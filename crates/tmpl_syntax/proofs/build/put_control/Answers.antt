@@ -4,7 +4,7 @@ use Rattle.tmpl_syntax.specs.Action.{control_of}
 use Rattle.tmpl_syntax.specs.declared.tree.Node.{Node}
 use Rattle.tmpl_syntax.specs.Spells.{control_node}
 use Rattle.tmpl_syntax.specs.Build as build
-use Rattle.tmpl_syntax.specs.Levels.{level_of, parts_of}
+use Rattle.tmpl_syntax.specs.Levels.{parts_of}
 use Rattle.tmpl_syntax.proofs.Building.{same_before}
 use Rattle.tmpl_syntax.proofs.build.put_control.Goals as goal
 

@@ -1,6 +1,6 @@
-use Rattle.std.proofs.Common.{refl, ap, map, reverse}
+use Rattle.std.proofs.Common.{refl, ap}
 use Rattle.tmpl_syntax.specs.Tree.{nodes_in}
-use Rattle.tmpl_syntax.specs.Levels.{level_of, parts_of}
+use Rattle.tmpl_syntax.specs.Levels.{parts_of}
 use Rattle.tmpl_syntax.proofs.Building.{same_parts, reverse-push}
 use Rattle.tmpl_syntax.proofs.build.put_node.Goals as goal
 

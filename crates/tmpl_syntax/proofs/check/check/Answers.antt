@@ -1,21 +1,15 @@
-use Rattle.std.proofs.Common.{arith, ◌≡◌, ◌≢◌, ℕ, ◌≤◌, List, [], reverse, length, map, subst, sym, ap, ◌∙◌, refl, Option, Some, None, Err}
+use Rattle.std.proofs.Common.{arith, ◌≡◌, ◌≢◌, ◌≤◌, reverse, length, map, sym, ap, ◌∙◌, Err}
 use Rattle.std.proofs.lemmas.Grind.{common_steps}
 use Rattle.std.proofs.lemmas.List.{length-map, length-reverse}
-use Rattle.tmpl_syntax.specs.declared.fault.Fault.{Fault}
 use Rattle.tmpl_syntax.specs.declared.fault.ParseKind.TheVariants.{OpenAtEnd}
-use Rattle.tmpl_syntax.specs.declared.frame.Frame.{Frame}
-use Rattle.tmpl_syntax.specs.Item.{Item, item_of}
+use Rattle.tmpl_syntax.specs.Item.{item_of}
 use Rattle.tmpl_syntax.specs.Mark.{mark_of, marks_of}
 use Rattle.tmpl_syntax.specs.Known.{known_names}
-use Rattle.tmpl_syntax.specs.Stack.{top, fault_at}
-use Rattle.tmpl_syntax.proofs.Checks.{checking_start, checking_within, checking_past, checking_refused, checking_ended, item-at, mark-at, checked_refused, checked_fine, checked_open}
+use Rattle.tmpl_syntax.proofs.Checks.{checking_start, checking_past, checking_refused, checking_ended, item-at, mark-at, checked_refused, checked_fine, checked_open}
 use Rattle.tmpl_syntax.proofs.check.check.Goals as goal
 
 pub loop-item-init : goal.loop-item-init
 loop-item-init c = checking_start (marks_of (map item_of c.args.items.now)) _ _ c.new-names.ensures (ap reverse c.new-stack.ensures.items)
-
-pub fault_of-requires : goal.fault_of-requires
-fault_of-requires c = checking_within (marks_of (map item_of c.args.items.now)) c.loop-item.item-index _ _ c.newest.result c.newest.ensures c.loop-item.invariant
 
 pub returns-in-Some : goal.returns-in-Some
 returns-in-Some c =
@@ -23,13 +17,10 @@ returns-in-Some c =
     let i = c.loop-item.item-index in
     let x = c.item-item.result in
     let at = item-at items i x c.loop-item-test.true c.item-item.is in
-    let found : fault_at (mark_of (item_of x)) (top (reverse c.loop-item.stack.items)) (known_names c.loop-item.names) ≡ Some c.in-Some.fault = ap (λ t. fault_at (mark_of (item_of x)) t (known_names c.loop-item.names)) (sym c.newest.ensures) ∙ sym c.in-Some.ensures in
     checked_refused c.args.bytes.now (map item_of items) i (item_of x) c.in-Some.fault c.line.result c.kind.result at
-    (checking_refused (marks_of (map item_of items)) i (known_names c.loop-item.names) (reverse c.loop-item.stack.items) (mark_of (item_of x)) (mark-at (map item_of items) i (item_of x) at) c.loop-item.invariant c.in-Some.fault found)
+    (checking_refused (marks_of (map item_of items)) i (known_names c.loop-item.names) (reverse c.loop-item.stack.items) (mark_of (item_of x)) (mark-at (map item_of items) i (item_of x) at) c.loop-item.invariant
+    c.newest-outside.result (known_names c.forget.new.names) c.newest-outside.ensures c.forget.ensures c.in-Some.fault (sym c.in-Some.ensures))
     c.line.ensures c.kind.ensures
-
-pub take_in-requires-clause-within : goal.take_in-requires-clause-within
-take_in-requires-clause-within c = checking_within (marks_of (map item_of c.args.items.now)) c.loop-item.item-index _ _ _ refl c.loop-item.invariant
 
 pub loop-item-preserved : goal.loop-item-preserved
 loop-item-preserved c =
@@ -37,9 +28,9 @@ loop-item-preserved c =
     let i = c.loop-item.item-index in
     let x = c.item-item.result in
     let at = item-at items i x c.loop-item-test.true c.item-item.is in
-    let found : fault_at (mark_of (item_of x)) (top (reverse c.loop-item.stack.items)) (known_names c.loop-item.names) ≡ None = ap (λ t. fault_at (mark_of (item_of x)) t (known_names c.loop-item.names)) (sym c.newest.ensures) ∙ sym c.in_default.ensures in
     checking_past (marks_of (map item_of items)) i (known_names c.loop-item.names) (reverse c.loop-item.stack.items) (mark_of (item_of x)) (mark-at (map item_of items) i (item_of x) at) c.loop-item.invariant
-    _ _ c.in_ok-take_in.ensures.names c.in_ok-take_in.ensures.frames found
+    c.newest-outside.result (known_names c.forget.new.names) c.newest-outside.ensures c.forget.ensures
+    _ _ c.in_ok-take_in.ensures.names c.in_ok-take_in.ensures.frames (sym c.in_default.ensures)
 
 pub returns-then-is_empty : goal.returns-then-is_empty
 returns-then-is_empty c =

@@ -1,4 +1,4 @@
-use Rattle.std.proofs.Common.{◌≡◌, arith, ◌≤◌, ◌∷◌, [], ◌++◌, sym, ap, ◌∙◌, map, take, length}
+use Rattle.std.proofs.Common.{arith, ◌≤◌, ◌∷◌, [], ◌++◌, sym, ap, ◌∙◌, map, take, length}
 use Rattle.std.proofs.lemmas.List.{map-append, map_more, take_all}
 use Rattle.tmpl_lex.specs.declared.piece.Piece.{Piece}
 use Rattle.tmpl_lex.specs.Piece.{piece_of}

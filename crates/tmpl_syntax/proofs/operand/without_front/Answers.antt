@@ -1,7 +1,7 @@
 use Rattle.std.proofs.Common.{refl, sym, ap, ◌∙◌, map, drop}
 use Rattle.std.proofs.lemmas.List.{drop-map}
 use Rattle.tmpl_lex.specs.Piece.{token_of}
-use Rattle.tmpl_syntax.specs.Reading.{is_white}
+use Rattle.tmpl_syntax.specs.Token.{is_white}
 use Rattle.tmpl_syntax.proofs.Tokens.{take-rest, prefix-map}
 use Rattle.tmpl_syntax.proofs.operand.without_front.Goals as goal
 

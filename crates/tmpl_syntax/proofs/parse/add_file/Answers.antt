@@ -1,5 +1,5 @@
 use Rattle.std.proofs.Common.{◌≡◌, List, ℕ, refl, sym, ap, subst, ◌∙◌, map, Ok}
-use Rattle.tmpl_lex.specs.Piece.{Piece, piece_of}
+use Rattle.tmpl_lex.specs.Piece.{piece_of}
 use Rattle.tmpl_syntax.specs.Tree.{nodes_in}
 use Rattle.tmpl_syntax.specs.Item.{Item, item_of, items_in}
 use Rattle.tmpl_syntax.specs.Set.{set_view, defined}

@@ -1,4 +1,4 @@
-use Rattle.std.proofs.Common.{◌≡◌, ℕ, List, Bor, map, ap}
+use Rattle.std.proofs.Common.{ℕ, List, Bor, map, ap}
 use Rattle.tmpl_syntax.specs.Known.{known_names}
 use Rattle.tmpl_syntax.proofs.known.KnownNames.new.Goals as goal
 

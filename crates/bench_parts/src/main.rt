@@ -1,0 +1,134 @@
+//! Does one part of what `tmpl` does, so that it can be timed.
+//!
+//! Words: the part, a file, and for calls how many. A JSON file: `read` into `serde_json`'s own tree, `data` into
+//! data. A template: `cut` into pieces. A text, which functions are called with: `print`, `printf`, `html`,
+//! `urlquery`, `eq`. Each puts out how many nanoseconds it took. `text`: a JSON file into data, whose text is put
+//! out.
+#![tactic(auto)]
+
+mod calls;
+
+ghost use Rattle.std.specs.Prelude.{◌≡◌, None};
+
+use crate::calls::{Task, call_once, task_named};
+use std::alloc::Global;
+use std::io::{self, BufWriter, Write};
+use std::process::ExitCode;
+use std::rt::Clock;
+use std::time::Instant;
+use std::{env, fs};
+use tmpl_lex::cut;
+use tmpl_values::{Data, Put, Val, put_text};
+
+/// Standard output, of which nothing is told.
+#[derive(Drop)]
+struct Output<W: Drop> {
+    writer: W,
+    failures: u64,
+}
+
+impl<W: Write + Drop> Put for Output<W> {
+    type Fault = ();
+
+    ghost so_far = { λ o. record { bytes = None; failures = o.failures; through = 0 } };
+
+    fn put(&mut self, bytes: &[u8]) -> Result<(), ()> {
+        match self.writer.write_all(bytes) {
+            Ok(()) => Ok(()),
+            Err(_) => {
+                self.failures += 1;
+                Err(())
+            }
+        }
+    }
+}
+
+/// Puts out how many nanoseconds have passed since then.
+fn put_elapsed(rt: &(impl Print + Clock), begun: Instant) -> io::Result<()> {
+    let passed = begun.elapsed(rt)?;
+    let nanoseconds = passed.as_nanos();
+    println!(rt; "{nanoseconds}")
+}
+
+/// Reads into `serde_json`'s own tree, and says how long that took.
+fn read(rt: &(impl Print + Clock), alloc: Global, bytes: &[u8]) -> io::Result<bool> {
+    let begun = Instant::now(rt)?;
+    let read = serde_json::Value::from_slice(alloc, bytes);
+    put_elapsed(rt, begun)?;
+    Ok(read.is_ok())
+}
+
+/// Reads into data, and says how long that took.
+fn convert(rt: &(impl Print + Clock), alloc: Global, bytes: &[u8]) -> io::Result<bool> {
+    let begun = Instant::now(rt)?;
+    let held = Data::from_json(alloc, bytes);
+    put_elapsed(rt, begun)?;
+    Ok(held.is_ok())
+}
+
+/// Cuts a template into its pieces, and says how long that took.
+fn cut_up(rt: &(impl Print + Clock), alloc: Global, bytes: &[u8]) -> io::Result<bool> {
+    let begun = Instant::now(rt)?;
+    let pieces = cut(alloc, bytes);
+    put_elapsed(rt, begun)?;
+    Ok(pieces.is_ok())
+}
+
+/// Calls a function so often, and says how long that took.
+fn call_often(
+    rt: &(impl Print + Clock),
+    alloc: Global,
+    task: Task,
+    text: &[u8],
+    count: u64,
+) -> io::Result<bool> {
+    let begun = Instant::now(rt)?;
+    let mut all = true;
+    for _ in 0..count {
+        all = call_once(alloc, task, text) && all;
+    }
+    put_elapsed(rt, begun)?;
+    Ok(all)
+}
+
+/// Reads into data, and puts its text out.
+fn put(alloc: Global, bytes: &[u8], writer: impl Write + Drop) -> bool {
+    let Ok(held) = Data::from_json(alloc, bytes) else {
+        return false;
+    };
+    let mut output = Output {
+        writer,
+        failures: 0,
+    };
+    put_text(&Val::of(&held), &mut output).is_ok()
+}
+
+fn main(rt: HostRuntime) -> io::Result<ExitCode> {
+    let alloc = rt.alloc();
+    let words: Vec<String> = env::args(&rt)?.collect(alloc)?;
+    let (part, file, count) = match words.as_slice() {
+        [_, part, file] => (part, file, 1),
+        [_, part, file, count] => match count.as_str().parse::<u64>() {
+            Ok(count) => (part, file, count),
+            Err(_) => return Ok(ExitCode::from(2)),
+        },
+        _ => return Ok(ExitCode::from(2)),
+    };
+    let bytes = fs::read(&rt, file.as_str())?;
+    let bytes = bytes.as_slice();
+    let done = match part.as_str() {
+        "read" => read(&rt, alloc, bytes)?,
+        "data" => convert(&rt, alloc, bytes)?,
+        "text" => put(alloc, bytes, BufWriter::new(alloc, rt.stdout())?),
+        "cut" => cut_up(&rt, alloc, bytes)?,
+        name => match task_named(name) {
+            Some(task) => call_often(&rt, alloc, task, bytes, count)?,
+            None => false,
+        },
+    };
+    if done {
+        Ok(ExitCode::SUCCESS)
+    } else {
+        Ok(ExitCode::FAILURE)
+    }
+}

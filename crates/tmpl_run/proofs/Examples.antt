@@ -1,0 +1,150 @@
+-- What the meaning says of some templates.
+use Rattle.std.proofs.Common.{◌≡◌, ℕ, Bool, true, false, List, [], ◌∷◌, Option, Some, None, Ok, Err, refl, codes}
+use Rattle.std.specs.Prelude.{pos}
+use Rattle.tmpl_values.specs.Value.{Value, nothing, null, boolean, number, string, sequence, mapping, no_item, item, no_entry, entry}
+use Rattle.tmpl_funcs.specs.declared.func.Func.TheVariants.{And, Or, Not, Len, Print}
+use Rattle.tmpl_funcs.specs.declared.fault.CallFault.TheVariants.{WrongCount, WrongKind}
+use Rattle.tmpl_syntax.specs.Tree as tree
+use Rattle.tmpl_syntax.specs.Tree.{Operand, dot, fields, variable, bool_constant, number_constant, text_constant, nil, function, group, Operands, no_operand, operand, Commands, no_command, command, Pipeline, pipeline, unbound, declare, assign, unnamed, element, key_and_element, Node, Nodes, Tree, text, action, if_node, with_node, range_node, break_node, continue_node}
+use Rattle.tmpl_run.specs.Meaning.{Ran, Fault, Cause, ran_with, steps_spent, not_a_function, nil_command, lacks_field, lacks_entry, not_a_range, call_failed}
+use Rattle.tmpl_run.specs.Pipeline.{Given, Place, pipeline_value}
+use Rattle.tmpl_run.specs.declared.options.MissingKey.TheVariants.{Default, Zero, Error}
+
+-- ---- short ways to write them
+
+abbrev a : List ℕ
+a = codes "a"
+
+abbrev b : List ℕ
+b = codes "b"
+
+abbrev x : List ℕ
+x = codes "x"
+
+abbrev only : Operand → Pipeline
+only o = pipeline (command (operand o no_operand) no_command)
+
+abbrev then : Node → Nodes → Nodes
+then = tree.then
+
+abbrev none : Nodes
+none = tree.none
+
+abbrev one : ℕ → Value
+one n = number (pos n)
+
+abbrev three : Value
+three = sequence (item (string (codes "1")) (item (string (codes "2")) (item (string (codes "3")) no_item)))
+
+abbrev tree_of : Nodes → Tree
+tree_of ns = record { file = codes "f"; nodes = ns }
+
+-- a run with so many steps over this dot
+abbrev run : ℕ → Nodes → Value → Ran
+run steps ns d = ran_with Default steps (codes "t") (tree_of ns) d
+
+abbrev puts : List ℕ → Ran
+puts bytes = record { text = bytes; fault = None; made = false }
+
+abbrev stops : List ℕ → ℕ → Cause → Ran
+stops bytes line cause =
+    record { text = bytes; fault = Some (record { file = codes "f"; line = line; template = codes "t"; cause = cause }); made = false }
+
+-- ---- control
+
+an-if-that-holds : run 9 (then (if_node 1 unbound (only dot) (then (text 1 (codes "A")) none) (then (text 1 (codes "B")) none)) none) three ≡ puts (codes "A")
+an-if-that-holds = refl
+
+an-if-that-does-not : run 9 (then (if_node 1 unbound (only dot) (then (text 1 (codes "A")) none) (then (text 1 (codes "B")) none)) none) nothing ≡ puts (codes "B")
+an-if-that-does-not = refl
+
+-- {{with .a}}{{.}}{{end}}{{.b}}
+a-with-moves-dot : run 9 (then (with_node 1 unbound (only (fields (a ∷ []))) (then (action 1 unbound (only dot)) none) none) (then (action 1 unbound (only (fields (b ∷ [])))) none)) (mapping (entry a (string (codes "A")) (entry b (string (codes "B")) no_entry))) ≡ puts (codes "AB")
+a-with-moves-dot = refl
+
+-- {{range .}}{{.}}{{end}}
+each-element : run 9 (then (range_node 1 unnamed (only dot) (then (action 1 unbound (only dot)) none) none) none) three ≡ puts (codes "123")
+each-element = refl
+
+-- {{range $a, $b := .}}{{$a}}{{$b}}{{end}}
+keys : run 9 (then (range_node 1 (key_and_element a b) (only dot) (then (action 1 unbound (only (variable a []))) (then (action 1 unbound (only (variable b []))) none)) none) none) (mapping (entry a (string (codes "v")) no_entry)) ≡ puts (codes "av")
+keys = refl
+
+-- {{range .}}x{{else}}y{{end}}
+no-element : run 9 (then (range_node 1 unnamed (only dot) (then (text 1 (codes "x")) none) (then (text 1 (codes "y")) none)) none) (sequence no_item) ≡ puts (codes "y")
+no-element = refl
+
+not-a-range : run 9 (then (range_node 7 unnamed (only dot) (then (text 1 (codes "x")) none) (then (text 1 (codes "y")) none)) none) (one 3) ≡ stops [] 7 not_a_range
+not-a-range = refl
+
+-- a step for the range, one for each element and one for each text
+steps-of-a-range : run 4 (then (range_node 1 unnamed (only dot) (then (text 2 (codes "x")) none) none) none) three ≡ stops (codes "x") 2 (steps_spent 4)
+steps-of-a-range = refl
+
+-- {{$x := .}}{{range .}}{{$x = .}}{{break}}{{end}}{{$x}}: a break keeps what was assigned
+break-keeps-assignments : run 20 (then (action 1 (declare x) (only dot)) (then (range_node 1 unnamed (only dot) (then (action 1 (assign x) (only dot)) (then (break_node 1) none)) none) (then (action 1 unbound (only (variable x []))) none))) three ≡ puts (codes "1")
+break-keeps-assignments = refl
+
+-- {{range .}}{{with .}}{{break}}{{end}}{{end}}{{.}}: a break leaves dot as it was
+break-keeps-dot : run 20 (then (range_node 1 unnamed (only dot) (then (with_node 1 unbound (only dot) (then (break_node 1) none) none) none) none) (then (action 1 unbound (only dot)) none)) three ≡ puts (codes "[1 2 3]")
+break-keeps-dot = refl
+
+-- {{range .}}{{range .}}{{else}}{{break}}{{end}}z{{end}}: in the else part of an inner range it ends the outer one
+break-in-an-else-part : run 20 (then (range_node 1 unnamed (only dot) (then (range_node 1 unnamed (only dot) none (then (break_node 1) none)) (then (text 1 (codes "z")) none)) none) none) (sequence (item (sequence no_item) (item (sequence no_item) no_item))) ≡ puts []
+break-in-an-else-part = refl
+
+-- {{range .}}{{if .}}{{continue}}{{end}}z{{end}}
+continues : run 20 (then (range_node 1 unnamed (only dot) (then (if_node 1 unbound (only dot) (then (continue_node 1) none) none) (then (text 1 (codes "z")) none)) none) none) (sequence (item (boolean true) (item (boolean false) no_item))) ≡ puts (codes "z")
+continues = refl
+
+-- {{$x := .a}}{{if .}}{{$x := .b}}{{end}}{{$x}}: what a part declares is gone behind it
+declared-in-a-part : run 20 (then (action 1 (declare x) (only (fields (a ∷ [])))) (then (if_node 1 unbound (only dot) (then (action 1 (declare x) (only (fields (b ∷ [])))) none) none) (then (action 1 unbound (only (variable x []))) none))) (mapping (entry a (string (codes "1")) (entry b (string (codes "2")) no_entry))) ≡ puts (codes "1")
+declared-in-a-part = refl
+
+-- ---- pipelines
+
+abbrev here : Value → Place
+here d = record { mode = Default; dot = d; env = [] }
+
+abbrev gives : Value → Given
+gives v = record { result = Ok v; made = false }
+
+abbrev refuses : Cause → Given
+refuses cause = record { result = Err cause; made = false }
+
+abbrev call : Operands → Pipeline
+call os = pipeline (command os no_command)
+
+-- and 0 (.a.b): the deciding operand is the last that is evaluated
+and-stops : pipeline_value (here (mapping (entry a null no_entry))) (call (operand (function And) (operand (number_constant (pos 0)) (operand (fields (a ∷ b ∷ [])) no_operand)))) ≡ gives (one 0)
+and-stops = refl
+
+-- or 0 (.a.b)
+or-goes-on : pipeline_value (here (mapping (entry a null no_entry))) (call (operand (function Or) (operand (number_constant (pos 0)) (operand (fields (a ∷ b ∷ [])) no_operand)))) ≡ refuses (lacks_field b)
+or-goes-on = refl
+
+-- (.a).b and .a.b: a null that a command gives is nothing
+null-of-a-command : pipeline_value (here (mapping (entry a null no_entry))) (only (group (command (operand (fields (a ∷ [])) no_operand) no_command) (b ∷ []))) ≡ gives nothing
+null-of-a-command = refl
+
+null-in-a-chain : pipeline_value (here (mapping (entry a null no_entry))) (only (fields (a ∷ b ∷ []))) ≡ refuses (lacks_field b)
+null-in-a-chain = refl
+
+-- . | not: a piped value is the last argument
+piped : pipeline_value (here nothing) (pipeline (command (operand dot no_operand) (command (operand (function Not) no_operand) no_command))) ≡ gives (boolean true)
+piped = refl
+
+-- len .a.b .a: the number of arguments is looked at before any of them
+count-comes-first : pipeline_value (here (one 1)) (call (operand (function Len) (operand (fields (a ∷ b ∷ [])) (operand (fields (a ∷ [])) no_operand)))) ≡ refuses (call_failed Len WrongCount)
+count-comes-first = refl
+
+-- len .
+kind-comes-last : pipeline_value (here (one 1)) (call (operand (function Len) (operand dot no_operand))) ≡ refuses (call_failed Len WrongKind)
+kind-comes-last = refl
+
+nil-as-a-command : pipeline_value (here nothing) (only nil) ≡ refuses nil_command
+nil-as-a-command = refl
+
+-- .a 1: what is no function is refused before it is evaluated
+argument-of-a-field : pipeline_value (here (one 1)) (call (operand (fields (a ∷ [])) (operand (number_constant (pos 1)) no_operand))) ≡ refuses not_a_function
+argument-of-a-field = refl

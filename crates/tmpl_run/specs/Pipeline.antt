@@ -1,0 +1,234 @@
+-- The value of a pipeline ("Arguments", "Pipelines", "Variables" and "Functions" in the documentation of Go's
+-- text/template). What nothing, null and the modes for missing keys do is our own rule, also where Go differs.
+use Rattle.std.specs.Prelude.{ℕ, suc, ◌+◌, Bool, true, false, not, ◌||◌, List, [], ◌∷◌, ◌++◌, Option, Some, None, Result, Ok, Err, if◌then◌else◌}
+use Rattle.std.specs.Str.{bytes_eq}
+use Rattle.tmpl_values.specs.Value.{Value, nothing, null, boolean, number, string, sequence, mapping}
+use Rattle.tmpl_values.specs.Truth.{truth}
+use Rattle.tmpl_values.specs.Field.{FieldValue, found, missing, of_nothing, no_field, field_at}
+use Rattle.tmpl_funcs.specs.Called.{called}
+use Rattle.tmpl_funcs.specs.Func.{makes_text, takes}
+use Rattle.tmpl_funcs.specs.declared.func.Func.{Func}
+use Rattle.tmpl_funcs.specs.declared.func.Func.TheVariants.{And, Or}
+use Rattle.tmpl_funcs.specs.declared.fault.CallFault.{CallFault}
+use Rattle.tmpl_funcs.specs.declared.fault.CallFault.TheVariants.{WrongCount}
+use Rattle.tmpl_syntax.specs.Tree.{Operand, dot, fields, variable, bool_constant, number_constant, text_constant, nil, function, group, Operands, no_operand, operand, Commands, no_command, command, Pipeline, pipeline}
+use Rattle.tmpl_run.specs.Fault.{Cause, not_a_function, nil_command, lacks_field, lacks_entry, call_failed}
+use Rattle.tmpl_run.specs.declared.options.MissingKey.{MissingKey}
+use Rattle.tmpl_run.specs.declared.options.MissingKey.TheVariants.{Default, Invalid, Zero, Error}
+
+-- ---- variables
+
+-- the variables in scope, the newest first; that of the empty name, written `$`, is the dot at the start
+abbrev pub Environment : Type 0
+Environment = List (List ℕ × Value)
+
+-- the value of the newest variable of a name; a template that is accepted names none that is not there
+abbrev pub lookup : List ℕ → Environment → Value
+lookup name [] = nothing
+lookup name (v ∷ env) = if bytes_eq v.0 name then v.1 else lookup name env
+
+-- ---- fields
+
+-- a field, by what its value has under the name
+abbrev pub by_mode : MissingKey → List ℕ → Result Value Cause
+by_mode Default name = Ok nothing
+by_mode Invalid name = Ok nothing
+by_mode Zero name = Ok null
+by_mode Error name = Err (lacks_entry name)
+
+abbrev pub nothing_by_mode : MissingKey → List ℕ → Result Value Cause
+nothing_by_mode Default name = Ok nothing
+nothing_by_mode Invalid name = Ok nothing
+nothing_by_mode Zero name = Ok nothing
+nothing_by_mode Error name = Err (lacks_entry name)
+
+abbrev pub field_value : MissingKey → List ℕ → FieldValue → Result Value Cause
+field_value mode name (found v) = Ok v
+field_value mode name missing = by_mode mode name
+field_value mode name of_nothing = nothing_by_mode mode name
+field_value mode name no_field = Err (lacks_field name)
+
+abbrev pub and_then : Result Value Cause → (Value → Result Value Cause) → Result Value Cause
+and_then (Ok v) next = next v
+and_then (Err cause) next = Err cause
+
+-- the field of the field of .. of a value
+abbrev pub chain : MissingKey → List (List ℕ) → Value → Result Value Cause
+chain mode [] v = Ok v
+chain mode (name ∷ names) v = and_then (field_value mode name (field_at name v)) (chain mode names)
+
+-- a null that a command gives is nothing
+abbrev pub without_null : Value → Value
+without_null nothing = nothing
+without_null null = nothing
+without_null (boolean b) = boolean b
+without_null (number n) = number n
+without_null (string bytes) = string bytes
+without_null (sequence items) = sequence items
+without_null (mapping entries) = mapping entries
+
+-- ---- what evaluating gives
+
+-- a value or why there is none, and whether a function that makes a text was called with all its arguments
+pub record Given : Type 0 where
+  pub result : Result Value Cause
+  pub made : Bool
+
+-- the same for values one after the other
+pub record GivenAll : Type 0 where
+  pub results : Result (List Value) Cause
+  pub made : Bool
+
+abbrev pub given : Result Value Cause → Given
+given r = record { result = r; made = false }
+
+-- what follows something that called such a function, or did not
+abbrev pub since : Bool → Given → Given
+since made g = record { result = g.result; made = made || g.made }
+
+-- goes on with the value, or stops
+abbrev pub go_on : Result Value Cause → Bool → (Value → Given) → Given
+go_on (Ok v) made next = since made (next v)
+go_on (Err cause) made next = record { result = Err cause; made = made }
+
+abbrev pub given_then : Given → (Value → Given) → Given
+given_then g next = go_on g.result g.made next
+
+abbrev pub more_of : Result (List Value) Cause → Bool → Value → GivenAll
+more_of (Ok vs) made v = record { results = Ok (v ∷ vs); made = made }
+more_of (Err cause) made v = record { results = Err cause; made = made }
+
+abbrev pub first_of : Result Value Cause → Bool → GivenAll → GivenAll
+first_of (Ok v) made rest = more_of rest.results (made || rest.made) v
+first_of (Err cause) made rest = record { results = Err cause; made = made }
+
+-- a value before others
+abbrev pub before : Given → GivenAll → GivenAll
+before g rest = first_of g.result g.made rest
+
+-- ---- calls
+
+abbrev pub piped_after : List Value → Option Value → List Value
+piped_after vs None = vs
+piped_after vs (Some v) = vs ++ v ∷ []
+
+abbrev pub or_call_failed : Func → Result Value CallFault → Result Value Cause
+or_call_failed f (Ok v) = Ok v
+or_call_failed f (Err fault) = Err (call_failed f fault)
+
+-- a function over the values of its operands, and a piped value behind them
+abbrev pub applied : Func → Option Value → Result (List Value) Cause → Bool → Given
+applied f piped (Ok vs) made =
+    record { result = or_call_failed f (called f (piped_after vs piped)); made = made || makes_text f }
+applied f piped (Err cause) made = record { result = Err cause; made = made }
+
+-- by the function: `and` and `or` evaluate their operands themselves
+abbrev pub by_function : Func → Option Value → GivenAll → Given → Given → Given
+by_function And piped all both either = both
+by_function Or piped all both either = either
+by_function f piped all both either = applied f piped all.results all.made
+
+abbrev pub counted : Func → Bool → Given → Given
+counted f true g = g
+counted f false g = given (Err (call_failed f WrongCount))
+
+abbrev pub piped_count : Option Value → ℕ
+piped_count None = 0
+piped_count (Some v) = 1
+
+abbrev pub operand_count : Operands → ℕ
+operand_count no_operand = 0
+operand_count (operand o os) = suc (operand_count os)
+
+-- whether a value decides an `or`, as the first that is not empty, or an `and`, as the first that is
+abbrev pub decides : Bool → Value → Bool
+decides true v = truth v
+decides false v = not (truth v)
+
+abbrev pub decided : Bool → Value → Given → Given
+decided true v rest = given (Ok v)
+decided false v rest = rest
+
+-- ---- commands
+
+abbrev pub or_nil : Operand → Given → Given
+or_nil nil g = given (Err nil_command)
+or_nil o g = g
+
+abbrev pub stands_alone : Operands → Option Value → Bool
+stands_alone no_operand None = true
+stands_alone no_operand (Some v) = false
+stands_alone (operand o os) piped = false
+
+abbrev pub alone : Bool → Operand → Given → Given
+alone true o g = or_nil o g
+alone false o g = given (Err not_a_function)
+
+-- a command by its first operand: a call where that is a function, else the operand, which stands alone
+abbrev pub commanded : Operand → Operands → Option Value → Given → (Func → Given) → Given
+commanded (function f) os piped g call = call f
+commanded o os piped g call = alone (stands_alone os piped) o g
+
+-- where a pipeline stands: the mode for missing keys, dot and the variables
+pub record Place : Type 0 where
+  pub mode : MissingKey
+  pub dot : Value
+  pub env : Environment
+
+-- a function as an argument: a call without arguments
+abbrev pub bare_call : Func → Given
+bare_call f = counted f (takes f 0) (applied f None (Ok []) false)
+
+abbrev pub argument_count : Operands → Option Value → ℕ
+argument_count os piped = operand_count os + piped_count piped
+
+abbrev mutual
+  -- as an argument: null stays null, `nil` is nothing, and a function is a call without arguments
+  pub operand_value : Place → Operand → Given
+  operand_value s dot = given (Ok s.dot)
+  operand_value s (fields names) = given (chain s.mode names s.dot)
+  operand_value s (variable name names) = given (chain s.mode names (lookup name s.env))
+  operand_value s (bool_constant b) = given (Ok (boolean b))
+  operand_value s (number_constant n) = given (Ok (number n))
+  operand_value s (text_constant bytes) = given (Ok (string bytes))
+  operand_value s nil = given (Ok nothing)
+  operand_value s (function f) = bare_call f
+  operand_value s (group commands names) =
+      given_then (commands_value s commands None) (λ v. given (chain s.mode names v))
+
+  -- the operands from left to right, up to the first that has no value
+  pub operand_values : Place → Operands → GivenAll
+  operand_values s no_operand = record { results = Ok []; made = false }
+  operand_values s (operand o os) = before (operand_value s o) (operand_values s os)
+
+  -- the first of the operands and the piped value that decides, else the last of them; no operand after it is evaluated
+  pub junction : Bool → Place → Value → Operands → Option Value → Given
+  junction stop s last no_operand None = given (Ok last)
+  junction stop s last no_operand (Some v) = given (Ok v)
+  junction stop s last (operand o os) piped = given_then (operand_value s o)
+      (λ v. decided (decides stop v) v (junction stop s v os piped))
+
+  -- a command, to which a value may be piped; the number of arguments is looked at first
+  pub command_value : Place → Operands → Option Value → Given
+  command_value s no_operand piped = given (Err not_a_function)
+  command_value s (operand o os) piped = commanded o os piped (operand_value s o)
+      (λ f. counted f (takes f (argument_count os piped))
+      (by_function f piped (operand_values s os)
+      (junction false s nothing os piped) (junction true s nothing os piped)))
+
+  -- the commands from left to right: each gives its value to the next as its last argument
+  pub commands_value : Place → Commands → Option Value → Given
+  commands_value s no_command None = given (Ok nothing)
+  commands_value s no_command (Some v) = given (Ok v)
+  commands_value s (command os cs) piped =
+      given_then (command_value s os piped) (λ v. commands_value s cs (Some (without_null v)))
+
+-- a call with operands and perhaps a piped value
+abbrev pub call_value : Place → Func → Operands → Option Value → Given
+call_value s f os piped = counted f (takes f (argument_count os piped))
+    (by_function f piped (operand_values s os)
+    (junction false s nothing os piped) (junction true s nothing os piped))
+
+-- the value of a pipeline
+abbrev pub pipeline_value : Place → Pipeline → Given
+pipeline_value s (pipeline commands) = commands_value s commands None

@@ -1,0 +1,24 @@
+-- Laws of the definitions.
+use Rattle.std.specs.Prelude.{◌≡◌, List}
+use Rattle.tmpl_syntax.specs.Tree.{Nodes}
+use Rattle.tmpl_syntax.specs.Item.{Item}
+use Rattle.tmpl_syntax.specs.Mark.{Mark, marks_of}
+use Rattle.tmpl_syntax.specs.Body.{Verdict, fine, Judged}
+use Rattle.tmpl_syntax.specs.Stack.{verdict_of}
+use Rattle.tmpl_syntax.specs.Spells.{Spells}
+use Rattle.tmpl_syntax.specs.Build.{nodes_from}
+
+-- each list has a verdict, and no other
+abbrev pub HasVerdict : Type 0
+HasVerdict = (xs : List Mark) → Judged xs (verdict_of xs)
+
+abbrev pub HasOneVerdict : Type 0
+HasOneVerdict = (xs : List Mark) (v w : Verdict) → Judged xs v → Judged xs w → v ≡ w
+
+-- a list on which the verdict is fine spells nodes
+abbrev pub SpellsWhereFine : Type 0
+SpellsWhereFine = (items : List Item) → Judged (marks_of items) fine → Spells items (nodes_from items)
+
+-- each list spells at most one list of nodes
+abbrev pub SpellsAtMostOne : Type 0
+SpellsAtMostOne = (items : List Item) (ns ms : Nodes) → Spells items ns → Spells items ms → ns ≡ ms
