@@ -192,7 +192,7 @@ def allocations(shim, part, file, count):
 def bench_calls(folder):
     print("Calls of functions, a million each")
     shim = f"{folder}/shim.so"
-    sweep.build_shim(shim)
+    sweep.build_shim("fail_alloc.c", shim)
     short = write(f"{folder}/short", [b"Ada"])
     long = write(f"{folder}/long", [(b"a <b> & c/d=\"e\" " * 64)[:1000]])
     for part, file, most in (("print", short, 1), ("printf", short, 1), ("html", long, 1), ("urlquery", long, 1), ("eq", long, 0)):

@@ -16,12 +16,12 @@ SMALL = 65536  # bytes in the files and the output of a row
 MOST = 100000  # allocations of one run
 
 
-def build_shim(to):
-    """Compiles fail_alloc.c with the clang of the toolchain, which stands beside the page that `rt doc` names."""
+def build_shim(source, to):
+    """Compiles a shim of this folder with the clang of the toolchain, which stands beside the page that `rt doc` names."""
     page = subprocess.run(["rt", "doc"], stdout=subprocess.PIPE, check=True).stdout.decode().strip()
     tools = f"{os.path.dirname(page)}/toolchain/bin"
     flags = ["-O1", "-fPIC", "-shared", "-nostdlib", f"-fuse-ld={tools}/ld.lld"]
-    subprocess.run([f"{tools}/clang", *flags, f"{harness.TESTS}/fail_alloc.c", "-o", to], check=True)
+    subprocess.run([f"{tools}/clang", *flags, f"{harness.TESTS}/{source}", "-o", to], check=True)
 
 
 def refusing(number, shim, once):
@@ -92,7 +92,7 @@ def main():
     rows = [it for it in harness.read_rows() if it.is_plain() and it.size() <= SMALL]
     with tempfile.TemporaryDirectory() as folder, ThreadPoolExecutor(len(os.sched_getaffinity(0))) as pool:
         shim = f"{folder}/fail_alloc.so"
-        build_shim(shim)
+        build_shim("fail_alloc.c", shim)
         done = [pool.submit(sweep_row, shim, it) for it in rows]
         done += [pool.submit(sweep_test, shim, *it) for it in memory_tests()]
         passed = failed = runs = 0
