@@ -13,12 +13,13 @@ pub mod Halves
 pub mod Judge
 pub mod Limits
 pub mod Lists
+pub mod Numerals
 pub mod One
 pub mod OneReading
 pub mod OneSpelling
-pub mod Numerals
 pub mod Open
 pub mod Parts
+pub mod PipelineExamples
 pub mod Place
 pub mod Readings
 pub mod Scopes

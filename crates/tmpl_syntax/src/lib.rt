@@ -37,3 +37,5 @@ pub use tree::{Binding, Command, Node, Operand, Pipeline, RangeVariables, Tree};
 mod tests;
 #[cfg(test)]
 mod tests_lists;
+#[cfg(test)]
+mod tests_pipelines;

@@ -83,7 +83,7 @@ fn shown(alloc: Global, tree: &Tree) -> Result<String, AllocError> {
 }
 
 // The templates of a set, each by its name, its file and its nodes.
-fn templates(alloc: Global, set: &Set) -> Result<String, AllocError> {
+pub(crate) fn templates(alloc: Global, set: &Set) -> Result<String, AllocError> {
     let mut all = String::new(alloc);
     for name in set.names() {
         let shown_name = text(name);
