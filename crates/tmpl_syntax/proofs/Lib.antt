@@ -1,5 +1,6 @@
 pub mod Building
 pub mod Checks
+pub mod ConstantExamples
 pub mod ElseParts
 pub mod Files
 pub mod Finds

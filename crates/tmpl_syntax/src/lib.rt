@@ -28,3 +28,5 @@ pub use tree::{Binding, Command, Node, Operand, Pipeline, RangeVariables, Tree};
 
 #[cfg(test)]
 mod tests;
+#[cfg(test)]
+mod tests_constant;
