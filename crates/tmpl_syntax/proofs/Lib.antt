@@ -1,6 +1,7 @@
 pub mod Building
 pub mod Checks
 pub mod Completed
+pub mod ConstantExamples
 pub mod Constants
 pub mod Counts
 pub mod Depths

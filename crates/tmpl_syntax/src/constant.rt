@@ -1,4 +1,4 @@
-//! Constants.
+//! Constants ("Arguments" in the documentation of Go's text/template).
 ghost use Rattle.std.specs.Prelude.{◌≡◌, IfOk, option_map};
 ghost use Rattle.tmpl_lex.specs.Piece.{token_of};
 ghost use Rattle.tmpl_syntax.specs.Constant.{constant_by, constant_of};
@@ -13,7 +13,8 @@ use tmpl_lex::{Token, TokenKind};
 use tmpl_values::Bytes;
 
 /// The constant that a token stands for: a whole number, a string, a raw string or a character by its
-/// code. None where the token is no constant: of another kind, misspelled, or a number out of range.
+/// code. None where the token is no constant: of another kind, misspelled, or a number that is not
+/// from -2^63 to 2^63 - 1. Memory is taken only for the text of a string, and its refusal is the error.
 #[tactic(auto, unfolding(crate::specs::Constant::constant_of))]
 pub(crate) fn constant(alloc: Global, token: &Token<'_>) -> Result<Option<Operand>, AllocError>
     ensures { IfOk result (λ o. option_map operand_of o ≡ constant_of (token_of token.now)) }

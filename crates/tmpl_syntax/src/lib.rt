@@ -36,6 +36,8 @@ pub use tree::{Binding, Command, Node, Operand, Pipeline, RangeVariables, Tree};
 #[cfg(test)]
 mod tests;
 #[cfg(test)]
+mod tests_constant;
+#[cfg(test)]
 mod tests_lists;
 #[cfg(test)]
 mod tests_pipelines;

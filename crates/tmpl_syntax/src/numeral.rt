@@ -1,4 +1,4 @@
-//! Whole constants.
+//! Whole constants ("Integer literals" in the specification of Go's language).
 ghost use Rattle.std.specs.Prelude.{◌≡◌, ◌≤◌, ◌^◌, IfSome, false, filter, option_and_then, true};
 ghost use Rattle.std.specs.Char.{is_digit};
 ghost use Rattle.std.specs.List.{list_all};

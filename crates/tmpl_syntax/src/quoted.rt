@@ -1,4 +1,5 @@
-//! What stands between quotes: strings, raw strings and characters.
+//! What stands between quotes: strings, raw strings and characters ("String literals" and "Rune
+//! literals" in the specification of Go's language).
 ghost use Rattle.std.specs.Prelude.{◌≡◌, ◌≤◌, ◌<◌, ◌^◌, ◌+◌, ◌++◌, ◌∷◌, IfOk, IfSome, OnOk, length, option_and_then, option_map};
 ghost use Rattle.tmpl_values.specs.Rune.{first_rune};
 ghost use Rattle.tmpl_syntax.specs.Numeral as numeral;

@@ -9,7 +9,7 @@ returns-in_err-part c =
 pub returns-then-len-bytes : goal.returns-then-len-bytes
 returns-then-len-bytes c =
     ap Some c.code.ensures
-    ∙ sym (code-one c.args.quote c.args.bytes.now (c.in_ok-part.part, c.in_ok-part.len) (sym c.in_ok-part.ensures.value) c.in_ok-part.ensures.within.0 c.if-len-bytes.true)
+    ∙ sym (code-one c.args.quote c.args.bytes.now (c.in_ok-part.part, c.in_ok-part.len) (sym c.in_ok-part.ensures.value) c.in_ok-part.ensures.within.0 (omega arith))
 
 pub returns-else-len-bytes : goal.returns-else-len-bytes
 returns-else-len-bytes c =
