@@ -8,10 +8,10 @@ use Rattle.tmpl_lex.specs.Piece.{Token}
 use Rattle.tmpl_syntax.specs.Token.{begins_name, name_in}
 use Rattle.tmpl_syntax.specs.Tree as tree
 use Rattle.tmpl_syntax.specs.Tree.{Operand, Operands, Commands, operands_from, commands_from}
-use Rattle.tmpl_syntax.specs.Word.{operand_at, operand_by, begins_later}
+use Rattle.tmpl_syntax.specs.Word.{operand_at, begins_later}
 use Rattle.tmpl_syntax.specs.Half as half
 use Rattle.tmpl_syntax.specs.Half.{Half, Level, settled, more_commands, closed, may_stand, kept, linked, linked_by, step, step_by, steps, finished, finished_with, commands_after}
-use Rattle.tmpl_syntax.specs.Grammar.{IsBlank, IsChain, IsChained, IsFields, MayBeLater, SpellsOperand, SpellsMore, SpellsCommand, SpellsLater, SpellsPipeline}
+use Rattle.tmpl_syntax.specs.Grammar.{IsBlank, IsChain, IsChained, MayBeLater, SpellsOperand, SpellsMore, SpellsCommand, SpellsLater, SpellsPipeline}
 use Rattle.tmpl_syntax.proofs.Constants.{IsToken, token-form}
 use Rattle.tmpl_syntax.proofs.Spelled.{half_at, operand_list, command_list, operands-back, commands-back}
 

@@ -1,5 +1,5 @@
 -- What the operands of one token are.
-use Rattle.std.proofs.Common.{◌≡◌, ℕ, ℤ, pos, Bool, true, false, List, [], ◌∷◌, Option, Some, None, refl, find, cond, bytes_eq, codes}
+use Rattle.std.proofs.Common.{◌≡◌, ℕ, ℤ, pos, Bool, true, false, List, [], ◌∷◌, Option, Some, None, refl, cond, bytes_eq, codes}
 use Rattle.std.specs.Option.{option_map}
 use Rattle.tmpl_funcs.specs.declared.func.Func.{Func}
 use Rattle.tmpl_lex.specs.declared.piece.TokenKind.{TokenKind}

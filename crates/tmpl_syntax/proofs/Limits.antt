@@ -1,5 +1,5 @@
 -- What is within the limit of parentheses.
-use Rattle.std.proofs.Common.{arith, ◌≡◌, ◌∙◌, ◌≤◌, ◌<◌, ℕ, ◌+◌, Bool, true, false, nat_le, List, [], ◌∷◌, Option, Some, None, refl, ap, sym, subst, length, map, drop, is_some, ⊎_elim, Result, IfOk}
+use Rattle.std.proofs.Common.{arith, ◌≡◌, ◌∙◌, ◌≤◌, ◌<◌, ℕ, ◌+◌, Bool, true, false, nat_le, List, ◌∷◌, Option, Some, None, refl, ap, sym, subst, length, map, drop, is_some, ⊎_elim, Result, IfOk}
 use Rattle.std.proofs.lemmas.List.{length-map, length-reverse, drop_all}
 use Rattle.std.proofs.lemmas.Bool.{leb-true, le-leb}
 use Rattle.std.proofs.lemmas.Bool.Decides.{leb_tells}
@@ -8,10 +8,10 @@ use Rattle.tmpl_lex.specs.Piece.{Token, token_of}
 use Rattle.tmpl_syntax.specs.Token.{is_opening}
 use Rattle.tmpl_syntax.specs.Tree.{Operands}
 use Rattle.tmpl_syntax.specs.Half.{Half, step, steps, finished, commands_after, start}
-use Rattle.tmpl_syntax.specs.Depth.{Limited, limited, limited_to, too_deep, too_deep_if, unread, within, most_deep, goes_beyond}
+use Rattle.tmpl_syntax.specs.Depth.{Limited, limited, limited_to, too_deep_if, unread, within, most_deep, goes_beyond}
 use Rattle.tmpl_syntax.specs.Deep.{spot_of, ends_pipeline}
 use Rattle.tmpl_syntax.specs.Reading.{pipeline_from, pipeline_in, limited_in}
-use Rattle.tmpl_syntax.proofs.Depths.{deep_half, deep_commands, Steps, room, step-steps, IsAtLeast, IsClosed, opening-least, finished-depth, none-behind}
+use Rattle.tmpl_syntax.proofs.Depths.{deep_half, deep_commands, Steps, room, step-steps, IsAtLeast, IsClosed, opening-least, none-behind}
 use Rattle.tmpl_syntax.proofs.Spots.{ends-as}
 use Rattle.tmpl_lex.specs.declared.piece.Token as held
 use Rattle.tmpl_syntax.specs.declared.half.Half as held_half

@@ -1,13 +1,12 @@
 -- The grammar and the reading agree.
 use Rattle.std.proofs.Common.{◌≡◌, ◌∙◌, List, [], Option, Some, None, refl, ap, sym, subst}
 use Rattle.std.specs.Option.{option_map, option_and_then}
-use Rattle.tmpl_lex.specs.Piece.{Token}
-use Rattle.tmpl_syntax.specs.Tree.{Operands, Commands, Pipeline, pipeline, commands_from}
-use Rattle.tmpl_syntax.specs.Half.{Half, closed, finished, finished_with, commands_after, start}
+use Rattle.tmpl_syntax.specs.Tree.{Operands, Commands, Pipeline, pipeline}
+use Rattle.tmpl_syntax.specs.Half.{closed, finished, finished_with, commands_after, start}
 use Rattle.tmpl_syntax.specs.Grammar.{SpellsPipeline}
 use Rattle.tmpl_syntax.specs.Reading.{pipeline_in, pipeline_from}
 use Rattle.tmpl_syntax.specs.OneReading.{ReadsSpelled, SpellsRead, SpellsOne}
-use Rattle.tmpl_syntax.proofs.Spelled.{Ended, command_list, commands-back, pipeline-read}
+use Rattle.tmpl_syntax.proofs.Spelled.{commands-back, pipeline-read}
 use Rattle.tmpl_syntax.proofs.Completed.{read-spells}
 
 pub reads_spelled : ReadsSpelled

@@ -8,9 +8,9 @@ use Rattle.tmpl_syntax.specs.Constant.{constant_of}
 use Rattle.tmpl_syntax.specs.Numeral.{whole}
 use Rattle.tmpl_syntax.specs.Word.{operand_at, word_operand, func_named}
 use Rattle.tmpl_syntax.specs.Half.{step, finished}
-use Rattle.tmpl_syntax.specs.Tree.{Operand, dot, fields, variable, number_constant, function, group, Operands, no_operand, operand, Commands, no_command, command, pipeline}
+use Rattle.tmpl_syntax.specs.Tree.{Operand, dot, fields, number_constant, function, group, no_operand, operand, Commands, no_command, command, pipeline}
 use Rattle.tmpl_syntax.specs.Reading.{pipeline_in, limited_in}
-use Rattle.tmpl_syntax.specs.Depth.{too_deep, unread, within}
+use Rattle.tmpl_syntax.specs.Depth.{too_deep, unread}
 
 abbrev token : TokenKind → List ℕ → Token
 token k bytes = record { kind = k; bytes = bytes }

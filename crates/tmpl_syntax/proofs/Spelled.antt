@@ -1,5 +1,5 @@
 -- What the grammar spells is read.
-use Rattle.std.proofs.Common.{◌≡◌, ◌∙◌, ℕ, true, false, Bool, List, [], ◌∷◌, ◌++◌, Option, Some, None, refl, ap, sym, subst, append_assoc}
+use Rattle.std.proofs.Common.{◌≡◌, ◌∙◌, ℕ, true, List, [], ◌∷◌, ◌++◌, Option, Some, None, refl, ap, sym, subst, append_assoc}
 use Rattle.std.proofs.lemmas.List.{append-nil}
 use Rattle.std.specs.Option.{option_map, option_and_then}
 use Rattle.tmpl_lex.specs.declared.piece.TokenKind.{TokenKind}
@@ -11,7 +11,7 @@ use Rattle.tmpl_syntax.specs.Tree.{Operand, Operands, Commands, operands_from, c
 use Rattle.tmpl_syntax.specs.Word.{operand_at, operand_by, begins_later}
 use Rattle.tmpl_syntax.specs.Half as half
 use Rattle.tmpl_syntax.specs.Half.{Half, Level, settled, more_commands, closed, may_stand, kept, linked, linked_by, step, step_by, steps}
-use Rattle.tmpl_syntax.specs.Grammar.{IsBlank, IsChain, IsChained, IsFields, MayBeLater, SpellsOperand, SpellsMore, SpellsCommand, SpellsLater, SpellsPipeline}
+use Rattle.tmpl_syntax.specs.Grammar.{IsBlank, IsChain, IsChained, MayBeLater, SpellsOperand, SpellsMore, SpellsCommand, SpellsLater, SpellsPipeline}
 
 abbrev pub half_at : List Level → List Operands → List Operand → Option Operand → Half
 half_at ls cs os last = record { outer = ls; level = record { commands = cs; operands = os }; last = last }

@@ -1,5 +1,5 @@
 -- Functions by name.
-use Rattle.std.proofs.Common.{◌≡◌, ◌≢◌, ◌∙◌, ℕ, Bool, true, false, List, [], ◌∷◌, Option, Some, None, cond, refl, ap, sym, find, bytes_eq, IfSome, IfNone, ⊎_elim}
+use Rattle.std.proofs.Common.{◌≡◌, ◌≢◌, ◌∙◌, ℕ, false, List, [], ◌∷◌, Option, Some, None, cond, refl, ap, sym, find, bytes_eq, IfSome, IfNone, ⊎_elim}
 use Rattle.std.proofs.lemmas.Bool.{cases_Bool}
 use lib.Pointwise.{bytes_decides}
 use Rattle.tmpl_funcs.specs.Func.{name_of}

@@ -1,6 +1,6 @@
 -- The grammar of a pipeline ("Arguments" and "Pipelines" in the documentation of Go's text/template): which tokens
 -- spell which tree. White space may stand between any two tokens, but not inside a chain.
-use Rattle.std.specs.Prelude.{◌≡◌, ℕ, true, List, [], ◌∷◌, ◌++◌, Option, Some}
+use Rattle.std.specs.Prelude.{◌≡◌, ℕ, true, List, [], ◌∷◌, ◌++◌, Some}
 use Rattle.tmpl_lex.specs.declared.piece.TokenKind.TheVariants as kind
 use Rattle.tmpl_lex.specs.Piece.{Token}
 use Rattle.tmpl_syntax.specs.Token.{begins_name, name_in}
