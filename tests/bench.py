@@ -151,15 +151,30 @@ def bench_cut(folder):
 
 def bench_parsing(folder):
     """Files that are parsed and not run: the template that is run has one byte."""
-    print("The parsing of small actions")
     tiny = write(f"{folder}/tiny", [b"x"])
-    piece = b"{{if .a}}{{$x := .b}}{{$x}}{{else}}{{range .c}}{{.}}{{end}}{{end}}\n"
+    for name, piece in (
+        ("small actions", b"{{if .a}}{{$x := .b}}{{$x}}{{else}}{{range .c}}{{.}}{{end}}{{end}}\n"),
+        ("constants, strings and parentheses", b'{{print 12 -0x1F (len "a\\tb") (or (eq .a `c`) \'d\')}}\n'),
+    ):
+        print(f"The parsing of {name}")
+        points = []
+        for size in (10_000, 250_000, 1_000_000):
+            file = write(f"{folder}/parsed", [piece * (size // len(piece))])
+            ours, bare = medians(21, [harness.PROGRAM, tiny, file], [harness.PROGRAM, tiny])
+            points.append((size, ours[0]))
+            speed = size / 1e6 / max(ours[0] - bare[0], 1e-9)
+            print(f"  {size:7} bytes: tmpl {milliseconds(ours[0])} in {ours[1] // 1024:.0f} MiB, without the file {milliseconds(bare[0])}: {speed:.0f} MB/s")
+        judge_linear(points)
+
+
+def bench_call_template(folder):
+    print("A template of function calls, to /dev/null")
     points = []
-    for size in (10_000, 250_000, 1_000_000):
-        file = write(f"{folder}/parsed", [piece * (size // len(piece))])
-        ours, bare = medians(21, [harness.PROGRAM, tiny, file], [harness.PROGRAM, tiny])
-        points.append((size, ours[0]))
-        print(f"  {size:7} bytes: tmpl {milliseconds(ours[0])} in {ours[1] // 1024:.0f} MiB, without the file {milliseconds(bare[0])}")
+    for count in (1_000, 2_500, 10_000):
+        file = write(f"{folder}/called", [b'{{printf "%5d" (len "ab")}}\n' * count])
+        (ours,) = medians(11, [harness.PROGRAM, file])
+        points.append((count, ours[0]))
+        print(f"  {count:5} calls of printf and len: tmpl {milliseconds(ours[0])} in {ours[1] // 1024:.0f} MiB")
     judge_linear(points)
 
 
@@ -239,6 +254,7 @@ def main():
         bench_parsing(folder)
         bench_actions(folder)
         bench_range(folder)
+        bench_call_template(folder)
         bench_calls(folder)
         bench_parts(folder)
         bench_reading(folder)
