@@ -241,7 +241,7 @@ fn refuses_what_is_no_action(rt: HostRuntime) {
     holds(
         &rt,
         rt.alloc(),
-        &rendered(b"a{{. .}}", b"null", b"", line, 4),
+        &rendered(b"a{{..}}", b"null", b"", line, 4),
     );
 }
 
