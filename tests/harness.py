@@ -147,6 +147,16 @@ def differences(row, got):
     return [f"    {name}: {show(is_)}\n    wanted: {show(want)}" for name, show, is_, want in zip(names, shown, got, wanted) if is_ != want]
 
 
+def tally(results):
+    """Prints what was wrong under each name, and counts the names that passed, those that failed, and their runs."""
+    passed = failed = runs = 0
+    for name, count, wrong in results:
+        if wrong:
+            print(f"FAILED {name}", *wrong, sep="\n")
+        passed, failed, runs = passed + (not wrong), failed + bool(wrong), runs + count
+    return passed, failed, runs
+
+
 def closing(passed, failed):
     """Prints the last line, and gives the exit status."""
     print(f"{passed} passed, {failed} failed")

@@ -95,11 +95,7 @@ def main():
         build_shim("fail_alloc.c", shim)
         done = [pool.submit(sweep_row, shim, it) for it in rows]
         done += [pool.submit(sweep_test, shim, *it) for it in memory_tests()]
-        passed = failed = runs = 0
-        for name, count, wrong in (it.result() for it in done):
-            if wrong:
-                print(f"FAILED {name}", *wrong, sep="\n")
-            passed, failed, runs = passed + (not wrong), failed + bool(wrong), runs + count
+        passed, failed, runs = harness.tally(it.result() for it in done)
     print(f"{runs} allocations were refused, one in each run")
     return harness.closing(passed, failed)
 

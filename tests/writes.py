@@ -68,11 +68,7 @@ def main():
     with tempfile.TemporaryDirectory() as folder, ThreadPoolExecutor(len(os.sched_getaffinity(0))) as pool:
         shim = f"{folder}/fail_write.so"
         sweep.build_shim("fail_write.c", shim)
-        passed = failed = runs = 0
-        for name, count, wrong in pool.map(lambda row: check_row(shim, row), rows):
-            if wrong:
-                print(f"FAILED {name}", *wrong, sep="\n")
-            passed, failed, runs = passed + (not wrong), failed + bool(wrong), runs + count
+        passed, failed, runs = harness.tally(pool.map(lambda row: check_row(shim, row), rows))
     print(f"{runs} writes were refused, one in each run or it and all behind it")
     return harness.closing(passed, failed)
 

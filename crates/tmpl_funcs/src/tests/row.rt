@@ -7,7 +7,7 @@ use std::test::Fail;
 use tmpl_values::{Cell, Data, Val};
 
 /// The text of what a function gives for these values.
-pub fn text_of(
+pub(super) fn text_of(
     alloc: Global,
     func: Func,
     values: Vec<Val<'_>>,
@@ -51,7 +51,7 @@ fn values_in<'a>(alloc: Global, items: &'a [Data]) -> Result<Vec<Val<'a>>, Alloc
 }
 
 /// The function gives a value of this text for the values of a JSON list.
-pub fn gives(
+pub(super) fn gives(
     rt: &impl Abort,
     alloc: Global,
     func: Func,
@@ -70,7 +70,7 @@ pub fn gives(
 }
 
 /// The function has this fault for the values of a JSON list.
-pub fn faults(
+pub(super) fn faults(
     rt: &impl Abort,
     alloc: Global,
     func: Func,
@@ -89,7 +89,7 @@ pub fn faults(
 }
 
 /// Each format gives its text for its arguments, all of them in one JSON list.
-pub fn prints(rt: &impl Abort, alloc: Global, rows: &[(&[u8], &[u8])]) -> Result<(), Fail> {
+pub(super) fn prints(rt: &impl Abort, alloc: Global, rows: &[(&[u8], &[u8])]) -> Result<(), Fail> {
     for (json, want) in rows {
         gives(rt, alloc, Func::Printf, json, want)?;
     }

@@ -32,16 +32,24 @@ impl Page {
         }
     }
 
-    pub fn as_slice(&self) -> &[u8] {
+    /// The bytes that it took.
+    pub fn as_slice(&self) -> &[u8]
+        ensures { result.now ≡ take self.now.used self.now.bytes }
+    {
         &self.bytes[..self.used]
     }
 
     /// How many puts were made.
-    pub fn puts(&self) -> u64 {
+    pub fn puts(&self) -> u64
+        ensures { result ≡ self.now.puts }
+    {
         self.puts
     }
 
-    pub fn failures(&self) -> u64 {
+    /// How many of them failed.
+    pub fn failures(&self) -> u64
+        ensures { result ≡ self.now.failures }
+    {
         self.failures
     }
 
