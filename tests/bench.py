@@ -1,18 +1,19 @@
 """Times the built program beside other programs, in one run: each pair turn by turn, and of each the median.
 TMPL=PATH names another build."""
+import json
 import os
 import statistics
-import subprocess
 import sys
 import tempfile
 import time
 
+import calls
 import harness
 import sweep
 
 MIB = 1 << 20
 LINE = b"All the world's a stage, and all the men and women merely players.\n"
-PARTS = f"{harness.TOP}/crates/bench_parts/out/bench_parts"
+PARTS = calls.PARTS
 LOAD = "import json, sys; json.load(open(sys.argv[1], 'rb'))"
 
 
@@ -190,31 +191,15 @@ def bench_range(folder):
     judge_linear(points)
 
 
-def allocations(shim, part, file, count):
-    """How many allocations a process of the parts makes: the greatest number whose allocation can be refused."""
-    def is_reached(number):
-        _, refused = sweep.refusing(number, shim, lambda more, keep: subprocess.run(
-            [PARTS, part, file, str(count)], env={**os.environ, **more}, pass_fds=keep, stdout=subprocess.DEVNULL, stderr=subprocess.DEVNULL))
-        return refused
-
-    low, high = 0, 1 << 24
-    while low < high:
-        middle = (low + high + 1) // 2
-        low, high = (middle, high) if is_reached(middle) else (low, middle - 1)
-    return low
-
-
 def bench_calls(folder):
     print("Calls of functions, a million each")
     shim = f"{folder}/shim.so"
     sweep.build_shim("fail_alloc.c", shim)
-    short = write(f"{folder}/short", [b"Ada"])
-    long = write(f"{folder}/long", [(b"a <b> & c/d=\"e\" " * 64)[:1000]])
-    for part, file, most in (("print", short, 1), ("printf", short, 1), ("html", long, 1), ("urlquery", long, 1), ("eq", long, 0)):
-        seconds = statistics.median(timed(part, file, "1000000")[0] for _ in range(3))
-        each = (allocations(shim, part, file, 300) - allocations(shim, part, file, 100)) / 200
-        print(f"  {part}: {seconds * 1000:.0f} ns a call")
-        judge("allocations a call", each, most)
+    for function, arguments, most in calls.TIMED:
+        file = write(f"{folder}/arguments", [json.dumps(arguments).encode()])
+        seconds = statistics.median(timed("call", file, function, "1000000")[0] for _ in range(3))
+        print(f"  {function}: {seconds * 1000:.0f} ns a call")
+        judge("allocations a call", calls.a_call(shim, folder, function, arguments), most)
 
 
 def bench_reading(folder):

@@ -1,22 +1,22 @@
 //! Does one part of what `tmpl` does, so that it can be timed.
 //!
-//! Words: the part, a file, and for calls how many. A JSON file: `read` into `serde_json`'s own tree, `data` into
-//! data. A template: `cut` into pieces. A text, which functions are called with: `print`, `printf`, `html`,
-//! `urlquery`, `eq`. Each puts out how many nanoseconds it took. `text`: a JSON file into data, whose text is put
-//! out.
+//! Words: the part, and a file. A JSON file: `read` into `serde_json`'s own tree, `data` into data. A template: `cut`
+//! into pieces. Each puts out how many nanoseconds it took, and so do calls: `call`, a JSON file with a list of
+//! arguments, the name of the function, and how many. `text`: a JSON file into data, whose text is put out.
 #![tactic(auto)]
 
 mod calls;
 
 ghost use Rattle.std.specs.Prelude.{◌≡◌, None};
 
-use crate::calls::{Task, call_once, task_named};
+use crate::calls::call_often;
 use std::alloc::Global;
 use std::io::{self, BufWriter, Write};
 use std::process::ExitCode;
 use std::rt::Clock;
 use std::time::Instant;
 use std::{env, fs};
+use tmpl_funcs::Func;
 use tmpl_lex::cut;
 use tmpl_values::{Data, Put, Val, put_text};
 
@@ -74,19 +74,26 @@ fn cut_up(rt: &(impl Print + Clock), alloc: Global, bytes: &[u8]) -> io::Result<
     Ok(pieces.is_ok())
 }
 
-/// Calls a function so often, and says how long that took.
-fn call_often(
+/// Calls a function over the items of a JSON list, and says how long that took.
+fn call_over(
     rt: &(impl Print + Clock),
     alloc: Global,
-    task: Task,
-    text: &[u8],
-    count: u64,
+    bytes: &[u8],
+    name: &str,
+    count: &str,
 ) -> io::Result<bool> {
+    let (Ok(held), Some(func), Ok(count)) = (
+        Data::from_json(alloc, bytes),
+        Func::named(name.as_bytes()),
+        count.parse::<u64>(),
+    ) else {
+        return Ok(false);
+    };
+    let Val::List(arguments) = Val::of(&held) else {
+        return Ok(false);
+    };
     let begun = Instant::now(rt)?;
-    let mut all = true;
-    for _ in 0..count {
-        all = call_once(alloc, task, text) && all;
-    }
+    let all = call_often(alloc, func, arguments, count)?;
     put_elapsed(rt, begun)?;
     Ok(all)
 }
@@ -106,25 +113,19 @@ fn put(alloc: Global, bytes: &[u8], writer: impl Write + Drop) -> bool {
 fn main(rt: HostRuntime) -> io::Result<ExitCode> {
     let alloc = rt.alloc();
     let words: Vec<String> = env::args(&rt)?.collect(alloc)?;
-    let (part, file, count) = match words.as_slice() {
-        [_, part, file] => (part, file, 1),
-        [_, part, file, count] => match count.as_str().parse::<u64>() {
-            Ok(count) => (part, file, count),
-            Err(_) => return Ok(ExitCode::from(2)),
-        },
+    let (part, file, more) = match words.as_slice() {
+        [_, part, file, more @ ..] => (part, file, more),
         _ => return Ok(ExitCode::from(2)),
     };
     let bytes = fs::read(&rt, file.as_str())?;
     let bytes = bytes.as_slice();
-    let done = match part.as_str() {
-        "read" => read(&rt, alloc, bytes)?,
-        "data" => convert(&rt, alloc, bytes)?,
-        "text" => put(alloc, bytes, BufWriter::new(alloc, rt.stdout())?),
-        "cut" => cut_up(&rt, alloc, bytes)?,
-        name => match task_named(name) {
-            Some(task) => call_often(&rt, alloc, task, bytes, count)?,
-            None => false,
-        },
+    let done = match (part.as_str(), more) {
+        ("read", []) => read(&rt, alloc, bytes)?,
+        ("data", []) => convert(&rt, alloc, bytes)?,
+        ("text", []) => put(alloc, bytes, BufWriter::new(alloc, rt.stdout())?),
+        ("cut", []) => cut_up(&rt, alloc, bytes)?,
+        ("call", [name, count]) => call_over(&rt, alloc, bytes, name.as_str(), count.as_str())?,
+        _ => false,
     };
     if done {
         Ok(ExitCode::SUCCESS)

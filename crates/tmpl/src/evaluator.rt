@@ -292,8 +292,12 @@ impl<'a> Machine<'a> {
     {
         match binding {
             Binding::Unbound => Ok(()),
-            Binding::Declare(name) => self.variables.declare(name.as_slice(), value),
+            Binding::Declare(name) => {
+                let value = value.into_shared(self.alloc)?;
+                self.variables.declare(name.as_slice(), value)
+            }
             Binding::Assign(name) => {
+                let value = value.into_shared(self.alloc)?;
                 self.variables.assign(name.as_slice(), value);
                 Ok(())
             }
@@ -383,6 +387,7 @@ impl<'a> Machine<'a> {
     {
         match self.value(setting, choice.pipeline, dot)? {
             Ok(value) => {
+                let value = value.into_shared(self.alloc)?;
                 self.bind(choice.binding, value.share()?)?;
                 if value.truth() {
                     self.nodes(setting, choice.body, &value)

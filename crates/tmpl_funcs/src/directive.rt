@@ -3,6 +3,7 @@ ghost use Rattle.std.specs.Prelude.{◌≡◌, ◌≤◌, ◌++◌, OnOk, Some, 
 ghost use Rattle.std.specs.Char.{encode_utf8};
 ghost use Rattle.std.specs.List.{flat_map};
 ghost use Rattle.tmpl_values.specs.Quote.{quote};
+ghost use Rattle.tmpl_values.specs.Text.{inner_text};
 ghost use Rattle.tmpl_values.specs.View.{val_of};
 ghost use Rattle.tmpl_funcs.specs.Directive.{char_text, hex_form, hex_pair, cut, number_form, printed, sign, text_form, truth_of, value_form};
 ghost use Rattle.tmpl_funcs.specs.Printf.{IsAdded};
@@ -13,7 +14,7 @@ use crate::form::{Form, Verb};
 use crate::growing::add_quote;
 use crate::index::number;
 use crate::join::{Missing, add_operand};
-use crate::pad::{add_laid_out, add_padded};
+use crate::pad::{add_laid_out, add_padded, pad_from};
 use crate::rune::cut;
 use itoa::Buffer;
 use std::alloc::AllocError;
@@ -54,11 +55,23 @@ fn add_value(form: Form, value: &Val<'_>, bytes: &mut Vec<u8>) -> Result<(), Cal
             Ok(())
         }
         Val::Nothing | Val::Null | Val::Bool(_) | Val::Num(_) | Val::Text(_) | Val::Made(_) => {
-            let mut text = Vec::new(*bytes.allocator());
-            add_operand(value, Missing::Nil, &mut text)?;
-            add_text_form(form, text.as_slice(), bytes)
+            add_scalar(form, value, bytes)
         }
     }
+}
+
+/// Nothing, a truth value or a number, in a form with no flag but `-`.
+fn add_scalar(form: Form, value: &Val<'_>, bytes: &mut Vec<u8>) -> Result<(), CallFault>
+    ensures { IsAdded (text_form form (Some (inner_text (val_of value.now))))
+        bytes.old.items bytes.new.items result }
+{
+    if !form.has_minus_alone() {
+        return Err(CallFault::FormatRefused);
+    }
+    let start = bytes.len();
+    add_operand(value, Missing::Nil, bytes)?;
+    pad_from(form, start, bytes)?;
+    Ok(())
 }
 
 /// A text, in a form with no flag but `-`.
@@ -90,12 +103,13 @@ fn add_quoted(form: Form, text: Option<&[u8]>, bytes: &mut Vec<u8>) -> Result<()
         bytes.old.items bytes.new.items result }
 {
     match text {
-        Some(text) => {
-            let mut quoted = Vec::new(*bytes.allocator());
-            add_quote(text, &mut quoted)?;
-            add_text_form(form, quoted.as_slice(), bytes)
+        Some(text) if form.has_minus_alone() => {
+            let start = bytes.len();
+            add_quote(text, bytes)?;
+            pad_from(form, start, bytes)?;
+            Ok(())
         }
-        None => Err(CallFault::FormatRefused),
+        _ => Err(CallFault::FormatRefused),
     }
 }
 
@@ -207,13 +221,23 @@ fn add_hex(upper: bool, form: Form, value: &Val<'_>, bytes: &mut Vec<u8>) -> Res
         bytes.old.items bytes.new.items result }
 {
     match value.bytes() {
-        Some(text) => {
-            let mut pairs = Vec::new(*bytes.allocator());
-            add_pairs(text, upper, &mut pairs)?;
-            add_text_form(form, pairs.as_slice(), bytes)
-        }
+        Some(text) => add_hex_text(upper, form, text, bytes),
         None => add_in_base(16, upper, form, number(value), bytes),
     }
+}
+
+/// The bytes of a text, in a form with no flag but `-`.
+fn add_hex_text(upper: bool, form: Form, text: &[u8], bytes: &mut Vec<u8>) -> Result<(), CallFault>
+    ensures { IsAdded (text_form form (Some (flat_map (hex_pair upper) text.now)))
+        bytes.old.items bytes.new.items result }
+{
+    if !form.has_minus_alone() {
+        return Err(CallFault::FormatRefused);
+    }
+    let start = bytes.len();
+    add_pairs(text, upper, bytes)?;
+    pad_from(form, start, bytes)?;
+    Ok(())
 }
 
 /// Adds each byte in two digits.

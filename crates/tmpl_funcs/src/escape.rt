@@ -1,20 +1,22 @@
 //! `html` and `urlquery`.
-ghost use Rattle.std.specs.Prelude.{◌≡◌, ◌++◌, IfSome, OnOk, map, option_map};
+ghost use Rattle.std.specs.Prelude.{◌≡◌, ◌+◌, ◌++◌, IfSome, Ok, OnOk, length, map, option_map};
 ghost use Rattle.std.specs.List.{flat_map};
+ghost use Rattle.tmpl_values.specs.Value.{string};
 ghost use Rattle.tmpl_funcs.specs.Answer.{values_of, IsMade};
-ghost use Rattle.tmpl_funcs.specs.Escape.{html_byte, html_of, query_byte, urlquery_of};
+ghost use Rattle.tmpl_funcs.specs.Escape.{html_byte, html_of, is_unreserved, query_byte, urlquery_of};
 ghost use Rattle.tmpl_funcs.specs.Join.{as_text, joined};
 ghost use Rattle.tmpl_funcs.specs.Kind.{escaped_byte, escaped_of, or_itself};
 
 use crate::fault::CallFault;
 use crate::join::{Missing, add_joined};
+use crate::room::joined_room;
 use percent_encoding::percent_encode_byte;
 use std::alloc::{AllocError, Global};
 use tmpl_values::{Cell, Val};
 
 /// How bytes are escaped.
 #[derive(Clone, Copy)]
-enum Escape {
+pub(crate) enum Escape {
     Html,
     Query,
 }
@@ -36,15 +38,35 @@ pub(crate) fn urlquery<'a>(alloc: Global, operands: &[Cell<'_>]) -> Result<Val<'
 fn escaped<'a>(alloc: Global, operands: &[Cell<'_>], escape: Escape) -> Result<Val<'a>, CallFault>
     ensures { IsMade (escaped_of escape (values_of operands.now)) result }
 {
-    let mut bytes = Vec::new(alloc);
-    if let Some(text) = sole_text(operands) {
-        add_escaped(text, escape, &mut bytes)?;
-        return Ok(Val::made(alloc, bytes)?);
+    match sole_text(operands) {
+        Some(text) => escaped_text(alloc, text, escape),
+        None => escaped_join(alloc, operands, escape),
     }
-    let mut plain = Vec::new(alloc);
-    add_joined(operands, Missing::NoValue, &mut plain)?;
-    add_escaped(plain.as_slice(), escape, &mut bytes)?;
-    Ok(Val::made(alloc, bytes)?)
+}
+
+fn escaped_text<'a>(alloc: Global, text: &[u8], escape: Escape) -> Result<Val<'a>, CallFault>
+    ensures { IsMade (Ok (string (flat_map (escaped_byte escape) text.now))) result }
+{
+    let mut bytes = Vec::with_capacity(alloc, escape.len_of(text))?;
+    add_escaped(text, escape, &mut bytes)?;
+    Ok(Val::made(bytes))
+}
+
+/// The operands joined, and behind that, in the same memory, their escape, which alone is the answer.
+fn escaped_join<'a>(
+    alloc: Global,
+    operands: &[Cell<'_>],
+    escape: Escape,
+) -> Result<Val<'a>, CallFault>
+    ensures { IsMade (escaped_of escape (values_of operands.now)) result }
+{
+    let room = joined_room(operands, None).saturating_add(joined_room(operands, Some(escape)));
+    let mut bytes = Vec::with_capacity(alloc, room)?;
+    add_joined(operands, Missing::NoValue, &mut bytes)?;
+    let plain = bytes.len();
+    add_escape_of_all(escape, &mut bytes)?;
+    let end = bytes.len();
+    Ok(Val::made(bytes).part(plain as u64, end as u64))
 }
 
 /// The text that is the only operand, which needs no joining.
@@ -73,7 +95,41 @@ fn add_escaped(text: &[u8], escape: Escape, bytes: &mut Vec<u8>) -> Result<(), A
     bytes.extend_from_slice(&text[start..])
 }
 
+/// Adds the escape of the bytes that are there.
+fn add_escape_of_all(escape: Escape, bytes: &mut Vec<u8>) -> Result<(), AllocError>
+    ensures { OnOk result (bytes.new.items
+        ≡ bytes.old.items ++ flat_map (escaped_byte escape) bytes.old.items) }
+{
+    for i in 0..bytes.len() {
+        let byte = bytes[i];
+        match escape.of(byte) {
+            Some(escaped) => bytes.extend_from_slice(escaped)?,
+            None => bytes.push(byte)?,
+        }
+    }
+    Ok(())
+}
+
 impl Escape {
+    /// How many bytes the escape of a text has, for which room is reserved.
+    pub(crate) fn len_of(self, text: &[u8]) -> usize {
+        let mut len = text.len();
+        for byte in text {
+            len = len.wrapping_add(self.growth(*byte));
+        }
+        len
+    }
+
+    /// How many bytes more than one the escape of a byte has.
+    fn growth(self, byte: u8) -> usize
+        ensures { result + 1 ≡ length (escaped_byte self byte) }
+    {
+        match self {
+            Escape::Html => html_growth(byte),
+            Escape::Query => query_growth(byte),
+        }
+    }
+
     /// What replaces a byte, if anything does.
     fn of(self, byte: u8) -> Option<&'static [u8]>
         ensures { or_itself byte (option_map (λ t. t.now) result) ≡ escaped_byte self byte }
@@ -99,10 +155,39 @@ fn html_escape(byte: u8) -> Option<&'static [u8]>
     }
 }
 
+fn html_growth(byte: u8) -> usize
+    ensures { result + 1 ≡ length (html_byte byte) }
+{
+    match byte {
+        b'"' | b'\'' | b'&' => 4,
+        b'<' | b'>' => 3,
+        0 => 2,
+        _ => 0,
+    }
+}
+
+#[tactic(auto, unfolding(percent_encoding::specs::Percent::percent_encode_byte))]
+fn query_growth(byte: u8) -> usize
+    ensures { result + 1 ≡ length (query_byte byte) }
+{
+    if is_unreserved(byte) || byte == b' ' {
+        0
+    } else {
+        2
+    }
+}
+
+/// Whether a byte stands for itself in a query.
+fn is_unreserved(byte: u8) -> bool
+    ensures { result ≡ is_unreserved byte }
+{
+    byte.is_ascii_alphanumeric() || matches!(byte, b'-' | b'_' | b'.' | b'~')
+}
+
 fn query_escape(byte: u8) -> Option<&'static [u8]>
     ensures { or_itself byte (option_map (λ t. t.now) result) ≡ query_byte byte }
 {
-    if byte.is_ascii_alphanumeric() || matches!(byte, b'-' | b'_' | b'.' | b'~') {
+    if is_unreserved(byte) {
         None
     } else if byte == b' ' {
         Some(b"+")

@@ -8,6 +8,7 @@ use crate::class::Class;
 use crate::directive::add_printed;
 use crate::fault::CallFault;
 use crate::reading::read_form;
+use crate::room::format_room;
 use std::alloc::Global;
 use tmpl_values::{Cell, Val};
 
@@ -31,9 +32,9 @@ fn print_formatted<'a>(
 ) -> Result<Val<'a>, CallFault>
     ensures { IsMade (formatted_if (formatted format.now (values_of operands.now))) result }
 {
-    let mut bytes = Vec::new(alloc);
+    let mut bytes = Vec::with_capacity(alloc, format_room(format, operands))?;
     add_formatted(format, operands, &mut bytes)?;
-    Ok(Val::made(alloc, bytes)?)
+    Ok(Val::made(bytes))
 }
 
 /// Adds the texts of the pieces of a format, which it reads from left to right.

@@ -8,6 +8,7 @@ ghost use Rattle.tmpl_funcs.specs.Kind.{shown};
 
 use crate::fault::CallFault;
 use crate::growing::add_text;
+use crate::room::joined_room;
 use std::alloc::{AllocError, Global};
 use tmpl_values::{Cell, Val};
 
@@ -24,19 +25,19 @@ pub(crate) enum Missing {
 pub(crate) fn print<'a>(alloc: Global, operands: &[Cell<'_>]) -> Result<Val<'a>, CallFault>
     ensures { IsMade (print_of (values_of operands.now)) result }
 {
-    let mut bytes = Vec::new(alloc);
+    let mut bytes = Vec::with_capacity(alloc, joined_room(operands, None))?;
     add_joined(operands, Missing::Nil, &mut bytes)?;
-    Ok(Val::made(alloc, bytes)?)
+    Ok(Val::made(bytes))
 }
 
 /// The operands parted by one space, and a newline.
 pub(crate) fn println<'a>(alloc: Global, operands: &[Cell<'_>]) -> Result<Val<'a>, CallFault>
     ensures { IsMade (println_of (values_of operands.now)) result }
 {
-    let mut bytes = Vec::new(alloc);
+    let mut bytes = Vec::with_capacity(alloc, joined_room(operands, None))?;
     add_parted(operands, &mut bytes)?;
     bytes.push(b'\n')?;
-    Ok(Val::made(alloc, bytes)?)
+    Ok(Val::made(bytes))
 }
 
 /// Adds the operands, with a space between two neighbours of which neither is a text.

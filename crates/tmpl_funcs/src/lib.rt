@@ -18,6 +18,7 @@ mod index;
 mod join;
 mod pad;
 mod reading;
+mod room;
 mod rune;
 mod slice;
 

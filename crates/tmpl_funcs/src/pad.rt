@@ -1,5 +1,5 @@
 //! Texts and numbers padded to a width.
-ghost use Rattle.std.specs.Prelude.{◌≡◌, ◌-◌, ◌++◌, OnOk, length, replicate};
+ghost use Rattle.std.specs.Prelude.{◌≡◌, ◌≤◌, ◌-◌, ◌++◌, OnOk, drop, length, replicate, take};
 ghost use Rattle.tmpl_values.specs.Rune.{runes};
 ghost use Rattle.tmpl_funcs.specs.Directive.{laid_out, padded};
 
@@ -19,6 +19,21 @@ pub(crate) fn add_padded(form: Form, text: &[u8], bytes: &mut Vec<u8>) -> Result
         add_repeated(b' ', missing, bytes)?;
         bytes.extend_from_slice(text)
     }
+}
+
+/// Pads what stands from a place on with the spaces that it lacks to the width, counted in runes.
+pub(crate) fn pad_from(form: Form, start: usize, bytes: &mut Vec<u8>) -> Result<(), AllocError>
+    requires { start ≤ length bytes.old.items }
+    ensures { OnOk result (bytes.new.items
+        ≡ take start bytes.old.items ++ padded form (drop start bytes.old.items)) }
+{
+    let missing = missing_runes(form.width, &bytes[start..]);
+    add_repeated(b' ', missing, bytes)?;
+    if !form.minus {
+        let text = &mut bytes[start..];
+        text.rotate_right(missing);
+    }
+    Ok(())
 }
 
 /// How many runes a text lacks to a width.

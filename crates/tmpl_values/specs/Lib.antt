@@ -1,6 +1,7 @@
 pub mod Value
 pub mod Weight
 pub mod Codes
+pub mod Buffer
 pub mod Data
 pub mod Elements
 pub mod Falls

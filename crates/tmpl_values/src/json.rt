@@ -88,7 +88,9 @@ fn items_of(alloc: Global, items: Vec<Value>) -> Result<Vec<Data>, DataFault>
     ensures { IsAnswer (λ v. items_of v.items) result
         (if_whole (tree_items (items_view items.items))) }
 {
-    let mut done = Vec::with_capacity(alloc, items.len())?;
+    // As much room as the list of `serde_json` takes: the block that one list gives back is then the one that the next
+    // asks for, which spares the allocator most of its work.
+    let mut done = Vec::with_capacity(alloc, items.capacity())?;
     for item in items {
         done.push(data_of(alloc, item)?)?;
     }

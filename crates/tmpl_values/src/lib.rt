@@ -1,6 +1,7 @@
 //! Values of templates: data from JSON, what a template may ask of a value, its text and its quote.
 #![tactic(auto)]
 
+mod buffer;
 mod bytes;
 mod compare;
 mod data;

@@ -1,58 +1,78 @@
 //! A text that was made during a run.
 ghost use Rattle.std.specs.Prelude.{◌≡◌, ◌≤◌, length, slice_range, IfOk};
 
+use crate::buffer::Buffer;
 use std::alloc::{AllocError, Global};
 use std::marker::Model;
 use std::rc::Rc;
 
-/// A part of a text that a function made. Its bytes are shared, and sharing them counts but copies
-/// nothing.
+/// A part of a text that a function made. It owns the text alone, until it is made ready to be shared: from then on
+/// sharing counts owners and copies nothing.
 #[derive(Drop)]
 pub struct Made {
-    text: Rc<Vec<u8>>,
+    buffer: Buffer,
     start: usize,
     end: usize,
 }
 
 impl Model for Made {
     ghost use Rattle.std.specs.Prelude.{List, ℕ, ◌≤◌, length, slice_range};
+    ghost use Rattle.tmpl_values.specs.Buffer.{held_in};
 
     ghost Value = { List ℕ };
 
-    ghost view = { λ m. slice_range m.text.value.items m.start m.end };
+    ghost view = { λ m. slice_range (held_in m.buffer) m.start m.end };
 
-    ghost invariant = { λ m. (m.start ≤ m.end) × (m.end ≤ length m.text.value.items) };
+    ghost invariant = { λ m. (m.start ≤ m.end) × (m.end ≤ length (held_in m.buffer)) };
 }
 
 impl Made {
     /// The whole of these bytes.
-    pub(crate) fn new(alloc: Global, bytes: Vec<u8>) -> Result<Made, AllocError>
-        ensures { IfOk result (λ m. m ≡ bytes.items) }
+    pub(crate) fn new(bytes: Vec<u8>) -> Made
+        ensures { result ≡ bytes.items }
     {
         let end = bytes.len();
-        Ok(Made {
-            text: Rc::new(alloc, bytes)?,
+        Made {
+            buffer: Buffer::Sole(bytes),
             start: 0,
             end,
-        })
+        }
     }
 
     /// The bytes.
     pub(crate) fn as_slice(&self) -> &[u8]
         ensures { result.now ≡ self.now }
     {
-        &self.text.as_slice()[self.start..self.end]
+        &self.buffer.as_slice()[self.start..self.end]
     }
 
-    /// The same bytes once more.
+    /// The same bytes, ready to be shared.
+    pub(crate) fn into_shared(self, alloc: Global) -> Result<Made, AllocError>
+        ensures { IfOk result (λ m. m ≡ self) }
+    {
+        let Made { buffer, start, end } = self;
+        Ok(Made {
+            buffer: buffer.into_shared(alloc)?,
+            start,
+            end,
+        })
+    }
+
+    /// The same bytes once more: a copy of those that one value owns alone.
     pub(crate) fn share(&self) -> Result<Made, AllocError>
         ensures { IfOk result (λ m. m ≡ self.now) }
     {
-        Ok(Made {
-            text: Rc::clone(&self.text)?,
-            start: self.start,
-            end: self.end,
-        })
+        match &self.buffer {
+            Buffer::Sole(bytes) => {
+                let part = self.as_slice();
+                Ok(Made::new(part.to_vec(*bytes.allocator())?))
+            }
+            Buffer::Shared(bytes) => Ok(Made {
+                buffer: Buffer::Shared(Rc::clone(bytes)?),
+                start: self.start,
+                end: self.end,
+            }),
+        }
     }
 
     /// The bytes from i to before j.
@@ -62,7 +82,7 @@ impl Made {
     {
         let start = self.start + i;
         let end = self.start + j;
-        let Made { text, .. } = self;
-        Made { text, start, end }
+        let Made { buffer, .. } = self;
+        Made { buffer, start, end }
     }
 }

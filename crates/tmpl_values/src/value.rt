@@ -1,5 +1,5 @@
 //! The values of a run.
-ghost use Rattle.std.specs.Prelude.{◌≡◌, ◌-◌, ◌≤◌, length, true, false, IfOk, IfSome, option_map};
+ghost use Rattle.std.specs.Prelude.{◌≡◌, ◌-◌, ◌≤◌, length, true, false, IfSome, option_map};
 ghost use Rattle.tmpl_values.specs.Value.{string, sequence, mapping};
 ghost use Rattle.tmpl_values.specs.View.{value_of, items_of, entries_of, val_of, is_made, field_of, is_borrowed, element_of, IsShared};
 ghost use Rattle.tmpl_values.specs.Truth.{truth};
@@ -102,8 +102,8 @@ impl<'a> Val<'a> {
         }
     }
 
-    /// The same value once more. It takes no memory but for a made text, whose count of owners may
-    /// be refused.
+    /// The same value once more. It takes no memory but for a made text that is not ready to be
+    /// shared, of which it takes a copy; the count of owners of one that is may be refused.
     pub fn share(&self) -> Result<Val<'a>, AllocError>
         ensures { IsShared self.now result }
     {
@@ -119,11 +119,23 @@ impl<'a> Val<'a> {
         }
     }
 
-    /// A text of these bytes, which it owns and shares.
-    pub fn made(alloc: Global, bytes: Vec<u8>) -> Result<Val<'a>, AllocError>
-        ensures { IfOk result (λ v. val_of v ≡ string bytes.items) }
+    /// The same value, of which `share` copies nothing: for what is kept in a variable or as dot.
+    /// It takes memory for a made text alone.
+    pub fn into_shared(self, alloc: Global) -> Result<Val<'a>, AllocError>
+        ensures { IsShared self.entry result }
     {
-        Ok(Val::Made(Made::new(alloc, bytes)?))
+        match self {
+            Val::Made(text) => Ok(Val::Made(text.into_shared(alloc)?)),
+            other => Ok(other),
+        }
+    }
+
+    /// A text of these bytes, which it owns. It takes no memory of its own.
+    pub fn made(bytes: Vec<u8>) -> Val<'a>
+        ensures value { val_of result ≡ string bytes.items }
+        ensures kind { is_made result ≡ true }
+    {
+        Val::Made(Made::new(bytes))
     }
 
     /// The bytes of a text, made or not. Other kinds have none.

@@ -156,7 +156,7 @@ fn slices_of_the_wrong_kind(rt: HostRuntime) -> Result<(), Fail> {
 
 #[test]
 fn takes_made_texts(rt: HostRuntime) -> Result<(), Fail> {
-    let made = Val::made(rt.alloc(), b"ab1".to_vec(rt.alloc())?)?;
+    let made = Val::made(b"ab1".to_vec(rt.alloc())?);
     let rows = [
         (
             Func::Len,

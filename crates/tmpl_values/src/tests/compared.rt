@@ -12,7 +12,7 @@ fn each_kind<'a>(alloc: Global, held: &'a Data) -> Result<Vec<Val<'a>>, Fail> {
     values.push(Val::Bool(true))?;
     values.push(Val::Num(1))?;
     values.push(Val::Text(b"1"))?;
-    values.push(Val::made(alloc, b"1".to_vec(alloc)?)?)?;
+    values.push(Val::made(b"1".to_vec(alloc)?))?;
     values.push(match Val::of(held).field(b"list") {
         Field::Found(list) => list,
         _ => Val::Nothing,
@@ -110,7 +110,7 @@ fn empty_values_are_false(rt: HostRuntime) -> Result<(), Fail> {
         assert_eq!(rt; Val::of(&held).truth(), want);
     }
     assert!(rt; !Val::Nothing.truth());
-    assert!(rt; !Val::made(rt.alloc(), Vec::new(rt.alloc()))?.truth());
+    assert!(rt; !Val::made(Vec::new(rt.alloc())).truth());
     Ok(())
 }
 

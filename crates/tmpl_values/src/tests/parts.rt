@@ -59,7 +59,7 @@ fn counts_bytes_and_items(rt: HostRuntime) -> Result<(), Fail> {
 
 #[test]
 fn shares_made_texts(rt: HostRuntime) -> Result<(), Fail> {
-    let whole = Val::made(rt.alloc(), b"ab1".to_vec(rt.alloc())?)?;
+    let whole = Val::made(b"ab1".to_vec(rt.alloc())?);
     let middle = whole.share()?.part(1, 3);
     let last = middle.share()?.part(1, 2);
     shows(&rt, &whole, b"ab1");

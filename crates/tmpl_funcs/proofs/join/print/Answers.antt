@@ -10,5 +10,5 @@ pub returns : goal.returns
 returns c =
     let cells = c.args.operands.now in
     ap (λ ws. Ok (string (joined ws))) (sym (as_they_are (values_of cells))) ∙
-    ap (λ s. Ok (string s)) (sym (c.in_ok-add_joined.ensures ∙ ap (λ s. s ++ joined (operands_of Nil cells)) c.new-bytes.ensures.items)) ∙
-    ap (λ v. Ok v) (sym c.in_ok-made.ensures)
+    ap (λ s. Ok (string s)) (sym (c.in_ok-add_joined.ensures ∙ ap (λ s. s ++ joined (operands_of Nil cells)) c.in_ok-bytes.ensures.items)) ∙
+    ap (λ v. Ok v) (sym c.made.ensures.value)

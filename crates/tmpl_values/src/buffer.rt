@@ -1,0 +1,37 @@
+//! The bytes of a text that was made during a run.
+ghost use Rattle.std.specs.Prelude.{◌≡◌, IfOk};
+ghost use Rattle.tmpl_values.specs.Buffer.{held_in};
+
+use std::alloc::{AllocError, Global};
+use std::rc::Rc;
+
+/// Bytes, and how they are owned.
+#[derive(Drop)]
+pub(crate) enum Buffer {
+    /// By one value alone, for which another value gets a copy.
+    Sole(Vec<u8>),
+    /// By as many values as are counted.
+    Shared(Rc<Vec<u8>>),
+}
+
+impl Buffer {
+    /// The bytes.
+    pub(crate) fn as_slice(&self) -> &[u8]
+        ensures { result.now ≡ held_in self.now }
+    {
+        match self {
+            Buffer::Sole(bytes) => bytes.as_slice(),
+            Buffer::Shared(bytes) => bytes.as_slice(),
+        }
+    }
+
+    /// The same bytes, with their owners counted from now on.
+    pub(crate) fn into_shared(self, alloc: Global) -> Result<Buffer, AllocError>
+        ensures { IfOk result (λ b. held_in b ≡ held_in self) }
+    {
+        match self {
+            Buffer::Sole(bytes) => Ok(Buffer::Shared(Rc::new(alloc, bytes)?)),
+            Buffer::Shared(bytes) => Ok(Buffer::Shared(bytes)),
+        }
+    }
+}

@@ -1,0 +1,114 @@
+"""Counts the allocations of one call of a function, over arguments from JSON: a call takes at most one where it makes
+a text, and none elsewhere. It is the difference between many calls and fewer of the program that does one part of
+what `tmpl` does, which takes no other memory between two calls."""
+import json
+import os
+import subprocess
+import sys
+import tempfile
+
+import harness
+import sweep
+
+PARTS = f"{harness.TOP}/crates/bench_parts/out/bench_parts"
+FEWER, MORE = 100, 300  # calls
+LONG = "a <b> & c/d=\"e\" " * 60
+NESTED = {"b": [1, None, "x<y"], "a": {"k": "v" * 50, "": True}}
+
+# those that `make bench` times
+TIMED = [
+    ("print", [1, True, "Ada"], 1),
+    ("printf", ["%5d %-10s|", 42, "Ada"], 1),
+    ("html", [LONG], 1),
+    ("urlquery", [LONG], 1),
+    ("eq", ["Ada", "Ada"], 0),
+]
+
+MAKERS = [
+    ("print", [], 0),
+    ("print", [None, -(2**63), False, True, NESTED, [NESTED, "a", "b"], "text"], 1),
+    ("println", [], 1),
+    ("println", [1, NESTED, LONG, None], 1),
+    ("printf", ["plain"], 1),
+    ("printf", ["100%% of 2026-11-22: %d", 7], 1),
+    ("printf", ["%9999d|%-9999s|%9999q|%09999x", -1, "é", "\u200b", 255], 1),
+    ("printf", ["%b %b", -(2**63), 2**63 - 1], 1),
+    ("printf", ["%q%q", "\u0000\u0001\"\\" * 100, "\u200b\U000e0001é" * 100], 1),
+    ("printf", ["%x %X", LONG, "\u0000ÿ"], 1),
+    ("printf", ["%v %v %v %v", NESTED, None, True, LONG], 1),
+    ("printf", ["%c%5c%t", 0x10FFFF, -1, False], 1),
+    ("html", [], 0),
+    ("html", ["\u0000<>\"'&" * 100], 1),
+    ("html", [NESTED], 1),
+    ("html", [None, 1, NESTED, [None], "<"], 1),
+    ("urlquery", ["\u0000é /" * 100], 1),
+    ("urlquery", [None, -1, NESTED, [True, False], "&"], 1),
+]
+
+OTHERS = [
+    ("not", [NESTED], 0),
+    ("len", [LONG], 0),
+    ("index", [NESTED, "b", 2], 0),
+    ("slice", [LONG, 3, 7], 0),
+    ("slice", [[1, NESTED, 3], 1], 0),
+    ("eq", [1, 2, 3, 1], 0),
+    ("ne", ["a", "b"], 0),
+    ("lt", ["a", "b"], 0),
+    ("le", [1, 2], 0),
+    ("gt", [1, 2], 0),
+    ("ge", ["a", "b"], 0),
+]
+
+
+def once(function, file, count, environment, keep):
+    return subprocess.run(
+        [PARTS, "call", file, function, str(count)],
+        env={**os.environ, **environment},
+        pass_fds=keep,
+        stdout=subprocess.DEVNULL,
+        stderr=subprocess.DEVNULL,
+        timeout=harness.SECONDS,
+    )
+
+
+def allocations(shim, function, file, count):
+    """How many allocations a process that calls so often makes: the greatest number whose allocation can be refused."""
+    low, high = 0, 1 << 24
+    while low < high:
+        middle = (low + high + 1) // 2
+        _, refused = sweep.refusing(middle, shim, lambda more, keep: once(function, file, count, more, keep))
+        low, high = (middle, high) if refused else (low, middle - 1)
+    return low
+
+
+def a_call(shim, folder, function, arguments):
+    """The allocations of one call, or none where the calls are not answered."""
+    file = f"{folder}/arguments"
+    with open(file, "w", encoding="utf-8") as it:
+        json.dump(arguments, it)
+    if once(function, file, MORE, {}, ()).returncode:
+        return None
+    return (allocations(shim, function, file, MORE) - allocations(shim, function, file, FEWER)) / (MORE - FEWER)
+
+
+def judge(shim, folder, function, arguments, most):
+    taken = a_call(shim, folder, function, arguments)
+    name = f"{function} {json.dumps(arguments)}"
+    if taken is None:
+        return name, 1, ["    it does not answer"]
+    return name, 1, [] if taken <= most else [f"    takes {taken:g} allocations a call, at most {most} wanted"]
+
+
+def main():
+    if not os.access(PARTS, os.X_OK):
+        sys.exit("there is no program of parts: the gate builds it")
+    with tempfile.TemporaryDirectory() as folder:
+        shim = f"{folder}/shim.so"
+        sweep.build_shim("fail_alloc.c", shim)
+        results = [judge(shim, folder, *row) for row in TIMED + MAKERS + OTHERS]
+    passed, failed, _ = harness.tally(results)
+    return harness.closing(passed, failed)
+
+
+if __name__ == "__main__":
+    sys.exit(main())
