@@ -1,7 +1,12 @@
 -- What the grammar spells, and what it does not.
-use Rattle.std.proofs.Common.{ℕ, pos, List, [], ◌∷◌, refl, codes}
+use Rattle.std.proofs.Common.{arith, ℕ, pos, List, [], ◌∷◌, ◌++◌, refl, codes, replicate}
 use Rattle.tmpl_lex.specs.declared.piece.TokenKind.TheVariants as kind
-use Rattle.tmpl_lex.specs.Piece.{Token}
+use Rattle.tmpl_lex.specs.Piece.{Token, text, action, unreadable}
+use Rattle.tmpl_syntax.specs.Item.{text_item, unreadable_item, unread_item, deep_item, action_item}
+use Rattle.tmpl_syntax.specs.Items.{IsItem, a_text, an_unreadable, unread, read, AreItems, no_item, an_item}
+use Rattle.tmpl_syntax.specs.declared.frame.Kind.TheVariants as control
+use Rattle.tmpl_syntax.specs.declared.action.Shape.TheVariants as shape
+use Rattle.tmpl_syntax.proofs.Items.{piece-item}
 use Rattle.tmpl_syntax.specs.Constant.{constant_of}
 use Rattle.tmpl_syntax.specs.Numeral.{whole}
 use Rattle.tmpl_syntax.specs.Word.{operand_at, word_operand, func_named}
@@ -11,7 +16,7 @@ use Rattle.tmpl_syntax.specs.Action.{Action, if_control, range_control, pipeline
 use Rattle.tmpl_syntax.specs.Actions.{SpellsAction}
 use Rattle.tmpl_syntax.specs.Reading.{keyword_of, parted, range_parted, pipeline_in, action_in}
 use Rattle.tmpl_syntax.specs.declared.action.Branch.TheVariants.{If}
-use Rattle.tmpl_syntax.proofs.PipelineExamples.{token, space, period, field, word, one, a, single}
+use Rattle.tmpl_syntax.proofs.PipelineExamples.{token, space, period, field, word, one, a, single, left, right}
 use Rattle.tmpl_syntax.proofs.Actions.{none-spelled}
 
 abbrev variable : List ℕ → Token
@@ -31,7 +36,7 @@ dots = pipeline (single dot)
 
 -- no action
 abbrev Nothing : List Token → Type 0
-Nothing ts = (action : Action) → SpellsAction action ts → ⊥
+Nothing ts = (x : Action) → SpellsAction x ts → ⊥
 
 -- `{{ $x:=1 }}`
 a-declaration : SpellsAction (pipeline_action (declare (codes "x")) (pipeline (single (number_constant (pos 1))))) (space ∷ variable (codes "x") ∷ declares ∷ one ∷ space ∷ [])
@@ -186,3 +191,17 @@ a-range-assigns = none-spelled (word (codes "range") ∷ space ∷ variable (cod
 no-second-name : Nothing (word (codes "range") ∷ space ∷ variable (codes "i") ∷ space ∷ comma ∷ space ∷ variable [] ∷ space ∷ declares ∷ space ∷ period ∷ [])
 unfolding action_in keyword_of range_parted pipeline_in step finished operand_at
 no-second-name = none-spelled (word (codes "range") ∷ space ∷ variable (codes "i") ∷ space ∷ comma ∷ space ∷ variable [] ∷ space ∷ declares ∷ space ∷ period ∷ []) refl
+
+-- `a`, `{{.}}`, `{{end end}}` and an action that is not closed
+some-items : AreItems (text 1 a ∷ action 1 (period ∷ []) ∷ action 1 (word (codes "end") ∷ space ∷ word (codes "end") ∷ []) ∷ unreadable 2 ∷ []) (text_item 1 a ∷ action_item 1 (pipeline_action unbound dots) ∷ unread_item 1 ∷ unreadable_item 2 ∷ [])
+unfolding operand_at
+some-items =
+    an_item a_text
+    (an_item (read (period ∷ [], [], refl, ([], period ∷ [], [], refl, tt, (period, [], refl, refl, refl), tt), refl) (omega arith))
+    (an_item (unread end-end)
+    (an_item an_unreadable no_item)))
+
+-- an `if` of a dot in 101 parentheses
+a-deep-item : IsItem (action 3 (word (codes "if") ∷ replicate 101 left ++ (period ∷ replicate 101 right))) (deep_item 3 (shape.Open control.If))
+unfolding action_in keyword_of parted pipeline_in step finished operand_at
+a-deep-item = piece-item (action 3 (word (codes "if") ∷ replicate 101 left ++ (period ∷ replicate 101 right)))

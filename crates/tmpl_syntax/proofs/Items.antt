@@ -71,7 +71,7 @@ action-item line ts = by (action_in ts) refl
         (λ le. subst (λ r. IsItem (action line ts) (read_item line r)) (sym (within-read a le)) (read (spells_action ts a e) le))
         (cases_lt most_deep (depth_of a))
 
-piece-item : (p : Piece) → IsItem p (item_in p)
+pub piece-item : (p : Piece) → IsItem p (item_in p)
 piece-item (text line bytes) = a_text
 piece-item (action line ts) = action-item line ts
 piece-item (unreadable line) = an_unreadable

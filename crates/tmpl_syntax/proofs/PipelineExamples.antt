@@ -21,10 +21,10 @@ space = token kind.Space (32 ∷ [])
 abbrev bar : Token
 bar = token kind.Pipe (124 ∷ [])
 
-abbrev left : Token
+abbrev pub left : Token
 left = token kind.LeftParenthesis (40 ∷ [])
 
-abbrev right : Token
+abbrev pub right : Token
 right = token kind.RightParenthesis (41 ∷ [])
 
 abbrev pub period : Token

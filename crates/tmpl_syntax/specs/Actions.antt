@@ -44,22 +44,27 @@ IsWord k t = (t.kind ≡ kind.Word) × (t.bytes ≡ spelling k)
 
 -- perhaps white space, then such a token, and then such tokens
 abbrev pub Then : (Token → Type 0) → (List Token → Type 0) → List Token → Type 0
-Then Is Rest ts = (ws : List Token) × (t : Token) × (us : List Token) × (ts ≡ ws ++ t ∷ us) × IsBlank ws × Is t × Rest us
+Then Is Rest ts =
+    (ws : List Token) × (t : Token) × (us : List Token) × (ts ≡ ws ++ t ∷ us) × IsBlank ws × Is t × Rest us
 
 -- ---- headers
 
--- a pipeline, or `$x := ` or `$x = ` and a pipeline
+-- a pipeline, or `$x :=` or `$x =` and a pipeline
 abbrev pub SpellsHeader : Binding → Pipeline → List Token → Type 0
 SpellsHeader unbound (pipeline commands) ts = SpellsPipeline commands ts
-SpellsHeader (declare name) (pipeline commands) ts = Then (IsVariable name) (Then (IsSign kind.Declare) (SpellsPipeline commands)) ts
-SpellsHeader (assign name) (pipeline commands) ts = Then (IsVariable name) (Then (IsSign kind.Assign) (SpellsPipeline commands)) ts
+SpellsHeader (declare name) (pipeline commands) ts =
+    Then (IsVariable name) (Then (IsSign kind.Declare) (SpellsPipeline commands)) ts
+SpellsHeader (assign name) (pipeline commands) ts =
+    Then (IsVariable name) (Then (IsSign kind.Assign) (SpellsPipeline commands)) ts
 
--- a pipeline, or `$x := ` or `$i, $x := ` and a pipeline
+-- a pipeline, or `$x :=` or `$i, $x :=` and a pipeline
 abbrev pub SpellsRangeHeader : RangeVariables → Pipeline → List Token → Type 0
 SpellsRangeHeader unnamed (pipeline commands) ts = SpellsPipeline commands ts
-SpellsRangeHeader (element name) (pipeline commands) ts = Then (IsVariable name) (Then (IsSign kind.Declare) (SpellsPipeline commands)) ts
+SpellsRangeHeader (element name) (pipeline commands) ts =
+    Then (IsVariable name) (Then (IsSign kind.Declare) (SpellsPipeline commands)) ts
 SpellsRangeHeader (key_and_element key name) (pipeline commands) ts =
-    Then (IsVariable key) (Then (IsSign kind.Comma) (Then (IsVariable name) (Then (IsSign kind.Declare) (SpellsPipeline commands)))) ts
+    Then (IsVariable key) (Then (IsSign kind.Comma)
+    (Then (IsVariable name) (Then (IsSign kind.Declare) (SpellsPipeline commands)))) ts
 
 -- ---- actions
 

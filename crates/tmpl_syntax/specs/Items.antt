@@ -27,16 +27,20 @@ pub data IsItem : Piece → Item → Type 0 where
   a_text : {line : ℕ} {bytes : List ℕ} → IsItem (text line bytes) (text_item line bytes)
   an_unreadable : {line : ℕ} → IsItem (unreadable line) (unreadable_item line)
   -- tokens that spell no action
-  unread : {line : ℕ} {ts : List Token} → ((a : Action) → SpellsAction a ts → ⊥) → IsItem (action line ts) (unread_item line)
+  unread : {line : ℕ} {ts : List Token}
+      → ((a : Action) → SpellsAction a ts → ⊥) → IsItem (action line ts) (unread_item line)
   -- tokens that spell one whose parentheses nest too deep
-  too_deep : {line : ℕ} {ts : List Token} {s : Shape} (a : Action) → SpellsAction a ts → shape_of a ≡ Some s → most_deep < depth_of a → IsItem (action line ts) (deep_item line s)
+  too_deep : {line : ℕ} {ts : List Token} {s : Shape} (a : Action)
+      → SpellsAction a ts → shape_of a ≡ Some s → most_deep < depth_of a → IsItem (action line ts) (deep_item line s)
   -- tokens that spell one within the limit
-  read : {line : ℕ} {ts : List Token} {a : Action} → SpellsAction a ts → depth_of a ≤ most_deep → IsItem (action line ts) (action_item line a)
+  read : {line : ℕ} {ts : List Token} {a : Action}
+      → SpellsAction a ts → depth_of a ≤ most_deep → IsItem (action line ts) (action_item line a)
 
 -- the pieces are read as these items, one by one
 pub data AreItems : List Piece → List Item → Type 0 where
   no_item : AreItems [] []
-  an_item : {p : Piece} {x : Item} {ps : List Piece} {xs : List Item} → IsItem p x → AreItems ps xs → AreItems (p ∷ ps) (x ∷ xs)
+  an_item : {p : Piece} {x : Item} {ps : List Piece} {xs : List Item}
+      → IsItem p x → AreItems ps xs → AreItems (p ∷ ps) (x ∷ xs)
 
 -- a file of these bytes is cut into pieces that are read as these items
 pub record HasItems (bytes : List ℕ) (items : List Item) : Type 0 where

@@ -104,13 +104,16 @@ abbrev pub IsRefusedBy : List ℕ → ℕ → ParseKind → Type 0
 IsRefusedBy bytes line TooLong = (most_bytes < length bytes) × (line ≡ 1)
 IsRefusedBy bytes line OutOfMemory = line ≡ 1
 IsRefusedBy bytes line OpenAtEnd =
-    (length bytes ≤ most_bytes) × (items : List Item) × HasItems bytes items × Judged (marks_of items) left_open × (line ≡ last_line bytes)
-IsRefusedBy bytes line kind = (length bytes ≤ most_bytes) × (items : List Item) × HasItems bytes items × IsRefusedAt items line kind
+    (length bytes ≤ most_bytes) × (items : List Item) × HasItems bytes items × Judged (marks_of items) left_open
+    × (line ≡ last_line bytes)
+IsRefusedBy bytes line kind =
+    (length bytes ≤ most_bytes) × (items : List Item) × HasItems bytes items × IsRefusedAt items line kind
 
 -- a file is cut into pieces, and these are read as items by the grammar; it is accepted where no item of it is refused
 -- and nothing is open at its end, and the set has then the template that its items spell; else it is refused for what
 -- comes first
 abbrev pub IsReading : List Template → Bor (List ℕ) → List ℕ → List Template → Result (Unit {0}) ParseFault → Type 0
 IsReading old file bytes new (Ok u) =
-    (length bytes ≤ most_bytes) × (items : List Item) × HasItems bytes items × Judged (marks_of items) fine × IsDefined old file.now items new
+    (length bytes ≤ most_bytes) × (items : List Item) × HasItems bytes items × Judged (marks_of items) fine
+    × IsDefined old file.now items new
 IsReading old file bytes new (Err fault) = (fault.file ≡ file) × (new ≡ old) × IsRefusedBy bytes fault.line fault.kind
