@@ -1,3 +1,5 @@
+pub mod ActionExamples
+pub mod Actions
 pub mod Building
 pub mod Checks
 pub mod Completed
@@ -9,8 +11,12 @@ pub mod ElseParts
 pub mod Examples
 pub mod Files
 pub mod Finds
+pub mod Firsts
+pub mod Foreign
 pub mod Groups
 pub mod Halves
+pub mod Headers
+pub mod Items
 pub mod Judge
 pub mod Limits
 pub mod Lists
@@ -19,6 +25,7 @@ pub mod One
 pub mod OneReading
 pub mod OneSpelling
 pub mod Open
+pub mod Options
 pub mod Parts
 pub mod PipelineExamples
 pub mod Place

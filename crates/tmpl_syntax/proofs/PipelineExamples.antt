@@ -12,41 +12,41 @@ use Rattle.tmpl_syntax.specs.Tree.{Operand, dot, fields, number_constant, functi
 use Rattle.tmpl_syntax.specs.Reading.{pipeline_in, limited_in}
 use Rattle.tmpl_syntax.specs.Depth.{too_deep, unread}
 
-abbrev token : TokenKind → List ℕ → Token
+abbrev pub token : TokenKind → List ℕ → Token
 token k bytes = record { kind = k; bytes = bytes }
 
-abbrev space : Token
+abbrev pub space : Token
 space = token kind.Space (32 ∷ [])
 
 abbrev bar : Token
 bar = token kind.Pipe (124 ∷ [])
 
-abbrev left : Token
+abbrev pub left : Token
 left = token kind.LeftParenthesis (40 ∷ [])
 
-abbrev right : Token
+abbrev pub right : Token
 right = token kind.RightParenthesis (41 ∷ [])
 
-abbrev period : Token
+abbrev pub period : Token
 period = token kind.Dot (46 ∷ [])
 
-abbrev field : List ℕ → Token
+abbrev pub field : List ℕ → Token
 field name = token kind.Field (46 ∷ name)
 
-abbrev word : List ℕ → Token
+abbrev pub word : List ℕ → Token
 word name = token kind.Word name
 
 -- `1`
-abbrev one : Token
+abbrev pub one : Token
 one = token kind.Number (49 ∷ [])
 
-abbrev a : List ℕ
+abbrev pub a : List ℕ
 a = codes "a"
 
 abbrev b : List ℕ
 b = codes "b"
 
-abbrev single : Operand → Commands
+abbrev pub single : Operand → Commands
 single o = command (operand o no_operand) no_command
 
 -- `.a`, `.a.b` and `.a .b`

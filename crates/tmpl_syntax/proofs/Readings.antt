@@ -16,6 +16,8 @@ use Rattle.tmpl_syntax.specs.Stack.{verdict_of}
 use Rattle.tmpl_syntax.specs.Build.{nodes_from}
 use Rattle.tmpl_syntax.specs.Set.{Template}
 use Rattle.tmpl_syntax.specs.Parse.{Refusal, IsRefusal, last_line, line_in, line_at, by_verdict, checked, spelled, items_of, placed, parsed, most_bytes, IsDefined, IsRefusedAt, IsRefusedBy}
+use Rattle.tmpl_syntax.specs.Items.{HasItems}
+use Rattle.tmpl_syntax.proofs.Items.{has-items}
 use Rattle.tmpl_syntax.proofs.One.{within}
 use Rattle.tmpl_syntax.proofs.Verdicts.{judged_all}
 use Rattle.tmpl_syntax.proofs.Spelling.{spells-fine}
@@ -48,15 +50,17 @@ module _ (set : List Template) (file bytes : List ℕ) where
   judged-by : (v : Verdict) → verdict_of (marks_of (items_of bytes)) ≡ v → Judged (marks_of (items_of bytes)) v
   judged-by v e = subst (Judged (marks_of (items_of bytes))) e (judged_all (marks_of (items_of bytes)))
 
-  pub accepted : (new : List Template) → parsed set file bytes ≡ Ok new → (length bytes ≤ most_bytes) × Judged (marks_of (items_of bytes)) fine × IsDefined set file (items_of bytes) new
+  pub accepted : (new : List Template) → parsed set file bytes ≡ Ok new → (length bytes ≤ most_bytes) × (items : List Item) × HasItems bytes items × Judged (marks_of items) fine × IsDefined set file items new
   accepted new e = ⊎_elim
       (λ long. no-value new (1, TooLong) (sym e ∙ parsed-long set file bytes long))
       (λ short. by short (verdict_of (marks_of (items_of bytes))) refl)
       (cases_lt most_bytes (length bytes))
     where
-      by : length bytes ≤ most_bytes → (v : Verdict) → verdict_of (marks_of (items_of bytes)) ≡ v → (length bytes ≤ most_bytes) × Judged (marks_of (items_of bytes)) fine × IsDefined set file (items_of bytes) new
+      by : length bytes ≤ most_bytes → (v : Verdict) → verdict_of (marks_of (items_of bytes)) ≡ v → (length bytes ≤ most_bytes) × (items : List Item) × HasItems bytes items × Judged (marks_of items) fine × IsDefined set file items new
       by short fine v = (
         short,
+        items_of bytes,
+        has-items bytes,
         judged-by fine v,
         record {
           nodes = nodes_from (items_of bytes);
@@ -68,11 +72,11 @@ module _ (set : List Template) (file bytes : List ℕ) where
       by short left_open v = no-value new _ (sym e ∙ short-by left_open short v)
 
   refused-as : (line : ℕ) (f : Fault) → length bytes ≤ most_bytes → IsRefusedAt (items_of bytes) line (parse_kind f) → IsRefusedBy bytes line (parse_kind f)
-  refused-as line fault.Unreadable h r = (h, r)
-  refused-as line fault.NotAnAction h r = (h, r)
-  refused-as line fault.OutOfPlace h r = (h, r)
-  refused-as line fault.NestedTooDeeply h r = (h, r)
-  refused-as line fault.UndeclaredVariable h r = (h, r)
+  refused-as line fault.Unreadable h r = (h, items_of bytes, has-items bytes, r)
+  refused-as line fault.NotAnAction h r = (h, items_of bytes, has-items bytes, r)
+  refused-as line fault.OutOfPlace h r = (h, items_of bytes, has-items bytes, r)
+  refused-as line fault.NestedTooDeeply h r = (h, items_of bytes, has-items bytes, r)
+  refused-as line fault.UndeclaredVariable h r = (h, items_of bytes, has-items bytes, r)
 
   refused-there : (i : ℕ) (f : Fault) (line : ℕ) → line ≡ line_at (items_of bytes) i → Judged (marks_of (items_of bytes)) (refused i f) → IsRefusedAt (items_of bytes) line (parse_kind f)
   refused-there i f line e j =
@@ -95,7 +99,7 @@ module _ (set : List Template) (file bytes : List ℕ) where
           (refused-as line f short (refused-there i f line (ap (λ (r : Refusal). r.0) s) (judged-by (refused i f) v)))
       by short left_open v =
           let s = same-refusal (line, kind) (last_line bytes, OpenAtEnd) (sym e ∙ short-by left_open short v) in
-          subst (IsRefusedBy bytes line) (sym (ap (λ (r : Refusal). r.1) s)) (short, judged-by left_open v, ap (λ (r : Refusal). r.0) s)
+          subst (IsRefusedBy bytes line) (sym (ap (λ (r : Refusal). r.1) s)) (short, items_of bytes, has-items bytes, judged-by left_open v, ap (λ (r : Refusal). r.0) s)
 
   pub refusal-of : (line : ℕ) (kind : ParseKind) → IsRefusal (parsed set file bytes) line kind → IsRefusedBy bytes line kind
   refusal-of line Unreadable e = refusal-from line Unreadable e

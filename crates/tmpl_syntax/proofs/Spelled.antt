@@ -48,7 +48,7 @@ pub step-at : (k : TokenKind) (t : Token) (h : Half) → t.kind ≡ k → step t
 unfolding step
 step-at k t h e = ap (λ k. step_by k t h) e
 
-blank-steps : (ls : List Level) (cs : List Operands) (os : List Operand) (ts : List Token) → IsBlank ts → steps (Some (half_at ls cs os None)) ts ≡ Some (half_at ls cs os None)
+pub blank-steps : (ls : List Level) (cs : List Operands) (os : List Operand) (ts : List Token) → IsBlank ts → steps (Some (half_at ls cs os None)) ts ≡ Some (half_at ls cs os None)
 blank-steps ls cs os [] b = refl
 blank-steps ls cs os (t ∷ ts) b = ap (λ o. steps o ts) (step-at kind.Space t (half_at ls cs os None) b.0) ∙ blank-steps ls cs os ts b.1
 

@@ -1,12 +1,21 @@
 -- Laws of the definitions.
-use Rattle.std.specs.Prelude.{◌≡◌, List}
+use Rattle.std.specs.Prelude.{◌≡◌, ℕ, List}
 use Rattle.tmpl_syntax.specs.Tree.{Nodes}
 use Rattle.tmpl_syntax.specs.Item.{Item}
+use Rattle.tmpl_syntax.specs.Items.{HasItems}
 use Rattle.tmpl_syntax.specs.Mark.{Mark, marks_of}
 use Rattle.tmpl_syntax.specs.Body.{Verdict, fine, Judged}
 use Rattle.tmpl_syntax.specs.Stack.{verdict_of}
 use Rattle.tmpl_syntax.specs.Spells.{Spells}
 use Rattle.tmpl_syntax.specs.Build.{nodes_from}
+use Rattle.tmpl_syntax.specs.Parse.{items_of}
+
+-- each file has items, and no others
+abbrev pub HasItemsOf : Type 0
+HasItemsOf = (bytes : List ℕ) → HasItems bytes (items_of bytes)
+
+abbrev pub HasNoOtherItems : Type 0
+HasNoOtherItems = (bytes : List ℕ) (items : List Item) → HasItems bytes items → items ≡ items_of bytes
 
 -- each list has a verdict, and no other
 abbrev pub HasVerdict : Type 0

@@ -2,8 +2,10 @@
 use Rattle.std.specs.Prelude.{◌≡◌, List, Some}
 use Rattle.tmpl_lex.specs.Piece.{Token}
 use Rattle.tmpl_syntax.specs.Tree.{Commands, pipeline}
+use Rattle.tmpl_syntax.specs.Action.{Action}
 use Rattle.tmpl_syntax.specs.Grammar.{SpellsPipeline}
-use Rattle.tmpl_syntax.specs.Reading.{pipeline_in}
+use Rattle.tmpl_syntax.specs.Actions.{SpellsAction}
+use Rattle.tmpl_syntax.specs.Reading.{pipeline_in, action_in}
 
 -- a pipeline that tokens spell is read
 abbrev pub ReadsSpelled : Type 0
@@ -16,3 +18,15 @@ SpellsRead = (ts : List Token) (cs : Commands) → pipeline_in ts ≡ Some (pipe
 -- tokens spell one pipeline at most
 abbrev pub SpellsOne : Type 0
 SpellsOne = (ts : List Token) (cs ds : Commands) → SpellsPipeline cs ts → SpellsPipeline ds ts → cs ≡ ds
+
+-- an action that tokens spell is read
+abbrev pub ReadsSpelledAction : Type 0
+ReadsSpelledAction = (ts : List Token) (a : Action) → SpellsAction a ts → action_in ts ≡ Some a
+
+-- an action that is read is spelled
+abbrev pub SpellsReadAction : Type 0
+SpellsReadAction = (ts : List Token) (a : Action) → action_in ts ≡ Some a → SpellsAction a ts
+
+-- tokens spell one action at most
+abbrev pub SpellsOneAction : Type 0
+SpellsOneAction = (ts : List Token) (a b : Action) → SpellsAction a ts → SpellsAction b ts → a ≡ b

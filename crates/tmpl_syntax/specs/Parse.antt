@@ -6,6 +6,7 @@ use Rattle.std.specs.Borrow.{Bor}
 use Rattle.tmpl_lex.specs.Cut.{cut_of, newlines}
 use Rattle.tmpl_syntax.specs.Tree.{Nodes}
 use Rattle.tmpl_syntax.specs.Item.{Item, items_in, line_of}
+use Rattle.tmpl_syntax.specs.Items.{HasItems}
 use Rattle.tmpl_syntax.specs.Mark.{marks_of}
 use Rattle.tmpl_syntax.specs.Body.{Verdict, fine, refused, left_open, Judged}
 use Rattle.tmpl_syntax.specs.Stack.{verdict_of}
@@ -63,7 +64,7 @@ placed set file (Err r) = Err r
 abbrev pub most_bytes : ℕ
 most_bytes = 16777216
 
--- the items of a file
+-- the items of a file: the one list that its bytes are cut into and read as
 abbrev pub items_of : List ℕ → List Item
 items_of bytes = items_in (cut_of bytes)
 
@@ -103,12 +104,16 @@ abbrev pub IsRefusedBy : List ℕ → ℕ → ParseKind → Type 0
 IsRefusedBy bytes line TooLong = (most_bytes < length bytes) × (line ≡ 1)
 IsRefusedBy bytes line OutOfMemory = line ≡ 1
 IsRefusedBy bytes line OpenAtEnd =
-    (length bytes ≤ most_bytes) × Judged (marks_of (items_of bytes)) left_open × (line ≡ last_line bytes)
-IsRefusedBy bytes line kind = (length bytes ≤ most_bytes) × IsRefusedAt (items_of bytes) line kind
+    (length bytes ≤ most_bytes) × (items : List Item) × HasItems bytes items × Judged (marks_of items) left_open
+    × (line ≡ last_line bytes)
+IsRefusedBy bytes line kind =
+    (length bytes ≤ most_bytes) × (items : List Item) × HasItems bytes items × IsRefusedAt items line kind
 
--- a file is accepted where no item of it is refused and nothing is open at its end, and the set has then the template
--- that its items spell; else it is refused for what comes first
+-- a file is cut into pieces, and these are read as items by the grammar; it is accepted where no item of it is refused
+-- and nothing is open at its end, and the set has then the template that its items spell; else it is refused for what
+-- comes first
 abbrev pub IsReading : List Template → Bor (List ℕ) → List ℕ → List Template → Result (Unit {0}) ParseFault → Type 0
 IsReading old file bytes new (Ok u) =
-    (length bytes ≤ most_bytes) × Judged (marks_of (items_of bytes)) fine × IsDefined old file.now (items_of bytes) new
+    (length bytes ≤ most_bytes) × (items : List Item) × HasItems bytes items × Judged (marks_of items) fine
+    × IsDefined old file.now items new
 IsReading old file bytes new (Err fault) = (fault.file ≡ file) × (new ≡ old) × IsRefusedBy bytes fault.line fault.kind

@@ -1,5 +1,6 @@
 -- The reading of one action's tokens ("Actions", "Arguments", "Pipelines" and "Variables" in the documentation of Go's
--- text/template). White space may stand between any two tokens, also where Go asks for it, but not inside a chain.
+-- text/template), computed. `Grammar` and `Actions` say by productions which tokens spell what, and laws that just that is
+-- read. White space may stand between any two tokens, also where Go asks for it, but not inside a chain.
 use Rattle.std.specs.Prelude.{ℕ, List, [], ◌∷◌, Option, Some, None, option_map, codes, if◌then◌else◌}
 use Rattle.std.specs.Str.{bytes_eq}
 use Rattle.tmpl_lex.specs.declared.piece.TokenKind.{TokenKind}

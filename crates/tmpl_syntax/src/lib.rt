@@ -27,8 +27,8 @@ mod set;
 mod tree;
 
 pub use fault::{ParseFault, ParseKind};
-pub use grammar::one_reading;
-pub use laws::{one_spelling, one_verdict};
+pub use grammar::{one_action, one_reading};
+pub use laws::{one_list_of_items, one_spelling, one_verdict};
 pub use parse::{base_name, parse_file};
 pub use set::{Names, Set};
 pub use tree::{Binding, Command, Node, Operand, Pipeline, RangeVariables, Tree};
