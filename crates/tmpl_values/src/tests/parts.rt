@@ -72,6 +72,20 @@ fn shares_made_texts(rt: HostRuntime) -> Result<(), Fail> {
 }
 
 #[test]
+fn shares_texts_that_are_kept(rt: HostRuntime) -> Result<(), Fail> {
+    let whole = Val::made(b"ab1".to_vec(rt.alloc())?)
+        .part(1, 3)
+        .into_shared(rt.alloc())?;
+    let shared = whole.share()?;
+    let last = shared.share()?.part(1, 2).into_shared(rt.alloc())?;
+    shows(&rt, &whole, b"b1");
+    shows(&rt, &shared, b"b1");
+    shows(&rt, &last, b"1");
+    shows(&rt, &Val::Text(b"a").into_shared(rt.alloc())?, b"a");
+    Ok(())
+}
+
+#[test]
 fn takes_parts_of_texts_and_lists(rt: HostRuntime) -> Result<(), Fail> {
     shows(&rt, &Val::Text(b"ab1").part(0, 2), b"ab");
     let held = Data::from_json(rt.alloc(), b"[1,[2],3]")?;
