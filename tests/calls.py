@@ -1,6 +1,7 @@
 """Counts the allocations of one call of a function, over arguments from JSON: a call takes at most one where it makes
 a text, and none elsewhere. It is the difference between many calls and fewer of the program that does one part of
-what `tmpl` does, which takes no other memory between two calls."""
+what `tmpl` does, which takes no other memory between two calls. Then that a template which reads a made text from a
+variable or as dot takes no more for it than for a text of its own, which shows that nothing is copied."""
 import json
 import os
 import subprocess
@@ -60,9 +61,19 @@ OTHERS = [
 ]
 
 
-def once(function, file, count, environment, keep):
+# templates over a list, with X for what makes a text
+READERS = [
+    "{{$x := X}}{{range .}}{{len $x}}{{end}}",
+    "{{$x := 1}}{{$x = X}}{{range .}}{{len $x}}{{end}}",
+    "{{if $x := X}}{{range $}}{{slice $x 1}}{{end}}{{end}}",
+    "{{with X}}{{range $}}{{len $}}{{end}}{{.}}{{.}}{{end}}",
+    "{{with $x := X}}{{range $}}{{$x}}{{end}}{{end}}",
+]
+
+
+def once(words, environment, keep):
     return subprocess.run(
-        [PARTS, "call", file, function, str(count)],
+        words,
         env={**os.environ, **environment},
         pass_fds=keep,
         stdout=subprocess.DEVNULL,
@@ -71,12 +82,12 @@ def once(function, file, count, environment, keep):
     )
 
 
-def allocations(shim, function, file, count):
-    """How many allocations a process that calls so often makes: the greatest number whose allocation can be refused."""
+def allocations(shim, words):
+    """How many allocations a process makes: the greatest number whose allocation can be refused."""
     low, high = 0, 1 << 24
     while low < high:
         middle = (low + high + 1) // 2
-        _, refused = sweep.refusing(middle, shim, lambda more, keep: once(function, file, count, more, keep))
+        _, refused = sweep.refusing(middle, shim, lambda more, keep: once(words, more, keep))
         low, high = (middle, high) if refused else (low, middle - 1)
     return low
 
@@ -86,9 +97,28 @@ def a_call(shim, folder, function, arguments):
     file = f"{folder}/arguments"
     with open(file, "w", encoding="utf-8") as it:
         json.dump(arguments, it)
-    if once(function, file, MORE, {}, ()).returncode:
+    calls = [[PARTS, "call", file, function, str(count)] for count in (FEWER, MORE)]
+    if any(once(words, {}, ()).returncode for words in calls):
         return None
-    return (allocations(shim, function, file, MORE) - allocations(shim, function, file, FEWER)) / (MORE - FEWER)
+    fewer, more = (allocations(shim, words) for words in calls)
+    return (more - fewer) / (MORE - FEWER)
+
+
+def a_turn(shim, folder, template):
+    """The allocations of one turn of a range, or none where the template is not rendered."""
+    file = f"{folder}/template"
+    with open(file, "w", encoding="utf-8") as it:
+        it.write(template)
+    runs = []
+    for count in (FEWER, MORE):
+        data = f"{folder}/list{count}"
+        with open(data, "w", encoding="utf-8") as it:
+            json.dump([7] * count, it)
+        runs.append([harness.PROGRAM, "--data", data, file])
+    if any(once(words, {}, ()).returncode for words in runs):
+        return None
+    fewer, more = (allocations(shim, words) for words in runs)
+    return (more - fewer) / (MORE - FEWER)
 
 
 def judge(shim, folder, function, arguments, most):
@@ -99,6 +129,15 @@ def judge(shim, folder, function, arguments, most):
     return name, 1, [] if taken <= most else [f"    takes {taken:g} allocations a call, at most {most} wanted"]
 
 
+def judge_reader(shim, folder, reader):
+    """The text is long, so that a copy of it is no part of a block that is there anyway."""
+    held, made = (a_turn(shim, folder, reader.replace("X", what)) for what in (f'"{"a" * 999}"', f'(print "{"a" * 999}")'))
+    if held is None or made is None:
+        return reader, 1, ["    it is not rendered"]
+    # lists of some lengths grow once more than others
+    return reader, 1, [] if made <= held + 0.05 else [f"    a turn takes {made:g} allocations with a made text, {held:g} with another"]
+
+
 def main():
     if not os.access(PARTS, os.X_OK):
         sys.exit("there is no program of parts: the gate builds it")
@@ -106,6 +145,7 @@ def main():
         shim = f"{folder}/shim.so"
         sweep.build_shim("fail_alloc.c", shim)
         results = [judge(shim, folder, *row) for row in TIMED + MAKERS + OTHERS]
+        results += [judge_reader(shim, folder, it) for it in READERS]
     passed, failed, _ = harness.tally(results)
     return harness.closing(passed, failed)
 
