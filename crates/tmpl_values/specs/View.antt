@@ -16,7 +16,7 @@ val_of kind.Null = null
 val_of (kind.Bool b) = boolean b
 val_of (kind.Num n) = number n
 val_of (kind.Text s) = string s.now
-val_of (kind.Made s) = string s
+val_of (kind.Made s) = string s.0
 val_of (kind.List ds) = sequence (items_of ds.now)
 val_of (kind.Map es) = mapping es.now
 
@@ -30,6 +30,17 @@ is_made (kind.Text s) = false
 is_made (kind.Made s) = true
 is_made (kind.List ds) = false
 is_made (kind.Map es) = false
+
+-- whether `share` copies nothing of it: it is no made text, or one whose owners are counted
+abbrev pub is_kept : Val → Bool
+is_kept kind.Nothing = true
+is_kept kind.Null = true
+is_kept (kind.Bool b) = true
+is_kept (kind.Num n) = true
+is_kept (kind.Text s) = true
+is_kept (kind.Made s) = s.1
+is_kept (kind.List ds) = true
+is_kept (kind.Map es) = true
 
 -- what an answer of `Val::field` stands for
 abbrev pub field_of : Field → FieldValue

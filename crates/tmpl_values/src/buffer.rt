@@ -1,6 +1,6 @@
 //! The bytes of a text that was made during a run.
-ghost use Rattle.std.specs.Prelude.{◌≡◌, IfOk};
-ghost use Rattle.tmpl_values.specs.Buffer.{held_in};
+ghost use Rattle.std.specs.Prelude.{◌≡◌, IfOk, true};
+ghost use Rattle.tmpl_values.specs.Buffer.{held_in, is_counted};
 
 use std::alloc::{AllocError, Global};
 use std::rc::Rc;
@@ -27,7 +27,8 @@ impl Buffer {
 
     /// The same bytes, with their owners counted from now on.
     pub(crate) fn into_shared(self, alloc: Global) -> Result<Buffer, AllocError>
-        ensures { IfOk result (λ b. held_in b ≡ held_in self) }
+        ensures value { IfOk result (λ b. held_in b ≡ held_in self) }
+        ensures counted { IfOk result (λ b. is_counted b ≡ true) }
     {
         match self {
             Buffer::Sole(bytes) => Ok(Buffer::Shared(Rc::new(alloc, bytes)?)),

@@ -1,5 +1,5 @@
 //! A text that was made during a run.
-ghost use Rattle.std.specs.Prelude.{◌≡◌, ◌≤◌, length, slice_range, IfOk};
+ghost use Rattle.std.specs.Prelude.{◌≡◌, ◌≤◌, false, length, slice_range, true, IfOk};
 
 use crate::buffer::Buffer;
 use std::alloc::{AllocError, Global};
@@ -7,7 +7,7 @@ use std::marker::Model;
 use std::rc::Rc;
 
 /// A part of a text that a function made. It owns the text alone, until it is made ready to be shared: from then on
-/// sharing counts owners and copies nothing.
+/// sharing counts owners and copies nothing. Contracts see its bytes, and whether owners are counted.
 #[derive(Drop)]
 pub struct Made {
     buffer: Buffer,
@@ -16,12 +16,12 @@ pub struct Made {
 }
 
 impl Model for Made {
-    ghost use Rattle.std.specs.Prelude.{List, ℕ, ◌≤◌, length, slice_range};
-    ghost use Rattle.tmpl_values.specs.Buffer.{held_in};
+    ghost use Rattle.std.specs.Prelude.{List, ℕ, Bool, ◌≤◌, length, slice_range};
+    ghost use Rattle.tmpl_values.specs.Buffer.{held_in, is_counted};
 
-    ghost Value = { List ℕ };
+    ghost Value = { List ℕ × Bool };
 
-    ghost view = { λ m. slice_range (held_in m.buffer) m.start m.end };
+    ghost view = { λ m. (slice_range (held_in m.buffer) m.start m.end, is_counted m.buffer) };
 
     ghost invariant = { λ m. (m.start ≤ m.end) × (m.end ≤ length (held_in m.buffer)) };
 }
@@ -29,7 +29,7 @@ impl Model for Made {
 impl Made {
     /// The whole of these bytes.
     pub(crate) fn new(bytes: Vec<u8>) -> Made
-        ensures { result ≡ bytes.items }
+        ensures { result ≡ (bytes.items, false) }
     {
         let end = bytes.len();
         Made {
@@ -41,14 +41,14 @@ impl Made {
 
     /// The bytes.
     pub(crate) fn as_slice(&self) -> &[u8]
-        ensures { result.now ≡ self.now }
+        ensures { result.now ≡ self.now.0 }
     {
         &self.buffer.as_slice()[self.start..self.end]
     }
 
     /// The same bytes, ready to be shared.
     pub(crate) fn into_shared(self, alloc: Global) -> Result<Made, AllocError>
-        ensures { IfOk result (λ m. m ≡ self) }
+        ensures { IfOk result (λ m. m ≡ (self.0, true)) }
     {
         let Made { buffer, start, end } = self;
         Ok(Made {
@@ -77,8 +77,8 @@ impl Made {
 
     /// The bytes from i to before j.
     pub(crate) fn part(self, i: usize, j: usize) -> Made
-        requires { (i ≤ j) × (j ≤ length self) }
-        ensures { result ≡ slice_range self i j }
+        requires { (i ≤ j) × (j ≤ length self.0) }
+        ensures { result ≡ (slice_range self.0 i j, self.1) }
     {
         let start = self.start + i;
         let end = self.start + j;

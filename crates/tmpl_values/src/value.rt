@@ -1,7 +1,7 @@
 //! The values of a run.
-ghost use Rattle.std.specs.Prelude.{◌≡◌, ◌-◌, ◌≤◌, length, true, false, IfSome, option_map};
+ghost use Rattle.std.specs.Prelude.{◌≡◌, ◌-◌, ◌≤◌, length, true, false, IfOk, IfSome, option_map};
 ghost use Rattle.tmpl_values.specs.Value.{string, sequence, mapping};
-ghost use Rattle.tmpl_values.specs.View.{value_of, items_of, entries_of, val_of, is_made, field_of, is_borrowed, element_of, IsShared};
+ghost use Rattle.tmpl_values.specs.View.{value_of, items_of, entries_of, val_of, is_kept, is_made, field_of, is_borrowed, element_of, IsShared};
 ghost use Rattle.tmpl_values.specs.Truth.{truth};
 ghost use Rattle.tmpl_values.specs.Field.{field_at};
 ghost use Rattle.tmpl_values.specs.Item.{item_at, bytes_of, size_of, HasPart, part_of, items_from, first_items};
@@ -105,7 +105,8 @@ impl<'a> Val<'a> {
     /// The same value once more. It takes no memory but for a made text that is not ready to be
     /// shared, of which it takes a copy; the count of owners of one that is may be refused.
     pub fn share(&self) -> Result<Val<'a>, AllocError>
-        ensures { IsShared self.now result }
+        ensures same { IsShared self.now result }
+        ensures kept { IfOk result (λ v. is_kept v ≡ is_kept self.now) }
     {
         match self {
             Val::Nothing => Ok(Val::Nothing),
@@ -122,7 +123,8 @@ impl<'a> Val<'a> {
     /// The same value, of which `share` copies nothing: for what is kept in a variable or as dot.
     /// It takes memory for a made text alone.
     pub fn into_shared(self, alloc: Global) -> Result<Val<'a>, AllocError>
-        ensures { IsShared self.entry result }
+        ensures same { IsShared self.entry result }
+        ensures kept { IfOk result (λ v. is_kept v ≡ true) }
     {
         match self {
             Val::Made(text) => Ok(Val::Made(text.into_shared(alloc)?)),
