@@ -15,6 +15,10 @@ test:
 bench: $(PROGRAM) $(PARTS)
 	python3 tests/bench.py
 
+# renders random templates by the program and by Go's own text/template; it needs Go
+compare: $(PROGRAM)
+	python3 tests/go/compare.py
+
 install: $(PROGRAM)
 	install -D -m 755 $(PROGRAM) $(DESTDIR)$(PREFIX)/bin/tmpl
 
@@ -25,4 +29,4 @@ $(PROGRAM): $(SOURCES)
 $(PARTS): $(SOURCES)
 	cd crates/bench_parts && rt run -- text data/numbers.json > /dev/null
 
-.PHONY: demo test bench install
+.PHONY: demo test bench compare install

@@ -2,6 +2,7 @@
 TMPL=PATH names another build."""
 import json
 import os
+import shutil
 import statistics
 import sys
 import tempfile
@@ -10,6 +11,7 @@ import time
 import calls
 import harness
 import sweep
+from go import compare
 
 MIB = 1 << 20
 LINE = b"All the world's a stage, and all the men and women merely players.\n"
@@ -228,6 +230,30 @@ def bench_parts(folder):
     judge_linear(points)
 
 
+def bench_go(folder):
+    """Whole renders beside a program over Go's own text/template, where Go is there."""
+    if not shutil.which("go"):
+        print("Go is not there to compare with")
+        return
+    print("Whole renders beside Go's text/template, to /dev/null")
+    go = f"{folder}/gotemplate"
+    compare.build(go)
+    data = write(f"{folder}/user", [b'{"user":{"name":"Ada"},"n":7}'])
+    numbers = write(f"{folder}/numbers", [b"[7", b",7" * 99_999, b"]"])
+    for name, pieces, held in (
+        ("examples/hello", [b"Hello, {{.user.name}}!\n"], data),
+        ("2 MiB of short actions", [b"{{.user.name}} has {{ .n }}.\n" * (2 * MIB // 29)], data),
+        ("a range over 100,000 elements with an if inside", [b"{{range .}}{{if .}}{{.}},{{end}}{{end}}"], numbers),
+        ("10,000 calls of printf and len", [b'{{printf "%5d" (len "ab")}}\n' * 10_000], data),
+        ("a range of printf, 100,000 times", [b'{{range $i, $e := .}}{{printf "%5d %-10d|" $i $e}}{{end}}'], numbers),
+        ("10 MB of JSON put as text", [b"{{.}}"], write(f"{folder}/members", members(10_000_000))),
+        ("16 MiB of text", [LINE * (16 * MIB // len(LINE))], data),
+    ):
+        file = write(f"{folder}/template", pieces)
+        ours, theirs = medians(11, [harness.PROGRAM, "--data", held, file], [go, "render", file, held])
+        print(f"  {name}: tmpl {milliseconds(ours[0])} in {ours[1] // 1024:.0f} MiB, Go {milliseconds(theirs[0])} in {theirs[1] // 1024:.0f} MiB: {theirs[0] / ours[0]:.1f} times as fast")
+
+
 def main():
     if not os.access(harness.PROGRAM, os.X_OK):
         sys.exit("there is no program: build it by `make demo`, or name one by TMPL=PATH")
@@ -243,6 +269,7 @@ def main():
         bench_calls(folder)
         bench_parts(folder)
         bench_reading(folder)
+        bench_go(folder)
 
 
 if __name__ == "__main__":

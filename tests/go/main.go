@@ -1,0 +1,134 @@
+// Renders templates by Go's own text/template, to compare with.
+//
+//	main render TEMPLATE [DATA]   renders one file, with the data of a JSON file, to standard output
+//	main cases < CASES            renders each case of a JSON list, and puts out what came of each
+package main
+
+import (
+	"bufio"
+	"bytes"
+	"encoding/json"
+	"fmt"
+	"io"
+	"os"
+	"path/filepath"
+	"text/template"
+)
+
+type Case struct {
+	Template string
+	Data     json.RawMessage
+}
+
+// Answer is what came of a case. Read is whether the template was read, and Done whether its run ended well.
+type Answer struct {
+	Read, Done bool
+	Text       []byte
+	Fault      string
+}
+
+// whole turns numbers into whole ones, which is what the data of tmpl has.
+func whole(it any) (any, error) {
+	switch it := it.(type) {
+	case json.Number:
+		n, err := it.Int64()
+		return int(n), err
+	case []any:
+		for i := range it {
+			var err error
+			if it[i], err = whole(it[i]); err != nil {
+				return nil, err
+			}
+		}
+	case map[string]any:
+		for key := range it {
+			var err error
+			if it[key], err = whole(it[key]); err != nil {
+				return nil, err
+			}
+		}
+	}
+	return it, nil
+}
+
+func read(data []byte) (any, error) {
+	decoder := json.NewDecoder(bytes.NewReader(data))
+	decoder.UseNumber()
+	var it any
+	if err := decoder.Decode(&it); err != nil {
+		return nil, err
+	}
+	return whole(it)
+}
+
+func render(name, text string, data any, out io.Writer) (read bool, fault error) {
+	parsed, err := template.New(name).Parse(text)
+	if err != nil {
+		return false, err
+	}
+	return true, parsed.Execute(out, data)
+}
+
+func answer(it Case) Answer {
+	data, err := read(it.Data)
+	if err != nil {
+		return Answer{Fault: err.Error()}
+	}
+	var out bytes.Buffer
+	read, fault := render("m", it.Template, data, &out)
+	answer := Answer{Read: read, Done: fault == nil, Text: out.Bytes()}
+	if fault != nil {
+		answer.Fault = fault.Error()
+	}
+	return answer
+}
+
+func answerAll() error {
+	var cases []Case
+	if err := json.NewDecoder(bufio.NewReader(os.Stdin)).Decode(&cases); err != nil {
+		return err
+	}
+	answers := make([]Answer, len(cases))
+	for i, it := range cases {
+		answers[i] = answer(it)
+	}
+	return json.NewEncoder(os.Stdout).Encode(answers)
+}
+
+func renderFile(file string, rest []string) error {
+	text, err := os.ReadFile(file)
+	if err != nil {
+		return err
+	}
+	var data any
+	if len(rest) > 0 {
+		bytes, err := os.ReadFile(rest[0])
+		if err != nil {
+			return err
+		}
+		if data, err = read(bytes); err != nil {
+			return err
+		}
+	}
+	out := bufio.NewWriter(os.Stdout)
+	if _, err := render(filepath.Base(file), string(text), data, out); err != nil {
+		return err
+	}
+	return out.Flush()
+}
+
+func main() {
+	var err error
+	switch words := os.Args[1:]; {
+	case len(words) == 1 && words[0] == "cases":
+		err = answerAll()
+	case len(words) >= 2 && words[0] == "render":
+		err = renderFile(words[1], words[2:])
+	default:
+		err = fmt.Errorf("words: render TEMPLATE [DATA], or cases")
+	}
+	if err != nil {
+		fmt.Fprintln(os.Stderr, err)
+		os.Exit(1)
+	}
+}
