@@ -10,6 +10,7 @@ import base64
 import json
 import os
 import random
+import re
 import subprocess
 import sys
 import tempfile
@@ -302,6 +303,9 @@ def draw_constant(r):
     if r.random() < 0.3:
         at = r.randrange(len(spelled))
         spelled = spelled[:at] + r.choice("0189_xob'\"\\a") + spelled[at + 1 :]
+    if not re.match("[+-]?0[xX]", spelled) and spelled[0] not in "'\"`":
+        # no floats: an e begins an exponent
+        spelled = spelled.translate({ord("e"): "a", ord("E"): "A"})
     return "{{print " + spelled + "}}"
 
 
