@@ -1,12 +1,12 @@
 -- `and` and `or`, and the arguments of calls, from operand to operand.
-use Rattle.std.proofs.Common.{◌≡◌, ◌∙◌, ◌+◌, ◌<◌, ◌≤◌, ◌||◌, ◌++◌, ℕ, zero, suc, Bool, true, false, List, [], ◌∷◌, Option, Some, None, Result, Ok, Err, length, get_or, drop, refl, ap, sym, arith}
+use Rattle.std.proofs.Common.{◌≡◌, ◌∙◌, ◌+◌, ◌<◌, ◌≤◌, ◌||◌, ◌++◌, ℕ, zero, suc, Bool, true, false, List, [], ◌∷◌, Option, Some, None, Ok, Err, length, get_or, drop, refl, ap, sym, arith}
 use Rattle.std.specs.Option.{unwrap_or}
 use Rattle.std.proofs.lemmas.List.{at_drop_more}
 use Rattle.tmpl_values.specs.Value.{Value, nothing}
-use Rattle.tmpl_syntax.specs.Tree.{no_operand, operand, operand_of, operands_in}
+use Rattle.tmpl_syntax.specs.Tree.{no_operand, operand_of, operands_in}
 use Rattle.tmpl_syntax.specs.declared.tree.Operand as held
 use Rattle.tmpl_run.specs.Fault.{Cause}
-use Rattle.tmpl_run.specs.Pipeline.{Given, GivenAll, Place, before, decided, decides, given, given_then, junction, operand_value, operand_values, since}
+use Rattle.tmpl_run.specs.Pipeline.{Given, Place, before, decided, decides, given, given_then, junction, operand_value, operand_values, since}
 use Rattle.tmpl.proofs.Calls.{behind, behind-more, since-next}
 
 pub or-false : (b : Bool) → (b || false) ≡ b

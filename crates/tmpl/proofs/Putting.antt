@@ -1,5 +1,5 @@
 -- A text put to a sink, as one put to anything that takes bytes, and back.
-use Rattle.std.proofs.Common.{◌≡◌, ◌∙◌, ◌+◌, ℕ, List, Option, Ok, Err, Result, sym, add-zero}
+use Rattle.std.proofs.Common.{◌≡◌, ◌∙◌, ℕ, List, Option, Ok, Err, Result, sym, add-zero}
 use Rattle.tmpl_values.specs.Put as values
 use Rattle.tmpl_run.specs.Sink.{IsPut, sunk}
 use Rattle.tmpl_run.specs.declared.sink.SinkFault.{SinkFault}

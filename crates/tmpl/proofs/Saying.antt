@@ -1,5 +1,5 @@
 -- Texts that are put one after the other.
-use Rattle.std.proofs.Common.{◌≡◌, ◌∙◌, ◌++◌, ◌+◌, ℕ, List, [], Option, Some, None, refl, ap, sym, drop, get_or, length, ◌<◌, arith, inr}
+use Rattle.std.proofs.Common.{◌≡◌, ◌∙◌, ◌++◌, ◌+◌, ℕ, List, [], Option, Some, None, refl, ap, sym, drop, get_or, length, ◌<◌, inr}
 use Rattle.tmpl_run.specs.Sink.{appended}
 use Rattle.tmpl_run.specs.Sink.{Cut, Sunk, Whole, sunk}
 use Rattle.tmpl_run.proofs.Beginnings.{appended-twice, first_begins, second_begins}

@@ -1,5 +1,5 @@
 -- The command as one function of the words and of the contents of files.
-use Rattle.std.specs.Prelude.{◌≡◌, ◌⊎◌, ◌+◌, ℕ, zero, suc, Bool, true, false, List, [], ◌∷◌, Option, Some, None, Result, Ok, Err, codes, unwrap_or, option_map}
+use Rattle.std.specs.Prelude.{◌≡◌, ◌⊎◌, ◌+◌, ℕ, zero, suc, Bool, true, false, List, [], ◌∷◌, Option, Some, None, Result, Ok, Err, codes}
 use Rattle.tmpl_values.specs.Value.{Value}
 use Rattle.tmpl_values.specs.Json.{data_of}
 use Rattle.tmpl_values.specs.declared.json.DataFault.{DataFault}

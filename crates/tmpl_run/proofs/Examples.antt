@@ -1,14 +1,14 @@
 -- What the meaning says of some templates.
-use Rattle.std.proofs.Common.{◌≡◌, ℕ, Bool, true, false, List, [], ◌∷◌, Option, Some, None, Ok, Err, refl, codes}
+use Rattle.std.proofs.Common.{◌≡◌, ℕ, true, false, List, [], ◌∷◌, Some, None, Ok, Err, refl, codes}
 use Rattle.std.specs.Prelude.{pos}
 use Rattle.tmpl_values.specs.Value.{Value, nothing, null, boolean, number, string, sequence, mapping, no_item, item, no_entry, entry}
-use Rattle.tmpl_funcs.specs.declared.func.Func.TheVariants.{And, Or, Not, Len, Print}
+use Rattle.tmpl_funcs.specs.declared.func.Func.TheVariants.{And, Or, Not, Len}
 use Rattle.tmpl_funcs.specs.declared.fault.CallFault.TheVariants.{WrongCount, WrongKind}
 use Rattle.tmpl_syntax.specs.Tree as tree
 use Rattle.tmpl_syntax.specs.Tree.{Operand, dot, fields, variable, bool_constant, number_constant, text_constant, nil, function, group, Operands, no_operand, operand, Commands, no_command, command, Pipeline, pipeline, unbound, declare, assign, unnamed, element, key_and_element, Node, Nodes, Tree, text, action, if_node, with_node, range_node, break_node, continue_node}
-use Rattle.tmpl_run.specs.Meaning.{Ran, Fault, Cause, ran_with, steps_spent, not_a_function, nil_command, lacks_field, lacks_entry, not_a_range, call_failed}
+use Rattle.tmpl_run.specs.Meaning.{Ran, Cause, ran_with, steps_spent, not_a_function, nil_command, lacks_field, not_a_range, call_failed}
 use Rattle.tmpl_run.specs.Pipeline.{Given, Place, pipeline_value}
-use Rattle.tmpl_run.specs.declared.options.MissingKey.TheVariants.{Default, Zero, Error}
+use Rattle.tmpl_run.specs.declared.options.MissingKey.TheVariants.{Default}
 
 -- ---- short ways to write them
 

@@ -8,7 +8,7 @@ use Rattle.tmpl_values.specs.Truth.{truth}
 use Rattle.tmpl_syntax.specs.Tree as tree
 use Rattle.tmpl_syntax.specs.Tree.{Pipeline, Binding, unbound, declare, assign, RangeVariables, unnamed, element, key_and_element, Node, text, action, if_node, with_node, range_node, break_node, continue_node, Nodes, Tree, line_of}
 pub use Rattle.tmpl_run.specs.Fault.{Cause, Fault, steps_spent, not_a_function, nil_command, lacks_field, lacks_entry, not_a_range, call_failed}
-use Rattle.tmpl_run.specs.Pipeline.{Environment, Given, Place, pipeline_value, without_null}
+use Rattle.tmpl_run.specs.Pipeline.{Environment, Given, pipeline_value, without_null}
 use Rattle.tmpl_run.specs.declared.options.MissingKey.{MissingKey}
 
 -- ---- variables

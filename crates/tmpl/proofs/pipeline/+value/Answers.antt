@@ -1,4 +1,4 @@
-use Rattle.std.proofs.Common.{◌∙◌, ap, arith, map, sym, Ok, Err, Result}
+use Rattle.std.proofs.Common.{◌∙◌, ap, arith, sym, Result}
 use Rattle.std.specs.Option.{option_map, unwrap_or}
 use Rattle.std.proofs.lemmas.List.{map-append}
 use Rattle.tmpl_values.specs.declared.value.Cell.{Cell}

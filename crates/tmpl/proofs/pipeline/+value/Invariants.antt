@@ -1,4 +1,4 @@
-use Rattle.std.proofs.Common.{◌≡◌, ◌+◌, ◌*◌, Bool, List, None, Option, drop, option_map}
+use Rattle.std.proofs.Common.{◌≡◌, ◌+◌, ◌*◌, None, drop, option_map}
 use Rattle.tmpl_values.specs.View.{val_of}
 use Rattle.tmpl_funcs.specs.Answer.{values_of}
 use Rattle.tmpl_syntax.specs.Tree.{commands_in, operand_of, operands_in}

@@ -1,4 +1,4 @@
-use Rattle.std.proofs.Common.{◌≡◌, ap, sym, subst, None, Some, option_map}
+use Rattle.std.proofs.Common.{ap, sym, subst, Some, option_map}
 use Rattle.tmpl_values.specs.View.{value_of}
 use Rattle.tmpl_syntax.specs.Set.{set_view, tree_named}
 use Rattle.tmpl_syntax.specs.Tree.{tree_of}

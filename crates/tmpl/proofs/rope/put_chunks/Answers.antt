@@ -1,4 +1,4 @@
-use Rattle.std.proofs.Common.{◌≡◌, ◌∙◌, ◌++◌, ◌+◌, List, ℕ, ap, sym, subst, drop, append_assoc}
+use Rattle.std.proofs.Common.{◌∙◌, ◌++◌, ◌+◌, List, ℕ, ap, sym, subst, drop, append_assoc}
 use Rattle.tmpl_run.specs.Sink.{Cut, IsPut, sunk}
 use Rattle.tmpl_run.proofs.Told.{err_up}
 use Rattle.tmpl.specs.Rope.{chunk_bytes, chunks_bytes}

@@ -1,6 +1,6 @@
 use Rattle.std.proofs.Common.{◌≡◌, ◌∙◌, ap, sym, refl, map, rules, inl, inr, ◌⊎◌, ◌≢◌, subst, List, Err}
 use Rattle.std.specs.String.{string_bytes}
-use Rattle.clap.specs.Words.{App, HasKind, IsAmong, Text, app_of, fault_of, is_simple, is_simple_and_free, kind_of, matches_of}
+use Rattle.clap.specs.Words.{App, HasKind, IsAmong, Text, fault_of, is_simple, is_simple_and_free, kind_of, matches_of}
 use Rattle.clap.specs.declared.error.ErrorKind.{ErrorKind}
 use Rattle.clap.specs.declared.error.ErrorKind.TheVariants.{OutOfMemory}
 use Rattle.tmpl.specs.Words.{HasModeNames, Modes, Parses, here, tool_app, words_fault, words_rows}

@@ -1,4 +1,4 @@
-use Rattle.std.proofs.Common.{rules, refl}
+use Rattle.std.proofs.Common.{refl}
 use Rattle.tmpl.proofs.Putting.{as_put}
 use Rattle.tmpl.proofs.quoting.WholePutsPut.put.Goals as goal
 
