@@ -1,6 +1,7 @@
 pub mod Examples
 pub mod Fronts
 pub mod Insides
+pub mod Named
 pub mod Pairs
 pub mod Quotes
 pub mod Runs

@@ -5,6 +5,7 @@ mod bytes;
 mod file;
 mod front;
 mod marker;
+mod names;
 mod opened;
 mod pair;
 mod piece;
@@ -14,6 +15,7 @@ mod token;
 
 pub use bytes::is_space;
 pub use file::{cut, one_cut};
+pub use names::tokens_named;
 pub use piece::{Piece, Token, TokenKind};
 
 #[cfg(test)]

@@ -1,5 +1,7 @@
+pub mod Accepts
 pub mod ActionExamples
 pub mod Actions
+pub mod Back
 pub mod Building
 pub mod Checks
 pub mod Completed
@@ -10,14 +12,18 @@ pub mod Depths
 pub mod ElseParts
 pub mod Examples
 pub mod Files
+pub mod Fits
 pub mod Finds
 pub mod Firsts
 pub mod Foreign
+pub mod Fronts
 pub mod Groups
 pub mod Halves
+pub mod Hexes
 pub mod Headers
 pub mod Items
 pub mod Judge
+pub mod KeptSets
 pub mod Limits
 pub mod Lists
 pub mod Numerals
@@ -29,6 +35,19 @@ pub mod Options
 pub mod Parts
 pub mod PipelineExamples
 pub mod Place
+mod PrintExamples
+pub mod PrintedItems
+pub mod PrintedNodes
+pub mod PrintedNumbers
+pub mod PrintedSpells
+pub mod PrintedTokens
+pub mod PutParts
+pub mod QuoteParts
+pub mod QuoteToken
+pub mod ReadActions
+pub mod ReadConstants
+pub mod ReadNodes
+pub mod ReadPieces
 pub mod Readings
 pub mod Scopes
 pub mod Slices
@@ -42,4 +61,7 @@ pub mod Templates
 pub mod Tokens
 pub mod Turns
 pub mod Verdicts
+pub mod WholeItems
+pub mod WholeNodes
+pub mod WholeRead
 pub mod Words

@@ -20,6 +20,8 @@ mod numeral;
 mod operand;
 mod parse;
 mod pipeline;
+mod print;
+mod printing;
 mod quoted;
 mod read;
 mod scan;
@@ -30,6 +32,10 @@ pub use fault::{ParseFault, ParseKind};
 pub use grammar::{one_action, one_reading};
 pub use laws::{one_list_of_items, one_spelling, one_verdict};
 pub use parse::{base_name, parse_file};
+pub use printing::{
+    accepted_back, cut_back, printable, printed_back, printed_spelling, printed_tokens, set_back,
+    set_printable,
+};
 pub use set::{Names, Set};
 pub use tree::{Binding, Command, Node, Operand, Pipeline, RangeVariables, Tree};
 

@@ -5,6 +5,7 @@ ghost use Rattle.tmpl_syntax.specs.Set.{set_view};
 ghost use Rattle.tmpl_syntax.specs.Parse as spec;
 ghost use Rattle.tmpl_syntax.specs.Parse.{IsParse, IsReading};
 ghost use Rattle.tmpl_syntax.specs.Steps.{IsAdded};
+ghost use Rattle.tmpl_syntax.specs.PrintLaws.{ArePrintable};
 
 use crate::build::build;
 use crate::check::check;
@@ -40,6 +41,7 @@ pub fn parse_file<'f>(
 ) -> Result<(), ParseFault<'f>>
     ensures reading { IsReading (set_view set.old) file.entry bytes.now (set_view set.new) result }
     ensures value { IsParse (set_view set.old) file.entry bytes.now (set_view set.new) result }
+    ensures printable { ArePrintable (set_view set.old) → ArePrintable (set_view set.new) }
 {
     match add_file(alloc, set, file, bytes) {
         Ok(()) => Ok(()),
