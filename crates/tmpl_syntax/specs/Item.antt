@@ -1,46 +1,50 @@
--- The pieces of a file with each action read.
-use Rattle.std.specs.Prelude.{ℕ, List, map}
-use Rattle.tmpl_lex.specs.Piece as piece
-use Rattle.tmpl_syntax.specs.Action.{Action, action_of}
-use Rattle.tmpl_syntax.specs.Reading.{reading_in}
-use Rattle.tmpl_syntax.specs.Depth.{Reading, unread_action, deep_action, read_action}
-use Rattle.tmpl_syntax.specs.declared.action.Shape.{Shape}
-use Rattle.tmpl_syntax.specs.declared.item.Item as held_item
-use Rattle.tmpl_syntax.specs.declared.item.Item.TheVariants as held
+-- The pieces of a file with each action read: what they are read as, by the grammar of actions and the limit of
+-- parentheses.
+use Rattle.std.specs.Prelude.{◌≡◌, ◌≤◌, ◌<◌, ℕ, false, List, [], ◌∷◌, Some}
+use Rattle.tmpl_lex.specs.Cut.{Cuts}
+use Rattle.tmpl_lex.specs.Piece.{Token, Piece, text, action, unreadable}
+use Rattle.tmpl_grammar.specs.Action.{Action, shape_of, SpellsAction}
+use Rattle.tmpl_grammar.specs.Depth.{depth_of, most_deep}
+use Rattle.tmpl_grammar.specs.declared.action.Shape.{Shape}
 
 -- a text, an action that is unreadable, one that has no reading, one of this shape whose parentheses nest too deep, or
--- one that is read, with its line
+-- one that is read
+pub data ItemKind : Type 0 where
+  text_item : List ℕ → ItemKind
+  unreadable_item : ItemKind
+  unread_item : ItemKind
+  deep_item : Shape → ItemKind
+  action_item : Action → ItemKind
+
+-- with its line
 pub data Item : Type 0 where
-  text_item : ℕ → List ℕ → Item
-  unreadable_item : ℕ → Item
-  unread_item : ℕ → Item
-  deep_item : ℕ → Shape → Item
-  action_item : ℕ → Action → Item
-
-abbrev pub item_of : held_item.Item → Item
-item_of (held.Text line bytes) = text_item line bytes.now
-item_of (held.Unreadable line) = unreadable_item line
-item_of (held.Unread line) = unread_item line
-item_of (held.TooDeep line shape) = deep_item line shape
-item_of (held.Action line action) = action_item line (action_of action)
-
-abbrev pub read_item : ℕ → Reading → Item
-read_item line unread_action = unread_item line
-read_item line (deep_action shape) = deep_item line shape
-read_item line (read_action a) = action_item line a
-
-abbrev pub item_in : piece.Piece → Item
-item_in (piece.text line bytes) = text_item line bytes
-item_in (piece.action line tokens) = read_item line (reading_in tokens)
-item_in (piece.unreadable line) = unreadable_item line
-
--- the items of a file's pieces
-abbrev pub items_in : List piece.Piece → List Item
-items_in ps = map item_in ps
+  item : ℕ → ItemKind → Item
 
 abbrev pub line_of : Item → ℕ
-line_of (text_item line bytes) = line
-line_of (unreadable_item line) = line
-line_of (unread_item line) = line
-line_of (deep_item line shape) = line
-line_of (action_item line a) = line
+line_of (item line what) = line
+
+-- a piece is read as this item
+pub data IsItem : Piece → Item → Type 0 where
+  a_text : {line : ℕ} {bytes : List ℕ} → IsItem (text line bytes) (item line (text_item bytes))
+  an_unreadable : {line : ℕ} → IsItem (unreadable line) (item line unreadable_item)
+  -- tokens that spell no action
+  unread : {line : ℕ} {ts : List Token}
+      → ((a : Action) → SpellsAction a ts → ⊥) → IsItem (action line ts) (item line unread_item)
+  -- tokens that spell one whose parentheses nest too deep
+  too_deep : {line : ℕ} {ts : List Token} {s : Shape} (a : Action)
+      → SpellsAction a ts → shape_of a ≡ Some s → most_deep < depth_of a → IsItem (action line ts) (item line (deep_item s))
+  -- tokens that spell one within the limit
+  read : {line : ℕ} {ts : List Token} {a : Action}
+      → SpellsAction a ts → depth_of a ≤ most_deep → IsItem (action line ts) (item line (action_item a))
+
+-- the pieces are read as these items, one by one
+pub data AreItems : List Piece → List Item → Type 0 where
+  no_item : AreItems [] []
+  an_item : {p : Piece} {x : Item} {ps : List Piece} {xs : List Item}
+      → IsItem p x → AreItems ps xs → AreItems (p ∷ ps) (x ∷ xs)
+
+-- a file of these bytes is cut into pieces that are read as these items
+pub record HasItems (bytes : List ℕ) (items : List Item) : Type 0 where
+  pub pieces : List Piece
+  pub cut : Cuts false 1 bytes pieces
+  pub read : AreItems pieces items

@@ -2,14 +2,14 @@
 ghost use Rattle.std.specs.Prelude.{◌≡◌};
 ghost use Rattle.std.specs.List.{list_all};
 ghost use Rattle.tmpl_lex.specs.Token as token;
-ghost use Rattle.tmpl_syntax.specs.Tree.{node_of, nodes_in};
+ghost use Rattle.tmpl_syntax.specs.View.{node_of, nodes_in};
 ghost use Rattle.tmpl_syntax.specs.Set as spec;
 
-use crate::tree::Node;
+use crate::tree::{Node, NodeKind};
 use tmpl_lex::is_space;
 
 /// Whether all nodes are texts of white space.
-#[tactic(auto, using(crate::proofs::Templates::blanks))]
+#[tactic(auto, using(crate::proofs::SetLemmas::blanks))]
 pub(crate) fn is_blank(nodes: &[Node]) -> bool
     ensures { result ≡ spec.is_blank (nodes_in nodes.now) }
 {
@@ -17,16 +17,16 @@ pub(crate) fn is_blank(nodes: &[Node]) -> bool
 }
 
 fn all_blank(nodes: &[Node]) -> bool
-    ensures { result ≡ list_all (λ n. spec.is_blank_node (node_of n)) nodes.now }
+    ensures { result ≡ list_all (λ n. spec.is_blank_node (node_of n).what) nodes.now }
 {
     nodes.iter().all(|node| is_blank_node(node))
 }
 
 fn is_blank_node(node: &Node) -> bool
-    ensures { result ≡ spec.is_blank_node (node_of node.now) }
+    ensures { result ≡ spec.is_blank_node (node_of node.now).what }
 {
-    match node {
-        Node::Text { bytes, .. } => is_white(bytes.as_slice()),
+    match &node.what {
+        NodeKind::Text(bytes) => is_white(bytes.as_slice()),
         _ => false,
     }
 }

@@ -1,16 +1,15 @@
 //! The nodes of a file.
 ghost use Rattle.std.specs.Prelude.{◌≡◌, IfOk, map, reverse};
-ghost use Rattle.tmpl_syntax.specs.Tree.{node_of, nodes_in, binding_of, pipeline_of};
-ghost use Rattle.tmpl_syntax.specs.Action.{action_of, control_of};
-ghost use Rattle.tmpl_syntax.specs.Item.{item_of, action_item};
-ghost use Rattle.tmpl_syntax.specs.Spells as spells;
-ghost use Rattle.tmpl_syntax.specs.Build as spec;
-ghost use Rattle.tmpl_syntax.specs.Levels.{level_of, parts_of};
+ghost use Rattle.tmpl_grammar.specs.Action.{control_in};
+ghost use Rattle.tmpl_grammar.specs.View.{action_of, header_of};
+ghost use Rattle.tmpl_syntax.specs.Item.{action_item, item};
+ghost use Rattle.tmpl_syntax.specs.View.{item_of, kind_of, level_of, nodes_in, parts_of};
+ghost use Rattle.tmpl_syntax.specs.computed.Build as spec;
 
-use crate::action::{Action, Branch, Control};
-use crate::item::Item;
-use crate::tree::{Binding, Node, Pipeline};
+use crate::item::{Item, ItemKind};
+use crate::tree::{Node, NodeKind};
 use std::alloc::{AllocError, Global};
+use tmpl_grammar::{Action, Branch, Control, Header};
 use tmpl_values::Bytes;
 
 /// What is known of a part from a place on.
@@ -47,6 +46,7 @@ pub(crate) fn build(alloc: Global, items: Vec<Item<'_>>) -> Result<Vec<Node>, Al
 }
 
 impl Level {
+    /// No nodes.
     fn new(alloc: Global) -> Level
         ensures { level_of result ≡ spec.no_level }
     {
@@ -70,62 +70,62 @@ fn in_order(nodes: Vec<Node>) -> Vec<Node>
 fn put(alloc: Global, parts: Parts, item: Item<'_>) -> Result<Parts, AllocError>
     ensures { IfOk result (λ p. parts_of p ≡ spec.parts_with (item_of item.entry) (parts_of parts)) }
 {
-    match item {
-        Item::Text { line, bytes } => {
+    let Item { line, what } = item;
+    match what {
+        ItemKind::Text(bytes) => {
             let bytes = Bytes::new(bytes.to_vec(alloc)?);
-            put_node(parts, Node::Text { line, bytes })
+            put_node(parts, line, NodeKind::Text(bytes))
         }
-        Item::Unreadable { .. } | Item::Unread { .. } | Item::TooDeep { .. } => Ok(parts),
-        Item::Action { line, action } => put_action(alloc, parts, line, action),
+        ItemKind::Unreadable | ItemKind::Unread | ItemKind::TooDeep(_) => Ok(parts),
+        ItemKind::Action(action) => put_action(alloc, parts, line, action),
     }
 }
 
+/// The parts from an action on, by those behind it.
 fn put_action(alloc: Global, parts: Parts, line: u64, action: Action) -> Result<Parts, AllocError>
-    ensures { IfOk result (λ p. parts_of p ≡ spec.parts_with (action_item line (action_of action)) (parts_of parts)) }
+    ensures { IfOk result (λ p. parts_of p
+        ≡ spec.parts_with (item line (action_item (action_of action))) (parts_of parts)) }
 {
     match action {
-        Action::Pipeline { binding, pipeline } => put_node(
-            parts,
-            Node::Action {
-                line,
-                binding,
-                pipeline,
-            },
-        ),
-        Action::Open(control) => put_control(alloc, parts, line, control),
+        Action::Pipeline(header) => put_node(parts, line, NodeKind::Action(header)),
+        Action::Open(control, header) => put_control(alloc, parts, line, control, header),
         Action::Else => Ok(begin_else(alloc, parts)),
-        Action::ElseBranch {
-            branch,
-            binding,
-            pipeline,
-        } => begin_branch(alloc, parts, line, branch, binding, pipeline),
+        Action::ElseBranch(branch, header) => begin_branch(alloc, parts, line, branch, header),
         Action::End => end(alloc, parts),
-        Action::Break => put_node(parts, Node::Break { line }),
-        Action::Continue => put_node(parts, Node::Continue { line }),
+        Action::Break => put_node(parts, line, NodeKind::Break),
+        Action::Continue => put_node(parts, line, NodeKind::Continue),
     }
 }
 
-fn put_node(parts: Parts, node: Node) -> Result<Parts, AllocError>
-    ensures { IfOk result (λ p. parts_of p ≡ spec.put_before (node_of node) (parts_of parts)) }
+/// Puts a node before those of the innermost part.
+fn put_node(parts: Parts, line: u64, what: NodeKind) -> Result<Parts, AllocError>
+    ensures { IfOk result (λ p. parts_of p ≡ spec.put_before line (kind_of what) (parts_of parts)) }
 {
     let mut parts = parts;
-    parts.inner.nodes.push(node)?;
+    parts.inner.nodes.push(Node { line, what })?;
     Ok(parts)
 }
 
+/// Puts a control before those of the part around: its body is the innermost part, behind which its else part stands.
 fn put_control(
     alloc: Global,
     parts: Parts,
     line: u64,
     control: Control,
+    header: Header,
 ) -> Result<Parts, AllocError>
     ensures { IfOk result (λ p. parts_of p
-        ≡ spec.control_before line (control_of control) (parts_of parts)) }
+        ≡ spec.control_before line control (header_of header) (parts_of parts)) }
 {
     let Parts { inner, mut around } = parts;
-    let node = control_node(line, control, in_order(inner.nodes), inner.other);
+    let what = NodeKind::Control {
+        control,
+        header,
+        body: in_order(inner.nodes),
+        other: inner.other,
+    };
     let inner = outer(alloc, &mut around);
-    put_node(Parts { inner, around }, node)
+    put_node(Parts { inner, around }, line, what)
 }
 
 /// Takes the nearest part around, or one of no nodes where there is none.
@@ -139,37 +139,7 @@ fn outer(alloc: Global, around: &mut Vec<Level>) -> Level
     }
 }
 
-fn control_node(line: u64, control: Control, body: Vec<Node>, other: Vec<Node>) -> Node
-    ensures { node_of result ≡ spells.control_node line (control_of control) (nodes_in body.items) (nodes_in other.items) }
-{
-    match control {
-        Control::If { binding, pipeline } => Node::If {
-            line,
-            binding,
-            pipeline,
-            body,
-            other,
-        },
-        Control::With { binding, pipeline } => Node::With {
-            line,
-            binding,
-            pipeline,
-            body,
-            other,
-        },
-        Control::Range {
-            variables,
-            pipeline,
-        } => Node::Range {
-            line,
-            variables,
-            pipeline,
-            body,
-            other,
-        },
-    }
-}
-
+/// Begins a part before an else part.
 fn begin_else(alloc: Global, parts: Parts) -> Parts
     ensures { parts_of result ≡ spec.else_before (parts_of parts) }
 {
@@ -183,50 +153,42 @@ fn begin_else(alloc: Global, parts: Parts) -> Parts
     }
 }
 
+/// Begins a part before an else part that is a control of its own.
 fn begin_branch(
     alloc: Global,
     parts: Parts,
     line: u64,
     branch: Branch,
-    binding: Binding,
-    pipeline: Pipeline,
+    header: Header,
 ) -> Result<Parts, AllocError>
-    ensures { IfOk result (λ p. parts_of p ≡ spec.branch_before line branch (binding_of binding) (pipeline_of pipeline) (parts_of parts)) }
+    ensures { IfOk result (λ p. parts_of p ≡ spec.branch_before line branch (header_of header) (parts_of parts)) }
 {
     let Parts { inner, around } = parts;
-    let body = in_order(inner.nodes);
-    let node = branch_node(line, branch, binding, pipeline, body, inner.other);
+    let what = NodeKind::Control {
+        control: control_in(branch),
+        header,
+        body: in_order(inner.nodes),
+        other: inner.other,
+    };
     Ok(Parts {
         inner: Level {
             nodes: Vec::new(alloc),
-            other: vec![in alloc; node]?,
+            other: vec![in alloc; Node { line, what }]?,
         },
         around,
     })
 }
 
-fn branch_node(
-    line: u64,
-    branch: Branch,
-    binding: Binding,
-    pipeline: Pipeline,
-    body: Vec<Node>,
-    other: Vec<Node>,
-) -> Node
-    ensures { node_of result
-        ≡ spells.branch_node line branch (binding_of binding) (pipeline_of pipeline) (nodes_in body.items) (nodes_in other.items) }
+/// The control with which an else part begins.
+fn control_in(branch: Branch) -> Control
+    ensures { result ≡ control_in branch }
 {
     match branch {
-        Branch::If => Node::If {
-            line,
-            binding,
-            pipeline,
-            body,
-            other,
-        },
+        Branch::If => Control::If,
     }
 }
 
+/// Begins a part before an `end`.
 fn end(alloc: Global, parts: Parts) -> Result<Parts, AllocError>
     ensures { IfOk result (λ p. parts_of p ≡ spec.end_before (parts_of parts)) }
 {

@@ -1,7 +1,7 @@
 //! Why a file is refused.
 ghost use Rattle.std.specs.Prelude.{◌≡◌};
-ghost use Rattle.tmpl_syntax.specs.Memory.{out_of_memory};
-ghost use Rattle.tmpl_syntax.specs.Kinds.{parse_kind};
+ghost use Rattle.tmpl_syntax.specs.Fault.{out_of_memory};
+ghost use Rattle.tmpl_syntax.specs.Fault.{parse_kind};
 
 use std::alloc::AllocError;
 

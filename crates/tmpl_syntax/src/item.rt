@@ -1,38 +1,32 @@
 //! The pieces of a file with each action read.
 ghost use Rattle.std.specs.Prelude.{◌≡◌, IfOk, map};
 ghost use Rattle.tmpl_lex.specs.Piece.{piece_of};
-ghost use Rattle.tmpl_syntax.specs.Item.{item_of, item_in, items_in, line_of};
+ghost use Rattle.tmpl_grammar.specs.View.{action_reading};
+ghost use Rattle.tmpl_syntax.specs.View.{item_kind, item_of};
+ghost use Rattle.tmpl_syntax.specs.computed.Item.{item_in, items_in, read_item};
 
-use crate::action::{Action, Reading, Shape};
-use crate::read::read;
 use std::alloc::{AllocError, Global};
+use tmpl_grammar::{Action, Reading, Shape, read_action};
 use tmpl_lex::Piece;
 
 /// A piece of a file, with its line.
 #[derive(Drop)]
-pub(crate) enum Item<'b> {
-    Text { line: u64, bytes: &'b [u8] },
-    /// An action that is not closed, or that has a place where no token begins.
-    Unreadable { line: u64 },
-    /// An action whose tokens have no reading.
-    Unread { line: u64 },
-    /// An action whose parentheses nest deeper than 100.
-    TooDeep { line: u64, shape: Shape },
-    Action { line: u64, action: Action },
+pub(crate) struct Item<'b> {
+    pub(crate) line: u64,
+    pub(crate) what: ItemKind<'b>,
 }
 
-impl<'b> Item<'b> {
-    pub(crate) fn line(&self) -> u64
-        ensures { result ≡ line_of (item_of self.now) }
-    {
-        match self {
-            Item::Text { line, .. }
-            | Item::Unreadable { line }
-            | Item::Unread { line }
-            | Item::TooDeep { line, .. }
-            | Item::Action { line, .. } => *line,
-        }
-    }
+/// What a piece of a file is.
+#[derive(Drop)]
+pub(crate) enum ItemKind<'b> {
+    Text(&'b [u8]),
+    /// An action that is not closed, or that has a place where no token begins.
+    Unreadable,
+    /// An action whose tokens have no reading.
+    Unread,
+    /// An action of this shape whose parentheses nest deeper than 100.
+    TooDeep(Shape),
+    Action(Action),
 }
 
 /// The items of a file's pieces.
@@ -50,15 +44,28 @@ fn read_piece<'b>(alloc: Global, piece: &Piece<'b>) -> Result<Item<'b>, AllocErr
     ensures { IfOk result (λ x. item_of x ≡ item_in (piece_of piece.now)) }
 {
     match piece {
-        Piece::Text { line, bytes } => Ok(Item::Text { line: *line, bytes }),
-        Piece::Action { line, tokens } => match read(alloc, tokens.as_slice())? {
-            Reading::Unread => Ok(Item::Unread { line: *line }),
-            Reading::TooDeep(shape) => Ok(Item::TooDeep { line: *line, shape }),
-            Reading::Read(action) => Ok(Item::Action {
-                line: *line,
-                action,
-            }),
-        },
-        Piece::Unreadable { line } => Ok(Item::Unreadable { line: *line }),
+        Piece::Text { line, bytes } => Ok(Item {
+            line: *line,
+            what: ItemKind::Text(bytes),
+        }),
+        Piece::Action { line, tokens } => Ok(Item {
+            line: *line,
+            what: item_read(read_action(alloc, tokens.as_slice())?),
+        }),
+        Piece::Unreadable { line } => Ok(Item {
+            line: *line,
+            what: ItemKind::Unreadable,
+        }),
+    }
+}
+
+/// What an action is that was read so.
+fn item_read(reading: Reading<Action>) -> ItemKind<'static>
+    ensures { item_kind result ≡ read_item (action_reading reading) }
+{
+    match reading {
+        Reading::Unread => ItemKind::Unread,
+        Reading::TooDeep(shape) => ItemKind::TooDeep(shape),
+        Reading::Read(action) => ItemKind::Action(action),
     }
 }

@@ -1,5 +1,8 @@
 //! Laws of the definitions that the contracts speak of.
 ghost use Rattle.tmpl_syntax.specs.Laws.{HasItemsOf, HasNoOtherItems, HasVerdict, HasOneVerdict, SpellsWhereFine, SpellsAtMostOne};
+ghost use Rattle.tmpl_syntax.specs.Print.Join.{CutsBack};
+ghost use Rattle.tmpl_syntax.specs.Print.Laws.{AcceptsBack, KeepsPrintable, ReadsSame};
+ghost use Rattle.tmpl_syntax.specs.Print.WholeTree.{SetKeeps, SetReadsSame};
 
 /// The law that each file has one list of items: its bytes are cut into one list of pieces, and each piece
 /// is read as one item.
@@ -19,4 +22,34 @@ pub fn one_verdict()
 pub fn one_spelling()
     ensures exists { SpellsWhereFine }
     ensures one { SpellsAtMostOne }
+{}
+
+/// The law that parts which are joined to a file are cut into the same parts.
+pub fn cut_back()
+    ensures { CutsBack }
+{}
+
+/// The law that printed nodes are read as the same nodes, apart from lines.
+pub fn printed_back()
+    ensures { ReadsSame }
+{}
+
+/// The law that the nodes which a file spells can be printed.
+pub fn printable()
+    ensures { KeepsPrintable }
+{}
+
+/// The law that what an accepted file says is accepted when it is printed.
+pub fn accepted_back()
+    ensures { AcceptsBack }
+{}
+
+/// The law that a printed set is read as the same definitions, apart from lines.
+pub fn set_back()
+    ensures { SetReadsSame }
+{}
+
+/// The law that the definitions which a file spells can be printed.
+pub fn set_printable()
+    ensures { SetKeeps }
 {}

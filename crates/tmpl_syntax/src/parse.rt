@@ -1,16 +1,16 @@
 //! Reading a file into the set.
 ghost use Rattle.std.specs.Prelude.{◌≡◌, ◌≤◌, ◌==◌, IfOk, length, not};
 ghost use Rattle.std.specs.List.{suffix_len};
-ghost use Rattle.tmpl_syntax.specs.Set.{set_view};
+ghost use Rattle.tmpl_syntax.specs.View.{set_view};
 ghost use Rattle.tmpl_syntax.specs.Parse as spec;
-ghost use Rattle.tmpl_syntax.specs.Parse.{IsParse, IsReading};
-ghost use Rattle.tmpl_syntax.specs.Steps.{IsAdded};
-ghost use Rattle.tmpl_syntax.specs.PrintLaws.{ArePrintable};
+ghost use Rattle.tmpl_syntax.specs.Parse.{IsReading};
+ghost use Rattle.tmpl_syntax.specs.computed.Parse.{IsAdded, IsParse};
+ghost use Rattle.tmpl_syntax.specs.Print.Laws.{ArePrintable};
 
 use crate::build::build;
-use crate::check::check;
 use crate::fault::{ParseFault, ParseKind, Refusal};
 use crate::item::read_all;
+use crate::place::check::check;
 use crate::set::Set;
 use crate::tree::Tree;
 use std::alloc::{AllocError, Global};
@@ -87,7 +87,7 @@ pub fn base_name(path: &str) -> &[u8]
 }
 
 /// How many bytes follow the last `/`.
-#[tactic(auto, using(crate::proofs::Tokens::runs))]
+#[tactic(auto, using(tmpl_grammar::proofs::ListLemmas::runs))]
 fn name_len(path: &[u8]) -> usize
     ensures count { result ≡ suffix_len (λ b. not (b == 47)) path.now }
     ensures within { result ≤ length path.now }

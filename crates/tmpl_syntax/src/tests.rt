@@ -1,3 +1,6 @@
+mod lists;
+mod pipelines;
+
 use super::*;
 use std::alloc::{AllocError, Global};
 use std::test::Fail;
@@ -66,14 +69,15 @@ fn pipeline_shown(alloc: Global, pipeline: &Pipeline) -> Result<String, AllocErr
 fn shown(alloc: Global, tree: &Tree) -> Result<String, AllocError> {
     let mut all = String::new(alloc);
     for node in &tree.nodes {
-        match node {
-            Node::Text { line, bytes } => {
+        let line = node.line;
+        match &node.what {
+            NodeKind::Text(bytes) => {
                 let bytes = text(bytes.as_slice());
                 all.push_str(format!(in alloc; "[{line} {bytes}]")?.as_str())?;
             }
-            Node::Action { line, pipeline, .. } => {
+            NodeKind::Action(header) => {
                 all.push_str(format!(in alloc; "({line}")?.as_str())?;
-                all.push_str(pipeline_shown(alloc, pipeline)?.as_str())?;
+                all.push_str(pipeline_shown(alloc, &header.pipeline)?.as_str())?;
                 all.push_str(")")?;
             }
             _ => all.push_str("?")?,

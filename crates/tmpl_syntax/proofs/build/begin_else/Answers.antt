@@ -1,7 +1,7 @@
 use Rattle.std.proofs.Common.{refl, ap, reverse}
-use Rattle.tmpl_syntax.specs.Tree.{nodes_in}
-use Rattle.tmpl_syntax.specs.Levels.{parts_of}
-use Rattle.tmpl_syntax.proofs.Building.{same_parts}
+use Rattle.tmpl_syntax.specs.View.{nodes_in}
+use Rattle.tmpl_syntax.specs.View.{parts_of}
+use Rattle.tmpl_syntax.proofs.BuildLemmas.{same_parts}
 use Rattle.tmpl_syntax.proofs.build.begin_else.Goals as goal
 
 pub returns : goal.returns

@@ -1,12 +1,12 @@
 use Rattle.std.proofs.Common.{arith, length, ◌≡◌, [], ◌∷◌, ap, map, reverse, sym, ◌∙◌}
 use Rattle.std.proofs.lemmas.List.{map-append}
-use Rattle.tmpl_syntax.specs.Tree.{nodes_in}
-use Rattle.tmpl_syntax.specs.Item.{item_of}
-use Rattle.tmpl_syntax.specs.Build as build
-use Rattle.tmpl_syntax.specs.Build.{parts_before, no_parts, nodes_from}
-use Rattle.tmpl_syntax.specs.Levels.{level_of, parts_of}
-use Rattle.tmpl_syntax.proofs.Building.{before-last, same_parts}
-use Rattle.tmpl_syntax.proofs.Lists.{none-left}
+use Rattle.tmpl_syntax.specs.View.{nodes_in}
+use Rattle.tmpl_syntax.specs.View.{item_of}
+use Rattle.tmpl_syntax.specs.computed.Build as build
+use Rattle.tmpl_syntax.specs.computed.Build.{parts_before, no_parts, nodes_from}
+use Rattle.tmpl_syntax.specs.View.{level_of, parts_of}
+use Rattle.tmpl_syntax.proofs.BuildLemmas.{before-last, same_parts}
+use Rattle.tmpl_syntax.proofs.ListLemmas.{none-left}
 use Rattle.tmpl_syntax.proofs.build.build.Goals as goal
 
 pub loop-item-init : goal.loop-item-init

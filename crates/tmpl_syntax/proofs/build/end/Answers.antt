@@ -1,7 +1,7 @@
 use Rattle.std.proofs.Common.{ap, map}
-use Rattle.tmpl_syntax.specs.Build as build
-use Rattle.tmpl_syntax.specs.Levels.{level_of, parts_of}
-use Rattle.tmpl_syntax.proofs.Building.{same_parts, reverse-push}
+use Rattle.tmpl_syntax.specs.computed.Build as build
+use Rattle.tmpl_syntax.specs.View.{level_of, parts_of}
+use Rattle.tmpl_syntax.proofs.BuildLemmas.{same_parts, reverse-push}
 use Rattle.tmpl_syntax.proofs.build.end.Goals as goal
 
 pub returns : goal.returns

@@ -2,8 +2,10 @@ use Rattle.std.proofs.Common.{arith, ◌≤◌, ◌∷◌, [], ◌++◌, sym, ap
 use Rattle.std.proofs.lemmas.List.{map-append, map_more, take_all}
 use Rattle.tmpl_lex.specs.declared.piece.Piece.{Piece}
 use Rattle.tmpl_lex.specs.Piece.{piece_of}
-use Rattle.tmpl_syntax.specs.Item.{Item, item_of, item_in}
-use Rattle.tmpl_syntax.proofs.Lists.{map-twice}
+use Rattle.tmpl_syntax.specs.Item.{Item}
+use Rattle.tmpl_syntax.specs.View.{item_of}
+use Rattle.tmpl_syntax.specs.computed.Item.{item_in}
+use Rattle.tmpl_syntax.proofs.ListLemmas.{map-twice}
 use Rattle.tmpl_syntax.proofs.item.read_all.Goals as goal
 
 pub loop-piece-preserved : goal.loop-piece-preserved

@@ -1,4 +1,4 @@
-use Rattle.tmpl_syntax.proofs.Items.{has-items, no-others}
+use Rattle.tmpl_syntax.proofs.ItemLemmas.{has-items, no-others}
 use Rattle.tmpl_syntax.proofs.laws.one_list_of_items.Goals as goal
 
 pub returns-clause-exists : goal.returns-clause-exists

@@ -1,5 +1,5 @@
-use Rattle.tmpl_syntax.proofs.One.{one_verdict}
-use Rattle.tmpl_syntax.proofs.Verdicts.{judged_all}
+use Rattle.tmpl_syntax.proofs.OneVerdictLemmas.{one_verdict}
+use Rattle.tmpl_syntax.proofs.VerdictLemmas.{judged_all}
 use Rattle.tmpl_syntax.proofs.laws.one_verdict.Goals as goal
 
 pub returns-clause-exists : goal.returns-clause-exists

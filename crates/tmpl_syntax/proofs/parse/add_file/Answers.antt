@@ -1,11 +1,15 @@
 use Rattle.std.proofs.Common.{◌≡◌, List, ℕ, refl, sym, ap, subst, ◌∙◌, map, Ok}
 use Rattle.tmpl_lex.specs.Piece.{piece_of}
-use Rattle.tmpl_syntax.specs.Tree.{nodes_in}
-use Rattle.tmpl_syntax.specs.Item.{Item, item_of, items_in}
-use Rattle.tmpl_syntax.specs.Set.{set_view, defined}
-use Rattle.tmpl_syntax.specs.Build.{nodes_from}
-use Rattle.tmpl_syntax.specs.Parse.{IsRefusal, checked, spelled, items_of, placed, base_name}
-use Rattle.tmpl_syntax.proofs.Files.{parsed-long, parsed-short, refusal-placed, adding-ends}
+use Rattle.tmpl_syntax.specs.View.{nodes_in}
+use Rattle.tmpl_syntax.specs.Item.{Item}
+use Rattle.tmpl_syntax.specs.View.{item_of}
+use Rattle.tmpl_syntax.specs.computed.Item.{items_in}
+use Rattle.tmpl_syntax.specs.View.{set_view}
+use Rattle.tmpl_syntax.specs.Set.{defined}
+use Rattle.tmpl_syntax.specs.computed.Build.{nodes_from}
+use Rattle.tmpl_syntax.specs.computed.Parse.{IsRefusal, checked, spelled, items_of, placed}
+use Rattle.tmpl_syntax.specs.Parse.{base_name}
+use Rattle.tmpl_syntax.proofs.FileLemmas.{parsed-long, parsed-short, refusal-placed, adding-ends}
 use Rattle.tmpl_syntax.proofs.parse.add_file.Goals as goal
 
 pub returns-then-bytes-gt-MOST_BYTES : goal.returns-then-bytes-gt-MOST_BYTES

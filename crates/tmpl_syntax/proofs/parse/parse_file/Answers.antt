@@ -1,10 +1,10 @@
 use Rattle.std.proofs.Common.{refl}
-use Rattle.tmpl_syntax.specs.Set.{set_view}
+use Rattle.tmpl_syntax.specs.View.{set_view}
 use Rattle.std.proofs.Common.{sym, subst}
 use Rattle.tmpl_values.proofs.Runes.{are_bytes}
-use Rattle.tmpl_syntax.specs.PrintLaws.{ArePrintable}
-use Rattle.tmpl_syntax.proofs.KeptSets.{parsed_printable}
-use Rattle.tmpl_syntax.proofs.Readings.{accepted, refusal-of}
+use Rattle.tmpl_syntax.specs.Print.Laws.{ArePrintable}
+use Rattle.tmpl_syntax.proofs.PrintableSetLemmas.{parsed_printable}
+use Rattle.tmpl_syntax.proofs.ReadingLemmas.{accepted, refusal-of}
 use Rattle.tmpl_syntax.proofs.parse.parse_file.Goals as goal
 
 pub returns-in-Ok-clause-reading : goal.returns-in-Ok-clause-reading

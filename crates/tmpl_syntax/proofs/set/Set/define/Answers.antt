@@ -1,8 +1,10 @@
 use Rattle.std.proofs.Common.{◌≡◌, ◌&&◌, false, sym, ap, ◌∙◌, map, OnErr, Result, Ok, Err}
 use Rattle.std.specs.Option.{is_some}
-use Rattle.tmpl_syntax.specs.Tree.{tree_of}
-use Rattle.tmpl_syntax.specs.Set.{set_view, template_of, tree_named, is_blank}
-use Rattle.tmpl_syntax.proofs.Templates.{defined-kept, defined-insert}
+use Rattle.tmpl_syntax.specs.View.{tree_of}
+use Rattle.tmpl_syntax.specs.View.{set_view}
+use Rattle.tmpl_syntax.specs.View.{template_of}
+use Rattle.tmpl_syntax.specs.Set.{tree_named, is_blank}
+use Rattle.tmpl_syntax.proofs.SetLemmas.{defined-kept, defined-insert}
 use Rattle.tmpl_syntax.proofs.set.Set.define.Goals as goal
 
 on_err : {T E P : Type 0} (r : Result T E) → P → OnErr r P

@@ -1,6 +1,6 @@
 use Rattle.std.proofs.Common.{ℕ, Vec, Global, ap, ◌∙◌, map}
-use Rattle.tmpl_syntax.specs.Set.{set_view}
-use Rattle.tmpl_syntax.proofs.Templates.{names-view}
+use Rattle.tmpl_syntax.specs.View.{set_view}
+use Rattle.tmpl_syntax.proofs.SetLemmas.{names-view}
 use Rattle.tmpl_syntax.proofs.set.Set.names.Goals as goal
 
 pub returns : goal.returns

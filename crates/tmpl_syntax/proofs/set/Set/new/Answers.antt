@@ -1,5 +1,6 @@
 use Rattle.std.proofs.Common.{ap, map}
-use Rattle.tmpl_syntax.specs.Set.{set_view, template_of}
+use Rattle.tmpl_syntax.specs.View.{set_view}
+use Rattle.tmpl_syntax.specs.View.{template_of}
 use Rattle.tmpl_syntax.proofs.set.Set.new.Goals as goal
 
 pub returns : goal.returns

@@ -1,0 +1,214 @@
+-- The grammar of an action and its reading agree.
+use Rattle.std.proofs.Common.{◌≡◌, ◌∙◌, ℕ, Bool, true, false, cond, List, Option, Some, None, refl, ap, sym, subst, bytes_eq}
+use Rattle.std.specs.Option.{option_map}
+use lib.Pointwise.{bytes_decides}
+use Rattle.tmpl_lex.specs.declared.piece.TokenKind.{TokenKind}
+use Rattle.tmpl_lex.specs.declared.piece.TokenKind.TheVariants as kind
+use Rattle.tmpl_lex.specs.Piece.{Token}
+use Rattle.tmpl_grammar.specs.Token.{is_space_kind, is_white, is_blank, next}
+use Rattle.tmpl_grammar.specs.Tree.{Commands, Pipeline, pipeline, Binding, unbound, declare, assign, declare_pair, Header}
+use Rattle.tmpl_grammar.specs.Action.{Action, pipeline_action, opening, plain_else, else_branch, end_action, break_action, continue_action, action_with, SpellsAction}
+use Rattle.tmpl_grammar.specs.Pipeline.{IsBlank, SpellsPipeline}
+use Rattle.tmpl_grammar.specs.Header.{IsSign, IsVariable, Then, SpellsWhole, SpellsBinding, SpellsHeader}
+use Rattle.tmpl_grammar.specs.Keyword.{spelling, IsWord}
+use Rattle.tmpl_grammar.specs.computed.Reading.{header_in, spells_keyword, keyword_by, keyword_of, alone, else_keyword, else_by, action_by, action_behind, action_at, action_in}
+use Rattle.tmpl_grammar.specs.Laws.{ReadsSpelledAction, SpellsReadAction, SpellsOneAction}
+use Rattle.tmpl_grammar.specs.declared.tree.Control.{Control}
+use Rattle.tmpl_grammar.specs.declared.tree.Control.TheVariants as control
+use Rattle.tmpl_grammar.specs.declared.action.Branch.TheVariants as branch
+use Rattle.tmpl_grammar.specs.declared.action.Shape.{Shape}
+use Rattle.tmpl_grammar.specs.declared.action.Shape.TheVariants as shape
+use Rattle.tmpl_grammar.specs.declared.keyword.Keyword.{Keyword}
+use Rattle.tmpl_grammar.specs.declared.keyword.Keyword.TheVariants as word
+use Rattle.tmpl_grammar.proofs.OptionLemmas.{same-value, no-value, mapped}
+use Rattle.tmpl_grammar.proofs.TokenLemmas.{no-next, blank-next, blank-all, all-blank, then-led, led-then}
+use Rattle.tmpl_grammar.proofs.StrayLemmas.{word-stray, then-stray, dead-read, blank-read, spelled-lives}
+use Rattle.tmpl_grammar.proofs.HeaderLemmas.{variable-other, IsRest, header-read, header-spelled}
+use Rattle.tmpl_grammar.specs.Constant.Quoted.{Spelled}
+
+-- ---- keywords
+
+known : (k : Keyword) → spells_keyword (spelling k) ≡ Some k
+known (word.Control control.If) = refl
+known (word.Control control.With) = refl
+known (word.Control control.Range) = refl
+known word.Else = refl
+known word.End = refl
+known word.Break = refl
+known word.Continue = refl
+
+word-known : (k : Keyword) (t : Token) → IsWord k t → keyword_of t ≡ Some k
+unfolding keyword_of
+word-known k t w = ap (λ j. keyword_by j t.bytes) w.0 ∙ ap spells_keyword w.1 ∙ known k
+
+-- of a chain of tests, the one that holds
+chosen : (bs : List ℕ) (k j : Keyword) (rest : Option Keyword) → (rest ≡ Some k → bs ≡ spelling k) → (b : Bool) → bytes_eq bs (spelling j) ≡ b → cond b (Some j) rest ≡ Some k → bs ≡ spelling k
+chosen bs k j rest more true is e = (bytes_decides bs (spelling j)).0 is ∙ ap spelling (same-value j k e)
+chosen bs k j rest more false is e = more e
+
+spelled-known : (bs : List ℕ) (k : Keyword) → spells_keyword bs ≡ Some k → bs ≡ spelling k
+spelled-known bs k e =
+    at (word.Control control.If) _ (at (word.Control control.With) _ (at (word.Control control.Range) _ (at word.Else _ (at word.End _ (at word.Break _ (at word.Continue None (λ n. no-value k n))))))) e
+  where
+    at : (j : Keyword) (rest : Option Keyword) → (rest ≡ Some k → bs ≡ spelling k) → cond (bytes_eq bs (spelling j)) (Some j) rest ≡ Some k → bs ≡ spelling k
+    at j rest more e = chosen bs k j rest more (bytes_eq bs (spelling j)) refl e
+
+known-word : (t : Token) (k : Keyword) → keyword_of t ≡ Some k → IsWord k t
+unfolding keyword_of
+known-word t k e = by t.kind refl e
+  where
+    by : (j : TokenKind) → t.kind ≡ j → keyword_by j t.bytes ≡ Some k → IsWord k t
+    by kind.Word is e = (is, spelled-known t.bytes k e)
+    by j is e = no-value k e
+
+word-other : (k : Keyword) (t : Token) → IsWord k t → is_white t ≡ false
+word-other k t w = ap is_space_kind w.0
+
+-- ---- actions
+
+-- behind a keyword
+pub record Keyed (k : Keyword) (Rest : List Token → Type 0) (ts : List Token) : Type 0 where
+  pub rest : List Token
+  pub is : action_in ts ≡ action_by k rest
+  pub behind : Rest rest
+
+then-keyed : (k : Keyword) (Rest : List Token → Type 0) (ts : List Token) → Then (IsWord k) Rest ts → Keyed k Rest ts
+unfolding action_in
+then-keyed k Rest ts s =
+    let l = then-led (IsWord k) Rest ts (word-other k) s in
+    record {
+      rest = l.rest;
+      is = ap (λ o. action_at o ts) l.first_is ∙ ap (λ o. action_behind o l.rest ts) (word-known k l.token l.is);
+      behind = l.behind;
+    }
+
+keyed : (k : Keyword) (Rest : List Token → Type 0) (a : Action) → ((us : List Token) → Rest us → action_by k us ≡ Some a) → (ts : List Token) → Then (IsWord k) Rest ts → action_in ts ≡ Some a
+keyed k Rest a f ts s = let r = then-keyed k Rest ts s in r.is ∙ f r.rest r.behind
+
+-- no keyword comes first in a header
+pub record Plain (ts : List Token) : Type 0 where
+  pub token : Token
+  pub rest : List Token
+  pub first_is : next ts ≡ Some (token, rest)
+  pub other : keyword_of token ≡ None
+
+named-plain : (name : List ℕ) (Rest : List Token → Type 0) (ts : List Token) → Then (IsVariable name) Rest ts → Plain ts
+unfolding keyword_of
+named-plain name Rest ts s =
+    let l = then-led (IsVariable name) Rest ts (variable-other name) s in
+    record { token = l.token; rest = l.rest; first_is = l.first_is; other = ap (λ k. keyword_by k l.token.bytes) l.is.0 }
+
+pipeline-plain : (cs : Commands) (ts : List Token) → SpellsPipeline cs ts → Plain ts
+pipeline-plain cs ts s = by (next ts) refl
+  where
+    by-keyword : (t : Token) (us : List Token) → next ts ≡ Some (t, us) → (o : Option Keyword) → keyword_of t ≡ o → Plain ts
+    by-keyword t us e None is = record { token = t; rest = us; first_is = e; other = is }
+    by-keyword t us e (Some k) is =
+        spelled-lives ts cs s (dead-read ts (then-stray (IsWord k) (IsRest us) ts (word-stray k) (led-then (IsWord k) (IsRest us) ts t us e (known-word t k is) refl)))
+
+    by : (o : Option (Token × List Token)) → next ts ≡ o → Plain ts
+    by None e = spelled-lives ts cs s (blank-read ts (no-next ts e))
+    by (Some p) e = by-keyword p.0 p.1 e (keyword_of p.0) refl
+
+whole-plain : (p : Pipeline) (ts : List Token) → SpellsWhole p ts → Plain ts
+whole-plain (pipeline cs) ts s = pipeline-plain cs ts s
+
+header-plain : (b : Binding) (p : Pipeline) (ts : List Token) → SpellsBinding b (SpellsWhole p) ts → Plain ts
+header-plain unbound p ts s = whole-plain p ts s
+header-plain (declare name) p ts s = named-plain name (Then (IsSign kind.Declare) (SpellsWhole p)) ts s
+header-plain (assign name) p ts s = named-plain name (Then (IsSign kind.Assign) (SpellsWhole p)) ts s
+header-plain (declare_pair key name) p ts s =
+    named-plain key (Then (IsSign kind.Comma) (Then (IsVariable name) (Then (IsSign kind.Declare) (SpellsWhole p)))) ts s
+
+bound-read : (s : Shape) (h : Header) (ts : List Token) → SpellsHeader s h ts → option_map (action_with s) (header_in s ts) ≡ Some (action_with s h)
+bound-read s h ts spelled = ap (option_map (action_with s)) (header-read s h ts spelled)
+
+plain-read : (h : Header) (ts : List Token) → SpellsHeader shape.Pipeline h ts → action_in ts ≡ Some (pipeline_action h)
+unfolding action_in
+plain-read h ts s =
+    let l = header-plain h.binding h.pipeline ts s.1 in
+    ap (λ o. action_at o ts) l.first_is
+    ∙ ap (λ o. action_behind o l.rest ts) l.other
+    ∙ bound-read shape.Pipeline h ts s
+
+alone-read : (a : Action) (us : List Token) → IsBlank us → alone a us ≡ Some a
+alone-read a us b = ap (λ w. cond w (Some a) None) (blank-all us b)
+
+else-read : (k : Keyword) (us : List Token) (Rest : List Token → Type 0) (a : Action) → ((vs : List Token) → Rest vs → else_keyword (Some k) vs ≡ Some a) → Then (IsWord k) Rest us → action_by word.Else us ≡ Some a
+else-read k us Rest a f s =
+    let l = then-led (IsWord k) Rest us (word-other k) s in
+    ap else_by l.first_is ∙ ap (λ o. else_keyword o l.rest) (word-known k l.token l.is) ∙ f l.rest l.behind
+
+pub reads_action : ReadsSpelledAction
+reads_action ts (pipeline_action h) s = plain-read h ts s
+reads_action ts (opening c h) s =
+    keyed (word.Control c) (SpellsHeader (shape.Open c) h) (opening c h) (λ us spelled. bound-read (shape.Open c) h us spelled) ts s
+reads_action ts plain_else s = keyed word.Else IsBlank plain_else (λ us b. ap else_by (blank-next us b)) ts s
+reads_action ts (else_branch branch.If h) s =
+    let Spelled : List Token → Type 0 = SpellsHeader (shape.ElseBranch branch.If) h in
+    keyed word.Else (Then (IsWord (word.Control control.If)) Spelled) (else_branch branch.If h)
+    (λ us t. else-read (word.Control control.If) us Spelled (else_branch branch.If h) (λ vs spelled. bound-read (shape.ElseBranch branch.If) h vs spelled) t) ts s
+reads_action ts end_action s = keyed word.End IsBlank end_action (alone-read end_action) ts s
+reads_action ts break_action s = keyed word.Break IsBlank break_action (alone-read break_action) ts s
+reads_action ts continue_action s = keyed word.Continue IsBlank continue_action (alone-read continue_action) ts s
+
+alone-blank : (a c : Action) (us : List Token) → alone a us ≡ Some c → IsBlank us × (a ≡ c)
+alone-blank a c us e = by (is_blank us) refl e
+  where
+    by : (b : Bool) → is_blank us ≡ b → cond b (Some a) None ≡ Some c → IsBlank us × (a ≡ c)
+    by true is e = (all-blank us is, same-value a c e)
+    by false is e = no-value c e
+
+module _ (ts : List Token) (a : Action) where
+  -- an action with a header, by the tokens of the header
+  bound-spelled : (s : Shape) (us : List Token) → ((h : Header) → SpellsHeader s h us → SpellsAction (action_with s h) ts) → option_map (action_with s) (header_in s us) ≡ Some a → SpellsAction a ts
+  bound-spelled s us f e =
+      let h = mapped (action_with s) (header_in s us) a e in
+      subst (λ x. SpellsAction x ts) h.to (f h.source (header-spelled s h.source us h.is))
+
+  alone-spelled : (k : Keyword) (c : Action) (t : Token) (us : List Token) → next ts ≡ Some (t, us) → IsWord k t → (Then (IsWord k) IsBlank ts → SpellsAction c ts) → alone c us ≡ Some a → SpellsAction a ts
+  alone-spelled k c t us n w f e =
+      let b = alone-blank c a us e in
+      subst (λ x. SpellsAction x ts) b.1 (f (led-then (IsWord k) IsBlank ts t us n w b.0))
+
+  else-spelled : (t : Token) (us : List Token) → next ts ≡ Some (t, us) → IsWord word.Else t → else_by (next us) ≡ Some a → SpellsAction a ts
+  else-spelled t us n w e = by (next us) refl e
+    where
+      by-keyword : (s : Token) (vs : List Token) → next us ≡ Some (s, vs) → (o : Option Keyword) → keyword_of s ≡ o → else_keyword o vs ≡ Some a → SpellsAction a ts
+      by-keyword s vs m (Some (word.Control control.If)) is e =
+          bound-spelled (shape.ElseBranch branch.If) vs
+          (λ h spelled. let Spelled : List Token → Type 0 = SpellsHeader (shape.ElseBranch branch.If) h in
+          led-then (IsWord word.Else) (Then (IsWord (word.Control control.If)) Spelled) ts t us n w
+          (led-then (IsWord (word.Control control.If)) Spelled us s vs m (known-word s (word.Control control.If) is) spelled)) e
+      by-keyword s vs m o is e = no-value a e
+
+      by : (o : Option (Token × List Token)) → next us ≡ o → else_by o ≡ Some a → SpellsAction a ts
+      by None m e = subst (λ x. SpellsAction x ts) (same-value plain_else a e) (led-then (IsWord word.Else) IsBlank ts t us n w (no-next us m))
+      by (Some p) m e = by-keyword p.0 p.1 m (keyword_of p.0) refl e
+
+  keyword-spelled : (k : Keyword) (t : Token) (us : List Token) → next ts ≡ Some (t, us) → IsWord k t → action_by k us ≡ Some a → SpellsAction a ts
+  keyword-spelled (word.Control c) t us n w e =
+      bound-spelled (shape.Open c) us (λ h spelled. led-then (IsWord (word.Control c)) (SpellsHeader (shape.Open c) h) ts t us n w spelled) e
+  keyword-spelled word.Else t us n w e = else-spelled t us n w e
+  keyword-spelled word.End t us n w e = alone-spelled word.End end_action t us n w (λ s. s) e
+  keyword-spelled word.Break t us n w e = alone-spelled word.Break break_action t us n w (λ s. s) e
+  keyword-spelled word.Continue t us n w e = alone-spelled word.Continue continue_action t us n w (λ s. s) e
+
+  first-spelled : (o : Option (Token × List Token)) → next ts ≡ o → action_at o ts ≡ Some a → SpellsAction a ts
+  first-spelled None n e = no-value a e
+  first-spelled (Some p) n e = by (keyword_of p.0) refl e
+    where
+      by : (o : Option Keyword) → keyword_of p.0 ≡ o → action_behind o p.1 ts ≡ Some a → SpellsAction a ts
+      by None is e = bound-spelled shape.Pipeline ts (λ h spelled. spelled) e
+      by (Some k) is e = keyword-spelled k p.0 p.1 n (known-word p.0 k is) e
+
+pub spells_action : SpellsReadAction
+unfolding action_in
+spells_action ts a e = first-spelled ts a (next ts) refl e
+
+pub spells_one_action : SpellsOneAction
+spells_one_action ts a b s t = same-value a b (sym (reads_action ts a s) ∙ reads_action ts b t)
+
+-- tokens that are not read spell no action
+pub none-spelled : (ts : List Token) → action_in ts ≡ None → (a : Action) → SpellsAction a ts → ⊥
+none-spelled ts e a s = no-value a (sym e ∙ reads_action ts a s)

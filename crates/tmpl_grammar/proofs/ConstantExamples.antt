@@ -1,0 +1,142 @@
+-- What the definition of constants says of some tokens, computed.
+use Prim.Native.String.{String}
+use Rattle.std.proofs.Common.{◌≡◌, pos, negsuc, [], ◌∷◌, Option, Some, None, refl, codes}
+use Rattle.tmpl_lex.specs.declared.piece.TokenKind.{TokenKind}
+use Rattle.tmpl_lex.specs.declared.piece.TokenKind.TheVariants as kind
+use Rattle.tmpl_lex.specs.Piece.{Token}
+use Rattle.std.specs.Char.{encode_utf8}
+use Rattle.std.specs.Str.{chars}
+use Rattle.tmpl_values.specs.Rune.{first_rune}
+use Rattle.tmpl_grammar.specs.Tree.{Operand, number_constant, text_constant}
+use Rattle.tmpl_grammar.specs.Constant.Integer.{whole}
+use Rattle.tmpl_grammar.specs.Constant.Quoted.{parts, part_at}
+use Rattle.tmpl_grammar.specs.Constant.{constant_of}
+
+abbrev token : TokenKind → String → Token
+token k spelling = record { kind = k; bytes = codes spelling }
+
+abbrev number : String → Option Operand
+number spelling = constant_of (token kind.Number spelling)
+
+abbrev string : String → Option Operand
+string spelling = constant_of (token kind.String spelling)
+
+abbrev character : String → Option Operand
+character spelling = constant_of (token kind.Character spelling)
+
+zero_alone : number "0" ≡ Some (number_constant (pos 0))
+unfolding constant_of whole
+zero_alone = refl
+
+plus_seven : number "+7" ≡ Some (number_constant (pos 7))
+unfolding constant_of whole
+plus_seven = refl
+
+octal : number "017" ≡ Some (number_constant (pos 15))
+unfolding constant_of whole
+octal = refl
+
+hexadecimal : number "0x1F" ≡ Some (number_constant (pos 31))
+unfolding constant_of whole
+hexadecimal = refl
+
+binary : number "-0B1_01" ≡ Some (number_constant (negsuc 4))
+unfolding constant_of whole
+binary = refl
+
+-- 2^63 - 1 is the largest number, and -2^63 the least
+most : number "9223372036854775807" ≡ Some (number_constant (pos 9223372036854775807))
+unfolding constant_of whole
+most = refl
+
+past : number "9223372036854775808" ≡ None
+unfolding constant_of whole
+past = refl
+
+least : number "-0x8000000000000000" ≡ Some (number_constant (negsuc 9223372036854775807))
+unfolding constant_of whole
+least = refl
+
+past_least : number "-9223372036854775809" ≡ None
+unfolding constant_of whole
+past_least = refl
+
+under_prefix : number "0x_1" ≡ Some (number_constant (pos 1))
+unfolding constant_of whole
+under_prefix = refl
+
+bad_octal : number "08" ≡ None
+unfolding constant_of whole
+bad_octal = refl
+
+two_underscores : number "1__0" ≡ None
+unfolding constant_of whole
+two_underscores = refl
+
+last_underscore : number "0x_" ≡ None
+unfolding constant_of whole
+last_underscore = refl
+
+point : number "1.0" ≡ None
+unfolding constant_of whole
+point = refl
+
+-- escapes of one letter, by octal digits, and by digits in base 16
+escapes : string "\"\\n\\\"\\377\\x00\\u00e9\"" ≡ Some (text_constant (10 ∷ 34 ∷ 255 ∷ 0 ∷ 195 ∷ 169 ∷ []))
+unfolding constant_of parts part_at encode_utf8
+escapes = refl
+
+-- 400 in base 8 is no byte
+octal_past : string "\"\\400\"" ≡ None
+unfolding constant_of parts part_at
+octal_past = refl
+
+surrogate : string "\"\\ud800\"" ≡ None
+unfolding constant_of parts part_at
+surrogate = refl
+
+past_unicode : string "\"\\U00110000\"" ≡ None
+unfolding constant_of parts part_at
+past_unicode = refl
+
+-- in a string a single quote is not escaped
+other_quote : string "\"\\'\"" ≡ None
+unfolding constant_of parts part_at
+other_quote = refl
+
+-- runes stand for themselves
+plain : string "\"a\"" ≡ Some (text_constant (97 ∷ []))
+unfolding constant_of parts part_at first_rune chars encode_utf8
+plain = refl
+
+-- an ill-formed byte gives U+FFFD
+ill_formed : constant_of (record { kind = kind.String; bytes = 34 ∷ 255 ∷ 97 ∷ 34 ∷ [] }) ≡ Some (text_constant (239 ∷ 191 ∷ 189 ∷ 97 ∷ []))
+unfolding constant_of parts part_at first_rune chars encode_utf8
+ill_formed = refl
+
+-- in a raw string a backslash and an ill-formed byte stand for themselves, and a carriage return for nothing
+raw : constant_of (record { kind = kind.RawString; bytes = 96 ∷ 92 ∷ 110 ∷ 255 ∷ 13 ∷ 10 ∷ 96 ∷ [] }) ≡ Some (text_constant (92 ∷ 110 ∷ 255 ∷ 10 ∷ []))
+unfolding constant_of
+raw = refl
+
+letter : character "'a'" ≡ Some (number_constant (pos 97))
+unfolding constant_of parts part_at first_rune chars encode_utf8
+letter = refl
+
+-- an ill-formed byte has the code of U+FFFD
+ill_formed_character : constant_of (record { kind = kind.Character; bytes = 39 ∷ 255 ∷ 39 ∷ [] }) ≡ Some (number_constant (pos 65533))
+unfolding constant_of parts part_at first_rune chars encode_utf8
+ill_formed_character = refl
+
+quote : character "'\\''" ≡ Some (number_constant (pos 39))
+unfolding constant_of parts part_at
+quote = refl
+
+-- two runes, or none, are no character
+two : character "'ab'" ≡ None
+unfolding constant_of parts part_at first_rune chars encode_utf8
+two = refl
+
+none : character "''" ≡ None
+unfolding constant_of parts part_at
+none = refl

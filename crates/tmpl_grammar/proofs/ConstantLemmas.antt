@@ -1,0 +1,183 @@
+-- What the operands of one token are.
+use Rattle.std.proofs.Common.{◌≡◌, ℕ, ℤ, pos, Bool, true, false, List, [], ◌∷◌, Option, Some, None, refl, cond, bytes_eq, codes}
+use Rattle.std.specs.Option.{option_map}
+use Rattle.tmpl_funcs.specs.declared.func.Func.{Func}
+use Rattle.tmpl_lex.specs.declared.piece.TokenKind.{TokenKind}
+use Rattle.tmpl_lex.specs.declared.piece.TokenKind.TheVariants as kind
+use Rattle.tmpl_lex.specs.Piece.{Token}
+use Rattle.tmpl_grammar.specs.Constant.{constant_of, constant_by}
+use Rattle.tmpl_grammar.specs.Constant.Integer.{whole}
+use Rattle.tmpl_grammar.specs.Constant.Quoted.{between, unquoted, rune_code}
+use Rattle.tmpl_grammar.specs.Token.{begins_name, name_in}
+use Rattle.tmpl_grammar.specs.Tree as tree
+use Rattle.tmpl_grammar.specs.Tree.{Operand}
+use Rattle.tmpl_grammar.specs.Operand.{operand_at, operand_by, word_operand, func_named, field_operand}
+use Rattle.tmpl_grammar.specs.Depth.{depth_of_operand}
+
+-- a number or a text
+abbrev pub IsValue : Option Operand → Type 0
+IsValue None = Unit {0}
+IsValue (Some tree.dot) = ⊥
+IsValue (Some (tree.fields names)) = ⊥
+IsValue (Some (tree.variable name names)) = ⊥
+IsValue (Some (tree.bool_constant b)) = ⊥
+IsValue (Some (tree.number_constant n)) = Unit {0}
+IsValue (Some (tree.text_constant bytes)) = Unit {0}
+IsValue (Some tree.nil) = ⊥
+IsValue (Some (tree.function f)) = ⊥
+IsValue (Some (tree.group commands names)) = ⊥
+
+number-value : (o : Option ℤ) → IsValue (option_map tree.number_constant o)
+number-value None = tt
+number-value (Some n) = tt
+
+text-value : (o : Option (List ℕ)) → IsValue (option_map tree.text_constant o)
+text-value None = tt
+text-value (Some bytes) = tt
+
+rune-value : (o : Option ℕ) → IsValue (option_map (λ n. tree.number_constant (pos n)) o)
+rune-value None = tt
+rune-value (Some n) = tt
+
+value-by : (k : TokenKind) (bytes : List ℕ) → IsValue (constant_by k bytes)
+value-by kind.Number bytes = number-value (whole bytes)
+value-by kind.String bytes = text-value (unquoted 34 (between bytes))
+value-by kind.RawString bytes = tt
+value-by kind.Character bytes = rune-value (rune_code 39 (between bytes))
+value-by kind.Space bytes = tt
+value-by kind.Word bytes = tt
+value-by kind.Field bytes = tt
+value-by kind.Dot bytes = tt
+value-by kind.Variable bytes = tt
+value-by kind.Declare bytes = tt
+value-by kind.Assign bytes = tt
+value-by kind.Comma bytes = tt
+value-by kind.Pipe bytes = tt
+value-by kind.LeftParenthesis bytes = tt
+value-by kind.RightParenthesis bytes = tt
+
+pub constant-value : (t : Token) → IsValue (constant_of t)
+unfolding constant_of
+constant-value t = value-by t.kind t.bytes
+
+-- an operand without parentheses
+abbrev pub IsFlat : Option Operand → Type 0
+IsFlat None = Unit {0}
+IsFlat (Some o) = depth_of_operand o ≡ 0
+
+value-flat : (o : Option Operand) → IsValue o → IsFlat o
+value-flat None v = tt
+value-flat (Some tree.dot) v = absurd v
+value-flat (Some (tree.fields names)) v = absurd v
+value-flat (Some (tree.variable name names)) v = absurd v
+value-flat (Some (tree.bool_constant b)) v = absurd v
+value-flat (Some (tree.number_constant n)) v = refl
+value-flat (Some (tree.text_constant bytes)) v = refl
+value-flat (Some tree.nil) v = absurd v
+value-flat (Some (tree.function f)) v = absurd v
+value-flat (Some (tree.group commands names)) v = absurd v
+
+function-flat : (o : Option Func) → IsFlat (option_map tree.function o)
+function-flat None = tt
+function-flat (Some f) = refl
+
+cond-flat : (b : Bool) (o p : Option Operand) → IsFlat o → IsFlat p → IsFlat (cond b o p)
+cond-flat true o p x y = x
+cond-flat false o p x y = y
+
+word-flat : (name : List ℕ) → IsFlat (word_operand name)
+unfolding word_operand
+word-flat name =
+    cond-flat (bytes_eq name (codes "true")) (Some (tree.bool_constant true)) _ refl
+    (cond-flat (bytes_eq name (codes "false")) (Some (tree.bool_constant false)) _ refl
+    (cond-flat (bytes_eq name (codes "nil")) (Some tree.nil) _ refl (function-flat (func_named name))))
+
+field-flat : (b : Bool) (name : List ℕ) → IsFlat (field_operand b name)
+field-flat true name = refl
+field-flat false name = tt
+
+flat-by : (k : TokenKind) (t : Token) → IsFlat (operand_by k t)
+flat-by kind.Dot t = refl
+flat-by kind.Field t = field-flat (begins_name (name_in t)) (name_in t)
+flat-by kind.Variable t = refl
+flat-by kind.Word t = word-flat t.bytes
+flat-by kind.Number t = value-flat (constant_of t) (constant-value t)
+flat-by kind.String t = value-flat (constant_of t) (constant-value t)
+flat-by kind.RawString t = value-flat (constant_of t) (constant-value t)
+flat-by kind.Character t = value-flat (constant_of t) (constant-value t)
+flat-by kind.Space t = tt
+flat-by kind.Declare t = tt
+flat-by kind.Assign t = tt
+flat-by kind.Comma t = tt
+flat-by kind.Pipe t = tt
+flat-by kind.LeftParenthesis t = tt
+flat-by kind.RightParenthesis t = tt
+
+pub flat-at : (t : Token) → IsFlat (operand_at t)
+unfolding operand_at
+flat-at t = flat-by t.kind t
+
+-- an operand of one token
+abbrev pub IsToken : Option Operand → Type 0
+IsToken None = Unit {0}
+IsToken (Some tree.dot) = Unit {0}
+IsToken (Some (tree.fields names)) = (n : List ℕ) × (names ≡ n ∷ [])
+IsToken (Some (tree.variable name names)) = names ≡ []
+IsToken (Some (tree.bool_constant b)) = Unit {0}
+IsToken (Some (tree.number_constant n)) = Unit {0}
+IsToken (Some (tree.text_constant bytes)) = Unit {0}
+IsToken (Some tree.nil) = Unit {0}
+IsToken (Some (tree.function f)) = Unit {0}
+IsToken (Some (tree.group commands names)) = ⊥
+
+value-token : (o : Option Operand) → IsValue o → IsToken o
+value-token None v = tt
+value-token (Some tree.dot) v = tt
+value-token (Some (tree.fields names)) v = absurd v
+value-token (Some (tree.variable name names)) v = absurd v
+value-token (Some (tree.bool_constant b)) v = tt
+value-token (Some (tree.number_constant n)) v = tt
+value-token (Some (tree.text_constant bytes)) v = tt
+value-token (Some tree.nil) v = tt
+value-token (Some (tree.function f)) v = tt
+value-token (Some (tree.group commands names)) v = absurd v
+
+function-token : (o : Option Func) → IsToken (option_map tree.function o)
+function-token None = tt
+function-token (Some f) = tt
+
+cond-token : (b : Bool) (o p : Option Operand) → IsToken o → IsToken p → IsToken (cond b o p)
+cond-token true o p x y = x
+cond-token false o p x y = y
+
+word-token : (name : List ℕ) → IsToken (word_operand name)
+unfolding word_operand
+word-token name =
+    cond-token (bytes_eq name (codes "true")) (Some (tree.bool_constant true)) _ tt
+    (cond-token (bytes_eq name (codes "false")) (Some (tree.bool_constant false)) _ tt
+    (cond-token (bytes_eq name (codes "nil")) (Some tree.nil) _ tt (function-token (func_named name))))
+
+field-token : (b : Bool) (name : List ℕ) → IsToken (field_operand b name)
+field-token true name = (name, refl)
+field-token false name = tt
+
+token-by : (k : TokenKind) (t : Token) → IsToken (operand_by k t)
+token-by kind.Dot t = tt
+token-by kind.Field t = field-token (begins_name (name_in t)) (name_in t)
+token-by kind.Variable t = refl
+token-by kind.Word t = word-token t.bytes
+token-by kind.Number t = value-token (constant_of t) (constant-value t)
+token-by kind.String t = value-token (constant_of t) (constant-value t)
+token-by kind.RawString t = value-token (constant_of t) (constant-value t)
+token-by kind.Character t = value-token (constant_of t) (constant-value t)
+token-by kind.Space t = tt
+token-by kind.Declare t = tt
+token-by kind.Assign t = tt
+token-by kind.Comma t = tt
+token-by kind.Pipe t = tt
+token-by kind.LeftParenthesis t = tt
+token-by kind.RightParenthesis t = tt
+
+pub token-form : (t : Token) → IsToken (operand_at t)
+unfolding operand_at
+token-form t = token-by t.kind t

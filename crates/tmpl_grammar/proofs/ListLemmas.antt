@@ -1,0 +1,33 @@
+-- Lists through a map, the last of a list, and the rest of one.
+use Rattle.std.proofs.Common.{arith, ◌≡◌, ◌∙◌, ◌+◌, ◌-◌, ◌≤◌, ◌<◌, ℕ, zero, suc, Bool, List, [], ◌∷◌, ◌++◌, refl, ap, sym, cond, get_or, drop-cons, add-one, map, length, take, drop, length-drop, reverse}
+use Rattle.std.specs.List.{prefix_len}
+use Rattle.std.proofs.Math.Seq.{take-length}
+use Rattle.std.proofs.lemmas.List.{map-append, reverse-append}
+use Rattle.std.proofs.lemmas.List.Sums.{prefix_len-le-length, suffix_len-le-length}
+
+-- the last of a list is the first of its reverse
+pub last-first : {X Y : Type 0} (f : X → Y) (xs ys : List X) (x : X) → xs ≡ ys ++ x ∷ [] → reverse (map f xs) ≡ f x ∷ reverse (map f ys)
+last-first f xs ys x is = ap (λ zs. reverse (map f zs)) is ∙ ap reverse (map-append f ys (x ∷ [])) ∙ reverse-append (map f ys) (f x ∷ [])
+
+pub prefix-map : {X Y : Type 0} (p : Y → Bool) (f : X → Y) (xs : List X) → prefix_len p (map f xs) ≡ prefix_len (λ x. p (f x)) xs
+prefix-map p f [] = refl
+prefix-map p f (x ∷ xs) = ap (λ n. cond (p (f x)) (1 + n) 0) (prefix-map p f xs)
+
+-- the elements from a place on, as a slice of them to the end
+pub take-rest : {X : Type 0} (xs : List X) (k n : ℕ) → k ≤ length xs → n ≡ length xs - k → take n (drop k xs) ≡ drop k xs
+take-rest xs k n h e = ap (λ m. take m (drop k xs)) (let same : n ≡ length (drop k xs) = omega (arith, length-drop k xs) in same) ∙ take-length (drop k xs)
+
+pub take-full : {X : Type 0} (xs : List X) (k : ℕ) → length xs ≤ k → take k xs ≡ xs
+take-full [] zero h = refl
+take-full [] (suc k) h = refl
+take-full (x ∷ xs) zero h = absurd (omega arith)
+take-full (x ∷ xs) (suc k) h = ap (λ ys. x ∷ ys) (take-full xs k (omega arith))
+
+pub map-map : {X Y Z : Type 0} (g : Y → Z) (f : X → Y) (xs : List X) → map g (map f xs) ≡ map (λ x. g (f x)) xs
+map-map g f [] = refl
+map-map g f (x ∷ xs) = ap (λ ys. g (f x) ∷ ys) (map-map g f xs)
+
+pub drop-one : {X : Type 0} (xs : List X) (i : ℕ) (d : X) → i < length xs → drop i xs ≡ get_or xs i d ∷ drop (i + 1) xs
+drop-one xs i d h = drop-cons xs i d h ∙ ap (λ n. get_or xs i d ∷ drop n xs) (sym (add-one i))
+
+pub ruleset runs = (prefix_len-le-length, suffix_len-le-length)

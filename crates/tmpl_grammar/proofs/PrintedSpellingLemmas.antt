@@ -1,0 +1,222 @@
+-- The tokens of a printed pipeline or action spell it.
+use Rattle.std.proofs.Common.{arith, ◌≡◌, ◌∙◌, ℕ, ◌-◌, Bool, true, false, List, [], ◌∷◌, ◌++◌, Some, refl, sym, ap, append_assoc, length, take, length-append}
+use Rattle.std.specs.Option.{option_map}
+use Rattle.std.proofs.Math.Seq.{take-append_seam}
+use Rattle.tmpl_values.specs.Quote.{quote, inside}
+use Rattle.tmpl_values.specs.Printable.{printable}
+use Rattle.tmpl_values.proofs.Runes.{AreBytes}
+use Rattle.tmpl_funcs.specs.declared.func.Func.{Func}
+use Rattle.tmpl_funcs.specs.declared.func.Func.TheVariants.{And, Or, Not, Len, Index, Slice, Print, Println, Printf, Html, Urlquery, Eq, Ne, Lt, Le, Gt, Ge}
+use Rattle.tmpl_funcs.specs.Func.{name_of}
+use Rattle.tmpl_lex.specs.Piece.{Token}
+use Rattle.tmpl_lex.specs.declared.piece.TokenKind.TheVariants as kind
+use Rattle.tmpl_grammar.specs.Token.{begins_name}
+use Rattle.tmpl_grammar.specs.Tree as tree
+use Rattle.tmpl_grammar.specs.Tree.{Operand, Operands, Commands, Pipeline, pipeline, Binding, unbound, declare, assign, Header, declare_pair}
+use Rattle.tmpl_grammar.specs.Action.{Action, pipeline_action, opening, plain_else, else_branch, end_action, break_action, continue_action, SpellsAction}
+use Rattle.tmpl_grammar.specs.Pipeline.{IsBlank, IsChain, SpellsOperand, SpellsMore, SpellsCommand, SpellsLater, SpellsPipeline}
+use Rattle.tmpl_grammar.specs.Header.{Then, IsVariable, IsSign, IsName, SpellsHeader, SpellsBinding, SpellsWhole}
+use Rattle.tmpl_grammar.specs.Constant.{constant_of}
+use Rattle.tmpl_grammar.specs.Constant.Quoted.{between, unquoted}
+use Rattle.tmpl_grammar.specs.Operand.{operand_at, word_operand, func_named, field_operand}
+use Rattle.tmpl_grammar.specs.Print.{token, space, word, chain_tokens, truth_word, operand_tokens, more_tokens, command_tokens, later_tokens, commands_tokens, header_tokens, action_tokens, binding_tokens, pipeline_tokens}
+use Rattle.tmpl_grammar.specs.Printable.{AreFieldNames, OfOperand, OfMore, OfCommand, OfLater, OfCommands, OfPipeline, OfBinding, OfAction, OfHeader}
+use Rattle.tmpl_grammar.specs.declared.action.Shape.{Shape}
+use Rattle.tmpl_grammar.specs.declared.action.Shape.TheVariants as shape
+use Rattle.tmpl_grammar.proofs.QuotePartLemmas.{unquoted-inside}
+use Rattle.tmpl_grammar.proofs.PrintedNumberLemmas.{whole-decimal}
+
+-- ---- operands of one token
+
+spells_chain : (ns : List (List ℕ)) → AreFieldNames ns → IsChain ns (chain_tokens ns)
+spells_chain [] h = refl
+spells_chain (n ∷ ns) h = (token kind.Field (46 ∷ n), chain_tokens ns, refl, refl, h.0.0, refl, spells_chain ns h.1)
+
+field_at : (n : List ℕ) → begins_name n ≡ true → operand_at (token kind.Field (46 ∷ n)) ≡ Some (tree.fields (n ∷ []))
+unfolding operand_at
+field_at n h = ap (λ k. field_operand k n) h
+
+variable_at : (n : List ℕ) → operand_at (token kind.Variable (36 ∷ n)) ≡ Some (tree.variable n [])
+unfolding operand_at
+variable_at n = refl
+
+dot_at : operand_at (token kind.Dot (46 ∷ [])) ≡ Some tree.dot
+unfolding operand_at
+dot_at = refl
+
+truth_at : (b : Bool) → operand_at (word (truth_word b)) ≡ Some (tree.bool_constant b)
+unfolding operand_at word_operand
+truth_at true = refl
+truth_at false = refl
+
+nil_at : operand_at (word (110 ∷ 105 ∷ 108 ∷ [])) ≡ Some tree.nil
+unfolding operand_at word_operand
+nil_at = refl
+
+function_at : (f : Func) → operand_at (word (name_of f)) ≡ Some (tree.function f)
+unfolding operand_at word_operand func_named
+function_at And = refl
+function_at Or = refl
+function_at Not = refl
+function_at Len = refl
+function_at Index = refl
+function_at Slice = refl
+function_at Print = refl
+function_at Println = refl
+function_at Printf = refl
+function_at Html = refl
+function_at Urlquery = refl
+function_at Eq = refl
+function_at Ne = refl
+function_at Lt = refl
+function_at Le = refl
+function_at Gt = refl
+function_at Ge = refl
+
+number_at : (bs : List ℕ) (n : lib.IntN.ℤ) → Rattle.tmpl_grammar.specs.Constant.Integer.whole bs ≡ Some n → operand_at (token kind.Number bs) ≡ Some (tree.number_constant n)
+unfolding operand_at constant_of
+number_at bs n h = ap (option_map tree.number_constant) h
+
+pub between_quotes : (xs : List ℕ) → between (34 ∷ (xs ++ 34 ∷ [])) ≡ xs
+between_quotes xs =
+    let n : length (34 ∷ (xs ++ 34 ∷ [])) - 2 ≡ length xs = omega (arith, length-append xs (34 ∷ [])) in
+    ap (λ k. take k (xs ++ 34 ∷ [])) n ∙ take-append_seam xs (34 ∷ [])
+
+string_at : (bs : List ℕ) → AreBytes bs → operand_at (token kind.String (quote bs)) ≡ Some (tree.text_constant bs)
+unfolding operand_at constant_of quote
+string_at bs h =
+    ap (λ xs. option_map tree.text_constant (unquoted 34 xs)) (between_quotes (inside printable bs))
+    ∙ ap (option_map tree.text_constant) (unquoted-inside printable bs h)
+
+-- ---- pipelines
+
+-- what stands behind a command: perhaps white space, and bars and commands
+record Follows (cs : Commands) : Type 0 where
+  white : List Token
+  others : List Token
+  tokens_are : later_tokens cs ≡ white ++ others
+  blank : IsBlank white
+  spells : SpellsLater cs others
+
+-- a command behind one more space
+spaced : (os : Operands) (ts : List Token) → SpellsCommand os ts → SpellsCommand os (space ∷ ts)
+spaced tree.no_operand ts s = s
+spaced (tree.operand o os) ts s = (space ∷ s.0, s.1, s.2, ap (λ us. space ∷ us) s.3, (refl, s.4), s.5, s.6)
+
+mutual
+  spells_operand : (o : Operand) → OfOperand o → SpellsOperand o (operand_tokens o)
+  spells_operand tree.dot h = (token kind.Dot (46 ∷ []), [], refl, dot_at, refl)
+  spells_operand (tree.fields []) h = absurd h
+  spells_operand (tree.fields (n ∷ ns)) h = (token kind.Field (46 ∷ n), chain_tokens ns, refl, field_at n h.0.0, spells_chain ns h.1)
+  spells_operand (tree.variable name names) h = (token kind.Variable (36 ∷ name), chain_tokens names, refl, variable_at name, spells_chain names h.1)
+  spells_operand (tree.bool_constant b) h = (word (truth_word b), [], refl, truth_at b, refl)
+  spells_operand (tree.number_constant n) h = (token kind.Number _, [], refl, number_at _ n (whole-decimal n h), refl)
+  spells_operand (tree.text_constant bytes) h = (token kind.String (quote bytes), [], refl, string_at bytes h, refl)
+  spells_operand tree.nil h = (word _, [], refl, nil_at, refl)
+  spells_operand (tree.function f) h = (word (name_of f), [], refl, function_at f, refl)
+  spells_operand (tree.group commands names) h = (token kind.LeftParenthesis (40 ∷ []), commands_tokens commands, token kind.RightParenthesis (41 ∷ []), chain_tokens names, refl, refl, refl, spells_commands commands h.0, spells_chain names h.1)
+
+  -- with white space behind it
+  spells_more : (os : Operands) (ws : List Token) → OfMore os → IsBlank ws → SpellsMore os (more_tokens os ++ ws)
+  spells_more tree.no_operand ws h w = w
+  spells_more (tree.operand o os) ws h w =
+      (space, [], operand_tokens o, more_tokens os ++ ws, ap (λ ts. space ∷ ts) (append_assoc (operand_tokens o) (more_tokens os) ws), (refl, tt), spells_operand o h.0, spells_more os ws h.1 w)
+
+  spells_command : (os : Operands) (ws : List Token) → OfCommand os → IsBlank ws → SpellsCommand os (command_tokens os ++ ws)
+  spells_command tree.no_operand ws h w = h
+  spells_command (tree.operand o os) ws h w =
+      ([], operand_tokens o, more_tokens os ++ ws, append_assoc (operand_tokens o) (more_tokens os) ws, tt, spells_operand o h.0, spells_more os ws h.1 w)
+
+  -- a command behind white space
+  follows : (cs : Commands) → OfLater cs → Follows cs
+  follows tree.no_command h = record { white = []; others = []; tokens_are = refl; blank = tt; spells = refl }
+  follows (tree.command os cs) h =
+      let f = follows cs h.2 in
+      let behind = spells_command os f.white h.1 f.blank in
+      record {
+        white = space ∷ [];
+        others = token kind.Pipe (124 ∷ []) ∷ space ∷ (command_tokens os ++ later_tokens cs);
+        tokens_are = refl;
+        blank = (refl, tt);
+        spells = (
+          token kind.Pipe (124 ∷ []),
+          space ∷ (command_tokens os ++ f.white),
+          f.others,
+          ap (λ ts. token kind.Pipe (124 ∷ []) ∷ space ∷ ts) (ap (λ us. command_tokens os ++ us) f.tokens_are ∙ sym (append_assoc (command_tokens os) f.white f.others)),
+          refl,
+          h.0,
+          spaced os (command_tokens os ++ f.white) behind,
+          f.spells,
+        );
+      }
+
+  spells_commands : (cs : Commands) → OfCommands cs → SpellsPipeline cs (commands_tokens cs)
+  spells_commands tree.no_command h = h
+  spells_commands (tree.command os cs) h =
+      let f = follows cs h.1 in
+      (command_tokens os ++ f.white, f.others, ap (λ us. command_tokens os ++ us) f.tokens_are ∙ sym (append_assoc (command_tokens os) f.white f.others), spells_command os f.white h.0 f.blank, f.spells)
+
+pub spells_pipeline : (cs : Commands) → OfPipeline (pipeline cs) → SpellsPipeline cs (commands_tokens cs)
+spells_pipeline cs h = spells_commands cs h.0
+
+-- ---- actions
+
+-- a pipeline behind white space
+pub spaced_pipeline : (cs : Commands) → OfPipeline (pipeline cs) → SpellsPipeline cs (space ∷ commands_tokens cs)
+spaced_pipeline tree.no_command h = h.0
+spaced_pipeline (tree.command os cs) h =
+    let s = spells_pipeline (tree.command os cs) h in
+    (space ∷ s.0, s.1, ap (λ ts. space ∷ ts) s.2, spaced os s.0 s.3, s.4)
+
+spells_whole : (p : Pipeline) → OfPipeline p → SpellsWhole p (pipeline_tokens p)
+spells_whole (pipeline cs) h = spells_pipeline cs h
+
+spaced_whole : (p : Pipeline) → OfPipeline p → SpellsWhole p (space ∷ pipeline_tokens p)
+spaced_whole (pipeline cs) h = spaced_pipeline cs h
+
+-- a variable, and a sign and a pipeline behind it
+signed : (name : List ℕ) (p : Pipeline) (sign : Token) → IsName name → OfPipeline p
+    → (ws : List Token) → IsBlank ws → Then (IsVariable name) (Then (IsSign sign.kind) (SpellsWhole p)) (ws ++ token kind.Variable (36 ∷ name) ∷ space ∷ sign ∷ space ∷ pipeline_tokens p)
+signed name p sign h k ws w = (
+  ws,
+  token kind.Variable (36 ∷ name),
+  space ∷ sign ∷ space ∷ pipeline_tokens p,
+  refl,
+  w,
+  (refl, refl, h),
+  (space ∷ [], sign, space ∷ pipeline_tokens p, refl, (refl, tt), refl, spaced_whole p k),
+)
+
+-- two variables, and a pipeline behind them
+paired : (key name : List ℕ) (p : Pipeline) → IsName key → IsName name → OfPipeline p
+    → (ws : List Token) → IsBlank ws → SpellsBinding (declare_pair key name) (SpellsWhole p) (ws ++ (binding_tokens (declare_pair key name) ++ pipeline_tokens p))
+paired key name p h i k ws w = (
+  ws,
+  token kind.Variable (36 ∷ key),
+  token kind.Comma (44 ∷ []) ∷ space ∷ token kind.Variable (36 ∷ name) ∷ space ∷ token kind.Declare (58 ∷ 61 ∷ []) ∷ space ∷ pipeline_tokens p,
+  refl,
+  w,
+  (refl, refl, h),
+  ([], token kind.Comma (44 ∷ []), _, refl, tt, refl, signed name p (token kind.Declare (58 ∷ 61 ∷ [])) i k (space ∷ []) (refl, tt)),
+)
+
+-- a header behind a space, and at the front
+spells_bound : (b : Binding) (p : Pipeline) → OfBinding b → OfPipeline p
+    → SpellsBinding b (SpellsWhole p) (space ∷ (binding_tokens b ++ pipeline_tokens p)) × SpellsBinding b (SpellsWhole p) (binding_tokens b ++ pipeline_tokens p)
+spells_bound unbound p h k = (spaced_whole p k, spells_whole p k)
+spells_bound (declare name) p h k = (signed name p (token kind.Declare (58 ∷ 61 ∷ [])) h.0 k (space ∷ []) (refl, tt), signed name p (token kind.Declare (58 ∷ 61 ∷ [])) h.0 k [] tt)
+spells_bound (assign name) p h k = (signed name p (token kind.Assign (61 ∷ [])) h.0 k (space ∷ []) (refl, tt), signed name p (token kind.Assign (61 ∷ [])) h.0 k [] tt)
+spells_bound (declare_pair key name) p h k = (paired key name p h.0.0 h.1.0 k (space ∷ []) (refl, tt), paired key name p h.0.0 h.1.0 k [] tt)
+
+spells_header : (s : Shape) (h : Header) → OfHeader s h → SpellsHeader s h (space ∷ header_tokens h)
+spells_header s h of = (of.0, (spells_bound h.binding h.pipeline of.1 of.2).0)
+
+pub spells_tokens : (a : Action) → OfAction a → SpellsAction a (action_tokens a)
+spells_tokens (pipeline_action h) of = (of.0, (spells_bound h.binding h.pipeline of.1 of.2).1)
+spells_tokens (opening c h) of = ([], word _, _, refl, tt, (refl, refl), spells_header (shape.Open c) h of)
+spells_tokens plain_else of = ([], word _, [], refl, tt, (refl, refl), tt)
+spells_tokens (else_branch br h) of =
+    ([], word _, _, refl, tt, (refl, refl), (space ∷ [], word _, _, refl, (refl, tt), (refl, refl), spells_header (shape.ElseBranch br) h of))
+spells_tokens end_action of = ([], word _, [], refl, tt, (refl, refl), tt)
+spells_tokens break_action of = ([], word _, [], refl, tt, (refl, refl), tt)
+spells_tokens continue_action of = ([], word _, [], refl, tt, (refl, refl), tt)

@@ -1,0 +1,420 @@
+-- What is read is what the grammar spells.
+use Rattle.std.proofs.Common.{◌≡◌, ◌∙◌, ℕ, true, false, Bool, List, [], ◌∷◌, ◌++◌, Option, Some, None, refl, ap, sym, subst, append_assoc}
+use Rattle.std.proofs.lemmas.List.{append-nil}
+use Rattle.std.specs.Option.{option_map, option_and_then}
+use Rattle.tmpl_lex.specs.declared.piece.TokenKind.{TokenKind}
+use Rattle.tmpl_lex.specs.declared.piece.TokenKind.TheVariants as kind
+use Rattle.tmpl_lex.specs.Piece.{Token}
+use Rattle.tmpl_grammar.specs.Token.{begins_name, name_in}
+use Rattle.tmpl_grammar.specs.Tree as tree
+use Rattle.tmpl_grammar.specs.Tree.{Operand, Operands, Commands, operands_from, commands_from}
+use Rattle.tmpl_grammar.specs.Operand.{operand_at, begins_later}
+use Rattle.tmpl_grammar.specs.computed.Parser as half
+use Rattle.tmpl_grammar.specs.computed.Parser.{Parser, Partial, settled, more_commands, may_stand, kept, linked, linked_by, step, step_by, steps, finished, finished_with, commands_after}
+use Rattle.tmpl_grammar.specs.Pipeline.{IsBlank, IsChain, IsChained, MayBeLater, SpellsOperand, SpellsMore, SpellsCommand, SpellsLater, SpellsPipeline}
+use Rattle.tmpl_grammar.proofs.ConstantLemmas.{IsToken, token-form}
+use Rattle.tmpl_grammar.proofs.SpelledLemmas.{half_at, operand_list, command_list, operands-back, commands-back}
+
+-- fields continue an operand's chain
+abbrev Extends : Operand → List Token → Operand → Type 0
+Extends o [] p = o ≡ p
+Extends o (t ∷ ts) p = (t.kind ≡ kind.Field) × (begins_name (name_in t) ≡ true) × ((q : Operand) × (linked o (name_in t) ≡ Some q) × Extends q ts p)
+
+-- the first operand of a command, where it may begin it
+abbrev MayBegin : List Operands → Operands → Type 0
+MayBegin cs tree.no_operand = ⊥
+MayBegin cs (tree.operand o os) = may_stand cs [] o ≡ true
+
+-- perhaps white space, and perhaps more operands
+abbrev SpellsApart : Operands → List Token → Type 0
+SpellsApart tree.no_operand ts = IsBlank ts
+SpellsApart (tree.operand o os) ts = SpellsCommand (tree.operand o os) ts
+
+-- more operands than one that is there end the command
+pub record Continued (o : Operand) (more : Operands) (ts : List Token) : Type 0 where
+  pub whole : Operand
+  pub others : Operands
+  pub chain : List Token
+  pub rest : List Token
+  pub tokens_are : ts ≡ chain ++ rest
+  pub more_are : more ≡ tree.operand whole others
+  pub extends : Extends o chain whole
+  pub spells : SpellsMore others rest
+
+-- tokens end a command that has these operands so far, by these more
+abbrev EndsCommand : Option Operand → List Operands → List Operand → Operands → List Token → Type 0
+EndsCommand (Some o) cs os more ts = Continued o more ts
+EndsCommand None cs [] more ts = SpellsCommand more ts × MayBegin cs more
+EndsCommand None cs (o ∷ os) more ts = SpellsApart more ts
+
+-- tokens end a pipeline
+pub record EndsLevel (last : Option Operand) (cs : List Operands) (os : List Operand) (ts : List Token) (all : List Operands) : Type 0 where
+  pub more : Operands
+  pub later : Commands
+  pub front : List Token
+  pub back : List Token
+  pub tokens_are : ts ≡ front ++ back
+  pub ends : EndsCommand last cs os more front
+  pub spells : SpellsLater later back
+  pub all_are : all ≡ cs ++ operands_from (os ++ operand_list more) ∷ command_list later
+
+-- tokens end a pipeline with those around it
+abbrev EndsIn : List Partial → Option Operand → List Operands → List Operand → List Token → List Operands → Type 0
+EndsIn [] last cs os ts all = EndsLevel last cs os ts all
+EndsIn (l ∷ ls) last cs os ts all =
+    (a : List Token) × (r : Token) × (b : List Token) × (inner : List Operands) × (ts ≡ a ++ r ∷ b) × (r.kind ≡ kind.RightParenthesis)
+    × EndsLevel last cs os a inner × EndsIn ls (Some (tree.group (commands_from inner) [])) l.commands l.operands b all
+
+abbrev EndsHalf : Parser → List Token → List Operands → Type 0
+EndsHalf h ts all = EndsIn h.outer h.last h.inner.commands h.inner.operands ts all
+
+-- ---- one token more at the front
+
+-- where a token only changes the innermost pipeline
+within-level : (ls : List Partial) (t : Token) (last pre : Option Operand) (cs ds : List Operands) (os qs : List Operand) → ((ts : List Token) (all : List Operands) → EndsLevel last cs os ts all → EndsLevel pre ds qs (t ∷ ts) all) → (ts : List Token) (all : List Operands) → EndsIn ls last cs os ts all → EndsIn ls pre ds qs (t ∷ ts) all
+within-level [] t last pre cs ds os qs f ts all e = f ts all e
+within-level (l ∷ ls) t last pre cs ds os qs f ts all (a, r, b, inner, is, right, level, rest) =
+    (t ∷ a, r, b, inner, ap (λ us. t ∷ us) is, right, f a inner level, rest)
+
+-- white space behind an operand
+space-behind : (t : Token) (o : Operand) (cs : List Operands) (os : List Operand) → t.kind ≡ kind.Space → (ts : List Token) (all : List Operands) → EndsLevel None cs (os ++ o ∷ []) ts all → EndsLevel (Some o) cs os (t ∷ ts) all
+space-behind t o cs os is ts all e = record {
+  more = tree.operand o e.more;
+  later = e.later;
+  front = t ∷ e.front;
+  back = e.back;
+  tokens_are = ap (λ us. t ∷ us) e.tokens_are;
+  ends = record {
+    whole = o;
+    others = e.more;
+    chain = [];
+    rest = t ∷ e.front;
+    tokens_are = refl;
+    more_are = refl;
+    extends = refl;
+    spells = by os e.more e.ends;
+  };
+  spells = e.spells;
+  all_are = e.all_are ∙ ap (λ qs. cs ++ operands_from qs ∷ command_list e.later) (append_assoc os (o ∷ []) (operand_list e.more));
+}
+  where
+    apart : (more : Operands) → SpellsApart more e.front → SpellsMore more (t ∷ e.front)
+    apart tree.no_operand s = (is, s)
+    apart (tree.operand p ps) (ws, a, b, at, blank, spells, rest) = (t, ws, a, b, ap (λ us. t ∷ us) at, (is, blank), spells, rest)
+
+    by : (os : List Operand) (more : Operands) → EndsCommand None cs (os ++ o ∷ []) more e.front → SpellsMore more (t ∷ e.front)
+    by [] more s = apart more s
+    by (q ∷ os) more s = apart more s
+
+-- white space before an operand
+space-before : (t : Token) (cs : List Operands) (os : List Operand) → t.kind ≡ kind.Space → (ts : List Token) (all : List Operands) → EndsLevel None cs os ts all → EndsLevel None cs os (t ∷ ts) all
+space-before t cs os is ts all e = record {
+  more = e.more;
+  later = e.later;
+  front = t ∷ e.front;
+  back = e.back;
+  tokens_are = ap (λ us. t ∷ us) e.tokens_are;
+  ends = by os e.more e.ends;
+  spells = e.spells;
+  all_are = e.all_are;
+}
+  where
+    spaced : (more : Operands) → SpellsCommand more e.front → SpellsCommand more (t ∷ e.front)
+    spaced tree.no_operand s = absurd s
+    spaced (tree.operand p ps) (ws, a, b, at, blank, spells, rest) = (t ∷ ws, a, b, ap (λ us. t ∷ us) at, (is, blank), spells, rest)
+
+    apart : (more : Operands) → SpellsApart more e.front → SpellsApart more (t ∷ e.front)
+    apart tree.no_operand s = (is, s)
+    apart (tree.operand p ps) s = spaced (tree.operand p ps) s
+
+    by : (os : List Operand) (more : Operands) → EndsCommand None cs os more e.front → EndsCommand None cs os more (t ∷ e.front)
+    by [] more s = (spaced more s.0, s.1)
+    by (q ∷ os) more s = apart more s
+
+-- a field behind an operand
+field-behind : (t : Token) (o p : Operand) (cs : List Operands) (os : List Operand) → t.kind ≡ kind.Field → begins_name (name_in t) ≡ true → linked o (name_in t) ≡ Some p → (ts : List Token) (all : List Operands) → EndsLevel (Some p) cs os ts all → EndsLevel (Some o) cs os (t ∷ ts) all
+field-behind t o p cs os is begins link ts all e = record {
+  more = e.more;
+  later = e.later;
+  front = t ∷ e.front;
+  back = e.back;
+  tokens_are = ap (λ us. t ∷ us) e.tokens_are;
+  ends = record {
+    whole = e.ends.whole;
+    others = e.ends.others;
+    chain = t ∷ e.ends.chain;
+    rest = e.ends.rest;
+    tokens_are = ap (λ us. t ∷ us) e.ends.tokens_are;
+    more_are = e.ends.more_are;
+    extends = (is, begins, (p, link, e.ends.extends));
+    spells = e.ends.spells;
+  };
+  spells = e.spells;
+  all_are = e.all_are;
+}
+
+-- ---- an operand
+
+-- these tokens spell an operand, and so with any chain behind them
+abbrev Spells : Operand → List Token → Type 0
+Spells o us = (ts : List Token) (p : Operand) → Extends o ts p → SpellsOperand p (us ++ ts)
+
+abbrev begins_or : Option Operand → Bool
+begins_or None = true
+begins_or (Some o) = begins_later o
+
+-- an operand that begins a command does so with any chain
+link-begins : (o : Operand) (name : List ℕ) → begins_or (linked o name) ≡ true
+link-begins tree.dot name = refl
+link-begins (tree.fields names) name = refl
+link-begins (tree.variable x names) name = refl
+link-begins (tree.bool_constant b) name = refl
+link-begins (tree.number_constant n) name = refl
+link-begins (tree.text_constant bytes) name = refl
+link-begins tree.nil name = refl
+link-begins (tree.function f) name = refl
+link-begins (tree.group commands names) name = refl
+
+link-stands : (cs : List Operands) (os : List Operand) (o p : Operand) (name : List ℕ) → linked o name ≡ Some p → may_stand cs os p ≡ true
+link-stands [] os o p name link = refl
+link-stands (c ∷ cs) [] o p name link = ap begins_or (sym link) ∙ link-begins o name
+link-stands (c ∷ cs) (q ∷ os) o p name link = refl
+
+extends-stands : (cs : List Operands) (os : List Operand) (o p : Operand) (ts : List Token) → Extends o ts p → may_stand cs os o ≡ true → may_stand cs os p ≡ true
+extends-stands cs os o p [] e may = ap (may_stand cs os) (sym e) ∙ may
+extends-stands cs os o p (t ∷ ts) (is, begins, (q, link, rest)) may = extends-stands cs os q p ts rest (link-stands cs os o q (name_in t) link)
+
+-- an operand before what ends a command or a pipeline
+operand-before : (us : List Token) (o : Operand) (cs : List Operands) (os : List Operand) → Spells o us → may_stand cs os o ≡ true → (ts : List Token) (all : List Operands) → EndsLevel (Some o) cs os ts all → EndsLevel None cs os (us ++ ts) all
+operand-before us o cs os spells may ts all e = record {
+  more = e.more;
+  later = e.later;
+  front = us ++ e.front;
+  back = e.back;
+  tokens_are = ap (λ vs. us ++ vs) e.tokens_are ∙ sym (append_assoc us e.front e.back);
+  ends = subst (λ more. EndsCommand None cs os more (us ++ e.front)) (sym e.ends.more_are) (by os may);
+  spells = e.spells;
+  all_are = e.all_are;
+}
+  where
+    command : SpellsCommand (tree.operand e.ends.whole e.ends.others) (us ++ e.front)
+    command = (
+      [],
+      us ++ e.ends.chain,
+      e.ends.rest,
+      ap (λ vs. us ++ vs) e.ends.tokens_are ∙ sym (append_assoc us e.ends.chain e.ends.rest),
+      tt,
+      spells e.ends.chain e.ends.whole e.ends.extends,
+      e.ends.spells,
+    )
+
+    by : (os : List Operand) → may_stand cs os o ≡ true → EndsCommand None cs os (tree.operand e.ends.whole e.ends.others) (us ++ e.front)
+    by [] may = (command, extends-stands cs [] o e.ends.whole e.ends.chain e.ends.extends may)
+    by (q ∷ os) may = command
+
+operand-within : (ls : List Partial) (us : List Token) (o : Operand) (cs : List Operands) (os : List Operand) → Spells o us → may_stand cs os o ≡ true → (ts : List Token) (all : List Operands) → EndsIn ls (Some o) cs os ts all → EndsIn ls None cs os (us ++ ts) all
+operand-within [] us o cs os spells may ts all e = operand-before us o cs os spells may ts all e
+operand-within (l ∷ ls) us o cs os spells may ts all (a, r, b, inner, is, right, level, rest) =
+    (us ++ a, r, b, inner, ap (λ vs. us ++ vs) is ∙ sym (append_assoc us a (r ∷ b)), right, operand-before us o cs os spells may a inner level, rest)
+
+-- a chain by its names
+abbrev Chains : (List (List ℕ) → Operand) → Type 0
+Chains f = (ns : List (List ℕ)) (n : List ℕ) → linked (f ns) n ≡ Some (f (ns ++ n ∷ []))
+
+some-same : (o p q : Operand) → o ≡ p → ◌≡◌ {A = Option Operand} (Some p) (Some q) → o ≡ q
+some-same o p q e f = let g : o ≡ q = cc in g
+
+chained : (f : List (List ℕ) → Operand) → Chains f → (ns : List (List ℕ)) (ts : List Token) (p : Operand) → Extends (f ns) ts p → (names : List (List ℕ)) × (p ≡ f (ns ++ names)) × IsChain names ts
+chained f can ns [] p e = ([], sym e ∙ ap f (sym (append-nil ns)), refl)
+chained f can ns (t ∷ ts) p (is, begins, (q, link, rest)) =
+    let same : f (ns ++ name_in t ∷ []) ≡ q = some-same _ _ q refl (sym (can ns (name_in t)) ∙ link) in
+    let behind = chained f can (ns ++ name_in t ∷ []) ts p (subst (λ o. Extends o ts p) (sym same) rest) in
+    (name_in t ∷ behind.0, behind.1 ∙ ap f (append_assoc ns (name_in t ∷ []) behind.0), (t, ts, refl, is, begins, refl, behind.2))
+
+-- what may have no chain
+unchained : (o : Operand) → ((n : List ℕ) → linked o n ≡ None) → (ts : List Token) (p : Operand) → Extends o ts p → (o ≡ p) × (ts ≡ [])
+unchained o cannot [] p e = (e, refl)
+unchained o cannot (t ∷ ts) p (is, begins, (q, link, rest)) = absurd (let c = cannot (name_in t) in let g : ⊥ = cc in g)
+
+one-spells : (o : Operand) (t : Token) → operand_at t ≡ Some o → ((n : List ℕ) → linked o n ≡ None) → ((ts : List Token) → IsChained o [] ts → SpellsOperand o ts) → Spells o (t ∷ [])
+one-spells o t is cannot spells ts p e =
+    let u = unchained o cannot ts p e in
+    subst (λ p. SpellsOperand p (t ∷ ts)) u.0 (spells (t ∷ ts) (t, ts, refl, is, u.1))
+
+fields-chain : Chains tree.fields
+fields-chain ns n = refl
+
+variable-chain : (x : List ℕ) → Chains (tree.variable x)
+variable-chain x ns n = refl
+
+group-chain : (cs : Commands) → Chains (tree.group cs)
+group-chain cs ns n = refl
+
+token-spells : (t : Token) (o : Operand) → operand_at t ≡ Some o → Spells o (t ∷ [])
+token-spells t o at = by o at (subst IsToken at (token-form t))
+  where
+    by : (o : Operand) → operand_at t ≡ Some o → IsToken (Some o) → Spells o (t ∷ [])
+    by tree.dot at form = one-spells tree.dot t at (λ n. refl) (λ ts c. c)
+    by (tree.fields names) at (n, is) = λ ts p e.
+        let c = chained tree.fields fields-chain names ts p e in
+        subst (λ p. SpellsOperand p (t ∷ ts)) (sym (c.1 ∙ ap (λ ns. tree.fields (ns ++ c.0)) is)) (t, ts, refl, at ∙ ap (λ ns. Some (tree.fields ns)) is, c.2)
+    by (tree.variable x names) at is = λ ts p e.
+        let c = chained (tree.variable x) (variable-chain x) names ts p e in
+        subst (λ p. SpellsOperand p (t ∷ ts)) (sym (c.1 ∙ ap (λ ns. tree.variable x (ns ++ c.0)) is)) (t, ts, refl, at ∙ ap (λ ns. Some (tree.variable x ns)) is, c.2)
+    by (tree.bool_constant b) at form = one-spells (tree.bool_constant b) t at (λ n. refl) (λ ts c. c)
+    by (tree.number_constant n) at form = one-spells (tree.number_constant n) t at (λ n. refl) (λ ts c. c)
+    by (tree.text_constant bytes) at form = one-spells (tree.text_constant bytes) t at (λ n. refl) (λ ts c. c)
+    by tree.nil at form = one-spells tree.nil t at (λ n. refl) (λ ts c. c)
+    by (tree.function f) at form = one-spells (tree.function f) t at (λ n. refl) (λ ts c. c)
+    by (tree.group commands names) at form = absurd form
+
+group-spells : (cs : Commands) (l r : Token) (a : List Token) → l.kind ≡ kind.LeftParenthesis → r.kind ≡ kind.RightParenthesis → SpellsPipeline cs a → Spells (tree.group cs []) (l ∷ a ++ (r ∷ []))
+group-spells cs l r a left right s ts p e =
+    let c = chained (tree.group cs) (group-chain cs) [] ts p e in
+    subst (λ p. SpellsOperand p (l ∷ (a ++ (r ∷ [])) ++ ts)) (sym c.1) (l, a, r, ts, ap (λ us. l ∷ us) (append_assoc a (r ∷ []) ts), left, right, s, c.2)
+
+-- a whole pipeline
+level-spells : (ts : List Token) (all : List Operands) → EndsLevel None [] [] ts all → SpellsPipeline (commands_from all) ts
+level-spells ts all e =
+    let is : commands_from all ≡ tree.command e.more e.later = ap commands_from e.all_are ∙ ap (λ os. tree.command os (commands_from (command_list e.later))) (operands-back e.more) ∙ ap (tree.command e.more) (commands-back e.later) in
+    subst (λ cs. SpellsPipeline cs ts) (sym is) (e.front, e.back, e.tokens_are, e.ends.0, e.spells)
+
+-- ---- ends
+
+-- a command that may end here
+pub record EndsNow (last : Option Operand) (cs : List Operands) (os : List Operand) (done : List Operands) : Type 0 where
+  pub more : Operands
+  pub ends : EndsCommand last cs os more []
+  pub done_is : done ≡ cs ++ operands_from (os ++ operand_list more) ∷ []
+
+abbrev unwrap : List Operands → Option (List Operands) → List Operands
+unwrap d None = d
+unwrap d (Some x) = x
+
+ends-now : (last : Option Operand) (cs : List Operands) (os : List Operand) (done : List Operands) → more_commands cs (settled last os) ≡ Some done → EndsNow last cs os done
+ends-now None cs [] done e = absurd (let g : ⊥ = cc in g)
+ends-now None cs (o ∷ os) done e = record {
+  more = tree.no_operand;
+  ends = tt;
+  done_is = sym (ap (unwrap done) e) ∙ ap (λ qs. cs ++ operands_from qs ∷ []) (sym (append-nil (o ∷ os)));
+}
+ends-now (Some o) cs os done e = record {
+  more = tree.operand o tree.no_operand;
+  ends = record { whole = o; others = tree.no_operand; chain = []; rest = []; tokens_are = refl; more_are = refl; extends = refl; spells = tt };
+  done_is = by os e;
+}
+  where
+    by : (os : List Operand) → more_commands cs (os ++ o ∷ []) ≡ Some done → done ≡ cs ++ operands_from (os ++ o ∷ []) ∷ []
+    by [] e = sym (ap (unwrap done) e)
+    by (q ∷ os) e = sym (ap (unwrap done) e)
+
+level-end : (last : Option Operand) (cs : List Operands) (os : List Operand) (done : List Operands) → more_commands cs (settled last os) ≡ Some done → EndsLevel last cs os [] done
+level-end last cs os done e =
+    let n = ends-now last cs os done e in
+    record { more = n.more; later = tree.no_command; front = []; back = []; tokens_are = refl; ends = n.ends; spells = refl; all_are = n.done_is }
+
+later-of : (cs : List Operands) (x : Operands) (more : Operands) → MayBegin (cs ++ x ∷ []) more → MayBeLater more
+later-of cs x tree.no_operand may = absurd may
+later-of [] x (tree.operand o os) may = may
+later-of (c ∷ cs) x (tree.operand o os) may = may
+
+-- a bar behind a command
+bar-behind : (t : Token) (last : Option Operand) (cs : List Operands) (os : List Operand) (done : List Operands) → t.kind ≡ kind.Pipe → more_commands cs (settled last os) ≡ Some done → (ts : List Token) (all : List Operands) → EndsLevel None done [] ts all → EndsLevel last cs os (t ∷ ts) all
+bar-behind t last cs os done is whole ts all e =
+    let n = ends-now last cs os done whole in
+    record {
+      more = n.more;
+      later = tree.command e.more e.later;
+      front = [];
+      back = t ∷ ts;
+      tokens_are = refl;
+      ends = n.ends;
+      spells = (t, e.front, e.back, ap (λ us. t ∷ us) e.tokens_are, is, later-of cs _ e.more (subst (λ ds. MayBegin ds e.more) n.done_is e.ends.1), e.ends.0, e.spells);
+      all_are = e.all_are
+          ∙ ap (λ ds. ds ++ operands_from (operand_list e.more) ∷ command_list e.later) n.done_is
+          ∙ append_assoc cs (operands_from (os ++ operand_list n.more) ∷ []) (operands_from (operand_list e.more) ∷ command_list e.later)
+          ∙ ap (λ ms. cs ++ operands_from (os ++ operand_list n.more) ∷ ms ∷ command_list e.later) (operands-back e.more);
+    }
+
+-- ---- one token
+
+abbrev EndsOpt : Option Parser → List Token → List Operands → Type 0
+EndsOpt None ts all = ⊥
+EndsOpt (Some h) ts all = EndsHalf h ts all
+
+group-stands : (cs : List Operands) (os : List Operand) (commands : Commands) → may_stand cs os (tree.group commands []) ≡ true
+group-stands [] os commands = refl
+group-stands (c ∷ cs) [] commands = refl
+group-stands (c ∷ cs) (q ∷ os) commands = refl
+
+module _ (t : Token) (cs : List Operands) (os : List Operand) (ts : List Token) (all : List Operands) where
+  space-ends : (ls : List Partial) (last : Option Operand) → t.kind ≡ kind.Space → EndsHalf (half.apart (half_at ls cs os last)) ts all → EndsIn ls last cs os (t ∷ ts) all
+  space-ends ls None is e = within-level ls t None None cs cs os os (space-before t cs os is) ts all e
+  space-ends ls (Some o) is e = within-level ls t None (Some o) cs cs (os ++ o ∷ []) os (space-behind t o cs os is) ts all e
+
+  bar-ends : (ls : List Partial) (last : Option Operand) → t.kind ≡ kind.Pipe → (done : Option (List Operands)) → more_commands cs (settled last os) ≡ done → EndsOpt (option_map (half.barred (half_at ls cs os last)) done) ts all → EndsIn ls last cs os (t ∷ ts) all
+  bar-ends ls last is None whole e = absurd e
+  bar-ends ls last is (Some done) whole e = within-level ls t None last done cs [] os (bar-behind t last cs os done is whole) ts all e
+
+  open-ends : (ls : List Partial) (last : Option Operand) → t.kind ≡ kind.LeftParenthesis → EndsOpt (half.opened last (half_at ls cs os last)) ts all → EndsIn ls last cs os (t ∷ ts) all
+  open-ends ls None is (a, r, b, inner, at, right, level, rest) =
+      subst (λ us. EndsIn ls None cs os us all) (ap (λ us. t ∷ us) (append_assoc a (r ∷ []) b ∙ sym at))
+      (operand-within ls (t ∷ a ++ (r ∷ [])) (tree.group (commands_from inner) []) cs os (group-spells (commands_from inner) t r a is right (level-spells a inner level)) (group-stands cs os (commands_from inner)) b all rest)
+  open-ends ls (Some o) is e = absurd e
+
+  close-ends : (ls : List Partial) (last : Option Operand) → t.kind ≡ kind.RightParenthesis → (done : Option (List Operands)) → more_commands cs (settled last os) ≡ done → EndsOpt (half.left_with ls done) ts all → EndsIn ls last cs os (t ∷ ts) all
+  close-ends [] last is done whole e = absurd e
+  close-ends (l ∷ ls) last is None whole e = absurd e
+  close-ends (l ∷ ls) last is (Some done) whole e = ([], t, ts, done, refl, is, level-end last cs os done whole, e)
+
+  kept-ends : (ls : List Partial) (o : Operand) → operand_at t ≡ Some o → (b : Bool) → may_stand cs os o ≡ b → EndsOpt (kept b (half_at ls cs os (Some o))) ts all → EndsIn ls None cs os (t ∷ ts) all
+  kept-ends ls o at true may e = operand-within ls (t ∷ []) o cs os (token-spells t o at) may ts all e
+  kept-ends ls o at false may e = absurd e
+
+  placed-ends : (ls : List Partial) (last o : Option Operand) → operand_at t ≡ o → EndsOpt (half.placed last o (half_at ls cs os last)) ts all → EndsIn ls last cs os (t ∷ ts) all
+  placed-ends ls None None at e = absurd e
+  placed-ends ls None (Some o) at e = kept-ends ls o at (may_stand cs os o) refl e
+  placed-ends ls (Some p) o at e = absurd e
+
+  link-ends : (ls : List Partial) (o : Operand) → t.kind ≡ kind.Field → (b : Bool) → begins_name (name_in t) ≡ b → (p : Option Operand) → linked_by b o (name_in t) ≡ p → EndsOpt (option_map (half.ending_with (half_at ls cs os (Some o))) p) ts all → EndsIn ls (Some o) cs os (t ∷ ts) all
+  link-ends ls o is b begins None link e = absurd e
+  link-ends ls o is true begins (Some p) link e = within-level ls t (Some p) (Some o) cs cs os os (field-behind t o p cs os is begins link) ts all e
+  link-ends ls o is false begins (Some p) link e = absurd (let g : ⊥ = cc in g)
+
+  field-ends : (ls : List Partial) (last : Option Operand) → t.kind ≡ kind.Field → EndsOpt (half.fielded last t (half_at ls cs os last)) ts all → EndsIn ls last cs os (t ∷ ts) all
+  field-ends ls None is e = placed-ends ls None (operand_at t) refl e
+  field-ends ls (Some o) is e = link-ends ls o is (begins_name (name_in t)) refl _ refl e
+
+  step-ends : (k : TokenKind) → t.kind ≡ k → (ls : List Partial) (last : Option Operand) → EndsOpt (step_by k t (half_at ls cs os last)) ts all → EndsIn ls last cs os (t ∷ ts) all
+  step-ends kind.Space is ls last e = space-ends ls last is e
+  step-ends kind.Pipe is ls last e = bar-ends ls last is _ refl e
+  step-ends kind.LeftParenthesis is ls last e = open-ends ls last is e
+  step-ends kind.RightParenthesis is ls last e = close-ends ls last is _ refl e
+  step-ends kind.Field is ls last e = field-ends ls last is e
+  step-ends kind.Word is ls last e = placed-ends ls last (operand_at t) refl e
+  step-ends kind.Number is ls last e = placed-ends ls last (operand_at t) refl e
+  step-ends kind.Dot is ls last e = placed-ends ls last (operand_at t) refl e
+  step-ends kind.Variable is ls last e = placed-ends ls last (operand_at t) refl e
+  step-ends kind.String is ls last e = placed-ends ls last (operand_at t) refl e
+  step-ends kind.RawString is ls last e = placed-ends ls last (operand_at t) refl e
+  step-ends kind.Character is ls last e = placed-ends ls last (operand_at t) refl e
+  step-ends kind.Declare is ls last e = placed-ends ls last (operand_at t) refl e
+  step-ends kind.Assign is ls last e = placed-ends ls last (operand_at t) refl e
+  step-ends kind.Comma is ls last e = placed-ends ls last (operand_at t) refl e
+
+-- ---- all of them
+
+finished-ends : (ls : List Partial) (last : Option Operand) (cs : List Operands) (os : List Operand) (all : List Operands) → finished_with ls (more_commands cs (settled last os)) ≡ Some all → EndsIn ls last cs os [] all
+finished-ends [] last cs os all e = level-end last cs os all e
+finished-ends (l ∷ ls) last cs os all e = absurd (let g : ⊥ = cc in g)
+
+steps-end : (o : Option Parser) (ts : List Token) (all : List Operands) → option_and_then finished (steps o ts) ≡ Some all → EndsOpt o ts all
+unfolding finished step
+steps-end None [] all e = absurd (let g : ⊥ = cc in g)
+steps-end (Some h) [] all e = finished-ends h.outer h.last h.inner.commands h.inner.operands all e
+steps-end None (t ∷ ts) all e = steps-end None ts all e
+steps-end (Some h) (t ∷ ts) all e = step-ends t h.inner.commands h.inner.operands ts all t.kind refl h.outer h.last (steps-end (step t h) ts all e)
+
+-- what is read is spelled
+pub read-spells : (ts : List Token) (all : List Operands) → commands_after half.start ts ≡ Some all → SpellsPipeline (commands_from all) ts
+read-spells ts all e = level-spells ts all (steps-end (Some half.start) ts all e)

@@ -1,0 +1,9 @@
+-- Operands, one level at a time.
+use Rattle.std.proofs.Common.{rules, ◌≡◌, List, ℕ, Vec, Global}
+use Rattle.tmpl_grammar.specs.View.{operand_of, commands_in}
+use Rattle.tmpl_grammar.specs.Tree.{group}
+use Rattle.tmpl_grammar.specs.declared.tree.Operand.{Group, the_lemmas}
+use Rattle.tmpl_grammar.specs.declared.tree.Command.{Command}
+
+pub group_seen : (cs : Vec Command Global) (names : Vec (List ℕ) Global) → operand_of (Group cs names) ≡ group (commands_in cs.items) names.items
+group_seen cs names = search (rules, the_lemmas)

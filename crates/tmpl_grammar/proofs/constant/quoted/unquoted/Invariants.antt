@@ -1,0 +1,10 @@
+use Rattle.std.proofs.Common.{◌≡◌, length}
+use Rattle.tmpl_grammar.specs.Constant.Quoted.{unquoted}
+use Rattle.tmpl_grammar.proofs.QuotedLemmas.{led}
+use Rattle.tmpl_grammar.proofs.constant.quoted.unquoted.Given as goal
+
+abbrev pub invariant-loop-rest : goal.invariant-loop-rest
+invariant-loop-rest l = unquoted l.quote l.bytes ≡ led l.text.items (unquoted l.quote l.rest)
+
+abbrev pub decreases-loop-rest : goal.decreases-loop-rest
+decreases-loop-rest l = length l.rest

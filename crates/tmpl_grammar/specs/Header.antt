@@ -1,0 +1,67 @@
+-- The grammar of a header ("Variables" in the documentation of Go's text/template): a pipeline, perhaps behind variables.
+-- White space may stand between any two tokens, also where Go asks for it.
+use Rattle.std.specs.Prelude.{◌≡◌, ℕ, Bool, true, false, not, List, [], ◌∷◌, ◌++◌}
+use Rattle.tmpl_lex.specs.declared.piece.TokenKind.{TokenKind}
+use Rattle.tmpl_lex.specs.declared.piece.TokenKind.TheVariants as kind
+use Rattle.tmpl_lex.specs.Piece.{Token}
+use Rattle.tmpl_grammar.specs.Token.{name_in}
+use Rattle.tmpl_grammar.specs.Tree.{Pipeline, pipeline, Binding, unbound, declare, assign, declare_pair, Header}
+use Rattle.tmpl_grammar.specs.Pipeline.{IsBlank, SpellsPipeline}
+use Rattle.tmpl_grammar.specs.declared.tree.Control.{Control}
+use Rattle.tmpl_grammar.specs.declared.tree.Control.TheVariants as control
+use Rattle.tmpl_grammar.specs.declared.action.Shape.{Shape}
+use Rattle.tmpl_grammar.specs.declared.action.Shape.TheVariants as shape
+
+-- ---- single tokens
+
+-- a sign of this kind
+abbrev pub IsSign : TokenKind → Token → Type 0
+IsSign k t = t.kind ≡ k
+
+-- a name of a variable has at least one byte
+abbrev pub IsName : List ℕ → Type 0
+IsName [] = ⊥
+IsName (b ∷ bs) = Unit {0}
+
+-- the variable of this name
+abbrev pub IsVariable : List ℕ → Token → Type 0
+IsVariable name t = (t.kind ≡ kind.Variable) × (name_in t ≡ name) × IsName name
+
+-- perhaps white space, then such a token, and then such tokens
+abbrev pub Then : (Token → Type 0) → (List Token → Type 0) → List Token → Type 0
+Then Is Rest ts =
+    (ws : List Token) × (t : Token) × (us : List Token) × (ts ≡ ws ++ t ∷ us) × IsBlank ws × Is t × Rest us
+
+-- ---- headers
+
+abbrev pub is_range : Control → Bool
+is_range control.If = false
+is_range control.With = false
+is_range control.Range = true
+
+abbrev pub opens_range : Shape → Bool
+opens_range shape.Pipeline = false
+opens_range (shape.Open c) = is_range c
+opens_range (shape.ElseBranch b) = false
+
+-- how a header may bind variables: the header of a range assigns to none, and it alone declares two
+abbrev pub may_bind : Shape → Binding → Bool
+may_bind s unbound = true
+may_bind s (declare name) = true
+may_bind s (assign name) = not (opens_range s)
+may_bind s (declare_pair key name) = opens_range s
+
+-- nothing, `$x :=`, `$x =` or `$i, $x :=`, and then such tokens
+abbrev pub SpellsBinding : Binding → (List Token → Type 0) → List Token → Type 0
+SpellsBinding unbound Rest ts = Rest ts
+SpellsBinding (declare name) Rest ts = Then (IsVariable name) (Then (IsSign kind.Declare) Rest) ts
+SpellsBinding (assign name) Rest ts = Then (IsVariable name) (Then (IsSign kind.Assign) Rest) ts
+SpellsBinding (declare_pair key name) Rest ts =
+    Then (IsVariable key) (Then (IsSign kind.Comma) (Then (IsVariable name) (Then (IsSign kind.Declare) Rest))) ts
+
+abbrev pub SpellsWhole : Pipeline → List Token → Type 0
+SpellsWhole (pipeline commands) ts = SpellsPipeline commands ts
+
+-- the header of an action of this shape
+abbrev pub SpellsHeader : Shape → Header → List Token → Type 0
+SpellsHeader s h ts = (may_bind s h.binding ≡ true) × SpellsBinding h.binding (SpellsWhole h.pipeline) ts

@@ -1,0 +1,41 @@
+-- The laws that what is read is what the grammar spells, and that it is one tree at most.
+use Rattle.std.specs.Prelude.{◌≡◌, List, Some}
+use Rattle.tmpl_lex.specs.Piece.{Token}
+use Rattle.tmpl_grammar.specs.Tree.{Commands, pipeline}
+use Rattle.tmpl_grammar.specs.Action.{Action, SpellsAction}
+use Rattle.tmpl_grammar.specs.Pipeline.{SpellsPipeline}
+use Rattle.tmpl_grammar.specs.Print.{IsInside, action_tokens}
+use Rattle.tmpl_grammar.specs.Printable.{OfAction}
+use Rattle.tmpl_grammar.specs.computed.Reading.{pipeline_in, action_in}
+
+-- a pipeline that tokens spell is read
+abbrev pub ReadsSpelled : Type 0
+ReadsSpelled = (ts : List Token) (cs : Commands) → SpellsPipeline cs ts → pipeline_in ts ≡ Some (pipeline cs)
+
+-- a pipeline that is read is spelled
+abbrev pub SpellsRead : Type 0
+SpellsRead = (ts : List Token) (cs : Commands) → pipeline_in ts ≡ Some (pipeline cs) → SpellsPipeline cs ts
+
+-- tokens spell one pipeline at most
+abbrev pub SpellsOne : Type 0
+SpellsOne = (ts : List Token) (cs ds : Commands) → SpellsPipeline cs ts → SpellsPipeline ds ts → cs ≡ ds
+
+-- an action that tokens spell is read
+abbrev pub ReadsSpelledAction : Type 0
+ReadsSpelledAction = (ts : List Token) (a : Action) → SpellsAction a ts → action_in ts ≡ Some a
+
+-- an action that is read is spelled
+abbrev pub SpellsReadAction : Type 0
+SpellsReadAction = (ts : List Token) (a : Action) → action_in ts ≡ Some a → SpellsAction a ts
+
+-- tokens spell one action at most
+abbrev pub SpellsOneAction : Type 0
+SpellsOneAction = (ts : List Token) (a b : Action) → SpellsAction a ts → SpellsAction b ts → a ≡ b
+
+-- the tokens of a printed action may stand in an action, whatever stands behind it
+abbrev pub PrintsTokens : Type 0
+PrintsTokens = (a : Action) → OfAction a → IsInside (action_tokens a)
+
+-- .. and spell the action
+abbrev pub SpellsTokens : Type 0
+SpellsTokens = (a : Action) → OfAction a → SpellsAction a (action_tokens a)

@@ -1,0 +1,14 @@
+pub mod Action
+pub mod Constant
+pub mod Depth
+pub mod Header
+pub mod Keyword
+pub mod Laws
+pub mod Operand
+pub mod Pipeline
+pub mod Print
+pub mod Printable
+pub mod Token
+pub mod Tree
+pub mod View
+pub mod computed

@@ -1,0 +1,124 @@
+-- The tokens by which an action is printed, and how they stand in a file.
+use Rattle.std.specs.Prelude.{◌≡◌, ℕ, Bool, true, false, ◌==◌, List, [], ◌∷◌, ◌++◌, None, Some, flat_map, codes}
+use Rattle.std.specs.Char.{is_ascii_digit}
+use Rattle.std.specs.Fmt.{signed_decimal}
+use Rattle.tmpl_values.specs.Quote.{quote}
+use Rattle.tmpl_funcs.specs.Func.{name_of}
+use Rattle.tmpl_lex.specs.Byte.{is_space}
+use Rattle.tmpl_lex.specs.Marker.{closing}
+use Rattle.tmpl_lex.specs.Token.{front_token}
+use Rattle.tmpl_lex.specs.Piece.{Token}
+use Rattle.tmpl_lex.specs.declared.piece.TokenKind.{TokenKind}
+use Rattle.tmpl_lex.specs.declared.piece.TokenKind.TheVariants as kind
+use Rattle.tmpl_grammar.specs.Tree as tree
+use Rattle.tmpl_grammar.specs.Tree.{Operand, Operands, Commands, Pipeline, pipeline, Binding, unbound, declare, assign, declare_pair, Header}
+use Rattle.tmpl_grammar.specs.Action.{Action, pipeline_action, opening, plain_else, else_branch, end_action, break_action, continue_action, control_in}
+use Rattle.tmpl_grammar.specs.Keyword.{spelling}
+use Rattle.tmpl_grammar.specs.declared.keyword.Keyword.{Keyword}
+use Rattle.tmpl_grammar.specs.declared.keyword.Keyword.TheVariants as keyword
+
+-- ---- the tokens of a pipeline
+
+abbrev pub token : TokenKind → List ℕ → Token
+token k bs = record { kind = k; bytes = bs }
+
+abbrev pub space : Token
+space = token kind.Space (32 ∷ [])
+
+abbrev pub word : List ℕ → Token
+word bs = token kind.Word bs
+
+abbrev pub variable_token : List ℕ → Token
+variable_token name = token kind.Variable (36 ∷ name)
+
+abbrev pub chain_tokens : List (List ℕ) → List Token
+chain_tokens [] = []
+chain_tokens (n ∷ ns) = token kind.Field (46 ∷ n) ∷ chain_tokens ns
+
+abbrev pub truth_word : Bool → List ℕ
+truth_word true = codes "true"
+truth_word false = codes "false"
+
+-- operands parted by one space, commands by space, bar, space; whole constants in decimal, texts quoted
+abbrev mutual
+  pub operand_tokens : Operand → List Token
+  operand_tokens tree.dot = token kind.Dot (46 ∷ []) ∷ []
+  operand_tokens (tree.fields names) = chain_tokens names
+  operand_tokens (tree.variable name names) = variable_token name ∷ chain_tokens names
+  operand_tokens (tree.bool_constant b) = word (truth_word b) ∷ []
+  operand_tokens (tree.number_constant n) = token kind.Number (signed_decimal n) ∷ []
+  operand_tokens (tree.text_constant bytes) = token kind.String (quote bytes) ∷ []
+  operand_tokens tree.nil = word (codes "nil") ∷ []
+  operand_tokens (tree.function f) = word (name_of f) ∷ []
+  operand_tokens (tree.group commands names) = token kind.LeftParenthesis (40 ∷ []) ∷ (commands_tokens commands ++ token kind.RightParenthesis (41 ∷ []) ∷ chain_tokens names)
+
+  pub more_tokens : Operands → List Token
+  more_tokens tree.no_operand = []
+  more_tokens (tree.operand o os) = space ∷ (operand_tokens o ++ more_tokens os)
+
+  pub command_tokens : Operands → List Token
+  command_tokens tree.no_operand = []
+  command_tokens (tree.operand o os) = operand_tokens o ++ more_tokens os
+
+  pub later_tokens : Commands → List Token
+  later_tokens tree.no_command = []
+  later_tokens (tree.command os cs) = space ∷ token kind.Pipe (124 ∷ []) ∷ space ∷ (command_tokens os ++ later_tokens cs)
+
+  pub commands_tokens : Commands → List Token
+  commands_tokens tree.no_command = []
+  commands_tokens (tree.command os cs) = command_tokens os ++ later_tokens cs
+
+abbrev pub pipeline_tokens : Pipeline → List Token
+pipeline_tokens (pipeline cs) = commands_tokens cs
+
+-- ---- the tokens of an action
+
+-- the variables of a header and their sign, each with a space behind it
+abbrev pub binding_tokens : Binding → List Token
+binding_tokens unbound = []
+binding_tokens (declare name) = variable_token name ∷ space ∷ token kind.Declare (58 ∷ 61 ∷ []) ∷ space ∷ []
+binding_tokens (assign name) = variable_token name ∷ space ∷ token kind.Assign (61 ∷ []) ∷ space ∷ []
+binding_tokens (declare_pair key name) =
+    variable_token key ∷ token kind.Comma (44 ∷ []) ∷ space ∷ variable_token name ∷ space
+    ∷ token kind.Declare (58 ∷ 61 ∷ []) ∷ space ∷ []
+
+abbrev pub header_tokens : Header → List Token
+header_tokens h = binding_tokens h.binding ++ pipeline_tokens h.pipeline
+
+abbrev pub keyword_token : Keyword → Token
+keyword_token k = word (spelling k)
+
+abbrev pub action_tokens : Action → List Token
+action_tokens (pipeline_action h) = header_tokens h
+action_tokens (opening c h) = keyword_token (keyword.Control c) ∷ space ∷ header_tokens h
+action_tokens plain_else = keyword_token keyword.Else ∷ []
+action_tokens (else_branch br h) =
+    keyword_token keyword.Else ∷ space ∷ keyword_token (keyword.Control (control_in br)) ∷ space ∷ header_tokens h
+action_tokens end_action = keyword_token keyword.End ∷ []
+action_tokens break_action = keyword_token keyword.Break ∷ []
+action_tokens continue_action = keyword_token keyword.Continue ∷ []
+
+-- ---- how tokens stand in a file
+
+abbrev pub bytes_of : List Token → List ℕ
+bytes_of ts = flat_map (λ t. t.bytes) ts
+
+-- the token stands at the front, with these bytes behind it
+pub record IsFront (t : Token) (rest : List ℕ) : Type 0 where
+  pub no_end : closing (t.bytes ++ rest) ≡ None
+  pub front : front_token (t.bytes ++ rest) ≡ Some t
+
+-- the tokens stand one behind the other, with these bytes behind them
+abbrev pub Lexes : List Token → List ℕ → Type 0
+Lexes [] rest = Unit {0}
+Lexes (t ∷ ts) rest = IsFront t (bytes_of ts ++ rest) × Lexes ts rest
+
+-- bytes that may stand behind a `{{`, a space or a bar: they begin no white space, comment, trim marker or end
+pub data Solid : List ℕ → Type 0 where
+  solid : {b : ℕ} {bs : List ℕ} → is_space b ≡ false → (b == 45) ≡ false → (b == 47) ≡ false → (b == 125) ≡ false → Solid (b ∷ bs)
+  minus : {d : ℕ} {bs : List ℕ} → is_ascii_digit d ≡ true → Solid (45 ∷ d ∷ bs)
+
+-- the tokens may stand in an action, whatever stands behind it
+pub record IsInside (ts : List Token) : Type 0 where
+  pub lexes : (rest : List ℕ) → Lexes ts (125 ∷ 125 ∷ rest)
+  pub firm : (rest : List ℕ) → Solid (bytes_of ts ++ 125 ∷ 125 ∷ rest)

@@ -1,0 +1,88 @@
+-- What holds of each action that is read from a file, and lets it be printed and read again.
+use Rattle.std.specs.Prelude.{◌≡◌, ◌<◌, ◌≤◌, ◌^◌, ℕ, true, List, [], ◌∷◌}
+use Rattle.std.specs.List.{list_all}
+use lib.Signed.{mag}
+use Rattle.tmpl_values.proofs.Runes.{AreBytes}
+use Rattle.tmpl_lex.specs.Byte.{is_name_byte}
+use Rattle.tmpl_grammar.specs.Token.{begins_name}
+use Rattle.tmpl_grammar.specs.Tree as tree
+use Rattle.tmpl_grammar.specs.Tree.{Operand, Operands, Commands, Pipeline, pipeline, Binding, unbound, declare, assign, declare_pair, Header}
+use Rattle.tmpl_grammar.specs.Action.{Action, pipeline_action, opening, plain_else, else_branch, end_action, break_action, continue_action}
+use Rattle.tmpl_grammar.specs.Header.{IsName, may_bind}
+use Rattle.tmpl_grammar.specs.Pipeline.{MayBeLater}
+use Rattle.tmpl_grammar.specs.Depth.{depth_of_pipeline, most_deep}
+use Rattle.tmpl_grammar.specs.declared.action.Shape.{Shape}
+use Rattle.tmpl_grammar.specs.declared.action.Shape.TheVariants as shape
+
+-- ---- names
+
+abbrev pub IsNamed : List ℕ → Type 0
+IsNamed name = list_all is_name_byte name ≡ true
+
+abbrev pub IsFieldName : List ℕ → Type 0
+IsFieldName name = (begins_name name ≡ true) × IsNamed name
+
+abbrev pub AreFieldNames : List (List ℕ) → Type 0
+AreFieldNames [] = Unit {0}
+AreFieldNames (n ∷ ns) = IsFieldName n × AreFieldNames ns
+
+abbrev pub IsFieldChain : List (List ℕ) → Type 0
+IsFieldChain [] = ⊥
+IsFieldChain (n ∷ ns) = IsFieldName n × AreFieldNames ns
+
+-- ---- pipelines
+
+abbrev mutual
+  pub OfOperand : Operand → Type 0
+  OfOperand tree.dot = Unit {0}
+  OfOperand (tree.fields names) = IsFieldChain names
+  OfOperand (tree.variable name names) = IsNamed name × AreFieldNames names
+  OfOperand (tree.bool_constant b) = Unit {0}
+  OfOperand (tree.number_constant n) = mag n < 2 ^ 63
+  OfOperand (tree.text_constant bytes) = AreBytes bytes
+  OfOperand tree.nil = Unit {0}
+  OfOperand (tree.function f) = Unit {0}
+  OfOperand (tree.group commands names) = OfCommands commands × AreFieldNames names
+
+  pub OfMore : Operands → Type 0
+  OfMore tree.no_operand = Unit {0}
+  OfMore (tree.operand o os) = OfOperand o × OfMore os
+
+  pub OfCommand : Operands → Type 0
+  OfCommand tree.no_operand = ⊥
+  OfCommand (tree.operand o os) = OfOperand o × OfMore os
+
+  pub OfLater : Commands → Type 0
+  OfLater tree.no_command = Unit {0}
+  OfLater (tree.command os cs) = MayBeLater os × OfCommand os × OfLater cs
+
+  pub OfCommands : Commands → Type 0
+  OfCommands tree.no_command = ⊥
+  OfCommands (tree.command os cs) = OfCommand os × OfLater cs
+
+abbrev pub OfPipeline : Pipeline → Type 0
+OfPipeline (pipeline cs) = OfCommands cs × (depth_of_pipeline (pipeline cs) ≤ most_deep)
+
+-- ---- actions
+
+abbrev pub OfVariable : List ℕ → Type 0
+OfVariable name = IsName name × IsNamed name
+
+abbrev pub OfBinding : Binding → Type 0
+OfBinding unbound = Unit {0}
+OfBinding (declare name) = OfVariable name
+OfBinding (assign name) = OfVariable name
+OfBinding (declare_pair key name) = OfVariable key × OfVariable name
+
+-- in an action of this shape
+abbrev pub OfHeader : Shape → Header → Type 0
+OfHeader s h = (may_bind s h.binding ≡ true) × OfBinding h.binding × OfPipeline h.pipeline
+
+abbrev pub OfAction : Action → Type 0
+OfAction (pipeline_action h) = OfHeader shape.Pipeline h
+OfAction (opening c h) = OfHeader (shape.Open c) h
+OfAction plain_else = Unit {0}
+OfAction (else_branch br h) = OfHeader (shape.ElseBranch br) h
+OfAction end_action = Unit {0}
+OfAction break_action = Unit {0}
+OfAction continue_action = Unit {0}

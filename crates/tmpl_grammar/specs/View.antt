@@ -1,0 +1,115 @@
+-- What trees, and the steps of the reading, stand for, apart from how they are held.
+use Rattle.std.specs.Prelude.{ℕ, List, map, reverse, option_map}
+use Rattle.std.specs.Borrow.{Bor}
+use Rattle.tmpl_lex.specs.declared.piece.Token as held_token
+use Rattle.tmpl_lex.specs.Piece.{Token, token_of}
+use Rattle.tmpl_grammar.specs.Tree.{Operand, dot, fields, variable, bool_constant, number_constant, text_constant, nil, function, group, Operands, operands_from, Commands, commands_from, Pipeline, pipeline, Binding, unbound, declare, assign, declare_pair, Header}
+use Rattle.tmpl_grammar.specs.Action.{Action, pipeline_action, opening, plain_else, else_branch, end_action, break_action, continue_action}
+use Rattle.tmpl_grammar.specs.Depth as depth
+use Rattle.tmpl_grammar.specs.computed.Reading as reading
+use Rattle.tmpl_grammar.specs.computed.Parser as parser
+use Rattle.tmpl_grammar.specs.declared.tree.Operand as held_operand
+use Rattle.tmpl_grammar.specs.declared.tree.Operand.{fold-Operand}
+use Rattle.tmpl_grammar.specs.declared.tree.Operand.TheOpen.{Operand-F, Command-F}
+use Rattle.tmpl_grammar.specs.declared.tree.Command as held_command
+use Rattle.tmpl_grammar.specs.declared.tree.Pipeline as held_pipeline
+use Rattle.tmpl_grammar.specs.declared.tree.Binding as held_binding
+use Rattle.tmpl_grammar.specs.declared.tree.Binding.TheVariants as binding
+use Rattle.tmpl_grammar.specs.declared.tree.Header as held_header
+use Rattle.tmpl_grammar.specs.declared.action.Action as held_action
+use Rattle.tmpl_grammar.specs.declared.action.Action.TheVariants as act
+use Rattle.tmpl_grammar.specs.declared.action.Reading as held_reading
+use Rattle.tmpl_grammar.specs.declared.action.Reading.TheVariants as held
+use Rattle.tmpl_grammar.specs.declared.header.Front.{Front}
+use Rattle.tmpl_grammar.specs.declared.header.Front.TheVariants as front
+use Rattle.tmpl_grammar.specs.declared.pipeline.parser.PipelineParser.{PipelineParser}
+use Rattle.tmpl_grammar.specs.declared.pipeline.parser.PartialPipeline.{PartialPipeline}
+
+-- ---- trees
+
+-- one level, with what stands inside already seen
+abbrev pub operand_step : Operand-F Operand Operands → Operand
+operand_step Operand-F.Dot = dot
+operand_step (Operand-F.Fields names) = fields names.items
+operand_step (Operand-F.Variable name names) = variable name names.items
+operand_step (Operand-F.Bool b) = bool_constant b
+operand_step (Operand-F.Number n) = number_constant n
+operand_step (Operand-F.Text bytes) = text_constant bytes
+operand_step Operand-F.Nil = nil
+operand_step (Operand-F.Function f) = function f
+operand_step (Operand-F.Group commands names) = group (commands_from commands.items) names.items
+
+abbrev pub command_step : Command-F Operand Operands → Operands
+command_step c = operands_from c.operands.items
+
+abbrev pub operand_of : held_operand.Operand → Operand
+operand_of = fold-Operand Operand Operands operand_step command_step
+
+abbrev pub operands_in : List held_operand.Operand → Operands
+operands_in os = operands_from (map operand_of os)
+
+abbrev pub command_of : held_command.Command → Operands
+command_of c = operands_in c.operands.items
+
+abbrev pub commands_in : List held_command.Command → Commands
+commands_in cs = commands_from (map command_of cs)
+
+abbrev pub pipeline_of : held_pipeline.Pipeline → Pipeline
+pipeline_of p = pipeline (commands_in p.commands.items)
+
+abbrev pub binding_of : held_binding.Binding → Binding
+binding_of binding.Unbound = unbound
+binding_of (binding.Declare name) = declare name
+binding_of (binding.Assign name) = assign name
+binding_of (binding.DeclarePair key name) = declare_pair key name
+
+abbrev pub header_of : held_header.Header → Header
+header_of h = record { binding = binding_of h.binding; pipeline = pipeline_of h.pipeline }
+
+-- ---- actions
+
+abbrev pub action_of : held_action.Action → Action
+action_of (act.Pipeline h) = pipeline_action (header_of h)
+action_of (act.Open c h) = opening c (header_of h)
+action_of act.Else = plain_else
+action_of (act.ElseBranch branch h) = else_branch branch (header_of h)
+action_of act.End = end_action
+action_of act.Break = break_action
+action_of act.Continue = continue_action
+
+abbrev pub action_reading : held_reading.Reading held_action.Action → depth.Reading Action
+action_reading held.Unread = depth.unread
+action_reading (held.TooDeep s) = depth.too_deep s
+action_reading (held.Read a) = depth.read (action_of a)
+
+abbrev pub pipeline_reading : held_reading.Reading held_pipeline.Pipeline → depth.Reading Pipeline
+pipeline_reading held.Unread = depth.unread
+pipeline_reading (held.TooDeep s) = depth.too_deep s
+pipeline_reading (held.Read p) = depth.read (pipeline_of p)
+
+-- ---- steps of the reading
+
+abbrev pub next_of : held_token.Token × Bor (List held_token.Token) → Token × List Token
+next_of p = (token_of p.0, map token_of p.1.now)
+
+abbrev pub name_of : Bor (List ℕ) × Bor (List held_token.Token) → List ℕ × List Token
+name_of p = (p.0.now, map token_of p.1.now)
+
+abbrev pub front_of : Front → reading.Front
+front_of front.Plain = reading.plain
+front_of (front.Declare name ts) = reading.bound (declare name.now) (map token_of ts.now)
+front_of (front.Assign name ts) = reading.bound (assign name.now) (map token_of ts.now)
+front_of (front.DeclarePair key name ts) = reading.bound (declare_pair key.now name.now) (map token_of ts.now)
+
+abbrev pub split_of : held_binding.Binding × Bor (List held_token.Token) → Binding × List Token
+split_of h = (binding_of h.0, map token_of h.1.now)
+
+abbrev pub partial_of : PartialPipeline → parser.Partial
+partial_of l = record { commands = map command_of l.commands.items; operands = map operand_of l.operands.items }
+
+abbrev pub parser_of : PipelineParser → parser.Parser
+parser_of h = record {
+  outer = reverse (map partial_of h.outer.items);
+  inner = partial_of h.inner;
+  last = option_map operand_of h.last;
+}

@@ -1,0 +1,4 @@
+pub mod Parser
+pub mod Reading
+pub mod Recognizer
+pub mod Within

@@ -1,0 +1,169 @@
+-- The reading of one action's tokens ("Actions", "Arguments", "Pipelines" and "Variables" in the documentation of Go's
+-- text/template), computed. `Pipeline`, `Header` and `Action` say by productions which tokens spell what, and laws that
+-- just that is read.
+use Rattle.std.specs.Prelude.{ℕ, Bool, true, false, List, [], ◌∷◌, Option, Some, None, option_map, codes, if◌then◌else◌}
+use Rattle.std.specs.Str.{bytes_eq}
+use Rattle.tmpl_lex.specs.declared.piece.TokenKind.{TokenKind}
+use Rattle.tmpl_lex.specs.declared.piece.TokenKind.TheVariants as kind
+use Rattle.tmpl_lex.specs.Piece.{Token}
+pub use Rattle.tmpl_grammar.specs.Token.{is_white, is_blank, without_front, next, name_in, begins_name}
+use Rattle.tmpl_grammar.specs.computed.Parser.{start, commands_after}
+use Rattle.tmpl_grammar.specs.Tree.{Operands, Pipeline, pipeline, Binding, unbound, declare, assign, declare_pair, Header, commands_from}
+use Rattle.tmpl_grammar.specs.Header.{may_bind}
+use Rattle.tmpl_grammar.specs.Depth.{Reading, reading_of, pipeline_within}
+use Rattle.tmpl_grammar.specs.Action.{Action, plain_else, end_action, break_action, continue_action, action_with}
+use Rattle.tmpl_grammar.specs.declared.tree.Control.TheVariants as control
+use Rattle.tmpl_grammar.specs.declared.action.Branch.TheVariants as branch
+use Rattle.tmpl_grammar.specs.declared.action.Shape.{Shape}
+use Rattle.tmpl_grammar.specs.declared.action.Shape.TheVariants as shape
+use Rattle.tmpl_grammar.specs.declared.keyword.Keyword.{Keyword}
+use Rattle.tmpl_grammar.specs.declared.keyword.Keyword.TheVariants as word
+
+-- ---- pipelines
+
+abbrev pub pipeline_from : List Operands → Pipeline
+pipeline_from cs = pipeline (commands_from cs)
+
+-- the pipeline that the tokens spell, if they spell one
+unfoldable pub pipeline_in : List Token → Option Pipeline
+pipeline_in ts = option_map pipeline_from (commands_after start ts)
+
+-- .. within the limit of its depth, in an action of this shape
+abbrev pub limited_in : Shape → List Token → Reading Pipeline
+limited_in s ts = pipeline_within s (pipeline_in ts)
+
+-- ---- headers
+
+-- a name of a variable has at least one byte
+abbrev pub named_by : List ℕ → List Token → Option (List ℕ × List Token)
+named_by [] ts = None
+named_by (b ∷ bs) ts = Some (b ∷ bs, ts)
+
+abbrev pub named_kind : TokenKind → Token → List Token → Option (List ℕ × List Token)
+named_kind kind.Variable t ts = named_by (name_in t) ts
+named_kind k t ts = None
+
+abbrev pub named_at : Option (Token × List Token) → Option (List ℕ × List Token)
+named_at None = None
+named_at (Some p) = named_kind p.0.kind p.0 p.1
+
+-- the variable that comes first, and the tokens behind it
+abbrev pub named : List Token → Option (List ℕ × List Token)
+named ts = named_at (next ts)
+
+-- what comes first in a header: variables and a sign, or neither, and the tokens behind them
+pub data Front : Type 0 where
+  plain : Front
+  bound : Binding → List Token → Front
+
+-- behind `$i, $x`
+abbrev pub second_by : TokenKind → List ℕ → List ℕ → List Token → Front
+second_by kind.Declare key name ts = bound (declare_pair key name) ts
+second_by k key name ts = plain
+
+abbrev pub second_signed : List ℕ → List ℕ → Option (Token × List Token) → Front
+second_signed key name None = plain
+second_signed key name (Some p) = second_by p.0.kind key name p.1
+
+abbrev pub second_named : List ℕ → Option (List ℕ × List Token) → Front
+second_named key None = plain
+second_named key (Some p) = second_signed key p.0 (next p.1)
+
+-- behind `$x`
+abbrev pub front_by : TokenKind → List ℕ → List Token → Front
+front_by kind.Declare name ts = bound (declare name) ts
+front_by kind.Assign name ts = bound (assign name) ts
+front_by kind.Comma name ts = second_named name (named ts)
+front_by k name ts = plain
+
+abbrev pub front_signed : List ℕ → Option (Token × List Token) → Front
+front_signed name None = plain
+front_signed name (Some p) = front_by p.0.kind name p.1
+
+abbrev pub front_named : Option (List ℕ × List Token) → Front
+front_named None = plain
+front_named (Some p) = front_signed p.0 (next p.1)
+
+abbrev pub front_in : List Token → Front
+front_in ts = front_named (named ts)
+
+-- the binding, and the tokens of the pipeline
+abbrev pub split_by : Front → List Token → Binding × List Token
+split_by plain ts = (unbound, ts)
+split_by (bound b rest) ts = (b, rest)
+
+unfoldable pub split : List Token → Binding × List Token
+split ts = split_by (front_in ts) ts
+
+abbrev pub header_with : Binding → Pipeline → Header
+header_with b p = record { binding = b; pipeline = p }
+
+abbrev pub header_if : Bool → Binding → Option Pipeline → Option Header
+header_if true b o = option_map (header_with b) o
+header_if false b o = None
+
+abbrev pub header_by : Shape → Binding × List Token → Option Header
+header_by s h = header_if (may_bind s h.0) h.0 (pipeline_in h.1)
+
+-- the header of an action of this shape
+abbrev pub header_in : Shape → List Token → Option Header
+header_in s ts = header_by s (split ts)
+
+-- ---- actions
+
+abbrev pub spells_keyword : List ℕ → Option Keyword
+spells_keyword name =
+    if bytes_eq name (codes "if") then Some (word.Control control.If)
+    else if bytes_eq name (codes "with") then Some (word.Control control.With)
+    else if bytes_eq name (codes "range") then Some (word.Control control.Range)
+    else if bytes_eq name (codes "else") then Some word.Else
+    else if bytes_eq name (codes "end") then Some word.End
+    else if bytes_eq name (codes "break") then Some word.Break
+    else if bytes_eq name (codes "continue") then Some word.Continue
+    else None
+
+abbrev pub keyword_by : TokenKind → List ℕ → Option Keyword
+keyword_by kind.Word name = spells_keyword name
+keyword_by k name = None
+
+-- the keyword that a token is
+unfoldable pub keyword_of : Token → Option Keyword
+keyword_of t = keyword_by t.kind t.bytes
+
+-- an action that stands alone
+abbrev pub alone : Action → List Token → Option Action
+alone a ts = if is_blank ts then Some a else None
+
+abbrev pub else_keyword : Option Keyword → List Token → Option Action
+else_keyword (Some (word.Control control.If)) ts =
+    option_map (action_with (shape.ElseBranch branch.If)) (header_in (shape.ElseBranch branch.If) ts)
+else_keyword k ts = None
+
+-- behind an `else`: nothing, or an `if`
+abbrev pub else_by : Option (Token × List Token) → Option Action
+else_by None = Some plain_else
+else_by (Some p) = else_keyword (keyword_of p.0) p.1
+
+abbrev pub action_by : Keyword → List Token → Option Action
+action_by (word.Control c) ts = option_map (action_with (shape.Open c)) (header_in (shape.Open c) ts)
+action_by word.Else ts = else_by (next ts)
+action_by word.End ts = alone end_action ts
+action_by word.Break ts = alone break_action ts
+action_by word.Continue ts = alone continue_action ts
+
+-- by the keyword that comes first, if one does
+abbrev pub action_behind : Option Keyword → List Token → List Token → Option Action
+action_behind None rest ts = option_map (action_with shape.Pipeline) (header_in shape.Pipeline ts)
+action_behind (Some k) rest ts = action_by k rest
+
+abbrev pub action_at : Option (Token × List Token) → List Token → Option Action
+action_at None ts = None
+action_at (Some p) ts = action_behind (keyword_of p.0) p.1 ts
+
+-- what the tokens of an action say, if they are an action of the grammar
+unfoldable pub action_in : List Token → Option Action
+action_in ts = action_at (next ts) ts
+
+-- .. where its parentheses are within the limit
+abbrev pub reading_in : List Token → Reading Action
+reading_in ts = reading_of (action_in ts)

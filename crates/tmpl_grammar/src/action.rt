@@ -1,0 +1,69 @@
+//! What one action says.
+ghost use Rattle.std.specs.Prelude.{◌≡◌};
+ghost use Rattle.tmpl_grammar.specs.Action.{action_with};
+ghost use Rattle.tmpl_grammar.specs.Header.{may_bind};
+ghost use Rattle.tmpl_grammar.specs.View.{action_of, binding_of, header_of};
+
+use crate::tree::{Binding, Control, Header};
+
+/// A control with which an else part begins, as in `{{else if P}}`.
+#[derive(Clone, Copy, Debug, PartialEq, Eq)]
+pub enum Branch {
+    If,
+}
+
+/// What one action says ("Actions" in the documentation of Go's text/template).
+#[derive(Drop)]
+pub enum Action {
+    /// Puts out the text of a value, or binds a variable to it.
+    Pipeline(Header),
+    Open(Control, Header),
+    Else,
+    ElseBranch(Branch, Header),
+    End,
+    Break,
+    Continue,
+}
+
+/// Which kind of action one with a header is.
+#[derive(Clone, Copy, Debug, PartialEq, Eq)]
+pub enum Shape {
+    Pipeline,
+    Open(Control),
+    ElseBranch(Branch),
+}
+
+/// What tokens are read as.
+#[derive(Drop)]
+pub enum Reading<T> {
+    /// Nothing of the grammar.
+    Unread,
+    /// What the grammar has, but for parentheses that nest deeper than 100 (our own limit), in an action of this shape.
+    TooDeep(Shape),
+    Read(T),
+}
+
+impl Shape {
+    /// The action of this shape with this header.
+    pub(crate) fn with(self, header: Header) -> Action
+        ensures { action_of result ≡ action_with self (header_of header) }
+    {
+        match self {
+            Shape::Pipeline => Action::Pipeline(header),
+            Shape::Open(control) => Action::Open(control, header),
+            Shape::ElseBranch(branch) => Action::ElseBranch(branch, header),
+        }
+    }
+
+    /// Whether a header of this shape may bind variables so.
+    pub(crate) fn may_bind(self, binding: &Binding) -> bool
+        ensures { result ≡ may_bind self (binding_of binding.now) }
+    {
+        let is_range = matches!(self, Shape::Open(Control::Range));
+        match binding {
+            Binding::Unbound | Binding::Declare(_) => true,
+            Binding::Assign(_) => !is_range,
+            Binding::DeclarePair { .. } => is_range,
+        }
+    }
+}

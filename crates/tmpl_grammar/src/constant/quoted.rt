@@ -1,0 +1,222 @@
+//! What stands between quotes: strings, raw strings and characters ("String literals" and "Rune
+//! literals" in the specification of Go's language).
+ghost use Rattle.std.specs.Prelude.{◌≡◌, ◌≤◌, ◌<◌, ◌^◌, ◌+◌, ◌++◌, ◌∷◌, IfOk, IfSome, OnOk, length, option_and_then, option_map};
+ghost use Rattle.tmpl_values.specs.Rune.{first_rune};
+ghost use Rattle.tmpl_grammar.specs.Constant.Integer as numeral;
+ghost use Rattle.tmpl_grammar.specs.Constant.Quoted as spec;
+ghost use Rattle.tmpl_grammar.specs.computed.Within.{within};
+
+use crate::constant::integer::number_in;
+use std::alloc::{AllocError, Global};
+use tmpl_values::first_char;
+
+/// What a part of a text between quotes stands for.
+#[derive(Clone, Copy)]
+pub(crate) enum Part {
+    Byte(u8),
+    Char(char),
+}
+
+/// A part, and how many bytes spell it.
+type Spelled = (Part, usize);
+
+/// The bytes between the first and the last.
+pub(crate) fn between(bytes: &[u8]) -> &[u8]
+    ensures { result.now ≡ spec.between bytes.now }
+{
+    match bytes {
+        [_, inside @ .., _] => inside,
+        _ => &[],
+    }
+}
+
+/// The text that stands between such quotes, if it consists of parts.
+pub(crate) fn unquoted(
+    alloc: Global,
+    quote: u8,
+    bytes: &[u8],
+) -> Result<Option<Vec<u8>>, AllocError>
+    ensures { IfOk result (λ o. option_map (λ v. v.items) o ≡ spec.unquoted quote bytes.now) }
+{
+    let mut text = Vec::new(alloc);
+    let mut rest = bytes;
+    while rest.len() > 0 {
+        let Some((part, len)) = part_at(quote, rest) else {
+            return Ok(None);
+        };
+        part.add_to(&mut text)?;
+        rest = &rest[len..];
+    }
+    Ok(Some(text))
+}
+
+/// The text of a raw string: its bytes without carriage returns.
+pub(crate) fn without_returns(alloc: Global, bytes: &[u8]) -> Result<Vec<u8>, AllocError>
+    ensures { IfOk result (λ v. v.items ≡ spec.without_returns bytes.now) }
+{
+    bytes.iter().copied().filter(|b| *b != b'\r').collect(alloc)
+}
+
+/// The code of the one part between such quotes, if there is one and no more.
+pub(crate) fn rune_code(quote: u8, bytes: &[u8]) -> Option<u32>
+    ensures { result ≡ spec.rune_code quote bytes.now }
+{
+    let (part, len) = part_at(quote, bytes)?;
+    if len == bytes.len() {
+        Some(part.code())
+    } else {
+        None
+    }
+}
+
+impl Part {
+    fn add_to(self, text: &mut Vec<u8>) -> Result<(), AllocError>
+        ensures { OnOk result (text.new.items ≡ text.old.items ++ spec.part_text self) }
+    {
+        match self {
+            Part::Byte(byte) => Ok(text.push(byte)?),
+            Part::Char(c) => {
+                let mut buffer = [0; 4];
+                text.extend_from_slice(c.encode_utf8(&mut buffer).as_bytes())
+            }
+        }
+    }
+
+    fn code(self) -> u32
+        ensures { result ≡ spec.part_code self }
+    {
+        match self {
+            Part::Byte(byte) => u32::from(byte),
+            Part::Char(c) => u32::from(c),
+        }
+    }
+}
+
+/// The part at the front.
+#[tactic(auto, unfolding(crate::specs::Constant::Quoted::part_at))]
+fn part_at(quote: u8, bytes: &[u8]) -> Option<Spelled>
+    ensures value { result ≡ spec.part_at quote bytes.now }
+    ensures within { IfSome result (λ p. (0 < p.1) × (p.1 ≤ length bytes.now)) }
+{
+    match bytes {
+        [] => None,
+        [first, behind @ ..] => {
+            if *first == b'\\' {
+                escape(quote, behind)
+            } else if *first == quote {
+                None
+            } else {
+                Some(rune_part(bytes))
+            }
+        }
+    }
+}
+
+/// The rune at the front, or U+FFFD for an ill-formed byte.
+fn rune_part(bytes: &[u8]) -> Spelled
+    requires { 0 < length bytes.now }
+    ensures value { result ≡ spec.rune_part (first_rune bytes.now) }
+    ensures within { (0 < result.1) × (result.1 ≤ length bytes.now) }
+{
+    match first_char(bytes) {
+        Some(c) => (Part::Char(c), c.len_utf8()),
+        None => (Part::Char('\u{fffd}'), 1),
+    }
+}
+
+/// The escape whose backslash stands before these bytes.
+fn escape(quote: u8, bytes: &[u8]) -> Option<Spelled>
+    ensures value { result ≡ spec.escape quote bytes.now }
+    ensures within { IfSome result (λ p. (0 < p.1) × (p.1 ≤ length bytes.now + 1)) }
+{
+    match bytes {
+        [] => None,
+        [letter, digits @ ..] => match byte_named(quote, *letter) {
+            Some(byte) => Some((Part::Byte(byte), 2)),
+            None => coded(*letter, digits, bytes),
+        },
+    }
+}
+
+/// The byte that a letter stands for behind a backslash.
+fn byte_named(quote: u8, letter: u8) -> Option<u8>
+    ensures { result ≡ spec.byte_named quote letter }
+{
+    match letter {
+        b'a' => Some(7),
+        b'b' => Some(8),
+        b'f' => Some(12),
+        b'n' => Some(b'\n'),
+        b'r' => Some(b'\r'),
+        b't' => Some(b'\t'),
+        b'v' => Some(11),
+        b'\\' => Some(b'\\'),
+        _ => if letter == quote { Some(quote) } else { None },
+    }
+}
+
+/// The escape by digits: in base 16 behind a letter, or else in base 8.
+fn coded(letter: u8, digits: &[u8], whole: &[u8]) -> Option<Spelled>
+    requires { whole.now ≡ letter ∷ digits.now }
+    ensures value { result ≡ spec.coded letter digits.now }
+    ensures within { IfSome result (λ p. (0 < p.1) × (p.1 ≤ length digits.now + 2)) }
+{
+    match letter {
+        b'x' => byte_of(16, 2, digits),
+        b'u' => char_of(4, digits),
+        b'U' => char_of(8, digits),
+        _ => byte_of(8, 3, whole),
+    }
+}
+
+/// The byte that so many digits at the front name; four bytes spell each such escape.
+fn byte_of(base: u32, count: usize, bytes: &[u8]) -> Option<Spelled>
+    requires low { 2 ≤ base }
+    requires high { base ≤ 16 }
+    ensures value { result ≡ option_and_then (spec.as_byte 4) (spec.code base count bytes.now) }
+    ensures within { IfSome result (λ p. (p.1 ≡ 4) × (count ≤ length bytes.now)) }
+{
+    as_byte(4, code(base, count, bytes)?)
+}
+
+/// The character that so many digits at the front name, behind a letter.
+fn char_of(count: usize, bytes: &[u8]) -> Option<Spelled>
+    requires { count ≤ 8 }
+    ensures value { result ≡ option_and_then (spec.as_char (count + 2)) (spec.code 16 count bytes.now) }
+    ensures within { IfSome result (λ p. (p.1 ≡ count + 2) × (count ≤ length bytes.now)) }
+{
+    as_char(count + 2, code(16, count, bytes)?)
+}
+
+fn as_byte(len: usize, n: u64) -> Option<Spelled>
+    ensures value { result ≡ spec.as_byte len n }
+    ensures within { IfSome result (λ p. p.1 ≡ len) }
+{
+    match u8::try_from(n) {
+        Ok(byte) => Some((Part::Byte(byte), len)),
+        Err(_) => None,
+    }
+}
+
+fn as_char(len: usize, n: u64) -> Option<Spelled>
+    ensures value { result ≡ spec.as_char len n }
+    ensures within { IfSome result (λ p. p.1 ≡ len) }
+{
+    match u32::try_from(n) {
+        Ok(n) => Some((Part::Char(char::from_u32(n)?), len)),
+        Err(_) => None,
+    }
+}
+
+/// The number that so many digits at the front write.
+fn code(base: u32, count: usize, bytes: &[u8]) -> Option<u64>
+    requires low { 2 ≤ base }
+    requires high { base ≤ 16 }
+    ensures value { result ≡ within (spec.code base count bytes.now) }
+    ensures fits { IfSome result (λ n. count ≤ length bytes.now) }
+{
+    if bytes.len() < count {
+        return None;
+    }
+    number_in(base, &bytes[..count])
+}

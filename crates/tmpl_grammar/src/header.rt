@@ -1,0 +1,104 @@
+//! The reading of headers: a pipeline's tokens, perhaps behind variables.
+ghost use Rattle.std.specs.Prelude.{◌≡◌, IfOk, map, option_map};
+ghost use Rattle.tmpl_lex.specs.Piece.{token_of};
+ghost use Rattle.tmpl_grammar.specs.computed.Reading as spec;
+ghost use Rattle.tmpl_grammar.specs.View.{front_of, name_of, split_of};
+
+use crate::operand::{name_in, next};
+use crate::tree::Binding;
+use std::alloc::{AllocError, Global};
+use tmpl_lex::{Token, TokenKind};
+use tmpl_values::Bytes;
+
+/// What comes first in a header, and the tokens behind it.
+#[derive(Clone, Copy)]
+enum Front<'t, 'b> {
+    Plain,
+    /// `$x :=`
+    Declare(&'b [u8], &'t [Token<'b>]),
+    /// `$x =`
+    Assign(&'b [u8], &'t [Token<'b>]),
+    /// `$i, $x :=`
+    DeclarePair(&'b [u8], &'b [u8], &'t [Token<'b>]),
+}
+
+/// The variable that comes first, by its name of at least one byte, and the tokens behind it.
+fn named<'t, 'b>(tokens: &'t [Token<'b>]) -> Option<(&'b [u8], &'t [Token<'b>])>
+    ensures { option_map name_of result ≡ spec.named (map token_of tokens.now) }
+{
+    let (first, rest) = next(tokens)?;
+    match first.kind {
+        TokenKind::Variable => named_by(name_in(&first), rest),
+        _ => None,
+    }
+}
+
+/// A name of at least one byte, and the tokens behind it.
+fn named_by<'t, 'b>(name: &'b [u8], rest: &'t [Token<'b>]) -> Option<(&'b [u8], &'t [Token<'b>])>
+    ensures { option_map name_of result ≡ spec.named_by name.now (map token_of rest.now) }
+{
+    match name {
+        [] => None,
+        _ => Some((name, rest)),
+    }
+}
+
+/// What comes first in a header.
+fn header_front<'t, 'b>(tokens: &'t [Token<'b>]) -> Front<'t, 'b>
+    ensures { front_of result ≡ spec.front_in (map token_of tokens.now) }
+{
+    let Some((name, rest)) = named(tokens) else {
+        return Front::Plain;
+    };
+    let Some((sign, rest)) = next(rest) else {
+        return Front::Plain;
+    };
+    match sign.kind {
+        TokenKind::Declare => Front::Declare(name, rest),
+        TokenKind::Assign => Front::Assign(name, rest),
+        TokenKind::Comma => second_name(name, rest),
+        _ => Front::Plain,
+    }
+}
+
+/// The second of two variables, behind the comma.
+fn second_name<'t, 'b>(key: &'b [u8], tokens: &'t [Token<'b>]) -> Front<'t, 'b>
+    ensures { front_of result ≡ spec.second_named key.now (spec.named (map token_of tokens.now)) }
+{
+    let Some((name, rest)) = named(tokens) else {
+        return Front::Plain;
+    };
+    let Some((sign, rest)) = next(rest) else {
+        return Front::Plain;
+    };
+    match sign.kind {
+        TokenKind::Declare => Front::DeclarePair(key, name, rest),
+        _ => Front::Plain,
+    }
+}
+
+fn copied(alloc: Global, name: &[u8]) -> Result<Bytes, AllocError>
+    ensures { IfOk result (λ b. b ≡ name.now) }
+{
+    Ok(Bytes::new(name.to_vec(alloc)?))
+}
+
+/// The binding of a header, and the tokens of its pipeline.
+#[tactic(auto, unfolding(crate::specs::computed::Reading::split))]
+pub(crate) fn split<'t, 'b>(
+    alloc: Global,
+    tokens: &'t [Token<'b>],
+) -> Result<(Binding, &'t [Token<'b>]), AllocError>
+    ensures { IfOk result (λ h. split_of h ≡ spec.split (map token_of tokens.now)) }
+{
+    match header_front(tokens) {
+        Front::Plain => Ok((Binding::Unbound, tokens)),
+        Front::Declare(name, rest) => Ok((Binding::Declare(copied(alloc, name)?), rest)),
+        Front::Assign(name, rest) => Ok((Binding::Assign(copied(alloc, name)?), rest)),
+        Front::DeclarePair(key, name, rest) => {
+            let key = copied(alloc, key)?;
+            let element = copied(alloc, name)?;
+            Ok((Binding::DeclarePair { key, element }, rest))
+        }
+    }
+}

@@ -1,0 +1,51 @@
+//! The words that begin an action.
+ghost use Rattle.std.specs.Prelude.{◌≡◌};
+ghost use Rattle.tmpl_lex.specs.Piece.{token_of};
+ghost use Rattle.tmpl_grammar.specs.computed.Reading.{keyword_of, spells_keyword};
+
+use crate::tree::Control;
+use tmpl_lex::{Token, TokenKind};
+
+/// A word that begins an action ("Actions" in the documentation of Go's text/template).
+#[derive(Clone, Copy, Debug, PartialEq, Eq)]
+pub(crate) enum Keyword {
+    Control(Control),
+    Else,
+    End,
+    Break,
+    Continue,
+}
+
+/// The keyword that a token is, if it is one.
+#[tactic(auto, unfolding(crate::specs::computed::Reading::keyword_of))]
+pub(crate) fn keyword_in(token: Token<'_>) -> Option<Keyword>
+    ensures { result ≡ keyword_of (token_of token.entry) }
+{
+    match token.kind {
+        TokenKind::Word => spelled(token.bytes),
+        _ => None,
+    }
+}
+
+/// The keyword of this spelling.
+fn spelled(name: &[u8]) -> Option<Keyword>
+    ensures { result ≡ spells_keyword name.now }
+{
+    if name == b"if".as_slice() {
+        Some(Keyword::Control(Control::If))
+    } else if name == b"with".as_slice() {
+        Some(Keyword::Control(Control::With))
+    } else if name == b"range".as_slice() {
+        Some(Keyword::Control(Control::Range))
+    } else if name == b"else".as_slice() {
+        Some(Keyword::Else)
+    } else if name == b"end".as_slice() {
+        Some(Keyword::End)
+    } else if name == b"break".as_slice() {
+        Some(Keyword::Break)
+    } else if name == b"continue".as_slice() {
+        Some(Keyword::Continue)
+    } else {
+        None
+    }
+}

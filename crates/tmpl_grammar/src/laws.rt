@@ -1,0 +1,26 @@
+//! The laws of the grammar.
+ghost use Rattle.tmpl_grammar.specs.Laws.{ReadsSpelled, ReadsSpelledAction, SpellsOne, SpellsOneAction, SpellsRead, SpellsReadAction, PrintsTokens, SpellsTokens};
+
+/// The law that a list of tokens spells one pipeline at most, and that just this one is read.
+pub fn one_reading()
+    ensures read { ReadsSpelled }
+    ensures spelled { SpellsRead }
+    ensures one { SpellsOne }
+{}
+
+/// The law that a list of tokens spells one action at most, and that just this one is read.
+pub fn one_action()
+    ensures read { ReadsSpelledAction }
+    ensures spelled { SpellsReadAction }
+    ensures one { SpellsOneAction }
+{}
+
+/// The law that the tokens of a printed action are read from its bytes.
+pub fn printed_tokens()
+    ensures { PrintsTokens }
+{}
+
+/// The law that the tokens of a printed action spell it.
+pub fn printed_spelling()
+    ensures { SpellsTokens }
+{}

@@ -1,0 +1,21 @@
+//! The grammar of one action: what its tokens are read as ("Actions", "Arguments", "Pipelines" and "Variables" in the
+//! documentation of Go's text/template).
+#![tactic(auto)]
+
+mod action;
+mod constant;
+mod header;
+mod keyword;
+mod laws;
+mod operand;
+mod pipeline;
+mod read;
+mod tree;
+
+pub use action::{Action, Branch, Reading, Shape};
+pub use laws::{one_action, one_reading, printed_spelling, printed_tokens};
+pub use read::read_action;
+pub use tree::{Binding, Command, Control, Header, Operand, Pipeline};
+
+#[cfg(test)]
+mod tests;

@@ -1,0 +1,305 @@
+//! A parser of pipelines, token by token.
+ghost use Rattle.std.specs.Prelude.{◌≡◌, IfOk, map, option_map};
+ghost use Rattle.tmpl_lex.specs.Piece.{token_of};
+ghost use Rattle.tmpl_grammar.specs.computed.Parser as spec;
+ghost use Rattle.tmpl_grammar.specs.View.{parser_of, partial_of};
+ghost use Rattle.tmpl_grammar.specs.View.{command_of, operand_of};
+ghost use Rattle.tmpl_grammar.specs.Token as token;
+ghost use Rattle.tmpl_grammar.specs.Operand as word;
+
+use crate::operand::{begins_name, name_in, operand_at};
+use crate::tree::{Command, Operand};
+use std::alloc::{AllocError, Global};
+use tmpl_lex::{Token, TokenKind};
+use tmpl_values::Bytes;
+
+/// A pipeline that is read in part.
+#[derive(Drop)]
+pub(crate) struct PartialPipeline {
+    /// Its whole commands.
+    pub(crate) commands: Vec<Command>,
+    /// The operands of the next command that have white space behind them.
+    pub(crate) operands: Vec<Operand>,
+}
+
+/// The pipeline that is read, as far as it is, with those around it.
+#[derive(Drop)]
+pub(crate) struct PipelineParser {
+    /// The pipelines in whose parentheses this one stands, the innermost last.
+    pub(crate) outer: Vec<PartialPipeline>,
+    pub(crate) inner: PartialPipeline,
+    /// The operand that has no white space behind it.
+    pub(crate) last: Option<Operand>,
+}
+
+impl PartialPipeline {
+    fn new(alloc: Global) -> PartialPipeline
+        ensures { partial_of result ≡ spec.empty_partial }
+    {
+        PartialPipeline {
+            commands: Vec::new(alloc),
+            operands: Vec::new(alloc),
+        }
+    }
+}
+
+/// The operands with the last one, if there is one.
+fn settled(last: Option<Operand>, mut operands: Vec<Operand>) -> Result<Vec<Operand>, AllocError>
+    ensures { IfOk result (λ v. map operand_of v.items
+        ≡ spec.settled (option_map operand_of last) (map operand_of operands.items)) }
+{
+    if let Some(operand) = last {
+        operands.push(operand)?;
+    }
+    Ok(operands)
+}
+
+/// The commands with one more of these operands, if there are any.
+fn more_commands(
+    mut commands: Vec<Command>,
+    operands: Vec<Operand>,
+) -> Result<Option<Vec<Command>>, AllocError>
+    ensures { IfOk result (λ o. option_map (λ v. map command_of v.items) o
+        ≡ spec.more_commands (map command_of commands.items) (map operand_of operands.items)) }
+{
+    if operands.len() > 0 {
+        commands.push(Command { operands })?;
+        Ok(Some(commands))
+    } else {
+        Ok(None)
+    }
+}
+
+/// The commands of a pipeline that ends here.
+fn closed(inner: PartialPipeline, last: Option<Operand>) -> Result<Option<Vec<Command>>, AllocError>
+    ensures { IfOk result (λ o. option_map (λ v. map command_of v.items) o
+        ≡ spec.more_commands (partial_of inner).commands
+        (spec.settled (option_map operand_of last) (partial_of inner).operands)) }
+{
+    more_commands(inner.commands, settled(last, inner.operands)?)
+}
+
+/// The operand with one more field in its chain, if it may have a chain.
+fn linked(operand: Operand, name: Bytes) -> Result<Option<Operand>, AllocError>
+    ensures { IfOk result (λ o. option_map operand_of o ≡ spec.linked (operand_of operand) name) }
+{
+    match operand {
+        Operand::Fields(mut fields) => {
+            fields.push(name)?;
+            Ok(Some(Operand::Fields(fields)))
+        }
+        Operand::Variable {
+            name: variable,
+            mut fields,
+        } => {
+            fields.push(name)?;
+            Ok(Some(Operand::Variable {
+                name: variable,
+                fields,
+            }))
+        }
+        Operand::Group {
+            commands,
+            mut fields,
+        } => {
+            fields.push(name)?;
+            Ok(Some(Operand::Group { commands, fields }))
+        }
+        _ => Ok(None),
+    }
+}
+
+/// Whether this operand may begin a command behind a bar: a constant, `nil` and dot may not.
+pub(crate) fn begins_later(operand: &Operand) -> bool
+    ensures { result ≡ word.begins_later (operand_of operand.now) }
+{
+    match operand {
+        Operand::Fields(_)
+        | Operand::Variable { .. }
+        | Operand::Function(_)
+        | Operand::Group { .. } => true,
+        Operand::Dot | Operand::Bool(_) | Operand::Number(_) | Operand::Text(_) | Operand::Nil =>
+            false,
+    }
+}
+
+fn may_stand(inner: &PartialPipeline, operand: &Operand) -> bool
+    ensures { result ≡ spec.may_stand (partial_of inner.now).commands (partial_of inner.now).operands
+        (operand_of operand.now) }
+{
+    inner.commands.len() < 1 || inner.operands.len() > 0 || begins_later(operand)
+}
+
+impl PipelineParser {
+    pub(crate) fn new(alloc: Global) -> PipelineParser
+        ensures { parser_of result ≡ spec.start }
+    {
+        PipelineParser {
+            outer: Vec::new(alloc),
+            inner: PartialPipeline::new(alloc),
+            last: None,
+        }
+    }
+
+    /// What this token makes of it; `None` where the token may not stand.
+    #[tactic(auto, unfolding(crate::specs::computed::Parser::step))]
+    pub(crate) fn step(
+        self,
+        alloc: Global,
+        token: &Token<'_>,
+    ) -> Result<Option<PipelineParser>, AllocError>
+        ensures { IfOk result (λ o. option_map parser_of o ≡ spec.step (token_of token.now) (parser_of self)) }
+    {
+        match token.kind {
+            TokenKind::Space => Ok(Some(self.apart()?)),
+            TokenKind::Pipe => self.barred(alloc),
+            TokenKind::LeftParenthesis => self.opened(alloc),
+            TokenKind::RightParenthesis => self.left(alloc),
+            TokenKind::Field => self.fielded(alloc, token),
+            _ => self.placed(operand_at(alloc, token)?),
+        }
+    }
+
+    fn apart(self) -> Result<PipelineParser, AllocError>
+        ensures { IfOk result (λ h. parser_of h ≡ spec.apart (parser_of self)) }
+    {
+        let PipelineParser { outer, inner, last } = self;
+        let PartialPipeline { commands, operands } = inner;
+        let operands = settled(last, operands)?;
+        Ok(PipelineParser {
+            outer,
+            inner: PartialPipeline { commands, operands },
+            last: None,
+        })
+    }
+
+    fn barred(self, alloc: Global) -> Result<Option<PipelineParser>, AllocError>
+        ensures { IfOk result (λ o. option_map parser_of o
+            ≡ option_map (spec.barred (parser_of self)) (spec.closed (parser_of self))) }
+    {
+        match closed(self.inner, self.last)? {
+            Some(commands) => Ok(Some(PipelineParser {
+                outer: self.outer,
+                inner: PartialPipeline {
+                    commands,
+                    operands: Vec::new(alloc),
+                },
+                last: None,
+            })),
+            None => Ok(None),
+        }
+    }
+
+    fn opened(self, alloc: Global) -> Result<Option<PipelineParser>, AllocError>
+        ensures { IfOk result (λ o. option_map parser_of o
+            ≡ spec.opened (option_map operand_of self.last) (parser_of self)) }
+    {
+        if self.last.is_some() {
+            return Ok(None);
+        }
+        let mut outer = self.outer;
+        outer.push(self.inner)?;
+        Ok(Some(PipelineParser {
+            outer,
+            inner: PartialPipeline::new(alloc),
+            last: None,
+        }))
+    }
+
+    fn left(self, alloc: Global) -> Result<Option<PipelineParser>, AllocError>
+        ensures { IfOk result (λ o. option_map parser_of o
+            ≡ spec.left_with (parser_of self).outer (spec.closed (parser_of self))) }
+    {
+        let mut outer = self.outer;
+        let Some(inner) = outer.pop() else {
+            return Ok(None);
+        };
+        match closed(self.inner, self.last)? {
+            Some(commands) => Ok(Some(PipelineParser {
+                outer,
+                inner,
+                last: Some(Operand::Group {
+                    commands,
+                    fields: Vec::new(alloc),
+                }),
+            })),
+            None => Ok(None),
+        }
+    }
+
+    fn placed(self, operand: Option<Operand>) -> Result<Option<PipelineParser>, AllocError>
+        ensures { IfOk result (λ o. option_map parser_of o
+            ≡ spec.placed (option_map operand_of self.last) (option_map operand_of operand) (parser_of self)) }
+    {
+        if self.last.is_some() {
+            return Ok(None);
+        }
+        match operand {
+            Some(operand) => {
+                if may_stand(&self.inner, &operand) {
+                    Ok(Some(self.ending_with(operand)))
+                } else {
+                    Ok(None)
+                }
+            }
+            None => Ok(None),
+        }
+    }
+
+    fn ending_with(self, operand: Operand) -> PipelineParser
+        ensures { parser_of result ≡ spec.ending_with (parser_of self) (operand_of operand) }
+    {
+        PipelineParser {
+            outer: self.outer,
+            inner: self.inner,
+            last: Some(operand),
+        }
+    }
+
+    fn fielded(self, alloc: Global, token: &Token<'_>) -> Result<Option<PipelineParser>, AllocError>
+        ensures { IfOk result (λ o. option_map parser_of o
+            ≡ spec.fielded (option_map operand_of self.last) (token_of token.now) (parser_of self)) }
+    {
+        let PipelineParser { outer, inner, last } = self;
+        match last {
+            None => {
+                let parser = PipelineParser {
+                    outer,
+                    inner,
+                    last: None,
+                };
+                parser.placed(operand_at(alloc, token)?)
+            }
+            Some(operand) => match linked_by(alloc, operand, name_in(token))? {
+                Some(operand) => Ok(Some(PipelineParser {
+                    outer,
+                    inner,
+                    last: Some(operand),
+                })),
+                None => Ok(None),
+            },
+        }
+    }
+
+    /// The commands of the pipeline, where no parenthesis is open.
+    #[tactic(auto, unfolding(crate::specs::computed::Parser::finished))]
+    pub(crate) fn finished(self) -> Result<Option<Vec<Command>>, AllocError>
+        ensures { IfOk result (λ o. option_map (λ v. map command_of v.items) o ≡ spec.finished (parser_of self)) }
+    {
+        if self.outer.len() > 0 {
+            return Ok(None);
+        }
+        closed(self.inner, self.last)
+    }
+}
+
+fn linked_by(alloc: Global, operand: Operand, name: &[u8]) -> Result<Option<Operand>, AllocError>
+    ensures { IfOk result (λ o. option_map operand_of o
+        ≡ spec.linked_by (token.begins_name name.now) (operand_of operand) name.now) }
+{
+    if begins_name(name) {
+        linked(operand, Bytes::new(name.to_vec(alloc)?))
+    } else {
+        Ok(None)
+    }
+}

@@ -1,0 +1,97 @@
+//! The reading of one action's tokens.
+ghost use Rattle.std.specs.Prelude.{◌≡◌, IfOk, map, option_map};
+ghost use Rattle.tmpl_lex.specs.Piece.{token_of};
+ghost use Rattle.tmpl_grammar.specs.Action.{action_with, break_action, continue_action, end_action};
+ghost use Rattle.tmpl_grammar.specs.Depth as depth;
+ghost use Rattle.tmpl_grammar.specs.View.{action_of, action_reading};
+ghost use Rattle.tmpl_grammar.specs.computed.Reading as spec;
+
+use crate::action::{Action, Branch, Reading, Shape};
+use crate::header::split;
+use crate::keyword::{Keyword, keyword_in};
+use crate::operand::{is_blank, next};
+use crate::pipeline::pipeline;
+use crate::tree::{Control, Header};
+use std::alloc::{AllocError, Global};
+use tmpl_lex::Token;
+
+/// What an action's tokens are read as. Want of memory is the only error.
+#[tactic(auto, unfolding(crate::specs::computed::Reading::action_in))]
+pub fn read_action(alloc: Global, tokens: &[Token<'_>]) -> Result<Reading<Action>, AllocError>
+    ensures { IfOk result (λ a. action_reading a ≡ spec.reading_in (map token_of tokens.now)) }
+{
+    match next(tokens) {
+        None => Ok(Reading::Unread),
+        Some((first, rest)) => match keyword_in(first) {
+            Some(keyword) => read_behind(alloc, keyword, rest),
+            None => read_bound(alloc, Shape::Pipeline, tokens),
+        },
+    }
+}
+
+/// The action that begins with this keyword, behind which these tokens stand.
+fn read_behind(
+    alloc: Global,
+    keyword: Keyword,
+    rest: &[Token<'_>],
+) -> Result<Reading<Action>, AllocError>
+    ensures { IfOk result (λ a. action_reading a
+        ≡ depth.reading_of (spec.action_by keyword (map token_of rest.now))) }
+{
+    match keyword {
+        Keyword::Control(control) => read_bound(alloc, Shape::Open(control), rest),
+        Keyword::Else => read_else(alloc, rest),
+        Keyword::End => Ok(read_alone(Action::End, rest)),
+        Keyword::Break => Ok(read_alone(Action::Break, rest)),
+        Keyword::Continue => Ok(read_alone(Action::Continue, rest)),
+    }
+}
+
+/// An action without a header, behind whose keyword nothing may stand.
+fn read_alone(action: Action, rest: &[Token<'_>]) -> Reading<Action>
+    requires { depth.within_limit (action_of action) ≡ depth.read (action_of action) }
+    ensures { action_reading result ≡ depth.reading_of (spec.alone (action_of action) (map token_of rest.now)) }
+{
+    if is_blank(rest) {
+        Reading::Read(action)
+    } else {
+        Reading::Unread
+    }
+}
+
+/// The action of this shape whose header these tokens are.
+fn read_bound(
+    alloc: Global,
+    shape: Shape,
+    tokens: &[Token<'_>],
+) -> Result<Reading<Action>, AllocError>
+    ensures { IfOk result (λ a. action_reading a
+        ≡ depth.reading_of (option_map (action_with shape) (spec.header_in shape (map token_of tokens.now)))) }
+{
+    let (binding, rest) = split(alloc, tokens)?;
+    if !shape.may_bind(&binding) {
+        return Ok(Reading::Unread);
+    }
+    match pipeline(alloc, shape, rest)? {
+        Reading::Unread => Ok(Reading::Unread),
+        Reading::TooDeep(shape) => Ok(Reading::TooDeep(shape)),
+        Reading::Read(pipeline) => Ok(Reading::Read(shape.with(Header { binding, pipeline }))),
+    }
+}
+
+/// An `else`, behind which nothing or an `if` stands.
+fn read_else(alloc: Global, rest: &[Token<'_>]) -> Result<Reading<Action>, AllocError>
+    ensures { IfOk result (λ a. action_reading a ≡ depth.reading_of (spec.else_by (spec.next (map token_of rest.now)))) }
+{
+    match next(rest) {
+        None => Ok(Reading::Read(Action::Else)),
+        Some((first, rest)) => match keyword_in(first) {
+            Some(Keyword::Control(Control::If)) => read_bound(
+                alloc,
+                Shape::ElseBranch(Branch::If),
+                rest,
+            ),
+            _ => Ok(Reading::Unread),
+        },
+    }
+}

@@ -1,0 +1,2 @@
+//! Constants, as tokens spell them.
+mod constant;

@@ -1,0 +1,185 @@
+-- What the definitions say of some lists of actions.
+use Rattle.std.proofs.Common.{◌≡◌, ℕ, List, [], ◌∷◌, refl, subst}
+use Rattle.tmpl_grammar.specs.declared.action.Branch.TheVariants.{If as if_branch}
+use Rattle.tmpl_syntax.specs.declared.fault.Fault.TheVariants.{NotAnAction, OutOfPlace, UndeclaredVariable}
+use Rattle.tmpl_grammar.specs.Tree.{Operand, dot, variable, operand, no_operand, command, no_command, Pipeline, pipeline, Binding, unbound, declare, assign, declare_pair, Header}
+use Rattle.tmpl_grammar.specs.declared.tree.Control.TheVariants as control
+use Rattle.tmpl_syntax.specs.Tree.{Nodes, none, then, text, action, control_node, break_node}
+use Rattle.tmpl_grammar.specs.Action.{pipeline_action, opening, plain_else, else_branch, end_action, break_action}
+use Rattle.tmpl_syntax.specs.Item.{Item, item, text_item, unreadable_item, unread_item, action_item}
+use Rattle.tmpl_syntax.specs.Place.Role.{roles_of}
+use Rattle.tmpl_syntax.specs.Place.Body.{Verdict, fine, refused, left_open, Judged}
+use Rattle.tmpl_syntax.specs.computed.Frames.{verdict_of}
+use Rattle.tmpl_syntax.specs.Spelling.{Spells}
+use Rattle.tmpl_syntax.specs.computed.Build.{nodes_from}
+use Rattle.tmpl_syntax.proofs.SpellingLemmas.{spells-fine}
+use Rattle.tmpl_syntax.proofs.VerdictLemmas.{judged_all}
+
+-- `$x`, `$y`
+abbrev x : List ℕ
+x = 120 ∷ []
+
+abbrev y : List ℕ
+y = 121 ∷ []
+
+-- a pipeline of one operand
+abbrev single : Operand → Pipeline
+single o = pipeline (command (operand o no_operand) no_command)
+
+abbrev word : ℕ → Item
+word line = item line (text_item (119 ∷ []))
+
+-- a header of these
+abbrev headed : Binding → Operand → Header
+headed b o = record { binding = b; pipeline = single o }
+
+-- `{{.}}`, `{{$x}}`, `{{$x := .}}`, `{{$x = .}}`
+abbrev puts : ℕ → Item
+puts line = item line (action_item (pipeline_action (headed unbound dot)))
+
+abbrev uses : List ℕ → Item
+uses name = item 1 (action_item (pipeline_action (headed unbound (variable name []))))
+
+abbrev declares : List ℕ → Item
+declares name = item 1 (action_item (pipeline_action (headed (declare name) dot)))
+
+abbrev assigns : List ℕ → Item
+assigns name = item 1 (action_item (pipeline_action (headed (assign name) dot)))
+
+-- `{{if .}}`, `{{if $x := .}}`, `{{with .}}`, `{{range .}}`, `{{range $y, $x := .}}`
+abbrev if_it : ℕ → Item
+if_it line = item line (action_item (opening control.If (headed unbound dot)))
+
+abbrev if_new : List ℕ → Item
+if_new name = item 1 (action_item (opening control.If (headed (declare name) dot)))
+
+abbrev with_it : ℕ → Item
+with_it line = item line (action_item (opening control.With (headed unbound dot)))
+
+abbrev range_it : ℕ → Item
+range_it line = item line (action_item (opening control.Range (headed unbound dot)))
+
+abbrev range_new : List ℕ → List ℕ → Item
+range_new key name = item 1 (action_item (opening control.Range (headed (declare_pair key name) dot)))
+
+-- `{{else}}`, `{{else if .}}`, `{{else if $x}}`, `{{end}}`, `{{break}}`
+abbrev else_it : ℕ → Item
+else_it line = item line (action_item plain_else)
+
+abbrev else_if : ℕ → Item
+else_if line = item line (action_item (else_branch if_branch (headed unbound dot)))
+
+abbrev else_if_uses : List ℕ → Item
+else_if_uses name = item 1 (action_item (else_branch if_branch (headed unbound (variable name []))))
+
+abbrev end_it : ℕ → Item
+end_it line = item line (action_item end_action)
+
+abbrev break_it : ℕ → Item
+break_it line = item line (action_item break_action)
+
+abbrev Says : List Item → Verdict → Type 0
+Says items v = Judged (roles_of items) v
+
+-- the definition says so where the computed verdict does
+says : (items : List Item) (v : Verdict) → verdict_of (roles_of items) ≡ v → Says items v
+says items v e = subst (Judged (roles_of items)) e (judged_all (roles_of items))
+
+nothing-at-all : Says [] fine
+unfolding verdict_of
+nothing-at-all = says [] fine refl
+
+if-and-end : Says (if_it 1 ∷ puts 1 ∷ end_it 1 ∷ []) fine
+unfolding verdict_of
+if-and-end = says (if_it 1 ∷ puts 1 ∷ end_it 1 ∷ []) fine refl
+
+an-end-too-many : Says (if_it 1 ∷ end_it 1 ∷ word 1 ∷ end_it 1 ∷ []) (refused 3 OutOfPlace)
+unfolding verdict_of
+an-end-too-many = says (if_it 1 ∷ end_it 1 ∷ word 1 ∷ end_it 1 ∷ []) (refused 3 OutOfPlace) refl
+
+a-second-else : Says (if_it 1 ∷ else_it 1 ∷ else_it 1 ∷ end_it 1 ∷ []) (refused 2 OutOfPlace)
+unfolding verdict_of
+a-second-else = says (if_it 1 ∷ else_it 1 ∷ else_it 1 ∷ end_it 1 ∷ []) (refused 2 OutOfPlace) refl
+
+else-if-of-a-with : Says (with_it 1 ∷ else_if 1 ∷ end_it 1 ∷ []) (refused 1 OutOfPlace)
+unfolding verdict_of
+else-if-of-a-with = says (with_it 1 ∷ else_if 1 ∷ end_it 1 ∷ []) (refused 1 OutOfPlace) refl
+
+break-in-an-if : Says (if_it 1 ∷ break_it 1 ∷ end_it 1 ∷ []) (refused 1 OutOfPlace)
+unfolding verdict_of
+break-in-an-if = says (if_it 1 ∷ break_it 1 ∷ end_it 1 ∷ []) (refused 1 OutOfPlace) refl
+
+break-in-the-else-part : Says (range_it 1 ∷ else_it 1 ∷ break_it 1 ∷ end_it 1 ∷ []) (refused 2 OutOfPlace)
+unfolding verdict_of
+break-in-the-else-part = says (range_it 1 ∷ else_it 1 ∷ break_it 1 ∷ end_it 1 ∷ []) (refused 2 OutOfPlace) refl
+
+-- .. but an outer range's body may hold it
+break-in-an-inner-else-part : Says (range_it 1 ∷ range_it 1 ∷ else_it 1 ∷ break_it 1 ∷ end_it 1 ∷ end_it 1 ∷ []) fine
+unfolding verdict_of
+break-in-an-inner-else-part = says (range_it 1 ∷ range_it 1 ∷ else_it 1 ∷ break_it 1 ∷ end_it 1 ∷ end_it 1 ∷ []) fine refl
+
+no-such-name : Says (declares y ∷ uses x ∷ []) (refused 1 UndeclaredVariable)
+unfolding verdict_of
+no-such-name = says (declares y ∷ uses x ∷ []) (refused 1 UndeclaredVariable) refl
+
+assigned-before-it-is-there : Says (assigns x ∷ declares x ∷ []) (refused 0 UndeclaredVariable)
+unfolding verdict_of
+assigned-before-it-is-there = says (assigns x ∷ declares x ∷ []) (refused 0 UndeclaredVariable) refl
+
+-- the variable of no name is always there
+dollar-alone : Says (uses [] ∷ []) fine
+unfolding verdict_of
+dollar-alone = says (uses [] ∷ []) fine refl
+
+-- a name of the header is seen in both parts, one of the first part only there, and none after the end
+header-in-both-parts : Says (if_new x ∷ uses x ∷ else_if_uses x ∷ else_it 1 ∷ uses x ∷ end_it 1 ∷ []) fine
+unfolding verdict_of
+header-in-both-parts = says (if_new x ∷ uses x ∷ else_if_uses x ∷ else_it 1 ∷ uses x ∷ end_it 1 ∷ []) fine refl
+
+first-part-alone : Says (if_it 1 ∷ declares x ∷ uses x ∷ else_it 1 ∷ uses x ∷ end_it 1 ∷ []) (refused 4 UndeclaredVariable)
+unfolding verdict_of
+first-part-alone = says (if_it 1 ∷ declares x ∷ uses x ∷ else_it 1 ∷ uses x ∷ end_it 1 ∷ []) (refused 4 UndeclaredVariable) refl
+
+gone-after-the-end : Says (if_new x ∷ end_it 1 ∷ uses x ∷ []) (refused 2 UndeclaredVariable)
+unfolding verdict_of
+gone-after-the-end = says (if_new x ∷ end_it 1 ∷ uses x ∷ []) (refused 2 UndeclaredVariable) refl
+
+-- a range's own are not seen in its else part
+range-names : Says (range_new y x ∷ uses y ∷ uses x ∷ else_it 1 ∷ uses y ∷ end_it 1 ∷ []) (refused 4 UndeclaredVariable)
+unfolding verdict_of
+range-names = says (range_new y x ∷ uses y ∷ uses x ∷ else_it 1 ∷ uses y ∷ end_it 1 ∷ []) (refused 4 UndeclaredVariable) refl
+
+-- out of place comes before an unknown name, and the first action before a later one
+the-first-of-two : Says (else_if_uses x ∷ item 1 unreadable_item ∷ []) (refused 0 OutOfPlace)
+unfolding verdict_of
+the-first-of-two = says (else_if_uses x ∷ item 1 unreadable_item ∷ []) (refused 0 OutOfPlace) refl
+
+no-reading : Says (if_it 1 ∷ item 1 unread_item ∷ end_it 1 ∷ end_it 1 ∷ []) (refused 1 NotAnAction)
+unfolding verdict_of
+no-reading = says (if_it 1 ∷ item 1 unread_item ∷ end_it 1 ∷ end_it 1 ∷ []) (refused 1 NotAnAction) refl
+
+open-at-the-end : Says (if_it 1 ∷ else_if 1 ∷ with_it 1 ∷ end_it 1 ∷ []) left_open
+unfolding verdict_of
+open-at-the-end = says (if_it 1 ∷ else_if 1 ∷ with_it 1 ∷ end_it 1 ∷ []) left_open refl
+
+-- `{{if .}}w{{else if .}}{{.}}{{else}}w{{end}}{{.}}`, each on a line of its own
+abbrev chain : List Item
+chain = if_it 1 ∷ word 2 ∷ else_if 3 ∷ puts 4 ∷ else_it 5 ∷ word 6 ∷ end_it 7 ∷ puts 8 ∷ []
+
+abbrev chain_nodes : Nodes
+chain_nodes =
+    then 1 (control_node control.If (headed unbound dot) (then 2 (text (119 ∷ [])) none)
+    (then 3 (control_node control.If (headed unbound dot) (then 4 (action (headed unbound dot)) none) (then 6 (text (119 ∷ [])) none)) none))
+    (then 8 (action (headed unbound dot)) none)
+
+an-else-if-is-the-whole-else-part : Spells chain chain_nodes
+unfolding verdict_of nodes_from
+an-else-if-is-the-whole-else-part = spells-fine chain refl
+
+-- `{{range .}}{{range .}}{{else}}{{break}}{{end}}{{end}}`: the break stands in the inner else part
+abbrev inner_break : List Item
+inner_break = range_it 1 ∷ range_it 1 ∷ else_it 1 ∷ break_it 1 ∷ end_it 1 ∷ end_it 1 ∷ []
+
+an-inner-else-part : Spells inner_break (then 1 (control_node control.Range (headed unbound dot) (then 1 (control_node control.Range (headed unbound dot) none (then 1 break_node none)) none) none) none)
+unfolding verdict_of nodes_from
+an-inner-else-part = spells-fine inner_break refl

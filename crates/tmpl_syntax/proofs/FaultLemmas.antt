@@ -1,0 +1,110 @@
+-- What the fault of an item says, and the places that a frame holds.
+use Rattle.std.proofs.Common.{arith, ◌≡◌, ℕ, ◌≤◌, Bool, true, false, ◌&&◌, ◌||◌, List, [], ◌∷◌, refl, sym, ap, ◌∙◌, subst, Option, Some, None, inl, inr, ⊎_elim, ◌⊎◌}
+use Rattle.std.specs.Prelude.{Contains}
+use Rattle.std.specs.Str.{bytes_eq}
+use Rattle.std.proofs.lemmas.Slice.Eq.{bytes_eq-Decides}
+use Rattle.std.proofs.lemmas.List.Elements.{Contains-append_left, Contains-append_right, Contains-push, Contains-push_cases, Contains-append_cases}
+use Rattle.tmpl_syntax.specs.declared.fault.Fault.{Fault}
+use Rattle.tmpl_syntax.specs.declared.fault.Fault.TheVariants.{Unreadable, NotAnAction, OutOfPlace, NestedTooDeeply, UndeclaredVariable}
+use Rattle.tmpl_syntax.specs.declared.place.frame.Frame.{Frame}
+use Rattle.tmpl_syntax.specs.Place.Role.{Name, Act, Role, text_role, unreadable_role, unread_role, act_role}
+use Rattle.tmpl_syntax.specs.Place.Body.{names_in}
+use Rattle.tmpl_syntax.specs.computed.Frames.{is_placed, is_too_deep, used, is_known, knows, first_fault, fault_at}
+
+-- the places that a frame holds are in order
+pub record IsWithin (f : Frame) (count : ℕ) : Type 0 where
+  pub started : f.start ≤ f.part
+  pub parted : f.part ≤ count
+
+abbrev pub IsKnown : List Name → List Name → Type 0
+IsKnown uses names = (n : Name) → Contains uses n → Contains names n
+
+abbrev pub IsUnknown : List Name → List Name → Type 0
+IsUnknown uses names = (n : Name) × Contains uses n × (Contains names n → ⊥)
+
+abbrev pub Tells : Act → Option Frame → List Name → Option Fault → Type 0
+Tells a t names None = (is_placed a t ≡ true) × (is_too_deep a t ≡ false) × IsKnown (used (names_in a)) names
+Tells a t names (Some Unreadable) = ⊥
+Tells a t names (Some NotAnAction) = ⊥
+Tells a t names (Some OutOfPlace) = is_placed a t ≡ false
+Tells a t names (Some NestedTooDeeply) = (is_placed a t ≡ true) × (is_too_deep a t ≡ true)
+Tells a t names (Some UndeclaredVariable) =
+    (is_placed a t ≡ true) × (is_too_deep a t ≡ false) × IsUnknown (used (names_in a)) names
+
+abbrev pub TellsRole : Role → Option Frame → List Name → Option Fault → Type 0
+TellsRole text_role t names r = r ≡ None
+TellsRole unreadable_role t names r = r ≡ Some Unreadable
+TellsRole unread_role t names r = r ≡ Some NotAnAction
+TellsRole (act_role a) t names r = Tells a t names r
+
+module _ (n : Name) where
+  none_there : {A : Type 0} → Contains {X = Name} [] n → A
+  none_there c = let lt = c.1 in absurd (omega arith)
+
+  or_true : (a b : Bool) → (a || b) ≡ true → (a ≡ true) ⊎ (b ≡ true)
+  or_true true b e = inl refl
+  or_true false b e = inr e
+
+  or_right : (a b : Bool) → b ≡ true → (a || b) ≡ true
+  or_right true b e = refl
+  or_right false b e = e
+
+  one : (m : Name) → n ≡ m → Contains (m ∷ []) n
+  one m e = subst (λ z. Contains (m ∷ []) z) (sym e) (Contains-push [] m)
+
+  found : (names : List Name) → is_known names n ≡ true → Contains names n
+  found [] e = let g : false ≡ true = e in cc
+  found (m ∷ ms) e = ⊎_elim
+      (λ s. Contains-append_left (m ∷ []) ms n (one m ((bytes_eq-Decides n m).0 s)))
+      (λ r. Contains-append_right (m ∷ []) ms n (found ms r))
+      (or_true (bytes_eq n m) (is_known ms n) e)
+
+  has : (names : List Name) → Contains names n → is_known names n ≡ true
+  has [] c = none_there c
+  has (m ∷ ms) c = ⊎_elim
+      (λ o. ⊎_elim none_there
+      (λ e. ap (λ b. b || is_known ms n) ((bytes_eq-Decides n m).1 (sym e)))
+      (Contains-push_cases [] m n o))
+      (λ r. or_right (bytes_eq n m) (is_known ms n) (has ms r))
+      (Contains-append_cases (m ∷ []) ms n c)
+
+true_no_false : {A : Type 0} (b : Bool) → b ≡ true → b ≡ false → A
+true_no_false b t f = let g : true ≡ false = sym t ∙ f in absurd (let h : ⊥ = cc in h)
+
+both : (a b : Bool) → (a && b) ≡ true → (a ≡ true) × (b ≡ true)
+both true b e = (refl, e)
+both false b e = let g : false ≡ true = e in cc
+
+not_both : (a b : Bool) → (a && b) ≡ false → (a ≡ false) ⊎ (b ≡ false)
+not_both true b e = inr e
+not_both false b e = inl refl
+
+module _ (names : List Name) where
+  known : (uses : List Name) → knows names uses ≡ true → IsKnown uses names
+  known [] e n c = none_there n c
+  known (u ∷ us) e n c =
+      let parts = both (is_known names u) (knows names us) e in ⊎_elim
+      (λ o. ⊎_elim (none_there n) (λ s. subst (Contains names) s (found u names parts.0)) (Contains-push_cases [] u n o))
+      (λ r. known us parts.1 n r)
+      (Contains-append_cases (u ∷ []) us n c)
+
+  unknown : (uses : List Name) → knows names uses ≡ false → IsUnknown uses names
+  unknown [] e = let g : true ≡ false = e in cc
+  unknown (u ∷ us) e = ⊎_elim
+      (λ f. (u, Contains-append_left (u ∷ []) us u (Contains-push [] u), λ c. true_no_false (is_known names u) (has u names c) f))
+      (λ f. let w = unknown us f in (w.0, Contains-append_right (u ∷ []) us w.0 w.1, w.2))
+      (not_both (is_known names u) (knows names us) e)
+
+module _ (a : Act) (t : Option Frame) (names : List Name) where
+  finds_by : (p d k : Bool) → is_placed a t ≡ p → is_too_deep a t ≡ d → knows names (used (names_in a)) ≡ k → Tells a t names (first_fault p d k)
+  finds_by false d k e f g = e
+  finds_by true true k e f g = (e, f)
+  finds_by true false false e f g = (e, f, unknown names (used (names_in a)) g)
+  finds_by true false true e f g = (e, f, known names (used (names_in a)) g)
+
+-- the fault that the definition gives is the one that these facts say
+pub tells : (x : Role) (t : Option Frame) (names : List Name) → TellsRole x t names (fault_at x t names)
+tells text_role t names = refl
+tells unreadable_role t names = refl
+tells unread_role t names = refl
+tells (act_role a) t names = finds_by a t names (is_placed a t) (is_too_deep a t) (knows names (used (names_in a))) refl refl refl

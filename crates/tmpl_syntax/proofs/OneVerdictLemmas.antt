@@ -1,0 +1,43 @@
+-- A list has one verdict.
+use Rattle.std.proofs.Common.{arith, ◌≡◌, ℕ, ◌<◌, List, length, refl, subst, ⊎_elim}
+use Rattle.std.proofs.lemmas.Bool.{cases_order}
+use Rattle.std.proofs.lemmas.Option.{slice_get_within}
+use Rattle.tmpl_syntax.specs.declared.fault.Fault.{Fault}
+use Rattle.tmpl_syntax.specs.declared.fault.Fault.TheVariants.{Unreadable, NotAnAction, OutOfPlace, NestedTooDeeply, UndeclaredVariable}
+use Rattle.tmpl_syntax.specs.Place.Body.{Applies, unreadable, unread, misplaced, too_deep, undeclared, rank, IsRefused, Verdict, fine, refused, left_open, Judged}
+use Rattle.tmpl_syntax.specs.Place.Role.{Role, unreadable_role, unread_role, act_role}
+
+pub within : (xs : List Role) (i : ℕ) (f : Fault) → Applies xs i f → i < length xs
+within xs i Unreadable (unreadable e) = slice_get_within xs i unreadable_role e
+within xs i NotAnAction (unread e) = slice_get_within xs i unread_role e
+within xs i OutOfPlace (misplaced {a = a} e m) = slice_get_within xs i (act_role a) e
+within xs i NestedTooDeeply (too_deep {a = a} e m) = slice_get_within xs i (act_role a) e
+within xs i UndeclaredVariable (undeclared {a = a} e m) = slice_get_within xs i (act_role a) e
+
+same_rank : (f g : Fault) → rank f ≡ rank g → f ≡ g
+same_rank Unreadable Unreadable e = refl
+same_rank NotAnAction NotAnAction e = refl
+same_rank OutOfPlace OutOfPlace e = refl
+same_rank NestedTooDeeply NestedTooDeeply e = refl
+same_rank UndeclaredVariable UndeclaredVariable e = refl
+same_rank f g e = absurd (omega arith)
+
+same_fault : (xs : List Role) (i : ℕ) (f g : Fault) → IsRefused xs i f → IsRefused xs i g → f ≡ g
+same_fault xs i f g a b = ⊎_elim (λ e. same_rank f g e) (λ o. ⊎_elim (λ lt. absurd (b.first_fault f lt a.applies)) (λ gt. absurd (a.first_fault g gt b.applies)) o) (cases_order (rank f) (rank g))
+
+same_refused : (xs : List Role) (i j : ℕ) (f g : Fault) → IsRefused xs i f → IsRefused xs j g → refused i f ≡ refused j g
+same_refused xs i j f g a b = ⊎_elim
+    (λ e. let s = same_fault xs j f g (subst (λ k. IsRefused xs k f) e a) b in cc)
+    (λ o. ⊎_elim (λ lt. absurd (b.first_item i f lt a.applies)) (λ gt. absurd (a.first_item j g gt b.applies)) o)
+    (cases_order i j)
+
+pub one_verdict : (xs : List Role) (v w : Verdict) → Judged xs v → Judged xs w → v ≡ w
+one_verdict xs fine fine a b = refl
+one_verdict xs left_open left_open a b = refl
+one_verdict xs (refused i f) (refused j g) a b = same_refused xs i j f g a b
+one_verdict xs fine left_open a b = absurd (a.1 b.1 b.2)
+one_verdict xs left_open fine a b = absurd (b.1 a.1 a.2)
+one_verdict xs fine (refused i f) a b = absurd (a.0 i f (within xs i f b.applies) b.applies)
+one_verdict xs left_open (refused i f) a b = absurd (a.0 i f (within xs i f b.applies) b.applies)
+one_verdict xs (refused i f) fine a b = absurd (b.0 i f (within xs i f a.applies) a.applies)
+one_verdict xs (refused i f) left_open a b = absurd (b.0 i f (within xs i f a.applies) a.applies)

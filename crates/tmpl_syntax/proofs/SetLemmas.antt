@@ -1,0 +1,70 @@
+-- The set's entries as a list of names and trees.
+use Rattle.std.proofs.Common.{◌≡◌, ℕ, Bool, true, false, List, [], ◌∷◌, Option, Some, refl, sym, ap, ◌∙◌, ◌&&◌, cond, map, Vec, Global}
+use Rattle.std.specs.Option.{option_map, is_some}
+use Rattle.std.specs.List.{find, list_all}
+use Rattle.std.specs.Str.{bytes_eq}
+use Rattle.std.specs.Map.{lookup, keys_of}
+use Rattle.tmpl_syntax.specs.View.{tree_of, node_of, nodes_in, template_of}
+use Rattle.tmpl_syntax.specs.Tree.{Tree}
+use Rattle.tmpl_syntax.specs.declared.tree.Tree as held
+use Rattle.tmpl_syntax.specs.Set.{Template, tree_named, has_name, is_blank_node, is_blank, defined, chosen}
+use Rattle.tmpl_syntax.specs.declared.tree.Node as held_node
+use Rattle.indexmap.specs.IndexMap.{insert_entry}
+
+abbrev pub Entry : Type 0
+Entry = Vec ℕ Global × held.Tree
+
+pub names-view : (es : List Entry) → map (λ (k : Vec ℕ Global). k.items) (keys_of es) ≡ map (λ (t : Template). t.0) (map template_of es)
+names-view [] = refl
+names-view (e ∷ es) = ap (λ ns. e.0.items ∷ ns) (names-view es)
+
+pub lookup-view : (name : List ℕ) (es : List Entry) → option_map tree_of (lookup (λ (k : Vec ℕ Global). bytes_eq name k.items) es) ≡ tree_named name (map template_of es)
+lookup-view name [] = refl
+lookup-view name (e ∷ es) = go (bytes_eq name e.0.items) (lookup-view name es)
+  where
+    go : (same : Bool) → option_map tree_of (lookup (λ (k : Vec ℕ Global). bytes_eq name k.items) es) ≡ tree_named name (map template_of es) → option_map tree_of (cond same (Some e.1) (lookup (λ (k : Vec ℕ Global). bytes_eq name k.items) es)) ≡ option_map (λ (t : Template). t.1) (cond same (Some (template_of e)) (find (has_name name) (map template_of es)))
+    go true ih = refl
+    go false ih = ih
+
+pub blank-list : (ns : List held_node.Node) → list_all (λ n. is_blank_node (node_of n).what) ns ≡ is_blank (nodes_in ns)
+blank-list [] = refl
+blank-list (n ∷ ns) = ap (λ b. is_blank_node (node_of n).what && b) (blank-list ns)
+
+both : (a b : Bool) → (a && b) ≡ true → (a ≡ true) × (b ≡ true)
+both true true e = (refl, refl)
+both true false e = let g : false ≡ true = e in cc
+both false b e = let g : false ≡ true = e in cc
+
+abbrev named : Bool → Template → Option Tree → Option Tree
+named same t other = cond same (Some t.1) other
+
+named-find : (name : List ℕ) (t : Template) (ts : List Template) → tree_named name (t ∷ ts) ≡ named (bytes_eq name t.0) t (tree_named name ts)
+named-find name t ts = go (bytes_eq name t.0)
+  where
+    go : (same : Bool) → option_map (λ (t : Template). t.1) (cond same (Some t) (find (has_name name) ts)) ≡ cond same (Some t.1) (option_map (λ (t : Template). t.1) (find (has_name name) ts))
+    go true = refl
+    go false = refl
+
+kept : (ts : List Template) (name : List ℕ) (tree : Tree) → is_blank tree.nodes ≡ true → is_some (tree_named name ts) ≡ true → ts ≡ defined ts name tree
+kept [] name tree blank there = let g : false ≡ true = there in cc
+kept (t ∷ ts) name tree blank there = go (bytes_eq name t.0) (kept ts name tree blank) (sym (ap is_some (named-find name t ts)) ∙ there)
+  where
+    go : (same : Bool) → (is_some (tree_named name ts) ≡ true → ts ≡ defined ts name tree) → is_some (named same t (tree_named name ts)) ≡ true → t ∷ ts ≡ cond same ((t.0, chosen t.1 tree) ∷ ts) (t ∷ defined ts name tree)
+    go true ih h = ap (λ b. (t.0, cond b t.1 tree) ∷ ts) (sym blank)
+    go false ih h = ap (λ us. t ∷ us) (ih h)
+
+-- a blank definition of a name that is there leaves the set as it is
+pub defined-kept : (ts : List Template) (name : List ℕ) (tree : Tree) → (is_blank tree.nodes && is_some (tree_named name ts)) ≡ true → ts ≡ defined ts name tree
+defined-kept ts name tree e = let parts = both (is_blank tree.nodes) (is_some (tree_named name ts)) e in kept ts name tree parts.0 parts.1
+
+-- any other is inserted
+pub defined-insert : (es : List Entry) (k : Vec ℕ Global) (tree : held.Tree) → (is_blank (tree_of tree).nodes && is_some (tree_named k.items (map template_of es))) ≡ false → map template_of (insert_entry (λ (x y : Vec ℕ Global). bytes_eq x.items y.items) es k tree) ≡ defined (map template_of es) k.items (tree_of tree)
+defined-insert [] k tree e = refl
+defined-insert (d ∷ es) k tree e = go (bytes_eq k.items d.0.items) (is_blank (tree_of tree).nodes) refl (defined-insert es k tree) (sym (ap (λ o. is_blank (tree_of tree).nodes && is_some o) (named-find k.items (template_of d) (map template_of es))) ∙ e)
+  where
+    go : (same blank : Bool) → is_blank (tree_of tree).nodes ≡ blank → ((is_blank (tree_of tree).nodes && is_some (tree_named k.items (map template_of es))) ≡ false → map template_of (insert_entry (λ (x y : Vec ℕ Global). bytes_eq x.items y.items) es k tree) ≡ defined (map template_of es) k.items (tree_of tree)) → (is_blank (tree_of tree).nodes && is_some (named same (template_of d) (tree_named k.items (map template_of es)))) ≡ false → map template_of (cond same ((d.0, tree) ∷ es) (d ∷ insert_entry (λ (x y : Vec ℕ Global). bytes_eq x.items y.items) es k tree)) ≡ cond same ((d.0.items, chosen (tree_of d.1) (tree_of tree)) ∷ map template_of es) (template_of d ∷ defined (map template_of es) k.items (tree_of tree))
+    go true true is ih h = let g : true ≡ false = ap (λ b. b && true) (sym is) ∙ h in cc
+    go true false is ih h = ap (λ b. (d.0.items, cond b (tree_of d.1) (tree_of tree)) ∷ map template_of es) (sym is)
+    go false blank is ih h = ap (λ ts. template_of d ∷ ts) (ih h)
+
+pub ruleset blanks = blank-list

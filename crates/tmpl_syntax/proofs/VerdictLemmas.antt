@@ -1,0 +1,38 @@
+-- The verdict in one pass is the one that the definition gives.
+use Rattle.std.proofs.Common.{arith, ◌≡◌, ℕ, suc, ◌+◌, ◌<◌, List, [], ◌∷◌, ◌++◌, refl, sym, ap, ◌∙◌, length, drop, get_or, length-drop, get_or-drop, Option, Some, None}
+use Rattle.std.specs.Prelude.{slice_get}
+use Rattle.std.proofs.lemmas.List.{drop-drop}
+use Rattle.std.proofs.lemmas.Option.{slice_get-get_or}
+use Rattle.tmpl_syntax.specs.declared.fault.Fault.{Fault}
+use Rattle.tmpl_syntax.specs.declared.place.frame.Frame.{Frame}
+use Rattle.tmpl_syntax.specs.Place.Role.{Name, Role}
+use Rattle.tmpl_syntax.specs.Place.Body.{Verdict, Judged}
+use Rattle.tmpl_syntax.specs.computed.Frames.{top, fault_at, seen_at, frames_past, added_by, unless_fault, verdict_from, verdict_of}
+use Rattle.tmpl_syntax.proofs.FaultLemmas.{TellsRole, tells}
+use Rattle.tmpl_syntax.proofs.SoundLemmas.{Sound, sound_start, sound_past, sound_end, refused_here}
+
+-- the element at a place, and those after it
+at-drop : (xs : List Role) (i : ℕ) (x : Role) (ys : List Role) → drop i xs ≡ x ∷ ys → (slice_get xs i ≡ Some x) × (drop (i + 1) xs ≡ ys)
+at-drop xs i x ys e =
+    let within : i < length xs = let n : length (drop i xs) ≡ suc (length ys) = ap length e in omega (arith, length-drop i xs) in
+    let same : get_or xs i x ≡ x = ap (λ k. get_or xs k x) (omega arith) ∙ sym (get_or-drop i xs 0 x) ∙ ap (λ zs. get_or zs 0 x) e in (
+      slice_get-get_or xs i x within ∙ ap (λ z. Some z) same,
+      sym (drop-drop 1 i xs) ∙ ap (drop 1) e,
+    )
+
+module _ (xs : List Role) where
+  judged_from : (ys : List Role) (i : ℕ) (names : List Name) (fs : List Frame) → drop i xs ≡ ys → i + length ys ≡ length xs → Sound xs i names fs → Judged xs (verdict_from i fs names ys)
+  judged_from [] i names fs e n s = sound_end xs i names fs (omega arith) s
+  judged_from (x ∷ ys) i names fs e n s =
+      let at = at-drop xs i x ys e in
+      let seen = seen_at x (top fs) names in
+      go at.0 (fault_at x (top fs) seen) (tells x (top fs) seen) (verdict_from (i + 1) (frames_past x fs (length seen)) (seen ++ added_by x) ys)
+      (λ h. judged_from ys (i + 1) (seen ++ added_by x) (frames_past x fs (length seen)) at.1 (omega arith) (sound_past xs i names fs x at.0 h s))
+    where
+      go : slice_get xs i ≡ Some x → (o : Option Fault) → TellsRole x (top fs) (seen_at x (top fs) names) o → (v : Verdict) → (TellsRole x (top fs) (seen_at x (top fs) names) None → Judged xs v) → Judged xs (unless_fault o i v)
+      go at None h v further = further h
+      go at (Some f) h v further = refused_here xs i names fs s x f at h
+
+  pub judged_all : Judged xs (verdict_of xs)
+  unfolding verdict_of
+  judged_all = judged_from xs 0 [] [] refl (omega arith) (sound_start xs)

@@ -1,7 +1,0 @@
-use Rattle.std.proofs.Common.{ℕ, List, Bor, map, ap}
-use Rattle.tmpl_syntax.specs.Known.{known_names}
-use Rattle.tmpl_syntax.proofs.known.KnownNames.new.Goals as goal
-
-pub returns : goal.returns
-unfolding known_names
-returns c = ap (map (λ (n : Bor (List ℕ)). n.now)) c.new.ensures.items

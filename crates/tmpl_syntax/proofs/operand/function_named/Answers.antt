@@ -1,5 +1,0 @@
-use Rattle.tmpl_syntax.proofs.Words.{named}
-use Rattle.tmpl_syntax.proofs.operand.function_named.Goals as goal
-
-pub returns : goal.returns
-returns c = named c.args.name.now c.named.result c.named.ensures.known c.named.ensures.unknown

@@ -1,6 +1,0 @@
-use Rattle.std.proofs.Common.{[], refl}
-use Rattle.tmpl_syntax.proofs.Back.{cut_back}
-use Rattle.tmpl_syntax.proofs.printing.cut_back.Goals as goal
-
-pub returns : goal.returns
-returns c = λ ps h line. cut_back ps h [] refl line

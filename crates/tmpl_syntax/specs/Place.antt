@@ -1,0 +1,4 @@
+pub mod Body
+pub mod Open
+pub mod Role
+pub mod Scope

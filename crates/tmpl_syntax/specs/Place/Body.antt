@@ -1,0 +1,135 @@
+-- The first refused action of a file, and why it is refused.
+use Rattle.std.specs.Prelude.{◌≡◌, ℕ, suc, ◌<◌, ◌≤◌, Bool, true, false, List, length, slice_get, Option, Some, None, ◌⊎◌, Contains}
+use Rattle.tmpl_grammar.specs.declared.action.Branch.{Branch}
+use Rattle.tmpl_grammar.specs.declared.action.Branch.TheVariants.{If as if_branch}
+use Rattle.tmpl_grammar.specs.declared.tree.Control.{Control}
+use Rattle.tmpl_grammar.specs.declared.tree.Control.TheVariants.{If, With, Range}
+use Rattle.tmpl_syntax.specs.declared.fault.Fault.{Fault}
+use Rattle.tmpl_syntax.specs.declared.fault.Fault.TheVariants.{Unreadable, NotAnAction, OutOfPlace, NestedTooDeeply, UndeclaredVariable}
+use Rattle.tmpl_syntax.specs.Place.Role.{Name, Names, Act, plain, opener, bare_else, branch_else, closer, jump, Role, unreadable_role, unread_role, act_role}
+use Rattle.tmpl_syntax.specs.Place.Open.{IsOpen, NothingOpen, IsLast, IsElseBranchOf, HasElse, is_template, OfOneTemplate}
+use Rattle.tmpl_syntax.specs.Place.Scope.{IsInScope}
+
+-- an else if stands in an `if` alone
+abbrev pub joins : Branch → Control → Bool
+joins if_branch If = true
+joins if_branch With = false
+joins if_branch Range = false
+
+-- nothing is open at i, or its last opening is a template's body, or has an else already
+pub data TakesNoElse (xs : List Role) (i : ℕ) : Type 0 where
+  nothing_open : NothingOpen xs i → TakesNoElse xs i
+  of_a_template : {j : ℕ} → (l : IsLast xs j i) → is_template l.is_open.control ≡ true → TakesNoElse xs i
+  after_an_else : {j : ℕ} → IsLast xs j i → HasElse xs j i → TakesNoElse xs i
+
+-- the last opening open at i has no else part that begins so
+pub record TakesNoBranch (xs : List Role) (b : Branch) (i : ℕ) : Type 0 where
+  pub opened : ℕ
+  pub last : IsLast xs opened i
+  pub other : joins b last.is_open.control ≡ false
+
+-- a range of the template of i that is open at i with no else of its own before i
+pub record IsLoop (xs : List Role) (j i : ℕ) : Type 0 where
+  pub is_open : IsOpen xs j i
+  pub range : is_open.control ≡ Range
+  pub template : OfOneTemplate xs j i
+  pub bare : HasElse xs j i → ⊥
+
+-- out of place: an end, else or else if at which nothing is open; an else or else if after an else of the same opening;
+-- an else if of no `if`; a break or continue in no range's body
+abbrev pub IsMisplaced : List Role → ℕ → Act → Type 0
+IsMisplaced xs i (plain p) = ⊥
+IsMisplaced xs i (opener c p) = ⊥
+IsMisplaced xs i bare_else = TakesNoElse xs i
+IsMisplaced xs i (branch_else b p) = TakesNoElse xs i ⊎ TakesNoBranch xs b i
+IsMisplaced xs i closer = NothingOpen xs i
+IsMisplaced xs i jump = (j : ℕ) → IsLoop xs j i → ⊥
+
+-- the controls that are a level while they are open
+abbrev pub is_level : Control → Bool
+is_level If = true
+is_level With = true
+is_level Range = true
+
+-- a level is an open if, with or range, or an else if that belongs to an open one
+pub data IsLevel (xs : List Role) (k i : ℕ) : Type 0 where
+  of_opening : (o : IsOpen xs k i) → is_level o.control ≡ true → IsLevel xs k i
+  of_else_branch : {j : ℕ} → IsElseBranchOf xs j k → (o : IsOpen xs j i) → is_level o.control ≡ true → IsLevel xs k i
+
+-- of the places before m, n are levels at i
+pub data Levels (xs : List Role) (i : ℕ) : ℕ → ℕ → Type 0 where
+  none : Levels xs i 0 0
+  one : {m n : ℕ} → Levels xs i m n → IsLevel xs m i → Levels xs i (suc m) (suc n)
+  other : {m n : ℕ} → Levels xs i m n → (IsLevel xs m i → ⊥) → Levels xs i (suc m) n
+
+-- the names in an action
+abbrev pub names_in : Act → Option Names
+names_in (plain p) = Some p
+names_in (opener c p) = Some p
+names_in bare_else = None
+names_in (branch_else b p) = Some p
+names_in closer = None
+names_in jump = None
+
+-- an opening that is a level, or an else if
+abbrev pub opens_level : Act → Bool
+opens_level (plain p) = false
+opens_level (opener c p) = is_level c
+opens_level bare_else = false
+opens_level (branch_else b p) = true
+opens_level closer = false
+opens_level jump = false
+
+-- the most levels that may stand
+abbrev pub most_levels : ℕ
+most_levels = 500
+
+-- a level more where as many stand as may, or parentheses that nest too deep
+pub data IsTooDeep (xs : List Role) (i : ℕ) (a : Act) : Type 0 where
+  in_levels : {n : ℕ} → opens_level a ≡ true → Levels xs i i n → most_levels ≤ n → IsTooDeep xs i a
+  in_parentheses : {names : Names} → names_in a ≡ Some names → names.nested ≡ true → IsTooDeep xs i a
+
+-- a name used or assigned that is not in scope
+pub record IsUndeclared (xs : List Role) (i : ℕ) (a : Act) : Type 0 where
+  pub name : Name
+  pub names : Names
+  pub of_action : names_in a ≡ Some names
+  pub uses : Contains names.uses name
+  pub unknown : IsInScope xs i name → ⊥
+
+-- the fault applies to the item at i
+pub data Applies (xs : List Role) (i : ℕ) : Fault → Type 0 where
+  unreadable : slice_get xs i ≡ Some unreadable_role → Applies xs i Unreadable
+  unread : slice_get xs i ≡ Some unread_role → Applies xs i NotAnAction
+  misplaced : {a : Act} → slice_get xs i ≡ Some (act_role a) → IsMisplaced xs i a → Applies xs i OutOfPlace
+  too_deep : {a : Act} → slice_get xs i ≡ Some (act_role a) → IsTooDeep xs i a → Applies xs i NestedTooDeeply
+  undeclared : {a : Act} → slice_get xs i ≡ Some (act_role a) → IsUndeclared xs i a → Applies xs i UndeclaredVariable
+
+-- the order in which faults are named
+abbrev pub rank : Fault → ℕ
+rank Unreadable = 0
+rank NotAnAction = 1
+rank OutOfPlace = 2
+rank NestedTooDeeply = 3
+rank UndeclaredVariable = 4
+
+abbrev pub NoneRefused : List Role → ℕ → Type 0
+NoneRefused xs i = (k : ℕ) (f : Fault) → k < i → Applies xs k f → ⊥
+
+-- the first item to which a fault applies, and the first fault that does
+pub record IsRefused (xs : List Role) (i : ℕ) (fault : Fault) : Type 0 where
+  pub applies : Applies xs i fault
+  pub first_fault : (f : Fault) → rank f < rank fault → Applies xs i f → ⊥
+  pub first_item : NoneRefused xs i
+
+-- no item is refused and nothing is open at the end, or the item at a place is the first that is refused, or none is
+-- but something is open at the end
+pub data Verdict : Type 0 where
+  fine : Verdict
+  refused : ℕ → Fault → Verdict
+  left_open : Verdict
+
+abbrev pub Judged : List Role → Verdict → Type 0
+Judged xs fine = NoneRefused xs (length xs) × NothingOpen xs (length xs)
+Judged xs (refused i fault) = IsRefused xs i fault
+Judged xs left_open = NoneRefused xs (length xs) × (j : ℕ) × IsOpen xs j (length xs)

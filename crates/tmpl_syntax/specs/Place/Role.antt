@@ -1,0 +1,112 @@
+-- What counts of an item for the place in which it stands: which kind of action it is, and the names in it. Names
+-- are without their `$`.
+use Rattle.std.specs.Prelude.{ℕ, Bool, true, false, List, [], ◌∷◌, ◌++◌, map}
+use Rattle.tmpl_grammar.specs.Tree.{Operand, dot, fields, variable, bool_constant, number_constant, text_constant, nil, function, group, Operands, no_operand, operand, Commands, no_command, command, Pipeline, pipeline, Binding, unbound, declare, assign, declare_pair, Header}
+use Rattle.tmpl_grammar.specs.Action.{Action, pipeline_action, opening, plain_else, else_branch, end_action, break_action, continue_action}
+use Rattle.tmpl_syntax.specs.Item.{Item, item, text_item, unreadable_item, unread_item, deep_item, action_item}
+use Rattle.tmpl_grammar.specs.declared.action.Branch.{Branch}
+use Rattle.tmpl_grammar.specs.declared.action.Shape.{Shape}
+use Rattle.tmpl_grammar.specs.declared.action.Shape.TheVariants as shape
+use Rattle.tmpl_grammar.specs.declared.tree.Control.{Control}
+use Rattle.tmpl_grammar.specs.declared.tree.Control.TheVariants.{If, With, Range}
+
+abbrev pub Name : Type 0
+Name = List ℕ
+
+-- the names that an action declares, and those that it uses or assigns; whether its parentheses nest too deep
+pub record Names : Type 0 where
+  pub declares : List Name
+  pub uses : List Name
+  pub nested : Bool
+
+-- a plain action puts out or binds a value, an opener opens a control, a branch_else is an else part that begins with a
+-- control of its own, a closer is an `end`, and a jump a break or continue
+pub data Act : Type 0 where
+  plain : Names → Act
+  opener : Control → Names → Act
+  bare_else : Act
+  branch_else : Branch → Names → Act
+  closer : Act
+  jump : Act
+
+pub data Role : Type 0 where
+  text_role : Role
+  unreadable_role : Role
+  unread_role : Role
+  act_role : Act → Role
+
+-- `$` alone is the dot with which the template started, and no name that is declared
+abbrev pub named : Name → List Name
+named [] = []
+named (b ∷ bs) = (b ∷ bs) ∷ []
+
+abbrev mutual
+  pub used_by_operand : Operand → List Name
+  used_by_operand dot = []
+  used_by_operand (fields names) = []
+  used_by_operand (variable name names) = named name
+  used_by_operand (bool_constant b) = []
+  used_by_operand (number_constant n) = []
+  used_by_operand (text_constant bytes) = []
+  used_by_operand nil = []
+  used_by_operand (function f) = []
+  used_by_operand (group commands names) = used_by_commands commands
+
+  pub used_by_operands : Operands → List Name
+  used_by_operands no_operand = []
+  used_by_operands (operand o os) = used_by_operand o ++ used_by_operands os
+
+  pub used_by_commands : Commands → List Name
+  used_by_commands no_command = []
+  used_by_commands (command os cs) = used_by_operands os ++ used_by_commands cs
+
+abbrev pub used_by : Pipeline → List Name
+used_by (pipeline commands) = used_by_commands commands
+
+abbrev pub assigned_by : Binding → List Name
+assigned_by unbound = []
+assigned_by (declare name) = []
+assigned_by (assign name) = named name
+assigned_by (declare_pair key name) = []
+
+abbrev pub declared_by : Binding → List Name
+declared_by unbound = []
+declared_by (declare name) = name ∷ []
+declared_by (assign name) = []
+declared_by (declare_pair key name) = key ∷ name ∷ []
+
+-- the names in a header
+abbrev pub names_of : Header → Names
+names_of h = record {
+  declares = declared_by h.binding;
+  uses = assigned_by h.binding ++ used_by h.pipeline;
+  nested = false;
+}
+
+abbrev pub act_of : Action → Act
+act_of (pipeline_action h) = plain (names_of h)
+act_of (opening c h) = opener c (names_of h)
+act_of plain_else = bare_else
+act_of (else_branch branch h) = branch_else branch (names_of h)
+act_of end_action = closer
+act_of break_action = jump
+act_of continue_action = jump
+
+-- parentheses that nest too deep, whose names do not count: they are asked for last
+abbrev pub deep_names : Names
+deep_names = record { declares = []; uses = []; nested = true }
+
+abbrev pub act_of_shape : Shape → Act
+act_of_shape shape.Pipeline = plain deep_names
+act_of_shape (shape.Open kind) = opener kind deep_names
+act_of_shape (shape.ElseBranch branch) = branch_else branch deep_names
+
+abbrev pub role_of : Item → Role
+role_of (item line (text_item bytes)) = text_role
+role_of (item line unreadable_item) = unreadable_role
+role_of (item line unread_item) = unread_role
+role_of (item line (deep_item shape)) = act_role (act_of_shape shape)
+role_of (item line (action_item a)) = act_role (act_of a)
+
+abbrev pub roles_of : List Item → List Role
+roles_of items = map role_of items

@@ -1,0 +1,6 @@
+pub mod Join
+pub mod Laws
+pub mod Parts
+pub mod Printable
+pub mod Printed
+pub mod WholeTree

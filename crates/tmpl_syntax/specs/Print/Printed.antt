@@ -1,0 +1,59 @@
+-- How a tree is printed: its texts and actions one behind the other.
+use Rattle.std.specs.Prelude.{ℕ, List, [], ◌∷◌, ◌++◌, map}
+use Rattle.tmpl_grammar.specs.Tree.{Header}
+use Rattle.tmpl_grammar.specs.Action.{Action, pipeline_action, opening, plain_else, end_action, break_action, continue_action}
+use Rattle.tmpl_grammar.specs.Print.{action_tokens}
+use Rattle.tmpl_grammar.specs.declared.tree.Control.{Control}
+use Rattle.tmpl_syntax.specs.Tree.{NodeKind, text, action, control_node, break_node, continue_node, Nodes, none, then}
+use Rattle.tmpl_syntax.specs.declared.print.Before.TheVariants.{Nothing}
+use Rattle.tmpl_syntax.specs.Print.Join.{Part, a_text, an_action, joined}
+
+-- ---- what nodes say, one text or action behind the other
+
+pub data Said : Type 0 where
+  said_text : List ℕ → Said
+  said : Action → Said
+
+-- an else part, where it has nodes
+abbrev pub else_said : Nodes → List Said → List Said
+else_said none ss = []
+else_said (then line n ns) ss = said plain_else ∷ ss
+
+abbrev pub control_said : Control → Header → List Said → List Said → List Said
+control_said c h body other = said (opening c h) ∷ (body ++ (other ++ said end_action ∷ []))
+
+abbrev mutual
+  pub node_said : NodeKind → List Said
+  node_said (text bytes) = said_text bytes ∷ []
+  node_said (action h) = said (pipeline_action h) ∷ []
+  node_said (control_node c h body other) = control_said c h (nodes_said body) (else_said other (nodes_said other))
+  node_said break_node = said break_action ∷ []
+  node_said continue_node = said continue_action ∷ []
+
+  pub nodes_said : Nodes → List Said
+  nodes_said none = []
+  nodes_said (then line n ns) = node_said n ++ nodes_said ns
+
+abbrev pub part_of : Said → Part
+part_of (said_text bytes) = a_text bytes
+part_of (said a) = an_action (action_tokens a)
+
+-- ---- nodes apart from their lines
+
+abbrev mutual
+  pub unlined_node : NodeKind → NodeKind
+  unlined_node (text bytes) = text bytes
+  unlined_node (action h) = action h
+  unlined_node (control_node c h body other) = control_node c h (unlined body) (unlined other)
+  unlined_node break_node = break_node
+  unlined_node continue_node = continue_node
+
+  pub unlined : Nodes → Nodes
+  unlined none = none
+  unlined (then line n ns) = then 0 (unlined_node n) (unlined ns)
+
+-- ---- the bytes
+
+-- the bytes of nodes: the inverse of cutting, reading and spelling
+abbrev pub printed : Nodes → List ℕ
+printed ns = joined Nothing (map part_of (nodes_said ns))

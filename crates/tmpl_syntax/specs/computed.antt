@@ -1,0 +1,5 @@
+pub mod Build
+pub mod Count
+pub mod Frames
+pub mod Item
+pub mod Parse

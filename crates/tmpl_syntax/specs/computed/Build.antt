@@ -1,0 +1,83 @@
+-- The nodes of a file's items, from the last item to the first: what is known at a place are the nodes up to the end of
+-- the part in which it stands, and those of the else part behind it; and the same for each control around it.
+use Rattle.std.specs.Prelude.{ℕ, List, [], ◌∷◌}
+use Rattle.tmpl_grammar.specs.Tree.{Header}
+use Rattle.tmpl_grammar.specs.Action.{pipeline_action, opening, plain_else, else_branch, end_action, break_action, continue_action, control_in}
+use Rattle.tmpl_grammar.specs.declared.tree.Control.{Control}
+use Rattle.tmpl_grammar.specs.declared.action.Branch.{Branch}
+use Rattle.tmpl_syntax.specs.Tree.{NodeKind, Nodes, none, then, text, action, control_node, break_node, continue_node}
+use Rattle.tmpl_syntax.specs.Item.{Item, item, text_item, unreadable_item, unread_item, deep_item, action_item}
+
+-- the nodes of a part from a place on, and those of the else part behind it
+pub record Level : Type 0 where
+  pub nodes : Nodes
+  pub other : Nodes
+
+-- the innermost part, and those around it, the nearest first
+pub record Parts : Type 0 where
+  pub inner : Level
+  pub around : List Level
+
+abbrev pub no_level : Level
+no_level = record { nodes = none; other = none }
+
+abbrev pub first_of : List Level → Level
+first_of [] = no_level
+first_of (l ∷ ls) = l
+
+abbrev pub rest_of : List Level → List Level
+rest_of [] = []
+rest_of (l ∷ ls) = ls
+
+-- a node before those of a part
+abbrev pub with_node_before : ℕ → NodeKind → Level → Level
+with_node_before line n l = record { nodes = then line n l.nodes; other = l.other }
+
+abbrev pub put_before : ℕ → NodeKind → Parts → Parts
+put_before line n p = record { inner = with_node_before line n p.inner; around = p.around }
+
+-- a control whose body and else part are behind it
+abbrev pub control_before : ℕ → Control → Header → Parts → Parts
+control_before line c h p = record {
+  inner = with_node_before line (control_node c h p.inner.nodes p.inner.other) (first_of p.around);
+  around = rest_of p.around;
+}
+
+-- an else, whose part is behind it
+abbrev pub else_before : Parts → Parts
+else_before p = record { inner = record { nodes = none; other = p.inner.nodes }; around = p.around }
+
+abbrev pub branch_before : ℕ → Branch → Header → Parts → Parts
+branch_before line branch h p = record {
+  inner = record { nodes = none; other = then line (control_node (control_in branch) h p.inner.nodes p.inner.other) none };
+  around = p.around;
+}
+
+abbrev pub end_before : Parts → Parts
+end_before p = record { inner = no_level; around = p.inner ∷ p.around }
+
+-- the parts from an item on, by those behind it
+abbrev pub parts_with : Item → Parts → Parts
+parts_with (item line (text_item bytes)) p = put_before line (text bytes) p
+parts_with (item line unreadable_item) p = p
+parts_with (item line unread_item) p = p
+parts_with (item line (deep_item shape)) p = p
+parts_with (item line (action_item (pipeline_action h))) p = put_before line (action h) p
+parts_with (item line (action_item (opening c h))) p = control_before line c h p
+parts_with (item line (action_item plain_else)) p = else_before p
+parts_with (item line (action_item (else_branch branch h))) p = branch_before line branch h p
+parts_with (item line (action_item end_action)) p = end_before p
+parts_with (item line (action_item break_action)) p = put_before line break_node p
+parts_with (item line (action_item continue_action)) p = put_before line continue_node p
+
+-- the parts from the first of these items on, by those behind the last
+abbrev pub parts_before : List Item → Parts → Parts
+parts_before [] p = p
+parts_before (x ∷ xs) p = parts_with x (parts_before xs p)
+
+-- at the end of a file
+abbrev pub no_parts : Parts
+no_parts = record { inner = no_level; around = [] }
+
+unfoldable pub nodes_from : List Item → Nodes
+nodes_from xs = (parts_before xs no_parts).inner.nodes

@@ -1,0 +1,47 @@
+//! Whether the actions of a file stand where they may.
+ghost use Rattle.std.specs.Prelude.{◌≡◌, map};
+ghost use Rattle.tmpl_syntax.specs.View.{item_of};
+ghost use Rattle.tmpl_syntax.specs.Parse as spec;
+ghost use Rattle.tmpl_syntax.specs.computed.Parse.{IsChecked};
+
+use crate::fault::{ParseKind, Refusal};
+use crate::item::Item;
+use crate::place::frame::Frame;
+use crate::place::names::KnownNames;
+use crate::place::pass::{forget, newest, take_in};
+use crate::place::rules::fault_of;
+use std::alloc::Global;
+
+/// Refuses the first action that is refused, or else at its last line a file that ends inside a control.
+pub(crate) fn check(alloc: Global, items: &[Item<'_>], bytes: &[u8]) -> Result<(), Refusal>
+    ensures { IsChecked bytes.now (map item_of items.now) result }
+{
+    let mut stack: Vec<Frame> = Vec::new(alloc);
+    let mut names = KnownNames::new(alloc);
+    for item in items {
+        let outside = newest(&stack);
+        forget(&mut names, item, outside);
+        if let Some(fault) = fault_of(item, outside, &names) {
+            return Err(Refusal {
+                line: item.line,
+                kind: fault.kind(),
+            });
+        }
+        take_in(&mut stack, &mut names, item)?;
+    }
+    if stack.is_empty() {
+        Ok(())
+    } else {
+        Err(Refusal {
+            line: last_line(bytes),
+            kind: ParseKind::OpenAtEnd,
+        })
+    }
+}
+
+/// The line, counted from 1, on which the last newline leaves the end of the file.
+fn last_line(bytes: &[u8]) -> u64
+    ensures { result ≡ spec.last_line bytes.now }
+{
+    bytes.iter().filter(|b| **b == b'\n').count() as u64 + 1
+}

@@ -1,0 +1,186 @@
+//! What stands after an item: the frames of what is open, and the names that are known.
+ghost use Rattle.std.specs.Prelude.{◌≡◌, ◌<◌, ◌++◌, ◌∷◌, ◌+◌, IfOk, reverse, false, Some, None, length};
+ghost use Rattle.tmpl_grammar.specs.View.{action_of, binding_of, header_of};
+ghost use Rattle.tmpl_syntax.specs.View.{item_of, known_names};
+ghost use Rattle.tmpl_syntax.specs.Place.Role as role;
+ghost use Rattle.tmpl_syntax.specs.Place.Role.{act_of, act_of_shape, names_of, role_of};
+ghost use Rattle.tmpl_syntax.specs.Place.Body as body;
+ghost use Rattle.tmpl_syntax.specs.computed.Frames as spec;
+ghost use Rattle.tmpl_syntax.specs.computed.Frames.{added, added_by, branched_all, elsed_all, entered, fault_at, frames_after, frames_past, heading, is_too_deep, levels, names_at, seen_at, top};
+
+use crate::item::{Item, ItemKind};
+use crate::place::frame::Frame;
+use crate::place::names::KnownNames;
+use crate::place::rules::{is_in_loop, levels_in};
+use std::alloc::AllocError;
+use tmpl_grammar::{Action, Binding, Control, Header, Shape};
+
+/// The newest frame.
+pub(super) fn newest(stack: &Vec<Frame>) -> Option<Frame>
+    ensures { result ≡ top (reverse stack.now.items) }
+{
+    stack.last().copied()
+}
+
+/// Forgets the names that an item does not see: an `else` or `else if` ends the part before it, and an
+/// `end` the control.
+pub(super) fn forget(names: &mut KnownNames<'_>, item: &Item<'_>, outside: Option<Frame>)
+    ensures { known_names names.new ≡ seen_at (role_of (item_of item.now)) outside (known_names names.old) }
+{
+    let Some(frame) = outside else {
+        return;
+    };
+    match &item.what {
+        ItemKind::Action(action) => forget_at(names, action, frame),
+        ItemKind::TooDeep(shape) => forget_part(names, *shape, frame),
+        ItemKind::Text(_) | ItemKind::Unreadable | ItemKind::Unread => {}
+    }
+}
+
+/// Forgets the names that an action of this shape does not see.
+fn forget_part(names: &mut KnownNames<'_>, shape: Shape, frame: Frame)
+    ensures { known_names names.new ≡ names_at (act_of_shape shape) (Some frame) (known_names names.old) }
+{
+    match shape {
+        Shape::ElseBranch(_) => names.truncate(frame.part),
+        Shape::Pipeline | Shape::Open(_) => {}
+    }
+}
+
+/// Forgets the names that an action does not see.
+fn forget_at(names: &mut KnownNames<'_>, action: &Action, frame: Frame)
+    ensures { known_names names.new ≡ names_at (act_of (action_of action.now)) (Some frame) (known_names names.old) }
+{
+    match action {
+        Action::Else | Action::ElseBranch(_, _) => names.truncate(frame.part),
+        Action::End => names.truncate(frame.start),
+        Action::Pipeline(_) | Action::Open(_, _) | Action::Break | Action::Continue => {}
+    }
+}
+
+/// Takes in an item that is not refused: the frames behind it, and the names that it adds.
+pub(super) fn take_in<'i>(
+    stack: &mut Vec<Frame>,
+    names: &mut KnownNames<'i>,
+    item: &'i Item<'_>,
+) -> Result<(), AllocError>
+    requires { fault_at (role_of (item_of item.now)) (top (reverse stack.old.items)) (known_names names.old) ≡ None }
+    ensures frames { IfOk result (λ u. reverse stack.new.items
+        ≡ frames_past (role_of (item_of item.now)) (reverse stack.old.items) (length (known_names names.old))) }
+    ensures names { IfOk result (λ u. known_names names.new ≡ known_names names.old ++ added_by (role_of (item_of item.now))) }
+{
+    match &item.what {
+        ItemKind::Action(action) => take_in_action(stack, names, action),
+        _ => Ok(()),
+    }
+}
+
+/// Takes in an action that is not refused.
+fn take_in_action<'i>(
+    stack: &mut Vec<Frame>,
+    names: &mut KnownNames<'i>,
+    action: &'i Action,
+) -> Result<(), AllocError>
+    requires { is_too_deep (act_of (action_of action.now)) (top (reverse stack.old.items)) ≡ false }
+    ensures frames { IfOk result (λ u. reverse stack.new.items
+        ≡ frames_after (act_of (action_of action.now)) (reverse stack.old.items) (length (known_names names.old))) }
+    ensures names { IfOk result (λ u. known_names names.new ≡ known_names names.old ++ added (act_of (action_of action.now))) }
+{
+    match action {
+        Action::Pipeline(header) => declare(names, &header.binding),
+        Action::Open(control, header) => enter(stack, names, *control, header),
+        Action::Else => pass_else(stack),
+        Action::ElseBranch(_, header) => pass_branch(stack, names, &header.binding),
+        Action::End => {
+            stack.pop();
+            Ok(())
+        }
+        Action::Break | Action::Continue => Ok(()),
+    }
+}
+
+/// Adds the names that a header declares.
+fn declare<'i>(names: &mut KnownNames<'i>, binding: &'i Binding) -> Result<(), AllocError>
+    ensures { IfOk result (λ u. known_names names.new ≡ known_names names.old ++ role.declared_by (binding_of binding.now)) }
+{
+    match binding {
+        Binding::Declare(name) => names.push(name.as_slice()),
+        Binding::DeclarePair { key, element } => {
+            names.push(key.as_slice())?;
+            names.push(element.as_slice())
+        }
+        Binding::Unbound | Binding::Assign(_) => Ok(()),
+    }
+}
+
+/// Opens a control.
+fn enter<'i>(
+    stack: &mut Vec<Frame>,
+    names: &mut KnownNames<'i>,
+    control: Control,
+    header: &'i Header,
+) -> Result<(), AllocError>
+    requires { levels (top (reverse stack.old.items)) < body.most_levels }
+    ensures frames { let h = names_of (header_of header.now) in IfOk result (λ u. reverse stack.new.items
+        ≡ entered control h (top (reverse stack.old.items)) (length (known_names names.old)) ∷ reverse stack.old.items) }
+    ensures names { let h = names_of (header_of header.now) in IfOk result (λ u. known_names names.new
+        ≡ known_names names.old ++ heading control h.declares) }
+{
+    let outside = newest(stack);
+    let start = names.len();
+    declare(names, &header.binding)?;
+    stack.push(Frame {
+        control,
+        has_else: false,
+        around: is_in_loop(outside),
+        levels: levels_in(outside) + 1,
+        start,
+        part: part_of(control, start, names.len()),
+    })?;
+    Ok(())
+}
+
+/// How many names an else part sees, of those before the header and with it: a range's own are not seen there.
+fn part_of(control: Control, before: usize, after: usize) -> usize
+    ensures { result ≡ spec.part_of control before after }
+{
+    match control {
+        Control::If | Control::With => after,
+        Control::Range => before,
+    }
+}
+
+/// Begins the else part of the newest control.
+fn pass_else(stack: &mut Vec<Frame>) -> Result<(), AllocError>
+    ensures { IfOk result (λ u. reverse stack.new.items ≡ elsed_all (reverse stack.old.items)) }
+{
+    if let Some(frame) = stack.pop() {
+        stack.push(Frame {
+            has_else: true,
+            ..frame
+        })?;
+    }
+    Ok(())
+}
+
+/// Begins an else part of the newest control that is a control of its own.
+fn pass_branch<'i>(
+    stack: &mut Vec<Frame>,
+    names: &mut KnownNames<'i>,
+    binding: &'i Binding,
+) -> Result<(), AllocError>
+    requires { levels (top (reverse stack.old.items)) < body.most_levels }
+    ensures frames { IfOk result (λ u. reverse stack.new.items
+        ≡ branched_all (length (known_names names.old) + length (role.declared_by (binding_of binding.now))) (reverse stack.old.items)) }
+    ensures names { IfOk result (λ u. known_names names.new ≡ known_names names.old ++ role.declared_by (binding_of binding.now)) }
+{
+    declare(names, binding)?;
+    if let Some(frame) = stack.pop() {
+        stack.push(Frame {
+            levels: frame.levels + 1,
+            part: names.len(),
+            ..frame
+        })?;
+    }
+    Ok(())
+}

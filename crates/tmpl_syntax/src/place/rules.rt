@@ -1,0 +1,154 @@
+//! The fault of an action in its place.
+ghost use Rattle.std.specs.Prelude.{◌≡◌, List, Some};
+ghost use Rattle.tmpl_grammar.specs.View.{action_of};
+ghost use Rattle.tmpl_syntax.specs.View.{item_of, known_names};
+ghost use Rattle.tmpl_syntax.specs.Place.Role as role;
+ghost use Rattle.tmpl_syntax.specs.Place.Role.{act_of, act_of_shape, role_of};
+ghost use Rattle.tmpl_syntax.specs.Place.Body as body;
+ghost use Rattle.tmpl_syntax.specs.computed.Frames.{fault_at, fault_in, in_loop, is_placed, is_too_deep, levels, takes_branch, takes_else};
+
+use crate::fault::Fault;
+use crate::item::{Item, ItemKind};
+use crate::place::frame::Frame;
+use crate::place::names::KnownNames;
+use crate::place::uses::knows_its_names;
+use tmpl_grammar::{Action, Branch, Control, Shape};
+
+/// The most levels that may stand (our own limit): an open control is one, and an `else if` up to its `end`.
+const MOST_LEVELS: usize = 500;
+
+/// The fault of an item, if it has one.
+pub(crate) fn fault_of(
+    item: &Item<'_>,
+    outside: Option<Frame>,
+    names: &KnownNames<'_>,
+) -> Option<Fault>
+    ensures { result ≡ fault_at (role_of (item_of item.now)) outside (known_names names.now) }
+{
+    match &item.what {
+        ItemKind::Text(_) => None,
+        ItemKind::Unreadable => Some(Fault::Unreadable),
+        ItemKind::Unread => Some(Fault::NotAnAction),
+        ItemKind::TooDeep(shape) => Some(deep_fault(*shape, outside)),
+        ItemKind::Action(action) => action_fault(action, outside, names),
+    }
+}
+
+/// The first fault of an action, in the order in which they are asked.
+fn action_fault(action: &Action, outside: Option<Frame>, names: &KnownNames<'_>) -> Option<Fault>
+    ensures { result ≡ fault_in (act_of (action_of action.now)) outside (known_names names.now) }
+{
+    if !is_in_place(action, outside) {
+        Some(Fault::OutOfPlace)
+    } else if is_deep(action, outside) {
+        Some(Fault::NestedTooDeeply)
+    } else if !knows_its_names(action, names) {
+        Some(Fault::UndeclaredVariable)
+    } else {
+        None
+    }
+}
+
+/// The fault of an action of this shape whose parentheses nest too deep: its place is looked at first.
+fn deep_fault(shape: Shape, outside: Option<Frame>) -> Fault
+    ensures { (names : List role.Name) → Some result ≡ fault_in (act_of_shape shape) outside names }
+{
+    if is_shape_in_place(shape, outside) {
+        Fault::NestedTooDeeply
+    } else {
+        Fault::OutOfPlace
+    }
+}
+
+/// Whether an action of this shape may stand there.
+fn is_shape_in_place(shape: Shape, outside: Option<Frame>) -> bool
+    ensures { result ≡ is_placed (act_of_shape shape) outside }
+{
+    match shape {
+        Shape::Pipeline | Shape::Open(_) => true,
+        Shape::ElseBranch(branch) => may_take_else(outside) && may_take_branch(branch, outside),
+    }
+}
+
+/// Whether an action may stand there.
+fn is_in_place(action: &Action, outside: Option<Frame>) -> bool
+    ensures { result ≡ is_placed (act_of (action_of action.now)) outside }
+{
+    match action {
+        Action::Pipeline(_) | Action::Open(_, _) => true,
+        Action::Else => may_take_else(outside),
+        Action::ElseBranch(branch, _) => {
+            may_take_else(outside) && may_take_branch(*branch, outside)
+        }
+        Action::End => outside.is_some(),
+        Action::Break | Action::Continue => is_in_loop(outside),
+    }
+}
+
+/// Whether an else part may stand there.
+fn may_take_else(outside: Option<Frame>) -> bool
+    ensures { result ≡ takes_else outside }
+{
+    match outside {
+        Some(frame) => !frame.has_else,
+        None => false,
+    }
+}
+
+/// Whether an else part that begins so may belong to what is open there.
+fn may_take_branch(branch: Branch, outside: Option<Frame>) -> bool
+    ensures { result ≡ takes_branch branch outside }
+{
+    match outside {
+        Some(frame) => may_join(branch, frame.control),
+        None => false,
+    }
+}
+
+/// Whether an else part that begins so may belong to this control.
+fn may_join(branch: Branch, control: Control) -> bool
+    ensures { result ≡ body.joins branch control }
+{
+    match branch {
+        Branch::If => matches!(control, Control::If),
+    }
+}
+
+/// Whether a break may stand there.
+pub(super) fn is_in_loop(outside: Option<Frame>) -> bool
+    ensures { result ≡ in_loop outside }
+{
+    match outside {
+        None => false,
+        Some(frame) => match frame.control {
+            Control::If | Control::With => frame.around,
+            Control::Range => !frame.has_else || frame.around,
+        },
+    }
+}
+
+/// Whether an action is a level more than may stand there.
+fn is_deep(action: &Action, outside: Option<Frame>) -> bool
+    ensures { result ≡ is_too_deep (act_of (action_of action.now)) outside }
+{
+    adds_level(action) && levels_in(outside) >= MOST_LEVELS
+}
+
+fn adds_level(action: &Action) -> bool
+    ensures { result ≡ body.opens_level (act_of (action_of action.now)) }
+{
+    match action {
+        Action::Open(_, _) | Action::ElseBranch(_, _) => true,
+        _ => false,
+    }
+}
+
+/// How many levels stand there.
+pub(super) fn levels_in(outside: Option<Frame>) -> usize
+    ensures { result ≡ levels outside }
+{
+    match outside {
+        Some(frame) => frame.levels,
+        None => 0,
+    }
+}
