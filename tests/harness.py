@@ -16,6 +16,13 @@ TAKERS = {
 }
 
 
+def is_built():
+    """Whether the program is there; if it is not, says how to get it."""
+    if not os.access(PROGRAM, os.X_OK):
+        print("there is no program: build it by `make`, or name one by TMPL=PATH")
+    return os.access(PROGRAM, os.X_OK)
+
+
 def content(it):
     """The bytes that a content of a row stands for."""
     if isinstance(it, str):
