@@ -4,7 +4,7 @@ export PREFIX DESTDIR CRATE
 
 PROGRAM = crates/tmpl/out/tmpl
 PARTS = crates/bench_parts/out/bench_parts
-# what proofs and programs are made of, and the folders, so that a file which is gone counts too
+# what proofs and programs are made of, with the folders, so that a file which is gone counts too
 SOURCES = crates.txt HANDLES $(shell find $(wildcard crates/*/src crates/*/specs crates/*/proofs))
 HELLO = ../../examples/hello
 
@@ -21,7 +21,9 @@ demo:
 
 # the gate: every proof from nothing, then the tests over the program that it left, as each of the two compilers built it
 test:
-	python3 tests/gate.py "rt ci" "python3 tests/edits.py --apply" "python3 tests/run.py" "env TMPL=$(PROGRAM).by-rattle python3 tests/run.py" "python3 tests/places.py" "python3 tests/calls.py" "python3 tests/writes.py" "python3 tests/sweep.py"
+	python3 tests/gate.py "rt ci" "python3 tests/edits.py --apply" "python3 tests/run.py" \
+		"env TMPL=$(PROGRAM).by-rattle python3 tests/run.py" "python3 tests/places.py" "python3 tests/calls.py" \
+		"python3 tests/writes.py" "python3 tests/sweep.py"
 
 # proves one crate, CRATE=NAME, over what earlier runs kept in out/
 check:

@@ -1,5 +1,5 @@
-"""Tries the edits crates/NAME/edits/*.edit as the gate tries those of must-fail/: the prover must refuse each. This is done
-on a copy of the repository, where they take the place of those of must-fail/, over what earlier runs kept in out/.
+"""Tries the edits crates/NAME/edits/*.edit as the gate tries those of must-fail/: the prover must refuse each. This is
+done on a copy of the repository, where they take the place of those of must-fail/, over what earlier runs kept in out/.
 
     edits.py [NAME..]     tries the edits of these crates, or of all; RT_JOBS=N takes N crates side by side, else one
     edits.py --apply      only looks whether each edit of edits/ and of must-fail/ still applies to its file"""
@@ -23,8 +23,8 @@ def edits_in(folder):
 
 def rt(folder, *words):
     """What the toolchain says, both streams in one."""
-    how = {"stdin": subprocess.DEVNULL, "stdout": subprocess.PIPE, "stderr": subprocess.STDOUT, "errors": "replace"}
-    return subprocess.run(["rt", *words], cwd=folder, **how).stdout
+    streams = {"stdin": subprocess.DEVNULL, "stdout": subprocess.PIPE, "stderr": subprocess.STDOUT}
+    return subprocess.run(["rt", *words], cwd=folder, errors="replace", **streams).stdout
 
 
 def take_edits(crate, kind):
@@ -36,11 +36,12 @@ def take_edits(crate, kind):
 
 
 def unfit(crate):
-    """The edits in must-fail/ of a crate of the copy that do not apply, and why."""
+    """The edits in must-fail/ of a crate of the copy that can't be applied, and why."""
     names = edits_in(f"{crate}/must-fail")
     told = {it: "its name does not end in .edit" for it in names if not it.endswith(".edit")}
     # what lays out a crate's files also says which edits do not apply
-    told.update(re.findall(r"note: must-fail/(\S+) cannot be applied, so rt ci would fail: (.*)", rt(crate, "fmt")) if names else [])
+    said = rt(crate, "fmt") if names else ""
+    told.update(re.findall(r"note: must-fail/(\S+) cannot be applied, so rt ci would fail: (.*)", said))
     return told
 
 
@@ -78,7 +79,8 @@ def main(words):
     if unknown:
         sys.exit(f"there is no crate {unknown[0]}")
     with tempfile.TemporaryDirectory(prefix="edits-") as room:
-        shutil.copytree(f"{harness.TOP}/crates", f"{room}/crates", ignore=shutil.ignore_patterns("out") if only_apply else None)
+        ignored = shutil.ignore_patterns("out") if only_apply else None
+        shutil.copytree(f"{harness.TOP}/crates", f"{room}/crates", ignore=ignored)
         for name in ("crates.txt", "HANDLES"):
             shutil.copy(f"{harness.TOP}/{name}", room)
         kinds = FOLDERS if only_apply else FOLDERS[:1]

@@ -1,6 +1,6 @@
-"""Processor time of the provers that this process started, by crate and by what they did. The toolchain prints no times,
-so a thread looks at the processes twice a second; what one takes between the last look and its end is missed, and stands
-with the rest."""
+"""Processor time of the provers that this process started, by crate and by what they did. The toolchain prints no
+times, so a thread looks at the processes twice a second; what one takes between the last look and its end is missed,
+and stands with the rest."""
 import collections
 import os
 import resource
@@ -53,7 +53,8 @@ class Watch:
             if name != "rattle" or not self.is_ours(told, parent):
                 continue
             try:
-                self.works.setdefault((process, started), work_of(process))
+                if (process, started) not in self.works:
+                    self.works[process, started] = work_of(process)
                 self.seconds[process, started] = seconds
             except OSError:
                 pass
@@ -63,18 +64,31 @@ class Watch:
             process = told[process][0]
         return process == os.getpid()
 
-    def table(self):
-        """Ends the watch: lines of minutes by crate and kind, then the rest, and all that was started from here."""
+    def minutes(self):
+        """Ends the watch: the minutes by crate and kind."""
         self.ended.set()
         self.thread.join()
-        sums = collections.Counter()
-        for key, seconds in self.seconds.items():
-            sums[self.works[key]] += seconds / 60
+        told = collections.Counter()
+        for process, seconds in self.seconds.items():
+            told[self.works[process]] += seconds / 60
+        return told
+
+    def table(self):
+        """Ends the watch: lines of minutes by crate and kind, then the rest, and all that was started from here."""
+        told = self.minutes()
+        crates = sorted({crate for crate, _ in told})
         used = resource.getrusage(resource.RUSAGE_CHILDREN)
         whole = (used.ru_utime + used.ru_stime) / 60
-        rows = [(crate, [sums[crate, kind] for kind in KINDS]) for crate in sorted({it for it, _ in sums})]
-        rows.append(("all crates", [sum(column) for column in zip(*(row for _, row in rows))] or [0] * len(KINDS)))
-        lines = [("minutes of processors", *KINDS, "in all")]
-        lines += [(crate, *(f"{it:.1f}" for it in row), f"{sum(row):.1f}") for crate, row in rows]
-        lines += [("the rest", *[""] * len(KINDS), f"{max(whole - sum(rows[-1][1]), 0):.1f}"), ("in all", *[""] * len(KINDS), f"{whole:.1f}")]
-        return ["".join(f"{it:<24}" if at == 0 else f"{it:>9}" for at, it in enumerate(line)) for line in lines]
+        lines = [row("minutes of processors", *KINDS, "in all")]
+        for crate in crates:
+            cells = [told[crate, kind] for kind in KINDS]
+            lines.append(row(crate, *cells, sum(cells)))
+        cells = [sum(told[crate, kind] for crate in crates) for kind in KINDS]
+        lines.append(row("all crates", *cells, sum(cells)))
+        lines.append(row("the rest", *[""] * len(KINDS), max(whole - sum(cells), 0)))
+        lines.append(row("in all", *[""] * len(KINDS), whole))
+        return lines
+
+
+def row(head, *cells):
+    return f"{head:<24}" + "".join(f"{it:>9}" if isinstance(it, str) else f"{it:>9.1f}" for it in cells)
