@@ -63,12 +63,26 @@ def apply(room, crates, kind):
 def attempt(room, name):
     """Tries a crate's edits, and counts those that were refused and those that were not."""
     wanted = edits_in(f"{room}/crates/{name}/must-fail")
-    said = rt(room, "must-fail", name).splitlines() if wanted else []
+    if not wanted:
+        return 0, 0
+    said = rt(room, "must-fail", name).splitlines()
     told = [it.partition(" ")[2] for it in said if it.startswith("rt: must-fail ")]
     refused = sum(REFUSED in it for it in told)
     # where a library is not proved, no edit is tried
     print(*([it.partition(" ")[2] for it in told] or said[-20:]), sep="\n", flush=True)
     return refused, len(wanted) - refused
+
+
+def attempt_all(room, every, crates):
+    """Tries the edits of these crates, RT_JOBS crates side by side."""
+    jobs = int(os.environ.get("RT_JOBS") or 1)
+    if jobs > 1:
+        # so that no two of them build one library at the same time
+        for name in every:
+            if os.path.isfile(f"{room}/crates/{name}/src/lib.rt"):
+                rt(f"{room}/crates/{name}", "lib", "--jobs", "1")
+    with ThreadPoolExecutor(jobs) as pool:
+        return list(pool.map(lambda it: attempt(room, it), crates))
 
 
 def main(words):
@@ -87,10 +101,9 @@ def main(words):
         counted = [apply(room, crates, it) for it in kinds]
         if not only_apply:
             bad = counted[0][1]
-            with ThreadPoolExecutor(int(os.environ.get("RT_JOBS") or 1)) as pool:
-                counted = [(0, bad), *pool.map(lambda it: attempt(room, it), crates)]
+            counted = [(0, bad), *attempt_all(room, every, crates)]
             if bad:
-                print(f"BAD EDIT: {bad} no longer apply, as told at the start")
+                print(f"BAD EDIT: {bad} can't be applied, as told at the start")
     return harness.closing(*map(sum, zip(*counted)))
 
 
