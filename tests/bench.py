@@ -16,6 +16,7 @@ from go import compare
 MIB = 1 << 20
 LINE = b"All the world's a stage, and all the men and women merely players.\n"
 PARTS = calls.PARTS
+SMALL_ACTIONS = b"{{if .a}}{{$x := .b}}{{$x}}{{else}}{{range .c}}{{.}}{{end}}{{end}}\n"
 LOAD = "import json, sys; json.load(open(sys.argv[1], 'rb'))"
 
 
@@ -156,7 +157,7 @@ def bench_parsing(folder):
     """Files that are parsed and not run: the template that is run has one byte."""
     tiny = write(f"{folder}/tiny", [b"x"])
     for name, piece in (
-        ("small actions", b"{{if .a}}{{$x := .b}}{{$x}}{{else}}{{range .c}}{{.}}{{end}}{{end}}\n"),
+        ("small actions", SMALL_ACTIONS),
         ("constants, strings and parentheses", b'{{print 12 -0x1F (len "a\\tb") (or (eq .a `c`) \'d\')}}\n'),
     ):
         print(f"The parsing of {name}")
@@ -179,6 +180,23 @@ def bench_call_template(folder):
         points.append((count, ours[0]))
         print(f"  {count:5} calls of printf and len: tmpl {milliseconds(ours[0])} in {ours[1] // 1024:.0f} MiB")
     judge_linear(points)
+
+
+def bench_memory(folder):
+    """The peak memory of renders of many small actions, of which trees are made."""
+    print("Peak memory of a render, to /dev/null")
+    go = go_renderer(folder)
+    data = write(f"{folder}/data", [b'{"a":1,"b":"x","c":[1,2]}'])
+    for name, piece, size, most in (
+        ("16 MiB of {{.}}", b"{{.}}", 16 * MIB, 1100),
+        (f"2 MB of lines {SMALL_ACTIONS.decode().strip()}", SMALL_ACTIONS, 2_000_000, 263),
+    ):
+        file = write(f"{folder}/template", [piece * (size // len(piece) // 16)] * 16)
+        runs = [[harness.PROGRAM, "--data", data, file]] + [[go, "render", file, data]] * bool(go)
+        peaks = [kibibytes * 1024 / 1e6 for _, kibibytes in medians(3, *runs)]
+        beside = f", Go {peaks[1]:.0f} MB" if go else ""
+        print(f"  {name}: tmpl {peaks[0]:.0f} MB{beside}")
+        print(f"  tmpl: at most {most} MB wanted: {'holds' if peaks[0] <= most else 'DOES NOT HOLD'}")
 
 
 def bench_range(folder):
@@ -230,14 +248,23 @@ def bench_parts(folder):
     judge_linear(points)
 
 
+def go_renderer(folder):
+    """A program over Go's own text/template, built once, or none where Go is not there."""
+    program = f"{folder}/gotemplate"
+    if not shutil.which("go"):
+        return None
+    if not os.path.exists(program):
+        compare.build(program)
+    return program
+
+
 def bench_go(folder):
     """Whole renders beside a program over Go's own text/template, where Go is there."""
-    if not shutil.which("go"):
+    go = go_renderer(folder)
+    if not go:
         print("Go is not there to compare with")
         return
     print("Whole renders beside Go's text/template, to /dev/null")
-    go = f"{folder}/gotemplate"
-    compare.build(go)
     data = write(f"{folder}/user", [b'{"user":{"name":"Ada"},"n":7}'])
     numbers = write(f"{folder}/numbers", [b"[7", b",7" * 99_999, b"]"])
     for name, pieces, held in (
@@ -255,8 +282,8 @@ def bench_go(folder):
 
 
 def main():
-    if not os.access(harness.PROGRAM, os.X_OK):
-        sys.exit("there is no program: build it by `make demo`, or name one by TMPL=PATH")
+    if not harness.is_built():
+        sys.exit(1)
     print(f"Peak memory is told from {once(['/bin/true'])[1] / 1024:.0f} MiB on: a new process counts what this script held")
     bench_start()
     with tempfile.TemporaryDirectory() as folder:
@@ -264,6 +291,7 @@ def main():
         bench_cut(folder)
         bench_parsing(folder)
         bench_actions(folder)
+        bench_memory(folder)
         bench_range(folder)
         bench_call_template(folder)
         bench_calls(folder)

@@ -1,10 +1,12 @@
 """Runs each command that it is given, one after the other, whatever the others came to, and adds up their
 last lines 'N passed, N failed'. A command without such a line, or with a status that it does not
-explain, counts as one failure."""
+explain, counts as one failure. It also tells the minutes of processors that the proofs took, by crate."""
 import re
 import shlex
 import subprocess
 import sys
+
+import processors
 
 
 def run(command):
@@ -24,7 +26,9 @@ def run(command):
 
 
 def main(commands):
+    watch = processors.Watch()
     told = [run(it) for it in commands]
+    print("== processors", *watch.table(), sep="\n")
     print("== in all")
     for command, (passed, failed) in zip(commands, told):
         print(f"{command}: {passed} passed, {failed} failed")

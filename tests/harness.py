@@ -9,11 +9,18 @@ TOP = os.path.dirname(TESTS)
 PROGRAM = os.path.abspath(os.environ.get("TMPL") or f"{TOP}/crates/tmpl/out/tmpl")
 SECONDS = 60  # for one run
 
-KEYS = {"title", "program", "words", "files", "stdout", "stderr", "out", "line", "status"}
+KEYS = {"title", "program", "words", "files", "stdin", "stdout", "stderr", "out", "line", "status"}
 TAKERS = {
     "stdout": {"pipe", "full device", "pipe that nobody reads"},
     "stderr": {"pipe", "full device", "closed"},
 }
+
+
+def is_built():
+    """Whether the program is there; if it is not, says how to get it."""
+    if not os.access(PROGRAM, os.X_OK):
+        print("there is no program: build it by `make`, or name one by TMPL=PATH")
+    return os.access(PROGRAM, os.X_OK)
 
 
 def content(it):
@@ -40,6 +47,7 @@ class Row:
         self.program = content(it.get("program", "tmpl"))
         self.words = [content(word) for word in it["words"]]
         self.files = {name: None if what == {"folder": True} else content(what) for name, what in it.get("files", {}).items()}
+        self.stdin = content(it["stdin"]) if "stdin" in it else None
         self.stdout = it.get("stdout", "pipe")
         self.stderr = it.get("stderr", "pipe")
         if self.stdout not in TAKERS["stdout"] or self.stderr not in TAKERS["stderr"]:
@@ -121,7 +129,7 @@ def run(row, folder, environment=None, keep=()):
             executable=PROGRAM,
             cwd=folder,
             env={**os.environ, **(environment or {})},
-            stdin=subprocess.DEVNULL,
+            **({"stdin": subprocess.DEVNULL} if row.stdin is None else {"input": row.stdin}),
             stdout=taker(row.stdout),
             stderr=taker(row.stderr),
             timeout=SECONDS,

@@ -2,7 +2,6 @@
 the rules told directly, by stretches of the list, as docs/LANGUAGE.md has them. Each action stands on a
 line of its own. `places.py N` goes up to lists of N actions. TMPL=PATH names another build."""
 import itertools
-import os
 import subprocess
 import sys
 import tempfile
@@ -121,8 +120,7 @@ def check(case):
 
 
 def main(most):
-    if not os.access(harness.PROGRAM, os.X_OK):
-        print("there is no program: build it by `make demo`, or name one by TMPL=PATH")
+    if not harness.is_built():
         return harness.closing(0, 1)
     cases = [case for table in (PLACES, NAMES) for case in lists(table, most)]
     with ThreadPoolExecutor() as pool:

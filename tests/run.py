@@ -1,6 +1,5 @@
 """Runs the built program over each row of tests/rows and each example, and compares its output, its
 errors and its status. TMPL=PATH runs another build of the program."""
-import os
 import subprocess
 import sys
 import tempfile
@@ -9,8 +8,7 @@ import harness
 
 
 def main():
-    if not os.access(harness.PROGRAM, os.X_OK):
-        print("there is no program: build it by `make demo`, or name one by TMPL=PATH")
+    if not harness.is_built():
         return harness.closing(0, 1)
     passed = failed = 0
     for row in harness.read_rows():

@@ -86,8 +86,7 @@ def memory_tests():
 
 
 def main():
-    if not os.access(harness.PROGRAM, os.X_OK):
-        print("there is no program: build it by `make demo`, or name one by TMPL=PATH")
+    if not harness.is_built():
         return harness.closing(0, 1)
     rows = [it for it in harness.read_rows() if it.is_plain() and it.size() <= SMALL]
     with tempfile.TemporaryDirectory() as folder, ThreadPoolExecutor(len(os.sched_getaffinity(0))) as pool:

@@ -3,7 +3,6 @@ from 1 until none is, once and for good; to its output, and to its errors. A sho
 A refused write of output must leave a beginning of it, status 6 and its line; one of errors a beginning of
 the line, and nothing else changed. TMPL=PATH names another build."""
 import os
-import subprocess
 import sys
 import tempfile
 from concurrent.futures import ThreadPoolExecutor
@@ -61,8 +60,7 @@ def check_row(shim, row):
 
 
 def main():
-    if not os.access(harness.PROGRAM, os.X_OK):
-        print("there is no program: build it by `make demo`, or name one by TMPL=PATH")
+    if not harness.is_built():
         return harness.closing(0, 1)
     rows = [it for it in harness.read_rows() if it.stdout == it.stderr == "pipe" and it.size() <= sweep.SMALL]
     with tempfile.TemporaryDirectory() as folder, ThreadPoolExecutor(len(os.sched_getaffinity(0))) as pool:
