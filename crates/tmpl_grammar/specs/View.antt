@@ -61,7 +61,7 @@ abbrev pub binding_of : held_binding.Binding → Binding
 binding_of binding.Unbound = unbound
 binding_of (binding.Declare name) = declare name
 binding_of (binding.Assign name) = assign name
-binding_of (binding.DeclarePair key name) = declare_pair key name
+binding_of (binding.DeclarePair pair) = declare_pair pair.value.key pair.value.element
 
 abbrev pub header_of : held_header.Header → Header
 header_of h = record { binding = binding_of h.binding; pipeline = pipeline_of h.pipeline }

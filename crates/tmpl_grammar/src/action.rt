@@ -63,7 +63,7 @@ impl Shape {
         match binding {
             Binding::Unbound | Binding::Declare(_) => true,
             Binding::Assign(_) => !is_range,
-            Binding::DeclarePair { .. } => is_range,
+            Binding::DeclarePair(_) => is_range,
         }
     }
 }

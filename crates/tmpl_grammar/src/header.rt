@@ -5,7 +5,7 @@ ghost use Rattle.tmpl_grammar.specs.computed.Reading as spec;
 ghost use Rattle.tmpl_grammar.specs.View.{front_of, name_of, split_of};
 
 use crate::operand::{name_in, next};
-use crate::tree::Binding;
+use crate::tree::{Binding, Pair};
 use std::alloc::{AllocError, Global};
 use tmpl_lex::{Token, TokenKind};
 use tmpl_values::Bytes;
@@ -98,7 +98,8 @@ pub(crate) fn split<'t, 'b>(
         Front::DeclarePair(key, name, rest) => {
             let key = copied(alloc, key)?;
             let element = copied(alloc, name)?;
-            Ok((Binding::DeclarePair { key, element }, rest))
+            let pair = Box::new(alloc, Pair { key, element })?;
+            Ok((Binding::DeclarePair(pair), rest))
         }
     }
 }

@@ -56,8 +56,15 @@ pub enum Binding {
     Declare(Bytes),
     /// `$x = P`
     Assign(Bytes),
-    /// `$i, $x := P`, of a range alone: the index or key, and the element.
-    DeclarePair { key: Bytes, element: Bytes },
+    /// `$i, $x := P`, of a range alone.
+    DeclarePair(Box<Pair>),
+}
+
+/// The two variables of a range: one for the index or key, and one for the element.
+#[derive(Drop)]
+pub struct Pair {
+    pub key: Bytes,
+    pub element: Bytes,
 }
 
 /// A pipeline, and the variables that take its value.

@@ -12,7 +12,9 @@ use Rattle.tmpl_syntax.specs.declared.tree.Node as held_node
 use Rattle.tmpl_syntax.specs.declared.tree.Node.{fold-Node}
 use Rattle.tmpl_syntax.specs.declared.tree.NodeKind as held_node_kind
 use Rattle.tmpl_syntax.specs.declared.tree.NodeKind.{fold-NodeKind}
-use Rattle.tmpl_syntax.specs.declared.tree.NodeKind.TheOpen.{Node-F, NodeKind-F}
+use Rattle.tmpl_syntax.specs.declared.tree.NodeKind.TheOpen.{Node-F, ControlNode-F, NodeKind-F}
+use Rattle.tmpl_syntax.specs.declared.tree.ControlNode as held_control
+use Rattle.tmpl_syntax.specs.declared.tree.ControlNode.{fold-ControlNode}
 use Rattle.tmpl_syntax.specs.declared.tree.Tree as held_tree
 use Rattle.tmpl_syntax.specs.declared.item.Item as held_item
 use Rattle.tmpl_syntax.specs.declared.item.ItemKind as held_kind
@@ -26,21 +28,27 @@ use Rattle.tmpl_syntax.specs.declared.build.Parts.{Parts}
 -- ---- trees
 
 -- one level, with the nodes inside already seen
-abbrev pub node_step : Node-F NodeKind Node → Node
+abbrev pub node_step : Node-F NodeKind NodeKind Node → Node
 node_step n = record { line = n.line; what = n.what }
 
-abbrev pub kind_step : NodeKind-F NodeKind Node → NodeKind
+abbrev pub control_step : ControlNode-F NodeKind NodeKind Node → NodeKind
+control_step c = control_node c.control (header_of c.header) (nodes_of c.body.items) (nodes_of c.other.items)
+
+abbrev pub kind_step : NodeKind-F NodeKind NodeKind Node → NodeKind
 kind_step (NodeKind-F.Text bytes) = text bytes
 kind_step (NodeKind-F.Action h) = action (header_of h)
-kind_step (NodeKind-F.Control c h body other) = control_node c (header_of h) (nodes_of body.items) (nodes_of other.items)
+kind_step (NodeKind-F.Control c) = c.value
 kind_step NodeKind-F.Break = break_node
 kind_step NodeKind-F.Continue = continue_node
 
 abbrev pub node_of : held_node.Node → Node
-node_of = fold-Node NodeKind Node kind_step node_step
+node_of = fold-Node NodeKind NodeKind Node kind_step control_step node_step
 
 abbrev pub kind_of : held_node_kind.NodeKind → NodeKind
-kind_of = fold-NodeKind NodeKind Node kind_step node_step
+kind_of = fold-NodeKind NodeKind NodeKind Node kind_step control_step node_step
+
+abbrev pub control_of : held_control.ControlNode → NodeKind
+control_of = fold-ControlNode NodeKind NodeKind Node kind_step control_step node_step
 
 abbrev pub nodes_in : List held_node.Node → Nodes
 nodes_in ns = nodes_of (map node_of ns)

@@ -3,11 +3,12 @@ ghost use Rattle.std.specs.Prelude.{◌≡◌, IfOk, map, reverse};
 ghost use Rattle.tmpl_grammar.specs.Action.{control_in};
 ghost use Rattle.tmpl_grammar.specs.View.{action_of, header_of};
 ghost use Rattle.tmpl_syntax.specs.Item.{action_item, item};
+ghost use Rattle.tmpl_syntax.specs.Tree.{control_node};
 ghost use Rattle.tmpl_syntax.specs.View.{item_of, kind_of, level_of, nodes_in, parts_of};
 ghost use Rattle.tmpl_syntax.specs.computed.Build as spec;
 
 use crate::item::{Item, ItemKind};
-use crate::tree::{Node, NodeKind};
+use crate::tree::{ControlNode, Node, NodeKind};
 use std::alloc::{AllocError, Global};
 use tmpl_grammar::{Action, Branch, Control, Header};
 use tmpl_values::Bytes;
@@ -118,14 +119,28 @@ fn put_control(
         ≡ spec.control_before line control (header_of header) (parts_of parts)) }
 {
     let Parts { inner, mut around } = parts;
-    let what = NodeKind::Control {
-        control,
-        header,
-        body: in_order(inner.nodes),
-        other: inner.other,
-    };
+    let what = control_kind(alloc, control, header, inner)?;
     let inner = outer(alloc, &mut around);
     put_node(Parts { inner, around }, line, what)
+}
+
+/// A control whose body, and the else part behind it, are these.
+fn control_kind(
+    alloc: Global,
+    control: Control,
+    header: Header,
+    parts: Level,
+) -> Result<NodeKind, AllocError>
+    ensures { IfOk result (λ k. kind_of k
+        ≡ control_node control (header_of header) (level_of parts).nodes (level_of parts).other) }
+{
+    let node = ControlNode {
+        control,
+        header,
+        body: in_order(parts.nodes),
+        other: parts.other,
+    };
+    Ok(NodeKind::Control(Box::new(alloc, node)?))
 }
 
 /// Takes the nearest part around, or one of no nodes where there is none.
@@ -164,12 +179,7 @@ fn begin_branch(
     ensures { IfOk result (λ p. parts_of p ≡ spec.branch_before line branch (header_of header) (parts_of parts)) }
 {
     let Parts { inner, around } = parts;
-    let what = NodeKind::Control {
-        control: control_in(branch),
-        header,
-        body: in_order(inner.nodes),
-        other: inner.other,
-    };
+    let what = control_kind(alloc, control_in(branch), header, inner)?;
     Ok(Parts {
         inner: Level {
             nodes: Vec::new(alloc),

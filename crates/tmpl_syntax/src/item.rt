@@ -33,7 +33,7 @@ pub(crate) enum ItemKind<'b> {
 pub(crate) fn read_all<'b>(alloc: Global, pieces: &[Piece<'b>]) -> Result<Vec<Item<'b>>, AllocError>
     ensures { IfOk result (λ v. map item_of v.items ≡ items_in (map piece_of pieces.now)) }
 {
-    let mut items = Vec::new(alloc);
+    let mut items = Vec::with_capacity(alloc, pieces.len())?;
     for piece in pieces {
         items.push(read_piece(alloc, piece)?)?;
     }

@@ -20,10 +20,10 @@ pub use laws::{
 pub use parse::{base_name, parse_file};
 pub use set::{Names, Set};
 pub use tmpl_grammar::{
-    Binding, Command, Control, Header, Operand, Pipeline, one_action, one_reading,
+    Binding, Command, Control, Header, Operand, Pair, Pipeline, one_action, one_reading,
     printed_spelling, printed_tokens,
 };
-pub use tree::{Node, NodeKind, Tree};
+pub use tree::{ControlNode, Node, NodeKind, Tree};
 
 #[cfg(test)]
 mod tests;

@@ -1,15 +1,15 @@
 //! Reading a file into the set.
-ghost use Rattle.std.specs.Prelude.{◌≡◌, ◌≤◌, ◌==◌, IfOk, length, not};
+ghost use Rattle.std.specs.Prelude.{◌≡◌, ◌≤◌, ◌==◌, IfOk, length, map, not};
 ghost use Rattle.std.specs.List.{suffix_len};
-ghost use Rattle.tmpl_syntax.specs.View.{set_view};
+ghost use Rattle.tmpl_syntax.specs.View.{item_of, set_view};
 ghost use Rattle.tmpl_syntax.specs.Parse as spec;
 ghost use Rattle.tmpl_syntax.specs.Parse.{IsReading};
-ghost use Rattle.tmpl_syntax.specs.computed.Parse.{IsAdded, IsParse};
+ghost use Rattle.tmpl_syntax.specs.computed.Parse.{IsAdded, IsParse, items_of};
 ghost use Rattle.tmpl_syntax.specs.Print.Laws.{ArePrintable};
 
 use crate::build::build;
 use crate::fault::{ParseFault, ParseKind, Refusal};
-use crate::item::read_all;
+use crate::item::{Item, read_all};
 use crate::place::check::check;
 use crate::set::Set;
 use crate::tree::Tree;
@@ -62,14 +62,21 @@ fn add_file(alloc: Global, set: &mut Set, file: &str, bytes: &[u8]) -> Result<()
             kind: ParseKind::TooLong,
         });
     }
-    let pieces = cut(alloc, bytes)?;
-    let items = read_all(alloc, pieces.as_slice())?;
+    let items = read_file(alloc, bytes)?;
     check(alloc, items.as_slice(), bytes)?;
     let nodes = build(alloc, items)?;
     let name = copy_of(alloc, base_name(file))?;
     let file = Bytes::new(copy_of(alloc, file.as_bytes())?);
     set.define(name, Tree { file, nodes })?;
     Ok(())
+}
+
+/// The items of a file. Its pieces are let go before the nodes are built.
+fn read_file(alloc: Global, bytes: &[u8]) -> Result<Vec<Item<'_>>, AllocError>
+    ensures { IfOk result (λ v. map item_of v.items ≡ items_of bytes.now) }
+{
+    let pieces = cut(alloc, bytes)?;
+    read_all(alloc, pieces.as_slice())
 }
 
 fn copy_of(alloc: Global, bytes: &[u8]) -> Result<Vec<u8>, AllocError>

@@ -11,7 +11,7 @@ pub struct Node {
     pub what: NodeKind,
 }
 
-/// What a node is. A part that is left out is one of no nodes, and an `else if` is an `if` that is the whole else part.
+/// What a node is.
 #[cycle(node)]
 #[derive(Drop)]
 pub enum NodeKind {
@@ -19,18 +19,24 @@ pub enum NodeKind {
     Text(Bytes),
     /// An action that puts out the text of its value, or binds a variable to it.
     Action(Header),
-    /// An `if`: the body where the value is not empty, else the other part. A `with`: the same, and the body has the value
-    /// as its dot. A `range`: the body once for each element, or the other part where there is none.
-    Control {
-        control: Control,
-        header: Header,
-        body: Vec<Node>,
-        other: Vec<Node>,
-    },
+    Control(Box<ControlNode>),
     /// Ends the innermost range whose body this stands in.
     Break,
     /// Goes to the next element of that range.
     Continue,
+}
+
+/// A control. A part that is left out is one of no nodes, and an `else if` is an `if` that is the whole else part.
+///
+/// An `if`: the body where the value is not empty, else the other part. A `with`: the same, and the body has the value as
+/// its dot. A `range`: the body once for each element, or the other part where there is none.
+#[cycle(node)]
+#[derive(Drop)]
+pub struct ControlNode {
+    pub control: Control,
+    pub header: Header,
+    pub body: Vec<Node>,
+    pub other: Vec<Node>,
 }
 
 /// The body of a template, and the file that it stands in.

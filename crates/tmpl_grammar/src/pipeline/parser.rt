@@ -1,5 +1,5 @@
 //! A parser of pipelines, token by token.
-ghost use Rattle.std.specs.Prelude.{◌≡◌, IfOk, map, option_map};
+ghost use Rattle.std.specs.Prelude.{◌≡◌, ◌++◌, ◌∷◌, [], IfOk, OnOk, map, option_map};
 ghost use Rattle.tmpl_lex.specs.Piece.{token_of};
 ghost use Rattle.tmpl_grammar.specs.computed.Parser as spec;
 ghost use Rattle.tmpl_grammar.specs.View.{parser_of, partial_of};
@@ -33,6 +33,7 @@ pub(crate) struct PipelineParser {
 }
 
 impl PartialPipeline {
+    /// Nothing is read yet.
     fn new(alloc: Global) -> PartialPipeline
         ensures { partial_of result ≡ spec.empty_partial }
     {
@@ -43,13 +44,24 @@ impl PartialPipeline {
     }
 }
 
+/// Adds an element. The first one takes room for itself alone, since most lists have no other.
+fn add<T: Drop>(items: &mut Vec<T>, item: T) -> Result<(), AllocError>
+    ensures { OnOk result (items.new.items ≡ items.old.items ++ item ∷ []) }
+{
+    if items.is_empty() {
+        items.reserve_exact(1)?;
+    }
+    items.push(item)?;
+    Ok(())
+}
+
 /// The operands with the last one, if there is one.
 fn settled(last: Option<Operand>, mut operands: Vec<Operand>) -> Result<Vec<Operand>, AllocError>
     ensures { IfOk result (λ v. map operand_of v.items
         ≡ spec.settled (option_map operand_of last) (map operand_of operands.items)) }
 {
     if let Some(operand) = last {
-        operands.push(operand)?;
+        add(&mut operands, operand)?;
     }
     Ok(operands)
 }
@@ -63,7 +75,7 @@ fn more_commands(
         ≡ spec.more_commands (map command_of commands.items) (map operand_of operands.items)) }
 {
     if operands.len() > 0 {
-        commands.push(Command { operands })?;
+        add(&mut commands, Command { operands })?;
         Ok(Some(commands))
     } else {
         Ok(None)
@@ -123,6 +135,7 @@ pub(crate) fn begins_later(operand: &Operand) -> bool
     }
 }
 
+/// Whether this operand may stand next in a pipeline.
 fn may_stand(inner: &PartialPipeline, operand: &Operand) -> bool
     ensures { result ≡ spec.may_stand (partial_of inner.now).commands (partial_of inner.now).operands
         (operand_of operand.now) }
@@ -131,6 +144,7 @@ fn may_stand(inner: &PartialPipeline, operand: &Operand) -> bool
 }
 
 impl PipelineParser {
+    /// Nothing is read yet.
     pub(crate) fn new(alloc: Global) -> PipelineParser
         ensures { parser_of result ≡ spec.start }
     {
@@ -160,6 +174,7 @@ impl PipelineParser {
         }
     }
 
+    /// Behind white space.
     fn apart(self) -> Result<PipelineParser, AllocError>
         ensures { IfOk result (λ h. parser_of h ≡ spec.apart (parser_of self)) }
     {
@@ -173,6 +188,7 @@ impl PipelineParser {
         })
     }
 
+    /// Behind a bar; `None` where no command ends.
     fn barred(self, alloc: Global) -> Result<Option<PipelineParser>, AllocError>
         ensures { IfOk result (λ o. option_map parser_of o
             ≡ option_map (spec.barred (parser_of self)) (spec.closed (parser_of self))) }
@@ -190,6 +206,7 @@ impl PipelineParser {
         }
     }
 
+    /// Behind `(`; `None` where it touches an operand.
     fn opened(self, alloc: Global) -> Result<Option<PipelineParser>, AllocError>
         ensures { IfOk result (λ o. option_map parser_of o
             ≡ spec.opened (option_map operand_of self.last) (parser_of self)) }
@@ -206,6 +223,7 @@ impl PipelineParser {
         }))
     }
 
+    /// Behind `)`; `None` where none is open or no command ends.
     fn left(self, alloc: Global) -> Result<Option<PipelineParser>, AllocError>
         ensures { IfOk result (λ o. option_map parser_of o
             ≡ spec.left_with (parser_of self).outer (spec.closed (parser_of self))) }
@@ -227,6 +245,7 @@ impl PipelineParser {
         }
     }
 
+    /// Behind an operand; `None` where it may not stand.
     fn placed(self, operand: Option<Operand>) -> Result<Option<PipelineParser>, AllocError>
         ensures { IfOk result (λ o. option_map parser_of o
             ≡ spec.placed (option_map operand_of self.last) (option_map operand_of operand) (parser_of self)) }
@@ -246,6 +265,7 @@ impl PipelineParser {
         }
     }
 
+    /// With this operand last.
     fn ending_with(self, operand: Operand) -> PipelineParser
         ensures { parser_of result ≡ spec.ending_with (parser_of self) (operand_of operand) }
     {
@@ -256,6 +276,7 @@ impl PipelineParser {
         }
     }
 
+    /// Behind a field: in a chain, or an operand of its own.
     fn fielded(self, alloc: Global, token: &Token<'_>) -> Result<Option<PipelineParser>, AllocError>
         ensures { IfOk result (λ o. option_map parser_of o
             ≡ spec.fielded (option_map operand_of self.last) (token_of token.now) (parser_of self)) }
@@ -293,6 +314,7 @@ impl PipelineParser {
     }
 }
 
+/// The operand with one more field of this name, if both may be.
 fn linked_by(alloc: Global, operand: Operand, name: &[u8]) -> Result<Option<Operand>, AllocError>
     ensures { IfOk result (λ o. option_map operand_of o
         ≡ spec.linked_by (token.begins_name name.now) (operand_of operand) name.now) }

@@ -105,9 +105,9 @@ fn declare<'i>(names: &mut KnownNames<'i>, binding: &'i Binding) -> Result<(), A
 {
     match binding {
         Binding::Declare(name) => names.push(name.as_slice()),
-        Binding::DeclarePair { key, element } => {
-            names.push(key.as_slice())?;
-            names.push(element.as_slice())
+        Binding::DeclarePair(pair) => {
+            names.push(pair.key.as_slice())?;
+            names.push(pair.element.as_slice())
         }
         Binding::Unbound | Binding::Assign(_) => Ok(()),
     }

@@ -33,7 +33,7 @@ fn knows_assigned(names: &KnownNames<'_>, binding: &Binding) -> bool
 {
     match binding {
         Binding::Assign(name) => knows_variable(names, name.as_slice()),
-        Binding::Unbound | Binding::Declare(_) | Binding::DeclarePair { .. } => true,
+        Binding::Unbound | Binding::Declare(_) | Binding::DeclarePair(_) => true,
     }
 }
 

@@ -2,7 +2,9 @@
 use crate::build::build;
 use crate::item::{Item, ItemKind};
 use crate::place::check::check;
-use crate::{Binding, Command, Control, Header, Node, NodeKind, Operand, ParseKind, Pipeline};
+use crate::{
+    Binding, Command, Control, Header, Node, NodeKind, Operand, Pair, ParseKind, Pipeline,
+};
 use std::alloc::{AllocError, Global};
 use std::test::Fail;
 use tmpl_grammar::{Action, Branch};
@@ -37,10 +39,11 @@ fn bytes_of(alloc: Global, text: &str) -> Result<Bytes, AllocError> {
 fn binding(alloc: Global, behind: Behind<'_>) -> Result<Binding, AllocError> {
     match behind {
         Behind::Declares(names) => match names.split_once(",") {
-            Some((key, element)) => Ok(Binding::DeclarePair {
-                key: bytes_of(alloc, key)?,
-                element: bytes_of(alloc, element)?,
-            }),
+            Some((key, element)) => {
+                let key = bytes_of(alloc, key)?;
+                let element = bytes_of(alloc, element)?;
+                Ok(Binding::DeclarePair(Box::new(alloc, Pair { key, element })?))
+            }
             None => Ok(Binding::Declare(bytes_of(alloc, names)?)),
         },
         Behind::Assigns(name) => Ok(Binding::Assign(bytes_of(alloc, name)?)),
@@ -407,9 +410,9 @@ fn bound(alloc: Global, binding: &Binding) -> Result<String, AllocError> {
             let name = std::str::from_utf8(name.as_slice()).unwrap_or("?");
             format!(in alloc; "={name}")
         }
-        Binding::DeclarePair { key, element } => {
-            let key = std::str::from_utf8(key.as_slice()).unwrap_or("?");
-            let element = std::str::from_utf8(element.as_slice()).unwrap_or("?");
+        Binding::DeclarePair(pair) => {
+            let key = std::str::from_utf8(pair.key.as_slice()).unwrap_or("?");
+            let element = std::str::from_utf8(pair.element.as_slice()).unwrap_or("?");
             format!(in alloc; ":{key},{element}")
         }
     }
@@ -436,15 +439,10 @@ fn shown_node<'t>(
             let bound = bound(alloc, &header.binding)?;
             format!(in alloc; ".{line}{bound} ")
         }
-        NodeKind::Control {
-            control: which,
-            header,
-            body,
-            other,
-        } => {
-            control(left, body.as_slice(), other.as_slice())?;
-            let name = control_name(*which);
-            let bound = bound(alloc, &header.binding)?;
+        NodeKind::Control(node) => {
+            control(left, node.body.as_slice(), node.other.as_slice())?;
+            let name = control_name(node.control);
+            let bound = bound(alloc, &node.header.binding)?;
             format!(in alloc; "({name}{line}{bound} ")
         }
         NodeKind::Break => format!(in alloc; "break{line} "),

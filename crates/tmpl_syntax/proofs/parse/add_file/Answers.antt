@@ -19,8 +19,7 @@ pub returns-in_err-check : goal.returns-in_err-check
 returns-in_err-check c =
     let refusal = c.in_err-check.field-0.0 in
     let bytes = c.args.bytes.now in
-    let pieces = ap (map piece_of) c.as_slice.ensures.value ∙ c.in_ok-pieces.ensures.value in
-    let items : map item_of c.as_slice-2.result.now ≡ items_of bytes = ap (map item_of) c.as_slice-2.ensures.value ∙ c.in_ok-items.ensures ∙ ap items_in pieces in
+    let items : map item_of c.as_slice.result.now ≡ items_of bytes = ap (map item_of) c.as_slice.ensures.value ∙ c.in_ok-items.ensures in
     adding-ends (set_view c.args.set.now) c.args.file.now bytes c.from_residual-in_err-check.result refusal c.from_residual-in_err-check.ensures.1
     (refusal-placed (set_view c.args.set.now) c.args.file.now bytes refusal.line refusal.kind c.if-bytes-gt-MOST_BYTES.false
     (subst (λ (xs : List Item). IsRefusal (checked bytes xs) refusal.line refusal.kind) items c.in_err-check.ensures))
@@ -30,9 +29,8 @@ returns c =
     let set = set_view c.args.set.now in
     let bytes = c.args.bytes.now in
     let file = c.args.file.now in
-    let pieces = ap (map piece_of) c.as_slice.ensures.value ∙ c.in_ok-pieces.ensures.value in
-    let read : map item_of c.in_ok-items.items.items ≡ items_of bytes = c.in_ok-items.ensures ∙ ap items_in pieces in
-    let items : map item_of c.as_slice-2.result.now ≡ items_of bytes = ap (map item_of) c.as_slice-2.ensures.value ∙ read in
+    let read : map item_of c.in_ok-items.items.items ≡ items_of bytes = c.in_ok-items.ensures in
+    let items : map item_of c.as_slice.result.now ≡ items_of bytes = ap (map item_of) c.as_slice.ensures.value ∙ read in
     let nodes = nodes_in c.in_ok-nodes.nodes.items in
     let built : nodes ≡ nodes_from (items_of bytes) = c.in_ok-nodes.ensures ∙ ap nodes_from read in
     let name : c.in_ok-name.name.items ≡ base_name file = c.in_ok-name.ensures ∙ c.base_name.ensures in
