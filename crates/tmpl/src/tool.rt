@@ -3,18 +3,18 @@ ghost use Rattle.std.specs.Prelude.{◌≡◌, ◌<◌, ◌^◌, ◌-◌, IfSome
 ghost use Rattle.std.specs.String.{string_bytes};
 ghost use Rattle.tmpl_syntax.specs.Set.{set_view};
 ghost use Rattle.tmpl_run.specs.Sink.{sunk};
-ghost use Rattle.tmpl.specs.Words.{seen};
+ghost use Rattle.tmpl.specs.View.{seen};
 ghost use Rattle.tmpl.specs.Outcome.{Counted, Once};
 ghost use Rattle.tmpl.specs.Tool.{Follows, FollowsData, after_set, after_words, tool_answer};
 
-use crate::held::held_data;
-use crate::help::asks_help;
-use crate::lines::{out_of_memory, refuse, words_refused};
-use crate::load::load;
+use crate::files::data_file::read_data;
+use crate::files::load::load_files;
+use crate::files::source::Source;
+use crate::messages::lines::{out_of_memory, refuse, words_refused};
 use crate::render::{put_out, render};
-use crate::request::{Refused, Request};
-use crate::source::Source;
 use crate::status::Status;
+use crate::words::help::asks_help;
+use crate::words::request::{Refused, Request};
 use crate::words::request_of;
 use std::alloc::Global;
 use tmpl_run::Sink;
@@ -52,14 +52,14 @@ pub fn tool<S: Source, O: Sink, E: Sink>(
         return put_out(USAGE, out, err);
     }
     match request_of(alloc, words) {
-        Ok(request) => with_request(alloc, &request, source, out, err),
+        Ok(request) => answer_request(alloc, &request, source, out, err),
         Err(Refused::Words) => words_refused(err),
         Err(Refused::OutOfMemory) => out_of_memory(err),
     }
 }
 
-/// The templates read, and what follows.
-fn with_request<S: Source, O: Sink, E: Sink>(
+/// Reads the templates, and goes on with them.
+fn answer_request<S: Source, O: Sink, E: Sink>(
     alloc: Global,
     request: &Request<'_>,
     source: &mut S,
@@ -80,14 +80,14 @@ fn with_request<S: Source, O: Sink, E: Sink>(
         result.code) }
 {
     let mut set = Set::new(alloc);
-    match load(alloc, &mut set, source, request.files.as_slice()) {
-        Ok(()) => with_set(alloc, request, &set, source, out, err),
+    match load_files(alloc, &mut set, source, request.files.as_slice()) {
+        Ok(()) => answer_templates(alloc, request, &set, source, out, err),
         Err(stop) => refuse(err, &stop),
     }
 }
 
-/// The data read, and the run.
-fn with_set<S: Source, O: Sink, E: Sink>(
+/// Reads the data, and runs the template that is asked for.
+fn answer_templates<S: Source, O: Sink, E: Sink>(
     alloc: Global,
     request: &Request<'_>,
     set: &Set,
@@ -108,8 +108,8 @@ fn with_set<S: Source, O: Sink, E: Sink>(
         (sunk (E.taken err.old) (E.taken err.new) (E.failures err.old) (E.failures err.new))
         result.code) }
 {
-    match held_data(alloc, source, request.data_file) {
-        Ok(held) => render(alloc, request, set, held.as_ref(), out, err),
+    match read_data(alloc, source, request.data_file) {
+        Ok(data) => render(alloc, request, set, data.as_ref(), out, err),
         Err(stop) => refuse(err, &stop),
     }
 }

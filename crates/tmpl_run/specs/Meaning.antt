@@ -9,7 +9,7 @@ use Rattle.tmpl_syntax.specs.Tree as tree
 use Rattle.tmpl_syntax.specs.Tree.{Pipeline, Binding, unbound, declare, assign, RangeVariables, unnamed, element, key_and_element, Node, text, action, if_node, with_node, range_node, break_node, continue_node, Nodes, Tree, line_of}
 pub use Rattle.tmpl_run.specs.Fault.{Cause, Fault, steps_spent, not_a_function, nil_command, lacks_field, lacks_entry, not_a_range, call_failed}
 use Rattle.tmpl_run.specs.Pipeline.{Environment, Given, pipeline_value, without_null}
-use Rattle.tmpl_run.specs.declared.options.MissingKey.{MissingKey}
+use Rattle.tmpl_run.specs.declared.missing_key.MissingKey.{MissingKey}
 
 -- ---- variables
 
@@ -32,8 +32,8 @@ element_bound (key_and_element key name) e env = (name, e.1) ∷ (key, e.0) ∷ 
 
 -- how a template is run: the mode, the limit of steps, and the file and name of the template
 pub record Setting : Type 0 where
-  pub mode : MissingKey
-  pub limit : ℕ
+  pub missing_key : MissingKey
+  pub step_limit : ℕ
   pub file : List ℕ
   pub template : List ℕ
 
@@ -55,12 +55,12 @@ pub data End : Type 0 where
 abbrev pub Next : Type 0
 Next = Run → Run × End
 
-abbrev pub stopped : Setting → ℕ → Cause → End
-stopped s line cause =
+abbrev pub faulted_at : Setting → ℕ → Cause → End
+faulted_at s line cause =
     faulted (record { file = s.file; line = line; template = s.template; cause = cause })
 
 abbrev pub spend_if : Bool → Setting → ℕ → Next → Next
-spend_if true s line go r = (r, stopped s line (steps_spent s.limit))
+spend_if true s line go r = (r, faulted_at s line (steps_spent s.step_limit))
 spend_if false s line go r = go (record r { left = r.left - 1 })
 
 -- takes a step and goes on, or stops where none is left
@@ -79,7 +79,7 @@ after part go = on_end part.1 part.0 go
 
 abbrev pub with_value : Setting → ℕ → Result Value Cause → (Value → Next) → Next
 with_value s line (Ok v) go r = go v r
-with_value s line (Err cause) go r = (r, stopped s line cause)
+with_value s line (Err cause) go r = (r, faulted_at s line cause)
 
 -- goes on with what a pipeline gave, or stops
 abbrev pub with_given : Setting → ℕ → Given → (Value → Next) → Next
@@ -88,7 +88,7 @@ with_given s line g go r = with_value s line g.result go (record r { made = r.ma
 -- goes on with the value of a pipeline, or stops
 abbrev pub with_pipeline : Setting → ℕ → Pipeline → Value → (Value → Next) → Next
 with_pipeline s line p d go r =
-    with_given s line (pipeline_value (record { mode = s.mode; dot = d; env = r.env }) p) go r
+    with_given s line (pipeline_value (record { missing_key = s.missing_key; dot = d; env = r.env }) p) go r
 
 -- the variables are as many again as they were: those declared since are gone, and values assigned stay
 abbrev pub scoped : ℕ → Run × End → Run × End
@@ -153,7 +153,7 @@ turns s line names body (e ∷ es) r =
 
 -- a range over the elements, or its other part where there are none
 abbrev pub over : Setting → ℕ → RangeVariables → (Value → Next) → Next → Option (List Element) → Next
-over s line names body other None r = (r, stopped s line not_a_range)
+over s line names body other None r = (r, faulted_at s line not_a_range)
 over s line names body other (Some []) r = other r
 over s line names body other (Some (e ∷ es)) r = turns s line names body (e ∷ es) r
 
@@ -201,8 +201,8 @@ fault_of continued = None
 fault_of (faulted f) = Some f
 
 abbrev pub setting_of : MissingKey → ℕ → List ℕ → Tree → Setting
-setting_of mode limit name t =
-    record { mode = mode; limit = limit; file = t.file; template = name }
+setting_of missing_key step_limit name t =
+    record { missing_key = missing_key; step_limit = step_limit; file = t.file; template = name }
 
 abbrev pub ran_of : Run × End → Ran
 ran_of r = record { text = r.0.text; fault = fault_of r.1; made = r.0.made }
@@ -214,12 +214,12 @@ starting_dot (Some v) = without_null v
 
 -- the run at its start, with this dot
 abbrev pub started : ℕ → Value → Run
-started limit d = record { env = ([], d) ∷ []; text = []; left = limit; made = false }
+started step_limit d = record { env = ([], d) ∷ []; text = []; left = step_limit; made = false }
 
 abbrev pub ran_with : MissingKey → ℕ → List ℕ → Tree → Value → Ran
-ran_with mode limit name t d =
-    ran_of (meanings (setting_of mode limit name t) t.nodes d (started limit d))
+ran_with missing_key step_limit name t d =
+    ran_of (meanings (setting_of missing_key step_limit name t) t.nodes d (started step_limit d))
 
 -- what a template of this name puts out over the data
 abbrev pub ran : MissingKey → ℕ → List ℕ → Tree → Option Value → Ran
-ran mode limit name t held = ran_with mode limit name t (starting_dot held)
+ran missing_key step_limit name t input = ran_with missing_key step_limit name t (starting_dot input)
