@@ -1,5 +1,6 @@
 -- The arguments of calls.
-use Rattle.std.proofs.Common.{◌≡◌, ◌+◌, ◌<◌, ◌≤◌, ℕ, zero, suc, Bool, true, false, List, [], ◌∷◌, Option, length, get_or, refl, ap, sym, subst, append_assoc, arith, ◌++◌, ◌||◌, Result, Ok, Err}
+use Rattle.std.proofs.Common.{◌≡◌, ◌+◌, ◌<◌, ◌≤◌, ℕ, zero, suc, Bool, false, List, [], ◌∷◌, Option, length, get_or, refl, ap, sym, subst, append_assoc, arith, ◌++◌, ◌||◌, Result, Ok, Err}
+use Rattle.std.proofs.Math.Bool.{or_assoc}
 use Rattle.tmpl_values.specs.Value.{Value}
 use Rattle.tmpl_syntax.specs.Tree.{Operand, dot, fields, variable, bool_constant, number_constant, text_constant, nil, function, group, Operands, no_operand, operand, Commands, no_command, command, operand_of, operands_in, command_of, commands_in}
 use Rattle.tmpl_syntax.specs.declared.tree.Operand as code
@@ -62,18 +63,14 @@ behind_all vs made (Err cause) more = record { results = Err cause; made = made 
 abbrev pub behind : List Value → Bool → GivenAll → GivenAll
 behind vs made rest = behind_all vs made rest.results rest.made
 
-or-assoc : (a b c : Bool) → ((a || b) || c) ≡ (a || (b || c))
-or-assoc true b c = refl
-or-assoc false b c = refl
-
 -- one value more, and why there is none
 pub behind-more : (vs : List Value) (made : Bool) (v : Value) (more : Bool) (rest : GivenAll) → behind vs made (before (record { result = Ok v; made = more }) rest) ≡ behind (vs ++ v ∷ []) (made || more) rest
 behind-more vs made v more rest = go rest.results
   where
     go : (r : Result (List Value) Cause) → behind_all vs made (more_of r (more || rest.made) v).results (more_of r (more || rest.made) v).made ≡ behind_all (vs ++ v ∷ []) (made || more) r rest.made
-    go (Ok ws) = (λ i. record { results = Ok (sym (append_assoc vs (v ∷ []) ws) i); made = sym (or-assoc made more rest.made) i })
-    go (Err cause) = ap (λ b. record { results = Err cause; made = b }) (sym (or-assoc made more rest.made))
+    go (Ok ws) = (λ i. record { results = Ok (sym (append_assoc vs (v ∷ []) ws) i); made = sym (or_assoc made more rest.made) i })
+    go (Err cause) = ap (λ b. record { results = Err cause; made = b }) (sym (or_assoc made more rest.made))
 
 -- a value and what follows it
 pub since-next : (made more : Bool) (v : Value) (next : Value → Given) → since made (given_then (record { result = Ok v; made = more }) next) ≡ since (made || more) (next v)
-since-next made more v next = ap (λ b. record { result = (next v).result; made = b }) (sym (or-assoc made more (next v).made))
+since-next made more v next = ap (λ b. record { result = (next v).result; made = b }) (sym (or_assoc made more (next v).made))

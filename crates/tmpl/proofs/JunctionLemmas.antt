@@ -1,6 +1,8 @@
 -- `and` and `or`, and the arguments of calls, from operand to operand.
-use Rattle.std.proofs.Common.{◌≡◌, ◌∙◌, ◌+◌, ◌<◌, ◌≤◌, ◌||◌, ◌++◌, ℕ, zero, suc, Bool, true, false, List, [], ◌∷◌, Option, Some, None, Ok, Err, length, get_or, drop, refl, ap, sym, arith}
+use Rattle.std.proofs.Common.{◌≡◌, ◌∙◌, ◌+◌, ◌<◌, ◌≤◌, ◌||◌, ◌++◌, ℕ, Bool, true, List, [], ◌∷◌, Option, Some, None, Ok, Err, length, get_or, drop, refl, ap, sym}
 use Rattle.std.specs.Option.{unwrap_or}
+use Rattle.std.proofs.Math.Bool.{or-false}
+use Rattle.std.proofs.Math.ListN.{drop_of_length-le}
 use Rattle.std.proofs.lemmas.List.{at_drop_more}
 use Rattle.tmpl_values.specs.Value.{Value, nothing}
 use Rattle.tmpl_syntax.specs.Tree.{no_operand, operand_of, operands_in}
@@ -8,16 +10,6 @@ use Rattle.tmpl_syntax.specs.declared.tree.Operand as code
 use Rattle.tmpl_run.specs.Fault.{Cause}
 use Rattle.tmpl_run.specs.Pipeline.{Given, Place, before, decided, decides, given, given_then, junction, operand_value, operand_values, since}
 use Rattle.tmpl.proofs.CallLemmas.{behind, behind-more, since-next}
-
-pub or-false : (b : Bool) → (b || false) ≡ b
-or-false true = refl
-or-false false = refl
-
-pub drop-past : {X : Type 0} (xs : List X) (i : ℕ) → length xs ≤ i → drop i xs ≡ []
-drop-past [] zero h = refl
-drop-past [] (suc i) h = refl
-drop-past (x ∷ xs) zero h = absurd (omega arith)
-drop-past (x ∷ xs) (suc i) h = drop-past xs i (omega arith)
 
 -- past the last operand
 junction-last : (stop : Bool) (s : Place) (last : Value) (piped : Option Value) → junction stop s last no_operand piped ≡ given (Ok (unwrap_or piped last))
@@ -28,7 +20,7 @@ module _ (stop : Bool) (s : Place) (os : List code.Operand) (piped : Option Valu
     (so_far : junction stop s nothing (operands_in os) piped ≡ since made (junction stop s last (operands_in (drop i os)) piped)) where
   pub junction-ends : (v : Value) → length os ≤ i → v ≡ unwrap_or piped last → record { result = Ok v; made = made } ≡ junction stop s nothing (operands_in os) piped
   junction-ends v h e =
-      sym (so_far ∙ ap (λ xs. since made (junction stop s last (operands_in xs) piped)) (drop-past os i h)
+      sym (so_far ∙ ap (λ xs. since made (junction stop s last (operands_in xs) piped)) (drop_of_length-le os h)
       ∙ ap (since made) (junction-last stop s last piped)
       ∙ (λ j. record { result = Ok (sym e j); made = or-false made j }))
 

@@ -1,6 +1,7 @@
 -- A number that `parse` reads, as the text's own number.
-use Rattle.std.proofs.Common.{◌≡◌, ◌<◌, ◌≤◌, ◌^◌, ℕ, Bool, true, false, refl, arith}
+use Rattle.std.proofs.Common.{◌≡◌, ◌<◌, ◌≤◌, ◌^◌, ℕ, true, false, refl, arith}
 use Rattle.std.specs.Prelude.{Err, Some}
+use Rattle.std.proofs.lemmas.Bool.{false_from_ne_true}
 use Rattle.std.specs.Str.Parse.{IsNumeral, ParsesUnsigned, digits_value, without_leading_plus}
 use Rattle.clap.specs.Words.{Text}
 use Rattle.clap.specs.Values.{IsUnsignedIn}
@@ -11,10 +12,6 @@ use Rattle.tmpl.specs.Words.{number_in}
 
 passes : (low high : ℕ) (t : Text) → is_unsigned_in low high t ≡ true → IsUnsignedIn low high t
 passes low high t e = accepts-Accepts false (vp.Unsigned low high) t e
-
-not_true : (b : Bool) → (b ≡ true → ⊥) → b ≡ false
-not_true true h = absurd (h refl)
-not_true false h = refl
 
 pub read-in : (default low high n : ℕ) (t : Text)
     → ((IsNumeral 10 (without_leading_plus t) × (digits_value 10 (without_leading_plus t) < 2 ^ 64)) × (n ≡ digits_value 10 (without_leading_plus t))) → low ≤ n → n ≤ high
@@ -27,4 +24,4 @@ read-in default low high n t got least most =
 pub read-none : (default low high : ℕ) (E : Type 0) (t : Text) (e : E) → ParsesUnsigned 64 10 t (Err e)
     → default ≡ number_in default low high (Some t)
 read-none default low high E t e got =
-    rw (not_true (is_unsigned_in low high t) (λ e. let p = passes low high t e in got (p.0, p.1))) refl
+    rw (false_from_ne_true (is_unsigned_in low high t) (λ e. let p = passes low high t e in got (p.0, p.1))) refl

@@ -1,14 +1,13 @@
 -- The elements of a range, one after the other.
-use Rattle.std.proofs.Common.{◌≡◌, ◌∙◌, ◌⊎◌, ◌+◌, ◌<◌, ℕ, zero, suc, refl, sym, ap, length, drop, List, [], ◌∷◌, Some, None, Option, arith, inl, inr}
+use Rattle.std.proofs.Common.{◌≡◌, ◌∙◌, ◌⊎◌, ◌+◌, ◌<◌, ℕ, zero, suc, sym, ap, length, drop, List, [], ◌∷◌, Some, None, Option, arith, inl, inr}
 use Rattle.std.proofs.Math.Numerals.{add-one}
-use lib.Seq.{drop-length}
 use Rattle.std.specs.Option.{option_map, unwrap_or}
 use Rattle.std.specs.List.{slice_get}
-use Rattle.tmpl_values.specs.Value.{Value, Items, Entries, sequence, mapping}
+use Rattle.tmpl_values.specs.Value.{Value}
 use Rattle.tmpl_values.specs.Elements.{Element, elements}
-use Rattle.tmpl_values.specs.Item.{item_at, item_count, entry_count}
-use Rattle.tmpl_values.proofs.Elements.{at, count-is, element-at}
-use Rattle.tmpl_run.specs.Meaning.{Setting, Next, Run, done, after_turn}
+use Rattle.tmpl_values.specs.Item.{item_at}
+use Rattle.tmpl_values.proofs.Elements.{at, element-at}
+use Rattle.tmpl_run.specs.Meaning.{Setting, Next, Run, after_turn}
 use Rattle.tmpl.specs.View.{end_seen}
 use Rattle.tmpl.specs.computed.Evaluator.{turn_seen, turns_seen}
 use Rattle.tmpl.specs.declared.evaluator.Loop.{Loop}
@@ -38,13 +37,6 @@ module _ (s : Setting) (l : Loop) (r : Run) where
       ap (λ xs. turns_seen s l (Some xs) r) (next-drop es i e h)
       ∙ ap (λ n. after_turn (turn_seen s l e r) (turns_seen s l (Some (drop n es)))) (sym (add-one i))
 
-  -- past the last element
-  pub turns-past : (o : Option (List Element)) (n : ℕ) → Some n ≡ option_map length o → turns_seen s l (from n o) r ≡ (r, done)
-  turns-past None n h = let g : Some n ≡ None = h in cc
-  turns-past (Some es) n h =
-      let is : n ≡ length es = ap (λ o. unwrap_or o 0) h in
-      ap (λ xs. turns_seen s l (Some xs) r) (ap (λ m. drop m es) is ∙ drop-length es)
-
 -- there is an element at each place before the last
 pub not-past : (v : Value) (n i : ℕ) → Some n ≡ option_map length (elements v) → i < n → item_at i v ≡ None → ⊥
 not-past v n i h lt none = go (elements v) h (sym (element-at v i) ∙ none)
@@ -52,11 +44,6 @@ not-past v n i h lt none = go (elements v) h (sym (element-at v i) ∙ none)
     go : (o : Option (List Element)) → Some n ≡ option_map length o → at o i ≡ None → ⊥
     go None e f = let g : Some n ≡ None = e in cc
     go (Some es) e f = let is : n ≡ length es = ap (λ o. unwrap_or o 0) e in past-get es i (omega (arith, is, lt)) f
-
--- all of the elements
-pub from-first : (o : Option (List Element)) → from 0 o ≡ o
-from-first None = refl
-from-first (Some es) = refl
 
 -- the body of a range was done for an element, or went on to the next
 pub turn_on : (r : Run) (rest : Next) (end : code_end.End) → (end ≡ ending.Done) ⊎ (end ≡ ending.Continued) → after_turn (r, end_seen end) rest ≡ rest r

@@ -1,5 +1,6 @@
 -- The command as one function of the words and of the contents of files.
-use Rattle.std.specs.Prelude.{◌≡◌, ◌⊎◌, ◌+◌, ℕ, zero, suc, Bool, true, false, List, [], ◌∷◌, Option, Some, None, Result, Ok, Err, codes}
+use Rattle.std.specs.Prelude.{◌≡◌, ◌⊎◌, ◌+◌, ℕ, zero, suc, Bool, true, false, List, [], ◌∷◌, ◌++◌, Option, Some}
+use Rattle.std.specs.Prelude.{None, Result, Ok, Err, codes}
 use Rattle.tmpl_values.specs.Value.{Value}
 use Rattle.tmpl_values.specs.Json.{data_of}
 use Rattle.tmpl_values.specs.declared.json.DataFault.{DataFault}
@@ -10,7 +11,8 @@ use Rattle.tmpl_syntax.specs.Parse.{Refusal, base_name, parsed}
 use Rattle.tmpl_syntax.specs.declared.fault.ParseKind.{ParseKind}
 use Rattle.tmpl_syntax.specs.declared.fault.ParseKind.TheVariants as kind
 use Rattle.tmpl_run.specs.Sink.{Sunk}
-use Rattle.tmpl_run.specs.Meaning.{Cause, steps_spent, not_a_function, nil_command, lacks_field, lacks_entry, not_a_range, call_failed, Fault, Ran, ran}
+use Rattle.tmpl_run.specs.Meaning.{Cause, steps_spent, not_a_function, nil_command, lacks_field, lacks_entry}
+use Rattle.tmpl_run.specs.Meaning.{not_a_range, call_failed, Fault, Ran, ran}
 use Rattle.tmpl_funcs.specs.Func.{name_of}
 use Rattle.tmpl_funcs.specs.declared.fault.CallFault.{CallFault}
 use Rattle.tmpl_funcs.specs.declared.fault.CallFault.TheVariants as call
@@ -200,7 +202,8 @@ after_words files failing (Some w) =
     after_load files (fails_data failing) w (loaded files (failing_file failing) [] w.files)
 
 abbrev pub usage : Bytes
-usage = codes "usage: tmpl [--data FILE] [--missingkey default|invalid|zero|error] [--name NAME] [--depth N] [--steps N] FILE...\n"
+usage = codes "usage: tmpl [--data FILE] [--missingkey default|invalid|zero|error] [--name NAME] "
+    ++ codes "[--depth N] [--steps N] FILE...\n"
 
 abbrev pub after_help : List Bytes → Files → Failing → Bool → Answer
 after_help words files failing true = only_text usage

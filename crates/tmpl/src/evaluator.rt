@@ -3,7 +3,8 @@ ghost use Rattle.std.specs.Prelude.{◌≡◌, ◌≤◌, IfOk, OnOk, Some, leng
 ghost use Rattle.tmpl_values.specs.Elements.{elements};
 ghost use Rattle.tmpl_values.specs.View.{val_of, value_of};
 ghost use Rattle.tmpl_syntax.specs.Tree.{binding_of, node_of, nodes_in, pipeline_of, tree_of, variables_of};
-ghost use Rattle.tmpl_run.specs.Meaning.{acting, bound, done, meaning, meanings, putting, ran, scope, shown, starting_dot, stepped, faulted_at, with_element};
+ghost use Rattle.tmpl_run.specs.Meaning.{acting, bound, done, meaning, meanings, putting, ran, scope, shown};
+ghost use Rattle.tmpl_run.specs.Meaning.{starting_dot, stepped, faulted_at, with_element};
 ghost use Rattle.tmpl_run.specs.View.{cause_of};
 ghost use Rattle.tmpl.specs.computed.Evaluator.{HasValue, if_seen, range_seen, turn_seen, turns_seen, with_seen};
 ghost use Rattle.tmpl.specs.View.{end_seen, ran_seen, run_of, setting_seen};
@@ -132,7 +133,10 @@ impl<'a> Machine<'a> {
             ≡ (run_of self.new, end_seen end)) }
     {
         if self.left == 0 {
-            return Ok(setting.faulted_at(node.line(), RunFaultKind::StepsSpent(setting.step_limit)));
+            return Ok(setting.faulted_at(
+                node.line(),
+                RunFaultKind::StepsSpent(setting.step_limit),
+            ));
         }
         self.left -= 1;
         self.step(setting, node, dot)

@@ -12,8 +12,8 @@ ghost use Rattle.tmpl.specs.View.{options_seen, seen};
 
 use crate::evaluator::{Rendered, evaluate};
 use crate::messages::lines::{out_of_memory, run_failed, unnamed, write_failed};
-use crate::words::request::Request;
 use crate::status::Status;
+use crate::words::request::Request;
 use std::alloc::Global;
 use tmpl_run::{Options, Sink, put_all};
 use tmpl_syntax::{Set, Tree, base_name};

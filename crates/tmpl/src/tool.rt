@@ -20,8 +20,10 @@ use std::alloc::Global;
 use tmpl_run::Sink;
 use tmpl_syntax::Set;
 
+/// What `--help` puts out.
 static USAGE: &[u8] =
-    b"usage: tmpl [--data FILE] [--missingkey default|invalid|zero|error] [--name NAME] [--depth N] [--steps N] FILE...\n";
+    b"usage: tmpl [--data FILE] [--missingkey default|invalid|zero|error] [--name NAME] \
+    [--depth N] [--steps N] FILE...\n";
 
 /// The command `tmpl` over a source of files, an output and an error sink.
 ///

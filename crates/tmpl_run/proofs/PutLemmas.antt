@@ -1,6 +1,6 @@
 -- Texts that are put to a sink.
-use Rattle.std.proofs.Common.{◌≡◌, ◌∙◌, ◌+◌, ℕ, List, Option, Result, Ok, Err, refl, sym, add-zero, inl, inr, ◌⊎◌}
-use Rattle.tmpl_run.specs.Sink.{Cut, IsPut, Puts, Sunk, Whole, appended, as_puts, sunk}
+use Rattle.std.proofs.Common.{◌≡◌, ◌∙◌, ◌+◌, ℕ, List, Result, Ok, Err, add-zero, inl, inr, ◌⊎◌}
+use Rattle.tmpl_run.specs.Sink.{Cut, IsPut, Puts, Sunk, Whole}
 use Rattle.tmpl_run.specs.declared.sink.SinkFault.{SinkFault}
 
 -- a put that failed has counted one failure, and one that did not has counted none

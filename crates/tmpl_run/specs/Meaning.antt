@@ -1,13 +1,17 @@
 -- The meaning of a template: its text, and the fault that ends it if there is one.
-use Rattle.std.specs.Prelude.{ℕ, ◌-◌, nat_eq, Bool, true, false, ◌||◌, List, [], ◌∷◌, ◌++◌, length, drop, Option, Some, None, Result, Ok, Err, if◌then◌else◌}
+use Rattle.std.specs.Prelude.{ℕ, ◌-◌, nat_eq, Bool, true, false, ◌||◌, List, [], ◌∷◌, ◌++◌, length, drop}
+use Rattle.std.specs.Prelude.{Option, Some, None, Result, Ok, Err, if◌then◌else◌}
 use Rattle.std.specs.Str.{bytes_eq}
 use Rattle.tmpl_values.specs.Value.{Value, nothing}
 use Rattle.tmpl_values.specs.Elements.{Element, elements}
 use Rattle.tmpl_values.specs.Text.{text_of}
 use Rattle.tmpl_values.specs.Truth.{truth}
 use Rattle.tmpl_syntax.specs.Tree as tree
-use Rattle.tmpl_syntax.specs.Tree.{Pipeline, Binding, unbound, declare, assign, RangeVariables, unnamed, element, key_and_element, Node, text, action, if_node, with_node, range_node, break_node, continue_node, Nodes, Tree, line_of}
-pub use Rattle.tmpl_run.specs.Fault.{Cause, Fault, steps_spent, not_a_function, nil_command, lacks_field, lacks_entry, not_a_range, call_failed}
+use Rattle.tmpl_syntax.specs.Tree.{Pipeline, Binding, unbound, declare, assign, RangeVariables, unnamed}
+use Rattle.tmpl_syntax.specs.Tree.{element, key_and_element, Node, text, action, if_node, with_node}
+use Rattle.tmpl_syntax.specs.Tree.{range_node, break_node, continue_node, Nodes, Tree, line_of}
+pub use Rattle.tmpl_run.specs.Fault.{Cause, Fault, steps_spent, not_a_function, nil_command, lacks_field}
+pub use Rattle.tmpl_run.specs.Fault.{lacks_entry, not_a_range, call_failed}
 use Rattle.tmpl_run.specs.Pipeline.{Environment, Given, pipeline_value, without_null}
 use Rattle.tmpl_run.specs.declared.missing_key.MissingKey.{MissingKey}
 

@@ -1,6 +1,7 @@
 -- The value of a pipeline ("Arguments", "Pipelines", "Variables" and "Functions" in the documentation of Go's
 -- text/template). What nothing, null and the modes for missing keys do is our own rule, also where Go differs.
-use Rattle.std.specs.Prelude.{ℕ, suc, ◌+◌, Bool, true, false, not, ◌||◌, List, [], ◌∷◌, ◌++◌, Option, Some, None, Result, Ok, Err, if◌then◌else◌}
+use Rattle.std.specs.Prelude.{ℕ, suc, ◌+◌, Bool, true, false, not, ◌||◌, List, [], ◌∷◌, ◌++◌, Option, Some}
+use Rattle.std.specs.Prelude.{None, Result, Ok, Err, if◌then◌else◌}
 use Rattle.std.specs.Str.{bytes_eq}
 use Rattle.tmpl_values.specs.Value.{Value, nothing, null, boolean, number, string, sequence, mapping}
 use Rattle.tmpl_values.specs.Truth.{truth}
@@ -11,7 +12,9 @@ use Rattle.tmpl_funcs.specs.declared.func.Func.{Func}
 use Rattle.tmpl_funcs.specs.declared.func.Func.TheVariants.{And, Or}
 use Rattle.tmpl_funcs.specs.declared.fault.CallFault.{CallFault}
 use Rattle.tmpl_funcs.specs.declared.fault.CallFault.TheVariants.{WrongCount}
-use Rattle.tmpl_syntax.specs.Tree.{Operand, dot, fields, variable, bool_constant, number_constant, text_constant, nil, function, group, Operands, no_operand, operand, Commands, no_command, command, Pipeline, pipeline}
+use Rattle.tmpl_syntax.specs.Tree.{Operand, dot, fields, variable, bool_constant, number_constant}
+use Rattle.tmpl_syntax.specs.Tree.{text_constant, nil, function, group, Operands, no_operand, operand}
+use Rattle.tmpl_syntax.specs.Tree.{Commands, no_command, command, Pipeline, pipeline}
 use Rattle.tmpl_run.specs.Fault.{Cause, not_a_function, nil_command, lacks_field, lacks_entry, call_failed}
 use Rattle.tmpl_run.specs.declared.missing_key.MissingKey.{MissingKey}
 use Rattle.tmpl_run.specs.declared.missing_key.MissingKey.TheVariants.{Default, Invalid, Zero, Error}
@@ -58,7 +61,8 @@ value_then (Err cause) next = Err cause
 -- the field of the field of .. of a value
 abbrev pub chain : MissingKey → List (List ℕ) → Value → Result Value Cause
 chain missing_key [] v = Ok v
-chain missing_key (name ∷ names) v = value_then (field_value missing_key name (field_at name v)) (chain missing_key names)
+chain missing_key (name ∷ names) v =
+    value_then (field_value missing_key name (field_at name v)) (chain missing_key names)
 
 -- a null that a command gives is nothing
 abbrev pub without_null : Value → Value

@@ -23,7 +23,7 @@ Whole text s = IsPut {F = SinkFault} (Ok tt) s.before s.after text
 
 -- the sink failed once, and took a beginning of the text
 abbrev pub Cut : List ℕ → Sunk → Type 0
-Cut text s = IsPut {F = SinkFault} (Err (record { })) s.before s.after text
+Cut text s = IsPut {F = SinkFault} (Err (record {})) s.before s.after text
 
 -- the sink was not touched, as far as it tells
 abbrev pub Untouched : Sunk → Type 0

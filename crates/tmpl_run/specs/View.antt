@@ -3,7 +3,8 @@ use Rattle.std.specs.Prelude.{Result, Ok, Err}
 use Rattle.tmpl_values.specs.Value.{Value}
 use Rattle.tmpl_values.specs.View.{val_of}
 use Rattle.tmpl_values.specs.declared.value.Val.{Val}
-use Rattle.tmpl_run.specs.Fault.{Cause, steps_spent, not_a_function, nil_command, lacks_field, lacks_entry, not_a_range, call_failed, Fault}
+use Rattle.tmpl_run.specs.Fault.{Cause, steps_spent, not_a_function, nil_command, lacks_field, lacks_entry}
+use Rattle.tmpl_run.specs.Fault.{not_a_range, call_failed, Fault}
 use Rattle.tmpl_run.specs.declared.fault.RunFaultKind.{RunFaultKind}
 use Rattle.tmpl_run.specs.declared.fault.RunFaultKind.TheVariants as kind
 use Rattle.tmpl_run.specs.declared.fault.RunFault.{RunFault}

@@ -10,7 +10,8 @@ use Rattle.tmpl_syntax.specs.declared.fault.ParseKind.{ParseKind}
 use Rattle.tmpl_syntax.specs.declared.fault.ParseKind.TheVariants as kind
 use Rattle.tmpl.specs.Source.{Bytes, Files}
 use Rattle.tmpl.specs.Outcome.{Answer}
-use Rattle.tmpl.specs.Tool.{data_answer, data_found, loaded, memory_answer, not_found_answer, or_refused, read_in, refused_answer, unread_answer}
+use Rattle.tmpl.specs.Tool.{data_answer, data_found, loaded, memory_answer, not_found_answer, or_refused}
+use Rattle.tmpl.specs.Tool.{read_in, refused_answer, unread_answer}
 use Rattle.tmpl.specs.declared.stop.Stop.{Stop}
 use Rattle.tmpl.specs.declared.stop.Stop.TheVariants as stop
 

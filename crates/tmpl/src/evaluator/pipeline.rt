@@ -1,5 +1,6 @@
 //! The value of a pipeline.
-ghost use Rattle.std.specs.Prelude.{◌≡◌, ◌++◌, ◌||◌, Err, IfOk, None, Ok, Some, false, length, option_map, true, unwrap_or};
+ghost use Rattle.std.specs.Prelude.{◌≡◌, ◌++◌, ◌||◌, Err, IfOk, None, Ok, Some, false, length, option_map};
+ghost use Rattle.std.specs.Prelude.{true, unwrap_or};
 ghost use Rattle.tmpl_values.specs.Value.{nothing};
 ghost use Rattle.tmpl_values.specs.View.{val_of};
 ghost use Rattle.tmpl_funcs.specs.Answer.{values_of};
@@ -232,7 +233,8 @@ fn call_with<'a>(
 
 /// The arguments of a call, the piped value behind them.
 fn with_piped<'a>(cells: Vec<Cell<'a>>, piped: Option<Val<'a>>) -> Result<Vec<Cell<'a>>, AllocError>
-    ensures { IfOk result (λ v. values_of v.items ≡ spec.piped_after (values_of cells.entry.items) (option_map val_of piped.entry)) }
+    ensures { IfOk result (λ v. values_of v.items
+        ≡ spec.piped_after (values_of cells.entry.items) (option_map val_of piped.entry)) }
 {
     let mut cells = cells;
     if let Some(val) = piped {
@@ -370,7 +372,11 @@ fn operand_value<'a>(
     match operand {
         Operand::Dot => Ok(plain(Ok(place.dot.share()?))),
         Operand::Fields(names) => {
-            Ok(plain(place.missing_key.chain(place.dot.share()?, names.as_slice())))
+            Ok(plain(
+                place
+                    .missing_key
+                    .chain(place.dot.share()?, names.as_slice()),
+            ))
         }
         Operand::Variable { name, fields } => {
             let value = place.variables.get(name.as_slice())?;

@@ -199,11 +199,19 @@ fn put_reason<E: Sink>(err: &mut E, kind: RunFaultKind<'_>) -> Result<(), SinkFa
 {
     match kind {
         RunFaultKind::StepsSpent(limit) => {
-            let parts = [Part::Text("more than "), Part::Number(limit), Part::Text(" steps")];
+            let parts = [
+                Part::Text("more than "),
+                Part::Number(limit),
+                Part::Text(" steps"),
+            ];
             put_parts(err, parts.as_slice())
         }
         RunFaultKind::NoField(name) => {
-            let parts = [Part::Text("no field "), Part::Quoted(name), Part::Text(" here")];
+            let parts = [
+                Part::Text("no field "),
+                Part::Quoted(name),
+                Part::Text(" here"),
+            ];
             put_parts(err, parts.as_slice())
         }
         RunFaultKind::NoEntry(name) => {

@@ -1,4 +1,4 @@
-use Rattle.std.proofs.Common.{◌≡◌, ◌∙◌, ◌+◌, List, [], ℕ, take, drop, Ok, Err, arith, refl, length-drop, sym, add-zero}
+use Rattle.std.proofs.Common.{◌∙◌, List, [], ℕ, take, drop, Ok, arith, refl, length-drop, sym, add-zero}
 use Rattle.std.proofs.lemmas.List.{take-append-drop, take_rest}
 use Rattle.std.proofs.Math.Seq.{take-add}
 use Rattle.tmpl_values.proofs.Then.{along, none, then}

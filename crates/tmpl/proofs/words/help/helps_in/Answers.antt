@@ -1,17 +1,14 @@
-use Rattle.std.proofs.Common.{◌≡◌, ◌∙◌, ◌+◌, ℕ, Bool, true, false, List, ◌∷◌, map, drop, ap, refl, sym, codes}
+use Rattle.std.proofs.Common.{◌≡◌, ◌∙◌, ◌+◌, ℕ, false, List, ◌∷◌, map, drop, ap, refl, sym, codes}
 use Rattle.std.specs.String.{string_bytes}
 use Rattle.std.proofs.lemmas.List.{at_drop_more}
+use Rattle.std.proofs.lemmas.Bool.{false_from_ne_true}
 use Rattle.std.proofs.lemmas.Slice.Eq.{bytes_eq-Decides}
 use Rattle.std.specs.Str.{bytes_eq}
 use Rattle.tmpl.specs.Help.{helps_in}
 use Rattle.tmpl.proofs.words.help.helps_in.Goals as goal
 
 differs : (a b : List ℕ) → (a ≡ b → ⊥) → bytes_eq a b ≡ false
-differs a b h = go (bytes_eq a b) refl
-  where
-    go : (t : Bool) → bytes_eq a b ≡ t → t ≡ false
-    go true e = absurd (h ((bytes_eq-Decides a b).0 e))
-    go false e = refl
+differs a b h = false_from_ne_true (bytes_eq a b) (λ e. h ((bytes_eq-Decides a b).0 e))
 
 -- a word that neither asks nor ends is passed over
 passed : (word : List ℕ) (rest : List (List ℕ)) → (word ≡ codes "--" → ⊥) → (word ≡ codes "-h" → ⊥) → (word ≡ codes "--help" → ⊥)
