@@ -221,9 +221,3 @@ Follows answers was is out err code =
     ((is ≡ was) × Outcome (answers no_read) out err code)
     ⊎ ((is ≡ was + 1)
     × ((f : Failing) × ((answers f).unread ≡ true) × Outcome (answers f) out err code))
-
--- the same past the templates, where only the data is left to read
-abbrev pub FollowsData : (Bool → Answer) → ℕ → ℕ → Sunk → Sunk → ℕ → Type 0
-FollowsData answers was is out err code =
-    ((is ≡ was) × Outcome (answers false) out err code)
-    ⊎ ((is ≡ was + 1) × ((answers true).unread ≡ true) × Outcome (answers true) out err code)

@@ -1,5 +1,6 @@
 //! The files that the program reads.
 pub(crate) mod adapters;
-pub(crate) mod data_file;
-pub(crate) mod load;
+mod data_file;
+pub(crate) mod inputs;
+mod load;
 pub(crate) mod source;

@@ -3,7 +3,7 @@ use Rattle.std.specs.Prelude.{true, false, ◌≡◌, ◌+◌, ℕ, List, Option
 use Rattle.tmpl_values.specs.Value.{Value}
 use Rattle.tmpl_values.specs.View.{value_of}
 use Rattle.tmpl_values.specs.declared.data.Data.{Data}
-use Rattle.tmpl_syntax.specs.Set.{Template}
+use Rattle.tmpl_syntax.specs.Set.{Template, set_view}
 use Rattle.tmpl_syntax.specs.Parse.{parsed}
 use Rattle.tmpl_syntax.specs.declared.fault.ParseFault.{ParseFault}
 use Rattle.tmpl_syntax.specs.declared.fault.ParseKind.{ParseKind}
@@ -12,6 +12,9 @@ use Rattle.tmpl.specs.Source.{Bytes, Files}
 use Rattle.tmpl.specs.Outcome.{Answer}
 use Rattle.tmpl.specs.Tool.{data_answer, data_found, loaded, memory_answer, not_found_answer, or_refused}
 use Rattle.tmpl.specs.Tool.{read_in, refused_answer, unread_answer}
+use Rattle.tmpl.specs.Tool.{Failing, after_words, asked_name, no_read, rendered}
+use Rattle.tmpl.specs.Words.{Wanted}
+use Rattle.tmpl.specs.declared.files.inputs.Inputs.{Inputs}
 use Rattle.tmpl.specs.declared.stop.Stop.{Stop}
 use Rattle.tmpl.specs.declared.stop.Stop.TheVariants as stop
 
@@ -83,3 +86,16 @@ DataStops files name stop = data_found files false name ≡ Err (stop_answer sto
 abbrev pub ReadsData : Files → Option Bytes → Result (Option Data) Stop → Type 0
 ReadsData files name (Ok input) = data_found files false name ≡ Ok (data_value input)
 ReadsData files name (Err stop) = DataStops files name stop
+
+-- where the templates or the data stop the program
+abbrev pub InputStops : Files → Wanted → Stop → Type 0
+InputStops files w (stop.Failed name) =
+    (failing : Failing) × (after_words files failing (Some w) ≡ unread_answer name.now)
+InputStops files w stop.OutOfMemory = Unit {0}
+InputStops files w stop = after_words files no_read (Some w) ≡ stop_answer stop
+
+-- the templates and the data
+abbrev pub ReadsInputs : Files → Wanted → Result Inputs Stop → Type 0
+ReadsInputs files w (Ok inputs) = after_words files no_read (Some w)
+    ≡ rendered w.options (asked_name w.name w.files) (set_view inputs.set) (data_value inputs.data)
+ReadsInputs files w (Err stop) = InputStops files w stop
