@@ -57,20 +57,20 @@ item-weights cs i c h is = subst (λ (p : code_command.Command). weights (comman
 
 -- values behind others
 abbrev pub behind_all : List Value → Bool → Result (List Value) Cause → Bool → GivenAll
-behind_all vs made (Ok ws) more = record { results = Ok (vs ++ ws); made = made || more }
-behind_all vs made (Err cause) more = record { results = Err cause; made = made || more }
+behind_all vs made_text (Ok ws) more = record { results = Ok (vs ++ ws); made_text = made_text || more }
+behind_all vs made_text (Err cause) more = record { results = Err cause; made_text = made_text || more }
 
 abbrev pub behind : List Value → Bool → GivenAll → GivenAll
-behind vs made rest = behind_all vs made rest.results rest.made
+behind vs made_text rest = behind_all vs made_text rest.results rest.made_text
 
 -- one value more, and why there is none
-pub behind-more : (vs : List Value) (made : Bool) (v : Value) (more : Bool) (rest : GivenAll) → behind vs made (before (record { result = Ok v; made = more }) rest) ≡ behind (vs ++ v ∷ []) (made || more) rest
-behind-more vs made v more rest = go rest.results
+pub behind-more : (vs : List Value) (made_text : Bool) (v : Value) (more : Bool) (rest : GivenAll) → behind vs made_text (before (record { result = Ok v; made_text = more }) rest) ≡ behind (vs ++ v ∷ []) (made_text || more) rest
+behind-more vs made_text v more rest = go rest.results
   where
-    go : (r : Result (List Value) Cause) → behind_all vs made (more_of r (more || rest.made) v).results (more_of r (more || rest.made) v).made ≡ behind_all (vs ++ v ∷ []) (made || more) r rest.made
-    go (Ok ws) = (λ i. record { results = Ok (sym (append_assoc vs (v ∷ []) ws) i); made = sym (or_assoc made more rest.made) i })
-    go (Err cause) = ap (λ b. record { results = Err cause; made = b }) (sym (or_assoc made more rest.made))
+    go : (r : Result (List Value) Cause) → behind_all vs made_text (more_of r (more || rest.made_text) v).results (more_of r (more || rest.made_text) v).made_text ≡ behind_all (vs ++ v ∷ []) (made_text || more) r rest.made_text
+    go (Ok ws) = (λ i. record { results = Ok (sym (append_assoc vs (v ∷ []) ws) i); made_text = sym (or_assoc made_text more rest.made_text) i })
+    go (Err cause) = ap (λ b. record { results = Err cause; made_text = b }) (sym (or_assoc made_text more rest.made_text))
 
 -- a value and what follows it
-pub since-next : (made more : Bool) (v : Value) (next : Value → Given) → since made (given_then (record { result = Ok v; made = more }) next) ≡ since (made || more) (next v)
-since-next made more v next = ap (λ b. record { result = (next v).result; made = b }) (sym (or_assoc made more (next v).made))
+pub since-next : (made_text more : Bool) (v : Value) (next : Value → Given) → since made_text (given_then (record { result = Ok v; made_text = more }) next) ≡ since (made_text || more) (next v)
+since-next made_text more v next = ap (λ b. record { result = (next v).result; made_text = b }) (sym (or_assoc made_text more (next v).made_text))

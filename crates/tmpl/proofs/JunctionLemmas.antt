@@ -16,15 +16,15 @@ junction-last : (stop : Bool) (s : Place) (last : Value) (piped : Option Value) 
 junction-last stop s last None = refl
 junction-last stop s last (Some v) = refl
 
-module _ (stop : Bool) (s : Place) (os : List code.Operand) (piped : Option Value) (i : ℕ) (last : Value) (made : Bool)
-    (so_far : junction stop s nothing (operands_in os) piped ≡ since made (junction stop s last (operands_in (drop i os)) piped)) where
-  pub junction-ends : (v : Value) → length os ≤ i → v ≡ unwrap_or piped last → record { result = Ok v; made = made } ≡ junction stop s nothing (operands_in os) piped
+module _ (stop : Bool) (s : Place) (os : List code.Operand) (piped : Option Value) (i : ℕ) (last : Value) (made_text : Bool)
+    (so_far : junction stop s nothing (operands_in os) piped ≡ since made_text (junction stop s last (operands_in (drop i os)) piped)) where
+  pub junction-ends : (v : Value) → length os ≤ i → v ≡ unwrap_or piped last → record { result = Ok v; made_text = made_text } ≡ junction stop s nothing (operands_in os) piped
   junction-ends v h e =
-      sym (so_far ∙ ap (λ xs. since made (junction stop s last (operands_in xs) piped)) (drop_of_length-le os h)
-      ∙ ap (since made) (junction-last stop s last piped)
-      ∙ (λ j. record { result = Ok (sym e j); made = or-false made j }))
+      sym (so_far ∙ ap (λ xs. since made_text (junction stop s last (operands_in xs) piped)) (drop_of_length-le os h)
+      ∙ ap (since made_text) (junction-last stop s last piped)
+      ∙ (λ j. record { result = Ok (sym e j); made_text = or-false made_text j }))
 
-  module _ (o : code.Operand) (more b : Bool) (lt : i < length os) (is : o ≡ get_or os i o) (either : b ≡ (made || more)) where
+  module _ (o : code.Operand) (more b : Bool) (lt : i < length os) (is : o ≡ get_or os i o) (either : b ≡ (made_text || more)) where
     abbrev next : Value → Given
     next v = decided (decides stop v) v (junction stop s v (operands_in (drop (i + 1) os)) piped)
 
@@ -33,28 +33,28 @@ module _ (stop : Bool) (s : Place) (os : List code.Operand) (piped : Option Valu
         at_drop_more (λ xs. junction stop s last (operands_in xs) piped) os i o lt
         ∙ ap (λ (p : code.Operand). given_then (operand_value s (operand_of p)) next) (sym is)
 
-    pub junction-decides : (v : Value) → record { result = Ok v; made = more } ≡ operand_value s (operand_of o) → decides stop v ≡ true → record { result = Ok v; made = b } ≡ junction stop s nothing (operands_in os) piped
+    pub junction-decides : (v : Value) → record { result = Ok v; made_text = more } ≡ operand_value s (operand_of o) → decides stop v ≡ true → record { result = Ok v; made_text = b } ≡ junction stop s nothing (operands_in os) piped
     junction-decides v e d =
-        sym (so_far ∙ ap (since made) (here ∙ ap (λ g. given_then g next) (sym e)) ∙ since-next made more v next
-        ∙ ap (λ (t : Bool). since (made || more) (decided t v (junction stop s v (operands_in (drop (i + 1) os)) piped))) d
-        ∙ ap (λ (m : Bool). record { result = Ok v; made = m }) (or-false (made || more) ∙ sym either))
+        sym (so_far ∙ ap (since made_text) (here ∙ ap (λ g. given_then g next) (sym e)) ∙ since-next made_text more v next
+        ∙ ap (λ (t : Bool). since (made_text || more) (decided t v (junction stop s v (operands_in (drop (i + 1) os)) piped))) d
+        ∙ ap (λ (m : Bool). record { result = Ok v; made_text = m }) (or-false (made_text || more) ∙ sym either))
 
-    pub junction-refused : (cause : Cause) → record { result = Err cause; made = more } ≡ operand_value s (operand_of o) → record { result = Err cause; made = b } ≡ junction stop s nothing (operands_in os) piped
+    pub junction-refused : (cause : Cause) → record { result = Err cause; made_text = more } ≡ operand_value s (operand_of o) → record { result = Err cause; made_text = b } ≡ junction stop s nothing (operands_in os) piped
     junction-refused cause e =
-        sym (so_far ∙ ap (since made) (here ∙ ap (λ g. given_then g next) (sym e))
-        ∙ ap (λ (m : Bool). record { result = Err cause; made = m }) (sym either))
+        sym (so_far ∙ ap (since made_text) (here ∙ ap (λ g. given_then g next) (sym e))
+        ∙ ap (λ (m : Bool). record { result = Err cause; made_text = m }) (sym either))
 
 -- the values of the arguments so far, and one more
-pub values-more : (s : Place) (os : List code.Operand) (i : ℕ) (o : code.Operand) (vs ws : List Value) (made more b : Bool) (v : Value)
-    → operand_values s (operands_in os) ≡ behind vs made (operand_values s (operands_in (drop i os)))
-    → i < length os → o ≡ get_or os i o → record { result = Ok v; made = more } ≡ operand_value s (operand_of o) → ws ≡ vs ++ v ∷ [] → b ≡ (made || more)
+pub values-more : (s : Place) (os : List code.Operand) (i : ℕ) (o : code.Operand) (vs ws : List Value) (made_text more b : Bool) (v : Value)
+    → operand_values s (operands_in os) ≡ behind vs made_text (operand_values s (operands_in (drop i os)))
+    → i < length os → o ≡ get_or os i o → record { result = Ok v; made_text = more } ≡ operand_value s (operand_of o) → ws ≡ vs ++ v ∷ [] → b ≡ (made_text || more)
     → operand_values s (operands_in os) ≡ behind ws b (operand_values s (operands_in (drop (i + 1) os)))
-values-more s os i o vs ws made more b v so_far lt is e f either =
+values-more s os i o vs ws made_text more b v so_far lt is e f either =
     let rest = operand_values s (operands_in (drop (i + 1) os)) in
     so_far
-    ∙ ap (behind vs made)
+    ∙ ap (behind vs made_text)
     (at_drop_more (λ xs. operand_values s (operands_in xs)) os i o lt
     ∙ ap (λ (p : code.Operand). before (operand_value s (operand_of p)) rest) (sym is)
     ∙ ap (λ g. before g rest) (sym e))
-    ∙ behind-more vs made v more rest
+    ∙ behind-more vs made_text v more rest
     ∙ (λ j. behind (sym f j) (sym either j) rest)

@@ -24,7 +24,7 @@ use Rattle.tmpl.specs.Outcome.{Answer, Outcome}
 
 -- ---- answers
 
--- nothing is put out but a line
+-- nothing is put out, and a line is said
 abbrev pub only_line : List Piece → ℕ → Answer
 only_line pieces status = record { text = []; line = line pieces; status = status; unread = false }
 

@@ -89,7 +89,7 @@ setting_seen s = record {
 }
 
 abbrev pub run_of : code_machine.Machine → Run
-run_of m = record { env = env_of m.variables; text = rope_bytes m.text; left = m.left; made = m.made }
+run_of m = record { env = env_of m.variables; text = rope_bytes m.text; left = m.left; made_text = m.made_text }
 
 abbrev pub end_seen : code_end.End → End
 end_seen ending.Done = done
@@ -98,17 +98,17 @@ end_seen ending.Continued = continued
 end_seen (ending.Faulted f) = faulted (fault_seen f)
 
 abbrev pub given_seen : code_given.Given → Given
-given_seen g = record { result = value_seen g.result; made = g.made }
+given_seen g = record { result = value_seen g.result; made_text = g.made_text }
 
 abbrev pub values_seen : Result (Vec Cell Global) RunFaultKind → Result (List Value) Cause
 values_seen (Ok cells) = Ok (values_of cells.items)
 values_seen (Err kind) = Err (cause_of kind)
 
 abbrev pub arguments_seen : code_arguments.Arguments → GivenAll
-arguments_seen a = record { results = values_seen a.results; made = a.made }
+arguments_seen a = record { results = values_seen a.results; made_text = a.made_text }
 
 abbrev pub place_seen : code_place.Place → Place
 place_seen p = record { missing_key = p.missing_key; dot = val_of p.dot.now; env = env_of p.variables.now }
 
 abbrev pub ran_seen : code_run.Rendered → Ran
-ran_seen r = record { text = rope_bytes r.text; fault = option_map fault_seen r.fault; made = r.made }
+ran_seen r = record { text = rope_bytes r.text; fault = option_map fault_seen r.fault; made_text = r.made_text }

@@ -28,7 +28,7 @@ pub(crate) struct Rendered<'a> {
     pub text: Rope<'a>,
     pub fault: Option<RunFault<'a>>,
     /// Whether a function that makes a text was called with all its arguments.
-    pub made: bool,
+    pub made_text: bool,
 }
 
 /// How a template is run, and which one.
@@ -75,7 +75,7 @@ struct Machine<'a> {
     variables: Variables<'a>,
     text: Rope<'a>,
     left: u64,
-    made: bool,
+    made_text: bool,
 }
 
 impl<'a> Setting<'a> {
@@ -274,7 +274,7 @@ impl<'a> Machine<'a> {
             variables: &self.variables,
         };
         let given = pipeline_value(self.alloc, &place, pipeline)?;
-        self.made = self.made || given.made;
+        self.made_text = self.made_text || given.made_text;
         Ok(given.result)
     }
 
@@ -576,21 +576,21 @@ pub(crate) fn evaluate<'a>(
         variables: Variables::new(alloc),
         text: Rope::new(alloc),
         left: options.steps,
-        made: false,
+        made_text: false,
     };
     machine.variables.declare(b"", dot.share()?)?;
     let end = machine.nodes(&setting, tree.nodes.as_slice(), &dot)?;
-    let Machine { text, made, .. } = machine;
+    let Machine { text, made_text, .. } = machine;
     match end {
         End::Faulted(fault) => Ok(Rendered {
             text,
             fault: Some(fault),
-            made,
+            made_text,
         }),
         End::Done | End::Broke | End::Continued => Ok(Rendered {
             text,
             fault: None,
-            made,
+            made_text,
         }),
     }
 }

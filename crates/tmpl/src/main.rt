@@ -19,6 +19,7 @@ use std::env;
 use std::io::ErrorKind;
 use std::process::ExitCode;
 
+/// Runs the command over the file system and the standard streams.
 fn main(rt: HostRuntime) -> ExitCode {
     let alloc = rt.alloc();
     let mut source = FileSource::new(&rt);
@@ -41,6 +42,7 @@ fn main(rt: HostRuntime) -> ExitCode {
     }
 }
 
+/// The status as the process's exit code.
 fn exit(status: Status) -> ExitCode {
     ExitCode::from(status.code)
 }

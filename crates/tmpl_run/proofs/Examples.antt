@@ -44,11 +44,11 @@ abbrev run : ℕ → Nodes → Value → Ran
 run steps ns d = ran_with Default steps (codes "t") (tree_of ns) d
 
 abbrev puts : List ℕ → Ran
-puts bytes = record { text = bytes; fault = None; made = false }
+puts bytes = record { text = bytes; fault = None; made_text = false }
 
 abbrev stops : List ℕ → ℕ → Cause → Ran
 stops bytes line cause =
-    record { text = bytes; fault = Some (record { file = codes "f"; line = line; template = codes "t"; cause = cause }); made = false }
+    record { text = bytes; fault = Some (record { file = codes "f"; line = line; template = codes "t"; cause = cause }); made_text = false }
 
 -- ---- control
 
@@ -107,10 +107,10 @@ abbrev here : Value → Place
 here d = record { missing_key = Default; dot = d; env = [] }
 
 abbrev gives : Value → Given
-gives v = record { result = Ok v; made = false }
+gives v = record { result = Ok v; made_text = false }
 
 abbrev refuses : Cause → Given
-refuses cause = record { result = Err cause; made = false }
+refuses cause = record { result = Err cause; made_text = false }
 
 abbrev call : Operands → Pipeline
 call os = pipeline (command os no_command)

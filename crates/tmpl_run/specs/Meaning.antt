@@ -47,7 +47,7 @@ pub record Run : Type 0 where
   pub env : Environment
   pub text : List ℕ
   pub left : ℕ
-  pub made : Bool
+  pub made_text : Bool
 
 -- how a part of a template ends: at a break or continue it is left for the range around it to go on
 pub data End : Type 0 where
@@ -87,7 +87,7 @@ with_value s line (Err cause) go r = (r, faulted_at s line cause)
 
 -- goes on with what a pipeline gave, or stops
 abbrev pub with_given : Setting → ℕ → Given → (Value → Next) → Next
-with_given s line g go r = with_value s line g.result go (record r { made = r.made || g.made })
+with_given s line g go r = with_value s line g.result go (record r { made_text = r.made_text || g.made_text })
 
 -- goes on with the value of a pipeline, or stops
 abbrev pub with_pipeline : Setting → ℕ → Pipeline → Value → (Value → Next) → Next
@@ -195,7 +195,7 @@ meaning s n d = spend s (line_of n) (stepped s n d)
 pub record Ran : Type 0 where
   pub text : List ℕ
   pub fault : Option Fault
-  pub made : Bool
+  pub made_text : Bool
 
 -- a template that is accepted breaks out of nothing but a range of its own
 abbrev pub fault_of : End → Option Fault
@@ -209,7 +209,7 @@ setting_of missing_key step_limit name t =
     record { missing_key = missing_key; step_limit = step_limit; file = t.file; template = name }
 
 abbrev pub ran_of : Run × End → Ran
-ran_of r = record { text = r.0.text; fault = fault_of r.1; made = r.0.made }
+ran_of r = record { text = r.0.text; fault = fault_of r.1; made_text = r.0.made_text }
 
 -- the starting dot: the data, of which null is nothing; nothing where there is no data
 abbrev pub starting_dot : Option Value → Value
@@ -218,7 +218,7 @@ starting_dot (Some v) = without_null v
 
 -- the run at its start, with this dot
 abbrev pub started : ℕ → Value → Run
-started step_limit d = record { env = ([], d) ∷ []; text = []; left = step_limit; made = false }
+started step_limit d = record { env = ([], d) ∷ []; text = []; left = step_limit; made_text = false }
 
 abbrev pub ran_with : MissingKey → ℕ → List ℕ → Tree → Value → Ran
 ran_with missing_key step_limit name t d =

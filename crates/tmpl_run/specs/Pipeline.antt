@@ -79,39 +79,39 @@ without_null (mapping entries) = mapping entries
 -- a value or why there is none, and whether a function that makes a text was called with all its arguments
 pub record Given : Type 0 where
   pub result : Result Value Cause
-  pub made : Bool
+  pub made_text : Bool
 
 -- the same for values one after the other
 pub record GivenAll : Type 0 where
   pub results : Result (List Value) Cause
-  pub made : Bool
+  pub made_text : Bool
 
 abbrev pub given : Result Value Cause → Given
-given r = record { result = r; made = false }
+given r = record { result = r; made_text = false }
 
 -- what follows something that called such a function, or did not
 abbrev pub since : Bool → Given → Given
-since made g = record { result = g.result; made = made || g.made }
+since made_text g = record { result = g.result; made_text = made_text || g.made_text }
 
 -- goes on with the value, or stops
 abbrev pub go_on : Result Value Cause → Bool → (Value → Given) → Given
-go_on (Ok v) made next = since made (next v)
-go_on (Err cause) made next = record { result = Err cause; made = made }
+go_on (Ok v) made_text next = since made_text (next v)
+go_on (Err cause) made_text next = record { result = Err cause; made_text = made_text }
 
 abbrev pub given_then : Given → (Value → Given) → Given
-given_then g next = go_on g.result g.made next
+given_then g next = go_on g.result g.made_text next
 
 abbrev pub more_of : Result (List Value) Cause → Bool → Value → GivenAll
-more_of (Ok vs) made v = record { results = Ok (v ∷ vs); made = made }
-more_of (Err cause) made v = record { results = Err cause; made = made }
+more_of (Ok vs) made_text v = record { results = Ok (v ∷ vs); made_text = made_text }
+more_of (Err cause) made_text v = record { results = Err cause; made_text = made_text }
 
 abbrev pub first_of : Result Value Cause → Bool → GivenAll → GivenAll
-first_of (Ok v) made rest = more_of rest.results (made || rest.made) v
-first_of (Err cause) made rest = record { results = Err cause; made = made }
+first_of (Ok v) made_text rest = more_of rest.results (made_text || rest.made_text) v
+first_of (Err cause) made_text rest = record { results = Err cause; made_text = made_text }
 
 -- a value before others
 abbrev pub before : Given → GivenAll → GivenAll
-before g rest = first_of g.result g.made rest
+before g rest = first_of g.result g.made_text rest
 
 -- ---- calls
 
@@ -125,15 +125,15 @@ or_call_failed f (Err fault) = Err (call_failed f fault)
 
 -- a function over the values of its operands, and a piped value behind them
 abbrev pub applied : Func → Option Value → Result (List Value) Cause → Bool → Given
-applied f piped (Ok vs) made =
-    record { result = or_call_failed f (called f (piped_after vs piped)); made = made || makes_text f }
-applied f piped (Err cause) made = record { result = Err cause; made = made }
+applied f piped (Ok vs) made_text =
+    record { result = or_call_failed f (called f (piped_after vs piped)); made_text = made_text || makes_text f }
+applied f piped (Err cause) made_text = record { result = Err cause; made_text = made_text }
 
 -- by the function: `and` and `or` evaluate their operands themselves
 abbrev pub by_function : Func → Option Value → GivenAll → Given → Given → Given
 by_function And piped all both either = both
 by_function Or piped all both either = either
-by_function f piped all both either = applied f piped all.results all.made
+by_function f piped all both either = applied f piped all.results all.made_text
 
 abbrev pub counted : Func → Bool → Given → Given
 counted f true g = g
@@ -205,7 +205,7 @@ abbrev mutual
 
   -- the operands from left to right, up to the first that has no value
   pub operand_values : Place → Operands → GivenAll
-  operand_values s no_operand = record { results = Ok []; made = false }
+  operand_values s no_operand = record { results = Ok []; made_text = false }
   operand_values s (operand o os) = before (operand_value s o) (operand_values s os)
 
   -- the first of the operands and the piped value that decides, else the last of them; no operand after it is evaluated

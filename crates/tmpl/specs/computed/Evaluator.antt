@@ -37,4 +37,4 @@ turns_seen s l (Some es) r =
 abbrev pub HasValue : Setting → Pipeline → Value → Run → Result Value Cause → Run → Type 0
 HasValue s p d old v new =
     let g = pipeline_value (record { missing_key = s.missing_key; dot = d; env = old.env }) p in
-    (v ≡ g.result) × (new ≡ record old { made = old.made || g.made })
+    (v ≡ g.result) × (new ≡ record old { made_text = old.made_text || g.made_text })

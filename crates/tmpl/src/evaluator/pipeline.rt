@@ -34,14 +34,14 @@ pub(crate) struct Place<'p, 'a> {
 #[derive(Drop)]
 pub(crate) struct Given<'a> {
     pub result: Result<Val<'a>, RunFaultKind<'a>>,
-    pub made: bool,
+    pub made_text: bool,
 }
 
 /// The same for the arguments of a function.
 #[derive(Drop)]
 struct Arguments<'a> {
     results: Result<Vec<Cell<'a>>, RunFaultKind<'a>>,
-    made: bool,
+    made_text: bool,
 }
 
 /// Whether one of the two holds; both are looked at.
@@ -51,23 +51,13 @@ fn either(first: bool, second: bool) -> bool
     first || second
 }
 
-/// What has made no text.
-fn plain<'a>(value: Result<Val<'a>, RunFaultKind<'a>>) -> Given<'a>
+/// What evaluating gives where no text was made.
+fn without_made_text<'a>(value: Result<Val<'a>, RunFaultKind<'a>>) -> Given<'a>
     ensures { given_seen result ≡ given (value_seen value.entry) }
 {
     Given {
         result: value,
-        made: false,
-    }
-}
-
-/// No value, for this reason.
-fn refused<'a>(kind: RunFaultKind<'a>) -> Given<'a>
-    ensures { given_seen result ≡ given (Err (cause_of kind.entry)) }
-{
-    Given {
-        result: Err(kind),
-        made: false,
+        made_text: false,
     }
 }
 
@@ -94,26 +84,26 @@ fn commands_value<'a>(
         ≡ spec.commands_value (place_seen place.now) (commands_in commands.now) None) }
 {
     let mut piped = None;
-    let mut made = false;
+    let mut made_text = false;
     for command in commands {
         let Given {
             result: outcome,
-            made: more,
+            made_text: more,
         } = command_value(alloc, place, command.operands.as_slice(), piped)?;
-        made = either(made, more);
+        made_text = either(made_text, more);
         match outcome {
             Ok(value) => piped = Some(without_null(value)),
             Err(kind) => {
                 return Ok(Given {
                     result: Err(kind),
-                    made,
+                    made_text,
                 });
             }
         }
     }
     Ok(Given {
         result: Ok(or_nothing(piped)),
-        made,
+        made_text,
     })
 }
 
@@ -142,9 +132,9 @@ fn command_value<'a>(
         [first, rest @ ..] => match first {
             Operand::Function(func) => call_function(alloc, place, *func, rest, piped),
             _ if stands_alone(rest, &piped) => alone(alloc, place, first),
-            _ => Ok(refused(RunFaultKind::NotAFunction)),
+            _ => Ok(without_made_text(Err(RunFaultKind::NotAFunction))),
         },
-        [] => Ok(refused(RunFaultKind::NotAFunction)),
+        [] => Ok(without_made_text(Err(RunFaultKind::NotAFunction))),
     }
 }
 
@@ -170,7 +160,7 @@ fn alone<'a>(
         ≡ spec.or_nil (operand_of operand.now) (spec.operand_value (place_seen place.now) (operand_of operand.now))) }
 {
     match operand {
-        Operand::Nil => Ok(refused(RunFaultKind::NilCommand)),
+        Operand::Nil => Ok(without_made_text(Err(RunFaultKind::NilCommand))),
         _ => operand_value(alloc, place, operand),
     }
 }
@@ -188,7 +178,7 @@ fn call_function<'a>(
         ≡ call_value (place_seen place.now) func (operands_in operands.now) (option_map val_of piped.entry)) }
 {
     if !func.takes(argument_count(operands, &piped)) {
-        return Ok(refused(RunFaultKind::Call(func, CallFault::WrongCount)));
+        return Ok(without_made_text(Err(RunFaultKind::Call(func, CallFault::WrongCount))));
     }
     match func {
         Func::And => junction(alloc, place, false, operands, piped),
@@ -219,14 +209,14 @@ fn call_with<'a>(
 ) -> Result<Given<'a>, AllocError>
     requires { is_called func ≡ true }
     ensures { let all = spec.operand_values (place_seen place.now) (operands_in operands.now) in
-        IfOk result (λ g. given_seen g ≡ spec.applied func (option_map val_of piped.entry) all.results all.made) }
+        IfOk result (λ g. given_seen g ≡ spec.applied func (option_map val_of piped.entry) all.results all.made_text) }
 {
-    let Arguments { results, made } = values_from(alloc, place, operands)?;
+    let Arguments { results, made_text } = values_from(alloc, place, operands)?;
     match results {
-        Ok(cells) => apply(alloc, func, with_piped(cells, piped)?, made),
+        Ok(cells) => apply(alloc, func, with_piped(cells, piped)?, made_text),
         Err(kind) => Ok(Given {
             result: Err(kind),
-            made,
+            made_text,
         }),
     }
 }
@@ -248,25 +238,25 @@ fn apply<'a>(
     alloc: Global,
     func: Func,
     cells: Vec<Cell<'a>>,
-    made: bool,
+    made_text: bool,
 ) -> Result<Given<'a>, AllocError>
     requires { is_called func ≡ true }
     ensures { IfOk result (λ g. given_seen g ≡ record {
       result = spec.or_call_failed func (called func (values_of cells.entry.items));
-      made = made || makes_text func;
+      made_text = made_text || makes_text func;
     }) }
 {
     let mut cells = cells;
-    let made = either(made, func.makes_text());
+    let made_text = either(made_text, func.makes_text());
     match call(alloc, func, cells.as_mut_slice()) {
         Ok(value) => Ok(Given {
             result: Ok(value),
-            made,
+            made_text,
         }),
         Err(CallFault::OutOfMemory) => Err(AllocError),
         Err(fault) => Ok(Given {
             result: Err(RunFaultKind::Call(func, fault)),
-            made,
+            made_text,
         }),
     }
 }
@@ -282,26 +272,26 @@ fn values_from<'a>(
         ≡ spec.operand_values (place_seen place.now) (operands_in operands.now)) }
 {
     let mut cells = Vec::new(alloc);
-    let mut made = false;
+    let mut made_text = false;
     for operand in operands {
         let Given {
             result: outcome,
-            made: more,
+            made_text: more,
         } = operand_value(alloc, place, operand)?;
-        made = either(made, more);
+        made_text = either(made_text, more);
         match outcome {
             Ok(val) => cells.push(Cell { val, num: 0 })?,
             Err(kind) => {
                 return Ok(Arguments {
                     results: Err(kind),
-                    made,
+                    made_text,
                 });
             }
         }
     }
     Ok(Arguments {
         results: Ok(cells),
-        made,
+        made_text,
     })
 }
 
@@ -318,19 +308,19 @@ fn junction<'a>(
         (operands_in operands.now) (option_map val_of piped.entry)) }
 {
     let mut last = Val::Nothing;
-    let mut made = false;
+    let mut made_text = false;
     for operand in operands {
         let Given {
             result: outcome,
-            made: more,
+            made_text: more,
         } = operand_value(alloc, place, operand)?;
-        made = either(made, more);
+        made_text = either(made_text, more);
         match outcome {
             Ok(value) => {
                 if decides(is_or, &value) {
                     return Ok(Given {
                         result: Ok(value),
-                        made,
+                        made_text,
                     });
                 }
                 last = value;
@@ -338,14 +328,14 @@ fn junction<'a>(
             Err(kind) => {
                 return Ok(Given {
                     result: Err(kind),
-                    made,
+                    made_text,
                 });
             }
         }
     }
     Ok(Given {
         result: Ok(last_of(last, piped)),
-        made,
+        made_text,
     })
 }
 
@@ -370,9 +360,9 @@ fn operand_value<'a>(
     ensures { IfOk result (λ g. given_seen g ≡ spec.operand_value (place_seen place.now) (operand_of operand.now)) }
 {
     match operand {
-        Operand::Dot => Ok(plain(Ok(place.dot.share()?))),
+        Operand::Dot => Ok(without_made_text(Ok(place.dot.share()?))),
         Operand::Fields(names) => {
-            Ok(plain(
+            Ok(without_made_text(
                 place
                     .missing_key
                     .chain(place.dot.share()?, names.as_slice()),
@@ -380,12 +370,12 @@ fn operand_value<'a>(
         }
         Operand::Variable { name, fields } => {
             let value = place.variables.get(name.as_slice())?;
-            Ok(plain(place.missing_key.chain(value, fields.as_slice())))
+            Ok(without_made_text(place.missing_key.chain(value, fields.as_slice())))
         }
-        Operand::Bool(truth) => Ok(plain(Ok(Val::Bool(*truth)))),
-        Operand::Number(number) => Ok(plain(Ok(Val::Num(*number)))),
-        Operand::Text(bytes) => Ok(plain(Ok(Val::Text(bytes.as_slice())))),
-        Operand::Nil => Ok(plain(Ok(Val::Nothing))),
+        Operand::Bool(truth) => Ok(without_made_text(Ok(Val::Bool(*truth)))),
+        Operand::Number(number) => Ok(without_made_text(Ok(Val::Num(*number)))),
+        Operand::Text(bytes) => Ok(without_made_text(Ok(Val::Text(bytes.as_slice())))),
+        Operand::Nil => Ok(without_made_text(Ok(Val::Nothing))),
         Operand::Function(func) => call_alone(alloc, *func),
         Operand::Group { commands, fields } => {
             let given = commands_value(alloc, place, commands.as_slice())?;
@@ -399,7 +389,7 @@ fn call_alone<'a>(alloc: Global, func: Func) -> Result<Given<'a>, AllocError>
     ensures { IfOk result (λ g. given_seen g ≡ spec.bare_call func) }
 {
     if !func.takes(0) {
-        return Ok(refused(RunFaultKind::Call(func, CallFault::WrongCount)));
+        return Ok(without_made_text(Err(RunFaultKind::Call(func, CallFault::WrongCount))));
     }
     apply(alloc, func, Vec::new(alloc), false)
 }
@@ -411,16 +401,16 @@ fn with_chain<'a>(missing_key: MissingKey, group: Given<'a>, names: &'a [Bytes])
 {
     let Given {
         result: outcome,
-        made,
+        made_text,
     } = group;
     match outcome {
         Ok(value) => Given {
             result: missing_key.chain(value, names),
-            made,
+            made_text,
         },
         Err(kind) => Given {
             result: Err(kind),
-            made,
+            made_text,
         },
     }
 }

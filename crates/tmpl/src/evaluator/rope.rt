@@ -14,11 +14,14 @@ const LEAST_LENT: usize = 4096;
 /// A stretch of a text.
 #[derive(Drop)]
 enum Chunk<'a> {
+    /// A text of a template.
     Lent(&'a [u8]),
+    /// Texts that were put one after the other.
     Owned(Vec<u8>),
 }
 
 impl Chunk<'_> {
+    /// The bytes of the stretch.
     fn as_slice(&self) -> &[u8]
         ensures { result.now ≡ chunk_bytes self.now }
     {
@@ -34,6 +37,7 @@ impl Chunk<'_> {
 pub(crate) struct Rope<'a> {
     chunks: Vec<Chunk<'a>>,
     tail: Vec<u8>,
+    /// How many puts failed, each since memory was refused.
     failures: u64,
 }
 
@@ -115,6 +119,7 @@ fn put_chunks<S: Sink>(sink: &mut S, chunks: &[Chunk<'_>]) -> Result<(), SinkFau
     Ok(())
 }
 
+/// Puts a chunk.
 fn put_chunk<S: Sink>(sink: &mut S, chunk: &Chunk<'_>) -> Result<(), SinkFault>
     requires { S.failures sink.old < 2 ^ 64 - 1 }
     ensures { IsPut result (as_puts (S.taken sink.old) (S.failures sink.old))

@@ -15,7 +15,7 @@ pub(crate) fn read_data<'a, S: Source>(
 ) -> Result<Option<Data>, Stop<'a>>
     requires { S.failures source.old < 2 ^ 64 - 1 }
     ensures counts { Counts (S.failures source.old) (S.failures source.new) result }
-    ensures finds { IfSome (S.contents source.old) (λ files.
+    ensures reads { IfSome (S.contents source.old) (λ files.
         ReadsData files (option_map (λ s. s.now) name.entry) result) }
 {
     match name {
@@ -32,7 +32,7 @@ fn read_named<'a, S: Source>(
 ) -> Result<Option<Data>, Stop<'a>>
     requires { S.failures source.old < 2 ^ 64 - 1 }
     ensures counts { Counts (S.failures source.old) (S.failures source.new) result }
-    ensures finds { IfSome (S.contents source.old) (λ files.
+    ensures reads { IfSome (S.contents source.old) (λ files.
         ReadsData files (Some name.entry.now) result) }
 {
     match source.read(alloc, name) {

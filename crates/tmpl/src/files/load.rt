@@ -37,7 +37,7 @@ fn load_file<'a, S: Source>(
     requires { S.failures source.old < 2 ^ 64 - 1 }
     ensures contents { S.contents source.new ≡ S.contents source.old }
     ensures counts { Counts (S.failures source.old) (S.failures source.new) result }
-    ensures takes { IfSome (S.contents source.old) (λ files.
+    ensures loads { IfSome (S.contents source.old) (λ files.
         LoadsFile files (set_view set.old) name.entry.now (set_view set.new) result) }
 {
     match source.read(alloc, name) {

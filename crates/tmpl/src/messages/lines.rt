@@ -80,6 +80,7 @@ pub(crate) fn unnamed<E: Sink>(err: &mut E, name: &[u8]) -> Status
     Status { code: 4 }
 }
 
+/// Why a template file was refused, in words.
 fn parse_text(kind: ParseKind) -> &'static str
     ensures { result.now ≡ parse_text kind }
 {
@@ -95,6 +96,7 @@ fn parse_text(kind: ParseKind) -> &'static str
     }
 }
 
+/// Why data was refused, in words.
 fn data_text(fault: DataFault) -> &'static str
     ensures { result.now ≡ data_text fault }
 {
@@ -145,6 +147,7 @@ pub(crate) fn refuse<E: Sink>(err: &mut E, stop: &Stop<'_>) -> Status
     }
 }
 
+/// Why a function refused its arguments, in words.
 fn call_text(fault: CallFault) -> &'static str
     ensures { result.now ≡ call_text fault }
 {
@@ -177,7 +180,7 @@ fn put_fault<E: Sink>(err: &mut E, fault: &RunFault<'_>) -> Result<(), SinkFault
     ensures { IsPut result (as_puts (E.taken err.old) (E.failures err.old))
         (as_puts (E.taken err.new) (E.failures err.new)) (fault_line (fault_seen fault.now)) }
 {
-    let place = [
+    let position = [
         Part::Bytes(fault.file),
         Part::Text(":"),
         Part::Number(fault.line),
@@ -186,7 +189,7 @@ fn put_fault<E: Sink>(err: &mut E, fault: &RunFault<'_>) -> Result<(), SinkFault
         Part::Text(": "),
     ];
     put_all(err, b"tmpl: ")?;
-    put_parts(err, place.as_slice())?;
+    put_parts(err, position.as_slice())?;
     put_reason(err, fault.kind)?;
     put_all(err, b"\n")
 }

@@ -44,6 +44,7 @@ pub(crate) fn put_parts<E: Sink>(err: &mut E, parts: &[Part<'_>]) -> Result<(), 
     Ok(())
 }
 
+/// Puts a part, as its kind says.
 fn put_part<E: Sink>(err: &mut E, part: &Part<'_>) -> Result<(), SinkFault>
     requires { E.failures err.old < 2 ^ 64 - 1 }
     ensures { IsPut result (as_puts (E.taken err.old) (E.failures err.old))

@@ -8,7 +8,7 @@ use Rattle.tmpl.specs.computed.Words.{Parses}
 use Rattle.tmpl.specs.declared.words.request.Refused.{Refused}
 use Rattle.tmpl.specs.declared.words.request.Refused.TheVariants as refused
 use Rattle.tmpl.proofs.CommandLemmas.{among-some, simple, simple_and_free}
-use Rattle.tmpl.proofs.PlaceLemmas.{alike, faults_same, matches_same}
+use Rattle.tmpl.proofs.ModeNameLemmas.{alike, faults_same, matches_same}
 use Rattle.tmpl.proofs.words.parse.Goals as goal
 
 -- the command's faults are those at the one place

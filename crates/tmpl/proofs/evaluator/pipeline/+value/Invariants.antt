@@ -35,7 +35,7 @@ decreases-operand_value l = 8 * weight (operand_of l.operand.now)
 abbrev pub invariant-commands_value-loop-command : goal.invariant-commands_value-loop-command
 invariant-commands_value-loop-command l =
     let s = place_seen l.place in
-    commands_value s (commands_in l.commands) None ≡ since l.made (commands_value s (commands_in (drop l.command-index l.commands)) (option_map val_of l.piped))
+    commands_value s (commands_in l.commands) None ≡ since l.made_text (commands_value s (commands_in (drop l.command-index l.commands)) (option_map val_of l.piped))
 
 abbrev pub invariant-junction-loop-operand : goal.invariant-junction-loop-operand
 invariant-junction-loop-operand l =
@@ -43,10 +43,10 @@ invariant-junction-loop-operand l =
     let piped = option_map val_of l.fn.piped in
     record {
       kept : l.piped ≡ l.fn.piped;
-      run : junction l.is_or s nothing (operands_in l.operands) piped ≡ since l.made (junction l.is_or s (val_of l.last) (operands_in (drop l.operand-index l.operands)) piped);
+      run : junction l.is_or s nothing (operands_in l.operands) piped ≡ since l.made_text (junction l.is_or s (val_of l.last) (operands_in (drop l.operand-index l.operands)) piped);
     }
 
 abbrev pub invariant-values_from-loop-operand : goal.invariant-values_from-loop-operand
 invariant-values_from-loop-operand l =
     let s = place_seen l.place in
-    operand_values s (operands_in l.operands) ≡ behind (values_of l.cells.items) l.made (operand_values s (operands_in (drop l.operand-index l.operands)))
+    operand_values s (operands_in l.operands) ≡ behind (values_of l.cells.items) l.made_text (operand_values s (operands_in (drop l.operand-index l.operands)))

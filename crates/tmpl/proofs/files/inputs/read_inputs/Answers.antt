@@ -29,7 +29,7 @@ returns-in_err-data-clause-reads g c =
     ap (λ (ns : List (Bor Bytes)). loaded files None [] (map (λ s. s.now) ns)) (sym c.as_slice.ensures.value)
     ∙ ap (λ (old : List Template). loaded files None old (map (λ s. s.now) c.as_slice.result.now)) (sym c.new-set.ensures)
     ∙ of_told _ _ files told c.in_ok-load_files.ensures.loads in
-    let stops = of_told _ _ files (c.in_ok-load_files.ensures.contents ∙ told) c.in_err-data.ensures.finds in
+    let stops = of_told _ _ files (c.in_ok-load_files.ensures.contents ∙ told) c.in_err-data.ensures.reads in
     err_up (ReadsInputs files w) c.from_residual-in_err-data.result _ c.from_residual-in_err-data.ensures.1 (data_stops files w set loads stop stops))
 
 pub returns-clause-reads : goal.returns-clause-reads
@@ -41,4 +41,4 @@ returns-clause-reads g c =
     ap (λ (ns : List (Bor Bytes)). loaded files None [] (map (λ s. s.now) ns)) (sym c.as_slice.ensures.value)
     ∙ ap (λ (old : List Template). loaded files None old (map (λ s. s.now) c.as_slice.result.now)) (sym c.new-set.ensures)
     ∙ of_told _ _ files told c.in_ok-load_files.ensures.loads in
-    all_read files w set loads (data_value c.in_ok-data.data) (of_told _ _ files (c.in_ok-load_files.ensures.contents ∙ told) c.in_ok-data.ensures.finds))
+    all_read files w set loads (data_value c.in_ok-data.data) (of_told _ _ files (c.in_ok-load_files.ensures.contents ∙ told) c.in_ok-data.ensures.reads))

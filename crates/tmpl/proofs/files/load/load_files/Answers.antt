@@ -18,7 +18,7 @@ returns-in_err-load_file-clause-loads g c =
     err_up (LoadsFiles files (set_view c.args.set.now) (map (λ s. s.now) names) _) c.from_residual.result _ c.from_residual.ensures.1
     (stops_there files (set_view c.args.set.now) (map (λ s. s.now) names) i set _ (map (λ s. s.now) (drop (i + 1) names))
     (λ fails. of_told _ _ files is inv.comes fails ∙ at_drop_more (λ (ns : List (Bor Bytes)). loaded files fails set (map (λ s. s.now) ns)) names i _ c.loop-name-test.true)
-    c.in_err-load_file.field-0.0 (of_told _ _ files (inv.contents ∙ is) c.in_err-load_file.ensures.takes)))
+    c.in_err-load_file.field-0.0 (of_told _ _ files (inv.contents ∙ is) c.in_err-load_file.ensures.loads)))
 
 pub loop-name-preserved : goal.loop-name-preserved
 loop-name-preserved g c =
@@ -32,7 +32,7 @@ loop-name-preserved g c =
       comes = if_told _ (g.S.Source.contents c.args.source.now) (λ files is.
           one_more files (set_view c.args.set.now) (map (λ s. s.now) names) i (set_view c.loop-name.set) _ (map (λ s. s.now) (drop (i + 1) names))
           (λ fails. of_told _ _ files is inv.comes fails ∙ at_drop_more (λ (ns : List (Bor Bytes)). loaded files fails (set_view c.loop-name.set) (map (λ s. s.now) ns)) names i _ c.loop-name-test.true)
-          (set_view c.load_file.new.set) (of_told _ _ files (inv.contents ∙ is) told.takes));
+          (set_view c.load_file.new.set) (of_told _ _ files (inv.contents ∙ is) told.loads));
     }
 
 pub returns-clause-loads : goal.returns-clause-loads
