@@ -1,9 +1,8 @@
-pub mod Words
+pub mod computed
 pub mod Help
-pub mod Source
-pub mod Message
 pub mod Outcome
+pub mod Part
+pub mod Source
 pub mod Tool
-pub mod Loads
-pub mod Rope
-pub mod Evaluator
+pub mod View
+pub mod Words

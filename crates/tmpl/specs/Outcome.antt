@@ -1,8 +1,8 @@
 -- What is observed of the two sinks and the status, where the command comes to an end.
-use Rattle.std.specs.Prelude.{◌≡◌, ◌≢◌, ◌+◌, ◌⊎◌, ℕ, Bool, ◌∷◌, codes}
+use Rattle.std.specs.Prelude.{◌≡◌, ◌≢◌, ◌+◌, ◌⊎◌, ℕ, Bool, [], ◌∷◌, codes}
 use Rattle.tmpl_run.specs.Sink.{Cut, Sunk, Untouched, Whole}
 use Rattle.tmpl.specs.Source.{Bytes}
-use Rattle.tmpl.specs.Message.{end, line, plain}
+use Rattle.tmpl.specs.Part.{line, plain}
 
 -- what the command comes to
 pub record Answer : Type 0 where
@@ -19,10 +19,10 @@ abbrev pub Says : Bytes → Sunk → Type 0
 Says text s = Whole text s ⊎ Cut text s
 
 abbrev pub write_line : Bytes
-write_line = line (plain (codes "write failed") ∷ end)
+write_line = line (plain (codes "write failed") ∷ [])
 
 abbrev pub memory_line : Bytes
-memory_line = line (plain (codes "out of memory") ∷ end)
+memory_line = line (plain (codes "out of memory") ∷ [])
 
 -- the output did not fail: the whole text, the status and the line
 abbrev pub Exact : Answer → Sunk → Sunk → ℕ → Type 0

@@ -1,7 +1,7 @@
 -- What a source tells, and what a read answers.
 use Rattle.std.specs.Prelude.{◌≡◌, ◌+◌, ℕ, List, Option, Some, None, Result, Ok, Err, Vec}
-use Rattle.tmpl.specs.declared.source.SourceFault.{SourceFault}
-use Rattle.tmpl.specs.declared.source.SourceFault.TheVariants as fault
+use Rattle.tmpl.specs.declared.files.source.SourceFault.{SourceFault}
+use Rattle.tmpl.specs.declared.files.source.SourceFault.TheVariants as fault
 
 abbrev pub Bytes : Type 0
 Bytes = List ℕ
@@ -18,6 +18,6 @@ Tells (Some files) name found = files name ≡ found
 -- a read, with the count of failures before and after it
 abbrev pub IsRead : {Z : Type 0} → Option Files → Bytes → ℕ → ℕ → Result (Vec ℕ Z) SourceFault → Type 0
 IsRead told name was is (Ok bytes) = (is ≡ was) × Tells told name (Some bytes.items)
-IsRead told name was is (Err fault.Missing) = (is ≡ was) × Tells told name None
+IsRead told name was is (Err fault.NotFound) = (is ≡ was) × Tells told name None
 IsRead told name was is (Err fault.Failed) = is ≡ was + 1
 IsRead told name was is (Err fault.OutOfMemory) = is ≡ was

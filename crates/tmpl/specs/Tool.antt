@@ -1,5 +1,6 @@
 -- The command as one function of the words and of the contents of files.
-use Rattle.std.specs.Prelude.{◌≡◌, ◌⊎◌, ◌+◌, ℕ, zero, suc, Bool, true, false, List, [], ◌∷◌, Option, Some, None, Result, Ok, Err, codes}
+use Rattle.std.specs.Prelude.{◌≡◌, ◌⊎◌, ◌+◌, ℕ, zero, suc, Bool, true, false, List, [], ◌∷◌, ◌++◌, Option, Some}
+use Rattle.std.specs.Prelude.{None, Result, Ok, Err, codes}
 use Rattle.tmpl_values.specs.Value.{Value}
 use Rattle.tmpl_values.specs.Json.{data_of}
 use Rattle.tmpl_values.specs.declared.json.DataFault.{DataFault}
@@ -10,38 +11,39 @@ use Rattle.tmpl_syntax.specs.Parse.{Refusal, base_name, parsed}
 use Rattle.tmpl_syntax.specs.declared.fault.ParseKind.{ParseKind}
 use Rattle.tmpl_syntax.specs.declared.fault.ParseKind.TheVariants as kind
 use Rattle.tmpl_run.specs.Sink.{Sunk}
-use Rattle.tmpl_run.specs.Meaning.{Cause, steps_spent, not_a_function, nil_command, lacks_field, lacks_entry, not_a_range, call_failed, Fault, Ran, ran}
+use Rattle.tmpl_run.specs.Meaning.{Cause, steps_spent, not_a_function, nil_command, lacks_field, lacks_entry}
+use Rattle.tmpl_run.specs.Meaning.{not_a_range, call_failed, Fault, Ran, ran}
 use Rattle.tmpl_funcs.specs.Func.{name_of}
 use Rattle.tmpl_funcs.specs.declared.fault.CallFault.{CallFault}
 use Rattle.tmpl_funcs.specs.declared.fault.CallFault.TheVariants as call
 use Rattle.tmpl.specs.Help.{asks_help}
 use Rattle.tmpl.specs.Words.{Wanted, WantedOptions, wanted}
 use Rattle.tmpl.specs.Source.{Bytes, Files}
-use Rattle.tmpl.specs.Message.{Piece, end, line, number, plain, quoted}
+use Rattle.tmpl.specs.Part.{Piece, line, number, plain, quoted}
 use Rattle.tmpl.specs.Outcome.{Answer, Outcome}
 
 -- ---- answers
 
--- nothing is put out but a line
-abbrev pub stopped : List Piece → ℕ → Answer
-stopped pieces status = record { text = []; line = line pieces; status = status; unread = false }
+-- nothing is put out, and a line is said
+abbrev pub only_line : List Piece → ℕ → Answer
+only_line pieces status = record { text = []; line = line pieces; status = status; unread = false }
 
 -- a text is put out, and nothing went wrong
-abbrev pub done : Bytes → Answer
-done text = record { text = text; line = []; status = 0; unread = false }
+abbrev pub only_text : Bytes → Answer
+only_text text = record { text = text; line = []; status = 0; unread = false }
 
 abbrev pub words_answer : Answer
-words_answer = stopped (plain (codes "arguments refused; see tmpl --help") ∷ end) 2
+words_answer = only_line (plain (codes "arguments refused; see tmpl --help") ∷ []) 2
 
-abbrev pub missing_answer : Bytes → Answer
-missing_answer name = stopped (plain name ∷ plain (codes ": no such file") ∷ end) 3
+abbrev pub not_found_answer : Bytes → Answer
+not_found_answer name = only_line (plain name ∷ plain (codes ": no such file") ∷ []) 3
 
 abbrev pub unread_answer : Bytes → Answer
 unread_answer name =
-    record (stopped (plain name ∷ plain (codes ": read failed") ∷ end) 3) { unread = true }
+    record (only_line (plain name ∷ plain (codes ": read failed") ∷ []) 3) { unread = true }
 
 abbrev pub memory_answer : Answer
-memory_answer = stopped (plain (codes "out of memory") ∷ end) 7
+memory_answer = only_line (plain (codes "out of memory") ∷ []) 7
 
 abbrev pub parse_text : ParseKind → Bytes
 parse_text kind.Unreadable = codes "unclosed or unreadable action"
@@ -54,8 +56,8 @@ parse_text kind.TooLong = codes "file longer than 16777216 bytes"
 parse_text kind.OutOfMemory = codes "out of memory"
 
 abbrev pub refused_answer : Bytes → Refusal → Answer
-refused_answer file r = stopped
-    (plain file ∷ plain (codes ":") ∷ number r.0 ∷ plain (codes ": ") ∷ plain (parse_text r.1) ∷ end) 4
+refused_answer file r = only_line
+    (plain file ∷ plain (codes ":") ∷ number r.0 ∷ plain (codes ": ") ∷ plain (parse_text r.1) ∷ []) 4
 
 abbrev pub data_text : DataFault → Bytes
 data_text data_fault.NotJson = codes ": not JSON"
@@ -63,10 +65,10 @@ data_text data_fault.NotWhole = codes ": number not whole or out of range"
 data_text data_fault.OutOfMemory = codes ": out of memory"
 
 abbrev pub data_answer : Bytes → DataFault → Answer
-data_answer file f = stopped (plain file ∷ plain (data_text f) ∷ end) 5
+data_answer file f = only_line (plain file ∷ plain (data_text f) ∷ []) 5
 
 abbrev pub unnamed_answer : Bytes → Answer
-unnamed_answer name = stopped (plain (codes "no template ") ∷ quoted name ∷ end) 4
+unnamed_answer name = only_line (plain (codes "no template ") ∷ quoted name ∷ []) 4
 
 abbrev pub call_text : CallFault → Bytes
 call_text call.WrongCount = codes "wrong number of arguments"
@@ -78,14 +80,14 @@ call_text call.OutOfMemory = codes "out of memory"
 
 abbrev pub cause_pieces : Cause → List Piece
 cause_pieces (steps_spent limit) =
-    plain (codes "more than ") ∷ number limit ∷ plain (codes " steps") ∷ end
+    plain (codes "more than ") ∷ number limit ∷ plain (codes " steps") ∷ []
 cause_pieces (lacks_field name) =
-    plain (codes "no field ") ∷ quoted name ∷ plain (codes " here") ∷ end
-cause_pieces (lacks_entry name) = plain (codes "no entry for key ") ∷ quoted name ∷ end
-cause_pieces not_a_range = plain (codes "can't range over this value") ∷ end
-cause_pieces not_a_function = plain (codes "not a function") ∷ end
-cause_pieces nil_command = plain (codes "nil is not a command") ∷ end
-cause_pieces (call_failed f fault) = plain (name_of f) ∷ plain (codes ": ") ∷ plain (call_text fault) ∷ end
+    plain (codes "no field ") ∷ quoted name ∷ plain (codes " here") ∷ []
+cause_pieces (lacks_entry name) = plain (codes "no entry for key ") ∷ quoted name ∷ []
+cause_pieces not_a_range = plain (codes "can't range over this value") ∷ []
+cause_pieces not_a_function = plain (codes "not a function") ∷ []
+cause_pieces nil_command = plain (codes "nil is not a command") ∷ []
+cause_pieces (call_failed f fault) = plain (name_of f) ∷ plain (codes ": ") ∷ plain (call_text fault) ∷ []
 
 -- a line that says where a run stopped, and why
 abbrev pub located : Bytes → ℕ → Bytes → List Piece → Bytes
@@ -132,29 +134,29 @@ or_refused name (Err r) = Err (refused_answer name r)
 
 -- the set with one more file
 abbrev pub read_in : List Template → Bytes → Option Bytes → Result (List Template) Answer
-read_in set name None = Err (missing_answer name)
+read_in set name None = Err (not_found_answer name)
 read_in set name (Some bytes) = or_refused name (parsed set name bytes)
 
-abbrev pub and_then : Result (List Template) Answer → (List Template → Result (List Template) Answer)
+abbrev pub after_file : Result (List Template) Answer → (List Template → Result (List Template) Answer)
     → Result (List Template) Answer
-and_then (Ok set) next = next set
-and_then (Err a) next = Err a
+after_file (Ok set) next = next set
+after_file (Err a) next = Err a
 
 -- each FILE in turn, read and then parsed; the read that fails, if any, is so many reads ahead
 abbrev pub loaded : Files → Option ℕ → List Template → List Bytes → Result (List Template) Answer
 loaded files fails set [] = Ok set
 loaded files None set (name ∷ names) =
-    and_then (read_in set name (files name)) (λ s. loaded files None s names)
+    after_file (read_in set name (files name)) (λ s. loaded files None s names)
 loaded files (Some zero) set (name ∷ names) = Err (unread_answer name)
 loaded files (Some (suc k)) set (name ∷ names) =
-    and_then (read_in set name (files name)) (λ s. loaded files (Some k) s names)
+    after_file (read_in set name (files name)) (λ s. loaded files (Some k) s names)
 
 abbrev pub or_data_refused : Bytes → Result Value DataFault → Result (Option Value) Answer
-or_data_refused name (Ok held) = Ok (Some held)
+or_data_refused name (Ok input) = Ok (Some input)
 or_data_refused name (Err f) = Err (data_answer name f)
 
 abbrev pub data_in : Bytes → Option Bytes → Result (Option Value) Answer
-data_in name None = Err (missing_answer name)
+data_in name None = Err (not_found_answer name)
 data_in name (Some bytes) = or_data_refused name (data_of bytes)
 
 -- the data, read and parsed, if the words name a file of it
@@ -174,16 +176,16 @@ abbrev pub asked_name : Option Bytes → List Bytes → Bytes
 asked_name None files = first_name files
 asked_name (Some name) files = name
 
-abbrev pub run_of : WantedOptions → Bytes → Option Tree → Option Value → Answer
-run_of w name None held = unnamed_answer name
-run_of w name (Some tree) held = run_answer (ran w.missing w.steps name tree held)
+abbrev pub rendered_tree : WantedOptions → Bytes → Option Tree → Option Value → Answer
+rendered_tree w name None input = unnamed_answer name
+rendered_tree w name (Some tree) input = run_answer (ran w.missing_key w.steps name tree input)
 
 -- the name looked up, and the run
 abbrev pub rendered : WantedOptions → Bytes → List Template → Option Value → Answer
-rendered w name set held = run_of w name (tree_named name set) held
+rendered w name set input = rendered_tree w name (tree_named name set) input
 
 abbrev pub after_data : Wanted → List Template → Result (Option Value) Answer → Answer
-after_data w set (Ok held) = rendered w.options (asked_name w.name w.files) set held
+after_data w set (Ok input) = rendered w.options (asked_name w.name w.files) set input
 after_data w set (Err a) = a
 
 -- the data, and then the run
@@ -200,10 +202,11 @@ after_words files failing (Some w) =
     after_load files (fails_data failing) w (loaded files (failing_file failing) [] w.files)
 
 abbrev pub usage : Bytes
-usage = codes "usage: tmpl [--data FILE] [--missingkey default|invalid|zero|error] [--name NAME] [--depth N] [--steps N] FILE...\n"
+usage = codes "usage: tmpl [--data FILE] [--missingkey default|invalid|zero|error] [--name NAME] "
+    ++ codes "[--depth N] [--steps N] FILE...\n"
 
 abbrev pub after_help : List Bytes → Files → Failing → Bool → Answer
-after_help words files failing true = done usage
+after_help words files failing true = only_text usage
 after_help words files failing false = after_words files failing (wanted words)
 
 -- what the command comes to
@@ -218,9 +221,3 @@ Follows answers was is out err code =
     ((is ≡ was) × Outcome (answers no_read) out err code)
     ⊎ ((is ≡ was + 1)
     × ((f : Failing) × ((answers f).unread ≡ true) × Outcome (answers f) out err code))
-
--- the same past the templates, where only the data is left to read
-abbrev pub FollowsData : (Bool → Answer) → ℕ → ℕ → Sunk → Sunk → ℕ → Type 0
-FollowsData answers was is out err code =
-    ((is ≡ was) × Outcome (answers false) out err code)
-    ⊎ ((is ≡ was + 1) × ((answers true).unread ≡ true) × Outcome (answers true) out err code)

@@ -1,22 +1,18 @@
 -- What the words of a command line ask for, by clap's definition of a simple command.
-use Rattle.std.specs.Prelude.{◌≡◌, ◌≢◌, ℕ, true, List, [], ◌∷◌, Option, Some, None, Result, Ok, Err, pos, map, codes, option_map, unwrap_or, if◌then◌else◌}
+use Rattle.std.specs.Prelude.{◌≡◌, ℕ, true, List, [], ◌∷◌, Option, Some, None, pos, map, codes, unwrap_or}
+use Rattle.std.specs.Prelude.{if◌then◌else◌}
 use Rattle.std.specs.Borrow.{Bor}
 use Rattle.std.specs.Str.{bytes_eq}
 use Rattle.std.specs.Str.Parse.{digits_value, without_leading_plus}
 use Rattle.clap.specs.Words.{App, Row, Rule, Text, all_of, fault_of, first_of, matches_of, new_app, new_rule, with_rule}
 use Rattle.clap.specs.Simple.{on_top}
-use Rattle.clap.specs.Words.{Kinds, found_of, rows_of}
-use Rattle.clap.specs.declared.parser.ArgMatches.{ArgMatches}
+use Rattle.clap.specs.Words.{Kinds}
 use Rattle.clap.specs.Lexer.{usize_max}
 use Rattle.clap.specs.ValueTests.{is_unsigned_in}
 use Rattle.clap.specs.declared.builder.ArgAction.TheVariants.{Set}
 use Rattle.clap.specs.declared.builder.ValueParser.TheVariants as vp
-use Rattle.tmpl_run.specs.declared.options.MissingKey.{MissingKey}
-use Rattle.tmpl_run.specs.declared.options.MissingKey.TheVariants.{Default, Invalid, Zero, Error}
-use Rattle.tmpl_run.specs.declared.options.Options.{Options}
-use Rattle.tmpl.specs.declared.request.Request.{Request}
-use Rattle.tmpl.specs.declared.request.Refused.{Refused}
-use Rattle.tmpl.specs.declared.request.Refused.TheVariants.{Words, OutOfMemory}
+use Rattle.tmpl_run.specs.declared.missing_key.MissingKey.{MissingKey}
+use Rattle.tmpl_run.specs.declared.missing_key.MissingKey.TheVariants.{Default, Invalid, Zero, Error}
 
 -- ---- the command
 
@@ -89,7 +85,7 @@ number_in default low high (Some text) =
 
 -- how a template is to be run, as words ask for it
 pub record WantedOptions : Type 0 where
-  pub missing : MissingKey
+  pub missing_key : MissingKey
   pub depth : ℕ
   pub steps : ℕ
 
@@ -100,22 +96,9 @@ pub record Wanted : Type 0 where
   pub options : WantedOptions
   pub files : List Text
 
-abbrev pub options_seen : Options → WantedOptions
-options_seen options =
-    record { missing = options.missing; depth = options.depth; steps = options.steps }
-
--- the same, of the request that the program holds
-abbrev pub seen : Request → Wanted
-seen request = record {
-  data_file = option_map (λ s. s.now) request.data_file;
-  name = option_map (λ s. s.now) request.name;
-  options = options_seen request.options;
-  files = map (λ s. s.now) request.files.items;
-}
-
 abbrev pub options_wanted : List Row → WantedOptions
 options_wanted rows = record {
-  missing = mode_of (first_of (codes "missingkey") rows);
+  missing_key = mode_of (first_of (codes "missingkey") rows);
   depth = number_in 1000 1 100000 (first_of (codes "depth") rows);
   steps = number_in 1000000000 1 4611686018427387904 (first_of (codes "steps") rows);
 }
@@ -145,16 +128,3 @@ wanted_if (k ∷ ks) rows = None
 -- what the words ask for, and nothing where they are refused
 abbrev pub wanted : List Text → Option Wanted
 wanted words = wanted_if (words_fault words) (words_rows words)
-
--- the request is what is wanted, or nothing is, or memory ran out
-abbrev pub Answers : Option Wanted → Result Request Refused → Type 0
-Answers asked (Ok request) = asked ≡ Some (seen request)
-Answers asked (Err Words) = asked ≡ None
-Answers asked (Err OutOfMemory) = Unit {0}
-
--- what clap made of the words
-abbrev pub Parses : List Text → Result ArgMatches Refused → Type 0
-Parses words (Ok matches) =
-    (words_fault words ≡ []) × (rows_of (found_of matches) ≡ words_rows words)
-Parses words (Err Words) = words_fault words ≢ []
-Parses words (Err OutOfMemory) = Unit {0}

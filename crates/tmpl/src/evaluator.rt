@@ -3,15 +3,22 @@ ghost use Rattle.std.specs.Prelude.{◌≡◌, ◌≤◌, IfOk, OnOk, Some, leng
 ghost use Rattle.tmpl_values.specs.Elements.{elements};
 ghost use Rattle.tmpl_values.specs.View.{val_of, value_of};
 ghost use Rattle.tmpl_syntax.specs.Tree.{binding_of, node_of, nodes_in, pipeline_of, tree_of, variables_of};
-ghost use Rattle.tmpl_run.specs.Meaning.{acting, bound, done, meaning, meanings, putting, ran, scope, shown, starting_dot, stepped, stopped, with_element};
-ghost use Rattle.tmpl_run.specs.Seen.{cause_of};
-ghost use Rattle.tmpl.specs.Evaluator.{HasValue, end_seen, if_seen, ran_seen, range_seen, run_of, setting_seen, turn_seen, turns_seen, value_seen, with_seen};
+ghost use Rattle.tmpl_run.specs.Meaning.{acting, bound, done, meaning, meanings, putting, ran, scope, shown};
+ghost use Rattle.tmpl_run.specs.Meaning.{starting_dot, stepped, faulted_at, with_element};
+ghost use Rattle.tmpl_run.specs.View.{cause_of};
+ghost use Rattle.tmpl.specs.computed.Evaluator.{HasValue, if_seen, range_seen, turn_seen, turns_seen, with_seen};
+ghost use Rattle.tmpl.specs.View.{end_seen, ran_seen, run_of, setting_seen};
+ghost use Rattle.tmpl_run.specs.View.{value_seen};
 
-use crate::pipeline::{Place, element_count, pipeline_value, without_null};
-use crate::rope::Rope;
-use crate::variables::Variables;
+mod pipeline;
+pub(crate) mod rope;
+mod variables;
+
+use crate::evaluator::pipeline::{Place, pipeline_value};
+use crate::evaluator::rope::Rope;
+use crate::evaluator::variables::Variables;
 use std::alloc::{AllocError, Global};
-use tmpl_run::{MissingKey, Options, RunFault, RunFaultKind};
+use tmpl_run::{MissingKey, Options, RunFault, RunFaultKind, element_count, without_null};
 use tmpl_syntax::{Binding, Node, Pipeline, RangeVariables, Tree};
 use tmpl_values::{Bytes, Data, Val, put_text};
 
@@ -21,14 +28,14 @@ pub(crate) struct Rendered<'a> {
     pub text: Rope<'a>,
     pub fault: Option<RunFault<'a>>,
     /// Whether a function that makes a text was called with all its arguments.
-    pub made: bool,
+    pub made_text: bool,
 }
 
 /// How a template is run, and which one.
 #[derive(Clone, Copy)]
 struct Setting<'a> {
-    missing: MissingKey,
-    limit: u64,
+    missing_key: MissingKey,
+    step_limit: u64,
     file: &'a [u8],
     template: &'a [u8],
 }
@@ -68,13 +75,13 @@ struct Machine<'a> {
     variables: Variables<'a>,
     text: Rope<'a>,
     left: u64,
-    made: bool,
+    made_text: bool,
 }
 
 impl<'a> Setting<'a> {
     /// A fault of this kind in this template.
-    fn stopped(&self, line: u64, kind: RunFaultKind<'a>) -> End<'a>
-        ensures { end_seen result ≡ stopped (setting_seen self.now) line (cause_of kind.entry) }
+    fn faulted_at(&self, line: u64, kind: RunFaultKind<'a>) -> End<'a>
+        ensures { end_seen result ≡ faulted_at (setting_seen self.now) line (cause_of kind.entry) }
     {
         End::Faulted(RunFault {
             file: self.file,
@@ -110,6 +117,7 @@ impl<'a> Machine<'a> {
         Ok(End::Done)
     }
 
+    /// Runs a node, which costs a step.
     #[cycle(run)]
     fn node(
         &mut self,
@@ -125,7 +133,10 @@ impl<'a> Machine<'a> {
             ≡ (run_of self.new, end_seen end)) }
     {
         if self.left == 0 {
-            return Ok(setting.stopped(node.line(), RunFaultKind::StepsSpent(setting.limit)));
+            return Ok(setting.faulted_at(
+                node.line(),
+                RunFaultKind::StepsSpent(setting.step_limit),
+            ));
         }
         self.left -= 1;
         self.step(setting, node, dot)
@@ -133,7 +144,7 @@ impl<'a> Machine<'a> {
 
     /// Runs a node whose step is taken.
     #[cycle(run)]
-    #[tactic(auto, using(crate::proofs::Nodes::parts))]
+    #[tactic(auto, using(crate::proofs::NodeLemmas::parts))]
     fn step(
         &mut self,
         setting: &Setting<'a>,
@@ -240,7 +251,7 @@ impl<'a> Machine<'a> {
                 self.show(binding, value)?;
                 Ok(End::Done)
             }
-            Err(kind) => Ok(setting.stopped(line, kind)),
+            Err(kind) => Ok(setting.faulted_at(line, kind)),
         }
     }
 
@@ -258,15 +269,16 @@ impl<'a> Machine<'a> {
             (val_of dot.now) (run_of self.old) (value_seen r) (run_of self.new)) }
     {
         let place = Place {
-            missing: setting.missing,
+            missing_key: setting.missing_key,
             dot,
             variables: &self.variables,
         };
         let given = pipeline_value(self.alloc, &place, pipeline)?;
-        self.made = self.made || given.made;
+        self.made_text = self.made_text || given.made_text;
         Ok(given.result)
     }
 
+    /// Puts the text of a value, or binds a variable to it.
     fn show(&mut self, binding: &'a Binding, value: Val<'a>) -> Result<(), AllocError>
         requires { self.old.text.failures ≡ 0 }
         ensures whole { OnOk result (self.new.text.failures ≡ 0) }
@@ -283,6 +295,7 @@ impl<'a> Machine<'a> {
         }
     }
 
+    /// Binds a variable to a value, if there is one to bind.
     fn bind(&mut self, binding: &'a Binding, value: Val<'a>) -> Result<(), AllocError>
         requires { self.old.text.failures ≡ 0 }
         ensures whole { self.new.text.failures ≡ 0 }
@@ -304,6 +317,7 @@ impl<'a> Machine<'a> {
         }
     }
 
+    /// Runs an `if`, whose variables last to its end.
     #[cycle(run)]
     fn run_if(
         &mut self,
@@ -346,10 +360,11 @@ impl<'a> Machine<'a> {
                 let nodes = if holds { choice.body } else { choice.other };
                 self.nodes(setting, nodes, dot)
             }
-            Err(kind) => Ok(setting.stopped(choice.line, kind)),
+            Err(kind) => Ok(setting.faulted_at(choice.line, kind)),
         }
     }
 
+    /// Runs a `with`, whose variables last to its end.
     #[cycle(run)]
     fn run_with(
         &mut self,
@@ -395,10 +410,11 @@ impl<'a> Machine<'a> {
                     self.nodes(setting, choice.other, dot)
                 }
             }
-            Err(kind) => Ok(setting.stopped(choice.line, kind)),
+            Err(kind) => Ok(setting.faulted_at(choice.line, kind)),
         }
     }
 
+    /// Runs a range, whose variables last to its end.
     #[cycle(run)]
     fn run_range(
         &mut self,
@@ -436,11 +452,11 @@ impl<'a> Machine<'a> {
     {
         match self.value(setting, range.pipeline, dot)? {
             Ok(value) => match element_count(&value) {
-                None => Ok(setting.stopped(range.line, RunFaultKind::NotARange)),
+                None => Ok(setting.faulted_at(range.line, RunFaultKind::NotARange)),
                 Some(0) => self.nodes(setting, range.other, dot),
                 Some(count) => self.turns(setting, range, &value, count),
             },
-            Err(kind) => Ok(setting.stopped(range.line, kind)),
+            Err(kind) => Ok(setting.faulted_at(range.line, kind)),
         }
     }
 
@@ -490,7 +506,7 @@ impl<'a> Machine<'a> {
             ≡ (run_of self.new, end_seen end)) }
     {
         if self.left == 0 {
-            return Ok(setting.stopped(range.line, RunFaultKind::StepsSpent(setting.limit)));
+            return Ok(setting.faulted_at(range.line, RunFaultKind::StepsSpent(setting.step_limit)));
         }
         self.left -= 1;
         let count = self.variables.len();
@@ -528,10 +544,10 @@ impl<'a> Machine<'a> {
 }
 
 /// The data as the starting dot.
-fn starting_dot(held: Option<&Data>) -> Val<'_>
-    ensures { val_of result ≡ starting_dot (option_map (λ d. value_of d.now) held.entry) }
+fn starting_dot(data: Option<&Data>) -> Val<'_>
+    ensures { val_of result ≡ starting_dot (option_map (λ d. value_of d.now) «data».entry) }
 {
-    match held {
+    match data {
         None => Val::Nothing,
         Some(data) => without_null(Val::of(data)),
     }
@@ -543,38 +559,38 @@ pub(crate) fn evaluate<'a>(
     options: &Options,
     name: &'a [u8],
     tree: &'a Tree,
-    held: Option<&'a Data>,
+    data: Option<&'a Data>,
 ) -> Result<Rendered<'a>, AllocError>
-    ensures { IfOk result (λ rendered. ran_seen rendered ≡ ran options.now.missing options.now.steps
-        name.now (tree_of tree.now) (option_map (λ d. value_of d.now) held.entry)) }
+    ensures { IfOk result (λ rendered. ran_seen rendered ≡ ran options.now.missing_key options.now.steps
+        name.now (tree_of tree.now) (option_map (λ d. value_of d.now) «data».entry)) }
 {
     let setting = Setting {
-        missing: options.missing,
-        limit: options.steps,
+        missing_key: options.missing_key,
+        step_limit: options.steps,
         file: tree.file.as_slice(),
         template: name,
     };
-    let dot = starting_dot(held);
+    let dot = starting_dot(data);
     let mut machine = Machine {
         alloc,
         variables: Variables::new(alloc),
         text: Rope::new(alloc),
         left: options.steps,
-        made: false,
+        made_text: false,
     };
     machine.variables.declare(b"", dot.share()?)?;
     let end = machine.nodes(&setting, tree.nodes.as_slice(), &dot)?;
-    let Machine { text, made, .. } = machine;
+    let Machine { text, made_text, .. } = machine;
     match end {
         End::Faulted(fault) => Ok(Rendered {
             text,
             fault: Some(fault),
-            made,
+            made_text,
         }),
         End::Done | End::Broke | End::Continued => Ok(Rendered {
             text,
             fault: None,
-            made,
+            made_text,
         }),
     }
 }

@@ -1,35 +1,25 @@
 //! The command `tmpl`: renders templates of the language of Go's `text/template` with data from JSON.
 #![tactic(auto)]
 
-mod adapters;
-mod command;
 mod evaluator;
-mod held;
-mod help;
-mod lines;
-mod load;
-mod message;
-mod pipeline;
-mod quoting;
+mod files;
+mod messages;
 mod render;
-mod request;
-mod rope;
-mod source;
 mod status;
 mod stop;
 #[cfg(test)]
 mod tests;
 mod tool;
-mod variables;
 mod words;
 
-use crate::adapters::{FileSource, WriterSink};
-use crate::lines::{out_of_memory, words_refused, write_failed};
+use crate::files::adapters::{FileSource, WriterSink};
+use crate::messages::lines::{out_of_memory, words_refused, write_failed};
 use crate::status::Status;
 use std::env;
 use std::io::ErrorKind;
 use std::process::ExitCode;
 
+/// Runs the command over the file system and the standard streams.
 fn main(rt: HostRuntime) -> ExitCode {
     let alloc = rt.alloc();
     let mut source = FileSource::new(&rt);
@@ -52,6 +42,7 @@ fn main(rt: HostRuntime) -> ExitCode {
     }
 }
 
+/// The status as the process's exit code.
 fn exit(status: Status) -> ExitCode {
     ExitCode::from(status.code)
 }

@@ -6,12 +6,13 @@ use tmpl_values::DataFault;
 #[derive(Clone, Copy, Debug)]
 pub(crate) enum Stop<'a> {
     /// A file of this name is not there.
-    Missing(&'a str),
+    NotFound(&'a str),
     /// A file of this name could not be read.
     Failed(&'a str),
     /// A template file was refused.
     Template(ParseFault<'a>),
     /// The file of this name holds no data.
-    Values(&'a str, DataFault),
+    Data(&'a str, DataFault),
+    /// Memory was refused.
     OutOfMemory,
 }

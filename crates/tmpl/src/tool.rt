@@ -1,27 +1,25 @@
 //! The command over a source and two sinks.
 ghost use Rattle.std.specs.Prelude.{◌≡◌, ◌<◌, ◌^◌, ◌-◌, IfSome, map};
 ghost use Rattle.std.specs.String.{string_bytes};
-ghost use Rattle.tmpl_syntax.specs.Set.{set_view};
 ghost use Rattle.tmpl_run.specs.Sink.{sunk};
-ghost use Rattle.tmpl.specs.Words.{seen};
 ghost use Rattle.tmpl.specs.Outcome.{Counted, Once};
-ghost use Rattle.tmpl.specs.Tool.{Follows, FollowsData, after_set, after_words, tool_answer};
+ghost use Rattle.tmpl.specs.Tool.{Follows, tool_answer};
 
-use crate::held::held_data;
-use crate::help::asks_help;
-use crate::lines::{out_of_memory, refuse, words_refused};
-use crate::load::load;
+use crate::files::inputs::read_inputs;
+use crate::files::source::Source;
+use crate::messages::lines::{out_of_memory, refuse, words_refused};
 use crate::render::{put_out, render};
-use crate::request::{Refused, Request};
-use crate::source::Source;
 use crate::status::Status;
+use crate::words::help::asks_help;
+use crate::words::request::Refused;
 use crate::words::request_of;
 use std::alloc::Global;
 use tmpl_run::Sink;
-use tmpl_syntax::Set;
 
+/// What `--help` puts out.
 static USAGE: &[u8] =
-    b"usage: tmpl [--data FILE] [--missingkey default|invalid|zero|error] [--name NAME] [--depth N] [--steps N] FILE...\n";
+    b"usage: tmpl [--data FILE] [--missingkey default|invalid|zero|error] [--name NAME] \
+    [--depth N] [--steps N] FILE...\n";
 
 /// The command `tmpl` over a source of files, an output and an error sink.
 ///
@@ -52,64 +50,18 @@ pub fn tool<S: Source, O: Sink, E: Sink>(
         return put_out(USAGE, out, err);
     }
     match request_of(alloc, words) {
-        Ok(request) => with_request(alloc, &request, source, out, err),
+        Ok(request) => match read_inputs(alloc, &request, source) {
+            Ok(inputs) => render(
+                alloc,
+                &request,
+                &inputs.set,
+                inputs.data.as_ref(),
+                out,
+                err,
+            ),
+            Err(stop) => refuse(err, &stop),
+        },
         Err(Refused::Words) => words_refused(err),
         Err(Refused::OutOfMemory) => out_of_memory(err),
-    }
-}
-
-/// The templates read, and what follows.
-fn with_request<S: Source, O: Sink, E: Sink>(
-    alloc: Global,
-    request: &Request<'_>,
-    source: &mut S,
-    out: &mut O,
-    err: &mut E,
-) -> Status
-    requires source { S.failures source.old < 2 ^ 64 - 1 }
-    requires out { O.failures out.old < 2 ^ 64 - 1 }
-    requires err { E.failures err.old < 2 ^ 64 - 1 }
-    ensures reads { Once (S.failures source.old) (S.failures source.new) }
-    ensures counts { Counted (O.failures out.old) (O.failures out.new) result.code }
-    ensures cuts { Once (E.failures err.old) (E.failures err.new) }
-    ensures told { IfSome (S.contents source.old) (λ files.
-        Follows (λ failing. after_words files failing (Some (seen request.now)))
-        (S.failures source.old) (S.failures source.new)
-        (sunk (O.taken out.old) (O.taken out.new) (O.failures out.old) (O.failures out.new))
-        (sunk (E.taken err.old) (E.taken err.new) (E.failures err.old) (E.failures err.new))
-        result.code) }
-{
-    let mut set = Set::new(alloc);
-    match load(alloc, &mut set, source, request.files.as_slice()) {
-        Ok(()) => with_set(alloc, request, &set, source, out, err),
-        Err(stop) => refuse(err, &stop),
-    }
-}
-
-/// The data read, and the run.
-fn with_set<S: Source, O: Sink, E: Sink>(
-    alloc: Global,
-    request: &Request<'_>,
-    set: &Set,
-    source: &mut S,
-    out: &mut O,
-    err: &mut E,
-) -> Status
-    requires source { S.failures source.old < 2 ^ 64 - 1 }
-    requires out { O.failures out.old < 2 ^ 64 - 1 }
-    requires err { E.failures err.old < 2 ^ 64 - 1 }
-    ensures reads { Once (S.failures source.old) (S.failures source.new) }
-    ensures counts { Counted (O.failures out.old) (O.failures out.new) result.code }
-    ensures cuts { Once (E.failures err.old) (E.failures err.new) }
-    ensures told { IfSome (S.contents source.old) (λ files.
-        FollowsData (λ fails. after_set files fails (seen request.now) (set_view set.now))
-        (S.failures source.old) (S.failures source.new)
-        (sunk (O.taken out.old) (O.taken out.new) (O.failures out.old) (O.failures out.new))
-        (sunk (E.taken err.old) (E.taken err.new) (E.failures err.old) (E.failures err.new))
-        result.code) }
-{
-    match held_data(alloc, source, request.data_file) {
-        Ok(held) => render(alloc, request, set, held.as_ref(), out, err),
-        Err(stop) => refuse(err, &stop),
     }
 }

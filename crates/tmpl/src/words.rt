@@ -1,18 +1,26 @@
 //! What clap's matches of the words ask for.
 ghost use Rattle.std.specs.Prelude.{◌≡◌, ◌≢◌, ◌≤◌, ◌<◌, ◌^◌, codes, option_map, map, unwrap_or, [], Some, IfOk, IfErr};
 ghost use Rattle.clap.specs.Words.{all_of, first_of, one_of, found_of, rows_of, kind_of};
-ghost use Rattle.tmpl.specs.Words.{Answers, Parses, mode_named, mode_of, number_in, options_seen, options_wanted, seen, wanted, wanted_in};
+ghost use Rattle.tmpl.specs.computed.Words.{Answers, Parses};
+ghost use Rattle.tmpl.specs.Words.{mode_named, mode_of, number_in, options_wanted, wanted, wanted_in};
+ghost use Rattle.tmpl.specs.View.{options_seen, seen};
 ghost use Rattle.std.specs.String.{string_bytes};
 
-use crate::command::command;
-use crate::request::{Refused, Request};
+mod command;
+pub(crate) mod help;
+pub(crate) mod request;
+
+use crate::words::command::command;
+use crate::words::request::{Refused, Request};
 use clap::error::ErrorKind;
 use clap::{ArgMatches, Error};
 use std::alloc::{AllocError, Global};
 use tmpl_run::{MissingKey, Options};
 
+/// The words of `--missingkey`.
 static MODES: [&str; 4] = ["default", "invalid", "zero", "error"];
 
+/// What a word of `--missingkey` names.
 fn mode_named(word: &str) -> MissingKey
     ensures { result ≡ mode_named word.now }
 {
@@ -24,6 +32,7 @@ fn mode_named(word: &str) -> MissingKey
     }
 }
 
+/// What `--missingkey` asks for.
 fn mode_of(matches: &ArgMatches<'_>) -> MissingKey
     ensures { result ≡ mode_of (first_of (codes "missingkey") (rows_of (found_of matches.now))) }
 {
@@ -33,6 +42,7 @@ fn mode_of(matches: &ArgMatches<'_>) -> MissingKey
     }
 }
 
+/// The number that a text spells, where there is one and it is in the range, or else the default.
 fn number_in(text: Option<&str>, default: u64, low: u64, high: u64) -> u64
     requires { (low ≤ default) × (default ≤ high) }
     ensures value { result ≡ number_in default low high (option_map (λ s. s.now) text.entry) }
@@ -45,6 +55,7 @@ fn number_in(text: Option<&str>, default: u64, low: u64, high: u64) -> u64
     }
 }
 
+/// The number that this text spells, where it is in the range, or else the default.
 fn parsed_in(text: &str, default: u64, low: u64, high: u64) -> u64
     requires { (low ≤ default) × (default ≤ high) }
     ensures value { result ≡ number_in default low high (Some text.now) }
@@ -57,6 +68,7 @@ fn parsed_in(text: &str, default: u64, low: u64, high: u64) -> u64
     }
 }
 
+/// What `--depth` asks for.
 fn depth_of(matches: &ArgMatches<'_>) -> u32
     ensures value { result ≡ number_in 1000 1 100000 (first_of (codes "depth") (rows_of (found_of matches.now))) }
     ensures least { 1 ≤ result }
@@ -65,8 +77,10 @@ fn depth_of(matches: &ArgMatches<'_>) -> u32
     number_in(matches.get_str("depth"), 1000, 1, 100_000) as u32
 }
 
+/// What `--steps` asks for.
 fn steps_of(matches: &ArgMatches<'_>) -> u64
-    ensures value { result ≡ number_in 1000000000 1 4611686018427387904 (first_of (codes "steps") (rows_of (found_of matches.now))) }
+    ensures value { result ≡ number_in 1000000000 1 4611686018427387904
+        (first_of (codes "steps") (rows_of (found_of matches.now))) }
     ensures least { 1 ≤ result }
     ensures most { result ≤ 4611686018427387904 }
 {
@@ -78,12 +92,14 @@ fn steps_of(matches: &ArgMatches<'_>) -> u64
     )
 }
 
+/// The names, in a list of its own.
 fn copied<'a>(alloc: Global, given: &[&'a str]) -> Result<Vec<&'a str>, AllocError>
     ensures { IfOk result (λ files. files.items ≡ given.now) }
 {
     given.iter().copied().collect(alloc)
 }
 
+/// The template files.
 fn files_of<'a>(alloc: Global, matches: &ArgMatches<'a>) -> Result<Vec<&'a str>, AllocError>
     ensures { IfOk result (λ files. map (λ s. s.now) files.items
         ≡ unwrap_or (all_of (codes "file") (rows_of (found_of matches.now))) []) }
@@ -94,6 +110,7 @@ fn files_of<'a>(alloc: Global, matches: &ArgMatches<'a>) -> Result<Vec<&'a str>,
     }
 }
 
+/// What matches ask for.
 fn request_in<'a>(alloc: Global, matches: &ArgMatches<'a>) -> Result<Request<'a>, AllocError>
     ensures { IfOk result (λ request. seen request ≡ wanted_in (rows_of (found_of matches.now))) }
 {
@@ -105,16 +122,18 @@ fn request_in<'a>(alloc: Global, matches: &ArgMatches<'a>) -> Result<Request<'a>
     })
 }
 
+/// How the template is to be run.
 fn options_in(matches: &ArgMatches<'_>) -> Options
     ensures { options_seen result ≡ options_wanted (rows_of (found_of matches.now)) }
 {
     Options {
-        missing: mode_of(matches),
+        missing_key: mode_of(matches),
         depth: depth_of(matches),
         steps: steps_of(matches),
     }
 }
 
+/// Why clap did not take the words.
 fn refusal(error: &Error) -> Refused
     ensures { result ≡ Refused.Words → kind_of error.now ≢ ErrorKind.OutOfMemory }
 {
@@ -125,6 +144,7 @@ fn refusal(error: &Error) -> Refused
     }
 }
 
+/// Clap's matches of the words.
 fn parse<'a>(alloc: Global, words: &'a [String]) -> Result<ArgMatches<'a>, Refused>
     ensures { Parses (map (λ word. string_bytes word) words.entry.now) result }
 {

@@ -8,7 +8,7 @@ use Rattle.tmpl_syntax.specs.Tree as tree
 use Rattle.tmpl_syntax.specs.Tree.{Operand, dot, fields, variable, bool_constant, number_constant, text_constant, nil, function, group, Operands, no_operand, operand, Commands, no_command, command, Pipeline, pipeline, unbound, declare, assign, unnamed, element, key_and_element, Node, Nodes, Tree, text, action, if_node, with_node, range_node, break_node, continue_node}
 use Rattle.tmpl_run.specs.Meaning.{Ran, Cause, ran_with, steps_spent, not_a_function, nil_command, lacks_field, not_a_range, call_failed}
 use Rattle.tmpl_run.specs.Pipeline.{Given, Place, pipeline_value}
-use Rattle.tmpl_run.specs.declared.options.MissingKey.TheVariants.{Default}
+use Rattle.tmpl_run.specs.declared.missing_key.MissingKey.TheVariants.{Default}
 
 -- ---- short ways to write them
 
@@ -44,11 +44,11 @@ abbrev run : ℕ → Nodes → Value → Ran
 run steps ns d = ran_with Default steps (codes "t") (tree_of ns) d
 
 abbrev puts : List ℕ → Ran
-puts bytes = record { text = bytes; fault = None; made = false }
+puts bytes = record { text = bytes; fault = None; made_text = false }
 
 abbrev stops : List ℕ → ℕ → Cause → Ran
 stops bytes line cause =
-    record { text = bytes; fault = Some (record { file = codes "f"; line = line; template = codes "t"; cause = cause }); made = false }
+    record { text = bytes; fault = Some (record { file = codes "f"; line = line; template = codes "t"; cause = cause }); made_text = false }
 
 -- ---- control
 
@@ -104,13 +104,13 @@ declared-in-a-part = refl
 -- ---- pipelines
 
 abbrev here : Value → Place
-here d = record { mode = Default; dot = d; env = [] }
+here d = record { missing_key = Default; dot = d; env = [] }
 
 abbrev gives : Value → Given
-gives v = record { result = Ok v; made = false }
+gives v = record { result = Ok v; made_text = false }
 
 abbrev refuses : Cause → Given
-refuses cause = record { result = Err cause; made = false }
+refuses cause = record { result = Err cause; made_text = false }
 
 abbrev call : Operands → Pipeline
 call os = pipeline (command os no_command)

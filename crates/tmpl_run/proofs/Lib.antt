@@ -1,3 +1,4 @@
-pub mod Beginnings
+pub mod CountLemmas
 pub mod Examples
-pub mod Told
+pub mod PutLemmas
+pub mod ToldLemmas

@@ -1,15 +1,19 @@
 -- The meaning of a template: its text, and the fault that ends it if there is one.
-use Rattle.std.specs.Prelude.{ℕ, ◌-◌, nat_eq, Bool, true, false, ◌||◌, List, [], ◌∷◌, ◌++◌, length, drop, Option, Some, None, Result, Ok, Err, if◌then◌else◌}
+use Rattle.std.specs.Prelude.{ℕ, ◌-◌, nat_eq, Bool, true, false, ◌||◌, List, [], ◌∷◌, ◌++◌, length, drop}
+use Rattle.std.specs.Prelude.{Option, Some, None, Result, Ok, Err, if◌then◌else◌}
 use Rattle.std.specs.Str.{bytes_eq}
 use Rattle.tmpl_values.specs.Value.{Value, nothing}
 use Rattle.tmpl_values.specs.Elements.{Element, elements}
 use Rattle.tmpl_values.specs.Text.{text_of}
 use Rattle.tmpl_values.specs.Truth.{truth}
 use Rattle.tmpl_syntax.specs.Tree as tree
-use Rattle.tmpl_syntax.specs.Tree.{Pipeline, Binding, unbound, declare, assign, RangeVariables, unnamed, element, key_and_element, Node, text, action, if_node, with_node, range_node, break_node, continue_node, Nodes, Tree, line_of}
-pub use Rattle.tmpl_run.specs.Fault.{Cause, Fault, steps_spent, not_a_function, nil_command, lacks_field, lacks_entry, not_a_range, call_failed}
+use Rattle.tmpl_syntax.specs.Tree.{Pipeline, Binding, unbound, declare, assign, RangeVariables, unnamed}
+use Rattle.tmpl_syntax.specs.Tree.{element, key_and_element, Node, text, action, if_node, with_node}
+use Rattle.tmpl_syntax.specs.Tree.{range_node, break_node, continue_node, Nodes, Tree, line_of}
+pub use Rattle.tmpl_run.specs.Fault.{Cause, Fault, steps_spent, not_a_function, nil_command, lacks_field}
+pub use Rattle.tmpl_run.specs.Fault.{lacks_entry, not_a_range, call_failed}
 use Rattle.tmpl_run.specs.Pipeline.{Environment, Given, pipeline_value, without_null}
-use Rattle.tmpl_run.specs.declared.options.MissingKey.{MissingKey}
+use Rattle.tmpl_run.specs.declared.missing_key.MissingKey.{MissingKey}
 
 -- ---- variables
 
@@ -32,8 +36,8 @@ element_bound (key_and_element key name) e env = (name, e.1) ∷ (key, e.0) ∷ 
 
 -- how a template is run: the mode, the limit of steps, and the file and name of the template
 pub record Setting : Type 0 where
-  pub mode : MissingKey
-  pub limit : ℕ
+  pub missing_key : MissingKey
+  pub step_limit : ℕ
   pub file : List ℕ
   pub template : List ℕ
 
@@ -43,7 +47,7 @@ pub record Run : Type 0 where
   pub env : Environment
   pub text : List ℕ
   pub left : ℕ
-  pub made : Bool
+  pub made_text : Bool
 
 -- how a part of a template ends: at a break or continue it is left for the range around it to go on
 pub data End : Type 0 where
@@ -55,12 +59,12 @@ pub data End : Type 0 where
 abbrev pub Next : Type 0
 Next = Run → Run × End
 
-abbrev pub stopped : Setting → ℕ → Cause → End
-stopped s line cause =
+abbrev pub faulted_at : Setting → ℕ → Cause → End
+faulted_at s line cause =
     faulted (record { file = s.file; line = line; template = s.template; cause = cause })
 
 abbrev pub spend_if : Bool → Setting → ℕ → Next → Next
-spend_if true s line go r = (r, stopped s line (steps_spent s.limit))
+spend_if true s line go r = (r, faulted_at s line (steps_spent s.step_limit))
 spend_if false s line go r = go (record r { left = r.left - 1 })
 
 -- takes a step and goes on, or stops where none is left
@@ -79,16 +83,16 @@ after part go = on_end part.1 part.0 go
 
 abbrev pub with_value : Setting → ℕ → Result Value Cause → (Value → Next) → Next
 with_value s line (Ok v) go r = go v r
-with_value s line (Err cause) go r = (r, stopped s line cause)
+with_value s line (Err cause) go r = (r, faulted_at s line cause)
 
 -- goes on with what a pipeline gave, or stops
 abbrev pub with_given : Setting → ℕ → Given → (Value → Next) → Next
-with_given s line g go r = with_value s line g.result go (record r { made = r.made || g.made })
+with_given s line g go r = with_value s line g.result go (record r { made_text = r.made_text || g.made_text })
 
 -- goes on with the value of a pipeline, or stops
 abbrev pub with_pipeline : Setting → ℕ → Pipeline → Value → (Value → Next) → Next
 with_pipeline s line p d go r =
-    with_given s line (pipeline_value (record { mode = s.mode; dot = d; env = r.env }) p) go r
+    with_given s line (pipeline_value (record { missing_key = s.missing_key; dot = d; env = r.env }) p) go r
 
 -- the variables are as many again as they were: those declared since are gone, and values assigned stay
 abbrev pub scoped : ℕ → Run × End → Run × End
@@ -153,7 +157,7 @@ turns s line names body (e ∷ es) r =
 
 -- a range over the elements, or its other part where there are none
 abbrev pub over : Setting → ℕ → RangeVariables → (Value → Next) → Next → Option (List Element) → Next
-over s line names body other None r = (r, stopped s line not_a_range)
+over s line names body other None r = (r, faulted_at s line not_a_range)
 over s line names body other (Some []) r = other r
 over s line names body other (Some (e ∷ es)) r = turns s line names body (e ∷ es) r
 
@@ -191,7 +195,7 @@ meaning s n d = spend s (line_of n) (stepped s n d)
 pub record Ran : Type 0 where
   pub text : List ℕ
   pub fault : Option Fault
-  pub made : Bool
+  pub made_text : Bool
 
 -- a template that is accepted breaks out of nothing but a range of its own
 abbrev pub fault_of : End → Option Fault
@@ -201,11 +205,11 @@ fault_of continued = None
 fault_of (faulted f) = Some f
 
 abbrev pub setting_of : MissingKey → ℕ → List ℕ → Tree → Setting
-setting_of mode limit name t =
-    record { mode = mode; limit = limit; file = t.file; template = name }
+setting_of missing_key step_limit name t =
+    record { missing_key = missing_key; step_limit = step_limit; file = t.file; template = name }
 
 abbrev pub ran_of : Run × End → Ran
-ran_of r = record { text = r.0.text; fault = fault_of r.1; made = r.0.made }
+ran_of r = record { text = r.0.text; fault = fault_of r.1; made_text = r.0.made_text }
 
 -- the starting dot: the data, of which null is nothing; nothing where there is no data
 abbrev pub starting_dot : Option Value → Value
@@ -214,12 +218,12 @@ starting_dot (Some v) = without_null v
 
 -- the run at its start, with this dot
 abbrev pub started : ℕ → Value → Run
-started limit d = record { env = ([], d) ∷ []; text = []; left = limit; made = false }
+started step_limit d = record { env = ([], d) ∷ []; text = []; left = step_limit; made_text = false }
 
 abbrev pub ran_with : MissingKey → ℕ → List ℕ → Tree → Value → Ran
-ran_with mode limit name t d =
-    ran_of (meanings (setting_of mode limit name t) t.nodes d (started limit d))
+ran_with missing_key step_limit name t d =
+    ran_of (meanings (setting_of missing_key step_limit name t) t.nodes d (started step_limit d))
 
 -- what a template of this name puts out over the data
 abbrev pub ran : MissingKey → ℕ → List ℕ → Tree → Option Value → Ran
-ran mode limit name t held = ran_with mode limit name t (starting_dot held)
+ran missing_key step_limit name t input = ran_with missing_key step_limit name t (starting_dot input)

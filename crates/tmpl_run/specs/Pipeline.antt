@@ -1,6 +1,7 @@
 -- The value of a pipeline ("Arguments", "Pipelines", "Variables" and "Functions" in the documentation of Go's
 -- text/template). What nothing, null and the modes for missing keys do is our own rule, also where Go differs.
-use Rattle.std.specs.Prelude.{ℕ, suc, ◌+◌, Bool, true, false, not, ◌||◌, List, [], ◌∷◌, ◌++◌, Option, Some, None, Result, Ok, Err, if◌then◌else◌}
+use Rattle.std.specs.Prelude.{ℕ, suc, ◌+◌, Bool, true, false, not, ◌||◌, List, [], ◌∷◌, ◌++◌, Option, Some}
+use Rattle.std.specs.Prelude.{None, Result, Ok, Err, if◌then◌else◌}
 use Rattle.std.specs.Str.{bytes_eq}
 use Rattle.tmpl_values.specs.Value.{Value, nothing, null, boolean, number, string, sequence, mapping}
 use Rattle.tmpl_values.specs.Truth.{truth}
@@ -11,10 +12,12 @@ use Rattle.tmpl_funcs.specs.declared.func.Func.{Func}
 use Rattle.tmpl_funcs.specs.declared.func.Func.TheVariants.{And, Or}
 use Rattle.tmpl_funcs.specs.declared.fault.CallFault.{CallFault}
 use Rattle.tmpl_funcs.specs.declared.fault.CallFault.TheVariants.{WrongCount}
-use Rattle.tmpl_syntax.specs.Tree.{Operand, dot, fields, variable, bool_constant, number_constant, text_constant, nil, function, group, Operands, no_operand, operand, Commands, no_command, command, Pipeline, pipeline}
+use Rattle.tmpl_syntax.specs.Tree.{Operand, dot, fields, variable, bool_constant, number_constant}
+use Rattle.tmpl_syntax.specs.Tree.{text_constant, nil, function, group, Operands, no_operand, operand}
+use Rattle.tmpl_syntax.specs.Tree.{Commands, no_command, command, Pipeline, pipeline}
 use Rattle.tmpl_run.specs.Fault.{Cause, not_a_function, nil_command, lacks_field, lacks_entry, call_failed}
-use Rattle.tmpl_run.specs.declared.options.MissingKey.{MissingKey}
-use Rattle.tmpl_run.specs.declared.options.MissingKey.TheVariants.{Default, Invalid, Zero, Error}
+use Rattle.tmpl_run.specs.declared.missing_key.MissingKey.{MissingKey}
+use Rattle.tmpl_run.specs.declared.missing_key.MissingKey.TheVariants.{Default, Invalid, Zero, Error}
 
 -- ---- variables
 
@@ -29,33 +32,37 @@ lookup name (v ∷ env) = if bytes_eq v.0 name then v.1 else lookup name env
 
 -- ---- fields
 
+-- what a map comes to that has no entry of this name
+abbrev pub absent_entry : MissingKey → List ℕ → Result Value Cause
+absent_entry Default name = Ok nothing
+absent_entry Invalid name = Ok nothing
+absent_entry Zero name = Ok null
+absent_entry Error name = Err (lacks_entry name)
+
+-- what nothing comes to, which has no entries
+abbrev pub field_of_nothing : MissingKey → List ℕ → Result Value Cause
+field_of_nothing Default name = Ok nothing
+field_of_nothing Invalid name = Ok nothing
+field_of_nothing Zero name = Ok nothing
+field_of_nothing Error name = Err (lacks_entry name)
+
 -- a field, by what its value has under the name
-abbrev pub by_mode : MissingKey → List ℕ → Result Value Cause
-by_mode Default name = Ok nothing
-by_mode Invalid name = Ok nothing
-by_mode Zero name = Ok null
-by_mode Error name = Err (lacks_entry name)
-
-abbrev pub nothing_by_mode : MissingKey → List ℕ → Result Value Cause
-nothing_by_mode Default name = Ok nothing
-nothing_by_mode Invalid name = Ok nothing
-nothing_by_mode Zero name = Ok nothing
-nothing_by_mode Error name = Err (lacks_entry name)
-
 abbrev pub field_value : MissingKey → List ℕ → FieldValue → Result Value Cause
-field_value mode name (found v) = Ok v
-field_value mode name missing = by_mode mode name
-field_value mode name of_nothing = nothing_by_mode mode name
-field_value mode name no_field = Err (lacks_field name)
+field_value missing_key name (found v) = Ok v
+field_value missing_key name missing = absent_entry missing_key name
+field_value missing_key name of_nothing = field_of_nothing missing_key name
+field_value missing_key name no_field = Err (lacks_field name)
 
-abbrev pub and_then : Result Value Cause → (Value → Result Value Cause) → Result Value Cause
-and_then (Ok v) next = next v
-and_then (Err cause) next = Err cause
+-- goes on with a value, or stops
+abbrev pub value_then : Result Value Cause → (Value → Result Value Cause) → Result Value Cause
+value_then (Ok v) next = next v
+value_then (Err cause) next = Err cause
 
 -- the field of the field of .. of a value
 abbrev pub chain : MissingKey → List (List ℕ) → Value → Result Value Cause
-chain mode [] v = Ok v
-chain mode (name ∷ names) v = and_then (field_value mode name (field_at name v)) (chain mode names)
+chain missing_key [] v = Ok v
+chain missing_key (name ∷ names) v =
+    value_then (field_value missing_key name (field_at name v)) (chain missing_key names)
 
 -- a null that a command gives is nothing
 abbrev pub without_null : Value → Value
@@ -72,39 +79,39 @@ without_null (mapping entries) = mapping entries
 -- a value or why there is none, and whether a function that makes a text was called with all its arguments
 pub record Given : Type 0 where
   pub result : Result Value Cause
-  pub made : Bool
+  pub made_text : Bool
 
 -- the same for values one after the other
 pub record GivenAll : Type 0 where
   pub results : Result (List Value) Cause
-  pub made : Bool
+  pub made_text : Bool
 
 abbrev pub given : Result Value Cause → Given
-given r = record { result = r; made = false }
+given r = record { result = r; made_text = false }
 
 -- what follows something that called such a function, or did not
 abbrev pub since : Bool → Given → Given
-since made g = record { result = g.result; made = made || g.made }
+since made_text g = record { result = g.result; made_text = made_text || g.made_text }
 
 -- goes on with the value, or stops
 abbrev pub go_on : Result Value Cause → Bool → (Value → Given) → Given
-go_on (Ok v) made next = since made (next v)
-go_on (Err cause) made next = record { result = Err cause; made = made }
+go_on (Ok v) made_text next = since made_text (next v)
+go_on (Err cause) made_text next = record { result = Err cause; made_text = made_text }
 
 abbrev pub given_then : Given → (Value → Given) → Given
-given_then g next = go_on g.result g.made next
+given_then g next = go_on g.result g.made_text next
 
 abbrev pub more_of : Result (List Value) Cause → Bool → Value → GivenAll
-more_of (Ok vs) made v = record { results = Ok (v ∷ vs); made = made }
-more_of (Err cause) made v = record { results = Err cause; made = made }
+more_of (Ok vs) made_text v = record { results = Ok (v ∷ vs); made_text = made_text }
+more_of (Err cause) made_text v = record { results = Err cause; made_text = made_text }
 
 abbrev pub first_of : Result Value Cause → Bool → GivenAll → GivenAll
-first_of (Ok v) made rest = more_of rest.results (made || rest.made) v
-first_of (Err cause) made rest = record { results = Err cause; made = made }
+first_of (Ok v) made_text rest = more_of rest.results (made_text || rest.made_text) v
+first_of (Err cause) made_text rest = record { results = Err cause; made_text = made_text }
 
 -- a value before others
 abbrev pub before : Given → GivenAll → GivenAll
-before g rest = first_of g.result g.made rest
+before g rest = first_of g.result g.made_text rest
 
 -- ---- calls
 
@@ -118,15 +125,15 @@ or_call_failed f (Err fault) = Err (call_failed f fault)
 
 -- a function over the values of its operands, and a piped value behind them
 abbrev pub applied : Func → Option Value → Result (List Value) Cause → Bool → Given
-applied f piped (Ok vs) made =
-    record { result = or_call_failed f (called f (piped_after vs piped)); made = made || makes_text f }
-applied f piped (Err cause) made = record { result = Err cause; made = made }
+applied f piped (Ok vs) made_text =
+    record { result = or_call_failed f (called f (piped_after vs piped)); made_text = made_text || makes_text f }
+applied f piped (Err cause) made_text = record { result = Err cause; made_text = made_text }
 
 -- by the function: `and` and `or` evaluate their operands themselves
 abbrev pub by_function : Func → Option Value → GivenAll → Given → Given → Given
 by_function And piped all both either = both
 by_function Or piped all both either = either
-by_function f piped all both either = applied f piped all.results all.made
+by_function f piped all both either = applied f piped all.results all.made_text
 
 abbrev pub counted : Func → Bool → Given → Given
 counted f true g = g
@@ -171,7 +178,7 @@ commanded o os piped g call = alone (stands_alone os piped) o g
 
 -- where a pipeline stands: the mode for missing keys, dot and the variables
 pub record Place : Type 0 where
-  pub mode : MissingKey
+  pub missing_key : MissingKey
   pub dot : Value
   pub env : Environment
 
@@ -186,19 +193,19 @@ abbrev mutual
   -- as an argument: null stays null, `nil` is nothing, and a function is a call without arguments
   pub operand_value : Place → Operand → Given
   operand_value s dot = given (Ok s.dot)
-  operand_value s (fields names) = given (chain s.mode names s.dot)
-  operand_value s (variable name names) = given (chain s.mode names (lookup name s.env))
+  operand_value s (fields names) = given (chain s.missing_key names s.dot)
+  operand_value s (variable name names) = given (chain s.missing_key names (lookup name s.env))
   operand_value s (bool_constant b) = given (Ok (boolean b))
   operand_value s (number_constant n) = given (Ok (number n))
   operand_value s (text_constant bytes) = given (Ok (string bytes))
   operand_value s nil = given (Ok nothing)
   operand_value s (function f) = bare_call f
   operand_value s (group commands names) =
-      given_then (commands_value s commands None) (λ v. given (chain s.mode names v))
+      given_then (commands_value s commands None) (λ v. given (chain s.missing_key names v))
 
   -- the operands from left to right, up to the first that has no value
   pub operand_values : Place → Operands → GivenAll
-  operand_values s no_operand = record { results = Ok []; made = false }
+  operand_values s no_operand = record { results = Ok []; made_text = false }
   operand_values s (operand o os) = before (operand_value s o) (operand_values s os)
 
   -- the first of the operands and the piped value that decides, else the last of them; no operand after it is evaluated
@@ -222,12 +229,6 @@ abbrev mutual
   commands_value s no_command (Some v) = given (Ok v)
   commands_value s (command os cs) piped =
       given_then (command_value s os piped) (λ v. commands_value s cs (Some (without_null v)))
-
--- a call with operands and perhaps a piped value
-abbrev pub call_value : Place → Func → Operands → Option Value → Given
-call_value s f os piped = counted f (takes f (argument_count os piped))
-    (by_function f piped (operand_values s os)
-    (junction false s nothing os piped) (junction true s nothing os piped))
 
 -- the value of a pipeline
 abbrev pub pipeline_value : Place → Pipeline → Given

@@ -1,12 +1,16 @@
-//! The run of a template: where its text goes, how it may be told to run, and how it may fail.
+//! The run of a template: where its text goes, how it may be told to run, how it may fail, and what it asks of values.
 //!
 //! What a run puts out is the meaning of its template, which `specs/Meaning.antt` defines.
 #![tactic(auto)]
 
 mod fault;
+mod missing_key;
 mod options;
 mod sink;
+mod values;
 
 pub use fault::{RunFault, RunFaultKind};
-pub use options::{MissingKey, Options};
+pub use missing_key::MissingKey;
+pub use options::Options;
 pub use sink::{Sink, SinkFault, put_all};
+pub use values::{decides, element_count, without_null};

@@ -1,24 +1,13 @@
 //! How a template is to be run.
 ghost use Rattle.std.specs.Prelude.{◌≤◌};
 
-/// What a field comes to for which a map has no entry. The words are those of the option `missingkey`
-/// of Go's `text/template`; what each does with nothing and null is our own rule.
-#[derive(Clone, Copy, Debug, PartialEq, Eq)]
-pub enum MissingKey {
-    /// Nothing.
-    Default,
-    /// Nothing, as `Default`.
-    Invalid,
-    /// Null.
-    Zero,
-    /// A fault.
-    Error,
-}
+use crate::missing_key::MissingKey;
 
 /// How a template is to be run.
 #[derive(Clone, Copy, Debug)]
 pub struct Options {
-    pub missing: MissingKey,
+    /// What a field comes to for which a map has no entry.
+    pub missing_key: MissingKey,
     /// How deep calls of templates may go, the starting template counted.
     pub depth: u32,
     /// How many steps a run may take.

@@ -1,6 +1,6 @@
 //! Where text goes.
 ghost use Rattle.std.specs.Prelude.{◌≡◌, ◌+◌, ◌-◌, ◌^◌, ◌<◌, ◌≤◌, ℕ, List, Option, length, take, IfOk, OnOk, OnErr};
-ghost use Rattle.tmpl_run.specs.Sink.{appended, sunk, IsPut};
+ghost use Rattle.tmpl_run.specs.Sink.{appended, as_puts, IsPut};
 
 /// A put that failed.
 #[derive(Clone, Copy, Debug, PartialEq, Eq)]
@@ -26,12 +26,12 @@ pub trait Sink {
 /// Puts the whole text, by as many puts as it takes. A put that fails is the last one.
 pub fn put_all<S: Sink>(sink: &mut S, text: &[u8]) -> Result<(), SinkFault>
     requires { S.failures sink.old < 2 ^ 64 - 1 }
-    ensures { IsPut text.now
-        (sunk (S.taken sink.old) (S.taken sink.new) (S.failures sink.old) (S.failures sink.new)) result }
+    ensures { IsPut result (as_puts (S.taken sink.old) (S.failures sink.old))
+        (as_puts (S.taken sink.new) (S.failures sink.new)) text.now }
 {
-    let mut done = 0;
-    while done < text.len() {
-        done += sink.put(&text[done..])?;
+    let mut taken = 0;
+    while taken < text.len() {
+        taken += sink.put(&text[taken..])?;
     }
     Ok(())
 }

@@ -2,7 +2,7 @@
 ghost use Rattle.std.specs.Prelude.{◌≡◌, Some, None, if◌then◌else◌};
 ghost use Rattle.std.specs.Str.{bytes_eq};
 
-use crate::source::{Source, SourceFault};
+use crate::files::source::{Source, SourceFault};
 use std::alloc::Global;
 
 /// A file of this name.
@@ -43,7 +43,7 @@ impl Source for ThreeFiles<'_> {
         } else if name == self.third.name {
             self.third.bytes
         } else {
-            return Err(SourceFault::Missing);
+            return Err(SourceFault::NotFound);
         };
         match bytes.to_vec(alloc) {
             Ok(bytes) => Ok(bytes),

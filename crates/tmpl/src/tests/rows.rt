@@ -17,16 +17,19 @@ struct Row<'a> {
     code: u8,
 }
 
+/// A file that no row names.
 const NO_FILE: File<'static> = File {
     name: "no such name",
     bytes: b"",
 };
 
+/// Of a sink that does not fail.
 const NEVER: Failing = Failing {
     at: 0,
     for_good: false,
 };
 
+/// The words, each in a text of its own.
 fn owned(rt: &impl Abort, alloc: Global, words: &[&str]) -> Vec<String> {
     let mut owned = Vec::new(alloc);
     for word in words {
@@ -78,6 +81,7 @@ fn run(
     }
 }
 
+/// An empty sink.
 fn sink(most: usize, failing: Failing) -> ArraySink<128>
     requires { 1 ≤ most }
     ensures { result.failures ≡ 0 }

@@ -46,6 +46,7 @@ impl<const N: usize> ArraySink<N> {
         &self.bytes[..self.used]
     }
 
+    /// Whether the put that was just counted fails.
     fn fails_now(&self) -> bool {
         let at = self.failing.at;
         self.used == N || self.puts == at || (self.failing.for_good && at > 0 && self.puts > at)

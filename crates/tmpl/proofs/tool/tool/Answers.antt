@@ -1,14 +1,39 @@
-use Rattle.std.proofs.Common.{map, rules, ◌≡◌, false}
+use Rattle.std.proofs.Common.{◌≡◌, ◌∙◌, ap, sym, map, rules, false, inl}
 use Rattle.std.specs.String.{string_bytes}
+use Rattle.std.specs.Option.{option_map}
+use Rattle.tmpl_values.specs.View.{value_of}
+use Rattle.tmpl_syntax.specs.Set.{set_view}
 use Rattle.tmpl.specs.Help.{asks_help}
-use Rattle.tmpl.specs.Words.{seen}
-use Rattle.tmpl_run.proofs.Told.{if_told, of_told}
-use Rattle.tmpl.proofs.Stopping.{accepted}
+use Rattle.tmpl.specs.Tool.{asked_name, rendered}
+use Rattle.tmpl.specs.View.{seen}
+use Rattle.tmpl.specs.computed.Load.{data_value}
+use Rattle.tmpl_run.proofs.ToldLemmas.{if_told, of_told}
+use Rattle.tmpl.proofs.StopLemmas.{accepted, outcome_as, stops}
 use Rattle.tmpl.proofs.tool.tool.Goals as goal
+
+pub returns-in-Ok-read_inputs-clause-told : goal.returns-in-Ok-read_inputs-clause-told
+returns-in-Ok-read_inputs-clause-told g c =
+    let words = map (λ word. string_bytes word) c.args.words.now in
+    let helps : asks_help words ≡ false = search rules in
+    let w = seen c.in-Ok.request in
+    let inputs = c.in-Ok-read_inputs.inputs in
+    let same : option_map (λ d. value_of d.now) c.as_ref.result ≡ data_value inputs.data = search rules in
+    if_told _ (g.S.Source.contents c.args.source.now) (λ files told.
+    let reads = of_told _ _ files told c.in-Ok-read_inputs.ensures.reads in
+    accepted _ c.render.result.code _ _ _ w files words c.in-Ok.ensures helps
+    (inl (
+      c.in-Ok-read_inputs.ensures.counts,
+      outcome_as _ c.render.result.code _ _ _
+      (reads ∙ ap (rendered w.options (asked_name w.name w.files) (set_view inputs.set)) (sym same))
+      c.render.ensures.outcome,
+    )))
 
 pub returns-in-Ok-clause-told : goal.returns-in-Ok-clause-told
 returns-in-Ok-clause-told g c =
     let words = map (λ word. string_bytes word) c.args.words.now in
     let helps : asks_help words ≡ false = search rules in
+    let w = seen c.in-Ok.request in
     if_told _ (g.S.Source.contents c.args.source.now) (λ files told.
-    accepted _ c.with_request.result.code _ _ _ (seen c.in-Ok.request) files words c.in-Ok.ensures helps (of_told _ _ files told c.with_request.ensures.told))
+    accepted _ c.refuse.result.code _ _ _ w files words c.in-Ok.ensures helps
+    (stops _ c.refuse.result.code _ _ _ _ w files c.in-Err.stop c.in-Err.ensures.counts
+    (of_told _ _ files told c.in-Err.ensures.reads) c.refuse.ensures.code c.refuse.ensures.line))

@@ -2,7 +2,7 @@ use Rattle.tmpl.proofs.words.options_in.Goals as goal
 
 pub returns : goal.returns
 returns c = λ i. record {
-  missing = c.mode_of.ensures i;
+  missing_key = c.mode_of.ensures i;
   depth = c.depth_of.ensures.value i;
   steps = c.steps_of.ensures.value i;
 }

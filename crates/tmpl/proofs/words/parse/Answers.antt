@@ -3,11 +3,12 @@ use Rattle.std.specs.String.{string_bytes}
 use Rattle.clap.specs.Words.{App, HasKind, IsAmong, Text, fault_of, is_simple, is_simple_and_free, kind_of, matches_of}
 use Rattle.clap.specs.declared.error.ErrorKind.{ErrorKind}
 use Rattle.clap.specs.declared.error.ErrorKind.TheVariants.{OutOfMemory}
-use Rattle.tmpl.specs.Words.{HasModeNames, Modes, Parses, here, tool_app, words_fault, words_rows}
-use Rattle.tmpl.specs.declared.request.Refused.{Refused}
-use Rattle.tmpl.specs.declared.request.Refused.TheVariants as refused
-use Rattle.tmpl.proofs.Parsed.{among-some, simple, simple_and_free}
-use Rattle.tmpl.proofs.Places.{alike, faults_same, matches_same}
+use Rattle.tmpl.specs.Words.{HasModeNames, Modes, here, tool_app, words_fault, words_rows}
+use Rattle.tmpl.specs.computed.Words.{Parses}
+use Rattle.tmpl.specs.declared.words.request.Refused.{Refused}
+use Rattle.tmpl.specs.declared.words.request.Refused.TheVariants as refused
+use Rattle.tmpl.proofs.CommandLemmas.{among-some, simple, simple_and_free}
+use Rattle.tmpl.proofs.ModeNameLemmas.{alike, faults_same, matches_same}
 use Rattle.tmpl.proofs.words.parse.Goals as goal
 
 -- the command's faults are those at the one place

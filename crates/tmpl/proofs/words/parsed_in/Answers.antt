@@ -1,4 +1,4 @@
-use Rattle.tmpl.proofs.Numbers.{read-in, read-none}
+use Rattle.tmpl.proofs.NumberLemmas.{read-in, read-none}
 use Rattle.tmpl.proofs.words.parsed_in.Goals as goal
 
 pub returns-in-Ok-clause-value : goal.returns-in-Ok-clause-value

@@ -1,30 +1,38 @@
-use Rattle.std.proofs.Common.{◌≡◌, ◌∙◌, ℕ, ◌+◌, List, take, drop, Option, Some, None, arith, refl, ap, append_assoc, length-drop, sym}
+use Rattle.std.proofs.Common.{◌∙◌, List, [], ℕ, take, drop, Ok, arith, refl, length-drop, sym, add-zero}
 use Rattle.std.proofs.lemmas.List.{take-append-drop, take_rest}
 use Rattle.std.proofs.Math.Seq.{take-add}
-use Rattle.tmpl_run.specs.Sink.{appended, IsPut, sunk}
-use Rattle.tmpl_run.proofs.Told.{err_up}
+use Rattle.tmpl_values.proofs.Then.{along, none, then}
+use Rattle.tmpl_run.specs.Sink.{IsPut, as_puts}
+use Rattle.tmpl_run.specs.declared.sink.SinkFault.{SinkFault}
+use Rattle.tmpl_run.proofs.ToldLemmas.{err_up}
 use Rattle.tmpl_run.proofs.sink.put_all.Goals as goal
 
-appended-more : (old : Option (List ℕ)) (text : List ℕ) (done n : ℕ)
-    → appended (appended old (take done text)) (take n (drop done text)) ≡ appended old (take (done + n) text)
-appended-more None text done n = refl
-appended-more (Some known) text done n = rw (take-add, append_assoc) refl
-
-pub loop-done-preserved : goal.loop-done-preserved
-loop-done-preserved g c =
-    let rest = take_rest c.args.text.now c.loop-done.done in
-    let put = c.in_ok-done.ensures in
+pub loop-taken-preserved : goal.loop-taken-preserved
+loop-taken-preserved g c =
+    let rest = take_rest c.args.text.now c.loop-taken.taken in
+    let put = c.in_ok-taken.ensures in
+    let n = c.in_ok-taken.field-0 in
+    let here = as_puts (g.S.Sink.taken c.loop-taken.sink) (g.S.Sink.failures c.loop-taken.sink) in
+    let next = as_puts (g.S.Sink.taken c.put.new.self) (g.S.Sink.failures c.put.new.self) in
+    let more : IsPut {F = SinkFault} (Ok tt) here next (take n (drop c.loop-taken.taken c.args.text.now)) = record {
+      count = put.kept ∙ sym (add-zero here.failures);
+      bytes = rw rest at put.taken;
+      through = refl;
+    } in
     record {
       within = let count = rw rest at put.count.1 in omega (arith, length-drop {A = ℕ}, count);
-      taken = rw rest at put.taken ∙ ap (λ o. appended o (take c.in_ok-done.field-0 (drop c.loop-done.done c.args.text.now))) c.loop-done.invariant.taken ∙ appended-more (g.S.Sink.taken c.args.sink.now) c.args.text.now c.loop-done.done c.in_ok-done.field-0;
-      kept = put.kept ∙ c.loop-done.invariant.kept;
+      put = along (then c.loop-taken.invariant.put more) (sym (take-add c.loop-taken.taken n c.args.text.now));
     }
 
-pub returns-in_err-done : goal.returns-in_err-done
-returns-in_err-done g c =
+pub returns-in_err-taken : goal.returns-in_err-taken
+returns-in_err-taken g c =
     let text = c.args.text.now in
-    let done = c.loop-done.done in
-    let s = sunk (g.S.Sink.taken c.args.sink.now) (g.S.Sink.taken c.put.new.self) (g.S.Sink.failures c.args.sink.now) (g.S.Sink.failures c.put.new.self) in
-    let put = c.in_err-done.ensures in
-    err_up (IsPut text s) c.from_residual.result _ c.from_residual.ensures.1
-    (put.failed ∙ ap (λ n. n + 1) c.loop-done.invariant.kept, (take done text, drop done text, sym (take-append-drop done text), put.refused ∙ c.loop-done.invariant.taken))
+    let taken = c.loop-taken.taken in
+    let here = as_puts (g.S.Sink.taken c.loop-taken.sink) (g.S.Sink.failures c.loop-taken.sink) in
+    let next = as_puts (g.S.Sink.taken c.put.new.self) (g.S.Sink.failures c.put.new.self) in
+    let put = c.in_err-taken.ensures in
+    let rest : List ℕ = drop taken text in
+    let nothing = none {F = SinkFault} here in
+    let failed = err_up (λ r. IsPut r here next rest) c.from_residual.result _ c.from_residual.ensures.1
+    (record { count = put.failed; bytes = ([], rest, refl, put.refused ∙ nothing.bytes); through = refl }) in
+    along (then c.loop-taken.invariant.put failed) (take-append-drop taken text)

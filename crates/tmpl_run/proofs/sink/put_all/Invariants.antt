@@ -1,13 +1,14 @@
-use Rattle.std.proofs.Common.{length, ◌-◌, ◌≡◌, ◌≤◌, take}
-use Rattle.tmpl_run.specs.Sink.{appended}
+use Rattle.std.proofs.Common.{length, ◌-◌, ◌≤◌, take, Ok}
+use Rattle.tmpl_run.specs.Sink.{IsPut, as_puts}
+use Rattle.tmpl_run.specs.declared.sink.SinkFault.{SinkFault}
 use Rattle.tmpl_run.proofs.sink.put_all.Given as goal
 
-abbrev pub invariant-loop-done : goal.invariant-loop-done
-invariant-loop-done g l = record {
-  within : l.done ≤ length l.text;
-  taken : g.S.Sink.taken l.sink ≡ appended (g.S.Sink.taken l.initial.sink) (take l.done l.text);
-  kept : g.S.Sink.failures l.sink ≡ g.S.Sink.failures l.initial.sink;
+abbrev pub invariant-loop-taken : goal.invariant-loop-taken
+invariant-loop-taken g l = record {
+  within : l.taken ≤ length l.text;
+  put : IsPut {F = SinkFault} (Ok tt) (as_puts (g.S.Sink.taken l.initial.sink) (g.S.Sink.failures l.initial.sink))
+      (as_puts (g.S.Sink.taken l.sink) (g.S.Sink.failures l.sink)) (take l.taken l.text);
 }
 
-abbrev pub decreases-loop-done : goal.decreases-loop-done
-decreases-loop-done g l = length l.text - l.done
+abbrev pub decreases-loop-taken : goal.decreases-loop-taken
+decreases-loop-taken g l = length l.text - l.taken

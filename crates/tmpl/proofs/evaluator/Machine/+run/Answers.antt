@@ -5,9 +5,10 @@ use Rattle.tmpl_values.specs.View.{element_of, val_of}
 use Rattle.tmpl_values.proofs.Elements.{element-at}
 use Rattle.tmpl_syntax.specs.Tree.{Node, node_of, nodes_in, pipeline_of, variables_of, range_node}
 use Rattle.tmpl_run.specs.Meaning.{after_turn, stepped}
-use Rattle.tmpl.specs.Evaluator.{end_seen, run_of, setting_seen, turns_seen}
-use Rattle.tmpl.proofs.Nodes.{node_of-Range}
-use Rattle.tmpl.proofs.Ranges.{from, not-past, turn_on, turns-next}
+use Rattle.tmpl.specs.View.{end_seen, run_of, setting_seen}
+use Rattle.tmpl.specs.computed.Evaluator.{turns_seen}
+use Rattle.tmpl.proofs.NodeLemmas.{node_of-Range}
+use Rattle.tmpl.proofs.RangeLemmas.{from, not-past, turn_on, turns-next}
 use Rattle.tmpl.proofs.evaluator.Machine.+run.Goals.{turns-in-Some+in_ok-turn+in-Done, turns-in_default}
 use Rattle.tmpl.proofs.evaluator.Machine.+run.Goals as goal
 

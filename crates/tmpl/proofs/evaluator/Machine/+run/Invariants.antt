@@ -3,8 +3,9 @@ use Rattle.tmpl_values.specs.View.{val_of}
 use Rattle.tmpl_syntax.specs.Tree.{nodes_in}
 use Rattle.tmpl_run.specs.Meaning.{meanings}
 use Rattle.tmpl_values.specs.Elements.{elements}
-use Rattle.tmpl.specs.Evaluator.{run_of, setting_seen, turns_seen}
-use Rattle.tmpl.proofs.Ranges.{from}
+use Rattle.tmpl.specs.View.{run_of, setting_seen}
+use Rattle.tmpl.specs.computed.Evaluator.{turns_seen}
+use Rattle.tmpl.proofs.RangeLemmas.{from}
 use Rattle.tmpl.proofs.evaluator.Machine.+run.Given as goal
 
 -- each node and each turn of a range takes a step before what stands in it

@@ -1,0 +1,51 @@
+-- The elements of a range, one after the other.
+use Rattle.std.proofs.Common.{◌≡◌, ◌∙◌, ◌⊎◌, ◌+◌, ◌<◌, ℕ, zero, suc, sym, ap, length, drop, List, [], ◌∷◌, Some, None, Option, arith, inl, inr}
+use Rattle.std.proofs.Math.Numerals.{add-one}
+use Rattle.std.specs.Option.{option_map, unwrap_or}
+use Rattle.std.specs.List.{slice_get}
+use Rattle.tmpl_values.specs.Value.{Value}
+use Rattle.tmpl_values.specs.Elements.{Element, elements}
+use Rattle.tmpl_values.specs.Item.{item_at}
+use Rattle.tmpl_values.proofs.Elements.{at, element-at}
+use Rattle.tmpl_run.specs.Meaning.{Setting, Next, Run, after_turn}
+use Rattle.tmpl.specs.View.{end_seen}
+use Rattle.tmpl.specs.computed.Evaluator.{turn_seen, turns_seen}
+use Rattle.tmpl.specs.declared.evaluator.Loop.{Loop}
+use Rattle.tmpl.specs.declared.evaluator.End as code_end
+use Rattle.tmpl.specs.declared.evaluator.End.TheVariants as ending
+
+next-drop : (es : List Element) (i : ℕ) (e : Element) → slice_get es i ≡ Some e → drop i es ≡ e ∷ drop (suc i) es
+next-drop [] i e h = let g : None ≡ Some e = h in cc
+next-drop (x ∷ es) zero e h = ap (λ o. unwrap_or o x ∷ es) h
+next-drop (x ∷ es) (suc i) e h = next-drop es i e h
+
+past-get : (es : List Element) (i : ℕ) → i < length es → slice_get es i ≡ None → ⊥
+past-get [] i h e = omega arith
+past-get (x ∷ es) zero h e = let g : Some x ≡ None = e in cc
+past-get (x ∷ es) (suc i) h e = past-get es i (omega arith) e
+
+-- the elements from a place on
+abbrev pub from : ℕ → Option (List Element) → Option (List Element)
+from i None = None
+from i (Some es) = Some (drop i es)
+
+module _ (s : Setting) (l : Loop) (r : Run) where
+  -- from an element on
+  pub turns-next : (o : Option (List Element)) (i : ℕ) (e : Element) → at o i ≡ Some e → turns_seen s l (from i o) r ≡ after_turn (turn_seen s l e r) (turns_seen s l (from (i + 1) o))
+  turns-next None i e h = let g : None ≡ Some e = h in cc
+  turns-next (Some es) i e h =
+      ap (λ xs. turns_seen s l (Some xs) r) (next-drop es i e h)
+      ∙ ap (λ n. after_turn (turn_seen s l e r) (turns_seen s l (Some (drop n es)))) (sym (add-one i))
+
+-- there is an element at each place before the last
+pub not-past : (v : Value) (n i : ℕ) → Some n ≡ option_map length (elements v) → i < n → item_at i v ≡ None → ⊥
+not-past v n i h lt none = go (elements v) h (sym (element-at v i) ∙ none)
+  where
+    go : (o : Option (List Element)) → Some n ≡ option_map length o → at o i ≡ None → ⊥
+    go None e f = let g : Some n ≡ None = e in cc
+    go (Some es) e f = let is : n ≡ length es = ap (λ o. unwrap_or o 0) e in past-get es i (omega (arith, is, lt)) f
+
+-- the body of a range was done for an element, or went on to the next
+pub turn_on : (r : Run) (rest : Next) (end : code_end.End) → (end ≡ ending.Done) ⊎ (end ≡ ending.Continued) → after_turn (r, end_seen end) rest ≡ rest r
+turn_on r rest end (inl e) = ap (λ x. after_turn (r, end_seen x) rest) e
+turn_on r rest end (inr e) = ap (λ x. after_turn (r, end_seen x) rest) e

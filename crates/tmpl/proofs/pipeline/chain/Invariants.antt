@@ -1,8 +1,0 @@
-use Rattle.std.proofs.Common.{◌≡◌, drop}
-use Rattle.tmpl_values.specs.View.{val_of}
-use Rattle.tmpl_run.specs.Pipeline.{chain}
-use Rattle.tmpl.proofs.pipeline.chain.Given as goal
-
-abbrev pub invariant-loop-name : goal.invariant-loop-name
-invariant-loop-name l =
-    chain l.missing l.names (val_of l.initial.value) ≡ chain l.missing (drop l.name-index l.names) (val_of l.value)

@@ -1,0 +1,88 @@
+//! Files and standard streams as sources and sinks. Of these nothing is told but their failures.
+ghost use Rattle.std.specs.Prelude.{◌≡◌, None};
+
+use crate::files::source::{Source, SourceFault};
+use std::alloc::Global;
+use std::fs;
+use std::io::{ErrorKind, Write};
+use std::rt::Files;
+use tmpl_run::{Sink, SinkFault};
+
+/// The file system.
+#[derive(Drop)]
+pub(crate) struct FileSource<'a, R> {
+    rt: &'a R,
+    failures: u64,
+}
+
+impl<'a, R: Files + AllocGlobal> FileSource<'a, R> {
+    /// The file system of the runtime.
+    pub(crate) fn new(rt: &'a R) -> FileSource<'a, R>
+        ensures { result.failures ≡ 0 }
+    {
+        FileSource { rt, failures: 0 }
+    }
+}
+
+impl<'a, R: Files + AllocGlobal> Source for FileSource<'a, R> {
+    ghost contents = { λ _. None };
+
+    ghost failures = { λ s. s.failures };
+
+    fn read(&mut self, _alloc: Global, name: &str) -> Result<Vec<u8>, SourceFault> {
+        match fs::read(self.rt, name) {
+            Ok(bytes) => Ok(bytes),
+            Err(error) => match error.kind() {
+                ErrorKind::NotFound => Err(SourceFault::NotFound),
+                ErrorKind::OutOfMemory => Err(SourceFault::OutOfMemory),
+                _ => {
+                    self.failures += 1;
+                    Err(SourceFault::Failed)
+                }
+            },
+        }
+    }
+}
+
+/// A writer, such as standard output. A write of no byte is a failure.
+#[derive(Drop)]
+pub(crate) struct WriterSink<W: Drop> {
+    writer: W,
+    failures: u64,
+}
+
+impl<W: Write + Drop> WriterSink<W> {
+    /// A sink over the writer, with no failure yet.
+    pub(crate) fn new(writer: W) -> WriterSink<W>
+        ensures { result.failures ≡ 0 }
+    {
+        WriterSink {
+            writer,
+            failures: 0,
+        }
+    }
+
+    /// Flushes the writer.
+    pub(crate) fn flush(&mut self) -> Result<(), SinkFault> {
+        match self.writer.flush() {
+            Ok(()) => Ok(()),
+            Err(_) => Err(SinkFault),
+        }
+    }
+}
+
+impl<W: Write + Drop> Sink for WriterSink<W> {
+    ghost taken = { λ _. None };
+
+    ghost failures = { λ s. s.failures };
+
+    fn put(&mut self, bytes: &[u8]) -> Result<usize, SinkFault> {
+        match self.writer.write(bytes) {
+            Ok(count) if count > 0 => Ok(count),
+            _ => {
+                self.failures += 1;
+                Err(SinkFault)
+            }
+        }
+    }
+}

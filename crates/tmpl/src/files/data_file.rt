@@ -1,0 +1,48 @@
+//! The data, read and parsed.
+ghost use Rattle.std.specs.Prelude.{◌≡◌, ◌<◌, ◌^◌, ◌-◌, IfSome, option_map, Some};
+ghost use Rattle.tmpl.specs.computed.Load.{Counts, ReadsData};
+
+use crate::files::source::{Source, SourceFault};
+use crate::stop::Stop;
+use std::alloc::Global;
+use tmpl_values::{Data, DataFault};
+
+/// The data of the file of this name, or none where no file is named.
+pub(crate) fn read_data<'a, S: Source>(
+    alloc: Global,
+    source: &mut S,
+    name: Option<&'a str>,
+) -> Result<Option<Data>, Stop<'a>>
+    requires { S.failures source.old < 2 ^ 64 - 1 }
+    ensures counts { Counts (S.failures source.old) (S.failures source.new) result }
+    ensures reads { IfSome (S.contents source.old) (λ files.
+        ReadsData files (option_map (λ s. s.now) name.entry) result) }
+{
+    match name {
+        None => Ok(None),
+        Some(name) => read_named(alloc, source, name),
+    }
+}
+
+/// The data of the file of this name.
+fn read_named<'a, S: Source>(
+    alloc: Global,
+    source: &mut S,
+    name: &'a str,
+) -> Result<Option<Data>, Stop<'a>>
+    requires { S.failures source.old < 2 ^ 64 - 1 }
+    ensures counts { Counts (S.failures source.old) (S.failures source.new) result }
+    ensures reads { IfSome (S.contents source.old) (λ files.
+        ReadsData files (Some name.entry.now) result) }
+{
+    match source.read(alloc, name) {
+        Ok(bytes) => match Data::from_json(alloc, bytes.as_slice()) {
+            Ok(data) => Ok(Some(data)),
+            Err(DataFault::OutOfMemory) => Err(Stop::OutOfMemory),
+            Err(fault) => Err(Stop::Data(name, fault)),
+        },
+        Err(SourceFault::NotFound) => Err(Stop::NotFound(name)),
+        Err(SourceFault::Failed) => Err(Stop::Failed(name)),
+        Err(SourceFault::OutOfMemory) => Err(Stop::OutOfMemory),
+    }
+}

@@ -1,0 +1,38 @@
+//! What a run needs of the files: the templates, and the data.
+ghost use Rattle.std.specs.Prelude.{◌-◌, ◌^◌, ◌<◌, IfSome};
+ghost use Rattle.tmpl.specs.View.{seen};
+ghost use Rattle.tmpl.specs.computed.Load.{Counts, ReadsInputs};
+
+use crate::files::data_file::read_data;
+use crate::files::load::load_files;
+use crate::files::source::Source;
+use crate::stop::Stop;
+use crate::words::request::Request;
+use std::alloc::Global;
+use tmpl_syntax::Set;
+use tmpl_values::Data;
+
+/// What a run needs of the files.
+#[derive(Drop)]
+pub(crate) struct Inputs {
+    /// The templates of all the files.
+    pub set: Set,
+    /// The data; none where the words name no file of it.
+    pub data: Option<Data>,
+}
+
+/// Reads the templates, and then the data. A read that fails is the last one.
+pub(crate) fn read_inputs<'a, S: Source>(
+    alloc: Global,
+    request: &Request<'a>,
+    source: &mut S,
+) -> Result<Inputs, Stop<'a>>
+    requires { S.failures source.old < 2 ^ 64 - 1 }
+    ensures counts { Counts (S.failures source.old) (S.failures source.new) result }
+    ensures reads { IfSome (S.contents source.old) (λ files. ReadsInputs files (seen request.now) result) }
+{
+    let mut set = Set::new(alloc);
+    load_files(alloc, &mut set, source, request.files.as_slice())?;
+    let data = read_data(alloc, source, request.data_file)?;
+    Ok(Inputs { set, data })
+}

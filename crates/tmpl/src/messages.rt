@@ -1,0 +1,4 @@
+//! What the program says on the error sink.
+pub(crate) mod lines;
+mod part;
+mod quote;

@@ -1,0 +1,238 @@
+//! What the program says where it does not end well.
+ghost use Rattle.std.specs.Prelude.{◌≡◌, ◌≢◌, ◌<◌, ◌^◌, ◌-◌};
+ghost use Rattle.tmpl_run.specs.Sink.{IsPut, as_puts, sunk};
+ghost use Rattle.tmpl_run.specs.View.{cause_of, fault_seen};
+ghost use Rattle.tmpl.specs.Outcome.{Once, Says, memory_line, write_line};
+ghost use Rattle.tmpl.specs.Part.{joined, line};
+ghost use Rattle.tmpl.specs.Tool.{call_text, cause_pieces, data_text, fault_line, parse_text};
+ghost use Rattle.tmpl.specs.Tool.{unnamed_answer, words_answer};
+ghost use Rattle.tmpl.specs.View.{pieces_of};
+ghost use Rattle.tmpl.specs.computed.Load.{stop_answer};
+
+use crate::messages::part::{Part, put_line, put_parts};
+use crate::status::Status;
+use crate::stop::Stop;
+use tmpl_funcs::CallFault;
+use tmpl_run::{RunFault, RunFaultKind, Sink, SinkFault, put_all};
+use tmpl_syntax::ParseKind;
+use tmpl_values::DataFault;
+
+/// Says a line of these parts. A sink that fails cuts it.
+#[tactic(auto, using(crate::proofs::MessageLemmas::said))]
+fn say<E: Sink>(err: &mut E, parts: &[Part<'_>])
+    requires { E.failures err.old < 2 ^ 64 - 1 }
+    ensures cuts { Once (E.failures err.old) (E.failures err.new) }
+    ensures line { Says (line (pieces_of parts.now))
+        (sunk (E.taken err.old) (E.taken err.new) (E.failures err.old) (E.failures err.new)) }
+{
+    let _ = put_line(err, parts);
+}
+
+/// Says that the words were refused.
+pub(crate) fn words_refused<E: Sink>(err: &mut E) -> Status
+    requires { E.failures err.old < 2 ^ 64 - 1 }
+    ensures code { result.code ≡ 2 }
+    ensures cuts { Once (E.failures err.old) (E.failures err.new) }
+    ensures line { Says words_answer.line
+        (sunk (E.taken err.old) (E.taken err.new) (E.failures err.old) (E.failures err.new)) }
+{
+    let parts = [Part::Text("arguments refused; see tmpl --help")];
+    say(err, parts.as_slice());
+    Status { code: 2 }
+}
+
+/// Says that a write failed.
+pub(crate) fn write_failed<E: Sink>(err: &mut E) -> Status
+    requires { E.failures err.old < 2 ^ 64 - 1 }
+    ensures code { result.code ≡ 6 }
+    ensures cuts { Once (E.failures err.old) (E.failures err.new) }
+    ensures line { Says write_line
+        (sunk (E.taken err.old) (E.taken err.new) (E.failures err.old) (E.failures err.new)) }
+{
+    let parts = [Part::Text("write failed")];
+    say(err, parts.as_slice());
+    Status { code: 6 }
+}
+
+/// Says that memory was refused.
+pub(crate) fn out_of_memory<E: Sink>(err: &mut E) -> Status
+    requires { E.failures err.old < 2 ^ 64 - 1 }
+    ensures code { result.code ≡ 7 }
+    ensures cuts { Once (E.failures err.old) (E.failures err.new) }
+    ensures line { Says memory_line
+        (sunk (E.taken err.old) (E.taken err.new) (E.failures err.old) (E.failures err.new)) }
+{
+    let parts = [Part::Text("out of memory")];
+    say(err, parts.as_slice());
+    Status { code: 7 }
+}
+
+/// Says that there is no template of this name.
+pub(crate) fn unnamed<E: Sink>(err: &mut E, name: &[u8]) -> Status
+    requires { E.failures err.old < 2 ^ 64 - 1 }
+    ensures code { result.code ≡ 4 }
+    ensures cuts { Once (E.failures err.old) (E.failures err.new) }
+    ensures line { Says (unnamed_answer name.now).line
+        (sunk (E.taken err.old) (E.taken err.new) (E.failures err.old) (E.failures err.new)) }
+{
+    let parts = [Part::Text("no template "), Part::Quoted(name)];
+    say(err, parts.as_slice());
+    Status { code: 4 }
+}
+
+/// Why a template file was refused, in words.
+fn parse_text(kind: ParseKind) -> &'static str
+    ensures { result.now ≡ parse_text kind }
+{
+    match kind {
+        ParseKind::Unreadable => "unclosed or unreadable action",
+        ParseKind::NotAnAction => "action not understood",
+        ParseKind::OutOfPlace => "out of place",
+        ParseKind::UndeclaredVariable => "undeclared variable",
+        ParseKind::OpenAtEnd => "file ends inside a control",
+        ParseKind::NestedTooDeeply => "nested too deeply",
+        ParseKind::TooLong => "file longer than 16777216 bytes",
+        ParseKind::OutOfMemory => "out of memory",
+    }
+}
+
+/// Why data was refused, in words.
+fn data_text(fault: DataFault) -> &'static str
+    ensures { result.now ≡ data_text fault }
+{
+    match fault {
+        DataFault::NotJson => ": not JSON",
+        DataFault::NotWhole => ": number not whole or out of range",
+        DataFault::OutOfMemory => ": out of memory",
+    }
+}
+
+/// Says why the program stops.
+pub(crate) fn refuse<E: Sink>(err: &mut E, stop: &Stop<'_>) -> Status
+    requires { E.failures err.old < 2 ^ 64 - 1 }
+    ensures code { result.code ≡ (stop_answer stop.now).status }
+    ensures unlike { result.code ≢ 6 }
+    ensures cuts { Once (E.failures err.old) (E.failures err.new) }
+    ensures line { Says (stop_answer stop.now).line
+        (sunk (E.taken err.old) (E.taken err.new) (E.failures err.old) (E.failures err.new)) }
+{
+    match *stop {
+        Stop::NotFound(name) => {
+            let parts = [Part::Text(name), Part::Text(": no such file")];
+            say(err, parts.as_slice());
+            Status { code: 3 }
+        }
+        Stop::Failed(name) => {
+            let parts = [Part::Text(name), Part::Text(": read failed")];
+            say(err, parts.as_slice());
+            Status { code: 3 }
+        }
+        Stop::Template(fault) => {
+            let parts = [
+                Part::Text(fault.file),
+                Part::Text(":"),
+                Part::Number(fault.line),
+                Part::Text(": "),
+                Part::Text(parse_text(fault.kind)),
+            ];
+            say(err, parts.as_slice());
+            Status { code: 4 }
+        }
+        Stop::Data(name, fault) => {
+            let parts = [Part::Text(name), Part::Text(data_text(fault))];
+            say(err, parts.as_slice());
+            Status { code: 5 }
+        }
+        Stop::OutOfMemory => out_of_memory(err),
+    }
+}
+
+/// Why a function refused its arguments, in words.
+fn call_text(fault: CallFault) -> &'static str
+    ensures { result.now ≡ call_text fault }
+{
+    match fault {
+        CallFault::WrongCount => "wrong number of arguments",
+        CallFault::WrongKind => "wrong kind of argument",
+        CallFault::OutOfRange => "out of range",
+        CallFault::NotComparable => "can't be compared",
+        CallFault::FormatRefused => "format refused",
+        CallFault::OutOfMemory => "out of memory",
+    }
+}
+
+/// Says where and why a run failed.
+#[tactic(auto, using(crate::proofs::MessageLemmas::said))]
+pub(crate) fn run_failed<E: Sink>(err: &mut E, fault: &RunFault<'_>) -> Status
+    requires { E.failures err.old < 2 ^ 64 - 1 }
+    ensures code { result.code ≡ 1 }
+    ensures cuts { Once (E.failures err.old) (E.failures err.new) }
+    ensures line { Says (fault_line (fault_seen fault.now))
+        (sunk (E.taken err.old) (E.taken err.new) (E.failures err.old) (E.failures err.new)) }
+{
+    let _ = put_fault(err, fault);
+    Status { code: 1 }
+}
+
+/// Puts the line of a fault: where it is, and the reason.
+fn put_fault<E: Sink>(err: &mut E, fault: &RunFault<'_>) -> Result<(), SinkFault>
+    requires { E.failures err.old < 2 ^ 64 - 1 }
+    ensures { IsPut result (as_puts (E.taken err.old) (E.failures err.old))
+        (as_puts (E.taken err.new) (E.failures err.new)) (fault_line (fault_seen fault.now)) }
+{
+    let position = [
+        Part::Bytes(fault.file),
+        Part::Text(":"),
+        Part::Number(fault.line),
+        Part::Text(": in "),
+        Part::Quoted(fault.template),
+        Part::Text(": "),
+    ];
+    put_all(err, b"tmpl: ")?;
+    put_parts(err, position.as_slice())?;
+    put_reason(err, fault.kind)?;
+    put_all(err, b"\n")
+}
+
+/// Puts why a run failed.
+fn put_reason<E: Sink>(err: &mut E, kind: RunFaultKind<'_>) -> Result<(), SinkFault>
+    requires { E.failures err.old < 2 ^ 64 - 1 }
+    ensures { IsPut result (as_puts (E.taken err.old) (E.failures err.old))
+        (as_puts (E.taken err.new) (E.failures err.new)) (joined (cause_pieces (cause_of kind.entry))) }
+{
+    match kind {
+        RunFaultKind::StepsSpent(limit) => {
+            let parts = [
+                Part::Text("more than "),
+                Part::Number(limit),
+                Part::Text(" steps"),
+            ];
+            put_parts(err, parts.as_slice())
+        }
+        RunFaultKind::NoField(name) => {
+            let parts = [
+                Part::Text("no field "),
+                Part::Quoted(name),
+                Part::Text(" here"),
+            ];
+            put_parts(err, parts.as_slice())
+        }
+        RunFaultKind::NoEntry(name) => {
+            let parts = [Part::Text("no entry for key "), Part::Quoted(name)];
+            put_parts(err, parts.as_slice())
+        }
+        RunFaultKind::NotARange => {
+            put_parts(err, [Part::Text("can't range over this value")].as_slice())
+        }
+        RunFaultKind::NotAFunction => put_parts(err, [Part::Text("not a function")].as_slice()),
+        RunFaultKind::NilCommand => put_parts(err, [Part::Text("nil is not a command")].as_slice()),
+        RunFaultKind::Call(func, fault) => {
+            let parts = [
+                Part::Text(func.name()),
+                Part::Text(": "),
+                Part::Text(call_text(fault)),
+            ];
+            put_parts(err, parts.as_slice())
+        }
+    }
+}

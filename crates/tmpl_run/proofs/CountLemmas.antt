@@ -1,0 +1,15 @@
+-- How many elements a list and a map have.
+use Rattle.std.proofs.Common.{◌≡◌, length, Some}
+use Rattle.std.specs.Option.{option_map}
+use Rattle.tmpl_values.specs.Value.{Items, Entries, sequence, mapping}
+use Rattle.tmpl_values.specs.Elements.{elements}
+use Rattle.tmpl_values.specs.Item.{item_count, entry_count}
+use Rattle.tmpl_values.proofs.Elements.{count-is}
+
+pub sequence-count : (vs : Items) → Some (item_count vs) ≡ option_map length (elements (sequence vs))
+sequence-count vs = count-is (sequence vs)
+
+pub mapping-count : (es : Entries) → Some (entry_count es) ≡ option_map length (elements (mapping es))
+mapping-count es = count-is (mapping es)
+
+pub ruleset counts = (sequence-count, mapping-count)
