@@ -2,9 +2,10 @@
 use Rattle.std.proofs.Common.{◌≡◌, ◌+◌, ◌<◌, ◌≤◌, ℕ, zero, suc, Bool, false, List, [], ◌∷◌, Option, length, get_or, refl, ap, sym, subst, append_assoc, arith, ◌++◌, ◌||◌, Result, Ok, Err}
 use Rattle.std.proofs.Math.Bool.{or_assoc}
 use Rattle.tmpl_values.specs.Value.{Value}
-use Rattle.tmpl_syntax.specs.Tree.{Operand, dot, fields, variable, bool_constant, number_constant, text_constant, nil, function, group, Operands, no_operand, operand, Commands, no_command, command, operand_of, operands_in, command_of, commands_in}
-use Rattle.tmpl_syntax.specs.declared.tree.Operand as code
-use Rattle.tmpl_syntax.specs.declared.tree.Command as code_command
+use Rattle.tmpl_grammar.specs.Tree.{Operand, dot, fields, variable, bool_constant, number_constant, text_constant, nil, function, group, Operands, no_operand, operand, Commands, no_command, command}
+use Rattle.tmpl_grammar.specs.View.{operand_of, operands_in, command_of, commands_in}
+use Rattle.tmpl_grammar.specs.declared.tree.Operand as code
+use Rattle.tmpl_grammar.specs.declared.tree.Command as code_command
 use Rattle.tmpl_run.specs.Fault.{Cause}
 use Rattle.tmpl_run.specs.Pipeline.{Given, GivenAll, before, given_then, more_of, operand_count, since, stands_alone}
 

@@ -5,8 +5,9 @@ use Rattle.std.proofs.Math.Bool.{or-false}
 use Rattle.std.proofs.Math.ListN.{drop_of_length-le}
 use Rattle.std.proofs.lemmas.List.{at_drop_more}
 use Rattle.tmpl_values.specs.Value.{Value, nothing}
-use Rattle.tmpl_syntax.specs.Tree.{no_operand, operand_of, operands_in}
-use Rattle.tmpl_syntax.specs.declared.tree.Operand as code
+use Rattle.tmpl_grammar.specs.Tree.{no_operand}
+use Rattle.tmpl_grammar.specs.View.{operand_of, operands_in}
+use Rattle.tmpl_grammar.specs.declared.tree.Operand as code
 use Rattle.tmpl_run.specs.Fault.{Cause}
 use Rattle.tmpl_run.specs.Pipeline.{Given, Place, before, decided, decides, given, given_then, junction, operand_value, operand_values, since}
 use Rattle.tmpl.proofs.CallLemmas.{behind, behind-more, since-next}

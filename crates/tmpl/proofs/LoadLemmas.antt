@@ -1,7 +1,7 @@
 -- The files read so far, and those that are left.
 use Rattle.std.proofs.Common.{◌≡◌, ◌∙◌, ◌+◌, ℕ, suc, List, ◌∷◌, Option, Some, None, Ok, Err, ap, sym, arith}
 use Rattle.tmpl_syntax.specs.Set.{Template}
-use Rattle.tmpl_syntax.specs.Parse.{IsRefusal, parsed}
+use Rattle.tmpl_syntax.specs.computed.Parse.{IsRefusal, parsed}
 use Rattle.tmpl_syntax.specs.declared.fault.ParseFault.{ParseFault}
 use Rattle.tmpl_syntax.specs.declared.fault.ParseKind.{ParseKind}
 use Rattle.tmpl_syntax.specs.declared.fault.ParseKind.TheVariants as kind

@@ -7,10 +7,10 @@ use Rattle.tmpl_values.specs.Value.{Value}
 use Rattle.tmpl_values.specs.Elements.{Element, elements}
 use Rattle.tmpl_values.specs.Item.{item_at}
 use Rattle.tmpl_values.proofs.Elements.{at, element-at}
+use Rattle.tmpl_syntax.specs.declared.tree.ControlNode.{ControlNode}
 use Rattle.tmpl_run.specs.Meaning.{Setting, Next, Run, after_turn}
 use Rattle.tmpl.specs.View.{end_seen}
-use Rattle.tmpl.specs.computed.Evaluator.{turn_seen, turns_seen}
-use Rattle.tmpl.specs.declared.evaluator.Loop.{Loop}
+use Rattle.tmpl.specs.computed.Evaluator.{turn_run, turns_run}
 use Rattle.tmpl.specs.declared.evaluator.End as code_end
 use Rattle.tmpl.specs.declared.evaluator.End.TheVariants as ending
 
@@ -29,13 +29,13 @@ abbrev pub from : ℕ → Option (List Element) → Option (List Element)
 from i None = None
 from i (Some es) = Some (drop i es)
 
-module _ (s : Setting) (l : Loop) (r : Run) where
+module _ (s : Setting) (line : ℕ) (c : ControlNode) (r : Run) where
   -- from an element on
-  pub turns-next : (o : Option (List Element)) (i : ℕ) (e : Element) → at o i ≡ Some e → turns_seen s l (from i o) r ≡ after_turn (turn_seen s l e r) (turns_seen s l (from (i + 1) o))
+  pub turns-next : (o : Option (List Element)) (i : ℕ) (e : Element) → at o i ≡ Some e → turns_run s line c (from i o) r ≡ after_turn (turn_run s line c e r) (turns_run s line c (from (i + 1) o))
   turns-next None i e h = let g : None ≡ Some e = h in cc
   turns-next (Some es) i e h =
-      ap (λ xs. turns_seen s l (Some xs) r) (next-drop es i e h)
-      ∙ ap (λ n. after_turn (turn_seen s l e r) (turns_seen s l (Some (drop n es)))) (sym (add-one i))
+      ap (λ xs. turns_run s line c (Some xs) r) (next-drop es i e h)
+      ∙ ap (λ n. after_turn (turn_run s line c e r) (turns_run s line c (Some (drop n es)))) (sym (add-one i))
 
 -- there is an element at each place before the last
 pub not-past : (v : Value) (n i : ℕ) → Some n ≡ option_map length (elements v) → i < n → item_at i v ≡ None → ⊥

@@ -7,7 +7,8 @@ use Rattle.tmpl_values.specs.declared.json.DataFault.{DataFault}
 use Rattle.tmpl_values.specs.declared.json.DataFault.TheVariants as data_fault
 use Rattle.tmpl_syntax.specs.Tree.{Tree}
 use Rattle.tmpl_syntax.specs.Set.{Template, tree_named}
-use Rattle.tmpl_syntax.specs.Parse.{Refusal, base_name, parsed}
+use Rattle.tmpl_syntax.specs.Parse.{base_name}
+use Rattle.tmpl_syntax.specs.computed.Parse.{Refusal, parsed}
 use Rattle.tmpl_syntax.specs.declared.fault.ParseKind.{ParseKind}
 use Rattle.tmpl_syntax.specs.declared.fault.ParseKind.TheVariants as kind
 use Rattle.tmpl_run.specs.Sink.{Sunk}

@@ -2,11 +2,13 @@
 ghost use Rattle.std.specs.Prelude.{◌≡◌, ◌≤◌, IfOk, OnOk, Some, length, option_map};
 ghost use Rattle.tmpl_values.specs.Elements.{elements};
 ghost use Rattle.tmpl_values.specs.View.{val_of, value_of};
-ghost use Rattle.tmpl_syntax.specs.Tree.{binding_of, node_of, nodes_in, pipeline_of, tree_of, variables_of};
-ghost use Rattle.tmpl_run.specs.Meaning.{acting, bound, done, meaning, meanings, putting, ran, scope, shown};
-ghost use Rattle.tmpl_run.specs.Meaning.{starting_dot, stepped, faulted_at, with_element};
+ghost use Rattle.tmpl_grammar.specs.View.{binding_of, header_of, pipeline_of};
+ghost use Rattle.tmpl_syntax.specs.View.{node_of, nodes_in, tree_of};
+ghost use Rattle.tmpl_run.specs.Meaning.{acting, alone, done, faulted_at, meaning, meanings, putting, ran, scope};
+ghost use Rattle.tmpl_run.specs.Meaning.{shown, starting_dot, stepped, with_bound};
 ghost use Rattle.tmpl_run.specs.View.{cause_of};
-ghost use Rattle.tmpl.specs.computed.Evaluator.{HasValue, if_seen, range_seen, turn_seen, turns_seen, with_seen};
+ghost use Rattle.tmpl.specs.computed.Evaluator.{HasValue, control_run, if_run, range_run, turn_run, turns_run};
+ghost use Rattle.tmpl.specs.computed.Evaluator.{with_run};
 ghost use Rattle.tmpl.specs.View.{end_seen, ran_seen, run_of, setting_seen};
 ghost use Rattle.tmpl_run.specs.View.{value_seen};
 
@@ -18,8 +20,9 @@ use crate::evaluator::pipeline::{Place, pipeline_value};
 use crate::evaluator::rope::Rope;
 use crate::evaluator::variables::Variables;
 use std::alloc::{AllocError, Global};
+use tmpl_grammar::{Binding, Control, Header, Pipeline};
 use tmpl_run::{MissingKey, Options, RunFault, RunFaultKind, element_count, without_null};
-use tmpl_syntax::{Binding, Node, Pipeline, RangeVariables, Tree};
+use tmpl_syntax::{ControlNode, Node, NodeKind, Tree};
 use tmpl_values::{Bytes, Data, Val, put_text};
 
 /// What a run came to: its text, and the fault that ended it.
@@ -38,26 +41,6 @@ struct Setting<'a> {
     step_limit: u64,
     file: &'a [u8],
     template: &'a [u8],
-}
-
-/// An `if` or a `with`.
-#[derive(Clone, Copy)]
-struct Choice<'a> {
-    line: u64,
-    binding: &'a Binding,
-    pipeline: &'a Pipeline,
-    body: &'a [Node],
-    other: &'a [Node],
-}
-
-/// A range.
-#[derive(Clone, Copy)]
-struct Loop<'a> {
-    line: u64,
-    variables: &'a RangeVariables,
-    pipeline: &'a Pipeline,
-    body: &'a [Node],
-    other: &'a [Node],
 }
 
 /// How a part of a template ended.
@@ -129,14 +112,12 @@ impl<'a> Machine<'a> {
         ensures whole { OnOk result (self.new.text.failures ≡ 0) }
         ensures left { self.new.left ≤ self.old.left }
         ensures run { IfOk result (λ end.
-            meaning (setting_seen setting.now) (node_of node.now) (val_of dot.now) (run_of self.old)
+            meaning (setting_seen setting.now) (node_of node.now).line (node_of node.now).what (val_of dot.now)
+            (run_of self.old)
             ≡ (run_of self.new, end_seen end)) }
     {
         if self.left == 0 {
-            return Ok(setting.faulted_at(
-                node.line(),
-                RunFaultKind::StepsSpent(setting.step_limit),
-            ));
+            return Ok(setting.faulted_at(node.line, RunFaultKind::StepsSpent(setting.step_limit)));
         }
         self.left -= 1;
         self.step(setting, node, dot)
@@ -144,7 +125,7 @@ impl<'a> Machine<'a> {
 
     /// Runs a node whose step is taken.
     #[cycle(run)]
-    #[tactic(auto, using(crate::proofs::NodeLemmas::parts))]
+    #[tactic(auto, using(tmpl_syntax::proofs::ViewLemmas::controls))]
     fn step(
         &mut self,
         setting: &Setting<'a>,
@@ -155,66 +136,16 @@ impl<'a> Machine<'a> {
         ensures whole { OnOk result (self.new.text.failures ≡ 0) }
         ensures left { self.new.left ≤ self.old.left }
         ensures run { IfOk result (λ end.
-            stepped (setting_seen setting.now) (node_of node.now) (val_of dot.now) (run_of self.old)
+            stepped (setting_seen setting.now) (node_of node.now).line (node_of node.now).what (val_of dot.now)
+            (run_of self.old)
             ≡ (run_of self.new, end_seen end)) }
     {
-        match node {
-            Node::Text { line: _, bytes } => self.put(bytes),
-            Node::Action {
-                line,
-                binding,
-                pipeline,
-            } => { self.action(setting, *line, binding, pipeline, dot) }
-            Node::If {
-                line,
-                binding,
-                pipeline,
-                body,
-                other,
-            } => {
-                let choice = Choice {
-                    line: *line,
-                    binding,
-                    pipeline,
-                    body: body.as_slice(),
-                    other: other.as_slice(),
-                };
-                self.run_if(setting, &choice, dot)
-            }
-            Node::With {
-                line,
-                binding,
-                pipeline,
-                body,
-                other,
-            } => {
-                let choice = Choice {
-                    line: *line,
-                    binding,
-                    pipeline,
-                    body: body.as_slice(),
-                    other: other.as_slice(),
-                };
-                self.run_with(setting, &choice, dot)
-            }
-            Node::Range {
-                line,
-                variables,
-                pipeline,
-                body,
-                other,
-            } => {
-                let range = Loop {
-                    line: *line,
-                    variables,
-                    pipeline,
-                    body: body.as_slice(),
-                    other: other.as_slice(),
-                };
-                self.run_range(setting, &range, dot)
-            }
-            Node::Break { .. } => Ok(End::Broke),
-            Node::Continue { .. } => Ok(End::Continued),
+        match &node.what {
+            NodeKind::Text(bytes) => self.put(bytes),
+            NodeKind::Action(header) => self.action(setting, node.line, header, dot),
+            NodeKind::Control(control) => self.control(setting, node.line, control, dot),
+            NodeKind::Break => Ok(End::Broke),
+            NodeKind::Continue => Ok(End::Continued),
         }
     }
 
@@ -230,25 +161,24 @@ impl<'a> Machine<'a> {
         Ok(End::Done)
     }
 
-    /// Puts the text of a pipeline's value, or binds a variable to it.
+    /// Puts the text of a pipeline's value, or binds variables to it.
     fn action(
         &mut self,
         setting: &Setting<'a>,
         line: u64,
-        binding: &'a Binding,
-        pipeline: &'a Pipeline,
+        header: &'a Header,
         dot: &Val<'a>,
     ) -> Result<End<'a>, AllocError>
         requires { self.old.text.failures ≡ 0 }
         ensures whole { OnOk result (self.new.text.failures ≡ 0) }
         ensures left { self.new.left ≡ self.old.left }
-        ensures run { IfOk result (λ end. acting (setting_seen setting.now) line
-            (binding_of binding.now) (pipeline_of pipeline.now) (val_of dot.now) (run_of self.old)
+        ensures run { IfOk result (λ end.
+            acting (setting_seen setting.now) line (header_of header.now) (val_of dot.now) (run_of self.old)
             ≡ (run_of self.new, end_seen end)) }
     {
-        match self.value(setting, pipeline, dot)? {
+        match self.value(setting, &header.pipeline, dot)? {
             Ok(value) => {
-                self.show(binding, value)?;
+                self.show(&header.binding, value)?;
                 Ok(End::Done)
             }
             Err(kind) => Ok(setting.faulted_at(line, kind)),
@@ -278,7 +208,7 @@ impl<'a> Machine<'a> {
         Ok(given.result)
     }
 
-    /// Puts the text of a value, or binds a variable to it.
+    /// Puts the text of a value, or binds variables to it.
     fn show(&mut self, binding: &'a Binding, value: Val<'a>) -> Result<(), AllocError>
         requires { self.old.text.failures ≡ 0 }
         ensures whole { OnOk result (self.new.text.failures ≡ 0) }
@@ -291,17 +221,19 @@ impl<'a> Machine<'a> {
                 put_text(&value, &mut self.text)?;
                 Ok(())
             }
-            Binding::Declare(_) | Binding::Assign(_) => self.bind(binding, value),
+            Binding::Declare(_) | Binding::Assign(_) | Binding::DeclarePair(_) => {
+                self.bind(binding, Val::Nothing, value)
+            }
         }
     }
 
-    /// Binds a variable to a value, if there is one to bind.
-    fn bind(&mut self, binding: &'a Binding, value: Val<'a>) -> Result<(), AllocError>
+    /// Binds variables to an element of a range, by its index or key and itself. A value that is no element has neither.
+    fn bind(&mut self, binding: &'a Binding, key: Val<'a>, value: Val<'a>) -> Result<(), AllocError>
         requires { self.old.text.failures ≡ 0 }
         ensures whole { self.new.text.failures ≡ 0 }
         ensures left { self.new.left ≡ self.old.left }
         ensures run { OnOk result (run_of self.new
-            ≡ bound (binding_of binding.now) (val_of value.entry) (run_of self.old)) }
+            ≡ with_bound (binding_of binding.now) (val_of key.entry, val_of value.entry) (run_of self.old)) }
     {
         match binding {
             Binding::Unbound => Ok(()),
@@ -314,28 +246,57 @@ impl<'a> Machine<'a> {
                 self.variables.assign(name.as_slice(), value);
                 Ok(())
             }
+            Binding::DeclarePair(pair) => {
+                let value = value.into_shared(self.alloc)?;
+                self.variables.declare(pair.key.as_slice(), key)?;
+                self.variables.declare(pair.element.as_slice(), value)
+            }
         }
     }
 
-    /// Runs an `if`, whose variables last to its end.
+    /// Runs a control, whose variables last to its end.
     #[cycle(run)]
-    fn run_if(
+    fn control(
         &mut self,
         setting: &Setting<'a>,
-        choice: &Choice<'a>,
+        line: u64,
+        node: &'a ControlNode,
         dot: &Val<'a>,
     ) -> Result<End<'a>, AllocError>
         requires { self.old.text.failures ≡ 0 }
         ensures whole { OnOk result (self.new.text.failures ≡ 0) }
         ensures left { self.new.left ≤ self.old.left }
         ensures run { IfOk result (λ end.
-            scope (if_seen (setting_seen setting.now) choice.now (val_of dot.now)) (run_of self.old)
+            scope (control_run (setting_seen setting.now) line node.now (val_of dot.now)) (run_of self.old)
             ≡ (run_of self.new, end_seen end)) }
     {
         let count = self.variables.len();
-        let end = self.choose(setting, choice, dot)?;
+        let end = self.within(setting, line, node, dot)?;
         self.variables.truncate(count);
         Ok(end)
+    }
+
+    /// Runs what a control says.
+    #[cycle(run)]
+    fn within(
+        &mut self,
+        setting: &Setting<'a>,
+        line: u64,
+        node: &'a ControlNode,
+        dot: &Val<'a>,
+    ) -> Result<End<'a>, AllocError>
+        requires { self.old.text.failures ≡ 0 }
+        ensures whole { OnOk result (self.new.text.failures ≡ 0) }
+        ensures left { self.new.left ≤ self.old.left }
+        ensures run { IfOk result (λ end.
+            control_run (setting_seen setting.now) line node.now (val_of dot.now) (run_of self.old)
+            ≡ (run_of self.new, end_seen end)) }
+    {
+        match node.control {
+            Control::If => self.choose(setting, line, node, dot),
+            Control::With => self.choose_dot(setting, line, node, dot),
+            Control::Range => self.visit(setting, line, node, dot),
+        }
     }
 
     /// Runs one part of an `if`.
@@ -343,46 +304,26 @@ impl<'a> Machine<'a> {
     fn choose(
         &mut self,
         setting: &Setting<'a>,
-        choice: &Choice<'a>,
+        line: u64,
+        node: &'a ControlNode,
         dot: &Val<'a>,
     ) -> Result<End<'a>, AllocError>
         requires { self.old.text.failures ≡ 0 }
         ensures whole { OnOk result (self.new.text.failures ≡ 0) }
         ensures left { self.new.left ≤ self.old.left }
         ensures run { IfOk result (λ end.
-            if_seen (setting_seen setting.now) choice.now (val_of dot.now) (run_of self.old)
+            if_run (setting_seen setting.now) line node.now (val_of dot.now) (run_of self.old)
             ≡ (run_of self.new, end_seen end)) }
     {
-        match self.value(setting, choice.pipeline, dot)? {
+        match self.value(setting, &node.header.pipeline, dot)? {
             Ok(value) => {
                 let holds = value.truth();
-                self.bind(choice.binding, value)?;
-                let nodes = if holds { choice.body } else { choice.other };
-                self.nodes(setting, nodes, dot)
+                self.bind(&node.header.binding, Val::Nothing, value)?;
+                let nodes = if holds { &node.body } else { &node.other };
+                self.nodes(setting, nodes.as_slice(), dot)
             }
-            Err(kind) => Ok(setting.faulted_at(choice.line, kind)),
+            Err(kind) => Ok(setting.faulted_at(line, kind)),
         }
-    }
-
-    /// Runs a `with`, whose variables last to its end.
-    #[cycle(run)]
-    fn run_with(
-        &mut self,
-        setting: &Setting<'a>,
-        choice: &Choice<'a>,
-        dot: &Val<'a>,
-    ) -> Result<End<'a>, AllocError>
-        requires { self.old.text.failures ≡ 0 }
-        ensures whole { OnOk result (self.new.text.failures ≡ 0) }
-        ensures left { self.new.left ≤ self.old.left }
-        ensures run { IfOk result (λ end.
-            scope (with_seen (setting_seen setting.now) choice.now (val_of dot.now)) (run_of self.old)
-            ≡ (run_of self.new, end_seen end)) }
-    {
-        let count = self.variables.len();
-        let end = self.choose_dot(setting, choice, dot)?;
-        self.variables.truncate(count);
-        Ok(end)
     }
 
     /// Runs one part of a `with`.
@@ -390,49 +331,29 @@ impl<'a> Machine<'a> {
     fn choose_dot(
         &mut self,
         setting: &Setting<'a>,
-        choice: &Choice<'a>,
+        line: u64,
+        node: &'a ControlNode,
         dot: &Val<'a>,
     ) -> Result<End<'a>, AllocError>
         requires { self.old.text.failures ≡ 0 }
         ensures whole { OnOk result (self.new.text.failures ≡ 0) }
         ensures left { self.new.left ≤ self.old.left }
         ensures run { IfOk result (λ end.
-            with_seen (setting_seen setting.now) choice.now (val_of dot.now) (run_of self.old)
+            with_run (setting_seen setting.now) line node.now (val_of dot.now) (run_of self.old)
             ≡ (run_of self.new, end_seen end)) }
     {
-        match self.value(setting, choice.pipeline, dot)? {
+        match self.value(setting, &node.header.pipeline, dot)? {
             Ok(value) => {
                 let value = value.into_shared(self.alloc)?;
-                self.bind(choice.binding, value.share()?)?;
+                self.bind(&node.header.binding, Val::Nothing, value.share()?)?;
                 if value.truth() {
-                    self.nodes(setting, choice.body, &value)
+                    self.nodes(setting, node.body.as_slice(), &value)
                 } else {
-                    self.nodes(setting, choice.other, dot)
+                    self.nodes(setting, node.other.as_slice(), dot)
                 }
             }
-            Err(kind) => Ok(setting.faulted_at(choice.line, kind)),
+            Err(kind) => Ok(setting.faulted_at(line, kind)),
         }
-    }
-
-    /// Runs a range, whose variables last to its end.
-    #[cycle(run)]
-    fn run_range(
-        &mut self,
-        setting: &Setting<'a>,
-        range: &Loop<'a>,
-        dot: &Val<'a>,
-    ) -> Result<End<'a>, AllocError>
-        requires { self.old.text.failures ≡ 0 }
-        ensures whole { OnOk result (self.new.text.failures ≡ 0) }
-        ensures left { self.new.left ≤ self.old.left }
-        ensures run { IfOk result (λ end.
-            scope (range_seen (setting_seen setting.now) range.now (val_of dot.now)) (run_of self.old)
-            ≡ (run_of self.new, end_seen end)) }
-    {
-        let count = self.variables.len();
-        let end = self.visit(setting, range, dot)?;
-        self.variables.truncate(count);
-        Ok(end)
     }
 
     /// Visits the elements of a range, or runs its other part.
@@ -440,23 +361,24 @@ impl<'a> Machine<'a> {
     fn visit(
         &mut self,
         setting: &Setting<'a>,
-        range: &Loop<'a>,
+        line: u64,
+        node: &'a ControlNode,
         dot: &Val<'a>,
     ) -> Result<End<'a>, AllocError>
         requires { self.old.text.failures ≡ 0 }
         ensures whole { OnOk result (self.new.text.failures ≡ 0) }
         ensures left { self.new.left ≤ self.old.left }
         ensures run { IfOk result (λ end.
-            range_seen (setting_seen setting.now) range.now (val_of dot.now) (run_of self.old)
+            range_run (setting_seen setting.now) line node.now (val_of dot.now) (run_of self.old)
             ≡ (run_of self.new, end_seen end)) }
     {
-        match self.value(setting, range.pipeline, dot)? {
+        match self.value(setting, &node.header.pipeline, dot)? {
             Ok(value) => match element_count(&value) {
-                None => Ok(setting.faulted_at(range.line, RunFaultKind::NotARange)),
-                Some(0) => self.nodes(setting, range.other, dot),
-                Some(count) => self.turns(setting, range, &value, count),
+                None => Ok(setting.faulted_at(line, RunFaultKind::NotARange)),
+                Some(0) => self.nodes(setting, node.other.as_slice(), dot),
+                Some(count) => self.turns(setting, line, node, &value, count),
             },
-            Err(kind) => Ok(setting.faulted_at(range.line, kind)),
+            Err(kind) => Ok(setting.faulted_at(line, kind)),
         }
     }
 
@@ -465,7 +387,8 @@ impl<'a> Machine<'a> {
     fn turns(
         &mut self,
         setting: &Setting<'a>,
-        range: &Loop<'a>,
+        line: u64,
+        node: &'a ControlNode,
         value: &Val<'a>,
         count: u64,
     ) -> Result<End<'a>, AllocError>
@@ -474,12 +397,12 @@ impl<'a> Machine<'a> {
         ensures whole { OnOk result (self.new.text.failures ≡ 0) }
         ensures left { self.new.left ≤ self.old.left }
         ensures run { IfOk result (λ end.
-            turns_seen (setting_seen setting.now) range.now (elements (val_of value.now)) (run_of self.old)
+            turns_run (setting_seen setting.now) line node.now (elements (val_of value.now)) (run_of self.old)
             ≡ (run_of self.new, end_seen end)) }
     {
         for i in 0..count {
             if let Some((key, element)) = value.item(i) {
-                match self.turn(setting, range, key, element)? {
+                match self.turn(setting, line, node, key, element)? {
                     End::Done | End::Continued => {}
                     End::Broke => return Ok(End::Done),
                     End::Faulted(fault) => return Ok(End::Faulted(fault)),
@@ -494,52 +417,28 @@ impl<'a> Machine<'a> {
     fn turn(
         &mut self,
         setting: &Setting<'a>,
-        range: &Loop<'a>,
+        line: u64,
+        node: &'a ControlNode,
         key: Val<'a>,
         element: Val<'a>,
     ) -> Result<End<'a>, AllocError>
         requires { self.old.text.failures ≡ 0 }
         ensures whole { OnOk result (self.new.text.failures ≡ 0) }
         ensures left { self.new.left ≤ self.old.left }
-        ensures run { IfOk result (λ end. turn_seen (setting_seen setting.now) range.now
-            (val_of key.entry, val_of element.entry) (run_of self.old)
+        ensures run { IfOk result (λ end.
+            turn_run (setting_seen setting.now) line node.now (val_of key.entry, val_of element.entry)
+            (run_of self.old)
             ≡ (run_of self.new, end_seen end)) }
     {
         if self.left == 0 {
-            return Ok(setting.faulted_at(range.line, RunFaultKind::StepsSpent(setting.step_limit)));
+            return Ok(setting.faulted_at(line, RunFaultKind::StepsSpent(setting.step_limit)));
         }
         self.left -= 1;
         let count = self.variables.len();
-        self.bind_element(range.variables, key, &element)?;
-        let end = self.nodes(setting, range.body, &element)?;
+        self.bind(&node.header.binding, key, element.share()?)?;
+        let end = self.nodes(setting, node.body.as_slice(), &element)?;
         self.variables.truncate(count);
         Ok(end)
-    }
-
-    /// Binds the variables of a range to one of its elements.
-    fn bind_element(
-        &mut self,
-        names: &'a RangeVariables,
-        key: Val<'a>,
-        element: &Val<'a>,
-    ) -> Result<(), AllocError>
-        requires { self.old.text.failures ≡ 0 }
-        ensures whole { self.new.text.failures ≡ 0 }
-        ensures left { self.new.left ≡ self.old.left }
-        ensures run { OnOk result (run_of self.new ≡ with_element (variables_of names.now)
-            (val_of key.entry, val_of element.now) (run_of self.old)) }
-    {
-        match names {
-            RangeVariables::Unnamed => {}
-            RangeVariables::Element(name) => {
-                self.variables.declare(name.as_slice(), element.share()?)?
-            }
-            RangeVariables::KeyAndElement(first, second) => {
-                self.variables.declare(first.as_slice(), key)?;
-                self.variables.declare(second.as_slice(), element.share()?)?
-            }
-        }
-        Ok(())
     }
 }
 
@@ -580,7 +479,11 @@ pub(crate) fn evaluate<'a>(
     };
     machine.variables.declare(b"", dot.share()?)?;
     let end = machine.nodes(&setting, tree.nodes.as_slice(), &dot)?;
-    let Machine { text, made_text, .. } = machine;
+    let Machine {
+        text,
+        made_text,
+        ..
+    } = machine;
     match end {
         End::Faulted(fault) => Ok(Rendered {
             text,

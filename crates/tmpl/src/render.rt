@@ -1,7 +1,7 @@
 //! The template looked up and run, and its text put out.
 ghost use Rattle.std.specs.Prelude.{◌≡◌, ◌<◌, ◌^◌, ◌-◌, option_map};
 ghost use Rattle.tmpl_values.specs.View.{value_of};
-ghost use Rattle.tmpl_syntax.specs.Set.{set_view};
+ghost use Rattle.tmpl_syntax.specs.View.{set_view};
 ghost use Rattle.tmpl_run.specs.Sink.{sunk};
 ghost use Rattle.tmpl.specs.View.{ran_seen};
 ghost use Rattle.tmpl.specs.Outcome.{Counted, Once, Outcome};

@@ -4,8 +4,9 @@ use Rattle.std.specs.Prelude.{pos}
 use Rattle.tmpl_values.specs.Value.{Value, nothing, null, boolean, number, string, sequence, mapping, no_item, item, no_entry, entry}
 use Rattle.tmpl_funcs.specs.declared.func.Func.TheVariants.{And, Or, Not, Len}
 use Rattle.tmpl_funcs.specs.declared.fault.CallFault.TheVariants.{WrongCount, WrongKind}
-use Rattle.tmpl_syntax.specs.Tree as tree
-use Rattle.tmpl_syntax.specs.Tree.{Operand, dot, fields, variable, bool_constant, number_constant, text_constant, nil, function, group, Operands, no_operand, operand, Commands, no_command, command, Pipeline, pipeline, unbound, declare, assign, unnamed, element, key_and_element, Node, Nodes, Tree, text, action, if_node, with_node, range_node, break_node, continue_node}
+use Rattle.tmpl_grammar.specs.Tree.{Operand, dot, fields, variable, bool_constant, number_constant, text_constant, nil, function, group, Operands, no_operand, operand, Commands, no_command, command, Pipeline, pipeline, Binding, unbound, declare, assign, declare_pair, Header}
+use Rattle.tmpl_grammar.specs.declared.tree.Control.TheVariants as control
+use Rattle.tmpl_syntax.specs.Tree.{NodeKind, Nodes, Tree, none, then, text, action, control_node, break_node, continue_node}
 use Rattle.tmpl_run.specs.Meaning.{Ran, Cause, ran_with, steps_spent, not_a_function, nil_command, lacks_field, not_a_range, call_failed}
 use Rattle.tmpl_run.specs.Pipeline.{Given, Place, pipeline_value}
 use Rattle.tmpl_run.specs.declared.missing_key.MissingKey.TheVariants.{Default}
@@ -24,11 +25,20 @@ x = codes "x"
 abbrev only : Operand → Pipeline
 only o = pipeline (command (operand o no_operand) no_command)
 
-abbrev then : Node → Nodes → Nodes
-then = tree.then
+abbrev put : Operand → NodeKind
+put o = action (record { binding = unbound; pipeline = only o })
 
-abbrev none : Nodes
-none = tree.none
+abbrev set : Binding → Operand → NodeKind
+set b o = action (record { binding = b; pipeline = only o })
+
+abbrev if_dot : Nodes → Nodes → NodeKind
+if_dot body other = control_node control.If (record { binding = unbound; pipeline = only dot }) body other
+
+abbrev with : Operand → Nodes → Nodes → NodeKind
+with o body other = control_node control.With (record { binding = unbound; pipeline = only o }) body other
+
+abbrev range_dot : Binding → Nodes → Nodes → NodeKind
+range_dot b body other = control_node control.Range (record { binding = b; pipeline = only dot }) body other
 
 abbrev one : ℕ → Value
 one n = number (pos n)
@@ -52,53 +62,53 @@ stops bytes line cause =
 
 -- ---- control
 
-an-if-that-holds : run 9 (then (if_node 1 unbound (only dot) (then (text 1 (codes "A")) none) (then (text 1 (codes "B")) none)) none) three ≡ puts (codes "A")
+an-if-that-holds : run 9 (then 1 (if_dot (then 1 (text (codes "A")) none) (then 1 (text (codes "B")) none)) none) three ≡ puts (codes "A")
 an-if-that-holds = refl
 
-an-if-that-does-not : run 9 (then (if_node 1 unbound (only dot) (then (text 1 (codes "A")) none) (then (text 1 (codes "B")) none)) none) nothing ≡ puts (codes "B")
+an-if-that-does-not : run 9 (then 1 (if_dot (then 1 (text (codes "A")) none) (then 1 (text (codes "B")) none)) none) nothing ≡ puts (codes "B")
 an-if-that-does-not = refl
 
 -- {{with .a}}{{.}}{{end}}{{.b}}
-a-with-moves-dot : run 9 (then (with_node 1 unbound (only (fields (a ∷ []))) (then (action 1 unbound (only dot)) none) none) (then (action 1 unbound (only (fields (b ∷ [])))) none)) (mapping (entry a (string (codes "A")) (entry b (string (codes "B")) no_entry))) ≡ puts (codes "AB")
+a-with-moves-dot : run 9 (then 1 (with (fields (a ∷ [])) (then 1 (put dot) none) none) (then 1 (put (fields (b ∷ []))) none)) (mapping (entry a (string (codes "A")) (entry b (string (codes "B")) no_entry))) ≡ puts (codes "AB")
 a-with-moves-dot = refl
 
 -- {{range .}}{{.}}{{end}}
-each-element : run 9 (then (range_node 1 unnamed (only dot) (then (action 1 unbound (only dot)) none) none) none) three ≡ puts (codes "123")
+each-element : run 9 (then 1 (range_dot unbound (then 1 (put dot) none) none) none) three ≡ puts (codes "123")
 each-element = refl
 
 -- {{range $a, $b := .}}{{$a}}{{$b}}{{end}}
-keys : run 9 (then (range_node 1 (key_and_element a b) (only dot) (then (action 1 unbound (only (variable a []))) (then (action 1 unbound (only (variable b []))) none)) none) none) (mapping (entry a (string (codes "v")) no_entry)) ≡ puts (codes "av")
+keys : run 9 (then 1 (range_dot (declare_pair a b) (then 1 (put (variable a [])) (then 1 (put (variable b [])) none)) none) none) (mapping (entry a (string (codes "v")) no_entry)) ≡ puts (codes "av")
 keys = refl
 
 -- {{range .}}x{{else}}y{{end}}
-no-element : run 9 (then (range_node 1 unnamed (only dot) (then (text 1 (codes "x")) none) (then (text 1 (codes "y")) none)) none) (sequence no_item) ≡ puts (codes "y")
+no-element : run 9 (then 1 (range_dot unbound (then 1 (text (codes "x")) none) (then 1 (text (codes "y")) none)) none) (sequence no_item) ≡ puts (codes "y")
 no-element = refl
 
-not-a-range : run 9 (then (range_node 7 unnamed (only dot) (then (text 1 (codes "x")) none) (then (text 1 (codes "y")) none)) none) (one 3) ≡ stops [] 7 not_a_range
+not-a-range : run 9 (then 7 (range_dot unbound (then 1 (text (codes "x")) none) (then 1 (text (codes "y")) none)) none) (one 3) ≡ stops [] 7 not_a_range
 not-a-range = refl
 
 -- a step for the range, one for each element and one for each text
-steps-of-a-range : run 4 (then (range_node 1 unnamed (only dot) (then (text 2 (codes "x")) none) none) none) three ≡ stops (codes "x") 2 (steps_spent 4)
+steps-of-a-range : run 4 (then 1 (range_dot unbound (then 2 (text (codes "x")) none) none) none) three ≡ stops (codes "x") 2 (steps_spent 4)
 steps-of-a-range = refl
 
 -- {{$x := .}}{{range .}}{{$x = .}}{{break}}{{end}}{{$x}}: a break keeps what was assigned
-break-keeps-assignments : run 20 (then (action 1 (declare x) (only dot)) (then (range_node 1 unnamed (only dot) (then (action 1 (assign x) (only dot)) (then (break_node 1) none)) none) (then (action 1 unbound (only (variable x []))) none))) three ≡ puts (codes "1")
+break-keeps-assignments : run 20 (then 1 (set (declare x) dot) (then 1 (range_dot unbound (then 1 (set (assign x) dot) (then 1 break_node none)) none) (then 1 (put (variable x [])) none))) three ≡ puts (codes "1")
 break-keeps-assignments = refl
 
 -- {{range .}}{{with .}}{{break}}{{end}}{{end}}{{.}}: a break leaves dot as it was
-break-keeps-dot : run 20 (then (range_node 1 unnamed (only dot) (then (with_node 1 unbound (only dot) (then (break_node 1) none) none) none) none) (then (action 1 unbound (only dot)) none)) three ≡ puts (codes "[1 2 3]")
+break-keeps-dot : run 20 (then 1 (range_dot unbound (then 1 (with dot (then 1 break_node none) none) none) none) (then 1 (put dot) none)) three ≡ puts (codes "[1 2 3]")
 break-keeps-dot = refl
 
 -- {{range .}}{{range .}}{{else}}{{break}}{{end}}z{{end}}: in the else part of an inner range it ends the outer one
-break-in-an-else-part : run 20 (then (range_node 1 unnamed (only dot) (then (range_node 1 unnamed (only dot) none (then (break_node 1) none)) (then (text 1 (codes "z")) none)) none) none) (sequence (item (sequence no_item) (item (sequence no_item) no_item))) ≡ puts []
+break-in-an-else-part : run 20 (then 1 (range_dot unbound (then 1 (range_dot unbound none (then 1 break_node none)) (then 1 (text (codes "z")) none)) none) none) (sequence (item (sequence no_item) (item (sequence no_item) no_item))) ≡ puts []
 break-in-an-else-part = refl
 
 -- {{range .}}{{if .}}{{continue}}{{end}}z{{end}}
-continues : run 20 (then (range_node 1 unnamed (only dot) (then (if_node 1 unbound (only dot) (then (continue_node 1) none) none) (then (text 1 (codes "z")) none)) none) none) (sequence (item (boolean true) (item (boolean false) no_item))) ≡ puts (codes "z")
+continues : run 20 (then 1 (range_dot unbound (then 1 (if_dot (then 1 continue_node none) none) (then 1 (text (codes "z")) none)) none) none) (sequence (item (boolean true) (item (boolean false) no_item))) ≡ puts (codes "z")
 continues = refl
 
 -- {{$x := .a}}{{if .}}{{$x := .b}}{{end}}{{$x}}: what a part declares is gone behind it
-declared-in-a-part : run 20 (then (action 1 (declare x) (only (fields (a ∷ [])))) (then (if_node 1 unbound (only dot) (then (action 1 (declare x) (only (fields (b ∷ [])))) none) none) (then (action 1 unbound (only (variable x []))) none))) (mapping (entry a (string (codes "1")) (entry b (string (codes "2")) no_entry))) ≡ puts (codes "1")
+declared-in-a-part : run 20 (then 1 (set (declare x) (fields (a ∷ []))) (then 1 (if_dot (then 1 (set (declare x) (fields (b ∷ []))) none) none) (then 1 (put (variable x [])) none))) (mapping (entry a (string (codes "1")) (entry b (string (codes "2")) no_entry))) ≡ puts (codes "1")
 declared-in-a-part = refl
 
 -- ---- pipelines

@@ -6,10 +6,11 @@ use Rattle.tmpl_values.specs.Value.{Value, nothing}
 use Rattle.tmpl_values.specs.Elements.{Element, elements}
 use Rattle.tmpl_values.specs.Text.{text_of}
 use Rattle.tmpl_values.specs.Truth.{truth}
+use Rattle.tmpl_grammar.specs.Tree.{Pipeline, Binding, unbound, declare, assign, declare_pair, Header}
+use Rattle.tmpl_grammar.specs.declared.tree.Control.{Control}
+use Rattle.tmpl_grammar.specs.declared.tree.Control.TheVariants as control
 use Rattle.tmpl_syntax.specs.Tree as tree
-use Rattle.tmpl_syntax.specs.Tree.{Pipeline, Binding, unbound, declare, assign, RangeVariables, unnamed}
-use Rattle.tmpl_syntax.specs.Tree.{element, key_and_element, Node, text, action, if_node, with_node}
-use Rattle.tmpl_syntax.specs.Tree.{range_node, break_node, continue_node, Nodes, Tree, line_of}
+use Rattle.tmpl_syntax.specs.Tree.{NodeKind, text, action, control_node, break_node, continue_node, Nodes, Tree}
 pub use Rattle.tmpl_run.specs.Fault.{Cause, Fault, steps_spent, not_a_function, nil_command, lacks_field}
 pub use Rattle.tmpl_run.specs.Fault.{lacks_entry, not_a_range, call_failed}
 use Rattle.tmpl_run.specs.Pipeline.{Environment, Given, pipeline_value, without_null}
@@ -26,11 +27,12 @@ assigned name x (v ∷ env) = if bytes_eq v.0 name then (v.0, x) ∷ env else v 
 abbrev pub oldest : ℕ → Environment → Environment
 oldest n env = drop (length env - n) env
 
--- the index or key and the element of a range as its variables
-abbrev pub element_bound : RangeVariables → Element → Environment → Environment
-element_bound unnamed e env = env
-element_bound (element name) e env = (name, e.1) ∷ env
-element_bound (key_and_element key name) e env = (name, e.1) ∷ (key, e.0) ∷ env
+-- binds variables to a value: to an element of a range, by its index or key and itself
+abbrev pub bound : Binding → Element → Environment → Environment
+bound unbound e env = env
+bound (declare name) e env = (name, e.1) ∷ env
+bound (assign name) e env = assigned name e.1 env
+bound (declare_pair key name) e env = (name, e.1) ∷ (key, e.0) ∷ env
 
 -- ---- runs
 
@@ -106,21 +108,23 @@ scope part r = scoped (length r.env) (part r)
 abbrev pub putting : List ℕ → Next
 putting bytes r = (record r { text = r.text ++ bytes }, done)
 
--- binds a variable to a value
-abbrev pub bound : Binding → Value → Run → Run
-bound unbound v r = r
-bound (declare name) v r = record r { env = (name, v) ∷ r.env }
-bound (assign name) v r = record r { env = assigned name v r.env }
+abbrev pub with_bound : Binding → Element → Run → Run
+with_bound b e r = record r { env = bound b e r.env }
 
--- puts the text of a value, or binds a variable to it
+-- a value that is no element of a range, and so has no index or key
+abbrev pub alone : Value → Element
+alone v = (nothing, v)
+
+-- puts the text of a value, or binds variables to it
 abbrev pub shown : Binding → Value → Next
 shown unbound v r = putting (text_of v) r
-shown (declare name) v r = (bound (declare name) v r, done)
-shown (assign name) v r = (bound (assign name) v r, done)
+shown (declare name) v r = (with_bound (declare name) (alone v) r, done)
+shown (assign name) v r = (with_bound (assign name) (alone v) r, done)
+shown (declare_pair key name) v r = (with_bound (declare_pair key name) (alone v) r, done)
 
 -- an action
-abbrev pub acting : Setting → ℕ → Binding → Pipeline → Value → Next
-acting s line b p d = with_pipeline s line p d (shown b)
+abbrev pub acting : Setting → ℕ → Header → Value → Next
+acting s line h d = with_pipeline s line h.pipeline d (shown h.binding)
 
 -- one of two parts, by whether the value is empty
 abbrev pub one_of : Bool → Next → Next → Next
@@ -128,9 +132,9 @@ one_of true body other r = body r
 one_of false body other r = other r
 
 -- an `if` or a `with`: the body, which may take the value as its dot, where the value is not empty, else the other part
-abbrev pub choosing : Setting → ℕ → Binding → Pipeline → Value → (Value → Next) → Next → Next
-choosing s line b p d body other =
-    with_pipeline s line p d (λ v r. one_of (truth v) (body v) other (bound b v r))
+abbrev pub choosing : Setting → ℕ → Header → Value → (Value → Next) → Next → Next
+choosing s line h d body other =
+    with_pipeline s line h.pipeline d (λ v r. one_of (truth v) (body v) other (with_bound h.binding (alone v) r))
 
 -- goes on from where the body of a range ends for one element: a break ends the range
 abbrev pub on_turn : End → Run → Next → Run × End
@@ -142,51 +146,50 @@ on_turn (faulted f) r go = (r, faulted f)
 abbrev pub after_turn : Run × End → Next → Run × End
 after_turn part go = on_turn part.1 part.0 go
 
-abbrev pub with_element : RangeVariables → Element → Run → Run
-with_element names e r = record r { env = element_bound names e r.env }
-
 -- the body for one element, which costs a step and has the element as its dot
-abbrev pub turn : Setting → ℕ → RangeVariables → (Value → Next) → Element → Next
-turn s line names body e = spend s line (scope (λ r. body e.1 (with_element names e r)))
+abbrev pub turn : Setting → ℕ → Binding → (Value → Next) → Element → Next
+turn s line b body e = spend s line (scope (λ r. body e.1 (with_bound b e r)))
 
 -- the body for each element in order
-abbrev pub turns : Setting → ℕ → RangeVariables → (Value → Next) → List Element → Next
-turns s line names body [] r = (r, done)
-turns s line names body (e ∷ es) r =
-    after_turn (turn s line names body e r) (turns s line names body es)
+abbrev pub turns : Setting → ℕ → Binding → (Value → Next) → List Element → Next
+turns s line b body [] r = (r, done)
+turns s line b body (e ∷ es) r =
+    after_turn (turn s line b body e r) (turns s line b body es)
 
 -- a range over the elements, or its other part where there are none
-abbrev pub over : Setting → ℕ → RangeVariables → (Value → Next) → Next → Option (List Element) → Next
-over s line names body other None r = (r, faulted_at s line not_a_range)
-over s line names body other (Some []) r = other r
-over s line names body other (Some (e ∷ es)) r = turns s line names body (e ∷ es) r
+abbrev pub over : Setting → ℕ → Binding → (Value → Next) → Next → Option (List Element) → Next
+over s line b body other None r = (r, faulted_at s line not_a_range)
+over s line b body other (Some []) r = other r
+over s line b body other (Some (e ∷ es)) r = turns s line b body (e ∷ es) r
 
-abbrev pub ranging : Setting → ℕ → RangeVariables → Pipeline → Value → (Value → Next) → Next → Next
-ranging s line names p d body other =
-    with_pipeline s line p d (λ v. over s line names body other (elements v))
+abbrev pub ranging : Setting → ℕ → Header → Value → (Value → Next) → Next → Next
+ranging s line h d body other =
+    with_pipeline s line h.pipeline d (λ v. over s line h.binding body other (elements v))
+
+-- a control, by its body with a dot and its other part
+abbrev pub controlled : Setting → ℕ → Control → Header → Value → (Value → Next) → Next → Next
+controlled s line control.If h d body other = choosing s line h d (λ v. body d) other
+controlled s line control.With h d body other = choosing s line h d body other
+controlled s line control.Range h d body other = ranging s line h d body other
 
 abbrev mutual
-  -- a node with this dot, once its step is taken
-  pub stepped : Setting → Node → Value → Next
-  stepped s (text line bytes) d = putting bytes
-  stepped s (action line b p) d = acting s line b p d
-  stepped s (if_node line b p body other) d =
-      scope (choosing s line b p d (λ v. meanings s body d) (meanings s other d))
-  stepped s (with_node line b p body other) d =
-      scope (choosing s line b p d (λ v. meanings s body v) (meanings s other d))
-  stepped s (range_node line names p body other) d =
-      scope (ranging s line names p d (λ v. meanings s body v) (meanings s other d))
-  stepped s (break_node line) d = λ r. (r, broke)
-  stepped s (continue_node line) d = λ r. (r, continued)
+  -- a node with this dot, once its step is taken; its variables last to the end of a control
+  pub stepped : Setting → ℕ → NodeKind → Value → Next
+  stepped s line (text bytes) d = putting bytes
+  stepped s line (action h) d = acting s line h d
+  stepped s line (control_node c h body other) d =
+      scope (controlled s line c h d (λ v. meanings s body v) (meanings s other d))
+  stepped s line break_node d = λ r. (r, broke)
+  stepped s line continue_node d = λ r. (r, continued)
 
   -- the nodes one after the other, up to the first that is not done; each costs a step before anything else
   pub meanings : Setting → Nodes → Value → Next
   meanings s tree.none d r = (r, done)
-  meanings s (tree.then n ns) d r = after (spend s (line_of n) (stepped s n d) r) (meanings s ns d)
+  meanings s (tree.then line n ns) d r = after (spend s line (stepped s line n d) r) (meanings s ns d)
 
 -- a node with this dot
-abbrev pub meaning : Setting → Node → Value → Next
-meaning s n d = spend s (line_of n) (stepped s n d)
+abbrev pub meaning : Setting → ℕ → NodeKind → Value → Next
+meaning s line n d = spend s line (stepped s line n d)
 
 -- ---- whole templates
 

@@ -12,9 +12,9 @@ use Rattle.tmpl_funcs.specs.declared.func.Func.{Func}
 use Rattle.tmpl_funcs.specs.declared.func.Func.TheVariants.{And, Or}
 use Rattle.tmpl_funcs.specs.declared.fault.CallFault.{CallFault}
 use Rattle.tmpl_funcs.specs.declared.fault.CallFault.TheVariants.{WrongCount}
-use Rattle.tmpl_syntax.specs.Tree.{Operand, dot, fields, variable, bool_constant, number_constant}
-use Rattle.tmpl_syntax.specs.Tree.{text_constant, nil, function, group, Operands, no_operand, operand}
-use Rattle.tmpl_syntax.specs.Tree.{Commands, no_command, command, Pipeline, pipeline}
+use Rattle.tmpl_grammar.specs.Tree.{Operand, dot, fields, variable, bool_constant, number_constant}
+use Rattle.tmpl_grammar.specs.Tree.{text_constant, nil, function, group, Operands, no_operand, operand}
+use Rattle.tmpl_grammar.specs.Tree.{Commands, no_command, command, Pipeline, pipeline}
 use Rattle.tmpl_run.specs.Fault.{Cause, not_a_function, nil_command, lacks_field, lacks_entry, call_failed}
 use Rattle.tmpl_run.specs.declared.missing_key.MissingKey.{MissingKey}
 use Rattle.tmpl_run.specs.declared.missing_key.MissingKey.TheVariants.{Default, Invalid, Zero, Error}

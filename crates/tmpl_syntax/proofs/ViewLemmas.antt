@@ -6,7 +6,7 @@ use Rattle.tmpl_grammar.specs.declared.tree.Header as held_header
 use Rattle.tmpl_syntax.specs.Tree.{NodeKind, control_node}
 use Rattle.tmpl_syntax.specs.View.{kind_of, control_of, node_of, nodes_in}
 use Rattle.tmpl_syntax.specs.declared.tree.Node as held_node
-use Rattle.tmpl_syntax.specs.declared.tree.Node.{roll-Node}
+use Rattle.tmpl_syntax.specs.declared.tree.Node.{out-Node, roll-Node}
 use Rattle.tmpl_syntax.specs.declared.tree.ControlNode as held_node_control
 use Rattle.tmpl_syntax.specs.declared.tree.ControlNode.{out-ControlNode, roll-ControlNode}
 use Rattle.tmpl_syntax.specs.declared.tree.NodeKind as held_kind
@@ -14,6 +14,10 @@ use Rattle.tmpl_syntax.specs.declared.tree.NodeKind.{Control, the_lemmas}
 
 pub node_of-Node : (line : ℕ) (what : held_kind.NodeKind) → node_of (roll-Node (record { line = line; what = what })) ≡ record { line = line; what = kind_of what }
 node_of-Node line what = search (rules, the_lemmas)
+
+-- .. and so by its fields
+pub node_of-fields : (n : held_node.Node) → let node = out-Node n in node_of n ≡ record { line = node.line; what = kind_of node.what }
+node_of-fields n = search (rules, the_lemmas)
 
 pub kind_of-Control : (c : Box held_node_control.ControlNode Global) → kind_of (Control c) ≡ control_of c.value
 kind_of-Control c = search (rules, the_lemmas)

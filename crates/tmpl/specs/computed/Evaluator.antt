@@ -1,37 +1,43 @@
 -- The parts of the meaning that the evaluator's functions run.
-use Rattle.std.specs.Prelude.{◌≡◌, ◌||◌, List, Option, Some, None, Result}
+use Rattle.std.specs.Prelude.{ℕ, ◌≡◌, ◌||◌, List, Option, Some, None, Result}
 use Rattle.tmpl_values.specs.Value.{Value}
 use Rattle.tmpl_values.specs.Elements.{Element}
-use Rattle.tmpl_syntax.specs.Tree.{Pipeline, binding_of, nodes_in, pipeline_of, variables_of}
-use Rattle.tmpl_run.specs.Meaning.{Cause, Setting, Run, done, Next, choosing, meanings, ranging, turn, turns}
+use Rattle.tmpl_grammar.specs.Tree.{Pipeline}
+use Rattle.tmpl_grammar.specs.View.{binding_of, header_of}
+use Rattle.tmpl_syntax.specs.View.{nodes_in}
+use Rattle.tmpl_syntax.specs.declared.tree.ControlNode.{ControlNode, out-ControlNode}
+use Rattle.tmpl_run.specs.Meaning.{Cause, Setting, Run, done, Next, choosing, controlled, meanings, ranging, turn, turns}
 use Rattle.tmpl_run.specs.Pipeline.{pipeline_value}
-use Rattle.tmpl.specs.declared.evaluator.Choice.{Choice}
-use Rattle.tmpl.specs.declared.evaluator.Loop.{Loop}
 
--- an `if` with this dot
-abbrev pub if_seen : Setting → Choice → Value → Next
-if_seen s c d = choosing s c.line (binding_of c.binding.now) (pipeline_of c.pipeline.now) d
-    (λ v. meanings s (nodes_in c.body.now) d) (meanings s (nodes_in c.other.now) d)
+-- its body and its other part
+abbrev pub body_run : Setting → ControlNode → Value → Next
+body_run s c v = let node = out-ControlNode c in meanings s (nodes_in node.body.items) v
 
--- a `with` with this dot
-abbrev pub with_seen : Setting → Choice → Value → Next
-with_seen s c d = choosing s c.line (binding_of c.binding.now) (pipeline_of c.pipeline.now) d
-    (λ v. meanings s (nodes_in c.body.now) v) (meanings s (nodes_in c.other.now) d)
+abbrev pub other_run : Setting → ControlNode → Value → Next
+other_run s c d = let node = out-ControlNode c in meanings s (nodes_in node.other.items) d
 
--- a range with this dot
-abbrev pub range_seen : Setting → Loop → Value → Next
-range_seen s l d = ranging s l.line (variables_of l.variables.now) (pipeline_of l.pipeline.now) d
-    (λ v. meanings s (nodes_in l.body.now) v) (meanings s (nodes_in l.other.now) d)
+-- a control with this dot
+abbrev pub control_run : Setting → ℕ → ControlNode → Value → Next
+control_run s line c d = let node = out-ControlNode c in controlled s line node.control (header_of node.header) d (body_run s c) (other_run s c d)
 
--- the body of a range for one element
-abbrev pub turn_seen : Setting → Loop → Element → Next
-turn_seen s l e = turn s l.line (variables_of l.variables.now) (λ v. meanings s (nodes_in l.body.now) v) e
+-- .. as an `if`, as a `with` and as a range
+abbrev pub if_run : Setting → ℕ → ControlNode → Value → Next
+if_run s line c d = let node = out-ControlNode c in choosing s line (header_of node.header) d (λ v. body_run s c d) (other_run s c d)
 
--- the body of a range for each of the elements, if there are any to visit
-abbrev pub turns_seen : Setting → Loop → Option (List Element) → Next
-turns_seen s l None r = (r, done)
-turns_seen s l (Some es) r =
-    turns s l.line (variables_of l.variables.now) (λ v. meanings s (nodes_in l.body.now) v) es r
+abbrev pub with_run : Setting → ℕ → ControlNode → Value → Next
+with_run s line c d = let node = out-ControlNode c in choosing s line (header_of node.header) d (body_run s c) (other_run s c d)
+
+abbrev pub range_run : Setting → ℕ → ControlNode → Value → Next
+range_run s line c d = let node = out-ControlNode c in ranging s line (header_of node.header) d (body_run s c) (other_run s c d)
+
+-- its body for one element
+abbrev pub turn_run : Setting → ℕ → ControlNode → Element → Next
+turn_run s line c e = let node = out-ControlNode c in turn s line (binding_of node.header.binding) (body_run s c) e
+
+-- its body for each of the elements, if there are any to visit
+abbrev pub turns_run : Setting → ℕ → ControlNode → Option (List Element) → Next
+turns_run s line c None r = (r, done)
+turns_run s line c (Some es) r = let node = out-ControlNode c in turns s line (binding_of node.header.binding) (body_run s c) es r
 
 -- what a pipeline gives in a run, and the run after it
 abbrev pub HasValue : Setting → Pipeline → Value → Run → Result Value Cause → Run → Type 0

@@ -3,8 +3,9 @@ use Rattle.std.specs.Prelude.{true, false, ◌≡◌, ◌+◌, ℕ, List, Option
 use Rattle.tmpl_values.specs.Value.{Value}
 use Rattle.tmpl_values.specs.View.{value_of}
 use Rattle.tmpl_values.specs.declared.data.Data.{Data}
-use Rattle.tmpl_syntax.specs.Set.{Template, set_view}
-use Rattle.tmpl_syntax.specs.Parse.{parsed}
+use Rattle.tmpl_syntax.specs.Set.{Template}
+use Rattle.tmpl_syntax.specs.View.{set_view}
+use Rattle.tmpl_syntax.specs.computed.Parse.{parsed}
 use Rattle.tmpl_syntax.specs.declared.fault.ParseFault.{ParseFault}
 use Rattle.tmpl_syntax.specs.declared.fault.ParseKind.{ParseKind}
 use Rattle.tmpl_syntax.specs.declared.fault.ParseKind.TheVariants as kind

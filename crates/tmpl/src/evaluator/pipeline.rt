@@ -6,7 +6,7 @@ ghost use Rattle.tmpl_values.specs.View.{val_of};
 ghost use Rattle.tmpl_funcs.specs.Answer.{values_of};
 ghost use Rattle.tmpl_funcs.specs.Called.{called};
 ghost use Rattle.tmpl_funcs.specs.Func.{is_called, makes_text};
-ghost use Rattle.tmpl_syntax.specs.Tree.{commands_in, operand_of, operands_in, pipeline_of};
+ghost use Rattle.tmpl_grammar.specs.View.{commands_in, operand_of, operands_in, pipeline_of};
 ghost use Rattle.tmpl_run.specs.Pipeline as spec;
 ghost use Rattle.tmpl_run.specs.Pipeline.{chain, given};
 ghost use Rattle.tmpl_run.specs.computed.Call.{call_value};
@@ -17,8 +17,8 @@ ghost use Rattle.tmpl_run.specs.View.{value_seen};
 use crate::evaluator::variables::Variables;
 use std::alloc::{AllocError, Global};
 use tmpl_funcs::{CallFault, Func, call};
+use tmpl_grammar::{Command, Operand, Pipeline};
 use tmpl_run::{MissingKey, RunFaultKind, decides, without_null};
-use tmpl_syntax::{Command, Operand, Pipeline};
 use tmpl_values::{Bytes, Cell, Val};
 
 /// Where a pipeline stands.
@@ -351,7 +351,7 @@ fn last_of<'a>(last: Val<'a>, piped: Option<Val<'a>>) -> Val<'a>
 
 /// The value of an operand as an argument.
 #[cycle(value)]
-#[tactic(auto, using(crate::proofs::GroupLemmas::group_seen))]
+#[tactic(auto, using(tmpl_grammar::proofs::ViewLemmas::group_seen))]
 fn operand_value<'a>(
     alloc: Global,
     place: &Place<'_, 'a>,

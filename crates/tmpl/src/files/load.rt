@@ -1,6 +1,6 @@
 //! Each FILE in turn, read and then parsed.
 ghost use Rattle.std.specs.Prelude.{◌≡◌, ◌<◌, ◌^◌, ◌-◌, IfSome, map};
-ghost use Rattle.tmpl_syntax.specs.Set.{set_view};
+ghost use Rattle.tmpl_syntax.specs.View.{set_view};
 ghost use Rattle.tmpl.specs.computed.Load.{Adds, Counts, LoadsFiles, LoadsFile, stop_by};
 
 use crate::files::source::{Source, SourceFault};

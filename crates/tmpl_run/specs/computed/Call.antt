@@ -3,7 +3,7 @@ use Rattle.std.specs.Prelude.{false, true, Option}
 use Rattle.tmpl_values.specs.Value.{Value, nothing}
 use Rattle.tmpl_funcs.specs.Func.{takes}
 use Rattle.tmpl_funcs.specs.declared.func.Func.{Func}
-use Rattle.tmpl_syntax.specs.Tree.{Operands}
+use Rattle.tmpl_grammar.specs.Tree.{Operands}
 use Rattle.tmpl_run.specs.Pipeline.{Given, Place, argument_count, by_function, counted, junction, operand_values}
 
 -- a call with operands and perhaps a piped value

@@ -1,6 +1,7 @@
 use Rattle.std.proofs.Common.{◌∙◌, ap, sym, subst, option_map}
 use Rattle.tmpl_values.specs.View.{value_of}
-use Rattle.tmpl_syntax.specs.Set.{set_view, tree_named}
+use Rattle.tmpl_syntax.specs.Set.{tree_named}
+use Rattle.tmpl_syntax.specs.View.{set_view}
 use Rattle.tmpl_run.specs.Sink.{sunk}
 use Rattle.tmpl.specs.Source.{Bytes}
 use Rattle.tmpl.specs.Outcome.{Outcome}

@@ -2,7 +2,7 @@ use Rattle.std.proofs.Common.{◌≡◌, ◌∙◌, ap, sym, map, rules, false, 
 use Rattle.std.specs.String.{string_bytes}
 use Rattle.std.specs.Option.{option_map}
 use Rattle.tmpl_values.specs.View.{value_of}
-use Rattle.tmpl_syntax.specs.Set.{set_view}
+use Rattle.tmpl_syntax.specs.View.{set_view}
 use Rattle.tmpl.specs.Help.{asks_help}
 use Rattle.tmpl.specs.Tool.{asked_name, rendered}
 use Rattle.tmpl.specs.View.{seen}
@@ -24,8 +24,8 @@ returns-in-Ok-read_inputs-clause-told g c =
     (inl (
       c.in-Ok-read_inputs.ensures.counts,
       outcome_as _ c.render.result.code _ _ _
-      (reads ∙ ap (rendered w.options (asked_name w.name w.files) (set_view inputs.set)) (sym same))
-      c.render.ensures.outcome,
+          (reads ∙ ap (rendered w.options (asked_name w.name w.files) (set_view inputs.set)) (sym same))
+          c.render.ensures.outcome,
     )))
 
 pub returns-in-Ok-clause-told : goal.returns-in-Ok-clause-told

@@ -3,59 +3,63 @@ use Rattle.tmpl_values.specs.Elements.{elements}
 use Rattle.std.specs.Option.{option_map}
 use Rattle.tmpl_values.specs.View.{element_of, val_of}
 use Rattle.tmpl_values.proofs.Elements.{element-at}
-use Rattle.tmpl_syntax.specs.Tree.{Node, node_of, nodes_in, pipeline_of, variables_of, range_node}
+use Rattle.tmpl_grammar.specs.View.{pipeline_of}
+use Rattle.tmpl_syntax.specs.View.{kind_of, node_of}
+use Rattle.tmpl_syntax.specs.Tree.{Node}
+use Rattle.tmpl_syntax.specs.declared.tree.Node.{out-Node}
+use Rattle.tmpl_syntax.proofs.ViewLemmas.{control_seen, kind_of-fields, node_of-fields}
 use Rattle.tmpl_run.specs.Meaning.{after_turn, stepped}
 use Rattle.tmpl.specs.View.{end_seen, run_of, setting_seen}
-use Rattle.tmpl.specs.computed.Evaluator.{turns_seen}
-use Rattle.tmpl.proofs.NodeLemmas.{node_of-Range}
+use Rattle.tmpl.specs.computed.Evaluator.{turns_run}
 use Rattle.tmpl.proofs.RangeLemmas.{from, not-past, turn_on, turns-next}
 use Rattle.tmpl.proofs.evaluator.Machine.+run.Goals.{turns-in-Some+in_ok-turn+in-Done, turns-in_default}
 use Rattle.tmpl.proofs.evaluator.Machine.+run.Goals as goal
 
-pub step-returns-in-Range-clause-run : goal.step-returns-in-Range-clause-run
-step-returns-in-Range-clause-run t c =
-    let node = c.in-Range in
-    let seen : node_of c.args.node.now ≡ range_node node.line (variables_of node.variables) (pipeline_of node.pipeline) (nodes_in c.as_slice-in-Range.result.now) (nodes_in c.as_slice-in-Range-2.result.now) =
-    ap node_of node.is ∙ node_of-Range _ _ _ _ _
-    ∙ ap (λ body. range_node node.line (variables_of node.variables) (pipeline_of node.pipeline) (nodes_in body) (nodes_in node.other.items)) (sym c.as_slice-in-Range.ensures.value)
-    ∙ ap (λ other. range_node node.line (variables_of node.variables) (pipeline_of node.pipeline) (nodes_in c.as_slice-in-Range.result.now) (nodes_in other)) (sym c.as_slice-in-Range-2.ensures.value) in
-    subst (λ (n : Node). IfOk c.run_range.result (λ end. stepped (setting_seen c.args.setting.now) n (val_of c.args.dot.now) (run_of c.args.self.now) ≡ (run_of c.run_range.new.self, end_seen end))) (sym seen) c.run_range.ensures.run
+pub step-returns-in-Control-clause-run : goal.step-returns-in-Control-clause-run
+step-returns-in-Control-clause-run t c =
+    let node = out-Node c.args.node.now in
+    let seen : node_of c.args.node.now ≡ record { line = node.line; what = control_seen c.deref.result.now } =
+    node_of-fields c.args.node.now ∙ ap (λ k. record { line = node.line; what = k }) (ap kind_of c.in-Control.is ∙ kind_of-fields c.in-Control.control ∙ ap control_seen (sym c.deref.ensures)) in
+    subst (λ (n : Node). IfOk c.control.result (λ end. stepped (setting_seen c.args.setting.now) n.line n.what (val_of c.args.dot.now) (run_of c.args.self.now) ≡ (run_of c.control.new.self, end_seen end))) (sym seen) c.control.ensures.run
 
 pub turns-returns-in-Broke-clause-run : goal.turns-returns-in-Broke-clause-run
 turns-returns-in-Broke-clause-run t c =
     let s = setting_seen c.args.setting.now in
-    let l = c.args.range.now in
+    let node = c.args.node.now in
+    let line = c.args.line in
     let v = val_of c.args.value.now in
     let i = c.loop-i.i in
-    let rest = turns_seen s l (from (i + 1) (elements v)) in
+    let rest = turns_run s line node (from (i + 1) (elements v)) in
     c.loop-i.invariant.run
-    ∙ turns-next s l (run_of c.loop-i.self) (elements v) i (val_of c.in-Some.key, val_of c.in-Some.element) (sym (element-at v i) ∙ sym c.in-Some.ensures.value)
+    ∙ turns-next s line node (run_of c.loop-i.self) (elements v) i (val_of c.in-Some.key, val_of c.in-Some.element) (sym (element-at v i) ∙ sym c.in-Some.ensures.value)
     ∙ ap (λ part. after_turn part rest) c.in_ok-turn.ensures.run
     ∙ ap (λ end. after_turn (run_of c.turn.new.self, end_seen end) rest) c.in-Broke.is
 
 pub turns-returns-in-Faulted-clause-run : goal.turns-returns-in-Faulted-clause-run
 turns-returns-in-Faulted-clause-run t c =
     let s = setting_seen c.args.setting.now in
-    let l = c.args.range.now in
+    let node = c.args.node.now in
+    let line = c.args.line in
     let v = val_of c.args.value.now in
     let i = c.loop-i.i in
-    let rest = turns_seen s l (from (i + 1) (elements v)) in
+    let rest = turns_run s line node (from (i + 1) (elements v)) in
     c.loop-i.invariant.run
-    ∙ turns-next s l (run_of c.loop-i.self) (elements v) i (val_of c.in-Some.key, val_of c.in-Some.element) (sym (element-at v i) ∙ sym c.in-Some.ensures.value)
+    ∙ turns-next s line node (run_of c.loop-i.self) (elements v) i (val_of c.in-Some.key, val_of c.in-Some.element) (sym (element-at v i) ∙ sym c.in-Some.ensures.value)
     ∙ ap (λ part. after_turn part rest) c.in_ok-turn.ensures.run
     ∙ ap (λ end. after_turn (run_of c.turn.new.self, end_seen end) rest) c.in-Faulted.is
 
 pub turns-loop-i-preserved : goal.turns-loop-i-preserved
 turns-loop-i-preserved t c =
     let s = setting_seen c.args.setting.now in
-    let l = c.args.range.now in
+    let node = c.args.node.now in
+    let line = c.args.line in
     let v = val_of c.args.value.now in
     let i = c.loop-i.i in
-    let rest = turns_seen s l (from (i + 1) (elements v)) in
+    let rest = turns_run s line node (from (i + 1) (elements v)) in
     elim c.match-item.branch [
       | turns-in-Some+in_ok-turn+in-Done w ↦
           let goes_on = c.loop-i.invariant.run
-          ∙ turns-next s l (run_of c.loop-i.self) (elements v) i (val_of w.in-Some.key, val_of w.in-Some.element) (sym (element-at v i) ∙ sym w.in-Some.ensures.value)
+          ∙ turns-next s line node (run_of c.loop-i.self) (elements v) i (val_of w.in-Some.key, val_of w.in-Some.element) (sym (element-at v i) ∙ sym w.in-Some.ensures.value)
           ∙ ap (λ part. after_turn part rest) w.in_ok-turn.ensures.run in
           record {
             whole = ap (λ m. m.text.failures) w.self-is ∙ w.in_ok-turn.ensures.whole;

@@ -2,7 +2,7 @@ use Rattle.std.proofs.Common.{◌∙◌, ap, arith, sym, Result}
 use Rattle.std.specs.Option.{option_map, unwrap_or}
 use Rattle.std.proofs.lemmas.List.{map-append}
 use Rattle.tmpl_values.specs.declared.value.Cell.{Cell}
-use Rattle.tmpl_syntax.specs.Tree.{operands_in}
+use Rattle.tmpl_grammar.specs.View.{operands_in}
 use Rattle.tmpl_values.specs.View.{val_of}
 use Rattle.tmpl_values.specs.declared.value.Val.{Val}
 use Rattle.tmpl_funcs.specs.Answer.{values_of}

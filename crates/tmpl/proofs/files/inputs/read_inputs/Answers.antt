@@ -1,5 +1,6 @@
 use Rattle.std.proofs.Common.{◌≡◌, ◌∙◌, ap, sym, subst, map, [], List, Bor, None, Ok}
-use Rattle.tmpl_syntax.specs.Set.{Template, set_view}
+use Rattle.tmpl_syntax.specs.Set.{Template}
+use Rattle.tmpl_syntax.specs.View.{set_view}
 use Rattle.tmpl.specs.Source.{Bytes}
 use Rattle.tmpl.specs.Tool.{loaded}
 use Rattle.tmpl.specs.View.{seen}

@@ -1,5 +1,5 @@
 use Rattle.std.proofs.Common.{ap, refl, subst, sym}
-use Rattle.tmpl_syntax.specs.Set.{set_view}
+use Rattle.tmpl_syntax.specs.View.{set_view}
 use Rattle.tmpl.specs.computed.Load.{AddStops}
 use Rattle.tmpl.specs.declared.stop.Stop.{Stop}
 use Rattle.tmpl.proofs.LoadLemmas.{add_stops}

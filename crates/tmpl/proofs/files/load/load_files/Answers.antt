@@ -1,6 +1,6 @@
 use Rattle.std.proofs.Common.{◌∙◌, ◌+◌, map, drop, None, List, Bor}
 use Rattle.std.proofs.lemmas.List.{at_drop_more, at_drop_all}
-use Rattle.tmpl_syntax.specs.Set.{set_view}
+use Rattle.tmpl_syntax.specs.View.{set_view}
 use Rattle.tmpl.specs.Source.{Bytes}
 use Rattle.tmpl.specs.Tool.{loaded}
 use Rattle.tmpl.specs.computed.Load.{LoadsFiles}

@@ -1,5 +1,5 @@
 use Rattle.std.proofs.Common.{◌≡◌, IfSome, map, drop}
-use Rattle.tmpl_syntax.specs.Set.{set_view}
+use Rattle.tmpl_syntax.specs.View.{set_view}
 use Rattle.tmpl.proofs.LoadLemmas.{ComesTo}
 use Rattle.tmpl.proofs.files.load.load_files.Given as goal
 
