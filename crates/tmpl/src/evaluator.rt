@@ -580,7 +580,11 @@ pub(crate) fn evaluate<'a>(
     };
     machine.variables.declare(b"", dot.share()?)?;
     let end = machine.nodes(&setting, tree.nodes.as_slice(), &dot)?;
-    let Machine { text, made_text, .. } = machine;
+    let Machine {
+        text,
+        made_text,
+        ..
+    } = machine;
     match end {
         End::Faulted(fault) => Ok(Rendered {
             text,

@@ -51,14 +51,7 @@ pub fn tool<S: Source, O: Sink, E: Sink>(
     }
     match request_of(alloc, words) {
         Ok(request) => match read_inputs(alloc, &request, source) {
-            Ok(inputs) => render(
-                alloc,
-                &request,
-                &inputs.set,
-                inputs.data.as_ref(),
-                out,
-                err,
-            ),
+            Ok(inputs) => render(alloc, &request, &inputs.set, inputs.data.as_ref(), out, err),
             Err(stop) => refuse(err, &stop),
         },
         Err(Refused::Words) => words_refused(err),

@@ -24,8 +24,8 @@ returns-in-Ok-read_inputs-clause-told g c =
     (inl (
       c.in-Ok-read_inputs.ensures.counts,
       outcome_as _ c.render.result.code _ _ _
-      (reads ∙ ap (rendered w.options (asked_name w.name w.files) (set_view inputs.set)) (sym same))
-      c.render.ensures.outcome,
+          (reads ∙ ap (rendered w.options (asked_name w.name w.files) (set_view inputs.set)) (sym same))
+          c.render.ensures.outcome,
     )))
 
 pub returns-in-Ok-clause-told : goal.returns-in-Ok-clause-told
