@@ -1,5 +1,5 @@
 -- The program stops, or goes on, as the definition does.
-use Rattle.std.proofs.Common.{◌≡◌, ◌∙◌, ◌+◌, ℕ, true, false, List, [], Option, Some, None, Ok, Err, ap, sym, subst, inl, inr}
+use Rattle.std.proofs.Common.{◌≡◌, ◌∙◌, ℕ, true, false, List, [], Option, Some, None, Ok, Err, ap, sym, subst, inl, inr}
 use Rattle.tmpl_values.specs.Value.{Value}
 use Rattle.tmpl_syntax.specs.Set.{Template, tree_named}
 use Rattle.tmpl_run.specs.Sink.{Sunk, sunk}
