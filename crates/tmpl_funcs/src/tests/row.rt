@@ -35,8 +35,8 @@ fn text_of_json(
     func: Func,
     json: &[u8],
 ) -> Result<Result<Vec<u8>, CallFault>, Fail> {
-    let held = Data::from_json(alloc, json)?;
-    match Val::of(&held) {
+    let datum = Data::from_json(alloc, json)?;
+    match Val::of(&datum) {
         Val::List(items) => text_of(alloc, func, values_in(alloc, items)?),
         _ => Ok(Err(CallFault::WrongCount)),
     }

@@ -2,7 +2,7 @@ use Rattle.std.proofs.Common.{◌≡◌, ◌∙◌, Ok, ap, sym, rules, w64, ℤ
 use Rattle.std.proofs.lemmas.Int.{to_z-of_z}
 use Rattle.tmpl_values.specs.View.{items_of}
 use Rattle.tmpl_funcs.specs.Index.{item_of}
-use Rattle.tmpl_funcs.proofs.Places.{item_of-within, item_of-past}
+use Rattle.tmpl_funcs.proofs.IndexLemmas.{item_of-within, item_of-past}
 use Rattle.tmpl_funcs.proofs.index.list_item.Goals as goal
 
 pub returns-then-i-items-clause-table : goal.returns-then-i-items-clause-table

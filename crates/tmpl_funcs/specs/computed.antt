@@ -1,0 +1,5 @@
+pub mod Class
+pub mod Escape
+pub mod Format
+pub mod Join
+pub mod Reading
