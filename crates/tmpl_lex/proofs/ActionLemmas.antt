@@ -81,9 +81,9 @@ behind-nil (Some i) = refl
 pub IsReadTo-start : (bs : List ℕ) (ts : List declared.Token) → ts ≡ [] → IsReadTo bs (map token_of ts) bs
 IsReadTo-start bs ts e = record { same = sym (behind-nil (inside bs)) ∙ ap (λ us. behind (map token_of us) (inside bs)) (sym e) }
 
-behind_more : (ts : List Token) (t : Token) (o : Option Inside) → behind ts (with_token t o) ≡ behind (ts ++ t ∷ []) o
-behind_more ts t None = refl
-behind_more ts t (Some i) = ap (λ (us : List Token). Some (us, i.1)) (sym (append_assoc ts (t ∷ []) i.0))
+behind-with_token : (ts : List Token) (t : Token) (o : Option Inside) → behind ts (with_token t o) ≡ behind (ts ++ t ∷ []) o
+behind-with_token ts t None = refl
+behind-with_token ts t (Some i) = ap (λ (us : List Token). Some (us, i.1)) (sym (append_assoc ts (t ∷ []) i.0))
 
 -- one token more was read
 pub IsReadTo-more : (all bs rest : List ℕ) (old new : List declared.Token) (t : declared.Token) → IsReadTo all (map token_of old) bs → None ≡ right_delimiter bs → Some (token_of t) ≡ front_token bs → new ≡ old ++ t ∷ [] → rest ≡ drop (length t.bytes.now) bs → IsReadTo all (map token_of new) rest
@@ -91,7 +91,7 @@ IsReadTo-more all bs rest old new t so_far on here grown left = record {
   same =
       so_far.same
       ∙ ap (behind (map token_of old)) (inside-token bs (token_of t) on here)
-      ∙ behind_more (map token_of old) (token_of t) (inside (drop (length t.bytes.now) bs))
+      ∙ behind-with_token (map token_of old) (token_of t) (inside (drop (length t.bytes.now) bs))
       ∙ ap (λ ts. behind ts (inside (drop (length t.bytes.now) bs))) (sym (ap (map token_of) grown ∙ map-append token_of old (t ∷ [])))
       ∙ ap (λ r. behind (map token_of new) (inside r)) (sym left);
 }

@@ -75,6 +75,22 @@ texts-put old mid right left line count before taken kept text e f n t put =
     ∙ ap (λ k. old ++ text_piece (line + k) text) (n ∙ ap newlines e)
     ∙ ap (λ xs. old ++ text_piece (line + newlines (take (leading right before) before)) xs) (t ∙ ap (without_trailing left) f)
 
+-- what a step of the cut has added: a text, and what a `{{` begins, on the line that it stands on
+pub record IsAdded (right : Bool) (line : ℕ) (before after : List ℕ) (here : ℕ) (old mid new : List Piece) (o : Opened) : Type 0 where
+  pub line_is : here ≡ line + newlines before
+  pub put : mid ≡ old ++ texts right (left_marked after) line before
+  pub grown : new ≡ mid ++ pieces_of (line + newlines before) o
+
+pub IsAdded-step : (right : Bool) (line first second : ℕ) (before after taken kept text : List ℕ) (old mid new : List Piece) (o : Opened) → taken ≡ take (leading right before) before → kept ≡ without_leading right before
+    → first ≡ newlines taken → second ≡ newlines kept → text ≡ without_trailing (left_marked after) kept → mid ≡ old ++ text_piece (line + first) text → new ≡ mid ++ pieces_of (line + first + second) o
+    → IsAdded right line before after (line + first + second) old mid new o
+IsAdded-step right line first second before after taken kept text old mid new o e f n m t put grown =
+    let here : line + first + second ≡ line + newlines before = omega (arith, newlines-split right before taken kept e f, n, m) in record {
+      line_is = here;
+      put = texts-put old mid right (left_marked after) line first before taken kept text e f n t put;
+      grown = grown ∙ ap (λ k. mid ++ pieces_of k o) here;
+    }
+
 -- with no marker behind it all is kept
 pub without_trailing-unmarked : (bs : List ℕ) → bs ≡ without_trailing false bs
 without_trailing-unmarked bs = sym (take_all (length bs - 0) bs (omega arith))
@@ -90,8 +106,8 @@ Completed-start file pieces e = record { completes = λ more h. subst (λ d. Cut
 
 module _ (file : List ℕ) (old mid new : List Piece) (right : Bool) (line : ℕ) (bs before after : List ℕ) (so_far : Completed file old right line bs)
     (here : Some (before, after) ≡ split_open bs) (put : mid ≡ old ++ texts right (left_marked after) line before) where
-  joined : (now more : List Piece) → new ≡ mid ++ now → new ++ more ≡ old ++ (texts right (left_marked after) line before ++ (now ++ more))
-  joined now more grown =
+  append-joined : (now more : List Piece) → new ≡ mid ++ now → new ++ more ≡ old ++ (texts right (left_marked after) line before ++ (now ++ more))
+  append-joined now more grown =
       ap (λ d. d ++ more) (grown ∙ ap (λ d. d ++ now) put)
       ∙ append_assoc (old ++ texts right (left_marked after) line before) now more
       ∙ append_assoc old (texts right (left_marked after) line before) (now ++ more)
@@ -101,14 +117,14 @@ module _ (file : List ℕ) (old mid new : List Piece) (right : Bool) (line : ℕ
     completes = λ more cuts.
         let same : e ≡ end = cc in
         let on = subst (λ (x : End). Cuts x.trims (line + newlines before + newlines (stretch after x.rest)) x.rest more) same (subst (λ (k : ℕ). Cuts e.trims k e.rest more) n cuts) in
-        subst (λ d. Cuts false 1 file d) (sym (joined [] more grown))
+        subst (λ d. Cuts false 1 file d) (sym (append-joined [] more grown))
         (so_far.completes (texts right (left_marked after) line before ++ more) (dropped (sym here) (opened-comment (past_left after) end (sym is)) on));
   }
   Completed-more (tokens ts end) e next is at grown n = record {
     completes = λ more cuts.
         let same : e ≡ end = cc in
         let on = subst (λ (x : End). Cuts x.trims (line + newlines before + newlines (stretch after x.rest)) x.rest more) same (subst (λ (k : ℕ). Cuts e.trims k e.rest more) n cuts) in
-        subst (λ d. Cuts false 1 file d) (sym (joined (action (line + newlines before) ts ∷ []) more grown))
+        subst (λ d. Cuts false 1 file d) (sym (append-joined (action (line + newlines before) ts ∷ []) more grown))
         (so_far.completes (texts right (left_marked after) line before ++ action (line + newlines before) ts ∷ more) (let acted = opened-tokens (past_left after) ts end (sym is) in closed (sym here) acted.0 acted.1 on));
   }
   Completed-more neither e next is at grown n = let g : ◌≡◌ {A = Option End} (Some e) None = at in cc
@@ -117,7 +133,7 @@ module _ (file : List ℕ) (old mid new : List Piece) (right : Bool) (line : ℕ
   Completed-unclosed (comment end) is at grown = let g : ◌≡◌ {A = Option End} None (Some end) = at in cc
   Completed-unclosed (tokens ts end) is at grown = let g : ◌≡◌ {A = Option End} None (Some end) = at in cc
   Completed-unclosed neither is at grown =
-      subst (λ d. Cuts false 1 file d) (sym (sym (append-nil new) ∙ joined (unreadable (line + newlines before) ∷ []) [] grown))
+      subst (λ d. Cuts false 1 file d) (sym (sym (append-nil new) ∙ append-joined (unreadable (line + newlines before) ∷ []) [] grown))
       (so_far.completes (texts right (left_marked after) line before ++ unreadable (line + newlines before) ∷ []) (let open_one = opened-neither (past_left after) (sym is) in unclosed (sym here) open_one.0 open_one.1.1))
 
 pub Completed-last : (file : List ℕ) (old new : List Piece) (right : Bool) (line : ℕ) (bs : List ℕ) → Completed file old right line bs → None ≡ split_open bs → new ≡ old ++ texts right false line bs → Cuts false 1 file new

@@ -1,12 +1,12 @@
-use Rattle.std.proofs.Common.{◌≡◌, ◌+◌, ◌++◌, Some, None, false, arith, sym, ap, ◌∙◌, map, option_map}
+use Rattle.std.proofs.Common.{◌≡◌, ◌+◌, Some, None, false, arith, sym, ap, ◌∙◌, map, option_map}
 use Rattle.tmpl_lex.specs.View.{piece_of, end_of}
-use Rattle.tmpl_lex.specs.Trim.{left_marked, past_left}
-use Rattle.tmpl_lex.specs.Text.{without_trailing, newlines, texts}
+use Rattle.tmpl_lex.specs.Trim.{past_left}
+use Rattle.tmpl_lex.specs.Text.{without_trailing, newlines}
 use Rattle.tmpl_lex.specs.Cut.{stretch}
 use Rattle.tmpl_lex.specs.computed.Action.{opened}
-use Rattle.tmpl_lex.specs.computed.Cut.{ends_at, pieces_of}
+use Rattle.tmpl_lex.specs.computed.Cut.{ends_at}
 use Rattle.tmpl_lex.specs.computed.View.{opened_of}
-use Rattle.tmpl_lex.proofs.CutLemmas.{Completed-more, Completed-unclosed, Completed-last, split_open-shorter, opened-past_left-shorter, newlines-within, newlines-split, texts-put, without_trailing-unmarked, Cuts-cut_of}
+use Rattle.tmpl_lex.proofs.CutLemmas.{Completed-more, Completed-unclosed, Completed-last, split_open-shorter, opened-past_left-shorter, newlines-within, newlines-split, texts-put, without_trailing-unmarked, Cuts-cut_of, IsAdded-step}
 use Rattle.tmpl_lex.proofs.cutter.cut.Goals as goal
 
 pub stretch-requires : goal.stretch-requires
@@ -40,35 +40,27 @@ loop-before-smaller c =
 
 pub loop-before-preserved : goal.loop-before-preserved
 loop-before-preserved c =
-    let file = c.args.bytes.now in
     let bs = c.loop-before.rest.now in
     let before = c.in-Some.before.now in
     let after = c.in-Some.after.now in
-    let taken = c.split_leading.result.0.now in
-    let kept = c.split_leading.result.1.now in
     let end = end_of c.in-Some-2.end in
     let line = c.loop-before.line + newlines before in
-    let at_here = c.loop-before.line + c.newlines-line.result + c.newlines-line-in-Some.result in
     let old = map piece_of c.loop-before.pieces.items in
     let mid = map piece_of c.push_text.new.pieces.items in
     let new = map piece_of c.push_opened.new.pieces.items in
     let o = opened_of c.in_ok-opened.opened in
     let read : o ≡ opened (past_left after) = c.in_ok-opened.ensures ∙ ap opened c.past_left.ensures in
     let at : Some end ≡ ends_at o = sym (ap (option_map end_of) c.in-Some-2.is) ∙ c.in_ok-end.ensures.end in
-    let counted = newlines-split c.loop-before.trims before taken kept c.split_leading.ensures.taken c.split_leading.ensures.kept in
-    let here : at_here ≡ line = omega (arith, counted, c.newlines-line.ensures.value, c.newlines-line-in-Some.ensures.value) in
-    let put : mid ≡ old ++ texts c.loop-before.trims (left_marked after) c.loop-before.line before =
-    texts-put old mid c.loop-before.trims (left_marked after) c.loop-before.line c.newlines-line.result before taken kept c.without_trailing.result.now
-    c.split_leading.ensures.taken c.split_leading.ensures.kept c.newlines-line.ensures.value
-    (c.without_trailing.ensures ∙ ap (λ t. without_trailing t kept) c.left_marked.ensures) c.in_ok-push_text.ensures in
-    let grown : new ≡ mid ++ pieces_of line o = c.in_ok-end.ensures.pieces ∙ ap (λ n. mid ++ pieces_of n o) here in
-    let next : at_here + c.newlines-line-in-Some-2.result ≡ line + newlines (stretch after end.rest) =
-    ap (λ n. n + c.newlines-line-in-Some-2.result) here
+    let added = IsAdded-step c.loop-before.trims c.loop-before.line c.newlines-line.result c.newlines-line-in-Some.result before after c.split_leading.result.0.now c.split_leading.result.1.now c.without_trailing.result.now
+    old mid new o c.split_leading.ensures.taken c.split_leading.ensures.kept c.newlines-line.ensures.value c.newlines-line-in-Some.ensures.value
+    (c.without_trailing.ensures ∙ ap (λ t. without_trailing t c.split_leading.result.1.now) c.left_marked.ensures) c.in_ok-push_text.ensures c.in_ok-end.ensures.pieces in
+    let next : c.loop-before.line + c.newlines-line.result + c.newlines-line-in-Some.result + c.newlines-line-in-Some-2.result ≡ line + newlines (stretch after end.rest) =
+    ap (λ n. n + c.newlines-line-in-Some-2.result) added.line_is
     ∙ ap (λ n. line + n) (c.newlines-line-in-Some-2.ensures.value ∙ ap newlines c.stretch.ensures) in
     let shorter = split_open-shorter bs before after end c.in-Some.ensures (at ∙ ap ends_at read) in
     let lines = newlines-within before after end.rest shorter.1 in
     record {
-      so_far = Completed-more file old mid new c.loop-before.trims c.loop-before.line bs before after c.loop-before.invariant.so_far c.in-Some.ensures put o end _ read at grown next;
+      so_far = Completed-more c.args.bytes.now old mid new c.loop-before.trims c.loop-before.line bs before after c.loop-before.invariant.so_far c.in-Some.ensures added.put o end _ read at added.grown next;
       within = omega (arith, c.loop-before.invariant.within, shorter.0, shorter.1, lines, next);
     }
 
@@ -76,24 +68,16 @@ pub returns-in_default-2-clause-cuts : goal.returns-in_default-2-clause-cuts
 returns-in_default-2-clause-cuts c =
     let before = c.in-Some.before.now in
     let after = c.in-Some.after.now in
-    let taken = c.split_leading.result.0.now in
-    let kept = c.split_leading.result.1.now in
-    let line = c.loop-before.line + newlines before in
-    let at_here = c.loop-before.line + c.newlines-line.result + c.newlines-line-in-Some.result in
     let old = map piece_of c.loop-before.pieces.items in
     let mid = map piece_of c.push_text.new.pieces.items in
     let new = map piece_of c.push_opened.new.pieces.items in
     let o = opened_of c.in_ok-opened.opened in
     let read : o ≡ opened (past_left after) = c.in_ok-opened.ensures ∙ ap opened c.past_left.ensures in
     let at : None ≡ ends_at o = sym (ap (option_map end_of) c.in_default-2.is) ∙ c.in_ok-end.ensures.end in
-    let counted = newlines-split c.loop-before.trims before taken kept c.split_leading.ensures.taken c.split_leading.ensures.kept in
-    let here : at_here ≡ line = omega (arith, counted, c.newlines-line.ensures.value, c.newlines-line-in-Some.ensures.value) in
-    let put : mid ≡ old ++ texts c.loop-before.trims (left_marked after) c.loop-before.line before =
-    texts-put old mid c.loop-before.trims (left_marked after) c.loop-before.line c.newlines-line.result before taken kept c.without_trailing.result.now
-    c.split_leading.ensures.taken c.split_leading.ensures.kept c.newlines-line.ensures.value
-    (c.without_trailing.ensures ∙ ap (λ t. without_trailing t kept) c.left_marked.ensures) c.in_ok-push_text.ensures in
-    let grown : new ≡ mid ++ pieces_of line o = c.in_ok-end.ensures.pieces ∙ ap (λ n. mid ++ pieces_of n o) here in
-    Completed-unclosed c.args.bytes.now old mid new c.loop-before.trims c.loop-before.line c.loop-before.rest.now before after c.loop-before.invariant.so_far c.in-Some.ensures put o read at grown
+    let added = IsAdded-step c.loop-before.trims c.loop-before.line c.newlines-line.result c.newlines-line-in-Some.result before after c.split_leading.result.0.now c.split_leading.result.1.now c.without_trailing.result.now
+    old mid new o c.split_leading.ensures.taken c.split_leading.ensures.kept c.newlines-line.ensures.value c.newlines-line-in-Some.ensures.value
+    (c.without_trailing.ensures ∙ ap (λ t. without_trailing t c.split_leading.result.1.now) c.left_marked.ensures) c.in_ok-push_text.ensures c.in_ok-end.ensures.pieces in
+    Completed-unclosed c.args.bytes.now old mid new c.loop-before.trims c.loop-before.line c.loop-before.rest.now before after c.loop-before.invariant.so_far c.in-Some.ensures added.put o read at added.grown
 
 pub returns-in_default-2-clause-value : goal.returns-in_default-2-clause-value
 returns-in_default-2-clause-value c = Cuts-cut_of c.args.bytes.now (map piece_of c.push_opened.new.pieces.items) (returns-in_default-2-clause-cuts c)
