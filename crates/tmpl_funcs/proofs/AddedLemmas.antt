@@ -61,8 +61,8 @@ IsAdded-refused format all vs ws front old mid new fault.OutOfMemory so_far h = 
 
 module _ (bs : List ℕ) (some : 0 < length bs) (plain : is_plain (get_or bs 0 0) ≡ true) (cells : List Cell) (x : Cell) (there : 1 ≤ length cells) (is : x ≡ get_or cells 0 x)
     (form : Form) (rest : List ℕ) (f : Spelled) (read : form_at bs ≡ Some f) (same : form ≡ form_of f) (all : bs ≡ spelled f ++ rest) where
-  form_first : formatted (37 ∷ bs) (values_of cells) ≡ both (printed form (val_of x.val)) (formatted rest (drop 1 (values_of cells)))
-  form_first =
+  formatted-first_form : formatted (37 ∷ bs) (values_of cells) ≡ both (printed form (val_of x.val)) (formatted rest (drop 1 (values_of cells)))
+  formatted-first_form =
       ap (formatted (37 ∷ bs)) (values_of-first cells x there is) ∙
       formatted-form bs some plain f (val_of x.val) (drop 1 (values_of cells)) rest read all ∙
       ap (λ (g : Form). both (printed g (val_of x.val)) (formatted rest (drop 1 (values_of cells)))) (sym same)
@@ -74,14 +74,14 @@ module _ (bs : List ℕ) (some : 0 < length bs) (plain : is_plain (get_or bs 0 0
       let t = option_map-Some (printed form (val_of x.val)) old new h in (
         t.0,
         t.2,
-        form_first ∙ ap (λ p. both p (formatted rest (drop 1 (values_of cells)))) t.1,
+        formatted-first_form ∙ ap (λ p. both p (formatted rest (drop 1 (values_of cells)))) t.1,
         omega (arith, length-values_of cells),
         omega (arith, ap length all, length-append (spelled f) rest),
       )
 
   -- it was refused
   pub formatted-form_none : printed form (val_of x.val) ≡ None → formatted (37 ∷ bs) (values_of cells) ≡ None
-  formatted-form_none h = form_first ∙ ap (λ p. both p (formatted rest (drop 1 (values_of cells)))) h
+  formatted-form_none h = formatted-first_form ∙ ap (λ p. both p (formatted rest (drop 1 (values_of cells)))) h
 
 -- bytes that are not none, by the first
 pub cons-take : (bs : List ℕ) (b : ℕ) → 1 ≤ length bs → get_or bs 0 0 ≡ b → bs ≡ b ∷ take (length bs - 1) (drop 1 bs)
@@ -89,17 +89,17 @@ cons-take [] b some is = absurd (omega arith)
 cons-take (c ∷ bs) b some is =
     ap (λ d. d ∷ bs) is ∙ ap (λ r. b ∷ r) (sym (take_all (suc (length bs) - 1) bs (omega arith)))
 
-is_percent : (b : ℕ) (t : Bool) (n : ℕ) → is_plain b ≡ t → cond t (1 + n) 0 ≡ 0 → b ≡ 37
-is_percent b true n is h = absurd (omega arith)
-is_percent b false n is h = grind (arith, nat_tests)
+is_plain-percent : (b : ℕ) (t : Bool) (n : ℕ) → is_plain b ≡ t → cond t (1 + n) 0 ≡ 0 → b ≡ 37
+is_plain-percent b true n is h = absurd (omega arith)
+is_plain-percent b false n is h = grind (arith, nat_tests)
 
-first_percent : (bs : List ℕ) → 0 < length bs → prefix_len is_plain bs ≡ 0 → get_or bs 0 0 ≡ 37
-first_percent [] some h = absurd (omega arith)
-first_percent (b ∷ bs) some h = is_percent b (is_plain b) (prefix_len is_plain bs) refl h
+prefix_len-percent : (bs : List ℕ) → 0 < length bs → prefix_len is_plain bs ≡ 0 → get_or bs 0 0 ≡ 37
+prefix_len-percent [] some h = absurd (omega arith)
+prefix_len-percent (b ∷ bs) some h = is_plain-percent b (is_plain b) (prefix_len is_plain bs) refl h
 
 -- a format that begins with no run begins with `%`
 pub percent-take : (bs : List ℕ) (n : ℕ) → 0 < length bs → n ≡ prefix_len is_plain bs → n ≤ 0 → bs ≡ 37 ∷ take (length bs - 1) (drop 1 bs)
-percent-take bs n some is none = cons-take bs 37 (omega arith) (first_percent bs some (omega arith))
+percent-take bs n some is none = cons-take bs 37 (omega arith) (prefix_len-percent bs some (omega arith))
 
 -- a run was added
 pub formatted-run_added : (bs : List ℕ) (n : ℕ) (vs : List Value) (old new : List ℕ) → n ≡ prefix_len is_plain bs → 0 < n → n ≤ length bs → new ≡ old ++ take n bs

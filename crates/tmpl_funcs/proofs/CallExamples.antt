@@ -11,9 +11,9 @@ use Rattle.tmpl_funcs.specs.declared.func.Func.TheVariants as func
 use Rattle.tmpl_funcs.specs.declared.fault.CallFault.TheVariants.{WrongCount, OutOfRange, NotComparable, FormatRefused}
 
 -- a space stands only between two neighbours of which neither is a string
-print-row : called func.Print (number (pos 1) ∷ number (pos 2) ∷ string (codes "a") ∷ number (pos 3) ∷ nothing ∷ []) ≡ Ok (string (codes "1 2a3 <nil>"))
+print_row : called func.Print (number (pos 1) ∷ number (pos 2) ∷ string (codes "a") ∷ number (pos 3) ∷ nothing ∷ []) ≡ Ok (string (codes "1 2a3 <nil>"))
 unfolding digits
-print-row = refl
+print_row = refl
 
 -- the first pair decides, and a pair that can't be compared is a fault before an equal one
 eq_row : called func.Eq (number (pos 1) ∷ number (pos 1) ∷ string (codes "x") ∷ []) ≡ Ok (boolean true)

@@ -17,34 +17,34 @@ pub IsRead-along : {asked asked' : Option Spelled} {all all' : List ℕ} (read :
 IsRead-along {asked} {asked'} {all} {all'} read h e w =
     subst (λ (bs : List ℕ). IsRead asked' bs read) w (subst (λ (o : Option Spelled). IsRead o all read) e h)
 
-pick_by : (t : Bool) (b k : ℕ) (w v : Verb) (rest : Option Verb) → (b == k) ≡ t → letter w ≡ k → (rest ≡ Some v → letter v ≡ b) → (if t then Some w else rest) ≡ Some v → letter v ≡ b
-pick_by true b k w v rest test is more h =
+letter-pick_by : (t : Bool) (b k : ℕ) (w v : Verb) (rest : Option Verb) → (b == k) ≡ t → letter w ≡ k → (rest ≡ Some v → letter v ≡ b) → (if t then Some w else rest) ≡ Some v → letter v ≡ b
+letter-pick_by true b k w v rest test is more h =
     let same : b ≡ k = grind (arith, nat_tests) in
     let one : w ≡ v = cc in
     sym (ap letter one) ∙ is ∙ sym same
-pick_by false b k w v rest test is more h = more h
+letter-pick_by false b k w v rest test is more h = more h
 
-pick : (b k : ℕ) (w v : Verb) (rest : Option Verb) → letter w ≡ k → (rest ≡ Some v → letter v ≡ b) → (if b == k then Some w else rest) ≡ Some v → letter v ≡ b
-pick b k w v rest is more h = pick_by (b == k) b k w v rest refl is more h
+letter-pick : (b k : ℕ) (w v : Verb) (rest : Option Verb) → letter w ≡ k → (rest ≡ Some v → letter v ≡ b) → (if b == k then Some w else rest) ≡ Some v → letter v ≡ b
+letter-pick b k w v rest is more h = letter-pick_by (b == k) b k w v rest refl is more h
 
 -- the letter of the verb of a letter
 pub letter-verb_of : (b : ℕ) (v : Verb) → verb_of b ≡ Some v → letter v ≡ b
 letter-verb_of b v =
-    pick b 118 verb.Value v _ refl (
-    pick b 100 verb.Decimal v _ refl (
-    pick b 111 verb.Octal v _ refl (
-    pick b 98 verb.Binary v _ refl (
-    pick b 120 verb.Hex v _ refl (
-    pick b 88 verb.UpperHex v _ refl (
-    pick b 115 verb.Text v _ refl (
-    pick b 113 verb.Quoted v _ refl (
-    pick b 99 verb.Char v _ refl (
-    pick b 116 verb.Truth v None refl (λ h. cc))))))))))
+    letter-pick b 118 verb.Value v _ refl (
+    letter-pick b 100 verb.Decimal v _ refl (
+    letter-pick b 111 verb.Octal v _ refl (
+    letter-pick b 98 verb.Binary v _ refl (
+    letter-pick b 120 verb.Hex v _ refl (
+    letter-pick b 88 verb.UpperHex v _ refl (
+    letter-pick b 115 verb.Text v _ refl (
+    letter-pick b 113 verb.Quoted v _ refl (
+    letter-pick b 99 verb.Char v _ refl (
+    letter-pick b 116 verb.Truth v None refl (λ h. cc))))))))))
 
 module _ (flags width : List ℕ) (p : Option (List ℕ)) (b : ℕ) (bs : List ℕ) (v : Verb) (form : Form) (is : letter v ≡ b) where
-  made_by : (t : Bool) → option_map form_of (form_if t flags width p v) ≡ Some form
+  form_if-made : (t : Bool) → option_map form_of (form_if t flags width p v) ≡ Some form
       → (x : Spelled) × (form_if t flags width p v ≡ Some x) × (form ≡ form_of x) × (flags ++ (width ++ (pointed p ++ b ∷ bs)) ≡ spelled x ++ bs)
-  made_by true h =
+  form_if-made true h =
       let x : Spelled = record { flags = flags; width = width; precision = p; verb = v } in
       let same : form_of x ≡ form = cc in (
         x,
@@ -52,7 +52,7 @@ module _ (flags width : List ℕ) (p : Option (List ℕ)) (b : ℕ) (bs : List �
         sym same,
         sym (simp append_assoc (ap (λ c. flags ++ (width ++ (pointed p ++ c ∷ bs))) is)),
       )
-  made_by false h = cc
+  form_if-made false h = cc
 
 -- the form whose verb stands at the front
 pub verb_behind-read : (flags width : List ℕ) (p : Option (List ℕ)) (bytes : List ℕ) (v : Verb) (form : Form) → 1 ≤ length bytes → verb_of (get_or bytes 0 0) ≡ Some v
@@ -60,7 +60,7 @@ pub verb_behind-read : (flags width : List ℕ) (p : Option (List ℕ)) (bytes :
     → (x : Spelled) × (verb_behind flags width p bytes ≡ Some x) × (form ≡ form_of x) × (flags ++ (width ++ (pointed p ++ bytes)) ≡ spelled x ++ take (length bytes - 1) (drop 1 bytes))
 verb_behind-read flags width p [] v form h e m = absurd (omega arith)
 verb_behind-read flags width p (b ∷ bs) v form h e m =
-    let made = made_by flags width p b bs v form (letter-verb_of b v e) _ m in
+    let made = form_if-made flags width p b bs v form (letter-verb_of b v e) _ m in
     let all : take (length (b ∷ bs) - 1) bs ≡ bs = take_all (suc (length bs) - 1) bs (omega arith) in
     (made.0, ap (form_by flags width p) e ∙ made.1, made.2, made.3 ∙ ap (λ r. spelled made.0 ++ r) (sym all))
 

@@ -57,9 +57,9 @@ first_piece-plain b bs h = let e : (b == 37) ≡ false = not-true (b == 37) h in
 pub first_piece-form : (b : ℕ) (bs : List ℕ) (f : Option Spelled) → is_plain b ≡ true → form_at (b ∷ bs) ≡ f → first_piece (37 ∷ b ∷ bs) ≡ form_piece f
 first_piece-form b bs f h is = let e : (b == 37) ≡ false = not-true (b == 37) h in rw e (ap form_piece is)
 
-plain_first : (b : ℕ) (bs : List ℕ) (t : Bool) → is_plain b ≡ t → 0 < cond t (1 + prefix_len is_plain bs) 0 → is_plain b ≡ true
-plain_first b bs true is h = is
-plain_first b bs false is h = absurd (omega arith)
+is_plain-first : (b : ℕ) (bs : List ℕ) (t : Bool) → is_plain b ≡ t → 0 < cond t (1 + prefix_len is_plain bs) 0 → is_plain b ≡ true
+is_plain-first b bs true is h = is
+is_plain-first b bs false is h = absurd (omega arith)
 
 drop-behind : (n b : ℕ) (bs : List ℕ) → 0 < n → drop (n - 1) bs ≡ drop n (b ∷ bs)
 drop-behind zero b bs h = absurd (omega arith)
@@ -71,7 +71,7 @@ unfolding formatted
 formatted-run [] n vs is h = absurd (omega arith)
 formatted-run (b ∷ bs) n vs is h =
     let run : List ℕ = take_while is_plain (b ∷ bs) in
-    let plain : is_plain b ≡ true = plain_first b bs (is_plain b) refl (subst (λ k. 0 < k) is h) in
+    let plain : is_plain b ≡ true = is_plain-first b bs (is_plain b) refl (subst (λ k. 0 < k) is h) in
     let long : length run ≡ n = omega (arith, is, length-take (prefix_len is_plain (b ∷ bs)) (b ∷ bs), prefix_len-le-length is_plain (b ∷ bs)) in
     formatted-first b bs vs (Some (literal run)) (first_piece-plain b bs plain) ∙
     filled-literal run (reading (drop (length run - 1) bs)) vs ∙
@@ -89,16 +89,16 @@ pub formatted-lone : (vs : List Value) → formatted (37 ∷ []) vs ≡ None
 formatted-lone vs = formatted-first 37 [] vs None refl
 
 module _ (bs : List ℕ) (some : 0 < length bs) (plain : is_plain (get_or bs 0 0) ≡ true) where
-  first_form : (cs : List ℕ) → 0 < length cs → is_plain (get_or cs 0 0) ≡ true → (f : Option Spelled) → form_at cs ≡ f → first_piece (37 ∷ cs) ≡ form_piece f
-  first_form [] h p f is = absurd (omega arith)
-  first_form (c ∷ cs) h p f is = first_piece-form c cs f p is
+  first_piece-form_first : (cs : List ℕ) → 0 < length cs → is_plain (get_or cs 0 0) ≡ true → (f : Option Spelled) → form_at cs ≡ f → first_piece (37 ∷ cs) ≡ form_piece f
+  first_piece-form_first [] h p f is = absurd (omega arith)
+  first_piece-form_first (c ∷ cs) h p f is = first_piece-form c cs f p is
 
   -- a form at the front, and its value
   pub formatted-form : (f : Spelled) (v : Value) (vs : List Value) (rest : List ℕ) → form_at bs ≡ Some f → bs ≡ spelled f ++ rest → formatted (37 ∷ bs) (v ∷ vs) ≡ both (printed (form_of f) v) (formatted rest vs)
   unfolding formatted
   formatted-form f v vs rest is spells =
       let n : suc (length (spelled f)) - 1 ≡ length (spelled f) = omega arith in
-      formatted-first 37 bs (v ∷ vs) (Some (form f)) (first_form bs some plain (Some f) is) ∙
+      formatted-first 37 bs (v ∷ vs) (Some (form f)) (first_piece-form_first bs some plain (Some f) is) ∙
       filled-form f (reading (drop (suc (length (spelled f)) - 1) bs)) v vs ∙
       ap (λ k. both (printed (form_of f) v) (filled (reading (drop k bs)) vs)) n ∙
       ap (λ cs. both (printed (form_of f) v) (filled (reading (drop (length (spelled f)) cs)) vs)) spells ∙
@@ -107,11 +107,11 @@ module _ (bs : List ℕ) (some : 0 < length bs) (plain : is_plain (get_or bs 0 0
   -- a form at the front, and no value
   pub formatted-form_alone : (f : Spelled) → form_at bs ≡ Some f → formatted (37 ∷ bs) [] ≡ None
   formatted-form_alone f is =
-      formatted-first 37 bs [] (Some (form f)) (first_form bs some plain (Some f) is) ∙ filled-form_alone f (reading (drop (suc (length (spelled f)) - 1) bs))
+      formatted-first 37 bs [] (Some (form f)) (first_piece-form_first bs some plain (Some f) is) ∙ filled-form_alone f (reading (drop (suc (length (spelled f)) - 1) bs))
 
   -- no form at the front
   pub formatted-no_form : (vs : List Value) → form_at bs ≡ None → formatted (37 ∷ bs) vs ≡ None
-  formatted-no_form vs is = formatted-first 37 bs vs None (first_form bs some plain None is)
+  formatted-no_form vs is = formatted-first 37 bs vs None (first_piece-form_first bs some plain None is)
 
 -- nothing is left
 pub formatted-nil : formatted [] [] ≡ Some []

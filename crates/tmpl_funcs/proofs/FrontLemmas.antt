@@ -30,23 +30,23 @@ module _ (p : ℕ → Bool) where
   pub behind-append : (xs ys : List ℕ) → list_all p xs ≡ true → begins p ys ≡ false → behind p (xs ++ ys) ≡ ys
   behind-append xs ys all stop = ap (λ n. drop n (xs ++ ys)) (prefix_len-append xs ys all stop) ∙ drop-append_seam xs ys
 
-  front_by : (t : Bool) (b : ℕ) (bs : List ℕ) → p b ≡ t → list_all p (take_while p bs) ≡ true → list_all p (take (cond t (suc (prefix_len p bs)) 0) (b ∷ bs)) ≡ true
-  front_by true b bs is all = rw is all
-  front_by false b bs is all = refl
+  list_all-by : (t : Bool) (b : ℕ) (bs : List ℕ) → p b ≡ t → list_all p (take_while p bs) ≡ true → list_all p (take (cond t (suc (prefix_len p bs)) 0) (b ∷ bs)) ≡ true
+  list_all-by true b bs is all = rw is all
+  list_all-by false b bs is all = refl
 
   -- the front passes
   pub list_all-take_while : (bs : List ℕ) → list_all p (take_while p bs) ≡ true
   list_all-take_while [] = refl
-  list_all-take_while (b ∷ bs) = ap (λ n. list_all p (take n (b ∷ bs))) (prefix_len-cons (p b) b bs refl) ∙ front_by (p b) b bs refl (list_all-take_while bs)
+  list_all-take_while (b ∷ bs) = ap (λ n. list_all p (take n (b ∷ bs))) (prefix_len-cons (p b) b bs refl) ∙ list_all-by (p b) b bs refl (list_all-take_while bs)
 
-  stops_by : (t : Bool) (b : ℕ) (bs : List ℕ) → p b ≡ t → begins p (behind p bs) ≡ false → begins p (drop (cond t (suc (prefix_len p bs)) 0) (b ∷ bs)) ≡ false
-  stops_by true b bs is stop = stop
-  stops_by false b bs is stop = is
+  begins-by : (t : Bool) (b : ℕ) (bs : List ℕ) → p b ≡ t → begins p (behind p bs) ≡ false → begins p (drop (cond t (suc (prefix_len p bs)) 0) (b ∷ bs)) ≡ false
+  begins-by true b bs is stop = stop
+  begins-by false b bs is stop = is
 
   -- and what stands behind it does not
   pub begins-behind : (bs : List ℕ) → begins p (behind p bs) ≡ false
   begins-behind [] = refl
-  begins-behind (b ∷ bs) = ap (λ n. begins p (drop n (b ∷ bs))) (prefix_len-cons (p b) b bs refl) ∙ stops_by (p b) b bs refl (begins-behind bs)
+  begins-behind (b ∷ bs) = ap (λ n. begins p (drop n (b ∷ bs))) (prefix_len-cons (p b) b bs refl) ∙ begins-by (p b) b bs refl (begins-behind bs)
 
   -- the front and what stands behind it are the whole
   pub take_while-behind : (bs : List ℕ) → take_while p bs ++ behind p bs ≡ bs

@@ -117,7 +117,8 @@ fn add_escape_of_all(escape: Escape, bytes: &mut Vec<u8>) -> Result<(), AllocErr
 }
 
 impl Escape {
-    /// How many bytes the escape of a text has, by which memory is reserved; the most that there can be where they are more.
+    /// How many bytes the escape of a text has, by which memory is reserved, and the most that a text may have where
+    /// they would be more.
     pub(crate) fn escaped_len(self, text: &[u8]) -> usize {
         let mut len = text.len();
         for byte in text {

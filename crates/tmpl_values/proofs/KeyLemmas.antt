@@ -28,16 +28,16 @@ if-false true x y h = cc
 if-false false x y h = refl
 
 -- a key below the first is below all
-above : (k : List ℕ) (es : List Entry) (i : ℕ) (d : Entry) → IsBelow k (entries_of es) → AreRising (entries_of es) → i < length es → order k (get_or es i d).0 ≡ Less
-above k [] i d b r h = absurd (omega arith)
-above k (e ∷ es) zero d b r h = b
-above k (e ∷ es) (suc i) d b r h = nat_list_cmp_total.trans k e.0 _ b (above e.0 es i d r.0 r.1 (omega arith))
+IsBelow-all : (k : List ℕ) (es : List Entry) (i : ℕ) (d : Entry) → IsBelow k (entries_of es) → AreRising (entries_of es) → i < length es → order k (get_or es i d).0 ≡ Less
+IsBelow-all k [] i d b r h = absurd (omega arith)
+IsBelow-all k (e ∷ es) zero d b r h = b
+IsBelow-all k (e ∷ es) (suc i) d b r h = nat_list_cmp_total.trans k e.0 _ b (IsBelow-all e.0 es i d r.0 r.1 (omega arith))
 
-rising : (es : List Entry) (i j : ℕ) (d : Entry) → AreRising (entries_of es) → i < j → j < length es → order (get_or es i d).0 (get_or es j d).0 ≡ Less
-rising [] i j d r l h = absurd (omega arith)
-rising (e ∷ es) i zero d r l h = absurd (omega arith)
-rising (e ∷ es) zero (suc j) d r l h = above e.0 es j d r.0 r.1 (omega arith)
-rising (e ∷ es) (suc i) (suc j) d r l h = rising es i j d r.1 (omega arith) (omega arith)
+AreRising-places : (es : List Entry) (i j : ℕ) (d : Entry) → AreRising (entries_of es) → i < j → j < length es → order (get_or es i d).0 (get_or es j d).0 ≡ Less
+AreRising-places [] i j d r l h = absurd (omega arith)
+AreRising-places (e ∷ es) i zero d r l h = absurd (omega arith)
+AreRising-places (e ∷ es) zero (suc j) d r l h = IsBelow-all e.0 es j d r.0 r.1 (omega arith)
+AreRising-places (e ∷ es) (suc i) (suc j) d r l h = AreRising-places es i j d r.1 (omega arith) (omega arith)
 
 -- the value of a key that is there
 pub entry_at-there : (key : List ℕ) (es : List Entry) (i : ℕ) (d : Entry) → AreRising (entries_of es) → i < length es → order (get_or es i d).0 key ≡ Equal
@@ -45,7 +45,7 @@ pub entry_at-there : (key : List ℕ) (es : List Entry) (i : ℕ) (d : Entry) �
 entry_at-there key [] i d r h same = absurd (omega arith)
 entry_at-there key (e ∷ es) zero d r h same = if-true _ _ _ (sym (is_eq-slice_cmp e.0 key) ∙ ap is_eq same)
 entry_at-there key (e ∷ es) (suc i) d r h same =
-    let below : order e.0 key ≡ Less = sym (alike_right nat_list_cmp_total (get_or es i d).0 key e.0 same) ∙ above e.0 es i d r.0 r.1 (omega arith) in
+    let below : order e.0 key ≡ Less = sym (alike_right nat_list_cmp_total (get_or es i d).0 key e.0 same) ∙ IsBelow-all e.0 es i d r.0 r.1 (omega arith) in
     if-false _ _ _ (sym (is_eq-slice_cmp e.0 key) ∙ ap is_eq below) ∙ entry_at-there key es i d r.1 (omega arith) same
 
 is_eq-differs : (o : Ordering) → (o ≡ Equal → ⊥) → is_eq o ≡ false
@@ -72,7 +72,7 @@ ordering_index-below x y k Greater is h =
 
 ordering_index-rising : (key : List ℕ) (es : List Entry) (i j : ℕ) (d : Entry) → AreRising (entries_of es) → j < length es → (i < j) ⊎ (i ≡ j)
     → ordering_index (order (get_or es i d).0 key) ≤ ordering_index (order (get_or es j d).0 key)
-ordering_index-rising key es i j d r h (inl l) = ordering_index-below _ _ key _ refl (rising es i j d r l h)
+ordering_index-rising key es i j d r h (inl l) = ordering_index-below _ _ key _ refl (AreRising-places es i j d r l h)
 ordering_index-rising key es i j d r h (inr e) = subst (λ k. ordering_index (order (get_or es i d).0 key) ≤ ordering_index (order (get_or es k d).0 key)) e (omega arith)
 
 less_or_same : (i j : ℕ) → i ≤ j → (i < j) ⊎ (i ≡ j)
@@ -84,9 +84,9 @@ less_or_same (suc i) (suc j) h = elim (less_or_same i j (omega arith)) [ inl l �
 IsNonDecreasingBy-order : (key : List ℕ) (es : List Entry) → AreRising (entries_of es) → IsNonDecreasingBy (λ e. ordering_index (order e.0 key)) es
 IsNonDecreasingBy-order key es r = λ i j d l h. ordering_index-rising key es i j d r h (less_or_same i j l)
 
-apart : (o : Ordering) (i j : ℕ) → ((i < j) → o ≡ Less) → ((j ≤ i) → o ≡ Greater) → (i < j) ⊎ (j ≤ i) → o ≡ Equal → ⊥
-apart o i j low high (inl l) e = let is : o ≡ Less = low l in cc
-apart o i j low high (inr l) e = let is : o ≡ Greater = high l in cc
+Ordering-apart : (o : Ordering) (i j : ℕ) → ((i < j) → o ≡ Less) → ((j ≤ i) → o ≡ Greater) → (i < j) ⊎ (j ≤ i) → o ≡ Equal → ⊥
+Ordering-apart o i j low high (inl l) e = let is : o ≡ Less = low l in cc
+Ordering-apart o i j low high (inr l) e = let is : o ≡ Greater = high l in cc
 
 below_or_not : (i j : ℕ) → (i < j) ⊎ (j ≤ i)
 below_or_not i zero = inr (omega arith)
@@ -97,4 +97,4 @@ below_or_not (suc i) (suc j) = elim (below_or_not i j) [ inl l ↦ inl (omega ar
 pub entry_at-not_found : (key : List ℕ) (es : List Entry) (p : ℕ) → AreRising (entries_of es) → IsBinarySearchResult (λ e. order e.0 key) es (Err p) → entry_at key (entries_of es) ≡ missing
 entry_at-not_found key es p r search_found =
     let parts = search_found (IsNonDecreasingBy-order key es r) in
-    entry_at-nowhere key es (λ i d h. apart _ i p (λ l. parts.0 i d (omega arith) l) (λ l. parts.1 i d l h) (below_or_not i p))
+    entry_at-nowhere key es (λ i d h. Ordering-apart _ i p (λ l. parts.0 i d (omega arith) l) (λ l. parts.1 i d l h) (below_or_not i p))

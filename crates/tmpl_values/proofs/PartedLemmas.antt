@@ -36,26 +36,26 @@ lead-more [] t = refl
 lead-more (a ∷ ps) t = refl
 
 module _ {X : Type 0} (f : X → List ℕ) (xs : List X) (i : ℕ) (x : X) (h : i < length xs) (is : x ≡ get_or xs i x) where
-  cut : xs ≡ take i xs ++ x ∷ drop (suc i) xs
-  cut = sym (take-append-drop i xs) ∙ ap (λ r. take i xs ++ r) (drop-cons xs i x h) ∙ ap (λ y. take i xs ++ y ∷ drop (suc i) xs) (sym is)
+  take-drop_at : xs ≡ take i xs ++ x ∷ drop (suc i) xs
+  take-drop_at = sym (take-append-drop i xs) ∙ ap (λ r. take i xs ++ r) (drop-cons xs i x h) ∙ ap (λ y. take i xs ++ y ∷ drop (suc i) xs) (sym is)
 
-  one : take (i + 1) xs ≡ take i xs ++ x ∷ []
-  one = ap (λ n. take n xs) (add-one i) ∙ take-suc xs i x h ∙ ap (λ y. take i xs ++ y ∷ []) (sym is)
+  take-next : take (i + 1) xs ≡ take i xs ++ x ∷ []
+  take-next = ap (λ n. take n xs) (add-one i) ∙ take-suc xs i x h ∙ ap (λ y. take i xs ++ y ∷ []) (sym is)
 
   -- the text before x, x and the text after it are the whole
   pub parted-at : (l : List ℕ) → l ≡ lead (map f (take i xs)) → parted (map f (take i xs)) ++ (l ++ (f x ++ spaced (map f (drop (suc i) xs)))) ≡ parted (map f xs)
   parted-at l e =
       ap (λ u. parted (map f (take i xs)) ++ (u ++ (f x ++ spaced (map f (drop (suc i) xs))))) e ∙
       sym (parted-split (map f (take i xs)) (f x) (map f (drop (suc i) xs))) ∙
-      sym (ap parted (ap (map f) cut ∙ map-append f (take i xs) (x ∷ drop (suc i) xs)))
+      sym (ap parted (ap (map f) take-drop_at ∙ map-append f (take i xs) (x ∷ drop (suc i) xs)))
 
   pub parted-next : (l : List ℕ) → l ≡ lead (map f (take i xs)) → parted (map f (take i xs)) ++ (l ++ f x) ≡ parted (map f (take (i + 1) xs))
   parted-next l e =
       ap (λ u. parted (map f (take i xs)) ++ (u ++ f x)) e ∙
-      sym (ap parted (ap (map f) one ∙ map-append f (take i xs) (x ∷ [])) ∙ parted-split (map f (take i xs)) (f x) [] ∙ ap (λ u. parted (map f (take i xs)) ++ (lead (map f (take i xs)) ++ u)) (append-nil (f x)))
+      sym (ap parted (ap (map f) take-next ∙ map-append f (take i xs) (x ∷ [])) ∙ parted-split (map f (take i xs)) (f x) [] ∙ ap (λ u. parted (map f (take i xs)) ++ (lead (map f (take i xs)) ++ u)) (append-nil (f x)))
 
   pub lead-next : 32 ∷ [] ≡ lead (map f (take (i + 1) xs))
-  lead-next = sym (ap lead (ap (map f) one ∙ map-append f (take i xs) (x ∷ [])) ∙ lead-more (map f (take i xs)) (f x))
+  lead-next = sym (ap lead (ap (map f) take-next ∙ map-append f (take i xs) (x ∷ [])) ∙ lead-more (map f (take i xs)) (f x))
 
 pub parted-all : {X : Type 0} (f : X → List ℕ) (xs : List X) (i : ℕ) → length xs ≤ i → parted (map f (take i xs)) ≡ parted (map f xs)
 parted-all f xs i h = ap (λ ys. parted (map f ys)) (take_all i xs h)

@@ -31,9 +31,9 @@ before_entries-one : (ds : List (List ℕ × Data)) (d : List ℕ × Data) (es :
 before_entries-one [] d es = refl
 before_entries-one (e ∷ ds) d es = ap (entry e.0 (value_of e.1)) (before_entries-one ds d es)
 
-pub found : {A : Type 0} (o : Option A) (a : A) → if_whole o ≡ Ok a → o ≡ Some a
-found None a h = cc
-found (Some b) a h = cc
+pub if_whole-Ok : {A : Type 0} (o : Option A) (a : A) → if_whole o ≡ Ok a → o ≡ Some a
+if_whole-Ok None a h = cc
+if_whole-Ok (Some b) a h = cc
 
 option_map-option_map : {A B C : Type 0} (f : B → C) (g : A → B) (h : A → C) (o : Option A) → ((a : A) → f (g a) ≡ h a) → option_map f (option_map g o) ≡ option_map h o
 option_map-option_map f g h None e = refl
@@ -46,7 +46,7 @@ module _ (all : Option Items) (ds ds' : List Data) (rest rest' : List json.Value
   tree_items-step so_far cut read grown =
       so_far ∙
       ap (λ vs. option_map (before ds) (tree_items (items_view vs))) cut ∙
-      rw (found _ _ read) (option_map-option_map (before ds) (item (value_of d)) (before (ds ++ d ∷ [])) _ (before-one ds d)) ∙
+      rw (if_whole-Ok _ _ read) (option_map-option_map (before ds) (item (value_of d)) (before (ds ++ d ∷ [])) _ (before-one ds d)) ∙
       ap (λ es. option_map (before es) (tree_items (items_view rest'))) (sym grown)
 
 -- all items are done
@@ -61,7 +61,7 @@ module _ (all : Option Entries) (ds ds' : List (List ℕ × Data)) (rest rest' :
   tree_entries-step so_far cut read grown =
       so_far ∙
       ap (λ ms. option_map (before_entries ds) (tree_entries (members_view ms))) cut ∙
-      rw (found _ _ read) (option_map-option_map (before_entries ds) (entry (string_bytes k) (value_of d)) (before_entries (ds ++ (string_bytes k, d) ∷ [])) _ (before_entries-one ds (string_bytes k, d))) ∙
+      rw (if_whole-Ok _ _ read) (option_map-option_map (before_entries ds) (entry (string_bytes k) (value_of d)) (before_entries (ds ++ (string_bytes k, d) ∷ [])) _ (before_entries-one ds (string_bytes k, d))) ∙
       ap (λ es. option_map (before_entries es) (tree_entries (members_view rest'))) (sym grown)
 
 -- all members are done

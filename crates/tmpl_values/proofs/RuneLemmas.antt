@@ -143,14 +143,14 @@ continuation_len-encode : (c : ℕ) (rest : List ℕ) → c < 1114112 → contin
 unfolding encode_utf8
 continuation_len-encode c rest h = continuation_len-by _ _ _ c rest h refl refl refl
 
-below : (c : ℕ) → IsScalar c → c < 1114112
-below c s = ⊎_elim (λ h. omega arith) (λ h. h.1) (scalar_cases c s)
+IsScalar-below : (c : ℕ) → IsScalar c → c < 1114112
+IsScalar-below c s = ⊎_elim (λ h. omega arith) (λ h. h.1) (scalar_cases c s)
 
 first_rune-ill_formed_by : (bs : List ℕ) (n : ℕ) (r : Rune) → n ≡ min (continuation_len (get_or bs 0 0) + 1) (length bs) → (IsUtf8 (take n bs) → ⊥) → Front bs r → r ≡ byte (get_or bs 0 0)
 first_rune-ill_formed_by bs n _ e never lone = refl
 first_rune-ill_formed_by bs n _ e never (encoding c s is) =
     let bytes_are : bs ≡ encode_utf8 c ++ drop (len_utf8 c) bs = sym (take-append-drop (len_utf8 c) bs) ∙ ap (λ t. t ++ drop (len_utf8 c) bs) is in
-    let lead : continuation_len (get_or bs 0 0) + 1 ≡ len_utf8 c = ap (λ t. continuation_len (get_or t 0 0) + 1) bytes_are ∙ continuation_len-encode c (drop (len_utf8 c) bs) (below c s) in
+    let lead : continuation_len (get_or bs 0 0) + 1 ≡ len_utf8 c = ap (λ t. continuation_len (get_or t 0 0) + 1) bytes_are ∙ continuation_len-encode c (drop (len_utf8 c) bs) (IsScalar-below c s) in
     let fits : len_utf8 c ≤ length bs = omega (arith, length-take (len_utf8 c) bs, ap length is, length-encode c) in
     let n_is : n ≡ len_utf8 c = omega arith in
     absurd (never (subst IsUtf8 (sym (ap (λ k. take k bs) n_is ∙ is)) (IsUtf8-encode c s)))

@@ -1,5 +1,5 @@
--- A text cut to a precision ("Printing" in the documentation of `fmt`: "For strings .. precision limits the length of the
--- input to be formatted", in runes).
+-- A text cut to a precision ("Printing" in the documentation of `fmt`: for strings the precision limits the length of
+-- the input, in runes).
 use Rattle.std.specs.Prelude.{ℕ, List, take, Option, Some, None}
 use Rattle.std.specs.List.{flat_map}
 use Rattle.tmpl_values.specs.Rune.{runes, bytes_in}

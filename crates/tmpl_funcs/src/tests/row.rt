@@ -42,6 +42,7 @@ fn text_of_json(
     }
 }
 
+/// The values of data in a row.
 fn values_in<'a>(alloc: Global, items: &'a [Data]) -> Result<Vec<Val<'a>>, AllocError> {
     let mut values = Vec::new(alloc);
     for item in items {
