@@ -4,6 +4,7 @@ ghost use Rattle.tmpl_values.specs.Item.{bytes_of};
 ghost use Rattle.tmpl_values.specs.View.{is_made, items_of, val_of};
 ghost use Rattle.tmpl_funcs.specs.View.{values_of};
 ghost use Rattle.tmpl_funcs.specs.Answer.{IsAnswer, IsBorrowed};
+ghost use Rattle.tmpl_funcs.specs.computed.Index.{place_among};
 ghost use Rattle.tmpl_funcs.specs.Index.{number_of, byte_at, item_of, entry_of, indexed, indexed_by, index_of};
 
 use crate::fault::CallFault;
@@ -70,24 +71,22 @@ fn byte_at<'a>(bytes: &[u8], place: Option<i64>) -> Result<Val<'a>, CallFault>
     ensures table { IsAnswer (byte_at bytes.now place) result }
     ensures borrowed { IsBorrowed result }
 {
-    let Some(place) = place else {
-        return Err(CallFault::WrongKind);
-    };
-    if place < 0 {
-        return Err(CallFault::OutOfRange);
-    }
-    let i = place as usize;
-    if i < bytes.len() {
-        Ok(Val::Num(i64::from(bytes[i])))
-    } else {
-        Err(CallFault::OutOfRange)
-    }
+    let i = place_among(place, bytes.len())?;
+    Ok(Val::Num(i64::from(bytes[i])))
 }
 
 /// The item of a list at a place, counted from 0.
 fn list_item<'a>(items: &'a [Data], place: Option<i64>) -> Result<Val<'a>, CallFault>
     ensures table { IsAnswer (item_of (items_of items.now) place) result }
     ensures borrowed { IsBorrowed result }
+{
+    let i = place_among(place, items.len())?;
+    Ok(Val::of(&items[i]))
+}
+
+/// The place that a number names among so many, counted from 0.
+fn place_among(place: Option<i64>, count: usize) -> Result<usize, CallFault>
+    ensures { result ≡ place_among place count }
 {
     let Some(place) = place else {
         return Err(CallFault::WrongKind);
@@ -96,8 +95,8 @@ fn list_item<'a>(items: &'a [Data], place: Option<i64>) -> Result<Val<'a>, CallF
         return Err(CallFault::OutOfRange);
     }
     let i = place as usize;
-    if i < items.len() {
-        Ok(Val::of(&items[i]))
+    if i < count {
+        Ok(i)
     } else {
         Err(CallFault::OutOfRange)
     }

@@ -12,7 +12,7 @@ use crate::trim::{End, right_delimiter};
 use std::alloc::{AllocError, Global};
 use std::mem;
 
-/// So many tokens are copied out of the room that they were read into.
+/// So many tokens are copied out of the scratch vector that they were read into.
 const COPIED: usize = 64;
 
 /// What begins behind a `{{` or its left trim marker.
@@ -22,15 +22,16 @@ pub(crate) enum Opened<'b> {
     Comment(End<'b>),
     /// The tokens of a closed action, and its end.
     Action(Vec<Token<'b>>, End<'b>),
+    /// Neither of them: it is not closed, or has a place where no token begins.
     Neither,
 }
 
-/// Reads what begins behind a `{{` or its left trim marker. The tokens are read into room that is
-/// used again, so that an action holds no more memory than its tokens take.
+/// Reads what begins behind a `{{` or its left trim marker. The tokens are read into a scratch
+/// vector that is used again, so that an action holds no more memory than its tokens take.
 #[tactic(auto, unfolding(crate::specs::computed::Action::opened))]
 pub(crate) fn read_opened<'b>(
     alloc: Global,
-    room: &mut Vec<Token<'b>>,
+    scratch: &mut Vec<Token<'b>>,
     bytes: &'b [u8],
 ) -> Result<Opened<'b>, AllocError>
     ensures { IfOk result (λ o. opened_of o ≡ computed.opened bytes.now) }
@@ -38,21 +39,23 @@ pub(crate) fn read_opened<'b>(
     if let Some(end) = comment_end(bytes) {
         return Ok(Opened::Comment(end));
     }
-    match read_inside(room, bytes)? {
-        Some(end) => Ok(Opened::Action(moved_out(alloc, room)?, end)),
+    match read_inside(scratch, bytes)? {
+        Some(end) => Ok(Opened::Action(moved_out(alloc, scratch)?, end)),
         None => Ok(Opened::Neither),
     }
 }
 
-/// The tokens that were read: a copy of a few, which leaves the room for the next action, and the
-/// room itself where they are many.
-fn moved_out<'b>(alloc: Global, room: &mut Vec<Token<'b>>) -> Result<Vec<Token<'b>>, AllocError>
-    ensures { IfOk result (λ v. v.items ≡ room.old.items) }
+/// The tokens that were read, in a vector of just their number: a copy of a few, which leaves the
+/// scratch vector for the next action, and the scratch vector itself where they are many.
+fn moved_out<'b>(alloc: Global, scratch: &mut Vec<Token<'b>>) -> Result<Vec<Token<'b>>, AllocError>
+    ensures { IfOk result (λ v. v.items ≡ scratch.old.items) }
 {
-    if room.len() <= COPIED {
-        room.to_vec(alloc)
+    if scratch.len() <= COPIED {
+        scratch.to_vec(alloc)
     } else {
-        Ok(mem::replace(room, Vec::new(alloc)))
+        let mut tokens = mem::replace(scratch, Vec::new(alloc));
+        tokens.shrink_to_fit();
+        Ok(tokens)
     }
 }
 

@@ -30,7 +30,7 @@ pub fn cut(alloc: Global, bytes: &[u8]) -> Result<Vec<Piece<'_>>, AllocError>
     ensures value { IfOk result (λ v. map piece_of v.items ≡ computed.cut_of bytes.now) }
 {
     let mut pieces = Vec::new(alloc);
-    let mut room = Vec::new(alloc);
+    let mut scratch = Vec::new(alloc);
     let mut rest = bytes;
     let mut line = 1;
     let mut trims = false;
@@ -43,7 +43,7 @@ pub fn cut(alloc: Global, bytes: &[u8]) -> Result<Vec<Piece<'_>>, AllocError>
             without_trailing(text, left_marked(after)),
         )?;
         line += newlines(text);
-        let opened = read_opened(alloc, &mut room, past_left(after))?;
+        let opened = read_opened(alloc, &mut scratch, past_left(after))?;
         let Some(end) = push_opened(&mut pieces, line, opened)? else {
             return Ok(pieces);
         };
