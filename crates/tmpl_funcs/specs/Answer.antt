@@ -6,8 +6,7 @@ use Rattle.tmpl_values.specs.declared.value.Val.{Val}
 use Rattle.tmpl_values.specs.declared.value.Cell.{Cell}
 use Rattle.tmpl_funcs.specs.declared.fault.CallFault.{CallFault}
 use Rattle.tmpl_funcs.specs.declared.fault.CallFault.TheVariants.{WrongCount, WrongKind, OutOfRange, NotComparable}
-use Rattle.tmpl_funcs.specs.declared.fault.CallFault.TheVariants.{FormatRefused}
-use Rattle.tmpl_funcs.specs.declared.fault.CallFault.TheVariants.{OutOfMemory}
+use Rattle.tmpl_funcs.specs.declared.fault.CallFault.TheVariants.{FormatRefused, OutOfMemory}
 
 -- the answer is the one asked for, value or fault; or memory was refused, where this may be
 abbrev pub IsAnswerOr : Type 0 → Result Value CallFault → Result Val CallFault → Type 0

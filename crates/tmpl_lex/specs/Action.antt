@@ -21,7 +21,7 @@ opens_comment [] = false
 opens_comment (a ∷ []) = false
 opens_comment (a ∷ b ∷ bs) = a == 47 && b == 42
 
--- where a comment whose `*/` stands between these ends, if it began and directly behind that an end stands
+-- the end directly behind a `*/`, by what stands before and behind that, where a comment began
 abbrev pub comment_closed : Bool → Option (List ℕ × List ℕ) → Option End
 comment_closed false p = None
 comment_closed true None = None

@@ -9,11 +9,11 @@ use Rattle.tmpl_lex.specs.Piece.{Token, Piece}
 use Rattle.tmpl_lex.specs.Token.{front_token}
 use Rattle.tmpl_lex.specs.computed.Cut.{cut_of}
 
--- the file is cut into these pieces
+-- the pieces that `cut_of` computes are a cut of the file
 abbrev pub HasCut : List ℕ → Type 0
 HasCut file = Cuts false 1 file (cut_of file)
 
--- and into no others
+-- and no other pieces are
 abbrev pub HasNoOtherCut : List ℕ → Type 0
 HasNoOtherCut file = (pieces : List Piece) → Cuts false 1 file pieces → pieces ≡ cut_of file
 

@@ -1,7 +1,7 @@
 -- The token at the front of bytes of an action ("Arguments", "Pipelines" and "Variables" in the documentation of Go's
 -- text/template; which bytes a token is spelled with is our own rule).
-use Rattle.std.specs.Prelude.{ℕ, Bool, true, false, ◌||◌, ◌&&◌, not, ◌==◌, List, [], ◌∷◌, take_while}
-use Rattle.std.specs.Prelude.{Option, Some, None, option_map, if◌then◌else◌}
+use Rattle.std.specs.Prelude.{ℕ, Bool, true, false, ◌||◌, ◌&&◌, not, ◌==◌, List, [], ◌∷◌, take_while, Option, Some}
+use Rattle.std.specs.Prelude.{None, option_map, if◌then◌else◌}
 use Rattle.std.specs.Char.{is_ascii_digit}
 pub use Rattle.tmpl_lex.specs.Bytes.{is_space, is_name_byte, is_number_byte}
 use Rattle.tmpl_lex.specs.Trim.{right_marked}

@@ -6,8 +6,7 @@ use Rattle.tmpl_values.specs.Value.{Value}
 use Rattle.tmpl_funcs.specs.printf.Format.{both, formatted}
 use Rattle.tmpl_funcs.specs.declared.fault.CallFault.{CallFault}
 use Rattle.tmpl_funcs.specs.declared.fault.CallFault.TheVariants.{WrongCount, WrongKind, OutOfRange, NotComparable}
-use Rattle.tmpl_funcs.specs.declared.fault.CallFault.TheVariants.{FormatRefused}
-use Rattle.tmpl_funcs.specs.declared.fault.CallFault.TheVariants.{OutOfMemory}
+use Rattle.tmpl_funcs.specs.declared.fault.CallFault.TheVariants.{FormatRefused, OutOfMemory}
 
 -- a text that is there was added; or there is none, and the format was refused; or memory was
 abbrev pub IsAdded : Option (List ℕ) → List ℕ → List ℕ → Result (Unit {0}) CallFault → Type 0

@@ -1,12 +1,10 @@
 -- The reading of a format from left to right, computed: the twin of `IsReading`.
 use Rattle.std.specs.Prelude.{◌≡◌, ℕ, zero, suc, ◌-◌, ◌&&◌, ◌==◌, Bool, true, false, List, [], ◌∷◌, ◌++◌, length, drop}
-use Rattle.std.specs.Prelude.{Option, Some, None}
-use Rattle.std.specs.Prelude.{find, if◌then◌else◌}
+use Rattle.std.specs.Prelude.{Option, Some, None, find, if◌then◌else◌}
 use Rattle.std.specs.Borrow.{Bor}
 use Rattle.std.specs.List.{prefix_len, take_while}
 use Rattle.tmpl_funcs.specs.printf.Form.{Spelled, Piece, literal, percent, form, letter, spelled, spelling, is_plain}
-use Rattle.tmpl_funcs.specs.printf.Form.{is_flag}
-use Rattle.tmpl_funcs.specs.printf.Form.{is_decimal, is_short, takes_precision, form_of}
+use Rattle.tmpl_funcs.specs.printf.Form.{is_flag, is_decimal, is_short, takes_precision, form_of}
 use Rattle.tmpl_funcs.specs.declared.printf.form.Form.{Form}
 use Rattle.tmpl_funcs.specs.declared.printf.form.Verb.{Verb}
 use Rattle.tmpl_funcs.specs.declared.printf.form.Verb.TheVariants.{Value, Decimal, Octal, Binary, Hex, UpperHex, Text}

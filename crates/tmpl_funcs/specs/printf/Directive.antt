@@ -1,8 +1,7 @@
 -- What a form of `printf` prints of a value ("Printing" in the documentation of `fmt`). Which flags
 -- a verb takes, and that any other is refused, is this project's own rule.
 use Rattle.std.specs.Prelude.{ℕ, ℤ, pos, negsuc, nat_abs, ◌/◌, ◌%◌, Bool, true, false, List, [], ◌∷◌, Option, Some}
-use Rattle.std.specs.Prelude.{None, option_map}
-use Rattle.std.specs.Prelude.{if◌then◌else◌}
+use Rattle.std.specs.Prelude.{None, option_map, if◌then◌else◌}
 use Rattle.std.specs.List.{flat_map}
 use Rattle.std.specs.Char.{encode_utf8}
 use Rattle.std.specs.Fmt.{digits, digit_glyph}

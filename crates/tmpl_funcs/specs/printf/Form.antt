@@ -2,8 +2,7 @@
 -- texts are formats, and what they consist of ("Printing" in the documentation of `fmt`: "%[flags]
 -- [width][.precision]verb"). That any other form is refused is this project's own rule.
 use Rattle.std.specs.Prelude.{◌≡◌, ℕ, ◌+◌, ◌-◌, ◌*◌, ◌||◌, ◌&&◌, ◌==◌, not, nat_le, Bool, true, false, List, [], ◌∷◌}
-use Rattle.std.specs.Prelude.{◌++◌, length}
-use Rattle.std.specs.Prelude.{Option, Some, None, option_map}
+use Rattle.std.specs.Prelude.{◌++◌, length, Option, Some, None, option_map}
 use Rattle.std.specs.List.{flat_map, list_all, list_any}
 use Rattle.tmpl_funcs.specs.declared.printf.form.Form.{Form}
 use Rattle.tmpl_funcs.specs.declared.printf.form.Verb.{Verb}
