@@ -1,7 +1,8 @@
 -- The functions by name, and how many arguments each takes ("Functions").
 use Rattle.std.specs.Prelude.{ℕ, Bool, true, false, ◌&&◌, ◌==◌, nat_le, List, codes}
 use Rattle.tmpl_funcs.specs.declared.func.Func.{Func}
-use Rattle.tmpl_funcs.specs.declared.func.Func.TheVariants.{And, Or, Not, Len, Index, Slice, Print, Println, Printf, Html, Urlquery, Eq, Ne, Lt, Le, Gt, Ge}
+use Rattle.tmpl_funcs.specs.declared.func.Func.TheVariants.{And, Or, Not, Len, Index, Slice, Print, Println, Printf}
+use Rattle.tmpl_funcs.specs.declared.func.Func.TheVariants.{Html, Urlquery, Eq, Ne, Lt, Le, Gt, Ge}
 
 -- the name of a function
 abbrev pub name_of : Func → List ℕ

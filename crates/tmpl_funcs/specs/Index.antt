@@ -61,16 +61,16 @@ indexed (string s) i = byte_at s (number_of i)
 indexed (sequence vs) i = item_of vs (number_of i)
 indexed (mapping es) i = entry_of es (bytes_of i)
 
--- what follows from a value that is there
-abbrev pub and_then : Result Value CallFault → (Value → Result Value CallFault)
+-- what follows from a value, and a fault as it is
+abbrev pub result_and_then : Result Value CallFault → (Value → Result Value CallFault)
     → Result Value CallFault
-and_then (Ok v) f = f v
-and_then (Err e) f = Err e
+result_and_then (Ok v) f = f v
+result_and_then (Err e) f = Err e
 
 -- a value at indexes, from left to right
 abbrev pub indexed_by : Value → List Value → Result Value CallFault
 indexed_by v [] = Ok v
-indexed_by v (i ∷ is) = and_then (indexed v i) (λ w. indexed_by w is)
+indexed_by v (i ∷ is) = result_and_then (indexed v i) (λ w. indexed_by w is)
 
 -- with no index the value itself, of any kind but nothing
 abbrev pub something : Value → Result Value CallFault
@@ -85,4 +85,4 @@ something (mapping es) = Ok (mapping es)
 -- the first argument at the others
 abbrev pub index_of : List Value → Result Value CallFault
 index_of [] = Err WrongCount
-index_of (v ∷ is) = and_then (something v) (λ w. indexed_by w is)
+index_of (v ∷ is) = result_and_then (something v) (λ w. indexed_by w is)

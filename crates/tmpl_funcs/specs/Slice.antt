@@ -1,7 +1,8 @@
 -- A part of a string or a sequence ("Functions", at `slice`: "`slice x 1 2` is, in Go syntax,
 -- x[1:2], while `slice x` is x[:], `slice x 1` is x[1:]"). That no part goes past the length is
 -- this project's own rule.
-use Rattle.std.specs.Prelude.{ℕ, ℤ, pos, negsuc, ◌&&◌, nat_le, Bool, true, false, List, [], ◌∷◌, length, Option, Some, None, Result, Ok, Err}
+use Rattle.std.specs.Prelude.{ℕ, ℤ, pos, negsuc, ◌&&◌, nat_le, Bool, true, false, List, [], ◌∷◌, length, Option, Some}
+use Rattle.std.specs.Prelude.{None, Result, Ok, Err}
 use Rattle.tmpl_values.specs.Value.{Value, nothing, null, boolean, number, string, sequence, mapping}
 use Rattle.tmpl_values.specs.Item.{item_count, part_of}
 use Rattle.tmpl_funcs.specs.Index.{number_of}
@@ -37,14 +38,14 @@ part_by v (Some n) (Some i) None = Err WrongKind
 part_by v (Some n) (Some i) (Some j) = part_between v n i j
 
 -- the end that stands for no bound
-abbrev pub whole : Option ℕ → Option ℤ
-whole None = None
-whole (Some n) = Some (pos n)
+abbrev pub default_end : Option ℕ → Option ℤ
+default_end None = None
+default_end (Some n) = Some (pos n)
 
 -- the first argument between the others; without them it begins at 0 and ends at its end
 abbrev pub slice_of : List Value → Result Value CallFault
 slice_of [] = Err WrongCount
-slice_of (v ∷ []) = part_by v (extent v) (Some (pos 0)) (whole (extent v))
-slice_of (v ∷ i ∷ []) = part_by v (extent v) (number_of i) (whole (extent v))
+slice_of (v ∷ []) = part_by v (extent v) (Some (pos 0)) (default_end (extent v))
+slice_of (v ∷ i ∷ []) = part_by v (extent v) (number_of i) (default_end (extent v))
 slice_of (v ∷ i ∷ j ∷ []) = part_by v (extent v) (number_of i) (number_of j)
 slice_of (v ∷ i ∷ j ∷ k ∷ vs) = Err WrongCount

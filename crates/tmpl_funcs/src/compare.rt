@@ -2,8 +2,9 @@
 ghost use Rattle.std.specs.Prelude.{◌≡◌};
 ghost use Rattle.tmpl_values.specs.Compare.{equality, order, IsCompared};
 ghost use Rattle.tmpl_values.specs.View.{val_of};
-ghost use Rattle.tmpl_funcs.specs.Answer.{values_of, IsAnswer, IsBorrowed};
-ghost use Rattle.tmpl_funcs.specs.Comparison.{above, at_least, at_most, eq_of, equal_to_one, of_two, unequal};
+ghost use Rattle.tmpl_funcs.specs.View.{values_of};
+ghost use Rattle.tmpl_funcs.specs.Answer.{IsAnswer, IsBorrowed};
+ghost use Rattle.tmpl_funcs.specs.Compare.{above, at_least, at_most, eq_of, equal_to_one, of_two, unequal};
 
 use crate::fault::CallFault;
 use tmpl_values::{Cell, CompareFault, Val};
@@ -20,6 +21,7 @@ pub(crate) fn eq<'a>(arguments: &[Cell<'a>]) -> Result<Val<'a>, CallFault>
     }
 }
 
+/// Whether a value equals one of the others.
 fn equals_one(first: &Val<'_>, others: &[Cell<'_>]) -> Result<bool, CompareFault>
     ensures { IsCompared (equal_to_one (val_of first.now) (values_of others.now)) result }
 {
@@ -86,6 +88,7 @@ pub(crate) fn ge<'a>(arguments: &[Cell<'a>]) -> Result<Val<'a>, CallFault>
     }
 }
 
+/// Whether the left value is below the right one or equal to it.
 fn is_at_most(left: &Val<'_>, right: &Val<'_>) -> Result<bool, CompareFault>
     ensures { IsCompared (at_most (val_of left.now) (val_of right.now)) result }
 {

@@ -2,7 +2,8 @@
 ghost use Rattle.std.specs.Prelude.{◌≡◌};
 ghost use Rattle.tmpl_values.specs.View.{val_of};
 ghost use Rattle.tmpl_values.specs.Item.{size_of};
-ghost use Rattle.tmpl_funcs.specs.Answer.{values_of, IsAnswer, IsBorrowed};
+ghost use Rattle.tmpl_funcs.specs.View.{values_of};
+ghost use Rattle.tmpl_funcs.specs.Answer.{IsAnswer, IsBorrowed};
 ghost use Rattle.tmpl_funcs.specs.Count.{not_of, len_of, sized};
 
 use crate::fault::CallFault;
@@ -30,6 +31,7 @@ pub(crate) fn len<'a>(arguments: &[Cell<'a>]) -> Result<Val<'a>, CallFault>
     }
 }
 
+/// The size of a value as a number.
 fn size<'a>(value: &Val<'_>) -> Result<Val<'a>, CallFault>
     ensures table { IsAnswer (sized (size_of (val_of value.now))) result }
     ensures borrowed { IsBorrowed result }

@@ -1,18 +1,19 @@
 //! Calls.
 ghost use Rattle.std.specs.Prelude.{◌≡◌, ◌<◌, ◌∷◌, false, true, drop, length};
 ghost use Rattle.tmpl_values.specs.View.{is_made, val_of};
-ghost use Rattle.tmpl_funcs.specs.Answer.{values_of, AreBorrowed, IsAnswer, IsBorrowed, IsMade};
+ghost use Rattle.tmpl_funcs.specs.View.{values_of};
+ghost use Rattle.tmpl_funcs.specs.Answer.{AreBorrowed, IsAnswer, IsBorrowed, IsMade};
 ghost use Rattle.tmpl_funcs.specs.Func.{is_called, makes_text, takes};
-ghost use Rattle.tmpl_funcs.specs.Called.{answer, IsCall};
+ghost use Rattle.tmpl_funcs.specs.Dispatch.{answer, IsCall};
 
 use crate::compare::{eq, ge, gt, le, lt, ne};
 use crate::count::{len, not};
 use crate::escape::{html, urlquery};
 use crate::fault::CallFault;
-use crate::format::printf;
 use crate::func::Func;
 use crate::index::index;
 use crate::join::{print, println};
+use crate::printf::printf;
 use crate::slice::slice;
 use std::alloc::Global;
 use std::mem;
@@ -23,7 +24,9 @@ use tmpl_values::{Cell, Val};
 ///
 /// It is the table of functions in the documentation of `text/template` ("Functions"). Texts are
 /// indexed, cut and measured by bytes, and `printf` pads them by runes. The number of arguments is
-/// looked at first, then their kinds, then ranges. `and` and `or`, which look at no argument after
+/// looked at first. `slice` looks at the kinds of all its arguments before their ranges; `index`
+/// goes through its indexes from left to right, and looks at the kind of each and then at its
+/// range; `eq` compares from left to right, up to the first equal pair. `and` and `or`, which look at no argument after
 /// the deciding one, are no calls.
 ///
 /// Memory is taken only by those that make a text: `print`, `println`, `printf`, `html` and
@@ -114,6 +117,7 @@ fn take_first<'a>(arguments: &mut [Cell<'a>]) -> Val<'a>
     mem::replace(&mut arguments[0].val, Val::Nothing)
 }
 
+/// The cells behind the first.
 fn behind_first<'a, 'b>(arguments: &'b [Cell<'a>]) -> &'b [Cell<'a>]
     requires { 0 < length arguments.now }
     ensures { values_of result.now ≡ drop 1 (values_of arguments.now) }

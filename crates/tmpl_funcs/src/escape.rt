@@ -2,14 +2,15 @@
 ghost use Rattle.std.specs.Prelude.{◌≡◌, ◌+◌, ◌++◌, IfSome, Ok, OnOk, length, map, option_map};
 ghost use Rattle.std.specs.List.{flat_map};
 ghost use Rattle.tmpl_values.specs.Value.{string};
-ghost use Rattle.tmpl_funcs.specs.Answer.{values_of, IsMade};
+ghost use Rattle.tmpl_funcs.specs.View.{values_of};
+ghost use Rattle.tmpl_funcs.specs.Answer.{IsMade};
 ghost use Rattle.tmpl_funcs.specs.Escape.{html_byte, html_of, is_unreserved, query_byte, urlquery_of};
 ghost use Rattle.tmpl_funcs.specs.Join.{as_text, joined};
-ghost use Rattle.tmpl_funcs.specs.Kind.{escaped_byte, escaped_of, or_itself};
+ghost use Rattle.tmpl_funcs.specs.computed.Escape.{escaped_byte, escaped_of, or_itself};
 
+use crate::capacity::joined_capacity;
 use crate::fault::CallFault;
-use crate::join::{Missing, add_joined};
-use crate::room::joined_room;
+use crate::join::{NothingText, add_joined};
 use percent_encoding::percent_encode_byte;
 use std::alloc::{AllocError, Global};
 use tmpl_values::{Cell, Val};
@@ -35,6 +36,7 @@ pub(crate) fn urlquery<'a>(alloc: Global, operands: &[Cell<'_>]) -> Result<Val<'
     escaped(alloc, operands, Escape::Query)
 }
 
+/// The operands joined and escaped.
 fn escaped<'a>(alloc: Global, operands: &[Cell<'_>], escape: Escape) -> Result<Val<'a>, CallFault>
     ensures { IsMade (escaped_of escape (values_of operands.now)) result }
 {
@@ -44,10 +46,11 @@ fn escaped<'a>(alloc: Global, operands: &[Cell<'_>], escape: Escape) -> Result<V
     }
 }
 
+/// The escape of a text.
 fn escaped_text<'a>(alloc: Global, text: &[u8], escape: Escape) -> Result<Val<'a>, CallFault>
     ensures { IsMade (Ok (string (flat_map (escaped_byte escape) text.now))) result }
 {
-    let mut bytes = Vec::with_capacity(alloc, escape.len_of(text))?;
+    let mut bytes = Vec::with_capacity(alloc, escape.escaped_len(text))?;
     add_escaped(text, escape, &mut bytes)?;
     Ok(Val::made(bytes))
 }
@@ -60,9 +63,12 @@ fn escaped_join<'a>(
 ) -> Result<Val<'a>, CallFault>
     ensures { IsMade (escaped_of escape (values_of operands.now)) result }
 {
-    let room = joined_room(operands, None).saturating_add(joined_room(operands, Some(escape)));
-    let mut bytes = Vec::with_capacity(alloc, room)?;
-    add_joined(operands, Missing::NoValue, &mut bytes)?;
+    let capacity = joined_capacity(operands, None).saturating_add(joined_capacity(
+        operands,
+        Some(escape),
+    ));
+    let mut bytes = Vec::with_capacity(alloc, capacity)?;
+    add_joined(operands, NothingText::NoValue, &mut bytes)?;
     let plain = bytes.len();
     add_escape_of_all(escape, &mut bytes)?;
     let end = bytes.len();
@@ -111,11 +117,12 @@ fn add_escape_of_all(escape: Escape, bytes: &mut Vec<u8>) -> Result<(), AllocErr
 }
 
 impl Escape {
-    /// How many bytes the escape of a text has, for which room is reserved.
-    pub(crate) fn len_of(self, text: &[u8]) -> usize {
+    /// How many bytes the escape of a text has, by which memory is reserved, and the most that a text may have where
+    /// they would be more.
+    pub(crate) fn escaped_len(self, text: &[u8]) -> usize {
         let mut len = text.len();
         for byte in text {
-            len = len.wrapping_add(self.growth(*byte));
+            len = len.saturating_add(self.growth(*byte));
         }
         len
     }
@@ -141,6 +148,7 @@ impl Escape {
     }
 }
 
+/// What replaces a byte in HTML, if anything does.
 fn html_escape(byte: u8) -> Option<&'static [u8]>
     ensures { or_itself byte (option_map (λ t. t.now) result) ≡ html_byte byte }
 {
@@ -155,6 +163,7 @@ fn html_escape(byte: u8) -> Option<&'static [u8]>
     }
 }
 
+/// How many bytes more than one a byte has in HTML.
 fn html_growth(byte: u8) -> usize
     ensures { result + 1 ≡ length (html_byte byte) }
 {
@@ -166,6 +175,7 @@ fn html_growth(byte: u8) -> usize
     }
 }
 
+/// How many bytes more than one a byte has in a query.
 #[tactic(auto, unfolding(percent_encoding::specs::Percent::percent_encode_byte))]
 fn query_growth(byte: u8) -> usize
     ensures { result + 1 ≡ length (query_byte byte) }
@@ -184,6 +194,7 @@ fn is_unreserved(byte: u8) -> bool
     byte.is_ascii_alphanumeric() || matches!(byte, b'-' | b'_' | b'.' | b'~')
 }
 
+/// What replaces a byte in a query, if anything does.
 fn query_escape(byte: u8) -> Option<&'static [u8]>
     ensures { or_itself byte (option_map (λ t. t.now) result) ≡ query_byte byte }
 {

@@ -2,7 +2,9 @@
 use std::alloc::{AllocError, AllocFailed};
 use tmpl_values::CompareFault;
 
-/// Why a call has no value. Where several reasons apply, it is the one that stands first here.
+/// Why a call has no value. Where several reasons apply, it is the one that is met first: the number of arguments, then
+/// the arguments in the order in which the function looks at them. Want of memory may be met before any reason but
+/// `WrongCount`, by a function that makes a text.
 #[derive(Clone, Copy, Debug, PartialEq, Eq)]
 pub enum CallFault {
     /// The function does not take so many arguments.

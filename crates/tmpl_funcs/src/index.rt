@@ -2,7 +2,9 @@
 ghost use Rattle.std.specs.Prelude.{◌≡◌, ◌∷◌, false, option_map};
 ghost use Rattle.tmpl_values.specs.Item.{bytes_of};
 ghost use Rattle.tmpl_values.specs.View.{is_made, items_of, val_of};
-ghost use Rattle.tmpl_funcs.specs.Answer.{values_of, IsAnswer, IsBorrowed};
+ghost use Rattle.tmpl_funcs.specs.View.{values_of};
+ghost use Rattle.tmpl_funcs.specs.Answer.{IsAnswer, IsBorrowed};
+ghost use Rattle.tmpl_funcs.specs.computed.Index.{place_among};
 ghost use Rattle.tmpl_funcs.specs.Index.{number_of, byte_at, item_of, entry_of, indexed, indexed_by, index_of};
 
 use crate::fault::CallFault;
@@ -19,6 +21,7 @@ pub(crate) fn index<'a>(item: Val<'a>, indexes: &[Cell<'_>]) -> Result<Val<'a>, 
     }
 }
 
+/// A value at indexes, from left to right.
 fn index_by<'a>(first: Val<'a>, indexes: &[Cell<'_>]) -> Result<Val<'a>, CallFault>
     ensures table { IsAnswer (indexed_by (val_of first.entry) (values_of indexes.now)) result }
     ensures borrowed { is_made first.entry ≡ false → IsBorrowed result }
@@ -30,6 +33,7 @@ fn index_by<'a>(first: Val<'a>, indexes: &[Cell<'_>]) -> Result<Val<'a>, CallFau
     Ok(item)
 }
 
+/// A value at one index.
 fn item_at<'a>(item: &Val<'a>, index: &Val<'_>) -> Result<Val<'a>, CallFault>
     ensures table { IsAnswer (indexed (val_of item.now) (val_of index.now)) result }
     ensures borrowed { IsBorrowed result }
@@ -62,27 +66,27 @@ pub(crate) fn number(value: &Val<'_>) -> Option<i64>
     }
 }
 
+/// The byte of a text at a place, counted from 0.
 fn byte_at<'a>(bytes: &[u8], place: Option<i64>) -> Result<Val<'a>, CallFault>
     ensures table { IsAnswer (byte_at bytes.now place) result }
     ensures borrowed { IsBorrowed result }
 {
-    let Some(place) = place else {
-        return Err(CallFault::WrongKind);
-    };
-    if place < 0 {
-        return Err(CallFault::OutOfRange);
-    }
-    let i = place as usize;
-    if i < bytes.len() {
-        Ok(Val::Num(i64::from(bytes[i])))
-    } else {
-        Err(CallFault::OutOfRange)
-    }
+    let i = place_among(place, bytes.len())?;
+    Ok(Val::Num(i64::from(bytes[i])))
 }
 
+/// The item of a list at a place, counted from 0.
 fn list_item<'a>(items: &'a [Data], place: Option<i64>) -> Result<Val<'a>, CallFault>
     ensures table { IsAnswer (item_of (items_of items.now) place) result }
     ensures borrowed { IsBorrowed result }
+{
+    let i = place_among(place, items.len())?;
+    Ok(Val::of(&items[i]))
+}
+
+/// The place that a number names among so many, counted from 0.
+fn place_among(place: Option<i64>, count: usize) -> Result<usize, CallFault>
+    ensures { result ≡ place_among place count }
 {
     let Some(place) = place else {
         return Err(CallFault::WrongKind);
@@ -91,13 +95,14 @@ fn list_item<'a>(items: &'a [Data], place: Option<i64>) -> Result<Val<'a>, CallF
         return Err(CallFault::OutOfRange);
     }
     let i = place as usize;
-    if i < items.len() {
-        Ok(Val::of(&items[i]))
+    if i < count {
+        Ok(i)
     } else {
         Err(CallFault::OutOfRange)
     }
 }
 
+/// The entry of a map by its key, and null where it has none.
 fn map_entry<'a>(table: &'a Table, key: Option<&[u8]>) -> Result<Val<'a>, CallFault>
     ensures table { IsAnswer (entry_of table.now (option_map (λ k. k.now) key.entry)) result }
     ensures borrowed { IsBorrowed result }
@@ -106,7 +111,7 @@ fn map_entry<'a>(table: &'a Table, key: Option<&[u8]>) -> Result<Val<'a>, CallFa
         return Err(CallFault::WrongKind);
     };
     match table.get(key) {
-        Some(held) => Ok(Val::of(held)),
+        Some(entry) => Ok(Val::of(entry)),
         None => Ok(Val::Null),
     }
 }

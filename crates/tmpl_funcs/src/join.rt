@@ -2,19 +2,20 @@
 ghost use Rattle.std.specs.Prelude.{◌≡◌, ◌++◌, ◌∷◌, [], map, codes, OnOk};
 ghost use Rattle.tmpl_values.specs.Text.{inner_text, parted};
 ghost use Rattle.tmpl_values.specs.View.{val_of};
-ghost use Rattle.tmpl_funcs.specs.Answer.{values_of, IsMade};
+ghost use Rattle.tmpl_funcs.specs.View.{values_of};
+ghost use Rattle.tmpl_funcs.specs.Answer.{IsMade};
 ghost use Rattle.tmpl_funcs.specs.Join.{is_string, joined, print_of, println_of, space_unless};
-ghost use Rattle.tmpl_funcs.specs.Kind.{shown};
+ghost use Rattle.tmpl_funcs.specs.computed.Join.{shown};
 
+use crate::capacity::joined_capacity;
 use crate::fault::CallFault;
 use crate::growing::add_text;
-use crate::room::joined_room;
 use std::alloc::{AllocError, Global};
 use tmpl_values::{Cell, Val};
 
 /// How nothing is written.
 #[derive(Clone, Copy)]
-pub(crate) enum Missing {
+pub(crate) enum NothingText {
     /// As `<nil>`, which is no text.
     Nil,
     /// As the text `<no value>`.
@@ -25,8 +26,8 @@ pub(crate) enum Missing {
 pub(crate) fn print<'a>(alloc: Global, operands: &[Cell<'_>]) -> Result<Val<'a>, CallFault>
     ensures { IsMade (print_of (values_of operands.now)) result }
 {
-    let mut bytes = Vec::with_capacity(alloc, joined_room(operands, None))?;
-    add_joined(operands, Missing::Nil, &mut bytes)?;
+    let mut bytes = Vec::with_capacity(alloc, joined_capacity(operands, None))?;
+    add_joined(operands, NothingText::Nil, &mut bytes)?;
     Ok(Val::made(bytes))
 }
 
@@ -34,7 +35,7 @@ pub(crate) fn print<'a>(alloc: Global, operands: &[Cell<'_>]) -> Result<Val<'a>,
 pub(crate) fn println<'a>(alloc: Global, operands: &[Cell<'_>]) -> Result<Val<'a>, CallFault>
     ensures { IsMade (println_of (values_of operands.now)) result }
 {
-    let mut bytes = Vec::with_capacity(alloc, joined_room(operands, None))?;
+    let mut bytes = Vec::with_capacity(alloc, joined_capacity(operands, None))?;
     add_parted(operands, &mut bytes)?;
     bytes.push(b'\n')?;
     Ok(Val::made(bytes))
@@ -43,22 +44,23 @@ pub(crate) fn println<'a>(alloc: Global, operands: &[Cell<'_>]) -> Result<Val<'a
 /// Adds the operands, with a space between two neighbours of which neither is a text.
 pub(crate) fn add_joined(
     operands: &[Cell<'_>],
-    missing: Missing,
+    nothing_text: NothingText,
     bytes: &mut Vec<u8>,
 ) -> Result<(), AllocError>
     ensures { OnOk result (bytes.new.items
-        ≡ bytes.old.items ++ joined (map (shown missing) (values_of operands.now))) }
+        ≡ bytes.old.items ++ joined (map (shown nothing_text) (values_of operands.now))) }
 {
     let mut after_text = true;
     for operand in operands {
-        let text = is_text(&operand.val, missing);
+        let text = is_text(&operand.val, nothing_text);
         add_space_unless(after_text | text, bytes)?;
-        add_operand(&operand.val, missing, bytes)?;
+        add_operand(&operand.val, nothing_text, bytes)?;
         after_text = text;
     }
     Ok(())
 }
 
+/// Adds the operands, parted by one space.
 fn add_parted(operands: &[Cell<'_>], bytes: &mut Vec<u8>) -> Result<(), AllocError>
     ensures { OnOk result (bytes.new.items
         ≡ bytes.old.items ++ parted (map inner_text (values_of operands.now))) }
@@ -66,12 +68,13 @@ fn add_parted(operands: &[Cell<'_>], bytes: &mut Vec<u8>) -> Result<(), AllocErr
     let mut first = true;
     for operand in operands {
         add_space_unless(first, bytes)?;
-        add_operand(&operand.val, Missing::Nil, bytes)?;
+        add_operand(&operand.val, NothingText::Nil, bytes)?;
         first = false;
     }
     Ok(())
 }
 
+/// Adds a space, but nothing between what is joined.
 fn add_space_unless(joined: bool, bytes: &mut Vec<u8>) -> Result<(), AllocError>
     ensures { OnOk result (bytes.new.items ≡ bytes.old.items ++ space_unless joined) }
 {
@@ -83,12 +86,12 @@ fn add_space_unless(joined: bool, bytes: &mut Vec<u8>) -> Result<(), AllocError>
 }
 
 /// Whether a value counts as a text.
-fn is_text(value: &Val<'_>, missing: Missing) -> bool
-    ensures { result ≡ is_string (shown missing (val_of value.now)) }
+fn is_text(value: &Val<'_>, nothing_text: NothingText) -> bool
+    ensures { result ≡ is_string (shown nothing_text (val_of value.now)) }
 {
     match value {
         Val::Text(_) | Val::Made(_) => true,
-        Val::Nothing | Val::Null => matches!(missing, Missing::NoValue),
+        Val::Nothing | Val::Null => matches!(nothing_text, NothingText::NoValue),
         Val::Bool(_) | Val::Num(_) | Val::List(_) | Val::Map(_) => false,
     }
 }
@@ -96,16 +99,16 @@ fn is_text(value: &Val<'_>, missing: Missing) -> bool
 /// Adds the text of one operand.
 pub(crate) fn add_operand(
     value: &Val<'_>,
-    missing: Missing,
+    nothing_text: NothingText,
     bytes: &mut Vec<u8>,
 ) -> Result<(), AllocError>
     ensures { OnOk result (bytes.new.items
-        ≡ bytes.old.items ++ inner_text (shown missing (val_of value.now))) }
+        ≡ bytes.old.items ++ inner_text (shown nothing_text (val_of value.now))) }
 {
     match value {
-        Val::Nothing | Val::Null => match missing {
-            Missing::Nil => bytes.extend_from_slice(b"<nil>"),
-            Missing::NoValue => bytes.extend_from_slice(b"<no value>"),
+        Val::Nothing | Val::Null => match nothing_text {
+            NothingText::Nil => bytes.extend_from_slice(b"<nil>"),
+            NothingText::NoValue => bytes.extend_from_slice(b"<no value>"),
         },
         value => add_text(value, bytes),
     }

@@ -1,8 +1,9 @@
 //! `slice`.
 ghost use Rattle.std.specs.Prelude.{◌≡◌, ◌∷◌, false};
 ghost use Rattle.tmpl_values.specs.View.{is_made, val_of};
-ghost use Rattle.tmpl_funcs.specs.Answer.{values_of, IsAnswer, IsBorrowed};
-ghost use Rattle.tmpl_funcs.specs.Slice.{extent, part_by, slice_of, whole};
+ghost use Rattle.tmpl_funcs.specs.View.{values_of};
+ghost use Rattle.tmpl_funcs.specs.Answer.{IsAnswer, IsBorrowed};
+ghost use Rattle.tmpl_funcs.specs.Slice.{extent, part_by, slice_of, default_end};
 
 use crate::fault::CallFault;
 use crate::index::number;
@@ -25,7 +26,7 @@ pub(crate) fn slice<'a>(value: Val<'a>, bounds: &[Cell<'_>]) -> Result<Val<'a>, 
 
 /// How many bytes a text or items a list has.
 fn extent(value: &Val<'_>) -> Option<i64>
-    ensures { result ≡ whole (extent (val_of value.now)) }
+    ensures { result ≡ default_end (extent (val_of value.now)) }
 {
     if let Some(text) = value.bytes() {
         return Some(text.len() as i64);
@@ -42,13 +43,14 @@ fn extent(value: &Val<'_>) -> Option<i64>
     }
 }
 
+/// The part between two bounds, where they are numbers in order and within the size.
 fn part<'a>(
     value: Val<'a>,
     size: Option<i64>,
     from: Option<i64>,
     to: Option<i64>,
 ) -> Result<Val<'a>, CallFault>
-    requires { size ≡ whole (extent (val_of value)) }
+    requires { size ≡ default_end (extent (val_of value)) }
     ensures table { IsAnswer
         (part_by (val_of value.entry) (extent (val_of value.entry)) from to) result }
     ensures borrowed { is_made value.entry ≡ false → IsBorrowed result }

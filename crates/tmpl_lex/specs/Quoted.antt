@@ -1,6 +1,7 @@
 -- What stands behind an opening quote, up to its closing one.
 use Rattle.std.specs.Prelude.{ℕ, Bool, true, false, ◌&&◌, not, ◌==◌, List, [], ◌∷◌, Option, Some, None}
 
+-- what was found, behind one byte more
 abbrev pub with_byte : ℕ → Option (List ℕ) → Option (List ℕ)
 with_byte b None = None
 with_byte b (Some bs) = Some (b ∷ bs)
@@ -10,6 +11,7 @@ abbrev pub up_to : Bool → ℕ → Option (List ℕ) → Option (List ℕ)
 up_to true b further = Some (b ∷ [])
 up_to false b further = with_byte b further
 
+-- what was found, but nothing where the test holds
 abbrev pub unless : Bool → Option (List ℕ) → Option (List ℕ)
 unless true o = None
 unless false o = o

@@ -1,9 +1,10 @@
 -- What the trim markers beside a text take of it ("Text and spaces" in the documentation of Go's text/template).
 use Rattle.std.specs.Prelude.{ℕ, ◌+◌, ◌-◌, Bool, true, false, ◌==◌, List, [], ◌∷◌, length, take, drop, count_by}
 use Rattle.std.specs.List.{prefix_len, suffix_len}
-use Rattle.tmpl_lex.specs.Byte.{is_space}
+use Rattle.tmpl_lex.specs.Bytes.{is_space}
 use Rattle.tmpl_lex.specs.Piece.{Piece, text}
 
+-- how many newlines there are
 abbrev pub newlines : List ℕ → ℕ
 newlines bs = count_by (λ b. b == 10) bs
 
@@ -12,6 +13,7 @@ abbrev pub leading : Bool → List ℕ → ℕ
 leading true bs = prefix_len is_space bs
 leading false bs = 0
 
+-- how many bytes of white space there are at the end
 abbrev pub trailing_len : List ℕ → ℕ
 trailing_len bs = suffix_len is_space bs
 
@@ -20,9 +22,11 @@ abbrev pub trailing : Bool → List ℕ → ℕ
 trailing true bs = trailing_len bs
 trailing false bs = 0
 
+-- the text without what a right trim marker before it takes
 abbrev pub without_leading : Bool → List ℕ → List ℕ
 without_leading trims bs = drop (leading trims bs) bs
 
+-- the text without what a left trim marker behind it takes
 abbrev pub without_trailing : Bool → List ℕ → List ℕ
 without_trailing trims bs = take (length bs - trailing trims bs) bs
 

@@ -1,15 +1,18 @@
 -- The token at the front of bytes of an action ("Arguments", "Pipelines" and "Variables" in the documentation of Go's
 -- text/template; which bytes a token is spelled with is our own rule).
-use Rattle.std.specs.Prelude.{ℕ, Bool, true, false, ◌||◌, ◌&&◌, not, ◌==◌, List, [], ◌∷◌, take_while, Option, Some, None, option_map, if◌then◌else◌}
+use Rattle.std.specs.Prelude.{ℕ, Bool, true, false, ◌||◌, ◌&&◌, not, ◌==◌, List, [], ◌∷◌, take_while, Option, Some}
+use Rattle.std.specs.Prelude.{None, option_map, if◌then◌else◌}
 use Rattle.std.specs.Char.{is_ascii_digit}
-pub use Rattle.tmpl_lex.specs.Byte.{is_space, is_name_byte, is_number_byte}
-use Rattle.tmpl_lex.specs.Marker.{right_marked}
+pub use Rattle.tmpl_lex.specs.Bytes.{is_space, is_name_byte, is_number_byte}
+use Rattle.tmpl_lex.specs.Trim.{right_marked}
 use Rattle.tmpl_lex.specs.Quoted.{through, quoted}
 use Rattle.tmpl_lex.specs.Piece.{Token}
 use Rattle.tmpl_lex.specs.declared.piece.TokenKind.{TokenKind}
-use Rattle.tmpl_lex.specs.declared.piece.TokenKind.TheVariants.{Space, Word, Number, Field, Dot, Variable, String, RawString, Character, Declare, Assign, Comma, Pipe, LeftParenthesis, RightParenthesis}
-use Rattle.tmpl_lex.specs.declared.front.Front.{Front}
-use Rattle.tmpl_lex.specs.declared.front.Front.TheVariants as front
+use Rattle.tmpl_lex.specs.declared.piece.TokenKind.TheVariants.{Space, Word, Number, Field, Dot, Variable, String}
+use Rattle.tmpl_lex.specs.declared.piece.TokenKind.TheVariants.{RawString, Character, Declare, Assign, Comma, Pipe}
+use Rattle.tmpl_lex.specs.declared.piece.TokenKind.TheVariants.{LeftParenthesis, RightParenthesis}
+use Rattle.tmpl_lex.specs.declared.token.Front.{Front}
+use Rattle.tmpl_lex.specs.declared.token.Front.TheVariants as front
 
 -- what a token that begins with this byte is, apart from white space and names
 abbrev pub mark_of : ℕ → Front
@@ -36,6 +39,7 @@ front_of b =
     else if is_name_byte b then front.Letter
     else mark_of b
 
+-- a byte and the run behind it, where the byte is kept
 abbrev pub kept_while : Bool → ℕ → List ℕ → List ℕ
 kept_while true b bs = b ∷ bs
 kept_while false b bs = []
@@ -49,6 +53,7 @@ space_run (b ∷ bs) = kept_while (is_space b && not (right_marked (b ∷ bs))) 
 abbrev pub Begun : Type 0
 Begun = TokenKind × List ℕ
 
+-- a number whose first byte behind the sign is this one, if it is a digit
 abbrev pub number : Bool → ℕ → List ℕ → Option Begun
 number true b bs = Some (Number, b ∷ take_while is_number_byte bs)
 number false b bs = None
@@ -67,6 +72,7 @@ abbrev pub dotted : List ℕ → Begun
 dotted [] = (Dot, [])
 dotted (b ∷ bs) = (Field, b ∷ bs)
 
+-- `:=`, where the byte behind the colon is an equals sign
 abbrev pub declare : Bool → Option Begun
 declare true = Some (Declare, 61 ∷ [])
 declare false = None
@@ -76,6 +82,7 @@ abbrev pub assigned : List ℕ → Option Begun
 assigned [] = None
 assigned (b ∷ bs) = declare (b == 61)
 
+-- a token of this kind, where its closing quote was found
 abbrev pub of_kind : TokenKind → Option (List ℕ) → Option Begun
 of_kind kind o = option_map (λ bs. (kind, bs)) o
 
@@ -98,6 +105,7 @@ begun front.LeftParenthesis bs = Some (LeftParenthesis, [])
 begun front.RightParenthesis bs = Some (RightParenthesis, [])
 begun front.Other bs = None
 
+-- the token with this first byte, if one begins so
 abbrev pub token_from : ℕ → Option Begun → Option Token
 token_from b None = None
 token_from b (Some p) = Some (record { kind = p.0; bytes = b ∷ p.1 })

@@ -1,7 +1,11 @@
-//! The bytes that tokens are made of, and runs of them.
+//! The bytes that tokens are made of, runs of them, and where two bytes follow one another.
 ghost use Rattle.std.specs.Prelude.{◌≡◌, ◌≤◌, length, drop};
 ghost use Rattle.std.specs.List.{prefix_len};
-ghost use Rattle.tmpl_lex.specs.Byte as spec;
+ghost use Rattle.tmpl_lex.specs.Bytes as spec;
+ghost use Rattle.tmpl_lex.specs.View.{pair_of};
+ghost use Rattle.tmpl_lex.specs.computed.Bytes.{split_from};
+
+use memchr::memchr;
 
 /// Whether this is white space: space, tab, carriage return or newline ("Text and spaces" in the
 /// documentation of Go's text/template).
@@ -55,4 +59,35 @@ pub(crate) fn after(bytes: &[u8], len: usize) -> &[u8]
     ensures { result.now ≡ drop len bytes.now }
 {
     &bytes[len..]
+}
+
+/// What stands before the first place where these two bytes follow one another, and what stands
+/// after them.
+#[tactic(auto, using(crate::proofs::PairLemmas::pairs))]
+pub(crate) fn split_pair(bytes: &[u8], first: u8, second: u8) -> Option<(&[u8], &[u8])>
+    ensures { pair_of result ≡ spec.split_pair first second bytes.now }
+{
+    let mut i = find_from(bytes, first, second, 0);
+    while i + 1 < bytes.len() {
+        if bytes[i] == first && bytes[i + 1] == second {
+            return Some((&bytes[..i], &bytes[i + 2..]));
+        }
+        i = find_from(bytes, first, second, i + 1);
+    }
+    None
+}
+
+/// The next place of the first of these two bytes from this one on, or the end where there is none:
+/// the pair does not stand before it.
+fn find_from(bytes: &[u8], first: u8, second: u8, from: usize) -> usize
+    requires { from ≤ length bytes.now }
+    ensures further { from ≤ result }
+    ensures within { result ≤ length bytes.now }
+    ensures same { split_from first second from bytes.now
+        ≡ split_from first second result bytes.now }
+{
+    match memchr(first, after(bytes, from)) {
+        Some(skipped) => from + skipped,
+        None => bytes.len(),
+    }
 }

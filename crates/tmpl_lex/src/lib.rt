@@ -1,26 +1,19 @@
 //! A template file cut into texts and actions.
 #![tactic(auto)]
 
+mod action;
 mod bytes;
-mod file;
-mod front;
-mod marker;
-mod names;
-mod opened;
-mod pair;
+mod cutter;
+mod laws;
 mod piece;
 mod quoted;
-mod text;
-mod token;
-
-pub use bytes::is_space;
-pub use file::{cut, one_cut};
-pub use names::tokens_named;
-pub use piece::{Piece, Token, TokenKind};
-
 #[cfg(test)]
 mod tests;
-#[cfg(test)]
-mod tests_tokens;
-#[cfg(test)]
-mod tests_trims;
+mod text;
+mod token;
+mod trim;
+
+pub use bytes::is_space;
+pub use cutter::cut;
+pub use laws::{one_cut, tokens_named};
+pub use piece::{Piece, Token, TokenKind};

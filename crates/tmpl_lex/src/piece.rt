@@ -4,7 +4,8 @@
 /// `_` and every byte from 80h.
 #[derive(Clone, Copy, Debug, PartialEq, Eq)]
 pub enum TokenKind {
-    /// A longest run of white space.
+    /// White space, up to the first other byte or the first right trim marker, of which the last byte of white space
+    /// is a part.
     Space,
     /// A longest name that does not begin with a digit.
     Word,

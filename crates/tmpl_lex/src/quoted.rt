@@ -1,12 +1,12 @@
 //! What stands behind an opening quote, up to its closing one.
 ghost use Rattle.std.specs.Prelude.{◌≡◌, ◌≤◌, ◌==◌, ◌&&◌, IfSome, false, length, not};
 ghost use Rattle.tmpl_lex.specs.Quoted as spec;
-ghost use Rattle.tmpl_lex.specs.Held.{taken_of};
+ghost use Rattle.tmpl_lex.specs.View.{taken_of};
 
 use memchr::memchr;
 
 /// How many bytes there are up to and with the next such byte.
-pub(crate) fn through(byte: u8, bytes: &[u8]) -> Option<usize>
+pub(crate) fn through_len(byte: u8, bytes: &[u8]) -> Option<usize>
     ensures value { taken_of bytes.now result ≡ spec.through byte bytes.now }
     ensures within { IfSome result (λ n. n ≤ length bytes.now) }
 {
@@ -15,7 +15,7 @@ pub(crate) fn through(byte: u8, bytes: &[u8]) -> Option<usize>
 
 /// How many bytes there are up to and with the next such quote that no backslash escapes, with no
 /// newline among them.
-pub(crate) fn quoted(quote: u8, bytes: &[u8]) -> Option<usize>
+pub(crate) fn quoted_len(quote: u8, bytes: &[u8]) -> Option<usize>
     ensures value { taken_of bytes.now result ≡ spec.quoted quote false bytes.now }
     ensures within { IfSome result (λ n. n ≤ length bytes.now) }
 {

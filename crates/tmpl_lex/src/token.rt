@@ -1,14 +1,69 @@
 //! The tokens of an action.
 ghost use Rattle.std.specs.Prelude.{◌≡◌, ◌≤◌, ◌∷◌, IfSome, length, option_map, take};
-ghost use Rattle.tmpl_lex.specs.Held.{begun_of};
-ghost use Rattle.tmpl_lex.specs.Piece.{token_of};
+ghost use Rattle.tmpl_lex.specs.View.{begun_of, token_of};
 ghost use Rattle.tmpl_lex.specs.Token as spec;
 
-use crate::bytes::{after, name_len, number_len, white_len};
-use crate::front::{Front, front_of};
-use crate::marker::dash_closes;
+use crate::bytes::{after, is_name_byte, is_space, name_len, number_len, white_len};
 use crate::piece::{Token, TokenKind};
-use crate::quoted::{quoted, through};
+use crate::quoted::{quoted_len, through_len};
+use crate::trim::has_dashed_delimiter;
+
+/// What a token is, as its first byte tells.
+#[derive(Clone, Copy)]
+enum Front {
+    White,
+    Letter,
+    Digit,
+    Sign,
+    Period,
+    Dollar,
+    DoubleQuote,
+    Backquote,
+    SingleQuote,
+    Colon,
+    Equals,
+    Comma,
+    Bar,
+    LeftParenthesis,
+    RightParenthesis,
+    Other,
+}
+
+/// What a token that begins with this byte is.
+fn front_of(byte: u8) -> Front
+    ensures { result ≡ spec.front_of byte }
+{
+    if is_space(byte) {
+        Front::White
+    } else if byte.is_ascii_digit() {
+        Front::Digit
+    } else if is_name_byte(byte) {
+        Front::Letter
+    } else {
+        mark_of(byte)
+    }
+}
+
+/// The same of a byte that is neither white space nor of a name.
+fn mark_of(byte: u8) -> Front
+    ensures { result ≡ spec.mark_of byte }
+{
+    match byte {
+        b'+' | b'-' => Front::Sign,
+        b'.' => Front::Period,
+        b'$' => Front::Dollar,
+        b'"' => Front::DoubleQuote,
+        b'`' => Front::Backquote,
+        b'\'' => Front::SingleQuote,
+        b':' => Front::Colon,
+        b'=' => Front::Equals,
+        b',' => Front::Comma,
+        b'|' => Front::Bar,
+        b'(' => Front::LeftParenthesis,
+        b')' => Front::RightParenthesis,
+        _ => Front::Other,
+    }
+}
 
 /// The token at the front of the bytes, if one begins there.
 pub(crate) fn front_token(bytes: &[u8]) -> Option<Token<'_>>
@@ -36,9 +91,9 @@ fn begun(front: Front, rest: &[u8]) -> Option<(TokenKind, usize)>
         Front::Sign => signed(rest),
         Front::Period => Some(dotted(rest)),
         Front::Dollar => Some((TokenKind::Variable, name_len(rest))),
-        Front::DoubleQuote => of_kind(TokenKind::String, quoted(b'"', rest)),
-        Front::Backquote => of_kind(TokenKind::RawString, through(b'`', rest)),
-        Front::SingleQuote => of_kind(TokenKind::Character, quoted(b'\'', rest)),
+        Front::DoubleQuote => of_kind(TokenKind::String, quoted_len(b'"', rest)),
+        Front::Backquote => of_kind(TokenKind::RawString, through_len(b'`', rest)),
+        Front::SingleQuote => of_kind(TokenKind::Character, quoted_len(b'\'', rest)),
         Front::Colon => assigned(rest),
         Front::Equals => Some((TokenKind::Assign, 0)),
         Front::Comma => Some((TokenKind::Comma, 0)),
@@ -55,7 +110,7 @@ fn space_len(bytes: &[u8]) -> usize
     ensures within { result ≤ length bytes.now }
 {
     let white = white_len(bytes);
-    if dash_closes(after(bytes, white)) {
+    if has_dashed_delimiter(after(bytes, white)) {
         white.saturating_sub(1)
     } else {
         white

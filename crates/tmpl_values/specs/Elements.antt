@@ -1,8 +1,9 @@
--- The elements that a range visits ("Actions", at `range`), each behind its index or key: the items of a sequence in order
--- and those of a mapping by key. That nothing and null have none, and that no other value may be ranged over, are our own
--- rules.
+-- The elements that a range visits ("Actions", at `range`), each behind its index or key: the items of a sequence in
+-- order and those of a mapping by key. That nothing and null have none, and that no other value may be ranged over, are
+-- our own rules.
 use Rattle.std.specs.Prelude.{ℕ, suc, pos, List, [], ◌∷◌, Option, Some, None}
-use Rattle.tmpl_values.specs.Value.{Value, nothing, null, boolean, number, string, sequence, mapping, Items, no_item, item, Entries, no_entry, entry}
+use Rattle.tmpl_values.specs.Value.{Value, nothing, null, boolean, number, string, sequence, mapping, Items, no_item}
+use Rattle.tmpl_values.specs.Value.{item, Entries, no_entry, entry}
 
 -- an index or key, and the element
 abbrev pub Element : Type 0
@@ -13,6 +14,7 @@ abbrev pub indexed : ℕ → Items → List Element
 indexed i no_item = []
 indexed i (item v vs) = (number (pos i), v) ∷ indexed (suc i) vs
 
+-- entries, each as its key and its value
 abbrev pub keyed : Entries → List Element
 keyed no_entry = []
 keyed (entry k v es) = (string k, v) ∷ keyed es

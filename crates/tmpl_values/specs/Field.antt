@@ -1,6 +1,7 @@
 -- The field of a value. What nothing and null have as fields is this project's own rule.
 use Rattle.std.specs.Prelude.{ℕ, List, bytes_eq, if◌then◌else◌}
-use Rattle.tmpl_values.specs.Value.{Value, nothing, null, boolean, number, string, sequence, mapping, Entries, no_entry, entry}
+use Rattle.tmpl_values.specs.Value.{Value, nothing, null, boolean, number, string, sequence, mapping, Entries, no_entry}
+use Rattle.tmpl_values.specs.Value.{entry}
 
 -- what a value has under a name: a value; no entry, though it is a mapping; nothing, as it is
 -- nothing itself; or no field, as its kind has none

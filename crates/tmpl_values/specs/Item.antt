@@ -1,6 +1,7 @@
 -- The elements of a value, which a range visits ("Actions", at `range`), and its size and parts.
 use Rattle.std.specs.Prelude.{◌≤◌, ◌-◌, ℕ, zero, suc, pos, List, length, slice_range, Option, Some, None, option_map}
-use Rattle.tmpl_values.specs.Value.{Value, nothing, null, boolean, number, string, sequence, mapping, Items, no_item, item, Entries, no_entry, entry}
+use Rattle.tmpl_values.specs.Value.{Value, nothing, null, boolean, number, string, sequence, mapping, Items, no_item}
+use Rattle.tmpl_values.specs.Value.{item, Entries, no_entry, entry}
 
 -- the value at a place
 abbrev pub nth_item : ℕ → Items → Option Value

@@ -1,5 +1,6 @@
 -- The value of JSON bytes, over `serde_json`'s own definition of what they read as.
-use Rattle.std.specs.Prelude.{◌≡◌, List, ℕ, Option, Some, None, Result, Ok, Err, option_map, option_and_then, if◌then◌else◌}
+use Rattle.std.specs.Prelude.{◌≡◌, List, ℕ, Option, Some, None, Result, Ok, Err, option_map, option_and_then}
+use Rattle.std.specs.Prelude.{if◌then◌else◌}
 use Rattle.std.specs.Str.{is_utf8}
 use Rattle.serde_json.specs.Data as json
 use Rattle.serde_json.specs.Find.{as_i64}
@@ -7,8 +8,9 @@ use Rattle.serde_json.specs.Read.{read}
 use Rattle.tmpl_values.specs.declared.json.DataFault.{DataFault}
 use Rattle.tmpl_values.specs.declared.json.DataFault.TheVariants.{NotJson, NotWhole, OutOfMemory}
 use Rattle.tmpl_values.specs.declared.data.Data.{Data}
-use Rattle.tmpl_values.specs.Data.{value_of}
-use Rattle.tmpl_values.specs.Value.{Value, null, boolean, number, string, sequence, mapping, Items, no_item, item, Entries, no_entry, entry}
+use Rattle.tmpl_values.specs.row.View.{value_of}
+use Rattle.tmpl_values.specs.Value.{Value, null, boolean, number, string, sequence, mapping, Items, no_item, item}
+use Rattle.tmpl_values.specs.Value.{Entries, no_entry, entry}
 
 -- the value of a JSON tree: none where a number is held as a float or is outside 64 signed bits
 abbrev mutual
@@ -44,17 +46,17 @@ abbrev pub if_json : Option json.Data → Result Value DataFault
 if_json None = Err NotJson
 if_json (Some d) = if_whole (tree_value d)
 
--- the value of data
+-- the value of JSON bytes, or why they have none
 abbrev pub data_of : List ℕ → Result Value DataFault
 data_of bytes = if_json (tree_of bytes)
 
--- what was answered is what was asked for, unless memory was wanting
-abbrev pub IsAnswer : {A B : Type 0} → (A → B) → Result A DataFault → Result B DataFault → Type 0
-IsAnswer view (Ok a) asked = asked ≡ Ok (view a)
-IsAnswer view (Err NotJson) asked = asked ≡ Err NotJson
-IsAnswer view (Err NotWhole) asked = asked ≡ Err NotWhole
-IsAnswer view (Err OutOfMemory) asked = Unit {0}
+-- the result stands for what was asked for, value or fault, or memory was refused
+abbrev pub IsConverted : {A B : Type 0} → (A → B) → Result A DataFault → Result B DataFault → Type 0
+IsConverted view (Ok a) asked = asked ≡ Ok (view a)
+IsConverted view (Err NotJson) asked = asked ≡ Err NotJson
+IsConverted view (Err NotWhole) asked = asked ≡ Err NotWhole
+IsConverted view (Err OutOfMemory) asked = Unit {0}
 
 -- the data that these bytes are, or the fault that they have
 abbrev pub IsData : List ℕ → Result Data DataFault → Type 0
-IsData bytes result = IsAnswer value_of result (data_of bytes)
+IsData bytes result = IsConverted value_of result (data_of bytes)

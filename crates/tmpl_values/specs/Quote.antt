@@ -1,6 +1,7 @@
 -- The quote of a text, as `strconv.Quote` has it: its runes, each spelled so that it can be read
 -- back. Which characters print is taken from the tables of `unicode` (this project's own rule).
-use Rattle.std.specs.Prelude.{ℕ, zero, suc, ◌/◌, ◌%◌, ◌||◌, ◌==◌, nat_lt, Bool, List, [], ◌∷◌, ◌++◌, Option, Some, None, if◌then◌else◌}
+use Rattle.std.specs.Prelude.{ℕ, zero, suc, ◌/◌, ◌%◌, ◌||◌, ◌==◌, nat_lt, Bool, List, [], ◌∷◌, ◌++◌, Option, Some, None}
+use Rattle.std.specs.Prelude.{if◌then◌else◌}
 use Rattle.std.specs.List.{flat_map}
 use Rattle.std.specs.Char.{encode_utf8, digit_char}
 use Rattle.tmpl_values.specs.Rune.{Rune, char, byte, runes}
@@ -13,14 +14,9 @@ letters =
     ∷ (13, 114) ∷ []
 
 -- the letter of a code
-abbrev pub second_of : ℕ → List (ℕ × ℕ) → Option ℕ
-second_of c [] = None
-second_of c (p ∷ ps) = if c == p.0 then Some p.1 else second_of c ps
-
--- the code of a letter
-abbrev pub first_of_second : ℕ → List (ℕ × ℕ) → Option ℕ
-first_of_second e [] = None
-first_of_second e (p ∷ ps) = if e == p.1 then Some p.0 else first_of_second e ps
+abbrev pub letter_of : ℕ → List (ℕ × ℕ) → Option ℕ
+letter_of c [] = None
+letter_of c (p ∷ ps) = if c == p.0 then Some p.1 else letter_of c ps
 
 -- the last n digits of c in base 16, in lower case
 unfoldable pub hexes : ℕ → ℕ → List ℕ
@@ -42,7 +38,7 @@ spelled prints c None = plain_or_code prints c
 
 -- a rune as it stands in a quote
 abbrev pub spelling : (ℕ → Bool) → Rune → List ℕ
-spelling prints (char c) = spelled prints c (second_of c letters)
+spelling prints (char c) = spelled prints c (letter_of c letters)
 spelling prints (byte b) = 92 ∷ 120 ∷ hexes 2 b
 
 -- what stands between the quotation marks

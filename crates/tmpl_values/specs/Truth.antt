@@ -2,7 +2,8 @@
 -- in it ("Actions", at `if`: "The empty values are false, 0, any nil pointer or interface value,
 -- and any array, slice, map, or string of length zero").
 use Rattle.std.specs.Prelude.{zero, suc, pos, negsuc, Bool, true, false, [], ◌∷◌}
-use Rattle.tmpl_values.specs.Value.{Value, nothing, null, boolean, number, string, sequence, mapping, no_item, item, no_entry, entry}
+use Rattle.tmpl_values.specs.Value.{Value, nothing, null, boolean, number, string, sequence, mapping, no_item, item}
+use Rattle.tmpl_values.specs.Value.{no_entry, entry}
 
 -- whether a value is not empty
 abbrev pub truth : Value → Bool

@@ -7,7 +7,7 @@ use Rattle.tmpl_values.specs.declared.value.Val.TheVariants as kind
 use Rattle.tmpl_values.specs.Field.{FieldValue, found, missing, of_nothing, no_field}
 use Rattle.tmpl_values.specs.declared.field.Field.{Field}
 use Rattle.tmpl_values.specs.declared.field.Field.TheVariants as answer
-pub use Rattle.tmpl_values.specs.Data.{value_of, items_of, entries_of}
+pub use Rattle.tmpl_values.specs.row.View.{value_of, items_of, entries_of}
 
 -- the value that a `Val` stands for, whoever owns its bytes
 abbrev pub val_of : Val → Value

@@ -1,6 +1,6 @@
 //! The bytes of a text that was made during a run.
 ghost use Rattle.std.specs.Prelude.{◌≡◌, IfOk, true};
-ghost use Rattle.tmpl_values.specs.Buffer.{held_in, is_counted};
+ghost use Rattle.tmpl_values.specs.made.View.{buffer_bytes, is_counted};
 
 use std::alloc::{AllocError, Global};
 use std::rc::Rc;
@@ -17,7 +17,7 @@ pub(crate) enum Buffer {
 impl Buffer {
     /// The bytes.
     pub(crate) fn as_slice(&self) -> &[u8]
-        ensures { result.now ≡ held_in self.now }
+        ensures { result.now ≡ buffer_bytes self.now }
     {
         match self {
             Buffer::Sole(bytes) => bytes.as_slice(),
@@ -27,7 +27,7 @@ impl Buffer {
 
     /// The same bytes, with their owners counted from now on.
     pub(crate) fn into_shared(self, alloc: Global) -> Result<Buffer, AllocError>
-        ensures value { IfOk result (λ b. held_in b ≡ held_in self) }
+        ensures value { IfOk result (λ b. buffer_bytes b ≡ buffer_bytes self) }
         ensures counted { IfOk result (λ b. is_counted b ≡ true) }
     {
         match self {

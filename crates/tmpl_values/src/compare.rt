@@ -61,6 +61,7 @@ impl<'a> Val<'a> {
         }
     }
 
+    /// Whether this truth value equals the value.
     fn equals_truth(&self, b: bool) -> Result<bool, CompareFault>
         ensures { IsCompared (equality (boolean b) (val_of self.now)) result }
     {
@@ -73,6 +74,7 @@ impl<'a> Val<'a> {
         }
     }
 
+    /// Whether this number equals the value.
     fn equals_number(&self, n: i64) -> Result<bool, CompareFault>
         ensures { IsCompared (equality (number n) (val_of self.now)) result }
     {
@@ -85,6 +87,7 @@ impl<'a> Val<'a> {
         }
     }
 
+    /// Whether this text equals the value.
     fn equals_text(&self, bytes: &[u8]) -> Result<bool, CompareFault>
         ensures { IsCompared (equality (string bytes.now) (val_of self.now)) result }
     {
@@ -96,6 +99,7 @@ impl<'a> Val<'a> {
         }
     }
 
+    /// Whether the value is above this number.
     fn above_number(&self, n: i64) -> Result<bool, CompareFault>
         ensures { IsCompared (order (number n) (val_of self.now)) result }
     {
@@ -111,6 +115,7 @@ impl<'a> Val<'a> {
         }
     }
 
+    /// Whether the value is above this text.
     fn above_text(&self, bytes: &[u8]) -> Result<bool, CompareFault>
         ensures { IsCompared (order (string bytes.now) (val_of self.now)) result }
     {

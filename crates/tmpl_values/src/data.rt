@@ -32,36 +32,36 @@ pub struct Table {
 
 impl Model for Row {
     ghost use Rattle.tmpl_values.specs.Value.{Items};
-    ghost use Rattle.tmpl_values.specs.Weight.{items_weight};
+    ghost use Rattle.tmpl_values.specs.computed.Weight.{items_weight};
 
     ghost Value = { Items };
 
-    ghost use Rattle.tmpl_values.specs.Codes.{items_coded};
+    ghost use Rattle.tmpl_values.specs.computed.Codes.{items_coded};
 
     ghost coded = { items_coded };
 
-    ghost use Rattle.tmpl_values.specs.Data.{items_of};
+    ghost use Rattle.tmpl_values.specs.row.View.{items_of};
 
     ghost view = { λ r. items_of r.items.items };
 
     ghost size = { items_weight };
 
-    ghost use Rattle.tmpl_values.specs.Falls.{row_le};
+    ghost use Rattle.tmpl_values.specs.computed.Falls.{deep-row};
 
-    ghost size_decreases = { λ r h. row_le r.items.items };
+    ghost size_decreases = { λ r h. deep-row r.items.items };
 }
 
 impl Model for Table {
     ghost use Rattle.tmpl_values.specs.Value.{Entries, AreRising};
-    ghost use Rattle.tmpl_values.specs.Weight.{entries_weight};
+    ghost use Rattle.tmpl_values.specs.computed.Weight.{entries_weight};
 
     ghost Value = { Entries };
 
-    ghost use Rattle.tmpl_values.specs.Codes.{entries_coded};
+    ghost use Rattle.tmpl_values.specs.computed.Codes.{entries_coded};
 
     ghost coded = { entries_coded };
 
-    ghost use Rattle.tmpl_values.specs.Data.{entries_of};
+    ghost use Rattle.tmpl_values.specs.row.View.{entries_of};
 
     ghost view = { λ t. entries_of t.entries.items };
 
@@ -69,13 +69,13 @@ impl Model for Table {
 
     ghost size = { entries_weight };
 
-    ghost use Rattle.tmpl_values.specs.Falls.{table_le};
+    ghost use Rattle.tmpl_values.specs.computed.Falls.{deep-table};
 
-    ghost size_decreases = { λ t h. table_le t.entries.items };
+    ghost size_decreases = { λ t h. deep-table t.entries.items };
 }
 
 impl Row {
-    ghost use Rattle.tmpl_values.specs.Data.{items_of};
+    ghost use Rattle.tmpl_values.specs.row.View.{items_of};
 
     /// The list of these items.
     pub(crate) fn new(items: Vec<Data>) -> Row
@@ -94,7 +94,7 @@ impl Row {
 
 impl Table {
     ghost use Rattle.std.specs.Prelude.{MatchOption};
-    ghost use Rattle.tmpl_values.specs.Data.{value_of, entries_of};
+    ghost use Rattle.tmpl_values.specs.row.View.{value_of, entries_of};
     ghost use Rattle.tmpl_values.specs.Field.{found, missing, entry_at};
     ghost use Rattle.tmpl_values.specs.Value.{AreRising};
 

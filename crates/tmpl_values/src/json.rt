@@ -1,8 +1,8 @@
 //! Data from JSON.
 ghost use Rattle.std.specs.Prelude.{◌≡◌};
 ghost use Rattle.serde_json.specs.View.{view, items_view, members_view};
-ghost use Rattle.tmpl_values.specs.Data.{value_of, items_of};
-ghost use Rattle.tmpl_values.specs.Json.{tree_value, tree_items, tree_entries, if_whole, IsAnswer, IsData};
+ghost use Rattle.tmpl_values.specs.row.View.{value_of, items_of};
+ghost use Rattle.tmpl_values.specs.Json.{tree_value, tree_items, tree_entries, if_whole, IsConverted, IsData};
 
 use crate::bytes::Bytes;
 use crate::data::{Data, Row, Table};
@@ -65,10 +65,11 @@ impl Data {
     }
 }
 
+/// The data of a JSON value. It stands inline in its one caller outside the cycle.
 #[cycle(data)]
 #[inline(always)]
 fn data_of(alloc: Global, value: Value) -> Result<Data, DataFault>
-    ensures { IsAnswer value_of result (if_whole (tree_value (view value))) }
+    ensures { IsConverted value_of result (if_whole (tree_value (view value))) }
 {
     match value {
         Value::Null => Ok(Data::Null),
@@ -83,27 +84,29 @@ fn data_of(alloc: Global, value: Value) -> Result<Data, DataFault>
     }
 }
 
+/// The data of the items of an array.
 #[cycle(data)]
 fn items_of(alloc: Global, items: Vec<Value>) -> Result<Vec<Data>, DataFault>
-    ensures { IsAnswer (λ v. items_of v.items) result
+    ensures { IsConverted (λ v. items_of v.items) result
         (if_whole (tree_items (items_view items.items))) }
 {
     // As much room as the list of `serde_json` takes: the block that one list gives back is then the one that the next
     // asks for, which spares the allocator most of its work.
-    let mut done = Vec::with_capacity(alloc, items.capacity())?;
+    let mut converted = Vec::with_capacity(alloc, items.capacity())?;
     for item in items {
-        done.push(data_of(alloc, item)?)?;
+        converted.push(data_of(alloc, item)?)?;
     }
-    Ok(done)
+    Ok(converted)
 }
 
+/// The map of the members of an object.
 #[cycle(data)]
 fn table_of(alloc: Global, members: BTreeMap<String, Value>) -> Result<Table, DataFault>
-    ensures { IsAnswer (λ t. t) result (if_whole (tree_entries (members_view members.entries))) }
+    ensures { IsConverted (λ t. t) result (if_whole (tree_entries (members_view members.entries))) }
 {
-    let mut done = Vec::with_capacity(alloc, members.len())?;
+    let mut converted = Vec::with_capacity(alloc, members.len())?;
     for (key, member) in members {
-        done.push((Bytes::new(key.into_bytes()), data_of(alloc, member)?))?;
+        converted.push((Bytes::new(key.into_bytes()), data_of(alloc, member)?))?;
     }
-    Ok(Table::new(done))
+    Ok(Table::new(converted))
 }

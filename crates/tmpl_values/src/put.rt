@@ -2,7 +2,7 @@
 ghost use Rattle.std.specs.Prelude.{◌-◌, ◌^◌, ◌<◌};
 ghost use Rattle.tmpl_values.specs.Put.{Puts, IsPut};
 
-/// What takes bytes, each put whole.
+/// What takes bytes: all of those of a put, or a beginning of them and the put fails.
 ///
 /// Its meaning is the bytes put so far, which it may leave untold, and how many puts failed, which
 /// it always tells. One that puts through a `&mut` tells the ghost name of that reference too, and

@@ -1,13 +1,14 @@
 //! The quote of a text.
-ghost use Rattle.std.specs.Prelude.{◌≡◌, ◌+◌, ◌-◌, ◌^◌, ◌<◌, ◌≤◌, drop, ◌||◌, ◌==◌, ◌++◌, ◌∷◌, [], length, slice_index, take, IfSome, MatchOption, Some};
-ghost use Rattle.std.specs.Char.{digit_char, encode_utf8, len_utf8};
-ghost use Rattle.std.specs.Str.{continuation_len};
+ghost use Rattle.std.specs.Prelude.{◌≡◌, ◌-◌, ◌^◌, ◌<◌, ◌≤◌, drop, ◌++◌, length, take, IfSome};
+ghost use Rattle.std.specs.Char.{len_utf8};
 ghost use Rattle.tmpl_values.specs.Put.{IsPut};
-ghost use Rattle.tmpl_values.specs.Rune.{char as char_rune, byte as byte_rune, first_rune};
-ghost use Rattle.tmpl_values.specs.Quote.{letters, second_of, spelling, plain_or_code, inside, quote, hexes};
+ghost use Rattle.tmpl_values.specs.Rune.{char as char_rune, byte as byte_rune};
+ghost use Rattle.tmpl_values.specs.Quote.{letters, letter_of, spelling, plain_or_code, inside, quote};
 ghost use Rattle.tmpl_values.specs.Printable.{printable, of_category};
 
+use crate::hex::digit;
 use crate::put::Put;
+use crate::rune::first_char;
 use unicode::properties::{GeneralCategory, GeneralCategoryGroup};
 
 /// Puts the quote of a text, as `strconv.Quote` has it over the categories of `unicode`'s own
@@ -23,6 +24,7 @@ pub fn put_quoted<P: Put>(bytes: &[u8], out: &mut P) -> Result<(), P::Fault>
     out.put(b"\"")
 }
 
+/// Puts what stands between the quotation marks, runs of plain characters at once.
 fn put_inside<P: Put>(bytes: &[u8], out: &mut P) -> Result<(), P::Fault>
     requires { (P.so_far out.old).failures < 2 ^ 64 - 1 }
     ensures { IsPut result (P.so_far out.old) (P.so_far out.new) (inside printable bytes.now) }
@@ -82,6 +84,7 @@ fn plain_char(bytes: &[u8]) -> Option<char>
     }
 }
 
+/// The bytes after so many.
 fn after(bytes: &[u8], n: usize) -> &[u8]
     requires { n ≤ length bytes.now }
     ensures { result.now ≡ drop n bytes.now }
@@ -89,33 +92,9 @@ fn after(bytes: &[u8], n: usize) -> &[u8]
     &bytes[n..]
 }
 
-/// The character whose well-formed UTF-8 encoding stands at the front, if there is one.
-pub fn first_char(bytes: &[u8]) -> Option<char>
-    requires { 0 < length bytes.now }
-    ensures { MatchOption result
-        (first_rune bytes.now ≡ byte_rune (slice_index bytes.now 0))
-        (λ c. (first_rune bytes.now ≡ char_rune c) × (len_utf8 c ≤ length bytes.now)) }
-{
-    let n = char_len(bytes[0]).min(bytes.len());
-    match std::str::from_utf8(&bytes[..n]) {
-        Ok(text) => text.chars().next(),
-        Err(_) => None,
-    }
-}
-
-fn char_len(first: u8) -> usize
-    ensures { result ≡ continuation_len first + 1 }
-{
-    match first {
-        0..=0x7F => 1,
-        0x80..=0xDF => 2,
-        0xE0..=0xEF => 3,
-        0xF0..=0xFF => 4,
-    }
-}
-
+/// The letter that stands for a character behind a backslash, if it has one.
 fn letter_of(c: char) -> Option<u8>
-    ensures { result ≡ second_of c letters }
+    ensures { result ≡ letter_of c letters }
 {
     match c {
         '"' => Some(b'"'),
@@ -131,6 +110,7 @@ fn letter_of(c: char) -> Option<u8>
     }
 }
 
+/// Whether a character prints: the space of ASCII, letters, marks, numbers, punctuation and symbols.
 #[tactic(auto, unfolding(crate::specs::Printable::printable))]
 fn is_printable(c: char) -> bool
     ensures { result ≡ printable c }
@@ -138,6 +118,7 @@ fn is_printable(c: char) -> bool
     (c == ' ') | is_of_category(GeneralCategory::for_char(c))
 }
 
+/// Whether the characters of a category print.
 fn is_of_category(category: GeneralCategory) -> bool
     ensures { result ≡ of_category category }
 {
@@ -148,6 +129,7 @@ fn is_of_category(category: GeneralCategory) -> bool
                     | GeneralCategoryGroup::Symbol.contains(category))))
 }
 
+/// Puts a character as it stands in a quote.
 fn put_char<P: Put>(c: char, out: &mut P) -> Result<(), P::Fault>
     requires { (P.so_far out.old).failures < 2 ^ 64 - 1 }
     ensures { IsPut result (P.so_far out.old) (P.so_far out.new)
@@ -159,6 +141,7 @@ fn put_char<P: Put>(c: char, out: &mut P) -> Result<(), P::Fault>
     }
 }
 
+/// Puts a character that has no letter: itself where it prints, else its code.
 #[tactic(auto, unfolding(crate::specs::Quote::hexes))]
 fn put_unlettered<P: Put>(c: char, out: &mut P) -> Result<(), P::Fault>
     requires { (P.so_far out.old).failures < 2 ^ 64 - 1 }
@@ -175,44 +158,39 @@ fn put_unlettered<P: Put>(c: char, out: &mut P) -> Result<(), P::Fault>
         out.put(&[
             b'\\',
             b'u',
-            hex(n / 16 / 16 / 16 % 16),
-            hex(n / 16 / 16 % 16),
-            hex(n / 16 % 16),
-            hex(n % 16),
+            digit(n / 16 / 16 / 16 % 16, false),
+            digit(n / 16 / 16 % 16, false),
+            digit(n / 16 % 16, false),
+            digit(n % 16, false),
         ])
     } else {
         let high = n / 16 / 16 / 16 / 16;
         out.put(&[
             b'\\',
             b'U',
-            hex(high / 16 / 16 / 16 % 16),
-            hex(high / 16 / 16 % 16),
-            hex(high / 16 % 16),
-            hex(high % 16),
-            hex(n / 16 / 16 / 16 % 16),
-            hex(n / 16 / 16 % 16),
-            hex(n / 16 % 16),
-            hex(n % 16),
+            digit(high / 16 / 16 / 16 % 16, false),
+            digit(high / 16 / 16 % 16, false),
+            digit(high / 16 % 16, false),
+            digit(high % 16, false),
+            digit(n / 16 / 16 / 16 % 16, false),
+            digit(n / 16 / 16 % 16, false),
+            digit(n / 16 % 16, false),
+            digit(n % 16, false),
         ])
     }
 }
 
+/// Puts a byte by its code.
 #[tactic(auto, unfolding(crate::specs::Quote::hexes))]
 fn put_byte<P: Put>(b: u8, out: &mut P) -> Result<(), P::Fault>
     requires { (P.so_far out.old).failures < 2 ^ 64 - 1 }
     ensures { IsPut result (P.so_far out.old) (P.so_far out.new)
         (spelling printable (byte_rune b)) }
 {
-    out.put(&[b'\\', b'x', hex(b as u32 / 16 % 16), hex(b as u32 % 16)])
-}
-
-fn hex(d: u32) -> u8
-    requires { d < 16 }
-    ensures { result ≡ digit_char d }
-{
-    if d < 10 {
-        b'0' + d as u8
-    } else {
-        b'a' + (d as u8 - 10)
-    }
+    out.put(&[
+        b'\\',
+        b'x',
+        digit(b as u32 / 16 % 16, false),
+        digit(b as u32 % 16, false),
+    ])
 }

@@ -1,7 +1,7 @@
 //! The text of a value.
 ghost use Rattle.std.specs.Prelude.{◌-◌, ◌^◌, ◌<◌, ◌∷◌, ◌++◌, codes};
 ghost use Rattle.std.specs.Fmt.{signed_decimal};
-ghost use Rattle.tmpl_values.specs.Data.{value_of, items_of, entries_of};
+ghost use Rattle.tmpl_values.specs.row.View.{value_of, items_of, entries_of};
 ghost use Rattle.tmpl_values.specs.View.{val_of};
 ghost use Rattle.tmpl_values.specs.Put.{IsPut};
 ghost use Rattle.tmpl_values.specs.Text.{text_of, inner_text, truth_text, item_texts, entry_texts, parted};
@@ -33,6 +33,7 @@ pub fn put_text<P: Put>(value: &Val<'_>, out: &mut P) -> Result<(), P::Fault>
     }
 }
 
+/// Puts the text of a truth value.
 fn put_truth<P: Put>(b: bool, out: &mut P) -> Result<(), P::Fault>
     requires { (P.so_far out.old).failures < 2 ^ 64 - 1 }
     ensures { IsPut result (P.so_far out.old) (P.so_far out.new) (truth_text b) }
@@ -44,6 +45,7 @@ fn put_truth<P: Put>(b: bool, out: &mut P) -> Result<(), P::Fault>
     }
 }
 
+/// Puts a number in base 10.
 fn put_number<P: Put>(n: i64, out: &mut P) -> Result<(), P::Fault>
     requires { (P.so_far out.old).failures < 2 ^ 64 - 1 }
     ensures { IsPut result (P.so_far out.old) (P.so_far out.new) (signed_decimal n) }
@@ -52,12 +54,13 @@ fn put_number<P: Put>(n: i64, out: &mut P) -> Result<(), P::Fault>
     out.put(buffer.format(n).as_bytes())
 }
 
+/// Puts the text that data has inside a list or a map.
 #[cycle(put)]
-fn put_inner<P: Put>(held: &Data, out: &mut P) -> Result<(), P::Fault>
+fn put_inner<P: Put>(item: &Data, out: &mut P) -> Result<(), P::Fault>
     requires { (P.so_far out.old).failures < 2 ^ 64 - 1 }
-    ensures { IsPut result (P.so_far out.old) (P.so_far out.new) (inner_text (value_of held.now)) }
+    ensures { IsPut result (P.so_far out.old) (P.so_far out.new) (inner_text (value_of item.now)) }
 {
-    match held {
+    match item {
         Data::Null => out.put(b"<nil>"),
         Data::Bool(b) => put_truth(*b, out),
         Data::Num(n) => put_number(*n, out),
@@ -67,6 +70,7 @@ fn put_inner<P: Put>(held: &Data, out: &mut P) -> Result<(), P::Fault>
     }
 }
 
+/// Puts a list.
 #[cycle(put)]
 fn put_items<P: Put>(items: &[Data], out: &mut P) -> Result<(), P::Fault>
     requires { (P.so_far out.old).failures < 2 ^ 64 - 1 }
@@ -78,6 +82,7 @@ fn put_items<P: Put>(items: &[Data], out: &mut P) -> Result<(), P::Fault>
     out.put(b"]")
 }
 
+/// Puts items, parted by one space.
 #[cycle(put)]
 fn put_parted_items<P: Put>(items: &[Data], out: &mut P) -> Result<(), P::Fault>
     requires { (P.so_far out.old).failures < 2 ^ 64 - 1 }
@@ -85,14 +90,15 @@ fn put_parted_items<P: Put>(items: &[Data], out: &mut P) -> Result<(), P::Fault>
         (parted (item_texts (items_of items.now))) }
 {
     let mut lead: &[u8] = b"";
-    for held in items {
+    for item in items {
         out.put(lead)?;
-        put_inner(held, out)?;
+        put_inner(item, out)?;
         lead = b" ";
     }
     Ok(())
 }
 
+/// Puts a map.
 #[cycle(put)]
 fn put_entries<P: Put>(entries: &[(Bytes, Data)], out: &mut P) -> Result<(), P::Fault>
     requires { (P.so_far out.old).failures < 2 ^ 64 - 1 }
@@ -104,6 +110,7 @@ fn put_entries<P: Put>(entries: &[(Bytes, Data)], out: &mut P) -> Result<(), P::
     out.put(b"]")
 }
 
+/// Puts entries, parted by one space.
 #[cycle(put)]
 fn put_parted_entries<P: Put>(entries: &[(Bytes, Data)], out: &mut P) -> Result<(), P::Fault>
     requires { (P.so_far out.old).failures < 2 ^ 64 - 1 }
@@ -111,11 +118,11 @@ fn put_parted_entries<P: Put>(entries: &[(Bytes, Data)], out: &mut P) -> Result<
         (parted (entry_texts (entries_of entries.now))) }
 {
     let mut lead: &[u8] = b"";
-    for (key, held) in entries {
+    for (key, value) in entries {
         out.put(lead)?;
         out.put(key.as_slice())?;
         out.put(b":")?;
-        put_inner(held, out)?;
+        put_inner(value, out)?;
         lead = b" ";
     }
     Ok(())

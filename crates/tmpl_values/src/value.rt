@@ -1,7 +1,8 @@
 //! The values of a run.
 ghost use Rattle.std.specs.Prelude.{◌≡◌, ◌-◌, ◌≤◌, length, true, false, IfOk, IfSome, option_map};
 ghost use Rattle.tmpl_values.specs.Value.{string, sequence, mapping};
-ghost use Rattle.tmpl_values.specs.View.{value_of, items_of, entries_of, val_of, is_kept, is_made, field_of, is_borrowed, element_of, IsShared};
+ghost use Rattle.tmpl_values.specs.View.{value_of, items_of, entries_of, val_of, is_kept, is_made, field_of};
+ghost use Rattle.tmpl_values.specs.View.{is_borrowed, element_of, IsShared};
 ghost use Rattle.tmpl_values.specs.Truth.{truth};
 ghost use Rattle.tmpl_values.specs.Field.{field_at};
 ghost use Rattle.tmpl_values.specs.Item.{item_at, bytes_of, size_of, HasPart, part_of, items_from, first_items};
@@ -9,7 +10,7 @@ ghost use Rattle.tmpl_values.specs.Item.{item_at, bytes_of, size_of, HasPart, pa
 use crate::bytes::Bytes;
 use crate::data::{Data, Table};
 use crate::field::Field;
-use crate::shared::Made;
+use crate::made::Made;
 use std::alloc::{AllocError, Global};
 
 /// A value of a template. It borrows from the data and from the template's constants.
@@ -37,11 +38,11 @@ pub struct Cell<'a> {
 
 impl<'a> Val<'a> {
     /// The value of data.
-    pub fn of(held: &'a Data) -> Val<'a>
-        ensures value { val_of result ≡ value_of held.now }
+    pub fn of(datum: &'a Data) -> Val<'a>
+        ensures value { val_of result ≡ value_of datum.now }
         ensures borrowed { is_made result ≡ false }
     {
-        match held {
+        match datum {
             Data::Null => Val::Null,
             Data::Bool(b) => Val::Bool(*b),
             Data::Num(n) => Val::Num(*n),
@@ -76,7 +77,7 @@ impl<'a> Val<'a> {
         match self {
             Val::Nothing => Field::OfNothing,
             Val::Map(table) => match table.get(name) {
-                Some(held) => Field::Found(Val::of(held)),
+                Some(value) => Field::Found(Val::of(value)),
                 None => Field::Missing,
             },
             Val::Null => Field::NoField,
@@ -183,6 +184,7 @@ impl<'a> Val<'a> {
     }
 }
 
+/// The item at a place, behind its index.
 fn list_item<'a>(items: &'a [Data], i: usize) -> Option<(Val<'a>, Val<'a>)>
     ensures value { option_map element_of result ≡ item_at i (sequence (items_of items.now)) }
     ensures borrowed { IfSome result (λ p. (is_made p.0 ≡ false) × (is_made p.1 ≡ false)) }
@@ -194,18 +196,20 @@ fn list_item<'a>(items: &'a [Data], i: usize) -> Option<(Val<'a>, Val<'a>)>
     }
 }
 
+/// The value at a place, behind its key.
 fn map_item<'a>(entries: &'a [(Bytes, Data)], i: usize) -> Option<(Val<'a>, Val<'a>)>
     ensures value { option_map element_of result ≡ item_at i (mapping (entries_of entries.now)) }
     ensures borrowed { IfSome result (λ p. (is_made p.0 ≡ false) × (is_made p.1 ≡ false)) }
 {
     if i < entries.len() {
-        let (key, held) = &entries[i];
-        Some((Val::Text(key.as_slice()), Val::of(held)))
+        let (key, value) = &entries[i];
+        Some((Val::Text(key.as_slice()), Val::of(value)))
     } else {
         None
     }
 }
 
+/// The items from place i to before place j.
 fn items_between(items: &[Data], i: usize, j: usize) -> &[Data]
     requires { (i ≤ j) × (j ≤ length items.now) }
     ensures { items_of result.now ≡ first_items (j - i) (items_from i (items_of items.now)) }

@@ -118,7 +118,8 @@ fn texts_by_every_flag(rt: HostRuntime) -> Result<(), Fail> {
         rt.alloc(),
         &[
             (
-                b"[\"%s|%-s|%1s|%-1s|%5s|%-5s|\",\"h\\u00e9\",\"h\\u00e9\",\"h\\u00e9\",\"h\\u00e9\",\"h\\u00e9\",\"h\\u00e9\"]",
+                b"[\"%s|%-s|%1s|%-1s|%5s|%-5s|\",\"h\\u00e9\",\"h\\u00e9\",\"h\\u00e9\",\
+                  \"h\\u00e9\",\"h\\u00e9\",\"h\\u00e9\"]",
                 b"h\xc3\xa9|h\xc3\xa9|h\xc3\xa9|h\xc3\xa9|   h\xc3\xa9|h\xc3\xa9   |",
             ),
             (

@@ -1,7 +1,17 @@
 //! Formats that are refused.
 use super::row::{faults, gives};
 use crate::{CallFault, Func};
+use std::alloc::Global;
+use std::process::Abort;
 use std::test::Fail;
+
+/// Checks that `printf` refuses each of these lists of a format and its arguments.
+fn refused(rt: &impl Abort, alloc: Global, rows: &[&[u8]]) -> Result<(), Fail> {
+    for json in rows {
+        faults(rt, alloc, Func::Printf, json, CallFault::FormatRefused)?;
+    }
+    Ok(())
+}
 
 /// Forms that are none, each with an argument that a form of its verb would take.
 #[test]
@@ -53,16 +63,7 @@ fn refuses_other_forms(rt: HostRuntime) -> Result<(), Fail> {
         b"[\"%.12345s\",\"a\"]",
         b"[\"%.00000s\",\"a\"]",
     ];
-    for json in rows {
-        faults(
-            &rt,
-            rt.alloc(),
-            Func::Printf,
-            json,
-            CallFault::FormatRefused,
-        )?;
-    }
-    Ok(())
+    refused(&rt, rt.alloc(), &rows)
 }
 
 #[test]
@@ -95,16 +96,7 @@ fn refuses_flags_that_a_verb_does_not_take(rt: HostRuntime) -> Result<(), Fail> 
         b"[\"%-v\",[1]]",
         b"[\"%1v\",{}]",
     ];
-    for json in rows {
-        faults(
-            &rt,
-            rt.alloc(),
-            Func::Printf,
-            json,
-            CallFault::FormatRefused,
-        )?;
-    }
-    Ok(())
+    refused(&rt, rt.alloc(), &rows)
 }
 
 #[test]
@@ -139,16 +131,7 @@ fn refuses_arguments_of_another_kind(rt: HostRuntime) -> Result<(), Fail> {
         b"[\"%s%d\",1,1]",
         b"[\"a%db\",\"x\"]",
     ];
-    for json in rows {
-        faults(
-            &rt,
-            rt.alloc(),
-            Func::Printf,
-            json,
-            CallFault::FormatRefused,
-        )?;
-    }
-    Ok(())
+    refused(&rt, rt.alloc(), &rows)
 }
 
 #[test]
@@ -162,15 +145,7 @@ fn refuses_too_few_and_too_many_arguments(rt: HostRuntime) -> Result<(), Fail> {
         b"[\"%%\",1]",
         b"[\"%v%v\",1,2,3]",
     ];
-    for json in rows {
-        faults(
-            &rt,
-            rt.alloc(),
-            Func::Printf,
-            json,
-            CallFault::FormatRefused,
-        )?;
-    }
+    refused(&rt, rt.alloc(), &rows)?;
     gives(&rt, rt.alloc(), Func::Printf, b"[\"%v%v%v\",1,2,3]", b"123")
 }
 

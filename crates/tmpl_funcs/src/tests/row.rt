@@ -35,13 +35,14 @@ fn text_of_json(
     func: Func,
     json: &[u8],
 ) -> Result<Result<Vec<u8>, CallFault>, Fail> {
-    let held = Data::from_json(alloc, json)?;
-    match Val::of(&held) {
+    let datum = Data::from_json(alloc, json)?;
+    match Val::of(&datum) {
         Val::List(items) => text_of(alloc, func, values_in(alloc, items)?),
         _ => Ok(Err(CallFault::WrongCount)),
     }
 }
 
+/// The values of data in a row.
 fn values_in<'a>(alloc: Global, items: &'a [Data]) -> Result<Vec<Val<'a>>, AllocError> {
     let mut values = Vec::new(alloc);
     for item in items {

@@ -5,7 +5,7 @@ use std::test::Fail;
 
 /// A value of each kind: nothing, null, a truth value, a number, a text, a made text, a list and a
 /// map.
-fn each_kind<'a>(alloc: Global, held: &'a Data) -> Result<Vec<Val<'a>>, Fail> {
+fn each_kind<'a>(alloc: Global, datum: &'a Data) -> Result<Vec<Val<'a>>, Fail> {
     let mut values = Vec::new(alloc);
     values.push(Val::Nothing)?;
     values.push(Val::Null)?;
@@ -13,19 +13,19 @@ fn each_kind<'a>(alloc: Global, held: &'a Data) -> Result<Vec<Val<'a>>, Fail> {
     values.push(Val::Num(1))?;
     values.push(Val::Text(b"1"))?;
     values.push(Val::made(b"1".to_vec(alloc)?))?;
-    values.push(match Val::of(held).field(b"list") {
+    values.push(match Val::of(datum).field(b"list") {
         Field::Found(list) => list,
         _ => Val::Nothing,
     })?;
-    values.push(Val::of(held))?;
+    values.push(Val::of(datum))?;
     Ok(values)
 }
 
 /// `=` equal, `!` not equal, `?` they can't be compared.
 #[test]
 fn equals_by_kinds(rt: HostRuntime) -> Result<(), Fail> {
-    let held = Data::from_json(rt.alloc(), b"{\"list\":[1]}")?;
-    let values = each_kind(rt.alloc(), &held)?;
+    let datum = Data::from_json(rt.alloc(), b"{\"list\":[1]}")?;
+    let values = each_kind(rt.alloc(), &datum)?;
     let rows: [&[u8]; 8] = [
         b"==!!!!!!",
         b"==!!!!!!",
@@ -52,8 +52,8 @@ fn equals_by_kinds(rt: HostRuntime) -> Result<(), Fail> {
 /// `.` not below, `?` they can't be compared.
 #[test]
 fn orders_by_kinds(rt: HostRuntime) -> Result<(), Fail> {
-    let held = Data::from_json(rt.alloc(), b"{\"list\":[1]}")?;
-    let values = each_kind(rt.alloc(), &held)?;
+    let datum = Data::from_json(rt.alloc(), b"{\"list\":[1]}")?;
+    let values = each_kind(rt.alloc(), &datum)?;
     let rows: [&[u8]; 8] = [
         b"????????",
         b"????????",
@@ -106,8 +106,8 @@ fn empty_values_are_false(rt: HostRuntime) -> Result<(), Fail> {
         (b"{}", false),
     ];
     for (json, want) in rows {
-        let held = Data::from_json(rt.alloc(), json)?;
-        assert_eq!(rt; Val::of(&held).truth(), want);
+        let datum = Data::from_json(rt.alloc(), json)?;
+        assert_eq!(rt; Val::of(&datum).truth(), want);
     }
     assert!(rt; !Val::Nothing.truth());
     assert!(rt; !Val::made(Vec::new(rt.alloc())).truth());
@@ -117,8 +117,8 @@ fn empty_values_are_false(rt: HostRuntime) -> Result<(), Fail> {
 /// `+` found, `-` missing, `0` of nothing, `?` no field.
 #[test]
 fn has_fields_by_kind(rt: HostRuntime) -> Result<(), Fail> {
-    let held = Data::from_json(rt.alloc(), b"{\"list\":[1],\"a\":null,\"z\":2}")?;
-    let values = each_kind(rt.alloc(), &held)?;
+    let datum = Data::from_json(rt.alloc(), b"{\"list\":[1],\"a\":null,\"z\":2}")?;
+    let values = each_kind(rt.alloc(), &datum)?;
     let rows: [(&[u8], &[u8]); 5] = [
         (b"list", b"0??????+"),
         (b"a", b"0??????+"),

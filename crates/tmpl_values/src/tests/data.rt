@@ -7,8 +7,8 @@ use std::test::Fail;
 
 /// The text of JSON data is this, and each put of it may fail.
 fn shows(rt: &impl Abort, alloc: Global, json: &[u8], want: &[u8]) -> Result<(), DataFault> {
-    let held = Data::from_json(alloc, json)?;
-    let value = Val::of(&held);
+    let datum = Data::from_json(alloc, json)?;
+    let value = Val::of(&datum);
     let mut page = Page::new(0);
     assert_eq!(rt; put_text(&value, &mut page), Ok(()));
     assert_eq!(rt; page.as_slice(), want);
@@ -126,9 +126,9 @@ fn nests_to_127(rt: HostRuntime) -> Result<(), Fail> {
     for _ in 0..127 {
         text.push(b']')?;
     }
-    let held = Data::from_json(rt.alloc(), text.as_slice())?;
+    let datum = Data::from_json(rt.alloc(), text.as_slice())?;
     let mut page = Page::new(0);
-    assert_eq!(rt; put_text(&Val::of(&held), &mut page), Ok(()));
+    assert_eq!(rt; put_text(&Val::of(&datum), &mut page), Ok(()));
     assert_eq!(rt; page.as_slice(), text.as_slice());
     text.insert(0, b'[')?;
     text.push(b']')?;

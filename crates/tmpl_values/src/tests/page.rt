@@ -20,6 +20,7 @@ pub struct Page {
 }
 
 impl Page {
+    /// An empty page, of which one put fails, the one at this number.
     pub fn new(fails_at: u64) -> Page
         ensures { result.failures ≡ 0 }
     {

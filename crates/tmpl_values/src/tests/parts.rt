@@ -22,8 +22,8 @@ fn visits_lists_in_order_and_maps_by_key(rt: HostRuntime) -> Result<(), Fail> {
         (b"3", &[]),
     ];
     for (json, want) in rows {
-        let held = Data::from_json(rt.alloc(), json)?;
-        let value = Val::of(&held);
+        let datum = Data::from_json(rt.alloc(), json)?;
+        let value = Val::of(&datum);
         for (i, (want_key, want_element)) in want.iter().enumerate() {
             match value.item(i as u64) {
                 Some((key, element)) => {
@@ -49,8 +49,8 @@ fn counts_bytes_and_items(rt: HostRuntime) -> Result<(), Fail> {
         (b"null", None),
     ];
     for (json, want) in rows {
-        let held = Data::from_json(rt.alloc(), json)?;
-        assert_eq!(rt; Val::of(&held).size(), want);
+        let datum = Data::from_json(rt.alloc(), json)?;
+        assert_eq!(rt; Val::of(&datum).size(), want);
     }
     assert_eq!(rt; Val::Text(b"ab").bytes(), Some(b"ab".as_slice()));
     assert_eq!(rt; Val::Num(1).bytes(), None);
@@ -88,8 +88,8 @@ fn shares_texts_that_are_kept(rt: HostRuntime) -> Result<(), Fail> {
 #[test]
 fn takes_parts_of_texts_and_lists(rt: HostRuntime) -> Result<(), Fail> {
     shows(&rt, &Val::Text(b"ab1").part(0, 2), b"ab");
-    let held = Data::from_json(rt.alloc(), b"[1,[2],3]")?;
-    match Val::of(&held) {
+    let datum = Data::from_json(rt.alloc(), b"[1,[2],3]")?;
+    match Val::of(&datum) {
         Val::List(items) => {
             assert_eq!(rt; items.len(), 3);
             shows(&rt, &Val::List(items).part(1, 3), b"[[2] 3]");

@@ -3,7 +3,7 @@ use Rattle.std.proofs.lemmas.Int.{to_z_pos}
 use Rattle.tmpl_values.specs.Value.{number, mapping}
 use Rattle.tmpl_values.specs.View.{val_of}
 use Rattle.tmpl_values.specs.Item.{size_of}
-use Rattle.tmpl_values.proofs.Items.{item_count-of, entry_count-of}
+use Rattle.tmpl_values.proofs.ItemLemmas.{item_count-of, entry_count-of}
 use Rattle.tmpl_funcs.specs.Count.{sized}
 use Rattle.tmpl_funcs.proofs.count.size.Goals as goal
 

@@ -1,7 +1,7 @@
 use Rattle.std.proofs.Common.{◌≡◌, ◌∙◌, ◌+◌, ◌++◌, ℕ, List, ap, arith, slice_range, drop}
 use Rattle.std.specs.List.{flat_map}
-use Rattle.tmpl_funcs.specs.Kind.{escaped_byte}
-use Rattle.tmpl_funcs.proofs.Escaped.{plain_step, escaped_step}
+use Rattle.tmpl_funcs.specs.computed.Escape.{escaped_byte}
+use Rattle.tmpl_funcs.proofs.EscapeLemmas.{flat_map-plain, flat_map-escaped}
 use Rattle.tmpl_funcs.proofs.escape.add_escaped.Goals as goal
 use Rattle.tmpl_funcs.proofs.escape.add_escaped.Goals.{in-Some+in_ok-extend_from_slice+in_ok-extend_from_slice-2, in_default}
 
@@ -19,13 +19,13 @@ loop-i-preserved c =
             so_far =
                 ap (λ s. s ++ (slice_range text c.match-of.start (l.i + 1) ++ rest)) bytes ∙
                 ap (λ k. ((l.bytes.items ++ slice_range text l.start l.i) ++ w.in-Some.escaped.now) ++ (slice_range text k (l.i + 1) ++ rest)) w.start-is ∙
-                escaped_step f text l.start l.i l.bytes.items _ l.invariant.so_far (omega arith) w.in-Some.escaped.now w.in-Some.ensures;
+                flat_map-escaped f text l.start l.i l.bytes.items _ l.invariant.so_far (omega arith) w.in-Some.escaped.now w.in-Some.ensures;
           }
       | in_default w ↦ record {
         within = omega (arith, w.start-is);
         so_far =
             ap (λ v. v.items ++ (slice_range text c.match-of.start (l.i + 1) ++ rest)) w.bytes-is ∙
             ap (λ k. l.bytes.items ++ (slice_range text k (l.i + 1) ++ rest)) w.start-is ∙
-            plain_step f text l.start l.i l.bytes.items _ l.invariant.so_far l.invariant.within (omega arith) w.in_default.ensures;
+            flat_map-plain f text l.start l.i l.bytes.items _ l.invariant.so_far l.invariant.within (omega arith) w.in_default.ensures;
       }
     ]

@@ -1,6 +1,6 @@
 use Rattle.std.proofs.Common.{◌≡◌, ◌++◌, ◌≤◌, drop, slice_range}
 use Rattle.std.specs.List.{flat_map}
-use Rattle.tmpl_funcs.specs.Kind.{escaped_byte}
+use Rattle.tmpl_funcs.specs.computed.Escape.{escaped_byte}
 use Rattle.tmpl_funcs.proofs.escape.add_escaped.Given as goal
 
 abbrev pub invariant-loop-i : goal.invariant-loop-i

@@ -1,6 +1,6 @@
 use Rattle.std.proofs.Common.{◌≡◌, drop, false}
 use Rattle.tmpl_values.specs.View.{val_of, is_made}
-use Rattle.tmpl_funcs.specs.Answer.{values_of}
+use Rattle.tmpl_funcs.specs.View.{values_of}
 use Rattle.tmpl_funcs.specs.Index.{indexed_by}
 use Rattle.tmpl_funcs.proofs.index.index_by.Given as goal
 

@@ -1,21 +1,16 @@
-use Rattle.std.proofs.Common.{◌≡◌, ◌∙◌, Ok, ap, sym, rules, w64, ℤ, Some, to_z, of_z}
-use Rattle.std.proofs.lemmas.Int.{to_z-of_z}
+use Rattle.std.proofs.Common.{◌∙◌, Ok, ap, sym}
 use Rattle.tmpl_values.specs.View.{items_of}
+use Rattle.tmpl_funcs.specs.Answer.{IsAnswer}
 use Rattle.tmpl_funcs.specs.Index.{item_of}
-use Rattle.tmpl_funcs.proofs.Places.{item_of-within, item_of-past}
+use Rattle.tmpl_funcs.proofs.AddedLemmas.{IsErrAnd-along}
+use Rattle.tmpl_funcs.proofs.IndexLemmas.{item_of-Ok, item_of-Err}
 use Rattle.tmpl_funcs.proofs.index.list_item.Goals as goal
 
-pub returns-then-i-items-clause-table : goal.returns-then-i-items-clause-table
-returns-then-i-items-clause-table c =
-    let ds = c.args.items.now in
-    let z : ℤ = to_z w64 (of_z w64 c.in-Some.place) in
-    let same : z ≡ c.in-Some.place = to_z-of_z w64 c.in-Some.place (search rules) in
-    ap (item_of (items_of ds)) (c.in-Some.is ∙ ap (λ (z : ℤ). Some z) (sym same)) ∙
-    item_of-within ds z c.index-items-i.result c.if-place-lt0.false c.if-i-items.true c.index-items-i.is ∙ ap (λ v. Ok v) (sym c.of.ensures.value)
+pub returns-in_err-i-clause-table : goal.returns-in_err-i-clause-table
+returns-in_err-i-clause-table c =
+    IsErrAnd-along (IsAnswer (item_of (items_of c.args.items.now) c.args.place)) c.from_residual.result _ c.from_residual.ensures.1
+    (item_of-Err c.args.items.now c.args.place _ c.in_err-i.ensures)
 
-pub returns-else-i-items-clause-table : goal.returns-else-i-items-clause-table
-returns-else-i-items-clause-table c =
-    let ds = c.args.items.now in
-    let z : ℤ = to_z w64 (of_z w64 c.in-Some.place) in
-    let same : z ≡ c.in-Some.place = to_z-of_z w64 c.in-Some.place (search rules) in
-    ap (item_of (items_of ds)) (c.in-Some.is ∙ ap (λ (z : ℤ). Some z) (sym same)) ∙ item_of-past ds z c.if-place-lt0.false c.if-i-items.false
+pub returns-clause-table : goal.returns-clause-table
+returns-clause-table c =
+    item_of-Ok c.args.items.now c.args.place c.in_ok-i.i c.index-items-i.result c.in_ok-i.ensures c.index-items-i.is ∙ ap (λ v. Ok v) (sym c.of.ensures.value)

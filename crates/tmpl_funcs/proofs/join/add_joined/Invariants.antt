@@ -1,8 +1,8 @@
 use Rattle.std.proofs.Common.{◌≡◌, ◌++◌, drop}
 use Rattle.tmpl_funcs.specs.Join.{joined}
-use Rattle.tmpl_funcs.proofs.Joined.{joined_by, operands_of}
+use Rattle.tmpl_funcs.proofs.JoinLemmas.{joined_by, operands_of}
 use Rattle.tmpl_funcs.proofs.join.add_joined.Given as goal
 
 abbrev pub invariant-loop-operand : goal.invariant-loop-operand
 invariant-loop-operand l =
-    l.bytes.items ++ joined_by l.after_text (operands_of l.missing (drop l.operand-index l.operands)) ≡ l.initial.bytes.items ++ joined (operands_of l.missing l.operands)
+    l.bytes.items ++ joined_by l.after_text (operands_of l.nothing_text (drop l.operand-index l.operands)) ≡ l.initial.bytes.items ++ joined (operands_of l.nothing_text l.operands)

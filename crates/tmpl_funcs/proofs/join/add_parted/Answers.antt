@@ -1,6 +1,6 @@
 use Rattle.std.proofs.Common.{◌++◌, ap, sym}
-use Rattle.tmpl_funcs.specs.Answer.{values_of}
-use Rattle.tmpl_funcs.proofs.Joined.{parted-by}
+use Rattle.tmpl_funcs.specs.View.{values_of}
+use Rattle.tmpl_funcs.proofs.JoinLemmas.{parted-by}
 use Rattle.tmpl_funcs.proofs.join.add_parted.Goals as goal
 
 pub loop-operand-init : goal.loop-operand-init

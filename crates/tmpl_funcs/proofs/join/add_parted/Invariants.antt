@@ -1,7 +1,7 @@
 use Rattle.std.proofs.Common.{◌≡◌, ◌++◌, drop, map}
 use Rattle.tmpl_values.specs.Text.{inner_text, parted}
-use Rattle.tmpl_funcs.specs.Answer.{values_of}
-use Rattle.tmpl_funcs.proofs.Joined.{parted_by}
+use Rattle.tmpl_funcs.specs.View.{values_of}
+use Rattle.tmpl_funcs.proofs.JoinLemmas.{parted_by}
 use Rattle.tmpl_funcs.proofs.join.add_parted.Given as goal
 
 abbrev pub invariant-loop-operand : goal.invariant-loop-operand

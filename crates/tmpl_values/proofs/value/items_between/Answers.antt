@@ -1,4 +1,4 @@
-use Rattle.tmpl_values.proofs.Items.{items_of-range}
+use Rattle.tmpl_values.proofs.ItemLemmas.{items_of-range}
 use Rattle.tmpl_values.proofs.value.items_between.Goals as goal
 
 pub returns : goal.returns

@@ -2,7 +2,7 @@ use Rattle.std.proofs.Common.{◌∙◌, ap, sym, Some, option_map, ℤ, pos, ar
 use Rattle.std.proofs.lemmas.Int.{to_z_pos}
 use Rattle.tmpl_values.specs.Value.{number, Value}
 use Rattle.tmpl_values.specs.View.{value_of, val_of}
-use Rattle.tmpl_values.proofs.Items.{nth_item-of, nth_item-past}
+use Rattle.tmpl_values.proofs.ItemLemmas.{nth_item-of, nth_item-past}
 use Rattle.tmpl_values.proofs.value.list_item.Goals as goal
 
 pub returns-then-i-items-clause-value : goal.returns-then-i-items-clause-value

@@ -2,7 +2,7 @@ use Rattle.std.proofs.Common.{◌∙◌, ap, sym, Some, List, ℕ, get_or}
 use Rattle.tmpl_values.specs.declared.data.Data.{Data}
 use Rattle.tmpl_values.specs.Value.{string}
 use Rattle.tmpl_values.specs.View.{value_of, val_of}
-use Rattle.tmpl_values.proofs.Items.{nth_entry-of, nth_entry-past}
+use Rattle.tmpl_values.proofs.ItemLemmas.{nth_entry-of, nth_entry-past}
 use Rattle.tmpl_values.proofs.value.map_item.Goals as goal
 
 pub returns-then-i-entries-clause-value : goal.returns-then-i-entries-clause-value

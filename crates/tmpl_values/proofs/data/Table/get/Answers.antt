@@ -4,7 +4,7 @@ use Rattle.std.specs.Cmp.Lexicographic.{slice_cmp}
 use Rattle.std.proofs.lemmas.Fn.{always_returns_same}
 use Rattle.tmpl_values.specs.Value.{AreRising}
 use Rattle.tmpl_values.specs.Field.{entry_at}
-use Rattle.tmpl_values.proofs.Keys.{entry_at-there, entry_at-not_found}
+use Rattle.tmpl_values.proofs.KeyLemmas.{entry_at-there, entry_at-not_found}
 use Rattle.tmpl_values.proofs.data.Table.get.Goals as goal
 
 pub returns-in-Ok : goal.returns-in-Ok

@@ -1,5 +1,5 @@
 use Rattle.std.proofs.Common.{◌≤◌, sym, subst, arith}
-use Rattle.tmpl_values.proofs.Items.{item_count-of}
+use Rattle.tmpl_values.proofs.ItemLemmas.{item_count-of}
 use Rattle.tmpl_values.proofs.tests.parts.takes_parts_of_texts_and_lists.Goals as goal
 
 pub part-requires-in-List : goal.part-requires-in-List

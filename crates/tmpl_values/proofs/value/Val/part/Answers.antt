@@ -1,7 +1,7 @@
 use Rattle.std.proofs.Common.{◌≤◌, subst}
 use Rattle.tmpl_values.specs.View.{val_of}
 use Rattle.tmpl_values.specs.Item.{HasPart}
-use Rattle.tmpl_values.proofs.Items.{item_count-of}
+use Rattle.tmpl_values.proofs.ItemLemmas.{item_count-of}
 use Rattle.tmpl_values.proofs.value.Val.part.Goals as goal
 
 pub items_between-requires : goal.items_between-requires

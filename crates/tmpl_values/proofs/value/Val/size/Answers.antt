@@ -2,7 +2,7 @@ use Rattle.std.proofs.Common.{◌∙◌, ap, sym, Some}
 use Rattle.tmpl_values.specs.Value.{mapping}
 use Rattle.tmpl_values.specs.View.{val_of}
 use Rattle.tmpl_values.specs.Item.{size_of}
-use Rattle.tmpl_values.proofs.Items.{item_count-of, entry_count-of}
+use Rattle.tmpl_values.proofs.ItemLemmas.{item_count-of, entry_count-of}
 use Rattle.tmpl_values.proofs.value.Val.size.Goals as goal
 
 pub returns-in-List : goal.returns-in-List

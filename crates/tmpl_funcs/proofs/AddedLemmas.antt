@@ -1,0 +1,171 @@
+-- A piece added, and what a refusal comes to.
+use Rattle.std.proofs.Common.{◌≡◌, ◌∙◌, ℕ, zero, suc, ◌+◌, ◌-◌, ◌<◌, ◌≤◌, Bool, true, false, cond, List, [], ◌∷◌, ◌++◌, length, get_or, take, drop, Option, Some, None, option_map, Result, Ok, Err, IsErrAnd, refl, sym, ap, subst, arith, append_assoc, append-nil, length-append, length-drop}
+use Rattle.std.specs.List.{prefix_len}
+use Rattle.std.proofs.lemmas.List.{take_all, drop-drop}
+use Rattle.std.proofs.lemmas.Bool.Decides.{nat_tests}
+use Rattle.tmpl_values.specs.Value.{Value}
+use Rattle.tmpl_values.specs.View.{val_of}
+use Rattle.tmpl_values.specs.declared.value.Cell.{Cell}
+use Rattle.tmpl_funcs.specs.View.{values_of}
+use Rattle.tmpl_funcs.specs.printf.Form.{Spelled, is_plain, spelled}
+use Rattle.tmpl_funcs.specs.computed.Reading.{form_at}
+use Rattle.tmpl_funcs.specs.printf.Form.{form_of}
+use Rattle.tmpl_funcs.specs.printf.Directive.{printed}
+use Rattle.tmpl_funcs.specs.printf.Format.{both, formatted}
+use Rattle.tmpl_funcs.specs.computed.Format.{IsAdded, IsPieceAdded}
+use Rattle.tmpl_funcs.specs.declared.printf.form.Form.{Form}
+use Rattle.tmpl_funcs.specs.declared.fault.CallFault.{CallFault}
+use Rattle.tmpl_funcs.specs.declared.fault.CallFault.TheVariants as fault
+use Rattle.tmpl_funcs.proofs.FormLemmas.{take-tail}
+use Rattle.tmpl_funcs.proofs.FormatLemmas.{both-both, formatted-run, formatted-percent, formatted-lone, formatted-form, formatted-nil, formatted-over}
+
+-- an error that `?` passes up
+pub IsErrAnd-along : {T E : Type 0} (P : Result T E → Type 0) (r : Result T E) (e : E) → IsErrAnd r (λ y. y ≡ e) → P (Err e) → P r
+IsErrAnd-along P (Ok x) e h p = absurd h
+IsErrAnd-along P (Err y) e h p = subst (λ y. P (Err y)) (sym h) p
+
+-- the text that was added
+pub option_map-Some : (asked : Option (List ℕ)) (old new : List ℕ) → option_map (λ text. old ++ text) asked ≡ Some new → (text : List ℕ) × (asked ≡ Some text) × (new ≡ old ++ text)
+option_map-Some None old new h = cc
+option_map-Some (Some text) old new h = (text, refl, cc)
+
+pub values_of-first : (cells : List Cell) (x : Cell) → 1 ≤ length cells → x ≡ get_or cells 0 x → values_of cells ≡ val_of x.val ∷ drop 1 (values_of cells)
+values_of-first [] x some is = absurd (omega arith)
+values_of-first (c ∷ cells) x some is = ap (λ (y : Cell). val_of y.val ∷ values_of cells) (sym is)
+
+pub values_of-nil : (cells : List Cell) → length cells ≤ 0 → values_of cells ≡ []
+values_of-nil [] h = refl
+values_of-nil (c ∷ cells) h = absurd (omega arith)
+
+pub length-values_of : (cells : List Cell) → length (values_of cells) ≡ length cells
+length-values_of [] = refl
+length-values_of (c ∷ cells) = ap suc (length-values_of cells)
+
+-- a form that was refused
+pub IsPieceAdded-refused : (asked : Option (List ℕ)) (old new format : List ℕ) (vs : List Value) (e : CallFault) → IsAdded asked old new (Err e) → (asked ≡ None → formatted format vs ≡ None) → IsPieceAdded format vs old new (Err e)
+IsPieceAdded-refused asked old new format vs fault.WrongCount h none = h
+IsPieceAdded-refused asked old new format vs fault.WrongKind h none = h
+IsPieceAdded-refused asked old new format vs fault.OutOfRange h none = h
+IsPieceAdded-refused asked old new format vs fault.NotComparable h none = h
+IsPieceAdded-refused asked old new format vs fault.FormatRefused h none = none h
+IsPieceAdded-refused asked old new format vs fault.OutOfMemory h none = tt
+
+-- a format of which a piece was refused
+pub IsAdded-refused : (format all : List ℕ) (vs ws : List Value) (front old mid new : List ℕ) (e : CallFault) → formatted all ws ≡ both (Some front) (formatted format vs) → IsPieceAdded format vs mid new (Err e) → IsAdded (formatted all ws) old new (Err e)
+IsAdded-refused format all vs ws front old mid new fault.WrongCount so_far h = h
+IsAdded-refused format all vs ws front old mid new fault.WrongKind so_far h = h
+IsAdded-refused format all vs ws front old mid new fault.OutOfRange so_far h = h
+IsAdded-refused format all vs ws front old mid new fault.NotComparable so_far h = h
+IsAdded-refused format all vs ws front old mid new fault.FormatRefused so_far h = so_far ∙ ap (both (Some front)) h
+IsAdded-refused format all vs ws front old mid new fault.OutOfMemory so_far h = tt
+
+module _ (bs : List ℕ) (some : 0 < length bs) (plain : is_plain (get_or bs 0 0) ≡ true) (cells : List Cell) (x : Cell) (there : 1 ≤ length cells) (is : x ≡ get_or cells 0 x)
+    (form : Form) (rest : List ℕ) (f : Spelled) (read : form_at bs ≡ Some f) (same : form ≡ form_of f) (all : bs ≡ spelled f ++ rest) where
+  formatted-first_form : formatted (37 ∷ bs) (values_of cells) ≡ both (printed form (val_of x.val)) (formatted rest (drop 1 (values_of cells)))
+  formatted-first_form =
+      ap (formatted (37 ∷ bs)) (values_of-first cells x there is) ∙
+      formatted-form bs some plain f (val_of x.val) (drop 1 (values_of cells)) rest read all ∙
+      ap (λ (g : Form). both (printed g (val_of x.val)) (formatted rest (drop 1 (values_of cells)))) (sym same)
+
+  -- the text of a form was added
+  pub formatted-form_added : (old new : List ℕ) → option_map (λ text. old ++ text) (printed form (val_of x.val)) ≡ Some new
+      → (text : List ℕ) × (new ≡ old ++ text) × (formatted (37 ∷ bs) (values_of cells) ≡ both (Some text) (formatted rest (drop 1 (values_of cells)))) × (1 ≤ length (values_of cells)) × (length rest < suc (length bs))
+  formatted-form_added old new h =
+      let t = option_map-Some (printed form (val_of x.val)) old new h in (
+        t.0,
+        t.2,
+        formatted-first_form ∙ ap (λ p. both p (formatted rest (drop 1 (values_of cells)))) t.1,
+        omega (arith, length-values_of cells),
+        omega (arith, ap length all, length-append (spelled f) rest),
+      )
+
+  -- it was refused
+  pub formatted-form_none : printed form (val_of x.val) ≡ None → formatted (37 ∷ bs) (values_of cells) ≡ None
+  formatted-form_none h = formatted-first_form ∙ ap (λ p. both p (formatted rest (drop 1 (values_of cells)))) h
+
+-- bytes that are not none, by the first
+pub cons-take : (bs : List ℕ) (b : ℕ) → 1 ≤ length bs → get_or bs 0 0 ≡ b → bs ≡ b ∷ take (length bs - 1) (drop 1 bs)
+cons-take [] b some is = absurd (omega arith)
+cons-take (c ∷ bs) b some is =
+    ap (λ d. d ∷ bs) is ∙ ap (λ r. b ∷ r) (sym (take_all (suc (length bs) - 1) bs (omega arith)))
+
+is_plain-percent : (b : ℕ) (t : Bool) (n : ℕ) → is_plain b ≡ t → cond t (1 + n) 0 ≡ 0 → b ≡ 37
+is_plain-percent b true n is h = absurd (omega arith)
+is_plain-percent b false n is h = grind (arith, nat_tests)
+
+prefix_len-percent : (bs : List ℕ) → 0 < length bs → prefix_len is_plain bs ≡ 0 → get_or bs 0 0 ≡ 37
+prefix_len-percent [] some h = absurd (omega arith)
+prefix_len-percent (b ∷ bs) some h = is_plain-percent b (is_plain b) (prefix_len is_plain bs) refl h
+
+-- a format that begins with no run begins with `%`
+pub percent-take : (bs : List ℕ) (n : ℕ) → 0 < length bs → n ≡ prefix_len is_plain bs → n ≤ 0 → bs ≡ 37 ∷ take (length bs - 1) (drop 1 bs)
+percent-take bs n some is none = cons-take bs 37 (omega arith) (prefix_len-percent bs some (omega arith))
+
+-- a run was added
+pub formatted-run_added : (bs : List ℕ) (n : ℕ) (vs : List Value) (old new : List ℕ) → n ≡ prefix_len is_plain bs → 0 < n → n ≤ length bs → new ≡ old ++ take n bs
+    → (text : List ℕ) × (new ≡ old ++ text) × (formatted bs vs ≡ both (Some text) (formatted (take (length bs - n) (drop n bs)) vs)) × (0 ≤ length vs) × (length (take (length bs - n) (drop n bs)) < length bs)
+formatted-run_added bs n vs old new is some within added = (
+  take n bs,
+  added,
+  formatted-run bs n vs is some ∙ ap (λ r. both (Some (take n bs)) (formatted r vs)) (sym (take-tail bs n)),
+  omega arith,
+  omega (arith, ap length (take-tail bs n), length-drop n bs),
+)
+
+-- `%%` was added
+pub formatted-percent_added : (bs rest behind : List ℕ) (vs : List Value) (old new : List ℕ) → bs ≡ 37 ∷ rest → rest ≡ 37 ∷ behind → new ≡ old ++ 37 ∷ []
+    → (text : List ℕ) × (new ≡ old ++ text) × (formatted bs vs ≡ both (Some text) (formatted behind vs)) × (0 ≤ length vs) × (length behind < length bs)
+formatted-percent_added bs rest behind vs old new first second added = (
+  37 ∷ [],
+  added,
+  ap (λ f. formatted f vs) (first ∙ ap (λ r. 37 ∷ r) second) ∙ formatted-percent behind vs,
+  omega arith,
+  omega (arith, ap length first, ap length second),
+)
+
+length-none : (bs : List ℕ) → length bs ≤ 0 → bs ≡ []
+length-none [] h = refl
+length-none (b ∷ bs) h = absurd (omega arith)
+
+-- nothing stands behind a `%`
+pub formatted-percent_lone : (bs rest : List ℕ) (vs : List Value) → bs ≡ 37 ∷ rest → length rest ≤ 0 → formatted bs vs ≡ None
+formatted-percent_lone bs rest vs first none = ap (λ f. formatted f vs) (first ∙ ap (λ r. 37 ∷ r) (length-none rest none)) ∙ formatted-lone vs
+
+values_of-drop : (n : ℕ) (cells : List Cell) → values_of (drop n cells) ≡ drop n (values_of cells)
+values_of-drop zero cells = refl
+values_of-drop (suc n) [] = refl
+values_of-drop (suc n) (c ∷ cells) = values_of-drop n cells
+
+-- the values of the cells behind so many, as a slice has them
+pub values_of-behind : (n : ℕ) (cells : List Cell) → values_of (take (length cells - n) (drop n cells)) ≡ drop n (values_of cells)
+values_of-behind n cells = ap values_of (take_all (length cells - n) (drop n cells) (omega (arith, length-drop n cells))) ∙ values_of-drop n cells
+
+module _ (format rest behind : List ℕ) (cells : List Cell) (used taken : ℕ) (front text old mid new : List ℕ) where
+  -- one piece more was added
+  pub formatted-piece : mid ≡ old ++ front → formatted format (values_of cells) ≡ both (Some front) (formatted rest (drop used (values_of cells)))
+      → new ≡ mid ++ text → formatted rest (drop used (values_of cells)) ≡ both (Some text) (formatted behind (drop taken (drop used (values_of cells))))
+      → (new ≡ old ++ (front ++ text)) × (formatted format (values_of cells) ≡ both (Some (front ++ text)) (formatted behind (drop (used + taken) (values_of cells))))
+  formatted-piece so_far all added more = (
+    added ∙ ap (λ s. s ++ text) so_far ∙ append_assoc old front text,
+    all ∙ ap (both (Some front)) more ∙ both-both front text (formatted behind (drop taken (drop used (values_of cells)))) ∙
+        ap (λ vs. both (Some (front ++ text)) (formatted behind vs)) (drop-drop taken used (values_of cells)),
+  )
+
+module _ (format rest : List ℕ) (vs left : List Value) (front old new : List ℕ) (so_far : new ≡ old ++ front) (all : formatted format vs ≡ both (Some front) (formatted rest left)) (past : length rest ≤ 0) where
+  -- nothing is left
+  pub formatted-all : length left ≤ 0 → option_map (λ text. old ++ text) (formatted format vs) ≡ Some new
+  formatted-all none = go left none all
+    where
+      go : (ws : List Value) → length ws ≤ 0 → formatted format vs ≡ both (Some front) (formatted rest ws) → option_map (λ text. old ++ text) (formatted format vs) ≡ Some new
+      go [] h is =
+          ap (option_map (λ text. old ++ text)) (is ∙ ap (λ r. both (Some front) (formatted r [])) (length-none rest past) ∙ ap (both (Some front)) formatted-nil) ∙
+          ap (λ d. Some (old ++ d)) (append-nil front) ∙ ap Some (sym so_far)
+      go (w ∷ ws) h is = absurd (omega arith)
+
+  -- values are left
+  pub formatted-too_many : 0 < length left → formatted format vs ≡ None
+  formatted-too_many some = go left some all
+    where
+      go : (ws : List Value) → 0 < length ws → formatted format vs ≡ both (Some front) (formatted rest ws) → formatted format vs ≡ None
+      go [] h is = absurd (omega arith)
+      go (w ∷ ws) h is = is ∙ ap (λ r. both (Some front) (formatted r (w ∷ ws))) (length-none rest past) ∙ ap (both (Some front)) (formatted-over w ws)

@@ -1,0 +1,101 @@
+-- The reading of a form, part by part.
+use Rattle.std.proofs.Common.{◌≡◌, ◌∙◌, ℕ, suc, ◌-◌, ◌≤◌, ◌==◌, Bool, true, false, List, [], ◌∷◌, ◌++◌, length, get_or, take, drop, Option, Some, None, option_map, if◌then◌else◌, refl, sym, ap, subst, arith, append_assoc, length-drop}
+use Rattle.std.specs.Borrow.{Bor}
+use Rattle.std.specs.List.{prefix_len}
+use Rattle.std.proofs.lemmas.List.{take_all, take-append-drop}
+use Rattle.std.proofs.lemmas.Bool.Decides.{nat_tests}
+use Rattle.tmpl_funcs.specs.printf.Form.{Spelled, letter, pointed, spelled, is_decimal, is_flag}
+use Rattle.tmpl_funcs.specs.computed.Reading.{verb_of, form_if, form_by, form_at, width_behind, precision_behind, verb_behind}
+use Rattle.tmpl_funcs.specs.printf.Form.{form_of}
+use Rattle.tmpl_funcs.specs.computed.Reading.{IsRead}
+use Rattle.tmpl_funcs.specs.declared.printf.form.Form.{Form}
+use Rattle.tmpl_funcs.specs.declared.printf.form.Verb.{Verb}
+use Rattle.tmpl_funcs.specs.declared.printf.form.Verb.TheVariants as verb
+
+-- the same reading of the same bytes
+pub IsRead-along : {asked asked' : Option Spelled} {all all' : List ℕ} (read : Option (Form × Bor (List ℕ))) → IsRead asked all read → asked ≡ asked' → all ≡ all' → IsRead asked' all' read
+IsRead-along {asked} {asked'} {all} {all'} read h e w =
+    subst (λ (bs : List ℕ). IsRead asked' bs read) w (subst (λ (o : Option Spelled). IsRead o all read) e h)
+
+letter-pick_by : (t : Bool) (b k : ℕ) (w v : Verb) (rest : Option Verb) → (b == k) ≡ t → letter w ≡ k → (rest ≡ Some v → letter v ≡ b) → (if t then Some w else rest) ≡ Some v → letter v ≡ b
+letter-pick_by true b k w v rest test is more h =
+    let same : b ≡ k = grind (arith, nat_tests) in
+    let one : w ≡ v = cc in
+    sym (ap letter one) ∙ is ∙ sym same
+letter-pick_by false b k w v rest test is more h = more h
+
+letter-pick : (b k : ℕ) (w v : Verb) (rest : Option Verb) → letter w ≡ k → (rest ≡ Some v → letter v ≡ b) → (if b == k then Some w else rest) ≡ Some v → letter v ≡ b
+letter-pick b k w v rest is more h = letter-pick_by (b == k) b k w v rest refl is more h
+
+-- the letter of the verb of a letter
+pub letter-verb_of : (b : ℕ) (v : Verb) → verb_of b ≡ Some v → letter v ≡ b
+letter-verb_of b v =
+    letter-pick b 118 verb.Value v _ refl (
+    letter-pick b 100 verb.Decimal v _ refl (
+    letter-pick b 111 verb.Octal v _ refl (
+    letter-pick b 98 verb.Binary v _ refl (
+    letter-pick b 120 verb.Hex v _ refl (
+    letter-pick b 88 verb.UpperHex v _ refl (
+    letter-pick b 115 verb.Text v _ refl (
+    letter-pick b 113 verb.Quoted v _ refl (
+    letter-pick b 99 verb.Char v _ refl (
+    letter-pick b 116 verb.Truth v None refl (λ h. cc))))))))))
+
+module _ (flags width : List ℕ) (p : Option (List ℕ)) (b : ℕ) (bs : List ℕ) (v : Verb) (form : Form) (is : letter v ≡ b) where
+  form_if-made : (t : Bool) → option_map form_of (form_if t flags width p v) ≡ Some form
+      → (x : Spelled) × (form_if t flags width p v ≡ Some x) × (form ≡ form_of x) × (flags ++ (width ++ (pointed p ++ b ∷ bs)) ≡ spelled x ++ bs)
+  form_if-made true h =
+      let x : Spelled = record { flags = flags; width = width; precision = p; verb = v } in
+      let same : form_of x ≡ form = cc in (
+        x,
+        refl,
+        sym same,
+        sym (simp append_assoc (ap (λ c. flags ++ (width ++ (pointed p ++ c ∷ bs))) is)),
+      )
+  form_if-made false h = cc
+
+-- the form whose verb stands at the front
+pub verb_behind-read : (flags width : List ℕ) (p : Option (List ℕ)) (bytes : List ℕ) (v : Verb) (form : Form) → 1 ≤ length bytes → verb_of (get_or bytes 0 0) ≡ Some v
+    → option_map form_of (form_by flags width p (Some v)) ≡ Some form
+    → (x : Spelled) × (verb_behind flags width p bytes ≡ Some x) × (form ≡ form_of x) × (flags ++ (width ++ (pointed p ++ bytes)) ≡ spelled x ++ take (length bytes - 1) (drop 1 bytes))
+verb_behind-read flags width p [] v form h e m = absurd (omega arith)
+verb_behind-read flags width p (b ∷ bs) v form h e m =
+    let made = form_if-made flags width p b bs v form (letter-verb_of b v e) _ m in
+    let all : take (length (b ∷ bs) - 1) bs ≡ bs = take_all (suc (length bs) - 1) bs (omega arith) in
+    (made.0, ap (form_by flags width p) e ∙ made.1, made.2, made.3 ∙ ap (λ r. spelled made.0 ++ r) (sym all))
+
+-- what stands behind so many bytes, as a slice has it
+pub take-tail : (bs : List ℕ) (n : ℕ) → take (length bs - n) (drop n bs) ≡ drop n bs
+take-tail bs n = take_all (length bs - n) (drop n bs) (omega (arith, length-drop n bs))
+
+module _ (flags width : List ℕ) (read : Option (Form × Bor (List ℕ))) where
+  precision_behind-point : (bs rest tail : List ℕ) (n : ℕ) → rest ≡ bs → tail ≡ drop n rest → n ≡ prefix_len is_decimal rest
+      → IsRead (verb_behind flags width (Some (take n rest)) tail) (flags ++ (width ++ ((46 ∷ take n rest) ++ tail))) read
+      → IsRead (precision_behind flags width (46 ∷ bs)) (flags ++ (width ++ 46 ∷ bs)) read
+  precision_behind-point bs rest tail n same end is h =
+      let long : n ≡ prefix_len is_decimal bs = is ∙ ap (prefix_len is_decimal) same in
+      IsRead-along read h
+      (ap (verb_behind flags width (Some (take n rest))) end ∙
+      ap (λ k. verb_behind flags width (Some (take k rest)) (drop k rest)) long ∙ ap (λ r. verb_behind flags width (Some (take (prefix_len is_decimal bs) r)) (drop (prefix_len is_decimal bs) r)) same)
+      (ap (λ t. flags ++ (width ++ 46 ∷ (take n rest ++ t))) end ∙ ap (λ r. flags ++ (width ++ 46 ∷ r)) (take-append-drop n rest ∙ same))
+
+  -- a precision that stands behind a point
+  pub precision_behind-read : (bytes rest : List ℕ) (n : ℕ) → 1 ≤ length bytes → get_or bytes 0 0 ≡ 46
+      → rest ≡ take (length bytes - 1) (drop 1 bytes)
+      → n ≡ prefix_len is_decimal rest
+      → IsRead (verb_behind flags width (Some (take n rest)) (take (length rest - n) (drop n rest))) (flags ++ (width ++ ((46 ∷ take n rest) ++ take (length rest - n) (drop n rest)))) read
+      → IsRead (precision_behind flags width bytes) (flags ++ (width ++ bytes)) read
+  precision_behind-read [] rest n some point cut is h = absurd (omega arith)
+  precision_behind-read (b ∷ bs) rest n some point cut is h =
+      subst (λ (c : ℕ). IsRead (precision_behind flags width (c ∷ bs)) (flags ++ (width ++ c ∷ bs)) read) (sym point)
+      (precision_behind-point bs rest (take (length rest - n) (drop n rest)) n (cut ∙ take_all (suc (length bs) - 1) bs (omega arith)) (take-tail rest n) is h)
+
+-- flags that stand at the front
+pub form_at-read : (bytes : List ℕ) (n : ℕ) (read : Option (Form × Bor (List ℕ))) → n ≡ prefix_len is_flag bytes
+    → IsRead (width_behind (take n bytes) (take (length bytes - n) (drop n bytes))) (take n bytes ++ take (length bytes - n) (drop n bytes)) read
+    → IsRead (form_at bytes) bytes read
+unfolding form_at
+form_at-read bytes n read is h =
+    IsRead-along read h
+    (ap (width_behind (take n bytes)) (take-tail bytes n) ∙ ap (λ k. width_behind (take k bytes) (drop k bytes)) is)
+    (ap (λ t. take n bytes ++ t) (take-tail bytes n) ∙ take-append-drop n bytes)

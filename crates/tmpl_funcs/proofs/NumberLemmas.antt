@@ -1,0 +1,14 @@
+-- How large the number of a few digits is.
+use Rattle.std.proofs.Common.{ℕ, zero, suc, ◌+◌, ◌*◌, ◌<◌, ◌≤◌, arith}
+
+-- the most that so many bytes write, whether they are digits or not
+abbrev pub most : ℕ → ℕ
+most zero = 0
+most (suc i) = 10 * most i + 207
+
+pub most-few : (i : ℕ) → i < 4 → most i ≤ 22977
+most-few zero h = omega arith
+most-few (suc zero) h = omega arith
+most-few (suc (suc zero)) h = omega arith
+most-few (suc (suc (suc zero))) h = omega arith
+most-few (suc (suc (suc (suc i)))) h = absurd (omega arith)

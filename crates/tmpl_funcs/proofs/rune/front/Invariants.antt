@@ -1,9 +1,0 @@
-use Rattle.std.proofs.Common.{length}
-use Rattle.tmpl_funcs.proofs.Runes.{IsCutting}
-use Rattle.tmpl_funcs.proofs.rune.front.Given as goal
-
-abbrev pub invariant-loop-left : goal.invariant-loop-left
-invariant-loop-left l = IsCutting l.text l.initial.left l.rest l.left
-
-abbrev pub decreases-loop-left : goal.decreases-loop-left
-decreases-loop-left l = length l.rest

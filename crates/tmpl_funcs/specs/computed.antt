@@ -1,0 +1,6 @@
+pub mod Class
+pub mod Escape
+pub mod Format
+pub mod Index
+pub mod Join
+pub mod Reading

@@ -1,0 +1,10 @@
+-- The two ways in which nothing is written.
+use Rattle.tmpl_values.specs.Value.{Value}
+use Rattle.tmpl_funcs.specs.Join.{as_text}
+use Rattle.tmpl_funcs.specs.declared.join.NothingText.{NothingText}
+use Rattle.tmpl_funcs.specs.declared.join.NothingText.TheVariants.{Nil, NoValue}
+
+-- the value that is joined in place of a value
+abbrev pub shown : NothingText → Value → Value
+shown Nil v = v
+shown NoValue v = as_text v

@@ -1,0 +1,5 @@
+pub mod Directive
+pub mod Form
+pub mod Format
+pub mod Pad
+pub mod Rune

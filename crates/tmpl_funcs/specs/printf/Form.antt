@@ -1,0 +1,160 @@
+-- The formats of `printf`, which are those of `fmt.Printf` as far as the table of forms goes: which
+-- texts are formats, and what they consist of ("Printing" in the documentation of `fmt`: "%[flags]
+-- [width][.precision]verb"). That any other form is refused is this project's own rule.
+use Rattle.std.specs.Prelude.{◌≡◌, ℕ, ◌+◌, ◌-◌, ◌*◌, ◌||◌, ◌&&◌, ◌==◌, not, nat_le, Bool, true, false, List, [], ◌∷◌}
+use Rattle.std.specs.Prelude.{◌++◌, length, Option, Some, None, option_map}
+use Rattle.std.specs.List.{flat_map, list_all, list_any}
+use Rattle.tmpl_funcs.specs.declared.printf.form.Form.{Form}
+use Rattle.tmpl_funcs.specs.declared.printf.form.Verb.{Verb}
+use Rattle.tmpl_funcs.specs.declared.printf.form.Verb.TheVariants.{Value, Decimal, Octal, Binary, Hex, UpperHex, Text}
+use Rattle.tmpl_funcs.specs.declared.printf.form.Verb.TheVariants.{Quoted, Char, Truth}
+
+-- a form as it stands in a format: its flags, the digits of its width, of which there are none
+-- where it has no width, the digits of its precision, if it has one, and its verb
+pub record Spelled : Type 0 where
+  pub flags : List ℕ
+  pub width : List ℕ
+  pub precision : Option (List ℕ)
+  pub verb : Verb
+
+-- a piece of a format: a run of bytes that stand for themselves, `%%`, or a form
+pub data Piece : Type 0 where
+  literal : List ℕ → Piece
+  percent : Piece
+  form : Spelled → Piece
+
+-- the letter of a verb
+abbrev pub letter : Verb → ℕ
+letter Value = 118
+letter Decimal = 100
+letter Octal = 111
+letter Binary = 98
+letter Hex = 120
+letter UpperHex = 88
+letter Text = 115
+letter Quoted = 113
+letter Char = 99
+letter Truth = 116
+
+-- the precision, behind a point
+abbrev pub pointed : Option (List ℕ) → List ℕ
+pointed None = []
+pointed (Some digits) = 46 ∷ digits
+
+-- how a form is spelled behind its `%`
+abbrev pub spelled : Spelled → List ℕ
+spelled f = f.flags ++ (f.width ++ (pointed f.precision ++ letter f.verb ∷ []))
+
+-- how a piece is spelled
+abbrev pub spelling : Piece → List ℕ
+spelling (literal run) = run
+spelling percent = 37 ∷ 37 ∷ []
+spelling (form f) = 37 ∷ spelled f
+
+-- the byte stands for itself
+abbrev pub is_plain : ℕ → Bool
+is_plain b = not (b == 37)
+
+-- the byte is one of the flags `-`, `+`, `0` and space
+abbrev pub is_flag : ℕ → Bool
+is_flag b = b == 45 || (b == 43 || (b == 48 || b == 32))
+
+-- the byte is a decimal digit
+abbrev pub is_decimal : ℕ → Bool
+is_decimal b = nat_le 48 b && nat_le b 57
+
+-- the digits are few enough
+abbrev pub is_short : List ℕ → Bool
+is_short digits = nat_le (length digits) 4
+
+-- the first digit, if there is one, is not 0
+abbrev pub begins_above_0 : List ℕ → Bool
+begins_above_0 [] = true
+begins_above_0 (d ∷ ds) = not (d == 48)
+
+-- the verb may have a precision
+abbrev pub takes_precision : Verb → Bool
+takes_precision Value = false
+takes_precision Decimal = false
+takes_precision Octal = false
+takes_precision Binary = false
+takes_precision Hex = false
+takes_precision UpperHex = false
+takes_precision Text = true
+takes_precision Quoted = false
+takes_precision Char = false
+takes_precision Truth = false
+
+-- a precision of few digits, which may be none, before a verb that may have it; or no precision
+abbrev pub IsPrecision : Option (List ℕ) → Verb → Type 0
+IsPrecision None verb = Unit {0}
+IsPrecision (Some digits) verb =
+    (list_all is_decimal digits ≡ true) × (is_short digits ≡ true) × (takes_precision verb ≡ true)
+
+-- a form: any flags, a width of at most four digits of which the first is not 0, and a precision
+pub record IsForm (f : Spelled) : Type 0 where
+  pub flags : list_all is_flag f.flags ≡ true
+  pub width : list_all is_decimal f.width ≡ true
+  pub short : is_short f.width ≡ true
+  pub above : begins_above_0 f.width ≡ true
+  pub precision : IsPrecision f.precision f.verb
+
+-- a piece is well formed; a run has bytes, and none of them is `%`
+abbrev pub IsPiece : Piece → Type 0
+IsPiece (literal []) = ⊥
+IsPiece (literal (b ∷ bs)) = list_all is_plain (b ∷ bs) ≡ true
+IsPiece percent = Unit {0}
+IsPiece (form f) = IsForm f
+
+-- the next piece, if there is one, is no run
+abbrev pub IsNoRun : List Piece → Type 0
+IsNoRun [] = Unit {0}
+IsNoRun (literal run ∷ ps) = ⊥
+IsNoRun (percent ∷ ps) = Unit {0}
+IsNoRun (form f ∷ ps) = Unit {0}
+
+-- the pieces are well formed, and a run goes on as far as it can
+abbrev pub ArePieces : List Piece → Type 0
+ArePieces [] = Unit {0}
+ArePieces (literal run ∷ ps) = IsPiece (literal run) × IsNoRun ps × ArePieces ps
+ArePieces (percent ∷ ps) = ArePieces ps
+ArePieces (form f ∷ ps) = IsForm f × ArePieces ps
+
+-- the pieces of a format: spelled one after another they are the format
+pub record IsReading (format : List ℕ) (ps : List Piece) : Type 0 where
+  pub spells : format ≡ flat_map spelling ps
+  pub pieces : ArePieces ps
+
+-- the number that decimal digits write when they follow those of n
+abbrev pub number_after : ℕ → List ℕ → ℕ
+number_after n [] = n
+number_after n (d ∷ ds) = number_after (10 * n + (d - 48)) ds
+
+-- the number that decimal digits write
+abbrev pub number_in : List ℕ → ℕ
+number_in ds = number_after 0 ds
+
+-- the flag is among these
+abbrev pub has_flag : ℕ → List ℕ → Bool
+has_flag flag flags = list_any (λ b. b == flag) flags
+
+-- what a form asks for: a flag may stand more than once; no width is a width of 0, and a precision
+-- of no digits is 0
+abbrev pub form_of : Spelled → Form
+form_of f = record {
+  minus = has_flag 45 f.flags;
+  plus = has_flag 43 f.flags;
+  zero = has_flag 48 f.flags;
+  space = has_flag 32 f.flags;
+  width = number_in f.width;
+  precision = option_map number_in f.precision;
+  verb = f.verb;
+}
+
+-- the form has no flag but `-`
+abbrev pub has_minus_alone : Form → Bool
+has_minus_alone f = not (f.plus || (f.zero || f.space))
+
+-- the form has neither flags nor a width
+abbrev pub is_bare : Form → Bool
+is_bare f = has_minus_alone f && (not f.minus && f.width == 0)

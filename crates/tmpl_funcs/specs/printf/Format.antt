@@ -1,0 +1,50 @@
+-- `printf` ("Functions", at `printf`, which is `fmt.Sprintf`). That a form takes one argument, in
+-- order, and that too few and too many arguments are refused, is this project's own rule.
+use Rattle.std.specs.Prelude.{ℕ, List, [], ◌∷◌, ◌++◌, Option, Some, None, Result, Ok, Err}
+use Rattle.tmpl_values.specs.Value.{Value, string}
+use Rattle.tmpl_values.specs.Item.{bytes_of}
+use Rattle.tmpl_funcs.specs.printf.Form.{Piece, literal, percent, form}
+use Rattle.tmpl_funcs.specs.computed.Reading.{reading}
+use Rattle.tmpl_funcs.specs.printf.Form.{form_of}
+use Rattle.tmpl_funcs.specs.printf.Directive.{printed}
+use Rattle.tmpl_funcs.specs.declared.fault.CallFault.{CallFault}
+use Rattle.tmpl_funcs.specs.declared.fault.CallFault.TheVariants.{WrongCount, WrongKind, FormatRefused}
+
+-- two texts that are there, one after the other
+abbrev pub both : Option (List ℕ) → Option (List ℕ) → Option (List ℕ)
+both None t = None
+both (Some s) None = None
+both (Some s) (Some t) = Some (s ++ t)
+
+-- the texts of the pieces one after another, where the forms take the arguments in order, one each
+abbrev pub texts : List Piece → List Value → Option (List ℕ)
+texts [] [] = Some []
+texts [] (v ∷ vs) = None
+texts (literal run ∷ ps) vs = both (Some run) (texts ps vs)
+texts (percent ∷ ps) vs = both (Some (37 ∷ [])) (texts ps vs)
+texts (form f ∷ ps) [] = None
+texts (form f ∷ ps) (v ∷ vs) = both (printed (form_of f) v) (texts ps vs)
+
+-- the texts of pieces that are there
+abbrev pub filled : Option (List Piece) → List Value → Option (List ℕ)
+filled None vs = None
+filled (Some ps) vs = texts ps vs
+
+-- the text of a format and arguments
+unfoldable pub formatted : List ℕ → List Value → Option (List ℕ)
+formatted format vs = filled (reading format) vs
+
+-- a text that is there; else the format is refused
+abbrev pub formatted_if : Option (List ℕ) → Result Value CallFault
+formatted_if None = Err FormatRefused
+formatted_if (Some text) = Ok (string text)
+
+-- the same, where the format is a string
+abbrev pub formatted_by : Option (List ℕ) → List Value → Result Value CallFault
+formatted_by None vs = Err WrongKind
+formatted_by (Some format) vs = formatted_if (formatted format vs)
+
+-- the first argument as a format of the others
+abbrev pub printf_of : List Value → Result Value CallFault
+printf_of [] = Err WrongCount
+printf_of (v ∷ vs) = formatted_by (bytes_of v) vs

@@ -1,0 +1,20 @@
+-- Texts and numbers padded to the width of a form ("Printing" in the documentation of `fmt`: "Width is measured in
+-- units of Unicode code points, that is, runes").
+use Rattle.std.specs.Prelude.{ℕ, ◌+◌, ◌-◌, List, ◌++◌, length, replicate, if◌then◌else◌}
+use Rattle.tmpl_values.specs.Rune.{runes}
+use Rattle.tmpl_funcs.specs.declared.printf.form.Form.{Form}
+
+-- a text with what it lacks to a width, counted in runes: spaces before it, or behind it with the
+-- flag `-`
+abbrev pub padded : Form → List ℕ → List ℕ
+padded f text =
+    if f.minus then text ++ replicate (f.width - length (runes text)) 32
+    else replicate (f.width - length (runes text)) 32 ++ text
+
+-- a sign and digits with what they lack to the width: spaces behind them with the flag `-`, else
+-- with the flag `0` zeros between them, else spaces before them
+abbrev pub laid_out : Form → List ℕ → List ℕ → List ℕ
+laid_out f s ds =
+    if f.minus then s ++ (ds ++ replicate (f.width - (length s + length ds)) 32)
+    else (if f.zero then s ++ (replicate (f.width - (length s + length ds)) 48 ++ ds)
+    else replicate (f.width - (length s + length ds)) 32 ++ (s ++ ds))

@@ -1,0 +1,10 @@
+-- A text cut to a precision ("Printing" in the documentation of `fmt`: for strings the precision limits the length of
+-- the input, in runes).
+use Rattle.std.specs.Prelude.{ℕ, List, take, Option, Some, None}
+use Rattle.std.specs.List.{flat_map}
+use Rattle.tmpl_values.specs.Rune.{runes, bytes_in}
+
+-- a text cut to a precision in runes
+abbrev pub cut : Option ℕ → List ℕ → List ℕ
+cut None s = s
+cut (Some n) s = flat_map bytes_in (take n (runes s))

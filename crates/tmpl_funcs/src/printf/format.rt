@@ -1,0 +1,109 @@
+//! `printf`.
+ghost use Rattle.std.specs.Prelude.{◌≡◌, ◌∷◌, ◌<◌, true, length, slice_index};
+ghost use Rattle.tmpl_funcs.specs.View.{values_of};
+ghost use Rattle.tmpl_funcs.specs.Answer.{IsMade};
+ghost use Rattle.tmpl_funcs.specs.printf.Form.{is_plain};
+ghost use Rattle.tmpl_funcs.specs.printf.Format.{formatted, formatted_if, printf_of};
+ghost use Rattle.tmpl_funcs.specs.computed.Format.{IsAdded, IsPieceAdded};
+
+use super::class::Class;
+use super::directive::add_printed;
+use super::reading::read_form;
+use crate::capacity::format_capacity;
+use crate::fault::CallFault;
+use std::alloc::Global;
+use tmpl_values::{Cell, Val};
+
+/// The first argument as a format of the others.
+pub(crate) fn printf<'a>(alloc: Global, arguments: &[Cell<'_>]) -> Result<Val<'a>, CallFault>
+    ensures { IsMade (printf_of (values_of arguments.now)) result }
+{
+    match arguments {
+        [] => Err(CallFault::WrongCount),
+        [format, operands @ ..] => match format.val.bytes() {
+            Some(format) => print_formatted(alloc, format, operands),
+            None => Err(CallFault::WrongKind),
+        },
+    }
+}
+
+/// The text of a format and operands.
+fn print_formatted<'a>(
+    alloc: Global,
+    format: &[u8],
+    operands: &[Cell<'_>],
+) -> Result<Val<'a>, CallFault>
+    ensures { IsMade (formatted_if (formatted format.now (values_of operands.now))) result }
+{
+    let mut bytes = Vec::with_capacity(alloc, format_capacity(format, operands))?;
+    add_formatted(format, operands, &mut bytes)?;
+    Ok(Val::made(bytes))
+}
+
+/// Adds the texts of the pieces of a format, which it reads from left to right.
+fn add_formatted(format: &[u8], operands: &[Cell<'_>], bytes: &mut Vec<u8>) -> Result<(), CallFault>
+    ensures { IsAdded (formatted format.now (values_of operands.now))
+        bytes.old.items bytes.new.items result }
+{
+    let mut rest = format;
+    let mut used = 0;
+    while rest.len() > 0 {
+        let (behind, taken) = add_piece(rest, &operands[used..], bytes)?;
+        rest = behind;
+        used += taken;
+    }
+    if used == operands.len() {
+        Ok(())
+    } else {
+        Err(CallFault::FormatRefused)
+    }
+}
+
+/// Adds the text of the piece at the front, and gives what stands behind it and how many operands
+/// it took.
+fn add_piece<'f>(
+    format: &'f [u8],
+    operands: &[Cell<'_>],
+    bytes: &mut Vec<u8>,
+) -> Result<(&'f [u8], usize), CallFault>
+    requires { 0 < length format.now }
+    ensures { IsPieceAdded format.now (values_of operands.now)
+        bytes.old.items bytes.new.items result }
+{
+    let run = Class::Plain.front_len(format);
+    if run > 0 {
+        bytes.extend_from_slice(&format[..run])?;
+        return Ok((&format[run..], 0));
+    }
+    match &format[1..] {
+        [] => Err(CallFault::FormatRefused),
+        [b'%', behind @ ..] => {
+            bytes.push(b'%')?;
+            Ok((behind, 0))
+        }
+        spelled => add_form(spelled, operands, bytes),
+    }
+}
+
+/// Adds the text of the form that stands behind a `%`.
+fn add_form<'f>(
+    spelled: &'f [u8],
+    operands: &[Cell<'_>],
+    bytes: &mut Vec<u8>,
+) -> Result<(&'f [u8], usize), CallFault>
+    requires some { 0 < length spelled.now }
+    requires other { is_plain (slice_index spelled.now 0) ≡ true }
+    ensures { IsPieceAdded (37 ∷ spelled.now) (values_of operands.now)
+        bytes.old.items bytes.new.items result }
+{
+    let Some((form, behind)) = read_form(spelled) else {
+        return Err(CallFault::FormatRefused);
+    };
+    match operands {
+        [] => Err(CallFault::FormatRefused),
+        [operand, ..] => {
+            add_printed(form, &operand.val, bytes)?;
+            Ok((behind, 1))
+        }
+    }
+}

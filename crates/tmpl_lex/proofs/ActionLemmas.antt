@@ -1,0 +1,132 @@
+-- What an action has inside, from token to token.
+use Rattle.std.proofs.Common.{arith, ◌≡◌, ℕ, zero, suc, ◌-◌, ◌<◌, ◌≤◌, Bool, true, false, List, [], ◌∷◌, ◌++◌, Option, Some, None, refl, sym, ap, ◌∙◌, length, drop, append_assoc, append-nil, length-drop, map}
+use Rattle.std.proofs.lemmas.List.{map-append}
+use Rattle.tmpl_lex.specs.declared.piece.Token as declared
+use Rattle.tmpl_lex.specs.Piece.{Token}
+use Rattle.tmpl_lex.specs.View.{token_of}
+use Rattle.tmpl_lex.specs.Trim.{End, ended_by, has_right_delimiter, right_marked, right_delimiter}
+use Rattle.tmpl_lex.specs.Token.{front_token}
+use Rattle.tmpl_lex.specs.computed.Action.{Inside, inside, inside_after, inside_from, with_token}
+use Rattle.tmpl_lex.proofs.TokenLemmas.{token-front, front-length}
+
+-- more tokens before what is inside further on
+abbrev pub behind : List Token → Option Inside → Option Inside
+behind ts None = None
+behind ts (Some i) = Some (ts ++ i.0, i.1)
+
+inside_after-drop : (n : ℕ) (bs : List ℕ) → inside_after n bs ≡ inside_after 0 (drop n bs)
+inside_after-drop zero bs = refl
+inside_after-drop (suc n) [] = refl
+inside_after-drop (suc n) (b ∷ bs) = inside_after-drop n bs
+
+-- a token has at least one byte, and no more than there are
+pub record IsWithin (bs : List ℕ) (t : Token) : Type 0 where
+  pub some : 0 < length t.bytes
+  pub most : length t.bytes ≤ length bs
+
+pub IsWithin-front_token : (bs : List ℕ) (t : Token) → Some t ≡ front_token bs → IsWithin bs t
+IsWithin-front_token bs t e =
+    let h = token-front bs t (sym e) in
+    record { some = h.some; most = front-length t.bytes bs h.front }
+
+-- ---- where it ends
+
+pub right_delimiter-shorter : (bs : List ℕ) (e : End) → right_delimiter bs ≡ Some e → length e.rest < length bs
+right_delimiter-shorter [] e h = let g : ◌≡◌ {A = Option End} None (Some e) = h in cc
+right_delimiter-shorter (b ∷ bs) e h = go (has_right_delimiter (b ∷ bs)) (right_marked (b ∷ bs)) h
+  where
+    go : (c r : Bool) → ended_by c r (b ∷ bs) ≡ Some e → length e.rest < length (b ∷ bs)
+    go true r h =
+        let same : record { trims = false; rest = drop 2 (b ∷ bs) } ≡ e = cc in
+        omega (arith, length-drop 2 (b ∷ bs), ap (λ (i : End). length i.rest) same)
+    go false true h =
+        let same : record { trims = true; rest = drop 4 (b ∷ bs) } ≡ e = cc in
+        omega (arith, length-drop 4 (b ∷ bs), ap (λ (i : End). length i.rest) same)
+    go false false h = let g : ◌≡◌ {A = Option End} None (Some e) = h in cc
+
+pub inside-closed : (bs : List ℕ) (e : End) → Some e ≡ right_delimiter bs → inside bs ≡ Some ([], e)
+unfolding inside
+inside-closed [] e h = let g : ◌≡◌ {A = Option End} (Some e) None = h in cc
+inside-closed (b ∷ bs) e h = ap (λ o. inside_from o (front_token (b ∷ bs)) (λ t. inside_after (length t.bytes - 1) bs)) (sym h)
+
+pub inside-none : (bs : List ℕ) → None ≡ right_delimiter bs → None ≡ front_token bs → inside bs ≡ None
+unfolding inside
+inside-none [] e f = refl
+inside-none (b ∷ bs) e f =
+    ap (λ o. inside_from o (front_token (b ∷ bs)) (λ t. inside_after (length t.bytes - 1) bs)) (sym e)
+    ∙ ap (λ o. inside_from None o (λ t. inside_after (length t.bytes - 1) bs)) (sym f)
+
+pub drop-sub_one : (n b : ℕ) (bs : List ℕ) → 0 < n → drop (n - 1) bs ≡ drop n (b ∷ bs)
+drop-sub_one zero b bs h = absurd (omega arith)
+drop-sub_one (suc n) b bs h = ap (λ k. drop k bs) (omega arith)
+
+pub inside-token : (bs : List ℕ) (t : Token) → None ≡ right_delimiter bs → Some t ≡ front_token bs → inside bs ≡ with_token t (inside (drop (length t.bytes) bs))
+unfolding inside
+inside-token [] t e f = let g : ◌≡◌ {A = Option Token} (Some t) None = f in cc
+inside-token (b ∷ bs) t e f =
+    ap (λ o. inside_from o (front_token (b ∷ bs)) (λ t. inside_after (length t.bytes - 1) bs)) (sym e)
+    ∙ ap (λ o. inside_from None o (λ t. inside_after (length t.bytes - 1) bs)) (sym f)
+    ∙ ap (with_token t) (inside_after-drop (length t.bytes - 1) bs ∙ ap (inside_after 0) (drop-sub_one (length t.bytes) b bs (IsWithin-front_token (b ∷ bs) t f).some))
+
+-- ---- token by token
+
+-- these tokens were read, and what is inside the rest comes behind them
+pub record IsReadTo (all : List ℕ) (ts : List Token) (bs : List ℕ) : Type 0 where
+  pub same : inside all ≡ behind ts (inside bs)
+
+behind-nil : (o : Option Inside) → behind [] o ≡ o
+behind-nil None = refl
+behind-nil (Some i) = refl
+
+pub IsReadTo-start : (bs : List ℕ) (ts : List declared.Token) → ts ≡ [] → IsReadTo bs (map token_of ts) bs
+IsReadTo-start bs ts e = record { same = sym (behind-nil (inside bs)) ∙ ap (λ us. behind (map token_of us) (inside bs)) (sym e) }
+
+behind-with_token : (ts : List Token) (t : Token) (o : Option Inside) → behind ts (with_token t o) ≡ behind (ts ++ t ∷ []) o
+behind-with_token ts t None = refl
+behind-with_token ts t (Some i) = ap (λ (us : List Token). Some (us, i.1)) (sym (append_assoc ts (t ∷ []) i.0))
+
+-- one token more was read
+pub IsReadTo-more : (all bs rest : List ℕ) (old new : List declared.Token) (t : declared.Token) → IsReadTo all (map token_of old) bs → None ≡ right_delimiter bs → Some (token_of t) ≡ front_token bs → new ≡ old ++ t ∷ [] → rest ≡ drop (length t.bytes.now) bs → IsReadTo all (map token_of new) rest
+IsReadTo-more all bs rest old new t so_far on here grown left = record {
+  same =
+      so_far.same
+      ∙ ap (behind (map token_of old)) (inside-token bs (token_of t) on here)
+      ∙ behind-with_token (map token_of old) (token_of t) (inside (drop (length t.bytes.now) bs))
+      ∙ ap (λ ts. behind ts (inside (drop (length t.bytes.now) bs))) (sym (ap (map token_of) grown ∙ map-append token_of old (t ∷ [])))
+      ∙ ap (λ r. behind (map token_of new) (inside r)) (sym left);
+}
+
+-- the action is closed
+pub inside-read : (all bs : List ℕ) (ts : List Token) (e : End) → IsReadTo all ts bs → Some e ≡ right_delimiter bs → Some (ts, e) ≡ inside all
+inside-read all bs ts e so_far h =
+    sym (so_far.same ∙ ap (behind ts) (inside-closed bs e h) ∙ ap (λ (us : List Token). Some (us, e)) (append-nil ts))
+
+-- no token begins
+pub inside-unread : (all bs : List ℕ) (ts : List Token) → IsReadTo all ts bs → None ≡ right_delimiter bs → None ≡ front_token bs → None ≡ inside all
+inside-unread all bs ts so_far e f = sym (so_far.same ∙ ap (behind ts) (inside-none bs e f))
+
+inside_after-shorter : (n : ℕ) (bs : List ℕ) (i : Inside) → inside_after n bs ≡ Some i → length i.1.rest < length bs
+inside_after-shorter n [] i e = let g : ◌≡◌ {A = Option Inside} None (Some i) = e in cc
+inside_after-shorter (suc n) (b ∷ bs) i e = omega (arith, inside_after-shorter n bs i e)
+inside_after-shorter zero (b ∷ bs) i e =
+    go (λ t j f. inside_after-shorter (length t.bytes - 1) bs j f) (right_delimiter (b ∷ bs)) refl (front_token (b ∷ bs)) e
+  where
+    add : (t : Token) (o : Option Inside) → ((j : Inside) → o ≡ Some j → length j.1.rest < length bs) → with_token t o ≡ Some i → length i.1.rest < length (b ∷ bs)
+    add t None ih h = let g : ◌≡◌ {A = Option Inside} None (Some i) = h in cc
+    add t (Some j) ih h =
+        let same : ◌≡◌ {A = Inside} (t ∷ j.0, j.1) i = cc in
+        omega (arith, ih j refl, ap (λ (k : Inside). length k.1.rest) same)
+
+    go : ((t : Token) (j : Inside) → inside_after (length t.bytes - 1) bs ≡ Some j → length j.1.rest < length bs) → (c : Option End) → right_delimiter (b ∷ bs) ≡ c → (o : Option Token) → inside_from c o (λ t. inside_after (length t.bytes - 1) bs) ≡ Some i → length i.1.rest < length (b ∷ bs)
+    go ih (Some end) at o h =
+        let same : ◌≡◌ {A = Inside} ([], end) i = cc in
+        omega (arith, right_delimiter-shorter (b ∷ bs) end at, ap (λ (k : Inside). length k.1.rest) same)
+    go ih None at None h = let g : ◌≡◌ {A = Option Inside} None (Some i) = h in cc
+    go ih None at (Some t) h = add t (inside_after (length t.bytes - 1) bs) (ih t) h
+
+-- what stands behind an action is shorter than what stands behind its `{{`
+pub inside-shorter : (bs : List ℕ) (i : Inside) → inside bs ≡ Some i → length i.1.rest < length bs
+unfolding inside
+inside-shorter bs i e = inside_after-shorter 0 bs i e
+
+pub ruleset reading = (IsWithin-front_token, IsReadTo-start, IsReadTo-more, inside-read, inside-unread)

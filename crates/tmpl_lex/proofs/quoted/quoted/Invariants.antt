@@ -1,5 +1,0 @@
-use Rattle.tmpl_lex.proofs.Quotes.{IsOpen}
-use Rattle.tmpl_lex.proofs.quoted.quoted.Given as goal
-
-abbrev pub invariant-loop-i : goal.invariant-loop-i
-invariant-loop-i l = IsOpen l.quote l.bytes l.i l.escaped

@@ -1,0 +1,4 @@
+pub mod Action
+pub mod Bytes
+pub mod Cut
+pub mod View
