@@ -27,7 +27,7 @@ use Rattle.tmpl_grammar.specs.declared.pipeline.parser.PartialPipeline.{PartialP
 
 -- ---- trees
 
--- one level, with what stands inside already seen
+-- one operand, with what stands inside it already seen
 abbrev pub operand_step : Operand-F Operand Operands → Operand
 operand_step Operand-F.Dot = dot
 operand_step (Operand-F.Fields names) = fields names.items

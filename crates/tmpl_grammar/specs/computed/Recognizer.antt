@@ -123,7 +123,7 @@ ended (Some s) = ends s
 abbrev pub ends_pipeline : Recognizer → List Token → Bool
 ends_pipeline s ts = ended (passes (Some s) ts)
 
--- the place in a pipeline that is half read
+-- the position in a pipeline that is read in part
 abbrev pub begun : List Operands → List Operand → Position
 begun [] [] = First
 begun (c ∷ cs) [] = Later

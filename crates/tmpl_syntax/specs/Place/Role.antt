@@ -98,7 +98,7 @@ deep_names = record { declares = []; uses = []; nested = true }
 
 abbrev pub act_of_shape : Shape → Act
 act_of_shape shape.Pipeline = plain deep_names
-act_of_shape (shape.Open kind) = opener kind deep_names
+act_of_shape (shape.Open c) = opener c deep_names
 act_of_shape (shape.ElseBranch branch) = branch_else branch deep_names
 
 abbrev pub role_of : Item → Role
