@@ -16,12 +16,14 @@ pub(crate) fn is_blank(nodes: &[Node]) -> bool
     all_blank(nodes)
 }
 
+/// Whether each node is a text of white space.
 fn all_blank(nodes: &[Node]) -> bool
     ensures { result ≡ list_all (λ n. spec.is_blank_node (node_of n).what) nodes.now }
 {
     nodes.iter().all(|node| is_blank_node(node))
 }
 
+/// Whether a node is a text of white space.
 fn is_blank_node(node: &Node) -> bool
     ensures { result ≡ spec.is_blank_node (node_of node.now).what }
 {
@@ -31,6 +33,7 @@ fn is_blank_node(node: &Node) -> bool
     }
 }
 
+/// Whether each byte is white space.
 fn is_white(bytes: &[u8]) -> bool
     ensures { result ≡ list_all token.is_space bytes.now }
 {

@@ -19,8 +19,8 @@ pub enum NodeKind {
     Text(Bytes),
     /// An action that puts out the text of its value, or binds a variable to it.
     Action(Header),
-    /// An `if`: the body where the value is not empty, else the other part. A `with`: the same, and the body has the value
-    /// as its dot. A `range`: the body once for each element, or the other part where there is none.
+    /// An `if`: the body where the value is not empty, else the other part. A `with`: the same, and the body has the
+    /// value as its dot. A `range`: the body once for each element, or the other part where there is none.
     Control {
         control: Control,
         header: Header,

@@ -8,7 +8,7 @@ use std::test::Fail;
 use tmpl_grammar::{Action, Branch};
 use tmpl_values::Bytes;
 
-// What stands behind the name of an action in a word of a list.
+/// What stands behind the name of an action in a word of a list.
 #[derive(Clone, Copy)]
 enum Behind<'w> {
     Nothing,
@@ -17,6 +17,7 @@ enum Behind<'w> {
     Uses(&'w str),
 }
 
+/// The name of an action in a word, and what stands behind it.
 fn parts(word: &str) -> (&str, Behind<'_>) {
     if let Some((name, rest)) = word.split_once(":") {
         return (name, Behind::Declares(rest));
@@ -34,6 +35,7 @@ fn bytes_of(alloc: Global, text: &str) -> Result<Bytes, AllocError> {
     Ok(Bytes::new(text.as_bytes().to_vec(alloc)?))
 }
 
+/// The binding of an action behind whose name this stands.
 fn binding(alloc: Global, behind: Behind<'_>) -> Result<Binding, AllocError> {
     match behind {
         Behind::Declares(names) => match names.split_once(",") {
@@ -48,6 +50,7 @@ fn binding(alloc: Global, behind: Behind<'_>) -> Result<Binding, AllocError> {
     }
 }
 
+/// Its pipeline: a variable where it uses one, or else dot.
 fn pipeline(alloc: Global, behind: Behind<'_>) -> Result<Pipeline, AllocError> {
     let operand = match behind {
         Behind::Uses(name) => Operand::Variable {
@@ -71,8 +74,8 @@ fn header(alloc: Global, behind: Behind<'_>) -> Result<Header, AllocError> {
     })
 }
 
-// The action of a word: `if`, `with`, `range`, `else`, `elseif`, `end`, `break`, `continue`, or a
-// pipeline where the name is empty or a dot; `:x` declares, `=x` assigns and `$x` uses.
+/// The action of a word: `if`, `with`, `range`, `else`, `elseif`, `end`, `break`, `continue`, or a
+/// pipeline where the name is empty or a dot; `:x` declares, `=x` assigns and `$x` uses.
 fn action(alloc: Global, word: &str) -> Result<Action, AllocError> {
     let (name, behind) = parts(word);
     Ok(match name {
@@ -88,7 +91,7 @@ fn action(alloc: Global, word: &str) -> Result<Action, AllocError> {
     })
 }
 
-// `w` is a text, `!` an unreadable action and `?` one without a reading.
+/// `w` is a text, `!` an unreadable action and `?` one without a reading.
 fn item(alloc: Global, line: u64, word: &str) -> Result<Item<'static>, AllocError> {
     let what = match word {
         "w" => ItemKind::Text(b"w"),
@@ -99,7 +102,7 @@ fn item(alloc: Global, line: u64, word: &str) -> Result<Item<'static>, AllocErro
     Ok(Item { line, what })
 }
 
-// The items of a list of words, each on a line of its own.
+/// The items of a list of words, each on a line of its own.
 fn items(alloc: Global, words: &str) -> Result<Vec<Item<'static>>, AllocError> {
     let mut items = Vec::new(alloc);
     for word in words.split(" ") {
@@ -108,7 +111,7 @@ fn items(alloc: Global, words: &str) -> Result<Vec<Item<'static>>, AllocError> {
     Ok(items)
 }
 
-// So many items of each word, each on a line of its own.
+/// So many items of each word, each on a line of its own.
 fn runs(alloc: Global, words: [(&str, u64); 3]) -> Result<Vec<Item<'static>>, AllocError> {
     let mut items = Vec::new(alloc);
     for (word, count) in words {
@@ -119,7 +122,7 @@ fn runs(alloc: Global, words: [(&str, u64); 3]) -> Result<Vec<Item<'static>>, Al
     Ok(items)
 }
 
-// The items of `OUTER INNER else end else end`, with one more behind the word at this place.
+/// The items of `OUTER INNER else end else end`, with one more behind the word at this place.
 fn with_more(
     alloc: Global,
     outer: &str,
@@ -140,7 +143,7 @@ fn with_more(
     Ok(items)
 }
 
-// The line and the kind of the refusal, which is `None` where there is none; the file has 99 newlines.
+/// The line and the kind of the refusal, which is `None` where there is none; the file has 99 newlines.
 fn refusal(alloc: Global, items: &[Item<'_>]) -> Result<Option<(u64, ParseKind)>, AllocError> {
     match check(alloc, items, &[b'\n'; 99]) {
         Ok(()) => Ok(None),
@@ -370,13 +373,14 @@ fn levels(rt: HostRuntime) -> Result<(), Fail> {
     Ok(())
 }
 
-// What is left to show.
+/// What is left to show.
 #[derive(Clone, Copy)]
 enum Left<'t> {
     Node(&'t Node),
     Mark(&'static str),
 }
 
+/// Leaves nodes to show, the first one next.
 fn add<'t>(left: &mut Vec<Left<'t>>, nodes: &'t [Node]) -> Result<(), AllocError> {
     for node in nodes.iter().rev() {
         left.push(Left::Node(node))?;
@@ -384,6 +388,7 @@ fn add<'t>(left: &mut Vec<Left<'t>>, nodes: &'t [Node]) -> Result<(), AllocError
     Ok(())
 }
 
+/// Leaves the parts of a control to show.
 fn control<'t>(
     left: &mut Vec<Left<'t>>,
     body: &'t [Node],
@@ -395,7 +400,7 @@ fn control<'t>(
     add(left, body)
 }
 
-// The names that a binding declares, behind a `:`, or assigns, behind a `=`.
+/// The names that a binding declares, behind a `:`, or assigns, behind a `=`.
 fn bound(alloc: Global, binding: &Binding) -> Result<String, AllocError> {
     match binding {
         Binding::Unbound => Ok(String::new(alloc)),
@@ -415,7 +420,6 @@ fn bound(alloc: Global, binding: &Binding) -> Result<String, AllocError> {
     }
 }
 
-// What is shown of a node itself; what stands inside it is left to show.
 fn control_name(control: Control) -> &'static str {
     match control {
         Control::If => "if",
@@ -424,6 +428,7 @@ fn control_name(control: Control) -> &'static str {
     }
 }
 
+/// What is shown of a node itself; what stands inside it is left to show.
 fn shown_node<'t>(
     alloc: Global,
     left: &mut Vec<Left<'t>>,
@@ -452,7 +457,7 @@ fn shown_node<'t>(
     }
 }
 
-// The nodes, as `w1 .2 (if3:x BODY|ELSE PART)break4 `.
+/// The nodes, as `w1 .2 (if3:x BODY|ELSE PART)break4 `.
 fn shown(alloc: Global, nodes: &[Node]) -> Result<String, AllocError> {
     let mut all = String::new(alloc);
     let mut left = Vec::new(alloc);
