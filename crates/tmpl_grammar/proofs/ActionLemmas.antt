@@ -1,6 +1,7 @@
 -- The grammar of an action and its reading agree.
 use Rattle.std.proofs.Common.{◌≡◌, ◌∙◌, ℕ, Bool, true, false, cond, List, Option, Some, None, refl, ap, sym, subst, bytes_eq}
 use Rattle.std.specs.Option.{option_map}
+use Rattle.std.proofs.lemmas.Option.{same_Some}
 use lib.Pointwise.{bytes_decides}
 use Rattle.tmpl_lex.specs.declared.piece.TokenKind.{TokenKind}
 use Rattle.tmpl_lex.specs.declared.piece.TokenKind.TheVariants as kind
@@ -20,7 +21,7 @@ use Rattle.tmpl_grammar.specs.declared.action.Shape.{Shape}
 use Rattle.tmpl_grammar.specs.declared.action.Shape.TheVariants as shape
 use Rattle.tmpl_grammar.specs.declared.keyword.Keyword.{Keyword}
 use Rattle.tmpl_grammar.specs.declared.keyword.Keyword.TheVariants as word
-use Rattle.tmpl_grammar.proofs.OptionLemmas.{same-value, no-value, mapped}
+use Rattle.tmpl_grammar.proofs.OptionLemmas.{no-value, mapped}
 use Rattle.tmpl_grammar.proofs.TokenLemmas.{no-next, blank-next, blank-all, all-blank, then-led, led-then}
 use Rattle.tmpl_grammar.proofs.StrayLemmas.{word-stray, then-stray, dead-read, blank-read, spelled-lives}
 use Rattle.tmpl_grammar.proofs.HeaderLemmas.{variable-other, IsRest, header-read, header-spelled}
@@ -43,7 +44,7 @@ word-known k t w = ap (λ j. keyword_by j t.bytes) w.0 ∙ ap spells_keyword w.1
 
 -- of a chain of tests, the one that holds
 chosen : (bs : List ℕ) (k j : Keyword) (rest : Option Keyword) → (rest ≡ Some k → bs ≡ spelling k) → (b : Bool) → bytes_eq bs (spelling j) ≡ b → cond b (Some j) rest ≡ Some k → bs ≡ spelling k
-chosen bs k j rest more true is e = (bytes_decides bs (spelling j)).0 is ∙ ap spelling (same-value j k e)
+chosen bs k j rest more true is e = (bytes_decides bs (spelling j)).0 is ∙ ap spelling (same_Some j k e)
 chosen bs k j rest more false is e = more e
 
 spelled-known : (bs : List ℕ) (k : Keyword) → spells_keyword bs ≡ Some k → bs ≡ spelling k
@@ -139,24 +140,24 @@ else-read k us Rest a f s =
     let l = then-led (IsWord k) Rest us (word-other k) s in
     ap else_by l.first_is ∙ ap (λ o. else_keyword o l.rest) (word-known k l.token l.is) ∙ f l.rest l.behind
 
-pub reads_action : ReadsSpelledAction
-reads_action ts (pipeline_action h) s = plain-read h ts s
-reads_action ts (opening c h) s =
+pub reads-action : ReadsSpelledAction
+reads-action ts (pipeline_action h) s = plain-read h ts s
+reads-action ts (opening c h) s =
     keyed (word.Control c) (SpellsHeader (shape.Open c) h) (opening c h) (λ us spelled. bound-read (shape.Open c) h us spelled) ts s
-reads_action ts plain_else s = keyed word.Else IsBlank plain_else (λ us b. ap else_by (blank-next us b)) ts s
-reads_action ts (else_branch branch.If h) s =
+reads-action ts plain_else s = keyed word.Else IsBlank plain_else (λ us b. ap else_by (blank-next us b)) ts s
+reads-action ts (else_branch branch.If h) s =
     let Spelled : List Token → Type 0 = SpellsHeader (shape.ElseBranch branch.If) h in
     keyed word.Else (Then (IsWord (word.Control control.If)) Spelled) (else_branch branch.If h)
     (λ us t. else-read (word.Control control.If) us Spelled (else_branch branch.If h) (λ vs spelled. bound-read (shape.ElseBranch branch.If) h vs spelled) t) ts s
-reads_action ts end_action s = keyed word.End IsBlank end_action (alone-read end_action) ts s
-reads_action ts break_action s = keyed word.Break IsBlank break_action (alone-read break_action) ts s
-reads_action ts continue_action s = keyed word.Continue IsBlank continue_action (alone-read continue_action) ts s
+reads-action ts end_action s = keyed word.End IsBlank end_action (alone-read end_action) ts s
+reads-action ts break_action s = keyed word.Break IsBlank break_action (alone-read break_action) ts s
+reads-action ts continue_action s = keyed word.Continue IsBlank continue_action (alone-read continue_action) ts s
 
 alone-blank : (a c : Action) (us : List Token) → alone a us ≡ Some c → IsBlank us × (a ≡ c)
 alone-blank a c us e = by (is_blank us) refl e
   where
     by : (b : Bool) → is_blank us ≡ b → cond b (Some a) None ≡ Some c → IsBlank us × (a ≡ c)
-    by true is e = (all-blank us is, same-value a c e)
+    by true is e = (all-blank us is, same_Some a c e)
     by false is e = no-value c e
 
 module _ (ts : List Token) (a : Action) where
@@ -183,7 +184,7 @@ module _ (ts : List Token) (a : Action) where
       by-keyword s vs m o is e = no-value a e
 
       by : (o : Option (Token × List Token)) → next us ≡ o → else_by o ≡ Some a → SpellsAction a ts
-      by None m e = subst (λ x. SpellsAction x ts) (same-value plain_else a e) (led-then (IsWord word.Else) IsBlank ts t us n w (no-next us m))
+      by None m e = subst (λ x. SpellsAction x ts) (same_Some plain_else a e) (led-then (IsWord word.Else) IsBlank ts t us n w (no-next us m))
       by (Some p) m e = by-keyword p.0 p.1 m (keyword_of p.0) refl e
 
   keyword-spelled : (k : Keyword) (t : Token) (us : List Token) → next ts ≡ Some (t, us) → IsWord k t → action_by k us ≡ Some a → SpellsAction a ts
@@ -202,13 +203,13 @@ module _ (ts : List Token) (a : Action) where
       by None is e = bound-spelled shape.Pipeline ts (λ h spelled. spelled) e
       by (Some k) is e = keyword-spelled k p.0 p.1 n (known-word p.0 k is) e
 
-pub spells_action : SpellsReadAction
+pub spells-action : SpellsReadAction
 unfolding action_in
-spells_action ts a e = first-spelled ts a (next ts) refl e
+spells-action ts a e = first-spelled ts a (next ts) refl e
 
-pub spells_one_action : SpellsOneAction
-spells_one_action ts a b s t = same-value a b (sym (reads_action ts a s) ∙ reads_action ts b t)
+pub spells-one-action : SpellsOneAction
+spells-one-action ts a b s t = same_Some a b (sym (reads-action ts a s) ∙ reads-action ts b t)
 
 -- tokens that are not read spell no action
 pub none-spelled : (ts : List Token) → action_in ts ≡ None → (a : Action) → SpellsAction a ts → ⊥
-none-spelled ts e a s = no-value a (sym e ∙ reads_action ts a s)
+none-spelled ts e a s = no-value a (sym e ∙ reads-action ts a s)

@@ -24,13 +24,13 @@ string spelling = constant_of (token kind.String spelling)
 abbrev character : String → Option Operand
 character spelling = constant_of (token kind.Character spelling)
 
-zero_alone : number "0" ≡ Some (number_constant (pos 0))
+zero-alone : number "0" ≡ Some (number_constant (pos 0))
 unfolding constant_of whole
-zero_alone = refl
+zero-alone = refl
 
-plus_seven : number "+7" ≡ Some (number_constant (pos 7))
+plus-seven : number "+7" ≡ Some (number_constant (pos 7))
 unfolding constant_of whole
-plus_seven = refl
+plus-seven = refl
 
 octal : number "017" ≡ Some (number_constant (pos 15))
 unfolding constant_of whole
@@ -57,25 +57,25 @@ least : number "-0x8000000000000000" ≡ Some (number_constant (negsuc 922337203
 unfolding constant_of whole
 least = refl
 
-past_least : number "-9223372036854775809" ≡ None
+past-least : number "-9223372036854775809" ≡ None
 unfolding constant_of whole
-past_least = refl
+past-least = refl
 
-under_prefix : number "0x_1" ≡ Some (number_constant (pos 1))
+under-prefix : number "0x_1" ≡ Some (number_constant (pos 1))
 unfolding constant_of whole
-under_prefix = refl
+under-prefix = refl
 
-bad_octal : number "08" ≡ None
+bad-octal : number "08" ≡ None
 unfolding constant_of whole
-bad_octal = refl
+bad-octal = refl
 
-two_underscores : number "1__0" ≡ None
+two-underscores : number "1__0" ≡ None
 unfolding constant_of whole
-two_underscores = refl
+two-underscores = refl
 
-last_underscore : number "0x_" ≡ None
+last-underscore : number "0x_" ≡ None
 unfolding constant_of whole
-last_underscore = refl
+last-underscore = refl
 
 point : number "1.0" ≡ None
 unfolding constant_of whole
@@ -87,22 +87,22 @@ unfolding constant_of parts part_at encode_utf8
 escapes = refl
 
 -- 400 in base 8 is no byte
-octal_past : string "\"\\400\"" ≡ None
+octal-past : string "\"\\400\"" ≡ None
 unfolding constant_of parts part_at
-octal_past = refl
+octal-past = refl
 
 surrogate : string "\"\\ud800\"" ≡ None
 unfolding constant_of parts part_at
 surrogate = refl
 
-past_unicode : string "\"\\U00110000\"" ≡ None
+past-unicode : string "\"\\U00110000\"" ≡ None
 unfolding constant_of parts part_at
-past_unicode = refl
+past-unicode = refl
 
 -- in a string a single quote is not escaped
-other_quote : string "\"\\'\"" ≡ None
+other-quote : string "\"\\'\"" ≡ None
 unfolding constant_of parts part_at
-other_quote = refl
+other-quote = refl
 
 -- runes stand for themselves
 plain : string "\"a\"" ≡ Some (text_constant (97 ∷ []))
@@ -124,9 +124,9 @@ unfolding constant_of parts part_at first_rune chars encode_utf8
 letter = refl
 
 -- an ill-formed byte has the code of U+FFFD
-ill_formed_character : constant_of (record { kind = kind.Character; bytes = 39 ∷ 255 ∷ 39 ∷ [] }) ≡ Some (number_constant (pos 65533))
+ill-formed-character : constant_of (record { kind = kind.Character; bytes = 39 ∷ 255 ∷ 39 ∷ [] }) ≡ Some (number_constant (pos 65533))
 unfolding constant_of parts part_at first_rune chars encode_utf8
-ill_formed_character = refl
+ill-formed-character = refl
 
 quote : character "'\\''" ≡ Some (number_constant (pos 39))
 unfolding constant_of parts part_at

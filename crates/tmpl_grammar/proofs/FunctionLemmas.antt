@@ -7,41 +7,41 @@ use Rattle.tmpl_funcs.specs.declared.func.Func.{Func}
 use Rattle.tmpl_funcs.specs.declared.func.Func.TheVariants.{And, Or, Not, Len, Index, Slice, Print, Println, Printf, Html, Urlquery, Eq, Ne, Lt, Le, Gt, Ge}
 use Rattle.tmpl_grammar.specs.Operand.{func_named, funcs}
 
-finds-itself : (f : Func) → Some f ≡ func_named (name_of f)
+named-itself : (f : Func) → Some f ≡ func_named (name_of f)
 unfolding func_named
-finds-itself And = refl
-finds-itself Or = refl
-finds-itself Not = refl
-finds-itself Len = refl
-finds-itself Index = refl
-finds-itself Slice = refl
-finds-itself Print = refl
-finds-itself Println = refl
-finds-itself Printf = refl
-finds-itself Html = refl
-finds-itself Urlquery = refl
-finds-itself Eq = refl
-finds-itself Ne = refl
-finds-itself Lt = refl
-finds-itself Le = refl
-finds-itself Gt = refl
-finds-itself Ge = refl
+named-itself And = refl
+named-itself Or = refl
+named-itself Not = refl
+named-itself Len = refl
+named-itself Index = refl
+named-itself Slice = refl
+named-itself Print = refl
+named-itself Println = refl
+named-itself Printf = refl
+named-itself Html = refl
+named-itself Urlquery = refl
+named-itself Eq = refl
+named-itself Ne = refl
+named-itself Lt = refl
+named-itself Le = refl
+named-itself Gt = refl
+named-itself Ge = refl
 
 differs : (f : Func) (name : List ℕ) → name_of f ≢ name → bytes_eq (name_of f) name ≡ false
 differs f name h = ⊎_elim (λ y. absurd (h ((bytes_decides (name_of f) name).0 y))) (λ n. n) (cases_Bool (bytes_eq (name_of f) name))
 
-finds-none : (name : List ℕ) (fs : List Func) → ((f : Func) → name_of f ≢ name) → find (λ f. bytes_eq (name_of f) name) fs ≡ None
-finds-none name [] h = refl
-finds-none name (f ∷ fs) h =
+find-none : (name : List ℕ) (fs : List Func) → ((f : Func) → name_of f ≢ name) → find (λ f. bytes_eq (name_of f) name) fs ≡ None
+find-none name [] h = refl
+find-none name (f ∷ fs) h =
     ap (λ b. cond b (Some f) (find (λ f. bytes_eq (name_of f) name) fs)) (differs f name (h f))
-    ∙ finds-none name fs h
+    ∙ find-none name fs h
 
 pub some-named : (name : List ℕ) (f : Func) → name_of f ≡ name → Some f ≡ func_named name
-some-named name f is = finds-itself f ∙ ap func_named is
+some-named name f is = named-itself f ∙ ap func_named is
 
 pub none-named : (name : List ℕ) → ((f : Func) → name_of f ≢ name) → None ≡ func_named name
 unfolding func_named
-none-named name h = sym (finds-none name funcs h)
+none-named name h = sym (find-none name funcs h)
 
 pub named : (name : List ℕ) (o : Option Func) → IfSome o (λ f. name_of f ≡ name) → IfNone o ((f : Func) → name_of f ≢ name) → o ≡ func_named name
 named name (Some f) is h = some-named name f is

@@ -10,7 +10,7 @@ use Rattle.tmpl_grammar.specs.Pipeline.{SpellsPipeline}
 use Rattle.tmpl_grammar.specs.Header.{IsSign, IsName, IsVariable, Then, may_bind, SpellsBinding, SpellsWhole, SpellsHeader}
 use Rattle.tmpl_grammar.specs.computed.Reading.{pipeline_in, named_by, named_kind, named_at, named, Front, plain, bound, second_by, second_signed, second_named, front_by, front_signed, front_named, front_in, split_by, split, header_with, header_if, header_by, header_in}
 use Rattle.tmpl_grammar.specs.declared.action.Shape.{Shape}
-use Rattle.tmpl_grammar.proofs.PipelineLemmas.{reads_spelled, spells_read}
+use Rattle.tmpl_grammar.proofs.PipelineLemmas.{reads-spelled, spells-read}
 use Rattle.tmpl_grammar.proofs.OptionLemmas.{no-value, mapped}
 use Rattle.tmpl_grammar.proofs.TokenLemmas.{then-led, led-then, then-map}
 use Rattle.tmpl_grammar.proofs.StrayLemmas.{IsDead, declare-stray, assign-stray, comma-stray, then-stray, then-dead, dead-read, spelled-lives}
@@ -161,10 +161,10 @@ plain-front ts cs s = by (front_in ts) (front-tells ts)
         spelled-lives ts cs s (dead-read ts (comma-dead (IsVariable key) (Then (IsVariable name) (Then (IsSign kind.Declare) (IsRest rest))) ts a))
 
 whole-read : (p : Pipeline) (ts : List Token) → SpellsWhole p ts → pipeline_in ts ≡ Some p
-whole-read (pipeline cs) ts s = reads_spelled ts cs s
+whole-read (pipeline cs) ts s = reads-spelled ts cs s
 
 read-whole : (p : Pipeline) (ts : List Token) → pipeline_in ts ≡ Some p → SpellsWhole p ts
-read-whole (pipeline cs) ts e = spells_read ts cs e
+read-whole (pipeline cs) ts e = spells-read ts cs e
 
 plain-whole : (p : Pipeline) (ts : List Token) → SpellsWhole p ts → front_in ts ≡ plain
 plain-whole (pipeline cs) ts s = plain-front ts cs s

@@ -24,19 +24,19 @@ value-append base n (x ∷ xs) ys = value-append base (n * base + digit_value x)
 hex : ℕ → Bool
 hex d = is_digit d 16
 
-one_hex : (d : ℕ) → d < 16 → is_digit (digit_char d) 16 ≡ true
-one_hex d h =
+one-hex : (d : ℕ) → d < 16 → is_digit (digit_char d) 16 ≡ true
+one-hex d h =
     let is : digit_value (digit_char d) ≡ d = digit_value-digit_char d (omega arith) in
     let below : nat_lt d 16 ≡ true = grind (arith, nat_tests) in
     ap (λ v. nat_lt v 16) is ∙ below
 
-all_hex : (k c : ℕ) → list_all (λ d. is_digit d 16) (hexes k c) ≡ true
+all-hex : (k c : ℕ) → list_all (λ d. is_digit d 16) (hexes k c) ≡ true
 unfolding hexes
-all_hex zero c = refl
-all_hex (suc k) c =
+all-hex zero c = refl
+all-hex (suc k) c =
     list_all-append (λ d. is_digit d 16) (hexes k (c / 16)) (digit_char (c % 16) ∷ [])
-    ∙ ap (λ b. b && (is_digit (digit_char (c % 16)) 16 && true)) (all_hex k (c / 16))
-    ∙ ap (λ b. b && true) (one_hex (c % 16) (omega arith))
+    ∙ ap (λ b. b && (is_digit (digit_char (c % 16)) 16 && true)) (all-hex k (c / 16))
+    ∙ ap (λ b. b && true) (one-hex (c % 16) (omega arith))
 
 value-hexes : (k c : ℕ) → c < 16 ^ k → digits_value 16 (hexes k c) ≡ c
 unfolding hexes
@@ -55,5 +55,5 @@ code-hexes k c rest h =
     let front : take k (hexes k c ++ rest) ≡ hexes k c = ap (λ n. take n (hexes k c ++ rest)) (sym (length-hexes k c)) ∙ take-append_seam (hexes k c) rest in
     ap (λ b. if b then number_in 16 (take k (hexes k c ++ rest)) else None) long
     ∙ ap (number_in 16) front
-    ∙ ap (λ b. if b then Some (digits_value 16 (hexes k c)) else None) (all_hex k c)
+    ∙ ap (λ b. if b then Some (digits_value 16 (hexes k c)) else None) (all-hex k c)
     ∙ ap Some (value-hexes k c h)

@@ -21,9 +21,6 @@ use Rattle.tmpl_grammar.specs.View.{parser_of, partial_of}
 nat_le-false : (m n : ℕ) → n < m → nat_le m n ≡ false
 nat_le-false m n h = ⊎_elim (λ y. absurd (let a = y.1 in omega (arith, a, h))) (λ e. e.0) (leb_tells m n)
 
-nat_le-true : (m n : ℕ) → m ≤ n → nat_le m n ≡ true
-nat_le-true m n h = le-leb m n h
-
 -- what a list of commands is within the limit
 abbrev pub limited_commands : Shape → Option (List Operands) → Reading Pipeline
 limited_commands s o = pipeline_within s (option_map pipeline_from o)
@@ -43,9 +40,6 @@ within-room n false h e = h
 room-one : (n : ℕ) (b : Bool) → room n b ≤ n + 1
 room-one n true = omega arith
 room-one n false = omega arith
-
-none-limited : (s : Shape) (o : Option (List Operands)) → o ≡ None → unread ≡ limited_commands s o
-none-limited s o e = sym (ap (limited_commands s) e)
 
 -- the pipeline of all the tokens, by what is left of them
 reads : (s : Shape) (ts : List Token) (h : Parser) (rest : List Token) → steps (Some h) rest ≡ steps (Some start) ts → limited_commands s (commands_after h rest) ≡ limited_in s ts
@@ -101,7 +95,7 @@ module _ (s : Shape) (ts : List held.Token) (i : ℕ) (h : held_parser.PipelineP
 pub within-limited : (s : Shape) (n : ℕ) (o : Option (List Operands)) (cs : List Operands) → n ≤ most_deep → IsClosed n o → o ≡ Some cs → read (pipeline_from cs) ≡ limited_commands s o
 within-limited s n o cs h c e =
     let d = subst (IsClosed n) e c in
-    sym (ap (limited_commands s) e ∙ ap (λ b. limited_to b s (pipeline_from cs)) (nat_le-true (deep_commands cs) most_deep (omega (arith, d, h))))
+    sym (ap (limited_commands s) e ∙ ap (λ b. limited_to b s (pipeline_from cs)) (le-leb (deep_commands cs) most_deep (omega (arith, d, h))))
 
 -- where a result is there, one thing for another
 pub if-ok : {X Y E : Type 0} (r : Result X E) (f : X → Y) (a b : Y) → (a ≡ b) → IfOk r (λ x. f x ≡ a) → IfOk r (λ x. f x ≡ b)

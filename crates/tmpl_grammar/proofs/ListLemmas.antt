@@ -17,16 +17,6 @@ prefix-map p f (x ∷ xs) = ap (λ n. cond (p (f x)) (1 + n) 0) (prefix-map p f 
 pub take-rest : {X : Type 0} (xs : List X) (k n : ℕ) → k ≤ length xs → n ≡ length xs - k → take n (drop k xs) ≡ drop k xs
 take-rest xs k n h e = ap (λ m. take m (drop k xs)) (let same : n ≡ length (drop k xs) = omega (arith, length-drop k xs) in same) ∙ take-length (drop k xs)
 
-pub take-full : {X : Type 0} (xs : List X) (k : ℕ) → length xs ≤ k → take k xs ≡ xs
-take-full [] zero h = refl
-take-full [] (suc k) h = refl
-take-full (x ∷ xs) zero h = absurd (omega arith)
-take-full (x ∷ xs) (suc k) h = ap (λ ys. x ∷ ys) (take-full xs k (omega arith))
-
-pub map-map : {X Y Z : Type 0} (g : Y → Z) (f : X → Y) (xs : List X) → map g (map f xs) ≡ map (λ x. g (f x)) xs
-map-map g f [] = refl
-map-map g f (x ∷ xs) = ap (λ ys. g (f x) ∷ ys) (map-map g f xs)
-
 pub drop-one : {X : Type 0} (xs : List X) (i : ℕ) (d : X) → i < length xs → drop i xs ≡ get_or xs i d ∷ drop (i + 1) xs
 drop-one xs i d h = drop-cons xs i d h ∙ ap (λ n. get_or xs i d ∷ drop n xs) (sym (add-one i))
 

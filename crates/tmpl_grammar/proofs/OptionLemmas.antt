@@ -1,10 +1,7 @@
 -- Options and their values.
 use Rattle.std.proofs.Common.{◌≡◌, Option, Some, None, refl, ap}
 use Rattle.std.specs.Option.{option_map, unwrap_or}
-
--- the value of an option is one
-pub same-value : {A : Type 0} (x y : A) → Some x ≡ Some y → x ≡ y
-same-value x y e = ap (λ o. unwrap_or o x) e
+use Rattle.std.proofs.lemmas.Option.{same_Some}
 
 pub no-value : {A B : Type 0} (x : A) → None ≡ Some x → B
 no-value x e = absurd (let g : ⊥ = cc in g)
@@ -17,4 +14,4 @@ pub record Mapped {A B : Type 0} (f : A → B) (o : Option A) (y : B) : Type 0 w
 
 pub mapped : {A B : Type 0} (f : A → B) (o : Option A) (y : B) → option_map f o ≡ Some y → Mapped f o y
 mapped f None y e = no-value y e
-mapped f (Some x) y e = record { source = x; is = refl; to = same-value (f x) y e }
+mapped f (Some x) y e = record { source = x; is = refl; to = same_Some (f x) y e }

@@ -9,9 +9,9 @@ use Rattle.tmpl_grammar.specs.Laws.{ReadsSpelled, SpellsRead, SpellsOne}
 use Rattle.tmpl_grammar.proofs.SpelledLemmas.{commands-back, pipeline-read}
 use Rattle.tmpl_grammar.proofs.ReadLemmas.{read-spells}
 
-pub reads_spelled : ReadsSpelled
+pub reads-spelled : ReadsSpelled
 unfolding pipeline_in finished
-reads_spelled ts cs s =
+reads-spelled ts cs s =
     let e = pipeline-read cs ts s [] in
     ap (λ o. option_map pipeline_from (option_and_then finished o)) e.to
     ∙ ap (λ ls. option_map pipeline_from (finished_with ls (closed e.end))) e.outer_is
@@ -22,13 +22,13 @@ abbrev commands_or : Commands → Option Pipeline → Commands
 commands_or d None = d
 commands_or d (Some (pipeline cs)) = cs
 
-pub spells_read : SpellsRead
+pub spells-read : SpellsRead
 unfolding pipeline_in
-spells_read ts cs e = by (commands_after start ts) refl e
+spells-read ts cs e = by (commands_after start ts) refl e
   where
     by : (o : Option (List Operands)) → commands_after start ts ≡ o → option_map pipeline_from o ≡ Some (pipeline cs) → SpellsPipeline cs ts
     by None is e = absurd (let g : ⊥ = cc in g)
     by (Some all) is e = subst (λ ds. SpellsPipeline ds ts) (ap (commands_or cs) e) (read-spells ts all is)
 
-pub spells_one : SpellsOne
-spells_one ts cs ds s t = ap (commands_or cs) (sym (reads_spelled ts cs s) ∙ reads_spelled ts ds t)
+pub spells-one : SpellsOne
+spells-one ts cs ds s t = ap (commands_or cs) (sym (reads-spelled ts cs s) ∙ reads-spelled ts ds t)

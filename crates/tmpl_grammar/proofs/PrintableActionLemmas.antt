@@ -22,8 +22,8 @@ use Rattle.tmpl_grammar.specs.Operand.{operand_at, operand_by, word_operand, fun
 use Rattle.tmpl_grammar.specs.Printable.{AreFieldNames, OfOperand, OfMore, OfCommand, OfLater, OfCommands, OfPipeline, OfVariable, OfBinding, OfAction, OfHeader}
 use Rattle.tmpl_grammar.specs.declared.action.Shape.{Shape}
 use Rattle.tmpl_grammar.specs.declared.action.Shape.TheVariants as shape
-use Rattle.tmpl_grammar.proofs.PrintableTokenLemmas.{IsRead, AreRead, bytes_drop, bytes_take}
-use Rattle.tmpl_grammar.proofs.PrintableConstantLemmas.{InRange, whole_range, OfText, unquoted_bytes, raw_bytes, OfCode, character_range}
+use Rattle.tmpl_grammar.proofs.PrintableTokenLemmas.{IsRead, AreRead, bytes-drop, bytes-take}
+use Rattle.tmpl_grammar.proofs.PrintableConstantLemmas.{InRange, whole-range, OfText, unquoted-bytes, raw-bytes, OfCode, character-range}
 
 -- ---- operands of one token
 
@@ -31,183 +31,183 @@ abbrev pub OfMaybe : Option Operand → Type 0
 OfMaybe None = Unit {0}
 OfMaybe (Some o) = OfOperand o
 
-number_of : (o : Option ℤ) → InRange o → OfMaybe (option_map tree.number_constant o)
-number_of None h = tt
-number_of (Some n) h = h
+number-of : (o : Option ℤ) → InRange o → OfMaybe (option_map tree.number_constant o)
+number-of None h = tt
+number-of (Some n) h = h
 
-text_of : (o : Option (List ℕ)) → OfText o → OfMaybe (option_map tree.text_constant o)
-text_of None h = tt
-text_of (Some bytes) h = h
+text-of : (o : Option (List ℕ)) → OfText o → OfMaybe (option_map tree.text_constant o)
+text-of None h = tt
+text-of (Some bytes) h = h
 
-character_of : (o : Option ℕ) → OfCode o → OfMaybe (option_map (λ n. tree.number_constant (pos n)) o)
-character_of None h = tt
-character_of (Some n) h = h
+character-of : (o : Option ℕ) → OfCode o → OfMaybe (option_map (λ n. tree.number_constant (pos n)) o)
+character-of None h = tt
+character-of (Some n) h = h
 
-between_bytes : (bs : List ℕ) → AreBytes bs → AreBytes (between bs)
-between_bytes bs h = bytes_take (length bs - 2) (drop 1 bs) (bytes_drop 1 bs h)
+between-bytes : (bs : List ℕ) → AreBytes bs → AreBytes (between bs)
+between-bytes bs h = bytes-take (length bs - 2) (drop 1 bs) (bytes-drop 1 bs h)
 
-constant_is : (k : TokenKind) (bs : List ℕ) → AreBytes bs → OfMaybe (constant_by k bs)
-constant_is kind.Number bs h = number_of (whole bs) (whole_range bs)
-constant_is kind.String bs h = text_of (unquoted 34 (between bs)) (unquoted_bytes (between bs))
-constant_is kind.RawString bs h = raw_bytes (between bs) (between_bytes bs h)
-constant_is kind.Character bs h = character_of (rune_code 39 (between bs)) (character_range (between bs))
-constant_is kind.Space bs h = tt
-constant_is kind.Word bs h = tt
-constant_is kind.Field bs h = tt
-constant_is kind.Dot bs h = tt
-constant_is kind.Variable bs h = tt
-constant_is kind.Declare bs h = tt
-constant_is kind.Assign bs h = tt
-constant_is kind.Comma bs h = tt
-constant_is kind.Pipe bs h = tt
-constant_is kind.LeftParenthesis bs h = tt
-constant_is kind.RightParenthesis bs h = tt
+constant-is : (k : TokenKind) (bs : List ℕ) → AreBytes bs → OfMaybe (constant_by k bs)
+constant-is kind.Number bs h = number-of (whole bs) (whole-range bs)
+constant-is kind.String bs h = text-of (unquoted 34 (between bs)) (unquoted-bytes (between bs))
+constant-is kind.RawString bs h = raw-bytes (between bs) (between-bytes bs h)
+constant-is kind.Character bs h = character-of (rune_code 39 (between bs)) (character-range (between bs))
+constant-is kind.Space bs h = tt
+constant-is kind.Word bs h = tt
+constant-is kind.Field bs h = tt
+constant-is kind.Dot bs h = tt
+constant-is kind.Variable bs h = tt
+constant-is kind.Declare bs h = tt
+constant-is kind.Assign bs h = tt
+constant-is kind.Comma bs h = tt
+constant-is kind.Pipe bs h = tt
+constant-is kind.LeftParenthesis bs h = tt
+constant-is kind.RightParenthesis bs h = tt
 
-pub constant_maybe : (t : Token) → AreBytes t.bytes → OfMaybe (constant_of t)
+pub constant-maybe : (t : Token) → AreBytes t.bytes → OfMaybe (constant_of t)
 unfolding constant_of
-constant_maybe t h = constant_is t.kind t.bytes h
+constant-maybe t h = constant-is t.kind t.bytes h
 
-cond_of : (b : Bool) (o p : Option Operand) → OfMaybe o → OfMaybe p → OfMaybe (cond b o p)
-cond_of true o p x y = x
-cond_of false o p x y = y
+cond-of : (b : Bool) (o p : Option Operand) → OfMaybe o → OfMaybe p → OfMaybe (cond b o p)
+cond-of true o p x y = x
+cond-of false o p x y = y
 
-function_of : (o : Option Func) → OfMaybe (option_map tree.function o)
-function_of None = tt
-function_of (Some f) = tt
+function-of : (o : Option Func) → OfMaybe (option_map tree.function o)
+function-of None = tt
+function-of (Some f) = tt
 
-word_of : (name : List ℕ) → OfMaybe (word_operand name)
+word-of : (name : List ℕ) → OfMaybe (word_operand name)
 unfolding word_operand
-word_of name =
-    cond_of (bytes_eq name (codes "true")) (Some (tree.bool_constant true)) _ tt
-    (cond_of (bytes_eq name (codes "false")) (Some (tree.bool_constant false)) _ tt
-    (cond_of (bytes_eq name (codes "nil")) (Some tree.nil) _ tt (function_of (func_named name))))
+word-of name =
+    cond-of (bytes_eq name (codes "true")) (Some (tree.bool_constant true)) _ tt
+    (cond-of (bytes_eq name (codes "false")) (Some (tree.bool_constant false)) _ tt
+    (cond-of (bytes_eq name (codes "nil")) (Some tree.nil) _ tt (function-of (func_named name))))
 
-field_of : (b : Bool) (name : List ℕ) → begins_name name ≡ b → IsNamed name → OfMaybe (field_operand b name)
-field_of true name e h = ((e, h), tt)
-field_of false name e h = tt
+field-of : (b : Bool) (name : List ℕ) → begins_name name ≡ b → IsNamed name → OfMaybe (field_operand b name)
+field-of true name e h = ((e, h), tt)
+field-of false name e h = tt
 
-operand_is : (k : TokenKind) (t : Token) → OfKind k (name_in t) → AreBytes t.bytes → OfMaybe (operand_by k t)
-operand_is kind.Dot t n h = tt
-operand_is kind.Field t n h = field_of (begins_name (name_in t)) (name_in t) refl n
-operand_is kind.Variable t n h = (n, tt)
-operand_is kind.Word t n h = word_of t.bytes
-operand_is kind.Number t n h = constant_maybe t h
-operand_is kind.String t n h = constant_maybe t h
-operand_is kind.RawString t n h = constant_maybe t h
-operand_is kind.Character t n h = constant_maybe t h
-operand_is kind.Space t n h = tt
-operand_is kind.Declare t n h = tt
-operand_is kind.Assign t n h = tt
-operand_is kind.Comma t n h = tt
-operand_is kind.Pipe t n h = tt
-operand_is kind.LeftParenthesis t n h = tt
-operand_is kind.RightParenthesis t n h = tt
+operand-is : (k : TokenKind) (t : Token) → OfKind k (name_in t) → AreBytes t.bytes → OfMaybe (operand_by k t)
+operand-is kind.Dot t n h = tt
+operand-is kind.Field t n h = field-of (begins_name (name_in t)) (name_in t) refl n
+operand-is kind.Variable t n h = (n, tt)
+operand-is kind.Word t n h = word-of t.bytes
+operand-is kind.Number t n h = constant-maybe t h
+operand-is kind.String t n h = constant-maybe t h
+operand-is kind.RawString t n h = constant-maybe t h
+operand-is kind.Character t n h = constant-maybe t h
+operand-is kind.Space t n h = tt
+operand-is kind.Declare t n h = tt
+operand-is kind.Assign t n h = tt
+operand-is kind.Comma t n h = tt
+operand-is kind.Pipe t n h = tt
+operand-is kind.LeftParenthesis t n h = tt
+operand-is kind.RightParenthesis t n h = tt
 
-of_token : (t : Token) (o : Operand) → IsRead t → operand_at t ≡ Some o → OfOperand o
+of-token : (t : Token) (o : Operand) → IsRead t → operand_at t ≡ Some o → OfOperand o
 unfolding operand_at
-of_token t o r e = subst OfMaybe e (operand_is t.kind t r.names r.bytes)
+of-token t o r e = subst OfMaybe e (operand-is t.kind t r.names r.bytes)
 
 -- ---- pipelines
 
-read_parts : (ts us : List Token) → AreRead (ts ++ us) → AreRead ts × AreRead us
-read_parts [] us h = (tt, h)
-read_parts (t ∷ ts) us h = let more = read_parts ts us h.1 in ((h.0, more.0), more.1)
+read-parts : (ts us : List Token) → AreRead (ts ++ us) → AreRead ts × AreRead us
+read-parts [] us h = (tt, h)
+read-parts (t ∷ ts) us h = let more = read-parts ts us h.1 in ((h.0, more.0), more.1)
 
-of_chain : (ns : List (List ℕ)) (ts : List Token) → AreRead ts → IsChain ns ts → AreFieldNames ns
-of_chain [] ts r s = tt
-of_chain (n ∷ ns) ts r s =
+of-chain : (ns : List (List ℕ)) (ts : List Token) → AreRead ts → IsChain ns ts → AreFieldNames ns
+of-chain [] ts r s = tt
+of-chain (n ∷ ns) ts r s =
     let h = subst AreRead s.2 r in
     let named = subst (λ k. OfKind k (name_in s.0)) s.3 (let x = h.0 in x.names) in
-    ((ap begins_name (sym s.5) ∙ s.4, subst IsNamed s.5 named), of_chain ns s.1 h.1 s.6)
+    ((ap begins_name (sym s.5) ∙ s.4, subst IsNamed s.5 named), of-chain ns s.1 h.1 s.6)
 
 mutual
-  of_operand : (o : Operand) (ts : List Token) → AreRead ts → SpellsOperand o ts → OfOperand o
-  of_operand tree.dot ts r s = tt
-  of_operand (tree.fields []) ts r s = s
-  of_operand (tree.fields (n ∷ ns)) ts r s =
+  of-operand : (o : Operand) (ts : List Token) → AreRead ts → SpellsOperand o ts → OfOperand o
+  of-operand tree.dot ts r s = tt
+  of-operand (tree.fields []) ts r s = s
+  of-operand (tree.fields (n ∷ ns)) ts r s =
       let h = subst AreRead s.2 r in
-      ((of_token s.0 (tree.fields (n ∷ [])) h.0 s.3).0, of_chain ns s.1 h.1 s.4)
-  of_operand (tree.variable name names) ts r s =
+      ((of-token s.0 (tree.fields (n ∷ [])) h.0 s.3).0, of-chain ns s.1 h.1 s.4)
+  of-operand (tree.variable name names) ts r s =
       let h = subst AreRead s.2 r in
-      ((of_token s.0 (tree.variable name []) h.0 s.3).0, of_chain names s.1 h.1 s.4)
-  of_operand (tree.bool_constant b) ts r s = tt
-  of_operand (tree.number_constant n) ts r s = let h = subst AreRead s.2 r in of_token s.0 (tree.number_constant n) h.0 s.3
-  of_operand (tree.text_constant bytes) ts r s = let h = subst AreRead s.2 r in of_token s.0 (tree.text_constant bytes) h.0 s.3
-  of_operand tree.nil ts r s = tt
-  of_operand (tree.function f) ts r s = tt
-  of_operand (tree.group commands names) ts r s =
+      ((of-token s.0 (tree.variable name []) h.0 s.3).0, of-chain names s.1 h.1 s.4)
+  of-operand (tree.bool_constant b) ts r s = tt
+  of-operand (tree.number_constant n) ts r s = let h = subst AreRead s.2 r in of-token s.0 (tree.number_constant n) h.0 s.3
+  of-operand (tree.text_constant bytes) ts r s = let h = subst AreRead s.2 r in of-token s.0 (tree.text_constant bytes) h.0 s.3
+  of-operand tree.nil ts r s = tt
+  of-operand (tree.function f) ts r s = tt
+  of-operand (tree.group commands names) ts r s =
       let h = (subst AreRead s.4 r).1 in
-      let parts = read_parts s.1 (s.2 ∷ s.3) h in
-      (of_commands commands s.1 parts.0 s.7, of_chain names s.3 parts.1.1 s.8)
+      let parts = read-parts s.1 (s.2 ∷ s.3) h in
+      (of-commands commands s.1 parts.0 s.7, of-chain names s.3 parts.1.1 s.8)
 
-  of_more : (os : Operands) (ts : List Token) → AreRead ts → SpellsMore os ts → OfMore os
-  of_more tree.no_operand ts r s = tt
-  of_more (tree.operand o os) ts r s =
+  of-more : (os : Operands) (ts : List Token) → AreRead ts → SpellsMore os ts → OfMore os
+  of-more tree.no_operand ts r s = tt
+  of-more (tree.operand o os) ts r s =
       let h = (subst AreRead s.4 r).1 in
-      let parts = read_parts s.2 s.3 (read_parts s.1 (s.2 ++ s.3) h).1 in
-      (of_operand o s.2 parts.0 s.6, of_more os s.3 parts.1 s.7)
+      let parts = read-parts s.2 s.3 (read-parts s.1 (s.2 ++ s.3) h).1 in
+      (of-operand o s.2 parts.0 s.6, of-more os s.3 parts.1 s.7)
 
-  of_command : (os : Operands) (ts : List Token) → AreRead ts → SpellsCommand os ts → OfCommand os
-  of_command tree.no_operand ts r s = s
-  of_command (tree.operand o os) ts r s =
-      let parts = read_parts s.1 s.2 (read_parts s.0 (s.1 ++ s.2) (subst AreRead s.3 r)).1 in
-      (of_operand o s.1 parts.0 s.5, of_more os s.2 parts.1 s.6)
+  of-command : (os : Operands) (ts : List Token) → AreRead ts → SpellsCommand os ts → OfCommand os
+  of-command tree.no_operand ts r s = s
+  of-command (tree.operand o os) ts r s =
+      let parts = read-parts s.1 s.2 (read-parts s.0 (s.1 ++ s.2) (subst AreRead s.3 r)).1 in
+      (of-operand o s.1 parts.0 s.5, of-more os s.2 parts.1 s.6)
 
-  of_later : (cs : Commands) (ts : List Token) → AreRead ts → SpellsLater cs ts → OfLater cs
-  of_later tree.no_command ts r s = tt
-  of_later (tree.command os cs) ts r s =
-      let parts = read_parts s.1 s.2 (subst AreRead s.3 r).1 in
-      (s.5, of_command os s.1 parts.0 s.6, of_later cs s.2 parts.1 s.7)
+  of-later : (cs : Commands) (ts : List Token) → AreRead ts → SpellsLater cs ts → OfLater cs
+  of-later tree.no_command ts r s = tt
+  of-later (tree.command os cs) ts r s =
+      let parts = read-parts s.1 s.2 (subst AreRead s.3 r).1 in
+      (s.5, of-command os s.1 parts.0 s.6, of-later cs s.2 parts.1 s.7)
 
-  pub of_commands : (cs : Commands) (ts : List Token) → AreRead ts → SpellsPipeline cs ts → OfCommands cs
-  of_commands tree.no_command ts r s = s
-  of_commands (tree.command os cs) ts r s =
-      let parts = read_parts s.0 s.1 (subst AreRead s.2 r) in
-      (of_command os s.0 parts.0 s.3, of_later cs s.1 parts.1 s.4)
+  pub of-commands : (cs : Commands) (ts : List Token) → AreRead ts → SpellsPipeline cs ts → OfCommands cs
+  of-commands tree.no_command ts r s = s
+  of-commands (tree.command os cs) ts r s =
+      let parts = read-parts s.0 s.1 (subst AreRead s.2 r) in
+      (of-command os s.0 parts.0 s.3, of-later cs s.1 parts.1 s.4)
 
 -- ---- actions
 
 pub behind : (ws : List Token) (t : Token) (us ts : List Token) → ts ≡ ws ++ t ∷ us → AreRead ts → IsRead t × AreRead us
-behind ws t us ts e r = (read_parts ws (t ∷ us) (subst AreRead e r)).1
+behind ws t us ts e r = (read-parts ws (t ∷ us) (subst AreRead e r)).1
 
-of_variable : (name : List ℕ) (t : Token) → IsRead t → IsVariable name t → OfVariable name
-of_variable name t r v = (v.2, subst IsNamed v.1 (subst (λ k. OfKind k (name_in t)) v.0 r.names))
+of-variable : (name : List ℕ) (t : Token) → IsRead t → IsVariable name t → OfVariable name
+of-variable name t r v = (v.2, subst IsNamed v.1 (subst (λ k. OfKind k (name_in t)) v.0 r.names))
 
-of_whole : (p : Pipeline) (ts : List Token) → depth_of_pipeline p ≤ most_deep → AreRead ts → SpellsWhole p ts → OfPipeline p
-of_whole (pipeline cs) ts d r s = (of_commands cs ts r s, d)
+of-whole : (p : Pipeline) (ts : List Token) → depth_of_pipeline p ≤ most_deep → AreRead ts → SpellsWhole p ts → OfPipeline p
+of-whole (pipeline cs) ts d r s = (of-commands cs ts r s, d)
 
-of_bound : (b : Binding) (p : Pipeline) (ts : List Token) → depth_of_pipeline p ≤ most_deep → AreRead ts → SpellsBinding b (SpellsWhole p) ts → OfBinding b × OfPipeline p
-of_bound unbound p ts d r s = (tt, of_whole p ts d r s)
-of_bound (declare name) p ts d r s =
+of-bound : (b : Binding) (p : Pipeline) (ts : List Token) → depth_of_pipeline p ≤ most_deep → AreRead ts → SpellsBinding b (SpellsWhole p) ts → OfBinding b × OfPipeline p
+of-bound unbound p ts d r s = (tt, of-whole p ts d r s)
+of-bound (declare name) p ts d r s =
     let h = behind s.0 s.1 s.2 ts s.3 r in
     let k = behind s.6.0 s.6.1 s.6.2 s.2 s.6.3 h.1 in
-    (of_variable name s.1 h.0 s.5, of_whole p s.6.2 d k.1 s.6.6)
-of_bound (assign name) p ts d r s =
+    (of-variable name s.1 h.0 s.5, of-whole p s.6.2 d k.1 s.6.6)
+of-bound (assign name) p ts d r s =
     let h = behind s.0 s.1 s.2 ts s.3 r in
     let k = behind s.6.0 s.6.1 s.6.2 s.2 s.6.3 h.1 in
-    (of_variable name s.1 h.0 s.5, of_whole p s.6.2 d k.1 s.6.6)
-of_bound (declare_pair key name) p ts d r s =
+    (of-variable name s.1 h.0 s.5, of-whole p s.6.2 d k.1 s.6.6)
+of-bound (declare_pair key name) p ts d r s =
     let h = behind s.0 s.1 s.2 ts s.3 r in
     let comma = behind s.6.0 s.6.1 s.6.2 s.2 s.6.3 h.1 in
     let more = s.6.6 in
     let k = behind more.0 more.1 more.2 s.6.2 more.3 comma.1 in
     let sign = more.6 in
     let j = behind sign.0 sign.1 sign.2 more.2 sign.3 k.1 in
-    ((of_variable key s.1 h.0 s.5, of_variable name more.1 k.0 more.5), of_whole p sign.2 d j.1 sign.6)
+    ((of-variable key s.1 h.0 s.5, of-variable name more.1 k.0 more.5), of-whole p sign.2 d j.1 sign.6)
 
-of_header : (s : Shape) (h : Header) (ts : List Token) → depth_of_pipeline h.pipeline ≤ most_deep → AreRead ts → SpellsHeader s h ts → OfHeader s h
-of_header s h ts d r spelled =
-    let of = of_bound h.binding h.pipeline ts d r spelled.1 in
+of-header : (s : Shape) (h : Header) (ts : List Token) → depth_of_pipeline h.pipeline ≤ most_deep → AreRead ts → SpellsHeader s h ts → OfHeader s h
+of-header s h ts d r spelled =
+    let of = of-bound h.binding h.pipeline ts d r spelled.1 in
     (spelled.0, of.0, of.1)
 
 pub of_action : (a : Action) (ts : List Token) → depth_of a ≤ most_deep → AreRead ts → SpellsAction a ts → OfAction a
-of_action (pipeline_action h) ts d r s = of_header shape.Pipeline h ts d r s
-of_action (opening c h) ts d r s = of_header (shape.Open c) h s.2 d (behind s.0 s.1 s.2 ts s.3 r).1 s.6
+of_action (pipeline_action h) ts d r s = of-header shape.Pipeline h ts d r s
+of_action (opening c h) ts d r s = of-header (shape.Open c) h s.2 d (behind s.0 s.1 s.2 ts s.3 r).1 s.6
 of_action plain_else ts d r s = tt
 of_action (else_branch br h) ts d r s =
     let else_behind = behind s.0 s.1 s.2 ts s.3 r in
     let more = s.6 in
-    of_header (shape.ElseBranch br) h more.2 d (behind more.0 more.1 more.2 s.2 more.3 else_behind.1).1 more.6
+    of-header (shape.ElseBranch br) h more.2 d (behind more.0 more.1 more.2 s.2 more.3 else_behind.1).1 more.6
 of_action end_action ts d r s = tt
 of_action break_action ts d r s = tt
 of_action continue_action ts d r s = tt

@@ -4,19 +4,19 @@ use Rattle.tmpl_values.proofs.Runes.{AreBytes}
 use Rattle.tmpl_lex.specs.Named.{OfKind}
 use Rattle.tmpl_lex.specs.Piece.{Token}
 
-pub bytes_front : (xs ys : List ℕ) → AreBytes (xs ++ ys) → AreBytes xs × AreBytes ys
-bytes_front [] ys h = (tt, h)
-bytes_front (x ∷ xs) ys h = let more = bytes_front xs ys h.1 in ((h.0, more.0), more.1)
+pub bytes-front : (xs ys : List ℕ) → AreBytes (xs ++ ys) → AreBytes xs × AreBytes ys
+bytes-front [] ys h = (tt, h)
+bytes-front (x ∷ xs) ys h = let more = bytes-front xs ys h.1 in ((h.0, more.0), more.1)
 
-pub bytes_drop : (n : ℕ) (xs : List ℕ) → AreBytes xs → AreBytes (drop n xs)
-bytes_drop zero xs h = h
-bytes_drop (suc n) [] h = tt
-bytes_drop (suc n) (x ∷ xs) h = bytes_drop n xs h.1
+pub bytes-drop : (n : ℕ) (xs : List ℕ) → AreBytes xs → AreBytes (drop n xs)
+bytes-drop zero xs h = h
+bytes-drop (suc n) [] h = tt
+bytes-drop (suc n) (x ∷ xs) h = bytes-drop n xs h.1
 
-pub bytes_take : (n : ℕ) (xs : List ℕ) → AreBytes xs → AreBytes (take n xs)
-bytes_take zero xs h = tt
-bytes_take (suc n) [] h = tt
-bytes_take (suc n) (x ∷ xs) h = (h.0, bytes_take n xs h.1)
+pub bytes-take : (n : ℕ) (xs : List ℕ) → AreBytes xs → AreBytes (take n xs)
+bytes-take zero xs h = tt
+bytes-take (suc n) [] h = tt
+bytes-take (suc n) (x ∷ xs) h = (h.0, bytes-take n xs h.1)
 
 -- a token that was read
 pub record IsRead (t : Token) : Type 0 where

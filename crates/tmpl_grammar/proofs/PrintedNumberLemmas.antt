@@ -13,73 +13,73 @@ use Rattle.tmpl_lex.specs.Byte.{is_number_byte}
 use Rattle.tmpl_lex.specs.declared.piece.TokenKind.TheVariants as kind
 use Rattle.tmpl_grammar.specs.Constant.Integer.{is_plain, begins_plain, underscores_part, number_in, parted_number, behind_zero, magnitude, signed, whole}
 use Rattle.tmpl_grammar.specs.Print.{IsFront, Solid, solid, minus, token}
-use Rattle.tmpl_grammar.proofs.FrontLemmas.{halts, digit_front, minus_front}
+use Rattle.tmpl_grammar.proofs.FrontLemmas.{halts, digit-front, minus-front}
 use Rattle.tmpl_grammar.proofs.IntegerLemmas.{digits-plain}
 
 -- ---- the token
 
-all_digits : (ds : List ℕ) → AllDigits 10 ds → list_all is_ascii_digit ds ≡ true
-all_digits [] h = refl
-all_digits (d ∷ ds) h =
+all-digits : (ds : List ℕ) → AllDigits 10 ds → list_all is_ascii_digit ds ≡ true
+all-digits [] h = refl
+all-digits (d ∷ ds) h =
     let low = h.0 in
     let here : is_ascii_digit d ≡ true = grind (arith, nat_tests) in
-    ap (λ k. k && list_all is_ascii_digit ds) here ∙ all_digits ds h.1
+    ap (λ k. k && list_all is_ascii_digit ds) here ∙ all-digits ds h.1
 
 -- a token that stands at the front, and may stand behind a space
 pub record Stands (bs rest : List ℕ) : Type 0 where
   pub front : IsFront (token kind.Number bs) rest
   pub solid_is : Solid (bs ++ rest)
 
-digit_solid : (d : ℕ) (bs : List ℕ) → is_ascii_digit d ≡ true → Solid (d ∷ bs)
-digit_solid d bs h = solid (grind (arith, nat_tests)) (grind (arith, nat_tests)) (grind (arith, nat_tests)) (grind (arith, nat_tests))
+digit-solid : (d : ℕ) (bs : List ℕ) → is_ascii_digit d ≡ true → Solid (d ∷ bs)
+digit-solid d bs h = solid (grind (arith, nat_tests)) (grind (arith, nat_tests)) (grind (arith, nat_tests)) (grind (arith, nat_tests))
 
-first_digit : (d : ℕ) (ds : List ℕ) → AllDigits 10 (d ∷ ds) → is_ascii_digit d ≡ true
-first_digit d ds h = let low = h.0 in grind (arith, nat_tests)
+first-digit : (d : ℕ) (ds : List ℕ) → AllDigits 10 (d ∷ ds) → is_ascii_digit d ≡ true
+first-digit d ds h = let low = h.0 in grind (arith, nat_tests)
 
-plain_stands : (ds rest : List ℕ) → IsNumeral 10 ds → halts is_number_byte rest ≡ true → Stands ds rest
-plain_stands [] rest h stop = absurd (let some = h.0 in omega (arith, some))
-plain_stands (d ∷ ds) rest h stop =
-    let digit = first_digit d ds h.1 in
-    record { front = digit_front d ds rest digit (all_digits ds h.1.1) stop; solid_is = digit_solid d (ds ++ rest) digit }
+plain-stands : (ds rest : List ℕ) → IsNumeral 10 ds → halts is_number_byte rest ≡ true → Stands ds rest
+plain-stands [] rest h stop = absurd (let some = h.0 in omega (arith, some))
+plain-stands (d ∷ ds) rest h stop =
+    let digit = first-digit d ds h.1 in
+    record { front = digit-front d ds rest digit (all-digits ds h.1.1) stop; solid_is = digit-solid d (ds ++ rest) digit }
 
-minus_stands : (ds rest : List ℕ) → IsNumeral 10 ds → halts is_number_byte rest ≡ true → Stands (45 ∷ ds) rest
-minus_stands [] rest h stop = absurd (let some = h.0 in omega (arith, some))
-minus_stands (d ∷ ds) rest h stop =
-    let digit = first_digit d ds h.1 in
-    record { front = minus_front d ds rest digit (all_digits ds h.1.1) stop; solid_is = minus digit }
+minus-stands : (ds rest : List ℕ) → IsNumeral 10 ds → halts is_number_byte rest ≡ true → Stands (45 ∷ ds) rest
+minus-stands [] rest h stop = absurd (let some = h.0 in omega (arith, some))
+minus-stands (d ∷ ds) rest h stop =
+    let digit = first-digit d ds h.1 in
+    record { front = minus-front d ds rest digit (all-digits ds h.1.1) stop; solid_is = minus digit }
 
-pub number_stands : (n : ℤ) (rest : List ℕ) → mag n < 2 ^ 63 → halts is_number_byte rest ≡ true → Stands (signed_decimal n) rest
-number_stands (pos n) rest h stop = plain_stands (decimal n) rest (decimal_is_IsNumeral n (omega arith)).0 stop
-number_stands (negsuc n) rest h stop = minus_stands (decimal (suc n)) rest (decimal_is_IsNumeral (suc n) (omega arith)).0 stop
+pub number-stands : (n : ℤ) (rest : List ℕ) → mag n < 2 ^ 63 → halts is_number_byte rest ≡ true → Stands (signed_decimal n) rest
+number-stands (pos n) rest h stop = plain-stands (decimal n) rest (decimal_is_IsNumeral n (omega arith)).0 stop
+number-stands (negsuc n) rest h stop = minus-stands (decimal (suc n)) rest (decimal_is_IsNumeral (suc n) (omega arith)).0 stop
 
 -- ---- its value
 
-digits_are : (ds : List ℕ) → AllDigits 10 ds → list_all (λ d. is_digit d 10) ds ≡ true
-digits_are [] h = refl
-digits_are (d ∷ ds) h =
+digits-are : (ds : List ℕ) → AllDigits 10 ds → list_all (λ d. is_digit d 10) ds ≡ true
+digits-are [] h = refl
+digits-are (d ∷ ds) h =
     let low = h.0 in
     let here : is_digit d 10 ≡ true = grind (arith, nat_tests) in
-    ap (λ k. k && list_all (λ d. is_digit d 10) ds) here ∙ digits_are ds h.1
+    ap (λ k. k && list_all (λ d. is_digit d 10) ds) here ∙ digits-are ds h.1
 
-digit_plain : (d : ℕ) → is_ascii_digit d ≡ true → is_plain d ≡ true
-digit_plain d h = grind (arith, nat_tests)
+digit-plain : (d : ℕ) → is_ascii_digit d ≡ true → is_plain d ≡ true
+digit-plain d h = grind (arith, nat_tests)
 
-no_underscores : (ds : List ℕ) → list_all is_ascii_digit ds ≡ true → underscores_part ds ≡ true
-no_underscores [] h = refl
-no_underscores (d ∷ ds) h =
+no-underscores : (ds : List ℕ) → list_all is_ascii_digit ds ≡ true → underscores_part ds ≡ true
+no-underscores [] h = refl
+no-underscores (d ∷ ds) h =
     let both = and_parts (is_ascii_digit d) (list_all is_ascii_digit ds) h in
-    ap (λ t. (t || begins_plain ds) && underscores_part ds) (digit_plain d both.0) ∙ no_underscores ds both.1
+    ap (λ t. (t || begins_plain ds) && underscores_part ds) (digit-plain d both.0) ∙ no-underscores ds both.1
 
 number-digits : (ds : List ℕ) → AllDigits 10 ds → parted_number 10 ds ≡ Some (digits_value 10 ds)
 number-digits ds h =
-    ap (λ k. if k then number_in 10 (filter is_plain ds) else None) (no_underscores ds (all_digits ds h))
-    ∙ ap (number_in 10) (digits-plain 10 ds (omega arith) (digits_are ds h))
-    ∙ ap (λ k. if k then Some (digits_value 10 ds) else None) (digits_are ds h)
+    ap (λ k. if k then number_in 10 (filter is_plain ds) else None) (no-underscores ds (all-digits ds h))
+    ∙ ap (number_in 10) (digits-plain 10 ds (omega arith) (digits-are ds h))
+    ∙ ap (λ k. if k then Some (digits_value 10 ds) else None) (digits-are ds h)
 
 magnitude-digits : (ds : List ℕ) → IsNumeral 10 ds → 48 < get_or ds 0 0 → magnitude ds ≡ Some (digits_value 10 ds)
 magnitude-digits [] h low = absurd (omega arith)
 magnitude-digits (d ∷ ds) h low =
-    let digit = first_digit d ds h.1 in
+    let digit = first-digit d ds h.1 in
     let zero_not : nat_eq d 48 ≡ false = grind (arith, nat_tests) in
     let line_not : nat_eq d 95 ≡ false = grind (arith, nat_tests) in
     ap (λ k. if k then behind_zero ds else (if nat_eq d 95 then None else parted_number 10 (d ∷ ds))) zero_not
@@ -92,11 +92,11 @@ magnitude-decimal (suc n) h =
     let is = decimal_is_IsNumeral (suc n) h in
     magnitude-digits (decimal (suc n)) is.0 (first_decimal (suc n) (omega arith) h) ∙ ap Some is.1
 
-whole_plain : (ds : List ℕ) → IsNumeral 10 ds → whole ds ≡ option_and_then (signed false) (magnitude ds)
+whole-plain : (ds : List ℕ) → IsNumeral 10 ds → whole ds ≡ option_and_then (signed false) (magnitude ds)
 unfolding whole
-whole_plain [] h = absurd (let some = h.0 in omega (arith, some))
-whole_plain (d ∷ ds) h =
-    let digit = first_digit d ds h.1 in
+whole-plain [] h = absurd (let some = h.0 in omega (arith, some))
+whole-plain (d ∷ ds) h =
+    let digit = first-digit d ds h.1 in
     let minus_not : nat_eq d 45 ≡ false = grind (arith, nat_tests) in
     let plus_not : nat_eq d 43 ≡ false = grind (arith, nat_tests) in
     ap (λ k. if k then option_and_then (signed true) (magnitude ds) else (if nat_eq d 43 then option_and_then (signed false) (magnitude ds) else option_and_then (signed false) (magnitude (d ∷ ds)))) minus_not
@@ -106,7 +106,7 @@ pub whole-decimal : (n : ℤ) → mag n < 2 ^ 63 → whole (signed_decimal n) �
 unfolding whole
 whole-decimal (pos n) h =
     let fits : nat_lt n (2 ^ 63) ≡ true = grind (arith, nat_tests) in
-    whole_plain (decimal n) (decimal_is_IsNumeral n (omega arith)).0
+    whole-plain (decimal n) (decimal_is_IsNumeral n (omega arith)).0
     ∙ ap (option_and_then (signed false)) (magnitude-decimal n (omega arith))
     ∙ ap (λ k. if k then Some (pos n) else None) fits
 whole-decimal (negsuc n) h =

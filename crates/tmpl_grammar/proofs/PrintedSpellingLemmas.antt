@@ -28,64 +28,64 @@ use Rattle.tmpl_grammar.proofs.PrintedNumberLemmas.{whole-decimal}
 
 -- ---- operands of one token
 
-spells_chain : (ns : List (List ℕ)) → AreFieldNames ns → IsChain ns (chain_tokens ns)
-spells_chain [] h = refl
-spells_chain (n ∷ ns) h = (token kind.Field (46 ∷ n), chain_tokens ns, refl, refl, h.0.0, refl, spells_chain ns h.1)
+spells-chain : (ns : List (List ℕ)) → AreFieldNames ns → IsChain ns (chain_tokens ns)
+spells-chain [] h = refl
+spells-chain (n ∷ ns) h = (token kind.Field (46 ∷ n), chain_tokens ns, refl, refl, h.0.0, refl, spells-chain ns h.1)
 
-field_at : (n : List ℕ) → begins_name n ≡ true → operand_at (token kind.Field (46 ∷ n)) ≡ Some (tree.fields (n ∷ []))
+field-at : (n : List ℕ) → begins_name n ≡ true → operand_at (token kind.Field (46 ∷ n)) ≡ Some (tree.fields (n ∷ []))
 unfolding operand_at
-field_at n h = ap (λ k. field_operand k n) h
+field-at n h = ap (λ k. field_operand k n) h
 
-variable_at : (n : List ℕ) → operand_at (token kind.Variable (36 ∷ n)) ≡ Some (tree.variable n [])
+variable-at : (n : List ℕ) → operand_at (token kind.Variable (36 ∷ n)) ≡ Some (tree.variable n [])
 unfolding operand_at
-variable_at n = refl
+variable-at n = refl
 
-dot_at : operand_at (token kind.Dot (46 ∷ [])) ≡ Some tree.dot
+dot-at : operand_at (token kind.Dot (46 ∷ [])) ≡ Some tree.dot
 unfolding operand_at
-dot_at = refl
+dot-at = refl
 
-truth_at : (b : Bool) → operand_at (word (truth_word b)) ≡ Some (tree.bool_constant b)
+truth-at : (b : Bool) → operand_at (word (truth_word b)) ≡ Some (tree.bool_constant b)
 unfolding operand_at word_operand
-truth_at true = refl
-truth_at false = refl
+truth-at true = refl
+truth-at false = refl
 
-nil_at : operand_at (word (110 ∷ 105 ∷ 108 ∷ [])) ≡ Some tree.nil
+nil-at : operand_at (word (110 ∷ 105 ∷ 108 ∷ [])) ≡ Some tree.nil
 unfolding operand_at word_operand
-nil_at = refl
+nil-at = refl
 
-function_at : (f : Func) → operand_at (word (name_of f)) ≡ Some (tree.function f)
+function-at : (f : Func) → operand_at (word (name_of f)) ≡ Some (tree.function f)
 unfolding operand_at word_operand func_named
-function_at And = refl
-function_at Or = refl
-function_at Not = refl
-function_at Len = refl
-function_at Index = refl
-function_at Slice = refl
-function_at Print = refl
-function_at Println = refl
-function_at Printf = refl
-function_at Html = refl
-function_at Urlquery = refl
-function_at Eq = refl
-function_at Ne = refl
-function_at Lt = refl
-function_at Le = refl
-function_at Gt = refl
-function_at Ge = refl
+function-at And = refl
+function-at Or = refl
+function-at Not = refl
+function-at Len = refl
+function-at Index = refl
+function-at Slice = refl
+function-at Print = refl
+function-at Println = refl
+function-at Printf = refl
+function-at Html = refl
+function-at Urlquery = refl
+function-at Eq = refl
+function-at Ne = refl
+function-at Lt = refl
+function-at Le = refl
+function-at Gt = refl
+function-at Ge = refl
 
-number_at : (bs : List ℕ) (n : lib.IntN.ℤ) → Rattle.tmpl_grammar.specs.Constant.Integer.whole bs ≡ Some n → operand_at (token kind.Number bs) ≡ Some (tree.number_constant n)
+number-at : (bs : List ℕ) (n : lib.IntN.ℤ) → Rattle.tmpl_grammar.specs.Constant.Integer.whole bs ≡ Some n → operand_at (token kind.Number bs) ≡ Some (tree.number_constant n)
 unfolding operand_at constant_of
-number_at bs n h = ap (option_map tree.number_constant) h
+number-at bs n h = ap (option_map tree.number_constant) h
 
-pub between_quotes : (xs : List ℕ) → between (34 ∷ (xs ++ 34 ∷ [])) ≡ xs
-between_quotes xs =
+pub between-quotes : (xs : List ℕ) → between (34 ∷ (xs ++ 34 ∷ [])) ≡ xs
+between-quotes xs =
     let n : length (34 ∷ (xs ++ 34 ∷ [])) - 2 ≡ length xs = omega (arith, length-append xs (34 ∷ [])) in
     ap (λ k. take k (xs ++ 34 ∷ [])) n ∙ take-append_seam xs (34 ∷ [])
 
-string_at : (bs : List ℕ) → AreBytes bs → operand_at (token kind.String (quote bs)) ≡ Some (tree.text_constant bs)
+string-at : (bs : List ℕ) → AreBytes bs → operand_at (token kind.String (quote bs)) ≡ Some (tree.text_constant bs)
 unfolding operand_at constant_of quote
-string_at bs h =
-    ap (λ xs. option_map tree.text_constant (unquoted 34 xs)) (between_quotes (inside printable bs))
+string-at bs h =
+    ap (λ xs. option_map tree.text_constant (unquoted 34 xs)) (between-quotes (inside printable bs))
     ∙ ap (option_map tree.text_constant) (unquoted-inside printable bs h)
 
 -- ---- pipelines
@@ -104,35 +104,35 @@ spaced tree.no_operand ts s = s
 spaced (tree.operand o os) ts s = (space ∷ s.0, s.1, s.2, ap (λ us. space ∷ us) s.3, (refl, s.4), s.5, s.6)
 
 mutual
-  spells_operand : (o : Operand) → OfOperand o → SpellsOperand o (operand_tokens o)
-  spells_operand tree.dot h = (token kind.Dot (46 ∷ []), [], refl, dot_at, refl)
-  spells_operand (tree.fields []) h = absurd h
-  spells_operand (tree.fields (n ∷ ns)) h = (token kind.Field (46 ∷ n), chain_tokens ns, refl, field_at n h.0.0, spells_chain ns h.1)
-  spells_operand (tree.variable name names) h = (token kind.Variable (36 ∷ name), chain_tokens names, refl, variable_at name, spells_chain names h.1)
-  spells_operand (tree.bool_constant b) h = (word (truth_word b), [], refl, truth_at b, refl)
-  spells_operand (tree.number_constant n) h = (token kind.Number _, [], refl, number_at _ n (whole-decimal n h), refl)
-  spells_operand (tree.text_constant bytes) h = (token kind.String (quote bytes), [], refl, string_at bytes h, refl)
-  spells_operand tree.nil h = (word _, [], refl, nil_at, refl)
-  spells_operand (tree.function f) h = (word (name_of f), [], refl, function_at f, refl)
-  spells_operand (tree.group commands names) h = (token kind.LeftParenthesis (40 ∷ []), commands_tokens commands, token kind.RightParenthesis (41 ∷ []), chain_tokens names, refl, refl, refl, spells_commands commands h.0, spells_chain names h.1)
+  spells-operand : (o : Operand) → OfOperand o → SpellsOperand o (operand_tokens o)
+  spells-operand tree.dot h = (token kind.Dot (46 ∷ []), [], refl, dot-at, refl)
+  spells-operand (tree.fields []) h = absurd h
+  spells-operand (tree.fields (n ∷ ns)) h = (token kind.Field (46 ∷ n), chain_tokens ns, refl, field-at n h.0.0, spells-chain ns h.1)
+  spells-operand (tree.variable name names) h = (token kind.Variable (36 ∷ name), chain_tokens names, refl, variable-at name, spells-chain names h.1)
+  spells-operand (tree.bool_constant b) h = (word (truth_word b), [], refl, truth-at b, refl)
+  spells-operand (tree.number_constant n) h = (token kind.Number _, [], refl, number-at _ n (whole-decimal n h), refl)
+  spells-operand (tree.text_constant bytes) h = (token kind.String (quote bytes), [], refl, string-at bytes h, refl)
+  spells-operand tree.nil h = (word _, [], refl, nil-at, refl)
+  spells-operand (tree.function f) h = (word (name_of f), [], refl, function-at f, refl)
+  spells-operand (tree.group commands names) h = (token kind.LeftParenthesis (40 ∷ []), commands_tokens commands, token kind.RightParenthesis (41 ∷ []), chain_tokens names, refl, refl, refl, spells-commands commands h.0, spells-chain names h.1)
 
   -- with white space behind it
-  spells_more : (os : Operands) (ws : List Token) → OfMore os → IsBlank ws → SpellsMore os (more_tokens os ++ ws)
-  spells_more tree.no_operand ws h w = w
-  spells_more (tree.operand o os) ws h w =
-      (space, [], operand_tokens o, more_tokens os ++ ws, ap (λ ts. space ∷ ts) (append_assoc (operand_tokens o) (more_tokens os) ws), (refl, tt), spells_operand o h.0, spells_more os ws h.1 w)
+  spells-more : (os : Operands) (ws : List Token) → OfMore os → IsBlank ws → SpellsMore os (more_tokens os ++ ws)
+  spells-more tree.no_operand ws h w = w
+  spells-more (tree.operand o os) ws h w =
+      (space, [], operand_tokens o, more_tokens os ++ ws, ap (λ ts. space ∷ ts) (append_assoc (operand_tokens o) (more_tokens os) ws), (refl, tt), spells-operand o h.0, spells-more os ws h.1 w)
 
-  spells_command : (os : Operands) (ws : List Token) → OfCommand os → IsBlank ws → SpellsCommand os (command_tokens os ++ ws)
-  spells_command tree.no_operand ws h w = h
-  spells_command (tree.operand o os) ws h w =
-      ([], operand_tokens o, more_tokens os ++ ws, append_assoc (operand_tokens o) (more_tokens os) ws, tt, spells_operand o h.0, spells_more os ws h.1 w)
+  spells-command : (os : Operands) (ws : List Token) → OfCommand os → IsBlank ws → SpellsCommand os (command_tokens os ++ ws)
+  spells-command tree.no_operand ws h w = h
+  spells-command (tree.operand o os) ws h w =
+      ([], operand_tokens o, more_tokens os ++ ws, append_assoc (operand_tokens o) (more_tokens os) ws, tt, spells-operand o h.0, spells-more os ws h.1 w)
 
   -- a command behind white space
   follows : (cs : Commands) → OfLater cs → Follows cs
   follows tree.no_command h = record { white = []; others = []; tokens_are = refl; blank = tt; spells = refl }
   follows (tree.command os cs) h =
       let f = follows cs h.2 in
-      let behind = spells_command os f.white h.1 f.blank in
+      let behind = spells-command os f.white h.1 f.blank in
       record {
         white = space ∷ [];
         others = token kind.Pipe (124 ∷ []) ∷ space ∷ (command_tokens os ++ later_tokens cs);
@@ -150,29 +150,29 @@ mutual
         );
       }
 
-  spells_commands : (cs : Commands) → OfCommands cs → SpellsPipeline cs (commands_tokens cs)
-  spells_commands tree.no_command h = h
-  spells_commands (tree.command os cs) h =
+  spells-commands : (cs : Commands) → OfCommands cs → SpellsPipeline cs (commands_tokens cs)
+  spells-commands tree.no_command h = h
+  spells-commands (tree.command os cs) h =
       let f = follows cs h.1 in
-      (command_tokens os ++ f.white, f.others, ap (λ us. command_tokens os ++ us) f.tokens_are ∙ sym (append_assoc (command_tokens os) f.white f.others), spells_command os f.white h.0 f.blank, f.spells)
+      (command_tokens os ++ f.white, f.others, ap (λ us. command_tokens os ++ us) f.tokens_are ∙ sym (append_assoc (command_tokens os) f.white f.others), spells-command os f.white h.0 f.blank, f.spells)
 
-pub spells_pipeline : (cs : Commands) → OfPipeline (pipeline cs) → SpellsPipeline cs (commands_tokens cs)
-spells_pipeline cs h = spells_commands cs h.0
+pub spells-pipeline : (cs : Commands) → OfPipeline (pipeline cs) → SpellsPipeline cs (commands_tokens cs)
+spells-pipeline cs h = spells-commands cs h.0
 
 -- ---- actions
 
 -- a pipeline behind white space
-pub spaced_pipeline : (cs : Commands) → OfPipeline (pipeline cs) → SpellsPipeline cs (space ∷ commands_tokens cs)
-spaced_pipeline tree.no_command h = h.0
-spaced_pipeline (tree.command os cs) h =
-    let s = spells_pipeline (tree.command os cs) h in
+pub spaced-pipeline : (cs : Commands) → OfPipeline (pipeline cs) → SpellsPipeline cs (space ∷ commands_tokens cs)
+spaced-pipeline tree.no_command h = h.0
+spaced-pipeline (tree.command os cs) h =
+    let s = spells-pipeline (tree.command os cs) h in
     (space ∷ s.0, s.1, ap (λ ts. space ∷ ts) s.2, spaced os s.0 s.3, s.4)
 
-spells_whole : (p : Pipeline) → OfPipeline p → SpellsWhole p (pipeline_tokens p)
-spells_whole (pipeline cs) h = spells_pipeline cs h
+spells-whole : (p : Pipeline) → OfPipeline p → SpellsWhole p (pipeline_tokens p)
+spells-whole (pipeline cs) h = spells-pipeline cs h
 
-spaced_whole : (p : Pipeline) → OfPipeline p → SpellsWhole p (space ∷ pipeline_tokens p)
-spaced_whole (pipeline cs) h = spaced_pipeline cs h
+spaced-whole : (p : Pipeline) → OfPipeline p → SpellsWhole p (space ∷ pipeline_tokens p)
+spaced-whole (pipeline cs) h = spaced-pipeline cs h
 
 -- a variable, and a sign and a pipeline behind it
 signed : (name : List ℕ) (p : Pipeline) (sign : Token) → IsName name → OfPipeline p
@@ -184,7 +184,7 @@ signed name p sign h k ws w = (
   refl,
   w,
   (refl, refl, h),
-  (space ∷ [], sign, space ∷ pipeline_tokens p, refl, (refl, tt), refl, spaced_whole p k),
+  (space ∷ [], sign, space ∷ pipeline_tokens p, refl, (refl, tt), refl, spaced-whole p k),
 )
 
 -- two variables, and a pipeline behind them
@@ -201,22 +201,22 @@ paired key name p h i k ws w = (
 )
 
 -- a header behind a space, and at the front
-spells_bound : (b : Binding) (p : Pipeline) → OfBinding b → OfPipeline p
+spells-bound : (b : Binding) (p : Pipeline) → OfBinding b → OfPipeline p
     → SpellsBinding b (SpellsWhole p) (space ∷ (binding_tokens b ++ pipeline_tokens p)) × SpellsBinding b (SpellsWhole p) (binding_tokens b ++ pipeline_tokens p)
-spells_bound unbound p h k = (spaced_whole p k, spells_whole p k)
-spells_bound (declare name) p h k = (signed name p (token kind.Declare (58 ∷ 61 ∷ [])) h.0 k (space ∷ []) (refl, tt), signed name p (token kind.Declare (58 ∷ 61 ∷ [])) h.0 k [] tt)
-spells_bound (assign name) p h k = (signed name p (token kind.Assign (61 ∷ [])) h.0 k (space ∷ []) (refl, tt), signed name p (token kind.Assign (61 ∷ [])) h.0 k [] tt)
-spells_bound (declare_pair key name) p h k = (paired key name p h.0.0 h.1.0 k (space ∷ []) (refl, tt), paired key name p h.0.0 h.1.0 k [] tt)
+spells-bound unbound p h k = (spaced-whole p k, spells-whole p k)
+spells-bound (declare name) p h k = (signed name p (token kind.Declare (58 ∷ 61 ∷ [])) h.0 k (space ∷ []) (refl, tt), signed name p (token kind.Declare (58 ∷ 61 ∷ [])) h.0 k [] tt)
+spells-bound (assign name) p h k = (signed name p (token kind.Assign (61 ∷ [])) h.0 k (space ∷ []) (refl, tt), signed name p (token kind.Assign (61 ∷ [])) h.0 k [] tt)
+spells-bound (declare_pair key name) p h k = (paired key name p h.0.0 h.1.0 k (space ∷ []) (refl, tt), paired key name p h.0.0 h.1.0 k [] tt)
 
-spells_header : (s : Shape) (h : Header) → OfHeader s h → SpellsHeader s h (space ∷ header_tokens h)
-spells_header s h of = (of.0, (spells_bound h.binding h.pipeline of.1 of.2).0)
+spells-header : (s : Shape) (h : Header) → OfHeader s h → SpellsHeader s h (space ∷ header_tokens h)
+spells-header s h of = (of.0, (spells-bound h.binding h.pipeline of.1 of.2).0)
 
-pub spells_tokens : (a : Action) → OfAction a → SpellsAction a (action_tokens a)
-spells_tokens (pipeline_action h) of = (of.0, (spells_bound h.binding h.pipeline of.1 of.2).1)
-spells_tokens (opening c h) of = ([], word _, _, refl, tt, (refl, refl), spells_header (shape.Open c) h of)
-spells_tokens plain_else of = ([], word _, [], refl, tt, (refl, refl), tt)
-spells_tokens (else_branch br h) of =
-    ([], word _, _, refl, tt, (refl, refl), (space ∷ [], word _, _, refl, (refl, tt), (refl, refl), spells_header (shape.ElseBranch br) h of))
-spells_tokens end_action of = ([], word _, [], refl, tt, (refl, refl), tt)
-spells_tokens break_action of = ([], word _, [], refl, tt, (refl, refl), tt)
-spells_tokens continue_action of = ([], word _, [], refl, tt, (refl, refl), tt)
+pub spells-tokens : (a : Action) → OfAction a → SpellsAction a (action_tokens a)
+spells-tokens (pipeline_action h) of = (of.0, (spells-bound h.binding h.pipeline of.1 of.2).1)
+spells-tokens (opening c h) of = ([], word _, _, refl, tt, (refl, refl), spells-header (shape.Open c) h of)
+spells-tokens plain_else of = ([], word _, [], refl, tt, (refl, refl), tt)
+spells-tokens (else_branch br h) of =
+    ([], word _, _, refl, tt, (refl, refl), (space ∷ [], word _, _, refl, (refl, tt), (refl, refl), spells-header (shape.ElseBranch br) h of))
+spells-tokens end_action of = ([], word _, [], refl, tt, (refl, refl), tt)
+spells-tokens break_action of = ([], word _, [], refl, tt, (refl, refl), tt)
+spells-tokens continue_action of = ([], word _, [], refl, tt, (refl, refl), tt)

@@ -25,9 +25,9 @@ skip : (s rest : List ℕ) → parts_after 34 (length s) (s ++ rest) ≡ parts_a
 skip [] rest = refl
 skip (x ∷ s) rest = skip s rest
 
-more_text : (p : Part) (o : Option (List Part)) → option_map (flat_map part_text) (with_part p o) ≡ option_map (λ t. part_text p ++ t) (option_map (flat_map part_text) o)
-more_text p None = refl
-more_text p (Some ps) = refl
+more-text : (p : Part) (o : Option (List Part)) → option_map (flat_map part_text) (with_part p o) ≡ option_map (λ t. part_text p ++ t) (option_map (flat_map part_text) o)
+more-text p None = refl
+more-text p (Some ps) = refl
 
 unquoted-part : (s rest v : List ℕ) → 0 < length s → IsPart (s ++ rest) (length s) v → unquoted 34 (s ++ rest) ≡ option_map (λ t. v ++ t) (unquoted 34 rest)
 unfolding parts
@@ -37,24 +37,24 @@ unquoted-part (b ∷ s) rest v h p =
     ap (λ o. option_map (flat_map part_text) (option_and_then (λ (q : Part × ℕ). with_part q.0 (parts_after 34 (q.1 - 1) (s ++ rest))) o)) p.at
     ∙ ap (λ k. option_map (flat_map part_text) (with_part p.part (parts_after 34 k (s ++ rest)))) n
     ∙ ap (λ o. option_map (flat_map part_text) (with_part p.part o)) (skip s rest)
-    ∙ more_text p.part (parts_after 34 0 rest)
+    ∙ more-text p.part (parts_after 34 0 rest)
     ∙ ap (λ v. option_map (λ t. v ++ t) (unquoted 34 rest)) p.is
 
 -- ---- escapes
 
-part_x : (b : ℕ) (rest : List ℕ) → b < 256 → IsPart (92 ∷ 120 ∷ (hexes 2 b ++ rest)) 4 (b ∷ [])
+part-x : (b : ℕ) (rest : List ℕ) → b < 256 → IsPart (92 ∷ 120 ∷ (hexes 2 b ++ rest)) 4 (b ∷ [])
 unfolding part_at
-part_x b rest h =
+part-x b rest h =
     let low : nat_lt b 256 ≡ true = grind (arith, nat_tests) in
     record { part = Byte b; at = ap (option_and_then (as_byte 4)) (code-hexes 2 b rest h) ∙ ap (λ t. if t then Some (Byte b, 4) else None) low; is = refl }
 
-part_u : (c : ℕ) (rest : List ℕ) → c < 65536 → IsScalar c → IsPart (92 ∷ 117 ∷ (hexes 4 c ++ rest)) 6 (encode_utf8 c)
+part-u : (c : ℕ) (rest : List ℕ) → c < 65536 → IsScalar c → IsPart (92 ∷ 117 ∷ (hexes 4 c ++ rest)) 6 (encode_utf8 c)
 unfolding part_at
-part_u c rest h s = record { part = Char c; at = ap (option_and_then (as_char 6)) (code-hexes 4 c rest h) ∙ ap (λ t. if t then Some (Char c, 6) else None) s; is = refl }
+part-u c rest h s = record { part = Char c; at = ap (option_and_then (as_char 6)) (code-hexes 4 c rest h) ∙ ap (λ t. if t then Some (Char c, 6) else None) s; is = refl }
 
-part_U : (c : ℕ) (rest : List ℕ) → c < 16 ^ 8 → IsScalar c → IsPart (92 ∷ 85 ∷ (hexes 8 c ++ rest)) 10 (encode_utf8 c)
+part-U : (c : ℕ) (rest : List ℕ) → c < 16 ^ 8 → IsScalar c → IsPart (92 ∷ 85 ∷ (hexes 8 c ++ rest)) 10 (encode_utf8 c)
 unfolding part_at
-part_U c rest h s = record { part = Char c; at = ap (option_and_then (as_char 10)) (code-hexes 8 c rest h) ∙ ap (λ t. if t then Some (Char c, 10) else None) s; is = refl }
+part-U c rest h s = record { part = Char c; at = ap (option_and_then (as_char 10)) (code-hexes 8 c rest h) ∙ ap (λ t. if t then Some (Char c, 10) else None) s; is = refl }
 
 -- ---- letters
 
@@ -62,81 +62,81 @@ abbrev pub AllOf : (ℕ → ℕ → Type 0) → List (ℕ × ℕ) → Type 0
 AllOf P [] = Unit {0}
 AllOf P (p ∷ ps) = P p.0 p.1 × AllOf P ps
 
-found_at : (P : ℕ → ℕ → Type 0) (b : Bool) (c e k l : ℕ) (o : Option ℕ) → nat_eq c k ≡ b → P k l → (o ≡ Some e → P c e) → (if b then Some l else o) ≡ Some e → P c e
-found_at P true c e k l o t h rest is =
+found-at : (P : ℕ → ℕ → Type 0) (b : Bool) (c e k l : ℕ) (o : Option ℕ) → nat_eq c k ≡ b → P k l → (o ≡ Some e → P c e) → (if b then Some l else o) ≡ Some e → P c e
+found-at P true c e k l o t h rest is =
     let same : k ≡ c = grind (arith, nat_tests) in
     let letter : l ≡ e = cc in
     subst (λ x. P x e) same (subst (P k) letter h)
-found_at P false c e k l o t h rest is = rest is
+found-at P false c e k l o t h rest is = rest is
 
 -- what holds of each code and letter holds of a code and the letter that is found
 found : (P : ℕ → ℕ → Type 0) (c e : ℕ) (ps : List (ℕ × ℕ)) → AllOf P ps → second_of c ps ≡ Some e → P c e
 found P c e [] h is = cc
-found P c e (p ∷ ps) h is = found_at P (nat_eq c p.0) c e p.0 p.1 (second_of c ps) refl h.0 (λ i. found P c e ps h.1 i) is
+found P c e (p ∷ ps) h is = found-at P (nat_eq c p.0) c e p.0 p.1 (second_of c ps) refl h.0 (λ i. found P c e ps h.1 i) is
 
-letter_back : (c e : ℕ) → second_of c letters ≡ Some e → byte_named 34 e ≡ Some c
-letter_back c e = found (λ c e. byte_named 34 e ≡ Some c) c e letters (refl, (refl, (refl, (refl, (refl, (refl, (refl, (refl, (refl, tt)))))))))
+letter-back : (c e : ℕ) → second_of c letters ≡ Some e → byte_named 34 e ≡ Some c
+letter-back c e = found (λ c e. byte_named 34 e ≡ Some c) c e letters (refl, (refl, (refl, (refl, (refl, (refl, (refl, (refl, (refl, tt)))))))))
 
-letter_ascii : (c e : ℕ) → second_of c letters ≡ Some e → nat_lt c 128 ≡ true
-letter_ascii c e = found (λ c e. nat_lt c 128 ≡ true) c e letters (refl, (refl, (refl, (refl, (refl, (refl, (refl, (refl, (refl, tt)))))))))
+letter-ascii : (c e : ℕ) → second_of c letters ≡ Some e → nat_lt c 128 ≡ true
+letter-ascii c e = found (λ c e. nat_lt c 128 ≡ true) c e letters (refl, (refl, (refl, (refl, (refl, (refl, (refl, (refl, (refl, tt)))))))))
 
-pub letter_no_newline : (c e : ℕ) → second_of c letters ≡ Some e → nat_eq e 10 ≡ false
-letter_no_newline c e = found (λ c e. nat_eq e 10 ≡ false) c e letters (refl, (refl, (refl, (refl, (refl, (refl, (refl, (refl, (refl, tt)))))))))
+pub letter-no-newline : (c e : ℕ) → second_of c letters ≡ Some e → nat_eq e 10 ≡ false
+letter-no-newline c e = found (λ c e. nat_eq e 10 ≡ false) c e letters (refl, (refl, (refl, (refl, (refl, (refl, (refl, (refl, (refl, tt)))))))))
 
 pub unlettered : (c k e : ℕ) → second_of k letters ≡ Some e → second_of c letters ≡ None → c ≡ k → ⊥
 unlettered c k e there none same = let n : Some e ≡ None = sym there ∙ sym (ap (λ x. second_of x letters) same) ∙ none in cc
 
-part_letter : (c e : ℕ) (rest : List ℕ) → second_of c letters ≡ Some e → IsPart (92 ∷ e ∷ rest) 2 (encode_utf8 c)
+part-letter : (c e : ℕ) (rest : List ℕ) → second_of c letters ≡ Some e → IsPart (92 ∷ e ∷ rest) 2 (encode_utf8 c)
 unfolding part_at
-part_letter c e rest is =
-    let ascii = letter_ascii c e is in
+part-letter c e rest is =
+    let ascii = letter-ascii c e is in
     let low : c < 128 = grind (arith, nat_tests) in
-    record { part = Byte c; at = ap (λ o. escape_by o e rest) (letter_back c e is); is = sym (encode_ascii c low) }
+    record { part = Byte c; at = ap (λ o. escape_by o e rest) (letter-back c e is); is = sym (encode_ascii c low) }
 
 -- ---- a character as it is
 
-other_first : (t : Bool) (m b c : ℕ) (bs rest : List ℕ) → b ∷ bs ≡ encode_utf8 c ++ rest → m < 128 → (c ≡ m → ⊥) → nat_eq b m ≡ t → t ≡ false
-other_first true m b c bs rest e low other h =
+other-first : (t : Bool) (m b c : ℕ) (bs rest : List ℕ) → b ∷ bs ≡ encode_utf8 c ++ rest → m < 128 → (c ≡ m → ⊥) → nat_eq b m ≡ t → t ≡ false
+other-first true m b c bs rest e low other h =
     let is : b ≡ m = grind (arith, nat_tests) in
     absurd (other (char_from_byte (b ∷ bs) rest c e (omega arith) (omega arith) ∙ is))
-other_first false m b c bs rest e low other h = refl
+other-first false m b c bs rest e low other h = refl
 
-part_plain : (c : ℕ) (rest : List ℕ) → IsScalar c → (c ≡ 92 → ⊥) → (c ≡ 34 → ⊥) → IsPart (encode_utf8 c ++ rest) (len_utf8 c) (encode_utf8 c)
+part-plain : (c : ℕ) (rest : List ℕ) → IsScalar c → (c ≡ 92 → ⊥) → (c ≡ 34 → ⊥) → IsPart (encode_utf8 c ++ rest) (len_utf8 c) (encode_utf8 c)
 unfolding part_at
-part_plain c rest s slash quote = record { part = Char c; at = split (encode_utf8 c ++ rest) refl; is = refl }
+part-plain c rest s slash quote = record { part = Char c; at = split (encode_utf8 c ++ rest) refl; is = refl }
   where
     split : (bs : List ℕ) → bs ≡ encode_utf8 c ++ rest → part_at 34 bs ≡ Some (Char c, len_utf8 c)
     split [] e = absurd (omega (arith, ap length e, length-append (encode_utf8 c) rest, length-encode c, len_utf8_bounds c))
     split (b ∷ bs) e =
-        ap (λ t. if t then escape 34 bs else (if nat_eq b 34 then None else Some (rune_part (first_rune (b ∷ bs))))) (other_first (nat_eq b 92) 92 b c bs rest e (omega arith) slash refl)
-        ∙ ap (λ t. if t then None else Some (rune_part (first_rune (b ∷ bs)))) (other_first (nat_eq b 34) 34 b c bs rest e (omega arith) quote refl)
+        ap (λ t. if t then escape 34 bs else (if nat_eq b 34 then None else Some (rune_part (first_rune (b ∷ bs))))) (other-first (nat_eq b 92) 92 b c bs rest e (omega arith) slash refl)
+        ∙ ap (λ t. if t then None else Some (rune_part (first_rune (b ∷ bs)))) (other-first (nat_eq b 34) 34 b c bs rest e (omega arith) quote refl)
         ∙ ap (λ r. Some (rune_part r)) (ap first_rune e ∙ first_rune-encode c rest s)
 
 -- ---- every spelling
 
-count_is : {bs v : List ℕ} (m n : ℕ) → m ≡ n → IsPart bs m v → IsPart bs n v
-count_is {bs} {v} m n e p = subst (λ k. IsPart bs k v) e p
+count-is : {bs v : List ℕ} (m n : ℕ) → m ≡ n → IsPart bs m v → IsPart bs n v
+count-is {bs} {v} m n e p = subst (λ k. IsPart bs k v) e p
 
-spelled_code : (p low bmp : Bool) (c : ℕ) (rest : List ℕ) → IsScalar c → second_of c letters ≡ None → (nat_lt c 32 || nat_eq c 127) ≡ low → nat_lt c 65536 ≡ bmp
+spelled-code : (p low bmp : Bool) (c : ℕ) (rest : List ℕ) → IsScalar c → second_of c letters ≡ None → (nat_lt c 32 || nat_eq c 127) ≡ low → nat_lt c 65536 ≡ bmp
     → let s = (if p then encode_utf8 c else (if low then 92 ∷ 120 ∷ hexes 2 c else (if bmp then 92 ∷ 117 ∷ hexes 4 c else 92 ∷ 85 ∷ hexes 8 c))) in
     IsPart (s ++ rest) (length s) (encode_utf8 c)
-spelled_code true low bmp c rest s none l b = count_is (len_utf8 c) (length (encode_utf8 c)) (sym (length-encode c)) (part_plain c rest s (unlettered c 92 92 refl none) (unlettered c 34 34 refl none))
-spelled_code false true bmp c rest s none l b =
+spelled-code true low bmp c rest s none l b = count-is (len_utf8 c) (length (encode_utf8 c)) (sym (length-encode c)) (part-plain c rest s (unlettered c 92 92 refl none) (unlettered c 34 34 refl none))
+spelled-code false true bmp c rest s none l b =
     let under : c < 128 = grind (arith, nat_tests) in
-    count_is 4 (length (92 ∷ 120 ∷ hexes 2 c)) (omega (arith, length-hexes 2 c)) (subst (IsPart (92 ∷ 120 ∷ (hexes 2 c ++ rest)) 4) (sym (encode_ascii c under)) (part_x c rest (omega arith)))
-spelled_code false false true c rest s none l b =
+    count-is 4 (length (92 ∷ 120 ∷ hexes 2 c)) (omega (arith, length-hexes 2 c)) (subst (IsPart (92 ∷ 120 ∷ (hexes 2 c ++ rest)) 4) (sym (encode_ascii c under)) (part-x c rest (omega arith)))
+spelled-code false false true c rest s none l b =
     let under : c < 65536 = grind (arith, nat_tests) in
-    count_is 6 (length (92 ∷ 117 ∷ hexes 4 c)) (omega (arith, length-hexes 4 c)) (part_u c rest under s)
-spelled_code false false false c rest s none l b =
-    count_is 10 (length (92 ∷ 85 ∷ hexes 8 c)) (omega (arith, length-hexes 8 c)) (part_U c rest (scalar_fits c s) s)
+    count-is 6 (length (92 ∷ 117 ∷ hexes 4 c)) (omega (arith, length-hexes 4 c)) (part-u c rest under s)
+spelled-code false false false c rest s none l b =
+    count-is 10 (length (92 ∷ 85 ∷ hexes 8 c)) (omega (arith, length-hexes 8 c)) (part-U c rest (scalar_fits c s) s)
 
-spelled_char : (prints : ℕ → Bool) (c : ℕ) (o : Option ℕ) (rest : List ℕ) → second_of c letters ≡ o → IsScalar c → IsPart (spelled prints c o ++ rest) (length (spelled prints c o)) (encode_utf8 c)
-spelled_char prints c (Some e) rest is s = part_letter c e rest is
-spelled_char prints c None rest is s = spelled_code (prints c) _ _ c rest s is refl refl
+spelled-char : (prints : ℕ → Bool) (c : ℕ) (o : Option ℕ) (rest : List ℕ) → second_of c letters ≡ o → IsScalar c → IsPart (spelled prints c o ++ rest) (length (spelled prints c o)) (encode_utf8 c)
+spelled-char prints c (Some e) rest is s = part-letter c e rest is
+spelled-char prints c None rest is s = spelled-code (prints c) _ _ c rest s is refl refl
 
-part_spelling : (prints : ℕ → Bool) (r : Rune) (rest : List ℕ) → IsRune r → IsPart (spelling prints r ++ rest) (length (spelling prints r)) (bytes_in r)
-part_spelling prints (char c) rest s = spelled_char prints c (second_of c letters) rest refl s
-part_spelling prints (byte b) rest h = count_is 4 (length (92 ∷ 120 ∷ hexes 2 b)) (omega (arith, length-hexes 2 b)) (part_x b rest h)
+part-spelling : (prints : ℕ → Bool) (r : Rune) (rest : List ℕ) → IsRune r → IsPart (spelling prints r ++ rest) (length (spelling prints r)) (bytes_in r)
+part-spelling prints (char c) rest s = spelled-char prints c (second_of c letters) rest refl s
+part-spelling prints (byte b) rest h = count-is 4 (length (92 ∷ 120 ∷ hexes 2 b)) (omega (arith, length-hexes 2 b)) (part-x b rest h)
 
 some : (p low bmp : Bool) (c : ℕ) → 0 < length (if p then encode_utf8 c else (if low then 92 ∷ 120 ∷ hexes 2 c else (if bmp then 92 ∷ 117 ∷ hexes 4 c else 92 ∷ 85 ∷ hexes 8 c)))
 some true low bmp c = omega (arith, length-encode c, len_utf8_bounds c)
@@ -144,19 +144,19 @@ some false true bmp c = omega arith
 some false false true c = omega arith
 some false false false c = omega arith
 
-some_spelled : (prints : ℕ → Bool) (c : ℕ) (o : Option ℕ) → 0 < length (spelled prints c o)
-some_spelled prints c (Some e) = omega arith
-some_spelled prints c None = some _ _ _ c
+some-spelled : (prints : ℕ → Bool) (c : ℕ) (o : Option ℕ) → 0 < length (spelled prints c o)
+some-spelled prints c (Some e) = omega arith
+some-spelled prints c None = some _ _ _ c
 
-some_spelling : (prints : ℕ → Bool) (r : Rune) → 0 < length (spelling prints r)
-some_spelling prints (char c) = some_spelled prints c _
-some_spelling prints (byte b) = omega arith
+some-spelling : (prints : ℕ → Bool) (r : Rune) → 0 < length (spelling prints r)
+some-spelling prints (char c) = some-spelled prints c _
+some-spelling prints (byte b) = omega arith
 
 spellings : (prints : ℕ → Bool) (rs : List Rune) → AreRunes rs → unquoted 34 (flat_map (spelling prints) rs) ≡ Some (flat_map bytes_in rs)
 unfolding parts
 spellings prints [] h = refl
 spellings prints (r ∷ rs) h =
-    unquoted-part (spelling prints r) (flat_map (spelling prints) rs) (bytes_in r) (some_spelling prints r) (part_spelling prints r _ h.0)
+    unquoted-part (spelling prints r) (flat_map (spelling prints) rs) (bytes_in r) (some-spelling prints r) (part-spelling prints r _ h.0)
     ∙ ap (option_map (λ t. bytes_in r ++ t)) (spellings prints rs h.1)
 
 -- the inside of a quote stands for the text

@@ -4,10 +4,11 @@ use Rattle.std.specs.List.{flat_map}
 use Rattle.std.specs.Char.{encode_utf8, digit_char}
 use Rattle.std.proofs.lemmas.Bool.Decides.{nat_tests}
 use Rattle.std.proofs.lemmas.Str.{inside_one}
+use Rattle.std.proofs.Math.Bool.{and-false}
 use Rattle.tmpl_lex.specs.Quoted.{with_byte, up_to, unless, quoted}
 use Rattle.tmpl_values.specs.Rune.{Rune, char, byte, runes}
 use Rattle.tmpl_values.specs.Quote.{letters, second_of, hexes, spelled, spelling, inside}
-use Rattle.tmpl_grammar.proofs.QuotePartLemmas.{letter_no_newline, unlettered}
+use Rattle.tmpl_grammar.proofs.QuotePartLemmas.{letter-no-newline, unlettered}
 
 abbrev led_by : List ℕ → Option (List ℕ) → Option (List ℕ)
 led_by [] o = o
@@ -17,29 +18,25 @@ led-append : (s u : List ℕ) (o : Option (List ℕ)) → led_by (s ++ u) o ≡ 
 led-append [] u o = refl
 led-append (b ∷ s) u o = ap (with_byte b) (led-append s u o)
 
-led_some : (s t : List ℕ) → led_by s (Some t) ≡ Some (s ++ t)
-led_some [] t = refl
-led_some (b ∷ s) t = ap (with_byte b) (led_some s t)
+led-some : (s t : List ℕ) → led_by s (Some t) ≡ Some (s ++ t)
+led-some [] t = refl
+led-some (b ∷ s) t = ap (with_byte b) (led-some s t)
 
 -- bytes that end no string and begin no escape
 abbrev ArePlain : List ℕ → Type 0
 ArePlain [] = Unit {0}
 ArePlain (b ∷ bs) = (nat_eq b 34 ≡ false) × (nat_eq b 10 ≡ false) × (nat_eq b 92 ≡ false) × ArePlain bs
 
-within_plain : (s t : List ℕ) → ArePlain s → quoted 34 false (s ++ t) ≡ led_by s (quoted 34 false t)
-within_plain [] t h = refl
-within_plain (b ∷ s) t h = rw (h.0, h.1, h.2) (ap (with_byte b) (within_plain s t h.3))
+within-plain : (s t : List ℕ) → ArePlain s → quoted 34 false (s ++ t) ≡ led_by s (quoted 34 false t)
+within-plain [] t h = refl
+within-plain (b ∷ s) t h = rw (h.0, h.1, h.2) (ap (with_byte b) (within-plain s t h.3))
 
-and_false : (b : Bool) → (b && false) ≡ false
-and_false true = refl
-and_false false = refl
-
-within_escape : (e : ℕ) (s t : List ℕ) → nat_eq e 10 ≡ false → ArePlain s → quoted 34 false (92 ∷ e ∷ (s ++ t)) ≡ led_by (92 ∷ e ∷ s) (quoted 34 false t)
-within_escape e s t n h =
+within-escape : (e : ℕ) (s t : List ℕ) → nat_eq e 10 ≡ false → ArePlain s → quoted 34 false (92 ∷ e ∷ (s ++ t)) ≡ led_by (92 ∷ e ∷ s) (quoted 34 false t)
+within-escape e s t n h =
     ap (λ k. with_byte 92 (unless k (up_to (nat_eq e 34 && false) e (quoted 34 (nat_eq e 92 && false) (s ++ t))))) n
-    ∙ ap (λ k. with_byte 92 (up_to k e (quoted 34 (nat_eq e 92 && false) (s ++ t)))) (and_false (nat_eq e 34))
-    ∙ ap (λ k. with_byte 92 (with_byte e (quoted 34 k (s ++ t)))) (and_false (nat_eq e 92))
-    ∙ ap (λ o. with_byte 92 (with_byte e o)) (within_plain s t h)
+    ∙ ap (λ k. with_byte 92 (up_to k e (quoted 34 (nat_eq e 92 && false) (s ++ t)))) (and-false (nat_eq e 34))
+    ∙ ap (λ k. with_byte 92 (with_byte e (quoted 34 k (s ++ t)))) (and-false (nat_eq e 92))
+    ∙ ap (λ o. with_byte 92 (with_byte e o)) (within-plain s t h)
 
 -- ---- which bytes are plain
 
@@ -47,9 +44,9 @@ plain-append : (xs ys : List ℕ) → ArePlain xs → ArePlain ys → ArePlain (
 plain-append [] ys h k = k
 plain-append (x ∷ xs) ys h k = (h.0, h.1, h.2, plain-append xs ys h.3 k)
 
-plain_at : (s : List ℕ) → ((k : ℕ) → k < length s → (nat_eq (get_or s k 0) 34 ≡ false) × (nat_eq (get_or s k 0) 10 ≡ false) × (nat_eq (get_or s k 0) 92 ≡ false)) → ArePlain s
-plain_at [] f = tt
-plain_at (b ∷ s) f = let h = f 0 (omega arith) in (h.0, h.1, h.2, plain_at s (λ k l. f (suc k) (omega arith)))
+plain-at : (s : List ℕ) → ((k : ℕ) → k < length s → (nat_eq (get_or s k 0) 34 ≡ false) × (nat_eq (get_or s k 0) 10 ≡ false) × (nat_eq (get_or s k 0) 92 ≡ false)) → ArePlain s
+plain-at [] f = tt
+plain-at (b ∷ s) f = let h = f 0 (omega arith) in (h.0, h.1, h.2, plain-at s (λ k l. f (suc k) (omega arith)))
 
 plain-digit : (d : ℕ) → d < 16 → ArePlain (digit_char d ∷ [])
 plain-digit d h = by (nat_lt d 10) refl
@@ -70,7 +67,7 @@ other true c k m h l apart e =
 other false c k m h l apart e = refl
 
 plain-encode : (c : ℕ) → second_of c letters ≡ None → ArePlain (encode_utf8 c)
-plain-encode c is = plain_at (encode_utf8 c) (λ k h. (
+plain-encode c is = plain-at (encode_utf8 c) (λ k h. (
   other _ c k 34 h (omega arith) (unlettered c 34 34 refl is) refl,
   other _ c k 10 h (omega arith) (unlettered c 10 110 refl is) refl,
   other _ c k 92 h (omega arith) (unlettered c 92 92 refl is) refl,
@@ -78,30 +75,30 @@ plain-encode c is = plain_at (encode_utf8 c) (λ k h. (
 
 -- ---- each spelling within a token
 
-code_within : (p low bmp : Bool) (c : ℕ) (t : List ℕ) → second_of c letters ≡ None
+code-within : (p low bmp : Bool) (c : ℕ) (t : List ℕ) → second_of c letters ≡ None
     → let s = (if p then encode_utf8 c else (if low then 92 ∷ 120 ∷ hexes 2 c else (if bmp then 92 ∷ 117 ∷ hexes 4 c else 92 ∷ 85 ∷ hexes 8 c))) in
     quoted 34 false (s ++ t) ≡ led_by s (quoted 34 false t)
-code_within true low bmp c t is = within_plain (encode_utf8 c) t (plain-encode c is)
-code_within false true bmp c t is = within_escape 120 (hexes 2 c) t refl (plain-hexes 2 c)
-code_within false false true c t is = within_escape 117 (hexes 4 c) t refl (plain-hexes 4 c)
-code_within false false false c t is = within_escape 85 (hexes 8 c) t refl (plain-hexes 8 c)
+code-within true low bmp c t is = within-plain (encode_utf8 c) t (plain-encode c is)
+code-within false true bmp c t is = within-escape 120 (hexes 2 c) t refl (plain-hexes 2 c)
+code-within false false true c t is = within-escape 117 (hexes 4 c) t refl (plain-hexes 4 c)
+code-within false false false c t is = within-escape 85 (hexes 8 c) t refl (plain-hexes 8 c)
 
-char_within : (prints : ℕ → Bool) (c : ℕ) (o : Option ℕ) (t : List ℕ) → second_of c letters ≡ o → quoted 34 false (spelled prints c o ++ t) ≡ led_by (spelled prints c o) (quoted 34 false t)
-char_within prints c (Some e) t is = within_escape e [] t (letter_no_newline c e is) tt
-char_within prints c None t is = code_within (prints c) _ _ c t is
+char-within : (prints : ℕ → Bool) (c : ℕ) (o : Option ℕ) (t : List ℕ) → second_of c letters ≡ o → quoted 34 false (spelled prints c o ++ t) ≡ led_by (spelled prints c o) (quoted 34 false t)
+char-within prints c (Some e) t is = within-escape e [] t (letter-no-newline c e is) tt
+char-within prints c None t is = code-within (prints c) _ _ c t is
 
 within : (prints : ℕ → Bool) (r : Rune) (t : List ℕ) → quoted 34 false (spelling prints r ++ t) ≡ led_by (spelling prints r) (quoted 34 false t)
-within prints (char c) t = char_within prints c _ t refl
-within prints (byte b) t = within_escape 120 (hexes 2 b) t refl (plain-hexes 2 b)
+within prints (char c) t = char-within prints c _ t refl
+within prints (byte b) t = within-escape 120 (hexes 2 b) t refl (plain-hexes 2 b)
 
-all_within : (prints : ℕ → Bool) (rs : List Rune) (t : List ℕ) → quoted 34 false (flat_map (spelling prints) rs ++ t) ≡ led_by (flat_map (spelling prints) rs) (quoted 34 false t)
-all_within prints [] t = refl
-all_within prints (r ∷ rs) t =
+all-within : (prints : ℕ → Bool) (rs : List Rune) (t : List ℕ) → quoted 34 false (flat_map (spelling prints) rs ++ t) ≡ led_by (flat_map (spelling prints) rs) (quoted 34 false t)
+all-within prints [] t = refl
+all-within prints (r ∷ rs) t =
     ap (quoted 34 false) (append_assoc (spelling prints r) (flat_map (spelling prints) rs) t)
     ∙ within prints r (flat_map (spelling prints) rs ++ t)
-    ∙ ap (led_by (spelling prints r)) (all_within prints rs t)
+    ∙ ap (led_by (spelling prints r)) (all-within prints rs t)
     ∙ sym (led-append (spelling prints r) (flat_map (spelling prints) rs) (quoted 34 false t))
 
 -- from behind its first `"`, a quote is read up to its last one
-pub quote_read : (prints : ℕ → Bool) (bs rest : List ℕ) → quoted 34 false (inside prints bs ++ 34 ∷ rest) ≡ Some (inside prints bs ++ 34 ∷ [])
-quote_read prints bs rest = all_within prints (runes bs) (34 ∷ rest) ∙ led_some (inside prints bs) (34 ∷ [])
+pub quote-read : (prints : ℕ → Bool) (bs rest : List ℕ) → quoted 34 false (inside prints bs ++ 34 ∷ rest) ≡ Some (inside prints bs ++ 34 ∷ [])
+quote-read prints bs rest = all-within prints (runes bs) (34 ∷ rest) ∙ led-some (inside prints bs) (34 ∷ [])

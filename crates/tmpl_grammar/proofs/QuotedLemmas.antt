@@ -4,10 +4,10 @@ use Rattle.std.specs.List.{flat_map}
 use Rattle.tmpl_grammar.specs.declared.constant.quoted.Part.{Part}
 use Rattle.tmpl_grammar.specs.Constant.Quoted.{Spelled, part_text, part_code, part_at, with_part, parts_after, parts, unquoted, one_code, rune_code}
 
-skip_to : (quote n : ℕ) (bs : List ℕ) → n ≤ length bs → parts_after quote n bs ≡ parts_after quote 0 (drop n bs)
-skip_to quote zero bs h = refl
-skip_to quote (suc n) [] h = refl
-skip_to quote (suc n) (b ∷ bs) h = skip_to quote n bs (omega arith)
+skip-to : (quote n : ℕ) (bs : List ℕ) → n ≤ length bs → parts_after quote n bs ≡ parts_after quote 0 (drop n bs)
+skip-to quote zero bs h = refl
+skip-to quote (suc n) [] h = refl
+skip-to quote (suc n) (b ∷ bs) h = skip-to quote n bs (omega arith)
 
 pub parts-nil : (quote : ℕ) → parts quote [] ≡ Some []
 unfolding parts
@@ -20,7 +20,7 @@ parts-first quote [] p h is low high = absurd (omega arith)
 parts-first quote (b ∷ bs) p h is low high =
     let n : p.1 ≡ suc (p.1 - 1) = omega arith in
     ap (option_and_then (λ q. with_part q.0 (parts_after quote (q.1 - 1) bs))) is
-    ∙ ap (with_part p.0) (skip_to quote (p.1 - 1) bs (omega arith) ∙ ap (λ k. parts_after quote 0 (drop k (b ∷ bs))) (sym n))
+    ∙ ap (with_part p.0) (skip-to quote (p.1 - 1) bs (omega arith) ∙ ap (λ k. parts_after quote 0 (drop k (b ∷ bs))) (sym n))
 
 pub parts-none : (quote : ℕ) (bs : List ℕ) → 0 < length bs → part_at quote bs ≡ None → parts quote bs ≡ None
 unfolding parts
@@ -33,23 +33,19 @@ parts-none quote (b ∷ bs) h is = ap (option_and_then (λ q. with_part q.0 (par
 abbrev pub led : List ℕ → Option (List ℕ) → Option (List ℕ)
 led s o = option_map (λ t. s ++ t) o
 
-pub led-nil : (o : Option (List ℕ)) → led [] o ≡ o
-led-nil None = refl
-led-nil (Some t) = refl
-
 led-led : (s t : List ℕ) (o : Option (List ℕ)) → led s (led t o) ≡ led (s ++ t) o
 led-led s t None = refl
 led-led s t (Some u) = ap Some (sym (append_assoc s t u))
 
-text_with : (p : Part) (ps : Option (List Part)) → option_map (flat_map part_text) (with_part p ps) ≡ led (part_text p) (option_map (flat_map part_text) ps)
-text_with p None = refl
-text_with p (Some ps) = refl
+text-with : (p : Part) (ps : Option (List Part)) → option_map (flat_map part_text) (with_part p ps) ≡ led (part_text p) (option_map (flat_map part_text) ps)
+text-with p None = refl
+text-with p (Some ps) = refl
 
 pub unquoted-first : (quote : ℕ) (s bs : List ℕ) (p : Spelled) → 0 < length bs → part_at quote bs ≡ Some p → 0 < p.1 → p.1 ≤ length bs
     → led s (unquoted quote bs) ≡ led (s ++ part_text p.0) (unquoted quote (drop p.1 bs))
 unquoted-first quote s bs p h is low high =
     ap (λ ps. led s (option_map (flat_map part_text) ps)) (parts-first quote bs p h is low high)
-    ∙ ap (led s) (text_with p.0 (parts quote (drop p.1 bs)))
+    ∙ ap (led s) (text-with p.0 (parts quote (drop p.1 bs)))
     ∙ led-led s (part_text p.0) (unquoted quote (drop p.1 bs))
 
 pub unquoted-none : (quote : ℕ) (s bs : List ℕ) → 0 < length bs → part_at quote bs ≡ None → led s (unquoted quote bs) ≡ None
@@ -65,17 +61,17 @@ pub code-none : (quote : ℕ) (bs : List ℕ) → part_at quote bs ≡ None → 
 code-none quote [] is = ap (option_and_then one_code) (parts-nil quote)
 code-none quote (b ∷ bs) is = ap (option_and_then one_code) (parts-none quote (b ∷ bs) (omega arith) is)
 
-nil_at : (quote : ℕ) (bs : List ℕ) (n : ℕ) → n ≡ length bs → parts quote (drop n bs) ≡ Some []
-nil_at quote bs n e = ap (parts quote) (drop_end bs n e) ∙ parts-nil quote
+nil-at : (quote : ℕ) (bs : List ℕ) (n : ℕ) → n ≡ length bs → parts quote (drop n bs) ≡ Some []
+nil-at quote bs n e = ap (parts quote) (drop-end bs n e) ∙ parts-nil quote
   where
-    drop_end : (bs : List ℕ) (n : ℕ) → n ≡ length bs → drop n bs ≡ []
-    drop_end [] n e = ap (λ k. drop k []) e
-    drop_end (b ∷ bs) n e = ap (λ k. drop k (b ∷ bs)) e ∙ drop_end bs (length bs) refl
+    drop-end : (bs : List ℕ) (n : ℕ) → n ≡ length bs → drop n bs ≡ []
+    drop-end [] n e = ap (λ k. drop k []) e
+    drop-end (b ∷ bs) n e = ap (λ k. drop k (b ∷ bs)) e ∙ drop-end bs (length bs) refl
 
 pub code-one : (quote : ℕ) (bs : List ℕ) (p : Spelled) → part_at quote bs ≡ Some p → 0 < p.1 → p.1 ≡ length bs → rune_code quote bs ≡ Some (part_code p.0)
 code-one quote bs p is low whole =
     ap (option_and_then one_code) (parts-first quote bs p (omega arith) is low (omega arith))
-    ∙ ap (λ ps. option_and_then one_code (with_part p.0 ps)) (nil_at quote bs p.1 whole)
+    ∙ ap (λ ps. option_and_then one_code (with_part p.0 ps)) (nil-at quote bs p.1 whole)
 
 two : (p q : Part) (ps : Option (List Part)) → option_and_then one_code (with_part p (with_part q ps)) ≡ None
 two p q None = refl
@@ -85,12 +81,12 @@ more : (quote : ℕ) (p : Part) (bs : List ℕ) (o : Option Spelled) → option_
 more quote p bs None = refl
 more quote p bs (Some q) = two p q.0 (parts_after quote (q.1 - 1) bs)
 
-two_at : (quote : ℕ) (p : Part) (bs : List ℕ) → 0 < length bs → option_and_then one_code (with_part p (parts quote bs)) ≡ None
+two-at : (quote : ℕ) (p : Part) (bs : List ℕ) → 0 < length bs → option_and_then one_code (with_part p (parts quote bs)) ≡ None
 unfolding parts
-two_at quote p [] h = absurd (omega arith)
-two_at quote p (b ∷ bs) h = more quote p bs (part_at quote (b ∷ bs))
+two-at quote p [] h = absurd (omega arith)
+two-at quote p (b ∷ bs) h = more quote p bs (part_at quote (b ∷ bs))
 
 pub code-more : (quote : ℕ) (bs : List ℕ) (p : Spelled) → part_at quote bs ≡ Some p → 0 < p.1 → p.1 < length bs → 0 < length (drop p.1 bs) → rune_code quote bs ≡ None
 code-more quote bs p is low high left =
     ap (option_and_then one_code) (parts-first quote bs p (omega arith) is low (omega arith))
-    ∙ two_at quote p.0 (drop p.1 bs) left
+    ∙ two-at quote p.0 (drop p.1 bs) left

@@ -9,11 +9,11 @@ use Rattle.tmpl_grammar.specs.Token.{begins_name, name_in}
 use Rattle.tmpl_grammar.specs.Tree as tree
 use Rattle.tmpl_grammar.specs.Tree.{Operand, Operands, Commands, operands_from, commands_from}
 use Rattle.tmpl_grammar.specs.Operand.{operand_at, begins_later}
-use Rattle.tmpl_grammar.specs.computed.Parser as half
+use Rattle.tmpl_grammar.specs.computed.Parser as parser
 use Rattle.tmpl_grammar.specs.computed.Parser.{Parser, Partial, settled, more_commands, may_stand, kept, linked, linked_by, step, step_by, steps, finished, finished_with, commands_after}
 use Rattle.tmpl_grammar.specs.Pipeline.{IsBlank, IsChain, IsChained, MayBeLater, SpellsOperand, SpellsMore, SpellsCommand, SpellsLater, SpellsPipeline}
 use Rattle.tmpl_grammar.proofs.ConstantLemmas.{IsToken, token-form}
-use Rattle.tmpl_grammar.proofs.SpelledLemmas.{half_at, operand_list, command_list, operands-back, commands-back}
+use Rattle.tmpl_grammar.proofs.SpelledLemmas.{parser_at, operand_list, command_list, operands-back, commands-back}
 
 -- fields continue an operand's chain
 abbrev Extends : Operand → List Token → Operand → Type 0
@@ -48,7 +48,7 @@ EndsCommand None cs [] more ts = SpellsCommand more ts × MayBegin cs more
 EndsCommand None cs (o ∷ os) more ts = SpellsApart more ts
 
 -- tokens end a pipeline
-pub record EndsLevel (last : Option Operand) (cs : List Operands) (os : List Operand) (ts : List Token) (all : List Operands) : Type 0 where
+pub record EndsPartial (last : Option Operand) (cs : List Operands) (os : List Operand) (ts : List Token) (all : List Operands) : Type 0 where
   pub more : Operands
   pub later : Commands
   pub front : List Token
@@ -60,24 +60,24 @@ pub record EndsLevel (last : Option Operand) (cs : List Operands) (os : List Ope
 
 -- tokens end a pipeline with those around it
 abbrev EndsIn : List Partial → Option Operand → List Operands → List Operand → List Token → List Operands → Type 0
-EndsIn [] last cs os ts all = EndsLevel last cs os ts all
+EndsIn [] last cs os ts all = EndsPartial last cs os ts all
 EndsIn (l ∷ ls) last cs os ts all =
     (a : List Token) × (r : Token) × (b : List Token) × (inner : List Operands) × (ts ≡ a ++ r ∷ b) × (r.kind ≡ kind.RightParenthesis)
-    × EndsLevel last cs os a inner × EndsIn ls (Some (tree.group (commands_from inner) [])) l.commands l.operands b all
+    × EndsPartial last cs os a inner × EndsIn ls (Some (tree.group (commands_from inner) [])) l.commands l.operands b all
 
-abbrev EndsHalf : Parser → List Token → List Operands → Type 0
-EndsHalf h ts all = EndsIn h.outer h.last h.inner.commands h.inner.operands ts all
+abbrev EndsParser : Parser → List Token → List Operands → Type 0
+EndsParser h ts all = EndsIn h.outer h.last h.inner.commands h.inner.operands ts all
 
 -- ---- one token more at the front
 
 -- where a token only changes the innermost pipeline
-within-level : (ls : List Partial) (t : Token) (last pre : Option Operand) (cs ds : List Operands) (os qs : List Operand) → ((ts : List Token) (all : List Operands) → EndsLevel last cs os ts all → EndsLevel pre ds qs (t ∷ ts) all) → (ts : List Token) (all : List Operands) → EndsIn ls last cs os ts all → EndsIn ls pre ds qs (t ∷ ts) all
-within-level [] t last pre cs ds os qs f ts all e = f ts all e
-within-level (l ∷ ls) t last pre cs ds os qs f ts all (a, r, b, inner, is, right, level, rest) =
-    (t ∷ a, r, b, inner, ap (λ us. t ∷ us) is, right, f a inner level, rest)
+within-partial : (ls : List Partial) (t : Token) (last pre : Option Operand) (cs ds : List Operands) (os qs : List Operand) → ((ts : List Token) (all : List Operands) → EndsPartial last cs os ts all → EndsPartial pre ds qs (t ∷ ts) all) → (ts : List Token) (all : List Operands) → EndsIn ls last cs os ts all → EndsIn ls pre ds qs (t ∷ ts) all
+within-partial [] t last pre cs ds os qs f ts all e = f ts all e
+within-partial (l ∷ ls) t last pre cs ds os qs f ts all (a, r, b, inner, is, right, partial, rest) =
+    (t ∷ a, r, b, inner, ap (λ us. t ∷ us) is, right, f a inner partial, rest)
 
 -- white space behind an operand
-space-behind : (t : Token) (o : Operand) (cs : List Operands) (os : List Operand) → t.kind ≡ kind.Space → (ts : List Token) (all : List Operands) → EndsLevel None cs (os ++ o ∷ []) ts all → EndsLevel (Some o) cs os (t ∷ ts) all
+space-behind : (t : Token) (o : Operand) (cs : List Operands) (os : List Operand) → t.kind ≡ kind.Space → (ts : List Token) (all : List Operands) → EndsPartial None cs (os ++ o ∷ []) ts all → EndsPartial (Some o) cs os (t ∷ ts) all
 space-behind t o cs os is ts all e = record {
   more = tree.operand o e.more;
   later = e.later;
@@ -107,7 +107,7 @@ space-behind t o cs os is ts all e = record {
     by (q ∷ os) more s = apart more s
 
 -- white space before an operand
-space-before : (t : Token) (cs : List Operands) (os : List Operand) → t.kind ≡ kind.Space → (ts : List Token) (all : List Operands) → EndsLevel None cs os ts all → EndsLevel None cs os (t ∷ ts) all
+space-before : (t : Token) (cs : List Operands) (os : List Operand) → t.kind ≡ kind.Space → (ts : List Token) (all : List Operands) → EndsPartial None cs os ts all → EndsPartial None cs os (t ∷ ts) all
 space-before t cs os is ts all e = record {
   more = e.more;
   later = e.later;
@@ -132,7 +132,7 @@ space-before t cs os is ts all e = record {
     by (q ∷ os) more s = apart more s
 
 -- a field behind an operand
-field-behind : (t : Token) (o p : Operand) (cs : List Operands) (os : List Operand) → t.kind ≡ kind.Field → begins_name (name_in t) ≡ true → linked o (name_in t) ≡ Some p → (ts : List Token) (all : List Operands) → EndsLevel (Some p) cs os ts all → EndsLevel (Some o) cs os (t ∷ ts) all
+field-behind : (t : Token) (o p : Operand) (cs : List Operands) (os : List Operand) → t.kind ≡ kind.Field → begins_name (name_in t) ≡ true → linked o (name_in t) ≡ Some p → (ts : List Token) (all : List Operands) → EndsPartial (Some p) cs os ts all → EndsPartial (Some o) cs os (t ∷ ts) all
 field-behind t o p cs os is begins link ts all e = record {
   more = e.more;
   later = e.later;
@@ -185,7 +185,7 @@ extends-stands cs os o p [] e may = ap (may_stand cs os) (sym e) ∙ may
 extends-stands cs os o p (t ∷ ts) (is, begins, (q, link, rest)) may = extends-stands cs os q p ts rest (link-stands cs os o q (name_in t) link)
 
 -- an operand before what ends a command or a pipeline
-operand-before : (us : List Token) (o : Operand) (cs : List Operands) (os : List Operand) → Spells o us → may_stand cs os o ≡ true → (ts : List Token) (all : List Operands) → EndsLevel (Some o) cs os ts all → EndsLevel None cs os (us ++ ts) all
+operand-before : (us : List Token) (o : Operand) (cs : List Operands) (os : List Operand) → Spells o us → may_stand cs os o ≡ true → (ts : List Token) (all : List Operands) → EndsPartial (Some o) cs os ts all → EndsPartial None cs os (us ++ ts) all
 operand-before us o cs os spells may ts all e = record {
   more = e.more;
   later = e.later;
@@ -214,8 +214,8 @@ operand-before us o cs os spells may ts all e = record {
 
 operand-within : (ls : List Partial) (us : List Token) (o : Operand) (cs : List Operands) (os : List Operand) → Spells o us → may_stand cs os o ≡ true → (ts : List Token) (all : List Operands) → EndsIn ls (Some o) cs os ts all → EndsIn ls None cs os (us ++ ts) all
 operand-within [] us o cs os spells may ts all e = operand-before us o cs os spells may ts all e
-operand-within (l ∷ ls) us o cs os spells may ts all (a, r, b, inner, is, right, level, rest) =
-    (us ++ a, r, b, inner, ap (λ vs. us ++ vs) is ∙ sym (append_assoc us a (r ∷ b)), right, operand-before us o cs os spells may a inner level, rest)
+operand-within (l ∷ ls) us o cs os spells may ts all (a, r, b, inner, is, right, partial, rest) =
+    (us ++ a, r, b, inner, ap (λ vs. us ++ vs) is ∙ sym (append_assoc us a (r ∷ b)), right, operand-before us o cs os spells may a inner partial, rest)
 
 -- a chain by its names
 abbrev Chains : (List (List ℕ) → Operand) → Type 0
@@ -274,8 +274,8 @@ group-spells cs l r a left right s ts p e =
     subst (λ p. SpellsOperand p (l ∷ (a ++ (r ∷ [])) ++ ts)) (sym c.1) (l, a, r, ts, ap (λ us. l ∷ us) (append_assoc a (r ∷ []) ts), left, right, s, c.2)
 
 -- a whole pipeline
-level-spells : (ts : List Token) (all : List Operands) → EndsLevel None [] [] ts all → SpellsPipeline (commands_from all) ts
-level-spells ts all e =
+partial-spells : (ts : List Token) (all : List Operands) → EndsPartial None [] [] ts all → SpellsPipeline (commands_from all) ts
+partial-spells ts all e =
     let is : commands_from all ≡ tree.command e.more e.later = ap commands_from e.all_are ∙ ap (λ os. tree.command os (commands_from (command_list e.later))) (operands-back e.more) ∙ ap (tree.command e.more) (commands-back e.later) in
     subst (λ cs. SpellsPipeline cs ts) (sym is) (e.front, e.back, e.tokens_are, e.ends.0, e.spells)
 
@@ -308,8 +308,8 @@ ends-now (Some o) cs os done e = record {
     by [] e = sym (ap (unwrap done) e)
     by (q ∷ os) e = sym (ap (unwrap done) e)
 
-level-end : (last : Option Operand) (cs : List Operands) (os : List Operand) (done : List Operands) → more_commands cs (settled last os) ≡ Some done → EndsLevel last cs os [] done
-level-end last cs os done e =
+partial-end : (last : Option Operand) (cs : List Operands) (os : List Operand) (done : List Operands) → more_commands cs (settled last os) ≡ Some done → EndsPartial last cs os [] done
+partial-end last cs os done e =
     let n = ends-now last cs os done e in
     record { more = n.more; later = tree.no_command; front = []; back = []; tokens_are = refl; ends = n.ends; spells = refl; all_are = n.done_is }
 
@@ -319,7 +319,7 @@ later-of [] x (tree.operand o os) may = may
 later-of (c ∷ cs) x (tree.operand o os) may = may
 
 -- a bar behind a command
-bar-behind : (t : Token) (last : Option Operand) (cs : List Operands) (os : List Operand) (done : List Operands) → t.kind ≡ kind.Pipe → more_commands cs (settled last os) ≡ Some done → (ts : List Token) (all : List Operands) → EndsLevel None done [] ts all → EndsLevel last cs os (t ∷ ts) all
+bar-behind : (t : Token) (last : Option Operand) (cs : List Operands) (os : List Operand) (done : List Operands) → t.kind ≡ kind.Pipe → more_commands cs (settled last os) ≡ Some done → (ts : List Token) (all : List Operands) → EndsPartial None done [] ts all → EndsPartial last cs os (t ∷ ts) all
 bar-behind t last cs os done is whole ts all e =
     let n = ends-now last cs os done whole in
     record {
@@ -340,7 +340,7 @@ bar-behind t last cs os done is whole ts all e =
 
 abbrev EndsOpt : Option Parser → List Token → List Operands → Type 0
 EndsOpt None ts all = ⊥
-EndsOpt (Some h) ts all = EndsHalf h ts all
+EndsOpt (Some h) ts all = EndsParser h ts all
 
 group-stands : (cs : List Operands) (os : List Operand) (commands : Commands) → may_stand cs os (tree.group commands []) ≡ true
 group-stands [] os commands = refl
@@ -348,44 +348,44 @@ group-stands (c ∷ cs) [] commands = refl
 group-stands (c ∷ cs) (q ∷ os) commands = refl
 
 module _ (t : Token) (cs : List Operands) (os : List Operand) (ts : List Token) (all : List Operands) where
-  space-ends : (ls : List Partial) (last : Option Operand) → t.kind ≡ kind.Space → EndsHalf (half.apart (half_at ls cs os last)) ts all → EndsIn ls last cs os (t ∷ ts) all
-  space-ends ls None is e = within-level ls t None None cs cs os os (space-before t cs os is) ts all e
-  space-ends ls (Some o) is e = within-level ls t None (Some o) cs cs (os ++ o ∷ []) os (space-behind t o cs os is) ts all e
+  space-ends : (ls : List Partial) (last : Option Operand) → t.kind ≡ kind.Space → EndsParser (parser.apart (parser_at ls cs os last)) ts all → EndsIn ls last cs os (t ∷ ts) all
+  space-ends ls None is e = within-partial ls t None None cs cs os os (space-before t cs os is) ts all e
+  space-ends ls (Some o) is e = within-partial ls t None (Some o) cs cs (os ++ o ∷ []) os (space-behind t o cs os is) ts all e
 
-  bar-ends : (ls : List Partial) (last : Option Operand) → t.kind ≡ kind.Pipe → (done : Option (List Operands)) → more_commands cs (settled last os) ≡ done → EndsOpt (option_map (half.barred (half_at ls cs os last)) done) ts all → EndsIn ls last cs os (t ∷ ts) all
+  bar-ends : (ls : List Partial) (last : Option Operand) → t.kind ≡ kind.Pipe → (done : Option (List Operands)) → more_commands cs (settled last os) ≡ done → EndsOpt (option_map (parser.barred (parser_at ls cs os last)) done) ts all → EndsIn ls last cs os (t ∷ ts) all
   bar-ends ls last is None whole e = absurd e
-  bar-ends ls last is (Some done) whole e = within-level ls t None last done cs [] os (bar-behind t last cs os done is whole) ts all e
+  bar-ends ls last is (Some done) whole e = within-partial ls t None last done cs [] os (bar-behind t last cs os done is whole) ts all e
 
-  open-ends : (ls : List Partial) (last : Option Operand) → t.kind ≡ kind.LeftParenthesis → EndsOpt (half.opened last (half_at ls cs os last)) ts all → EndsIn ls last cs os (t ∷ ts) all
-  open-ends ls None is (a, r, b, inner, at, right, level, rest) =
+  open-ends : (ls : List Partial) (last : Option Operand) → t.kind ≡ kind.LeftParenthesis → EndsOpt (parser.opened last (parser_at ls cs os last)) ts all → EndsIn ls last cs os (t ∷ ts) all
+  open-ends ls None is (a, r, b, inner, at, right, partial, rest) =
       subst (λ us. EndsIn ls None cs os us all) (ap (λ us. t ∷ us) (append_assoc a (r ∷ []) b ∙ sym at))
-      (operand-within ls (t ∷ a ++ (r ∷ [])) (tree.group (commands_from inner) []) cs os (group-spells (commands_from inner) t r a is right (level-spells a inner level)) (group-stands cs os (commands_from inner)) b all rest)
+      (operand-within ls (t ∷ a ++ (r ∷ [])) (tree.group (commands_from inner) []) cs os (group-spells (commands_from inner) t r a is right (partial-spells a inner partial)) (group-stands cs os (commands_from inner)) b all rest)
   open-ends ls (Some o) is e = absurd e
 
-  close-ends : (ls : List Partial) (last : Option Operand) → t.kind ≡ kind.RightParenthesis → (done : Option (List Operands)) → more_commands cs (settled last os) ≡ done → EndsOpt (half.left_with ls done) ts all → EndsIn ls last cs os (t ∷ ts) all
-  close-ends [] last is done whole e = absurd e
+  close-ends : (ls : List Partial) (last : Option Operand) → t.kind ≡ kind.RightParenthesis → (done : Option (List Operands)) → more_commands cs (settled last os) ≡ done → EndsOpt (parser.left_with ls done) ts all → EndsIn ls last cs os (t ∷ ts) all
+  close-ends [] last is o whole e = absurd e
   close-ends (l ∷ ls) last is None whole e = absurd e
-  close-ends (l ∷ ls) last is (Some done) whole e = ([], t, ts, done, refl, is, level-end last cs os done whole, e)
+  close-ends (l ∷ ls) last is (Some done) whole e = ([], t, ts, done, refl, is, partial-end last cs os done whole, e)
 
-  kept-ends : (ls : List Partial) (o : Operand) → operand_at t ≡ Some o → (b : Bool) → may_stand cs os o ≡ b → EndsOpt (kept b (half_at ls cs os (Some o))) ts all → EndsIn ls None cs os (t ∷ ts) all
+  kept-ends : (ls : List Partial) (o : Operand) → operand_at t ≡ Some o → (b : Bool) → may_stand cs os o ≡ b → EndsOpt (kept b (parser_at ls cs os (Some o))) ts all → EndsIn ls None cs os (t ∷ ts) all
   kept-ends ls o at true may e = operand-within ls (t ∷ []) o cs os (token-spells t o at) may ts all e
   kept-ends ls o at false may e = absurd e
 
-  placed-ends : (ls : List Partial) (last o : Option Operand) → operand_at t ≡ o → EndsOpt (half.placed last o (half_at ls cs os last)) ts all → EndsIn ls last cs os (t ∷ ts) all
+  placed-ends : (ls : List Partial) (last o : Option Operand) → operand_at t ≡ o → EndsOpt (parser.placed last o (parser_at ls cs os last)) ts all → EndsIn ls last cs os (t ∷ ts) all
   placed-ends ls None None at e = absurd e
   placed-ends ls None (Some o) at e = kept-ends ls o at (may_stand cs os o) refl e
   placed-ends ls (Some p) o at e = absurd e
 
-  link-ends : (ls : List Partial) (o : Operand) → t.kind ≡ kind.Field → (b : Bool) → begins_name (name_in t) ≡ b → (p : Option Operand) → linked_by b o (name_in t) ≡ p → EndsOpt (option_map (half.ending_with (half_at ls cs os (Some o))) p) ts all → EndsIn ls (Some o) cs os (t ∷ ts) all
+  link-ends : (ls : List Partial) (o : Operand) → t.kind ≡ kind.Field → (b : Bool) → begins_name (name_in t) ≡ b → (p : Option Operand) → linked_by b o (name_in t) ≡ p → EndsOpt (option_map (parser.ending_with (parser_at ls cs os (Some o))) p) ts all → EndsIn ls (Some o) cs os (t ∷ ts) all
   link-ends ls o is b begins None link e = absurd e
-  link-ends ls o is true begins (Some p) link e = within-level ls t (Some p) (Some o) cs cs os os (field-behind t o p cs os is begins link) ts all e
+  link-ends ls o is true begins (Some p) link e = within-partial ls t (Some p) (Some o) cs cs os os (field-behind t o p cs os is begins link) ts all e
   link-ends ls o is false begins (Some p) link e = absurd (let g : ⊥ = cc in g)
 
-  field-ends : (ls : List Partial) (last : Option Operand) → t.kind ≡ kind.Field → EndsOpt (half.fielded last t (half_at ls cs os last)) ts all → EndsIn ls last cs os (t ∷ ts) all
+  field-ends : (ls : List Partial) (last : Option Operand) → t.kind ≡ kind.Field → EndsOpt (parser.fielded last t (parser_at ls cs os last)) ts all → EndsIn ls last cs os (t ∷ ts) all
   field-ends ls None is e = placed-ends ls None (operand_at t) refl e
   field-ends ls (Some o) is e = link-ends ls o is (begins_name (name_in t)) refl _ refl e
 
-  step-ends : (k : TokenKind) → t.kind ≡ k → (ls : List Partial) (last : Option Operand) → EndsOpt (step_by k t (half_at ls cs os last)) ts all → EndsIn ls last cs os (t ∷ ts) all
+  step-ends : (k : TokenKind) → t.kind ≡ k → (ls : List Partial) (last : Option Operand) → EndsOpt (step_by k t (parser_at ls cs os last)) ts all → EndsIn ls last cs os (t ∷ ts) all
   step-ends kind.Space is ls last e = space-ends ls last is e
   step-ends kind.Pipe is ls last e = bar-ends ls last is _ refl e
   step-ends kind.LeftParenthesis is ls last e = open-ends ls last is e
@@ -405,7 +405,7 @@ module _ (t : Token) (cs : List Operands) (os : List Operand) (ts : List Token) 
 -- ---- all of them
 
 finished-ends : (ls : List Partial) (last : Option Operand) (cs : List Operands) (os : List Operand) (all : List Operands) → finished_with ls (more_commands cs (settled last os)) ≡ Some all → EndsIn ls last cs os [] all
-finished-ends [] last cs os all e = level-end last cs os all e
+finished-ends [] last cs os all e = partial-end last cs os all e
 finished-ends (l ∷ ls) last cs os all e = absurd (let g : ⊥ = cc in g)
 
 steps-end : (o : Option Parser) (ts : List Token) (all : List Operands) → option_and_then finished (steps o ts) ≡ Some all → EndsOpt o ts all
@@ -416,5 +416,5 @@ steps-end None (t ∷ ts) all e = steps-end None ts all e
 steps-end (Some h) (t ∷ ts) all e = step-ends t h.inner.commands h.inner.operands ts all t.kind refl h.outer h.last (steps-end (step t h) ts all e)
 
 -- what is read is spelled
-pub read-spells : (ts : List Token) (all : List Operands) → commands_after half.start ts ≡ Some all → SpellsPipeline (commands_from all) ts
-read-spells ts all e = level-spells ts all (steps-end (Some half.start) ts all e)
+pub read-spells : (ts : List Token) (all : List Operands) → commands_after parser.start ts ≡ Some all → SpellsPipeline (commands_from all) ts
+read-spells ts all e = partial-spells ts all (steps-end (Some parser.start) ts all e)

@@ -1,4 +1,4 @@
--- A token's place tells whether it may stand, as the half-read pipeline does.
+-- The position of a token tells whether it may stand, as the pipeline does that is read in part.
 use Rattle.std.proofs.Common.{arith, ◌≡◌, ◌≤◌, ◌∙◌, ℕ, zero, suc, ◌+◌, Bool, true, false, List, [], ◌∷◌, ◌++◌, Option, Some, None, refl, ap, sym, subst, length, map, drop, add-one, is_some}
 use Rattle.std.specs.Option.{option_map, option_and_then}
 use Rattle.tmpl_lex.specs.declared.piece.TokenKind.{TokenKind}
@@ -9,13 +9,14 @@ use Rattle.tmpl_grammar.specs.Token.{begins_name, name_in}
 use Rattle.tmpl_grammar.specs.Tree as tree
 use Rattle.tmpl_grammar.specs.Tree.{Operand, Operands, operands_from}
 use Rattle.tmpl_grammar.specs.Operand.{operand_at, begins_later}
-use Rattle.tmpl_grammar.specs.computed.Parser as half
+use Rattle.tmpl_grammar.specs.computed.Parser as parser
 use Rattle.tmpl_grammar.specs.computed.Parser.{Parser, Partial, settled, more_commands, closed, may_stand, kept, linked_by, step, step_by, steps, finished, commands_after}
 use Rattle.tmpl_grammar.specs.computed.Recognizer as deep
 use Rattle.tmpl_grammar.specs.computed.Recognizer.{recognizer_of, begun, position_in, behind, touching, may_chain, has_operand, may_open, spaced, passed, passed_by, passes, ended, ends, ends_pipeline}
 use Rattle.tmpl_grammar.specs.declared.pipeline.recognizer.Position.{Position}
 use Rattle.tmpl_grammar.specs.declared.pipeline.recognizer.Position.TheVariants.{First, Later, Linkable, Touching, Apart}
 use Rattle.tmpl_grammar.specs.declared.pipeline.recognizer.Recognizer.{Recognizer}
+use Rattle.tmpl_grammar.proofs.SpelledLemmas.{parser_at}
 
 -- ---- positions
 
@@ -74,133 +75,130 @@ closes (Some p) cs (o ∷ os) = whole_end (operands_from (o ∷ os ++ p ∷ []))
 
 -- ---- one token
 
-abbrev half_at : List Partial → List Operands → List Operand → Option Operand → Parser
-half_at ls cs os last = record { outer = ls; inner = record { commands = cs; operands = os }; last = last }
-
-kept-spot : (b : Bool) (h : Parser) (s : Recognizer) (p : Position) → recognizer_of h ≡ deep.at s p → option_map recognizer_of (kept b h) ≡ deep.kept_at b s p
-kept-spot true h s p e = ap Some e
-kept-spot false h s p e = refl
+kept-recognizer : (b : Bool) (h : Parser) (s : Recognizer) (p : Position) → recognizer_of h ≡ deep.at s p → option_map recognizer_of (kept b h) ≡ deep.kept_at b s p
+kept-recognizer true h s p e = ap Some e
+kept-recognizer false h s p e = refl
 
 none-placed : (b : Bool) (o : Option Operand) (n : ℕ) → deep.placed o (record { position = touching b; depth = n }) ≡ None
 none-placed b None n = refl
 none-placed b (Some o) n = ap (λ a. deep.kept_at a (record { position = touching b; depth = n }) (behind o)) (none-allowed b o)
 
 module _ (ls : List Partial) (cs : List Operands) (os : List Operand) where
-  placed-spot : (last o : Option Operand) → option_map recognizer_of (half.placed last o (half_at ls cs os last)) ≡ deep.placed o (recognizer_of (half_at ls cs os last))
-  placed-spot None None = refl
-  placed-spot None (Some o) = by cs os
+  placed-recognizer : (last o : Option Operand) → option_map recognizer_of (parser.placed last o (parser_at ls cs os last)) ≡ deep.placed o (recognizer_of (parser_at ls cs os last))
+  placed-recognizer None None = refl
+  placed-recognizer None (Some o) = by cs os
     where
-      by : (cs : List Operands) (os : List Operand) → option_map recognizer_of (kept (may_stand cs os o) (half_at ls cs os (Some o))) ≡ deep.kept_at (deep.allows (begun cs os) o) (recognizer_of (half_at ls cs os None)) (behind o)
+      by : (cs : List Operands) (os : List Operand) → option_map recognizer_of (kept (may_stand cs os o) (parser_at ls cs os (Some o))) ≡ deep.kept_at (deep.allows (begun cs os) o) (recognizer_of (parser_at ls cs os None)) (behind o)
       by [] [] = refl
-      by (c ∷ cs) [] = kept-spot (begins_later o) _ _ _ refl
+      by (c ∷ cs) [] = kept-recognizer (begins_later o) _ _ _ refl
       by [] (p ∷ ps) = refl
       by (c ∷ cs) (p ∷ ps) = refl
-  placed-spot (Some p) o = sym (none-placed (may_chain p) o (length ls))
+  placed-recognizer (Some p) o = sym (none-placed (may_chain p) o (length ls))
 
-  apart-spot : (last : Option Operand) → option_map recognizer_of (Some (half.apart (half_at ls cs os last))) ≡ Some (deep.at (recognizer_of (half_at ls cs os last)) (spaced (position_in last (record { commands = cs; operands = os }))))
-  apart-spot None = ap (λ p. Some (record { position = p; depth = length ls })) (sym (spaced-begun cs os))
-  apart-spot (Some o) = ap (λ p. Some (record { position = p; depth = length ls })) (begun-more cs os o ∙ sym (spaced-touching (may_chain o)))
+  apart-recognizer : (last : Option Operand) → option_map recognizer_of (Some (parser.apart (parser_at ls cs os last))) ≡ Some (deep.at (recognizer_of (parser_at ls cs os last)) (spaced (position_in last (record { commands = cs; operands = os }))))
+  apart-recognizer None = ap (λ p. Some (record { position = p; depth = length ls })) (sym (spaced-begun cs os))
+  apart-recognizer (Some o) = ap (λ p. Some (record { position = p; depth = length ls })) (begun-more cs os o ∙ sym (spaced-touching (may_chain o)))
 
-  barred-spot : (last : Option Operand) → Closes last cs os → option_map recognizer_of (option_map (half.barred (half_at ls cs os last)) (closed (half_at ls cs os last))) ≡ deep.barred (has_operand (position_in last (record { commands = cs; operands = os }))) (recognizer_of (half_at ls cs os last))
-  barred-spot last (open_end lacks e) =
-      ap (λ c. option_map recognizer_of (option_map (half.barred (half_at ls cs os last)) c)) e
-      ∙ sym (ap (λ b. deep.barred b (recognizer_of (half_at ls cs os last))) lacks)
-  barred-spot last (whole_end x has e) =
-      ap (λ c. option_map recognizer_of (option_map (half.barred (half_at ls cs os last)) c)) e
+  barred-recognizer : (last : Option Operand) → Closes last cs os → option_map recognizer_of (option_map (parser.barred (parser_at ls cs os last)) (closed (parser_at ls cs os last))) ≡ deep.barred (has_operand (position_in last (record { commands = cs; operands = os }))) (recognizer_of (parser_at ls cs os last))
+  barred-recognizer last (open_end lacks e) =
+      ap (λ c. option_map recognizer_of (option_map (parser.barred (parser_at ls cs os last)) c)) e
+      ∙ sym (ap (λ b. deep.barred b (recognizer_of (parser_at ls cs os last))) lacks)
+  barred-recognizer last (whole_end x has e) =
+      ap (λ c. option_map recognizer_of (option_map (parser.barred (parser_at ls cs os last)) c)) e
       ∙ ap (λ p. Some (record { position = p; depth = length ls })) (begun-later cs x)
-      ∙ sym (ap (λ b. deep.barred b (recognizer_of (half_at ls cs os last))) has)
+      ∙ sym (ap (λ b. deep.barred b (recognizer_of (parser_at ls cs os last))) has)
 
-  opened-spot : (last : Option Operand) → option_map recognizer_of (half.opened last (half_at ls cs os last)) ≡ deep.opened (may_open (position_in last (record { commands = cs; operands = os }))) (recognizer_of (half_at ls cs os last))
-  opened-spot None =
+  opened-recognizer : (last : Option Operand) → option_map recognizer_of (parser.opened last (parser_at ls cs os last)) ≡ deep.opened (may_open (position_in last (record { commands = cs; operands = os }))) (recognizer_of (parser_at ls cs os last))
+  opened-recognizer None =
       ap (λ n. Some (record { position = First; depth = n })) (sym (add-one (length ls)))
-      ∙ sym (ap (λ b. deep.opened b (recognizer_of (half_at ls cs os None))) (may-open-begun cs os))
-  opened-spot (Some o) = sym (ap (λ b. deep.opened b (recognizer_of (half_at ls cs os (Some o)))) (no-opening (may_chain o)))
+      ∙ sym (ap (λ b. deep.opened b (recognizer_of (parser_at ls cs os None))) (may-open-begun cs os))
+  opened-recognizer (Some o) = sym (ap (λ b. deep.opened b (recognizer_of (parser_at ls cs os (Some o)))) (no-opening (may_chain o)))
 
-  left-spot : (outer : List Partial) (last : Option Operand) → Closes last cs os → option_map recognizer_of (half.left_with outer (more_commands cs (settled last os))) ≡ deep.left (has_operand (position_in last (record { commands = cs; operands = os }))) (length outer)
-  left-spot [] last c = refl
-  left-spot (l ∷ ls) last (open_end lacks e) =
-      ap (λ c. option_map recognizer_of (half.left_with (l ∷ ls) c)) e
+  left-recognizer : (outer : List Partial) (last : Option Operand) → Closes last cs os → option_map recognizer_of (parser.left_with outer (more_commands cs (settled last os))) ≡ deep.left (has_operand (position_in last (record { commands = cs; operands = os }))) (length outer)
+  left-recognizer [] last c = refl
+  left-recognizer (l ∷ ls) last (open_end lacks e) =
+      ap (λ c. option_map recognizer_of (parser.left_with (l ∷ ls) c)) e
       ∙ sym (ap (λ b. deep.left b (length (l ∷ ls))) lacks)
-  left-spot (l ∷ ls) last (whole_end x has e) =
-      ap (λ c. option_map recognizer_of (half.left_with (l ∷ ls) c)) e
+  left-recognizer (l ∷ ls) last (whole_end x has e) =
+      ap (λ c. option_map recognizer_of (parser.left_with (l ∷ ls) c)) e
       ∙ sym (ap (λ b. deep.left b (length (l ∷ ls))) has)
 
   abbrev fields_on : Option Operand → Option Recognizer
-  fields_on o = option_map recognizer_of (option_map (half.ending_with (half_at ls cs os None)) o)
+  fields_on o = option_map recognizer_of (option_map (parser.ending_with (parser_at ls cs os None)) o)
 
-  linkable : (b : Bool) (o p : Operand) (t : Token) → may_chain o ≡ true → may_chain p ≡ true → half.linked o (name_in t) ≡ Some p → fields_on (linked_by b o (name_in t)) ≡ deep.kept_at b (recognizer_of (half_at ls cs os (Some o))) Linkable
+  linkable : (b : Bool) (o p : Operand) (t : Token) → may_chain o ≡ true → may_chain p ≡ true → parser.linked o (name_in t) ≡ Some p → fields_on (linked_by b o (name_in t)) ≡ deep.kept_at b (recognizer_of (parser_at ls cs os (Some o))) Linkable
   linkable false o p t can also is = refl
   linkable true o p t can also is = ap fields_on is ∙ ap (λ b. Some (record { position = touching b; depth = length ls })) also
 
-  unlinkable : (b : Bool) (o : Operand) (t : Token) → half.linked o (name_in t) ≡ None → fields_on (linked_by b o (name_in t)) ≡ None
+  unlinkable : (b : Bool) (o : Operand) (t : Token) → parser.linked o (name_in t) ≡ None → fields_on (linked_by b o (name_in t)) ≡ None
   unlinkable false o t is = refl
   unlinkable true o t is = ap fields_on is
 
-  linked-spot : (o : Operand) (t : Token) → fields_on (linked_by (begins_name (name_in t)) o (name_in t)) ≡ deep.fielded (behind o) t (recognizer_of (half_at ls cs os (Some o)))
-  linked-spot tree.dot t = unlinkable (begins_name (name_in t)) tree.dot t refl ∙ sym (none-placed false (operand_at t) (length ls))
-  linked-spot (tree.fields names) t = linkable (begins_name (name_in t)) (tree.fields names) _ t refl refl refl
-  linked-spot (tree.variable x names) t = linkable (begins_name (name_in t)) (tree.variable x names) _ t refl refl refl
-  linked-spot (tree.bool_constant x) t = unlinkable (begins_name (name_in t)) (tree.bool_constant x) t refl ∙ sym (none-placed false (operand_at t) (length ls))
-  linked-spot (tree.number_constant n) t = unlinkable (begins_name (name_in t)) (tree.number_constant n) t refl ∙ sym (none-placed false (operand_at t) (length ls))
-  linked-spot (tree.text_constant bytes) t = unlinkable (begins_name (name_in t)) (tree.text_constant bytes) t refl ∙ sym (none-placed false (operand_at t) (length ls))
-  linked-spot tree.nil t = unlinkable (begins_name (name_in t)) tree.nil t refl ∙ sym (none-placed false (operand_at t) (length ls))
-  linked-spot (tree.function f) t = unlinkable (begins_name (name_in t)) (tree.function f) t refl ∙ sym (none-placed false (operand_at t) (length ls))
-  linked-spot (tree.group commands names) t = linkable (begins_name (name_in t)) (tree.group commands names) _ t refl refl refl
+  linked-recognizer : (o : Operand) (t : Token) → fields_on (linked_by (begins_name (name_in t)) o (name_in t)) ≡ deep.fielded (behind o) t (recognizer_of (parser_at ls cs os (Some o)))
+  linked-recognizer tree.dot t = unlinkable (begins_name (name_in t)) tree.dot t refl ∙ sym (none-placed false (operand_at t) (length ls))
+  linked-recognizer (tree.fields names) t = linkable (begins_name (name_in t)) (tree.fields names) _ t refl refl refl
+  linked-recognizer (tree.variable x names) t = linkable (begins_name (name_in t)) (tree.variable x names) _ t refl refl refl
+  linked-recognizer (tree.bool_constant x) t = unlinkable (begins_name (name_in t)) (tree.bool_constant x) t refl ∙ sym (none-placed false (operand_at t) (length ls))
+  linked-recognizer (tree.number_constant n) t = unlinkable (begins_name (name_in t)) (tree.number_constant n) t refl ∙ sym (none-placed false (operand_at t) (length ls))
+  linked-recognizer (tree.text_constant bytes) t = unlinkable (begins_name (name_in t)) (tree.text_constant bytes) t refl ∙ sym (none-placed false (operand_at t) (length ls))
+  linked-recognizer tree.nil t = unlinkable (begins_name (name_in t)) tree.nil t refl ∙ sym (none-placed false (operand_at t) (length ls))
+  linked-recognizer (tree.function f) t = unlinkable (begins_name (name_in t)) (tree.function f) t refl ∙ sym (none-placed false (operand_at t) (length ls))
+  linked-recognizer (tree.group commands names) t = linkable (begins_name (name_in t)) (tree.group commands names) _ t refl refl refl
 
-  plain-field : (cs : List Operands) (os : List Operand) (t : Token) → deep.fielded (begun cs os) t (recognizer_of (half_at ls cs os None)) ≡ deep.placed (operand_at t) (recognizer_of (half_at ls cs os None))
+  plain-field : (cs : List Operands) (os : List Operand) (t : Token) → deep.fielded (begun cs os) t (recognizer_of (parser_at ls cs os None)) ≡ deep.placed (operand_at t) (recognizer_of (parser_at ls cs os None))
   plain-field [] [] t = refl
   plain-field (c ∷ cs) [] t = refl
   plain-field [] (o ∷ os) t = refl
   plain-field (c ∷ cs) (o ∷ os) t = refl
 
-  fielded-spot : (last : Option Operand) (t : Token) → option_map recognizer_of (half.fielded last t (half_at ls cs os last)) ≡ deep.fielded (position_in last (record { commands = cs; operands = os })) t (recognizer_of (half_at ls cs os last))
-  fielded-spot None t = placed-spot None (operand_at t) ∙ sym (plain-field cs os t)
-  fielded-spot (Some o) t = linked-spot o t
+  fielded-recognizer : (last : Option Operand) (t : Token) → option_map recognizer_of (parser.fielded last t (parser_at ls cs os last)) ≡ deep.fielded (position_in last (record { commands = cs; operands = os })) t (recognizer_of (parser_at ls cs os last))
+  fielded-recognizer None t = placed-recognizer None (operand_at t) ∙ sym (plain-field cs os t)
+  fielded-recognizer (Some o) t = linked-recognizer o t
 
-  step-spot_by : (k : TokenKind) (t : Token) (last : Option Operand) → option_map recognizer_of (step_by k t (half_at ls cs os last)) ≡ passed_by k t (recognizer_of (half_at ls cs os last))
-  step-spot_by kind.Space t last = apart-spot last
-  step-spot_by kind.Pipe t last = barred-spot last (closes last cs os)
-  step-spot_by kind.LeftParenthesis t last = opened-spot last
-  step-spot_by kind.RightParenthesis t last = left-spot ls last (closes last cs os)
-  step-spot_by kind.Field t last = fielded-spot last t
-  step-spot_by kind.Word t last = placed-spot last (operand_at t)
-  step-spot_by kind.Number t last = placed-spot last (operand_at t)
-  step-spot_by kind.Dot t last = placed-spot last (operand_at t)
-  step-spot_by kind.Variable t last = placed-spot last (operand_at t)
-  step-spot_by kind.String t last = placed-spot last (operand_at t)
-  step-spot_by kind.RawString t last = placed-spot last (operand_at t)
-  step-spot_by kind.Character t last = placed-spot last (operand_at t)
-  step-spot_by kind.Declare t last = placed-spot last (operand_at t)
-  step-spot_by kind.Assign t last = placed-spot last (operand_at t)
-  step-spot_by kind.Comma t last = placed-spot last (operand_at t)
+  step_by-recognizer : (k : TokenKind) (t : Token) (last : Option Operand) → option_map recognizer_of (step_by k t (parser_at ls cs os last)) ≡ passed_by k t (recognizer_of (parser_at ls cs os last))
+  step_by-recognizer kind.Space t last = apart-recognizer last
+  step_by-recognizer kind.Pipe t last = barred-recognizer last (closes last cs os)
+  step_by-recognizer kind.LeftParenthesis t last = opened-recognizer last
+  step_by-recognizer kind.RightParenthesis t last = left-recognizer ls last (closes last cs os)
+  step_by-recognizer kind.Field t last = fielded-recognizer last t
+  step_by-recognizer kind.Word t last = placed-recognizer last (operand_at t)
+  step_by-recognizer kind.Number t last = placed-recognizer last (operand_at t)
+  step_by-recognizer kind.Dot t last = placed-recognizer last (operand_at t)
+  step_by-recognizer kind.Variable t last = placed-recognizer last (operand_at t)
+  step_by-recognizer kind.String t last = placed-recognizer last (operand_at t)
+  step_by-recognizer kind.RawString t last = placed-recognizer last (operand_at t)
+  step_by-recognizer kind.Character t last = placed-recognizer last (operand_at t)
+  step_by-recognizer kind.Declare t last = placed-recognizer last (operand_at t)
+  step_by-recognizer kind.Assign t last = placed-recognizer last (operand_at t)
+  step_by-recognizer kind.Comma t last = placed-recognizer last (operand_at t)
 
-pub step-spot : (t : Token) (h : Parser) → option_map recognizer_of (step t h) ≡ passed t (recognizer_of h)
+pub step-recognizer : (t : Token) (h : Parser) → option_map recognizer_of (step t h) ≡ passed t (recognizer_of h)
 unfolding step passed
-step-spot t h = step-spot_by h.outer h.inner.commands h.inner.operands t.kind t h.last
+step-recognizer t h = step_by-recognizer h.outer h.inner.commands h.inner.operands t.kind t h.last
 
 -- ---- all of them
 
-pub steps-spot : (o : Option Parser) (ts : List Token) → option_map recognizer_of (steps o ts) ≡ passes (option_map recognizer_of o) ts
-steps-spot o [] = refl
-steps-spot None (t ∷ ts) = steps-spot None ts
-steps-spot (Some h) (t ∷ ts) = steps-spot (step t h) ts ∙ ap (λ s. passes s ts) (step-spot t h)
+pub steps-recognizer : (o : Option Parser) (ts : List Token) → option_map recognizer_of (steps o ts) ≡ passes (option_map recognizer_of o) ts
+steps-recognizer o [] = refl
+steps-recognizer None (t ∷ ts) = steps-recognizer None ts
+steps-recognizer (Some h) (t ∷ ts) = steps-recognizer (step t h) ts ∙ ap (λ s. passes s ts) (step-recognizer t h)
 
-finished-spot : (h : Parser) → is_some (finished h) ≡ ends (recognizer_of h)
+finished-recognizer : (h : Parser) → is_some (finished h) ≡ ends (recognizer_of h)
 unfolding finished
-finished-spot h = by h.outer h.last h.inner.commands h.inner.operands (closes h.last h.inner.commands h.inner.operands)
+finished-recognizer h = by h.outer h.last h.inner.commands h.inner.operands (closes h.last h.inner.commands h.inner.operands)
   where
-    by : (ls : List Partial) (last : Option Operand) (cs : List Operands) (os : List Operand) → Closes last cs os → is_some (half.finished_with ls (more_commands cs (settled last os))) ≡ ends (recognizer_of (half_at ls cs os last))
+    by : (ls : List Partial) (last : Option Operand) (cs : List Operands) (os : List Operand) → Closes last cs os → is_some (parser.finished_with ls (more_commands cs (settled last os))) ≡ ends (recognizer_of (parser_at ls cs os last))
     by [] last cs os (open_end lacks e) = ap is_some e ∙ sym lacks
     by [] last cs os (whole_end x has e) = ap is_some e ∙ sym has
     by (l ∷ ls) last cs os c = refl
 
-ends-spot : (o : Option Parser) → is_some (option_and_then finished o) ≡ ended (option_map recognizer_of o)
-ends-spot None = refl
-ends-spot (Some h) = finished-spot h
+ends-recognizer : (o : Option Parser) → is_some (option_and_then finished o) ≡ ended (option_map recognizer_of o)
+ends-recognizer None = refl
+ends-recognizer (Some h) = finished-recognizer h
 
--- the tokens end the pipeline where the half-read one says so
+-- the tokens end the pipeline for the recognizer where they do for the parser
 pub ends-as : (h : Parser) (ts : List Token) → is_some (commands_after h ts) ≡ ends_pipeline (recognizer_of h) ts
-ends-as h ts = ends-spot (steps (Some h) ts) ∙ ap ended (steps-spot (Some h) ts)
+ends-as h ts = ends-recognizer (steps (Some h) ts) ∙ ap ended (steps-recognizer (Some h) ts)
 
 -- ---- one more parenthesis at most
 

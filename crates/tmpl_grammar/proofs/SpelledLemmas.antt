@@ -9,12 +9,12 @@ use Rattle.tmpl_grammar.specs.Token.{begins_name, name_in}
 use Rattle.tmpl_grammar.specs.Tree as tree
 use Rattle.tmpl_grammar.specs.Tree.{Operand, Operands, Commands, operands_from, commands_from}
 use Rattle.tmpl_grammar.specs.Operand.{operand_at, operand_by, begins_later}
-use Rattle.tmpl_grammar.specs.computed.Parser as half
+use Rattle.tmpl_grammar.specs.computed.Parser as parser
 use Rattle.tmpl_grammar.specs.computed.Parser.{Parser, Partial, settled, more_commands, closed, may_stand, kept, linked, linked_by, step, step_by, steps}
 use Rattle.tmpl_grammar.specs.Pipeline.{IsBlank, IsChain, IsChained, MayBeLater, SpellsOperand, SpellsMore, SpellsCommand, SpellsLater, SpellsPipeline}
 
-abbrev pub half_at : List Partial → List Operands → List Operand → Option Operand → Parser
-half_at ls cs os last = record { outer = ls; inner = record { commands = cs; operands = os }; last = last }
+abbrev pub parser_at : List Partial → List Operands → List Operand → Option Operand → Parser
+parser_at ls cs os last = record { outer = ls; inner = record { commands = cs; operands = os }; last = last }
 
 -- ---- trees as lists
 
@@ -48,36 +48,36 @@ pub step-at : (k : TokenKind) (t : Token) (h : Parser) → t.kind ≡ k → step
 unfolding step
 step-at k t h e = ap (λ k. step_by k t h) e
 
-pub blank-steps : (ls : List Partial) (cs : List Operands) (os : List Operand) (ts : List Token) → IsBlank ts → steps (Some (half_at ls cs os None)) ts ≡ Some (half_at ls cs os None)
+pub blank-steps : (ls : List Partial) (cs : List Operands) (os : List Operand) (ts : List Token) → IsBlank ts → steps (Some (parser_at ls cs os None)) ts ≡ Some (parser_at ls cs os None)
 blank-steps ls cs os [] b = refl
-blank-steps ls cs os (t ∷ ts) b = ap (λ o. steps o ts) (step-at kind.Space t (half_at ls cs os None) b.0) ∙ blank-steps ls cs os ts b.1
+blank-steps ls cs os (t ∷ ts) b = ap (λ o. steps o ts) (step-at kind.Space t (parser_at ls cs os None) b.0) ∙ blank-steps ls cs os ts b.1
 
-white-steps : (ls : List Partial) (cs : List Operands) (os : List Operand) (o : Operand) (t : Token) (ts : List Token) → IsBlank (t ∷ ts) → steps (Some (half_at ls cs os (Some o))) (t ∷ ts) ≡ Some (half_at ls cs (os ++ o ∷ []) None)
-white-steps ls cs os o t ts b = ap (λ p. steps p ts) (step-at kind.Space t (half_at ls cs os (Some o)) b.0) ∙ blank-steps ls cs (os ++ o ∷ []) ts b.1
+white-steps : (ls : List Partial) (cs : List Operands) (os : List Operand) (o : Operand) (t : Token) (ts : List Token) → IsBlank (t ∷ ts) → steps (Some (parser_at ls cs os (Some o))) (t ∷ ts) ≡ Some (parser_at ls cs (os ++ o ∷ []) None)
+white-steps ls cs os o t ts b = ap (λ p. steps p ts) (step-at kind.Space t (parser_at ls cs os (Some o)) b.0) ∙ blank-steps ls cs (os ++ o ∷ []) ts b.1
 
 -- a token that is an operand of its own, of whatever kind it is
-placed-step : (t : Token) (o : Operand) (ls : List Partial) (cs : List Operands) (os : List Operand) → operand_at t ≡ Some o → may_stand cs os o ≡ true → step t (half_at ls cs os None) ≡ Some (half_at ls cs os (Some o))
+placed-step : (t : Token) (o : Operand) (ls : List Partial) (cs : List Operands) (os : List Operand) → operand_at t ≡ Some o → may_stand cs os o ≡ true → step t (parser_at ls cs os None) ≡ Some (parser_at ls cs os (Some o))
 unfolding step operand_at
 placed-step t o ls cs os is may = by t.kind refl
   where
-    same : half.placed None (operand_at t) (half_at ls cs os None) ≡ Some (half_at ls cs os (Some o))
-    same = ap (λ p. half.placed None p (half_at ls cs os None)) is ∙ ap (λ b. kept b (half_at ls cs os (Some o))) may
+    same : parser.placed None (operand_at t) (parser_at ls cs os None) ≡ Some (parser_at ls cs os (Some o))
+    same = ap (λ p. parser.placed None p (parser_at ls cs os None)) is ∙ ap (λ b. kept b (parser_at ls cs os (Some o))) may
 
     none : {A : Type 0} → ◌≡◌ {A = Option Operand} None (Some o) → A
     none e = absurd (let g : ⊥ = cc in g)
 
-    by : (k : TokenKind) → t.kind ≡ k → step_by t.kind t (half_at ls cs os None) ≡ Some (half_at ls cs os (Some o))
-    by kind.Word e = ap (λ k. step_by k t (half_at ls cs os None)) e ∙ same
-    by kind.Number e = ap (λ k. step_by k t (half_at ls cs os None)) e ∙ same
-    by kind.Dot e = ap (λ k. step_by k t (half_at ls cs os None)) e ∙ same
-    by kind.Variable e = ap (λ k. step_by k t (half_at ls cs os None)) e ∙ same
-    by kind.String e = ap (λ k. step_by k t (half_at ls cs os None)) e ∙ same
-    by kind.RawString e = ap (λ k. step_by k t (half_at ls cs os None)) e ∙ same
-    by kind.Character e = ap (λ k. step_by k t (half_at ls cs os None)) e ∙ same
-    by kind.Field e = ap (λ k. step_by k t (half_at ls cs os None)) e ∙ same
-    by kind.Declare e = ap (λ k. step_by k t (half_at ls cs os None)) e ∙ same
-    by kind.Assign e = ap (λ k. step_by k t (half_at ls cs os None)) e ∙ same
-    by kind.Comma e = ap (λ k. step_by k t (half_at ls cs os None)) e ∙ same
+    by : (k : TokenKind) → t.kind ≡ k → step_by t.kind t (parser_at ls cs os None) ≡ Some (parser_at ls cs os (Some o))
+    by kind.Word e = ap (λ k. step_by k t (parser_at ls cs os None)) e ∙ same
+    by kind.Number e = ap (λ k. step_by k t (parser_at ls cs os None)) e ∙ same
+    by kind.Dot e = ap (λ k. step_by k t (parser_at ls cs os None)) e ∙ same
+    by kind.Variable e = ap (λ k. step_by k t (parser_at ls cs os None)) e ∙ same
+    by kind.String e = ap (λ k. step_by k t (parser_at ls cs os None)) e ∙ same
+    by kind.RawString e = ap (λ k. step_by k t (parser_at ls cs os None)) e ∙ same
+    by kind.Character e = ap (λ k. step_by k t (parser_at ls cs os None)) e ∙ same
+    by kind.Field e = ap (λ k. step_by k t (parser_at ls cs os None)) e ∙ same
+    by kind.Declare e = ap (λ k. step_by k t (parser_at ls cs os None)) e ∙ same
+    by kind.Assign e = ap (λ k. step_by k t (parser_at ls cs os None)) e ∙ same
+    by kind.Comma e = ap (λ k. step_by k t (parser_at ls cs os None)) e ∙ same
     by kind.Space e = none (ap (λ k. operand_by k t) (sym e) ∙ is)
     by kind.Pipe e = none (ap (λ k. operand_by k t) (sym e) ∙ is)
     by kind.LeftParenthesis e = none (ap (λ k. operand_by k t) (sym e) ∙ is)
@@ -87,22 +87,22 @@ placed-step t o ls cs os is may = by t.kind refl
 abbrev Chains : (List (List ℕ) → Operand) → Type 0
 Chains f = (ns : List (List ℕ)) (n : List ℕ) → linked (f ns) n ≡ Some (f (ns ++ n ∷ []))
 
-link-step : (f : List (List ℕ) → Operand) → Chains f → (ls : List Partial) (cs : List Operands) (os : List Operand) (ns : List (List ℕ)) (t : Token) → t.kind ≡ kind.Field → begins_name (name_in t) ≡ true → step t (half_at ls cs os (Some (f ns))) ≡ Some (half_at ls cs os (Some (f (ns ++ name_in t ∷ []))))
+link-step : (f : List (List ℕ) → Operand) → Chains f → (ls : List Partial) (cs : List Operands) (os : List Operand) (ns : List (List ℕ)) (t : Token) → t.kind ≡ kind.Field → begins_name (name_in t) ≡ true → step t (parser_at ls cs os (Some (f ns))) ≡ Some (parser_at ls cs os (Some (f (ns ++ name_in t ∷ []))))
 link-step f can ls cs os ns t is begins =
-    step-at kind.Field t (half_at ls cs os (Some (f ns))) is
-    ∙ ap (λ b. option_map (half.ending_with (half_at ls cs os (Some (f ns)))) (linked_by b (f ns) (name_in t))) begins
-    ∙ ap (option_map (half.ending_with (half_at ls cs os (Some (f ns))))) (can ns (name_in t))
+    step-at kind.Field t (parser_at ls cs os (Some (f ns))) is
+    ∙ ap (λ b. option_map (parser.ending_with (parser_at ls cs os (Some (f ns)))) (linked_by b (f ns) (name_in t))) begins
+    ∙ ap (option_map (parser.ending_with (parser_at ls cs os (Some (f ns))))) (can ns (name_in t))
 
-chain-steps : (f : List (List ℕ) → Operand) → Chains f → (ls : List Partial) (cs : List Operands) (os : List Operand) (names ns : List (List ℕ)) (ts : List Token) → IsChain names ts → steps (Some (half_at ls cs os (Some (f ns)))) ts ≡ Some (half_at ls cs os (Some (f (ns ++ names))))
+chain-steps : (f : List (List ℕ) → Operand) → Chains f → (ls : List Partial) (cs : List Operands) (os : List Operand) (names ns : List (List ℕ)) (ts : List Token) → IsChain names ts → steps (Some (parser_at ls cs os (Some (f ns)))) ts ≡ Some (parser_at ls cs os (Some (f (ns ++ names))))
 chain-steps f can ls cs os [] ns ts c =
-    ap (steps (Some (half_at ls cs os (Some (f ns))))) c
-    ∙ ap (λ m. Some (half_at ls cs os (Some (f m)))) (sym (append-nil ns))
+    ap (steps (Some (parser_at ls cs os (Some (f ns))))) c
+    ∙ ap (λ m. Some (parser_at ls cs os (Some (f m)))) (sym (append-nil ns))
 chain-steps f can ls cs os (n ∷ names) ns ts (t, us, is, field, begins, name, rest) =
-    ap (steps (Some (half_at ls cs os (Some (f ns))))) is
+    ap (steps (Some (parser_at ls cs os (Some (f ns))))) is
     ∙ ap (λ o. steps o us) (link-step f can ls cs os ns t field begins)
     ∙ chain-steps f can ls cs os names (ns ++ name_in t ∷ []) us rest
-    ∙ ap (λ m. Some (half_at ls cs os (Some (f m)))) (append_assoc ns (name_in t ∷ []) names)
-    ∙ ap (λ m. Some (half_at ls cs os (Some (f (ns ++ m ∷ names))))) name
+    ∙ ap (λ m. Some (parser_at ls cs os (Some (f m)))) (append_assoc ns (name_in t ∷ []) names)
+    ∙ ap (λ m. Some (parser_at ls cs os (Some (f (ns ++ m ∷ names))))) name
 
 fields-chain : Chains tree.fields
 fields-chain ns n = refl
@@ -113,13 +113,13 @@ variable-chain x ns n = refl
 group-chain : (cs : Commands) → Chains (tree.group cs)
 group-chain cs ns n = refl
 
-one-steps : (o : Operand) (ls : List Partial) (cs : List Operands) (os : List Operand) (ts : List Token) → IsChained o [] ts → may_stand cs os o ≡ true → steps (Some (half_at ls cs os None)) ts ≡ Some (half_at ls cs os (Some o))
+one-steps : (o : Operand) (ls : List Partial) (cs : List Operands) (os : List Operand) (ts : List Token) → IsChained o [] ts → may_stand cs os o ≡ true → steps (Some (parser_at ls cs os None)) ts ≡ Some (parser_at ls cs os (Some o))
 one-steps o ls cs os ts (t, us, is, at, rest) may =
-    ap (steps (Some (half_at ls cs os None))) (is ∙ ap (λ vs. t ∷ vs) rest) ∙ placed-step t o ls cs os at may
+    ap (steps (Some (parser_at ls cs os None))) (is ∙ ap (λ vs. t ∷ vs) rest) ∙ placed-step t o ls cs os at may
 
-chained-steps : (f : List (List ℕ) → Operand) → Chains f → (ns names : List (List ℕ)) (ls : List Partial) (cs : List Operands) (os : List Operand) (ts : List Token) → IsChained (f ns) names ts → may_stand cs os (f ns) ≡ true → steps (Some (half_at ls cs os None)) ts ≡ Some (half_at ls cs os (Some (f (ns ++ names))))
+chained-steps : (f : List (List ℕ) → Operand) → Chains f → (ns names : List (List ℕ)) (ls : List Partial) (cs : List Operands) (os : List Operand) (ts : List Token) → IsChained (f ns) names ts → may_stand cs os (f ns) ≡ true → steps (Some (parser_at ls cs os None)) ts ≡ Some (parser_at ls cs os (Some (f (ns ++ names))))
 chained-steps f can ns names ls cs os ts (t, us, is, at, rest) may =
-    ap (steps (Some (half_at ls cs os None))) is
+    ap (steps (Some (parser_at ls cs os None))) is
     ∙ ap (λ o. steps o us) (placed-step t (f ns) ls cs os at may)
     ∙ chain-steps f can ls cs os names ns us rest
 
@@ -176,9 +176,9 @@ reached-closed h ts ls cs o os r = record {
   closed_is = ap (λ ds. more_commands ds (settled r.end.last r.end.inner.operands)) r.commands_is ∙ ap (more_commands cs) r.operands_is;
 }
 
-blank-reached : (ls : List Partial) (cs : List Operands) (os : List Operand) (o : Operand) (ts : List Token) → IsBlank ts → Reached (half_at ls cs os (Some o)) ts ls cs (os ++ o ∷ [])
-blank-reached ls cs os o [] b = record { end = half_at ls cs os (Some o); to = refl; outer_is = refl; commands_is = refl; operands_is = refl }
-blank-reached ls cs os o (t ∷ ts) b = record { end = half_at ls cs (os ++ o ∷ []) None; to = white-steps ls cs os o t ts b; outer_is = refl; commands_is = refl; operands_is = refl }
+blank-reached : (ls : List Partial) (cs : List Operands) (os : List Operand) (o : Operand) (ts : List Token) → IsBlank ts → Reached (parser_at ls cs os (Some o)) ts ls cs (os ++ o ∷ [])
+blank-reached ls cs os o [] b = record { end = parser_at ls cs os (Some o); to = refl; outer_is = refl; commands_is = refl; operands_is = refl }
+blank-reached ls cs os o (t ∷ ts) b = record { end = parser_at ls cs (os ++ o ∷ []) None; to = white-steps ls cs os o t ts b; outer_is = refl; commands_is = refl; operands_is = refl }
 
 reached-along : (h n : Parser) (ts us vs : List Token) (ls : List Partial) (cs : List Operands) (os qs : List Operand) → ts ≡ us ++ vs → steps (Some h) us ≡ Some n → os ≡ qs → Reached n vs ls cs os → Reached h ts ls cs qs
 reached-along h n ts us vs ls cs os qs is to e r = record {
@@ -197,16 +197,16 @@ ended-along h n ts us vs ls cs ds is to e r = record {
   closed_is = r.closed_is ∙ ap Some e;
 }
 
-bar-step : (h : Parser) (ls : List Partial) (cs : List Operands) (t : Token) → t.kind ≡ kind.Pipe → h.outer ≡ ls → closed h ≡ Some cs → step t h ≡ Some (half_at ls cs [] None)
+bar-step : (h : Parser) (ls : List Partial) (cs : List Operands) (t : Token) → t.kind ≡ kind.Pipe → h.outer ≡ ls → closed h ≡ Some cs → step t h ≡ Some (parser_at ls cs [] None)
 bar-step h ls cs t is outer whole =
-    step-at kind.Pipe t h is ∙ ap (option_map (half.barred h)) whole ∙ ap (λ ls. Some (half_at ls cs [] None)) outer
+    step-at kind.Pipe t h is ∙ ap (option_map (parser.barred h)) whole ∙ ap (λ ls. Some (parser_at ls cs [] None)) outer
 
-close-step : (h : Parser) (l : Partial) (ls : List Partial) (cs : List Operands) (t : Token) → t.kind ≡ kind.RightParenthesis → h.outer ≡ l ∷ ls → closed h ≡ Some cs → step t h ≡ Some (half_at ls l.commands l.operands (Some (tree.group (commands_from cs) [])))
+close-step : (h : Parser) (l : Partial) (ls : List Partial) (cs : List Operands) (t : Token) → t.kind ≡ kind.RightParenthesis → h.outer ≡ l ∷ ls → closed h ≡ Some cs → step t h ≡ Some (parser_at ls l.commands l.operands (Some (tree.group (commands_from cs) [])))
 close-step h l ls cs t is outer whole =
-    step-at kind.RightParenthesis t h is ∙ ap (λ o. half.left_with h.outer o) whole ∙ ap (λ ls. half.left_with ls (Some cs)) outer
+    step-at kind.RightParenthesis t h is ∙ ap (λ o. parser.left_with h.outer o) whole ∙ ap (λ ls. parser.left_with ls (Some cs)) outer
 
 mutual
-  operand-read : (o : Operand) (ts : List Token) → SpellsOperand o ts → (ls : List Partial) (cs : List Operands) (os : List Operand) → may_stand cs os o ≡ true → steps (Some (half_at ls cs os None)) ts ≡ Some (half_at ls cs os (Some o))
+  operand-read : (o : Operand) (ts : List Token) → SpellsOperand o ts → (ls : List Partial) (cs : List Operands) (os : List Operand) → may_stand cs os o ≡ true → steps (Some (parser_at ls cs os None)) ts ≡ Some (parser_at ls cs os (Some o))
   operand-read tree.dot ts s ls cs os may = one-steps tree.dot ls cs os ts s may
   operand-read (tree.fields []) ts s ls cs os may = absurd s
   operand-read (tree.fields (n ∷ ns)) ts s ls cs os may = chained-steps tree.fields fields-chain (n ∷ []) ns ls cs os ts s (stands-as cs os _ (tree.fields (n ∷ [])) refl may)
@@ -217,29 +217,29 @@ mutual
   operand-read tree.nil ts s ls cs os may = one-steps tree.nil ls cs os ts s may
   operand-read (tree.function f) ts s ls cs os may = one-steps (tree.function f) ls cs os ts s may
   operand-read (tree.group commands names) ts (l, inner, r, us, is, left, right, p, chain) ls cs os may =
-      let level : Partial = record { commands = cs; operands = os } in
-      let e = pipeline-read commands inner p (level ∷ ls) in
-      ap (steps (Some (half_at ls cs os None))) is
-      ∙ ap (λ o. steps o (inner ++ r ∷ us)) (step-at kind.LeftParenthesis l (half_at ls cs os None) left)
-      ∙ along (Some (half_at (level ∷ ls) [] [] None)) (Some e.end) (inner ++ r ∷ us) inner (r ∷ us) refl e.to
-      ∙ ap (λ o. steps o us) (close-step e.end level ls (command_list commands) r right e.outer_is e.closed_is)
-      ∙ ap (λ ds. steps (Some (half_at ls cs os (Some (tree.group ds [])))) us) (commands-back commands)
+      let partial : Partial = record { commands = cs; operands = os } in
+      let e = pipeline-read commands inner p (partial ∷ ls) in
+      ap (steps (Some (parser_at ls cs os None))) is
+      ∙ ap (λ o. steps o (inner ++ r ∷ us)) (step-at kind.LeftParenthesis l (parser_at ls cs os None) left)
+      ∙ along (Some (parser_at (partial ∷ ls) [] [] None)) (Some e.end) (inner ++ r ∷ us) inner (r ∷ us) refl e.to
+      ∙ ap (λ o. steps o us) (close-step e.end partial ls (command_list commands) r right e.outer_is e.closed_is)
+      ∙ ap (λ ds. steps (Some (parser_at ls cs os (Some (tree.group ds [])))) us) (commands-back commands)
       ∙ chain-steps (tree.group commands) (group-chain commands) ls cs os names [] us chain
 
-  more-read : (ms : Operands) (ts : List Token) → SpellsMore ms ts → (ls : List Partial) (cs : List Operands) (os : List Operand) (o : Operand) → Reached (half_at ls cs os (Some o)) ts ls cs (os ++ o ∷ operand_list ms)
+  more-read : (ms : Operands) (ts : List Token) → SpellsMore ms ts → (ls : List Partial) (cs : List Operands) (os : List Operand) (o : Operand) → Reached (parser_at ls cs os (Some o)) ts ls cs (os ++ o ∷ operand_list ms)
   more-read tree.no_operand ts s ls cs os o = blank-reached ls cs os o ts s
   more-read (tree.operand p ps) ts (w, ws, a, b, is, blank, spells, rest) ls cs os o =
-      reached-along _ (half_at ls cs (os ++ o ∷ []) None) ts (w ∷ ws) (a ++ b) ls cs _ _ is (white-steps ls cs os o w ws blank) (append_assoc os (o ∷ []) (p ∷ operand_list ps))
-      (reached-along _ (half_at ls cs (os ++ o ∷ []) (Some p)) (a ++ b) a b ls cs _ _ refl (operand-read p a spells ls cs (os ++ o ∷ []) (stands-behind cs os o p)) refl
+      reached-along _ (parser_at ls cs (os ++ o ∷ []) None) ts (w ∷ ws) (a ++ b) ls cs _ _ is (white-steps ls cs os o w ws blank) (append_assoc os (o ∷ []) (p ∷ operand_list ps))
+      (reached-along _ (parser_at ls cs (os ++ o ∷ []) (Some p)) (a ++ b) a b ls cs _ _ refl (operand-read p a spells ls cs (os ++ o ∷ []) (stands-behind cs os o p)) refl
       (more-read ps b rest ls cs (os ++ o ∷ []) p))
 
-  command-read : (os : Operands) (ts : List Token) → SpellsCommand os ts → (ls : List Partial) (cs : List Operands) → StandsFirst cs os → Ended (half_at ls cs [] None) ts ls (cs ++ os ∷ [])
+  command-read : (os : Operands) (ts : List Token) → SpellsCommand os ts → (ls : List Partial) (cs : List Operands) → StandsFirst cs os → Ended (parser_at ls cs [] None) ts ls (cs ++ os ∷ [])
   command-read tree.no_operand ts s ls cs may = absurd s
   command-read (tree.operand o ms) ts (ws, a, b, is, blank, spells, rest) ls cs may =
-      let r = reached-along _ (half_at ls cs [] None) ts ws (a ++ b) ls cs _ _ is (blank-steps ls cs [] ws blank) refl
-      (reached-along _ (half_at ls cs [] (Some o)) (a ++ b) a b ls cs _ _ refl (operand-read o a spells ls cs [] may) refl
+      let r = reached-along _ (parser_at ls cs [] None) ts ws (a ++ b) ls cs _ _ is (blank-steps ls cs [] ws blank) refl
+      (reached-along _ (parser_at ls cs [] (Some o)) (a ++ b) a b ls cs _ _ refl (operand-read o a spells ls cs [] may) refl
       (more-read ms b rest ls cs [] o)) in
-      subst (λ os. Ended (half_at ls cs [] None) ts ls (cs ++ os ∷ [])) (operands-back (tree.operand o ms)) (reached-closed _ ts ls cs o (operand_list ms) r)
+      subst (λ os. Ended (parser_at ls cs [] None) ts ls (cs ++ os ∷ [])) (operands-back (tree.operand o ms)) (reached-closed _ ts ls cs o (operand_list ms) r)
 
   later-read : (later : Commands) (ts : List Token) → SpellsLater later ts → (h : Parser) (ls : List Partial) (cs : List Operands) → h.outer ≡ ls → closed h ≡ Some cs → Ended h ts ls (cs ++ command_list later)
   later-read tree.no_command ts s h ls cs outer whole = record {
@@ -250,12 +250,12 @@ mutual
   }
   later-read (tree.command os later) ts (bar, a, b, is, bars, may, spells, rest) h ls cs outer whole =
       let r = command-read os a spells ls cs (first-later cs os may) in
-      ended-along h (half_at ls cs [] None) ts (bar ∷ []) (a ++ b) ls _ _ is (bar-step h ls cs bar bars outer whole)
+      ended-along h (parser_at ls cs [] None) ts (bar ∷ []) (a ++ b) ls _ _ is (bar-step h ls cs bar bars outer whole)
       (append_assoc cs (os ∷ []) (command_list later))
       (ended-along _ r.end (a ++ b) a b ls _ _ refl r.to refl
       (later-read later b rest r.end ls _ r.outer_is r.closed_is))
 
-  pub pipeline-read : (cs : Commands) (ts : List Token) → SpellsPipeline cs ts → (ls : List Partial) → Ended (half_at ls [] [] None) ts ls (command_list cs)
+  pub pipeline-read : (cs : Commands) (ts : List Token) → SpellsPipeline cs ts → (ls : List Partial) → Ended (parser_at ls [] [] None) ts ls (command_list cs)
   pipeline-read tree.no_command ts s ls = absurd s
   pipeline-read (tree.command os later) ts (a, b, is, spells, rest) ls =
       let r = command-read os a spells ls [] (first-of-all os) in

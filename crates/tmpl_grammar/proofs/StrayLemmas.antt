@@ -14,7 +14,7 @@ use Rattle.tmpl_grammar.specs.declared.keyword.Keyword.{Keyword}
 use Rattle.tmpl_grammar.specs.declared.keyword.Keyword.TheVariants as word
 use Rattle.tmpl_grammar.specs.declared.tree.Control.TheVariants as control
 use Rattle.tmpl_grammar.proofs.SpelledLemmas.{steps-append, step-at, blank-steps}
-use Rattle.tmpl_grammar.proofs.PipelineLemmas.{reads_spelled}
+use Rattle.tmpl_grammar.proofs.PipelineLemmas.{reads-spelled}
 use Rattle.tmpl_grammar.proofs.OptionLemmas.{no-value}
 
 -- at no place of a pipeline may this token stand
@@ -88,4 +88,4 @@ blank-read ts b = ap (λ o. option_map pipeline_from (option_and_then finished o
 
 -- tokens that spell a pipeline are none of these
 pub spelled-lives : {A : Type 0} (ts : List Token) (cs : Commands) → SpellsPipeline cs ts → pipeline_in ts ≡ None → A
-spelled-lives ts cs s e = no-value (pipeline cs) (sym e ∙ reads_spelled ts cs s)
+spelled-lives ts cs s e = no-value (pipeline cs) (sym e ∙ reads-spelled ts cs s)

@@ -2,13 +2,14 @@
 use Rattle.std.proofs.Common.{◌≡◌, ◌∙◌, ◌+◌, Bool, true, false, ◌&&◌, cond, List, [], ◌∷◌, ◌++◌, Some, None, refl, ap, sym, drop}
 use Rattle.std.proofs.Math.Numerals.{one-add}
 use Rattle.std.specs.List.{prefix_len}
+use Rattle.std.proofs.lemmas.Option.{same_Some}
 use Rattle.tmpl_lex.specs.declared.piece.TokenKind.{TokenKind}
 use Rattle.tmpl_lex.specs.declared.piece.TokenKind.TheVariants as kind
 use Rattle.tmpl_lex.specs.Piece.{Token}
 use Rattle.tmpl_grammar.specs.Token.{is_space_kind, is_white, is_blank, first, next}
 use Rattle.tmpl_grammar.specs.Pipeline.{IsBlank}
 use Rattle.tmpl_grammar.specs.Header.{Then}
-use Rattle.tmpl_grammar.proofs.OptionLemmas.{same-value, no-value}
+use Rattle.tmpl_grammar.proofs.OptionLemmas.{no-value}
 
 space-white : (t : Token) → t.kind ≡ kind.Space → is_white t ≡ true
 space-white t e = ap is_space_kind e
@@ -44,7 +45,7 @@ begins (s ∷ ss) t us e = by (begins ss t us) (is_white s) refl
         let r = more (sym (white-first s ss w) ∙ e) in
         record { front = s ∷ r.front; tokens_are = ap (λ vs. s ∷ vs) r.tokens_are; blank = (white-space s.kind w, r.blank) }
     by more false w =
-        let same = same-value (s, ss) (t, us) (sym (other-first s ss w) ∙ e) in
+        let same = same_Some (s, ss) (t, us) (sym (other-first s ss w) ∙ e) in
         record { front = []; tokens_are = ap (λ (p : Token × List Token). p.0 ∷ p.1) same; blank = tt }
 
 pub no-next : (ts : List Token) → next ts ≡ None → IsBlank ts

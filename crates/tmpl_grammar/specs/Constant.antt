@@ -1,7 +1,7 @@
 pub mod Integer
 pub mod Quoted
--- The constant that a token stands for ("Arguments" in the documentation of Go's text/template: "A boolean, string, character,
--- integer .. constant in Go syntax").
+-- The constant that a token stands for ("Arguments" in the documentation of Go's text/template: "A boolean, string,
+-- character, integer .. constant in Go syntax").
 use Rattle.std.specs.Prelude.{ℕ, pos, List, Option, Some, None, option_map}
 use Rattle.tmpl_lex.specs.Piece.{Token}
 use Rattle.tmpl_lex.specs.declared.piece.TokenKind.{TokenKind}

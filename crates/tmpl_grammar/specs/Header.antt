@@ -1,5 +1,5 @@
--- The grammar of a header ("Variables" in the documentation of Go's text/template): a pipeline, perhaps behind variables.
--- White space may stand between any two tokens, also where Go asks for it.
+-- The grammar of a header ("Variables" in the documentation of Go's text/template): a pipeline, perhaps behind
+-- variables. White space may stand between any two tokens, also where Go asks for it.
 use Rattle.std.specs.Prelude.{◌≡◌, ℕ, Bool, true, false, not, List, [], ◌∷◌, ◌++◌}
 use Rattle.tmpl_lex.specs.declared.piece.TokenKind.{TokenKind}
 use Rattle.tmpl_lex.specs.declared.piece.TokenKind.TheVariants as kind

@@ -16,7 +16,9 @@ IsBlank (t ∷ ts) = (t.kind ≡ kind.Space) × IsBlank ts
 -- fields of these names, with nothing between them
 abbrev pub IsChain : List (List ℕ) → List Token → Type 0
 IsChain [] ts = ts ≡ []
-IsChain (n ∷ ns) ts = (t : Token) × (us : List Token) × (ts ≡ t ∷ us) × (t.kind ≡ kind.Field) × (begins_name (name_in t) ≡ true) × (name_in t ≡ n) × IsChain ns us
+IsChain (n ∷ ns) ts =
+    (t : Token) × (us : List Token) × (ts ≡ t ∷ us) × (t.kind ≡ kind.Field) × (begins_name (name_in t) ≡ true)
+    × (name_in t ≡ n) × IsChain ns us
 
 -- a token that is an operand of its own, and a chain
 abbrev pub IsChained : Operand → List (List ℕ) → List Token → Type 0
@@ -42,24 +44,34 @@ abbrev mutual
   SpellsOperand (tree.text_constant bytes) ts = IsChained (tree.text_constant bytes) [] ts
   SpellsOperand tree.nil ts = IsChained tree.nil [] ts
   SpellsOperand (tree.function f) ts = IsChained (tree.function f) [] ts
-  SpellsOperand (tree.group commands names) ts = (l : Token) × (inner : List Token) × (r : Token) × (us : List Token) × (ts ≡ l ∷ inner ++ r ∷ us) × (l.kind ≡ kind.LeftParenthesis) × (r.kind ≡ kind.RightParenthesis) × SpellsPipeline commands inner × IsChain names us
+  SpellsOperand (tree.group commands names) ts =
+      (l : Token) × (inner : List Token) × (r : Token) × (us : List Token) × (ts ≡ l ∷ inner ++ r ∷ us)
+      × (l.kind ≡ kind.LeftParenthesis) × (r.kind ≡ kind.RightParenthesis) × SpellsPipeline commands inner
+      × IsChain names us
 
   -- operands, each behind white space, and perhaps white space
   pub SpellsMore : Operands → List Token → Type 0
   SpellsMore tree.no_operand ts = IsBlank ts
-  SpellsMore (tree.operand o os) ts = (w : Token) × (ws : List Token) × (a : List Token) × (b : List Token) × (ts ≡ w ∷ ws ++ (a ++ b)) × IsBlank (w ∷ ws) × SpellsOperand o a × SpellsMore os b
+  SpellsMore (tree.operand o os) ts =
+      (w : Token) × (ws : List Token) × (a : List Token) × (b : List Token) × (ts ≡ w ∷ ws ++ (a ++ b))
+      × IsBlank (w ∷ ws) × SpellsOperand o a × SpellsMore os b
 
   -- one or more operands
   pub SpellsCommand : Operands → List Token → Type 0
   SpellsCommand tree.no_operand ts = ⊥
-  SpellsCommand (tree.operand o os) ts = (ws : List Token) × (a : List Token) × (b : List Token) × (ts ≡ ws ++ (a ++ b)) × IsBlank ws × SpellsOperand o a × SpellsMore os b
+  SpellsCommand (tree.operand o os) ts =
+      (ws : List Token) × (a : List Token) × (b : List Token) × (ts ≡ ws ++ (a ++ b)) × IsBlank ws × SpellsOperand o a
+      × SpellsMore os b
 
   -- commands, each behind a bar
   pub SpellsLater : Commands → List Token → Type 0
   SpellsLater tree.no_command ts = ts ≡ []
-  SpellsLater (tree.command os cs) ts = (bar : Token) × (a : List Token) × (b : List Token) × (ts ≡ bar ∷ a ++ b) × (bar.kind ≡ kind.Pipe) × MayBeLater os × SpellsCommand os a × SpellsLater cs b
+  SpellsLater (tree.command os cs) ts =
+      (bar : Token) × (a : List Token) × (b : List Token) × (ts ≡ bar ∷ a ++ b) × (bar.kind ≡ kind.Pipe) × MayBeLater os
+      × SpellsCommand os a × SpellsLater cs b
 
   -- one or more commands
   pub SpellsPipeline : Commands → List Token → Type 0
   SpellsPipeline tree.no_command ts = ⊥
-  SpellsPipeline (tree.command os cs) ts = (a : List Token) × (b : List Token) × (ts ≡ a ++ b) × SpellsCommand os a × SpellsLater cs b
+  SpellsPipeline (tree.command os cs) ts =
+      (a : List Token) × (b : List Token) × (ts ≡ a ++ b) × SpellsCommand os a × SpellsLater cs b

@@ -11,8 +11,10 @@ use Rattle.tmpl_lex.specs.Piece.{Token}
 use Rattle.tmpl_lex.specs.declared.piece.TokenKind.{TokenKind}
 use Rattle.tmpl_lex.specs.declared.piece.TokenKind.TheVariants as kind
 use Rattle.tmpl_grammar.specs.Tree as tree
-use Rattle.tmpl_grammar.specs.Tree.{Operand, Operands, Commands, Pipeline, pipeline, Binding, unbound, declare, assign, declare_pair, Header}
-use Rattle.tmpl_grammar.specs.Action.{Action, pipeline_action, opening, plain_else, else_branch, end_action, break_action, continue_action, control_in}
+use Rattle.tmpl_grammar.specs.Tree.{Operand, Operands, Commands, Pipeline, pipeline, Binding, unbound, declare, assign}
+use Rattle.tmpl_grammar.specs.Tree.{declare_pair, Header}
+use Rattle.tmpl_grammar.specs.Action.{Action, pipeline_action, opening, plain_else, else_branch, end_action}
+use Rattle.tmpl_grammar.specs.Action.{break_action, continue_action, control_in}
 use Rattle.tmpl_grammar.specs.Keyword.{spelling}
 use Rattle.tmpl_grammar.specs.declared.keyword.Keyword.{Keyword}
 use Rattle.tmpl_grammar.specs.declared.keyword.Keyword.TheVariants as keyword
@@ -50,7 +52,9 @@ abbrev mutual
   operand_tokens (tree.text_constant bytes) = token kind.String (quote bytes) ∷ []
   operand_tokens tree.nil = word (codes "nil") ∷ []
   operand_tokens (tree.function f) = word (name_of f) ∷ []
-  operand_tokens (tree.group commands names) = token kind.LeftParenthesis (40 ∷ []) ∷ (commands_tokens commands ++ token kind.RightParenthesis (41 ∷ []) ∷ chain_tokens names)
+  operand_tokens (tree.group commands names) =
+      token kind.LeftParenthesis (40 ∷ [])
+      ∷ (commands_tokens commands ++ token kind.RightParenthesis (41 ∷ []) ∷ chain_tokens names)
 
   pub more_tokens : Operands → List Token
   more_tokens tree.no_operand = []
@@ -62,7 +66,8 @@ abbrev mutual
 
   pub later_tokens : Commands → List Token
   later_tokens tree.no_command = []
-  later_tokens (tree.command os cs) = space ∷ token kind.Pipe (124 ∷ []) ∷ space ∷ (command_tokens os ++ later_tokens cs)
+  later_tokens (tree.command os cs) =
+      space ∷ token kind.Pipe (124 ∷ []) ∷ space ∷ (command_tokens os ++ later_tokens cs)
 
   pub commands_tokens : Commands → List Token
   commands_tokens tree.no_command = []
@@ -115,7 +120,8 @@ Lexes (t ∷ ts) rest = IsFront t (bytes_of ts ++ rest) × Lexes ts rest
 
 -- bytes that may stand behind a `{{`, a space or a bar: they begin no white space, comment, trim marker or end
 pub data Solid : List ℕ → Type 0 where
-  solid : {b : ℕ} {bs : List ℕ} → is_space b ≡ false → (b == 45) ≡ false → (b == 47) ≡ false → (b == 125) ≡ false → Solid (b ∷ bs)
+  solid : {b : ℕ} {bs : List ℕ} → is_space b ≡ false → (b == 45) ≡ false → (b == 47) ≡ false → (b == 125) ≡ false
+      → Solid (b ∷ bs)
   minus : {d : ℕ} {bs : List ℕ} → is_ascii_digit d ≡ true → Solid (45 ∷ d ∷ bs)
 
 -- the tokens may stand in an action, whatever stands behind it

@@ -10,10 +10,6 @@ abbrev pub is_space_kind : TokenKind → Bool
 is_space_kind kind.Space = true
 is_space_kind k = false
 
-abbrev pub is_field_kind : TokenKind → Bool
-is_field_kind kind.Field = true
-is_field_kind k = false
-
 abbrev pub is_white : Token → Bool
 is_white t = is_space_kind t.kind
 
@@ -41,10 +37,6 @@ name_in t = drop 1 t.bytes
 abbrev pub begins_name : List ℕ → Bool
 begins_name [] = false
 begins_name (b ∷ bs) = not (is_ascii_digit b)
-
--- a field that may stand in a chain
-abbrev pub is_link : Token → Bool
-is_link t = is_field_kind t.kind && begins_name (name_in t)
 
 abbrev pub is_opening_kind : TokenKind → Bool
 is_opening_kind kind.LeftParenthesis = true

@@ -29,8 +29,8 @@ mutual
 pub data Pipeline : Type 0 where
   pipeline : Commands → Pipeline
 
--- the variables that take a pipeline's value: none, a new one, one that is there, or, in a range, one for the index or key
--- and one for the element
+-- the variables that take a pipeline's value: none, a new one, one that is there, or, in a range, one for the index or
+-- key and one for the element
 pub data Binding : Type 0 where
   unbound : Binding
   declare : List ℕ → Binding

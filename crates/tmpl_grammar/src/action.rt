@@ -17,11 +17,17 @@ pub enum Branch {
 pub enum Action {
     /// Puts out the text of a value, or binds a variable to it.
     Pipeline(Header),
+    /// `if`, `with` or `range`: begins a part that an `end` closes.
     Open(Control, Header),
+    /// `else` alone: begins the other part of the control around it.
     Else,
+    /// `else if`: begins the other part, which is a control of its own up to the same `end`.
     ElseBranch(Branch, Header),
+    /// Closes the control around it.
     End,
+    /// Ends the innermost range around it.
     Break,
+    /// Goes to the next element of that range.
     Continue,
 }
 

@@ -31,12 +31,14 @@ pub(crate) fn constant(alloc: Global, token: &Token<'_>) -> Result<Option<Operan
     }
 }
 
+/// The whole number that these bytes spell, if they spell one that fits.
 fn number(bytes: &[u8]) -> Option<Operand>
     ensures { option_map operand_of result ≡ constant_by kind.Number bytes.now }
 {
     Some(Operand::Number(whole(bytes)?))
 }
 
+/// The text of a string, which these bytes spell with its quotes; none where an escape is misspelled.
 fn string(alloc: Global, bytes: &[u8]) -> Result<Option<Operand>, AllocError>
     ensures { IfOk result (λ o. option_map operand_of o ≡ constant_by kind.String bytes.now) }
 {
@@ -46,6 +48,7 @@ fn string(alloc: Global, bytes: &[u8]) -> Result<Option<Operand>, AllocError>
     }
 }
 
+/// The text of a raw string, which these bytes spell with its quotes.
 fn raw_string(alloc: Global, bytes: &[u8]) -> Result<Option<Operand>, AllocError>
     ensures { IfOk result (λ o. option_map operand_of o ≡ constant_by kind.RawString bytes.now) }
 {
@@ -53,6 +56,7 @@ fn raw_string(alloc: Global, bytes: &[u8]) -> Result<Option<Operand>, AllocError
     Ok(Some(Operand::Text(Bytes::new(text))))
 }
 
+/// The code of a character, which these bytes spell with its quotes; none where they spell no single one.
 fn character(bytes: &[u8]) -> Option<Operand>
     ensures { option_map operand_of result ≡ constant_by kind.Character bytes.now }
 {

@@ -77,6 +77,7 @@ fn second_name<'t, 'b>(key: &'b [u8], tokens: &'t [Token<'b>]) -> Front<'t, 'b>
     }
 }
 
+/// The name in memory of its own.
 fn copied(alloc: Global, name: &[u8]) -> Result<Bytes, AllocError>
     ensures { IfOk result (λ b. b ≡ name.now) }
 {

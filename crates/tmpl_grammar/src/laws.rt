@@ -1,5 +1,7 @@
 //! The laws of the grammar.
-ghost use Rattle.tmpl_grammar.specs.Laws.{ReadsSpelled, ReadsSpelledAction, SpellsOne, SpellsOneAction, SpellsRead, SpellsReadAction, PrintsTokens, SpellsTokens};
+ghost use Rattle.tmpl_grammar.specs.Laws.{ReadsSpelled, SpellsRead, SpellsOne};
+ghost use Rattle.tmpl_grammar.specs.Laws.{ReadsSpelledAction, SpellsReadAction, SpellsOneAction};
+ghost use Rattle.tmpl_grammar.specs.Laws.{PrintsTokens, SpellsTokens};
 
 /// The law that a list of tokens spells one pipeline at most, and that just this one is read.
 pub fn one_reading()

@@ -4,8 +4,7 @@ ghost use Rattle.std.specs.List.{list_all, prefix_len};
 ghost use Rattle.tmpl_lex.specs.Piece.{token_of};
 ghost use Rattle.tmpl_grammar.specs.Token as spec;
 ghost use Rattle.tmpl_grammar.specs.Operand as word;
-ghost use Rattle.tmpl_grammar.specs.View.{next_of};
-ghost use Rattle.tmpl_grammar.specs.View.{operand_of};
+ghost use Rattle.tmpl_grammar.specs.View.{next_of, operand_of};
 
 use crate::constant::constant;
 use crate::tree::Operand;
@@ -14,6 +13,7 @@ use tmpl_funcs::Func;
 use tmpl_lex::{Token, TokenKind};
 use tmpl_values::Bytes;
 
+/// Whether a token is white space.
 fn is_white(token: &Token<'_>) -> bool
     ensures { result ≡ spec.is_white (token_of token.now) }
 {
@@ -28,6 +28,7 @@ pub(crate) fn is_blank(tokens: &[Token<'_>]) -> bool
     all_white(tokens)
 }
 
+/// Whether each token is white space.
 fn all_white(tokens: &[Token<'_>]) -> bool
     ensures { result ≡ list_all (λ t. spec.is_white (token_of t)) tokens.now }
 {
@@ -80,6 +81,7 @@ pub(crate) fn begins_name(name: &[u8]) -> bool
     }
 }
 
+/// The function of this name, if there is one ("Functions" in the documentation of Go's text/template).
 fn function_named(name: &[u8]) -> Option<Func>
     ensures { result ≡ word.func_named name.now }
 {
@@ -105,6 +107,7 @@ fn word(name: &[u8]) -> Option<Operand>
     }
 }
 
+/// The chain of this one field from dot, if a field may have this name.
 fn field(alloc: Global, name: &[u8]) -> Result<Option<Operand>, AllocError>
     ensures { IfOk result (λ o. option_map operand_of o
         ≡ word.field_operand (spec.begins_name name.now) name.now) }
@@ -117,6 +120,7 @@ fn field(alloc: Global, name: &[u8]) -> Result<Option<Operand>, AllocError>
     }
 }
 
+/// The variable of this name, without a chain.
 fn variable(alloc: Global, name: &[u8]) -> Result<Operand, AllocError>
     ensures { IfOk result (λ o. operand_of o ≡ word.variable_operand name.now) }
 {

@@ -81,7 +81,8 @@ fn read_bound(
 
 /// An `else`, behind which nothing or an `if` stands.
 fn read_else(alloc: Global, rest: &[Token<'_>]) -> Result<Reading<Action>, AllocError>
-    ensures { IfOk result (λ a. action_reading a ≡ depth.reading_of (spec.else_by (spec.next (map token_of rest.now)))) }
+    ensures { IfOk result (λ a. action_reading a
+        ≡ depth.reading_of (spec.else_by (spec.next (map token_of rest.now)))) }
 {
     match next(rest) {
         None => Ok(Reading::Read(Action::Else)),

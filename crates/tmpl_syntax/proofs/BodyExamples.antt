@@ -13,7 +13,7 @@ use Rattle.tmpl_syntax.specs.computed.Frames.{verdict_of}
 use Rattle.tmpl_syntax.specs.Spelling.{Spells}
 use Rattle.tmpl_syntax.specs.computed.Build.{nodes_from}
 use Rattle.tmpl_syntax.proofs.SpellingLemmas.{spells-fine}
-use Rattle.tmpl_syntax.proofs.VerdictLemmas.{judged_all}
+use Rattle.tmpl_syntax.proofs.VerdictLemmas.{judged-all}
 
 -- `$x`, `$y`
 abbrev x : List ℕ
@@ -83,7 +83,7 @@ Says items v = Judged (roles_of items) v
 
 -- the definition says so where the computed verdict does
 says : (items : List Item) (v : Verdict) → verdict_of (roles_of items) ≡ v → Says items v
-says items v e = subst (Judged (roles_of items)) e (judged_all (roles_of items))
+says items v e = subst (Judged (roles_of items)) e (judged-all (roles_of items))
 
 nothing-at-all : Says [] fine
 unfolding verdict_of

@@ -19,19 +19,19 @@ use Rattle.tmpl_syntax.specs.computed.Frames.{top, seen_at, fault_at, frames_pas
 use Rattle.tmpl_syntax.specs.computed.Parse.{Refusal, IsRefusal, line_in, by_verdict, checked}
 use Rattle.tmpl_syntax.specs.Parse.{last_line}
 use Rattle.tmpl_syntax.proofs.FaultLemmas.{TellsRole, tells}
-use Rattle.tmpl_syntax.proofs.SoundLemmas.{Sound, sound_start, sound_past}
+use Rattle.tmpl_syntax.proofs.SoundLemmas.{Sound, sound-start, sound-past}
 
 -- up to the place i none is refused, and there these frames and names stand
 pub record IsChecking (xs : List Role) (i : ℕ) (names : List Name) (fs : List Frame) : Type 0 where
   pub sound : Sound xs i names fs
   pub goes : verdict_of xs ≡ verdict_from i fs names (drop i xs)
 
-pub checking_start : (xs : List Role) (names : List Name) (fs : List Frame) → names ≡ [] → fs ≡ [] → IsChecking xs 0 names fs
+pub checking-start : (xs : List Role) (names : List Name) (fs : List Frame) → names ≡ [] → fs ≡ [] → IsChecking xs 0 names fs
 unfolding verdict_of
-checking_start xs names fs e f = subst (λ n. IsChecking xs 0 n fs) (sym e) (subst (λ s. IsChecking xs 0 [] s) (sym f) start)
+checking-start xs names fs e f = subst (λ n. IsChecking xs 0 n fs) (sym e) (subst (λ s. IsChecking xs 0 [] s) (sym f) start)
   where
     start : IsChecking xs 0 [] []
-    start = record { sound = sound_start xs; goes = refl }
+    start = record { sound = sound-start xs; goes = refl }
 
 drop-at : (xs : List Role) (i : ℕ) (x : Role) → slice_get xs i ≡ Some x → drop i xs ≡ x ∷ drop (i + 1) xs
 drop-at xs i x at =
@@ -44,7 +44,7 @@ module _ (xs : List Role) (i : ℕ) (names : List Name) (fs : List Frame) (x : R
 
   past : fault_at x (top fs) (seen_at x (top fs) names) ≡ None → IsChecking xs (i + 1) (seen_at x (top fs) names ++ added_by x) (frames_past x fs (length (seen_at x (top fs) names)))
   past none = record {
-    sound = sound_past xs i names fs x at (subst (TellsRole x (top fs) (seen_at x (top fs) names)) none (tells x (top fs) (seen_at x (top fs) names))) c.sound;
+    sound = sound-past xs i names fs x at (subst (TellsRole x (top fs) (seen_at x (top fs) names)) none (tells x (top fs) (seen_at x (top fs) names))) c.sound;
     goes = here None none;
   }
 
@@ -52,51 +52,51 @@ module _ (xs : List Role) (i : ℕ) (names : List Name) (fs : List Frame) (x : R
     sees' : ms ≡ seen_at x (top fs) names
     sees' = sees ∙ ap (λ u. seen_at x u names) same
 
-    fault_same : (o : Option Fault) → fault_at x t ms ≡ o → fault_at x (top fs) (seen_at x (top fs) names) ≡ o
-    fault_same o e = sym (ap (λ u. fault_at x u ms) same ∙ ap (fault_at x (top fs)) sees') ∙ e
+    fault-same : (o : Option Fault) → fault_at x t ms ≡ o → fault_at x (top fs) (seen_at x (top fs) names) ≡ o
+    fault-same o e = sym (ap (λ u. fault_at x u ms) same ∙ ap (fault_at x (top fs)) sees') ∙ e
 
-    pub checking_past : (ns : List Name) (gs : List Frame) → ns ≡ ms ++ added_by x → gs ≡ frames_past x fs (length ms) → fault_at x t ms ≡ None → IsChecking xs (i + 1) ns gs
-    checking_past ns gs e f none =
+    pub checking-past : (ns : List Name) (gs : List Frame) → ns ≡ ms ++ added_by x → gs ≡ frames_past x fs (length ms) → fault_at x t ms ≡ None → IsChecking xs (i + 1) ns gs
+    checking-past ns gs e f none =
         subst (λ n. IsChecking xs (i + 1) n gs) (sym (e ∙ ap (λ l. l ++ added_by x) sees'))
-        (subst (λ s. IsChecking xs (i + 1) (seen_at x (top fs) names ++ added_by x) s) (sym (f ∙ ap (λ l. frames_past x fs (length l)) sees')) (past (fault_same None none)))
+        (subst (λ s. IsChecking xs (i + 1) (seen_at x (top fs) names ++ added_by x) s) (sym (f ∙ ap (λ l. frames_past x fs (length l)) sees')) (past (fault-same None none)))
 
-    pub checking_refused : (f : Fault) → fault_at x t ms ≡ Some f → verdict_of xs ≡ refused i f
-    checking_refused f e = here (Some f) (fault_same (Some f) e)
+    pub checking-refused : (f : Fault) → fault_at x t ms ≡ Some f → verdict_of xs ≡ refused i f
+    checking-refused f e = here (Some f) (fault-same (Some f) e)
 
--- the item at a place, as it is held and by its mark
+-- the item at a place, as it is held and by its role
 pub item-at : (items : List held.Item) (i : ℕ) (x : held.Item) → i < length items → x ≡ get_or items i x → slice_get (map item_of items) i ≡ Some (item_of x)
 item-at items i x lt is = slice_get-map item_of items i ∙ ap (option_map item_of) (slice_get_read items (length items) i x refl lt is)
 
-pub mark-at : (items : List Item) (i : ℕ) (x : Item) → slice_get items i ≡ Some x → slice_get (roles_of items) i ≡ Some (role_of x)
-mark-at items i x at = slice_get-map role_of items i ∙ ap (option_map role_of) at
+pub role-at : (items : List Item) (i : ℕ) (x : Item) → slice_get items i ≡ Some x → slice_get (roles_of items) i ≡ Some (role_of x)
+role-at items i x at = slice_get-map role_of items i ∙ ap (option_map role_of) at
 
 drop-none : (xs : List Role) (i : ℕ) → length xs ≤ i → drop i xs ≡ []
 drop-none xs i le = drop_all i xs le
 
-pub checking_ended : (xs : List Role) (i : ℕ) (names : List Name) (fs : List Frame) → length xs ≤ i → IsChecking xs i names fs → verdict_of xs ≡ at_end fs
-checking_ended xs i names fs le c = c.goes ∙ ap (verdict_from i fs names) (drop-none xs i le)
+pub checking-ended : (xs : List Role) (i : ℕ) (names : List Name) (fs : List Frame) → length xs ≤ i → IsChecking xs i names fs → verdict_of xs ≡ at_end fs
+checking-ended xs i names fs le c = c.goes ∙ ap (verdict_from i fs names) (drop-none xs i le)
 
-fault_refusal : {T : Type 0} (r : Result T Refusal) (line : ℕ) (f : Fault) → r ≡ Err (line, parse_kind f) → IsRefusal r line (parse_kind f)
-fault_refusal r line Unreadable e = e
-fault_refusal r line NotAnAction e = e
-fault_refusal r line OutOfPlace e = e
-fault_refusal r line NestedTooDeeply e = e
-fault_refusal r line UndeclaredVariable e = e
+fault-refusal : {T : Type 0} (r : Result T Refusal) (line : ℕ) (f : Fault) → r ≡ Err (line, parse_kind f) → IsRefusal r line (parse_kind f)
+fault-refusal r line Unreadable e = e
+fault-refusal r line NotAnAction e = e
+fault-refusal r line OutOfPlace e = e
+fault-refusal r line NestedTooDeeply e = e
+fault-refusal r line UndeclaredVariable e = e
 
 module _ (bytes : List ℕ) (items : List Item) where
   by : (v : Verdict) → verdict_of (roles_of items) ≡ v → checked bytes items ≡ by_verdict (last_line bytes) items v
   unfolding checked
   by v e = ap (by_verdict (last_line bytes) items) e
 
-  pub checked_refused : (i : ℕ) (x : Item) (f : Fault) (line : ℕ) (k : ParseKind) → slice_get items i ≡ Some x → verdict_of (roles_of items) ≡ refused i f → line ≡ line_of x → k ≡ parse_kind f → IsRefusal (checked bytes items) line k
-  checked_refused i x f line k at e is kind_is =
+  pub checked-refused : (i : ℕ) (x : Item) (f : Fault) (line : ℕ) (k : ParseKind) → slice_get items i ≡ Some x → verdict_of (roles_of items) ≡ refused i f → line ≡ line_of x → k ≡ parse_kind f → IsRefusal (checked bytes items) line k
+  checked-refused i x f line k at e is kind_is =
       subst (λ n. IsRefusal (checked bytes items) n k) (sym is) (subst (λ z. IsRefusal (checked bytes items) (line_of x) z) (sym kind_is)
-      (fault_refusal (checked bytes items) (line_of x) f (by (refused i f) e ∙ ap (λ o. Err (line_in o, parse_kind f)) at)))
+      (fault-refusal (checked bytes items) (line_of x) f (by (refused i f) e ∙ ap (λ o. Err (line_in o, parse_kind f)) at)))
 
-  pub checked_fine : (fs : List Frame) → length fs ≡ 0 → verdict_of (roles_of items) ≡ at_end fs → checked bytes items ≡ Ok tt
-  checked_fine [] n e = by fine e
-  checked_fine (f ∷ fs) n e = absurd (omega arith)
+  pub checked-fine : (fs : List Frame) → length fs ≡ 0 → verdict_of (roles_of items) ≡ at_end fs → checked bytes items ≡ Ok tt
+  checked-fine [] n e = by fine e
+  checked-fine (f ∷ fs) n e = absurd (omega arith)
 
-  pub checked_open : (fs : List Frame) → length fs ≢ 0 → verdict_of (roles_of items) ≡ at_end fs → checked bytes items ≡ Err (last_line bytes, kind.OpenAtEnd)
-  checked_open [] n e = absurd (n refl)
-  checked_open (f ∷ fs) n e = by left_open e
+  pub checked-open : (fs : List Frame) → length fs ≢ 0 → verdict_of (roles_of items) ≡ at_end fs → checked bytes items ≡ Err (last_line bytes, kind.OpenAtEnd)
+  checked-open [] n e = absurd (n refl)
+  checked-open (f ∷ fs) n e = by left_open e

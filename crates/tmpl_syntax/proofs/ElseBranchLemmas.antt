@@ -1,7 +1,7 @@
 -- What stands after an else, an else if, an end, and an action that changes no frame.
 use Rattle.std.proofs.Common.{arith, ◌≡◌, ◌≢◌, ℕ, ◌+◌, Bool, true, false, not, ◌&&◌, List, [], ◌∷◌, ◌++◌, refl, sym, ap, ◌∙◌, subst, length, take, add-zero, Some, inl, inr, ⊎_elim, ◌⊎◌}
 use Rattle.std.specs.Prelude.{slice_get, Contains}
-use Rattle.std.proofs.lemmas.Bool.{cases_lt}
+use Rattle.std.proofs.lemmas.Bool.{cases_lt, and_parts, not-true}
 use Rattle.std.proofs.lemmas.Bool.Decides.{Decides-like}
 use Rattle.std.proofs.lemmas.List.{append-nil}
 use Rattle.tmpl_grammar.specs.declared.action.Branch.{Branch}
@@ -10,150 +10,140 @@ use Rattle.tmpl_syntax.specs.declared.place.frame.Frame.{Frame}
 use Rattle.tmpl_syntax.specs.Place.Open.{opens, ends, NothingOpen, IsLast, IsElseOf, IsElseBranchOf, HasElse, is_template}
 use Rattle.tmpl_syntax.specs.Place.Body.{joins, is_level}
 use Rattle.tmpl_syntax.specs.computed.Frames.{top, loops, elsed, branched, takes_else}
-use Rattle.tmpl_syntax.proofs.OpenLemmas.{same_control, same_piece, cut, Same, shut_at, even_step, same_ended, same_still}
-use Rattle.tmpl_syntax.proofs.PlaceLemmas.{alike_even, template_moves, levels_else, levels_turn, else_before, not_turn}
-use Rattle.tmpl_syntax.proofs.ScopeLemmas.{Reaches, from_top, from_inside, from_header, from_turn, Brought, wrong_piece, brought_late}
-use Rattle.tmpl_syntax.proofs.ElsePartLemmas.{Part, earlier, header, turn, part_sooner, by_else, by_turn}
-use Rattle.tmpl_syntax.proofs.StandLemmas.{Here, Stands, here_of, stands_moves}
-use Rattle.tmpl_syntax.proofs.StepLemmas.{changed, stands_parted}
+use Rattle.tmpl_syntax.proofs.OpenLemmas.{same-control, same-piece, cut, Same, shut-at, even-step, same-ended, same-still}
+use Rattle.tmpl_syntax.proofs.PlaceLemmas.{alike-even, template-moves, levels-else, levels-else_branch, else_before, no-else_branch}
+use Rattle.tmpl_syntax.proofs.ScopeLemmas.{Reaches, from_top, from_inside, from_header, from_else_branch, Brought, wrong-piece, brought-late}
+use Rattle.tmpl_syntax.proofs.ElsePartLemmas.{Part, earlier, header, branch_header, part-sooner, by_else, by_else_branch}
+use Rattle.tmpl_syntax.proofs.StandLemmas.{Here, Stands, here-of, stands-moves}
+use Rattle.tmpl_syntax.proofs.StepLemmas.{changed, stands-parted}
 use Rattle.tmpl_grammar.specs.declared.tree.Control.{Control}
 use Rattle.tmpl_grammar.specs.declared.tree.Control.TheVariants.{If, With, Range}
 use Rattle.tmpl_syntax.specs.Place.Role.{Name, Names, plain, opener, bare_else, branch_else, closer, Role, act_role}
+use Rattle.tmpl_syntax.proofs.FaultLemmas.{in-nothing}
 
-pub and_parts : (a b : Bool) → (a && b) ≡ true → (a ≡ true) × (b ≡ true)
-and_parts true b e = (refl, e)
-and_parts false b e = let g : false ≡ true = e in cc
+pub else-parts : (f : Frame) → takes_else (Some f) ≡ true → (is_template f.control ≡ false) × (f.has_else ≡ false)
+else-parts f e = let a = and_parts (not (is_template f.control)) (not f.has_else) e in (not-true (is_template f.control) a.0, not-true f.has_else a.1)
 
-pub not_true : (b : Bool) → not b ≡ true → b ≡ false
-not_true true e = sym e
-not_true false e = refl
+loops-else : (c : Control) (a : Bool) → is_template c ≡ false → loops c true a ≡ a
+loops-else If a own = refl
+loops-else With a own = refl
+loops-else Range a own = refl
 
-pub else_parts : (f : Frame) → takes_else (Some f) ≡ true → (is_template f.control ≡ false) × (f.has_else ≡ false)
-else_parts f e = let a = and_parts (not (is_template f.control)) (not f.has_else) e in (not_true (is_template f.control) a.0, not_true f.has_else a.1)
-
-loops_else : (c : Control) (a : Bool) → is_template c ≡ false → loops c true a ≡ a
-loops_else If a own = refl
-loops_else With a own = refl
-loops_else Range a own = refl
-
-loops_other : (c : Control) (h a : Bool) → is_template c ≡ false → c ≢ Range → loops c h a ≡ a
-loops_other If h a own nr = refl
-loops_other With h a own nr = refl
-loops_other Range h a own nr = absurd (nr refl)
+loops-other : (c : Control) (h a : Bool) → is_template c ≡ false → c ≢ Range → loops c h a ≡ a
+loops-other If h a own nr = refl
+loops-other With h a own nr = refl
+loops-other Range h a own nr = absurd (nr refl)
 
 -- a control whose body is no template of its own is a level
-pub level_there : (c : Control) → is_template c ≡ false → is_level c ≡ true
-level_there If e = refl
-level_there With e = refl
-level_there Range e = refl
+pub level-there : (c : Control) → is_template c ≡ false → is_level c ≡ true
+level-there If e = refl
+level-there With e = refl
+level-there Range e = refl
 
 -- no else that opens a level is one of a range
-joins_range : (b : Branch) → joins b Range ≡ false
-joins_range if_branch = refl
+joins-range : (b : Branch) → joins b Range ≡ false
+joins-range if_branch = refl
 
-pub joins_no_range : (b : Branch) (c : Control) → joins b c ≡ true → c ≢ Range
-joins_no_range b c j e = let t : true ≡ false = sym j ∙ ap (joins b) e ∙ joins_range b in cc
+pub joins-no-range : (b : Branch) (c : Control) → joins b c ≡ true → c ≢ Range
+joins-no-range b c j e = let t : true ≡ false = sym j ∙ ap (joins b) e ∙ joins-range b in cc
 
-pub in_nothing : {A : Type 0} → (n : Name) → Contains [] n → A
-in_nothing n c = let lt = c.1 in absurd (omega arith)
-
-pub stands_elsed : (xs : List Role) (i : ℕ) (names : List Name) (f : Frame) (fs : List Frame) → slice_get xs i ≡ Some (act_role bare_else) → takes_else (Some f) ≡ true → Stands xs i names (f ∷ fs) → Stands xs (i + 1) (take f.part names) (elsed f ∷ fs)
-stands_elsed xs i names f fs at takes s =
-    let own = (else_parts f takes).0 in
+pub stands-elsed : (xs : List Role) (i : ℕ) (names : List Name) (f : Frame) (fs : List Frame) → slice_get xs i ≡ Some (act_role bare_else) → takes_else (Some f) ≡ true → Stands xs i names (f ∷ fs) → Stands xs (i + 1) (take f.part names) (elsed f ∷ fs)
+stands-elsed xs i names f fs at takes s =
+    let own = (else-parts f takes).0 in
     let el : IsElseOf xs s.1 i = record { at = at; belongs = s.2.last } in
     let has : HasElse xs s.1 (i + 1) = (i, omega arith, el) in
-    let r : Stands xs (i + 1) (take f.part names ++ []) (changed f true f.levels [] ∷ fs) = stands_parted xs i names f fs s (act_role bare_else) at refl refl (by_else el) own true f.levels []
-    (levels_else xs i f.levels (even_step xs (act_role bare_else) i at refl refl) at s.0.levels_are)
-    (λ e. has, λ h. refl) (λ e. has) (loops_else f.control f.around own)
-    (λ n c. in_nothing n c)
-    (λ n c. absurd (wrong_piece xs i (i + 1) (i + 1) n (act_role bare_else) at (λ p e. cc) (λ c p e. cc) (λ b p e. cc) c))
-    (λ n c. in_nothing n c)
-    (λ n k. inl (part_sooner xs s.1 i (i + 1) n (λ m from to t. let e : m ≡ i = omega arith in not_turn xs (act_role bare_else) i s.1 at (λ b p g. cc) (subst (IsElseBranchOf xs s.1) e t)) k)) in
+    let r : Stands xs (i + 1) (take f.part names ++ []) (changed f true f.levels [] ∷ fs) = stands-parted xs i names f fs s (act_role bare_else) at refl refl (by_else el) own true f.levels []
+    (levels-else xs i f.levels (even-step xs (act_role bare_else) i at refl refl) at s.0.levels_are)
+    (λ e. has, λ h. refl) (λ e. has) (loops-else f.control f.around own)
+    (λ n c. in-nothing n c)
+    (λ n c. absurd (wrong-piece xs i (i + 1) (i + 1) n (act_role bare_else) at (λ p e. cc) (λ c p e. cc) (λ b p e. cc) c))
+    (λ n c. in-nothing n c)
+    (λ n k. inl (part-sooner xs s.1 i (i + 1) n (λ m from to t. let e : m ≡ i = omega arith in no-else_branch xs (act_role bare_else) i s.1 at (λ b p g. cc) (subst (IsElseBranchOf xs s.1) e t)) k)) in
     let frame : changed f true f.levels [] ≡ elsed f = ap (λ k. record f { has_else = true; part = k }) (add-zero f.part) in
     subst (λ g. Stands xs (i + 1) (take f.part names) (g ∷ fs)) frame (subst (λ l. Stands xs (i + 1) l (changed f true f.levels [] ∷ fs)) (append-nil (take f.part names)) r)
 
 module _ (xs : List Role) (i : ℕ) (b : Branch) (p : Names) (at : slice_get xs i ≡ Some (act_role (branch_else b p))) where
-  same_pipe : (d : Branch) (q : Names) → slice_get xs i ≡ Some (act_role (branch_else d q)) → p ≡ q
-  same_pipe d q e = let g : act_role (branch_else b p) ≡ act_role (branch_else d q) = same_piece xs i (act_role (branch_else b p)) (act_role (branch_else d q)) at e in cc
+  same-pipe : (d : Branch) (q : Names) → slice_get xs i ≡ Some (act_role (branch_else d q)) → p ≡ q
+  same-pipe d q e = let g : act_role (branch_else b p) ≡ act_role (branch_else d q) = same-piece xs i (act_role (branch_else b p)) (act_role (branch_else d q)) at e in cc
 
-  turn_declares : (n : Name) → Reaches xs i (i + 1) (i + 1) n → Contains p.declares n
-  turn_declares n (from_top {p = q} e c z) = let g : act_role (branch_else b p) ≡ act_role (plain q) = same_piece xs i (act_role (branch_else b p)) (act_role (plain q)) at e in cc
-  turn_declares n (from_inside {p = q} e c l o ne nt) = let g : act_role (branch_else b p) ≡ act_role (plain q) = same_piece xs i (act_role (branch_else b p)) (act_role (plain q)) at e in cc
-  turn_declares n (from_header {c = d} {p = q} e c o r) = let g : act_role (branch_else b p) ≡ act_role (opener d q) = same_piece xs i (act_role (branch_else b p)) (act_role (opener d q)) at e in cc
-  turn_declares n (from_turn {c = d} {p = q} e c l o) = subst (λ z. Contains z.declares n) (sym (same_pipe d q e)) c
+  else_branch-declares : (n : Name) → Reaches xs i (i + 1) (i + 1) n → Contains p.declares n
+  else_branch-declares n (from_top {p = q} e c z) = let g : act_role (branch_else b p) ≡ act_role (plain q) = same-piece xs i (act_role (branch_else b p)) (act_role (plain q)) at e in cc
+  else_branch-declares n (from_inside {p = q} e c l o ne nt) = let g : act_role (branch_else b p) ≡ act_role (plain q) = same-piece xs i (act_role (branch_else b p)) (act_role (plain q)) at e in cc
+  else_branch-declares n (from_header {c = d} {p = q} e c o r) = let g : act_role (branch_else b p) ≡ act_role (opener d q) = same-piece xs i (act_role (branch_else b p)) (act_role (opener d q)) at e in cc
+  else_branch-declares n (from_else_branch {c = d} {p = q} e c l o) = subst (λ z. Contains z.declares n) (sym (same-pipe d q e)) c
 
-  turn_part : (j : ℕ) (n : Name) → Part xs j (i + 1) n → Part xs j i n ⊎ Contains p.declares n
-  turn_part j n (earlier h) = inl (earlier h)
-  turn_part j n (header e c r) = inl (header e c r)
-  turn_part j n (turn {k = k} {b = d} {p = q} lt e c l) = ⊎_elim
-      (λ low. inl (turn low e c l))
-      (λ high. let s : k ≡ i = omega arith in inr (subst (λ z. Contains z.declares n) (sym (same_pipe d q (subst (λ z. slice_get xs z ≡ Some (act_role (branch_else d q))) s e))) c))
+  else_branch-part : (j : ℕ) (n : Name) → Part xs j (i + 1) n → Part xs j i n ⊎ Contains p.declares n
+  else_branch-part j n (earlier h) = inl (earlier h)
+  else_branch-part j n (header e c r) = inl (header e c r)
+  else_branch-part j n (branch_header {k = k} {b = d} {p = q} lt e c l) = ⊎_elim
+      (λ low. inl (branch_header low e c l))
+      (λ high. let s : k ≡ i = omega arith in inr (subst (λ z. Contains z.declares n) (sym (same-pipe d q (subst (λ z. slice_get xs z ≡ Some (act_role (branch_else d q))) s e))) c))
       (cases_lt k i)
 
-  turn_no_else : (j : ℕ) → HasElse xs j (i + 1) → HasElse xs j i
-  turn_no_else j h = ⊎_elim (λ lt. (h.0, lt, h.2))
-      (λ ge. let u = h.1 in let s : h.0 ≡ i = omega arith in let g : act_role (branch_else b p) ≡ act_role bare_else = same_piece xs i (act_role (branch_else b p)) (act_role bare_else) at (subst (λ z. slice_get xs z ≡ Some (act_role bare_else)) s h.2.at) in cc)
+  else_branch-no-else : (j : ℕ) → HasElse xs j (i + 1) → HasElse xs j i
+  else_branch-no-else j h = ⊎_elim (λ lt. (h.0, lt, h.2))
+      (λ ge. let u = h.1 in let s : h.0 ≡ i = omega arith in let g : act_role (branch_else b p) ≡ act_role bare_else = same-piece xs i (act_role (branch_else b p)) (act_role bare_else) at (subst (λ z. slice_get xs z ≡ Some (act_role bare_else)) s h.2.at) in cc)
       (cases_lt h.0 i)
 
-pub stands_turned : (xs : List Role) (i : ℕ) (names : List Name) (f : Frame) (fs : List Frame) (b : Branch) (p : Names) → slice_get xs i ≡ Some (act_role (branch_else b p)) → takes_else (Some f) ≡ true → joins b f.control ≡ true → Stands xs i names (f ∷ fs) → Stands xs (i + 1) (take f.part names ++ p.declares) (branched f (f.part + length p.declares) ∷ fs)
-stands_turned xs i names f fs b p at takes joined s =
-    let own = (else_parts f takes).0 in
-    let even = even_step xs (act_role (branch_else b p)) i at refl refl in
+pub stands-branched : (xs : List Role) (i : ℕ) (names : List Name) (f : Frame) (fs : List Frame) (b : Branch) (p : Names) → slice_get xs i ≡ Some (act_role (branch_else b p)) → takes_else (Some f) ≡ true → joins b f.control ≡ true → Stands xs i names (f ∷ fs) → Stands xs (i + 1) (take f.part names ++ p.declares) (branched f (f.part + length p.declares) ∷ fs)
+stands-branched xs i names f fs b p at takes joined s =
+    let own = (else-parts f takes).0 in
+    let even = even-step xs (act_role (branch_else b p)) i at refl refl in
     let tu : IsElseBranchOf xs s.1 i = record { branch = b; names = p; at = at; belongs = s.2.last } in
-    stands_parted xs i names f fs s (act_role (branch_else b p)) at refl refl (by_turn tu) own f.has_else (f.levels + 1) p.declares
-    (levels_turn xs i s.1 f.levels even tu (ap is_level (same_control xs s.1 s.2.last.is_open.control f.control s.2.last.is_open.at s.2.control) ∙ level_there f.control own) s.0.levels_are)
-    (Decides-like f.has_else (else_before xs s.1 i (i + 1) (omega arith)) (turn_no_else xs i b p at s.1) s.2.has)
-    (λ e. absurd (joins_no_range b f.control joined e))
-    (loops_other f.control f.has_else f.around own (joins_no_range b f.control joined))
-    (λ n c. from_turn at c s.2.last (even.keeps s.1 s.2.last.is_open))
-    (turn_declares xs i b p at)
-    (λ n c. turn (omega arith) at c s.2.last)
-    (turn_part xs i b p at s.1)
+    stands-parted xs i names f fs s (act_role (branch_else b p)) at refl refl (by_else_branch tu) own f.has_else (f.levels + 1) p.declares
+    (levels-else_branch xs i s.1 f.levels even tu (ap is_level (same-control xs s.1 s.2.last.is_open.control f.control s.2.last.is_open.at s.2.control) ∙ level-there f.control own) s.0.levels_are)
+    (Decides-like f.has_else (else_before xs s.1 i (i + 1) (omega arith)) (else_branch-no-else xs i b p at s.1) s.2.has)
+    (λ e. absurd (joins-no-range b f.control joined e))
+    (loops-other f.control f.has_else f.around own (joins-no-range b f.control joined))
+    (λ n c. from_else_branch at c s.2.last (even.keeps s.1 s.2.last.is_open))
+    (else_branch-declares xs i b p at)
+    (λ n c. branch_header (omega arith) at c s.2.last)
+    (else_branch-part xs i b p at s.1)
 
-pub stands_ended : (xs : List Role) (i : ℕ) (names : List Name) (f : Frame) (fs : List Frame) → slice_get xs i ≡ Some (act_role closer) → Stands xs i names (f ∷ fs) → Stands xs (i + 1) (take f.start names) fs
-stands_ended xs i names f fs at s =
-    let same = same_ended xs s.1 i s.2.last s.2.over at in
+pub stands-ended : (xs : List Role) (i : ℕ) (names : List Name) (f : Frame) (fs : List Frame) → slice_get xs i ≡ Some (act_role closer) → Stands xs i names (f ∷ fs) → Stands xs (i + 1) (take f.start names) fs
+stands-ended xs i names f fs at s =
+    let same = same-ended xs s.1 i s.2.last s.2.over at in
     subst (λ l. Stands xs (i + 1) l fs) (append-nil (take f.start names))
-    (stands_moves xs s.1 (i + 1) same (take f.start names) [] (λ n c. in_nothing n c)
-    (λ n b ge. absurd (brought_late xs s.1 (i + 1) n b.by same ge b.before b.reaches (λ p e c o. ⊎_elim
+    (stands-moves xs s.1 (i + 1) same (take f.start names) [] (λ n c. in-nothing n c)
+    (λ n b ge. absurd (brought-late xs s.1 (i + 1) n b.by same ge b.before b.reaches (λ p e c o. ⊎_elim
     (λ lt. let open_at = cut xs s.1 b.by i lt (let u = b.before in omega arith) s.2.last.is_open in
     ⊎_elim (λ z. z s.1 open_at) (λ q. q.1.last s.1 q.2.before open_at) o)
-    (λ le. let m : b.by ≡ s.1 = omega arith in shut_at xs (act_role (plain p)) s.1 i (subst (λ z. slice_get xs z ≡ Some (act_role (plain p))) m e) refl s.2.last.is_open)
+    (λ le. let m : b.by ≡ s.1 = omega arith in shut-at xs (act_role (plain p)) s.1 i (subst (λ z. slice_get xs z ≡ Some (act_role (plain p))) m e) refl s.2.last.is_open)
     (cases_lt s.1 b.by))))
     fs s.3)
 
 -- what is open last, if anything is
-pub last_of : (xs : List Role) (i : ℕ) (names : List Name) (fs : List Frame) → Stands xs i names fs → NothingOpen xs i ⊎ ((j : ℕ) × IsLast xs j i)
-last_of xs i names [] s = inl s.0
-last_of xs i names (f ∷ fs) s = inr (s.1, s.2.last)
+pub last-of : (xs : List Role) (i : ℕ) (names : List Name) (fs : List Frame) → Stands xs i names fs → NothingOpen xs i ⊎ ((j : ℕ) × IsLast xs j i)
+last-of xs i names [] s = inl s.0
+last-of xs i names (f ∷ fs) s = inr (s.1, s.2.last)
 
-pub stands_declared : (xs : List Role) (i : ℕ) (names : List Name) (p : Names) (fs : List Frame) → slice_get xs i ≡ Some (act_role (plain p)) → Stands xs i names fs → Stands xs (i + 1) (names ++ p.declares) fs
-stands_declared xs i names p fs at s = stands_moves xs i (i + 1) same names p.declares new (λ n b ge. let u = b.before in let e : b.by ≡ i = omega arith in old n (subst (λ k. Reaches xs k (i + 1) (i + 1) n) e b.reaches)) fs s
+pub stands-declared : (xs : List Role) (i : ℕ) (names : List Name) (p : Names) (fs : List Frame) → slice_get xs i ≡ Some (act_role (plain p)) → Stands xs i names fs → Stands xs (i + 1) (names ++ p.declares) fs
+stands-declared xs i names p fs at s = stands-moves xs i (i + 1) same names p.declares new (λ n b ge. let u = b.before in let e : b.by ≡ i = omega arith in old n (subst (λ k. Reaches xs k (i + 1) (i + 1) n) e b.reaches)) fs s
   where
     same : Same xs i (i + 1)
-    same = same_still xs (act_role (plain p)) i at refl refl (λ g. cc) (λ b q g. cc)
+    same = same-still xs (act_role (plain p)) i at refl refl (λ g. cc) (λ b q g. cc)
 
     h : Here xs i (top fs) names
-    h = here_of xs i names fs s
+    h = here-of xs i names fs s
 
     reaches : (n : Name) → Contains p.declares n → Reaches xs i (i + 1) (i + 1) n
-    reaches n c = ⊎_elim (λ z. from_top at c z) (λ l. from_inside at c l.1 (same.even.keeps l.0 l.1.is_open) (λ m from to e. omega arith) (λ m from to e. omega arith)) (last_of xs i names fs s)
+    reaches n c = ⊎_elim (λ z. from_top at c z) (λ l. from_inside at c l.1 (same.even.keeps l.0 l.1.is_open) (λ m from to e. omega arith) (λ m from to e. omega arith)) (last-of xs i names fs s)
 
     new : (n : Name) → Contains p.declares n → Brought xs (i + 1) (i + 1) n
-    new n c = record { by = i; before = omega arith; template = (h.template, h.is_template_here, template_moves xs i (i + 1) (alike_even xs i (i + 1) same.even) h.template h.is_template_here); reaches = reaches n c }
+    new n c = record { by = i; before = omega arith; template = (h.template, h.is_template_here, template-moves xs i (i + 1) (alike-even xs i (i + 1) same.even) h.template h.is_template_here); reaches = reaches n c }
 
-    same_pipe : (q : Names) → slice_get xs i ≡ Some (act_role (plain q)) → p ≡ q
-    same_pipe q e = let g : act_role (plain p) ≡ act_role (plain q) = same_piece xs i (act_role (plain p)) (act_role (plain q)) at e in cc
+    same-pipe : (q : Names) → slice_get xs i ≡ Some (act_role (plain q)) → p ≡ q
+    same-pipe q e = let g : act_role (plain p) ≡ act_role (plain q) = same-piece xs i (act_role (plain p)) (act_role (plain q)) at e in cc
 
     old : (n : Name) → Reaches xs i (i + 1) (i + 1) n → Contains p.declares n
-    old n (from_top {p = q} e c z) = subst (λ z. Contains z.declares n) (sym (same_pipe q e)) c
-    old n (from_inside {p = q} e c l o ne nt) = subst (λ z. Contains z.declares n) (sym (same_pipe q e)) c
-    old n (from_header {c = d} {p = q} e c o r) = let g : act_role (plain p) ≡ act_role (opener d q) = same_piece xs i (act_role (plain p)) (act_role (opener d q)) at e in cc
-    old n (from_turn {c = d} {p = q} e c l o) = let g : act_role (plain p) ≡ act_role (branch_else d q) = same_piece xs i (act_role (plain p)) (act_role (branch_else d q)) at e in cc
+    old n (from_top {p = q} e c z) = subst (λ z. Contains z.declares n) (sym (same-pipe q e)) c
+    old n (from_inside {p = q} e c l o ne nt) = subst (λ z. Contains z.declares n) (sym (same-pipe q e)) c
+    old n (from_header {c = d} {p = q} e c o r) = let g : act_role (plain p) ≡ act_role (opener d q) = same-piece xs i (act_role (plain p)) (act_role (opener d q)) at e in cc
+    old n (from_else_branch {c = d} {p = q} e c l o) = let g : act_role (plain p) ≡ act_role (branch_else d q) = same-piece xs i (act_role (plain p)) (act_role (branch_else d q)) at e in cc
 
-pub stands_still : (xs : List Role) (i : ℕ) (names : List Name) (x : Role) (fs : List Frame) → slice_get xs i ≡ Some x → opens x ≡ false → ends x ≡ false → x ≢ act_role bare_else → ((p : Names) → x ≢ act_role (plain p)) → ((c : Control) (p : Names) → x ≢ act_role (opener c p)) → ((b : Branch) (p : Names) → x ≢ act_role (branch_else b p)) → Stands xs i names fs → Stands xs (i + 1) names fs
-stands_still xs i names x fs at o e ne np nopen nt s =
+pub stands-still : (xs : List Role) (i : ℕ) (names : List Name) (x : Role) (fs : List Frame) → slice_get xs i ≡ Some x → opens x ≡ false → ends x ≡ false → x ≢ act_role bare_else → ((p : Names) → x ≢ act_role (plain p)) → ((c : Control) (p : Names) → x ≢ act_role (opener c p)) → ((b : Branch) (p : Names) → x ≢ act_role (branch_else b p)) → Stands xs i names fs → Stands xs (i + 1) names fs
+stands-still xs i names x fs at o e ne np nopen nt s =
     subst (λ l. Stands xs (i + 1) l fs) (append-nil names)
-    (stands_moves xs i (i + 1) (same_still xs x i at o e ne nt) names [] (λ n c. in_nothing n c)
-    (λ n b ge. let u = b.before in let m : b.by ≡ i = omega arith in absurd (wrong_piece xs i (i + 1) (i + 1) n x at np nopen nt (subst (λ k. Reaches xs k (i + 1) (i + 1) n) m b.reaches)))
+    (stands-moves xs i (i + 1) (same-still xs x i at o e ne nt) names [] (λ n c. in-nothing n c)
+    (λ n b ge. let u = b.before in let m : b.by ≡ i = omega arith in absurd (wrong-piece xs i (i + 1) (i + 1) n x at np nopen nt (subst (λ k. Reaches xs k (i + 1) (i + 1) n) m b.reaches)))
     fs s)

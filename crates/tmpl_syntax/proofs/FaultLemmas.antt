@@ -4,6 +4,7 @@ use Rattle.std.specs.Prelude.{Contains}
 use Rattle.std.specs.Str.{bytes_eq}
 use Rattle.std.proofs.lemmas.Slice.Eq.{bytes_eq-Decides}
 use Rattle.std.proofs.lemmas.List.Elements.{Contains-append_left, Contains-append_right, Contains-push, Contains-push_cases, Contains-append_cases}
+use Rattle.std.proofs.lemmas.Bool.{both_ways, and_parts, and_cases, or_cases, or_right}
 use Rattle.tmpl_syntax.specs.declared.fault.Fault.{Fault}
 use Rattle.tmpl_syntax.specs.declared.fault.Fault.TheVariants.{Unreadable, NotAnAction, OutOfPlace, NestedTooDeeply, UndeclaredVariable}
 use Rattle.tmpl_syntax.specs.declared.place.frame.Frame.{Frame}
@@ -37,18 +38,11 @@ TellsRole unreadable_role t names r = r ≡ Some Unreadable
 TellsRole unread_role t names r = r ≡ Some NotAnAction
 TellsRole (act_role a) t names r = Tells a t names r
 
+-- no name is one of none
+pub in-nothing : {A : Type 0} (n : Name) → Contains {X = Name} [] n → A
+in-nothing n c = let lt = c.1 in absurd (omega arith)
+
 module _ (n : Name) where
-  none_there : {A : Type 0} → Contains {X = Name} [] n → A
-  none_there c = let lt = c.1 in absurd (omega arith)
-
-  or_true : (a b : Bool) → (a || b) ≡ true → (a ≡ true) ⊎ (b ≡ true)
-  or_true true b e = inl refl
-  or_true false b e = inr e
-
-  or_right : (a b : Bool) → b ≡ true → (a || b) ≡ true
-  or_right true b e = refl
-  or_right false b e = e
-
   one : (m : Name) → n ≡ m → Contains (m ∷ []) n
   one m e = subst (λ z. Contains (m ∷ []) z) (sym e) (Contains-push [] m)
 
@@ -57,54 +51,43 @@ module _ (n : Name) where
   found (m ∷ ms) e = ⊎_elim
       (λ s. Contains-append_left (m ∷ []) ms n (one m ((bytes_eq-Decides n m).0 s)))
       (λ r. Contains-append_right (m ∷ []) ms n (found ms r))
-      (or_true (bytes_eq n m) (is_known ms n) e)
+      (or_cases (bytes_eq n m) (is_known ms n) e)
 
   has : (names : List Name) → Contains names n → is_known names n ≡ true
-  has [] c = none_there c
+  has [] c = in-nothing n c
   has (m ∷ ms) c = ⊎_elim
-      (λ o. ⊎_elim none_there
+      (λ o. ⊎_elim (in-nothing n)
       (λ e. ap (λ b. b || is_known ms n) ((bytes_eq-Decides n m).1 (sym e)))
       (Contains-push_cases [] m n o))
       (λ r. or_right (bytes_eq n m) (is_known ms n) (has ms r))
       (Contains-append_cases (m ∷ []) ms n c)
 
-true_no_false : {A : Type 0} (b : Bool) → b ≡ true → b ≡ false → A
-true_no_false b t f = let g : true ≡ false = sym t ∙ f in absurd (let h : ⊥ = cc in h)
-
-both : (a b : Bool) → (a && b) ≡ true → (a ≡ true) × (b ≡ true)
-both true b e = (refl, e)
-both false b e = let g : false ≡ true = e in cc
-
-not_both : (a b : Bool) → (a && b) ≡ false → (a ≡ false) ⊎ (b ≡ false)
-not_both true b e = inr e
-not_both false b e = inl refl
-
 module _ (names : List Name) where
   known : (uses : List Name) → knows names uses ≡ true → IsKnown uses names
-  known [] e n c = none_there n c
+  known [] e n c = in-nothing n c
   known (u ∷ us) e n c =
-      let parts = both (is_known names u) (knows names us) e in ⊎_elim
-      (λ o. ⊎_elim (none_there n) (λ s. subst (Contains names) s (found u names parts.0)) (Contains-push_cases [] u n o))
+      let parts = and_parts (is_known names u) (knows names us) e in ⊎_elim
+      (λ o. ⊎_elim (in-nothing n) (λ s. subst (Contains names) s (found u names parts.0)) (Contains-push_cases [] u n o))
       (λ r. known us parts.1 n r)
       (Contains-append_cases (u ∷ []) us n c)
 
   unknown : (uses : List Name) → knows names uses ≡ false → IsUnknown uses names
   unknown [] e = let g : true ≡ false = e in cc
   unknown (u ∷ us) e = ⊎_elim
-      (λ f. (u, Contains-append_left (u ∷ []) us u (Contains-push [] u), λ c. true_no_false (is_known names u) (has u names c) f))
+      (λ f. (u, Contains-append_left (u ∷ []) us u (Contains-push [] u), λ c. both_ways (is_known names u) f (has u names c)))
       (λ f. let w = unknown us f in (w.0, Contains-append_right (u ∷ []) us w.0 w.1, w.2))
-      (not_both (is_known names u) (knows names us) e)
+      (and_cases (is_known names u) (knows names us) e)
 
 module _ (a : Act) (t : Option Frame) (names : List Name) where
-  finds_by : (p d k : Bool) → is_placed a t ≡ p → is_too_deep a t ≡ d → knows names (used (names_in a)) ≡ k → Tells a t names (first_fault p d k)
-  finds_by false d k e f g = e
-  finds_by true true k e f g = (e, f)
-  finds_by true false false e f g = (e, f, unknown names (used (names_in a)) g)
-  finds_by true false true e f g = (e, f, known names (used (names_in a)) g)
+  tells-by : (p d k : Bool) → is_placed a t ≡ p → is_too_deep a t ≡ d → knows names (used (names_in a)) ≡ k → Tells a t names (first_fault p d k)
+  tells-by false d k e f g = e
+  tells-by true true k e f g = (e, f)
+  tells-by true false false e f g = (e, f, unknown names (used (names_in a)) g)
+  tells-by true false true e f g = (e, f, known names (used (names_in a)) g)
 
 -- the fault that the definition gives is the one that these facts say
 pub tells : (x : Role) (t : Option Frame) (names : List Name) → TellsRole x t names (fault_at x t names)
 tells text_role t names = refl
 tells unreadable_role t names = refl
 tells unread_role t names = refl
-tells (act_role a) t names = finds_by a t names (is_placed a t) (is_too_deep a t) (knows names (used (names_in a))) refl refl refl
+tells (act_role a) t names = tells-by a t names (is_placed a t) (is_too_deep a t) (knows names (used (names_in a))) refl refl refl

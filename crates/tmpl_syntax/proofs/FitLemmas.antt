@@ -30,16 +30,16 @@ names_past (act_role (opener c p)) names = names ++ heading c p.declares
 names_past (act_role (branch_else b p)) names = names ++ p.declares
 names_past x names = names
 
-past_added : (x : Role) (names : List Name) → names ++ added_by x ≡ names_past x names
-past_added text_role names = append-nil names
-past_added unreadable_role names = append-nil names
-past_added unread_role names = append-nil names
-past_added (act_role (plain p)) names = refl
-past_added (act_role (opener c p)) names = refl
-past_added (act_role bare_else) names = append-nil names
-past_added (act_role (branch_else b p)) names = refl
-past_added (act_role closer) names = append-nil names
-past_added (act_role jump) names = append-nil names
+past-added : (x : Role) (names : List Name) → names ++ added_by x ≡ names_past x names
+past-added text_role names = append-nil names
+past-added unreadable_role names = append-nil names
+past-added unread_role names = append-nil names
+past-added (act_role (plain p)) names = refl
+past-added (act_role (opener c p)) names = refl
+past-added (act_role bare_else) names = append-nil names
+past-added (act_role (branch_else b p)) names = refl
+past-added (act_role closer) names = append-nil names
+past-added (act_role jump) names = append-nil names
 
 -- none of the items has a fault, and nothing is open at their end
 abbrev pub passes : List Frame → List Name → List Role → Bool
@@ -53,19 +53,19 @@ is_fine fine = true
 is_fine (refused i f) = false
 is_fine left_open = false
 
-pub fine_back : (v : Verdict) → is_fine v ≡ true → v ≡ fine
-fine_back fine e = refl
-fine_back (refused i f) e = absurd (false≢true e)
-fine_back left_open e = absurd (false≢true e)
+pub fine-back : (v : Verdict) → is_fine v ≡ true → v ≡ fine
+fine-back fine e = refl
+fine-back (refused i f) e = absurd (false≢true e)
+fine-back left_open e = absurd (false≢true e)
 
-pub passes_fine : (xs : List Role) (i : ℕ) (fs : List Frame) (names : List Name) → is_fine (verdict_from i fs names xs) ≡ passes fs names xs
-passes_fine [] i [] names = refl
-passes_fine [] i (f ∷ fs) names = refl
-passes_fine (x ∷ xs) i fs names =
+pub passes-fine : (xs : List Role) (i : ℕ) (fs : List Frame) (names : List Name) → is_fine (verdict_from i fs names xs) ≡ passes fs names xs
+passes-fine [] i [] names = refl
+passes-fine [] i (f ∷ fs) names = refl
+passes-fine (x ∷ xs) i fs names =
     let seen : List Name = seen_at x (top fs) names in
     let next : List Frame = frames_past x fs (length seen) in
     go (fault_at x (top fs) seen) (verdict_from (i + 1) next (seen ++ added_by x) xs) (passes next (names_past x seen) xs)
-    (passes_fine xs (i + 1) next (seen ++ added_by x) ∙ ap (λ ns. passes next ns xs) (past_added x seen))
+    (passes-fine xs (i + 1) next (seen ++ added_by x) ∙ ap (λ ns. passes next ns xs) (past-added x seen))
   where
     go : (o : Option Fault) (v : Verdict) (b : Bool) → is_fine v ≡ b → is_fine (unless_fault o i v) ≡ (no_fault o && b)
     go None v b e = e
@@ -114,67 +114,64 @@ abbrev mutual
   fits (then line m ms) = λ loop n names. fits_node m loop n names && fits ms loop n (seen_past names m)
 
 -- lines play no part
-past_unlined : (n : NodeKind) (names : List Name) → seen_past names (unlined_node n) ≡ seen_past names n
-past_unlined (text bytes) names = refl
-past_unlined (action h) names = refl
-past_unlined (control_node c h body other) names = refl
-past_unlined break_node names = refl
-past_unlined continue_node names = refl
+past-unlined : (n : NodeKind) (names : List Name) → seen_past names (unlined_node n) ≡ seen_past names n
+past-unlined (text bytes) names = refl
+past-unlined (action h) names = refl
+past-unlined (control_node c h body other) names = refl
+past-unlined break_node names = refl
+past-unlined continue_node names = refl
 
-alike_control : (c : Control) (r : Header) (f g h k : Bool → ℕ → List Name → Bool) → ((l : Bool) (n : ℕ) (ns : List Name) → f l n ns ≡ g l n ns) → ((l : Bool) (n : ℕ) (ns : List Name) → h l n ns ≡ k l n ns)
+alike-control : (c : Control) (r : Header) (f g h k : Bool → ℕ → List Name → Bool) → ((l : Bool) (n : ℕ) (ns : List Name) → f l n ns ≡ g l n ns) → ((l : Bool) (n : ℕ) (ns : List Name) → h l n ns ≡ k l n ns)
     → (loop : Bool) (n : ℕ) (names : List Name) → fits_control loop n names c r f h ≡ fits_control loop n names c r g k
-alike_control c r f g h k e d loop n names =
+alike-control c r f g h k e d loop n names =
     ap (λ b. headed n names r && (b && h (loops c true loop) (n + level_of c) (part_names c names (names_of r).declares))) (e _ _ _)
     ∙ ap (λ b. headed n names r && (g (loops c false loop) (n + level_of c) (names ++ heading c (names_of r).declares) && b)) (d _ _ _)
 
 mutual
-  node_unlined : (m : NodeKind) (loop : Bool) (n : ℕ) (names : List Name) → fits_node (unlined_node m) loop n names ≡ fits_node m loop n names
-  node_unlined (text bytes) loop n names = refl
-  node_unlined (action h) loop n names = refl
-  node_unlined (control_node c h body other) loop n names = alike_control c h (fits (unlined body)) (fits body) (fits (unlined other)) (fits other) (nodes_unlined body) (nodes_unlined other) loop n names
-  node_unlined break_node loop n names = refl
-  node_unlined continue_node loop n names = refl
+  node-unlined : (m : NodeKind) (loop : Bool) (n : ℕ) (names : List Name) → fits_node (unlined_node m) loop n names ≡ fits_node m loop n names
+  node-unlined (text bytes) loop n names = refl
+  node-unlined (action h) loop n names = refl
+  node-unlined (control_node c h body other) loop n names = alike-control c h (fits (unlined body)) (fits body) (fits (unlined other)) (fits other) (nodes-unlined body) (nodes-unlined other) loop n names
+  node-unlined break_node loop n names = refl
+  node-unlined continue_node loop n names = refl
 
-  pub nodes_unlined : (ms : Nodes) (loop : Bool) (n : ℕ) (names : List Name) → fits (unlined ms) loop n names ≡ fits ms loop n names
-  nodes_unlined none loop n names = refl
-  nodes_unlined (then line m ms) loop n names =
-      ap (λ b. b && fits (unlined ms) loop n (seen_past names (unlined_node m))) (node_unlined m loop n names)
-      ∙ ap (λ ns. fits_node m loop n names && fits (unlined ms) loop n ns) (past_unlined m names)
-      ∙ ap (λ b. fits_node m loop n names && b) (nodes_unlined ms loop n (seen_past names m))
+  pub nodes-unlined : (ms : Nodes) (loop : Bool) (n : ℕ) (names : List Name) → fits (unlined ms) loop n names ≡ fits ms loop n names
+  nodes-unlined none loop n names = refl
+  nodes-unlined (then line m ms) loop n names =
+      ap (λ b. b && fits (unlined ms) loop n (seen_past names (unlined_node m))) (node-unlined m loop n names)
+      ∙ ap (λ ns. fits_node m loop n names && fits (unlined ms) loop n ns) (past-unlined m names)
+      ∙ ap (λ b. fits_node m loop n names && b) (nodes-unlined ms loop n (seen_past names m))
 
 -- ---- the names in sight
 
 -- the first names stay
-take_past : (k : ℕ) (n : NodeKind) (names : List Name) → k ≤ length names → take k (seen_past names n) ≡ take k names
-take_past k (text bytes) names h = refl
-take_past k (action r) names h = take-append-le k names (names_of r).declares h
-take_past k (control_node c r body other) names h = refl
-take_past k break_node names h = refl
-take_past k continue_node names h = refl
+take-past : (k : ℕ) (n : NodeKind) (names : List Name) → k ≤ length names → take k (seen_past names n) ≡ take k names
+take-past k (text bytes) names h = refl
+take-past k (action r) names h = take-append-le k names (names_of r).declares h
+take-past k (control_node c r body other) names h = refl
+take-past k break_node names h = refl
+take-past k continue_node names h = refl
 
-past_longer : (n : NodeKind) (names : List Name) → length names ≤ length (seen_past names n)
-past_longer (text bytes) names = omega arith
-past_longer (action h) names = omega (arith, length-append names (names_of h).declares)
-past_longer (control_node c h body other) names = omega arith
-past_longer break_node names = omega arith
-past_longer continue_node names = omega arith
+past-longer : (n : NodeKind) (names : List Name) → length names ≤ length (seen_past names n)
+past-longer (text bytes) names = omega arith
+past-longer (action h) names = omega (arith, length-append names (names_of h).declares)
+past-longer (control_node c h body other) names = omega arith
+past-longer break_node names = omega arith
+past-longer continue_node names = omega arith
 
-pub take_seen : (k : ℕ) (ns : Nodes) (names : List Name) → k ≤ length names → take k (seen_behind names ns) ≡ take k names
-take_seen k none names h = refl
-take_seen k (then line n ns) names h = let longer = past_longer n names in take_seen k ns (seen_past names n) (omega arith) ∙ take_past k n names h
+pub take-seen : (k : ℕ) (ns : Nodes) (names : List Name) → k ≤ length names → take k (seen_behind names ns) ≡ take k names
+take-seen k none names h = refl
+take-seen k (then line n ns) names h = let longer = past-longer n names in take-seen k ns (seen_past names n) (omega arith) ∙ take-past k n names h
 
 -- ---- one action
 
-pub both : {a b : Bool} → a ≡ true → b ≡ true → (a && b) ≡ true
-both {a} {b} h k = ap (λ t. t && b) h ∙ k
+pub first-none : (deep known : Bool) → no_fault (first_fault true deep known) ≡ (not deep && known)
+first-none true true = refl
+first-none true false = refl
+first-none false true = refl
+first-none false false = refl
 
-pub first_none : (deep known : Bool) → no_fault (first_fault true deep known) ≡ (not deep && known)
-first_none true true = refl
-first_none true false = refl
-first_none false true = refl
-first_none false false = refl
-
-pub opener_test : (c : Control) (h : Header) (t : Option Frame) (names : List Name) → no_fault (fault_in (opener c (names_of h)) t names) ≡ headed (levels t) names h
-opener_test control.If h t names = first_none (leb most_levels (levels t)) (knows names (names_of h).uses)
-opener_test control.With h t names = first_none (leb most_levels (levels t)) (knows names (names_of h).uses)
-opener_test control.Range h t names = first_none (leb most_levels (levels t)) (knows names (names_of h).uses)
+pub opener-test : (c : Control) (h : Header) (t : Option Frame) (names : List Name) → no_fault (fault_in (opener c (names_of h)) t names) ≡ headed (levels t) names h
+opener-test control.If h t names = first-none (leb most_levels (levels t)) (knows names (names_of h).uses)
+opener-test control.With h t names = first-none (leb most_levels (levels t)) (knows names (names_of h).uses)
+opener-test control.Range h t names = first-none (leb most_levels (levels t)) (knows names (names_of h).uses)

@@ -2,6 +2,7 @@
 use Rattle.std.proofs.Common.{arith, ◌≡◌, ◌∙◌, ◌≤◌, ◌<◌, ℕ, List, [], ◌∷◌, Option, Some, None, refl, ap, sym, subst, ⊎_elim}
 use Rattle.std.proofs.lemmas.Bool.{le-leb, cases_lt}
 use Rattle.std.proofs.lemmas.Bool.Decides.{leb_tells}
+use Rattle.std.proofs.lemmas.Option.{same_Some}
 use Rattle.tmpl_lex.specs.Cut.{cut_of}
 use Rattle.tmpl_lex.specs.Piece.{Token, Piece, text, action, unreadable}
 use Rattle.tmpl_lex.proofs.Whole.{cut-cuts, cut-only}
@@ -13,8 +14,7 @@ use Rattle.tmpl_syntax.specs.computed.Item.{read_item, item_in, items_in}
 use Rattle.tmpl_syntax.specs.Laws.{HasItemsOf, HasNoOtherItems}
 use Rattle.tmpl_grammar.specs.declared.action.Shape.{Shape}
 use Rattle.tmpl_grammar.specs.declared.action.Shape.TheVariants as shape
-use Rattle.tmpl_grammar.proofs.OptionLemmas.{same-value}
-use Rattle.tmpl_grammar.proofs.ActionLemmas.{reads_action, spells_action, none-spelled}
+use Rattle.tmpl_grammar.proofs.ActionLemmas.{reads-action, spells-action, none-spelled}
 
 -- ---- the limit
 
@@ -60,8 +60,8 @@ action-item line ts = by (action_in ts) refl
     by None e = unread (none-spelled ts e)
     by (Some a) e = ⊎_elim
         (λ lt. let d = deep-read a lt in
-        subst (λ r. IsItem (action line ts) (item line (read_item r))) (sym d.is) (too_deep a (spells_action ts a e) d.shape_is lt))
-        (λ le. subst (λ r. IsItem (action line ts) (item line (read_item r))) (sym (within-read a le)) (read (spells_action ts a e) le))
+        subst (λ r. IsItem (action line ts) (item line (read_item r))) (sym d.is) (too_deep a (spells-action ts a e) d.shape_is lt))
+        (λ le. subst (λ r. IsItem (action line ts) (item line (read_item r))) (sym (within-read a le)) (read (spells-action ts a e) le))
         (cases_lt most_deep (depth_of a))
 
 pub piece-item : (p : Piece) → IsItem p (item_in p)
@@ -71,7 +71,7 @@ piece-item (unreadable line) = an_unreadable
 
 unread-only : (line : ℕ) (ts : List Token) → ((a : Action) → SpellsAction a ts → ⊥) → (o : Option Action) → action_in ts ≡ o → item line (read_item unread_within) ≡ item line (read_item (reading_of o))
 unread-only line ts none None e = refl
-unread-only line ts none (Some a) e = absurd (none a (spells_action ts a e))
+unread-only line ts none (Some a) e = absurd (none a (spells-action ts a e))
 
 only-item : {p : Piece} {x : Item} → IsItem p x → x ≡ item_in p
 only-item a_text = refl
@@ -79,11 +79,11 @@ only-item an_unreadable = refl
 only-item (unread {line = line} {ts = ts} none) = unread-only line ts none (action_in ts) refl
 only-item (too_deep {line = line} {ts = ts} {s = s} a spells is lt) =
     let d = deep-read a lt in
-    ap (λ k. item line (read_item (deep_within k))) (same-value s d.shape (sym is ∙ d.shape_is))
+    ap (λ k. item line (read_item (deep_within k))) (same_Some s d.shape (sym is ∙ d.shape_is))
     ∙ ap (λ r. item line (read_item r)) (sym d.is)
-    ∙ ap (λ o. item line (read_item (reading_of o))) (sym (reads_action ts a spells))
+    ∙ ap (λ o. item line (read_item (reading_of o))) (sym (reads-action ts a spells))
 only-item (read {line = line} {ts = ts} {a = a} spells le) =
-    ap (λ r. item line (read_item r)) (sym (within-read a le)) ∙ ap (λ o. item line (read_item (reading_of o))) (sym (reads_action ts a spells))
+    ap (λ r. item line (read_item r)) (sym (within-read a le)) ∙ ap (λ o. item line (read_item (reading_of o))) (sym (reads-action ts a spells))
 
 -- ---- the items of a file
 

@@ -23,59 +23,59 @@ cleared true a bs o e = cc
 cleared false a bs None e = (refl, refl)
 cleared false a bs (Some p) e = cc
 
-split_clear : (t a : List ℕ) → split_open t ≡ None → ends_brace t ≡ false → split_open (t ++ 123 ∷ 123 ∷ a) ≡ Some (t, a)
-split_clear [] a e n = refl
-split_clear (b ∷ []) a e n = ap (λ k. split_here (k && true) b (123 ∷ 123 ∷ a) (Some ([], a))) n
-split_clear (b ∷ c ∷ t) a e n =
+split-clear : (t a : List ℕ) → split_open t ≡ None → ends_brace t ≡ false → split_open (t ++ 123 ∷ 123 ∷ a) ≡ Some (t, a)
+split-clear [] a e n = refl
+split-clear (b ∷ []) a e n = ap (λ k. split_here (k && true) b (123 ∷ 123 ∷ a) (Some ([], a))) n
+split-clear (b ∷ c ∷ t) a e n =
     let h = cleared (nat_eq b 123 && nat_eq c 123) b (c ∷ t) (split_open (c ∷ t)) e in
     ap (λ k. split_here k b (c ∷ (t ++ 123 ∷ 123 ∷ a)) (split_open (c ∷ (t ++ 123 ∷ 123 ∷ a)))) h.0
-    ∙ ap (with_first b) (split_clear (c ∷ t) a h.1 n)
+    ∙ ap (with_first b) (split-clear (c ∷ t) a h.1 n)
 
 -- a space behind a text
-spaced_clear : (t : List ℕ) → split_open t ≡ None → split_open (t ++ 32 ∷ []) ≡ None
-spaced_clear [] e = refl
-spaced_clear (b ∷ []) e = go (nat_eq b 123)
+spaced-clear : (t : List ℕ) → split_open t ≡ None → split_open (t ++ 32 ∷ []) ≡ None
+spaced-clear [] e = refl
+spaced-clear (b ∷ []) e = go (nat_eq b 123)
   where
     go : (k : Bool) → split_here (k && false) b (32 ∷ []) None ≡ None
     go true = refl
     go false = refl
-spaced_clear (b ∷ c ∷ t) e =
+spaced-clear (b ∷ c ∷ t) e =
     let h = cleared (nat_eq b 123 && nat_eq c 123) b (c ∷ t) (split_open (c ∷ t)) e in
     ap (λ k. split_here k b (c ∷ (t ++ 32 ∷ [])) (split_open (c ∷ (t ++ 32 ∷ [])))) h.0
-    ∙ ap (with_first b) (spaced_clear (c ∷ t) h.1)
+    ∙ ap (with_first b) (spaced-clear (c ∷ t) h.1)
 
-spaced_end : (t : List ℕ) → ends_brace (t ++ 32 ∷ []) ≡ false
-spaced_end [] = refl
-spaced_end (b ∷ []) = refl
-spaced_end (b ∷ c ∷ t) = spaced_end (c ∷ t)
+spaced-end : (t : List ℕ) → ends_brace (t ++ 32 ∷ []) ≡ false
+spaced-end [] = refl
+spaced-end (b ∷ []) = refl
+spaced-end (b ∷ c ∷ t) = spaced-end (c ∷ t)
 
-last_brace : (t : List ℕ) → ends_brace t ≡ true → (0 < length t) × (get_or (t ++ 32 ∷ []) (length t - 1) 0 ≡ 123) × (get_or (t ++ 32 ∷ []) (length t) 0 ≡ 32)
-last_brace [] e = cc
-last_brace (b ∷ []) e = (omega arith, eqb-true b 123 e, refl)
-last_brace (b ∷ c ∷ t) e =
-    let h = last_brace (c ∷ t) e in
+last-brace : (t : List ℕ) → ends_brace t ≡ true → (0 < length t) × (get_or (t ++ 32 ∷ []) (length t - 1) 0 ≡ 123) × (get_or (t ++ 32 ∷ []) (length t) 0 ≡ 32)
+last-brace [] e = cc
+last-brace (b ∷ []) e = (omega arith, eqb-true b 123 e, refl)
+last-brace (b ∷ c ∷ t) e =
+    let h = last-brace (c ∷ t) e in
     let n : length (b ∷ c ∷ t) - 1 ≡ suc (length (c ∷ t) - 1) = omega arith in
     (omega arith, ap (λ k. get_or (b ∷ c ∷ (t ++ 32 ∷ [])) k 0) n ∙ h.1, h.2)
 
-one_space : (t : List ℕ) → ends_brace t ≡ true → suffix_len is_space (t ++ 32 ∷ []) ≡ 1
-one_space t e =
-    let h = last_brace t e in
+one-space : (t : List ℕ) → ends_brace t ≡ true → suffix_len is_space (t ++ 32 ∷ []) ≡ 1
+one-space t e =
+    let h = last-brace t e in
     let n = length-append t (32 ∷ []) in
     let is = suffix_len_is is_space (t ++ 32 ∷ []) (length t) 0 (omega (arith, n))
     (λ k low high. let same : k ≡ length t = omega (arith, n) in ap (λ j. is_space (get_or (t ++ 32 ∷ []) j 0)) same ∙ ap is_space h.2)
     (λ some. ap is_space h.1) in
     omega (arith, n, is)
 
-texts_whole : (line : ℕ) (t : List ℕ) → texts false false line t ≡ text_piece line t
-texts_whole line t =
+texts-whole : (line : ℕ) (t : List ℕ) → texts false false line t ≡ text_piece line t
+texts-whole line t =
     let n : line + newlines (take 0 t) ≡ line = omega arith in
     ap (λ k. text_piece k (without_trailing false (without_leading false t))) n
     ∙ ap (text_piece line) (take_all (length t - 0) t (omega arith))
 
-texts_spaced : (line : ℕ) (t : List ℕ) → ends_brace t ≡ true → texts false true line (t ++ 32 ∷ []) ≡ text_piece line t
-texts_spaced line t e =
+texts-spaced : (line : ℕ) (t : List ℕ) → ends_brace t ≡ true → texts false true line (t ++ 32 ∷ []) ≡ text_piece line t
+texts-spaced line t e =
     let n : line + newlines (take 0 (t ++ 32 ∷ [])) ≡ line = omega arith in
-    let k : length (t ++ 32 ∷ []) - suffix_len is_space (t ++ 32 ∷ []) ≡ length t = omega (arith, one_space t e, length-append t (32 ∷ [])) in
+    let k : length (t ++ 32 ∷ []) - suffix_len is_space (t ++ 32 ∷ []) ≡ length t = omega (arith, one-space t e, length-append t (32 ∷ [])) in
     ap (λ k. text_piece k (without_trailing true (without_leading false (t ++ 32 ∷ [])))) n
     ∙ ap (λ k. text_piece line (take k (t ++ 32 ∷ []))) k
     ∙ ap (text_piece line) (take-append_seam t (32 ∷ []))
@@ -86,16 +86,16 @@ opened_by k = opening (behind_by k)
 abbrev open_behind : List ℕ → List ℕ
 open_behind t = opened_by (ends_brace t)
 
-open_is : (t : List ℕ) → opening (before_of t) ≡ open_behind t
-open_is [] = refl
-open_is (b ∷ t) = refl
+open-is : (t : List ℕ) → opening (before_of t) ≡ open_behind t
+open-is [] = refl
+open-is (b ∷ t) = refl
 
-some_before : (t : List ℕ) → 0 < length t → behind t ≡ before_of t
-some_before [] h = absurd (omega arith)
-some_before (b ∷ t) h = refl
+some-before : (t : List ℕ) → 0 < length t → behind t ≡ before_of t
+some-before [] h = absurd (omega arith)
+some-before (b ∷ t) h = refl
 
-parting_is : (t : List ℕ) (rest : List ℕ) → parting (behind t) ++ rest ≡ open_behind t ++ 47 ∷ 42 ∷ 42 ∷ 47 ∷ 125 ∷ 125 ∷ rest
-parting_is t rest = go (ends_brace t)
+parting-is : (t : List ℕ) (rest : List ℕ) → parting (behind t) ++ rest ≡ open_behind t ++ 47 ∷ 42 ∷ 42 ∷ 47 ∷ 125 ∷ 125 ∷ rest
+parting-is t rest = go (ends_brace t)
   where
     go : (k : Bool) → parting (behind_by k) ++ rest ≡ opened_by k ++ 47 ∷ 42 ∷ 42 ∷ 47 ∷ 125 ∷ 125 ∷ rest
     go true = refl
@@ -109,42 +109,42 @@ record Opening (t a : List ℕ) : Type 0 where
   past : past_left after ≡ a
   kept : (line : ℕ) → texts false (left_marked after) line before ≡ text_piece line t
 
-opens_behind : (t a : List ℕ) → split_open t ≡ None → left_marked a ≡ false → Opening t a
-opens_behind t a clear plain = go (ends_brace t) refl
+opens-behind : (t a : List ℕ) → split_open t ≡ None → left_marked a ≡ false → Opening t a
+opens-behind t a clear plain = go (ends_brace t) refl
   where
     go : (k : Bool) → ends_brace t ≡ k → Opening t a
     go false e = record {
       before = t;
       after = a;
-      opens = ap (λ k. split_open (t ++ (opened_by k ++ a))) e ∙ split_clear t a clear e;
+      opens = ap (λ k. split_open (t ++ (opened_by k ++ a))) e ∙ split-clear t a clear e;
       past = ap (λ k. behind_marker k a) plain;
-      kept = λ line. ap (λ k. texts false k line t) plain ∙ texts_whole line t;
+      kept = λ line. ap (λ k. texts false k line t) plain ∙ texts-whole line t;
     }
     go true e = record {
       before = t ++ 32 ∷ [];
       after = 45 ∷ 32 ∷ a;
       opens = ap (λ k. split_open (t ++ (opened_by k ++ a))) e
           ∙ ap split_open (sym (append_assoc t (32 ∷ []) (123 ∷ 123 ∷ 45 ∷ 32 ∷ a)))
-          ∙ split_clear (t ++ 32 ∷ []) (45 ∷ 32 ∷ a) (spaced_clear t clear) (spaced_end t);
+          ∙ split-clear (t ++ 32 ∷ []) (45 ∷ 32 ∷ a) (spaced-clear t clear) (spaced-end t);
       past = refl;
-      kept = λ line. texts_spaced line t e;
+      kept = λ line. texts-spaced line t e;
     }
 
 -- ---- an action
 
-solid_unmarked : {bs : List ℕ} → Solid bs → left_marked bs ≡ false
-solid_unmarked (solid {bs = []} w m c e) = refl
-solid_unmarked (solid {bs = x ∷ bs} w m c e) = ap (λ k. k && is_space x) m
-solid_unmarked (minus {d = d} n) = grind (arith, nat_tests)
+solid-unmarked : {bs : List ℕ} → Solid bs → left_marked bs ≡ false
+solid-unmarked (solid {bs = []} w m c e) = refl
+solid-unmarked (solid {bs = x ∷ bs} w m c e) = ap (λ k. k && is_space x) m
+solid-unmarked (minus {d = d} n) = grind (arith, nat_tests)
 
-solid_no_comment : {bs : List ℕ} → Solid bs → opens_comment bs ≡ false
-solid_no_comment (solid {bs = []} w m c e) = refl
-solid_no_comment (solid {bs = x ∷ bs} w m c e) = ap (λ k. k && nat_eq x 42) c
-solid_no_comment (minus n) = refl
+solid-no-comment : {bs : List ℕ} → Solid bs → opens_comment bs ≡ false
+solid-no-comment (solid {bs = []} w m c e) = refl
+solid-no-comment (solid {bs = x ∷ bs} w m c e) = ap (λ k. k && nat_eq x 42) c
+solid-no-comment (minus n) = refl
 
-comment_none : (bs : List ℕ) → opens_comment bs ≡ false → comment_end bs ≡ None
+comment-none : (bs : List ℕ) → opens_comment bs ≡ false → comment_end bs ≡ None
 unfolding comment_end
-comment_none bs e = ap (λ k. comment_closed k (split_pair 42 47 (drop 2 bs))) e
+comment-none bs e = ap (λ k. comment_closed k (split_pair 42 47 (drop 2 bs))) e
 
 lexed : (ts : List Token) (rest : List ℕ) (end : End) → Lexes ts rest → closing rest ≡ Some end → Spells (bytes_of ts ++ rest) ts (Some end)
 lexed [] rest end h e = ended e
@@ -152,33 +152,33 @@ lexed (t ∷ ts) rest end h e =
     subst (λ bs. Spells bs (t ∷ ts) (Some end)) (sym (append_assoc t.bytes (bytes_of ts) rest))
     (spelled h.0.no_end h.0.front (lexed ts rest end h.1 e))
 
-closed_comment : (rest : List ℕ) → comment_end (47 ∷ 42 ∷ 42 ∷ 47 ∷ 125 ∷ 125 ∷ rest) ≡ Some (record { trims = false; rest = rest })
+closed-comment : (rest : List ℕ) → comment_end (47 ∷ 42 ∷ 42 ∷ 47 ∷ 125 ∷ 125 ∷ rest) ≡ Some (record { trims = false; rest = rest })
 unfolding comment_end
-closed_comment rest = refl
+closed-comment rest = refl
 
 -- ---- a file
 
-some_text : (line : ℕ) (t : List ℕ) → 0 < length t → (qs : List Piece) → text_piece line t ++ qs ≡ text line t ∷ qs
-some_text line [] h qs = absurd (omega arith)
-some_text line (b ∷ t) h qs = refl
+some-text : (line : ℕ) (t : List ℕ) → 0 < length t → (qs : List Piece) → text_piece line t ++ qs ≡ text line t ∷ qs
+some-text line [] h qs = absurd (omega arith)
+some-text line (b ∷ t) h qs = refl
 
 pub cut_back : (ps : List Part) → AreParts ps → (t : List ℕ) → split_open t ≡ None → (line : ℕ) → HasParts line t ps
 cut_back [] h t clear line = record {
   pieces = [];
-  cuts = subst (λ qs. Cuts false line (t ++ []) qs) (texts_whole line (t ++ []) ∙ ap (text_piece line) (append-nil t) ∙ sym (append-nil (text_piece line t))) (last (ap split_open (append-nil t) ∙ clear));
+  cuts = subst (λ qs. Cuts false line (t ++ []) qs) (texts-whole line (t ++ []) ∙ ap (text_piece line) (append-nil t) ∙ sym (append-nil (text_piece line t))) (last (ap split_open (append-nil t) ∙ clear));
   same = no_piece;
 }
 cut_back (an_action ts ∷ ps) h t clear line =
     let rest : List ℕ = joined Nothing ps in
     let inside : List ℕ = bytes_of ts ++ 125 ∷ 125 ∷ rest in
     let end : End = record { trims = false; rest = rest } in
-    let o = opens_behind t inside clear (solid_unmarked (h.0.firm rest)) in
+    let o = opens-behind t inside clear (solid-unmarked (h.0.firm rest)) in
     let more = cut_back ps h.1 [] refl (line + newlines o.before + newlines (stretch o.after rest)) in
     record {
       pieces = action (line + newlines o.before) ts ∷ more.pieces;
-      cuts = subst (λ k. Cuts false line (t ++ (k ++ inside)) (text_piece line t ++ action (line + newlines o.before) ts ∷ more.pieces)) (sym (open_is t))
+      cuts = subst (λ k. Cuts false line (t ++ (k ++ inside)) (text_piece line t ++ action (line + newlines o.before) ts ∷ more.pieces)) (sym (open-is t))
           (subst (λ qs. Cuts false line (t ++ (open_behind t ++ inside)) (qs ++ action (line + newlines o.before) ts ∷ more.pieces)) (o.kept line)
-          (closed o.opens (ap comment_end o.past ∙ comment_none inside (solid_no_comment (h.0.firm rest)))
+          (closed o.opens (ap comment_end o.past ∙ comment-none inside (solid-no-comment (h.0.firm rest)))
           (subst (λ bs. Spells bs ts (Some end)) (sym o.past) (lexed ts (125 ∷ 125 ∷ rest) end (h.0.lexes rest) refl)) more.cuts));
       same = same_action more.same;
     }
@@ -186,23 +186,23 @@ cut_back (a_text u ∷ ps) h [] clear line =
     let more = cut_back ps h.1 u h.0.clear line in
     record {
       pieces = text line u ∷ more.pieces;
-      cuts = subst (λ k. Cuts false line (u ++ joined k ps) (text line u ∷ more.pieces)) (sym (some_before u h.0.some))
-          (subst (λ qs. Cuts false line (u ++ joined (before_of u) ps) qs) (some_text line u h.0.some more.pieces) more.cuts);
+      cuts = subst (λ k. Cuts false line (u ++ joined k ps) (text line u ∷ more.pieces)) (sym (some-before u h.0.some))
+          (subst (λ qs. Cuts false line (u ++ joined (before_of u) ps) qs) (some-text line u h.0.some more.pieces) more.cuts);
       same = same_text more.same;
     }
 cut_back (a_text u ∷ ps) h (b ∷ t) clear line =
     let rest : List ℕ = u ++ joined (before_of u) ps in
     let comment : List ℕ = 47 ∷ 42 ∷ 42 ∷ 47 ∷ 125 ∷ 125 ∷ rest in
     let end : End = record { trims = false; rest = rest } in
-    let o = opens_behind (b ∷ t) comment clear refl in
+    let o = opens-behind (b ∷ t) comment clear refl in
     let next : ℕ = line + newlines o.before + newlines (stretch o.after rest) in
     let more = cut_back ps h.1 u h.0.clear next in
     record {
       pieces = text next u ∷ more.pieces;
-      cuts = subst (λ k. Cuts false line (b ∷ t ++ (parting (behind (b ∷ t)) ++ (u ++ joined k ps))) (text line (b ∷ t) ∷ text next u ∷ more.pieces)) (sym (some_before u h.0.some))
-          (subst (λ bs. Cuts false line (b ∷ t ++ bs) (text line (b ∷ t) ∷ text next u ∷ more.pieces)) (sym (parting_is (b ∷ t) rest))
+      cuts = subst (λ k. Cuts false line (b ∷ t ++ (parting (behind (b ∷ t)) ++ (u ++ joined k ps))) (text line (b ∷ t) ∷ text next u ∷ more.pieces)) (sym (some-before u h.0.some))
+          (subst (λ bs. Cuts false line (b ∷ t ++ bs) (text line (b ∷ t) ∷ text next u ∷ more.pieces)) (sym (parting-is (b ∷ t) rest))
           (subst (λ qs. Cuts false line (b ∷ t ++ (open_behind (b ∷ t) ++ comment)) (qs ++ text next u ∷ more.pieces)) (o.kept line)
-          (dropped {end = end} o.opens (ap comment_end o.past ∙ closed_comment rest)
-          (subst (λ qs. Cuts false next rest qs) (some_text next u h.0.some more.pieces) more.cuts))));
+          (dropped {end = end} o.opens (ap comment_end o.past ∙ closed-comment rest)
+          (subst (λ qs. Cuts false next rest qs) (some-text next u h.0.some more.pieces) more.cuts))));
       same = same_text more.same;
     }

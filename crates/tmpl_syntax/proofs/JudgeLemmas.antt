@@ -2,104 +2,80 @@
 use Rattle.std.proofs.Common.{arith, ◌≡◌, ◌≢◌, ℕ, ◌+◌, ◌≤◌, Bool, true, false, not, ◌&&◌, ◌||◌, leb, List, [], ◌∷◌, refl, sym, ap, ◌∙◌, subst, take, Option, Some, None, inl, inr, ⊎_elim, ◌⊎◌}
 use Rattle.std.specs.Prelude.{slice_get, Contains}
 use Rattle.std.proofs.lemmas.Bool.Decides.{leb_tells}
+use Rattle.std.proofs.lemmas.Bool.{and_parts, both_ways, and_cases, not-false, or_cases, or_parts, le-leb, leb-true}
 use Rattle.tmpl_grammar.specs.declared.action.Branch.{Branch}
 use Rattle.tmpl_syntax.specs.declared.place.frame.Frame.{Frame}
 use Rattle.tmpl_syntax.specs.Place.Open.{IsOpening, IsLast, HasElse, is_template}
 use Rattle.tmpl_syntax.specs.Place.Scope.{IsInScope}
 use Rattle.tmpl_syntax.specs.Place.Body.{joins, TakesNoElse, nothing_open, of_a_template, after_an_else, TakesNoBranch, IsMisplaced, names_in, opens_level, most_levels, IsTooDeep, in_levels, in_parentheses, IsUndeclared}
 use Rattle.tmpl_syntax.specs.computed.Frames.{top, in_loop, levels, takes_else, takes_branch, is_placed, used, is_nested, is_too_deep, names_at}
-use Rattle.tmpl_syntax.proofs.FaultLemmas.{IsKnown, IsUnknown}
-use Rattle.tmpl_syntax.proofs.OpenLemmas.{same_control, same_piece, one_last}
-use Rattle.tmpl_syntax.proofs.PlaceLemmas.{levels_unique, not_turn}
-use Rattle.tmpl_syntax.proofs.ScopeLemmas.{to_scope, from_scope, at_place, at_place_back}
-use Rattle.tmpl_syntax.proofs.ElsePartLemmas.{by_turn, to_part, from_part}
-use Rattle.tmpl_syntax.proofs.StandLemmas.{Here, Stands, here_of}
-use Rattle.tmpl_syntax.proofs.ElseBranchLemmas.{and_parts, else_parts, joins_no_range, in_nothing}
+use Rattle.tmpl_syntax.proofs.FaultLemmas.{IsKnown, IsUnknown, in-nothing}
+use Rattle.tmpl_syntax.proofs.OpenLemmas.{same-control, same-piece, one-last}
+use Rattle.tmpl_syntax.proofs.PlaceLemmas.{levels-unique, no-else_branch}
+use Rattle.tmpl_syntax.proofs.ScopeLemmas.{to-scope, from-scope, at-place, at-place-back}
+use Rattle.tmpl_syntax.proofs.ElsePartLemmas.{by_else_branch, to-part, from-part}
+use Rattle.tmpl_syntax.proofs.StandLemmas.{Here, Stands, here-of}
+use Rattle.tmpl_syntax.proofs.ElseBranchLemmas.{else-parts, joins-no-range}
 use Rattle.tmpl_grammar.specs.declared.tree.Control.TheVariants.{Range}
 use Rattle.tmpl_syntax.specs.Place.Role.{Name, Names, Act, plain, opener, bare_else, branch_else, closer, jump, Role, act_role}
 
 -- tests
 
-opposite : {A : Type 0} (b : Bool) → b ≡ true → b ≡ false → A
-opposite b t f = let g : true ≡ false = sym t ∙ f in absurd (let h : ⊥ = cc in h)
-
-and_false : (a b : Bool) → (a && b) ≡ false → (a ≡ false) ⊎ (b ≡ false)
-and_false true b e = inr e
-and_false false b e = inl refl
-
-not_false : (b : Bool) → not b ≡ false → b ≡ true
-not_false true e = refl
-not_false false e = sym e
-
-or_true : (a b : Bool) → (a || b) ≡ true → (a ≡ true) ⊎ (b ≡ true)
-or_true true b e = inl refl
-or_true false b e = inr e
-
-or_false : (a b : Bool) → (a || b) ≡ false → (a ≡ false) × (b ≡ false)
-or_false true b e = let g : true ≡ false = e in cc
-or_false false b e = (refl, e)
-
-leb_at : (a b : ℕ) → a ≤ b → leb a b ≡ true
-leb_at a b le = ⊎_elim (λ h. h.0) (λ h. let lt = h.1 in absurd (omega arith)) (leb_tells a b)
-
-leb_means : (a b : ℕ) → leb a b ≡ true → a ≤ b
-leb_means a b e = ⊎_elim (λ h. h.1) (λ h. opposite (leb a b) e h.0) (leb_tells a b)
-
 -- places
 
-no_part : (xs : List Role) (i : ℕ) (names : List Name) (fs : List Frame) → Stands xs i names fs → takes_else (top fs) ≡ false → TakesNoElse xs i
-no_part xs i names [] s e = nothing_open s.0
-no_part xs i names (f ∷ fs) s e = ⊎_elim
-    (λ t. of_a_template s.2.last (ap is_template (same_control xs s.1 s.2.last.is_open.control f.control s.2.last.is_open.at s.2.control) ∙ not_false (is_template f.control) t))
-    (λ h. after_an_else s.2.last (s.2.has.0 (not_false f.has_else h)))
-    (and_false (not (is_template f.control)) (not f.has_else) e)
+no-part : (xs : List Role) (i : ℕ) (names : List Name) (fs : List Frame) → Stands xs i names fs → takes_else (top fs) ≡ false → TakesNoElse xs i
+no-part xs i names [] s e = nothing_open s.0
+no-part xs i names (f ∷ fs) s e = ⊎_elim
+    (λ t. of_a_template s.2.last (ap is_template (same-control xs s.1 s.2.last.is_open.control f.control s.2.last.is_open.at s.2.control) ∙ not-false (is_template f.control) t))
+    (λ h. after_an_else s.2.last (s.2.has.0 (not-false f.has_else h)))
+    (and_cases (not (is_template f.control)) (not f.has_else) e)
 
-some_part : (xs : List Role) (i : ℕ) (names : List Name) (fs : List Frame) → Stands xs i names fs → takes_else (top fs) ≡ true → TakesNoElse xs i → ⊥
-some_part xs i names [] s e h = let g : false ≡ true = e in cc
-some_part xs i names (f ∷ fs) s e (nothing_open z) = z s.1 s.2.last.is_open
-some_part xs i names (f ∷ fs) s e (of_a_template {j = j} l is) =
-    let q : j ≡ s.1 = one_last xs j s.1 i l s.2.last in
+some-part : (xs : List Role) (i : ℕ) (names : List Name) (fs : List Frame) → Stands xs i names fs → takes_else (top fs) ≡ true → TakesNoElse xs i → ⊥
+some-part xs i names [] s e h = let g : false ≡ true = e in cc
+some-part xs i names (f ∷ fs) s e (nothing_open z) = z s.1 s.2.last.is_open
+some-part xs i names (f ∷ fs) s e (of_a_template {j = j} l is) =
+    let q : j ≡ s.1 = one-last xs j s.1 i l s.2.last in
     let w : IsLast xs s.1 i = s.2.last in
     let c : l.is_open.control ≡ f.control = other l q in
-    opposite (is_template f.control) (ap is_template (sym c) ∙ is) (else_parts f e).0
+    absurd (both_ways (is_template f.control) (else-parts f e).0 (ap is_template (sym c) ∙ is))
   where
     other : {k : ℕ} (m : IsLast xs k i) → k ≡ s.1 → m.is_open.control ≡ f.control
-    other {k} m q = same_control xs k m.is_open.control f.control m.is_open.at (subst (λ z. IsOpening (slice_get xs z) f.control) (sym q) s.2.control)
-some_part xs i names (f ∷ fs) s e (after_an_else {j = j} l h) =
-    let q : j ≡ s.1 = one_last xs j s.1 i l s.2.last in
-    opposite f.has_else (s.2.has.1 (subst (λ z. HasElse xs z i) q h)) (else_parts f e).1
+    other {k} m q = same-control xs k m.is_open.control f.control m.is_open.at (subst (λ z. IsOpening (slice_get xs z) f.control) (sym q) s.2.control)
+some-part xs i names (f ∷ fs) s e (after_an_else {j = j} l h) =
+    let q : j ≡ s.1 = one-last xs j s.1 i l s.2.last in
+    absurd (both_ways f.has_else (else-parts f e).1 (s.2.has.1 (subst (λ z. HasElse xs z i) q h)))
 
-top_control : (xs : List Role) (i : ℕ) (names : List Name) (f : Frame) (fs : List Frame) (s : Stands xs i names (f ∷ fs)) (k : ℕ) (m : IsLast xs k i) → m.is_open.control ≡ f.control
-top_control xs i names f fs s k m =
-    let q : k ≡ s.1 = one_last xs k s.1 i m s.2.last in
-    same_control xs k m.is_open.control f.control m.is_open.at (subst (λ z. IsOpening (slice_get xs z) f.control) (sym q) s.2.control)
+top-control : (xs : List Role) (i : ℕ) (names : List Name) (f : Frame) (fs : List Frame) (s : Stands xs i names (f ∷ fs)) (k : ℕ) (m : IsLast xs k i) → m.is_open.control ≡ f.control
+top-control xs i names f fs s k m =
+    let q : k ≡ s.1 = one-last xs k s.1 i m s.2.last in
+    same-control xs k m.is_open.control f.control m.is_open.at (subst (λ z. IsOpening (slice_get xs z) f.control) (sym q) s.2.control)
 
-unplaced_turn : (xs : List Role) (i : ℕ) (names : List Name) (b : Branch) (fs : List Frame) → Stands xs i names fs → (takes_else (top fs) ≡ false) ⊎ (takes_branch b (top fs) ≡ false) → TakesNoElse xs i ⊎ TakesNoBranch xs b i
-unplaced_turn xs i names b fs s (inl e) = inl (no_part xs i names fs s e)
-unplaced_turn xs i names b [] s (inr e) = inl (nothing_open s.0)
-unplaced_turn xs i names b (f ∷ fs) s (inr e) = inr (record { opened = s.1; last = s.2.last; other = ap (joins b) (top_control xs i names f fs s s.1 s.2.last) ∙ e })
+unplaced-else_branch : (xs : List Role) (i : ℕ) (names : List Name) (b : Branch) (fs : List Frame) → Stands xs i names fs → (takes_else (top fs) ≡ false) ⊎ (takes_branch b (top fs) ≡ false) → TakesNoElse xs i ⊎ TakesNoBranch xs b i
+unplaced-else_branch xs i names b fs s (inl e) = inl (no-part xs i names fs s e)
+unplaced-else_branch xs i names b [] s (inr e) = inl (nothing_open s.0)
+unplaced-else_branch xs i names b (f ∷ fs) s (inr e) = inr (record { opened = s.1; last = s.2.last; other = ap (joins b) (top-control xs i names f fs s s.1 s.2.last) ∙ e })
 
 pub unplaced : (xs : List Role) (i : ℕ) (names : List Name) (fs : List Frame) (a : Act) → Stands xs i names fs → is_placed a (top fs) ≡ false → IsMisplaced xs i a
 unplaced xs i names fs (plain p) s e = let g : true ≡ false = e in cc
 unplaced xs i names fs (opener c p) s e = let g : true ≡ false = e in cc
-unplaced xs i names fs bare_else s e = no_part xs i names fs s e
-unplaced xs i names fs (branch_else b p) s e = unplaced_turn xs i names b fs s (and_false (takes_else (top fs)) (takes_branch b (top fs)) e)
+unplaced xs i names fs bare_else s e = no-part xs i names fs s e
+unplaced xs i names fs (branch_else b p) s e = unplaced-else_branch xs i names b fs s (and_cases (takes_else (top fs)) (takes_branch b (top fs)) e)
 unplaced xs i names [] closer s e = s.0
 unplaced xs i names (f ∷ fs) closer s e = let g : true ≡ false = e in cc
-unplaced xs i names fs jump s e = λ j l. opposite (in_loop (top fs)) ((here_of xs i names fs s).looped.1 (j, l)) e
+unplaced xs i names fs jump s e = λ j l. both_ways (in_loop (top fs)) e ((here-of xs i names fs s).looped.1 (j, l))
 
 joined : (xs : List Role) (i : ℕ) (names : List Name) (b : Branch) (fs : List Frame) → Stands xs i names fs → takes_branch b (top fs) ≡ true → TakesNoBranch xs b i → ⊥
 joined xs i names b [] s e h = let g : false ≡ true = e in cc
-joined xs i names b (f ∷ fs) s e h = opposite (joins b f.control) e (ap (joins b) (sym (top_control xs i names f fs s h.opened h.last)) ∙ h.other)
+joined xs i names b (f ∷ fs) s e h = absurd (both_ways (joins b f.control) (ap (joins b) (sym (top-control xs i names f fs s h.opened h.last)) ∙ h.other) e)
 
 pub placed : (xs : List Role) (i : ℕ) (names : List Name) (fs : List Frame) (a : Act) → Stands xs i names fs → is_placed a (top fs) ≡ true → IsMisplaced xs i a → ⊥
 placed xs i names fs (plain p) s e h = h
 placed xs i names fs (opener c p) s e h = h
-placed xs i names fs bare_else s e h = some_part xs i names fs s e h
-placed xs i names fs (branch_else b p) s e h = let a = and_parts (takes_else (top fs)) (takes_branch b (top fs)) e in ⊎_elim (some_part xs i names fs s a.0) (joined xs i names b fs s a.1) h
+placed xs i names fs bare_else s e h = some-part xs i names fs s e h
+placed xs i names fs (branch_else b p) s e h = let a = and_parts (takes_else (top fs)) (takes_branch b (top fs)) e in ⊎_elim (some-part xs i names fs s a.0) (joined xs i names b fs s a.1) h
 placed xs i names [] closer s e h = let g : false ≡ true = e in cc
 placed xs i names (f ∷ fs) closer s e h = h s.1 s.2.last.is_open
-placed xs i names fs jump s e h = let l = (here_of xs i names fs s).looped.0 e in h l.0 l.1
+placed xs i names fs jump s e h = let l = (here-of xs i names fs s).looped.0 e in h l.0 l.1
 
 -- depths
 
@@ -116,80 +92,76 @@ nested-not a b p is nests e =
     let nested : is_nested (names_in a) ≡ true = ap is_nested is ∙ nests in
     absurd (let g : true ≡ false = ap (λ n. n || b) (sym nested) ∙ e in let h : ⊥ = cc in h)
 
-or-false : (a b : Bool) → (a || b) ≡ false → b ≡ false
-or-false true b e = absurd (let h : ⊥ = cc in h)
-or-false false b e = e
-
 pub deep : (xs : List Role) (i : ℕ) (a : Act) (t : Option Frame) (names : List Name) → Here xs i t names → is_too_deep a t ≡ true → IsTooDeep xs i a
 deep xs i a t names h e = nested-or xs i a (names_in a) refl (opens_level a && leb most_levels (levels t)) e
-    (λ e. let b = and_parts (opens_level a) (leb most_levels (levels t)) e in in_levels b.0 h.levels_are (leb_means most_levels (levels t) b.1))
+    (λ e. let b = and_parts (opens_level a) (leb most_levels (levels t)) e in in_levels b.0 h.levels_are (leb-true most_levels (levels t) b.1))
 
 pub shallow : (xs : List Role) (i : ℕ) (a : Act) (t : Option Frame) (names : List Name) → Here xs i t names → is_too_deep a t ≡ false → IsTooDeep xs i a → ⊥
 shallow xs i a t names h e (in_parentheses {names = p} is nests) = nested-not a (opens_level a && leb most_levels (levels t)) p is nests e
 shallow xs i a t names h e (in_levels {n = n} is count le) =
-    let same : n ≡ levels t = levels_unique count h.levels_are in
-    let full : leb most_levels (levels t) ≡ true = leb_at most_levels (levels t) (subst (λ k. most_levels ≤ k) same le) in
-    ⊎_elim (λ no_level. opposite (opens_level a) is no_level) (λ room. opposite (leb most_levels (levels t)) full room) (and_false (opens_level a) (leb most_levels (levels t)) (or-false (is_nested (names_in a)) _ e))
+    let same : n ≡ levels t = levels-unique count h.levels_are in
+    let full : leb most_levels (levels t) ≡ true = le-leb most_levels (levels t) (subst (λ k. most_levels ≤ k) same le) in
+    ⊎_elim (λ no_level. both_ways (opens_level a) no_level is) (λ room. both_ways (leb most_levels (levels t)) room full) (and_cases (opens_level a) (leb most_levels (levels t)) ((or_parts (is_nested (names_in a)) _ e).1))
 
 -- names
 
 module _ (xs : List Role) (i : ℕ) (names : List Name) where
   wide : (fs : List Frame) → Stands xs i names fs → (x : Role) → slice_get xs i ≡ Some x → x ≢ act_role bare_else → ((b : Branch) (p : Names) → x ≢ act_role (branch_else b p)) → (n : Name) → Contains names n → IsInScope xs i n
-  wide fs s x at ne nt n k = at_place xs i n (λ j e. ne (same_piece xs i x (act_role bare_else) at e.at)) (λ j t. not_turn xs x i j at nt t) ((here_of xs i names fs s).to n k)
+  wide fs s x at ne nt n k = at-place xs i n (λ j e. ne (same-piece xs i x (act_role bare_else) at e.at)) (λ j t. no-else_branch xs x i j at nt t) ((here-of xs i names fs s).to n k)
 
-  wide_back : (fs : List Frame) → Stands xs i names fs → (n : Name) → IsInScope xs i n → Contains names n
-  wide_back fs s n k = (here_of xs i names fs s).back n (at_place_back xs i n k)
+  wide-back : (fs : List Frame) → Stands xs i names fs → (n : Name) → IsInScope xs i n → Contains names n
+  wide-back fs s n k = (here-of xs i names fs s).back n (at-place-back xs i n k)
 
   module _ (f : Frame) (fs : List Frame) (s : Stands xs i names (f ∷ fs)) (b : Branch) (p : Names) (at : slice_get xs i ≡ Some (act_role (branch_else b p))) (takes : takes_else (Some f) ≡ true) (joining : joins b f.control ≡ true) where
     own : is_template s.2.last.is_open.control ≡ false
-    own = ap is_template (top_control xs i names f fs s s.1 s.2.last) ∙ (else_parts f takes).0
+    own = ap is_template (top-control xs i names f fs s s.1 s.2.last) ∙ (else-parts f takes).0
 
-    not_ranged : s.2.last.is_open.control ≡ Range → HasElse xs s.1 i
-    not_ranged e = absurd (joins_no_range b f.control joining (sym (top_control xs i names f fs s s.1 s.2.last) ∙ e))
+    not-ranged : s.2.last.is_open.control ≡ Range → HasElse xs s.1 i
+    not-ranged e = absurd (joins-no-range b f.control joining (sym (top-control xs i names f fs s s.1 s.2.last) ∙ e))
 
     below : Here xs s.1 (top fs) (take f.start names)
-    below = here_of xs s.1 (take f.start names) fs s.3
+    below = here-of xs s.1 (take f.start names) fs s.3
 
     narrow : (n : Name) → Contains (take f.part names) n → IsInScope xs i n
     narrow n k =
         let low = s.2.last.is_open.before in
-        let v = from_part xs s.1 i i (i + 1) s.2.last own (by_turn (record { branch = b; names = p; at = at; belongs = s.2.last })) low (omega arith) (omega arith) (omega arith) not_ranged below.template below.is_template_here n
-        (s.2.to (else_parts f takes).0 n k) in
-        to_scope xs i n (record { by = v.by; before = v.before; template = v.template; reaches = v.reaches })
+        let v = from-part xs s.1 i i (i + 1) s.2.last own (by_else_branch (record { branch = b; names = p; at = at; belongs = s.2.last })) low (omega arith) (omega arith) (omega arith) not-ranged below.template below.is_template_here n
+        (s.2.to (else-parts f takes).0 n k) in
+        to-scope xs i n (record { by = v.by; before = v.before; template = v.template; reaches = v.reaches })
 
-    narrow_back : (n : Name) → IsInScope xs i n → Contains (take f.part names) n
-    narrow_back n k =
+    narrow-back : (n : Name) → IsInScope xs i n → Contains (take f.part names) n
+    narrow-back n k =
         let low = s.2.last.is_open.before in
-        let v = from_scope xs i n k in
-        s.2.back (else_parts f takes).0 n
-        (to_part xs s.1 i i (i + 1) s.2.last own (by_turn (record { branch = b; names = p; at = at; belongs = s.2.last })) low (omega arith) (omega arith) (omega arith) not_ranged n
+        let v = from-scope xs i n k in
+        s.2.back (else-parts f takes).0 n
+        (to-part xs s.1 i i (i + 1) s.2.last own (by_else_branch (record { branch = b; names = p; at = at; belongs = s.2.last })) low (omega arith) (omega arith) (omega arith) not-ranged n
         (record { by = v.by; before = v.before; template = v.template; reaches = v.reaches }))
 
-  pub in_scope : (fs : List Frame) → Stands xs i names fs → (a : Act) → slice_get xs i ≡ Some (act_role a) → is_placed a (top fs) ≡ true → (p : Names) → names_in a ≡ Some p → (n : Name) → Contains (names_at a (top fs) names) n → IsInScope xs i n
-  in_scope fs s (plain q) at e p is n k = wide fs s (act_role (plain q)) at (λ g. cc) (λ b r g. cc) n k
-  in_scope fs s (opener c q) at e p is n k = wide fs s (act_role (opener c q)) at (λ g. cc) (λ b r g. cc) n k
-  in_scope fs s bare_else at e p is n k = let g : None ≡ Some p = is in cc
-  in_scope [] s (branch_else b q) at e p is n k = let g : false ≡ true = e in cc
-  in_scope (f ∷ fs) s (branch_else b q) at e p is n k = let a = and_parts (takes_else (Some f)) (joins b f.control) e in narrow f fs s b q at a.0 a.1 n k
-  in_scope fs s closer at e p is n k = let g : None ≡ Some p = is in cc
-  in_scope fs s jump at e p is n k = let g : None ≡ Some p = is in cc
+  pub in-scope : (fs : List Frame) → Stands xs i names fs → (a : Act) → slice_get xs i ≡ Some (act_role a) → is_placed a (top fs) ≡ true → (p : Names) → names_in a ≡ Some p → (n : Name) → Contains (names_at a (top fs) names) n → IsInScope xs i n
+  in-scope fs s (plain q) at e p is n k = wide fs s (act_role (plain q)) at (λ g. cc) (λ b r g. cc) n k
+  in-scope fs s (opener c q) at e p is n k = wide fs s (act_role (opener c q)) at (λ g. cc) (λ b r g. cc) n k
+  in-scope fs s bare_else at e p is n k = let g : None ≡ Some p = is in cc
+  in-scope [] s (branch_else b q) at e p is n k = let g : false ≡ true = e in cc
+  in-scope (f ∷ fs) s (branch_else b q) at e p is n k = let a = and_parts (takes_else (Some f)) (joins b f.control) e in narrow f fs s b q at a.0 a.1 n k
+  in-scope fs s closer at e p is n k = let g : None ≡ Some p = is in cc
+  in-scope fs s jump at e p is n k = let g : None ≡ Some p = is in cc
 
-  pub scope_has : (fs : List Frame) → Stands xs i names fs → (a : Act) → slice_get xs i ≡ Some (act_role a) → is_placed a (top fs) ≡ true → (p : Names) → names_in a ≡ Some p → (n : Name) → IsInScope xs i n → Contains (names_at a (top fs) names) n
-  scope_has fs s (plain q) at e p is n k = wide_back fs s n k
-  scope_has fs s (opener c q) at e p is n k = wide_back fs s n k
-  scope_has fs s bare_else at e p is n k = let g : None ≡ Some p = is in cc
-  scope_has [] s (branch_else b q) at e p is n k = let g : false ≡ true = e in cc
-  scope_has (f ∷ fs) s (branch_else b q) at e p is n k = let a = and_parts (takes_else (Some f)) (joins b f.control) e in narrow_back f fs s b q at a.0 a.1 n k
-  scope_has fs s closer at e p is n k = let g : None ≡ Some p = is in cc
-  scope_has fs s jump at e p is n k = let g : None ≡ Some p = is in cc
+  pub scope-has : (fs : List Frame) → Stands xs i names fs → (a : Act) → slice_get xs i ≡ Some (act_role a) → is_placed a (top fs) ≡ true → (p : Names) → names_in a ≡ Some p → (n : Name) → IsInScope xs i n → Contains (names_at a (top fs) names) n
+  scope-has fs s (plain q) at e p is n k = wide-back fs s n k
+  scope-has fs s (opener c q) at e p is n k = wide-back fs s n k
+  scope-has fs s bare_else at e p is n k = let g : None ≡ Some p = is in cc
+  scope-has [] s (branch_else b q) at e p is n k = let g : false ≡ true = e in cc
+  scope-has (f ∷ fs) s (branch_else b q) at e p is n k = let a = and_parts (takes_else (Some f)) (joins b f.control) e in narrow-back f fs s b q at a.0 a.1 n k
+  scope-has fs s closer at e p is n k = let g : None ≡ Some p = is in cc
+  scope-has fs s jump at e p is n k = let g : None ≡ Some p = is in cc
 
   module _ (fs : List Frame) (s : Stands xs i names fs) (a : Act) (at : slice_get xs i ≡ Some (act_role a)) (e : is_placed a (top fs) ≡ true) where
     pub known : IsKnown (used (names_in a)) (names_at a (top fs) names) → IsUndeclared xs i a → ⊥
-    known k u = u.unknown (in_scope fs s a at e u.names u.of_action u.name (k u.name (subst (λ o. Contains (used o) u.name) (sym u.of_action) u.uses)))
+    known k u = u.unknown (in-scope fs s a at e u.names u.of_action u.name (k u.name (subst (λ o. Contains (used o) u.name) (sym u.of_action) u.uses)))
 
     pub unknown : IsUnknown (used (names_in a)) (names_at a (top fs) names) → IsUndeclared xs i a
     unknown u = go (names_in a) refl (u.1)
       where
         go : (o : Option Names) → names_in a ≡ o → Contains (used o) u.0 → IsUndeclared xs i a
-        go None is c = in_nothing u.0 c
-        go (Some p) is c = record { name = u.0; names = p; of_action = is; uses = c; unknown = λ k. u.2 (scope_has fs s a at e p is u.0 k) }
+        go None is c = in-nothing u.0 c
+        go (Some p) is c = record { name = u.0; names = p; of_action = is; uses = c; unknown = λ k. u.2 (scope-has fs s a at e p is u.0 k) }

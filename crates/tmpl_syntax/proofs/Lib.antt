@@ -15,7 +15,6 @@ pub mod ListLemmas
 pub mod OneSpellingLemmas
 pub mod OneVerdictLemmas
 pub mod OpenLemmas
-pub mod PartLemmas
 pub mod PlaceLemmas
 pub mod PrintExamples
 pub mod PrintableNodeLemmas

@@ -14,27 +14,27 @@ within xs i OutOfPlace (misplaced {a = a} e m) = slice_get_within xs i (act_role
 within xs i NestedTooDeeply (too_deep {a = a} e m) = slice_get_within xs i (act_role a) e
 within xs i UndeclaredVariable (undeclared {a = a} e m) = slice_get_within xs i (act_role a) e
 
-same_rank : (f g : Fault) → rank f ≡ rank g → f ≡ g
-same_rank Unreadable Unreadable e = refl
-same_rank NotAnAction NotAnAction e = refl
-same_rank OutOfPlace OutOfPlace e = refl
-same_rank NestedTooDeeply NestedTooDeeply e = refl
-same_rank UndeclaredVariable UndeclaredVariable e = refl
-same_rank f g e = absurd (omega arith)
+same-rank : (f g : Fault) → rank f ≡ rank g → f ≡ g
+same-rank Unreadable Unreadable e = refl
+same-rank NotAnAction NotAnAction e = refl
+same-rank OutOfPlace OutOfPlace e = refl
+same-rank NestedTooDeeply NestedTooDeeply e = refl
+same-rank UndeclaredVariable UndeclaredVariable e = refl
+same-rank f g e = absurd (omega arith)
 
-same_fault : (xs : List Role) (i : ℕ) (f g : Fault) → IsRefused xs i f → IsRefused xs i g → f ≡ g
-same_fault xs i f g a b = ⊎_elim (λ e. same_rank f g e) (λ o. ⊎_elim (λ lt. absurd (b.first_fault f lt a.applies)) (λ gt. absurd (a.first_fault g gt b.applies)) o) (cases_order (rank f) (rank g))
+same-fault : (xs : List Role) (i : ℕ) (f g : Fault) → IsRefused xs i f → IsRefused xs i g → f ≡ g
+same-fault xs i f g a b = ⊎_elim (λ e. same-rank f g e) (λ o. ⊎_elim (λ lt. absurd (b.first_fault f lt a.applies)) (λ gt. absurd (a.first_fault g gt b.applies)) o) (cases_order (rank f) (rank g))
 
-same_refused : (xs : List Role) (i j : ℕ) (f g : Fault) → IsRefused xs i f → IsRefused xs j g → refused i f ≡ refused j g
-same_refused xs i j f g a b = ⊎_elim
-    (λ e. let s = same_fault xs j f g (subst (λ k. IsRefused xs k f) e a) b in cc)
+same-refused : (xs : List Role) (i j : ℕ) (f g : Fault) → IsRefused xs i f → IsRefused xs j g → refused i f ≡ refused j g
+same-refused xs i j f g a b = ⊎_elim
+    (λ e. let s = same-fault xs j f g (subst (λ k. IsRefused xs k f) e a) b in cc)
     (λ o. ⊎_elim (λ lt. absurd (b.first_item i f lt a.applies)) (λ gt. absurd (a.first_item j g gt b.applies)) o)
     (cases_order i j)
 
 pub one_verdict : (xs : List Role) (v w : Verdict) → Judged xs v → Judged xs w → v ≡ w
 one_verdict xs fine fine a b = refl
 one_verdict xs left_open left_open a b = refl
-one_verdict xs (refused i f) (refused j g) a b = same_refused xs i j f g a b
+one_verdict xs (refused i f) (refused j g) a b = same-refused xs i j f g a b
 one_verdict xs fine left_open a b = absurd (a.1 b.1 b.2)
 one_verdict xs left_open fine a b = absurd (b.1 a.1 a.2)
 one_verdict xs fine (refused i f) a b = absurd (a.0 i f (within xs i f b.applies) b.applies)

@@ -22,8 +22,8 @@ ups xs a n = count_by opens (slice_range xs a n)
 abbrev pub downs : List Role → ℕ → ℕ → ℕ
 downs xs a n = count_by ends (slice_range xs a n)
 
-pub count_split : (p : Role → Bool) (xs : List Role) (a m n : ℕ) → a ≤ m → m ≤ n → count_by p (slice_range xs a n) ≡ count_by p (slice_range xs a m) + count_by p (slice_range xs m n)
-count_split p xs a m n low high =
+pub count-split : (p : Role → Bool) (xs : List Role) (a m n : ℕ) → a ≤ m → m ≤ n → count_by p (slice_range xs a n) ≡ count_by p (slice_range xs a m) + count_by p (slice_range xs m n)
+count-split p xs a m n low high =
     let ys = drop a xs in
     let u = m - a in
     let v = n - m in
@@ -34,11 +34,11 @@ count_split p xs a m n low high =
     let cut : take (n - a) ys ≡ take u ys ++ take v (drop m xs) = ap (λ k. take k ys) whole ∙ sym (take-append-drop u (take (u + v) ys)) ∙ ap (λ l. l ++ drop u (take (u + v) ys)) front ∙ ap (λ l. take u ys ++ l) back in
     ap (count_by p) cut ∙ sum_by-append (λ y. cond (p y) 1 0) (take u ys) (take v (drop m xs))
 
-pub count_none : (p : Role → Bool) (xs : List Role) (n : ℕ) → count_by p (slice_range xs n n) ≡ 0
-count_none p xs n = let e : n - n ≡ 0 = omega arith in ap (λ k. count_by p (take k (drop n xs))) e
+pub count-none : (p : Role → Bool) (xs : List Role) (n : ℕ) → count_by p (slice_range xs n n) ≡ 0
+count-none p xs n = let e : n - n ≡ 0 = omega arith in ap (λ k. count_by p (take k (drop n xs))) e
 
-pub count_one : (p : Role → Bool) (xs : List Role) (x : Role) (n : ℕ) → slice_get xs n ≡ Some x → count_by p (slice_range xs n (n + 1)) ≡ one_if (p x)
-count_one p xs x n at =
+pub count-one : (p : Role → Bool) (xs : List Role) (x : Role) (n : ℕ) → slice_get xs n ≡ Some x → count_by p (slice_range xs n (n + 1)) ≡ one_if (p x)
+count-one p xs x n at =
     let lt : n < length xs = slice_get_within xs n x at in
     let one : n + 1 - n ≡ suc 0 = omega arith in
     let inside : 0 < length (drop n xs) = omega (arith, length-drop n xs) in
@@ -46,8 +46,8 @@ count_one p xs x n at =
     ap (λ k. count_by p (take k (drop n xs))) one ∙ ap (count_by p) (take-suc (drop n xs) 0 x inside ∙ ap (λ y. y ∷ []) same) ∙ zero-add (one_if (p x))
 
 -- one more piece in a stretch
-pub count_more : (p : Role → Bool) (xs : List Role) (x : Role) (a n : ℕ) → a ≤ n → slice_get xs n ≡ Some x → count_by p (slice_range xs a (n + 1)) ≡ count_by p (slice_range xs a n) + one_if (p x)
-count_more p xs x a n le at = count_split p xs a n (n + 1) le (omega arith) ∙ ap (λ k. count_by p (slice_range xs a n) + k) (count_one p xs x n at)
+pub count-more : (p : Role → Bool) (xs : List Role) (x : Role) (a n : ℕ) → a ≤ n → slice_get xs n ≡ Some x → count_by p (slice_range xs a (n + 1)) ≡ count_by p (slice_range xs a n) + one_if (p x)
+count-more p xs x a n le at = count-split p xs a n (n + 1) le (omega arith) ∙ ap (λ k. count_by p (slice_range xs a n) + k) (count-one p xs x n at)
 
 -- the piece of an opening
 pub record Opens (xs : List Role) (j : ℕ) (c : Control) : Type 0 where
@@ -62,29 +62,29 @@ piece_of xs j c h = go (slice_get xs j) refl h
     go None e h = absurd h
     go (Some x) e h = record { piece = x; at = e; is = h }
 
-pub same_piece : (xs : List Role) (i : ℕ) (a b : Role) → slice_get xs i ≡ Some a → slice_get xs i ≡ Some b → a ≡ b
-same_piece xs i a b e f = let g : Some a ≡ Some b = sym e ∙ f in cc
+pub same-piece : (xs : List Role) (i : ℕ) (a b : Role) → slice_get xs i ≡ Some a → slice_get xs i ≡ Some b → a ≡ b
+same-piece xs i a b e f = let g : Some a ≡ Some b = sym e ∙ f in cc
 
-pub same_control : (xs : List Role) (j : ℕ) (c d : Control) → IsOpening (slice_get xs j) c → IsOpening (slice_get xs j) d → c ≡ d
-same_control xs j c d a b =
+pub same-control : (xs : List Role) (j : ℕ) (c d : Control) → IsOpening (slice_get xs j) c → IsOpening (slice_get xs j) d → c ≡ d
+same-control xs j c d a b =
     let p = piece_of xs j c a in
     let q = piece_of xs j d b in
-    let e : p.piece ≡ q.piece = same_piece xs j p.piece q.piece p.at q.at in
+    let e : p.piece ≡ q.piece = same-piece xs j p.piece q.piece p.at q.at in
     let s : Some c ≡ Some d = sym p.is ∙ ap opening e ∙ q.is in cc
 
-pub opening_no_end : (x : Role) (c : Control) → opening x ≡ Some c → ends x ≡ false
-opening_no_end text_role c e = refl
-opening_no_end unreadable_role c e = refl
-opening_no_end unread_role c e = refl
-opening_no_end (act_role (plain p)) c e = refl
-opening_no_end (act_role (opener d p)) c e = refl
-opening_no_end (act_role bare_else) c e = refl
-opening_no_end (act_role (branch_else b p)) c e = refl
-opening_no_end (act_role closer) c e = let g : None ≡ Some c = e in cc
-opening_no_end (act_role jump) c e = refl
+pub opening-no-end : (x : Role) (c : Control) → opening x ≡ Some c → ends x ≡ false
+opening-no-end text_role c e = refl
+opening-no-end unreadable_role c e = refl
+opening-no-end unread_role c e = refl
+opening-no-end (act_role (plain p)) c e = refl
+opening-no-end (act_role (opener d p)) c e = refl
+opening-no-end (act_role bare_else) c e = refl
+opening-no-end (act_role (branch_else b p)) c e = refl
+opening-no-end (act_role closer) c e = let g : None ≡ Some c = e in cc
+opening-no-end (act_role jump) c e = refl
 
-pub opening_opens : (x : Role) (c : Control) → opening x ≡ Some c → opens x ≡ true
-opening_opens x c e = ap there e
+pub opening-opens : (x : Role) (c : Control) → opening x ≡ Some c → opens x ≡ true
+opening-opens x c e = ap there e
 
 -- a place between
 pub cut : (xs : List Role) (k m i : ℕ) → k < m → m ≤ i → IsOpen xs k i → IsOpen xs k m
@@ -101,19 +101,19 @@ through xs k j i a b = record {
       let lt = a.before in
       let first = a.fronts j lt (omega arith) in
       let second = b.fronts n beyond to in
-      let no_end = opening_no_end p.piece b.control p.is in
-      let opened = opening_opens p.piece b.control p.is in
-      let e1 = count_more ends xs p.piece (k + 1) j (omega arith) p.at in
-      let e2 = count_more opens xs p.piece (k + 1) j (omega arith) p.at in
+      let no_end = opening-no-end p.piece b.control p.is in
+      let opened = opening-opens p.piece b.control p.is in
+      let e1 = count-more ends xs p.piece (k + 1) j (omega arith) p.at in
+      let e2 = count-more opens xs p.piece (k + 1) j (omega arith) p.at in
       let z : one_if (ends p.piece) ≡ 0 = ap one_if no_end in
       let o : one_if (opens p.piece) ≡ 1 = ap one_if opened in
-      omega (arith, e1, e2, z, o, first, second, count_split ends xs (k + 1) (j + 1) n (omega arith) (omega arith), count_split opens xs (k + 1) (j + 1) n (omega arith) (omega arith)))
+      omega (arith, e1, e2, z, o, first, second, count-split ends xs (k + 1) (j + 1) n (omega arith) (omega arith), count-split opens xs (k + 1) (j + 1) n (omega arith) (omega arith)))
       (λ le. a.fronts n from le)
       (cases_lt j n);
 }
 
-pub one_last : (xs : List Role) (j k i : ℕ) → IsLast xs j i → IsLast xs k i → j ≡ k
-one_last xs j k i a b = ⊎_elim (λ e. e) (λ o. ⊎_elim (λ lt. absurd (a.last k lt b.is_open)) (λ lt. absurd (b.last j lt a.is_open)) o) (cases_order j k)
+pub one-last : (xs : List Role) (j k i : ℕ) → IsLast xs j i → IsLast xs k i → j ≡ k
+one-last xs j k i a b = ⊎_elim (λ e. e) (λ o. ⊎_elim (λ lt. absurd (a.last k lt b.is_open)) (λ lt. absurd (b.last j lt a.is_open)) o) (cases_order j k)
 
 -- at two places the same is open
 pub record Even (xs : List Role) (j m : ℕ) : Type 0 where
@@ -129,19 +129,19 @@ pub record Same (xs : List Role) (j m : ℕ) : Type 0 where
   pub no_branch : (q h : ℕ) → j ≤ h → h < m → IsOpen xs q j → IsElseBranchOf xs q h → ⊥
 
 -- what opens nothing is no opening
-pub shut_at : (xs : List Role) (x : Role) (i m : ℕ) → slice_get xs i ≡ Some x → opens x ≡ false → IsOpen xs i m → ⊥
-shut_at xs x i m at shut h =
+pub shut-at : (xs : List Role) (x : Role) (i m : ℕ) → slice_get xs i ≡ Some x → opens x ≡ false → IsOpen xs i m → ⊥
+shut-at xs x i m at shut h =
     let p = piece_of xs i h.control h.at in
-    let e : p.piece ≡ x = same_piece xs i p.piece x p.at at in
-    let t : true ≡ false = sym (opening_opens p.piece h.control p.is) ∙ ap opens e ∙ shut in cc
+    let e : p.piece ≡ x = same-piece xs i p.piece x p.at at in
+    let t : true ≡ false = sym (opening-opens p.piece h.control p.is) ∙ ap opens e ∙ shut in cc
 
-pub even_step : (xs : List Role) (x : Role) (i : ℕ) → slice_get xs i ≡ Some x → opens x ≡ false → ends x ≡ false → Even xs i (i + 1)
-even_step xs x i at o e =
+pub even-step : (xs : List Role) (x : Role) (i : ℕ) → slice_get xs i ≡ Some x → opens x ≡ false → ends x ≡ false → Even xs i (i + 1)
+even-step xs x i at o e =
     let zo : one_if (opens x) ≡ 0 = ap one_if o in
     let ze : one_if (ends x) ≡ 0 = ap one_if e in
     record {
       le = omega arith;
-      balance = omega (arith, zo, ze, count_one ends xs x i at, count_one opens xs x i at);
+      balance = omega (arith, zo, ze, count-one ends xs x i at, count-one opens xs x i at);
       keeps = λ k h. record {
         control = h.control;
         at = h.at;
@@ -150,28 +150,28 @@ even_step xs x i at o e =
             (λ below. h.fronts n from (omega arith))
             (λ ge. let s : i + 1 ≡ n = omega arith in
             let f = h.fronts i lt (omega arith) in
-            subst (λ m. downs xs (k + 1) m ≤ ups xs (k + 1) m) s (omega (arith, f, zo, ze, count_more ends xs x (k + 1) i (omega arith) at, count_more opens xs x (k + 1) i (omega arith) at)))
+            subst (λ m. downs xs (k + 1) m ≤ ups xs (k + 1) m) s (omega (arith, f, zo, ze, count-more ends xs x (k + 1) i (omega arith) at, count-more opens xs x (k + 1) i (omega arith) at)))
             (cases_lt n (i + 1));
       };
       only = λ k h. ⊎_elim
           (λ lt. cut xs k i (i + 1) lt (omega arith) h)
-          (λ ge. let lt = h.before in let s : k ≡ i = omega arith in absurd (shut_at xs x i (i + 1) at o (subst (λ n. IsOpen xs n (i + 1)) s h)))
+          (λ ge. let lt = h.before in let s : k ≡ i = omega arith in absurd (shut-at xs x i (i + 1) at o (subst (λ n. IsOpen xs n (i + 1)) s h)))
           (cases_lt k i);
     }
 
 -- after an end stands what stood before its opening
-pub same_ended : (xs : List Role) (j i : ℕ) → IsLast xs j i → ups xs (j + 1) i ≡ downs xs (j + 1) i → slice_get xs i ≡ Some (act_role closer) → Same xs j (i + 1)
-same_ended xs j i l over at =
+pub same-ended : (xs : List Role) (j i : ℕ) → IsLast xs j i → ups xs (j + 1) i ≡ downs xs (j + 1) i → slice_get xs i ≡ Some (act_role closer) → Same xs j (i + 1)
+same-ended xs j i l over at =
     let lt = l.is_open.before in
     let p = piece_of xs j l.is_open.control l.is_open.at in
-    let zo : one_if (ends p.piece) ≡ 0 = ap one_if (opening_no_end p.piece l.is_open.control p.is) in
-    let oo : one_if (opens p.piece) ≡ 1 = ap one_if (opening_opens p.piece l.is_open.control p.is) in
-    let me = count_more ends xs (act_role closer) (j + 1) i (omega arith) at in
-    let mo = count_more opens xs (act_role closer) (j + 1) i (omega arith) at in
+    let zo : one_if (ends p.piece) ≡ 0 = ap one_if (opening-no-end p.piece l.is_open.control p.is) in
+    let oo : one_if (opens p.piece) ≡ 1 = ap one_if (opening-opens p.piece l.is_open.control p.is) in
+    let me = count-more ends xs (act_role closer) (j + 1) i (omega arith) at in
+    let mo = count-more opens xs (act_role closer) (j + 1) i (omega arith) at in
     record {
       even = record {
         le = omega arith;
-        balance = omega (arith, over, zo, oo, me, mo, count_one ends xs p.piece j p.at, count_one opens xs p.piece j p.at, count_split ends xs j (j + 1) (i + 1) (omega arith) (omega arith), count_split opens xs j (j + 1) (i + 1) (omega arith) (omega arith));
+        balance = omega (arith, over, zo, oo, me, mo, count-one ends xs p.piece j p.at, count-one opens xs p.piece j p.at, count-split ends xs j (j + 1) (i + 1) (omega arith) (omega arith), count-split opens xs j (j + 1) (i + 1) (omega arith) (omega arith));
         keeps = λ k h. let on = through xs k j i h l.is_open in record {
           control = on.control;
           at = on.at;
@@ -180,10 +180,10 @@ same_ended xs j i l over at =
               (λ below. on.fronts n from (omega arith))
               (λ ge. let s : i + 1 ≡ n = omega arith in
               let f = h.fronts j kt (omega arith) in
-              let ce = count_more ends xs p.piece (k + 1) j (omega arith) p.at in
-              let co = count_more opens xs p.piece (k + 1) j (omega arith) p.at in
+              let ce = count-more ends xs p.piece (k + 1) j (omega arith) p.at in
+              let co = count-more opens xs p.piece (k + 1) j (omega arith) p.at in
               subst (λ m. downs xs (k + 1) m ≤ ups xs (k + 1) m) s
-              (omega (arith, f, over, zo, oo, me, mo, ce, co, count_split ends xs (k + 1) (j + 1) (i + 1) (omega arith) (omega arith), count_split opens xs (k + 1) (j + 1) (i + 1) (omega arith) (omega arith))))
+              (omega (arith, f, over, zo, oo, me, mo, ce, co, count-split ends xs (k + 1) (j + 1) (i + 1) (omega arith) (omega arith), count-split opens xs (k + 1) (j + 1) (i + 1) (omega arith) (omega arith))))
               (cases_lt n (i + 1));
         };
         only = λ k h. ⊎_elim
@@ -193,12 +193,12 @@ same_ended xs j i l over at =
             ⊎_elim (λ e. closed k e h)
             (λ o. ⊎_elim (λ kj. omega arith) (λ jk. l.last k jk on) o)
             (cases_order k j))
-            (λ ik. let kb = h.before in let s : k ≡ i = omega arith in shut_at xs (act_role closer) i (i + 1) at refl (subst (λ n. IsOpen xs n (i + 1)) s h))
+            (λ ik. let kb = h.before in let s : k ≡ i = omega arith in shut-at xs (act_role closer) i (i + 1) at refl (subst (λ n. IsOpen xs n (i + 1)) s h))
             (cases_lt k i)))
             (cases_lt k j);
       };
-      no_else = λ q h from to o e. inner q h from to o e.belongs (λ s. let g : act_role bare_else ≡ act_role closer = same_piece xs i (act_role bare_else) (act_role closer) (subst (λ n. slice_get xs n ≡ Some (act_role bare_else)) s e.at) at in cc) (λ s. let u : ends (act_role bare_else) ≡ false = refl in not_opening (act_role bare_else) (subst (λ n. slice_get xs n ≡ Some (act_role bare_else)) s e.at) refl);
-      no_branch = λ q h from to o e. inner q h from to o e.belongs (λ s. let g : act_role (branch_else e.branch e.names) ≡ act_role closer = same_piece xs i (act_role (branch_else e.branch e.names)) (act_role closer) (subst (λ n. slice_get xs n ≡ Some (act_role (branch_else e.branch e.names))) s e.at) at in cc) (λ s. not_opening (act_role (branch_else e.branch e.names)) (subst (λ n. slice_get xs n ≡ Some (act_role (branch_else e.branch e.names))) s e.at) refl);
+      no_else = λ q h from to o e. inner q h from to o e.belongs (λ s. let g : act_role bare_else ≡ act_role closer = same-piece xs i (act_role bare_else) (act_role closer) (subst (λ n. slice_get xs n ≡ Some (act_role bare_else)) s e.at) at in cc) (λ s. let u : ends (act_role bare_else) ≡ false = refl in not-opening (act_role bare_else) (subst (λ n. slice_get xs n ≡ Some (act_role bare_else)) s e.at) refl);
+      no_branch = λ q h from to o e. inner q h from to o e.belongs (λ s. let g : act_role (branch_else e.branch e.names) ≡ act_role closer = same-piece xs i (act_role (branch_else e.branch e.names)) (act_role closer) (subst (λ n. slice_get xs n ≡ Some (act_role (branch_else e.branch e.names))) s e.at) at in cc) (λ s. not-opening (act_role (branch_else e.branch e.names)) (subst (λ n. slice_get xs n ≡ Some (act_role (branch_else e.branch e.names))) s e.at) refl);
     }
   where
     closed : (k : ℕ) → k ≡ j → IsOpen xs k (i + 1) → ⊥
@@ -206,10 +206,10 @@ same_ended xs j i l over at =
         let o : IsOpen xs j (i + 1) = subst (λ n. IsOpen xs n (i + 1)) e h in
         let lt = l.is_open.before in
         let f = o.fronts (i + 1) (omega arith) (omega arith) in
-        omega (arith, f, over, count_more ends xs (act_role closer) (j + 1) i (omega arith) at, count_more opens xs (act_role closer) (j + 1) i (omega arith) at)
+        omega (arith, f, over, count-more ends xs (act_role closer) (j + 1) i (omega arith) at, count-more opens xs (act_role closer) (j + 1) i (omega arith) at)
 
-    not_opening : (x : Role) → slice_get xs j ≡ Some x → opens x ≡ false → ⊥
-    not_opening x a shut = shut_at xs x j i a shut l.is_open
+    not-opening : (x : Role) → slice_get xs j ≡ Some x → opens x ≡ false → ⊥
+    not-opening x a shut = shut-at xs x j i a shut l.is_open
 
     inner : (q h : ℕ) → j ≤ h → h < i + 1 → IsOpen xs q j → IsLast xs q h → (h ≡ i → ⊥) → (h ≡ j → ⊥) → ⊥
     inner q h from to o belongs ni nj = ⊎_elim
@@ -221,16 +221,16 @@ same_ended xs j i l over at =
         (cases_lt h i)
 
 -- .. and after a piece that is no opening, end or else
-pub same_still : (xs : List Role) (x : Role) (i : ℕ) → slice_get xs i ≡ Some x → opens x ≡ false → ends x ≡ false → x ≢ act_role bare_else → ((b : Branch) (p : Names) → x ≢ act_role (branch_else b p)) → Same xs i (i + 1)
-same_still xs x i at o e ne nt = record {
-  even = even_step xs x i at o e;
-  no_else = λ q h from to open_q el. let s : h ≡ i = omega arith in ne (same_piece xs i x (act_role bare_else) at (subst (λ n. slice_get xs n ≡ Some (act_role bare_else)) s el.at));
-  no_branch = λ q h from to open_q tu. let s : h ≡ i = omega arith in nt tu.branch tu.names (same_piece xs i x (act_role (branch_else tu.branch tu.names)) at (subst (λ n. slice_get xs n ≡ Some (act_role (branch_else tu.branch tu.names))) s tu.at));
+pub same-still : (xs : List Role) (x : Role) (i : ℕ) → slice_get xs i ≡ Some x → opens x ≡ false → ends x ≡ false → x ≢ act_role bare_else → ((b : Branch) (p : Names) → x ≢ act_role (branch_else b p)) → Same xs i (i + 1)
+same-still xs x i at o e ne nt = record {
+  even = even-step xs x i at o e;
+  no_else = λ q h from to open_q el. let s : h ≡ i = omega arith in ne (same-piece xs i x (act_role bare_else) at (subst (λ n. slice_get xs n ≡ Some (act_role bare_else)) s el.at));
+  no_branch = λ q h from to open_q tu. let s : h ≡ i = omega arith in nt tu.branch tu.names (same-piece xs i x (act_role (branch_else tu.branch tu.names)) at (subst (λ n. slice_get xs n ≡ Some (act_role (branch_else tu.branch tu.names))) s tu.at));
 }
 
 -- what an opening adds
-pub opened_keeps : (xs : List Role) (x : Role) (i k : ℕ) → slice_get xs i ≡ Some x → ends x ≡ false → IsOpen xs k i → IsOpen xs k (i + 1)
-opened_keeps xs x i k at e h =
+pub opened-keeps : (xs : List Role) (x : Role) (i k : ℕ) → slice_get xs i ≡ Some x → ends x ≡ false → IsOpen xs k i → IsOpen xs k (i + 1)
+opened-keeps xs x i k at e h =
     let ze : one_if (ends x) ≡ 0 = ap one_if e in
     let lt = h.before in
     record {
@@ -241,7 +241,7 @@ opened_keeps xs x i k at e h =
           (λ below. h.fronts n from (omega arith))
           (λ ge. let s : i + 1 ≡ n = omega arith in
           let f = h.fronts i lt (omega arith) in
-          subst (λ m. downs xs (k + 1) m ≤ ups xs (k + 1) m) s (omega (arith, f, ze, count_more ends xs x (k + 1) i (omega arith) at, count_more opens xs x (k + 1) i (omega arith) at)))
+          subst (λ m. downs xs (k + 1) m ≤ ups xs (k + 1) m) s (omega (arith, f, ze, count-more ends xs x (k + 1) i (omega arith) at, count-more opens xs x (k + 1) i (omega arith) at)))
           (cases_lt n (i + 1));
     }
 
@@ -250,5 +250,5 @@ opened_new xs i c at = record {
   control = c;
   at = at;
   before = omega arith;
-  fronts = λ n from to. let s : i + 1 ≡ n = omega arith in subst (λ m. downs xs (i + 1) m ≤ ups xs (i + 1) m) s (omega (arith, count_none ends xs (i + 1), count_none opens xs (i + 1)));
+  fronts = λ n from to. let s : i + 1 ≡ n = omega arith in subst (λ m. downs xs (i + 1) m ≤ ups xs (i + 1) m) s (omega (arith, count-none ends xs (i + 1), count-none opens xs (i + 1)));
 }

@@ -6,7 +6,7 @@ use Rattle.tmpl_grammar.specs.declared.action.Branch.{Branch}
 use Rattle.tmpl_syntax.specs.Place.Open.{ends, IsOpening, IsOpen, IsLast, IsElseBranchOf, HasElse, is_template, IsBody, IsTemplate, OfOneTemplate}
 use Rattle.tmpl_syntax.specs.Place.Body.{is_level, IsLoop, IsLevel, of_opening, of_else_branch, Levels, none, one, other}
 use Rattle.tmpl_syntax.specs.computed.Frames.{level_of}
-use Rattle.tmpl_syntax.proofs.OpenLemmas.{same_control, same_piece, cut, through, Even, Same, shut_at, opened_keeps, opened_new}
+use Rattle.tmpl_syntax.proofs.OpenLemmas.{same-control, same-piece, cut, through, Even, Same, shut-at, opened-keeps, opened_new}
 use Rattle.tmpl_grammar.specs.declared.tree.Control.{Control}
 use Rattle.tmpl_grammar.specs.declared.tree.Control.TheVariants.{If, With, Range}
 use Rattle.tmpl_syntax.specs.Place.Role.{Names, opener, bare_else, branch_else, Role, act_role}
@@ -16,33 +16,30 @@ pub record Alike (xs : List Role) (a b : ℕ) : Type 0 where
   pub to : (k : ℕ) → IsBody xs k a → IsBody xs k b
   pub back : (k : ℕ) → IsBody xs k b → IsBody xs k a
 
-pub move_body : (xs : List Role) (k a b : ℕ) → IsBody xs k a → IsOpen xs k b → IsBody xs k b
-move_body xs k a b h o = record { is_open = o; own = subst (λ c. is_template c ≡ true) (same_control xs k h.is_open.control o.control h.is_open.at o.at) h.own }
+pub move-body : (xs : List Role) (k a b : ℕ) → IsBody xs k a → IsOpen xs k b → IsBody xs k b
+move-body xs k a b h o = record { is_open = o; own = subst (λ c. is_template c ≡ true) (same-control xs k h.is_open.control o.control h.is_open.at o.at) h.own }
 
-pub template_moves : (xs : List Role) (a b : ℕ) → Alike xs a b → (t : Option ℕ) → IsTemplate xs a t → IsTemplate xs b t
-template_moves xs a b e None h = λ j o. h j (e.back j o)
-template_moves xs a b e (Some t) h = (e.to t h.0, λ j lt o. h.1 j lt (e.back j o))
+pub template-moves : (xs : List Role) (a b : ℕ) → Alike xs a b → (t : Option ℕ) → IsTemplate xs a t → IsTemplate xs b t
+template-moves xs a b e None h = λ j o. h j (e.back j o)
+template-moves xs a b e (Some t) h = (e.to t h.0, λ j lt o. h.1 j lt (e.back j o))
 
-pub one_moves : (xs : List Role) (k a b : ℕ) → Alike xs a b → OfOneTemplate xs k a → OfOneTemplate xs k b
-one_moves xs k a b e h = (h.0, h.1, template_moves xs a b e h.0 h.2)
+pub one-moves : (xs : List Role) (k a b : ℕ) → Alike xs a b → OfOneTemplate xs k a → OfOneTemplate xs k b
+one-moves xs k a b e h = (h.0, h.1, template-moves xs a b e h.0 h.2)
 
-pub alike_back : (xs : List Role) (a b : ℕ) → Alike xs a b → Alike xs b a
-alike_back xs a b e = record { to = e.back; back = e.to }
+pub alike-back : (xs : List Role) (a b : ℕ) → Alike xs a b → Alike xs b a
+alike-back xs a b e = record { to = e.back; back = e.to }
 
-pub alike_self : (xs : List Role) (a : ℕ) → Alike xs a a
-alike_self xs a = record { to = λ k h. h; back = λ k h. h }
-
-pub alike_even : (xs : List Role) (a b : ℕ) → Even xs a b → Alike xs a b
-alike_even xs a b e = record { to = λ k h. move_body xs k a b h (e.keeps k h.is_open); back = λ k h. move_body xs k b a h (e.only k h.is_open) }
+pub alike-even : (xs : List Role) (a b : ℕ) → Even xs a b → Alike xs a b
+alike-even xs a b e = record { to = λ k h. move-body xs k a b h (e.keeps k h.is_open); back = λ k h. move-body xs k b a h (e.only k h.is_open) }
 
 -- inside a control that is no define or block
-pub alike_last : (xs : List Role) (j i : ℕ) → (l : IsLast xs j i) → is_template l.is_open.control ≡ false → Alike xs j i
-alike_last xs j i l nt = record {
-  to = λ k h. move_body xs k j i h (through xs k j i h.is_open l.is_open);
+pub alike-last : (xs : List Role) (j i : ℕ) → (l : IsLast xs j i) → is_template l.is_open.control ≡ false → Alike xs j i
+alike-last xs j i l nt = record {
+  to = λ k h. move-body xs k j i h (through xs k j i h.is_open l.is_open);
   back = λ k h. ⊎_elim
       (λ e. absurd (own k e h))
       (λ o. ⊎_elim
-      (λ lt. move_body xs k i j h (cut xs k j i lt (let b = l.is_open.before in omega arith) h.is_open))
+      (λ lt. move-body xs k i j h (cut xs k j i lt (let b = l.is_open.before in omega arith) h.is_open))
       (λ gt. absurd (l.last k gt h.is_open)) o)
       (cases_order k j);
 }
@@ -50,14 +47,14 @@ alike_last xs j i l nt = record {
     own : (k : ℕ) → k ≡ j → IsBody xs k i → ⊥
     own k e h =
         let b : IsBody xs j i = subst (λ n. IsBody xs n i) e h in
-        let c : b.is_open.control ≡ l.is_open.control = same_control xs j b.is_open.control l.is_open.control b.is_open.at l.is_open.at in
+        let c : b.is_open.control ≡ l.is_open.control = same-control xs j b.is_open.control l.is_open.control b.is_open.at l.is_open.at in
         let t : true ≡ false = sym b.own ∙ ap is_template c ∙ nt in cc
 
-pub alike_opened : (xs : List Role) (x : Role) (i : ℕ) (c : Control) → slice_get xs i ≡ Some x → ends x ≡ false → IsOpening (slice_get xs i) c → is_template c ≡ false → Alike xs i (i + 1)
-alike_opened xs x i c at e o nt = record {
-  to = λ k h. move_body xs k i (i + 1) h (opened_keeps xs x i k at e h.is_open);
+pub alike-opened : (xs : List Role) (x : Role) (i : ℕ) (c : Control) → slice_get xs i ≡ Some x → ends x ≡ false → IsOpening (slice_get xs i) c → is_template c ≡ false → Alike xs i (i + 1)
+alike-opened xs x i c at e o nt = record {
+  to = λ k h. move-body xs k i (i + 1) h (opened-keeps xs x i k at e h.is_open);
   back = λ k h. ⊎_elim
-      (λ lt. move_body xs k (i + 1) i h (cut xs k i (i + 1) lt (omega arith) h.is_open))
+      (λ lt. move-body xs k (i + 1) i h (cut xs k i (i + 1) lt (omega arith) h.is_open))
       (λ ge. let b = h.is_open.before in absurd (own k (omega arith) h))
       (cases_lt k i);
 }
@@ -65,77 +62,77 @@ alike_opened xs x i c at e o nt = record {
     own : (k : ℕ) → k ≡ i → IsBody xs k (i + 1) → ⊥
     own k s h =
         let b : IsBody xs i (i + 1) = subst (λ n. IsBody xs n (i + 1)) s h in
-        let d : b.is_open.control ≡ c = same_control xs i b.is_open.control c b.is_open.at o in
+        let d : b.is_open.control ≡ c = same-control xs i b.is_open.control c b.is_open.at o in
         let t : true ≡ false = sym b.own ∙ ap is_template d ∙ nt in cc
 
 -- levels
 
-pub level_moves : (xs : List Role) (k a b : ℕ) → ((q : ℕ) → q ≤ k → IsOpen xs q a → IsOpen xs q b) → IsLevel xs k a → IsLevel xs k b
-level_moves xs k a b f (of_opening o nt) = let n = f k (omega arith) o in of_opening n (ap is_level (same_control xs k n.control o.control n.at o.at) ∙ nt)
-level_moves xs k a b f (of_else_branch {j = j} t o nt) = let lt = t.belongs.is_open.before in let n = f j (omega arith) o in of_else_branch t n (ap is_level (same_control xs j n.control o.control n.at o.at) ∙ nt)
+pub level-moves : (xs : List Role) (k a b : ℕ) → ((q : ℕ) → q ≤ k → IsOpen xs q a → IsOpen xs q b) → IsLevel xs k a → IsLevel xs k b
+level-moves xs k a b f (of_opening o nt) = let n = f k (omega arith) o in of_opening n (ap is_level (same-control xs k n.control o.control n.at o.at) ∙ nt)
+level-moves xs k a b f (of_else_branch {j = j} t o nt) = let lt = t.belongs.is_open.before in let n = f j (omega arith) o in of_else_branch t n (ap is_level (same-control xs j n.control o.control n.at o.at) ∙ nt)
 
-pub levels_unique : {xs : List Role} {i m n p : ℕ} → Levels xs i m n → Levels xs i m p → n ≡ p
-levels_unique none none = refl
-levels_unique (one r h) (one s g) = ap suc (levels_unique r s)
-levels_unique (one r h) (other s g) = absurd (g h)
-levels_unique (other r h) (one s g) = absurd (h g)
-levels_unique (other r h) (other s g) = levels_unique r s
+pub levels-unique : {xs : List Role} {i m n p : ℕ} → Levels xs i m n → Levels xs i m p → n ≡ p
+levels-unique none none = refl
+levels-unique (one r h) (one s g) = ap suc (levels-unique r s)
+levels-unique (one r h) (other s g) = absurd (g h)
+levels-unique (other r h) (one s g) = absurd (h g)
+levels-unique (other r h) (other s g) = levels-unique r s
 
-pub levels_move : {xs : List Role} {a m n : ℕ} → (b : ℕ) → ((k : ℕ) → k < m → IsLevel xs k a → IsLevel xs k b) → ((k : ℕ) → k < m → IsLevel xs k b → IsLevel xs k a) → Levels xs a m n → Levels xs b m n
-levels_move b to back none = none
-levels_move {m = suc m} b to back (one r h) = one (levels_move b (λ k lt. to k (omega arith)) (λ k lt. back k (omega arith)) r) (to m (omega arith) h)
-levels_move {m = suc m} b to back (other r h) = other (levels_move b (λ k lt. to k (omega arith)) (λ k lt. back k (omega arith)) r) (λ l. h (back m (omega arith) l))
+pub levels-move : {xs : List Role} {a m n : ℕ} → (b : ℕ) → ((k : ℕ) → k < m → IsLevel xs k a → IsLevel xs k b) → ((k : ℕ) → k < m → IsLevel xs k b → IsLevel xs k a) → Levels xs a m n → Levels xs b m n
+levels-move b to back none = none
+levels-move {m = suc m} b to back (one r h) = one (levels-move b (λ k lt. to k (omega arith)) (λ k lt. back k (omega arith)) r) (to m (omega arith) h)
+levels-move {m = suc m} b to back (other r h) = other (levels-move b (λ k lt. to k (omega arith)) (λ k lt. back k (omega arith)) r) (λ l. h (back m (omega arith) l))
 
-pub levels_upto : (xs : List Role) (i m n p : ℕ) → m ≤ p → ((k : ℕ) → m ≤ k → k < p → IsLevel xs k i → ⊥) → Levels xs i m n → Levels xs i p n
-levels_upto xs i m n zero le nt r = let e : m ≡ zero = omega arith in subst (λ k. Levels xs i k n) e r
-levels_upto xs i m n (suc p) le nt r = ⊎_elim
+pub levels-upto : (xs : List Role) (i m n p : ℕ) → m ≤ p → ((k : ℕ) → m ≤ k → k < p → IsLevel xs k i → ⊥) → Levels xs i m n → Levels xs i p n
+levels-upto xs i m n zero le nt r = let e : m ≡ zero = omega arith in subst (λ k. Levels xs i k n) e r
+levels-upto xs i m n (suc p) le nt r = ⊎_elim
     (λ gt. let e : m ≡ suc p = omega arith in subst (λ k. Levels xs i k n) e r)
-    (λ low. other (levels_upto xs i m n p low (λ k from to. nt k from (omega arith)) r) (nt p low (omega arith)))
+    (λ low. other (levels-upto xs i m n p low (λ k from to. nt k from (omega arith)) r) (nt p low (omega arith)))
     (cases_lt p m)
 
-pub levels_yes : (xs : List Role) (i m n : ℕ) → Levels xs i m n → IsLevel xs m i → Levels xs i (m + 1) (n + 1)
-levels_yes xs i m n r h = subst (λ k. Levels xs i k (n + 1)) (sym (add-one m)) (subst (λ k. Levels xs i (suc m) k) (sym (add-one n)) (one r h))
+pub levels-yes : (xs : List Role) (i m n : ℕ) → Levels xs i m n → IsLevel xs m i → Levels xs i (m + 1) (n + 1)
+levels-yes xs i m n r h = subst (λ k. Levels xs i k (n + 1)) (sym (add-one m)) (subst (λ k. Levels xs i (suc m) k) (sym (add-one n)) (one r h))
 
-pub levels_no : (xs : List Role) (i m n : ℕ) → Levels xs i m n → (IsLevel xs m i → ⊥) → Levels xs i (m + 1) n
-levels_no xs i m n r h = subst (λ k. Levels xs i k n) (sym (add-one m)) (other r h)
+pub levels-no : (xs : List Role) (i m n : ℕ) → Levels xs i m n → (IsLevel xs m i → ⊥) → Levels xs i (m + 1) n
+levels-no xs i m n r h = subst (λ k. Levels xs i k n) (sym (add-one m)) (other r h)
 
-pub levels_same : (xs : List Role) (j m n : ℕ) → Same xs j m → Levels xs j j n → Levels xs m m n
-levels_same xs j m n s r =
+pub levels-same : (xs : List Role) (j m n : ℕ) → Same xs j m → Levels xs j j n → Levels xs m m n
+levels-same xs j m n s r =
     let e = s.even in
-    levels_upto xs m j n m e.le fresh (levels_move m (λ k lt. level_moves xs k j m (λ q le. e.keeps q)) (λ k lt. level_moves xs k m j (λ q le. e.only q)) r)
+    levels-upto xs m j n m e.le fresh (levels-move m (λ k lt. level-moves xs k j m (λ q le. e.keeps q)) (λ k lt. level-moves xs k m j (λ q le. e.only q)) r)
   where
     fresh : (k : ℕ) → j ≤ k → k < m → IsLevel xs k m → ⊥
     fresh k from to (of_opening o nt) = let b = (s.even.only k o).before in omega arith
     fresh k from to (of_else_branch {j = q} t o nt) = s.no_branch q k from to (s.even.only q o) t
 
-pub levels_even : (xs : List Role) (i n : ℕ) → Even xs i (i + 1) → Levels xs i i n → Levels xs (i + 1) i n
-levels_even xs i n e r = levels_move (i + 1) (λ k lt. level_moves xs k i (i + 1) (λ q le. e.keeps q)) (λ k lt. level_moves xs k (i + 1) i (λ q le. e.only q)) r
+pub levels-even : (xs : List Role) (i n : ℕ) → Even xs i (i + 1) → Levels xs i i n → Levels xs (i + 1) i n
+levels-even xs i n e r = levels-move (i + 1) (λ k lt. level-moves xs k i (i + 1) (λ q le. e.keeps q)) (λ k lt. level-moves xs k (i + 1) i (λ q le. e.only q)) r
 
-pub not_turn : (xs : List Role) (x : Role) (i j : ℕ) → slice_get xs i ≡ Some x → ((b : Branch) (p : Names) → x ≢ act_role (branch_else b p)) → IsElseBranchOf xs j i → ⊥
-not_turn xs x i j at ne t = ne t.branch t.names (same_piece xs i x (act_role (branch_else t.branch t.names)) at t.at)
+pub no-else_branch : (xs : List Role) (x : Role) (i j : ℕ) → slice_get xs i ≡ Some x → ((b : Branch) (p : Names) → x ≢ act_role (branch_else b p)) → IsElseBranchOf xs j i → ⊥
+no-else_branch xs x i j at ne t = ne t.branch t.names (same-piece xs i x (act_role (branch_else t.branch t.names)) at t.at)
 
-pub levels_else : (xs : List Role) (i n : ℕ) → Even xs i (i + 1) → slice_get xs i ≡ Some (act_role bare_else) → Levels xs i i n → Levels xs (i + 1) (i + 1) n
-levels_else xs i n e at r = levels_no xs (i + 1) i n (levels_even xs i n e r) fresh
+pub levels-else : (xs : List Role) (i n : ℕ) → Even xs i (i + 1) → slice_get xs i ≡ Some (act_role bare_else) → Levels xs i i n → Levels xs (i + 1) (i + 1) n
+levels-else xs i n e at r = levels-no xs (i + 1) i n (levels-even xs i n e r) fresh
   where
     fresh : IsLevel xs i (i + 1) → ⊥
-    fresh (of_opening o nt) = shut_at xs (act_role bare_else) i (i + 1) at refl o
-    fresh (of_else_branch {j = q} t o nt) = not_turn xs (act_role bare_else) i q at (λ b p g. cc) t
+    fresh (of_opening o nt) = shut-at xs (act_role bare_else) i (i + 1) at refl o
+    fresh (of_else_branch {j = q} t o nt) = no-else_branch xs (act_role bare_else) i q at (λ b p g. cc) t
 
-pub levels_turn : (xs : List Role) (i j n : ℕ) → Even xs i (i + 1) → (t : IsElseBranchOf xs j i) → is_level t.belongs.is_open.control ≡ true → Levels xs i i n → Levels xs (i + 1) (i + 1) (n + 1)
-levels_turn xs i j n e t nt r =
+pub levels-else_branch : (xs : List Role) (i j n : ℕ) → Even xs i (i + 1) → (t : IsElseBranchOf xs j i) → is_level t.belongs.is_open.control ≡ true → Levels xs i i n → Levels xs (i + 1) (i + 1) (n + 1)
+levels-else_branch xs i j n e t nt r =
     let o = e.keeps j t.belongs.is_open in
-    levels_yes xs (i + 1) i n (levels_even xs i n e r) (of_else_branch t o (ap is_level (same_control xs j o.control t.belongs.is_open.control o.at t.belongs.is_open.at) ∙ nt))
+    levels-yes xs (i + 1) i n (levels-even xs i n e r) (of_else_branch t o (ap is_level (same-control xs j o.control t.belongs.is_open.control o.at t.belongs.is_open.at) ∙ nt))
 
-pub levels_opened : (xs : List Role) (i n : ℕ) (c : Control) (p : Names) → slice_get xs i ≡ Some (act_role (opener c p)) → IsOpening (slice_get xs i) c → Levels xs i i n → Levels xs (i + 1) (i + 1) (n + level_of c)
-levels_opened xs i n c p at o r = go c o
+pub levels-opened : (xs : List Role) (i n : ℕ) (c : Control) (p : Names) → slice_get xs i ≡ Some (act_role (opener c p)) → IsOpening (slice_get xs i) c → Levels xs i i n → Levels xs (i + 1) (i + 1) (n + level_of c)
+levels-opened xs i n c p at o r = go c o
   where
     below : Levels xs (i + 1) i n
-    below = levels_move (i + 1)
-        (λ k lt. level_moves xs k i (i + 1) (λ q le. opened_keeps xs (act_role (opener c p)) i q at refl))
-        (λ k lt. level_moves xs k (i + 1) i (λ q le. cut xs q i (i + 1) (omega arith) (omega arith))) r
+    below = levels-move (i + 1)
+        (λ k lt. level-moves xs k i (i + 1) (λ q le. opened-keeps xs (act_role (opener c p)) i q at refl))
+        (λ k lt. level-moves xs k (i + 1) i (λ q le. cut xs q i (i + 1) (omega arith) (omega arith))) r
 
     yes : (d : Control) → IsOpening (slice_get xs i) d → is_level d ≡ true → Levels xs (i + 1) (i + 1) (n + 1)
-    yes d od nt = levels_yes xs (i + 1) i n below (of_opening (opened_new xs i d od) nt)
+    yes d od nt = levels-yes xs (i + 1) i n below (of_opening (opened_new xs i d od) nt)
 
     go : (d : Control) → IsOpening (slice_get xs i) d → Levels xs (i + 1) (i + 1) (n + level_of d)
     go If od = yes If od refl
@@ -147,22 +144,22 @@ levels_opened xs i n c p at o r = go c o
 abbrev pub InLoop : List Role → ℕ → Type 0
 InLoop xs i = (j : ℕ) × IsLoop xs j i
 
-pub loop_moves : (xs : List Role) (q a b : ℕ) → Alike xs a b → IsOpen xs q b → (HasElse xs q b → HasElse xs q a) → IsLoop xs q a → IsLoop xs q b
-loop_moves xs q a b e o h l = record {
+pub loop-moves : (xs : List Role) (q a b : ℕ) → Alike xs a b → IsOpen xs q b → (HasElse xs q b → HasElse xs q a) → IsLoop xs q a → IsLoop xs q b
+loop-moves xs q a b e o h l = record {
   is_open = o;
-  range = same_control xs q o.control l.is_open.control o.at l.is_open.at ∙ l.range;
-  template = one_moves xs q a b e l.template;
+  range = same-control xs q o.control l.is_open.control o.at l.is_open.at ∙ l.range;
+  template = one-moves xs q a b e l.template;
   bare = λ g. l.bare (h g);
 }
 
 pub else_before : (xs : List Role) (q a b : ℕ) → a ≤ b → HasElse xs q a → HasElse xs q b
 else_before xs q a b le h = (h.0, let lt = h.1 in omega arith, h.2)
 
-pub else_same : (xs : List Role) (q j m : ℕ) → Same xs j m → IsOpen xs q j → HasElse xs q m → HasElse xs q j
-else_same xs q j m s o h = ⊎_elim (λ lt. (h.0, lt, h.2)) (λ ge. absurd (s.no_else q h.0 ge h.1 o h.2)) (cases_lt h.0 j)
+pub else-same : (xs : List Role) (q j m : ℕ) → Same xs j m → IsOpen xs q j → HasElse xs q m → HasElse xs q j
+else-same xs q j m s o h = ⊎_elim (λ lt. (h.0, lt, h.2)) (λ ge. absurd (s.no_else q h.0 ge h.1 o h.2)) (cases_lt h.0 j)
 
-pub loop_same : (xs : List Role) (j m : ℕ) → Same xs j m → InLoop xs j → InLoop xs m
-loop_same xs j m s l = (l.0, loop_moves xs l.0 j m (alike_even xs j m s.even) (s.even.keeps l.0 l.1.is_open) (else_same xs l.0 j m s l.1.is_open) l.1)
+pub loop-same : (xs : List Role) (j m : ℕ) → Same xs j m → InLoop xs j → InLoop xs m
+loop-same xs j m s l = (l.0, loop-moves xs l.0 j m (alike-even xs j m s.even) (s.even.keeps l.0 l.1.is_open) (else-same xs l.0 j m s l.1.is_open) l.1)
 
-pub loop_same_back : (xs : List Role) (j m : ℕ) → Same xs j m → InLoop xs m → InLoop xs j
-loop_same_back xs j m s l = (l.0, loop_moves xs l.0 m j (alike_back xs j m (alike_even xs j m s.even)) (s.even.only l.0 l.1.is_open) (else_before xs l.0 j m s.even.le) l.1)
+pub loop-same-back : (xs : List Role) (j m : ℕ) → Same xs j m → InLoop xs m → InLoop xs j
+loop-same-back xs j m s l = (l.0, loop-moves xs l.0 m j (alike-back xs j m (alike-even xs j m s.even)) (s.even.only l.0 l.1.is_open) (else_before xs l.0 j m s.even.le) l.1)

@@ -14,7 +14,7 @@ use Rattle.tmpl_syntax.specs.Print.Printed.{Said, said_text, said, else_said, co
 use Rattle.tmpl_grammar.specs.Printable.{OfAction}
 use Rattle.tmpl_syntax.specs.Print.Printable.{AreSaid}
 use Rattle.tmpl_syntax.specs.Print.Laws.{KeepsPrintable}
-use Rattle.tmpl_syntax.proofs.PrintablePieceLemmas.{OfPiece, OfPieces, cuts_of}
+use Rattle.tmpl_syntax.proofs.PrintablePieceLemmas.{OfPiece, OfPieces, cuts-of}
 use Rattle.tmpl_grammar.proofs.PrintableActionLemmas.{of_action}
 
 abbrev OfItem : Item → Type 0
@@ -28,53 +28,53 @@ abbrev OfItems : List Item → Type 0
 OfItems [] = Unit {0}
 OfItems (x ∷ xs) = OfItem x × OfItems xs
 
-of_item : {p : Piece} {x : Item} → IsItem p x → OfPiece p → OfItem x
-of_item text_read h = h
-of_item an_unreadable h = tt
-of_item (unread n) h = tt
-of_item (too_deep a s e lt) h = tt
-of_item (read {ts = ts} {a = a} s le) h = of_action a ts le h s
+of-item : {p : Piece} {x : Item} → IsItem p x → OfPiece p → OfItem x
+of-item text_read h = h
+of-item an_unreadable h = tt
+of-item (unread n) h = tt
+of-item (too_deep a s e lt) h = tt
+of-item (read {ts = ts} {a = a} s le) h = of_action a ts le h s
 
-of_items : {ps : List Piece} {xs : List Item} → AreItems ps xs → OfPieces ps → OfItems xs
-of_items no_item h = tt
-of_items (an_item i is) h = (of_item i h.0, of_items is h.1)
+of-items : {ps : List Piece} {xs : List Item} → AreItems ps xs → OfPieces ps → OfItems xs
+of-items no_item h = tt
+of-items (an_item i is) h = (of-item i h.0, of-items is h.1)
 
 said-append : (ss ts : List Said) → AreSaid ss → AreSaid ts → AreSaid (ss ++ ts)
 said-append [] ts h k = k
 said-append (said_text t ∷ ss) ts h k = (h.0, said-append ss ts h.1 k)
 said-append (said a ∷ ss) ts h k = (h.0, said-append ss ts h.1 k)
 
-control_of : (c : Control) (r : Header) (body other : List Said) → OfAction (opening c r) → AreSaid body → AreSaid other → AreSaid (control_said c r body other)
-control_of c r body other h b o = (h, said-append body (other ++ said end_action ∷ []) b (said-append other (said end_action ∷ []) o (tt, tt)))
+control-of : (c : Control) (r : Header) (body other : List Said) → OfAction (opening c r) → AreSaid body → AreSaid other → AreSaid (control_said c r body other)
+control-of c r body other h b o = (h, said-append body (other ++ said end_action ∷ []) b (said-append other (said end_action ∷ []) o (tt, tt)))
 
 -- the header of an else branch may be that of its control
-branch_of : (b : Branch) (r : Header) → OfAction (else_branch b r) → OfAction (opening (control_in b) r)
-branch_of branch.If r h = h
+branch-of : (b : Branch) (r : Header) → OfAction (else_branch b r) → OfAction (opening (control_in b) r)
+branch-of branch.If r h = h
 
-else_of : (other : Nodes) → AreSaid (nodes_said other) → AreSaid (else_said other (nodes_said other))
-else_of none h = tt
-else_of (then line n ns) h = (tt, h)
+else-of : (other : Nodes) → AreSaid (nodes_said other) → AreSaid (else_said other (nodes_said other))
+else-of none h = tt
+else-of (then line n ns) h = (tt, h)
 
 mutual
-  leads_of : {xs ys : List Item} {ns : Nodes} → Leads xs ns ys → OfItems xs → AreSaid (nodes_said ns) × OfItems ys
-  leads_of nothing h = (tt, h)
-  leads_of (a_text l) h = let more = leads_of l h.1 in ((h.0, more.0), more.1)
-  leads_of (an_action l) h = let more = leads_of l h.1 in ((h.0, more.0), more.1)
-  leads_of (a_break l) h = let more = leads_of l h.1 in ((tt, more.0), more.1)
-  leads_of (a_continue l) h = let more = leads_of l h.1 in ((tt, more.0), more.1)
-  leads_of (a_control {c = c} {h = r} {body = body} {other = other} {ns = ns} b o l) h =
-      let inner = leads_of b h.1 in
-      let behind = closes_of o inner.1 in
-      let more = leads_of l behind.1 in
-      (said-append (node_said (control_node c r body other)) (nodes_said ns) (control_of c r (nodes_said body) (else_said other (nodes_said other)) h.0 inner.0 behind.0) more.0, more.1)
+  leads-of : {xs ys : List Item} {ns : Nodes} → Leads xs ns ys → OfItems xs → AreSaid (nodes_said ns) × OfItems ys
+  leads-of nothing h = (tt, h)
+  leads-of (a_text l) h = let more = leads-of l h.1 in ((h.0, more.0), more.1)
+  leads-of (an_action l) h = let more = leads-of l h.1 in ((h.0, more.0), more.1)
+  leads-of (a_break l) h = let more = leads-of l h.1 in ((tt, more.0), more.1)
+  leads-of (a_continue l) h = let more = leads-of l h.1 in ((tt, more.0), more.1)
+  leads-of (a_control {c = c} {h = r} {body = body} {other = other} {ns = ns} b o l) h =
+      let inner = leads-of b h.1 in
+      let behind = closes-of o inner.1 in
+      let more = leads-of l behind.1 in
+      (said-append (node_said (control_node c r body other)) (nodes_said ns) (control-of c r (nodes_said body) (else_said other (nodes_said other)) h.0 inner.0 behind.0) more.0, more.1)
 
-  closes_of : {xs ys : List Item} {other : Nodes} → Closes xs other ys → OfItems xs → AreSaid (else_said other (nodes_said other)) × OfItems ys
-  closes_of an_end h = (tt, h.1)
-  closes_of (an_else {other = other} l) h = let more = leads_of l h.1 in (else_of other more.0, more.1.1)
-  closes_of (an_else_branch {branch = br} {h = r} {body = body} {other = other} l o) h =
-      let inner = leads_of l h.1 in
-      let behind = closes_of o inner.1 in
-      ((tt, said-append (node_said (control_node (control_in br) r body other)) [] (control_of (control_in br) r (nodes_said body) (else_said other (nodes_said other)) (branch_of br r h.0) inner.0 behind.0) tt), behind.1)
+  closes-of : {xs ys : List Item} {other : Nodes} → Closes xs other ys → OfItems xs → AreSaid (else_said other (nodes_said other)) × OfItems ys
+  closes-of an_end h = (tt, h.1)
+  closes-of (an_else {other = other} l) h = let more = leads-of l h.1 in (else-of other more.0, more.1.1)
+  closes-of (an_else_branch {branch = br} {h = r} {body = body} {other = other} l o) h =
+      let inner = leads-of l h.1 in
+      let behind = closes-of o inner.1 in
+      ((tt, said-append (node_said (control_node (control_in br) r body other)) [] (control-of (control_in br) r (nodes_said body) (else_said other (nodes_said other)) (branch-of br r h.0) inner.0 behind.0) tt), behind.1)
 
-pub keeps_printable : KeepsPrintable
-keeps_printable bytes items ns h has spells = (leads_of spells (of_items has.read (cuts_of has.cut h))).0
+pub keeps-printable : KeepsPrintable
+keeps-printable bytes items ns h has spells = (leads-of spells (of-items has.read (cuts-of has.cut h))).0

@@ -11,14 +11,14 @@ use Rattle.tmpl_grammar.specs.Printable.{OfPipeline, OfAction}
 use Rattle.tmpl_syntax.specs.Print.Printable.{AreSaid}
 use Rattle.tmpl_syntax.specs.Print.Laws.{Says, says_nothing, says_text, says, ReadsSame}
 use Rattle.tmpl_syntax.proofs.JoinLemmas.{cut_back}
-use Rattle.tmpl_grammar.proofs.PrintedTokenLemmas.{action_inside}
-use Rattle.tmpl_grammar.proofs.PrintedSpellingLemmas.{spells_tokens}
-use Rattle.tmpl_syntax.proofs.PrintedNodeLemmas.{spells_alike}
+use Rattle.tmpl_grammar.proofs.PrintedTokenLemmas.{action-inside}
+use Rattle.tmpl_grammar.proofs.PrintedSpellingLemmas.{spells-tokens}
+use Rattle.tmpl_syntax.proofs.PrintedNodeLemmas.{spells-alike}
 
-are_parts : (ss : List Said) → AreSaid ss → AreParts (map part_of ss)
-are_parts [] h = tt
-are_parts (said_text t ∷ ss) h = (h.0, are_parts ss h.1)
-are_parts (said a ∷ ss) h = (action_inside a h.0, are_parts ss h.1)
+are-parts : (ss : List Said) → AreSaid ss → AreParts (map part_of ss)
+are-parts [] h = tt
+are-parts (said_text t ∷ ss) h = (h.0, are-parts ss h.1)
+are-parts (said a ∷ ss) h = (action-inside a h.0, are-parts ss h.1)
 
 pipeline_within : (p : Pipeline) → OfPipeline p → depth_of_pipeline p ≤ most_deep
 pipeline_within (pipeline cs) h = h.1
@@ -44,8 +44,8 @@ pub record TextFirst (t : List ℕ) (ps : List Part) (qs : List Piece) : Type 0 
   pub is : qs ≡ text line t ∷ rest
   pub same : SamePieces ps rest
 
-pub text_first : {t : List ℕ} {ps : List Part} {qs : List Piece} → SamePieces (a_text t ∷ ps) qs → TextFirst t ps qs
-text_first (same_text {line = line} {qs = qs} s) = record { line = line; rest = qs; is = refl; same = s }
+pub text-first : {t : List ℕ} {ps : List Part} {qs : List Piece} → SamePieces (a_text t ∷ ps) qs → TextFirst t ps qs
+text-first (same_text {line = line} {qs = qs} s) = record { line = line; rest = qs; is = refl; same = s }
 
 pub record ActionFirst (ts : List Token) (ps : List Part) (qs : List Piece) : Type 0 where
   pub line : ℕ
@@ -53,28 +53,28 @@ pub record ActionFirst (ts : List Token) (ps : List Part) (qs : List Piece) : Ty
   pub is : qs ≡ action line ts ∷ rest
   pub same : SamePieces ps rest
 
-pub action_first : {ts : List Token} {ps : List Part} {qs : List Piece} → SamePieces (an_action ts ∷ ps) qs → ActionFirst ts ps qs
-action_first (same_action {line = line} {qs = qs} s) = record { line = line; rest = qs; is = refl; same = s }
+pub action-first : {ts : List Token} {ps : List Part} {qs : List Piece} → SamePieces (an_action ts ∷ ps) qs → ActionFirst ts ps qs
+action-first (same_action {line = line} {qs = qs} s) = record { line = line; rest = qs; is = refl; same = s }
 
-pub none_first : {qs : List Piece} → SamePieces [] qs → qs ≡ []
-none_first no_piece = refl
+pub none-first : {qs : List Piece} → SamePieces [] qs → qs ≡ []
+none-first no_piece = refl
 
-items_said : (ss : List Said) (qs : List Piece) → AreSaid ss → SamePieces (map part_of ss) qs → ItemsSaid ss qs
-items_said [] qs h s = record { items = []; are = subst (λ ps. AreItems ps []) (sym (none_first s)) no_item; say = says_nothing }
-items_said (said_text t ∷ ss) qs h s =
-    let f = text_first s in
-    let more = items_said ss f.rest h.1 f.same in
+items-said : (ss : List Said) (qs : List Piece) → AreSaid ss → SamePieces (map part_of ss) qs → ItemsSaid ss qs
+items-said [] qs h s = record { items = []; are = subst (λ ps. AreItems ps []) (sym (none-first s)) no_item; say = says_nothing }
+items-said (said_text t ∷ ss) qs h s =
+    let f = text-first s in
+    let more = items-said ss f.rest h.1 f.same in
     record { items = item f.line (text_item t) ∷ more.items; are = subst (λ ps. AreItems ps (item f.line (text_item t) ∷ more.items)) (sym f.is) (an_item text_read more.are); say = says_text more.say }
-items_said (said a ∷ ss) qs h s =
-    let f = action_first s in
-    let more = items_said ss f.rest h.1 f.same in
-    record { items = item f.line (action_item a) ∷ more.items; are = subst (λ ps. AreItems ps (item f.line (action_item a) ∷ more.items)) (sym f.is) (an_item (read (spells_tokens a h.0) (within a h.0)) more.are); say = says more.say }
+items-said (said a ∷ ss) qs h s =
+    let f = action-first s in
+    let more = items-said ss f.rest h.1 f.same in
+    record { items = item f.line (action_item a) ∷ more.items; are = subst (λ ps. AreItems ps (item f.line (action_item a) ∷ more.items)) (sym f.is) (an_item (read (spells-tokens a h.0) (within a h.0)) more.are); say = says more.say }
 
-pub reads_same : ReadsSame
-reads_same ns h =
-    let c = cut_back (map part_of (nodes_said ns)) (are_parts (nodes_said ns) h) [] refl 1 in
-    let i = items_said (nodes_said ns) c.pieces h c.same in
-    let s = spells_alike ns i.items i.say in
+pub reads-same : ReadsSame
+reads-same ns h =
+    let c = cut_back (map part_of (nodes_said ns)) (are-parts (nodes_said ns) h) [] refl 1 in
+    let i = items-said (nodes_said ns) c.pieces h c.same in
+    let s = spells-alike ns i.items i.say in
     record {
       items = i.items;
       has = record { pieces = c.pieces; cut = c.cuts; read = i.are };

@@ -16,8 +16,8 @@ record First (a : Action) (ss : List Said) (xs : List Item) : Type 0 where
   is : xs ≡ item line (action_item a) ∷ rest
   says_rest : Says ss rest
 
-first_said : {a : Action} {ss : List Said} {xs : List Item} → Says (said a ∷ ss) xs → First a ss xs
-first_said (says {line = line} {xs = xs} s) = record { line = line; rest = xs; is = refl; says_rest = s }
+first-said : {a : Action} {ss : List Said} {xs : List Item} → Says (said a ∷ ss) xs → First a ss xs
+first-said (says {line = line} {xs = xs} s) = record { line = line; rest = xs; is = refl; says_rest = s }
 
 -- the first items spell the nodes, apart from lines, and the others say the rest
 record LeadsNodes (ns : Nodes) (ss : List Said) (xs : List Item) : Type 0 where
@@ -43,20 +43,17 @@ record LeadsElse (other : Nodes) (ss : List Said) (xs : List Item) : Type 0 wher
   alike : unlined nodes ≡ unlined other
   says_rest : Says ss rest
 
-Leading : Nodes → Type 0
-Leading ns = (ss : List Said) (xs : List Item) → Says (nodes_said ns ++ ss) xs → LeadsNodes ns ss xs
+text-leads : {bytes : List ℕ} {ss : List Said} {xs : List Item} → Says (said_text bytes ∷ ss) xs → LeadsNode (text bytes) ss xs
+text-leads (says_text {line = line} {t = bytes} {xs = xs} s) = record { line = line; node = text bytes; rest = xs; leads = λ l. a_text l; alike = refl; says_rest = s }
 
-text_leads : {bytes : List ℕ} {ss : List Said} {xs : List Item} → Says (said_text bytes ∷ ss) xs → LeadsNode (text bytes) ss xs
-text_leads (says_text {line = line} {t = bytes} {xs = xs} s) = record { line = line; node = text bytes; rest = xs; leads = λ l. a_text l; alike = refl; says_rest = s }
-
-else_leads : (other : Nodes) → ((ss : List Said) (xs : List Item) → Says (nodes_said other ++ ss) xs → LeadsNodes other ss xs) → (ss : List Said) (xs : List Item) → Says (else_said other (nodes_said other) ++ said end_action ∷ ss) xs → LeadsElse other ss xs
-else_leads none ih ss xs s =
-    let f = first_said s in
+else-leads : (other : Nodes) → ((ss : List Said) (xs : List Item) → Says (nodes_said other ++ ss) xs → LeadsNodes other ss xs) → (ss : List Said) (xs : List Item) → Says (else_said other (nodes_said other) ++ said end_action ∷ ss) xs → LeadsElse other ss xs
+else-leads none ih ss xs s =
+    let f = first-said s in
     record { nodes = none; rest = f.rest; closes = subst (λ ys. Closes ys none f.rest) (sym f.is) an_end; alike = refl; says_rest = f.says_rest }
-else_leads (then line n ns) ih ss xs s =
-    let f = first_said s in
+else-leads (then line n ns) ih ss xs s =
+    let f = first-said s in
     let l = ih (said end_action ∷ ss) f.rest f.says_rest in
-    let e = first_said l.says_rest in
+    let e = first-said l.says_rest in
     record {
       nodes = l.nodes;
       rest = e.rest;
@@ -65,60 +62,60 @@ else_leads (then line n ns) ih ss xs s =
       says_rest = e.says_rest;
     }
 
-control_alike : (c : Control) (h : Header) (body other : Nodes) (body' other' : Nodes) → unlined body ≡ unlined body' → unlined other ≡ unlined other' → unlined_node (control_node c h body other) ≡ unlined_node (control_node c h body' other')
-control_alike c h body other body' other' e f = cc
+control-alike : (c : Control) (h : Header) (body other : Nodes) (body' other' : Nodes) → unlined body ≡ unlined body' → unlined other ≡ unlined other' → unlined_node (control_node c h body other) ≡ unlined_node (control_node c h body' other')
+control-alike c h body other body' other' e f = cc
 
-control_leads : (c : Control) (h : Header) (body other : Nodes) → ((ss : List Said) (xs : List Item) → Says (nodes_said body ++ ss) xs → LeadsNodes body ss xs) → ((ss : List Said) (xs : List Item) → Says (nodes_said other ++ ss) xs → LeadsNodes other ss xs)
+control-leads : (c : Control) (h : Header) (body other : Nodes) → ((ss : List Said) (xs : List Item) → Says (nodes_said body ++ ss) xs → LeadsNodes body ss xs) → ((ss : List Said) (xs : List Item) → Says (nodes_said other ++ ss) xs → LeadsNodes other ss xs)
     → (ss : List Said) (xs : List Item) → Says (control_said c h (nodes_said body) (else_said other (nodes_said other)) ++ ss) xs → LeadsNode (control_node c h body other) ss xs
-control_leads c h body other in_body in_other ss xs s =
+control-leads c h body other in_body in_other ss xs s =
     let ends : List Said = else_said other (nodes_said other) in
-    let f = first_said s in
+    let f = first-said s in
     let b = in_body (ends ++ said end_action ∷ ss) f.rest (subst (λ ts. Says ts f.rest)
     (append_assoc (nodes_said body) (ends ++ said end_action ∷ []) ss ∙ ap (λ ts. nodes_said body ++ ts) (append_assoc ends (said end_action ∷ []) ss)) f.says_rest) in
-    let e = else_leads other in_other ss b.rest b.says_rest in
+    let e = else-leads other in_other ss b.rest b.says_rest in
     record {
       line = f.line;
       node = control_node c h b.nodes e.nodes;
       rest = e.rest;
       leads = λ {ms} {zs} l. subst (λ ys. Leads ys (then f.line (control_node c h b.nodes e.nodes) ms) zs) (sym f.is) (a_control b.leads e.closes l);
-      alike = control_alike c h b.nodes e.nodes body other b.alike e.alike;
+      alike = control-alike c h b.nodes e.nodes body other b.alike e.alike;
       says_rest = e.says_rest;
     }
 
 mutual
-  node_leads : (n : NodeKind) (ss : List Said) (xs : List Item) → Says (node_said n ++ ss) xs → LeadsNode n ss xs
-  node_leads (text bytes) ss xs s = text_leads s
-  node_leads (action h) ss xs s =
-      let f = first_said s in
+  node-leads : (n : NodeKind) (ss : List Said) (xs : List Item) → Says (node_said n ++ ss) xs → LeadsNode n ss xs
+  node-leads (text bytes) ss xs s = text-leads s
+  node-leads (action h) ss xs s =
+      let f = first-said s in
       record { line = f.line; node = action h; rest = f.rest; leads = λ {ms} {zs} l. subst (λ ys. Leads ys (then f.line (action h) ms) zs) (sym f.is) (an_action l); alike = refl; says_rest = f.says_rest }
-  node_leads (control_node c h body other) ss xs s = control_leads c h body other (nodes_leads body) (nodes_leads other) ss xs s
-  node_leads break_node ss xs s =
-      let f = first_said s in
+  node-leads (control_node c h body other) ss xs s = control-leads c h body other (nodes-leads body) (nodes-leads other) ss xs s
+  node-leads break_node ss xs s =
+      let f = first-said s in
       record { line = f.line; node = break_node; rest = f.rest; leads = λ {ms} {zs} l. subst (λ ys. Leads ys (then f.line break_node ms) zs) (sym f.is) (a_break l); alike = refl; says_rest = f.says_rest }
-  node_leads continue_node ss xs s =
-      let f = first_said s in
+  node-leads continue_node ss xs s =
+      let f = first-said s in
       record { line = f.line; node = continue_node; rest = f.rest; leads = λ {ms} {zs} l. subst (λ ys. Leads ys (then f.line continue_node ms) zs) (sym f.is) (a_continue l); alike = refl; says_rest = f.says_rest }
 
-  nodes_leads : (ns : Nodes) (ss : List Said) (xs : List Item) → Says (nodes_said ns ++ ss) xs → LeadsNodes ns ss xs
-  nodes_leads none ss xs s = record { nodes = none; rest = xs; leads = nothing; alike = refl; says_rest = s }
-  nodes_leads (then line n ns) ss xs s =
-      let f = node_leads n (nodes_said ns ++ ss) xs (subst (λ ts. Says ts xs) (append_assoc (node_said n) (nodes_said ns) ss) s) in
-      let m = nodes_leads ns ss f.rest f.says_rest in
+  nodes-leads : (ns : Nodes) (ss : List Said) (xs : List Item) → Says (nodes_said ns ++ ss) xs → LeadsNodes ns ss xs
+  nodes-leads none ss xs s = record { nodes = none; rest = xs; leads = nothing; alike = refl; says_rest = s }
+  nodes-leads (then line n ns) ss xs s =
+      let f = node-leads n (nodes_said ns ++ ss) xs (subst (λ ts. Says ts xs) (append_assoc (node_said n) (nodes_said ns) ss) s) in
+      let m = nodes-leads ns ss f.rest f.says_rest in
       let e = f.alike in
       let g = m.alike in
       record { nodes = then f.line f.node m.nodes; rest = m.rest; leads = f.leads m.leads; alike = ap (λ x. then 0 x (unlined m.nodes)) e ∙ ap (then 0 (unlined_node n)) g; says_rest = m.says_rest }
 
 -- ---- all of them
 
-no_rest : {xs : List Item} → Says [] xs → xs ≡ []
-no_rest says_nothing = refl
+no-rest : {xs : List Item} → Says [] xs → xs ≡ []
+no-rest says_nothing = refl
 
 pub record Spelling (ns : Nodes) (xs : List Item) : Type 0 where
   pub nodes : Nodes
   pub spells : Leads xs nodes []
   pub alike : unlined nodes ≡ unlined ns
 
-pub spells_alike : (ns : Nodes) (xs : List Item) → Says (nodes_said ns) xs → Spelling ns xs
-spells_alike ns xs s =
-    let l = nodes_leads ns [] xs (subst (λ ts. Says ts xs) (sym (append-nil (nodes_said ns))) s) in
-    record { nodes = l.nodes; spells = subst (Leads xs l.nodes) (no_rest l.says_rest) l.leads; alike = l.alike }
+pub spells-alike : (ns : Nodes) (xs : List Item) → Says (nodes_said ns) xs → Spelling ns xs
+spells-alike ns xs s =
+    let l = nodes-leads ns [] xs (subst (λ ts. Says ts xs) (sym (append-nil (nodes_said ns))) s) in
+    record { nodes = l.nodes; spells = subst (Leads xs l.nodes) (no-rest l.says_rest) l.leads; alike = l.alike }

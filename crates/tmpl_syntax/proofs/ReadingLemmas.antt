@@ -19,7 +19,7 @@ use Rattle.tmpl_syntax.specs.computed.Parse.{Refusal, IsRefusal, line_in, line_a
 use Rattle.tmpl_syntax.specs.Parse.{last_line, most_bytes, IsDefined, IsRefusedAt, IsRefusedBy}
 use Rattle.tmpl_syntax.proofs.ItemLemmas.{has-items}
 use Rattle.tmpl_syntax.proofs.OneVerdictLemmas.{within}
-use Rattle.tmpl_syntax.proofs.VerdictLemmas.{judged_all}
+use Rattle.tmpl_syntax.proofs.VerdictLemmas.{judged-all}
 use Rattle.tmpl_syntax.proofs.SpellingLemmas.{spells-fine}
 use Rattle.tmpl_syntax.proofs.FileLemmas.{parsed-long, parsed-short}
 
@@ -48,7 +48,7 @@ module _ (set : List Template) (file bytes : List ℕ) where
   short-by v h e = parsed-short set file bytes h ∙ ap (λ w. placed set file (spelled (by_verdict (last_line bytes) (items_of bytes) w) (nodes_from (items_of bytes)))) e
 
   judged-by : (v : Verdict) → verdict_of (roles_of (items_of bytes)) ≡ v → Judged (roles_of (items_of bytes)) v
-  judged-by v e = subst (Judged (roles_of (items_of bytes))) e (judged_all (roles_of (items_of bytes)))
+  judged-by v e = subst (Judged (roles_of (items_of bytes))) e (judged-all (roles_of (items_of bytes)))
 
   pub accepted : (new : List Template) → parsed set file bytes ≡ Ok new → (length bytes ≤ most_bytes) × (items : List Item) × HasItems bytes items × Judged (roles_of items) fine × IsDefined set file items new
   accepted new e = ⊎_elim

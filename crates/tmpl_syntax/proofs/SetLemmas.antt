@@ -4,6 +4,7 @@ use Rattle.std.specs.Option.{option_map, is_some}
 use Rattle.std.specs.List.{find, list_all}
 use Rattle.std.specs.Str.{bytes_eq}
 use Rattle.std.specs.Map.{lookup, keys_of}
+use Rattle.std.proofs.lemmas.Bool.{and_parts}
 use Rattle.tmpl_syntax.specs.View.{tree_of, node_of, nodes_in, template_of}
 use Rattle.tmpl_syntax.specs.Tree.{Tree}
 use Rattle.tmpl_syntax.specs.declared.tree.Tree as held
@@ -30,11 +31,6 @@ pub blank-list : (ns : List held_node.Node) → list_all (λ n. is_blank_node (n
 blank-list [] = refl
 blank-list (n ∷ ns) = ap (λ b. is_blank_node (node_of n).what && b) (blank-list ns)
 
-both : (a b : Bool) → (a && b) ≡ true → (a ≡ true) × (b ≡ true)
-both true true e = (refl, refl)
-both true false e = let g : false ≡ true = e in cc
-both false b e = let g : false ≡ true = e in cc
-
 abbrev named : Bool → Template → Option Tree → Option Tree
 named same t other = cond same (Some t.1) other
 
@@ -55,7 +51,7 @@ kept (t ∷ ts) name tree blank there = go (bytes_eq name t.0) (kept ts name tre
 
 -- a blank definition of a name that is there leaves the set as it is
 pub defined-kept : (ts : List Template) (name : List ℕ) (tree : Tree) → (is_blank tree.nodes && is_some (tree_named name ts)) ≡ true → ts ≡ defined ts name tree
-defined-kept ts name tree e = let parts = both (is_blank tree.nodes) (is_some (tree_named name ts)) e in kept ts name tree parts.0 parts.1
+defined-kept ts name tree e = let parts = and_parts (is_blank tree.nodes) (is_some (tree_named name ts)) e in kept ts name tree parts.0 parts.1
 
 -- any other is inserted
 pub defined-insert : (es : List Entry) (k : Vec ℕ Global) (tree : held.Tree) → (is_blank (tree_of tree).nodes && is_some (tree_named k.items (map template_of es))) ≡ false → map template_of (insert_entry (λ (x y : Vec ℕ Global). bytes_eq x.items y.items) es k tree) ≡ defined (map template_of es) k.items (tree_of tree)

@@ -1,18 +1,18 @@
 -- So far nothing is refused, and the stack is what is open.
 use Rattle.std.proofs.Common.{arith, ◌≡◌, ◌≢◌, ℕ, ◌+◌, ◌<◌, true, false, List, [], ◌∷◌, ◌++◌, take, refl, sym, subst, length, Some, None, ⊎_elim}
 use Rattle.std.specs.Prelude.{slice_get}
-use Rattle.std.proofs.lemmas.Bool.{cases_lt}
+use Rattle.std.proofs.lemmas.Bool.{cases_lt, and_parts}
 use Rattle.std.proofs.lemmas.List.{append-nil, length-take-le}
 use Rattle.tmpl_syntax.specs.declared.fault.Fault.{Fault}
 use Rattle.tmpl_syntax.specs.declared.fault.Fault.TheVariants.{Unreadable, NotAnAction, OutOfPlace, NestedTooDeeply, UndeclaredVariable}
 use Rattle.tmpl_syntax.specs.declared.place.frame.Frame.{Frame}
 use Rattle.tmpl_syntax.specs.Place.Body.{joins, IsMisplaced, none, IsTooDeep, IsUndeclared, Applies, unreadable, unread, misplaced, too_deep, undeclared, rank, NoneRefused, IsRefused, Judged}
 use Rattle.tmpl_syntax.specs.computed.Frames.{top, takes_else, is_placed, is_too_deep, names_at, seen_at, added, added_by, frames_after, frames_past, elsed, branched, at_end}
-use Rattle.tmpl_syntax.proofs.FaultLemmas.{Tells, TellsRole}
-use Rattle.tmpl_syntax.proofs.OpenLemmas.{same_piece}
-use Rattle.tmpl_syntax.proofs.StandLemmas.{Here, Stands, here_of}
-use Rattle.tmpl_syntax.proofs.StepLemmas.{stands_opened}
-use Rattle.tmpl_syntax.proofs.ElseBranchLemmas.{and_parts, in_nothing, stands_elsed, stands_turned, stands_ended, stands_declared, stands_still}
+use Rattle.tmpl_syntax.proofs.FaultLemmas.{Tells, TellsRole, in-nothing}
+use Rattle.tmpl_syntax.proofs.OpenLemmas.{same-piece}
+use Rattle.tmpl_syntax.proofs.StandLemmas.{Here, Stands, here-of}
+use Rattle.tmpl_syntax.proofs.StepLemmas.{stands-opened}
+use Rattle.tmpl_syntax.proofs.ElseBranchLemmas.{stands-elsed, stands-branched, stands-ended, stands-declared, stands-still}
 use Rattle.tmpl_syntax.proofs.JudgeLemmas.{unplaced, placed, deep, shallow, known, unknown}
 use Rattle.tmpl_syntax.specs.Place.Role.{Name, Act, plain, opener, bare_else, branch_else, closer, jump, Role, text_role, unreadable_role, unread_role, act_role}
 
@@ -20,8 +20,8 @@ pub record Sound (xs : List Role) (i : ℕ) (names : List Name) (fs : List Frame
   pub stands : Stands xs i names fs
   pub none_refused : NoneRefused xs i
 
-pub sound_start : (xs : List Role) → Sound xs 0 [] []
-sound_start xs = record {
+pub sound-start : (xs : List Role) → Sound xs 0 [] []
+sound-start xs = record {
   stands = (
     λ j o. let b = o.before in omega arith,
     record {
@@ -29,7 +29,7 @@ sound_start xs = record {
       is_template_here = λ j b. let lt = b.is_open.before in omega arith;
       levels_are = none;
       looped = (λ e. let g : false ≡ true = e in cc, λ l. let lt = l.1.is_open.before in absurd (omega arith));
-      to = λ n c. in_nothing n c;
+      to = λ n c. in-nothing n c;
       back = λ n b. let lt = b.before in absurd (omega arith);
     },
   );
@@ -38,122 +38,122 @@ sound_start xs = record {
 
 -- what applies at an action
 same_action : (xs : List Role) (i : ℕ) (a b : Act) → slice_get xs i ≡ Some (act_role a) → slice_get xs i ≡ Some (act_role b) → a ≡ b
-same_action xs i a b e f = let g : act_role a ≡ act_role b = same_piece xs i (act_role a) (act_role b) e f in cc
+same_action xs i a b e f = let g : act_role a ≡ act_role b = same-piece xs i (act_role a) (act_role b) e f in cc
 
-no_unreadable : (xs : List Role) (i : ℕ) (x : Role) → slice_get xs i ≡ Some x → x ≢ unreadable_role → Applies xs i Unreadable → ⊥
-no_unreadable xs i x at ne (unreadable e) = ne (same_piece xs i x unreadable_role at e)
+no-unreadable : (xs : List Role) (i : ℕ) (x : Role) → slice_get xs i ≡ Some x → x ≢ unreadable_role → Applies xs i Unreadable → ⊥
+no-unreadable xs i x at ne (unreadable e) = ne (same-piece xs i x unreadable_role at e)
 
-no_unread : (xs : List Role) (i : ℕ) (x : Role) → slice_get xs i ≡ Some x → x ≢ unread_role → Applies xs i NotAnAction → ⊥
-no_unread xs i x at ne (unread e) = ne (same_piece xs i x unread_role at e)
+no-unread : (xs : List Role) (i : ℕ) (x : Role) → slice_get xs i ≡ Some x → x ≢ unread_role → Applies xs i NotAnAction → ⊥
+no-unread xs i x at ne (unread e) = ne (same-piece xs i x unread_role at e)
 
-no_misplaced : (xs : List Role) (i : ℕ) (x : Role) → slice_get xs i ≡ Some x → ((a : Act) → x ≡ act_role a → IsMisplaced xs i a → ⊥) → Applies xs i OutOfPlace → ⊥
-no_misplaced xs i x at ne (misplaced {a = a} e m) = ne a (same_piece xs i x (act_role a) at e) m
+no-misplaced : (xs : List Role) (i : ℕ) (x : Role) → slice_get xs i ≡ Some x → ((a : Act) → x ≡ act_role a → IsMisplaced xs i a → ⊥) → Applies xs i OutOfPlace → ⊥
+no-misplaced xs i x at ne (misplaced {a = a} e m) = ne a (same-piece xs i x (act_role a) at e) m
 
-no_deep : (xs : List Role) (i : ℕ) (x : Role) → slice_get xs i ≡ Some x → ((a : Act) → x ≡ act_role a → IsTooDeep xs i a → ⊥) → Applies xs i NestedTooDeeply → ⊥
-no_deep xs i x at ne (too_deep {a = a} e m) = ne a (same_piece xs i x (act_role a) at e) m
+no-deep : (xs : List Role) (i : ℕ) (x : Role) → slice_get xs i ≡ Some x → ((a : Act) → x ≡ act_role a → IsTooDeep xs i a → ⊥) → Applies xs i NestedTooDeeply → ⊥
+no-deep xs i x at ne (too_deep {a = a} e m) = ne a (same-piece xs i x (act_role a) at e) m
 
-no_undeclared : (xs : List Role) (i : ℕ) (x : Role) → slice_get xs i ≡ Some x → ((a : Act) → x ≡ act_role a → IsUndeclared xs i a → ⊥) → Applies xs i UndeclaredVariable → ⊥
-no_undeclared xs i x at ne (undeclared {a = a} e m) = ne a (same_piece xs i x (act_role a) at e) m
+no-undeclared : (xs : List Role) (i : ℕ) (x : Role) → slice_get xs i ≡ Some x → ((a : Act) → x ≡ act_role a → IsUndeclared xs i a → ⊥) → Applies xs i UndeclaredVariable → ⊥
+no-undeclared xs i x at ne (undeclared {a = a} e m) = ne a (same-piece xs i x (act_role a) at e) m
 
 module _ (xs : List Role) (i : ℕ) (names : List Name) (fs : List Frame) (s : Sound xs i names fs) where
   h : Here xs i (top fs) names
-  h = here_of xs i names fs s.stands
+  h = here-of xs i names fs s.stands
 
-  fine_text : (x : Role) → slice_get xs i ≡ Some x → ((a : Act) → x ≢ act_role a) → x ≢ unreadable_role → x ≢ unread_role → (f : Fault) → Applies xs i f → ⊥
-  fine_text x at nr nu nd Unreadable = no_unreadable xs i x at nu
-  fine_text x at nr nu nd NotAnAction = no_unread xs i x at nd
-  fine_text x at nr nu nd OutOfPlace = no_misplaced xs i x at (λ a e m. nr a e)
-  fine_text x at nr nu nd NestedTooDeeply = no_deep xs i x at (λ a e m. nr a e)
-  fine_text x at nr nu nd UndeclaredVariable = no_undeclared xs i x at (λ a e m. nr a e)
+  fine-text : (x : Role) → slice_get xs i ≡ Some x → ((a : Act) → x ≢ act_role a) → x ≢ unreadable_role → x ≢ unread_role → (f : Fault) → Applies xs i f → ⊥
+  fine-text x at nr nu nd Unreadable = no-unreadable xs i x at nu
+  fine-text x at nr nu nd NotAnAction = no-unread xs i x at nd
+  fine-text x at nr nu nd OutOfPlace = no-misplaced xs i x at (λ a e m. nr a e)
+  fine-text x at nr nu nd NestedTooDeeply = no-deep xs i x at (λ a e m. nr a e)
+  fine-text x at nr nu nd UndeclaredVariable = no-undeclared xs i x at (λ a e m. nr a e)
 
   module _ (a : Act) (at : slice_get xs i ≡ Some (act_role a)) where
     own : (P : Act → Type 0) → (b : Act) → act_role a ≡ act_role b → P b → P a
     own P b e p = let g : a ≡ b = cc in subst P (sym g) p
 
-    not_misplaced : is_placed a (top fs) ≡ true → Applies xs i OutOfPlace → ⊥
-    not_misplaced e = no_misplaced xs i (act_role a) at (λ b g m. placed xs i names fs a s.stands e (own (IsMisplaced xs i) b g m))
+    not-misplaced : is_placed a (top fs) ≡ true → Applies xs i OutOfPlace → ⊥
+    not-misplaced e = no-misplaced xs i (act_role a) at (λ b g m. placed xs i names fs a s.stands e (own (IsMisplaced xs i) b g m))
 
-    not_deep : is_too_deep a (top fs) ≡ false → Applies xs i NestedTooDeeply → ⊥
-    not_deep e = no_deep xs i (act_role a) at (λ b g m. shallow xs i a (top fs) names h e (own (IsTooDeep xs i) b g m))
+    not-deep : is_too_deep a (top fs) ≡ false → Applies xs i NestedTooDeeply → ⊥
+    not-deep e = no-deep xs i (act_role a) at (λ b g m. shallow xs i a (top fs) names h e (own (IsTooDeep xs i) b g m))
 
-    fine_action : Tells a (top fs) (names_at a (top fs) names) None → (f : Fault) → Applies xs i f → ⊥
-    fine_action e Unreadable = no_unreadable xs i (act_role a) at (λ g. cc)
-    fine_action e NotAnAction = no_unread xs i (act_role a) at (λ g. cc)
-    fine_action e OutOfPlace = not_misplaced e.0
-    fine_action e NestedTooDeeply = not_deep e.1
-    fine_action e UndeclaredVariable = no_undeclared xs i (act_role a) at (λ b g m. known xs i names fs s.stands a at e.0 e.2 (own (IsUndeclared xs i) b g m))
+    fine-action : Tells a (top fs) (names_at a (top fs) names) None → (f : Fault) → Applies xs i f → ⊥
+    fine-action e Unreadable = no-unreadable xs i (act_role a) at (λ g. cc)
+    fine-action e NotAnAction = no-unread xs i (act_role a) at (λ g. cc)
+    fine-action e OutOfPlace = not-misplaced e.0
+    fine-action e NestedTooDeeply = not-deep e.1
+    fine-action e UndeclaredVariable = no-undeclared xs i (act_role a) at (λ b g m. known xs i names fs s.stands a at e.0 e.2 (own (IsUndeclared xs i) b g m))
 
-    refused_action : (fault : Fault) → Tells a (top fs) (names_at a (top fs) names) (Some fault) → IsRefused xs i fault
-    refused_action Unreadable e = absurd e
-    refused_action NotAnAction e = absurd e
-    refused_action OutOfPlace e = record { applies = misplaced at (unplaced xs i names fs a s.stands e); first_fault = first; first_item = s.none_refused }
+    refused-action : (fault : Fault) → Tells a (top fs) (names_at a (top fs) names) (Some fault) → IsRefused xs i fault
+    refused-action Unreadable e = absurd e
+    refused-action NotAnAction e = absurd e
+    refused-action OutOfPlace e = record { applies = misplaced at (unplaced xs i names fs a s.stands e); first_fault = first; first_item = s.none_refused }
       where
         first : (f : Fault) → rank f < rank OutOfPlace → Applies xs i f → ⊥
-        first Unreadable lt = no_unreadable xs i (act_role a) at (λ g. cc)
-        first NotAnAction lt = no_unread xs i (act_role a) at (λ g. cc)
+        first Unreadable lt = no-unreadable xs i (act_role a) at (λ g. cc)
+        first NotAnAction lt = no-unread xs i (act_role a) at (λ g. cc)
         first OutOfPlace lt = absurd (omega arith)
         first NestedTooDeeply lt = absurd (omega arith)
         first UndeclaredVariable lt = absurd (omega arith)
-    refused_action NestedTooDeeply e = record { applies = too_deep at (deep xs i a (top fs) names h e.1); first_fault = first; first_item = s.none_refused }
+    refused-action NestedTooDeeply e = record { applies = too_deep at (deep xs i a (top fs) names h e.1); first_fault = first; first_item = s.none_refused }
       where
         first : (f : Fault) → rank f < rank NestedTooDeeply → Applies xs i f → ⊥
-        first Unreadable lt = no_unreadable xs i (act_role a) at (λ g. cc)
-        first NotAnAction lt = no_unread xs i (act_role a) at (λ g. cc)
-        first OutOfPlace lt = not_misplaced e.0
+        first Unreadable lt = no-unreadable xs i (act_role a) at (λ g. cc)
+        first NotAnAction lt = no-unread xs i (act_role a) at (λ g. cc)
+        first OutOfPlace lt = not-misplaced e.0
         first NestedTooDeeply lt = absurd (omega arith)
         first UndeclaredVariable lt = absurd (omega arith)
-    refused_action UndeclaredVariable e = record { applies = undeclared at (unknown xs i names fs s.stands a at e.0 e.2); first_fault = first; first_item = s.none_refused }
+    refused-action UndeclaredVariable e = record { applies = undeclared at (unknown xs i names fs s.stands a at e.0 e.2); first_fault = first; first_item = s.none_refused }
       where
         first : (f : Fault) → rank f < rank UndeclaredVariable → Applies xs i f → ⊥
-        first Unreadable lt = no_unreadable xs i (act_role a) at (λ g. cc)
-        first NotAnAction lt = no_unread xs i (act_role a) at (λ g. cc)
-        first OutOfPlace lt = not_misplaced e.0
-        first NestedTooDeeply lt = not_deep e.1
+        first Unreadable lt = no-unreadable xs i (act_role a) at (λ g. cc)
+        first NotAnAction lt = no-unread xs i (act_role a) at (λ g. cc)
+        first OutOfPlace lt = not-misplaced e.0
+        first NestedTooDeeply lt = not-deep e.1
         first UndeclaredVariable lt = absurd (omega arith)
 
-  pub refused_here : (x : Role) (fault : Fault) → slice_get xs i ≡ Some x → TellsRole x (top fs) (seen_at x (top fs) names) (Some fault) → IsRefused xs i fault
-  refused_here text_role fault at e = let g : Some fault ≡ None = e in cc
-  refused_here (act_role a) fault at e = refused_action a at fault e
-  refused_here unreadable_role fault at e = let g : fault ≡ Unreadable = cc in subst (IsRefused xs i) (sym g) (record { applies = unreadable at; first_fault = λ f lt. absurd (omega arith); first_item = s.none_refused })
-  refused_here unread_role fault at e = let g : fault ≡ NotAnAction = cc in subst (IsRefused xs i) (sym g) (record { applies = unread at; first_fault = first; first_item = s.none_refused })
+  pub refused-here : (x : Role) (fault : Fault) → slice_get xs i ≡ Some x → TellsRole x (top fs) (seen_at x (top fs) names) (Some fault) → IsRefused xs i fault
+  refused-here text_role fault at e = let g : Some fault ≡ None = e in cc
+  refused-here (act_role a) fault at e = refused-action a at fault e
+  refused-here unreadable_role fault at e = let g : fault ≡ Unreadable = cc in subst (IsRefused xs i) (sym g) (record { applies = unreadable at; first_fault = λ f lt. absurd (omega arith); first_item = s.none_refused })
+  refused-here unread_role fault at e = let g : fault ≡ NotAnAction = cc in subst (IsRefused xs i) (sym g) (record { applies = unread at; first_fault = first; first_item = s.none_refused })
     where
       first : (f : Fault) → rank f < rank NotAnAction → Applies xs i f → ⊥
-      first Unreadable lt = no_unreadable xs i unread_role at (λ g. cc)
+      first Unreadable lt = no-unreadable xs i unread_role at (λ g. cc)
       first NotAnAction lt = absurd (omega arith)
       first OutOfPlace lt = absurd (omega arith)
       first NestedTooDeeply lt = absurd (omega arith)
       first UndeclaredVariable lt = absurd (omega arith)
 
-  fine_here : (x : Role) → slice_get xs i ≡ Some x → TellsRole x (top fs) (seen_at x (top fs) names) None → (f : Fault) → Applies xs i f → ⊥
-  fine_here text_role at e = fine_text text_role at (λ a g. cc) (λ g. cc) (λ g. cc)
-  fine_here (act_role a) at e = fine_action a at e
-  fine_here unreadable_role at e = let g : None ≡ Some Unreadable = e in cc
-  fine_here unread_role at e = let g : None ≡ Some NotAnAction = e in cc
+  fine-here : (x : Role) → slice_get xs i ≡ Some x → TellsRole x (top fs) (seen_at x (top fs) names) None → (f : Fault) → Applies xs i f → ⊥
+  fine-here text_role at e = fine-text text_role at (λ a g. cc) (λ g. cc) (λ g. cc)
+  fine-here (act_role a) at e = fine-action a at e
+  fine-here unreadable_role at e = let g : None ≡ Some Unreadable = e in cc
+  fine-here unread_role at e = let g : None ≡ Some NotAnAction = e in cc
 
   more : (x : Role) → slice_get xs i ≡ Some x → TellsRole x (top fs) (seen_at x (top fs) names) None → NoneRefused xs (i + 1)
-  more x at e k f lt a = ⊎_elim (λ low. s.none_refused k f low a) (λ ge. let g : k ≡ i = omega arith in fine_here x at e f (subst (λ n. Applies xs n f) g a)) (cases_lt k i)
+  more x at e k f lt a = ⊎_elim (λ low. s.none_refused k f low a) (λ ge. let g : k ≡ i = omega arith in fine-here x at e f (subst (λ n. Applies xs n f) g a)) (cases_lt k i)
 
 no-more : (xs : List Role) (i : ℕ) (names : List Name) (fs : List Frame) → Stands xs i names fs → Stands xs i (names ++ []) fs
 no-more xs i names fs s = subst (λ l. Stands xs i l fs) (sym (append-nil names)) s
 
 after : (xs : List Role) (i : ℕ) (names : List Name) (fs : List Frame) (a : Act) → slice_get xs i ≡ Some (act_role a) → is_placed a (top fs) ≡ true → Stands xs i names fs → Stands xs (i + 1) (names_at a (top fs) names ++ added a) (frames_after a fs (length (names_at a (top fs) names)))
-after xs i names fs (plain p) at e s = stands_declared xs i names p fs at s
-after xs i names fs (opener c p) at e s = stands_opened xs i names c p fs at s
+after xs i names fs (plain p) at e s = stands-declared xs i names p fs at s
+after xs i names fs (opener c p) at e s = stands-opened xs i names c p fs at s
 after xs i names [] bare_else at e s = let g : false ≡ true = e in cc
-after xs i names (f ∷ fs) bare_else at e s = no-more xs (i + 1) (take f.part names) (elsed f ∷ fs) (stands_elsed xs i names f fs at e s)
+after xs i names (f ∷ fs) bare_else at e s = no-more xs (i + 1) (take f.part names) (elsed f ∷ fs) (stands-elsed xs i names f fs at e s)
 after xs i names [] (branch_else b p) at e s = let g : false ≡ true = e in cc
-after xs i names (f ∷ fs) (branch_else b p) at e s = let k = and_parts (takes_else (Some f)) (joins b f.control) e in let l = length-take-le f.part names s.2.within.parted in subst (λ n. Stands xs (i + 1) (take f.part names ++ p.declares) (branched f (n + length p.declares) ∷ fs)) (sym l) (stands_turned xs i names f fs b p at k.0 k.1 s)
+after xs i names (f ∷ fs) (branch_else b p) at e s = let k = and_parts (takes_else (Some f)) (joins b f.control) e in let l = length-take-le f.part names s.2.within.parted in subst (λ n. Stands xs (i + 1) (take f.part names ++ p.declares) (branched f (n + length p.declares) ∷ fs)) (sym l) (stands-branched xs i names f fs b p at k.0 k.1 s)
 after xs i names [] closer at e s = let g : false ≡ true = e in cc
-after xs i names (f ∷ fs) closer at e s = no-more xs (i + 1) (take f.start names) fs (stands_ended xs i names f fs at s)
-after xs i names fs jump at e s = no-more xs (i + 1) names fs (stands_still xs i names (act_role jump) fs at refl refl (λ g. cc) (λ q g. cc) (λ c q g. cc) (λ b q g. cc) s)
+after xs i names (f ∷ fs) closer at e s = no-more xs (i + 1) (take f.start names) fs (stands-ended xs i names f fs at s)
+after xs i names fs jump at e s = no-more xs (i + 1) names fs (stands-still xs i names (act_role jump) fs at refl refl (λ g. cc) (λ q g. cc) (λ c q g. cc) (λ b q g. cc) s)
 
 -- what stands after an item that is not refused
-pub sound_past : (xs : List Role) (i : ℕ) (names : List Name) (fs : List Frame) (x : Role) → slice_get xs i ≡ Some x → TellsRole x (top fs) (seen_at x (top fs) names) None → Sound xs i names fs → Sound xs (i + 1) (seen_at x (top fs) names ++ added_by x) (frames_past x fs (length (seen_at x (top fs) names)))
-sound_past xs i names fs text_role at e s = record { stands = no-more xs (i + 1) names fs (stands_still xs i names text_role fs at refl refl (λ g. cc) (λ q g. cc) (λ c q g. cc) (λ b q g. cc) s.stands); none_refused = more xs i names fs s text_role at e }
-sound_past xs i names fs unreadable_role at e s = let g : None ≡ Some Unreadable = e in cc
-sound_past xs i names fs unread_role at e s = let g : None ≡ Some NotAnAction = e in cc
-sound_past xs i names fs (act_role a) at e s = record { stands = after xs i names fs a at e.0 s.stands; none_refused = more xs i names fs s (act_role a) at e }
+pub sound-past : (xs : List Role) (i : ℕ) (names : List Name) (fs : List Frame) (x : Role) → slice_get xs i ≡ Some x → TellsRole x (top fs) (seen_at x (top fs) names) None → Sound xs i names fs → Sound xs (i + 1) (seen_at x (top fs) names ++ added_by x) (frames_past x fs (length (seen_at x (top fs) names)))
+sound-past xs i names fs text_role at e s = record { stands = no-more xs (i + 1) names fs (stands-still xs i names text_role fs at refl refl (λ g. cc) (λ q g. cc) (λ c q g. cc) (λ b q g. cc) s.stands); none_refused = more xs i names fs s text_role at e }
+sound-past xs i names fs unreadable_role at e s = let g : None ≡ Some Unreadable = e in cc
+sound-past xs i names fs unread_role at e s = let g : None ≡ Some NotAnAction = e in cc
+sound-past xs i names fs (act_role a) at e s = record { stands = after xs i names fs a at e.0 s.stands; none_refused = more xs i names fs s (act_role a) at e }
 
-pub sound_end : (xs : List Role) (i : ℕ) (names : List Name) (fs : List Frame) → i ≡ length xs → Sound xs i names fs → Judged xs (at_end fs)
-sound_end xs i names [] e s = let all : Sound xs (length xs) names [] = subst (λ n. Sound xs n names []) e s in (all.none_refused, all.stands.0)
-sound_end xs i names (f ∷ fs) e s = let all : Sound xs (length xs) names (f ∷ fs) = subst (λ n. Sound xs n names (f ∷ fs)) e s in (all.none_refused, all.stands.1, all.stands.2.last.is_open)
+pub sound-end : (xs : List Role) (i : ℕ) (names : List Name) (fs : List Frame) → i ≡ length xs → Sound xs i names fs → Judged xs (at_end fs)
+sound-end xs i names [] e s = let all : Sound xs (length xs) names [] = subst (λ n. Sound xs n names []) e s in (all.none_refused, all.stands.0)
+sound-end xs i names (f ∷ fs) e s = let all : Sound xs (length xs) names (f ∷ fs) = subst (λ n. Sound xs n names (f ∷ fs)) e s in (all.none_refused, all.stands.1, all.stands.2.last.is_open)

@@ -1,5 +1,6 @@
 -- The items of an accepted file spell the nodes that are built from them.
 use Rattle.std.proofs.Common.{◌≡◌, ◌∙◌, ℕ, Bool, true, false, List, [], ◌∷◌, refl, sym, subst, length, Option, Some, None}
+use Rattle.std.proofs.lemmas.Bool.{and_parts}
 use Rattle.tmpl_syntax.specs.declared.fault.Fault.{Fault}
 use Rattle.tmpl_syntax.specs.declared.fault.Fault.TheVariants.{Unreadable, NotAnAction}
 use Rattle.tmpl_syntax.specs.declared.place.frame.Frame.{Frame}
@@ -15,7 +16,7 @@ use Rattle.tmpl_syntax.specs.Spelling.{Leads, nothing, a_text, an_action, a_brea
 use Rattle.tmpl_syntax.specs.computed.Build as build
 use Rattle.tmpl_syntax.specs.computed.Build.{no_parts, first_of, rest_of, with_node_before, parts_with, parts_before, nodes_from}
 use Rattle.tmpl_syntax.proofs.FaultLemmas.{TellsRole, tells}
-use Rattle.tmpl_syntax.proofs.ElseBranchLemmas.{and_parts, else_parts}
+use Rattle.tmpl_syntax.proofs.ElseBranchLemmas.{else-parts}
 
 -- what stands behind a part, where a plain else may have come already: then only the end does
 abbrev Closing : Bool → List Item → Nodes → List Item → Type 0
@@ -43,7 +44,7 @@ closes-of b ys other zs e c = subst (λ k. Closing k ys other zs) e c
 
 pub too-deep : (shape : Shape) (t : Option Frame) → is_too_deep (act_of_shape shape) t ≡ true
 too-deep shape.Pipeline t = refl
-too-deep (shape.Open kind) t = refl
+too-deep (shape.Open c) t = refl
 too-deep (shape.ElseBranch branch) t = refl
 
 module _ (names : List Name) (xs : List Item) (p : build.Parts) where
@@ -62,7 +63,7 @@ module _ (names : List Name) (xs : List Item) (p : build.Parts) where
   step (item line (action_item (opening c h))) fs e r = rest-node fs _ r.2 line (control_node c h p.inner.nodes p.inner.other) (first_of p.around) (rest_of p.around) (λ ns ys d. a_control r.1 r.3 d) r.4
   step (item line (action_item plain_else)) [] e r = let g : false ≡ true = (placed (item line (action_item plain_else)) None e).0 in cc
   step (item line (action_item plain_else)) (f ∷ fs) e r =
-      let bare = (else_parts f (placed (item line (action_item plain_else)) (Some f) e).0).1 in
+      let bare = (else-parts f (placed (item line (action_item plain_else)) (Some f) e).0).1 in
       let end = r.3 in (
         item line (action_item plain_else) ∷ xs,
         nothing,
@@ -72,7 +73,7 @@ module _ (names : List Name) (xs : List Item) (p : build.Parts) where
       )
   step (item line (action_item (else_branch branch h))) [] e r = let g = (placed (item line (action_item (else_branch branch h))) None e).0 in let h : false ≡ true = g in cc
   step (item line (action_item (else_branch branch h))) (f ∷ fs) e r =
-      let bare = (else_parts f (and_parts _ _ (placed (item line (action_item (else_branch branch h))) (Some f) e).0).0).1 in (
+      let bare = (else-parts f (and_parts _ _ (placed (item line (action_item (else_branch branch h))) (Some f) e).0).0).1 in (
         item line (action_item (else_branch branch h)) ∷ xs,
         nothing,
         r.2,

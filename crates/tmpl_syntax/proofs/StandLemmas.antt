@@ -11,10 +11,10 @@ use Rattle.tmpl_syntax.specs.Place.Open.{opens, ends, IsOpening, NothingOpen, Is
 use Rattle.tmpl_syntax.specs.Place.Body.{IsLoop, Levels}
 use Rattle.tmpl_syntax.specs.computed.Frames.{top, loops, in_loop, levels, heading, entered}
 use Rattle.tmpl_syntax.proofs.FaultLemmas.{IsWithin}
-use Rattle.tmpl_syntax.proofs.OpenLemmas.{ups, downs, count_split, same_control, same_piece, cut, Same, opened_keeps, opened_new}
-use Rattle.tmpl_syntax.proofs.PlaceLemmas.{alike_back, alike_even, alike_opened, template_moves, levels_same, levels_opened, InLoop, loop_moves, else_before, else_same, loop_same, loop_same_back}
-use Rattle.tmpl_syntax.proofs.ScopeLemmas.{Brought, brought_same, brought_same_back, brought_opened, brought_header, brought_opened_back}
-use Rattle.tmpl_syntax.proofs.ElsePartLemmas.{Part, part_later, part_sooner}
+use Rattle.tmpl_syntax.proofs.OpenLemmas.{ups, downs, count-split, same-control, same-piece, cut, Same, opened-keeps, opened_new}
+use Rattle.tmpl_syntax.proofs.PlaceLemmas.{alike-back, alike-even, alike-opened, template-moves, levels-same, levels-opened, InLoop, loop-moves, else_before, else-same, loop-same, loop-same-back}
+use Rattle.tmpl_syntax.proofs.ScopeLemmas.{Brought, brought-same, brought-same-back, brought-opened, brought-header, brought-opened-back}
+use Rattle.tmpl_syntax.proofs.ElsePartLemmas.{Part, part-later, part-sooner}
 use Rattle.tmpl_grammar.specs.declared.tree.Control.{Control}
 use Rattle.tmpl_grammar.specs.declared.tree.Control.TheVariants.{If, With, Range}
 use Rattle.tmpl_syntax.specs.Place.Role.{Name, Names, opener, bare_else, Role, act_role}
@@ -44,27 +44,27 @@ abbrev pub Stands : List Role → ℕ → List Name → List Frame → Type 0
 Stands xs i names [] = NothingOpen xs i × Here xs i None names
 Stands xs i names (f ∷ fs) = Here xs i (Some f) names × (j : ℕ) × Stood xs i names f j × Stands xs j (take f.start names) fs
 
-pub here_of : (xs : List Role) (i : ℕ) (names : List Name) (fs : List Frame) → Stands xs i names fs → Here xs i (top fs) names
-here_of xs i names [] s = s.1
-here_of xs i names (f ∷ fs) s = s.0
+pub here-of : (xs : List Role) (i : ℕ) (names : List Name) (fs : List Frame) → Stands xs i names fs → Here xs i (top fs) names
+here-of xs i names [] s = s.1
+here-of xs i names (f ∷ fs) s = s.0
 
 -- to a place where the same stands, with what was declared on the way
 module _ (xs : List Role) (j m : ℕ) (s : Same xs j m) (names ds : List Name) (new : (n : Name) → Contains ds n → Brought xs m m n) (old : (n : Name) → (b : Brought xs m m n) → j ≤ b.by → Contains ds n) where
-  here_moves : (t : Option Frame) → Here xs j t names → Here xs m t (names ++ ds)
-  here_moves t h = record {
+  here-moves : (t : Option Frame) → Here xs j t names → Here xs m t (names ++ ds)
+  here-moves t h = record {
     template = h.template;
-    is_template_here = template_moves xs j m (alike_even xs j m s.even) h.template h.is_template_here;
-    levels_are = levels_same xs j m (levels t) s h.levels_are;
-    looped = Decides-like (in_loop t) (loop_same xs j m s) (loop_same_back xs j m s) h.looped;
-    to = λ n c. ⊎_elim (λ l. brought_same xs j m n s (h.to n l)) (λ r. new n r) (Contains-append_cases names ds n c);
+    is_template_here = template-moves xs j m (alike-even xs j m s.even) h.template h.is_template_here;
+    levels_are = levels-same xs j m (levels t) s h.levels_are;
+    looped = Decides-like (in_loop t) (loop-same xs j m s) (loop-same-back xs j m s) h.looped;
+    to = λ n c. ⊎_elim (λ l. brought-same xs j m n s (h.to n l)) (λ r. new n r) (Contains-append_cases names ds n c);
     back = λ n b. ⊎_elim
-        (λ lt. Contains-append_left names ds n (h.back n (brought_same_back xs j m n s b lt)))
+        (λ lt. Contains-append_left names ds n (h.back n (brought-same-back xs j m n s b lt)))
         (λ ge. Contains-append_right names ds n (old n b ge))
         (cases_lt b.by j);
   }
 
-  stood_moves : (f : Frame) (q : ℕ) → Stood xs j names f q → Stood xs m (names ++ ds) f q
-  stood_moves f q h =
+  stood-moves : (f : Frame) (q : ℕ) → Stood xs j names f q → Stood xs m (names ++ ds) f q
+  stood-moves f q h =
       let o = h.last.is_open in
       let lt = o.before in
       let le = s.even.le in
@@ -72,48 +72,48 @@ module _ (xs : List Role) (j m : ℕ) (s : Same xs j m) (names ds : List Name) (
       record {
         control = h.control;
         last = record { is_open = s.even.keeps q o; last = λ k qk ok. h.last.last k qk (s.even.only k ok) };
-        over = omega (arith, h.over, s.even.balance, count_split opens xs (q + 1) j m (omega arith) le, count_split ends xs (q + 1) j m (omega arith) le);
-        has = Decides-like f.has_else (else_before xs q j m le) (else_same xs q j m s o) h.has;
+        over = omega (arith, h.over, s.even.balance, count-split opens xs (q + 1) j m (omega arith) le, count-split ends xs (q + 1) j m (omega arith) le);
+        has = Decides-like f.has_else (else_before xs q j m le) (else-same xs q j m s o) h.has;
         around = h.around;
         within = record { started = h.within.started; parted = let p = h.within.parted in omega (arith, length-append names ds) };
-        to = λ own n c. part_later xs q j m n le (h.to own n (subst (λ l. Contains l n) e c));
-        back = λ own n p. subst (λ l. Contains l n) (sym e) (h.back own n (part_sooner xs q j m n (λ k from to. s.no_branch q k from to o) p));
+        to = λ own n c. part-later xs q j m n le (h.to own n (subst (λ l. Contains l n) e c));
+        back = λ own n p. subst (λ l. Contains l n) (sym e) (h.back own n (part-sooner xs q j m n (λ k from to. s.no_branch q k from to o) p));
       }
 
-  pub stands_moves : (fs : List Frame) → Stands xs j names fs → Stands xs m (names ++ ds) fs
-  stands_moves [] h = (λ k o. h.0 k (s.even.only k o), here_moves None h.1)
-  stands_moves (f ∷ fs) h =
+  pub stands-moves : (fs : List Frame) → Stands xs j names fs → Stands xs m (names ++ ds) fs
+  stands-moves [] h = (λ k o. h.0 k (s.even.only k o), here-moves None h.1)
+  stands-moves (f ∷ fs) h =
       let w = h.2.within in
       let e : take f.start (names ++ ds) ≡ take f.start names = take-append-le f.start names ds (let p = w.parted in let q = w.started in omega arith) in
-      (here_moves (Some f) h.0, h.1, stood_moves f h.1 h.2, subst (λ l. Stands xs h.1 l fs) (sym e) h.3)
+      (here-moves (Some f) h.0, h.1, stood-moves f h.1 h.2, subst (λ l. Stands xs h.1 l fs) (sym e) h.3)
 
 -- an opening
 module _ (xs : List Role) (i : ℕ) (names : List Name) (c : Control) (p : Names) (at : slice_get xs i ≡ Some (act_role (opener c p))) (o : IsOpening (slice_get xs i) c) (t : Option Frame) (h : Here xs i t names) where
-  no_else_here : (q : ℕ) → IsElseOf xs q i → ⊥
-  no_else_here q e = let g : act_role (opener c p) ≡ act_role bare_else = same_piece xs i (act_role (opener c p)) (act_role bare_else) at e.at in cc
+  no-else-here : (q : ℕ) → IsElseOf xs q i → ⊥
+  no-else-here q e = let g : act_role (opener c p) ≡ act_role bare_else = same-piece xs i (act_role (opener c p)) (act_role bare_else) at e.at in cc
 
-  has_before : (q : ℕ) → HasElse xs q (i + 1) → HasElse xs q i
-  has_before q e = ⊎_elim (λ lt. (e.0, lt, e.2)) (λ ge. let g = e.1 in let s : e.0 ≡ i = omega arith in absurd (no_else_here q (subst (IsElseOf xs q) s e.2))) (cases_lt e.0 i)
+  has-before : (q : ℕ) → HasElse xs q (i + 1) → HasElse xs q i
+  has-before q e = ⊎_elim (λ lt. (e.0, lt, e.2)) (λ ge. let g = e.1 in let s : e.0 ≡ i = omega arith in absurd (no-else-here q (subst (IsElseOf xs q) s e.2))) (cases_lt e.0 i)
 
-  none_of_it : HasElse xs i (i + 1) → ⊥
-  none_of_it e = let a = e.1 in let b = e.2.belongs.is_open.before in omega arith
+  none-of-it : HasElse xs i (i + 1) → ⊥
+  none-of-it e = let a = e.1 in let b = e.2.belongs.is_open.before in omega arith
 
-  loop_on : is_template c ≡ false → InLoop xs i → InLoop xs (i + 1)
-  loop_on own l = (l.0, loop_moves xs l.0 i (i + 1) (alike_opened xs (act_role (opener c p)) i c at refl o own) (opened_keeps xs (act_role (opener c p)) i l.0 at refl l.1.is_open) (has_before l.0) l.1)
+  loop-on : is_template c ≡ false → InLoop xs i → InLoop xs (i + 1)
+  loop-on own l = (l.0, loop-moves xs l.0 i (i + 1) (alike-opened xs (act_role (opener c p)) i c at refl o own) (opened-keeps xs (act_role (opener c p)) i l.0 at refl l.1.is_open) (has-before l.0) l.1)
 
-  loop_off : is_template c ≡ false → c ≢ Range → InLoop xs (i + 1) → InLoop xs i
-  loop_off own nr l = ⊎_elim
-      (λ lt. (l.0, loop_moves xs l.0 (i + 1) i (alike_back xs i (i + 1) (alike_opened xs (act_role (opener c p)) i c at refl o own)) (cut xs l.0 i (i + 1) lt (omega arith) l.1.is_open) (else_before xs l.0 i (i + 1) (omega arith)) l.1))
+  loop-off : is_template c ≡ false → c ≢ Range → InLoop xs (i + 1) → InLoop xs i
+  loop-off own nr l = ⊎_elim
+      (λ lt. (l.0, loop-moves xs l.0 (i + 1) i (alike-back xs i (i + 1) (alike-opened xs (act_role (opener c p)) i c at refl o own)) (cut xs l.0 i (i + 1) lt (omega arith) l.1.is_open) (else_before xs l.0 i (i + 1) (omega arith)) l.1))
       (λ ge. let b = l.1.is_open.before in let s : l.0 ≡ i = omega arith in
       let w : IsLoop xs i (i + 1) = subst (λ k. IsLoop xs k (i + 1)) s l.1 in
-      absurd (nr (same_control xs i c w.is_open.control o w.is_open.at ∙ w.range)))
+      absurd (nr (same-control xs i c w.is_open.control o w.is_open.at ∙ w.range)))
       (cases_lt l.0 i)
 
-  here_plain : (l : Bool) → is_template c ≡ false → Decides l (InLoop xs (i + 1)) → l ≡ loops c false (in_loop t) → heading c p.declares ≡ p.declares → Here xs (i + 1) (Some (entered c p t (length names))) (names ++ heading c p.declares)
-  here_plain l own d dl eh = record {
+  here-plain : (l : Bool) → is_template c ≡ false → Decides l (InLoop xs (i + 1)) → l ≡ loops c false (in_loop t) → heading c p.declares ≡ p.declares → Here xs (i + 1) (Some (entered c p t (length names))) (names ++ heading c p.declares)
+  here-plain l own d dl eh = record {
     template = h.template;
-    is_template_here = template_moves xs i (i + 1) (alike_opened xs (act_role (opener c p)) i c at refl o own) h.template h.is_template_here;
-    levels_are = levels_opened xs i (levels t) c p at o h.levels_are;
+    is_template_here = template-moves xs i (i + 1) (alike-opened xs (act_role (opener c p)) i c at refl o own) h.template h.is_template_here;
+    levels_are = levels-opened xs i (levels t) c p at o h.levels_are;
     looped = subst (λ b. Decides b (InLoop xs (i + 1))) dl d;
     to = λ n k. to n k;
     back = λ n b. back n b;
@@ -121,28 +121,28 @@ module _ (xs : List Role) (i : ℕ) (names : List Name) (c : Control) (p : Names
     where
       to : (n : Name) → Contains (names ++ heading c p.declares) n → Brought xs (i + 1) (i + 1) n
       to n k = ⊎_elim
-          (λ l. brought_opened xs i n c p at o own (h.to n l))
-          (λ r. brought_header xs i n h.template c p at o own h.is_template_here (subst (λ z. Contains z n) eh r))
+          (λ l. brought-opened xs i n c p at o own (h.to n l))
+          (λ r. brought-header xs i n h.template c p at o own h.is_template_here (subst (λ z. Contains z n) eh r))
           (Contains-append_cases names (heading c p.declares) n k)
 
       back : (n : Name) → Brought xs (i + 1) (i + 1) n → Contains (names ++ heading c p.declares) n
       back n b = ⊎_elim
           (λ old. Contains-append_left names (heading c p.declares) n (h.back n old))
           (λ new. Contains-append_right names (heading c p.declares) n (subst (λ z. Contains z n) (sym eh) new))
-          (brought_opened_back xs i n c p at o own b)
+          (brought-opened-back xs i n c p at o own b)
 
-  pub here_opened : (d : Control) → c ≡ d → Here xs (i + 1) (Some (entered c p t (length names))) (names ++ heading c p.declares)
-  here_opened If e = here_plain (in_loop t) (ap is_template e) (Decides-like (in_loop t) (loop_on (ap is_template e)) (loop_off (ap is_template e) (λ r. let g : If ≡ Range = sym e ∙ r in cc)) h.looped) (ap (λ z. loops z false (in_loop t)) (sym e)) (ap (λ z. heading z p.declares) e)
-  here_opened With e = here_plain (in_loop t) (ap is_template e) (Decides-like (in_loop t) (loop_on (ap is_template e)) (loop_off (ap is_template e) (λ r. let g : With ≡ Range = sym e ∙ r in cc)) h.looped) (ap (λ z. loops z false (in_loop t)) (sym e)) (ap (λ z. heading z p.declares) e)
-  here_opened Range e = here_plain true (ap is_template e) (λ g. new_loop, λ l. refl) (ap (λ z. loops z false (in_loop t)) (sym e)) (ap (λ z. heading z p.declares) e)
+  pub here-opened : (d : Control) → c ≡ d → Here xs (i + 1) (Some (entered c p t (length names))) (names ++ heading c p.declares)
+  here-opened If e = here-plain (in_loop t) (ap is_template e) (Decides-like (in_loop t) (loop-on (ap is_template e)) (loop-off (ap is_template e) (λ r. let g : If ≡ Range = sym e ∙ r in cc)) h.looped) (ap (λ z. loops z false (in_loop t)) (sym e)) (ap (λ z. heading z p.declares) e)
+  here-opened With e = here-plain (in_loop t) (ap is_template e) (Decides-like (in_loop t) (loop-on (ap is_template e)) (loop-off (ap is_template e) (λ r. let g : With ≡ Range = sym e ∙ r in cc)) h.looped) (ap (λ z. loops z false (in_loop t)) (sym e)) (ap (λ z. heading z p.declares) e)
+  here-opened Range e = here-plain true (ap is_template e) (λ g. new-loop, λ l. refl) (ap (λ z. loops z false (in_loop t)) (sym e)) (ap (λ z. heading z p.declares) e)
     where
-      new_loop : InLoop xs (i + 1)
-      new_loop = (
+      new-loop : InLoop xs (i + 1)
+      new-loop = (
         i,
         record {
           is_open = opened_new xs i c o;
           range = e;
-          template = (h.template, h.is_template_here, template_moves xs i (i + 1) (alike_opened xs (act_role (opener c p)) i c at refl o (ap is_template e)) h.template h.is_template_here);
-          bare = none_of_it;
+          template = (h.template, h.is_template_here, template-moves xs i (i + 1) (alike-opened xs (act_role (opener c p)) i c at refl o (ap is_template e)) h.template h.is_template_here);
+          bare = none-of-it;
         },
       )

@@ -10,91 +10,91 @@ use Rattle.tmpl_syntax.specs.declared.place.frame.Frame.{Frame}
 use Rattle.tmpl_syntax.specs.Place.Open.{opens, ends, IsOpening, IsLast, HasElse, is_template}
 use Rattle.tmpl_syntax.specs.Place.Body.{IsLoop, Levels}
 use Rattle.tmpl_syntax.specs.computed.Frames.{top, loops, part_of, heading, entered}
-use Rattle.tmpl_syntax.proofs.OpenLemmas.{count_split, count_none, same_control, same_piece, cut, through, Even, shut_at, even_step, opened_new}
-use Rattle.tmpl_syntax.proofs.PlaceLemmas.{alike_back, alike_even, alike_last, template_moves, InLoop, loop_moves, else_before}
+use Rattle.tmpl_syntax.proofs.OpenLemmas.{count-split, count-none, same-control, same-piece, cut, through, Even, shut-at, even-step, opened_new}
+use Rattle.tmpl_syntax.proofs.PlaceLemmas.{alike-back, alike-even, alike-last, template-moves, InLoop, loop-moves, else_before}
 use Rattle.tmpl_syntax.proofs.ScopeLemmas.{Reaches, Brought}
-use Rattle.tmpl_syntax.proofs.ElsePartLemmas.{Part, earlier, header, turn, part_later, IsPartAt, BroughtFrom, to_part, from_part}
-use Rattle.tmpl_syntax.proofs.StandLemmas.{Here, Stood, Stands, here_of, here_opened}
+use Rattle.tmpl_syntax.proofs.ElsePartLemmas.{Part, earlier, header, branch_header, part-later, IsPartAt, BroughtFrom, to-part, from-part}
+use Rattle.tmpl_syntax.proofs.StandLemmas.{Here, Stood, Stands, here-of, here-opened}
 use Rattle.tmpl_grammar.specs.declared.tree.Control.{Control}
 use Rattle.tmpl_grammar.specs.declared.tree.Control.TheVariants.{If, With, Range}
 use Rattle.tmpl_syntax.specs.Place.Role.{Name, Names, opener, bare_else, Role, act_role}
 
 -- after an opening
 module _ (xs : List Role) (i : ℕ) (names : List Name) (c : Control) (p : Names) (at : slice_get xs i ≡ Some (act_role (opener c p))) (o : IsOpening (slice_get xs i) c) (t : Option Frame) (h : Here xs i t names) where
-  not_after : {A : Type 0} → (k : ℕ) → k < i + 1 → IsLast xs i k → A
-  not_after k lt l = let b = l.is_open.before in absurd (omega arith)
+  not-after : {A : Type 0} → (k : ℕ) → k < i + 1 → IsLast xs i k → A
+  not-after k lt l = let b = l.is_open.before in absurd (omega arith)
 
-  part_new : (n : Name) → Part xs i (i + 1) n → (Brought xs i i n) ⊎ (Contains p.declares n × (c ≡ Range → ⊥))
-  part_new n (earlier b) = inl b
-  part_new n (header {c = d} {p = q} e k r) =
-      let g : act_role (opener c p) ≡ act_role (opener d q) = same_piece xs i (act_role (opener c p)) (act_role (opener d q)) at e in
+  part-new : (n : Name) → Part xs i (i + 1) n → (Brought xs i i n) ⊎ (Contains p.declares n × (c ≡ Range → ⊥))
+  part-new n (earlier b) = inl b
+  part-new n (header {c = d} {p = q} e k r) =
+      let g : act_role (opener c p) ≡ act_role (opener d q) = same-piece xs i (act_role (opener c p)) (act_role (opener d q)) at e in
       let gp : p ≡ q = cc in
       let gc : c ≡ d = cc in
       inr (subst (λ z. Contains z.declares n) (sym gp) k, λ z. r (sym gc ∙ z))
-  part_new n (turn lt e k l) = not_after _ lt l
+  part-new n (branch_header lt e k l) = not-after _ lt l
 
   -- an else part sees no fewer names than there were before, and no more than there are in the body
-  part_above : (d : Control) → length names ≤ part_of d (length names) (length names + length p.declares)
-  part_above If = omega arith
-  part_above With = omega arith
-  part_above Range = omega arith
+  part-above : (d : Control) → length names ≤ part_of d (length names) (length names + length p.declares)
+  part-above If = omega arith
+  part-above With = omega arith
+  part-above Range = omega arith
 
-  part_below : (d : Control) → part_of d (length names) (length names + length p.declares) ≤ length names + length (heading d p.declares)
-  part_below If = omega arith
-  part_below With = omega arith
-  part_below Range = omega arith
+  part-below : (d : Control) → part_of d (length names) (length names + length p.declares) ≤ length names + length (heading d p.declares)
+  part-below If = omega arith
+  part-below With = omega arith
+  part-below Range = omega arith
 
   -- what the parts see at first: for an if or with
-  part_wide : c ≢ Range → (n : Name) → Contains (take (length names + length p.declares) (names ++ p.declares)) n → Part xs i (i + 1) n
-  part_wide nr n k =
+  part-wide : c ≢ Range → (n : Name) → Contains (take (length names + length p.declares) (names ++ p.declares)) n → Part xs i (i + 1) n
+  part-wide nr n k =
       let e : take (length names + length p.declares) (names ++ p.declares) ≡ names ++ p.declares = take_all (length names + length p.declares) (names ++ p.declares) (omega (arith, length-append names p.declares)) in
       ⊎_elim (λ l. earlier (h.to n l)) (λ r. header at r nr)
       (Contains-append_cases names p.declares n (subst (λ l. Contains l n) e k))
 
-  part_wide_back : (n : Name) → Part xs i (i + 1) n → Contains (take (length names + length p.declares) (names ++ p.declares)) n
-  part_wide_back n k =
+  part-wide-back : (n : Name) → Part xs i (i + 1) n → Contains (take (length names + length p.declares) (names ++ p.declares)) n
+  part-wide-back n k =
       let e : take (length names + length p.declares) (names ++ p.declares) ≡ names ++ p.declares = take_all (length names + length p.declares) (names ++ p.declares) (omega (arith, length-append names p.declares)) in
       subst (λ l. Contains l n) (sym e) (⊎_elim
       (λ b. Contains-append_left names p.declares n (h.back n b))
       (λ r. Contains-append_right names p.declares n r.0)
-      (part_new n k))
+      (part-new n k))
 
-  part_first : (d : Control) → c ≡ d → is_template d ≡ false → (n : Name) → Contains (take (part_of d (length names) (length names + length p.declares)) (names ++ heading d p.declares)) n → Part xs i (i + 1) n
-  part_first If e own n k = part_wide (λ r. let g : If ≡ Range = sym e ∙ r in cc) n k
-  part_first With e own n k = part_wide (λ r. let g : With ≡ Range = sym e ∙ r in cc) n k
-  part_first Range e own n k =
+  part-first : (d : Control) → c ≡ d → is_template d ≡ false → (n : Name) → Contains (take (part_of d (length names) (length names + length p.declares)) (names ++ heading d p.declares)) n → Part xs i (i + 1) n
+  part-first If e own n k = part-wide (λ r. let g : If ≡ Range = sym e ∙ r in cc) n k
+  part-first With e own n k = part-wide (λ r. let g : With ≡ Range = sym e ∙ r in cc) n k
+  part-first Range e own n k =
       let s : take (length names) (names ++ p.declares) ≡ names = take_at names p.declares (length names) refl in
       earlier (h.to n (subst (λ l. Contains l n) s k))
 
-  part_first_back : (d : Control) → c ≡ d → is_template d ≡ false → (n : Name) → Part xs i (i + 1) n → Contains (take (part_of d (length names) (length names + length p.declares)) (names ++ heading d p.declares)) n
-  part_first_back If e own n k = part_wide_back n k
-  part_first_back With e own n k = part_wide_back n k
-  part_first_back Range e own n k =
+  part-first-back : (d : Control) → c ≡ d → is_template d ≡ false → (n : Name) → Part xs i (i + 1) n → Contains (take (part_of d (length names) (length names + length p.declares)) (names ++ heading d p.declares)) n
+  part-first-back If e own n k = part-wide-back n k
+  part-first-back With e own n k = part-wide-back n k
+  part-first-back Range e own n k =
       let s : take (length names) (names ++ p.declares) ≡ names = take_at names p.declares (length names) refl in
-      subst (λ l. Contains l n) (sym s) (⊎_elim (λ b. h.back n b) (λ r. absurd (r.1 e)) (part_new n k))
+      subst (λ l. Contains l n) (sym s) (⊎_elim (λ b. h.back n b) (λ r. absurd (r.1 e)) (part-new n k))
 
-  stood_opened : Stood xs (i + 1) (names ++ heading c p.declares) (entered c p t (length names)) i
-  stood_opened = record {
+  stood-opened : Stood xs (i + 1) (names ++ heading c p.declares) (entered c p t (length names)) i
+  stood-opened = record {
     control = o;
     last = record { is_open = opened_new xs i c o; last = λ k lt b. let g = b.before in omega arith };
-    over = omega (arith, count_none opens xs (i + 1), count_none ends xs (i + 1));
+    over = omega (arith, count-none opens xs (i + 1), count-none ends xs (i + 1));
     has = (λ e. let g : true ≡ false = sym e in cc, λ e. let a = e.1 in let b = e.2.belongs.is_open.before in absurd (omega arith));
     around = h.looped;
     within = record {
-      started = part_above c;
-      parted = let s = part_below c in omega (arith, length-append names (heading c p.declares));
+      started = part-above c;
+      parted = let s = part-below c in omega (arith, length-append names (heading c p.declares));
     };
-    to = λ own n k. part_first c refl own n k;
-    back = λ own n k. part_first_back c refl own n k;
+    to = λ own n k. part-first c refl own n k;
+    back = λ own n k. part-first-back c refl own n k;
   }
 
-pub stands_opened : (xs : List Role) (i : ℕ) (names : List Name) (c : Control) (p : Names) (fs : List Frame) → slice_get xs i ≡ Some (act_role (opener c p)) → Stands xs i names fs → Stands xs (i + 1) (names ++ heading c p.declares) (entered c p (top fs) (length names) ∷ fs)
-stands_opened xs i names c p fs at s =
+pub stands-opened : (xs : List Role) (i : ℕ) (names : List Name) (c : Control) (p : Names) (fs : List Frame) → slice_get xs i ≡ Some (act_role (opener c p)) → Stands xs i names fs → Stands xs (i + 1) (names ++ heading c p.declares) (entered c p (top fs) (length names) ∷ fs)
+stands-opened xs i names c p fs at s =
     let o : IsOpening (slice_get xs i) c = subst (λ z. IsOpening z c) (sym at) refl in
-    let h = here_of xs i names fs s in (
-      here_opened xs i names c p at o (top fs) h c refl,
+    let h = here-of xs i names fs s in (
+      here-opened xs i names c p at o (top fs) h c refl,
       i,
-      stood_opened xs i names c p at o (top fs) h,
+      stood-opened xs i names c p at o (top fs) h,
       subst (λ l. Stands xs i l fs) (sym (take_at names (heading c p.declares) (length names) refl)) s,
     )
 
@@ -104,43 +104,40 @@ changed f has lv ds = record f { has_else = has; levels = lv; part = f.part + le
 
 module _ (xs : List Role) (i : ℕ) (names : List Name) (f : Frame) (fs : List Frame) (s : Stands xs i names (f ∷ fs)) (x : Role) (at : slice_get xs i ≡ Some x) (shut : opens x ≡ false) (no_end : ends x ≡ false) (part : IsPartAt xs s.1 i) (own : is_template f.control ≡ false) where
   even : Even xs i (i + 1)
-  even = even_step xs x i at shut no_end
+  even = even-step xs x i at shut no_end
 
-  own_last : is_template s.2.last.is_open.control ≡ false
-  own_last = ap is_template (same_control xs s.1 s.2.last.is_open.control f.control s.2.last.is_open.at s.2.control) ∙ own
+  last-after : IsLast xs s.1 (i + 1)
+  last-after = record { is_open = even.keeps s.1 s.2.last.is_open; last = λ k lt o. s.2.last.last k lt (even.only k o) }
 
-  last_after : IsLast xs s.1 (i + 1)
-  last_after = record { is_open = even.keeps s.1 s.2.last.is_open; last = λ k lt o. s.2.last.last k lt (even.only k o) }
-
-  own_after : is_template last_after.is_open.control ≡ false
-  own_after = ap is_template (same_control xs s.1 last_after.is_open.control f.control last_after.is_open.at s.2.control) ∙ own
+  own-after : is_template last-after.is_open.control ≡ false
+  own-after = ap is_template (same-control xs s.1 last-after.is_open.control f.control last-after.is_open.at s.2.control) ∙ own
 
   low : s.1 < i
   low = s.2.last.is_open.before
 
-  below_here : Here xs s.1 (top fs) (take f.start names)
-  below_here = here_of xs s.1 (take f.start names) fs s.3
+  below-here : Here xs s.1 (top fs) (take f.start names)
+  below-here = here-of xs s.1 (take f.start names) fs s.3
 
   -- a loop around the opening is one around its else part
-  loop_in : InLoop xs s.1 → InLoop xs (i + 1)
-  loop_in l = let lt = l.1.is_open.before in (
+  loop-in : InLoop xs s.1 → InLoop xs (i + 1)
+  loop-in l = let lt = l.1.is_open.before in (
     l.0,
-    loop_moves xs l.0 s.1 (i + 1) (alike_last xs s.1 (i + 1) last_after own_after) (through xs l.0 s.1 (i + 1) l.1.is_open last_after.is_open)
+    loop-moves xs l.0 s.1 (i + 1) (alike-last xs s.1 (i + 1) last-after own-after) (through xs l.0 s.1 (i + 1) l.1.is_open last-after.is_open)
         (λ has. ⊎_elim (λ b. (has.0, b, has.2))
         (λ ge. absurd (⊎_elim
-        (λ gt. has.2.belongs.last s.1 lt (cut xs s.1 has.0 (i + 1) gt (let u = has.1 in omega arith) last_after.is_open))
-        (λ le. let e : has.0 ≡ s.1 = omega arith in shut_at xs (act_role bare_else) s.1 i (subst (λ z. slice_get xs z ≡ Some (act_role bare_else)) e has.2.at) refl s.2.last.is_open)
+        (λ gt. has.2.belongs.last s.1 lt (cut xs s.1 has.0 (i + 1) gt (let u = has.1 in omega arith) last-after.is_open))
+        (λ le. let e : has.0 ≡ s.1 = omega arith in shut-at xs (act_role bare_else) s.1 i (subst (λ z. slice_get xs z ≡ Some (act_role bare_else)) e has.2.at) refl s.2.last.is_open)
         (cases_lt s.1 has.0)))
         (cases_lt has.0 s.1)) l.1,
   )
 
-  loop_out : (f.control ≡ Range → HasElse xs s.1 (i + 1)) → InLoop xs (i + 1) → InLoop xs s.1
-  loop_out ranged l = ⊎_elim
+  loop-out : (f.control ≡ Range → HasElse xs s.1 (i + 1)) → InLoop xs (i + 1) → InLoop xs s.1
+  loop-out ranged l = ⊎_elim
       (λ e. let w : IsLoop xs s.1 (i + 1) = subst (λ k. IsLoop xs k (i + 1)) e l.1 in
-      absurd (w.bare (ranged (same_control xs s.1 f.control w.is_open.control s.2.control w.is_open.at ∙ w.range))))
+      absurd (w.bare (ranged (same-control xs s.1 f.control w.is_open.control s.2.control w.is_open.at ∙ w.range))))
       (λ o. ⊎_elim
-      (λ lt. (l.0, loop_moves xs l.0 (i + 1) s.1 (alike_back xs s.1 (i + 1) (alike_last xs s.1 (i + 1) last_after own_after)) (cut xs l.0 s.1 (i + 1) lt (let z = low in omega arith) l.1.is_open) (else_before xs l.0 s.1 (i + 1) (let z = low in omega arith)) l.1))
-      (λ gt. absurd (last_after.last l.0 gt l.1.is_open)) o)
+      (λ lt. (l.0, loop-moves xs l.0 (i + 1) s.1 (alike-back xs s.1 (i + 1) (alike-last xs s.1 (i + 1) last-after own-after)) (cut xs l.0 s.1 (i + 1) lt (let z = low in omega arith) l.1.is_open) (else_before xs l.0 s.1 (i + 1) (let z = low in omega arith)) l.1))
+      (λ gt. absurd (last-after.last l.0 gt l.1.is_open)) o)
       (cases_order l.0 s.1)
 
   module _ (has : Bool) (lv : ℕ) (ds : List Name) (leveled : Levels xs (i + 1) (i + 1) lv) (has_is : Decides has (HasElse xs s.1 (i + 1))) (ranged : f.control ≡ Range → HasElse xs s.1 (i + 1)) (looped : loops f.control has f.around ≡ f.around)
@@ -149,25 +146,25 @@ module _ (xs : List Role) (i : ℕ) (names : List Name) (f : Frame) (fs : List F
     front : length (take f.part names) ≡ f.part
     front = length-take-le f.part names s.2.within.parted
 
-    ranged_last : last_after.is_open.control ≡ Range → HasElse xs s.1 (i + 1)
-    ranged_last e = ranged (same_control xs s.1 f.control last_after.is_open.control s.2.control last_after.is_open.at ∙ e)
+    ranged-last : last-after.is_open.control ≡ Range → HasElse xs s.1 (i + 1)
+    ranged-last e = ranged (same-control xs s.1 f.control last-after.is_open.control s.2.control last-after.is_open.at ∙ e)
 
     seen : (n : Name) → Part xs s.1 i n → BroughtFrom xs i (i + 1) (i + 1) n
-    seen n k = from_part xs s.1 i (i + 1) (i + 1) last_after own_after part low (omega arith) (omega arith) (omega arith) ranged_last below_here.template below_here.is_template_here n k
+    seen n k = from-part xs s.1 i (i + 1) (i + 1) last-after own-after part low (omega arith) (omega arith) (omega arith) ranged-last below-here.template below-here.is_template_here n k
 
-    here_parted : Here xs (i + 1) (Some (changed f has lv ds)) (take f.part names ++ ds)
-    here_parted = record {
+    here-parted : Here xs (i + 1) (Some (changed f has lv ds)) (take f.part names ++ ds)
+    here-parted = record {
       template = s.0.template;
-      is_template_here = template_moves xs i (i + 1) (alike_even xs i (i + 1) even) s.0.template s.0.is_template_here;
+      is_template_here = template-moves xs i (i + 1) (alike-even xs i (i + 1) even) s.0.template s.0.is_template_here;
       levels_are = leveled;
-      looped = subst (λ b. Decides b (InLoop xs (i + 1))) (sym looped) (Decides-like f.around loop_in (loop_out ranged) s.2.around);
+      looped = subst (λ b. Decides b (InLoop xs (i + 1))) (sym looped) (Decides-like f.around loop-in (loop-out ranged) s.2.around);
       to = λ n k. ⊎_elim
           (λ l. let b = seen n (s.2.to own n l) in record { by = b.by; before = let lt = b.before in omega arith; template = b.template; reaches = b.reaches })
-          (λ r. record { by = i; before = omega arith; template = (s.0.template, s.0.is_template_here, template_moves xs i (i + 1) (alike_even xs i (i + 1) even) s.0.template s.0.is_template_here); reaches = new n r })
+          (λ r. record { by = i; before = omega arith; template = (s.0.template, s.0.is_template_here, template-moves xs i (i + 1) (alike-even xs i (i + 1) even) s.0.template s.0.is_template_here); reaches = new n r })
           (Contains-append_cases (take f.part names) ds n k);
       back = λ n b. ⊎_elim
           (λ lt. Contains-append_left (take f.part names) ds n (s.2.back own n
-          (to_part xs s.1 i (i + 1) (i + 1) last_after own_after part low (omega arith) (omega arith) (omega arith) ranged_last n (record { by = b.by; before = lt; template = b.template; reaches = b.reaches }))))
+          (to-part xs s.1 i (i + 1) (i + 1) last-after own-after part low (omega arith) (omega arith) (omega arith) ranged-last n (record { by = b.by; before = lt; template = b.template; reaches = b.reaches }))))
           (λ ge. let u = b.before in let e : b.by ≡ i = omega arith in Contains-append_right (take f.part names) ds n (old n (subst (λ k. Reaches xs k (i + 1) (i + 1) n) e b.reaches)))
           (cases_lt b.by i);
     }
@@ -175,16 +172,16 @@ module _ (xs : List Role) (i : ℕ) (names : List Name) (f : Frame) (fs : List F
     whole : take (f.part + length ds) (take f.part names ++ ds) ≡ take f.part names ++ ds
     whole = take_all (f.part + length ds) (take f.part names ++ ds) (omega (arith, front, length-append (take f.part names) ds))
 
-    stood_parted : Stood xs (i + 1) (take f.part names ++ ds) (changed f has lv ds) s.1
-    stood_parted = record {
+    stood-parted : Stood xs (i + 1) (take f.part names ++ ds) (changed f has lv ds) s.1
+    stood-parted = record {
       control = s.2.control;
-      last = last_after;
-      over = let z = low in omega (arith, s.2.over, even.balance, count_split opens xs (s.1 + 1) i (i + 1) (omega arith) (omega arith), count_split ends xs (s.1 + 1) i (i + 1) (omega arith) (omega arith));
+      last = last-after;
+      over = let z = low in omega (arith, s.2.over, even.balance, count-split opens xs (s.1 + 1) i (i + 1) (omega arith) (omega arith), count-split ends xs (s.1 + 1) i (i + 1) (omega arith) (omega arith));
       has = has_is;
       around = s.2.around;
       within = record { started = let a = s.2.within.started in omega arith; parted = omega (arith, front, length-append (take f.part names) ds) };
       to = λ o n k. ⊎_elim
-          (λ l. part_later xs s.1 i (i + 1) n (omega arith) (s.2.to own n l))
+          (λ l. part-later xs s.1 i (i + 1) n (omega arith) (s.2.to own n l))
           (λ r. new_part n r)
           (Contains-append_cases (take f.part names) ds n (subst (λ l. Contains l n) whole k));
       back = λ o n k. subst (λ l. Contains l n) (sym whole) (⊎_elim
@@ -196,5 +193,5 @@ module _ (xs : List Role) (i : ℕ) (names : List Name) (f : Frame) (fs : List F
     below : take f.start (take f.part names ++ ds) ≡ take f.start names
     below = take-append-le f.start (take f.part names) ds (let a = s.2.within.started in omega (arith, front)) ∙ take-take f.start f.part names s.2.within.started
 
-    pub stands_parted : Stands xs (i + 1) (take f.part names ++ ds) (changed f has lv ds ∷ fs)
-    stands_parted = (here_parted, s.1, stood_parted, subst (λ l. Stands xs s.1 l fs) (sym below) s.3)
+    pub stands-parted : Stands xs (i + 1) (take f.part names ++ ds) (changed f has lv ds ∷ fs)
+    stands-parted = (here-parted, s.1, stood-parted, subst (λ l. Stands xs s.1 l fs) (sym below) s.3)

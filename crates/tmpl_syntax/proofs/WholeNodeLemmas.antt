@@ -4,7 +4,7 @@ use Rattle.tmpl_syntax.specs.Print.WholeTree.{Node, text_node, action_node, brea
 use Rattle.tmpl_grammar.specs.Tree.{Header}
 use Rattle.tmpl_grammar.specs.declared.tree.Control.{Control}
 use Rattle.tmpl_syntax.proofs.JoinLemmas.{cut_back}
-use Rattle.tmpl_syntax.proofs.WholeItemLemmas.{are_parts, items_said}
+use Rattle.tmpl_syntax.proofs.WholeItemLemmas.{are-parts, items-said}
 
 -- the first of them
 record First (a : Action) (ss : List Said) (xs : List Item) : Type 0 where
@@ -13,8 +13,8 @@ record First (a : Action) (ss : List Said) (xs : List Item) : Type 0 where
   is : xs ≡ item line (action_item a) ∷ rest
   says_rest : Says ss rest
 
-first_said : {a : Action} {ss : List Said} {xs : List Item} → Says (said a ∷ ss) xs → First a ss xs
-first_said (says {line = line} {xs = xs} s) = record { line = line; rest = xs; is = refl; says_rest = s }
+first-said : {a : Action} {ss : List Said} {xs : List Item} → Says (said a ∷ ss) xs → First a ss xs
+first-said (says {line = line} {xs = xs} s) = record { line = line; rest = xs; is = refl; says_rest = s }
 
 record FirstText (t : List ℕ) (ss : List Said) (xs : List Item) : Type 0 where
   line : ℕ
@@ -22,8 +22,8 @@ record FirstText (t : List ℕ) (ss : List Said) (xs : List Item) : Type 0 where
   is : xs ≡ item line (text_item t) ∷ rest
   says_rest : Says ss rest
 
-first_text : {t : List ℕ} {ss : List Said} {xs : List Item} → Says (said_text t ∷ ss) xs → FirstText t ss xs
-first_text (says_text {line = line} {xs = xs} s) = record { line = line; rest = xs; is = refl; says_rest = s }
+first-text : {t : List ℕ} {ss : List Said} {xs : List Item} → Says (said_text t ∷ ss) xs → FirstText t ss xs
+first-text (says_text {line = line} {xs = xs} s) = record { line = line; rest = xs; is = refl; says_rest = s }
 
 -- the first items spell the nodes, apart from lines, with no definition among them, and the others say the rest
 record LeadsNodes (ns : Nodes) (ss : List Said) (xs : List Item) : Type 0 where
@@ -48,14 +48,14 @@ record LeadsElse (other : Nodes) (ss : List Said) (xs : List Item) : Type 0 wher
   alike : unlined nodes ≡ unlined other
   says_rest : Says ss rest
 
-else_leads : (other : Nodes) → ((ss : List Said) (xs : List Item) → Says (nodes_said other ++ ss) xs → LeadsNodes other ss xs) → (ss : List Said) (xs : List Item) → Says (else_said other (nodes_said other) ++ ended ∷ ss) xs → LeadsElse other ss xs
-else_leads none ih ss xs s =
-    let f = first_said s in
+else-leads : (other : Nodes) → ((ss : List Said) (xs : List Item) → Says (nodes_said other ++ ss) xs → LeadsNodes other ss xs) → (ss : List Said) (xs : List Item) → Says (else_said other (nodes_said other) ++ ended ∷ ss) xs → LeadsElse other ss xs
+else-leads none ih ss xs s =
+    let f = first-said s in
     record { nodes = none; rest = f.rest; closes = λ {ds}. subst (λ ys. Closes ys ds none f.rest ds) (sym f.is) an_end; alike = refl; says_rest = f.says_rest }
-else_leads (then line n ns) ih ss xs s =
-    let f = first_said s in
+else-leads (then line n ns) ih ss xs s =
+    let f = first-said s in
     let l = ih (ended ∷ ss) f.rest f.says_rest in
-    let e = first_said l.says_rest in
+    let e = first-said l.says_rest in
     record {
       nodes = l.nodes;
       rest = e.rest;
@@ -64,50 +64,50 @@ else_leads (then line n ns) ih ss xs s =
       says_rest = e.says_rest;
     }
 
-control_alike : (c : Control) (h : Header) (body other : Nodes) (body' other' : Nodes) → unlined body ≡ unlined body' → unlined other ≡ unlined other' → unlined_node (control_node c h body other) ≡ unlined_node (control_node c h body' other')
-control_alike c h body other body' other' e f = cc
+control-alike : (c : Control) (h : Header) (body other : Nodes) (body' other' : Nodes) → unlined body ≡ unlined body' → unlined other ≡ unlined other' → unlined_node (control_node c h body other) ≡ unlined_node (control_node c h body' other')
+control-alike c h body other body' other' e f = cc
 
-control_leads : (c : Control) (h : Header) (body other : Nodes) → ((ss : List Said) (xs : List Item) → Says (nodes_said body ++ ss) xs → LeadsNodes body ss xs) → ((ss : List Said) (xs : List Item) → Says (nodes_said other ++ ss) xs → LeadsNodes other ss xs)
+control-leads : (c : Control) (h : Header) (body other : Nodes) → ((ss : List Said) (xs : List Item) → Says (nodes_said body ++ ss) xs → LeadsNodes body ss xs) → ((ss : List Said) (xs : List Item) → Says (nodes_said other ++ ss) xs → LeadsNodes other ss xs)
     → (ss : List Said) (xs : List Item) → Says (control_said c h (nodes_said body) (else_said other (nodes_said other)) ++ ss) xs → LeadsNode (control_node c h body other) ss xs
-control_leads c h body other in_body in_other ss xs s =
+control-leads c h body other in_body in_other ss xs s =
     let ends : List Said = else_said other (nodes_said other) in
-    let f = first_said s in
+    let f = first-said s in
     let b = in_body (ends ++ ended ∷ ss) f.rest (subst (λ ts. Says ts f.rest)
     (append_assoc (nodes_said body) (ends ++ ended ∷ []) ss ∙ ap (λ ts. nodes_said body ++ ts) (append_assoc ends (ended ∷ []) ss)) f.says_rest) in
-    let e = else_leads other in_other ss b.rest b.says_rest in
+    let e = else-leads other in_other ss b.rest b.says_rest in
     record {
       line = f.line;
       node = control_node c h b.nodes e.nodes;
       rest = e.rest;
       leads = λ {ms} {zs} {ds} {es} l. subst (λ ys. Leads ys ds (then f.line (control_node c h b.nodes e.nodes) ms) zs es) (sym f.is) (leads_control b.leads e.closes l);
-      alike = control_alike c h b.nodes e.nodes body other b.alike e.alike;
+      alike = control-alike c h b.nodes e.nodes body other b.alike e.alike;
       says_rest = e.says_rest;
     }
 
 mutual
-  node_leads : (n : Node) (ss : List Said) (xs : List Item) → Says (node_said n ++ ss) xs → LeadsNode n ss xs
-  node_leads (text_node bytes) ss xs s =
-      let f = first_text s in
+  node-leads : (n : Node) (ss : List Said) (xs : List Item) → Says (node_said n ++ ss) xs → LeadsNode n ss xs
+  node-leads (text_node bytes) ss xs s =
+      let f = first-text s in
       record { line = f.line; node = text_node bytes; rest = f.rest; leads = λ {ms} {zs} {ds} {es} l. subst (λ ys. Leads ys ds (then f.line (text_node bytes) ms) zs es) (sym f.is) (leads_text l); alike = refl; says_rest = f.says_rest }
-  node_leads (action_node h) ss xs s =
-      let f = first_said s in
+  node-leads (action_node h) ss xs s =
+      let f = first-said s in
       record { line = f.line; node = action_node h; rest = f.rest; leads = λ {ms} {zs} {ds} {es} l. subst (λ ys. Leads ys ds (then f.line (action_node h) ms) zs es) (sym f.is) (leads_action l); alike = refl; says_rest = f.says_rest }
-  node_leads (control_node c h body other) ss xs s = control_leads c h body other (nodes_leads body) (nodes_leads other) ss xs s
-  node_leads break_node ss xs s =
-      let f = first_said s in
+  node-leads (control_node c h body other) ss xs s = control-leads c h body other (nodes-leads body) (nodes-leads other) ss xs s
+  node-leads break_node ss xs s =
+      let f = first-said s in
       record { line = f.line; node = break_node; rest = f.rest; leads = λ {ms} {zs} {ds} {es} l. subst (λ ys. Leads ys ds (then f.line break_node ms) zs es) (sym f.is) (leads_break l); alike = refl; says_rest = f.says_rest }
-  node_leads continue_node ss xs s =
-      let f = first_said s in
+  node-leads continue_node ss xs s =
+      let f = first-said s in
       record { line = f.line; node = continue_node; rest = f.rest; leads = λ {ms} {zs} {ds} {es} l. subst (λ ys. Leads ys ds (then f.line continue_node ms) zs es) (sym f.is) (leads_continue l); alike = refl; says_rest = f.says_rest }
-  node_leads (call_node name given) ss xs s =
-      let f = first_said s in
+  node-leads (call_node name given) ss xs s =
+      let f = first-said s in
       record { line = f.line; node = call_node name given; rest = f.rest; leads = λ {ms} {zs} {ds} {es} l. subst (λ ys. Leads ys ds (then f.line (call_node name given) ms) zs es) (sym f.is) (leads_call l); alike = refl; says_rest = f.says_rest }
 
-  nodes_leads : (ns : Nodes) (ss : List Said) (xs : List Item) → Says (nodes_said ns ++ ss) xs → LeadsNodes ns ss xs
-  nodes_leads none ss xs s = record { nodes = none; rest = xs; leads = nothing; alike = refl; says_rest = s }
-  nodes_leads (then line n ns) ss xs s =
-      let f = node_leads n (nodes_said ns ++ ss) xs (subst (λ ts. Says ts xs) (append_assoc (node_said n) (nodes_said ns) ss) s) in
-      let m = nodes_leads ns ss f.rest f.says_rest in
+  nodes-leads : (ns : Nodes) (ss : List Said) (xs : List Item) → Says (nodes_said ns ++ ss) xs → LeadsNodes ns ss xs
+  nodes-leads none ss xs s = record { nodes = none; rest = xs; leads = nothing; alike = refl; says_rest = s }
+  nodes-leads (then line n ns) ss xs s =
+      let f = node-leads n (nodes_said ns ++ ss) xs (subst (λ ts. Says ts xs) (append_assoc (node_said n) (nodes_said ns) ss) s) in
+      let m = nodes-leads ns ss f.rest f.says_rest in
       let e = f.alike in
       let g = m.alike in
       record { nodes = then f.line f.node m.nodes; rest = m.rest; leads = f.leads m.leads; alike = ap (λ x. then 0 x (unlined m.nodes)) e ∙ ap (then 0 (unlined_node n)) g; says_rest = m.says_rest }
@@ -121,17 +121,17 @@ record SetSpelled (ds : List Definition) (xs : List Item) : Type 0 where
   alike : unlined_all definitions ≡ unlined_all ds
   newlines : unlined own ≡ newline_nodes ds
 
-none_said : {xs : List Item} → Says [] xs → xs ≡ []
-none_said says_nothing = refl
+none-said : {xs : List Item} → Says [] xs → xs ≡ []
+none-said says_nothing = refl
 
-set_leads : (ds : List Definition) (xs : List Item) → Says (set_said ds) xs → SetSpelled ds xs
-set_leads [] xs s = record { definitions = []; own = none; spells = subst (λ ys. Leads ys [] none [] []) (sym (none_said s)) nothing; alike = refl; newlines = refl }
-set_leads (d ∷ ds) xs s =
-    let f = first_said s in
-    let b = nodes_leads d.1 (ended ∷ said_text (10 ∷ []) ∷ set_said ds) f.rest f.says_rest in
-    let e = first_said b.says_rest in
-    let n = first_text e.says_rest in
-    let more = set_leads ds n.rest n.says_rest in
+set-leads : (ds : List Definition) (xs : List Item) → Says (set_said ds) xs → SetSpelled ds xs
+set-leads [] xs s = record { definitions = []; own = none; spells = subst (λ ys. Leads ys [] none [] []) (sym (none-said s)) nothing; alike = refl; newlines = refl }
+set-leads (d ∷ ds) xs s =
+    let f = first-said s in
+    let b = nodes-leads d.1 (ended ∷ said_text (10 ∷ []) ∷ set_said ds) f.rest f.says_rest in
+    let e = first-said b.says_rest in
+    let n = first-text e.says_rest in
+    let more = set-leads ds n.rest n.says_rest in
     let own : Nodes = then n.line (text_node (10 ∷ [])) more.own in
     record {
       definitions = (d.0, b.nodes) ∷ more.definitions;
@@ -150,16 +150,16 @@ said-append [] ts h k = k
 said-append (said_text t ∷ ss) ts h k = (h.0, said-append ss ts h.1 k)
 said-append (said a ∷ ss) ts h k = (h.0, said-append ss ts h.1 k)
 
-set_is_said : (ds : List Definition) → ArePrintable ds → AreSaid (set_said ds)
-set_is_said [] h = tt
-set_is_said (d ∷ ds) h = (h.0, said-append (nodes_said d.1) (ended ∷ said_text (10 ∷ []) ∷ set_said ds) h.1 (tt, (record { some = omega Rattle.std.proofs.Common.arith; clear = refl }, set_is_said ds h.2)))
+set-is-said : (ds : List Definition) → ArePrintable ds → AreSaid (set_said ds)
+set-is-said [] h = tt
+set-is-said (d ∷ ds) h = (h.0, said-append (nodes_said d.1) (ended ∷ said_text (10 ∷ []) ∷ set_said ds) h.1 (tt, (record { some = omega Rattle.std.proofs.Common.arith; clear = refl }, set-is-said ds h.2)))
 
-pub set_reads_same : SetReadsSame
-set_reads_same ds h =
-    let are = set_is_said ds h in
-    let c = cut_back (map part_of (set_said ds)) (are_parts (set_said ds) are) [] refl 1 in
-    let i = items_said (set_said ds) c.pieces are c.same in
-    let s = set_leads ds i.items i.say in
+pub set-reads-same : SetReadsSame
+set-reads-same ds h =
+    let are = set-is-said ds h in
+    let c = cut_back (map part_of (set_said ds)) (are-parts (set_said ds) are) [] refl 1 in
+    let i = items-said (set_said ds) c.pieces are c.same in
+    let s = set-leads ds i.items i.say in
     record {
       items = i.items;
       has = record { pieces = c.pieces; cut = c.cuts; read = i.are };

@@ -32,7 +32,8 @@ pub data IsItem : Piece → Item → Type 0 where
       → ((a : Action) → SpellsAction a ts → ⊥) → IsItem (action line ts) (item line unread_item)
   -- tokens that spell one whose parentheses nest too deep
   too_deep : {line : ℕ} {ts : List Token} {s : Shape} (a : Action)
-      → SpellsAction a ts → shape_of a ≡ Some s → most_deep < depth_of a → IsItem (action line ts) (item line (deep_item s))
+      → SpellsAction a ts → shape_of a ≡ Some s → most_deep < depth_of a
+      → IsItem (action line ts) (item line (deep_item s))
   -- tokens that spell one within the limit
   read : {line : ℕ} {ts : List Token} {a : Action}
       → SpellsAction a ts → depth_of a ≤ most_deep → IsItem (action line ts) (item line (action_item a))

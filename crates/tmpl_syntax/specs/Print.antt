@@ -1,6 +1,5 @@
 pub mod Join
 pub mod Laws
-pub mod Parts
 pub mod Printable
 pub mod Printed
 pub mod WholeTree

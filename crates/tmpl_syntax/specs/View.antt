@@ -3,8 +3,10 @@ use Rattle.std.specs.Prelude.{ℕ, List, Vec, map, reverse}
 use Rattle.std.specs.Borrow.{Bor}
 use Rattle.std.specs.declared.alloc.Global.{Global}
 use Rattle.tmpl_grammar.specs.View.{action_of, header_of}
-use Rattle.tmpl_syntax.specs.Tree.{NodeKind, text, action, control_node, break_node, continue_node, Nodes, Node, nodes_of, Tree}
-use Rattle.tmpl_syntax.specs.Item.{ItemKind, text_item, unreadable_item, unread_item, deep_item, action_item, Item, item}
+use Rattle.tmpl_syntax.specs.Tree.{NodeKind, text, action, control_node, break_node, continue_node, Nodes, Node}
+use Rattle.tmpl_syntax.specs.Tree.{nodes_of, Tree}
+use Rattle.tmpl_syntax.specs.Item.{ItemKind, text_item, unreadable_item, unread_item, deep_item, action_item, Item}
+use Rattle.tmpl_syntax.specs.Item.{item}
 use Rattle.tmpl_syntax.specs.Set.{Template}
 use Rattle.tmpl_syntax.specs.Place.Role.{Name}
 use Rattle.tmpl_syntax.specs.computed.Build as build

@@ -34,7 +34,7 @@ fn is_blank_node(node: &Node) -> bool
     }
 }
 
-/// Whether the bytes are white space.
+/// Whether each byte is white space.
 fn is_white(bytes: &[u8]) -> bool
     ensures { result ≡ list_all token.is_space bytes.now }
 {

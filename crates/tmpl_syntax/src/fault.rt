@@ -1,7 +1,6 @@
 //! Why a file is refused.
 ghost use Rattle.std.specs.Prelude.{◌≡◌};
-ghost use Rattle.tmpl_syntax.specs.Fault.{out_of_memory};
-ghost use Rattle.tmpl_syntax.specs.Fault.{parse_kind};
+ghost use Rattle.tmpl_syntax.specs.Fault.{out_of_memory, parse_kind};
 
 use std::alloc::AllocError;
 
@@ -48,6 +47,7 @@ pub(crate) enum Fault {
 }
 
 impl Fault {
+    /// The kind of the refusal that this fault makes.
     pub(crate) fn kind(self) -> ParseKind
         ensures { result ≡ parse_kind self }
     {

@@ -1,5 +1,6 @@
 //! Laws of the definitions that the contracts speak of.
-ghost use Rattle.tmpl_syntax.specs.Laws.{HasItemsOf, HasNoOtherItems, HasVerdict, HasOneVerdict, SpellsWhereFine, SpellsAtMostOne};
+ghost use Rattle.tmpl_syntax.specs.Laws.{HasItemsOf, HasNoOtherItems, HasVerdict, HasOneVerdict};
+ghost use Rattle.tmpl_syntax.specs.Laws.{SpellsWhereFine, SpellsAtMostOne};
 ghost use Rattle.tmpl_syntax.specs.Print.Join.{CutsBack};
 ghost use Rattle.tmpl_syntax.specs.Print.Laws.{AcceptsBack, KeepsPrintable, ReadsSame};
 ghost use Rattle.tmpl_syntax.specs.Print.WholeTree.{SetKeeps, SetReadsSame};

@@ -1,8 +1,7 @@
 //! The set of templates.
 ghost use Rattle.std.specs.Prelude.{◌≡◌, ◌&&◌, [], OnOk, OnErr, is_some, map, option_map};
 ghost use Rattle.std.specs.Iterator.{YieldsFirstRef, item_count};
-ghost use Rattle.tmpl_syntax.specs.View.{tree_of};
-ghost use Rattle.tmpl_syntax.specs.View.{set_view, names_left};
+ghost use Rattle.tmpl_syntax.specs.View.{set_view, names_left, tree_of};
 ghost use Rattle.tmpl_syntax.specs.Set.{defined, is_blank, tree_named};
 
 use crate::blank::is_blank;

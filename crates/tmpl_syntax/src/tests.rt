@@ -6,10 +6,12 @@ use std::alloc::{AllocError, Global};
 use std::test::Fail;
 use tmpl_values::Bytes;
 
+/// The bytes as a text, or that they are none.
 fn text(bytes: &[u8]) -> &str {
     std::str::from_utf8(bytes).unwrap_or("not UTF-8")
 }
 
+/// Each name behind a dot.
 fn names_shown(alloc: Global, names: &[Bytes]) -> Result<String, AllocError> {
     let mut all = String::new(alloc);
     for name in names {
@@ -45,7 +47,7 @@ fn operand_shown(alloc: Global, operand: &Operand) -> Result<String, AllocError>
     })
 }
 
-// Operands behind a space, commands parted by bars.
+/// Operands behind a space, commands parted by bars.
 #[cycle(shown)]
 fn commands_shown(alloc: Global, commands: &[Command]) -> Result<String, AllocError> {
     let mut all = String::new(alloc);
@@ -65,7 +67,7 @@ fn pipeline_shown(alloc: Global, pipeline: &Pipeline) -> Result<String, AllocErr
     commands_shown(alloc, pipeline.commands.as_slice())
 }
 
-// `[LINE TEXT]` for a text, `(LINE COMMANDS)` for an action.
+/// `[LINE TEXT]` for a text, `(LINE COMMANDS)` for an action.
 fn shown(alloc: Global, tree: &Tree) -> Result<String, AllocError> {
     let mut all = String::new(alloc);
     for node in &tree.nodes {
@@ -86,7 +88,7 @@ fn shown(alloc: Global, tree: &Tree) -> Result<String, AllocError> {
     Ok(all)
 }
 
-// The templates of a set, each by its name, its file and its nodes.
+/// The templates of a set, each by its name, its file and its nodes.
 pub(crate) fn templates(alloc: Global, set: &Set) -> Result<String, AllocError> {
     let mut all = String::new(alloc);
     for name in set.names() {

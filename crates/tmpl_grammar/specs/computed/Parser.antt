@@ -1,5 +1,6 @@
 -- A parser of pipelines: the pipelines that are read in part, and what each further token makes of them.
-use Rattle.std.specs.Prelude.{ℕ, Bool, true, false, List, [], ◌∷◌, ◌++◌, nat_le, Option, Some, None, option_map, option_and_then}
+use Rattle.std.specs.Prelude.{ℕ, Bool, true, false, List, [], ◌∷◌, ◌++◌, nat_le, Option, Some, None, option_map}
+use Rattle.std.specs.Prelude.{option_and_then}
 use Rattle.tmpl_lex.specs.declared.piece.TokenKind.{TokenKind}
 use Rattle.tmpl_lex.specs.declared.piece.TokenKind.TheVariants as kind
 use Rattle.tmpl_lex.specs.Piece.{Token}
@@ -43,7 +44,11 @@ closed h = more_commands h.inner.commands (settled h.last h.inner.operands)
 
 -- behind white space
 abbrev pub apart : Parser → Parser
-apart h = record { outer = h.outer; inner = record { commands = h.inner.commands; operands = settled h.last h.inner.operands }; last = None }
+apart h = record {
+  outer = h.outer;
+  inner = record { commands = h.inner.commands; operands = settled h.last h.inner.operands };
+  last = None;
+}
 
 -- behind a bar
 abbrev pub barred : Parser → List Operands → Parser

@@ -27,6 +27,7 @@ pub(crate) fn whole(bytes: &[u8]) -> Option<i64>
     }
 }
 
+/// The magnitude with its sign, if there is one and the number has 64 bits.
 fn signed(is_negative: bool, magnitude: Option<u64>) -> Option<i64>
     ensures { result ≡ option_and_then (spec.signed is_negative) magnitude }
 {
@@ -38,6 +39,7 @@ fn signed(is_negative: bool, magnitude: Option<u64>) -> Option<i64>
     }
 }
 
+/// The negative number of this magnitude, if it has 64 bits.
 fn negative(n: u64) -> Option<i64>
     ensures { result ≡ spec.signed true n }
 {
@@ -50,6 +52,7 @@ fn negative(n: u64) -> Option<i64>
     }
 }
 
+/// The positive number of this magnitude, if it has 64 bits.
 fn positive(n: u64) -> Option<i64>
     ensures { result ≡ spec.signed false n }
 {
@@ -67,6 +70,7 @@ fn magnitude(bytes: &[u8]) -> Option<u64>
     }
 }
 
+/// The number that a zero and these bytes behind it spell, if it is at most 2^63.
 fn behind_zero(bytes: &[u8]) -> Option<u64>
     ensures { result ≡ within (spec.behind_zero bytes.now) }
 {
@@ -92,6 +96,7 @@ fn base_named(letter: u8) -> Option<u32>
     }
 }
 
+/// The number that digits write, of which there is at least one.
 fn some_number(base: u32, bytes: &[u8]) -> Option<u64>
     requires low { 2 ≤ base }
     requires high { base ≤ 16 }
@@ -164,6 +169,7 @@ pub(crate) fn number_in(base: u32, digits: &[u8]) -> Option<u64>
     }
 }
 
+/// Whether all bytes are digits in a base.
 fn are_digits(base: u32, bytes: &[u8]) -> bool
     requires low { 2 ≤ base }
     requires high { base ≤ 16 }

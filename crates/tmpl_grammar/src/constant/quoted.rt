@@ -1,6 +1,7 @@
 //! What stands between quotes: strings, raw strings and characters ("String literals" and "Rune
 //! literals" in the specification of Go's language).
-ghost use Rattle.std.specs.Prelude.{◌≡◌, ◌≤◌, ◌<◌, ◌^◌, ◌+◌, ◌++◌, ◌∷◌, IfOk, IfSome, OnOk, length, option_and_then, option_map};
+ghost use Rattle.std.specs.Prelude.{◌≡◌, ◌≤◌, ◌<◌, ◌^◌, ◌+◌, ◌++◌, ◌∷◌};
+ghost use Rattle.std.specs.Prelude.{IfOk, IfSome, OnOk, length, option_and_then, option_map};
 ghost use Rattle.tmpl_values.specs.Rune.{first_rune};
 ghost use Rattle.tmpl_grammar.specs.Constant.Integer as numeral;
 ghost use Rattle.tmpl_grammar.specs.Constant.Quoted as spec;
@@ -70,6 +71,7 @@ pub(crate) fn rune_code(quote: u8, bytes: &[u8]) -> Option<u32>
 }
 
 impl Part {
+    /// Puts it behind a text, a character by its UTF-8.
     fn add_to(self, text: &mut Vec<u8>) -> Result<(), AllocError>
         ensures { OnOk result (text.new.items ≡ text.old.items ++ spec.part_text self) }
     {
@@ -82,6 +84,7 @@ impl Part {
         }
     }
 
+    /// The value of the byte, or the code of the character.
     fn code(self) -> u32
         ensures { result ≡ spec.part_code self }
     {
@@ -188,6 +191,7 @@ fn char_of(count: usize, bytes: &[u8]) -> Option<Spelled>
     as_char(count + 2, code(16, count, bytes)?)
 }
 
+/// The byte of this value, if there is one, and by how many bytes it is spelled.
 fn as_byte(len: usize, n: u64) -> Option<Spelled>
     ensures value { result ≡ spec.as_byte len n }
     ensures within { IfSome result (λ p. p.1 ≡ len) }
@@ -198,6 +202,7 @@ fn as_byte(len: usize, n: u64) -> Option<Spelled>
     }
 }
 
+/// The character of this code, if there is one, and by how many bytes it is spelled.
 fn as_char(len: usize, n: u64) -> Option<Spelled>
     ensures value { result ≡ spec.as_char len n }
     ensures within { IfSome result (λ p. p.1 ≡ len) }

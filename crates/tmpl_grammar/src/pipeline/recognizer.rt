@@ -64,6 +64,7 @@ impl Position {
         }
     }
 
+    /// The position behind white space.
     fn spaced(self) -> Position
         ensures { result ≡ spec.spaced self }
     {
@@ -107,6 +108,7 @@ impl Recognizer {
         }
     }
 
+    /// The same parentheses, at this position.
     fn at(self, position: Position) -> Recognizer
         ensures { result ≡ spec.at self position }
     {
@@ -116,6 +118,7 @@ impl Recognizer {
         }
     }
 
+    /// The recognizer behind `|`.
     fn barred(self) -> Option<Recognizer>
         ensures { result ≡ spec.barred (spec.has_operand self.position) self }
     {
@@ -126,6 +129,7 @@ impl Recognizer {
         }
     }
 
+    /// The recognizer behind `(`.
     fn opened(self) -> Option<Recognizer>
         requires { self.depth + 1 < 2 ^ 64 }
         ensures { result ≡ spec.opened (spec.may_open self.position) self }
@@ -140,6 +144,7 @@ impl Recognizer {
         }
     }
 
+    /// The recognizer behind `)`.
     fn left(self) -> Option<Recognizer>
         ensures { result ≡ spec.left (spec.has_operand self.position) self.depth }
     {
@@ -153,6 +158,7 @@ impl Recognizer {
         }
     }
 
+    /// The recognizer behind a token that is this operand, or none.
     fn placed(self, operand: Option<Operand>) -> Option<Recognizer>
         ensures { result ≡ spec.placed (option_map operand_of operand) self }
     {
@@ -168,6 +174,7 @@ impl Recognizer {
         }
     }
 
+    /// The recognizer behind a field, which continues a chain or is an operand of its own.
     fn fielded(self, alloc: Global, token: &Token<'_>) -> Result<Option<Recognizer>, AllocError>
         ensures { IfOk result (λ o. o ≡ spec.fielded self.position (token_of token.now) self) }
     {
@@ -181,6 +188,7 @@ impl Recognizer {
         }
     }
 
+    /// Whether the pipeline may end here.
     fn ends(self) -> bool
         ensures { result ≡ spec.ends self }
     {

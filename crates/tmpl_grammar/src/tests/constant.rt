@@ -4,7 +4,7 @@ use std::alloc::{AllocError, Global};
 use std::test::Fail;
 use tmpl_lex::{Token, TokenKind};
 
-// A number as it is, a text in its bytes, and `refused`.
+/// A number as it is, a text in its bytes, and `refused`.
 fn shown(alloc: Global, kind: TokenKind, bytes: &[u8]) -> Result<String, AllocError> {
     match constant(alloc, &Token { kind, bytes })? {
         Some(Operand::Number(n)) => format!(in alloc; "{n}"),

@@ -74,8 +74,10 @@ AreParts (an_action ts ∷ ps) = IsInside ts × AreParts ps
 -- the parts are these pieces, at some lines
 pub data SamePieces : List Part → List Piece → Type 0 where
   no_piece : SamePieces [] []
-  same_text : {line : ℕ} {t : List ℕ} {ps : List Part} {qs : List Piece} → SamePieces ps qs → SamePieces (a_text t ∷ ps) (text line t ∷ qs)
-  same_action : {line : ℕ} {ts : List Token} {ps : List Part} {qs : List Piece} → SamePieces ps qs → SamePieces (an_action ts ∷ ps) (action line ts ∷ qs)
+  same_text : {line : ℕ} {t : List ℕ} {ps : List Part} {qs : List Piece} → SamePieces ps qs
+      → SamePieces (a_text t ∷ ps) (text line t ∷ qs)
+  same_action : {line : ℕ} {ts : List Token} {ps : List Part} {qs : List Piece} → SamePieces ps qs
+      → SamePieces (an_action ts ∷ ps) (action line ts ∷ qs)
 
 -- behind this text, or behind none, which is the empty one
 abbrev pub before_of : List ℕ → Before

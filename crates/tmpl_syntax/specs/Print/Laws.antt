@@ -14,8 +14,10 @@ use Rattle.tmpl_syntax.specs.Print.Printable.{IsPrintable}
 -- the items say this, at some lines
 pub data Says : List Said → List Item → Type 0 where
   says_nothing : Says [] []
-  says_text : {line : ℕ} {t : List ℕ} {ss : List Said} {xs : List Item} → Says ss xs → Says (said_text t ∷ ss) (item line (text_item t) ∷ xs)
-  says : {line : ℕ} {a : Action} {ss : List Said} {xs : List Item} → Says ss xs → Says (said a ∷ ss) (item line (action_item a) ∷ xs)
+  says_text : {line : ℕ} {t : List ℕ} {ss : List Said} {xs : List Item} → Says ss xs
+      → Says (said_text t ∷ ss) (item line (text_item t) ∷ xs)
+  says : {line : ℕ} {a : Action} {ss : List Said} {xs : List Item} → Says ss xs
+      → Says (said a ∷ ss) (item line (action_item a) ∷ xs)
 
 -- printed nodes are cut into pieces, and these are read as items, which spell the same nodes apart from lines
 pub record ReadBack (ns : Nodes) : Type 0 where
@@ -31,11 +33,15 @@ ReadsSame = (ns : Nodes) → IsPrintable ns → ReadBack ns
 
 -- what a file of bytes spells can be printed
 abbrev pub KeepsPrintable : Type 0
-KeepsPrintable = (bytes : List ℕ) (items : List Item) (ns : Nodes) → AreBytes bytes → HasItems bytes items → Spells items ns → IsPrintable ns
+KeepsPrintable =
+    (bytes : List ℕ) (items : List Item) (ns : Nodes) → AreBytes bytes → HasItems bytes items → Spells items ns
+    → IsPrintable ns
 
 -- items that say what the nodes of an accepted list say are accepted
 abbrev pub AcceptsBack : Type 0
-AcceptsBack = (items : List Item) (ns : Nodes) → Judged (roles_of items) fine → Spells items ns → (read : List Item) → Says (nodes_said ns) read → Judged (roles_of read) fine
+AcceptsBack =
+    (items : List Item) (ns : Nodes) → Judged (roles_of items) fine → Spells items ns → (read : List Item)
+    → Says (nodes_said ns) read → Judged (roles_of read) fine
 
 -- each tree of a set can be printed
 abbrev pub ArePrintable : List Template → Type 0

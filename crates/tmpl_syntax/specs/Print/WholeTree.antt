@@ -87,11 +87,13 @@ pub data Item : Type 0 where
 
 pub data IsItem : Piece → Item → Type 0 where
   a_text_piece : {line : ℕ} {bytes : List ℕ} → IsItem (text line bytes) (item line (text_item bytes))
-  read : {line : ℕ} {ts : List Token} {a : Action} → SpellsAction a ts → depth_of a ≤ most_deep → IsItem (action line ts) (item line (action_item a))
+  read : {line : ℕ} {ts : List Token} {a : Action} → SpellsAction a ts → depth_of a ≤ most_deep
+      → IsItem (action line ts) (item line (action_item a))
 
 pub data AreItems : List Piece → List Item → Type 0 where
   no_item : AreItems [] []
-  an_item : {p : Piece} {x : Item} {ps : List Piece} {xs : List Item} → IsItem p x → AreItems ps xs → AreItems (p ∷ ps) (x ∷ xs)
+  an_item : {p : Piece} {x : Item} {ps : List Piece} {xs : List Item} → IsItem p x → AreItems ps xs
+      → AreItems (p ∷ ps) (x ∷ xs)
 
 pub record HasItems (bytes : List ℕ) (items : List Item) : Type 0 where
   pub pieces : List Piece
@@ -109,30 +111,43 @@ mutual
     leads_text : {line : ℕ} {bytes : List ℕ} {xs ys : List Item} {ds es : List Definition} {ns : Nodes}
         → Leads xs ds ns ys es → Leads (item line (text_item bytes) ∷ xs) ds (then line (text_node bytes) ns) ys es
     leads_action : {line : ℕ} {h : Header} {xs ys : List Item} {ds es : List Definition} {ns : Nodes}
-        → Leads xs ds ns ys es → Leads (item line (action_item (old (one.pipeline_action h))) ∷ xs) ds (then line (action_node h) ns) ys es
+        → Leads xs ds ns ys es
+        → Leads (item line (action_item (old (one.pipeline_action h))) ∷ xs) ds (then line (action_node h) ns) ys es
     leads_break : {line : ℕ} {xs ys : List Item} {ds es : List Definition} {ns : Nodes}
-        → Leads xs ds ns ys es → Leads (item line (action_item (old one.break_action)) ∷ xs) ds (then line break_node ns) ys es
+        → Leads xs ds ns ys es
+        → Leads (item line (action_item (old one.break_action)) ∷ xs) ds (then line break_node ns) ys es
     leads_continue : {line : ℕ} {xs ys : List Item} {ds es : List Definition} {ns : Nodes}
-        → Leads xs ds ns ys es → Leads (item line (action_item (old one.continue_action)) ∷ xs) ds (then line continue_node ns) ys es
-    leads_control : {line : ℕ} {c : Control} {h : Header} {xs ys zs ws : List Item} {ds es fs gs : List Definition} {body other ns : Nodes}
+        → Leads xs ds ns ys es
+        → Leads (item line (action_item (old one.continue_action)) ∷ xs) ds (then line continue_node ns) ys es
+    leads_control : {line : ℕ} {c : Control} {h : Header} {xs ys zs ws : List Item} {ds es fs gs : List Definition}
+        {body other ns : Nodes}
         → Leads xs ds body ys es → Closes ys es other zs fs → Leads zs fs ns ws gs
-        → Leads (item line (action_item (old (one.opening c h))) ∷ xs) ds (then line (control_node c h body other) ns) ws gs
-    leads_call : {line : ℕ} {name : List ℕ} {given : Option Pipeline} {xs ys : List Item} {ds es : List Definition} {ns : Nodes}
-        → Leads xs ds ns ys es → Leads (item line (action_item (call_action name given)) ∷ xs) ds (then line (call_node name given) ns) ys es
+        → Leads (item line (action_item (old (one.opening c h))) ∷ xs) ds
+        (then line (control_node c h body other) ns) ws gs
+    leads_call : {line : ℕ} {name : List ℕ} {given : Option Pipeline} {xs ys : List Item} {ds es : List Definition}
+        {ns : Nodes}
+        → Leads xs ds ns ys es
+        → Leads (item line (action_item (call_action name given)) ∷ xs) ds (then line (call_node name given) ns) ys es
     -- a definition is no node, and a block is a call; the body of each is a definition, before those inside it
     leads_define : {line last : ℕ} {name : List ℕ} {xs ys zs : List Item} {ds es fs : List Definition} {body ns : Nodes}
-        → Leads xs ds body (ending last ∷ ys) es → Leads ys es ns zs fs → Leads (item line (action_item (define_action name)) ∷ xs) ((name, body) ∷ ds) ns zs fs
-    leads_block : {line last : ℕ} {name : List ℕ} {p : Pipeline} {xs ys zs : List Item} {ds es fs : List Definition} {body ns : Nodes}
         → Leads xs ds body (ending last ∷ ys) es → Leads ys es ns zs fs
-        → Leads (item line (action_item (block_action name p)) ∷ xs) ((name, body) ∷ ds) (then line (call_node name (Some p)) ns) zs fs
+        → Leads (item line (action_item (define_action name)) ∷ xs) ((name, body) ∷ ds) ns zs fs
+    leads_block : {line last : ℕ} {name : List ℕ} {p : Pipeline} {xs ys zs : List Item} {ds es fs : List Definition}
+        {body ns : Nodes}
+        → Leads xs ds body (ending last ∷ ys) es → Leads ys es ns zs fs
+        → Leads (item line (action_item (block_action name p)) ∷ xs) ((name, body) ∷ ds)
+        (then line (call_node name (Some p)) ns) zs fs
 
   pub data Closes : List Item → List Definition → Nodes → List Item → List Definition → Type 0 where
     an_end : {line : ℕ} {xs : List Item} {ds : List Definition} → Closes (ending line ∷ xs) ds none xs ds
     an_else : {line last : ℕ} {xs ys : List Item} {ds es : List Definition} {other : Nodes}
-        → Leads xs ds other (ending last ∷ ys) es → Closes (item line (action_item (old one.plain_else)) ∷ xs) ds other ys es
-    an_else_if : {line : ℕ} {branch : Branch} {h : Header} {xs ys zs : List Item} {ds es fs : List Definition} {body other : Nodes}
+        → Leads xs ds other (ending last ∷ ys) es
+        → Closes (item line (action_item (old one.plain_else)) ∷ xs) ds other ys es
+    an_else_if : {line : ℕ} {branch : Branch} {h : Header} {xs ys zs : List Item} {ds es fs : List Definition}
+        {body other : Nodes}
         → Leads xs ds body ys es → Closes ys es other zs fs
-        → Closes (item line (action_item (old (one.else_branch branch h))) ∷ xs) ds (then line (control_node (one.control_in branch) h body other) none) zs fs
+        → Closes (item line (action_item (old (one.else_branch branch h))) ∷ xs) ds
+        (then line (control_node (one.control_in branch) h body other) none) zs fs
 
 -- the items of a file spell these definitions, and the nodes of its own template
 abbrev pub Spells : List Item → List Definition → Nodes → Type 0
@@ -231,8 +246,10 @@ ArePrintable (d ∷ ds) = AreBytes d.0 × AreSaid (nodes_said d.1) × ArePrintab
 
 pub data Says : List Said → List Item → Type 0 where
   says_nothing : Says [] []
-  says_text : {line : ℕ} {t : List ℕ} {ss : List Said} {xs : List Item} → Says ss xs → Says (said_text t ∷ ss) (item line (text_item t) ∷ xs)
-  says : {line : ℕ} {a : Action} {ss : List Said} {xs : List Item} → Says ss xs → Says (said a ∷ ss) (item line (action_item a) ∷ xs)
+  says_text : {line : ℕ} {t : List ℕ} {ss : List Said} {xs : List Item} → Says ss xs
+      → Says (said_text t ∷ ss) (item line (text_item t) ∷ xs)
+  says : {line : ℕ} {a : Action} {ss : List Said} {xs : List Item} → Says ss xs
+      → Says (said a ∷ ss) (item line (action_item a) ∷ xs)
 
 -- the same names with the same nodes in the same order, apart from lines
 abbrev pub unlined_all : List Definition → List Definition
@@ -259,4 +276,6 @@ SetReadsSame = (ds : List Definition) → ArePrintable ds → SetBack ds
 
 -- what a file of bytes spells can be printed: its definitions, and the nodes of its own template
 abbrev pub SetKeeps : Type 0
-SetKeeps = (bytes : List ℕ) (items : List Item) (ds : List Definition) (own : Nodes) → AreBytes bytes → HasItems bytes items → Spells items ds own → ArePrintable ds × AreSaid (nodes_said own)
+SetKeeps =
+    (bytes : List ℕ) (items : List Item) (ds : List Definition) (own : Nodes) → AreBytes bytes → HasItems bytes items
+    → Spells items ds own → ArePrintable ds × AreSaid (nodes_said own)

@@ -1,5 +1,7 @@
--- The verdict in one pass: what stands at a place is a stack of frames, the newest first, and the names declared so far.
-use Rattle.std.specs.Prelude.{ℕ, ◌+◌, Bool, true, false, not, ◌&&◌, ◌||◌, leb, List, [], ◌∷◌, ◌++◌, length, take, Option, Some, None}
+-- The verdict in one pass: what stands at a place is a stack of frames, the newest first, and the names that were
+-- declared so far.
+use Rattle.std.specs.Prelude.{ℕ, ◌+◌, Bool, true, false, not, ◌&&◌, ◌||◌, leb, List, [], ◌∷◌, ◌++◌, length, take}
+use Rattle.std.specs.Prelude.{Option, Some, None}
 use Rattle.std.specs.List.{list_any, list_all}
 use Rattle.std.specs.Str.{bytes_eq}
 use Rattle.tmpl_grammar.specs.declared.action.Branch.{Branch}
@@ -7,8 +9,10 @@ use Rattle.tmpl_grammar.specs.declared.tree.Control.{Control}
 use Rattle.tmpl_grammar.specs.declared.tree.Control.TheVariants.{If, With, Range}
 use Rattle.tmpl_syntax.specs.declared.place.frame.Frame.{Frame}
 use Rattle.tmpl_syntax.specs.declared.fault.Fault.{Fault}
-use Rattle.tmpl_syntax.specs.declared.fault.Fault.TheVariants.{Unreadable, NotAnAction, OutOfPlace, NestedTooDeeply, UndeclaredVariable}
-use Rattle.tmpl_syntax.specs.Place.Role.{Name, Names, Act, plain, opener, bare_else, branch_else, closer, jump, Role, text_role, unreadable_role, unread_role, act_role}
+use Rattle.tmpl_syntax.specs.declared.fault.Fault.TheVariants.{Unreadable, NotAnAction, OutOfPlace, NestedTooDeeply}
+use Rattle.tmpl_syntax.specs.declared.fault.Fault.TheVariants.{UndeclaredVariable}
+use Rattle.tmpl_syntax.specs.Place.Role.{Name, Names, Act, plain, opener, bare_else, branch_else, closer, jump, Role}
+use Rattle.tmpl_syntax.specs.Place.Role.{text_role, unreadable_role, unread_role, act_role}
 use Rattle.tmpl_syntax.specs.Place.Open.{is_template}
 use Rattle.tmpl_syntax.specs.Place.Body.{joins, names_in, opens_level, most_levels, Verdict, fine, refused, left_open}
 
@@ -62,7 +66,8 @@ is_nested (Some p) = p.nested
 abbrev pub is_too_deep : Act → Option Frame → Bool
 is_too_deep a t = is_nested (names_in a) || (opens_level a && leb most_levels (levels t))
 
--- of the names before an action, those that it sees: an else or else if ends the part before it, and an `end` the control
+-- of the names before an action, those that it sees: an else or else if ends the part before it, and an `end` the
+-- control
 abbrev pub names_at : Act → Option Frame → List Name → List Name
 names_at (plain p) t names = names
 names_at (opener c p) t names = names

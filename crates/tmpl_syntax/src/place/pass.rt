@@ -6,7 +6,9 @@ ghost use Rattle.tmpl_syntax.specs.Place.Role as role;
 ghost use Rattle.tmpl_syntax.specs.Place.Role.{act_of, act_of_shape, names_of, role_of};
 ghost use Rattle.tmpl_syntax.specs.Place.Body as body;
 ghost use Rattle.tmpl_syntax.specs.computed.Frames as spec;
-ghost use Rattle.tmpl_syntax.specs.computed.Frames.{added, added_by, branched_all, elsed_all, entered, fault_at, frames_after, frames_past, heading, is_too_deep, levels, names_at, seen_at, top};
+ghost use Rattle.tmpl_syntax.specs.computed.Frames.{added, added_by, fault_at, heading, is_too_deep, levels, names_at};
+ghost use Rattle.tmpl_syntax.specs.computed.Frames.{branched_all, elsed_all, entered, frames_after, frames_past};
+ghost use Rattle.tmpl_syntax.specs.computed.Frames.{seen_at, top};
 
 use crate::item::{Item, ItemKind};
 use crate::place::frame::Frame;
@@ -67,7 +69,8 @@ pub(super) fn take_in<'i>(
     requires { fault_at (role_of (item_of item.now)) (top (reverse stack.old.items)) (known_names names.old) ≡ None }
     ensures frames { IfOk result (λ u. reverse stack.new.items
         ≡ frames_past (role_of (item_of item.now)) (reverse stack.old.items) (length (known_names names.old))) }
-    ensures names { IfOk result (λ u. known_names names.new ≡ known_names names.old ++ added_by (role_of (item_of item.now))) }
+    ensures names { IfOk result (λ u. known_names names.new
+        ≡ known_names names.old ++ added_by (role_of (item_of item.now))) }
 {
     match &item.what {
         ItemKind::Action(action) => take_in_action(stack, names, action),
@@ -84,7 +87,8 @@ fn take_in_action<'i>(
     requires { is_too_deep (act_of (action_of action.now)) (top (reverse stack.old.items)) ≡ false }
     ensures frames { IfOk result (λ u. reverse stack.new.items
         ≡ frames_after (act_of (action_of action.now)) (reverse stack.old.items) (length (known_names names.old))) }
-    ensures names { IfOk result (λ u. known_names names.new ≡ known_names names.old ++ added (act_of (action_of action.now))) }
+    ensures names { IfOk result (λ u. known_names names.new
+        ≡ known_names names.old ++ added (act_of (action_of action.now))) }
 {
     match action {
         Action::Pipeline(header) => declare(names, &header.binding),
@@ -101,7 +105,8 @@ fn take_in_action<'i>(
 
 /// Adds the names that a header declares.
 fn declare<'i>(names: &mut KnownNames<'i>, binding: &'i Binding) -> Result<(), AllocError>
-    ensures { IfOk result (λ u. known_names names.new ≡ known_names names.old ++ role.declared_by (binding_of binding.now)) }
+    ensures { IfOk result (λ u. known_names names.new
+        ≡ known_names names.old ++ role.declared_by (binding_of binding.now)) }
 {
     match binding {
         Binding::Declare(name) => names.push(name.as_slice()),
@@ -122,7 +127,8 @@ fn enter<'i>(
 ) -> Result<(), AllocError>
     requires { levels (top (reverse stack.old.items)) < body.most_levels }
     ensures frames { let h = names_of (header_of header.now) in IfOk result (λ u. reverse stack.new.items
-        ≡ entered control h (top (reverse stack.old.items)) (length (known_names names.old)) ∷ reverse stack.old.items) }
+        ≡ entered control h (top (reverse stack.old.items)) (length (known_names names.old))
+        ∷ reverse stack.old.items) }
     ensures names { let h = names_of (header_of header.now) in IfOk result (λ u. known_names names.new
         ≡ known_names names.old ++ heading control h.declares) }
 {
@@ -171,8 +177,10 @@ fn pass_branch<'i>(
 ) -> Result<(), AllocError>
     requires { levels (top (reverse stack.old.items)) < body.most_levels }
     ensures frames { IfOk result (λ u. reverse stack.new.items
-        ≡ branched_all (length (known_names names.old) + length (role.declared_by (binding_of binding.now))) (reverse stack.old.items)) }
-    ensures names { IfOk result (λ u. known_names names.new ≡ known_names names.old ++ role.declared_by (binding_of binding.now)) }
+        ≡ branched_all (length (known_names names.old) + length (role.declared_by (binding_of binding.now)))
+        (reverse stack.old.items)) }
+    ensures names { IfOk result (λ u. known_names names.new
+        ≡ known_names names.old ++ role.declared_by (binding_of binding.now)) }
 {
     declare(names, binding)?;
     if let Some(frame) = stack.pop() {

@@ -5,7 +5,8 @@ ghost use Rattle.tmpl_syntax.specs.View.{item_of, known_names};
 ghost use Rattle.tmpl_syntax.specs.Place.Role as role;
 ghost use Rattle.tmpl_syntax.specs.Place.Role.{act_of, act_of_shape, role_of};
 ghost use Rattle.tmpl_syntax.specs.Place.Body as body;
-ghost use Rattle.tmpl_syntax.specs.computed.Frames.{fault_at, fault_in, in_loop, is_placed, is_too_deep, levels, takes_branch, takes_else};
+ghost use Rattle.tmpl_syntax.specs.computed.Frames.{fault_at, fault_in, in_loop, is_placed, is_too_deep, levels};
+ghost use Rattle.tmpl_syntax.specs.computed.Frames.{takes_branch, takes_else};
 
 use crate::fault::Fault;
 use crate::item::{Item, ItemKind};
@@ -134,6 +135,7 @@ fn is_deep(action: &Action, outside: Option<Frame>) -> bool
     adds_level(action) && levels_in(outside) >= MOST_LEVELS
 }
 
+/// Whether an action opens a level.
 fn adds_level(action: &Action) -> bool
     ensures { result ≡ body.opens_level (act_of (action_of action.now)) }
 {

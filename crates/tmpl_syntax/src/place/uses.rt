@@ -1,6 +1,7 @@
 //! Whether the names that an action uses are known.
 ghost use Rattle.std.specs.Prelude.{◌≡◌};
-ghost use Rattle.tmpl_grammar.specs.View.{action_of, binding_of, commands_in, header_of, operand_of, operands_in, pipeline_of};
+ghost use Rattle.tmpl_grammar.specs.View.{action_of, binding_of, header_of, pipeline_of};
+ghost use Rattle.tmpl_grammar.specs.View.{commands_in, operand_of, operands_in};
 ghost use Rattle.tmpl_syntax.specs.View.{known_names};
 ghost use Rattle.tmpl_syntax.specs.Place.Role as role;
 ghost use Rattle.tmpl_syntax.specs.Place.Body as body;
@@ -21,6 +22,7 @@ pub(super) fn knows_its_names(action: &Action, names: &KnownNames<'_>) -> bool
     }
 }
 
+/// Whether each name that a header uses or assigns is known.
 fn knows_header(names: &KnownNames<'_>, header: &Header) -> bool
     ensures { result ≡ knows (known_names names.now) (role.names_of (header_of header.now)).uses }
 {
@@ -37,12 +39,14 @@ fn knows_assigned(names: &KnownNames<'_>, binding: &Binding) -> bool
     }
 }
 
+/// Whether each name that a pipeline uses is known.
 fn knows_pipeline(names: &KnownNames<'_>, pipeline: &Pipeline) -> bool
     ensures { result ≡ knows (known_names names.now) (role.used_by (pipeline_of pipeline.now)) }
 {
     knows_commands(names, pipeline.commands.as_slice())
 }
 
+/// Whether each name that commands use is known.
 #[cycle(knows)]
 fn knows_commands(names: &KnownNames<'_>, commands: &[Command]) -> bool
     ensures { result ≡ knows (known_names names.now) (role.used_by_commands (commands_in commands.now)) }
@@ -55,6 +59,7 @@ fn knows_commands(names: &KnownNames<'_>, commands: &[Command]) -> bool
     true
 }
 
+/// Whether each name that operands use is known.
 #[cycle(knows)]
 fn knows_operands(names: &KnownNames<'_>, operands: &[Operand]) -> bool
     ensures { result ≡ knows (known_names names.now) (role.used_by_operands (operands_in operands.now)) }
@@ -67,6 +72,7 @@ fn knows_operands(names: &KnownNames<'_>, operands: &[Operand]) -> bool
     true
 }
 
+/// Whether each name that an operand uses is known.
 #[cycle(knows)]
 #[tactic(auto, using(tmpl_grammar::proofs::ViewLemmas::group_seen))]
 fn knows_operand(names: &KnownNames<'_>, operand: &Operand) -> bool

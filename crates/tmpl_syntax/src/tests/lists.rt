@@ -10,7 +10,7 @@ use std::test::Fail;
 use tmpl_grammar::{Action, Branch};
 use tmpl_values::Bytes;
 
-// What stands behind the name of an action in a word of a list.
+/// What stands behind the name of an action in a word of a list.
 #[derive(Clone, Copy)]
 enum Behind<'w> {
     Nothing,
@@ -19,6 +19,7 @@ enum Behind<'w> {
     Uses(&'w str),
 }
 
+/// The name of an action in a word, and what stands behind it.
 fn parts(word: &str) -> (&str, Behind<'_>) {
     if let Some((name, rest)) = word.split_once(":") {
         return (name, Behind::Declares(rest));
@@ -36,6 +37,7 @@ fn bytes_of(alloc: Global, text: &str) -> Result<Bytes, AllocError> {
     Ok(Bytes::new(text.as_bytes().to_vec(alloc)?))
 }
 
+/// The binding of an action behind whose name this stands.
 fn binding(alloc: Global, behind: Behind<'_>) -> Result<Binding, AllocError> {
     match behind {
         Behind::Declares(names) => match names.split_once(",") {
@@ -51,6 +53,7 @@ fn binding(alloc: Global, behind: Behind<'_>) -> Result<Binding, AllocError> {
     }
 }
 
+/// Its pipeline: a variable where it uses one, or else dot.
 fn pipeline(alloc: Global, behind: Behind<'_>) -> Result<Pipeline, AllocError> {
     let operand = match behind {
         Behind::Uses(name) => Operand::Variable {
@@ -74,8 +77,8 @@ fn header(alloc: Global, behind: Behind<'_>) -> Result<Header, AllocError> {
     })
 }
 
-// The action of a word: `if`, `with`, `range`, `else`, `elseif`, `end`, `break`, `continue`, or a
-// pipeline where the name is empty or a dot; `:x` declares, `=x` assigns and `$x` uses.
+/// The action of a word: `if`, `with`, `range`, `else`, `elseif`, `end`, `break`, `continue`, or a
+/// pipeline where the name is empty or a dot; `:x` declares, `=x` assigns and `$x` uses.
 fn action(alloc: Global, word: &str) -> Result<Action, AllocError> {
     let (name, behind) = parts(word);
     Ok(match name {
@@ -91,7 +94,7 @@ fn action(alloc: Global, word: &str) -> Result<Action, AllocError> {
     })
 }
 
-// `w` is a text, `!` an unreadable action and `?` one without a reading.
+/// `w` is a text, `!` an unreadable action and `?` one without a reading.
 fn item(alloc: Global, line: u64, word: &str) -> Result<Item<'static>, AllocError> {
     let what = match word {
         "w" => ItemKind::Text(b"w"),
@@ -102,7 +105,7 @@ fn item(alloc: Global, line: u64, word: &str) -> Result<Item<'static>, AllocErro
     Ok(Item { line, what })
 }
 
-// The items of a list of words, each on a line of its own.
+/// The items of a list of words, each on a line of its own.
 fn items(alloc: Global, words: &str) -> Result<Vec<Item<'static>>, AllocError> {
     let mut items = Vec::new(alloc);
     for word in words.split(" ") {
@@ -111,7 +114,7 @@ fn items(alloc: Global, words: &str) -> Result<Vec<Item<'static>>, AllocError> {
     Ok(items)
 }
 
-// So many items of each word, each on a line of its own.
+/// So many items of each word, each on a line of its own.
 fn runs(alloc: Global, words: [(&str, u64); 3]) -> Result<Vec<Item<'static>>, AllocError> {
     let mut items = Vec::new(alloc);
     for (word, count) in words {
@@ -122,7 +125,7 @@ fn runs(alloc: Global, words: [(&str, u64); 3]) -> Result<Vec<Item<'static>>, Al
     Ok(items)
 }
 
-// The items of `OUTER INNER else end else end`, with one more behind the word at this place.
+/// The items of `OUTER INNER else end else end`, with one more behind the word at this place.
 fn with_more(
     alloc: Global,
     outer: &str,
@@ -143,7 +146,7 @@ fn with_more(
     Ok(items)
 }
 
-// The line and the kind of the refusal, which is `None` where there is none; the file has 99 newlines.
+/// The line and the kind of the refusal, which is `None` where there is none; the file has 99 newlines.
 fn refusal(alloc: Global, items: &[Item<'_>]) -> Result<Option<(u64, ParseKind)>, AllocError> {
     match check(alloc, items, &[b'\n'; 99]) {
         Ok(()) => Ok(None),
@@ -373,13 +376,14 @@ fn levels(rt: HostRuntime) -> Result<(), Fail> {
     Ok(())
 }
 
-// What is left to show.
+/// What is left to show.
 #[derive(Clone, Copy)]
 enum Left<'t> {
     Node(&'t Node),
     Mark(&'static str),
 }
 
+/// Leaves nodes to show, the first one next.
 fn add<'t>(left: &mut Vec<Left<'t>>, nodes: &'t [Node]) -> Result<(), AllocError> {
     for node in nodes.iter().rev() {
         left.push(Left::Node(node))?;
@@ -387,6 +391,7 @@ fn add<'t>(left: &mut Vec<Left<'t>>, nodes: &'t [Node]) -> Result<(), AllocError
     Ok(())
 }
 
+/// Leaves the parts of a control to show.
 fn control<'t>(
     left: &mut Vec<Left<'t>>,
     body: &'t [Node],
@@ -398,7 +403,7 @@ fn control<'t>(
     add(left, body)
 }
 
-// The names that a binding declares, behind a `:`, or assigns, behind a `=`.
+/// The names that a binding declares, behind a `:`, or assigns, behind a `=`.
 fn bound(alloc: Global, binding: &Binding) -> Result<String, AllocError> {
     match binding {
         Binding::Unbound => Ok(String::new(alloc)),
@@ -418,7 +423,6 @@ fn bound(alloc: Global, binding: &Binding) -> Result<String, AllocError> {
     }
 }
 
-// What is shown of a node itself; what stands inside it is left to show.
 fn control_name(control: Control) -> &'static str {
     match control {
         Control::If => "if",
@@ -427,6 +431,7 @@ fn control_name(control: Control) -> &'static str {
     }
 }
 
+/// What is shown of a node itself; what stands inside it is left to show.
 fn shown_node<'t>(
     alloc: Global,
     left: &mut Vec<Left<'t>>,
@@ -450,7 +455,7 @@ fn shown_node<'t>(
     }
 }
 
-// The nodes, as `w1 .2 (if3:x BODY|ELSE PART)break4 `.
+/// The nodes, as `w1 .2 (if3:x BODY|ELSE PART)break4 `.
 fn shown(alloc: Global, nodes: &[Node]) -> Result<String, AllocError> {
     let mut all = String::new(alloc);
     let mut left = Vec::new(alloc);

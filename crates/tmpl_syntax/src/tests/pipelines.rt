@@ -112,7 +112,7 @@ fn no_pipelines(rt: HostRuntime) -> Result<(), Fail> {
     Ok(())
 }
 
-// An action that begins so, with so many parentheses around the inside.
+/// An action that begins so, with so many parentheses around the inside.
 fn nested(
     alloc: Global,
     front: &str,

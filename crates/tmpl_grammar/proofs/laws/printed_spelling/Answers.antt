@@ -1,5 +1,5 @@
-use Rattle.tmpl_grammar.proofs.PrintedSpellingLemmas.{spells_tokens}
+use Rattle.tmpl_grammar.proofs.PrintedSpellingLemmas.{spells-tokens}
 use Rattle.tmpl_grammar.proofs.laws.printed_spelling.Goals as goal
 
 pub returns : goal.returns
-returns c = spells_tokens
+returns c = spells-tokens

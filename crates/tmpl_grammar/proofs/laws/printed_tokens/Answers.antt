@@ -1,5 +1,5 @@
-use Rattle.tmpl_grammar.proofs.PrintedTokenLemmas.{action_inside}
+use Rattle.tmpl_grammar.proofs.PrintedTokenLemmas.{action-inside}
 use Rattle.tmpl_grammar.proofs.laws.printed_tokens.Goals as goal
 
 pub returns : goal.returns
-returns c = action_inside
+returns c = action-inside

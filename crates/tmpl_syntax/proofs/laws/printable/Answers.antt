@@ -1,5 +1,5 @@
-use Rattle.tmpl_syntax.proofs.PrintableNodeLemmas.{keeps_printable}
+use Rattle.tmpl_syntax.proofs.PrintableNodeLemmas.{keeps-printable}
 use Rattle.tmpl_syntax.proofs.laws.printable.Goals as goal
 
 pub returns : goal.returns
-returns c = keeps_printable
+returns c = keeps-printable

@@ -22,7 +22,8 @@ pub(super) fn count_in<'i>(
     name: &'i [u8],
 ) -> Result<(), AllocError>
     requires { count_of counts.old name.now < usize.MAX }
-    ensures ok { OnOk result ((q : List ℕ) → count_of counts.new q ≡ count_of counts.old q + one_if (bytes_eq name.now q)) }
+    ensures ok { OnOk result ((q : List ℕ) → count_of counts.new q
+        ≡ count_of counts.old q + one_if (bytes_eq name.now q)) }
     ensures err { OnErr result ((q : List ℕ) → count_of counts.new q ≡ count_of counts.old q) }
 {
     let count = count(counts, name);

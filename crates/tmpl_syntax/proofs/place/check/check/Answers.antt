@@ -5,11 +5,11 @@ use Rattle.tmpl_syntax.specs.declared.fault.ParseKind.TheVariants.{OpenAtEnd}
 use Rattle.tmpl_syntax.specs.View.{item_of}
 use Rattle.tmpl_syntax.specs.Place.Role.{role_of, roles_of}
 use Rattle.tmpl_syntax.specs.View.{known_names}
-use Rattle.tmpl_syntax.proofs.CheckLemmas.{checking_start, checking_past, checking_refused, checking_ended, item-at, mark-at, checked_refused, checked_fine, checked_open}
+use Rattle.tmpl_syntax.proofs.CheckLemmas.{checking-start, checking-past, checking-refused, checking-ended, item-at, role-at, checked-refused, checked-fine, checked-open}
 use Rattle.tmpl_syntax.proofs.place.check.check.Goals as goal
 
 pub loop-item-init : goal.loop-item-init
-loop-item-init c = checking_start (roles_of (map item_of c.args.items.now)) _ _ c.new-names.ensures (ap reverse c.new-stack.ensures.items)
+loop-item-init c = checking-start (roles_of (map item_of c.args.items.now)) _ _ c.new-names.ensures (ap reverse c.new-stack.ensures.items)
 
 pub returns-in-Some : goal.returns-in-Some
 returns-in-Some c =
@@ -17,8 +17,8 @@ returns-in-Some c =
     let i = c.loop-item.item-index in
     let x = c.item-item.result in
     let at = item-at items i x c.loop-item-test.true c.item-item.is in
-    checked_refused c.args.bytes.now (map item_of items) i (item_of x) c.in-Some.fault x.line c.kind.result at
-    (checking_refused (roles_of (map item_of items)) i (known_names c.loop-item.names) (reverse c.loop-item.stack.items) (role_of (item_of x)) (mark-at (map item_of items) i (item_of x) at) c.loop-item.invariant
+    checked-refused c.args.bytes.now (map item_of items) i (item_of x) c.in-Some.fault x.line c.kind.result at
+    (checking-refused (roles_of (map item_of items)) i (known_names c.loop-item.names) (reverse c.loop-item.stack.items) (role_of (item_of x)) (role-at (map item_of items) i (item_of x) at) c.loop-item.invariant
     c.newest-outside.result (known_names c.forget.new.names) c.newest-outside.ensures c.forget.ensures c.in-Some.fault (sym c.in-Some.ensures))
     refl c.kind.ensures
 
@@ -28,7 +28,7 @@ loop-item-preserved c =
     let i = c.loop-item.item-index in
     let x = c.item-item.result in
     let at = item-at items i x c.loop-item-test.true c.item-item.is in
-    checking_past (roles_of (map item_of items)) i (known_names c.loop-item.names) (reverse c.loop-item.stack.items) (role_of (item_of x)) (mark-at (map item_of items) i (item_of x) at) c.loop-item.invariant
+    checking-past (roles_of (map item_of items)) i (known_names c.loop-item.names) (reverse c.loop-item.stack.items) (role_of (item_of x)) (role-at (map item_of items) i (item_of x) at) c.loop-item.invariant
     c.newest-outside.result (known_names c.forget.new.names) c.newest-outside.ensures c.forget.ensures
     _ _ c.in_ok-take_in.ensures.names c.in_ok-take_in.ensures.frames (sym c.in_default.ensures)
 
@@ -37,14 +37,14 @@ returns-then-is_empty c =
     let items = c.args.items.now in
     let none : length c.loop-item.stack.items ≡ 0 = grind (arith, common_steps) in
     let ended : length (roles_of (map item_of items)) ≤ c.loop-item.item-index = omega (arith, length-map (map item_of items) role_of, length-map items item_of) in
-    checked_fine c.args.bytes.now (map item_of items) (reverse c.loop-item.stack.items) (length-reverse c.loop-item.stack.items ∙ none)
-    (checking_ended (roles_of (map item_of items)) c.loop-item.item-index _ _ ended c.loop-item.invariant)
+    checked-fine c.args.bytes.now (map item_of items) (reverse c.loop-item.stack.items) (length-reverse c.loop-item.stack.items ∙ none)
+    (checking-ended (roles_of (map item_of items)) c.loop-item.item-index _ _ ended c.loop-item.invariant)
 
 pub returns : goal.returns
 returns c =
     let items = c.args.items.now in
     let some : length c.loop-item.stack.items ≢ 0 = grind (arith, common_steps) in
     let ended : length (roles_of (map item_of items)) ≤ c.loop-item.item-index = omega (arith, length-map (map item_of items) role_of, length-map items item_of) in
-    checked_open c.args.bytes.now (map item_of items) (reverse c.loop-item.stack.items) (λ e. some (sym (length-reverse c.loop-item.stack.items) ∙ e))
-    (checking_ended (roles_of (map item_of items)) c.loop-item.item-index _ _ ended c.loop-item.invariant)
+    checked-open c.args.bytes.now (map item_of items) (reverse c.loop-item.stack.items) (λ e. some (sym (length-reverse c.loop-item.stack.items) ∙ e))
+    (checking-ended (roles_of (map item_of items)) c.loop-item.item-index _ _ ended c.loop-item.invariant)
     ∙ ap (λ n. Err (n, OpenAtEnd)) (sym c.last_line.ensures)

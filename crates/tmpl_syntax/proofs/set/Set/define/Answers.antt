@@ -7,9 +7,9 @@ use Rattle.tmpl_syntax.specs.Set.{tree_named, is_blank}
 use Rattle.tmpl_syntax.proofs.SetLemmas.{defined-kept, defined-insert}
 use Rattle.tmpl_syntax.proofs.set.Set.define.Goals as goal
 
-on_err : {T E P : Type 0} (r : Result T E) → P → OnErr r P
-on_err (Ok x) h = tt
-on_err (Err e) h = h
+on-err : {T E P : Type 0} (r : Result T E) → P → OnErr r P
+on-err (Ok x) h = tt
+on-err (Err e) h = h
 
 pub returns-then-keeps-clause-ok : goal.returns-then-keeps-clause-ok
 returns-then-keeps-clause-ok c =
@@ -19,7 +19,7 @@ returns-then-keeps-clause-ok c =
 
 pub returns-in_err-insert-clause-err : goal.returns-in_err-insert-clause-err
 unfolding set_view
-returns-in_err-insert-clause-err c = on_err c.from_residual.result (ap (map template_of) c.in_err-insert.ensures.err)
+returns-in_err-insert-clause-err c = on-err c.from_residual.result (ap (map template_of) c.in_err-insert.ensures.err)
 
 pub returns-clause-ok : goal.returns-clause-ok
 unfolding set_view
