@@ -1,7 +1,7 @@
 -- Lines and their pieces, and what is put of them.
 use Rattle.std.proofs.Common.{◌≡◌, ◌∙◌, ◌++◌, ◌+◌, ◌<◌, ℕ, List, [], ◌∷◌, Option, Result, refl, ap, sym, drop, get_or, length, append_assoc, codes, inr}
 use Rattle.std.proofs.lemmas.List.{at_drop_more}
-use Rattle.tmpl_values.proofs.Then.{none}
+use Rattle.tmpl_values.proofs.PutLemmas.{none}
 use Rattle.tmpl_run.specs.Sink.{IsPut, Sunk, Whole, as_puts, sunk}
 use Rattle.tmpl_run.specs.declared.sink.SinkFault.{SinkFault}
 use Rattle.tmpl_run.proofs.PutLemmas.{counts_once, whole_or_cut}

@@ -6,7 +6,7 @@ use Rattle.std.specs.List.{slice_get}
 use Rattle.tmpl_values.specs.Value.{Value}
 use Rattle.tmpl_values.specs.Elements.{Element, elements}
 use Rattle.tmpl_values.specs.Item.{item_at}
-use Rattle.tmpl_values.proofs.Elements.{at, element-at}
+use Rattle.tmpl_values.proofs.ElementLemmas.{at, element-at}
 use Rattle.tmpl_syntax.specs.declared.tree.ControlNode.{ControlNode}
 use Rattle.tmpl_run.specs.Meaning.{Setting, Next, Run, after_turn}
 use Rattle.tmpl.specs.View.{end_seen}

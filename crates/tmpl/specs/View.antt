@@ -4,7 +4,7 @@ use Rattle.std.specs.declared.alloc.Global.{Global}
 use Rattle.tmpl_values.specs.Value.{Value}
 use Rattle.tmpl_values.specs.View.{val_of}
 use Rattle.tmpl_values.specs.declared.value.Cell.{Cell}
-use Rattle.tmpl_funcs.specs.Answer.{values_of}
+use Rattle.tmpl_funcs.specs.View.{values_of}
 use Rattle.tmpl_run.specs.Meaning.{Cause, Setting, Run, End, done, broke, continued, faulted, Ran}
 use Rattle.tmpl_run.specs.Pipeline.{Environment, Given, GivenAll, Place}
 use Rattle.tmpl_run.specs.View.{cause_of, fault_seen, value_seen}

@@ -8,8 +8,8 @@ use Rattle.std.proofs.lemmas.Bool.{and_parts, not-true}
 use Rattle.std.proofs.lemmas.Bool.Decides.{nat_tests}
 use Rattle.tmpl_lex.specs.declared.piece.TokenKind.{TokenKind}
 use Rattle.tmpl_lex.specs.declared.piece.TokenKind.TheVariants as kind
-use Rattle.tmpl_lex.specs.Byte.{is_space, is_name_byte, is_number_byte}
-use Rattle.tmpl_lex.specs.Marker.{closing, ended_by, closes, right_marked, dash_closes}
+use Rattle.tmpl_lex.specs.Bytes.{is_space, is_name_byte, is_number_byte}
+use Rattle.tmpl_lex.specs.Trim.{right_delimiter, ended_by, has_right_delimiter, right_marked, has_dashed_delimiter}
 use Rattle.tmpl_lex.specs.Quoted.{quoted}
 use Rattle.tmpl_lex.specs.Token.{front_of, begun, token_from, name_run, space_run, kept_while, dotted, number, of_kind}
 use Rattle.tmpl_lex.specs.Piece.{Token}
@@ -42,14 +42,14 @@ stops-name (b ∷ rest) e = name-byte-first (is_name_byte b) (nat_eq b 46) e
 
 -- ---- no end
 
-no-closes : (b : ℕ) (bs : List ℕ) → nat_eq b 125 ≡ false → closes (b ∷ bs) ≡ false
+no-closes : (b : ℕ) (bs : List ℕ) → nat_eq b 125 ≡ false → has_right_delimiter (b ∷ bs) ≡ false
 no-closes b [] e = refl
 no-closes b (c ∷ bs) e = ap (λ k. k && nat_eq c 125) e
 
-pub no_end : (b : ℕ) (bs : List ℕ) → nat_eq b 125 ≡ false → is_space b ≡ false → closing (b ∷ bs) ≡ None
+pub no_end : (b : ℕ) (bs : List ℕ) → nat_eq b 125 ≡ false → is_space b ≡ false → right_delimiter (b ∷ bs) ≡ None
 no_end b bs e s =
     ap (λ k. ended_by k (right_marked (b ∷ bs)) (b ∷ bs)) (no-closes b bs e)
-    ∙ ap (λ k. ended_by false (k && dash_closes bs) (b ∷ bs)) s
+    ∙ ap (λ k. ended_by false (k && has_dashed_delimiter bs) (b ∷ bs)) s
 
 abbrev token : TokenKind → List ℕ → Token
 token k bs = record { kind = k; bytes = bs }
@@ -118,8 +118,8 @@ right-front rest = by-first kind.RightParenthesis 41 [] rest refl refl refl
 
 -- ---- a space
 
-solid-dash : {bs : List ℕ} → Solid bs → dash_closes bs ≡ false
-solid-dash (solid {b = b} {bs = bs} w m c e) = ap (λ k. k && closes bs) m
+solid-dash : {bs : List ℕ} → Solid bs → has_dashed_delimiter bs ≡ false
+solid-dash (solid {b = b} {bs = bs} w m c e) = ap (λ k. k && has_right_delimiter bs) m
 solid-dash (minus {d = d} {bs = bs} n) =
     let other : nat_eq d 125 ≡ false = grind (arith, nat_tests) in
     no-closes d bs other
@@ -130,7 +130,7 @@ solid-run (minus n) = refl
 
 pub space-front : (rest : List ℕ) → Solid rest → IsFront (token kind.Space (32 ∷ [])) rest
 space-front rest s = record {
-  no_end = ap (λ k. ended_by k (dash_closes rest) (32 ∷ rest)) (no-closes 32 rest refl) ∙ ap (λ k. ended_by false k (32 ∷ rest)) (solid-dash s);
+  no_end = ap (λ k. ended_by k (has_dashed_delimiter rest) (32 ∷ rest)) (no-closes 32 rest refl) ∙ ap (λ k. ended_by false k (32 ∷ rest)) (solid-dash s);
   front = ap (λ xs. Some (token kind.Space (32 ∷ xs))) (solid-run s);
 }
 

@@ -4,7 +4,8 @@ use Rattle.std.proofs.lemmas.List.{length-map, length-reverse, drop_all}
 use Rattle.std.proofs.lemmas.Bool.{leb-true, le-leb}
 use Rattle.std.proofs.lemmas.Bool.Decides.{leb_tells}
 use Rattle.std.specs.Option.{option_map, option_and_then}
-use Rattle.tmpl_lex.specs.Piece.{Token, token_of}
+use Rattle.tmpl_lex.specs.Piece.{Token}
+use Rattle.tmpl_lex.specs.View.{token_of}
 use Rattle.tmpl_grammar.specs.Token.{is_opening}
 use Rattle.tmpl_grammar.specs.Tree.{Operands, Pipeline}
 use Rattle.tmpl_grammar.specs.computed.Parser.{Parser, step, steps, finished, commands_after, start, goes_beyond}

@@ -2,9 +2,9 @@
 use Rattle.std.proofs.Common.{◌≡◌, ◌∙◌, ℕ, ◌-◌, ◌≤◌, Bool, true, false, cond, List, [], ◌∷◌, ◌++◌, Option, Some, None, refl, sym, ap, subst, length, drop, pos, bytes_eq, codes}
 use Rattle.std.specs.Option.{option_map}
 use lib.IntN.{ℤ}
-use Rattle.tmpl_values.proofs.Runes.{AreBytes}
+use Rattle.tmpl_values.proofs.RuneLemmas.{AreBytes}
 use Rattle.tmpl_funcs.specs.declared.func.Func.{Func}
-use Rattle.tmpl_lex.specs.Named.{IsNamed, OfKind}
+use Rattle.tmpl_lex.specs.Laws.{IsNamed, OfKind}
 use Rattle.tmpl_lex.specs.Piece.{Token}
 use Rattle.tmpl_lex.specs.declared.piece.TokenKind.{TokenKind}
 use Rattle.tmpl_lex.specs.declared.piece.TokenKind.TheVariants as kind

@@ -9,7 +9,7 @@ use Rattle.std.specs.Str.Parse.{IsNumeral, AllDigits, digits_value}
 use Rattle.std.proofs.lemmas.Fmt.{decimal_is_IsNumeral, decimal_digit, first_decimal}
 use Rattle.std.proofs.lemmas.Bool.{and_parts}
 use Rattle.std.proofs.lemmas.Bool.Decides.{nat_tests}
-use Rattle.tmpl_lex.specs.Byte.{is_number_byte}
+use Rattle.tmpl_lex.specs.Bytes.{is_number_byte}
 use Rattle.tmpl_lex.specs.declared.piece.TokenKind.TheVariants as kind
 use Rattle.tmpl_grammar.specs.Constant.Integer.{is_plain, begins_plain, underscores_part, number_in, parted_number, behind_zero, magnitude, signed, whole}
 use Rattle.tmpl_grammar.specs.Print.{IsFront, Solid, solid, minus, token}

@@ -4,7 +4,7 @@ use Rattle.std.specs.Option.{option_map}
 use Rattle.std.proofs.Math.Seq.{take-append_seam}
 use Rattle.tmpl_values.specs.Quote.{quote, inside}
 use Rattle.tmpl_values.specs.Printable.{printable}
-use Rattle.tmpl_values.proofs.Runes.{AreBytes}
+use Rattle.tmpl_values.proofs.RuneLemmas.{AreBytes}
 use Rattle.tmpl_funcs.specs.declared.func.Func.{Func}
 use Rattle.tmpl_funcs.specs.declared.func.Func.TheVariants.{And, Or, Not, Len, Index, Slice, Print, Println, Printf, Html, Urlquery, Eq, Ne, Lt, Le, Gt, Ge}
 use Rattle.tmpl_funcs.specs.Func.{name_of}

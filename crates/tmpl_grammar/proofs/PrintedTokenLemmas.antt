@@ -5,7 +5,7 @@ use Rattle.tmpl_values.specs.Printable.{printable}
 use Rattle.tmpl_funcs.specs.declared.func.Func.{Func}
 use Rattle.tmpl_funcs.specs.declared.func.Func.TheVariants.{And, Or, Not, Len, Index, Slice, Print, Println, Printf, Html, Urlquery, Eq, Ne, Lt, Le, Gt, Ge}
 use Rattle.tmpl_funcs.specs.Func.{name_of}
-use Rattle.tmpl_lex.specs.Byte.{is_name_byte, is_number_byte}
+use Rattle.tmpl_lex.specs.Bytes.{is_name_byte, is_number_byte}
 use Rattle.tmpl_lex.specs.Piece.{Token}
 use Rattle.tmpl_lex.specs.declared.piece.TokenKind.TheVariants as kind
 use Rattle.tmpl_grammar.specs.Tree as tree

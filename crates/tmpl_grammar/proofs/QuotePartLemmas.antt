@@ -6,8 +6,8 @@ use Rattle.std.proofs.lemmas.Bool.Decides.{nat_tests}
 use Rattle.std.proofs.lemmas.Str.{length-encode, len_utf8_bounds, char_from_byte, encode_ascii}
 use lib.Utf8.{scalar_fits}
 use Rattle.tmpl_values.specs.Rune.{Rune, char, byte, bytes_in, first_rune, runes}
-use Rattle.tmpl_values.specs.Quote.{letters, second_of, hexes, spelled, spelling, inside}
-use Rattle.tmpl_values.proofs.Runes.{first_rune-encode, IsRune, AreRunes, AreBytes, are_runes, text-runes}
+use Rattle.tmpl_values.specs.Quote.{letters, letter_of, hexes, spelled, spelling, inside}
+use Rattle.tmpl_values.proofs.RuneLemmas.{first_rune-encode, IsRune, AreRunes, AreBytes, are_runes, text-runes}
 use Rattle.tmpl_grammar.specs.Constant.Quoted.{part_text, rune_part, as_byte, as_char, byte_named, escape_by, escape, part_at, with_part, parts_after, parts, unquoted}
 use Rattle.tmpl_grammar.specs.declared.constant.quoted.Part.{Part}
 use Rattle.tmpl_grammar.specs.declared.constant.quoted.Part.TheVariants.{Byte, Char}
@@ -70,23 +70,23 @@ found-at P true c e k l o t h rest is =
 found-at P false c e k l o t h rest is = rest is
 
 -- what holds of each code and letter holds of a code and the letter that is found
-found : (P : ℕ → ℕ → Type 0) (c e : ℕ) (ps : List (ℕ × ℕ)) → AllOf P ps → second_of c ps ≡ Some e → P c e
+found : (P : ℕ → ℕ → Type 0) (c e : ℕ) (ps : List (ℕ × ℕ)) → AllOf P ps → letter_of c ps ≡ Some e → P c e
 found P c e [] h is = cc
-found P c e (p ∷ ps) h is = found-at P (nat_eq c p.0) c e p.0 p.1 (second_of c ps) refl h.0 (λ i. found P c e ps h.1 i) is
+found P c e (p ∷ ps) h is = found-at P (nat_eq c p.0) c e p.0 p.1 (letter_of c ps) refl h.0 (λ i. found P c e ps h.1 i) is
 
-letter-back : (c e : ℕ) → second_of c letters ≡ Some e → byte_named 34 e ≡ Some c
+letter-back : (c e : ℕ) → letter_of c letters ≡ Some e → byte_named 34 e ≡ Some c
 letter-back c e = found (λ c e. byte_named 34 e ≡ Some c) c e letters (refl, (refl, (refl, (refl, (refl, (refl, (refl, (refl, (refl, tt)))))))))
 
-letter-ascii : (c e : ℕ) → second_of c letters ≡ Some e → nat_lt c 128 ≡ true
+letter-ascii : (c e : ℕ) → letter_of c letters ≡ Some e → nat_lt c 128 ≡ true
 letter-ascii c e = found (λ c e. nat_lt c 128 ≡ true) c e letters (refl, (refl, (refl, (refl, (refl, (refl, (refl, (refl, (refl, tt)))))))))
 
-pub letter-no-newline : (c e : ℕ) → second_of c letters ≡ Some e → nat_eq e 10 ≡ false
+pub letter-no-newline : (c e : ℕ) → letter_of c letters ≡ Some e → nat_eq e 10 ≡ false
 letter-no-newline c e = found (λ c e. nat_eq e 10 ≡ false) c e letters (refl, (refl, (refl, (refl, (refl, (refl, (refl, (refl, (refl, tt)))))))))
 
-pub unlettered : (c k e : ℕ) → second_of k letters ≡ Some e → second_of c letters ≡ None → c ≡ k → ⊥
-unlettered c k e there none same = let n : Some e ≡ None = sym there ∙ sym (ap (λ x. second_of x letters) same) ∙ none in cc
+pub unlettered : (c k e : ℕ) → letter_of k letters ≡ Some e → letter_of c letters ≡ None → c ≡ k → ⊥
+unlettered c k e there none same = let n : Some e ≡ None = sym there ∙ sym (ap (λ x. letter_of x letters) same) ∙ none in cc
 
-part-letter : (c e : ℕ) (rest : List ℕ) → second_of c letters ≡ Some e → IsPart (92 ∷ e ∷ rest) 2 (encode_utf8 c)
+part-letter : (c e : ℕ) (rest : List ℕ) → letter_of c letters ≡ Some e → IsPart (92 ∷ e ∷ rest) 2 (encode_utf8 c)
 unfolding part_at
 part-letter c e rest is =
     let ascii = letter-ascii c e is in
@@ -117,7 +117,7 @@ part-plain c rest s slash quote = record { part = Char c; at = split (encode_utf
 count-is : {bs v : List ℕ} (m n : ℕ) → m ≡ n → IsPart bs m v → IsPart bs n v
 count-is {bs} {v} m n e p = subst (λ k. IsPart bs k v) e p
 
-spelled-code : (p low bmp : Bool) (c : ℕ) (rest : List ℕ) → IsScalar c → second_of c letters ≡ None → (nat_lt c 32 || nat_eq c 127) ≡ low → nat_lt c 65536 ≡ bmp
+spelled-code : (p low bmp : Bool) (c : ℕ) (rest : List ℕ) → IsScalar c → letter_of c letters ≡ None → (nat_lt c 32 || nat_eq c 127) ≡ low → nat_lt c 65536 ≡ bmp
     → let s = (if p then encode_utf8 c else (if low then 92 ∷ 120 ∷ hexes 2 c else (if bmp then 92 ∷ 117 ∷ hexes 4 c else 92 ∷ 85 ∷ hexes 8 c))) in
     IsPart (s ++ rest) (length s) (encode_utf8 c)
 spelled-code true low bmp c rest s none l b = count-is (len_utf8 c) (length (encode_utf8 c)) (sym (length-encode c)) (part-plain c rest s (unlettered c 92 92 refl none) (unlettered c 34 34 refl none))
@@ -130,12 +130,12 @@ spelled-code false false true c rest s none l b =
 spelled-code false false false c rest s none l b =
     count-is 10 (length (92 ∷ 85 ∷ hexes 8 c)) (omega (arith, length-hexes 8 c)) (part-U c rest (scalar_fits c s) s)
 
-spelled-char : (prints : ℕ → Bool) (c : ℕ) (o : Option ℕ) (rest : List ℕ) → second_of c letters ≡ o → IsScalar c → IsPart (spelled prints c o ++ rest) (length (spelled prints c o)) (encode_utf8 c)
+spelled-char : (prints : ℕ → Bool) (c : ℕ) (o : Option ℕ) (rest : List ℕ) → letter_of c letters ≡ o → IsScalar c → IsPart (spelled prints c o ++ rest) (length (spelled prints c o)) (encode_utf8 c)
 spelled-char prints c (Some e) rest is s = part-letter c e rest is
 spelled-char prints c None rest is s = spelled-code (prints c) _ _ c rest s is refl refl
 
 part-spelling : (prints : ℕ → Bool) (r : Rune) (rest : List ℕ) → IsRune r → IsPart (spelling prints r ++ rest) (length (spelling prints r)) (bytes_in r)
-part-spelling prints (char c) rest s = spelled-char prints c (second_of c letters) rest refl s
+part-spelling prints (char c) rest s = spelled-char prints c (letter_of c letters) rest refl s
 part-spelling prints (byte b) rest h = count-is 4 (length (92 ∷ 120 ∷ hexes 2 b)) (omega (arith, length-hexes 2 b)) (part-x b rest h)
 
 some : (p low bmp : Bool) (c : ℕ) → 0 < length (if p then encode_utf8 c else (if low then 92 ∷ 120 ∷ hexes 2 c else (if bmp then 92 ∷ 117 ∷ hexes 4 c else 92 ∷ 85 ∷ hexes 8 c)))

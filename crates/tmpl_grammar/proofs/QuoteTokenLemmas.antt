@@ -7,7 +7,7 @@ use Rattle.std.proofs.lemmas.Str.{inside_one}
 use Rattle.std.proofs.Math.Bool.{and-false}
 use Rattle.tmpl_lex.specs.Quoted.{with_byte, up_to, unless, quoted}
 use Rattle.tmpl_values.specs.Rune.{Rune, char, byte, runes}
-use Rattle.tmpl_values.specs.Quote.{letters, second_of, hexes, spelled, spelling, inside}
+use Rattle.tmpl_values.specs.Quote.{letters, letter_of, hexes, spelled, spelling, inside}
 use Rattle.tmpl_grammar.proofs.QuotePartLemmas.{letter-no-newline, unlettered}
 
 abbrev led_by : List ℕ → Option (List ℕ) → Option (List ℕ)
@@ -66,7 +66,7 @@ other true c k m h l apart e =
     absurd (apart (inside_one c [] (encode_utf8 c) k (sym (append-nil (encode_utf8 c))) h (omega arith) ∙ is))
 other false c k m h l apart e = refl
 
-plain-encode : (c : ℕ) → second_of c letters ≡ None → ArePlain (encode_utf8 c)
+plain-encode : (c : ℕ) → letter_of c letters ≡ None → ArePlain (encode_utf8 c)
 plain-encode c is = plain-at (encode_utf8 c) (λ k h. (
   other _ c k 34 h (omega arith) (unlettered c 34 34 refl is) refl,
   other _ c k 10 h (omega arith) (unlettered c 10 110 refl is) refl,
@@ -75,7 +75,7 @@ plain-encode c is = plain-at (encode_utf8 c) (λ k h. (
 
 -- ---- each spelling within a token
 
-code-within : (p low bmp : Bool) (c : ℕ) (t : List ℕ) → second_of c letters ≡ None
+code-within : (p low bmp : Bool) (c : ℕ) (t : List ℕ) → letter_of c letters ≡ None
     → let s = (if p then encode_utf8 c else (if low then 92 ∷ 120 ∷ hexes 2 c else (if bmp then 92 ∷ 117 ∷ hexes 4 c else 92 ∷ 85 ∷ hexes 8 c))) in
     quoted 34 false (s ++ t) ≡ led_by s (quoted 34 false t)
 code-within true low bmp c t is = within-plain (encode_utf8 c) t (plain-encode c is)
@@ -83,7 +83,7 @@ code-within false true bmp c t is = within-escape 120 (hexes 2 c) t refl (plain-
 code-within false false true c t is = within-escape 117 (hexes 4 c) t refl (plain-hexes 4 c)
 code-within false false false c t is = within-escape 85 (hexes 8 c) t refl (plain-hexes 8 c)
 
-char-within : (prints : ℕ → Bool) (c : ℕ) (o : Option ℕ) (t : List ℕ) → second_of c letters ≡ o → quoted 34 false (spelled prints c o ++ t) ≡ led_by (spelled prints c o) (quoted 34 false t)
+char-within : (prints : ℕ → Bool) (c : ℕ) (o : Option ℕ) (t : List ℕ) → letter_of c letters ≡ o → quoted 34 false (spelled prints c o ++ t) ≡ led_by (spelled prints c o) (quoted 34 false t)
 char-within prints c (Some e) t is = within-escape e [] t (letter-no-newline c e is) tt
 char-within prints c None t is = code-within (prints c) _ _ c t is
 

@@ -4,8 +4,8 @@ use Rattle.std.specs.Char.{is_ascii_digit}
 use Rattle.std.specs.Fmt.{signed_decimal}
 use Rattle.tmpl_values.specs.Quote.{quote}
 use Rattle.tmpl_funcs.specs.Func.{name_of}
-use Rattle.tmpl_lex.specs.Byte.{is_space}
-use Rattle.tmpl_lex.specs.Marker.{closing}
+use Rattle.tmpl_lex.specs.Bytes.{is_space}
+use Rattle.tmpl_lex.specs.Trim.{right_delimiter}
 use Rattle.tmpl_lex.specs.Token.{front_token}
 use Rattle.tmpl_lex.specs.Piece.{Token}
 use Rattle.tmpl_lex.specs.declared.piece.TokenKind.{TokenKind}
@@ -110,7 +110,7 @@ bytes_of ts = flat_map (λ t. t.bytes) ts
 
 -- the token stands at the front, with these bytes behind it
 pub record IsFront (t : Token) (rest : List ℕ) : Type 0 where
-  pub no_end : closing (t.bytes ++ rest) ≡ None
+  pub no_end : right_delimiter (t.bytes ++ rest) ≡ None
   pub front : front_token (t.bytes ++ rest) ≡ Some t
 
 -- the tokens stand one behind the other, with these bytes behind them

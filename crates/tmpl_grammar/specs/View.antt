@@ -2,7 +2,8 @@
 use Rattle.std.specs.Prelude.{ℕ, List, map, reverse, option_map}
 use Rattle.std.specs.Borrow.{Bor}
 use Rattle.tmpl_lex.specs.declared.piece.Token as held_token
-use Rattle.tmpl_lex.specs.Piece.{Token, token_of}
+use Rattle.tmpl_lex.specs.Piece.{Token}
+use Rattle.tmpl_lex.specs.View.{token_of}
 use Rattle.tmpl_grammar.specs.Tree.{Operand, dot, fields, variable, bool_constant, number_constant, text_constant, nil}
 use Rattle.tmpl_grammar.specs.Tree.{function, group, Operands, operands_from, Commands, commands_from, Pipeline}
 use Rattle.tmpl_grammar.specs.Tree.{pipeline, Binding, unbound, declare, assign, declare_pair, Header}

@@ -1,6 +1,6 @@
 //! Constants ("Arguments" in the documentation of Go's text/template).
 ghost use Rattle.std.specs.Prelude.{◌≡◌, IfOk, option_map};
-ghost use Rattle.tmpl_lex.specs.Piece.{token_of};
+ghost use Rattle.tmpl_lex.specs.View.{token_of};
 ghost use Rattle.tmpl_grammar.specs.Constant.{constant_by, constant_of};
 ghost use Rattle.tmpl_lex.specs.declared.piece.TokenKind.TheVariants as kind;
 ghost use Rattle.tmpl_grammar.specs.View.{operand_of};

@@ -1,6 +1,6 @@
 //! The reading of headers: a pipeline's tokens, perhaps behind variables.
 ghost use Rattle.std.specs.Prelude.{◌≡◌, IfOk, map, option_map};
-ghost use Rattle.tmpl_lex.specs.Piece.{token_of};
+ghost use Rattle.tmpl_lex.specs.View.{token_of};
 ghost use Rattle.tmpl_grammar.specs.computed.Reading as spec;
 ghost use Rattle.tmpl_grammar.specs.View.{front_of, name_of, split_of};
 

@@ -1,6 +1,6 @@
 //! The words that begin an action.
 ghost use Rattle.std.specs.Prelude.{◌≡◌};
-ghost use Rattle.tmpl_lex.specs.Piece.{token_of};
+ghost use Rattle.tmpl_lex.specs.View.{token_of};
 ghost use Rattle.tmpl_grammar.specs.computed.Reading.{keyword_of, spells_keyword};
 
 use crate::tree::Control;

@@ -1,7 +1,7 @@
 //! The operands that are one token.
 ghost use Rattle.std.specs.Prelude.{◌≡◌, ◌≤◌, IfOk, length, map, option_map};
 ghost use Rattle.std.specs.List.{list_all, prefix_len};
-ghost use Rattle.tmpl_lex.specs.Piece.{token_of};
+ghost use Rattle.tmpl_lex.specs.View.{token_of};
 ghost use Rattle.tmpl_grammar.specs.Token as spec;
 ghost use Rattle.tmpl_grammar.specs.Operand as word;
 ghost use Rattle.tmpl_grammar.specs.View.{next_of, operand_of};

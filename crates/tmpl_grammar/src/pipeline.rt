@@ -1,6 +1,6 @@
 //! The reading of pipelines.
 ghost use Rattle.std.specs.Prelude.{◌≡◌, ◌+◌, ◌<◌, ◌^◌, IfOk, map, length};
-ghost use Rattle.tmpl_lex.specs.Piece.{token_of};
+ghost use Rattle.tmpl_lex.specs.View.{token_of};
 ghost use Rattle.tmpl_grammar.specs.computed.Reading as spec;
 ghost use Rattle.tmpl_grammar.specs.computed.Recognizer as deep;
 ghost use Rattle.tmpl_grammar.specs.Token.{is_opening};

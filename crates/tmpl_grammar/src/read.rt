@@ -1,6 +1,6 @@
 //! The reading of one action's tokens.
 ghost use Rattle.std.specs.Prelude.{◌≡◌, IfOk, map, option_map};
-ghost use Rattle.tmpl_lex.specs.Piece.{token_of};
+ghost use Rattle.tmpl_lex.specs.View.{token_of};
 ghost use Rattle.tmpl_grammar.specs.Action.{action_with, break_action, continue_action, end_action};
 ghost use Rattle.tmpl_grammar.specs.Depth as depth;
 ghost use Rattle.tmpl_grammar.specs.View.{action_of, action_reading};

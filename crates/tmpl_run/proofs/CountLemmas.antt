@@ -4,7 +4,7 @@ use Rattle.std.specs.Option.{option_map}
 use Rattle.tmpl_values.specs.Value.{Items, Entries, sequence, mapping}
 use Rattle.tmpl_values.specs.Elements.{elements}
 use Rattle.tmpl_values.specs.Item.{item_count, entry_count}
-use Rattle.tmpl_values.proofs.Elements.{count-is}
+use Rattle.tmpl_values.proofs.ElementLemmas.{count-is}
 
 pub sequence-count : (vs : Items) → Some (item_count vs) ≡ option_map length (elements (sequence vs))
 sequence-count vs = count-is (sequence vs)

@@ -3,9 +3,9 @@ use Rattle.std.proofs.Common.{arith, ◌≡◌, ◌∙◌, ◌≤◌, ◌<◌, �
 use Rattle.std.proofs.lemmas.Bool.{le-leb, cases_lt}
 use Rattle.std.proofs.lemmas.Bool.Decides.{leb_tells}
 use Rattle.std.proofs.lemmas.Option.{same_Some}
-use Rattle.tmpl_lex.specs.Cut.{cut_of}
+use Rattle.tmpl_lex.specs.computed.Cut.{cut_of}
 use Rattle.tmpl_lex.specs.Piece.{Token, Piece, text, action, unreadable}
-use Rattle.tmpl_lex.proofs.Whole.{cut-cuts, cut-only}
+use Rattle.tmpl_lex.proofs.CutLemmas.{cut_of-Cuts, Cuts-cut_of}
 use Rattle.tmpl_grammar.specs.Action.{Action, pipeline_action, opening, plain_else, else_branch, end_action, break_action, continue_action, SpellsAction, shape_of}
 use Rattle.tmpl_grammar.specs.Depth.{depth_of_pipeline, depth_of, most_deep, limited, limited_to, within_limit, reading_of, unread as unread_within, too_deep as deep_within, read as read_within}
 use Rattle.tmpl_grammar.specs.computed.Reading.{action_in}
@@ -96,7 +96,7 @@ only-items no_item = refl
 only-items (an_item {p = p} {x = x} {ps = ps} {xs = xs} i is) = ap (λ y. y ∷ xs) (only-item i) ∙ ap (λ ys. item_in p ∷ ys) (only-items is)
 
 pub has-items : HasItemsOf
-has-items bytes = record { pieces = cut_of bytes; cut = cut-cuts bytes; read = are-items (cut_of bytes) }
+has-items bytes = record { pieces = cut_of bytes; cut = cut_of-Cuts bytes; read = are-items (cut_of bytes) }
 
 pub no-others : HasNoOtherItems
-no-others bytes items h = only-items h.read ∙ ap items_in (cut-only bytes h.pieces h.cut)
+no-others bytes items h = only-items h.read ∙ ap items_in (Cuts-cut_of bytes h.pieces h.cut)

@@ -6,11 +6,13 @@ use Rattle.std.proofs.Math.Seq.{take-append_seam}
 use Rattle.std.proofs.lemmas.List.Sums.{suffix_len_is}
 use Rattle.std.proofs.lemmas.Bool.{eqb-true}
 use Rattle.std.proofs.lemmas.Bool.Decides.{nat_tests}
-use Rattle.tmpl_lex.specs.Byte.{is_space}
-use Rattle.tmpl_lex.specs.Marker.{End, closing, left_marked, past_left, behind_marker}
+use Rattle.tmpl_lex.specs.Bytes.{is_space}
+use Rattle.tmpl_lex.specs.Trim.{End, right_delimiter, left_marked, past_left, behind_marker}
 use Rattle.tmpl_lex.specs.Text.{newlines, texts, text_piece, without_trailing, without_leading}
 use Rattle.tmpl_lex.specs.Piece.{Token, Piece, text, action}
-use Rattle.tmpl_lex.specs.Cut.{split_here, split_pair, split_open, with_first, Spells, ended, spelled, comment_end, opens_comment, comment_closed, Cuts, last, dropped, closed, stretch}
+use Rattle.tmpl_lex.specs.Bytes.{split_here, split_pair, with_first}
+use Rattle.tmpl_lex.specs.Cut.{split_open, Cuts, last, dropped, closed, stretch}
+use Rattle.tmpl_lex.specs.Action.{Spells, ended, spelled, comment_end, opens_comment, comment_closed}
 use Rattle.tmpl_syntax.specs.declared.print.Before.TheVariants.{Nothing}
 use Rattle.tmpl_syntax.specs.Print.Join.{Part, a_text, an_action, ends_brace, behind, behind_by, opening, parting, before_of, joined, AreParts, no_piece, same_text, same_action, HasParts}
 use Rattle.tmpl_grammar.specs.Print.{bytes_of, Lexes, Solid, solid, minus}
@@ -146,7 +148,7 @@ comment-none : (bs : List ℕ) → opens_comment bs ≡ false → comment_end bs
 unfolding comment_end
 comment-none bs e = ap (λ k. comment_closed k (split_pair 42 47 (drop 2 bs))) e
 
-lexed : (ts : List Token) (rest : List ℕ) (end : End) → Lexes ts rest → closing rest ≡ Some end → Spells (bytes_of ts ++ rest) ts (Some end)
+lexed : (ts : List Token) (rest : List ℕ) (end : End) → Lexes ts rest → right_delimiter rest ≡ Some end → Spells (bytes_of ts ++ rest) ts (Some end)
 lexed [] rest end h e = ended e
 lexed (t ∷ ts) rest end h e =
     subst (λ bs. Spells bs (t ∷ ts) (Some end)) (sym (append_assoc t.bytes (bytes_of ts) rest))

@@ -1,12 +1,14 @@
 -- What holds of the pieces of a file: texts without `{{`, and tokens whose bytes are bytes and whose names are names.
 use Rattle.std.proofs.Common.{arith, ◌≡◌, ◌∙◌, ℕ, zero, suc, ◌+◌, Bool, true, false, ◌&&◌, nat_eq, List, [], ◌∷◌, ◌++◌, Option, Some, None, refl, ap, subst, take, drop}
-use Rattle.tmpl_values.proofs.Runes.{AreBytes}
-use Rattle.tmpl_lex.specs.Marker.{End, closing, ended_by, closes, right_marked, past_left, behind_marker, left_marked}
-use Rattle.tmpl_lex.specs.Named.{OfKind}
+use Rattle.tmpl_values.proofs.RuneLemmas.{AreBytes}
+use Rattle.tmpl_lex.specs.Trim.{End, right_delimiter, ended_by, has_right_delimiter, right_marked, past_left, behind_marker, left_marked}
+use Rattle.tmpl_lex.specs.Laws.{OfKind}
 use Rattle.tmpl_lex.specs.Piece.{Token, Piece, text, action, unreadable}
 use Rattle.tmpl_lex.specs.Text.{texts, text_piece, leading, without_leading, newlines}
-use Rattle.tmpl_lex.specs.Cut.{split_here, split_pair, split_open, with_first, Spells, ended, stuck, spelled, comment_end, comment_closed, opens_comment, Cuts, last, dropped, closed, unclosed}
-use Rattle.tmpl_lex.proofs.Named.{token-named}
+use Rattle.tmpl_lex.specs.Bytes.{split_here, split_pair, with_first}
+use Rattle.tmpl_lex.specs.Cut.{split_open, Cuts, last, dropped, closed, unclosed}
+use Rattle.tmpl_lex.specs.Action.{Spells, ended, stuck, spelled, comment_end, comment_closed, opens_comment}
+use Rattle.tmpl_lex.proofs.NameLemmas.{front_token-OfKind}
 use Rattle.tmpl_syntax.specs.Print.Join.{IsText}
 use Rattle.tmpl_syntax.proofs.JoinLemmas.{cleared}
 use Rattle.tmpl_grammar.proofs.PrintableTokenLemmas.{AreRead, bytes-drop, bytes-front}
@@ -41,8 +43,8 @@ abbrev EndBytes : Option End → Type 0
 EndBytes None = Unit {0}
 EndBytes (Some e) = AreBytes e.rest
 
-closing-bytes : (bs : List ℕ) → AreBytes bs → EndBytes (closing bs)
-closing-bytes bs h = go (closes bs) (right_marked bs)
+closing-bytes : (bs : List ℕ) → AreBytes bs → EndBytes (right_delimiter bs)
+closing-bytes bs h = go (has_right_delimiter bs) (right_marked bs)
   where
     go : (c m : Bool) → EndBytes (ended_by c m bs)
     go true m = bytes-drop 2 bs h
@@ -121,7 +123,7 @@ spells-read (stuck c f) h = (tt, tt)
 spells-read (spelled {t = t} {rest = rest} c f s) h =
     let b = bytes-front t.bytes rest h in
     let more = spells-read s b.1 in
-    ((record { names = token-named (t.bytes ++ rest) t f; bytes = b.0 }, more.0), more.1)
+    ((record { names = front_token-OfKind (t.bytes ++ rest) t f; bytes = b.0 }, more.0), more.1)
 
 piece_of : (line : ℕ) (t : List ℕ) → split_open t ≡ None → OfPieces (text_piece line t)
 piece_of line [] e = tt

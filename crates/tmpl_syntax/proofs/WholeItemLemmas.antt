@@ -1,7 +1,7 @@
 -- The pieces of a printed set are read as what it says.
 use Rattle.std.proofs.Common.{arith, ◌≡◌, ◌∙◌, ◌≤◌, ℕ, true, List, [], ◌∷◌, ◌++◌, Option, Some, None, refl, sym, ap, subst, map, append_assoc}
 use Rattle.std.specs.Option.{option_map}
-use Rattle.tmpl_values.proofs.Runes.{AreBytes}
+use Rattle.tmpl_values.proofs.RuneLemmas.{AreBytes}
 use Rattle.tmpl_values.specs.Quote.{quote, inside}
 use Rattle.tmpl_values.specs.Printable.{printable}
 use Rattle.tmpl_lex.specs.Piece.{Piece}

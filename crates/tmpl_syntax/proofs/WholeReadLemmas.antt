@@ -1,6 +1,6 @@
 -- What an accepted file spells can be printed: its definitions, and the nodes of its own template.
 use Rattle.std.proofs.Common.{◌≤◌, ℕ, List, [], ◌∷◌, ◌++◌, Option, Some, None, subst}
-use Rattle.tmpl_values.proofs.Runes.{AreBytes}
+use Rattle.tmpl_values.proofs.RuneLemmas.{AreBytes}
 use Rattle.tmpl_lex.specs.Piece.{Token, Piece}
 use Rattle.tmpl_grammar.specs.Tree.{Header, Pipeline, pipeline}
 use Rattle.tmpl_grammar.specs.Action as one

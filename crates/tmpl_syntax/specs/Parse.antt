@@ -3,7 +3,7 @@
 use Rattle.std.specs.Prelude.{◌≡◌, ◌==◌, ◌+◌, ◌≤◌, ◌<◌, ℕ, List, Some, Result, Ok, Err, length, slice_get}
 use Rattle.std.specs.List.{after_last}
 use Rattle.std.specs.Borrow.{Bor}
-use Rattle.tmpl_lex.specs.Cut.{newlines}
+use Rattle.tmpl_lex.specs.Text.{newlines}
 use Rattle.tmpl_syntax.specs.Tree.{Nodes}
 use Rattle.tmpl_syntax.specs.Item.{Item, line_of, HasItems}
 use Rattle.tmpl_syntax.specs.Place.Role.{roles_of}

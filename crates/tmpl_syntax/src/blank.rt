@@ -1,7 +1,7 @@
 //! Blank bodies.
 ghost use Rattle.std.specs.Prelude.{◌≡◌};
 ghost use Rattle.std.specs.List.{list_all};
-ghost use Rattle.tmpl_lex.specs.Token as token;
+ghost use Rattle.tmpl_lex.specs.Bytes as token;
 ghost use Rattle.tmpl_syntax.specs.View.{node_of, nodes_in};
 ghost use Rattle.tmpl_syntax.specs.Set as spec;
 

@@ -3,8 +3,8 @@ ghost use Rattle.std.specs.Prelude.{◌≡◌, ◌++◌, ◌||◌, Err, IfOk, No
 ghost use Rattle.std.specs.Prelude.{true, unwrap_or};
 ghost use Rattle.tmpl_values.specs.Value.{nothing};
 ghost use Rattle.tmpl_values.specs.View.{val_of};
-ghost use Rattle.tmpl_funcs.specs.Answer.{values_of};
-ghost use Rattle.tmpl_funcs.specs.Called.{called};
+ghost use Rattle.tmpl_funcs.specs.View.{values_of};
+ghost use Rattle.tmpl_funcs.specs.Dispatch.{called};
 ghost use Rattle.tmpl_funcs.specs.Func.{is_called, makes_text};
 ghost use Rattle.tmpl_grammar.specs.View.{commands_in, operand_of, operands_in, pipeline_of};
 ghost use Rattle.tmpl_run.specs.Pipeline as spec;

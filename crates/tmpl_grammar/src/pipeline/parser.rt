@@ -1,6 +1,6 @@
 //! A parser of pipelines, token by token.
 ghost use Rattle.std.specs.Prelude.{◌≡◌, ◌++◌, ◌∷◌, [], IfOk, OnOk, map, option_map};
-ghost use Rattle.tmpl_lex.specs.Piece.{token_of};
+ghost use Rattle.tmpl_lex.specs.View.{token_of};
 ghost use Rattle.tmpl_grammar.specs.computed.Parser as spec;
 ghost use Rattle.tmpl_grammar.specs.View.{parser_of, partial_of};
 ghost use Rattle.tmpl_grammar.specs.View.{command_of, operand_of};

@@ -1,6 +1,6 @@
 //! Whether tokens end a pipeline, however deep its parentheses nest.
 ghost use Rattle.std.specs.Prelude.{◌≡◌, ◌+◌, ◌<◌, ◌^◌, IfOk, length, map, option_map};
-ghost use Rattle.tmpl_lex.specs.Piece.{token_of};
+ghost use Rattle.tmpl_lex.specs.View.{token_of};
 ghost use Rattle.tmpl_grammar.specs.computed.Recognizer as spec;
 ghost use Rattle.tmpl_grammar.specs.View.{operand_of};
 

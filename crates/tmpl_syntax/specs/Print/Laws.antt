@@ -1,6 +1,6 @@
 -- Laws of printed trees.
 use Rattle.std.specs.Prelude.{◌≡◌, ℕ, List, [], ◌∷◌}
-use Rattle.tmpl_values.proofs.Runes.{AreBytes}
+use Rattle.tmpl_values.proofs.RuneLemmas.{AreBytes}
 use Rattle.tmpl_syntax.specs.Tree.{Nodes}
 use Rattle.tmpl_grammar.specs.Action.{Action}
 use Rattle.tmpl_syntax.specs.Set.{Template}

@@ -1,6 +1,6 @@
 -- Trees, actions and spelling with definitions, calls and blocks (how the set's definitions could be taken in).
 use Rattle.std.specs.Prelude.{◌≡◌, ◌≤◌, ℕ, List, [], ◌∷◌, ◌++◌, map, codes, Option, Some, None, false}
-use Rattle.tmpl_values.proofs.Runes.{AreBytes}
+use Rattle.tmpl_values.proofs.RuneLemmas.{AreBytes}
 use Rattle.tmpl_values.specs.Quote.{quote}
 use Rattle.tmpl_lex.specs.Cut.{Cuts}
 use Rattle.tmpl_lex.specs.Piece.{Token, Piece, text, action}

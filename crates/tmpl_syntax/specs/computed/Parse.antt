@@ -2,7 +2,7 @@
 use Rattle.std.specs.Prelude.{◌≡◌, ℕ, List, Option, Some, None, Result, Ok, Err, length, nat_lt, slice_get}
 use Rattle.std.specs.Prelude.{if◌then◌else◌}
 use Rattle.std.specs.Borrow.{Bor}
-use Rattle.tmpl_lex.specs.Cut.{cut_of}
+use Rattle.tmpl_lex.specs.computed.Cut.{cut_of}
 use Rattle.tmpl_syntax.specs.Tree.{Nodes}
 use Rattle.tmpl_syntax.specs.Item.{Item, line_of}
 use Rattle.tmpl_syntax.specs.Parse.{last_line, base_name, most_bytes}

@@ -1,6 +1,6 @@
 use Rattle.std.proofs.Common.{arith, ◌∙◌, None, refl, sym, ap, map, take, drop, length, ◌-◌}
 use Rattle.std.specs.Option.{option_map}
-use Rattle.tmpl_lex.specs.Piece.{token_of}
+use Rattle.tmpl_lex.specs.View.{token_of}
 use Rattle.tmpl_grammar.specs.computed.Recognizer.{ends_pipeline, too_deep_if}
 use Rattle.tmpl_grammar.specs.computed.Parser.{finished}
 use Rattle.tmpl_grammar.specs.View.{parser_of, pipeline_reading}

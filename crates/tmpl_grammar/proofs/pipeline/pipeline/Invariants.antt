@@ -1,5 +1,5 @@
 use Rattle.std.proofs.Common.{◌≡◌, ◌≤◌, Some, drop, map, length}
-use Rattle.tmpl_lex.specs.Piece.{token_of}
+use Rattle.tmpl_lex.specs.View.{token_of}
 use Rattle.tmpl_grammar.specs.Depth.{most_deep}
 use Rattle.tmpl_grammar.specs.computed.Parser.{start, steps}
 use Rattle.tmpl_grammar.specs.View.{parser_of}

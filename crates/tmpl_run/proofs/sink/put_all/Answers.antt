@@ -1,7 +1,7 @@
 use Rattle.std.proofs.Common.{◌∙◌, List, [], ℕ, take, drop, Ok, arith, refl, length-drop, sym, add-zero}
 use Rattle.std.proofs.lemmas.List.{take-append-drop, take_rest}
 use Rattle.std.proofs.Math.Seq.{take-add}
-use Rattle.tmpl_values.proofs.Then.{along, none, then}
+use Rattle.tmpl_values.proofs.PutLemmas.{along, none, then}
 use Rattle.tmpl_run.specs.Sink.{IsPut, as_puts}
 use Rattle.tmpl_run.specs.declared.sink.SinkFault.{SinkFault}
 use Rattle.tmpl_run.proofs.ToldLemmas.{err_up}

@@ -1,7 +1,7 @@
 use Rattle.std.proofs.Common.{arith, ◌≤◌, ◌∷◌, [], ◌++◌, sym, ap, ◌∙◌, map, take, length}
 use Rattle.std.proofs.lemmas.List.{map-append, map_more, take_all}
 use Rattle.tmpl_lex.specs.declared.piece.Piece.{Piece}
-use Rattle.tmpl_lex.specs.Piece.{piece_of}
+use Rattle.tmpl_lex.specs.View.{piece_of}
 use Rattle.tmpl_syntax.specs.Item.{Item}
 use Rattle.tmpl_syntax.specs.View.{item_of}
 use Rattle.tmpl_syntax.specs.computed.Item.{item_in}

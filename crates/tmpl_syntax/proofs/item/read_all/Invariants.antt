@@ -1,5 +1,5 @@
 use Rattle.std.proofs.Common.{◌≡◌, map, take}
-use Rattle.tmpl_lex.specs.Piece.{piece_of}
+use Rattle.tmpl_lex.specs.View.{piece_of}
 use Rattle.tmpl_syntax.specs.View.{item_of}
 use Rattle.tmpl_syntax.specs.computed.Item.{item_in}
 use Rattle.tmpl_syntax.proofs.item.read_all.Given as goal

@@ -1,7 +1,7 @@
 use Rattle.std.proofs.Common.{refl}
 use Rattle.tmpl_syntax.specs.View.{set_view}
 use Rattle.std.proofs.Common.{sym, subst}
-use Rattle.tmpl_values.proofs.Runes.{are_bytes}
+use Rattle.tmpl_values.proofs.RuneLemmas.{are_bytes}
 use Rattle.tmpl_syntax.specs.Print.Laws.{ArePrintable}
 use Rattle.tmpl_syntax.proofs.PrintableSetLemmas.{parsed_printable}
 use Rattle.tmpl_syntax.proofs.ReadingLemmas.{accepted, refusal-of}

@@ -2,7 +2,7 @@ use Rattle.std.proofs.Common.{◌≡◌, ◌∙◌, ◌+◌, ◌≤◌, IfOk, ap
 use Rattle.tmpl_values.specs.Elements.{elements}
 use Rattle.std.specs.Option.{option_map}
 use Rattle.tmpl_values.specs.View.{element_of, val_of}
-use Rattle.tmpl_values.proofs.Elements.{element-at}
+use Rattle.tmpl_values.proofs.ElementLemmas.{element-at}
 use Rattle.tmpl_grammar.specs.View.{pipeline_of}
 use Rattle.tmpl_syntax.specs.View.{kind_of, node_of}
 use Rattle.tmpl_syntax.specs.Tree.{Node}

@@ -5,7 +5,7 @@ use Rattle.tmpl_values.specs.declared.value.Cell.{Cell}
 use Rattle.tmpl_grammar.specs.View.{operands_in}
 use Rattle.tmpl_values.specs.View.{val_of}
 use Rattle.tmpl_values.specs.declared.value.Val.{Val}
-use Rattle.tmpl_funcs.specs.Answer.{values_of}
+use Rattle.tmpl_funcs.specs.View.{values_of}
 use Rattle.tmpl_run.specs.declared.fault.RunFaultKind.{RunFaultKind}
 use Rattle.tmpl_run.specs.View.{cause_of}
 use Rattle.tmpl.specs.View.{place_seen}

@@ -1,6 +1,6 @@
 use Rattle.std.proofs.Common.{◌≡◌, ◌+◌, ◌*◌, None, drop, option_map}
 use Rattle.tmpl_values.specs.View.{val_of}
-use Rattle.tmpl_funcs.specs.Answer.{values_of}
+use Rattle.tmpl_funcs.specs.View.{values_of}
 use Rattle.tmpl_grammar.specs.View.{commands_in, operand_of, operands_in}
 use Rattle.tmpl_values.specs.Value.{nothing}
 use Rattle.tmpl_run.specs.Pipeline.{commands_value, junction, operand_values, since}

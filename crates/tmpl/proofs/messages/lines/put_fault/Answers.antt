@@ -1,5 +1,5 @@
 use Rattle.std.proofs.Common.{◌∙◌, ◌++◌, List, [], ◌∷◌, ap}
-use Rattle.tmpl_values.proofs.Then.{along, stop, then}
+use Rattle.tmpl_values.proofs.PutLemmas.{along, stop, then}
 use Rattle.tmpl_run.specs.View.{cause_of}
 use Rattle.tmpl.specs.Part.{joined, line}
 use Rattle.tmpl.specs.Tool.{cause_pieces}

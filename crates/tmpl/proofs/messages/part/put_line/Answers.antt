@@ -1,4 +1,4 @@
-use Rattle.tmpl_values.proofs.Then.{stop, then}
+use Rattle.tmpl_values.proofs.PutLemmas.{stop, then}
 use Rattle.tmpl.proofs.messages.part.put_line.Goals as goal
 
 pub returns-in_err-put_all : goal.returns-in_err-put_all

@@ -1,5 +1,5 @@
 use Rattle.std.proofs.Common.{◌∙◌, ◌++◌, ap, sym, append_assoc}
-use Rattle.tmpl_values.proofs.Then.{along, stop, then}
+use Rattle.tmpl_values.proofs.PutLemmas.{along, stop, then}
 use Rattle.tmpl.proofs.MessageLemmas.{parts-more}
 use Rattle.tmpl.proofs.messages.part.put_parts.Goals as goal
 

@@ -1,5 +1,5 @@
 use Rattle.std.proofs.Common.{◌≡◌, ◌+◌, ◌≤◌, Some, drop, map}
-use Rattle.tmpl_lex.specs.Piece.{token_of}
+use Rattle.tmpl_lex.specs.View.{token_of}
 use Rattle.tmpl_grammar.specs.computed.Recognizer.{passes}
 use Rattle.tmpl_grammar.proofs.pipeline.recognizer.ends_pipeline.Given as goal
 

@@ -1,5 +1,5 @@
 use Rattle.std.proofs.Common.{◌∙◌, ◌++◌, List, ℕ, ap}
-use Rattle.tmpl_values.proofs.Then.{along, stop, then}
+use Rattle.tmpl_values.proofs.PutLemmas.{along, stop, then}
 use Rattle.tmpl.specs.View.{chunks_bytes}
 use Rattle.tmpl.specs.declared.evaluator.rope.Chunk.{Chunk}
 use Rattle.tmpl.proofs.evaluator.rope.Rope.put_to.Goals as goal
