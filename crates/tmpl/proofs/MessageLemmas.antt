@@ -1,7 +1,7 @@
 -- Lines and their pieces, and what is put of them.
 use Rattle.std.proofs.Common.{◌≡◌, ◌∙◌, ◌++◌, ◌+◌, ◌<◌, ℕ, List, [], ◌∷◌, Option, Result, refl, ap, sym, drop, get_or, length, append_assoc, codes, inr}
 use Rattle.std.proofs.lemmas.List.{at_drop_more}
-use Rattle.tmpl_values.proofs.PutLemmas.{none}
+use Rattle.tmpl_values.proofs.PutLemmas.{IsPut-nil}
 use Rattle.tmpl_run.specs.Sink.{IsPut, Sunk, Whole, as_puts, sunk}
 use Rattle.tmpl_run.specs.declared.sink.SinkFault.{SinkFault}
 use Rattle.tmpl_run.proofs.PutLemmas.{counts_once, whole_or_cut}
@@ -41,7 +41,7 @@ pub ruleset said = (put_once, put_says)
 
 -- nothing is put
 pub nothing_put : (a : Option Bytes) (n : ℕ) → Whole [] (sunk a a n n)
-nothing_put a n = none (as_puts a n)
+nothing_put a n = IsPut-nil (as_puts a n)
 
 -- memory was refused, and nothing was put
 pub nothing_out : (e : Answer) (a : Option Bytes) (n : ℕ) (err : Sunk) (code : ℕ) → code ≡ 7 → Says memory_line err → Outcome e (sunk a a n n) err code

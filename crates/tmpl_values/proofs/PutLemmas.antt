@@ -36,8 +36,8 @@ IsPut-append {old = old} {mid = mid} {new = new} {a = a} {b = b} {r = r} first s
 pub IsPut-stop : {F : Type 0} {r : Result (Unit {0}) F} {old new : Puts} {a : List ℕ} {e : F} (b : List ℕ) → IsErr r → IsPut {F = F} (Err e) old new a → IsPut r old new (a ++ b)
 IsPut-stop {r = Ok u} b err h = cc
 IsPut-stop {r = Err f} {old = old} {a = a} b err h =
-    let begins_with-encode = h.bytes in
-    record { count = h.count; bytes = (begins_with-encode.0, begins_with-encode.1 ++ b, ap (λ t. t ++ b) begins_with-encode.2 ∙ append_assoc begins_with-encode.0 begins_with-encode.1 b, begins_with-encode.3); through = h.through }
+    let begins = h.bytes in
+    record { count = h.count; bytes = (begins.0, begins.1 ++ b, ap (λ t. t ++ b) begins.2 ∙ append_assoc begins.0 begins.1 b, begins.3); through = h.through }
 
 pub IsPut-along : {F : Type 0} {r : Result (Unit {0}) F} {old new : Puts} {a b : List ℕ} → IsPut r old new a → a ≡ b → IsPut r old new b
 IsPut-along {F} {r} {old} {new} h e = subst (IsPut r old new) e h

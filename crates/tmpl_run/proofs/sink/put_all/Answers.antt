@@ -1,7 +1,7 @@
 use Rattle.std.proofs.Common.{◌∙◌, List, [], ℕ, take, drop, Ok, arith, refl, length-drop, sym, add-zero}
 use Rattle.std.proofs.lemmas.List.{take-append-drop, take_rest}
 use Rattle.std.proofs.Math.Seq.{take-add}
-use Rattle.tmpl_values.proofs.PutLemmas.{along, none, then}
+use Rattle.tmpl_values.proofs.PutLemmas.{IsPut-along, IsPut-nil, IsPut-append}
 use Rattle.tmpl_run.specs.Sink.{IsPut, as_puts}
 use Rattle.tmpl_run.specs.declared.sink.SinkFault.{SinkFault}
 use Rattle.tmpl_run.proofs.ToldLemmas.{err_up}
@@ -21,7 +21,7 @@ loop-taken-preserved g c =
     } in
     record {
       within = let count = rw rest at put.count.1 in omega (arith, length-drop {A = ℕ}, count);
-      put = along (then c.loop-taken.invariant.put more) (sym (take-add c.loop-taken.taken n c.args.text.now));
+      put = IsPut-along (IsPut-append c.loop-taken.invariant.put more) (sym (take-add c.loop-taken.taken n c.args.text.now));
     }
 
 pub returns-in_err-taken : goal.returns-in_err-taken
@@ -32,7 +32,7 @@ returns-in_err-taken g c =
     let next = as_puts (g.S.Sink.taken c.put.new.self) (g.S.Sink.failures c.put.new.self) in
     let put = c.in_err-taken.ensures in
     let rest : List ℕ = drop taken text in
-    let nothing = none {F = SinkFault} here in
+    let nothing = IsPut-nil {F = SinkFault} here in
     let failed = err_up (λ r. IsPut r here next rest) c.from_residual.result _ c.from_residual.ensures.1
     (record { count = put.failed; bytes = ([], rest, refl, put.refused ∙ nothing.bytes); through = refl }) in
-    along (then c.loop-taken.invariant.put failed) (take-append-drop taken text)
+    IsPut-along (IsPut-append c.loop-taken.invariant.put failed) (take-append-drop taken text)

@@ -1,5 +1,5 @@
 use Rattle.std.proofs.Common.{◌∙◌, ◌++◌, ◌+◌, List, ℕ, ap, sym, drop, append_assoc}
-use Rattle.tmpl_values.proofs.PutLemmas.{along, stop, then}
+use Rattle.tmpl_values.proofs.PutLemmas.{IsPut-along, IsPut-stop, IsPut-append}
 use Rattle.tmpl.specs.View.{chunk_bytes, chunks_bytes}
 use Rattle.tmpl.specs.declared.evaluator.rope.Chunk.{Chunk}
 use Rattle.tmpl.proofs.RopeLemmas.{chunks_bytes-more}
@@ -11,7 +11,7 @@ returns-in_err-put_chunk g c =
     let rest = chunks_bytes (drop (c.loop-chunk.chunk-index + 1) chunks) in
     let before = c.loop-chunk.invariant in
     let more = chunks_bytes-more chunks c.loop-chunk.chunk-index c.chunk-item.result c.loop-chunk-test.true ∙ ap (λ (d : Chunk). chunk_bytes d ++ rest) (sym c.chunk-item.is) in
-    along (then before.2 (stop rest c.from_residual.ensures.0 c.in_err-put_chunk.ensures))
+    IsPut-along (IsPut-append before.2 (IsPut-stop rest c.from_residual.ensures.0 c.in_err-put_chunk.ensures))
     (sym (before.1 ∙ ap (λ (r : List ℕ). before.0 ++ r) more))
 
 pub loop-chunk-preserved : goal.loop-chunk-preserved
@@ -23,5 +23,5 @@ loop-chunk-preserved g c =
     let more = chunks_bytes-more chunks c.loop-chunk.chunk-index c.chunk-item.result c.loop-chunk-test.true ∙ ap (λ (d : Chunk). chunk_bytes d ++ rest) (sym c.chunk-item.is) in (
       before.0 ++ item,
       before.1 ∙ ap (λ (r : List ℕ). before.0 ++ r) more ∙ sym (append_assoc before.0 item rest),
-      then before.2 c.in_ok-put_chunk.ensures,
+      IsPut-append before.2 c.in_ok-put_chunk.ensures,
     )

@@ -1,5 +1,5 @@
 use Rattle.std.proofs.Common.{◌∙◌, ◌++◌, List, [], ◌∷◌, ap}
-use Rattle.tmpl_values.proofs.PutLemmas.{along, stop, then}
+use Rattle.tmpl_values.proofs.PutLemmas.{IsPut-along, IsPut-stop, IsPut-append}
 use Rattle.tmpl_run.specs.View.{cause_of}
 use Rattle.tmpl.specs.Part.{joined, line}
 use Rattle.tmpl.specs.Tool.{cause_pieces}
@@ -9,25 +9,25 @@ use Rattle.tmpl.proofs.MessageLemmas.{line-parted}
 use Rattle.tmpl.proofs.messages.lines.put_fault.Goals as goal
 
 pub returns-in_err-put_all : goal.returns-in_err-put_all
-returns-in_err-put_all g c = stop _ c.from_residual.ensures.0 c.in_err-put_all.ensures
+returns-in_err-put_all g c = IsPut-stop _ c.from_residual.ensures.0 c.in_err-put_all.ensures
 
 pub returns-in_err-put_parts : goal.returns-in_err-put_parts
 returns-in_err-put_parts g c =
     let reason = cause_pieces (cause_of c.args.fault.now.kind) in
-    along
-    (then c.in_ok-put_all.ensures (stop (joined reason ++ 10 ∷ []) c.from_residual-in_err-put_parts.ensures.0 c.in_err-put_parts.ensures))
+    IsPut-along
+    (IsPut-append c.in_ok-put_all.ensures (IsPut-stop (joined reason ++ 10 ∷ []) c.from_residual-in_err-put_parts.ensures.0 c.in_err-put_parts.ensures))
     (line-parted (pieces_of c.as_slice.result.now) reason ∙ ap (λ (ps : List Part). line (pieces_of ps ++ reason)) c.as_slice.ensures)
 
 pub returns-in_err-put_reason : goal.returns-in_err-put_reason
 returns-in_err-put_reason g c =
     let reason = cause_pieces (cause_of c.args.fault.now.kind) in
-    along
-    (then c.in_ok-put_all.ensures
-    (then c.in_ok-put_parts.ensures (stop (10 ∷ []) c.from_residual-in_err-put_reason.ensures.0 c.in_err-put_reason.ensures)))
+    IsPut-along
+    (IsPut-append c.in_ok-put_all.ensures
+    (IsPut-append c.in_ok-put_parts.ensures (IsPut-stop (10 ∷ []) c.from_residual-in_err-put_reason.ensures.0 c.in_err-put_reason.ensures)))
     (line-parted (pieces_of c.as_slice.result.now) reason ∙ ap (λ (ps : List Part). line (pieces_of ps ++ reason)) c.as_slice.ensures)
 
 pub returns : goal.returns
 returns g c =
     let reason = cause_pieces (cause_of c.args.fault.now.kind) in
-    along (then c.in_ok-put_all.ensures (then c.in_ok-put_parts.ensures (then c.in_ok-put_reason.ensures c.put_all-2.ensures)))
+    IsPut-along (IsPut-append c.in_ok-put_all.ensures (IsPut-append c.in_ok-put_parts.ensures (IsPut-append c.in_ok-put_reason.ensures c.put_all-2.ensures)))
     (line-parted (pieces_of c.as_slice.result.now) reason ∙ ap (λ (ps : List Part). line (pieces_of ps ++ reason)) c.as_slice.ensures)

@@ -1,5 +1,5 @@
 use Rattle.std.proofs.Common.{◌∙◌, ◌++◌, ap, sym, append_assoc}
-use Rattle.tmpl_values.proofs.PutLemmas.{along, stop, then}
+use Rattle.tmpl_values.proofs.PutLemmas.{IsPut-along, IsPut-stop, IsPut-append}
 use Rattle.tmpl.proofs.MessageLemmas.{parts-more}
 use Rattle.tmpl.proofs.messages.part.put_parts.Goals as goal
 
@@ -7,7 +7,7 @@ pub returns-in_err-put_part : goal.returns-in_err-put_part
 returns-in_err-put_part g c =
     let before = c.loop-part.invariant in
     let more = parts-more c.args.parts.now c.loop-part.part-index _ c.loop-part-test.true in
-    along (then before.2 (stop _ c.from_residual.ensures.0 c.in_err-put_part.ensures))
+    IsPut-along (IsPut-append before.2 (IsPut-stop _ c.from_residual.ensures.0 c.in_err-put_part.ensures))
     (sym (before.1 ∙ ap (λ r. before.0 ++ r) more))
 
 pub loop-part-preserved : goal.loop-part-preserved
@@ -16,5 +16,5 @@ loop-part-preserved g c =
     let more = parts-more c.args.parts.now c.loop-part.part-index _ c.loop-part-test.true in (
       before.0 ++ _,
       before.1 ∙ ap (λ r. before.0 ++ r) more ∙ sym (append_assoc before.0 _ _),
-      then before.2 c.in_ok-put_part.ensures,
+      IsPut-append before.2 c.in_ok-put_part.ensures,
     )
