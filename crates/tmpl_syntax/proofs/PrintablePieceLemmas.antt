@@ -2,7 +2,6 @@
 use Rattle.std.proofs.Common.{arith, ◌≡◌, ◌∙◌, ℕ, zero, suc, ◌+◌, Bool, true, false, ◌&&◌, nat_eq, List, [], ◌∷◌, ◌++◌, Option, Some, None, refl, ap, subst, take, drop}
 use Rattle.tmpl_values.proofs.Runes.{AreBytes}
 use Rattle.tmpl_lex.specs.Marker.{End, closing, ended_by, closes, right_marked, past_left, behind_marker, left_marked}
-use Rattle.tmpl_lex.specs.Named.{OfKind}
 use Rattle.tmpl_lex.specs.Piece.{Token, Piece, text, action, unreadable}
 use Rattle.tmpl_lex.specs.Text.{texts, text_piece, leading, without_leading, newlines}
 use Rattle.tmpl_lex.specs.Cut.{split_here, split_pair, split_open, with_first, Spells, ended, stuck, spelled, comment_end, comment_closed, opens_comment, Cuts, last, dropped, closed, unclosed}

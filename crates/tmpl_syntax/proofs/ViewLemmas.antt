@@ -3,7 +3,6 @@ use Rattle.std.proofs.Common.{rules, ◌≡◌, ℕ, Vec, Global}
 use Rattle.tmpl_grammar.specs.View.{header_of}
 use Rattle.tmpl_grammar.specs.declared.tree.Control as held_control
 use Rattle.tmpl_grammar.specs.declared.tree.Header as held_header
-use Rattle.tmpl_syntax.specs.Tree as tree
 use Rattle.tmpl_syntax.specs.Tree.{control_node}
 use Rattle.tmpl_syntax.specs.View.{kind_of, node_of, nodes_in}
 use Rattle.tmpl_syntax.specs.declared.tree.Node as held_node
