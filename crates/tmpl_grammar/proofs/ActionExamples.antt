@@ -1,9 +1,8 @@
 -- What the grammar spells, and what it does not.
-use Rattle.std.proofs.Common.{arith, ℕ, pos, List, [], ◌∷◌, ◌++◌, refl, codes, replicate}
+use Rattle.std.proofs.Common.{ℕ, pos, List, [], ◌∷◌, refl, codes}
 use Rattle.tmpl_lex.specs.declared.piece.TokenKind.TheVariants as kind
-use Rattle.tmpl_lex.specs.Piece.{Token, text, action, unreadable}
+use Rattle.tmpl_lex.specs.Piece.{Token}
 use Rattle.tmpl_grammar.specs.declared.tree.Control.TheVariants as control
-use Rattle.tmpl_grammar.specs.declared.action.Shape.TheVariants as shape
 use Rattle.tmpl_grammar.specs.Constant.{constant_of}
 use Rattle.tmpl_grammar.specs.Constant.Integer.{whole}
 use Rattle.tmpl_grammar.specs.Operand.{operand_at, word_operand, func_named}

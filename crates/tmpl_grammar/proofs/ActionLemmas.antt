@@ -14,7 +14,6 @@ use Rattle.tmpl_grammar.specs.Header.{IsSign, IsVariable, Then, SpellsWhole, Spe
 use Rattle.tmpl_grammar.specs.Keyword.{spelling, IsWord}
 use Rattle.tmpl_grammar.specs.computed.Reading.{header_in, spells_keyword, keyword_by, keyword_of, alone, else_keyword, else_by, action_by, action_behind, action_at, action_in}
 use Rattle.tmpl_grammar.specs.Laws.{ReadsSpelledAction, SpellsReadAction, SpellsOneAction}
-use Rattle.tmpl_grammar.specs.declared.tree.Control.{Control}
 use Rattle.tmpl_grammar.specs.declared.tree.Control.TheVariants as control
 use Rattle.tmpl_grammar.specs.declared.action.Branch.TheVariants as branch
 use Rattle.tmpl_grammar.specs.declared.action.Shape.{Shape}
@@ -25,7 +24,6 @@ use Rattle.tmpl_grammar.proofs.OptionLemmas.{no-value, mapped}
 use Rattle.tmpl_grammar.proofs.TokenLemmas.{no-next, blank-next, blank-all, all-blank, then-led, led-then}
 use Rattle.tmpl_grammar.proofs.StrayLemmas.{word-stray, then-stray, dead-read, blank-read, spelled-lives}
 use Rattle.tmpl_grammar.proofs.HeaderLemmas.{variable-other, IsRest, header-read, header-spelled}
-use Rattle.tmpl_grammar.specs.Constant.Quoted.{Spelled}
 
 -- ---- keywords
 

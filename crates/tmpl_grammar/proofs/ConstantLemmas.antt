@@ -60,63 +60,6 @@ pub constant-value : (t : Token) → IsValue (constant_of t)
 unfolding constant_of
 constant-value t = value-by t.kind t.bytes
 
--- an operand without parentheses
-abbrev pub IsFlat : Option Operand → Type 0
-IsFlat None = Unit {0}
-IsFlat (Some o) = depth_of_operand o ≡ 0
-
-value-flat : (o : Option Operand) → IsValue o → IsFlat o
-value-flat None v = tt
-value-flat (Some tree.dot) v = absurd v
-value-flat (Some (tree.fields names)) v = absurd v
-value-flat (Some (tree.variable name names)) v = absurd v
-value-flat (Some (tree.bool_constant b)) v = absurd v
-value-flat (Some (tree.number_constant n)) v = refl
-value-flat (Some (tree.text_constant bytes)) v = refl
-value-flat (Some tree.nil) v = absurd v
-value-flat (Some (tree.function f)) v = absurd v
-value-flat (Some (tree.group commands names)) v = absurd v
-
-function-flat : (o : Option Func) → IsFlat (option_map tree.function o)
-function-flat None = tt
-function-flat (Some f) = refl
-
-cond-flat : (b : Bool) (o p : Option Operand) → IsFlat o → IsFlat p → IsFlat (cond b o p)
-cond-flat true o p x y = x
-cond-flat false o p x y = y
-
-word-flat : (name : List ℕ) → IsFlat (word_operand name)
-unfolding word_operand
-word-flat name =
-    cond-flat (bytes_eq name (codes "true")) (Some (tree.bool_constant true)) _ refl
-    (cond-flat (bytes_eq name (codes "false")) (Some (tree.bool_constant false)) _ refl
-    (cond-flat (bytes_eq name (codes "nil")) (Some tree.nil) _ refl (function-flat (func_named name))))
-
-field-flat : (b : Bool) (name : List ℕ) → IsFlat (field_operand b name)
-field-flat true name = refl
-field-flat false name = tt
-
-flat-by : (k : TokenKind) (t : Token) → IsFlat (operand_by k t)
-flat-by kind.Dot t = refl
-flat-by kind.Field t = field-flat (begins_name (name_in t)) (name_in t)
-flat-by kind.Variable t = refl
-flat-by kind.Word t = word-flat t.bytes
-flat-by kind.Number t = value-flat (constant_of t) (constant-value t)
-flat-by kind.String t = value-flat (constant_of t) (constant-value t)
-flat-by kind.RawString t = value-flat (constant_of t) (constant-value t)
-flat-by kind.Character t = value-flat (constant_of t) (constant-value t)
-flat-by kind.Space t = tt
-flat-by kind.Declare t = tt
-flat-by kind.Assign t = tt
-flat-by kind.Comma t = tt
-flat-by kind.Pipe t = tt
-flat-by kind.LeftParenthesis t = tt
-flat-by kind.RightParenthesis t = tt
-
-pub flat-at : (t : Token) → IsFlat (operand_at t)
-unfolding operand_at
-flat-at t = flat-by t.kind t
-
 -- an operand of one token
 abbrev pub IsToken : Option Operand → Type 0
 IsToken None = Unit {0}
@@ -181,3 +124,23 @@ token-by kind.RightParenthesis t = tt
 pub token-form : (t : Token) → IsToken (operand_at t)
 unfolding operand_at
 token-form t = token-by t.kind t
+
+-- an operand without parentheses
+abbrev pub IsFlat : Option Operand → Type 0
+IsFlat None = Unit {0}
+IsFlat (Some o) = depth_of_operand o ≡ 0
+
+token-flat : (o : Option Operand) → IsToken o → IsFlat o
+token-flat None is = tt
+token-flat (Some tree.dot) is = refl
+token-flat (Some (tree.fields names)) is = refl
+token-flat (Some (tree.variable name names)) is = refl
+token-flat (Some (tree.bool_constant b)) is = refl
+token-flat (Some (tree.number_constant n)) is = refl
+token-flat (Some (tree.text_constant bytes)) is = refl
+token-flat (Some tree.nil) is = refl
+token-flat (Some (tree.function f)) is = refl
+token-flat (Some (tree.group commands names)) is = absurd is
+
+pub flat-at : (t : Token) → IsFlat (operand_at t)
+flat-at t = token-flat (operand_at t) (token-form t)

@@ -1,5 +1,5 @@
 -- Lists through a map, the last of a list, and the rest of one.
-use Rattle.std.proofs.Common.{arith, ◌≡◌, ◌∙◌, ◌+◌, ◌-◌, ◌≤◌, ◌<◌, ℕ, zero, suc, Bool, List, [], ◌∷◌, ◌++◌, refl, ap, sym, cond, get_or, drop-cons, add-one, map, length, take, drop, length-drop, reverse}
+use Rattle.std.proofs.Common.{arith, ◌≡◌, ◌∙◌, ◌+◌, ◌-◌, ◌≤◌, ◌<◌, ℕ, Bool, List, [], ◌∷◌, ◌++◌, refl, ap, sym, cond, get_or, drop-cons, add-one, map, length, take, drop, length-drop, reverse}
 use Rattle.std.specs.List.{prefix_len}
 use Rattle.std.proofs.Math.Seq.{take-length}
 use Rattle.std.proofs.lemmas.List.{map-append, reverse-append}

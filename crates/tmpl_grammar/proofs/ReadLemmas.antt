@@ -2,6 +2,7 @@
 use Rattle.std.proofs.Common.{◌≡◌, ◌∙◌, ℕ, true, false, Bool, List, [], ◌∷◌, ◌++◌, Option, Some, None, refl, ap, sym, subst, append_assoc}
 use Rattle.std.proofs.lemmas.List.{append-nil}
 use Rattle.std.specs.Option.{option_map, option_and_then}
+use Rattle.std.proofs.lemmas.Option.{same_Some}
 use Rattle.tmpl_lex.specs.declared.piece.TokenKind.{TokenKind}
 use Rattle.tmpl_lex.specs.declared.piece.TokenKind.TheVariants as kind
 use Rattle.tmpl_lex.specs.Piece.{Token}
@@ -13,7 +14,7 @@ use Rattle.tmpl_grammar.specs.computed.Parser as parser
 use Rattle.tmpl_grammar.specs.computed.Parser.{Parser, Partial, settled, more_commands, may_stand, kept, linked, linked_by, step, step_by, steps, finished, finished_with, commands_after}
 use Rattle.tmpl_grammar.specs.Pipeline.{IsBlank, IsChain, IsChained, MayBeLater, SpellsOperand, SpellsMore, SpellsCommand, SpellsLater, SpellsPipeline}
 use Rattle.tmpl_grammar.proofs.ConstantLemmas.{IsToken, token-form}
-use Rattle.tmpl_grammar.proofs.SpelledLemmas.{parser_at, operand_list, command_list, operands-back, commands-back}
+use Rattle.tmpl_grammar.proofs.SpelledLemmas.{parser_at, operand_list, command_list, operands-back, commands-back, Chains, fields-chain, variable-chain, group-chain}
 
 -- fields continue an operand's chain
 abbrev Extends : Operand → List Token → Operand → Type 0
@@ -217,17 +218,10 @@ operand-within [] us o cs os spells may ts all e = operand-before us o cs os spe
 operand-within (l ∷ ls) us o cs os spells may ts all (a, r, b, inner, is, right, partial, rest) =
     (us ++ a, r, b, inner, ap (λ vs. us ++ vs) is ∙ sym (append_assoc us a (r ∷ b)), right, operand-before us o cs os spells may a inner partial, rest)
 
--- a chain by its names
-abbrev Chains : (List (List ℕ) → Operand) → Type 0
-Chains f = (ns : List (List ℕ)) (n : List ℕ) → linked (f ns) n ≡ Some (f (ns ++ n ∷ []))
-
-some-same : (o p q : Operand) → o ≡ p → ◌≡◌ {A = Option Operand} (Some p) (Some q) → o ≡ q
-some-same o p q e f = let g : o ≡ q = cc in g
-
 chained : (f : List (List ℕ) → Operand) → Chains f → (ns : List (List ℕ)) (ts : List Token) (p : Operand) → Extends (f ns) ts p → (names : List (List ℕ)) × (p ≡ f (ns ++ names)) × IsChain names ts
 chained f can ns [] p e = ([], sym e ∙ ap f (sym (append-nil ns)), refl)
 chained f can ns (t ∷ ts) p (is, begins, (q, link, rest)) =
-    let same : f (ns ++ name_in t ∷ []) ≡ q = some-same _ _ q refl (sym (can ns (name_in t)) ∙ link) in
+    let same : f (ns ++ name_in t ∷ []) ≡ q = same_Some _ _ (sym (can ns (name_in t)) ∙ link) in
     let behind = chained f can (ns ++ name_in t ∷ []) ts p (subst (λ o. Extends o ts p) (sym same) rest) in
     (name_in t ∷ behind.0, behind.1 ∙ ap f (append_assoc ns (name_in t ∷ []) behind.0), (t, ts, refl, is, begins, refl, behind.2))
 
@@ -240,15 +234,6 @@ one-spells : (o : Operand) (t : Token) → operand_at t ≡ Some o → ((n : Lis
 one-spells o t is cannot spells ts p e =
     let u = unchained o cannot ts p e in
     subst (λ p. SpellsOperand p (t ∷ ts)) u.0 (spells (t ∷ ts) (t, ts, refl, is, u.1))
-
-fields-chain : Chains tree.fields
-fields-chain ns n = refl
-
-variable-chain : (x : List ℕ) → Chains (tree.variable x)
-variable-chain x ns n = refl
-
-group-chain : (cs : Commands) → Chains (tree.group cs)
-group-chain cs ns n = refl
 
 token-spells : (t : Token) (o : Operand) → operand_at t ≡ Some o → Spells o (t ∷ [])
 token-spells t o at = by o at (subst IsToken at (token-form t))

@@ -84,7 +84,7 @@ placed-step t o ls cs os is may = by t.kind refl
     by kind.RightParenthesis e = none (ap (λ k. operand_by k t) (sym e) ∙ is)
 
 -- an operand that chains may be added to
-abbrev Chains : (List (List ℕ) → Operand) → Type 0
+abbrev pub Chains : (List (List ℕ) → Operand) → Type 0
 Chains f = (ns : List (List ℕ)) (n : List ℕ) → linked (f ns) n ≡ Some (f (ns ++ n ∷ []))
 
 link-step : (f : List (List ℕ) → Operand) → Chains f → (ls : List Partial) (cs : List Operands) (os : List Operand) (ns : List (List ℕ)) (t : Token) → t.kind ≡ kind.Field → begins_name (name_in t) ≡ true → step t (parser_at ls cs os (Some (f ns))) ≡ Some (parser_at ls cs os (Some (f (ns ++ name_in t ∷ []))))
@@ -104,13 +104,13 @@ chain-steps f can ls cs os (n ∷ names) ns ts (t, us, is, field, begins, name, 
     ∙ ap (λ m. Some (parser_at ls cs os (Some (f m)))) (append_assoc ns (name_in t ∷ []) names)
     ∙ ap (λ m. Some (parser_at ls cs os (Some (f (ns ++ m ∷ names))))) name
 
-fields-chain : Chains tree.fields
+pub fields-chain : Chains tree.fields
 fields-chain ns n = refl
 
-variable-chain : (x : List ℕ) → Chains (tree.variable x)
+pub variable-chain : (x : List ℕ) → Chains (tree.variable x)
 variable-chain x ns n = refl
 
-group-chain : (cs : Commands) → Chains (tree.group cs)
+pub group-chain : (cs : Commands) → Chains (tree.group cs)
 group-chain cs ns n = refl
 
 one-steps : (o : Operand) (ls : List Partial) (cs : List Operands) (os : List Operand) (ts : List Token) → IsChained o [] ts → may_stand cs os o ≡ true → steps (Some (parser_at ls cs os None)) ts ≡ Some (parser_at ls cs os (Some o))

@@ -1,6 +1,5 @@
 -- Lists and what is made of each of their elements.
-use Rattle.std.proofs.Common.{arith, ◌≡◌, length, Bool, List, [], ◌∷◌, refl, ap, map, ◌||◌}
-use Rattle.std.specs.List.{list_any}
+use Rattle.std.proofs.Common.{arith, ◌≡◌, length, List, [], ◌∷◌, refl, ap, map}
 
 pub map-twice : {X Y Z : Type 0} (g : Y → Z) (f : X → Y) (xs : List X) → map g (map f xs) ≡ map (λ x. g (f x)) xs
 map-twice g f [] = refl

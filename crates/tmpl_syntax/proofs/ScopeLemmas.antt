@@ -1,9 +1,9 @@
 -- Names in scope move with what is open.
-use Rattle.std.proofs.Common.{arith, ◌≡◌, ◌≢◌, ℕ, ◌+◌, ◌<◌, ◌≤◌, true, false, List, refl, sym, subst, Option, Some, None, inl, inr, ⊎_elim, ◌⊎◌}
+use Rattle.std.proofs.Common.{arith, ◌≡◌, ◌≢◌, ℕ, ◌+◌, ◌<◌, ◌≤◌, false, List, refl, sym, subst, Option, Some, inl, inr, ⊎_elim, ◌⊎◌}
 use Rattle.std.specs.Prelude.{slice_get, Contains}
 use Rattle.std.proofs.lemmas.Bool.{cases_lt}
 use Rattle.tmpl_grammar.specs.declared.action.Branch.{Branch}
-use Rattle.tmpl_syntax.specs.Place.Open.{IsOpening, IsOpen, NothingOpen, IsLast, IsElseOf, IsElseBranchOf, HasElse, is_template, IsBody, IsTemplate, OfOneTemplate}
+use Rattle.tmpl_syntax.specs.Place.Open.{IsOpening, IsOpen, NothingOpen, IsLast, IsElseOf, IsElseBranchOf, HasElse, is_template, IsTemplate, OfOneTemplate}
 use Rattle.tmpl_syntax.specs.Place.Scope.{Declares, at_the_top, inside, in_header, in_else_branch, IsInScope}
 use Rattle.tmpl_syntax.proofs.OpenLemmas.{same-piece, cut, Same, opened-keeps, opened_new}
 use Rattle.tmpl_syntax.proofs.PlaceLemmas.{alike-even, alike-back, alike-opened, one-moves, template-moves, else_before, else-same, no-else_branch}

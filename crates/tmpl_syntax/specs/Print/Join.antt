@@ -4,7 +4,6 @@ use Rattle.std.specs.Char.{is_ascii_digit}
 use Rattle.tmpl_lex.specs.Bytes.{is_space}
 use Rattle.tmpl_lex.specs.Trim.{right_delimiter}
 use Rattle.tmpl_lex.specs.Text.{text_piece}
-use Rattle.tmpl_lex.specs.Token.{front_token}
 use Rattle.tmpl_lex.specs.Piece.{Token, Piece, text, action}
 use Rattle.tmpl_lex.specs.Cut.{Cuts, split_open}
 use Rattle.tmpl_syntax.specs.declared.print.Before.{Before}

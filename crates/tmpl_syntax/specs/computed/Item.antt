@@ -1,5 +1,5 @@
 -- The items of a file's pieces, computed.
-use Rattle.std.specs.Prelude.{ℕ, List, map}
+use Rattle.std.specs.Prelude.{List, map}
 use Rattle.tmpl_lex.specs.Piece as piece
 use Rattle.tmpl_grammar.specs.Action.{Action}
 use Rattle.tmpl_grammar.specs.Depth.{Reading, unread, too_deep, read}
