@@ -11,7 +11,7 @@ use Rattle.tmpl_syntax.specs.declared.fault.ParseKind.TheVariants as kind
 use Rattle.tmpl_syntax.specs.declared.place.frame.Frame.{Frame}
 use Rattle.tmpl_syntax.specs.declared.item.Item as held
 use Rattle.tmpl_syntax.specs.Fault.{parse_kind}
-use Rattle.tmpl_syntax.specs.Item.{Item, line_of}
+use Rattle.tmpl_syntax.specs.Item.{Item}
 use Rattle.tmpl_syntax.specs.View.{item_of}
 use Rattle.tmpl_syntax.specs.Place.Role.{Name, Role, role_of, roles_of}
 use Rattle.tmpl_syntax.specs.Place.Body.{Verdict, fine, refused, left_open}
@@ -88,10 +88,10 @@ module _ (bytes : List ℕ) (items : List Item) where
   unfolding checked
   by v e = ap (by_verdict (last_line bytes) items) e
 
-  pub checked-refused : (i : ℕ) (x : Item) (f : Fault) (line : ℕ) (k : ParseKind) → slice_get items i ≡ Some x → verdict_of (roles_of items) ≡ refused i f → line ≡ line_of x → k ≡ parse_kind f → IsRefusal (checked bytes items) line k
+  pub checked-refused : (i : ℕ) (x : Item) (f : Fault) (line : ℕ) (k : ParseKind) → slice_get items i ≡ Some x → verdict_of (roles_of items) ≡ refused i f → line ≡ line_in (Some x) → k ≡ parse_kind f → IsRefusal (checked bytes items) line k
   checked-refused i x f line k at e is kind_is =
-      subst (λ n. IsRefusal (checked bytes items) n k) (sym is) (subst (λ z. IsRefusal (checked bytes items) (line_of x) z) (sym kind_is)
-      (fault-refusal (checked bytes items) (line_of x) f (by (refused i f) e ∙ ap (λ o. Err (line_in o, parse_kind f)) at)))
+      subst (λ n. IsRefusal (checked bytes items) n k) (sym is) (subst (λ z. IsRefusal (checked bytes items) (line_in (Some x)) z) (sym kind_is)
+      (fault-refusal (checked bytes items) (line_in (Some x)) f (by (refused i f) e ∙ ap (λ o. Err (line_in o, parse_kind f)) at)))
 
   pub checked-fine : (fs : List Frame) → length fs ≡ 0 → verdict_of (roles_of items) ≡ at_end fs → checked bytes items ≡ Ok tt
   checked-fine [] n e = by fine e

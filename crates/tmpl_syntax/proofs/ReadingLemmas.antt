@@ -1,5 +1,5 @@
 -- What a file's reading says by the verdict on its items.
-use Rattle.std.proofs.Common.{arith, ◌≡◌, ◌<◌, ◌≤◌, ℕ, List, [], ◌∷◌, get_or, Some, Result, Ok, Err, refl, sym, ap, subst, ◌∙◌, length, ⊎_elim}
+use Rattle.std.proofs.Common.{arith, ◌≡◌, ◌<◌, ◌≤◌, ℕ, List, [], ◌∷◌, get_or, Option, Some, Result, Ok, Err, refl, sym, ap, subst, ◌∙◌, length, ⊎_elim}
 use Rattle.std.specs.Prelude.{slice_get}
 use Rattle.std.proofs.lemmas.Bool.{cases_lt}
 use Rattle.std.proofs.lemmas.List.{length-map}
@@ -9,7 +9,7 @@ use Rattle.tmpl_syntax.specs.declared.fault.Fault.TheVariants as fault
 use Rattle.tmpl_syntax.specs.declared.fault.ParseKind.{ParseKind}
 use Rattle.tmpl_syntax.specs.declared.fault.ParseKind.TheVariants.{Unreadable, NotAnAction, OutOfPlace, NestedTooDeeply, UndeclaredVariable, OpenAtEnd, TooLong, OutOfMemory}
 use Rattle.tmpl_syntax.specs.Fault.{parse_kind}
-use Rattle.tmpl_syntax.specs.Item.{Item, HasItems}
+use Rattle.tmpl_syntax.specs.Item.{ItemKind, Item, item, HasItems}
 use Rattle.tmpl_syntax.specs.Place.Role.{role_of, roles_of}
 use Rattle.tmpl_syntax.specs.Place.Body.{Verdict, fine, refused, left_open, Judged}
 use Rattle.tmpl_syntax.specs.computed.Frames.{verdict_of}
@@ -22,6 +22,10 @@ use Rattle.tmpl_syntax.proofs.OneVerdictLemmas.{within}
 use Rattle.tmpl_syntax.proofs.VerdictLemmas.{judged-all}
 use Rattle.tmpl_syntax.proofs.SpellingLemmas.{spells-fine}
 use Rattle.tmpl_syntax.proofs.FileLemmas.{parsed-long, parsed-short}
+
+-- an item at a line that is told
+named-item : (o : Option Item) (x : Item) (line : ℕ) → o ≡ Some x → line ≡ line_in (Some x) → (what : ItemKind) × (o ≡ Some (item line what))
+named-item o (item n what) line at e = (what, at ∙ ap (λ l. Some (item l what)) (sym e))
 
 -- a refusal, and a value, by the result that has it
 abbrev refusal_or : Refusal → Result (List Template) Refusal → Refusal
@@ -82,7 +86,8 @@ module _ (set : List Template) (file bytes : List ℕ) where
   refused-there i f line e j =
       let lt : i < length (items_of bytes) = let n = within (roles_of (items_of bytes)) i f j.applies in omega (arith, n, length-map (items_of bytes) role_of) in
       let x = item-there (items_of bytes) i lt in
-      record { place = i; fault = f; first = j; item = x.0; at = x.1; line_is = e ∙ ap line_in x.1; kind_is = refl }
+      let it = named-item (slice_get (items_of bytes) i) x.0 line x.1 (e ∙ ap line_in x.1) in
+      record { place = i; fault = f; first = j; what = it.0; at = it.1; kind_is = refl }
 
   refusal-from : (line : ℕ) (kind : ParseKind) → parsed set file bytes ≡ Err (line, kind) → IsRefusedBy bytes line kind
   refusal-from line kind e = ⊎_elim

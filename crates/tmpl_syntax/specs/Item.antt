@@ -20,9 +20,6 @@ pub data ItemKind : Type 0 where
 pub data Item : Type 0 where
   item : ℕ → ItemKind → Item
 
-abbrev pub line_of : Item → ℕ
-line_of (item line what) = line
-
 -- a piece is read as this item
 pub data IsItem : Piece → Item → Type 0 where
   a_text : {line : ℕ} {bytes : List ℕ} → IsItem (text line bytes) (item line (text_item bytes))

@@ -5,7 +5,7 @@ use Rattle.std.specs.List.{after_last}
 use Rattle.std.specs.Borrow.{Bor}
 use Rattle.tmpl_lex.specs.Text.{newlines}
 use Rattle.tmpl_syntax.specs.Tree.{Nodes}
-use Rattle.tmpl_syntax.specs.Item.{Item, line_of, HasItems}
+use Rattle.tmpl_syntax.specs.Item.{ItemKind, Item, item, HasItems}
 use Rattle.tmpl_syntax.specs.Place.Role.{roles_of}
 use Rattle.tmpl_syntax.specs.Place.Body.{fine, refused, left_open, Judged}
 use Rattle.tmpl_syntax.specs.Spelling.{Spells}
@@ -39,9 +39,8 @@ pub record IsRefusedAt (items : List Item) (line : ℕ) (kind : ParseKind) : Typ
   pub place : ℕ
   pub fault : Fault
   pub first : Judged (roles_of items) (refused place fault)
-  pub item : Item
-  pub at : slice_get items place ≡ Some item
-  pub line_is : line ≡ line_of item
+  pub what : ItemKind
+  pub at : slice_get items place ≡ Some (item line what)
   pub kind_is : kind ≡ parse_kind fault
 
 -- a file of so many bytes is refused so

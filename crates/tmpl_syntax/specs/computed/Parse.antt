@@ -4,7 +4,7 @@ use Rattle.std.specs.Prelude.{if◌then◌else◌}
 use Rattle.std.specs.Borrow.{Bor}
 use Rattle.tmpl_lex.specs.computed.Cut.{cut_of}
 use Rattle.tmpl_syntax.specs.Tree.{Nodes}
-use Rattle.tmpl_syntax.specs.Item.{Item, line_of}
+use Rattle.tmpl_syntax.specs.Item.{Item, item}
 use Rattle.tmpl_syntax.specs.Parse.{last_line, base_name, most_bytes}
 use Rattle.tmpl_syntax.specs.Place.Role.{roles_of}
 use Rattle.tmpl_syntax.specs.Place.Body.{Verdict, fine, refused, left_open}
@@ -24,7 +24,7 @@ Refusal = ℕ × ParseKind
 
 abbrev pub line_in : Option Item → ℕ
 line_in None = 1
-line_in (Some x) = line_of x
+line_in (Some (item line what)) = line
 
 -- the line of the item at a place
 abbrev pub line_at : List Item → ℕ → ℕ
