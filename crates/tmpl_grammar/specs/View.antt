@@ -3,11 +3,11 @@ use Rattle.std.specs.Prelude.{ℕ, List, map, reverse, option_map}
 use Rattle.std.specs.Borrow.{Bor}
 use Rattle.tmpl_lex.specs.declared.piece.Token as held_token
 use Rattle.tmpl_lex.specs.Piece.{Token, token_of}
-use Rattle.tmpl_grammar.specs.Tree.{Operand, dot, fields, variable, bool_constant, number_constant, text_constant, nil}
-use Rattle.tmpl_grammar.specs.Tree.{function, group, Operands, operands_from, Commands, commands_from, Pipeline}
-use Rattle.tmpl_grammar.specs.Tree.{pipeline, Binding, unbound, declare, assign, declare_pair, Header}
-use Rattle.tmpl_grammar.specs.Action.{Action, pipeline_action, opening, plain_else, else_branch, end_action}
-use Rattle.tmpl_grammar.specs.Action.{break_action, continue_action}
+use Rattle.tmpl_grammar.specs.Tree.{Operand, dot, fields, variable, bool_constant, number_constant, text_constant}
+use Rattle.tmpl_grammar.specs.Tree.{nil, function, group, Operands, operands_from, Commands, commands_from}
+use Rattle.tmpl_grammar.specs.Tree.{Pipeline, pipeline, Binding, unbound, declare, assign, declare_pair, Header}
+use Rattle.tmpl_grammar.specs.Action.{Action, pipeline_action, opening, plain_else}
+use Rattle.tmpl_grammar.specs.Action.{else_branch, end_action, break_action, continue_action}
 use Rattle.tmpl_grammar.specs.Depth as depth
 use Rattle.tmpl_grammar.specs.computed.Reading as reading
 use Rattle.tmpl_grammar.specs.computed.Parser as parser
