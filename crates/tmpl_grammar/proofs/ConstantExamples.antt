@@ -110,9 +110,9 @@ unfolding constant_of parts part_at first_rune chars encode_utf8
 plain = refl
 
 -- an ill-formed byte gives U+FFFD
-ill_formed : constant_of (record { kind = kind.String; bytes = 34 ∷ 255 ∷ 97 ∷ 34 ∷ [] }) ≡ Some (text_constant (239 ∷ 191 ∷ 189 ∷ 97 ∷ []))
+ill-formed : constant_of (record { kind = kind.String; bytes = 34 ∷ 255 ∷ 97 ∷ 34 ∷ [] }) ≡ Some (text_constant (239 ∷ 191 ∷ 189 ∷ 97 ∷ []))
 unfolding constant_of parts part_at first_rune chars encode_utf8
-ill_formed = refl
+ill-formed = refl
 
 -- in a raw string a backslash and an ill-formed byte stand for themselves, and a carriage return for nothing
 raw : constant_of (record { kind = kind.RawString; bytes = 96 ∷ 92 ∷ 110 ∷ 255 ∷ 13 ∷ 10 ∷ 96 ∷ [] }) ≡ Some (text_constant (92 ∷ 110 ∷ 255 ∷ 10 ∷ []))

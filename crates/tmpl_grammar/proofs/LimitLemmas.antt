@@ -1,7 +1,7 @@
 -- What is within the limit of parentheses.
 use Rattle.std.proofs.Common.{arith, ◌≡◌, ◌∙◌, ◌≤◌, ◌<◌, ℕ, ◌+◌, Bool, true, false, nat_le, List, ◌∷◌, Option, Some, None, refl, ap, sym, subst, length, map, drop, is_some, ⊎_elim, Result, IfOk}
 use Rattle.std.proofs.lemmas.List.{length-map, length-reverse, drop_all}
-use Rattle.std.proofs.lemmas.Bool.{leb-true, le-leb}
+use Rattle.std.proofs.lemmas.Bool.{leb-true, le-leb, lt-leb}
 use Rattle.std.proofs.lemmas.Bool.Decides.{leb_tells}
 use Rattle.std.specs.Option.{option_map, option_and_then}
 use Rattle.tmpl_lex.specs.Piece.{Token}
@@ -19,16 +19,13 @@ use Rattle.tmpl_lex.specs.declared.piece.Token as held
 use Rattle.tmpl_grammar.specs.declared.pipeline.parser.PipelineParser as held_parser
 use Rattle.tmpl_grammar.specs.View.{parser_of, partial_of}
 
-nat_le-false : (m n : ℕ) → n < m → nat_le m n ≡ false
-nat_le-false m n h = ⊎_elim (λ y. absurd (let a = y.1 in omega (arith, a, h))) (λ e. e.0) (leb_tells m n)
-
 -- what a list of commands is within the limit
 abbrev pub limited_commands : Shape → Option (List Operands) → Reading Pipeline
 limited_commands s o = pipeline_within s (option_map pipeline_from o)
 
 deep-limited : (s : Shape) (n : ℕ) (o : Option (List Operands)) (b : Bool) → most_deep < n → is_some o ≡ b → IsAtLeast n o → too_deep_if b s ≡ limited_commands s o
 deep-limited s n None b h e d = ap (λ c. too_deep_if c s) (sym e)
-deep-limited s n (Some cs) b h e d = ap (λ c. too_deep_if c s) (sym e) ∙ sym (ap (λ c. limited_to c s (pipeline_from cs)) (nat_le-false (deep_commands cs) most_deep (omega (arith, d, h))))
+deep-limited s n (Some cs) b h e d = ap (λ c. too_deep_if c s) (sym e) ∙ sym (ap (λ c. limited_to c s (pipeline_from cs)) (lt-leb (deep_commands cs) most_deep (omega (arith, d, h))))
 
 beyond-opens : (n : ℕ) (b : Bool) → goes_beyond n b ≡ true → (most_deep ≤ n) × (b ≡ true)
 beyond-opens n true e = (leb-true most_deep n e, refl)

@@ -2,8 +2,8 @@
 use Rattle.std.specs.Prelude.{ℕ, ◌+◌, max, Bool, true, false, nat_le, Option, Some, None}
 use Rattle.tmpl_grammar.specs.Tree as tree
 use Rattle.tmpl_grammar.specs.Tree.{Operand, Operands, Commands, Pipeline}
-use Rattle.tmpl_grammar.specs.Action.{Action, pipeline_action, opening, plain_else, else_branch, end_action}
-use Rattle.tmpl_grammar.specs.Action.{break_action, continue_action}
+use Rattle.tmpl_grammar.specs.Action.{Action, pipeline_action, opening, plain_else}
+use Rattle.tmpl_grammar.specs.Action.{else_branch, end_action, break_action, continue_action}
 use Rattle.tmpl_grammar.specs.declared.action.Shape.{Shape}
 use Rattle.tmpl_grammar.specs.declared.action.Shape.TheVariants as shape
 

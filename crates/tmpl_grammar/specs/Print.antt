@@ -11,10 +11,10 @@ use Rattle.tmpl_lex.specs.Piece.{Token}
 use Rattle.tmpl_lex.specs.declared.piece.TokenKind.{TokenKind}
 use Rattle.tmpl_lex.specs.declared.piece.TokenKind.TheVariants as kind
 use Rattle.tmpl_grammar.specs.Tree as tree
-use Rattle.tmpl_grammar.specs.Tree.{Operand, Operands, Commands, Pipeline, pipeline, Binding, unbound, declare, assign}
-use Rattle.tmpl_grammar.specs.Tree.{declare_pair, Header}
-use Rattle.tmpl_grammar.specs.Action.{Action, pipeline_action, opening, plain_else, else_branch, end_action}
-use Rattle.tmpl_grammar.specs.Action.{break_action, continue_action, control_in}
+use Rattle.tmpl_grammar.specs.Tree.{Operand, Operands, Commands, Pipeline, pipeline}
+use Rattle.tmpl_grammar.specs.Tree.{Binding, unbound, declare, assign, declare_pair, Header}
+use Rattle.tmpl_grammar.specs.Action.{Action, pipeline_action, opening, plain_else, else_branch}
+use Rattle.tmpl_grammar.specs.Action.{end_action, break_action, continue_action, control_in}
 use Rattle.tmpl_grammar.specs.Keyword.{spelling}
 use Rattle.tmpl_grammar.specs.declared.keyword.Keyword.{Keyword}
 use Rattle.tmpl_grammar.specs.declared.keyword.Keyword.TheVariants as keyword

@@ -6,10 +6,10 @@ use Rattle.tmpl_values.proofs.RuneLemmas.{AreBytes}
 use Rattle.tmpl_lex.specs.Bytes.{is_name_byte}
 use Rattle.tmpl_grammar.specs.Token.{begins_name}
 use Rattle.tmpl_grammar.specs.Tree as tree
-use Rattle.tmpl_grammar.specs.Tree.{Operand, Operands, Commands, Pipeline, pipeline, Binding, unbound, declare, assign}
-use Rattle.tmpl_grammar.specs.Tree.{declare_pair, Header}
-use Rattle.tmpl_grammar.specs.Action.{Action, pipeline_action, opening, plain_else, else_branch, end_action}
-use Rattle.tmpl_grammar.specs.Action.{break_action, continue_action}
+use Rattle.tmpl_grammar.specs.Tree.{Operand, Operands, Commands, Pipeline, pipeline}
+use Rattle.tmpl_grammar.specs.Tree.{Binding, unbound, declare, assign, declare_pair, Header}
+use Rattle.tmpl_grammar.specs.Action.{Action, pipeline_action, opening, plain_else}
+use Rattle.tmpl_grammar.specs.Action.{else_branch, end_action, break_action, continue_action}
 use Rattle.tmpl_grammar.specs.Header.{IsName, may_bind}
 use Rattle.tmpl_grammar.specs.Pipeline.{MayBeLater}
 use Rattle.tmpl_grammar.specs.Depth.{depth_of_pipeline, most_deep}

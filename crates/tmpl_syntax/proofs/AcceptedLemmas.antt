@@ -19,7 +19,7 @@ use Rattle.tmpl_syntax.specs.computed.Frames.{top, loops, in_loop, levels, takes
 use Rattle.tmpl_syntax.specs.Spelling.{Leads, nothing, a_text, an_action, a_break, a_continue, a_control, Closes, an_end, an_else, an_else_branch}
 use Rattle.tmpl_syntax.specs.Print.Printed.{Said, said_text, said, else_said, control_said, node_said, nodes_said}
 use Rattle.tmpl_syntax.specs.Print.Laws.{Says, says_nothing, says_text, says, AcceptsBack}
-use Rattle.tmpl_syntax.proofs.OneVerdictLemmas.{one_verdict}
+use Rattle.tmpl_syntax.proofs.OneVerdictLemmas.{one-verdict}
 use Rattle.tmpl_syntax.proofs.VerdictLemmas.{judged-all}
 use Rattle.tmpl_syntax.proofs.PrintedNodeLemmas.{spells-alike}
 use Rattle.tmpl_syntax.proofs.FitLemmas.{no_fault, passes, fine-back, passes-fine, headed, part_names, seen_behind, fits_node, fits, nodes-unlined, take-seen, first-none, opener-test}
@@ -253,7 +253,7 @@ pub accepts-back : AcceptsBack
 unfolding verdict_of
 accepts-back items ns judged spells read s =
     let was = passes-fine (roles_of items) 0 [] [] in
-    let v = one_verdict (roles_of items) (verdict_of (roles_of items)) fine (judged-all (roles_of items)) judged in
+    let v = one-verdict (roles_of items) (verdict_of (roles_of items)) fine (judged-all (roles_of items)) judged in
     let fit = (leads-fit spells [] [] (sym was ∙ ap Rattle.tmpl_syntax.proofs.FitLemmas.is_fine v)).0 in
     let p = spells-alike ns read s in
     let same = sym (nodes-unlined p.nodes false 0 []) ∙ ap (λ ms. fits ms false 0 []) p.alike ∙ nodes-unlined ns false 0 [] in

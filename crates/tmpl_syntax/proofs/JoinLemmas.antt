@@ -164,18 +164,18 @@ some-text : (line : ℕ) (t : List ℕ) → 0 < length t → (qs : List Piece) �
 some-text line [] h qs = absurd (omega arith)
 some-text line (b ∷ t) h qs = refl
 
-pub cut_back : (ps : List Part) → AreParts ps → (t : List ℕ) → split_open t ≡ None → (line : ℕ) → HasParts line t ps
-cut_back [] h t clear line = record {
+pub cut-back : (ps : List Part) → AreParts ps → (t : List ℕ) → split_open t ≡ None → (line : ℕ) → HasParts line t ps
+cut-back [] h t clear line = record {
   pieces = [];
   cuts = subst (λ qs. Cuts false line (t ++ []) qs) (texts-whole line (t ++ []) ∙ ap (text_piece line) (append-nil t) ∙ sym (append-nil (text_piece line t))) (last (ap split_open (append-nil t) ∙ clear));
   same = no_piece;
 }
-cut_back (an_action ts ∷ ps) h t clear line =
+cut-back (an_action ts ∷ ps) h t clear line =
     let rest : List ℕ = joined Nothing ps in
     let inside : List ℕ = bytes_of ts ++ 125 ∷ 125 ∷ rest in
     let end : End = record { trims = false; rest = rest } in
     let o = opens-behind t inside clear (solid-unmarked (h.0.firm rest)) in
-    let more = cut_back ps h.1 [] refl (line + newlines o.before + newlines (stretch o.after rest)) in
+    let more = cut-back ps h.1 [] refl (line + newlines o.before + newlines (stretch o.after rest)) in
     record {
       pieces = action (line + newlines o.before) ts ∷ more.pieces;
       cuts = subst (λ k. Cuts false line (t ++ (k ++ inside)) (text_piece line t ++ action (line + newlines o.before) ts ∷ more.pieces)) (sym (open-is t))
@@ -184,21 +184,21 @@ cut_back (an_action ts ∷ ps) h t clear line =
           (subst (λ bs. Spells bs ts (Some end)) (sym o.past) (lexed ts (125 ∷ 125 ∷ rest) end (h.0.lexes rest) refl)) more.cuts));
       same = same_action more.same;
     }
-cut_back (a_text u ∷ ps) h [] clear line =
-    let more = cut_back ps h.1 u h.0.clear line in
+cut-back (a_text u ∷ ps) h [] clear line =
+    let more = cut-back ps h.1 u h.0.clear line in
     record {
       pieces = text line u ∷ more.pieces;
       cuts = subst (λ k. Cuts false line (u ++ joined k ps) (text line u ∷ more.pieces)) (sym (some-before u h.0.some))
           (subst (λ qs. Cuts false line (u ++ joined (before_of u) ps) qs) (some-text line u h.0.some more.pieces) more.cuts);
       same = same_text more.same;
     }
-cut_back (a_text u ∷ ps) h (b ∷ t) clear line =
+cut-back (a_text u ∷ ps) h (b ∷ t) clear line =
     let rest : List ℕ = u ++ joined (before_of u) ps in
     let comment : List ℕ = 47 ∷ 42 ∷ 42 ∷ 47 ∷ 125 ∷ 125 ∷ rest in
     let end : End = record { trims = false; rest = rest } in
     let o = opens-behind (b ∷ t) comment clear refl in
     let next : ℕ = line + newlines o.before + newlines (stretch o.after rest) in
-    let more = cut_back ps h.1 u h.0.clear next in
+    let more = cut-back ps h.1 u h.0.clear next in
     record {
       pieces = text next u ∷ more.pieces;
       cuts = subst (λ k. Cuts false line (b ∷ t ++ (parting (behind (b ∷ t)) ++ (u ++ joined k ps))) (text line (b ∷ t) ∷ text next u ∷ more.pieces)) (sym (some-before u h.0.some))

@@ -31,13 +31,13 @@ same-refused xs i j f g a b = ⊎_elim
     (λ o. ⊎_elim (λ lt. absurd (b.first_item i f lt a.applies)) (λ gt. absurd (a.first_item j g gt b.applies)) o)
     (cases_order i j)
 
-pub one_verdict : (xs : List Role) (v w : Verdict) → Judged xs v → Judged xs w → v ≡ w
-one_verdict xs fine fine a b = refl
-one_verdict xs left_open left_open a b = refl
-one_verdict xs (refused i f) (refused j g) a b = same-refused xs i j f g a b
-one_verdict xs fine left_open a b = absurd (a.1 b.1 b.2)
-one_verdict xs left_open fine a b = absurd (b.1 a.1 a.2)
-one_verdict xs fine (refused i f) a b = absurd (a.0 i f (within xs i f b.applies) b.applies)
-one_verdict xs left_open (refused i f) a b = absurd (a.0 i f (within xs i f b.applies) b.applies)
-one_verdict xs (refused i f) fine a b = absurd (b.0 i f (within xs i f a.applies) a.applies)
-one_verdict xs (refused i f) left_open a b = absurd (b.0 i f (within xs i f a.applies) a.applies)
+pub one-verdict : (xs : List Role) (v w : Verdict) → Judged xs v → Judged xs w → v ≡ w
+one-verdict xs fine fine a b = refl
+one-verdict xs left_open left_open a b = refl
+one-verdict xs (refused i f) (refused j g) a b = same-refused xs i j f g a b
+one-verdict xs fine left_open a b = absurd (a.1 b.1 b.2)
+one-verdict xs left_open fine a b = absurd (b.1 a.1 a.2)
+one-verdict xs fine (refused i f) a b = absurd (a.0 i f (within xs i f b.applies) b.applies)
+one-verdict xs left_open (refused i f) a b = absurd (a.0 i f (within xs i f b.applies) b.applies)
+one-verdict xs (refused i f) fine a b = absurd (b.0 i f (within xs i f a.applies) a.applies)
+one-verdict xs (refused i f) left_open a b = absurd (b.0 i f (within xs i f a.applies) a.applies)

@@ -55,8 +55,8 @@ pub record Opens (xs : List Role) (j : ℕ) (c : Control) : Type 0 where
   pub at : slice_get xs j ≡ Some piece
   pub is : opening piece ≡ Some c
 
-pub piece_of : (xs : List Role) (j : ℕ) (c : Control) → IsOpening (slice_get xs j) c → Opens xs j c
-piece_of xs j c h = go (slice_get xs j) refl h
+pub piece-of : (xs : List Role) (j : ℕ) (c : Control) → IsOpening (slice_get xs j) c → Opens xs j c
+piece-of xs j c h = go (slice_get xs j) refl h
   where
     go : (o : Option Role) → slice_get xs j ≡ o → IsOpening o c → Opens xs j c
     go None e h = absurd h
@@ -67,8 +67,8 @@ same-piece xs i a b e f = let g : Some a ≡ Some b = sym e ∙ f in cc
 
 pub same-control : (xs : List Role) (j : ℕ) (c d : Control) → IsOpening (slice_get xs j) c → IsOpening (slice_get xs j) d → c ≡ d
 same-control xs j c d a b =
-    let p = piece_of xs j c a in
-    let q = piece_of xs j d b in
+    let p = piece-of xs j c a in
+    let q = piece-of xs j d b in
     let e : p.piece ≡ q.piece = same-piece xs j p.piece q.piece p.at q.at in
     let s : Some c ≡ Some d = sym p.is ∙ ap opening e ∙ q.is in cc
 
@@ -97,7 +97,7 @@ through xs k j i a b = record {
   at = a.at;
   before = let lt = a.before in let gt = b.before in omega arith;
   fronts = λ n from to. ⊎_elim
-      (λ beyond. let p = piece_of xs j b.control b.at in
+      (λ beyond. let p = piece-of xs j b.control b.at in
       let lt = a.before in
       let first = a.fronts j lt (omega arith) in
       let second = b.fronts n beyond to in
@@ -131,7 +131,7 @@ pub record Same (xs : List Role) (j m : ℕ) : Type 0 where
 -- what opens nothing is no opening
 pub shut-at : (xs : List Role) (x : Role) (i m : ℕ) → slice_get xs i ≡ Some x → opens x ≡ false → IsOpen xs i m → ⊥
 shut-at xs x i m at shut h =
-    let p = piece_of xs i h.control h.at in
+    let p = piece-of xs i h.control h.at in
     let e : p.piece ≡ x = same-piece xs i p.piece x p.at at in
     let t : true ≡ false = sym (opening-opens p.piece h.control p.is) ∙ ap opens e ∙ shut in cc
 
@@ -163,7 +163,7 @@ even-step xs x i at o e =
 pub same-ended : (xs : List Role) (j i : ℕ) → IsLast xs j i → ups xs (j + 1) i ≡ downs xs (j + 1) i → slice_get xs i ≡ Some (act_role closer) → Same xs j (i + 1)
 same-ended xs j i l over at =
     let lt = l.is_open.before in
-    let p = piece_of xs j l.is_open.control l.is_open.at in
+    let p = piece-of xs j l.is_open.control l.is_open.at in
     let zo : one_if (ends p.piece) ≡ 0 = ap one_if (opening-no-end p.piece l.is_open.control p.is) in
     let oo : one_if (opens p.piece) ≡ 1 = ap one_if (opening-opens p.piece l.is_open.control p.is) in
     let me = count-more ends xs (act_role closer) (j + 1) i (omega arith) at in

@@ -125,12 +125,12 @@ spells-read (spelled {t = t} {rest = rest} c f s) h =
     let more = spells-read s b.1 in
     ((record { names = front_token-OfKind (t.bytes ++ rest) t f; bytes = b.0 }, more.0), more.1)
 
-piece_of : (line : ℕ) (t : List ℕ) → split_open t ≡ None → OfPieces (text_piece line t)
-piece_of line [] e = tt
-piece_of line (b ∷ t) e = (record { some = omega arith; clear = e }, tt)
+piece-of : (line : ℕ) (t : List ℕ) → split_open t ≡ None → OfPieces (text_piece line t)
+piece-of line [] e = tt
+piece-of line (b ∷ t) e = (record { some = omega arith; clear = e }, tt)
 
 texts-of : (right left : Bool) (line : ℕ) (t : List ℕ) → split_open t ≡ None → OfPieces (texts right left line t)
-texts-of right left line t e = piece_of _ _ (clear-take _ (without_leading right t) (clear-drop (leading right t) t e))
+texts-of right left line t e = piece-of _ _ (clear-take _ (without_leading right t) (clear-drop (leading right t) t e))
 
 before-texts : (right left : Bool) (line : ℕ) (bs before after : List ℕ) → split_open bs ≡ Some (before, after) → OfPieces (texts right left line before)
 before-texts right left line bs before after e = texts-of right left line before (subst (BeforeClear bs) e (before-clear bs)).0

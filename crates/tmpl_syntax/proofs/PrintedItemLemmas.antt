@@ -10,7 +10,7 @@ use Rattle.tmpl_syntax.specs.Print.Printed.{Said, said_text, said, nodes_said, p
 use Rattle.tmpl_grammar.specs.Printable.{OfPipeline, OfAction}
 use Rattle.tmpl_syntax.specs.Print.Printable.{AreSaid}
 use Rattle.tmpl_syntax.specs.Print.Laws.{Says, says_nothing, says_text, says, ReadsSame}
-use Rattle.tmpl_syntax.proofs.JoinLemmas.{cut_back}
+use Rattle.tmpl_syntax.proofs.JoinLemmas.{cut-back}
 use Rattle.tmpl_grammar.proofs.PrintedTokenLemmas.{action-inside}
 use Rattle.tmpl_grammar.proofs.PrintedSpellingLemmas.{spells-tokens}
 use Rattle.tmpl_syntax.proofs.PrintedNodeLemmas.{spells-alike}
@@ -72,7 +72,7 @@ items-said (said a ∷ ss) qs h s =
 
 pub reads-same : ReadsSame
 reads-same ns h =
-    let c = cut_back (map part_of (nodes_said ns)) (are-parts (nodes_said ns) h) [] refl 1 in
+    let c = cut-back (map part_of (nodes_said ns)) (are-parts (nodes_said ns) h) [] refl 1 in
     let i = items-said (nodes_said ns) c.pieces h c.same in
     let s = spells-alike ns i.items i.say in
     record {

@@ -1,4 +1,4 @@
--- Nodes, one level at a time.
+-- Nodes, seen by their parts.
 use Rattle.std.proofs.Common.{rules, ◌≡◌, ◌∙◌, ap, ℕ, Vec, Box, Global}
 use Rattle.tmpl_grammar.specs.View.{header_of}
 use Rattle.tmpl_grammar.specs.declared.tree.Control as held_control

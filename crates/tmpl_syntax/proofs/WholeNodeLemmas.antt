@@ -3,7 +3,7 @@ use Rattle.std.proofs.Common.{◌≡◌, ◌∙◌, ℕ, List, [], ◌∷◌, �
 use Rattle.tmpl_syntax.specs.Print.WholeTree.{Node, text_node, action_node, break_node, continue_node, call_node, Nodes, none, then, Definition, Action, Item, item, text_item, action_item, control_node, Leads, nothing, leads_text, leads_action, leads_break, leads_continue, leads_control, leads_call, leads_define, Closes, an_end, an_else, Said, said_text, said, ended, else_said, control_said, node_said, nodes_said, set_said, part_of, unlined_node, unlined, AreSaid, ArePrintable, Says, says_nothing, says_text, says, unlined_all, newline_nodes, SetReadsSame}
 use Rattle.tmpl_grammar.specs.Tree.{Header}
 use Rattle.tmpl_grammar.specs.declared.tree.Control.{Control}
-use Rattle.tmpl_syntax.proofs.JoinLemmas.{cut_back}
+use Rattle.tmpl_syntax.proofs.JoinLemmas.{cut-back}
 use Rattle.tmpl_syntax.proofs.WholeItemLemmas.{are-parts, items-said}
 
 -- the first of them
@@ -157,7 +157,7 @@ set-is-said (d ∷ ds) h = (h.0, said-append (nodes_said d.1) (ended ∷ said_te
 pub set-reads-same : SetReadsSame
 set-reads-same ds h =
     let are = set-is-said ds h in
-    let c = cut_back (map part_of (set_said ds)) (are-parts (set_said ds) are) [] refl 1 in
+    let c = cut-back (map part_of (set_said ds)) (are-parts (set_said ds) are) [] refl 1 in
     let i = items-said (set_said ds) c.pieces are c.same in
     let s = set-leads ds i.items i.say in
     record {

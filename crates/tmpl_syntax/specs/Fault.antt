@@ -2,8 +2,8 @@
 use Rattle.tmpl_syntax.specs.declared.fault.Fault.{Fault}
 use Rattle.tmpl_syntax.specs.declared.fault.Fault.TheVariants as fault
 use Rattle.tmpl_syntax.specs.declared.fault.ParseKind.{ParseKind}
-use Rattle.tmpl_syntax.specs.declared.fault.ParseKind.TheVariants.{Unreadable, NotAnAction, OutOfPlace, NestedTooDeeply}
-use Rattle.tmpl_syntax.specs.declared.fault.ParseKind.TheVariants.{UndeclaredVariable, OutOfMemory}
+use Rattle.tmpl_syntax.specs.declared.fault.ParseKind.TheVariants.{Unreadable, NotAnAction, OutOfPlace}
+use Rattle.tmpl_syntax.specs.declared.fault.ParseKind.TheVariants.{NestedTooDeeply, UndeclaredVariable, OutOfMemory}
 use Rattle.tmpl_syntax.specs.declared.fault.Refusal.{Refusal}
 
 abbrev pub parse_kind : Fault → ParseKind

@@ -3,8 +3,8 @@
 -- line, that is the whole else part and shares the `end`.
 use Rattle.std.specs.Prelude.{ℕ, List, [], ◌∷◌}
 use Rattle.tmpl_grammar.specs.Tree.{Header}
-use Rattle.tmpl_grammar.specs.Action.{pipeline_action, opening, plain_else, else_branch, end_action, break_action}
-use Rattle.tmpl_grammar.specs.Action.{continue_action, control_in}
+use Rattle.tmpl_grammar.specs.Action.{pipeline_action, opening, plain_else, else_branch}
+use Rattle.tmpl_grammar.specs.Action.{end_action, break_action, continue_action, control_in}
 use Rattle.tmpl_grammar.specs.declared.tree.Control.{Control}
 use Rattle.tmpl_grammar.specs.declared.action.Branch.{Branch}
 use Rattle.tmpl_syntax.specs.Tree.{Nodes, none, then, text, action, control_node, break_node, continue_node}

@@ -3,10 +3,10 @@ use Rattle.std.specs.Prelude.{ℕ, List, Vec, map, reverse}
 use Rattle.std.specs.Borrow.{Bor}
 use Rattle.std.specs.declared.alloc.Global.{Global}
 use Rattle.tmpl_grammar.specs.View.{action_of, header_of}
-use Rattle.tmpl_syntax.specs.Tree.{NodeKind, text, action, control_node, break_node, continue_node, Nodes, Node}
-use Rattle.tmpl_syntax.specs.Tree.{nodes_of, Tree}
-use Rattle.tmpl_syntax.specs.Item.{ItemKind, text_item, unreadable_item, unread_item, deep_item, action_item, Item}
-use Rattle.tmpl_syntax.specs.Item.{item}
+use Rattle.tmpl_syntax.specs.Tree.{NodeKind, text, action, control_node, break_node}
+use Rattle.tmpl_syntax.specs.Tree.{continue_node, Nodes, Node, nodes_of, Tree}
+use Rattle.tmpl_syntax.specs.Item.{ItemKind, text_item, unreadable_item}
+use Rattle.tmpl_syntax.specs.Item.{unread_item, deep_item, action_item, Item, item}
 use Rattle.tmpl_syntax.specs.Set.{Template}
 use Rattle.tmpl_syntax.specs.Place.Role.{Name}
 use Rattle.tmpl_syntax.specs.computed.Build as build
@@ -29,7 +29,7 @@ use Rattle.tmpl_syntax.specs.declared.build.Parts.{Parts}
 
 -- ---- trees
 
--- one level, with the nodes inside already seen
+-- one node, with those inside it already seen
 abbrev pub node_step : Node-F NodeKind NodeKind Node → Node
 node_step n = record { line = n.line; what = n.what }
 

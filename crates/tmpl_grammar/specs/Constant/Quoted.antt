@@ -1,7 +1,7 @@
 -- What stands between quotes, as "Rune literals" and "String literals" in the specification of Go's language have it:
 -- the parts that are spelled there, and what they stand for. That a text need not be UTF-8 is our own rule.
-use Rattle.std.specs.Prelude.{ℕ, zero, suc, ◌-◌, ◌==◌, not, nat_lt, nat_le, List, [], ◌∷◌, length, take, drop, Option}
-use Rattle.std.specs.Prelude.{Some, None, option_map, option_and_then, if◌then◌else◌, filter}
+use Rattle.std.specs.Prelude.{ℕ, zero, suc, ◌-◌, ◌==◌, not, nat_lt, nat_le, List, [], ◌∷◌, length, take}
+use Rattle.std.specs.Prelude.{drop, Option, Some, None, option_map, option_and_then, if◌then◌else◌, filter}
 use Rattle.std.specs.List.{flat_map}
 use Rattle.std.specs.Char.{encode_utf8, len_utf8}
 use lib.Utf8.{scalar}

@@ -1,6 +1,6 @@
 -- A parser of pipelines: the pipelines that are read in part, and what each further token makes of them.
-use Rattle.std.specs.Prelude.{ℕ, Bool, true, false, List, [], ◌∷◌, ◌++◌, nat_le, Option, Some, None, option_map}
-use Rattle.std.specs.Prelude.{option_and_then}
+use Rattle.std.specs.Prelude.{ℕ, Bool, true, false, List, [], ◌∷◌, ◌++◌, nat_le}
+use Rattle.std.specs.Prelude.{Option, Some, None, option_map, option_and_then}
 use Rattle.tmpl_lex.specs.declared.piece.TokenKind.{TokenKind}
 use Rattle.tmpl_lex.specs.declared.piece.TokenKind.TheVariants as kind
 use Rattle.tmpl_lex.specs.Piece.{Token}

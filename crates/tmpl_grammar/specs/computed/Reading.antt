@@ -8,8 +8,8 @@ use Rattle.tmpl_lex.specs.declared.piece.TokenKind.TheVariants as kind
 use Rattle.tmpl_lex.specs.Piece.{Token}
 pub use Rattle.tmpl_grammar.specs.Token.{is_white, is_blank, without_front, next, name_in, begins_name}
 use Rattle.tmpl_grammar.specs.computed.Parser.{start, commands_after}
-use Rattle.tmpl_grammar.specs.Tree.{Operands, Pipeline, pipeline, Binding, unbound, declare, assign, declare_pair}
-use Rattle.tmpl_grammar.specs.Tree.{Header, commands_from}
+use Rattle.tmpl_grammar.specs.Tree.{Operands, Pipeline, pipeline, Binding, unbound}
+use Rattle.tmpl_grammar.specs.Tree.{declare, assign, declare_pair, Header, commands_from}
 use Rattle.tmpl_grammar.specs.Header.{may_bind}
 use Rattle.tmpl_grammar.specs.Depth.{Reading, reading_of, pipeline_within}
 use Rattle.tmpl_grammar.specs.Action.{Action, plain_else, end_action, break_action, continue_action, action_with}

@@ -1,7 +1,7 @@
 -- Whether tokens end a pipeline, told without the pipeline: a token's place is all that counts, and behind `)` it is
 -- always directly behind an operand.
-use Rattle.std.specs.Prelude.{ℕ, zero, suc, ◌+◌, Bool, true, false, List, [], ◌∷◌, length, Option, Some, None}
-use Rattle.std.specs.Prelude.{option_and_then}
+use Rattle.std.specs.Prelude.{ℕ, zero, suc, ◌+◌, Bool, true, false, List, []}
+use Rattle.std.specs.Prelude.{◌∷◌, length, Option, Some, None, option_and_then}
 use Rattle.tmpl_lex.specs.declared.piece.TokenKind.{TokenKind}
 use Rattle.tmpl_lex.specs.declared.piece.TokenKind.TheVariants as kind
 use Rattle.tmpl_lex.specs.Piece.{Token}
@@ -13,8 +13,8 @@ use Rattle.tmpl_grammar.specs.computed.Parser.{Partial, Parser}
 use Rattle.tmpl_grammar.specs.Depth.{Reading, unread, too_deep}
 use Rattle.tmpl_grammar.specs.declared.action.Shape.{Shape}
 use Rattle.tmpl_grammar.specs.declared.pipeline.recognizer.Position.{Position}
-use Rattle.tmpl_grammar.specs.declared.pipeline.recognizer.Position.TheVariants.{First, Later, Linkable, Touching}
-use Rattle.tmpl_grammar.specs.declared.pipeline.recognizer.Position.TheVariants.{Apart}
+use Rattle.tmpl_grammar.specs.declared.pipeline.recognizer.Position.TheVariants.{First, Later, Linkable}
+use Rattle.tmpl_grammar.specs.declared.pipeline.recognizer.Position.TheVariants.{Touching, Apart}
 use Rattle.tmpl_grammar.specs.declared.pipeline.recognizer.Recognizer.{Recognizer}
 
 abbrev pub has_operand : Position → Bool

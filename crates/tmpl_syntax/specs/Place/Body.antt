@@ -1,17 +1,17 @@
 -- The first refused action of a file, and why it is refused.
-use Rattle.std.specs.Prelude.{◌≡◌, ℕ, suc, ◌<◌, ◌≤◌, Bool, true, false, List, length, slice_get, Option, Some, None}
-use Rattle.std.specs.Prelude.{◌⊎◌, Contains}
+use Rattle.std.specs.Prelude.{◌≡◌, ℕ, suc, ◌<◌, ◌≤◌, Bool, true, false, List}
+use Rattle.std.specs.Prelude.{length, slice_get, Option, Some, None, ◌⊎◌, Contains}
 use Rattle.tmpl_grammar.specs.declared.action.Branch.{Branch}
 use Rattle.tmpl_grammar.specs.declared.action.Branch.TheVariants.{If as if_branch}
 use Rattle.tmpl_grammar.specs.declared.tree.Control.{Control}
 use Rattle.tmpl_grammar.specs.declared.tree.Control.TheVariants.{If, With, Range}
 use Rattle.tmpl_syntax.specs.declared.fault.Fault.{Fault}
-use Rattle.tmpl_syntax.specs.declared.fault.Fault.TheVariants.{Unreadable, NotAnAction, OutOfPlace, NestedTooDeeply}
-use Rattle.tmpl_syntax.specs.declared.fault.Fault.TheVariants.{UndeclaredVariable}
-use Rattle.tmpl_syntax.specs.Place.Role.{Name, Names, Act, plain, opener, bare_else, branch_else, closer, jump, Role}
-use Rattle.tmpl_syntax.specs.Place.Role.{unreadable_role, unread_role, act_role}
-use Rattle.tmpl_syntax.specs.Place.Open.{IsOpen, NothingOpen, IsLast, IsElseBranchOf, HasElse, is_template}
-use Rattle.tmpl_syntax.specs.Place.Open.{OfOneTemplate}
+use Rattle.tmpl_syntax.specs.declared.fault.Fault.TheVariants.{Unreadable, NotAnAction, OutOfPlace}
+use Rattle.tmpl_syntax.specs.declared.fault.Fault.TheVariants.{NestedTooDeeply, UndeclaredVariable}
+use Rattle.tmpl_syntax.specs.Place.Role.{Name, Names, Act, plain, opener, bare_else, branch_else}
+use Rattle.tmpl_syntax.specs.Place.Role.{closer, jump, Role, unreadable_role, unread_role, act_role}
+use Rattle.tmpl_syntax.specs.Place.Open.{IsOpen, NothingOpen, IsLast, IsElseBranchOf}
+use Rattle.tmpl_syntax.specs.Place.Open.{HasElse, is_template, OfOneTemplate}
 use Rattle.tmpl_syntax.specs.Place.Scope.{IsInScope}
 
 -- an else if stands in an `if` alone

@@ -1,11 +1,11 @@
 -- What is open at a place, told by stretches of the list.
-use Rattle.std.specs.Prelude.{◌≡◌, ℕ, ◌+◌, ◌<◌, ◌≤◌, Bool, true, false, List, count_by, slice_get, slice_range, Option}
-use Rattle.std.specs.Prelude.{Some, None}
+use Rattle.std.specs.Prelude.{◌≡◌, ℕ, ◌+◌, ◌<◌, ◌≤◌, Bool, true, false, List}
+use Rattle.std.specs.Prelude.{count_by, slice_get, slice_range, Option, Some, None}
 use Rattle.tmpl_grammar.specs.declared.action.Branch.{Branch}
 use Rattle.tmpl_grammar.specs.declared.tree.Control.{Control}
 use Rattle.tmpl_grammar.specs.declared.tree.Control.TheVariants.{If, With, Range}
-use Rattle.tmpl_syntax.specs.Place.Role.{Names, Act, plain, opener, bare_else, branch_else, closer, jump, Role}
-use Rattle.tmpl_syntax.specs.Place.Role.{text_role, unreadable_role, unread_role, act_role}
+use Rattle.tmpl_syntax.specs.Place.Role.{Names, Act, plain, opener, bare_else, branch_else, closer}
+use Rattle.tmpl_syntax.specs.Place.Role.{jump, Role, text_role, unreadable_role, unread_role, act_role}
 
 abbrev pub opening_of : Act → Option Control
 opening_of (plain p) = None

@@ -1,11 +1,11 @@
 -- What counts of an item for the place in which it stands: which kind of action it is, and the names in it. Names
 -- are without their `$`.
 use Rattle.std.specs.Prelude.{ℕ, Bool, true, false, List, [], ◌∷◌, ◌++◌, map}
-use Rattle.tmpl_grammar.specs.Tree.{Operand, dot, fields, variable, bool_constant, number_constant, text_constant, nil}
-use Rattle.tmpl_grammar.specs.Tree.{function, group, Operands, no_operand, operand, Commands, no_command, command}
+use Rattle.tmpl_grammar.specs.Tree.{Operand, dot, fields, variable, bool_constant, number_constant, text_constant}
+use Rattle.tmpl_grammar.specs.Tree.{nil, function, group, Operands, no_operand, operand, Commands, no_command, command}
 use Rattle.tmpl_grammar.specs.Tree.{Pipeline, pipeline, Binding, unbound, declare, assign, declare_pair, Header}
-use Rattle.tmpl_grammar.specs.Action.{Action, pipeline_action, opening, plain_else, else_branch, end_action}
-use Rattle.tmpl_grammar.specs.Action.{break_action, continue_action}
+use Rattle.tmpl_grammar.specs.Action.{Action, pipeline_action, opening, plain_else}
+use Rattle.tmpl_grammar.specs.Action.{else_branch, end_action, break_action, continue_action}
 use Rattle.tmpl_syntax.specs.Item.{Item, item, text_item, unreadable_item, unread_item, deep_item, action_item}
 use Rattle.tmpl_grammar.specs.declared.action.Branch.{Branch}
 use Rattle.tmpl_grammar.specs.declared.action.Shape.{Shape}

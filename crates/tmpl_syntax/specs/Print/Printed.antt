@@ -1,8 +1,8 @@
 -- How a tree is printed: its texts and actions one behind the other.
 use Rattle.std.specs.Prelude.{ℕ, List, [], ◌∷◌, ◌++◌, map}
 use Rattle.tmpl_grammar.specs.Tree.{Header}
-use Rattle.tmpl_grammar.specs.Action.{Action, pipeline_action, opening, plain_else, end_action, break_action}
-use Rattle.tmpl_grammar.specs.Action.{continue_action}
+use Rattle.tmpl_grammar.specs.Action.{Action, pipeline_action, opening, plain_else}
+use Rattle.tmpl_grammar.specs.Action.{end_action, break_action, continue_action}
 use Rattle.tmpl_grammar.specs.Print.{action_tokens}
 use Rattle.tmpl_grammar.specs.declared.tree.Control.{Control}
 use Rattle.tmpl_syntax.specs.Tree.{NodeKind, text, action, control_node, break_node, continue_node, Nodes, none, then}

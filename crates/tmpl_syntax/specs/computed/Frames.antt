@@ -1,7 +1,7 @@
 -- The verdict in one pass: what stands at a place is a stack of frames, the newest first, and the names that were
 -- declared so far.
-use Rattle.std.specs.Prelude.{ℕ, ◌+◌, Bool, true, false, not, ◌&&◌, ◌||◌, leb, List, [], ◌∷◌, ◌++◌, length, take}
-use Rattle.std.specs.Prelude.{Option, Some, None}
+use Rattle.std.specs.Prelude.{ℕ, ◌+◌, Bool, true, false, not, ◌&&◌, ◌||◌, leb, List}
+use Rattle.std.specs.Prelude.{[], ◌∷◌, ◌++◌, length, take, Option, Some, None}
 use Rattle.std.specs.List.{list_any, list_all}
 use Rattle.std.specs.Str.{bytes_eq}
 use Rattle.tmpl_grammar.specs.declared.action.Branch.{Branch}
@@ -9,10 +9,10 @@ use Rattle.tmpl_grammar.specs.declared.tree.Control.{Control}
 use Rattle.tmpl_grammar.specs.declared.tree.Control.TheVariants.{If, With, Range}
 use Rattle.tmpl_syntax.specs.declared.place.frame.Frame.{Frame}
 use Rattle.tmpl_syntax.specs.declared.fault.Fault.{Fault}
-use Rattle.tmpl_syntax.specs.declared.fault.Fault.TheVariants.{Unreadable, NotAnAction, OutOfPlace, NestedTooDeeply}
-use Rattle.tmpl_syntax.specs.declared.fault.Fault.TheVariants.{UndeclaredVariable}
-use Rattle.tmpl_syntax.specs.Place.Role.{Name, Names, Act, plain, opener, bare_else, branch_else, closer, jump, Role}
-use Rattle.tmpl_syntax.specs.Place.Role.{text_role, unreadable_role, unread_role, act_role}
+use Rattle.tmpl_syntax.specs.declared.fault.Fault.TheVariants.{Unreadable, NotAnAction, OutOfPlace}
+use Rattle.tmpl_syntax.specs.declared.fault.Fault.TheVariants.{NestedTooDeeply, UndeclaredVariable}
+use Rattle.tmpl_syntax.specs.Place.Role.{Name, Names, Act, plain, opener, bare_else, branch_else, closer}
+use Rattle.tmpl_syntax.specs.Place.Role.{jump, Role, text_role, unreadable_role, unread_role, act_role}
 use Rattle.tmpl_syntax.specs.Place.Open.{is_template}
 use Rattle.tmpl_syntax.specs.Place.Body.{joins, names_in, opens_level, most_levels, Verdict, fine, refused, left_open}
 

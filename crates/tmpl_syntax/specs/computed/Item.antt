@@ -4,8 +4,8 @@ use Rattle.tmpl_lex.specs.Piece as piece
 use Rattle.tmpl_grammar.specs.Action.{Action}
 use Rattle.tmpl_grammar.specs.Depth.{Reading, unread, too_deep, read}
 use Rattle.tmpl_grammar.specs.computed.Reading.{reading_in}
-use Rattle.tmpl_syntax.specs.Item.{ItemKind, text_item, unreadable_item, unread_item, deep_item, action_item, Item}
-use Rattle.tmpl_syntax.specs.Item.{item}
+use Rattle.tmpl_syntax.specs.Item.{ItemKind, text_item, unreadable_item}
+use Rattle.tmpl_syntax.specs.Item.{unread_item, deep_item, action_item, Item, item}
 
 abbrev pub read_item : Reading Action → ItemKind
 read_item unread = unread_item

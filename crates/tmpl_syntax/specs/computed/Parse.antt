@@ -1,6 +1,6 @@
 -- What a file adds to the set, or why it is refused, computed.
-use Rattle.std.specs.Prelude.{◌≡◌, ℕ, List, Option, Some, None, Result, Ok, Err, length, nat_lt, slice_get}
-use Rattle.std.specs.Prelude.{if◌then◌else◌}
+use Rattle.std.specs.Prelude.{◌≡◌, ℕ, List, Option, Some, None, Result, Ok}
+use Rattle.std.specs.Prelude.{Err, length, nat_lt, slice_get, if◌then◌else◌}
 use Rattle.std.specs.Borrow.{Bor}
 use Rattle.tmpl_lex.specs.computed.Cut.{cut_of}
 use Rattle.tmpl_syntax.specs.Tree.{Nodes}

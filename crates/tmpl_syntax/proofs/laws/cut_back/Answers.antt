@@ -1,6 +1,6 @@
 use Rattle.std.proofs.Common.{[], refl}
-use Rattle.tmpl_syntax.proofs.JoinLemmas.{cut_back}
+use Rattle.tmpl_syntax.proofs.JoinLemmas.{cut-back}
 use Rattle.tmpl_syntax.proofs.laws.cut_back.Goals as goal
 
 pub returns : goal.returns
-returns c = λ ps h line. cut_back ps h [] refl line
+returns c = λ ps h line. cut-back ps h [] refl line
