@@ -1,7 +1,7 @@
 -- A piece added, and what a refusal comes to.
 use Rattle.std.proofs.Common.{◌≡◌, ◌∙◌, ℕ, zero, suc, ◌+◌, ◌-◌, ◌<◌, ◌≤◌, Bool, true, false, cond, List, [], ◌∷◌, ◌++◌, length, get_or, take, drop, Option, Some, None, option_map, Result, Ok, Err, IsErrAnd, refl, sym, ap, subst, arith, append_assoc, append-nil, length-append, length-drop}
 use Rattle.std.specs.List.{prefix_len}
-use Rattle.std.proofs.lemmas.List.{take_all, drop-drop}
+use Rattle.std.proofs.lemmas.List.{take_all, drop-drop, nil_from_length}
 use Rattle.std.proofs.lemmas.Bool.Decides.{nat_tests}
 use Rattle.tmpl_values.specs.Value.{Value}
 use Rattle.tmpl_values.specs.View.{val_of}
@@ -123,13 +123,9 @@ formatted-percent_added bs rest behind vs old new first second added = (
   omega (arith, ap length first, ap length second),
 )
 
-length-none : (bs : List ℕ) → length bs ≤ 0 → bs ≡ []
-length-none [] h = refl
-length-none (b ∷ bs) h = absurd (omega arith)
-
 -- nothing stands behind a `%`
 pub formatted-percent_lone : (bs rest : List ℕ) (vs : List Value) → bs ≡ 37 ∷ rest → length rest ≤ 0 → formatted bs vs ≡ None
-formatted-percent_lone bs rest vs first none = ap (λ f. formatted f vs) (first ∙ ap (λ r. 37 ∷ r) (length-none rest none)) ∙ formatted-lone vs
+formatted-percent_lone bs rest vs first none = ap (λ f. formatted f vs) (first ∙ ap (λ r. 37 ∷ r) (nil_from_length rest (omega arith))) ∙ formatted-lone vs
 
 values_of-drop : (n : ℕ) (cells : List Cell) → values_of (drop n cells) ≡ drop n (values_of cells)
 values_of-drop zero cells = refl
@@ -158,7 +154,7 @@ module _ (format rest : List ℕ) (vs left : List Value) (front old new : List �
     where
       go : (ws : List Value) → length ws ≤ 0 → formatted format vs ≡ both (Some front) (formatted rest ws) → option_map (λ text. old ++ text) (formatted format vs) ≡ Some new
       go [] h is =
-          ap (option_map (λ text. old ++ text)) (is ∙ ap (λ r. both (Some front) (formatted r [])) (length-none rest past) ∙ ap (both (Some front)) formatted-nil) ∙
+          ap (option_map (λ text. old ++ text)) (is ∙ ap (λ r. both (Some front) (formatted r [])) (nil_from_length rest (omega arith)) ∙ ap (both (Some front)) formatted-nil) ∙
           ap (λ d. Some (old ++ d)) (append-nil front) ∙ ap Some (sym so_far)
       go (w ∷ ws) h is = absurd (omega arith)
 
@@ -168,4 +164,4 @@ module _ (format rest : List ℕ) (vs left : List Value) (front old new : List �
     where
       go : (ws : List Value) → 0 < length ws → formatted format vs ≡ both (Some front) (formatted rest ws) → formatted format vs ≡ None
       go [] h is = absurd (omega arith)
-      go (w ∷ ws) h is = is ∙ ap (λ r. both (Some front) (formatted r (w ∷ ws))) (length-none rest past) ∙ ap (both (Some front)) (formatted-over w ws)
+      go (w ∷ ws) h is = is ∙ ap (λ r. both (Some front) (formatted r (w ∷ ws))) (nil_from_length rest (omega arith)) ∙ ap (both (Some front)) (formatted-over w ws)
