@@ -4,7 +4,7 @@ use Rattle.tmpl_lex.specs.declared.piece.TokenKind.TheVariants as kind
 use Rattle.tmpl_lex.specs.Piece.{Token}
 use Rattle.tmpl_grammar.specs.declared.tree.Control.TheVariants as control
 use Rattle.tmpl_grammar.specs.Constant.{constant_of}
-use Rattle.tmpl_grammar.specs.Constant.Integer.{whole}
+use Rattle.tmpl_grammar.specs.Constant.Integer.{integer}
 use Rattle.tmpl_grammar.specs.Operand.{operand_at, word_operand, func_named}
 use Rattle.tmpl_grammar.specs.computed.Parser.{step, finished}
 use Rattle.tmpl_grammar.specs.Tree.{dot, fields, number_constant, pipeline, Pipeline, unbound, declare, assign, Binding, Header, declare_pair}
@@ -39,7 +39,7 @@ Nothing ts = (x : Action) → SpellsAction x ts → ⊥
 
 -- `{{ $x:=1 }}`
 a-declaration : SpellsAction (pipeline_action (headed (declare (codes "x")) (pipeline (single (number_constant (pos 1)))))) (space ∷ variable (codes "x") ∷ declares ∷ one ∷ space ∷ [])
-unfolding operand_at constant_of whole
+unfolding operand_at constant_of integer
 a-declaration = (
   refl,
   (

@@ -8,7 +8,7 @@ use Rattle.std.specs.Char.{encode_utf8}
 use Rattle.std.specs.Str.{chars}
 use Rattle.tmpl_values.specs.Rune.{first_rune}
 use Rattle.tmpl_grammar.specs.Tree.{Operand, number_constant, text_constant}
-use Rattle.tmpl_grammar.specs.Constant.Integer.{whole}
+use Rattle.tmpl_grammar.specs.Constant.Integer.{integer}
 use Rattle.tmpl_grammar.specs.Constant.Quoted.{parts, part_at}
 use Rattle.tmpl_grammar.specs.Constant.{constant_of}
 
@@ -25,60 +25,60 @@ abbrev character : String → Option Operand
 character spelling = constant_of (token kind.Character spelling)
 
 zero-alone : number "0" ≡ Some (number_constant (pos 0))
-unfolding constant_of whole
+unfolding constant_of integer
 zero-alone = refl
 
 plus-seven : number "+7" ≡ Some (number_constant (pos 7))
-unfolding constant_of whole
+unfolding constant_of integer
 plus-seven = refl
 
 octal : number "017" ≡ Some (number_constant (pos 15))
-unfolding constant_of whole
+unfolding constant_of integer
 octal = refl
 
 hexadecimal : number "0x1F" ≡ Some (number_constant (pos 31))
-unfolding constant_of whole
+unfolding constant_of integer
 hexadecimal = refl
 
 binary : number "-0B1_01" ≡ Some (number_constant (negsuc 4))
-unfolding constant_of whole
+unfolding constant_of integer
 binary = refl
 
 -- 2^63 - 1 is the largest number, and -2^63 the least
 most : number "9223372036854775807" ≡ Some (number_constant (pos 9223372036854775807))
-unfolding constant_of whole
+unfolding constant_of integer
 most = refl
 
 past : number "9223372036854775808" ≡ None
-unfolding constant_of whole
+unfolding constant_of integer
 past = refl
 
 least : number "-0x8000000000000000" ≡ Some (number_constant (negsuc 9223372036854775807))
-unfolding constant_of whole
+unfolding constant_of integer
 least = refl
 
 past-least : number "-9223372036854775809" ≡ None
-unfolding constant_of whole
+unfolding constant_of integer
 past-least = refl
 
 under-prefix : number "0x_1" ≡ Some (number_constant (pos 1))
-unfolding constant_of whole
+unfolding constant_of integer
 under-prefix = refl
 
 bad-octal : number "08" ≡ None
-unfolding constant_of whole
+unfolding constant_of integer
 bad-octal = refl
 
 two-underscores : number "1__0" ≡ None
-unfolding constant_of whole
+unfolding constant_of integer
 two-underscores = refl
 
 last-underscore : number "0x_" ≡ None
-unfolding constant_of whole
+unfolding constant_of integer
 last-underscore = refl
 
 point : number "1.0" ≡ None
-unfolding constant_of whole
+unfolding constant_of integer
 point = refl
 
 -- escapes of one letter, by octal digits, and by digits in base 16

@@ -6,7 +6,7 @@ use Rattle.tmpl_lex.specs.declared.piece.TokenKind.{TokenKind}
 use Rattle.tmpl_lex.specs.declared.piece.TokenKind.TheVariants as kind
 use Rattle.tmpl_lex.specs.Piece.{Token}
 use Rattle.tmpl_grammar.specs.Constant.{constant_of, constant_by}
-use Rattle.tmpl_grammar.specs.Constant.Integer.{whole}
+use Rattle.tmpl_grammar.specs.Constant.Integer.{integer}
 use Rattle.tmpl_grammar.specs.Constant.Quoted.{between, unquoted, rune_code}
 use Rattle.tmpl_grammar.specs.Token.{begins_name, name_in}
 use Rattle.tmpl_grammar.specs.Tree as tree
@@ -40,7 +40,7 @@ rune-value None = tt
 rune-value (Some n) = tt
 
 value-by : (k : TokenKind) (bytes : List ℕ) → IsValue (constant_by k bytes)
-value-by kind.Number bytes = number-value (whole bytes)
+value-by kind.Number bytes = number-value (integer bytes)
 value-by kind.String bytes = text-value (unquoted 34 (between bytes))
 value-by kind.RawString bytes = tt
 value-by kind.Character bytes = rune-value (rune_code 39 (between bytes))

@@ -4,7 +4,7 @@ use Rattle.std.specs.List.{list_all}
 use Rattle.std.specs.Char.{is_digit, digit_value}
 use Rattle.std.specs.Str.Parse.{digits_value_after}
 use Rattle.std.proofs.lemmas.Bool.Decides.{nat_tests}
-use Rattle.tmpl_grammar.specs.Constant.Integer.{is_plain, signed, magnitude, whole}
+use Rattle.tmpl_grammar.specs.Constant.Integer.{is_plain, signed, magnitude, integer}
 use Rattle.tmpl_grammar.specs.computed.Within.{within}
 use Rattle.tmpl_grammar.proofs.ListLemmas.{take-rest}
 
@@ -69,24 +69,24 @@ pub signed-within : (negative : Bool) (o : Option ℕ) → option_and_then (sign
 signed-within negative None = refl
 signed-within negative (Some n) = signed-fits _ negative n refl
 
-minus : (bs : List ℕ) → whole (45 ∷ bs) ≡ option_and_then (signed true) (magnitude bs)
-unfolding whole
+minus : (bs : List ℕ) → integer (45 ∷ bs) ≡ option_and_then (signed true) (magnitude bs)
+unfolding integer
 minus bs = refl
 
-plus : (bs : List ℕ) → whole (43 ∷ bs) ≡ option_and_then (signed false) (magnitude bs)
-unfolding whole
+plus : (bs : List ℕ) → integer (43 ∷ bs) ≡ option_and_then (signed false) (magnitude bs)
+unfolding integer
 plus bs = refl
 
-pub whole-minus : (bs : List ℕ) → 1 ≤ length bs → get_or bs 0 0 ≡ 45 → option_and_then (signed true) (within (magnitude (take (length bs - 1) (drop 1 bs)))) ≡ whole bs
-whole-minus [] h is = absurd (omega arith)
-whole-minus (b ∷ bs) h is =
+pub integer-minus : (bs : List ℕ) → 1 ≤ length bs → get_or bs 0 0 ≡ 45 → option_and_then (signed true) (within (magnitude (take (length bs - 1) (drop 1 bs)))) ≡ integer bs
+integer-minus [] h is = absurd (omega arith)
+integer-minus (b ∷ bs) h is =
     ap (λ t. option_and_then (signed true) (within (magnitude t))) (take-rest (b ∷ bs) 1 (length (b ∷ bs) - 1) (omega arith) refl)
-    ∙ signed-within true (magnitude bs) ∙ sym (ap (λ x. whole (x ∷ bs)) is ∙ minus bs)
+    ∙ signed-within true (magnitude bs) ∙ sym (ap (λ x. integer (x ∷ bs)) is ∙ minus bs)
 
-pub whole-plus : (bs : List ℕ) → 1 ≤ length bs → get_or bs 0 0 ≡ 43 → option_and_then (signed false) (within (magnitude (take (length bs - 1) (drop 1 bs)))) ≡ whole bs
-whole-plus [] h is = absurd (omega arith)
-whole-plus (b ∷ bs) h is =
+pub integer-plus : (bs : List ℕ) → 1 ≤ length bs → get_or bs 0 0 ≡ 43 → option_and_then (signed false) (within (magnitude (take (length bs - 1) (drop 1 bs)))) ≡ integer bs
+integer-plus [] h is = absurd (omega arith)
+integer-plus (b ∷ bs) h is =
     ap (λ t. option_and_then (signed false) (within (magnitude t))) (take-rest (b ∷ bs) 1 (length (b ∷ bs) - 1) (omega arith) refl)
-    ∙ signed-within false (magnitude bs) ∙ sym (ap (λ x. whole (x ∷ bs)) is ∙ plus bs)
+    ∙ signed-within false (magnitude bs) ∙ sym (ap (λ x. integer (x ∷ bs)) is ∙ plus bs)
 
 pub ruleset signs = (signed-within)

@@ -5,7 +5,7 @@ use Rattle.tmpl_lex.specs.declared.piece.TokenKind.{TokenKind}
 use Rattle.tmpl_lex.specs.declared.piece.TokenKind.TheVariants as kind
 use Rattle.tmpl_lex.specs.Piece.{Token}
 use Rattle.tmpl_grammar.specs.Constant.{constant_of}
-use Rattle.tmpl_grammar.specs.Constant.Integer.{whole}
+use Rattle.tmpl_grammar.specs.Constant.Integer.{integer}
 use Rattle.tmpl_grammar.specs.Operand.{operand_at, word_operand, func_named}
 use Rattle.tmpl_grammar.specs.computed.Parser.{step, finished}
 use Rattle.tmpl_grammar.specs.Tree.{Operand, dot, fields, number_constant, function, group, no_operand, operand, Commands, no_command, command, pipeline}
@@ -70,7 +70,7 @@ a-bar = refl
 
 -- `print 1 .`
 a-call : pipeline_in (word (codes "print") ∷ space ∷ one ∷ space ∷ period ∷ []) ≡ Some (pipeline (command (operand (function Print) (operand (number_constant (pos 1)) (operand dot no_operand))) no_command))
-unfolding pipeline_in step finished operand_at word_operand func_named constant_of whole
+unfolding pipeline_in step finished operand_at word_operand func_named constant_of integer
 a-call = refl
 
 -- `( . ).a` and `.a|(1)`
@@ -79,12 +79,12 @@ unfolding pipeline_in step finished operand_at
 a-group = refl
 
 a-later-group : pipeline_in (field a ∷ bar ∷ left ∷ one ∷ right ∷ []) ≡ Some (pipeline (command (operand (fields (a ∷ [])) no_operand) (single (group (single (number_constant (pos 1))) []))))
-unfolding pipeline_in step finished operand_at constant_of whole
+unfolding pipeline_in step finished operand_at constant_of integer
 a-later-group = refl
 
 -- `.a|1`, `.a|.`, `.|` and `|.`
 a-later-constant : pipeline_in (field a ∷ bar ∷ one ∷ []) ≡ None
-unfolding pipeline_in step finished operand_at constant_of whole
+unfolding pipeline_in step finished operand_at constant_of integer
 a-later-constant = refl
 
 a-later-dot : pipeline_in (field a ∷ bar ∷ period ∷ []) ≡ None

@@ -16,14 +16,14 @@ use Rattle.tmpl_grammar.specs.Header.{IsVariable, SpellsHeader, SpellsBinding, S
 use Rattle.tmpl_grammar.specs.Constant.{constant_of, constant_by}
 use Rattle.tmpl_grammar.specs.Depth.{depth_of, depth_of_pipeline, most_deep}
 use Rattle.tmpl_grammar.specs.Pipeline.{IsChain, SpellsOperand, SpellsMore, SpellsCommand, SpellsLater, SpellsPipeline}
-use Rattle.tmpl_grammar.specs.Constant.Integer.{whole}
+use Rattle.tmpl_grammar.specs.Constant.Integer.{integer}
 use Rattle.tmpl_grammar.specs.Constant.Quoted.{between, unquoted, rune_code}
 use Rattle.tmpl_grammar.specs.Operand.{operand_at, operand_by, word_operand, func_named, field_operand}
 use Rattle.tmpl_grammar.specs.Printable.{AreFieldNames, OfOperand, OfMore, OfCommand, OfLater, OfCommands, OfPipeline, OfVariable, OfBinding, OfAction, OfHeader}
 use Rattle.tmpl_grammar.specs.declared.action.Shape.{Shape}
 use Rattle.tmpl_grammar.specs.declared.action.Shape.TheVariants as shape
 use Rattle.tmpl_grammar.proofs.PrintableTokenLemmas.{IsRead, AreRead, bytes-drop, bytes-take}
-use Rattle.tmpl_grammar.proofs.PrintableConstantLemmas.{InRange, whole-range, OfText, unquoted-bytes, raw-bytes, OfCode, character-range}
+use Rattle.tmpl_grammar.proofs.PrintableConstantLemmas.{InRange, integer-range, OfText, unquoted-bytes, raw-bytes, OfCode, character-range}
 
 -- ---- operands of one token
 
@@ -47,7 +47,7 @@ between-bytes : (bs : List ℕ) → AreBytes bs → AreBytes (between bs)
 between-bytes bs h = bytes-take (length bs - 2) (drop 1 bs) (bytes-drop 1 bs h)
 
 constant-is : (k : TokenKind) (bs : List ℕ) → AreBytes bs → OfMaybe (constant_by k bs)
-constant-is kind.Number bs h = number-of (whole bs) (whole-range bs)
+constant-is kind.Number bs h = number-of (integer bs) (integer-range bs)
 constant-is kind.String bs h = text-of (unquoted 34 (between bs)) (unquoted-bytes (between bs))
 constant-is kind.RawString bs h = raw-bytes (between bs) (between-bytes bs h)
 constant-is kind.Character bs h = character-of (rune_code 39 (between bs)) (character-range (between bs))

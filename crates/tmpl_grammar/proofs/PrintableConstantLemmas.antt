@@ -9,7 +9,7 @@ use Rattle.std.specs.Char.{encode_utf8, IsScalar}
 use Rattle.std.proofs.lemmas.Bool.Decides.{nat_tests}
 use Rattle.tmpl_values.specs.Rune.{Rune, first_rune}
 use Rattle.tmpl_values.proofs.RuneLemmas.{AreBytes, Front, encoding, lone, front}
-use Rattle.tmpl_grammar.specs.Constant.Integer.{magnitude, signed, whole}
+use Rattle.tmpl_grammar.specs.Constant.Integer.{magnitude, signed, integer}
 use Rattle.tmpl_grammar.specs.Constant.Quoted.{Spelled, part_text, part_code, rune_part, as_byte, as_char, code, byte_named, coded, escape_by, escape, part_at, with_part, parts_after, parts, unquoted, without_returns, one_code, rune_code}
 use Rattle.tmpl_grammar.specs.declared.constant.quoted.Part.{Part}
 use Rattle.tmpl_grammar.specs.declared.constant.quoted.Part.TheVariants.{Byte, Char}
@@ -44,10 +44,10 @@ then-range : (t : Bool) (o : Option ℕ) → InRange (option_and_then (signed t)
 then-range t None = tt
 then-range t (Some n) = signed-range t n
 
-pub whole-range : (bs : List ℕ) → InRange (whole bs)
-unfolding whole
-whole-range [] = tt
-whole-range (b ∷ bs) =
+pub integer-range : (bs : List ℕ) → InRange (integer bs)
+unfolding integer
+integer-range [] = tt
+integer-range (b ∷ bs) =
     if-range (nat_eq b 45) _ _ (then-range true (magnitude bs))
     (if-range (nat_eq b 43) _ _ (then-range false (magnitude bs)) (then-range false (magnitude (b ∷ bs))))
 

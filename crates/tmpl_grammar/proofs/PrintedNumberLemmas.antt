@@ -11,7 +11,7 @@ use Rattle.std.proofs.lemmas.Bool.{and_parts}
 use Rattle.std.proofs.lemmas.Bool.Decides.{nat_tests}
 use Rattle.tmpl_lex.specs.Bytes.{is_number_byte}
 use Rattle.tmpl_lex.specs.declared.piece.TokenKind.TheVariants as kind
-use Rattle.tmpl_grammar.specs.Constant.Integer.{is_plain, begins_plain, underscores_part, number_in, parted_number, behind_zero, magnitude, signed, whole}
+use Rattle.tmpl_grammar.specs.Constant.Integer.{is_plain, begins_plain, underscores_part, number_in, parted_number, behind_zero, magnitude, signed, integer}
 use Rattle.tmpl_grammar.specs.Print.{IsFront, Solid, solid, minus, token}
 use Rattle.tmpl_grammar.proofs.FrontLemmas.{halts, digit-front, minus-front}
 use Rattle.tmpl_grammar.proofs.IntegerLemmas.{digits-plain}
@@ -92,24 +92,24 @@ magnitude-decimal (suc n) h =
     let is = decimal_is_IsNumeral (suc n) h in
     magnitude-digits (decimal (suc n)) is.0 (first_decimal (suc n) (omega arith) h) ∙ ap Some is.1
 
-whole-plain : (ds : List ℕ) → IsNumeral 10 ds → whole ds ≡ option_and_then (signed false) (magnitude ds)
-unfolding whole
-whole-plain [] h = absurd (let some = h.0 in omega (arith, some))
-whole-plain (d ∷ ds) h =
+integer-plain : (ds : List ℕ) → IsNumeral 10 ds → integer ds ≡ option_and_then (signed false) (magnitude ds)
+unfolding integer
+integer-plain [] h = absurd (let some = h.0 in omega (arith, some))
+integer-plain (d ∷ ds) h =
     let digit = first-digit d ds h.1 in
     let minus_not : nat_eq d 45 ≡ false = grind (arith, nat_tests) in
     let plus_not : nat_eq d 43 ≡ false = grind (arith, nat_tests) in
     ap (λ k. if k then option_and_then (signed true) (magnitude ds) else (if nat_eq d 43 then option_and_then (signed false) (magnitude ds) else option_and_then (signed false) (magnitude (d ∷ ds)))) minus_not
     ∙ ap (λ k. if k then option_and_then (signed false) (magnitude ds) else option_and_then (signed false) (magnitude (d ∷ ds))) plus_not
 
-pub whole-decimal : (n : ℤ) → mag n < 2 ^ 63 → whole (signed_decimal n) ≡ Some n
-unfolding whole
-whole-decimal (pos n) h =
+pub integer-decimal : (n : ℤ) → mag n < 2 ^ 63 → integer (signed_decimal n) ≡ Some n
+unfolding integer
+integer-decimal (pos n) h =
     let fits : nat_lt n (2 ^ 63) ≡ true = grind (arith, nat_tests) in
-    whole-plain (decimal n) (decimal_is_IsNumeral n (omega arith)).0
+    integer-plain (decimal n) (decimal_is_IsNumeral n (omega arith)).0
     ∙ ap (option_and_then (signed false)) (magnitude-decimal n (omega arith))
     ∙ ap (λ k. if k then Some (pos n) else None) fits
-whole-decimal (negsuc n) h =
+integer-decimal (negsuc n) h =
     let fits : nat_le (suc n) (2 ^ 63) ≡ true = grind (arith, nat_tests) in
     ap (option_and_then (signed true)) (magnitude-decimal (suc n) (omega arith))
     ∙ ap (λ k. if k then Some (neg_ℤ (pos (suc n))) else None) fits

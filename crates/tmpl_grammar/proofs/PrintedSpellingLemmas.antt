@@ -24,7 +24,7 @@ use Rattle.tmpl_grammar.specs.Printable.{AreFieldNames, OfOperand, OfMore, OfCom
 use Rattle.tmpl_grammar.specs.declared.action.Shape.{Shape}
 use Rattle.tmpl_grammar.specs.declared.action.Shape.TheVariants as shape
 use Rattle.tmpl_grammar.proofs.QuotePartLemmas.{unquoted-inside}
-use Rattle.tmpl_grammar.proofs.PrintedNumberLemmas.{whole-decimal}
+use Rattle.tmpl_grammar.proofs.PrintedNumberLemmas.{integer-decimal}
 
 -- ---- operands of one token
 
@@ -73,7 +73,7 @@ function-at Le = refl
 function-at Gt = refl
 function-at Ge = refl
 
-number-at : (bs : List ℕ) (n : lib.IntN.ℤ) → Rattle.tmpl_grammar.specs.Constant.Integer.whole bs ≡ Some n → operand_at (token kind.Number bs) ≡ Some (tree.number_constant n)
+number-at : (bs : List ℕ) (n : lib.IntN.ℤ) → Rattle.tmpl_grammar.specs.Constant.Integer.integer bs ≡ Some n → operand_at (token kind.Number bs) ≡ Some (tree.number_constant n)
 unfolding operand_at constant_of
 number-at bs n h = ap (option_map tree.number_constant) h
 
@@ -110,7 +110,7 @@ mutual
   spells-operand (tree.fields (n ∷ ns)) h = (token kind.Field (46 ∷ n), chain_tokens ns, refl, field-at n h.0.0, spells-chain ns h.1)
   spells-operand (tree.variable name names) h = (token kind.Variable (36 ∷ name), chain_tokens names, refl, variable-at name, spells-chain names h.1)
   spells-operand (tree.bool_constant b) h = (word (truth_word b), [], refl, truth-at b, refl)
-  spells-operand (tree.number_constant n) h = (token kind.Number _, [], refl, number-at _ n (whole-decimal n h), refl)
+  spells-operand (tree.number_constant n) h = (token kind.Number _, [], refl, number-at _ n (integer-decimal n h), refl)
   spells-operand (tree.text_constant bytes) h = (token kind.String (quote bytes), [], refl, string-at bytes h, refl)
   spells-operand tree.nil h = (word _, [], refl, nil-at, refl)
   spells-operand (tree.function f) h = (word (name_of f), [], refl, function-at f, refl)

@@ -7,12 +7,12 @@ use Rattle.tmpl_lex.specs.Piece.{Token}
 use Rattle.tmpl_lex.specs.declared.piece.TokenKind.{TokenKind}
 use Rattle.tmpl_lex.specs.declared.piece.TokenKind.TheVariants as kind
 use Rattle.tmpl_grammar.specs.Tree.{Operand, number_constant, text_constant}
-use Rattle.tmpl_grammar.specs.Constant.Integer.{whole}
+use Rattle.tmpl_grammar.specs.Constant.Integer.{integer}
 use Rattle.tmpl_grammar.specs.Constant.Quoted.{between, unquoted, without_returns, rune_code}
 
 -- a number; a string, which `"` ends; a raw string; a character, which `'` ends, by its code
 abbrev pub constant_by : TokenKind → List ℕ → Option Operand
-constant_by kind.Number bs = option_map number_constant (whole bs)
+constant_by kind.Number bs = option_map number_constant (integer bs)
 constant_by kind.String bs = option_map text_constant (unquoted 34 (between bs))
 constant_by kind.RawString bs = Some (text_constant (without_returns (between bs)))
 constant_by kind.Character bs = option_map (λ n. number_constant (pos n)) (rune_code 39 (between bs))

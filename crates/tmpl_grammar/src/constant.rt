@@ -8,7 +8,7 @@ ghost use Rattle.tmpl_grammar.specs.View.{operand_of};
 mod integer;
 mod quoted;
 
-use crate::constant::integer::whole;
+use crate::constant::integer::integer;
 use crate::constant::quoted::{between, rune_code, unquoted, without_returns};
 use crate::tree::Operand;
 use std::alloc::{AllocError, Global};
@@ -35,7 +35,7 @@ pub(crate) fn constant(alloc: Global, token: &Token<'_>) -> Result<Option<Operan
 fn number(bytes: &[u8]) -> Option<Operand>
     ensures { option_map operand_of result ≡ constant_by kind.Number bytes.now }
 {
-    Some(Operand::Number(whole(bytes)?))
+    Some(Operand::Number(integer(bytes)?))
 }
 
 /// The text of a string, which these bytes spell with its quotes; none where an escape is misspelled.

@@ -62,9 +62,9 @@ signed true n = if nat_le n (2 ^ 63) then Some (neg_ℤ (pos n)) else None
 signed false n = if nat_lt n (2 ^ 63) then Some (pos n) else None
 
 -- the number that bytes spell, if they spell one
-unfoldable pub whole : List ℕ → Option ℤ
-whole [] = None
-whole (b ∷ bs) =
+unfoldable pub integer : List ℕ → Option ℤ
+integer [] = None
+integer (b ∷ bs) =
     if b == 45 then option_and_then (signed true) (magnitude bs)
     else (if b == 43 then option_and_then (signed false) (magnitude bs)
     else option_and_then (signed false) (magnitude (b ∷ bs)))

@@ -9,9 +9,9 @@ ghost use Rattle.tmpl_grammar.specs.computed.Within.{within};
 const MOST: u128 = 1 << 63;
 
 /// The number that these bytes spell, if they spell one that fits.
-#[tactic(auto, using(crate::proofs::IntegerLemmas::signs), unfolding(crate::specs::Constant::Integer::whole))]
-pub(crate) fn whole(bytes: &[u8]) -> Option<i64>
-    ensures { result ≡ spec.whole bytes.now }
+#[tactic(auto, using(crate::proofs::IntegerLemmas::signs), unfolding(crate::specs::Constant::Integer::integer))]
+pub(crate) fn integer(bytes: &[u8]) -> Option<i64>
+    ensures { result ≡ spec.integer bytes.now }
 {
     match bytes {
         [] => None,
