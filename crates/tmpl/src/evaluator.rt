@@ -227,7 +227,7 @@ impl<'a> Machine<'a> {
         }
     }
 
-    /// Binds variables to an element of a range, by its index or key and itself. A value that is no element has neither.
+    /// Binds variables to an element of a range, by its index or key and itself; what is no element has no key.
     fn bind(&mut self, binding: &'a Binding, key: Val<'a>, value: Val<'a>) -> Result<(), AllocError>
         requires { self.old.text.failures ≡ 0 }
         ensures whole { self.new.text.failures ≡ 0 }

@@ -11,7 +11,6 @@ pub mod FitLemmas
 pub mod ItemLemmas
 pub mod JoinLemmas
 pub mod JudgeLemmas
-pub mod ListLemmas
 pub mod OneSpellingLemmas
 pub mod OneVerdictLemmas
 pub mod OpenLemmas

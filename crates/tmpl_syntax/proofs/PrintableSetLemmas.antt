@@ -22,7 +22,7 @@ defined-printable (t ∷ ts) name tree h k = go (bytes_eq name t.0) (defined-pri
     go true more = (chosen-printable (is_blank tree.nodes) t.1 tree h.0 k, h.1)
     go false more = (h.0, more)
 
-pub parsed_printable : (old new : List Template) (file : Bor (List ℕ)) (bytes : List ℕ) → AreBytes bytes → IsReading old file bytes new (Ok tt) → ArePrintable old → ArePrintable new
-parsed_printable old new file bytes h r k =
+pub parsed-printable : (old new : List Template) (file : Bor (List ℕ)) (bytes : List ℕ) → AreBytes bytes → IsReading old file bytes new (Ok tt) → ArePrintable old → ArePrintable new
+parsed-printable old new file bytes h r k =
     let d = r.4 in
     subst ArePrintable (sym d.set) (defined-printable old (base_name file.now) _ k (keeps-printable bytes r.1 d.nodes h r.2 d.spells))

@@ -2,7 +2,8 @@
 -- the part in which it stands, and those of the else part behind it; and the same for each control around it.
 use Rattle.std.specs.Prelude.{ℕ, List, [], ◌∷◌}
 use Rattle.tmpl_grammar.specs.Tree.{Header}
-use Rattle.tmpl_grammar.specs.Action.{pipeline_action, opening, plain_else, else_branch, end_action, break_action, continue_action, control_in}
+use Rattle.tmpl_grammar.specs.Action.{pipeline_action, opening, plain_else, else_branch, end_action, break_action}
+use Rattle.tmpl_grammar.specs.Action.{continue_action, control_in}
 use Rattle.tmpl_grammar.specs.declared.tree.Control.{Control}
 use Rattle.tmpl_grammar.specs.declared.action.Branch.{Branch}
 use Rattle.tmpl_syntax.specs.Tree.{NodeKind, Nodes, none, then, text, action, control_node, break_node, continue_node}
@@ -49,7 +50,10 @@ else_before p = record { inner = record { nodes = none; other = p.inner.nodes };
 
 abbrev pub branch_before : ℕ → Branch → Header → Parts → Parts
 branch_before line branch h p = record {
-  inner = record { nodes = none; other = then line (control_node (control_in branch) h p.inner.nodes p.inner.other) none };
+  inner = record {
+    nodes = none;
+    other = then line (control_node (control_in branch) h p.inner.nodes p.inner.other) none;
+  };
   around = p.around;
 }
 

@@ -3,7 +3,7 @@ use Rattle.tmpl_syntax.specs.Tree.{Node, none, then, control_node}
 use Rattle.tmpl_grammar.specs.View.{header_of}
 use Rattle.tmpl_syntax.specs.View.{level_of, nodes_in, parts_of}
 use Rattle.tmpl_syntax.proofs.ViewLemmas.{node_of-Node}
-use Rattle.tmpl_syntax.proofs.BuildLemmas.{same_parts}
+use Rattle.tmpl_syntax.proofs.BuildLemmas.{same-parts}
 use Rattle.tmpl_syntax.proofs.build.begin_branch.Goals as goal
 
 pub returns : goal.returns
@@ -11,7 +11,7 @@ unfolding parts_of
 returns c =
     let a = c.args in
     let parts = level_of a.parts.inner in
-    same_parts _ _ _ _ _ _ (ap nodes_in (ap reverse c.new.ensures.items))
+    same-parts _ _ _ _ _ _ (ap nodes_in (ap reverse c.new.ensures.items))
     (ap nodes_in c.in_ok-vec.ensures.items
     ∙ ap (λ (n : Node). then n.line n.what none) (node_of-Node a.line _)
     ∙ ap (λ w. then a.line w none) c.in_ok-what.ensures

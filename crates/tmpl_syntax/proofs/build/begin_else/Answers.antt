@@ -1,9 +1,9 @@
 use Rattle.std.proofs.Common.{refl, ap, reverse}
 use Rattle.tmpl_syntax.specs.View.{nodes_in}
 use Rattle.tmpl_syntax.specs.View.{parts_of}
-use Rattle.tmpl_syntax.proofs.BuildLemmas.{same_parts}
+use Rattle.tmpl_syntax.proofs.BuildLemmas.{same-parts}
 use Rattle.tmpl_syntax.proofs.build.begin_else.Goals as goal
 
 pub returns : goal.returns
 unfolding parts_of
-returns c = same_parts _ _ _ _ _ _ (ap nodes_in (ap reverse c.new.ensures.items)) (ap nodes_in c.in_order.ensures) refl
+returns c = same-parts _ _ _ _ _ _ (ap nodes_in (ap reverse c.new.ensures.items)) (ap nodes_in c.in_order.ensures) refl

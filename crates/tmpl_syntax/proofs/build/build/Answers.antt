@@ -5,15 +5,15 @@ use Rattle.tmpl_syntax.specs.View.{item_of}
 use Rattle.tmpl_syntax.specs.computed.Build as build
 use Rattle.tmpl_syntax.specs.computed.Build.{parts_before, no_parts, nodes_from}
 use Rattle.tmpl_syntax.specs.View.{level_of, parts_of}
-use Rattle.tmpl_syntax.proofs.BuildLemmas.{before-last, same_parts}
-use Rattle.tmpl_syntax.proofs.ListLemmas.{none-left}
+use Rattle.tmpl_syntax.proofs.BuildLemmas.{before-last, same-parts}
+use Rattle.std.proofs.lemmas.List.{nil_from_length}
 use Rattle.tmpl_syntax.proofs.build.build.Goals as goal
 
 pub loop-item-init : goal.loop-item-init
 unfolding parts_of
 loop-item-init c =
     ap (parts_before (map item_of c.args.items.items))
-    (same_parts _ _ _ _ _ _ (ap (λ (l : build.Level). l.nodes) c.new.ensures) (ap (λ (l : build.Level). l.other) c.new.ensures)
+    (same-parts _ _ _ _ _ _ (ap (λ (l : build.Level). l.nodes) c.new.ensures) (ap (λ (l : build.Level). l.other) c.new.ensures)
     (ap (λ ls. map level_of (reverse ls)) c.new-2.ensures.items))
 
 pub loop-item-preserved : goal.loop-item-preserved
@@ -31,5 +31,5 @@ returns c =
     let items = c.loop-item.items.items in
     let left : length items ≡ 0 = omega (arith, c.in_default.ensures.cases.0) in
     let all : parts_of c.loop-item.parts ≡ parts_before (map item_of c.args.items.items) no_parts =
-    ap (λ xs. parts_before (map item_of xs) (parts_of c.loop-item.parts)) (sym (none-left items left)) ∙ c.loop-item.invariant in
+    ap (λ xs. parts_before (map item_of xs) (parts_of c.loop-item.parts)) (sym (nil_from_length items left)) ∙ c.loop-item.invariant in
     ap nodes_in c.in_order.ensures ∙ ap (λ (p : build.Parts). p.inner.nodes) all

@@ -5,7 +5,7 @@ use Rattle.tmpl_lex.specs.View.{piece_of}
 use Rattle.tmpl_syntax.specs.Item.{Item}
 use Rattle.tmpl_syntax.specs.View.{item_of}
 use Rattle.tmpl_syntax.specs.computed.Item.{item_in}
-use Rattle.tmpl_syntax.proofs.ListLemmas.{map-twice}
+use Rattle.std.proofs.lemmas.Simd.{map-map}
 use Rattle.tmpl_syntax.proofs.item.read_all.Goals as goal
 
 pub loop-piece-preserved : goal.loop-piece-preserved
@@ -23,4 +23,4 @@ returns c =
     let pieces = c.args.pieces.now in
     let ended : length pieces ≤ c.loop-piece.piece-index = omega arith in
     c.loop-piece.invariant ∙ ap (map (λ p. item_in (piece_of p))) (take_all c.loop-piece.piece-index pieces ended)
-    ∙ sym (map-twice item_in piece_of pieces)
+    ∙ sym (map-map item_in piece_of pieces)

@@ -3,7 +3,7 @@ use Rattle.tmpl_syntax.specs.View.{set_view}
 use Rattle.std.proofs.Common.{sym, subst}
 use Rattle.tmpl_values.proofs.RuneLemmas.{are_bytes}
 use Rattle.tmpl_syntax.specs.Print.Laws.{ArePrintable}
-use Rattle.tmpl_syntax.proofs.PrintableSetLemmas.{parsed_printable}
+use Rattle.tmpl_syntax.proofs.PrintableSetLemmas.{parsed-printable}
 use Rattle.tmpl_syntax.proofs.ReadingLemmas.{accepted, refusal-of}
 use Rattle.tmpl_syntax.proofs.parse.parse_file.Goals as goal
 
@@ -16,7 +16,7 @@ returns-in-Err-clause-reading c =
 
 pub returns-in-Ok-clause-printable : goal.returns-in-Ok-clause-printable
 returns-in-Ok-clause-printable c =
-    parsed_printable (set_view c.args.set.now) (set_view c.add_file.new.set) c.args.file c.args.bytes.now (are_bytes c.args.bytes.now c.type_inv.bytes)
+    parsed-printable (set_view c.args.set.now) (set_view c.add_file.new.set) c.args.file c.args.bytes.now (are_bytes c.args.bytes.now c.type_inv.bytes)
     (accepted (set_view c.args.set.now) c.args.file.now c.args.bytes.now (set_view c.add_file.new.set) c.in-Ok.ensures)
 
 pub returns-in-Err-clause-printable : goal.returns-in-Err-clause-printable
