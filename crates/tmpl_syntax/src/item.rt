@@ -29,17 +29,21 @@ pub(crate) enum ItemKind<'b> {
     Action(Action),
 }
 
-/// The items of a file's pieces.
-pub(crate) fn read_all<'b>(alloc: Global, pieces: &[Piece<'b>]) -> Result<Vec<Item<'b>>, AllocError>
-    ensures { IfOk result (λ v. map item_of v.items ≡ items_in (map piece_of pieces.now)) }
+/// The items of a file's pieces, each of which is let go as it is read.
+pub(crate) fn read_all<'b>(
+    alloc: Global,
+    pieces: Vec<Piece<'b>>,
+) -> Result<Vec<Item<'b>>, AllocError>
+    ensures { IfOk result (λ v. map item_of v.items ≡ items_in (map piece_of pieces.entry.items)) }
 {
     let mut items = Vec::with_capacity(alloc, pieces.len())?;
     for piece in pieces {
-        items.push(read_piece(alloc, piece)?)?;
+        items.push(read_piece(alloc, &piece)?)?;
     }
     Ok(items)
 }
 
+/// The item that a piece is read as.
 fn read_piece<'b>(alloc: Global, piece: &Piece<'b>) -> Result<Item<'b>, AllocError>
     ensures { IfOk result (λ x. item_of x ≡ item_in (piece_of piece.now)) }
 {

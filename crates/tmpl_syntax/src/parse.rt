@@ -53,6 +53,7 @@ pub fn parse_file<'f>(
     }
 }
 
+/// Adds a file's own template to the set.
 fn add_file(alloc: Global, set: &mut Set, file: &str, bytes: &[u8]) -> Result<(), Refusal>
     ensures { IsAdded (set_view set.old) file.now bytes.now (set_view set.new) result }
 {
@@ -71,14 +72,14 @@ fn add_file(alloc: Global, set: &mut Set, file: &str, bytes: &[u8]) -> Result<()
     Ok(())
 }
 
-/// The items of a file. Its pieces are let go before the nodes are built.
+/// The items of a file.
 fn read_file(alloc: Global, bytes: &[u8]) -> Result<Vec<Item<'_>>, AllocError>
     ensures { IfOk result (λ v. map item_of v.items ≡ items_of bytes.now) }
 {
-    let pieces = cut(alloc, bytes)?;
-    read_all(alloc, pieces.as_slice())
+    read_all(alloc, cut(alloc, bytes)?)
 }
 
+/// These bytes, in a list of their own.
 fn copy_of(alloc: Global, bytes: &[u8]) -> Result<Vec<u8>, AllocError>
     ensures { IfOk result (λ v. v.items ≡ bytes.now) }
 {
