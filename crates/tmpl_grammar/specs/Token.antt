@@ -1,5 +1,5 @@
 -- Tokens of one action, and runs of them.
-use Rattle.std.specs.Prelude.{ℕ, Bool, true, false, ◌&&◌, not, List, [], ◌∷◌, drop, Option, Some, None}
+use Rattle.std.specs.Prelude.{ℕ, Bool, true, false, not, List, [], ◌∷◌, drop, Option, Some, None}
 use Rattle.std.specs.List.{list_all, prefix_len}
 use Rattle.std.specs.Char.{is_ascii_digit}
 use Rattle.tmpl_lex.specs.declared.piece.TokenKind.{TokenKind}
@@ -37,10 +37,3 @@ name_in t = drop 1 t.bytes
 abbrev pub begins_name : List ℕ → Bool
 begins_name [] = false
 begins_name (b ∷ bs) = not (is_ascii_digit b)
-
-abbrev pub is_opening_kind : TokenKind → Bool
-is_opening_kind kind.LeftParenthesis = true
-is_opening_kind k = false
-
-abbrev pub is_opening : Token → Bool
-is_opening t = is_opening_kind t.kind
