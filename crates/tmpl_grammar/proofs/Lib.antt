@@ -13,6 +13,7 @@ pub mod ListLemmas
 pub mod OptionLemmas
 pub mod PipelineExamples
 pub mod PipelineLemmas
+pub mod PositionLemmas
 pub mod PrintableActionLemmas
 pub mod PrintableConstantLemmas
 pub mod PrintableTokenLemmas
@@ -23,7 +24,6 @@ pub mod QuotePartLemmas
 pub mod QuoteTokenLemmas
 pub mod QuotedLemmas
 pub mod ReadLemmas
-pub mod RecognizerLemmas
 pub mod SliceLemmas
 pub mod SpelledLemmas
 pub mod StrayLemmas

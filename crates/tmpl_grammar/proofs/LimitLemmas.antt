@@ -1,100 +1,166 @@
--- What is within the limit of parentheses.
-use Rattle.std.proofs.Common.{arith, ◌≡◌, ◌∙◌, ◌≤◌, ◌<◌, ℕ, ◌+◌, Bool, true, false, nat_le, List, ◌∷◌, Option, Some, None, refl, ap, sym, subst, length, map, drop, is_some, ⊎_elim, Result, IfOk}
-use Rattle.std.proofs.lemmas.List.{length-map, length-reverse, drop_all}
-use Rattle.std.proofs.lemmas.Bool.{leb-true, le-leb, lt-leb}
+-- What is within the limit of parentheses: up to it the limited parser is the unlimited one, and beyond it stands at the
+-- same places.
+use Rattle.std.proofs.Common.{arith, ◌≡◌, ◌∙◌, ◌≤◌, ◌<◌, ℕ, zero, suc, ◌+◌, Bool, true, false, nat_le, nat_lt, List, [], ◌∷◌, Option, Some, None, refl, ap, sym, subst, length, drop, add-one, is_some, ⊎_elim}
+use Rattle.std.proofs.lemmas.Bool.{le-leb, ltb-true, ltb-false}
 use Rattle.std.proofs.lemmas.Bool.Decides.{leb_tells}
 use Rattle.std.specs.Option.{option_map, option_and_then}
 use Rattle.tmpl_lex.specs.Piece.{Token}
-use Rattle.tmpl_lex.specs.View.{token_of}
-use Rattle.tmpl_grammar.specs.Token.{is_opening}
-use Rattle.tmpl_grammar.specs.Tree.{Operands, Pipeline}
-use Rattle.tmpl_grammar.specs.computed.Parser.{Parser, step, steps, finished, commands_after, start, goes_beyond}
-use Rattle.tmpl_grammar.specs.Depth.{Reading, unread, read, limited_to, pipeline_within, most_deep}
-use Rattle.tmpl_grammar.specs.computed.Recognizer.{recognizer_of, ends_pipeline, too_deep_if}
+use Rattle.tmpl_grammar.specs.Tree as tree
+use Rattle.tmpl_grammar.specs.Tree.{Operand, Operands, Pipeline}
+use Rattle.tmpl_grammar.specs.computed.Parser.{Parser, Partial, step, steps, finished, commands_after, start}
+use Rattle.tmpl_grammar.specs.computed.Limited.{Limited, limited_start, count, emptied, restored, restored_by, forgotten_if, behind_step, limited_step, reading_by}
+use Rattle.tmpl_grammar.specs.Depth.{Reading, unread, limited_to, pipeline_within, most_deep}
 use Rattle.tmpl_grammar.specs.declared.action.Shape.{Shape}
 use Rattle.tmpl_grammar.specs.computed.Reading.{pipeline_from, pipeline_in, limited_in}
-use Rattle.tmpl_grammar.proofs.DepthLemmas.{parser_depth, deep_commands, Steps, room, step-steps, IsAtLeast, IsClosed, opening-least, none-behind}
-use Rattle.tmpl_grammar.proofs.RecognizerLemmas.{ends-as}
-use Rattle.tmpl_lex.specs.declared.piece.Token as held
-use Rattle.tmpl_grammar.specs.declared.pipeline.parser.PipelineParser as held_parser
-use Rattle.tmpl_grammar.specs.View.{parser_of, partial_of}
+use Rattle.tmpl_grammar.proofs.DepthLemmas.{parser_depth, deep_commands, Steps, step-steps, IsAtLeast, IsClosed, end-least, less-least, finished-depth}
+use Rattle.tmpl_grammar.proofs.PositionLemmas.{Place, more, more-suc, place_of, position_in, IsHeld, held-none, step-place, passed, passes, ended, ends-as, finished-place, none-passes}
+
+-- ---- places
+
+abbrev pub place : Limited → Place
+place l = place_of (count l.beyond) l.parser
+
+emptied-behind : (last : Option Operand) (l : Partial) → position_in (option_map emptied last) l ≡ position_in last l
+emptied-behind None l = refl
+emptied-behind (Some tree.dot) l = refl
+emptied-behind (Some (tree.fields names)) l = refl
+emptied-behind (Some (tree.variable x names)) l = refl
+emptied-behind (Some (tree.bool_constant b)) l = refl
+emptied-behind (Some (tree.number_constant n)) l = refl
+emptied-behind (Some (tree.text_constant bytes)) l = refl
+emptied-behind (Some tree.nil) l = refl
+emptied-behind (Some (tree.function f)) l = refl
+emptied-behind (Some (tree.group commands names)) l = refl
+
+restored-place : (b : Option ℕ) (h : Parser) → place (restored_by b h) ≡ place_of (count b) h
+restored-place None h = refl
+restored-place (Some zero) h = ap (λ p. record { position = p; depth = length h.outer }) (emptied-behind h.last h.inner)
+restored-place (Some (suc n)) h =
+    ap (λ p. record { position = p; depth = more n (suc (length h.outer)) }) (emptied-behind h.last h.inner)
+    ∙ ap (λ m. record { position = position_in h.last h.inner; depth = m }) (more-suc n (length h.outer))
+
+restored-held : (b : Option ℕ) (h : Parser) → IsHeld (restored_by b h).parser.outer (count (restored_by b h).beyond)
+restored-held None h = held-none h.outer
+restored-held (Some zero) h = held-none h.outer
+restored-held (Some (suc n)) h = tt
+
+forgotten-place : (b : Option ℕ) (h : Parser) → place (behind_step b h) ≡ place_of (count b) h
+forgotten-place b h = by h.outer refl (nat_lt most_deep (length h.outer)) refl
+  where
+    by : (ls : List Partial) → ls ≡ h.outer → (is : Bool) → is ≡ nat_lt most_deep (length h.outer) → place (forgotten_if is (record { parser = h; beyond = b })) ≡ place_of (count b) h
+    by ls e false is = refl
+    by [] e true is = let n = ltb-true most_deep (length h.outer) (sym is) in let m = ap length e in absurd (omega (arith, n, m))
+    by (l ∷ ls) e true is =
+        ap (λ m. record { position = position_in h.last h.inner; depth = m })
+        (ap (λ n. more n (length (drop 1 h.outer))) (add-one (count b))
+        ∙ ap (λ ls. suc (more (count b) (length (drop 1 ls)))) (sym e)
+        ∙ sym (more-suc (count b) (length ls))
+        ∙ ap (λ ls. more (count b) (length ls)) e)
+
+step-places : (b : Option ℕ) (o : Option Parser) → option_map place (option_map (behind_step b) o) ≡ option_map (place_of (count b)) o
+step-places b None = refl
+step-places b (Some h) = ap Some (forgotten-place b h)
+
+limited-place : (t : Token) (l : Limited) → option_map place (limited_step t l) ≡ passed t (place l)
+unfolding limited_step
+limited-place t l =
+    step-places (restored l).beyond (step t (restored l).parser)
+    ∙ step-place (count (restored l).beyond) t (restored l).parser (restored-held l.beyond l.parser)
+    ∙ ap (passed t) (restored-place l.beyond l.parser)
+
+-- ---- what is known of the whole, by what is left of the tokens
+
+-- all is known up to the limit; beyond it, how deep the whole is, if there is one
+abbrev pub Exact : List Token → Option ℕ → Parser → List Token → Type 0
+Exact all None h rest = (steps (Some h) rest ≡ steps (Some start) all) × (parser_depth h ≤ most_deep)
+Exact all (Some n) h rest = IsAtLeast (1 + most_deep) (commands_after start all)
+
+abbrev pub Follows : List Token → Limited → List Token → Type 0
+Follows all l rest = (ended (passes (Some (place l)) rest) ≡ is_some (commands_after start all)) × Exact all l.beyond l.parser rest
+
+abbrev IsExact : List Token → List Token → Option Limited → Type 0
+IsExact all rest None = Unit {0}
+IsExact all rest (Some l) = Exact all l.beyond l.parser rest
+
+deep-exact : (all rest : List Token) (n : ℕ) (o : Option Parser) → IsAtLeast (1 + most_deep) (commands_after start all) → IsExact all rest (option_map (behind_step (Some n)) o)
+deep-exact all rest n None d = tt
+deep-exact all rest n (Some h) d = by (nat_lt most_deep (length h.outer))
+  where
+    by : (b : Bool) → IsExact all rest (Some (forgotten_if b (record { parser = h; beyond = Some n })))
+    by true = d
+    by false = d
+
+within-exact : (all rest : List Token) (h : Parser) (o : Option Parser) → steps o rest ≡ steps (Some start) all → Steps h o → parser_depth h ≤ most_deep → IsExact all rest (option_map (behind_step None) o)
+within-exact all rest h None so_far s deep = tt
+within-exact all rest h (Some r) so_far s deep = by (nat_lt most_deep (length r.outer)) refl
+  where
+    by : (b : Bool) → b ≡ nat_lt most_deep (length r.outer) → IsExact all rest (Some (forgotten_if b (record { parser = r; beyond = None })))
+    by true e =
+        let n = ltb-true most_deep (length r.outer) (sym e) in
+        subst (λ o. IsAtLeast (1 + most_deep) (option_and_then finished o)) so_far
+        (less-least (1 + most_deep) (parser_depth r) (commands_after r rest) (omega (arith, n)) (end-least r rest))
+    by false e = let n = ltb-false most_deep (length r.outer) (sym e) in (so_far, omega (arith, n, s, deep))
+
+exact-step : (all rest : List Token) (t : Token) (l : Limited) → Exact all l.beyond l.parser (t ∷ rest) → IsExact all rest (limited_step t l)
+unfolding limited_step
+exact-step all rest t l x = by l.beyond l.parser x
+  where
+    by : (b : Option ℕ) (h : Parser) → Exact all b h (t ∷ rest) → IsExact all rest (option_map (behind_step (restored_by b h).beyond) (step t (restored_by b h).parser))
+    by None h x = within-exact all rest h (step t h) x.0 (step-steps t h) x.1
+    by (Some zero) h d = deep-exact all rest 0 (step t (restored_by (Some 0) h).parser) d
+    by (Some (suc n)) h d = deep-exact all rest n (step t (restored_by (Some (suc n)) h).parser) d
+
+-- ---- the limit
 
 -- what a list of commands is within the limit
-abbrev pub limited_commands : Shape → Option (List Operands) → Reading Pipeline
+abbrev limited_commands : Shape → Option (List Operands) → Reading Pipeline
 limited_commands s o = pipeline_within s (option_map pipeline_from o)
 
-deep-limited : (s : Shape) (n : ℕ) (o : Option (List Operands)) (b : Bool) → most_deep < n → is_some o ≡ b → IsAtLeast n o → too_deep_if b s ≡ limited_commands s o
-deep-limited s n None b h e d = ap (λ c. too_deep_if c s) (sym e)
-deep-limited s n (Some cs) b h e d = ap (λ c. too_deep_if c s) (sym e) ∙ sym (ap (λ c. limited_to c s (pipeline_from cs)) (lt-leb (deep_commands cs) most_deep (omega (arith, d, h))))
+nat_le-false : (m n : ℕ) → n < m → nat_le m n ≡ false
+nat_le-false m n h = ⊎_elim (λ y. absurd (let a = y.1 in omega (arith, a, h))) (λ e. e.0) (leb_tells m n)
 
-beyond-opens : (n : ℕ) (b : Bool) → goes_beyond n b ≡ true → (most_deep ≤ n) × (b ≡ true)
-beyond-opens n true e = (leb-true most_deep n e, refl)
-beyond-opens n false e = absurd (let g : ⊥ = cc in g)
+none-limited : (s : Shape) (o : Option (List Operands)) → false ≡ is_some o → unread ≡ limited_commands s o
+none-limited s None e = refl
+none-limited s (Some cs) e = absurd (let g : ⊥ = cc in g)
 
-within-room : (n : ℕ) (b : Bool) → n ≤ most_deep → goes_beyond n b ≡ false → room n b ≤ most_deep
-within-room n true h e = ⊎_elim (λ y. absurd (let f = y.0 in let g : ⊥ = cc in g)) (λ b. let lt = b.1 in omega (arith, lt)) (leb_tells most_deep n)
-within-room n false h e = h
+within-limited : (s : Shape) (n : ℕ) (o : Option (List Operands)) → n ≤ most_deep → IsClosed n o → reading_by s None o ≡ limited_commands s o
+within-limited s n None h c = refl
+within-limited s n (Some cs) h c = sym (ap (λ b. limited_to b s (pipeline_from cs)) (le-leb (deep_commands cs) most_deep (omega (arith, c, h))))
 
-room-one : (n : ℕ) (b : Bool) → room n b ≤ n + 1
-room-one n true = omega arith
-room-one n false = omega arith
+deep-limited : (s : Shape) (o all : Option (List Operands)) → is_some o ≡ is_some all → IsAtLeast (1 + most_deep) all → reading_by s (Some 0) o ≡ limited_commands s all
+deep-limited s None None e d = refl
+deep-limited s None (Some cs) e d = absurd (let g : ⊥ = cc in g)
+deep-limited s (Some cs) None e d = absurd (let g : ⊥ = cc in g)
+deep-limited s (Some xs) (Some cs) e d = sym (ap (λ c. limited_to c s (pipeline_from cs)) (nat_le-false (deep_commands cs) most_deep (omega (arith, d))))
 
--- the pipeline of all the tokens, by what is left of them
-reads : (s : Shape) (ts : List Token) (h : Parser) (rest : List Token) → steps (Some h) rest ≡ steps (Some start) ts → limited_commands s (commands_after h rest) ≡ limited_in s ts
+open-unread : (s : Shape) (n : ℕ) (o : Option (List Operands)) → reading_by s (Some (suc n)) o ≡ unread
+open-unread s n None = refl
+open-unread s n (Some cs) = refl
+
+-- ---- from the first token to the last
+
+pub follows-start : (all : List Token) → Follows all limited_start all
+follows-start all = (sym (ends-as start all), (refl, omega arith))
+
+pub follows-step : (all rest : List Token) (t : Token) (l next : Limited) → limited_step t l ≡ Some next → Follows all l (t ∷ rest) → Follows all next rest
+follows-step all rest t l next e f = (
+  ap (λ p. ended (passes p rest)) (sym (ap (option_map place) e) ∙ limited-place t l) ∙ f.0,
+  subst (IsExact all rest) e (exact-step all rest t l f.1),
+)
+
+pub follows-none : (s : Shape) (all rest : List Token) (t : Token) (l : Limited) → limited_step t l ≡ None → Follows all l (t ∷ rest) → unread ≡ limited_in s all
 unfolding pipeline_in
-reads s ts h rest so_far = ap (λ o. limited_commands s (option_and_then finished o)) so_far
+follows-none s all rest t l e f =
+    none-limited s (commands_after start all)
+    (sym (ap ended (none-passes rest)) ∙ ap (λ p. ended (passes p rest)) (sym (ap (option_map place) e) ∙ limited-place t l) ∙ f.0)
 
--- ---- over the tokens that code holds
-
-module _ (s : Shape) (ts : List held.Token) (i : ℕ) (h : held_parser.PipelineParser) (so_far : steps (Some (parser_of h)) (map token_of (drop i ts)) ≡ steps (Some start) (map token_of ts)) where
-  around-is : length (parser_of h).outer ≡ length h.outer.items
-  around-is = length-reverse (map partial_of h.outer.items) ∙ length-map h.outer.items partial_of
-
-  pub beyond-reads : (t : held.Token) (rest : List held.Token) (l : Reading Pipeline) → drop i ts ≡ t ∷ drop (i + 1) ts → goes_beyond (length h.outer.items) (is_opening (token_of t)) ≡ true → rest ≡ drop i ts → l ≡ too_deep_if (ends_pipeline (recognizer_of (parser_of h)) (map token_of rest)) s → l ≡ limited_in s (map token_of ts)
-  beyond-reads t rest l is beyond at e =
-      let b = beyond-opens (length h.outer.items) (is_opening (token_of t)) beyond in
-      let us = map token_of (drop (i + 1) ts) in
-      e ∙ ap (λ vs. too_deep_if (ends_pipeline (recognizer_of (parser_of h)) (map token_of vs)) s) (at ∙ is)
-      ∙ deep-limited s (1 + length (parser_of h).outer) (commands_after (parser_of h) (token_of t ∷ us)) _ (let a = around-is in let n = b.0 in omega (arith, a, n)) (ends-as (parser_of h) (token_of t ∷ us)) (opening-least (parser_of h) (token_of t) us b.1)
-      ∙ ap (λ vs. limited_commands s (commands_after (parser_of h) (map token_of vs))) (sym is)
-      ∙ reads s (map token_of ts) (parser_of h) (map token_of (drop i ts)) so_far
-
-  pub none-reads : (t : held.Token) (o : Option Parser) → drop i ts ≡ t ∷ drop (i + 1) ts → o ≡ step (token_of t) (parser_of h) → o ≡ None → unread ≡ limited_in s (map token_of ts)
-  none-reads t o is e none =
-      let us = map token_of (drop (i + 1) ts) in
-      ap (λ p. limited_commands s (option_and_then finished p)) (sym (none-behind us))
-      ∙ ap (λ p. limited_commands s (option_and_then finished (steps p us))) (sym none ∙ e)
-      ∙ ap (λ vs. limited_commands s (commands_after (parser_of h) (map token_of vs))) (sym is)
-      ∙ reads s (map token_of ts) (parser_of h) (map token_of (drop i ts)) so_far
-
-  pub step-reads : (t : held.Token) (o : Option Parser) (next : Parser) → drop i ts ≡ t ∷ drop (i + 1) ts → o ≡ step (token_of t) (parser_of h) → o ≡ Some next → steps (Some next) (map token_of (drop (i + 1) ts)) ≡ steps (Some start) (map token_of ts)
-  step-reads t o next is e some =
-      ap (λ p. steps p (map token_of (drop (i + 1) ts))) (sym some ∙ e)
-      ∙ ap (λ vs. steps (Some (parser_of h)) (map token_of vs)) (sym is) ∙ so_far
-
-  pub step-depth : (t : held.Token) (o : Option Parser) (next : held_parser.PipelineParser) → drop i ts ≡ t ∷ drop (i + 1) ts → goes_beyond (length h.outer.items) (is_opening (token_of t)) ≡ false → parser_depth (parser_of h) ≤ most_deep → o ≡ step (token_of t) (parser_of h) → o ≡ Some (parser_of next) → (parser_depth (parser_of next) ≤ most_deep) × (length next.outer.items ≤ length h.outer.items + 1)
-  step-depth t o next is beyond deep e some =
-      let st = subst (Steps (room (length (parser_of h).outer) (is_opening (token_of t))) (parser_of h)) (sym e ∙ some) (step-steps (token_of t) (parser_of h)) in
-      let a = around-is in
-      let b : length (parser_of next).outer ≡ length next.outer.items = length-reverse (map partial_of next.outer.items) ∙ length-map next.outer.items partial_of in
-      let at : length (parser_of h).outer ≤ most_deep = omega (arith, deep) in
-      let into = within-room (length h.outer.items) (is_opening (token_of t)) (omega (arith, a, at)) beyond in
-      let fits = subst (λ n. length (parser_of next).outer ≤ room n (is_opening (token_of t))) a st.1 in
-      let one = room-one (length h.outer.items) (is_opening (token_of t)) in
-      let same = st.0 in
-      (omega (arith, same, deep, fits, into), omega (arith, b, fits, one))
-
-  pub end-reads : (o : Option (List Operands)) → length ts ≤ i → o ≡ finished (parser_of h) → limited_commands s o ≡ limited_in s (map token_of ts)
-  end-reads o end e =
-      ap (limited_commands s) e
-      ∙ ap (λ vs. limited_commands s (commands_after (parser_of h) (map token_of vs))) (sym (drop_all i ts end))
-      ∙ reads s (map token_of ts) (parser_of h) (map token_of (drop i ts)) so_far
-
-pub within-limited : (s : Shape) (n : ℕ) (o : Option (List Operands)) (cs : List Operands) → n ≤ most_deep → IsClosed n o → o ≡ Some cs → read (pipeline_from cs) ≡ limited_commands s o
-within-limited s n o cs h c e =
-    let d = subst (IsClosed n) e c in
-    sym (ap (limited_commands s) e ∙ ap (λ b. limited_to b s (pipeline_from cs)) (le-leb (deep_commands cs) most_deep (omega (arith, d, h))))
-
--- where a result is there, one thing for another
-pub if-ok : {X Y E : Type 0} (r : Result X E) (f : X → Y) (a b : Y) → (a ≡ b) → IfOk r (λ x. f x ≡ a) → IfOk r (λ x. f x ≡ b)
-if-ok r f a b e h = subst (λ y. IfOk r (λ x. f x ≡ y)) e h
+pub follows-end : (s : Shape) (all : List Token) (l : Limited) → Follows all l [] → reading_by s l.beyond (finished l.parser) ≡ limited_in s all
+unfolding pipeline_in
+follows-end s all l f = by l.beyond l.parser f.0 f.1
+  where
+    by : (b : Option ℕ) (h : Parser) → ended (Some (place_of (count b) h)) ≡ is_some (commands_after start all) → Exact all b h [] → reading_by s b (finished h) ≡ limited_commands s (commands_after start all)
+    by None h e x =
+        within-limited s (parser_depth h) (finished h) x.1 (finished-depth h)
+        ∙ ap (λ o. limited_commands s (option_and_then finished o)) x.0
+    by (Some zero) h e d = deep-limited s (finished h) (commands_after start all) (finished-place h ∙ e) d
+    by (Some (suc n)) h e d = open-unread s n (finished h) ∙ none-limited s (commands_after start all) e

@@ -37,10 +37,3 @@ name_in t = drop 1 t.bytes
 abbrev pub begins_name : List ℕ → Bool
 begins_name [] = false
 begins_name (b ∷ bs) = not (is_ascii_digit b)
-
-abbrev pub is_opening_kind : TokenKind → Bool
-is_opening_kind kind.LeftParenthesis = true
-is_opening_kind k = false
-
-abbrev pub is_opening : Token → Bool
-is_opening t = is_opening_kind t.kind

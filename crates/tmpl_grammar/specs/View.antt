@@ -12,6 +12,7 @@ use Rattle.tmpl_grammar.specs.Action.{break_action, continue_action}
 use Rattle.tmpl_grammar.specs.Depth as depth
 use Rattle.tmpl_grammar.specs.computed.Reading as reading
 use Rattle.tmpl_grammar.specs.computed.Parser as parser
+use Rattle.tmpl_grammar.specs.computed.Limited as limited
 use Rattle.tmpl_grammar.specs.declared.tree.Operand as held_operand
 use Rattle.tmpl_grammar.specs.declared.tree.Operand.{fold-Operand}
 use Rattle.tmpl_grammar.specs.declared.tree.Operand.TheOpen.{Operand-F, Command-F}
@@ -28,6 +29,7 @@ use Rattle.tmpl_grammar.specs.declared.header.Front.{Front}
 use Rattle.tmpl_grammar.specs.declared.header.Front.TheVariants as front
 use Rattle.tmpl_grammar.specs.declared.pipeline.parser.PipelineParser.{PipelineParser}
 use Rattle.tmpl_grammar.specs.declared.pipeline.parser.PartialPipeline.{PartialPipeline}
+use Rattle.tmpl_grammar.specs.declared.pipeline.LimitedParser.{LimitedParser}
 
 -- ---- trees
 
@@ -117,3 +119,6 @@ parser_of h = record {
   inner = partial_of h.inner;
   last = option_map operand_of h.last;
 }
+
+abbrev pub limited_of : LimitedParser → limited.Limited
+limited_of l = record { parser = parser_of l.parser; beyond = l.beyond }

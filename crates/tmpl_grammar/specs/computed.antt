@@ -1,4 +1,4 @@
+pub mod Limited
 pub mod Parser
 pub mod Reading
-pub mod Recognizer
 pub mod Within

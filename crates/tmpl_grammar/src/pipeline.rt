@@ -1,27 +1,33 @@
 //! The reading of pipelines.
-ghost use Rattle.std.specs.Prelude.{◌≡◌, ◌+◌, ◌<◌, ◌^◌, IfOk, map, length};
+ghost use Rattle.std.specs.Prelude.{◌≡◌, ◌+◌, ◌<◌, ◌^◌, IfOk, map, option_map};
 ghost use Rattle.tmpl_lex.specs.View.{token_of};
 ghost use Rattle.tmpl_grammar.specs.computed.Reading as spec;
-ghost use Rattle.tmpl_grammar.specs.computed.Recognizer as deep;
-ghost use Rattle.tmpl_grammar.specs.Token.{is_opening};
-ghost use Rattle.tmpl_grammar.specs.computed.Parser.{goes_beyond};
-ghost use Rattle.tmpl_grammar.specs.View.{parser_of, partial_of, pipeline_reading};
+ghost use Rattle.tmpl_grammar.specs.computed.Limited as limited;
+ghost use Rattle.tmpl_grammar.specs.computed.Parser.{finished};
+ghost use Rattle.tmpl_grammar.specs.View.{operand_of, parser_of, limited_of, pipeline_reading};
 
 mod parser;
-mod recognizer;
 
 use crate::action::{Reading, Shape};
 use crate::pipeline::parser::{PartialPipeline, PipelineParser};
-use crate::pipeline::recognizer::{Position, Recognizer, behind, ends_pipeline};
-use crate::tree::Pipeline;
+use crate::tree::{Operand, Pipeline};
 use std::alloc::{AllocError, Global};
-use tmpl_lex::{Token, TokenKind};
+use tmpl_lex::Token;
 
 /// How deep parentheses may nest (our own limit).
 const MOST_DEEP: usize = 100;
 
-/// What these tokens, in an action of this shape, are read as. Nothing is recursive: pipelines that are read in part
-/// stand in a list up to the limit, and from there on only the number of open parentheses is kept.
+/// A parser that keeps no more than `MOST_DEEP` pipelines around the one that it reads. Any further one is forgotten
+/// and only counted: from then on the action is too deep, so all that is left to tell is whether its tokens are a
+/// pipeline, and behind `)` the same tokens may stand whatever was read before its `(`.
+#[derive(Drop)]
+struct LimitedParser {
+    parser: PipelineParser,
+    /// How many pipelines around it are forgotten; `None` while none ever was.
+    beyond: Option<usize>,
+}
+
+/// What these tokens, in an action of this shape, are read as. No call is recursive, however deep parentheses nest.
 pub(crate) fn pipeline(
     alloc: Global,
     shape: Shape,
@@ -29,68 +35,101 @@ pub(crate) fn pipeline(
 ) -> Result<Reading<Pipeline>, AllocError>
     ensures { IfOk result (λ p. pipeline_reading p ≡ spec.limited_in shape (map token_of tokens.now)) }
 {
-    let mut parser = PipelineParser::new(alloc);
-    for (index, token) in tokens.iter().enumerate() {
-        if goes_beyond(&parser, token) {
-            return beyond(alloc, shape, recognizer_at(&parser), &tokens[index..]);
-        }
+    let mut parser = LimitedParser::new(alloc);
+    for token in tokens {
         match parser.step(alloc, token)? {
             Some(next) => parser = next,
             None => return Ok(Reading::Unread),
         }
     }
-    match parser.finished()? {
-        Some(commands) => Ok(Reading::Read(Pipeline { commands })),
-        None => Ok(Reading::Unread),
+    parser.finished(shape)
+}
+
+impl LimitedParser {
+    /// Nothing is read yet.
+    fn new(alloc: Global) -> LimitedParser
+        ensures { limited_of result ≡ limited.limited_start }
+    {
+        LimitedParser {
+            parser: PipelineParser::new(alloc),
+            beyond: None,
+        }
+    }
+
+    /// What this token makes of it; `None` where the token may not stand.
+    #[tactic(auto, unfolding(crate::specs::computed::Limited::limited_step))]
+    fn step(self, alloc: Global, token: &Token<'_>) -> Result<Option<LimitedParser>, AllocError>
+        ensures { IfOk result (λ o. option_map limited_of o
+            ≡ limited.limited_step (token_of token.now) (limited_of self)) }
+    {
+        let LimitedParser { parser, beyond } = self.restored(alloc)?;
+        match parser.step(alloc, token)? {
+            Some(parser) => Ok(Some(LimitedParser { parser, beyond }.forgotten())),
+            None => Ok(None),
+        }
+    }
+
+    /// Before a token: with an empty pipeline in place of the innermost that is forgotten.
+    fn restored(self, alloc: Global) -> Result<LimitedParser, AllocError>
+        ensures parser { IfOk result (λ l. limited_of l ≡ limited.restored (limited_of self)) }
+        ensures room { IfOk result (λ l. limited.count l.beyond + 1 < 2 ^ 64) }
+    {
+        let Some(count) = self.beyond else {
+            return Ok(self);
+        };
+        let PipelineParser {
+            mut outer,
+            inner,
+            last,
+        } = self.parser;
+        if count > 0 {
+            outer.push(PartialPipeline::new(alloc))?;
+        }
+        let last = emptied(alloc, last);
+        Ok(LimitedParser {
+            parser: PipelineParser { outer, inner, last },
+            beyond: Some(count.saturating_sub(1)),
+        })
+    }
+
+    /// Behind a token: without the innermost of the pipelines around it, where that is one too many.
+    fn forgotten(self) -> LimitedParser
+        requires { limited.count self.beyond + 1 < 2 ^ 64 }
+        ensures { limited_of result ≡ limited.forgotten (limited_of self) }
+    {
+        if self.parser.outer.len() <= MOST_DEEP {
+            return self;
+        }
+        let mut parser = self.parser;
+        parser.outer.pop();
+        LimitedParser {
+            parser,
+            beyond: Some(self.beyond.unwrap_or(0) + 1),
+        }
+    }
+
+    /// What is read in an action of this shape, where the tokens end here.
+    fn finished(self, shape: Shape) -> Result<Reading<Pipeline>, AllocError>
+        ensures { IfOk result (λ p. pipeline_reading p
+            ≡ limited.reading_by shape self.beyond (finished (parser_of self.parser))) }
+    {
+        match (self.parser.finished()?, self.beyond) {
+            (Some(commands), None) => Ok(Reading::Read(Pipeline { commands })),
+            (Some(_), Some(0)) => Ok(Reading::TooDeep(shape)),
+            _ => Ok(Reading::Unread),
+        }
     }
 }
 
-/// Whether this token opens parentheses beyond the limit.
-fn goes_beyond(parser: &PipelineParser, token: &Token<'_>) -> bool
-    ensures { result ≡ goes_beyond (length parser.now.outer.items) (is_opening (token_of token.now)) }
+/// The operand, without what stands in it if it is a group: else trees would be as deep as the parentheses.
+fn emptied(alloc: Global, last: Option<Operand>) -> Option<Operand>
+    ensures { option_map operand_of result ≡ option_map limited.emptied (option_map operand_of last) }
 {
-    matches!(token.kind, TokenKind::LeftParenthesis) && parser.outer.len() >= MOST_DEEP
-}
-
-/// What tokens are read as that from here on go beyond the limit.
-fn beyond(
-    alloc: Global,
-    shape: Shape,
-    recognizer: Recognizer,
-    rest: &[Token<'_>],
-) -> Result<Reading<Pipeline>, AllocError>
-    requires { recognizer.depth + length rest.now < 2 ^ 64 }
-    ensures { IfOk result (λ p. pipeline_reading p ≡ deep.too_deep_if (deep.ends_pipeline recognizer (map token_of rest.now)) shape) }
-{
-    if ends_pipeline(alloc, recognizer, rest)? {
-        Ok(Reading::TooDeep(shape))
-    } else {
-        Ok(Reading::Unread)
-    }
-}
-
-/// The recognizer of what stands behind the tokens that are read.
-fn recognizer_at(parser: &PipelineParser) -> Recognizer
-    ensures { result ≡ deep.recognizer_of (parser_of parser.now) }
-{
-    Recognizer {
-        position: match &parser.last {
-            Some(operand) => behind(operand),
-            None => begun(&parser.inner),
-        },
-        depth: parser.outer.len(),
-    }
-}
-
-/// The position before the first token of an operand.
-fn begun(inner: &PartialPipeline) -> Position
-    ensures { result ≡ deep.begun (partial_of inner.now).commands (partial_of inner.now).operands }
-{
-    if inner.operands.len() > 0 {
-        Position::Apart
-    } else if inner.commands.len() > 0 {
-        Position::Later
-    } else {
-        Position::First
+    match last {
+        Some(Operand::Group { .. }) => Some(Operand::Group {
+            commands: Vec::new(alloc),
+            fields: Vec::new(alloc),
+        }),
+        last => last,
     }
 }

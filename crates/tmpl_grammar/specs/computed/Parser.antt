@@ -1,5 +1,5 @@
 -- A parser of pipelines: the pipelines that are read in part, and what each further token makes of them.
-use Rattle.std.specs.Prelude.{ℕ, Bool, true, false, List, [], ◌∷◌, ◌++◌, nat_le}
+use Rattle.std.specs.Prelude.{ℕ, Bool, true, false, List, [], ◌∷◌, ◌++◌}
 use Rattle.std.specs.Prelude.{Option, Some, None, option_map, option_and_then}
 use Rattle.tmpl_lex.specs.declared.piece.TokenKind.{TokenKind}
 use Rattle.tmpl_lex.specs.declared.piece.TokenKind.TheVariants as kind
@@ -8,7 +8,6 @@ use Rattle.tmpl_grammar.specs.Token.{begins_name, name_in}
 use Rattle.tmpl_grammar.specs.Tree as tree
 use Rattle.tmpl_grammar.specs.Tree.{Operand, Operands, operands_from, commands_from}
 use Rattle.tmpl_grammar.specs.Operand.{operand_at, begins_later}
-use Rattle.tmpl_grammar.specs.Depth.{most_deep}
 
 -- a pipeline as far as it is read: its whole commands, and the operands of the next one with white space behind them
 pub record Partial : Type 0 where
@@ -128,8 +127,3 @@ steps h (t ∷ ts) = steps (option_and_then (step t) h) ts
 -- the commands of the pipeline whose rest these tokens are
 abbrev pub commands_after : Parser → List Token → Option (List Operands)
 commands_after h ts = option_and_then finished (steps (Some h) ts)
-
--- a token, perhaps `(`, goes beyond the limit where so many pipelines stand around it
-abbrev pub goes_beyond : ℕ → Bool → Bool
-goes_beyond n true = nat_le most_deep n
-goes_beyond n false = false

@@ -34,7 +34,7 @@ pub(crate) struct PipelineParser {
 
 impl PartialPipeline {
     /// Nothing is read yet.
-    fn new(alloc: Global) -> PartialPipeline
+    pub(crate) fn new(alloc: Global) -> PartialPipeline
         ensures { partial_of result ≡ spec.empty_partial }
     {
         PartialPipeline {
@@ -122,7 +122,7 @@ fn linked(operand: Operand, name: Bytes) -> Result<Option<Operand>, AllocError>
 }
 
 /// Whether this operand may begin a command behind a bar: a constant, `nil` and dot may not.
-pub(crate) fn begins_later(operand: &Operand) -> bool
+fn begins_later(operand: &Operand) -> bool
     ensures { result ≡ word.begins_later (operand_of operand.now) }
 {
     match operand {
