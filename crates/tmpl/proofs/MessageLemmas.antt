@@ -2,7 +2,7 @@
 use Rattle.std.proofs.Common.{◌≡◌, ◌∙◌, ◌++◌, ◌+◌, ◌<◌, ℕ, List, [], ◌∷◌, Option, Result, refl, ap, sym, drop, get_or, length, append_assoc, codes, inr}
 use Rattle.std.proofs.lemmas.List.{at_drop_more}
 use Rattle.tmpl_values.proofs.PutLemmas.{IsPut-nil}
-use Rattle.tmpl_run.specs.Sink.{IsPut, Sunk, Whole, as_puts, sunk}
+use Rattle.tmpl_run.specs.Sink.{IsPut, Told, Sunk, Whole, as_puts, sunk}
 use Rattle.tmpl_run.specs.declared.sink.SinkFault.{SinkFault}
 use Rattle.tmpl_run.proofs.PutLemmas.{counts_once, whole_or_cut}
 use Rattle.tmpl.specs.Outcome.{Answer, Once, Outcome, Says, memory_line}
@@ -29,20 +29,19 @@ line-parted ps qs =
     (sym (append_assoc (joined ps) (joined qs) (10 ∷ [])) ∙ ap (λ (t : Bytes). t ++ 10 ∷ []) (sym (joined-append ps qs)))
 
 -- what was put is said
-module _ (before after : Option Bytes) (was is : ℕ) (text : Bytes) (r : Result (Unit {0}) SinkFault)
-    (put : IsPut r (as_puts before was) (as_puts after is) text) where
-  pub put_once : Once was is
-  put_once = counts_once r (as_puts before was) (as_puts after is) text put
+module _ (before after : Told) (text : Bytes) (r : Result (Unit {0}) SinkFault) (put : IsPut r (as_puts before) (as_puts after) text) where
+  pub put_once : Once before.failures after.failures
+  put_once = counts_once r (as_puts before) (as_puts after) text put
 
-  pub put_says : Says text (sunk before after was is)
-  put_says = whole_or_cut r (sunk before after was is) text put
+  pub put_says : Says text (sunk before after)
+  put_says = whole_or_cut r (sunk before after) text put
 
 pub ruleset said = (put_once, put_says)
 
 -- nothing is put
-pub nothing_put : (a : Option Bytes) (n : ℕ) → Whole [] (sunk a a n n)
-nothing_put a n = IsPut-nil (as_puts a n)
+pub nothing_put : (t : Told) → Whole [] (sunk t t)
+nothing_put t = IsPut-nil (as_puts t)
 
 -- memory was refused, and nothing was put
-pub nothing_out : (e : Answer) (a : Option Bytes) (n : ℕ) (err : Sunk) (code : ℕ) → code ≡ 7 → Says memory_line err → Outcome e (sunk a a n n) err code
-nothing_out e a n err code is says = inr (inr ((refl, refl), is, says))
+pub nothing_out : (e : Answer) (t : Told) (err : Sunk) (code : ℕ) → code ≡ 7 → Says memory_line err → Outcome e (sunk t t) err code
+nothing_out e t err code is says = inr (inr ((refl, refl), is, says))

@@ -2,7 +2,7 @@
 use Rattle.std.proofs.Common.{◌≡◌, ◌∙◌, ℕ, true, false, List, [], Option, Some, None, Ok, Err, ap, sym, subst, inl, inr}
 use Rattle.tmpl_values.specs.Value.{Value}
 use Rattle.tmpl_syntax.specs.Set.{Template, tree_named}
-use Rattle.tmpl_run.specs.Sink.{Sunk, sunk}
+use Rattle.tmpl_run.specs.Sink.{Told, Sunk, sunk}
 use Rattle.tmpl.specs.Words.{Wanted, WantedOptions, wanted}
 use Rattle.tmpl.specs.Help.{asks_help}
 use Rattle.tmpl.specs.Source.{Bytes, Files}
@@ -42,15 +42,15 @@ module _ (err : Sunk) (code : ℕ) where
   outcome_as out a b is o = subst (λ (x : Answer). Outcome x out err code) (sym is) o
 
   -- the program stops, and says why
-  pub stops : (a : Option Bytes) (n was is : ℕ) (w : Wanted) (files : Files) (s : Stop) → Counts {T = ℕ} was is (Err s) → InputStops files w s
-      → code ≡ (stop_answer s).status → Says (stop_answer s).line err → Follows (λ failing. after_words files failing (Some w)) was is (sunk a a n n) err code
-  stops a n was is w files (stop.NotFound m) counts h status says = inl (counts, outcome_as _ _ _ h (inl (nothing_put a n, status, says)))
-  stops a n was is w files (stop.Failed m) counts (failing, h) status says =
-      inr (counts, (failing, ap (λ (x : Answer). x.unread) h, outcome_as _ _ _ h (inl (nothing_put a n, status, says))))
-  stops a n was is w files (stop.Template f) counts h status says = inl (counts, outcome_as _ _ _ h (inl (nothing_put a n, status, says)))
-  stops a n was is w files (stop.Data m f) counts h status says = inl (counts, outcome_as _ _ _ h (inl (nothing_put a n, status, says)))
-  stops a n was is w files stop.OutOfMemory counts h status says =
-      inl (counts, nothing_out (after_words files no_read (Some w)) a n err code status says)
+  pub stops : (t : Told) (was is : ℕ) (w : Wanted) (files : Files) (s : Stop) → Counts {T = ℕ} was is (Err s) → InputStops files w s
+      → code ≡ (stop_answer s).status → Says (stop_answer s).line err → Follows (λ failing. after_words files failing (Some w)) was is (sunk t t) err code
+  stops t was is w files (stop.NotFound m) counts h status says = inl (counts, outcome_as _ _ _ h (inl (nothing_put t, status, says)))
+  stops t was is w files (stop.Failed m) counts (failing, h) status says =
+      inr (counts, (failing, ap (λ (x : Answer). x.unread) h, outcome_as _ _ _ h (inl (nothing_put t, status, says))))
+  stops t was is w files (stop.Template f) counts h status says = inl (counts, outcome_as _ _ _ h (inl (nothing_put t, status, says)))
+  stops t was is w files (stop.Data m f) counts h status says = inl (counts, outcome_as _ _ _ h (inl (nothing_put t, status, says)))
+  stops t was is w files stop.OutOfMemory counts h status says =
+      inl (counts, nothing_out (after_words files no_read (Some w)) t err code status says)
 
   module _ (out : Sunk) (was is : ℕ) (w : Wanted) (files : Files) where
     -- the words are accepted, and the program goes on
@@ -62,7 +62,7 @@ module _ (err : Sunk) (code : ℕ) where
         subst (λ (answers : Failing → Answer). Follows answers was is out err code) (λ i failing. same failing i) h
 
   -- no template has the name
-  pub has_no_template : (w : WantedOptions) (name : Bytes) (set : List Template) (input : Option Value) (a : Option Bytes) (n : ℕ) → tree_named name set ≡ None → code ≡ 4
-      → Says (unnamed_answer name).line err → Outcome (rendered_tree w name (tree_named name set) input) (sunk a a n n) err code
-  has_no_template w name set input a n none status says =
-      outcome_as _ _ _ (ap (λ o. rendered_tree w name o input) none) (inl (nothing_put a n, status, says))
+  pub has_no_template : (w : WantedOptions) (name : Bytes) (set : List Template) (input : Option Value) (t : Told) → tree_named name set ≡ None → code ≡ 4
+      → Says (unnamed_answer name).line err → Outcome (rendered_tree w name (tree_named name set) input) (sunk t t) err code
+  has_no_template w name set input t none status says =
+      outcome_as _ _ _ (ap (λ o. rendered_tree w name o input) none) (inl (nothing_put t, status, says))

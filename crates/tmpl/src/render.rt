@@ -19,13 +19,13 @@ use tmpl_values::Data;
 
 /// Puts a whole text out.
 pub(crate) fn put_out<O: Sink, E: Sink>(text: &[u8], out: &mut O, err: &mut E) -> Status
-    requires out { O.failures out.old < 2 ^ 64 - 1 }
-    requires err { E.failures err.old < 2 ^ 64 - 1 }
-    ensures counts { Counted (O.failures out.old) (O.failures out.new) result.code }
-    ensures cuts { Once (E.failures err.old) (E.failures err.new) }
+    requires out { (O.so_far out.old).failures < 2 ^ 64 - 1 }
+    requires err { (E.so_far err.old).failures < 2 ^ 64 - 1 }
+    ensures counts { Counted (O.so_far out.old).failures (O.so_far out.new).failures result.code }
+    ensures cuts { Once (E.so_far err.old).failures (E.so_far err.new).failures }
     ensures outcome { Outcome (only_text text.now)
-        (sunk (O.taken out.old) (O.taken out.new) (O.failures out.old) (O.failures out.new))
-        (sunk (E.taken err.old) (E.taken err.new) (E.failures err.old) (E.failures err.new))
+        (sunk (O.so_far out.old) (O.so_far out.new))
+        (sunk (E.so_far err.old) (E.so_far err.new))
         result.code }
 {
     match put_all(out, text) {
@@ -36,13 +36,13 @@ pub(crate) fn put_out<O: Sink, E: Sink>(text: &[u8], out: &mut O, err: &mut E) -
 
 /// Puts out what a run came to, and says its fault.
 fn put_run<O: Sink, E: Sink>(run: &Rendered<'_>, out: &mut O, err: &mut E) -> Status
-    requires out { O.failures out.old < 2 ^ 64 - 1 }
-    requires err { E.failures err.old < 2 ^ 64 - 1 }
-    ensures counts { Counted (O.failures out.old) (O.failures out.new) result.code }
-    ensures cuts { Once (E.failures err.old) (E.failures err.new) }
+    requires out { (O.so_far out.old).failures < 2 ^ 64 - 1 }
+    requires err { (E.so_far err.old).failures < 2 ^ 64 - 1 }
+    ensures counts { Counted (O.so_far out.old).failures (O.so_far out.new).failures result.code }
+    ensures cuts { Once (E.so_far err.old).failures (E.so_far err.new).failures }
     ensures outcome { Outcome (run_answer (ran_seen run.now))
-        (sunk (O.taken out.old) (O.taken out.new) (O.failures out.old) (O.failures out.new))
-        (sunk (E.taken err.old) (E.taken err.new) (E.failures err.old) (E.failures err.new))
+        (sunk (O.so_far out.old) (O.so_far out.new))
+        (sunk (E.so_far err.old) (E.so_far err.new))
         result.code }
 {
     match run.text.put_to(out) {
@@ -76,15 +76,15 @@ pub(crate) fn render<O: Sink, E: Sink>(
     out: &mut O,
     err: &mut E,
 ) -> Status
-    requires out { O.failures out.old < 2 ^ 64 - 1 }
-    requires err { E.failures err.old < 2 ^ 64 - 1 }
-    ensures counts { Counted (O.failures out.old) (O.failures out.new) result.code }
-    ensures cuts { Once (E.failures err.old) (E.failures err.new) }
+    requires out { (O.so_far out.old).failures < 2 ^ 64 - 1 }
+    requires err { (E.so_far err.old).failures < 2 ^ 64 - 1 }
+    ensures counts { Counted (O.so_far out.old).failures (O.so_far out.new).failures result.code }
+    ensures cuts { Once (E.so_far err.old).failures (E.so_far err.new).failures }
     ensures outcome { Outcome (rendered (options_seen request.now.options)
         (asked_name (seen request.now).name (seen request.now).files) (set_view set.now)
         (option_map (λ d. value_of d.now) «data».entry))
-        (sunk (O.taken out.old) (O.taken out.new) (O.failures out.old) (O.failures out.new))
-        (sunk (E.taken err.old) (E.taken err.new) (E.failures err.old) (E.failures err.new))
+        (sunk (O.so_far out.old) (O.so_far out.new))
+        (sunk (E.so_far err.old) (E.so_far err.new))
         result.code }
 {
     let name = asked_name(request);

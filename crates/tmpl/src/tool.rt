@@ -34,16 +34,16 @@ pub fn tool<S: Source, O: Sink, E: Sink>(
     err: &mut E,
 ) -> Status
     requires source { S.failures source.old < 2 ^ 64 - 1 }
-    requires out { O.failures out.old < 2 ^ 64 - 1 }
-    requires err { E.failures err.old < 2 ^ 64 - 1 }
+    requires out { (O.so_far out.old).failures < 2 ^ 64 - 1 }
+    requires err { (E.so_far err.old).failures < 2 ^ 64 - 1 }
     ensures reads { Once (S.failures source.old) (S.failures source.new) }
-    ensures counts { Counted (O.failures out.old) (O.failures out.new) result.code }
-    ensures cuts { Once (E.failures err.old) (E.failures err.new) }
+    ensures counts { Counted (O.so_far out.old).failures (O.so_far out.new).failures result.code }
+    ensures cuts { Once (E.so_far err.old).failures (E.so_far err.new).failures }
     ensures told { IfSome (S.contents source.old) (λ files.
         Follows (tool_answer (map (λ word. string_bytes word) words.now) files)
         (S.failures source.old) (S.failures source.new)
-        (sunk (O.taken out.old) (O.taken out.new) (O.failures out.old) (O.failures out.new))
-        (sunk (E.taken err.old) (E.taken err.new) (E.failures err.old) (E.failures err.new))
+        (sunk (O.so_far out.old) (O.so_far out.new))
+        (sunk (E.so_far err.old) (E.so_far err.new))
         result.code) }
 {
     if asks_help(words) {

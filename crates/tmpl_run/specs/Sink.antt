@@ -1,21 +1,32 @@
 -- What a sink has taken, where it tells that, and how often it has failed. How a text is put is said by `IsPut` of
 -- tmpl_values, for sinks as for anything else that takes bytes.
-use Rattle.std.specs.Prelude.{◌≡◌, ℕ, List, Option, Ok, Err}
+use Rattle.std.specs.Prelude.{◌≡◌, ◌+◌, ℕ, List, Option, Ok, Err}
 pub use Rattle.tmpl_values.specs.Put.{Puts, IsPut, appended}
 use Rattle.tmpl_run.specs.declared.sink.SinkFault.{SinkFault}
 
--- what a sink tells at one time; no reference stands between it and what it takes
-abbrev pub as_puts : Option (List ℕ) → ℕ → Puts
-as_puts taken failures = record { bytes = taken; failures = failures; through = 0 }
+pub record Told : Type 0 where
+  pub bytes : Option (List ℕ)
+  pub failures : ℕ
+
+-- .. with these bytes taken too
+abbrev pub with_bytes : List ℕ → Told → Told
+with_bytes bytes t = record t { bytes = appended t.bytes bytes }
+
+-- .. with one more failure
+abbrev pub with_failure : Told → Told
+with_failure t = record t { failures = t.failures + 1 }
+
+-- as what is put; no reference stands between a sink and what it takes
+abbrev pub as_puts : Told → Puts
+as_puts t = record { bytes = t.bytes; failures = t.failures; through = 0 }
 
 -- a sink before and after
 pub record Sunk : Type 0 where
   pub before : Puts
   pub after : Puts
 
--- what it has taken before and after, and how often it has failed before and after
-abbrev pub sunk : Option (List ℕ) → Option (List ℕ) → ℕ → ℕ → Sunk
-sunk before after was is = record { before = as_puts before was; after = as_puts after is }
+abbrev pub sunk : Told → Told → Sunk
+sunk before after = record { before = as_puts before; after = as_puts after }
 
 -- the sink took the whole text and did not fail
 abbrev pub Whole : List ℕ → Sunk → Type 0

@@ -98,9 +98,9 @@ impl<'a> Rope<'a> {
 
     /// Puts the whole text to a sink.
     pub(crate) fn put_to<S: Sink>(&self, sink: &mut S) -> Result<(), SinkFault>
-        requires { S.failures sink.old < 2 ^ 64 - 1 }
-        ensures { IsPut result (as_puts (S.taken sink.old) (S.failures sink.old))
-            (as_puts (S.taken sink.new) (S.failures sink.new)) (rope_bytes self.now) }
+        requires { (S.so_far sink.old).failures < 2 ^ 64 - 1 }
+        ensures { IsPut result (as_puts (S.so_far sink.old))
+            (as_puts (S.so_far sink.new)) (rope_bytes self.now) }
     {
         put_chunks(sink, self.chunks.as_slice())?;
         put_all(sink, self.tail.as_slice())
@@ -109,9 +109,9 @@ impl<'a> Rope<'a> {
 
 /// Puts the chunks, one after the other.
 fn put_chunks<S: Sink>(sink: &mut S, chunks: &[Chunk<'_>]) -> Result<(), SinkFault>
-    requires { S.failures sink.old < 2 ^ 64 - 1 }
-    ensures { IsPut result (as_puts (S.taken sink.old) (S.failures sink.old))
-        (as_puts (S.taken sink.new) (S.failures sink.new)) (chunks_bytes chunks.now) }
+    requires { (S.so_far sink.old).failures < 2 ^ 64 - 1 }
+    ensures { IsPut result (as_puts (S.so_far sink.old))
+        (as_puts (S.so_far sink.new)) (chunks_bytes chunks.now) }
 {
     for chunk in chunks {
         put_chunk(sink, chunk)?;
@@ -121,9 +121,9 @@ fn put_chunks<S: Sink>(sink: &mut S, chunks: &[Chunk<'_>]) -> Result<(), SinkFau
 
 /// Puts a chunk.
 fn put_chunk<S: Sink>(sink: &mut S, chunk: &Chunk<'_>) -> Result<(), SinkFault>
-    requires { S.failures sink.old < 2 ^ 64 - 1 }
-    ensures { IsPut result (as_puts (S.taken sink.old) (S.failures sink.old))
-        (as_puts (S.taken sink.new) (S.failures sink.new)) (chunk_bytes chunk.now) }
+    requires { (S.so_far sink.old).failures < 2 ^ 64 - 1 }
+    ensures { IsPut result (as_puts (S.so_far sink.old))
+        (as_puts (S.so_far sink.new)) (chunk_bytes chunk.now) }
 {
     put_all(sink, chunk.as_slice())
 }

@@ -72,9 +72,7 @@ impl<W: Write + Drop> WriterSink<W> {
 }
 
 impl<W: Write + Drop> Sink for WriterSink<W> {
-    ghost taken = { λ _. None };
-
-    ghost failures = { λ s. s.failures };
+    ghost so_far = { λ s. record { bytes = None; failures = s.failures } };
 
     fn put(&mut self, bytes: &[u8]) -> Result<usize, SinkFault> {
         match self.writer.write(bytes) {

@@ -20,21 +20,21 @@ use tmpl_values::DataFault;
 /// Says a line of these parts. A sink that fails cuts it.
 #[tactic(auto, using(crate::proofs::MessageLemmas::said))]
 fn say<E: Sink>(err: &mut E, parts: &[Part<'_>])
-    requires { E.failures err.old < 2 ^ 64 - 1 }
-    ensures cuts { Once (E.failures err.old) (E.failures err.new) }
+    requires { (E.so_far err.old).failures < 2 ^ 64 - 1 }
+    ensures cuts { Once (E.so_far err.old).failures (E.so_far err.new).failures }
     ensures line { Says (line (pieces_of parts.now))
-        (sunk (E.taken err.old) (E.taken err.new) (E.failures err.old) (E.failures err.new)) }
+        (sunk (E.so_far err.old) (E.so_far err.new)) }
 {
     let _ = put_line(err, parts);
 }
 
 /// Says that the words were refused.
 pub(crate) fn words_refused<E: Sink>(err: &mut E) -> Status
-    requires { E.failures err.old < 2 ^ 64 - 1 }
+    requires { (E.so_far err.old).failures < 2 ^ 64 - 1 }
     ensures code { result.code ≡ 2 }
-    ensures cuts { Once (E.failures err.old) (E.failures err.new) }
+    ensures cuts { Once (E.so_far err.old).failures (E.so_far err.new).failures }
     ensures line { Says words_answer.line
-        (sunk (E.taken err.old) (E.taken err.new) (E.failures err.old) (E.failures err.new)) }
+        (sunk (E.so_far err.old) (E.so_far err.new)) }
 {
     let parts = [Part::Text("arguments refused; see tmpl --help")];
     say(err, parts.as_slice());
@@ -43,11 +43,11 @@ pub(crate) fn words_refused<E: Sink>(err: &mut E) -> Status
 
 /// Says that a write failed.
 pub(crate) fn write_failed<E: Sink>(err: &mut E) -> Status
-    requires { E.failures err.old < 2 ^ 64 - 1 }
+    requires { (E.so_far err.old).failures < 2 ^ 64 - 1 }
     ensures code { result.code ≡ 6 }
-    ensures cuts { Once (E.failures err.old) (E.failures err.new) }
+    ensures cuts { Once (E.so_far err.old).failures (E.so_far err.new).failures }
     ensures line { Says write_line
-        (sunk (E.taken err.old) (E.taken err.new) (E.failures err.old) (E.failures err.new)) }
+        (sunk (E.so_far err.old) (E.so_far err.new)) }
 {
     let parts = [Part::Text("write failed")];
     say(err, parts.as_slice());
@@ -56,11 +56,11 @@ pub(crate) fn write_failed<E: Sink>(err: &mut E) -> Status
 
 /// Says that memory was refused.
 pub(crate) fn out_of_memory<E: Sink>(err: &mut E) -> Status
-    requires { E.failures err.old < 2 ^ 64 - 1 }
+    requires { (E.so_far err.old).failures < 2 ^ 64 - 1 }
     ensures code { result.code ≡ 7 }
-    ensures cuts { Once (E.failures err.old) (E.failures err.new) }
+    ensures cuts { Once (E.so_far err.old).failures (E.so_far err.new).failures }
     ensures line { Says memory_line
-        (sunk (E.taken err.old) (E.taken err.new) (E.failures err.old) (E.failures err.new)) }
+        (sunk (E.so_far err.old) (E.so_far err.new)) }
 {
     let parts = [Part::Text("out of memory")];
     say(err, parts.as_slice());
@@ -69,11 +69,11 @@ pub(crate) fn out_of_memory<E: Sink>(err: &mut E) -> Status
 
 /// Says that there is no template of this name.
 pub(crate) fn unnamed<E: Sink>(err: &mut E, name: &[u8]) -> Status
-    requires { E.failures err.old < 2 ^ 64 - 1 }
+    requires { (E.so_far err.old).failures < 2 ^ 64 - 1 }
     ensures code { result.code ≡ 4 }
-    ensures cuts { Once (E.failures err.old) (E.failures err.new) }
+    ensures cuts { Once (E.so_far err.old).failures (E.so_far err.new).failures }
     ensures line { Says (unnamed_answer name.now).line
-        (sunk (E.taken err.old) (E.taken err.new) (E.failures err.old) (E.failures err.new)) }
+        (sunk (E.so_far err.old) (E.so_far err.new)) }
 {
     let parts = [Part::Text("no template "), Part::Quoted(name)];
     say(err, parts.as_slice());
@@ -109,12 +109,12 @@ fn data_text(fault: DataFault) -> &'static str
 
 /// Says why the program stops.
 pub(crate) fn refuse<E: Sink>(err: &mut E, stop: &Stop<'_>) -> Status
-    requires { E.failures err.old < 2 ^ 64 - 1 }
+    requires { (E.so_far err.old).failures < 2 ^ 64 - 1 }
     ensures code { result.code ≡ (stop_answer stop.now).status }
     ensures unlike { result.code ≢ 6 }
-    ensures cuts { Once (E.failures err.old) (E.failures err.new) }
+    ensures cuts { Once (E.so_far err.old).failures (E.so_far err.new).failures }
     ensures line { Says (stop_answer stop.now).line
-        (sunk (E.taken err.old) (E.taken err.new) (E.failures err.old) (E.failures err.new)) }
+        (sunk (E.so_far err.old) (E.so_far err.new)) }
 {
     match *stop {
         Stop::NotFound(name) => {
@@ -164,11 +164,11 @@ fn call_text(fault: CallFault) -> &'static str
 /// Says where and why a run failed.
 #[tactic(auto, using(crate::proofs::MessageLemmas::said))]
 pub(crate) fn run_failed<E: Sink>(err: &mut E, fault: &RunFault<'_>) -> Status
-    requires { E.failures err.old < 2 ^ 64 - 1 }
+    requires { (E.so_far err.old).failures < 2 ^ 64 - 1 }
     ensures code { result.code ≡ 1 }
-    ensures cuts { Once (E.failures err.old) (E.failures err.new) }
+    ensures cuts { Once (E.so_far err.old).failures (E.so_far err.new).failures }
     ensures line { Says (fault_line (fault_seen fault.now))
-        (sunk (E.taken err.old) (E.taken err.new) (E.failures err.old) (E.failures err.new)) }
+        (sunk (E.so_far err.old) (E.so_far err.new)) }
 {
     let _ = put_fault(err, fault);
     Status { code: 1 }
@@ -176,9 +176,9 @@ pub(crate) fn run_failed<E: Sink>(err: &mut E, fault: &RunFault<'_>) -> Status
 
 /// Puts the line of a fault: where it is, and the reason.
 fn put_fault<E: Sink>(err: &mut E, fault: &RunFault<'_>) -> Result<(), SinkFault>
-    requires { E.failures err.old < 2 ^ 64 - 1 }
-    ensures { IsPut result (as_puts (E.taken err.old) (E.failures err.old))
-        (as_puts (E.taken err.new) (E.failures err.new)) (fault_line (fault_seen fault.now)) }
+    requires { (E.so_far err.old).failures < 2 ^ 64 - 1 }
+    ensures { IsPut result (as_puts (E.so_far err.old))
+        (as_puts (E.so_far err.new)) (fault_line (fault_seen fault.now)) }
 {
     let position = [
         Part::Bytes(fault.file),
@@ -196,9 +196,9 @@ fn put_fault<E: Sink>(err: &mut E, fault: &RunFault<'_>) -> Result<(), SinkFault
 
 /// Puts why a run failed.
 fn put_reason<E: Sink>(err: &mut E, kind: RunFaultKind<'_>) -> Result<(), SinkFault>
-    requires { E.failures err.old < 2 ^ 64 - 1 }
-    ensures { IsPut result (as_puts (E.taken err.old) (E.failures err.old))
-        (as_puts (E.taken err.new) (E.failures err.new)) (joined (cause_pieces (cause_of kind.entry))) }
+    requires { (E.so_far err.old).failures < 2 ^ 64 - 1 }
+    ensures { IsPut result (as_puts (E.so_far err.old))
+        (as_puts (E.so_far err.new)) (joined (cause_pieces (cause_of kind.entry))) }
 {
     match kind {
         RunFaultKind::StepsSpent(limit) => {

@@ -23,9 +23,9 @@ pub(crate) enum Part<'a> {
 
 /// Puts a line: the program's name, the parts, and a newline.
 pub(crate) fn put_line<E: Sink>(err: &mut E, parts: &[Part<'_>]) -> Result<(), SinkFault>
-    requires { E.failures err.old < 2 ^ 64 - 1 }
-    ensures { IsPut result (as_puts (E.taken err.old) (E.failures err.old))
-        (as_puts (E.taken err.new) (E.failures err.new)) (line (pieces_of parts.now)) }
+    requires { (E.so_far err.old).failures < 2 ^ 64 - 1 }
+    ensures { IsPut result (as_puts (E.so_far err.old))
+        (as_puts (E.so_far err.new)) (line (pieces_of parts.now)) }
 {
     put_all(err, b"tmpl: ")?;
     put_parts(err, parts)?;
@@ -34,9 +34,9 @@ pub(crate) fn put_line<E: Sink>(err: &mut E, parts: &[Part<'_>]) -> Result<(), S
 
 /// Puts the parts, one after the other.
 pub(crate) fn put_parts<E: Sink>(err: &mut E, parts: &[Part<'_>]) -> Result<(), SinkFault>
-    requires { E.failures err.old < 2 ^ 64 - 1 }
-    ensures { IsPut result (as_puts (E.taken err.old) (E.failures err.old))
-        (as_puts (E.taken err.new) (E.failures err.new)) (joined (pieces_of parts.now)) }
+    requires { (E.so_far err.old).failures < 2 ^ 64 - 1 }
+    ensures { IsPut result (as_puts (E.so_far err.old))
+        (as_puts (E.so_far err.new)) (joined (pieces_of parts.now)) }
 {
     for part in parts {
         put_part(err, part)?;
@@ -46,9 +46,9 @@ pub(crate) fn put_parts<E: Sink>(err: &mut E, parts: &[Part<'_>]) -> Result<(), 
 
 /// Puts a part, as its kind says.
 fn put_part<E: Sink>(err: &mut E, part: &Part<'_>) -> Result<(), SinkFault>
-    requires { E.failures err.old < 2 ^ 64 - 1 }
-    ensures { IsPut result (as_puts (E.taken err.old) (E.failures err.old))
-        (as_puts (E.taken err.new) (E.failures err.new)) (piece_text (piece_of part.now)) }
+    requires { (E.so_far err.old).failures < 2 ^ 64 - 1 }
+    ensures { IsPut result (as_puts (E.so_far err.old))
+        (as_puts (E.so_far err.new)) (piece_text (piece_of part.now)) }
 {
     match part {
         Part::Text(text) => put_all(err, text.as_bytes()),

@@ -16,8 +16,8 @@ impl<'a, S: Sink> Put for WholePuts<'a, S> {
     type Fault = SinkFault;
 
     ghost so_far = { λ p. record {
-      bytes = S.taken p.sink.now;
-      failures = S.failures p.sink.now;
+      bytes = (S.so_far p.sink.now).bytes;
+      failures = (S.so_far p.sink.now).failures;
       through = p.sink.ghost_name;
     } };
 
@@ -28,9 +28,9 @@ impl<'a, S: Sink> Put for WholePuts<'a, S> {
 
 /// Puts the quote of a name.
 pub(crate) fn put_quote<S: Sink>(sink: &mut S, name: &[u8]) -> Result<(), SinkFault>
-    requires { S.failures sink.old < 2 ^ 64 - 1 }
-    ensures { IsPut result (as_puts (S.taken sink.old) (S.failures sink.old))
-        (as_puts (S.taken sink.new) (S.failures sink.new)) (quote name.now) }
+    requires { (S.so_far sink.old).failures < 2 ^ 64 - 1 }
+    ensures { IsPut result (as_puts (S.so_far sink.old))
+        (as_puts (S.so_far sink.new)) (quote name.now) }
 {
     let mut puts = WholePuts { sink };
     put_quoted(name, &mut puts)

@@ -54,9 +54,7 @@ impl<const N: usize> ArraySink<N> {
 }
 
 impl<const N: usize> Sink for ArraySink<N> {
-    ghost taken = { λ s. Some (take s.used s.bytes) };
-
-    ghost failures = { λ s. s.failures };
+    ghost so_far = { λ s. record { bytes = Some (take s.used s.bytes); failures = s.failures } };
 
     fn put(&mut self, bytes: &[u8]) -> Result<usize, SinkFault> {
         self.puts = self.puts.saturating_add(1);

@@ -17,8 +17,8 @@ returns-in-Ok-clause-outcome g c =
     let input = option_map (λ d. value_of d.now) c.args.data in
     let name = c.asked_name-name.result.now in
     let code = c.put_run.result.code in
-    let out = sunk (g.O.Sink.taken c.args.out.now) (g.O.Sink.taken c.put_run.new.out) (g.O.Sink.failures c.args.out.now) (g.O.Sink.failures c.put_run.new.out) in
-    let err = sunk (g.E.Sink.taken c.args.err.now) (g.E.Sink.taken c.put_run.new.err) (g.E.Sink.failures c.args.err.now) (g.E.Sink.failures c.put_run.new.err) in
+    let out = sunk (g.O.Sink.so_far c.args.out.now) (g.O.Sink.so_far c.put_run.new.out) in
+    let err = sunk (g.E.Sink.so_far c.args.err.now) (g.E.Sink.so_far c.put_run.new.err) in
     subst (λ (n : Bytes). Outcome (rendered w n set input) out err code) c.asked_name-name.ensures
     (outcome_as err code out (rendered_tree w name (tree_named name set) input) (run_answer (ran_seen c.in-Ok.run'))
     (ap (λ o. rendered_tree w name o input) (sym c.in-Some.ensures) ∙ ap run_answer (sym c.in-Ok.ensures)) c.put_run.ensures.outcome)
@@ -30,7 +30,7 @@ returns-in-None-clause-outcome g c =
     let input = option_map (λ d. value_of d.now) c.args.data in
     let name = c.asked_name-name.result.now in
     let code = c.unnamed.result.code in
-    let out = sunk (g.O.Sink.taken c.args.out.now) (g.O.Sink.taken c.args.out.now) (g.O.Sink.failures c.args.out.now) (g.O.Sink.failures c.args.out.now) in
-    let err = sunk (g.E.Sink.taken c.args.err.now) (g.E.Sink.taken c.unnamed.new.err) (g.E.Sink.failures c.args.err.now) (g.E.Sink.failures c.unnamed.new.err) in
+    let out = sunk (g.O.Sink.so_far c.args.out.now) (g.O.Sink.so_far c.args.out.now) in
+    let err = sunk (g.E.Sink.so_far c.args.err.now) (g.E.Sink.so_far c.unnamed.new.err) in
     subst (λ (n : Bytes). Outcome (rendered w n set input) out err code) c.asked_name-name.ensures
-    (has_no_template err code w name set input _ _ (sym c.in-None.ensures) c.unnamed.ensures.code c.unnamed.ensures.line)
+    (has_no_template err code w name set input _ (sym c.in-None.ensures) c.unnamed.ensures.code c.unnamed.ensures.line)

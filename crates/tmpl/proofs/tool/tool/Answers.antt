@@ -35,5 +35,5 @@ returns-in-Ok-clause-told g c =
     let w = seen c.in-Ok.request in
     if_told _ (g.S.Source.contents c.args.source.now) (λ files told.
     accepted _ c.refuse.result.code _ _ _ w files words c.in-Ok.ensures helps
-    (stops _ c.refuse.result.code _ _ _ _ w files c.in-Err.stop c.in-Err.ensures.counts
+    (stops _ c.refuse.result.code _ _ _ w files c.in-Err.stop c.in-Err.ensures.counts
     (of_told _ _ files told c.in-Err.ensures.reads) c.refuse.ensures.code c.refuse.ensures.line))

@@ -1,4 +1,4 @@
-use Rattle.std.proofs.Common.{◌∙◌, List, [], ℕ, take, drop, Ok, arith, refl, length-drop, sym, add-zero}
+use Rattle.std.proofs.Common.{◌∙◌, List, [], ℕ, take, drop, Ok, arith, refl, length-drop, ap, sym, add-zero}
 use Rattle.std.proofs.lemmas.List.{take-append-drop, take_rest}
 use Rattle.std.proofs.Math.Seq.{take-add}
 use Rattle.tmpl_values.proofs.PutLemmas.{IsPut-along, IsPut-nil, IsPut-append}
@@ -12,11 +12,11 @@ loop-taken-preserved g c =
     let rest = take_rest c.args.text.now c.loop-taken.taken in
     let put = c.in_ok-taken.ensures in
     let n = c.in_ok-taken.field-0 in
-    let here = as_puts (g.S.Sink.taken c.loop-taken.sink) (g.S.Sink.failures c.loop-taken.sink) in
-    let next = as_puts (g.S.Sink.taken c.put.new.self) (g.S.Sink.failures c.put.new.self) in
+    let here = as_puts (g.S.Sink.so_far c.loop-taken.sink) in
+    let next = as_puts (g.S.Sink.so_far c.put.new.self) in
     let more : IsPut {F = SinkFault} (Ok tt) here next (take n (drop c.loop-taken.taken c.args.text.now)) = record {
-      count = put.kept ∙ sym (add-zero here.failures);
-      bytes = rw rest at put.taken;
+      count = ap (λ t. t.failures) put.taken ∙ sym (add-zero here.failures);
+      bytes = ap (λ t. t.bytes) (rw rest at put.taken);
       through = refl;
     } in
     record {
@@ -28,11 +28,11 @@ pub returns-in_err-taken : goal.returns-in_err-taken
 returns-in_err-taken g c =
     let text = c.args.text.now in
     let taken = c.loop-taken.taken in
-    let here = as_puts (g.S.Sink.taken c.loop-taken.sink) (g.S.Sink.failures c.loop-taken.sink) in
-    let next = as_puts (g.S.Sink.taken c.put.new.self) (g.S.Sink.failures c.put.new.self) in
+    let here = as_puts (g.S.Sink.so_far c.loop-taken.sink) in
+    let next = as_puts (g.S.Sink.so_far c.put.new.self) in
     let put = c.in_err-taken.ensures in
     let rest : List ℕ = drop taken text in
     let nothing = IsPut-nil {F = SinkFault} here in
     let failed = err_up (λ r. IsPut r here next rest) c.from_residual.result _ c.from_residual.ensures.1
-    (record { count = put.failed; bytes = ([], rest, refl, put.refused ∙ nothing.bytes); through = refl }) in
+    (record { count = ap (λ t. t.failures) put.failed; bytes = ([], rest, refl, ap (λ t. t.bytes) put.failed ∙ nothing.bytes); through = refl }) in
     IsPut-along (IsPut-append c.loop-taken.invariant.put failed) (take-append-drop taken text)

@@ -6,8 +6,8 @@ use Rattle.tmpl_run.proofs.sink.put_all.Given as goal
 abbrev pub invariant-loop-taken : goal.invariant-loop-taken
 invariant-loop-taken g l = record {
   within : l.taken ≤ length l.text;
-  put : IsPut {F = SinkFault} (Ok tt) (as_puts (g.S.Sink.taken l.initial.sink) (g.S.Sink.failures l.initial.sink))
-      (as_puts (g.S.Sink.taken l.sink) (g.S.Sink.failures l.sink)) (take l.taken l.text);
+  put : IsPut {F = SinkFault} (Ok tt) (as_puts (g.S.Sink.so_far l.initial.sink))
+      (as_puts (g.S.Sink.so_far l.sink)) (take l.taken l.text);
 }
 
 abbrev pub decreases-loop-taken : goal.decreases-loop-taken

@@ -7,5 +7,5 @@ use Rattle.tmpl.proofs.evaluator.rope.put_chunks.Given as goal
 abbrev pub invariant-loop-chunk : goal.invariant-loop-chunk
 invariant-loop-chunk g l =
     (before : List ℕ) × (chunks_bytes l.chunks ≡ before ++ chunks_bytes (drop l.chunk-index l.chunks))
-    × IsPut {F = SinkFault} (Ok tt) (as_puts (g.S.Sink.taken l.initial.sink) (g.S.Sink.failures l.initial.sink))
-    (as_puts (g.S.Sink.taken l.sink) (g.S.Sink.failures l.sink)) before
+    × IsPut {F = SinkFault} (Ok tt) (as_puts (g.S.Sink.so_far l.initial.sink))
+    (as_puts (g.S.Sink.so_far l.sink)) before

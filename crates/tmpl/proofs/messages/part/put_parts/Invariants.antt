@@ -9,5 +9,5 @@ use Rattle.tmpl.proofs.messages.part.put_parts.Given as goal
 abbrev pub invariant-loop-part : goal.invariant-loop-part
 invariant-loop-part g l =
     (before : Bytes) × (joined (pieces_of l.parts) ≡ before ++ joined (pieces_of (drop l.part-index l.parts)))
-    × IsPut {F = SinkFault} (Ok tt) (as_puts (g.E.Sink.taken l.initial.err) (g.E.Sink.failures l.initial.err))
-    (as_puts (g.E.Sink.taken l.err) (g.E.Sink.failures l.err)) before
+    × IsPut {F = SinkFault} (Ok tt) (as_puts (g.E.Sink.so_far l.initial.err))
+    (as_puts (g.E.Sink.so_far l.err)) before

@@ -9,6 +9,6 @@ returns g c =
     let put = c.put_quoted.ensures in
     let same : c.sink-1.given.0 ≡ c.put_quoted.new.out.sink.now = c.sink-1.given.1 (sym put.through) in
     subst
-    (λ (s : g.row.S.Denot). IsPut c.put_quoted.result (as_puts (g.S.Sink.taken c.args.sink.now) (g.S.Sink.failures c.args.sink.now)) (as_puts (g.S.Sink.taken s) (g.S.Sink.failures s)) (quote c.args.name.now))
+    (λ (s : g.row.S.Denot). IsPut c.put_quoted.result (as_puts (g.S.Sink.so_far c.args.sink.now)) (as_puts (g.S.Sink.so_far s)) (quote c.args.name.now))
     (sym same)
     (record { count = put.count; bytes = put.bytes; through = refl })
