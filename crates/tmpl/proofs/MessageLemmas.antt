@@ -1,5 +1,5 @@
 -- Lines and their pieces, and what is put of them.
-use Rattle.std.proofs.Common.{◌≡◌, ◌∙◌, ◌++◌, ◌+◌, ◌<◌, ℕ, List, [], ◌∷◌, Option, Result, refl, ap, sym, drop, get_or, length, append_assoc, codes, inr}
+use Rattle.std.proofs.Common.{◌≡◌, ◌∙◌, ◌++◌, ◌+◌, ◌<◌, ℕ, List, [], ◌∷◌, Result, refl, ap, sym, drop, get_or, length, append_assoc, codes, inr}
 use Rattle.std.proofs.lemmas.List.{at_drop_more}
 use Rattle.tmpl_values.proofs.PutLemmas.{IsPut-nil}
 use Rattle.tmpl_run.specs.Sink.{IsPut, Told, Sunk, Whole, as_puts, sunk}

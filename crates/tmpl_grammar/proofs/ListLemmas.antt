@@ -1,5 +1,5 @@
 -- Lists through a map, the last of a list, and the rest of one.
-use Rattle.std.proofs.Common.{arith, ◌≡◌, ◌∙◌, ◌+◌, ◌-◌, ◌≤◌, ◌<◌, ℕ, Bool, List, [], ◌∷◌, ◌++◌, refl, ap, sym, cond, get_or, drop-cons, add-one, map, length, take, drop, length-drop, reverse}
+use Rattle.std.proofs.Common.{arith, ◌≡◌, ◌∙◌, ◌+◌, ◌-◌, ◌≤◌, ℕ, Bool, List, [], ◌∷◌, ◌++◌, refl, ap, cond, map, length, take, drop, length-drop, reverse}
 use Rattle.std.specs.List.{prefix_len}
 use Rattle.std.proofs.Math.Seq.{take-length}
 use Rattle.std.proofs.lemmas.List.{map-append, reverse-append}
@@ -16,8 +16,5 @@ prefix-map p f (x ∷ xs) = ap (λ n. cond (p (f x)) (1 + n) 0) (prefix-map p f 
 -- the elements from a place on, as a slice of them to the end
 pub take-rest : {X : Type 0} (xs : List X) (k n : ℕ) → k ≤ length xs → n ≡ length xs - k → take n (drop k xs) ≡ drop k xs
 take-rest xs k n h e = ap (λ m. take m (drop k xs)) (let same : n ≡ length (drop k xs) = omega (arith, length-drop k xs) in same) ∙ take-length (drop k xs)
-
-pub drop-one : {X : Type 0} (xs : List X) (i : ℕ) (d : X) → i < length xs → drop i xs ≡ get_or xs i d ∷ drop (i + 1) xs
-drop-one xs i d h = drop-cons xs i d h ∙ ap (λ n. get_or xs i d ∷ drop n xs) (sym (add-one i))
 
 pub ruleset runs = (prefix_len-le-length, suffix_len-le-length)

@@ -4,7 +4,7 @@ use Rattle.std.specs.Prelude.{pos}
 use Rattle.tmpl_values.specs.Value.{Value, nothing, null, boolean, number, string, sequence, mapping, no_item, item, no_entry, entry}
 use Rattle.tmpl_funcs.specs.declared.func.Func.TheVariants.{And, Or, Not, Len}
 use Rattle.tmpl_funcs.specs.declared.fault.CallFault.TheVariants.{WrongCount, WrongKind}
-use Rattle.tmpl_grammar.specs.Tree.{Operand, dot, fields, variable, bool_constant, number_constant, text_constant, nil, function, group, Operands, no_operand, operand, Commands, no_command, command, Pipeline, pipeline, Binding, unbound, declare, assign, declare_pair, Header}
+use Rattle.tmpl_grammar.specs.Tree.{Operand, dot, fields, variable, number_constant, nil, function, group, Operands, no_operand, operand, no_command, command, Pipeline, pipeline, Binding, unbound, declare, assign, declare_pair}
 use Rattle.tmpl_grammar.specs.declared.tree.Control.TheVariants as control
 use Rattle.tmpl_syntax.specs.Tree.{NodeKind, Nodes, Tree, none, then, text, action, control_node, break_node, continue_node}
 use Rattle.tmpl_run.specs.Meaning.{Ran, Cause, ran_with, steps_spent, not_a_function, nil_command, lacks_field, not_a_range, call_failed}

@@ -2,7 +2,6 @@
 use Rattle.std.proofs.Common.{arith, ◌≡◌, ◌∙◌, ℕ, zero, suc, ◌+◌, Bool, true, false, ◌&&◌, nat_eq, List, [], ◌∷◌, ◌++◌, Option, Some, None, refl, ap, subst, take, drop}
 use Rattle.tmpl_values.proofs.RuneLemmas.{AreBytes}
 use Rattle.tmpl_lex.specs.Trim.{End, right_delimiter, ended_by, has_right_delimiter, right_marked, past_left, behind_marker, left_marked}
-use Rattle.tmpl_lex.specs.Laws.{OfKind}
 use Rattle.tmpl_lex.specs.Piece.{Token, Piece, text, action, unreadable}
 use Rattle.tmpl_lex.specs.Text.{texts, text_piece, leading, without_leading, newlines}
 use Rattle.tmpl_lex.specs.Bytes.{split_here, split_pair, with_first}

@@ -1,5 +1,5 @@
 -- Nodes, seen by their parts.
-use Rattle.std.proofs.Common.{rules, ◌≡◌, ◌∙◌, ap, ℕ, Vec, Box, Global}
+use Rattle.std.proofs.Common.{rules, ◌≡◌, ◌∙◌, ℕ, Vec, Box, Global}
 use Rattle.tmpl_grammar.specs.View.{header_of}
 use Rattle.tmpl_grammar.specs.declared.tree.Control as held_control
 use Rattle.tmpl_grammar.specs.declared.tree.Header as held_header

@@ -1,8 +1,5 @@
 -- Texts and actions joined to a file: the inverse of the cut.
-use Rattle.std.specs.Prelude.{◌≡◌, ◌<◌, ℕ, Bool, true, false, ◌==◌, List, [], ◌∷◌, ◌++◌, length, None, Some, flat_map}
-use Rattle.std.specs.Char.{is_ascii_digit}
-use Rattle.tmpl_lex.specs.Bytes.{is_space}
-use Rattle.tmpl_lex.specs.Trim.{right_delimiter}
+use Rattle.std.specs.Prelude.{◌≡◌, ◌<◌, ℕ, Bool, true, false, ◌==◌, List, [], ◌∷◌, ◌++◌, length, None}
 use Rattle.tmpl_lex.specs.Text.{text_piece}
 use Rattle.tmpl_lex.specs.Piece.{Token, Piece, text, action}
 use Rattle.tmpl_lex.specs.Cut.{Cuts, split_open}

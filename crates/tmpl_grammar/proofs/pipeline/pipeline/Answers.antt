@@ -3,7 +3,7 @@ use Rattle.std.proofs.lemmas.List.{drop_all}
 use Rattle.std.specs.Option.{option_map}
 use Rattle.tmpl_lex.specs.View.{token_of}
 use Rattle.tmpl_grammar.specs.View.{limited_of, pipeline_reading}
-use Rattle.tmpl_grammar.proofs.ListLemmas.{drop-one}
+use Rattle.std.proofs.lemmas.List.{drop_more}
 use Rattle.tmpl_grammar.proofs.LimitLemmas.{Follows, follows-start, follows-none, follows-step, follows-end}
 use Rattle.tmpl_grammar.proofs.pipeline.pipeline.Goals as goal
 
@@ -13,14 +13,14 @@ loop-token-init c =
 
 pub returns-in-None : goal.returns-in-None
 returns-in-None c =
-    let one = ap (map token_of) (drop-one c.args.tokens.now c.loop-token.token-index _ (omega arith)) in
+    let one = ap (map token_of) (drop_more c.args.tokens.now c.loop-token.token-index _ (omega arith)) in
     follows-none c.args.shape (map token_of c.args.tokens.now) _ _ (limited_of c.loop-token.parser)
     (sym c.in_ok-next.ensures ∙ ap (option_map limited_of) c.in-None.is)
     (subst (Follows (map token_of c.args.tokens.now) (limited_of c.loop-token.parser)) one c.loop-token.invariant.follows)
 
 pub loop-token-preserved : goal.loop-token-preserved
 loop-token-preserved c =
-    let one = ap (map token_of) (drop-one c.args.tokens.now c.loop-token.token-index _ (omega arith)) in
+    let one = ap (map token_of) (drop_more c.args.tokens.now c.loop-token.token-index _ (omega arith)) in
     record {
       follows =
           follows-step (map token_of c.args.tokens.now) _ _ (limited_of c.loop-token.parser) (limited_of c.in-Some.next)

@@ -1,9 +1,7 @@
 use Rattle.std.proofs.Common.{◌≡◌, List, ℕ, refl, sym, ap, subst, ◌∙◌, map, Ok}
-use Rattle.tmpl_lex.specs.View.{piece_of}
 use Rattle.tmpl_syntax.specs.View.{nodes_in}
 use Rattle.tmpl_syntax.specs.Item.{Item}
 use Rattle.tmpl_syntax.specs.View.{item_of}
-use Rattle.tmpl_syntax.specs.computed.Item.{items_in}
 use Rattle.tmpl_syntax.specs.View.{set_view}
 use Rattle.tmpl_syntax.specs.Set.{defined}
 use Rattle.tmpl_syntax.specs.computed.Build.{nodes_from}

@@ -3,7 +3,6 @@ use Rattle.tmpl_values.specs.Elements.{elements}
 use Rattle.std.specs.Option.{option_map}
 use Rattle.tmpl_values.specs.View.{element_of, val_of}
 use Rattle.tmpl_values.proofs.ElementLemmas.{element-at}
-use Rattle.tmpl_grammar.specs.View.{pipeline_of}
 use Rattle.tmpl_syntax.specs.View.{kind_of, node_of}
 use Rattle.tmpl_syntax.specs.Tree.{Node}
 use Rattle.tmpl_syntax.specs.declared.tree.Node.{out-Node}
