@@ -1,10 +1,12 @@
 -- The elements of a range by their places.
-use Rattle.std.proofs.Common.{◌≡◌, ◌∙◌, ℕ, zero, suc, ◌+◌, pos, List, length, Some, None, Option, refl, ap, sym, arith}
+use Rattle.std.proofs.Common.{◌≡◌, ◌∙◌, ℕ, zero, suc, ◌+◌, ◌<◌, ◌≤◌, pos, List, [], ◌∷◌, get_or, length, Some, None, Option, refl, ap, sym, arith}
 use Rattle.std.specs.List.{slice_get}
 use Rattle.std.specs.Option.{option_map}
 use Rattle.tmpl_values.specs.Value.{Value, nothing, null, boolean, number, string, sequence, mapping, Items, no_item, item, Entries, no_entry, entry}
-use Rattle.tmpl_values.specs.Item.{nth_item, nth_entry, item_at, item_count, entry_count}
-use Rattle.tmpl_values.specs.Elements.{Element, indexed, keyed, elements}
+use Rattle.tmpl_values.specs.declared.data.Data.{Data}
+use Rattle.tmpl_values.specs.row.View.{value_of, items_of, entries_of}
+use Rattle.tmpl_values.specs.Item.{item_count, entry_count}
+use Rattle.tmpl_values.specs.Elements.{indexed, keyed, elements}
 
 length-indexed : (n : ℕ) (vs : Items) → length (indexed n vs) ≡ item_count vs
 length-indexed n no_item = refl
@@ -14,34 +16,31 @@ length-keyed : (es : Entries) → length (keyed es) ≡ entry_count es
 length-keyed no_entry = refl
 length-keyed (entry k v es) = ap suc (length-keyed es)
 
-indexed-at : (n i : ℕ) (vs : Items) → option_map (λ v. (number (pos (n + i)), v)) (nth_item i vs) ≡ slice_get (indexed n vs) i
-indexed-at n i no_item = refl
-indexed-at n zero (item v vs) = let e : n + 0 ≡ n = omega arith in ap (λ k. Some (number (pos k), v)) e
-indexed-at n (suc i) (item v vs) =
-    let e : n + suc i ≡ suc n + i = omega arith in
-    ap (λ k. option_map (λ v. (number (pos k), v)) (nth_item i vs)) e ∙ indexed-at (suc n) i vs
+-- the elements of data in a row, from the one with this index on
+pub indexed-of : (n i : ℕ) (ds : List Data) (d : Data) → i < length ds
+    → slice_get (indexed n (items_of ds)) i ≡ Some (number (pos (n + i)), value_of (get_or ds i d))
+indexed-of n i [] d h = absurd (omega arith)
+indexed-of n zero (e ∷ ds) d h = let is : n ≡ n + 0 = omega arith in ap (λ k. Some (number (pos k), value_of e)) is
+indexed-of n (suc i) (e ∷ ds) d h =
+    let is : suc n + i ≡ n + suc i = omega arith in
+    indexed-of (suc n) i ds d (omega arith) ∙ ap (λ k. Some (number (pos k), value_of (get_or ds i d))) is
 
-keyed-at : (i : ℕ) (es : Entries) → nth_entry i es ≡ slice_get (keyed es) i
-keyed-at i no_entry = refl
-keyed-at zero (entry k v es) = refl
-keyed-at (suc i) (entry k v es) = keyed-at i es
+pub indexed-past : (n i : ℕ) (ds : List Data) → length ds ≤ i → slice_get (indexed n (items_of ds)) i ≡ None
+indexed-past n i [] h = refl
+indexed-past n zero (e ∷ ds) h = absurd (omega arith)
+indexed-past n (suc i) (e ∷ ds) h = indexed-past (suc n) i ds (omega arith)
 
--- the element at a place of a list that may be missing
-abbrev pub at : Option (List Element) → ℕ → Option Element
-at None i = None
-at (Some es) i = slice_get es i
+-- .. and of entries
+pub keyed-of : (i : ℕ) (es : List (List ℕ × Data)) (d : List ℕ × Data) → i < length es
+    → slice_get (keyed (entries_of es)) i ≡ Some (string (get_or es i d).0, value_of (get_or es i d).1)
+keyed-of i [] d h = absurd (omega arith)
+keyed-of zero (e ∷ es) d h = refl
+keyed-of (suc i) (e ∷ es) d h = keyed-of i es d (omega arith)
 
--- the element at a place is that of the list
-pub element-at : (v : Value) (i : ℕ) → item_at i v ≡ at (elements v) i
-element-at nothing i = refl
-element-at null i = refl
-element-at (boolean b) i = refl
-element-at (number n) i = refl
-element-at (string s) i = refl
-element-at (sequence vs) i =
-    let e : i ≡ 0 + i = omega arith in
-    ap (λ k. option_map (λ v. (number (pos k), v)) (nth_item i vs)) e ∙ indexed-at 0 i vs
-element-at (mapping entries) i = keyed-at i entries
+pub keyed-past : (i : ℕ) (es : List (List ℕ × Data)) → length es ≤ i → slice_get (keyed (entries_of es)) i ≡ None
+keyed-past i [] h = refl
+keyed-past zero (e ∷ es) h = absurd (omega arith)
+keyed-past (suc i) (e ∷ es) h = keyed-past i es (omega arith)
 
 -- how many elements a value has that may be ranged over
 abbrev pub count : Value → Option ℕ

@@ -1,9 +1,9 @@
 -- Items and entries by place.
 use Rattle.std.proofs.Common.{◌≡◌, ◌∙◌, ℕ, zero, suc, ◌-◌, ◌<◌, ◌≤◌, List, [], ◌∷◌, length, get_or, take, drop, slice_range, Some, None, refl, ap, arith}
 use Rattle.tmpl_values.specs.declared.data.Data.{Data}
-use Rattle.tmpl_values.specs.Value.{item, string}
+use Rattle.tmpl_values.specs.Value.{item}
 use Rattle.tmpl_values.specs.row.View.{value_of, items_of, entries_of}
-use Rattle.tmpl_values.specs.Item.{nth_item, nth_entry, item_count, entry_count, items_from, first_items}
+use Rattle.tmpl_values.specs.Item.{nth_item, item_count, entry_count, items_from, first_items}
 
 pub item_count-of : (ds : List Data) → item_count (items_of ds) ≡ length ds
 item_count-of [] = refl
@@ -22,16 +22,6 @@ pub nth_item-past : (ds : List Data) (i : ℕ) → length ds ≤ i → nth_item 
 nth_item-past [] i h = refl
 nth_item-past (d ∷ ds) zero h = absurd (omega arith)
 nth_item-past (d ∷ ds) (suc i) h = nth_item-past ds i (omega arith)
-
-pub nth_entry-of : (es : List (List ℕ × Data)) (i : ℕ) (d : List ℕ × Data) → i < length es → nth_entry i (entries_of es) ≡ Some (string (get_or es i d).0, value_of (get_or es i d).1)
-nth_entry-of [] i d h = absurd (omega arith)
-nth_entry-of (e ∷ es) zero d h = refl
-nth_entry-of (e ∷ es) (suc i) d h = nth_entry-of es i d (omega arith)
-
-pub nth_entry-past : (es : List (List ℕ × Data)) (i : ℕ) → length es ≤ i → nth_entry i (entries_of es) ≡ None
-nth_entry-past [] i h = refl
-nth_entry-past (e ∷ es) zero h = absurd (omega arith)
-nth_entry-past (e ∷ es) (suc i) h = nth_entry-past es i (omega arith)
 
 items_of-drop : (i : ℕ) (ds : List Data) → items_of (drop i ds) ≡ items_from i (items_of ds)
 items_of-drop zero ds = refl

@@ -1,5 +1,6 @@
 pub mod BytesLemmas
 pub mod ElementLemmas
+pub mod HasRunesLemmas
 pub mod ItemLemmas
 pub mod KeyLemmas
 pub mod PartedLemmas

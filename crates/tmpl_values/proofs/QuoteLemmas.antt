@@ -6,7 +6,8 @@ use Rattle.std.specs.Char.{len_utf8, encode_utf8}
 use Rattle.std.proofs.Math.Seq.{take-add}
 use Rattle.std.proofs.lemmas.List.{drop-drop}
 use Rattle.std.proofs.lemmas.Str.{len_utf8_bounds}
-use Rattle.tmpl_values.specs.Rune.{char, byte, first_rune}
+use Rattle.tmpl_values.specs.Rune.{char, byte}
+use Rattle.tmpl_values.specs.computed.Rune.{first_rune}
 use Rattle.tmpl_values.specs.Quote.{inside, spelling, letters, letter_of}
 use Rattle.tmpl_values.proofs.RuneLemmas.{runes-first, runes-nil, take-first_rune}
 

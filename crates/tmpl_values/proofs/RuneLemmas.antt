@@ -14,7 +14,8 @@ use Rattle.std.specs.Str.{chars}
 use Rattle.std.proofs.Math.Seq.{take-append_seam}
 use Rattle.std.proofs.lemmas.Str.{chars-append, chars_past_char, chars-nil, IsUtf8-encode, length-encode, len_utf8_bounds}
 use Rattle.std.proofs.lemmas.Slice.Eq.{bytes_eq-Decides}
-use Rattle.tmpl_values.specs.Rune.{Rune, char, byte, bytes_in, begins_with, first_rune, runes, runes_after, tail_len}
+use Rattle.tmpl_values.specs.Rune.{Rune, char, byte, bytes_in}
+use Rattle.tmpl_values.specs.computed.Rune.{begins_with, first_rune, runes, runes_after, tail_len}
 
 chars-encode : (c : ℕ) (rest : List ℕ) → IsScalar c → chars (encode_utf8 c ++ rest) ≡ c ∷ chars rest
 chars-encode c rest s =
@@ -47,7 +48,7 @@ pub front : (bs : List ℕ) → Front bs (first_rune bs)
 unfolding first_rune
 front bs = Front-by _ bs (get_or (chars bs) 0 0) refl
 
-bytes_in-Front : (b : ℕ) (bs : List ℕ) (r : Rune) → Front (b ∷ bs) r → (bytes_in r ++ drop (tail_len r) bs ≡ b ∷ bs) × (tail_len r ≤ length bs)
+pub bytes_in-Front : (b : ℕ) (bs : List ℕ) (r : Rune) → Front (b ∷ bs) r → (bytes_in r ++ drop (tail_len r) bs ≡ b ∷ bs) × (tail_len r ≤ length bs)
 bytes_in-Front b bs _ lone = (refl, omega arith)
 bytes_in-Front b bs _ (encoding c s e) =
     let n : len_utf8 c ≡ suc (len_utf8 c - 1) = omega (arith, len_utf8_bounds c) in (

@@ -1,7 +1,7 @@
 -- The elements that a range visits ("Actions", at `range`), each behind its index or key: the items of a sequence in
 -- order and those of a mapping by key. That nothing and null have none, and that no other value may be ranged over, are
 -- our own rules.
-use Rattle.std.specs.Prelude.{ℕ, suc, pos, List, [], ◌∷◌, Option, Some, None}
+use Rattle.std.specs.Prelude.{ℕ, suc, pos, List, [], ◌∷◌, slice_get, Option, Some, None}
 use Rattle.tmpl_values.specs.Value.{Value, nothing, null, boolean, number, string, sequence, mapping, Items, no_item}
 use Rattle.tmpl_values.specs.Value.{item, Entries, no_entry, entry}
 
@@ -28,3 +28,12 @@ elements (number n) = None
 elements (string s) = None
 elements (sequence vs) = Some (indexed 0 vs)
 elements (mapping es) = Some (keyed es)
+
+-- the element at a place among these, if there is one
+abbrev pub element_at : ℕ → Option (List Element) → Option Element
+element_at i None = None
+element_at i (Some es) = slice_get es i
+
+-- the element of a value at a place
+abbrev pub item_at : ℕ → Value → Option Element
+item_at i v = element_at i (elements v)

@@ -1,5 +1,5 @@
--- The elements of a value, which a range visits ("Actions", at `range`), and its size and parts.
-use Rattle.std.specs.Prelude.{◌≤◌, ◌-◌, ℕ, zero, suc, pos, List, length, slice_range, Option, Some, None, option_map}
+-- The size of a value, its items and its parts ("Functions", at `index`, `len` and `slice`).
+use Rattle.std.specs.Prelude.{◌≤◌, ◌-◌, ℕ, zero, suc, List, length, slice_range, Option, Some, None}
 use Rattle.tmpl_values.specs.Value.{Value, nothing, null, boolean, number, string, sequence, mapping, Items, no_item}
 use Rattle.tmpl_values.specs.Value.{item, Entries, no_entry, entry}
 
@@ -8,23 +8,6 @@ abbrev pub nth_item : ℕ → Items → Option Value
 nth_item i no_item = None
 nth_item zero (item v vs) = Some v
 nth_item (suc i) (item v vs) = nth_item i vs
-
--- the key and the value at a place
-abbrev pub nth_entry : ℕ → Entries → Option (Value × Value)
-nth_entry i no_entry = None
-nth_entry zero (entry k v es) = Some (string k, v)
-nth_entry (suc i) (entry k v es) = nth_entry i es
-
--- the element at a place, behind its index or key: the items of a sequence in order, those of a
--- mapping by key
-abbrev pub item_at : ℕ → Value → Option (Value × Value)
-item_at i nothing = None
-item_at i null = None
-item_at i (boolean b) = None
-item_at i (number n) = None
-item_at i (string s) = None
-item_at i (sequence vs) = option_map (λ v. (number (pos i), v)) (nth_item i vs)
-item_at i (mapping es) = nth_entry i es
 
 -- how many items there are
 abbrev pub item_count : Items → ℕ

@@ -36,27 +36,32 @@ abbrev mutual
 abbrev pub tree_of : List ℕ → Option json.Data
 tree_of bytes = if is_utf8 bytes then read bytes else None
 
--- a value that is there, or else the fault that a number is not whole
-abbrev pub if_whole : {A : Type 0} → Option A → Result A DataFault
-if_whole None = Err NotWhole
+-- why bytes have no value
+pub data Flaw : Type 0 where
+  not_json : Flaw
+  not_whole : Flaw
+
+-- a value that is there; else some number is not whole
+abbrev pub if_whole : {A : Type 0} → Option A → Result A Flaw
+if_whole None = Err not_whole
 if_whole (Some v) = Ok v
 
--- the value of a tree that is there, or else the fault that there is none
-abbrev pub if_json : Option json.Data → Result Value DataFault
-if_json None = Err NotJson
+-- the value of a tree that is there; else there is none
+abbrev pub if_json : Option json.Data → Result Value Flaw
+if_json None = Err not_json
 if_json (Some d) = if_whole (tree_value d)
 
 -- the value of JSON bytes, or why they have none
-abbrev pub data_of : List ℕ → Result Value DataFault
+abbrev pub data_of : List ℕ → Result Value Flaw
 data_of bytes = if_json (tree_of bytes)
 
--- the result stands for what was asked for, value or fault, or memory was refused
-abbrev pub IsConverted : {A B : Type 0} → (A → B) → Result A DataFault → Result B DataFault → Type 0
+-- the result stands for what was asked for, value or flaw, or memory was refused
+abbrev pub IsConverted : {A B : Type 0} → (A → B) → Result A DataFault → Result B Flaw → Type 0
 IsConverted view (Ok a) asked = asked ≡ Ok (view a)
-IsConverted view (Err NotJson) asked = asked ≡ Err NotJson
-IsConverted view (Err NotWhole) asked = asked ≡ Err NotWhole
+IsConverted view (Err NotJson) asked = asked ≡ Err not_json
+IsConverted view (Err NotWhole) asked = asked ≡ Err not_whole
 IsConverted view (Err OutOfMemory) asked = Unit {0}
 
--- the data that these bytes are, or the fault that they have
+-- the data that these bytes are, or the flaw that they have
 abbrev pub IsData : List ℕ → Result Data DataFault → Type 0
 IsData bytes result = IsConverted value_of result (data_of bytes)

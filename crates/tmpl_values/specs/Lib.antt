@@ -3,6 +3,7 @@ pub mod Elements
 pub mod Field
 pub mod Item
 pub mod Json
+pub mod Laws
 pub mod Printable
 pub mod Put
 pub mod Quote

@@ -1,3 +1,4 @@
 pub mod Codes
 pub mod Falls
+pub mod Rune
 pub mod Weight

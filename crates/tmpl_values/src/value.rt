@@ -1,11 +1,12 @@
 //! The values of a run.
-ghost use Rattle.std.specs.Prelude.{◌≡◌, ◌-◌, ◌≤◌, length, true, false, IfOk, IfSome, option_map};
+ghost use Rattle.std.specs.Prelude.{◌≡◌, ◌-◌, ◌^◌, ◌<◌, ◌≤◌, length, true, false, IfOk, IfSome, option_map};
 ghost use Rattle.tmpl_values.specs.Value.{string, sequence, mapping};
 ghost use Rattle.tmpl_values.specs.View.{value_of, items_of, entries_of, val_of, is_kept, is_made, field_of};
 ghost use Rattle.tmpl_values.specs.View.{is_borrowed, element_of, IsShared};
 ghost use Rattle.tmpl_values.specs.Truth.{truth};
 ghost use Rattle.tmpl_values.specs.Field.{field_at};
-ghost use Rattle.tmpl_values.specs.Item.{item_at, bytes_of, size_of, HasPart, part_of, items_from, first_items};
+ghost use Rattle.tmpl_values.specs.Elements.{item_at};
+ghost use Rattle.tmpl_values.specs.Item.{bytes_of, size_of, HasPart, part_of, items_from, first_items};
 
 use crate::bytes::Bytes;
 use crate::data::{Data, Table};
@@ -155,9 +156,10 @@ impl<'a> Val<'a> {
     }
 
     /// How many bytes a text has, or how many items a list or a map has ("Functions" in the
-    /// documentation of `text/template`, at `len`). Other kinds have no size.
+    /// documentation of `text/template`, at `len`), which is below 2^63. Other kinds have no size.
     pub fn size(&self) -> Option<u64>
-        ensures { result ≡ size_of (val_of self.now) }
+        ensures value { result ≡ size_of (val_of self.now) }
+        ensures fits { IfSome result (λ n. n < 2 ^ 63) }
     {
         match self {
             Val::Text(text) => Some(text.len() as u64),

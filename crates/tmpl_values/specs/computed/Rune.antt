@@ -1,0 +1,31 @@
+-- The runes of a text, computed: the twin of `HasRunes`.
+use Rattle.std.specs.Prelude.{ℕ, zero, suc, ◌-◌, ◌&&◌, Bool, List, [], ◌∷◌, take, slice_index, bytes_eq, if◌then◌else◌}
+use Rattle.std.specs.Char.{encode_utf8, len_utf8}
+use Rattle.std.specs.Str.{chars}
+use lib.Utf8.{scalar}
+use Rattle.tmpl_values.specs.Rune.{Rune, char, byte}
+
+-- the bytes begin with the encoding of this character
+abbrev pub begins_with : ℕ → List ℕ → Bool
+begins_with c bs = scalar c && bytes_eq (take (len_utf8 c) bs) (encode_utf8 c)
+
+-- the first rune of bytes that are not empty
+unfoldable pub first_rune : List ℕ → Rune
+first_rune bs =
+    let c = slice_index (chars bs) 0 in
+    if begins_with c bs then char c else byte (slice_index bs 0)
+
+-- how many bytes of a rune follow its first
+abbrev pub tail_len : Rune → ℕ
+tail_len (char c) = len_utf8 c - 1
+tail_len (byte b) = 0
+
+-- the runes after so many bytes that belong to the rune before
+abbrev pub runes_after : ℕ → List ℕ → List Rune
+runes_after n [] = []
+runes_after (suc n) (b ∷ bs) = runes_after n bs
+runes_after zero (b ∷ bs) = first_rune (b ∷ bs) ∷ runes_after (tail_len (first_rune (b ∷ bs))) bs
+
+-- the runes from left to right
+unfoldable pub runes : List ℕ → List Rune
+runes bs = runes_after 0 bs
