@@ -14,7 +14,8 @@ use Rattle.tmpl_funcs.specs.printf.Directive.{printed}
 use Rattle.tmpl_funcs.specs.printf.Format.{both, formatted}
 use Rattle.tmpl_funcs.specs.computed.Format.{IsAdded, IsPieceAdded}
 use Rattle.tmpl_funcs.specs.declared.printf.form.Form.{Form}
-use Rattle.tmpl_funcs.specs.declared.fault.CallFault.{CallFault}
+use Rattle.tmpl_funcs.specs.declared.fault.CallError.{CallError}
+use Rattle.tmpl_funcs.specs.declared.fault.CallError.TheVariants as error
 use Rattle.tmpl_funcs.specs.declared.fault.CallFault.TheVariants as fault
 use Rattle.tmpl_funcs.proofs.FormLemmas.{take-tail}
 use Rattle.tmpl_funcs.proofs.FormatLemmas.{both-both, formatted-run, formatted-percent, formatted-lone, formatted-form, formatted-nil, formatted-over}
@@ -42,22 +43,22 @@ length-values_of [] = refl
 length-values_of (c ∷ cells) = ap suc (length-values_of cells)
 
 -- a form that was refused
-pub IsPieceAdded-refused : (asked : Option (List ℕ)) (old new format : List ℕ) (vs : List Value) (e : CallFault) → IsAdded asked old new (Err e) → (asked ≡ None → formatted format vs ≡ None) → IsPieceAdded format vs old new (Err e)
-IsPieceAdded-refused asked old new format vs fault.WrongCount h none = h
-IsPieceAdded-refused asked old new format vs fault.WrongKind h none = h
-IsPieceAdded-refused asked old new format vs fault.OutOfRange h none = h
-IsPieceAdded-refused asked old new format vs fault.NotComparable h none = h
-IsPieceAdded-refused asked old new format vs fault.FormatRefused h none = none h
-IsPieceAdded-refused asked old new format vs fault.OutOfMemory h none = tt
+pub IsPieceAdded-refused : (asked : Option (List ℕ)) (old new format : List ℕ) (vs : List Value) (e : CallError) → IsAdded asked old new (Err e) → (asked ≡ None → formatted format vs ≡ None) → IsPieceAdded format vs old new (Err e)
+IsPieceAdded-refused asked old new format vs (error.Fault fault.WrongCount) h none = h
+IsPieceAdded-refused asked old new format vs (error.Fault fault.WrongKind) h none = h
+IsPieceAdded-refused asked old new format vs (error.Fault fault.OutOfRange) h none = h
+IsPieceAdded-refused asked old new format vs (error.Fault fault.NotComparable) h none = h
+IsPieceAdded-refused asked old new format vs (error.Fault fault.FormatRefused) h none = none h
+IsPieceAdded-refused asked old new format vs error.OutOfMemory h none = tt
 
 -- a format of which a piece was refused
-pub IsAdded-refused : (format all : List ℕ) (vs ws : List Value) (front old mid new : List ℕ) (e : CallFault) → formatted all ws ≡ both (Some front) (formatted format vs) → IsPieceAdded format vs mid new (Err e) → IsAdded (formatted all ws) old new (Err e)
-IsAdded-refused format all vs ws front old mid new fault.WrongCount so_far h = h
-IsAdded-refused format all vs ws front old mid new fault.WrongKind so_far h = h
-IsAdded-refused format all vs ws front old mid new fault.OutOfRange so_far h = h
-IsAdded-refused format all vs ws front old mid new fault.NotComparable so_far h = h
-IsAdded-refused format all vs ws front old mid new fault.FormatRefused so_far h = so_far ∙ ap (both (Some front)) h
-IsAdded-refused format all vs ws front old mid new fault.OutOfMemory so_far h = tt
+pub IsAdded-refused : (format all : List ℕ) (vs ws : List Value) (front old mid new : List ℕ) (e : CallError) → formatted all ws ≡ both (Some front) (formatted format vs) → IsPieceAdded format vs mid new (Err e) → IsAdded (formatted all ws) old new (Err e)
+IsAdded-refused format all vs ws front old mid new (error.Fault fault.WrongCount) so_far h = h
+IsAdded-refused format all vs ws front old mid new (error.Fault fault.WrongKind) so_far h = h
+IsAdded-refused format all vs ws front old mid new (error.Fault fault.OutOfRange) so_far h = h
+IsAdded-refused format all vs ws front old mid new (error.Fault fault.NotComparable) so_far h = h
+IsAdded-refused format all vs ws front old mid new (error.Fault fault.FormatRefused) so_far h = so_far ∙ ap (both (Some front)) h
+IsAdded-refused format all vs ws front old mid new error.OutOfMemory so_far h = tt
 
 module _ (bs : List ℕ) (some : 0 < length bs) (plain : is_plain (get_or bs 0 0) ≡ true) (cells : List Cell) (x : Cell) (there : 1 ≤ length cells) (is : x ≡ get_or cells 0 x)
     (form : Form) (rest : List ℕ) (f : Spelled) (read : form_at bs ≡ Some f) (same : form ≡ form_of f) (all : bs ≡ spelled f ++ rest) where

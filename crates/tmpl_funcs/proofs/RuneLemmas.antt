@@ -5,7 +5,8 @@ use Rattle.std.specs.Char.{len_utf8}
 use Rattle.std.proofs.Math.Seq.{take-append_seam}
 use Rattle.std.proofs.lemmas.List.{take-append-drop}
 use Rattle.std.proofs.lemmas.Str.{len_utf8_bounds}
-use Rattle.tmpl_values.specs.Rune.{Rune, bytes_in, first_rune, runes, tail_len}
+use Rattle.tmpl_values.specs.Rune.{Rune, bytes_in}
+use Rattle.tmpl_values.specs.computed.Rune.{first_rune, runes, tail_len}
 use Rattle.tmpl_values.proofs.RuneLemmas.{Front, encoding, lone, front, runes-first, runes-nil}
 
 bytes_in-Front : (b : ℕ) (bs : List ℕ) (r : Rune) → Front (b ∷ bs) r → bytes_in r ≡ take (suc (tail_len r)) (b ∷ bs)

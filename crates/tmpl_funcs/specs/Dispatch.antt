@@ -17,6 +17,7 @@ use Rattle.tmpl_funcs.specs.declared.func.Func.{Func}
 use Rattle.tmpl_funcs.specs.declared.func.Func.TheVariants.{And, Or, Not, Len, Index, Slice, Print, Println, Printf}
 use Rattle.tmpl_funcs.specs.declared.func.Func.TheVariants.{Html, Urlquery, Eq, Ne, Lt, Le, Gt, Ge}
 use Rattle.tmpl_funcs.specs.declared.fault.CallFault.{CallFault}
+use Rattle.tmpl_funcs.specs.declared.fault.CallError.{CallError}
 use Rattle.tmpl_funcs.specs.declared.fault.CallFault.TheVariants.{WrongCount}
 
 -- the first value that is empty, else the last
@@ -70,5 +71,5 @@ called f vs = counted (takes f (length vs)) (answer f vs)
 
 -- the answer is the table's. Want of memory comes only from a function that makes a text, and not before the number of
 -- arguments was found right
-abbrev pub IsCall : Func → List Value → Result Val CallFault → Type 0
+abbrev pub IsCall : Func → List Value → Result Val CallError → Type 0
 IsCall f vs result = IsAnswerOr ((makes_text f ≡ true) × (takes f (length vs) ≡ true)) (called f vs) result

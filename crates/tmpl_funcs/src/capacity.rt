@@ -1,7 +1,10 @@
 //! How many bytes to reserve for the text of a call, so that memory is taken once. Were they too few, the text would
 //! grow; were they too many, some would stay unused: no answer depends on them.
+ghost use Rattle.std.specs.Prelude.{◌≡◌, []};
+
 use crate::escape::Escape;
-use crate::printf::{Verb, read_form};
+use crate::printf::{Form, Verb, read_form};
+use std::alloc::Global;
 use tmpl_values::{Cell, Put, Val, put_text};
 
 /// The most bytes of a truth value.
@@ -71,23 +74,51 @@ pub(crate) fn joined_capacity(operands: &[Cell<'_>], escape: Option<Escape>) -> 
     capacity
 }
 
-/// For what a format prints of operands: all of its own bytes, all widths, and of each operand as much as any of the
-/// format's forms may print of it.
+/// No bytes yet, with memory for so many where it can be had; a text for which it can't still grows by need.
+pub(crate) fn reserved(alloc: Global, capacity: usize) -> Vec<u8>
+    ensures { result.items ≡ [] }
+{
+    match Vec::with_capacity(alloc, capacity) {
+        Ok(bytes) => bytes,
+        Err(_) => Vec::new(alloc),
+    }
+}
+
+/// For what a format prints of operands: all of its own bytes, and for each form with an operand its width or what it
+/// may print of that operand. Forms beyond the operands print nothing, since the format is then refused.
 pub(crate) fn format_capacity(format: &[u8], operands: &[Cell<'_>]) -> usize {
     let mut capacity = format.len();
-    let mut spread: usize = 1;
-    for i in 0..format.len() {
-        if format[i] == b'%'
-            && let Some((form, _)) = read_form(&format[i + 1..])
-        {
-            capacity = capacity.saturating_add(form.width);
-            spread = spread.max(form.verb.spread());
+    let mut rest = format;
+    for operand in operands {
+        match next_form(rest) {
+            Some((form, behind)) => {
+                capacity = capacity.saturating_add(form_capacity(form, &operand.val));
+                rest = behind;
+            }
+            None => return capacity,
         }
     }
-    for operand in operands {
-        capacity = capacity.saturating_add(printed_capacity(&operand.val, spread));
-    }
     capacity
+}
+
+/// The first form in a format, and what stands behind it.
+fn next_form(format: &[u8]) -> Option<(Form, &[u8])> {
+    let mut rest = format;
+    while rest.len() > 0 {
+        match rest {
+            [b'%', b'%', behind @ ..] => rest = behind,
+            [b'%', spelled @ ..] => return read_form(spelled),
+            [_, behind @ ..] => rest = behind,
+            [] => return None,
+        }
+    }
+    None
+}
+
+/// For what a form prints of an operand.
+fn form_capacity(form: Form, value: &Val<'_>) -> usize {
+    form.width
+        .saturating_add(printed_capacity(value, form.verb.spread()))
 }
 
 /// For an operand, each byte of which becomes so many at the most if it is a text.

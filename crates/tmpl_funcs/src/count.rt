@@ -36,14 +36,8 @@ fn size<'a>(value: &Val<'_>) -> Result<Val<'a>, CallFault>
     ensures table { IsAnswer (sized (size_of (val_of value.now))) result }
     ensures borrowed { IsBorrowed result }
 {
-    if let Some(text) = value.bytes() {
-        return Ok(Val::Num(text.len() as i64));
-    }
-    match value {
-        Val::List(items) => Ok(Val::Num(items.len() as i64)),
-        Val::Map(table) => Ok(Val::Num(table.as_slice().len() as i64)),
-        Val::Nothing | Val::Null | Val::Bool(_) | Val::Num(_) | Val::Text(_) | Val::Made(_) => {
-            Err(CallFault::WrongKind)
-        }
+    match value.size() {
+        Some(size) => Ok(Val::Num(size as i64)),
+        None => Err(CallFault::WrongKind),
     }
 }

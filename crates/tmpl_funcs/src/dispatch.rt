@@ -9,7 +9,7 @@ ghost use Rattle.tmpl_funcs.specs.Dispatch.{answer, IsCall};
 use crate::compare::{eq, ge, gt, le, lt, ne};
 use crate::count::{len, not};
 use crate::escape::{html, urlquery};
-use crate::fault::CallFault;
+use crate::fault::{CallError, CallFault};
 use crate::func::Func;
 use crate::index::index;
 use crate::join::{print, println};
@@ -32,23 +32,25 @@ use tmpl_values::{Cell, Val};
 /// Memory is taken only by those that make a text: `print`, `println`, `printf`, `html` and
 /// `urlquery`. No other answers want of it, or gives a made text where none was among the
 /// arguments.
-pub fn call<'a>(alloc: Global, func: Func, arguments: &mut [Cell<'a>]) -> Result<Val<'a>, CallFault>
+pub fn call<'a>(alloc: Global, func: Func, arguments: &mut [Cell<'a>]) -> Result<Val<'a>, CallError>
     requires { is_called func ≡ true }
     ensures table { IsCall func (values_of arguments.old) result }
     ensures borrowed { makes_text func ≡ false → AreBorrowed arguments.old → IsBorrowed result }
 {
     if !func.takes(arguments.len() as u64) {
-        return Err(CallFault::WrongCount);
+        return Err(CallError::Fault(CallFault::WrongCount));
     }
     if func.makes_text() {
-        make(alloc, func, arguments)
-    } else {
-        answer(func, arguments)
+        return make(alloc, func, arguments);
+    }
+    match answer(func, arguments) {
+        Ok(value) => Ok(value),
+        Err(fault) => Err(CallError::Fault(fault)),
     }
 }
 
 /// What a function that makes a text gives.
-fn make<'a>(alloc: Global, func: Func, arguments: &[Cell<'_>]) -> Result<Val<'a>, CallFault>
+fn make<'a>(alloc: Global, func: Func, arguments: &[Cell<'_>]) -> Result<Val<'a>, CallError>
     requires { makes_text func ≡ true }
     ensures { IsMade (answer func (values_of arguments.now)) result }
 {

@@ -8,8 +8,8 @@ ghost use Rattle.tmpl_funcs.specs.Escape.{html_byte, html_of, is_unreserved, que
 ghost use Rattle.tmpl_funcs.specs.Join.{as_text, joined};
 ghost use Rattle.tmpl_funcs.specs.computed.Escape.{escaped_byte, escaped_of, or_itself};
 
-use crate::capacity::joined_capacity;
-use crate::fault::CallFault;
+use crate::capacity::{joined_capacity, reserved};
+use crate::fault::CallError;
 use crate::join::{NothingText, add_joined};
 use percent_encoding::percent_encode_byte;
 use std::alloc::{AllocError, Global};
@@ -23,21 +23,21 @@ pub(crate) enum Escape {
 }
 
 /// The operands joined and escaped for HTML.
-pub(crate) fn html<'a>(alloc: Global, operands: &[Cell<'_>]) -> Result<Val<'a>, CallFault>
+pub(crate) fn html<'a>(alloc: Global, operands: &[Cell<'_>]) -> Result<Val<'a>, CallError>
     ensures { IsMade (html_of (values_of operands.now)) result }
 {
     escaped(alloc, operands, Escape::Html)
 }
 
 /// The operands joined and escaped for the query of a URL.
-pub(crate) fn urlquery<'a>(alloc: Global, operands: &[Cell<'_>]) -> Result<Val<'a>, CallFault>
+pub(crate) fn urlquery<'a>(alloc: Global, operands: &[Cell<'_>]) -> Result<Val<'a>, CallError>
     ensures { IsMade (urlquery_of (values_of operands.now)) result }
 {
     escaped(alloc, operands, Escape::Query)
 }
 
 /// The operands joined and escaped.
-fn escaped<'a>(alloc: Global, operands: &[Cell<'_>], escape: Escape) -> Result<Val<'a>, CallFault>
+fn escaped<'a>(alloc: Global, operands: &[Cell<'_>], escape: Escape) -> Result<Val<'a>, CallError>
     ensures { IsMade (escaped_of escape (values_of operands.now)) result }
 {
     match sole_text(operands) {
@@ -47,10 +47,10 @@ fn escaped<'a>(alloc: Global, operands: &[Cell<'_>], escape: Escape) -> Result<V
 }
 
 /// The escape of a text.
-fn escaped_text<'a>(alloc: Global, text: &[u8], escape: Escape) -> Result<Val<'a>, CallFault>
+fn escaped_text<'a>(alloc: Global, text: &[u8], escape: Escape) -> Result<Val<'a>, CallError>
     ensures { IsMade (Ok (string (flat_map (escaped_byte escape) text.now))) result }
 {
-    let mut bytes = Vec::with_capacity(alloc, escape.escaped_len(text))?;
+    let mut bytes = reserved(alloc, escape.escaped_len(text));
     add_escaped(text, escape, &mut bytes)?;
     Ok(Val::made(bytes))
 }
@@ -60,14 +60,14 @@ fn escaped_join<'a>(
     alloc: Global,
     operands: &[Cell<'_>],
     escape: Escape,
-) -> Result<Val<'a>, CallFault>
+) -> Result<Val<'a>, CallError>
     ensures { IsMade (escaped_of escape (values_of operands.now)) result }
 {
     let capacity = joined_capacity(operands, None).saturating_add(joined_capacity(
         operands,
         Some(escape),
     ));
-    let mut bytes = Vec::with_capacity(alloc, capacity)?;
+    let mut bytes = reserved(alloc, capacity);
     add_joined(operands, NothingText::NoValue, &mut bytes)?;
     let plain = bytes.len();
     add_escape_of_all(escape, &mut bytes)?;

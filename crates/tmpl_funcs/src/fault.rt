@@ -2,9 +2,8 @@
 use std::alloc::{AllocError, AllocFailed};
 use tmpl_values::CompareFault;
 
-/// Why a call has no value. Where several reasons apply, it is the one that is met first: the number of arguments, then
-/// the arguments in the order in which the function looks at them. Want of memory may be met before any reason but
-/// `WrongCount`, by a function that makes a text.
+/// Why a function refuses its arguments. Where several reasons apply, it is the one that is met first: the number of
+/// arguments, then the arguments in the order in which the function looks at them.
 #[derive(Clone, Copy, Debug, PartialEq, Eq)]
 pub enum CallFault {
     /// The function does not take so many arguments.
@@ -17,6 +16,14 @@ pub enum CallFault {
     NotComparable,
     /// The format of `printf` has a form that is none, or its forms do not fit the arguments.
     FormatRefused,
+}
+
+/// Why a call has no value. Want of memory may be met before any fault but `WrongCount`, by a function that makes a
+/// text.
+#[derive(Clone, Copy, Debug, PartialEq, Eq)]
+pub enum CallError {
+    /// The function refuses its arguments.
+    Fault(CallFault),
     /// Memory was refused.
     OutOfMemory,
 }
@@ -32,24 +39,24 @@ impl From<CompareFault> for CallFault {
     }
 }
 
-impl From<AllocError> for CallFault {
+impl From<AllocError> for CallError {
     ghost use Rattle.std.specs.Prelude.{◌≡◌};
-    ghost use Rattle.tmpl_funcs.specs.declared.fault.CallFault.{CallFault};
+    ghost use Rattle.tmpl_funcs.specs.declared.fault.CallError.{CallError};
 
-    ghost from_gives = { λ _ e. e ≡ CallFault.OutOfMemory };
+    ghost from_gives = { λ _ e. e ≡ CallError.OutOfMemory };
 
-    fn from(_: AllocError) -> CallFault {
-        CallFault::OutOfMemory
+    fn from(_: AllocError) -> CallError {
+        CallError::OutOfMemory
     }
 }
 
-impl<T: Drop> From<AllocFailed<T>> for CallFault {
+impl<T: Drop> From<AllocFailed<T>> for CallError {
     ghost use Rattle.std.specs.Prelude.{◌≡◌};
-    ghost use Rattle.tmpl_funcs.specs.declared.fault.CallFault.{CallFault};
+    ghost use Rattle.tmpl_funcs.specs.declared.fault.CallError.{CallError};
 
-    ghost from_gives = { λ _ e. e ≡ CallFault.OutOfMemory };
+    ghost from_gives = { λ _ e. e ≡ CallError.OutOfMemory };
 
-    fn from(_: AllocFailed<T>) -> CallFault {
-        CallFault::OutOfMemory
+    fn from(_: AllocFailed<T>) -> CallError {
+        CallError::OutOfMemory
     }
 }

@@ -7,8 +7,8 @@ ghost use Rattle.tmpl_funcs.specs.Answer.{IsMade};
 ghost use Rattle.tmpl_funcs.specs.Join.{is_string, joined, print_of, println_of, space_unless};
 ghost use Rattle.tmpl_funcs.specs.computed.Join.{shown};
 
-use crate::capacity::joined_capacity;
-use crate::fault::CallFault;
+use crate::capacity::{joined_capacity, reserved};
+use crate::fault::CallError;
 use crate::growing::add_text;
 use std::alloc::{AllocError, Global};
 use tmpl_values::{Cell, Val};
@@ -23,19 +23,19 @@ pub(crate) enum NothingText {
 }
 
 /// The operands joined, with a space between two neighbours of which neither is a text.
-pub(crate) fn print<'a>(alloc: Global, operands: &[Cell<'_>]) -> Result<Val<'a>, CallFault>
+pub(crate) fn print<'a>(alloc: Global, operands: &[Cell<'_>]) -> Result<Val<'a>, CallError>
     ensures { IsMade (print_of (values_of operands.now)) result }
 {
-    let mut bytes = Vec::with_capacity(alloc, joined_capacity(operands, None))?;
+    let mut bytes = reserved(alloc, joined_capacity(operands, None));
     add_joined(operands, NothingText::Nil, &mut bytes)?;
     Ok(Val::made(bytes))
 }
 
 /// The operands parted by one space, and a newline.
-pub(crate) fn println<'a>(alloc: Global, operands: &[Cell<'_>]) -> Result<Val<'a>, CallFault>
+pub(crate) fn println<'a>(alloc: Global, operands: &[Cell<'_>]) -> Result<Val<'a>, CallError>
     ensures { IsMade (println_of (values_of operands.now)) result }
 {
-    let mut bytes = Vec::with_capacity(alloc, joined_capacity(operands, None))?;
+    let mut bytes = reserved(alloc, joined_capacity(operands, None));
     add_parted(operands, &mut bytes)?;
     bytes.push(b'\n')?;
     Ok(Val::made(bytes))

@@ -17,7 +17,7 @@ mod printf;
 mod slice;
 
 pub use dispatch::call;
-pub use fault::CallFault;
+pub use fault::{CallError, CallFault};
 pub use func::Func;
 pub use laws::one_format_reading;
 

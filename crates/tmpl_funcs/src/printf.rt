@@ -8,6 +8,6 @@ mod pad;
 mod reading;
 mod rune;
 
-pub(crate) use form::Verb;
+pub(crate) use form::{Form, Verb};
 pub(crate) use format::printf;
 pub(crate) use reading::read_form;

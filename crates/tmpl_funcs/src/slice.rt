@@ -28,18 +28,9 @@ pub(crate) fn slice<'a>(value: Val<'a>, bounds: &[Cell<'_>]) -> Result<Val<'a>, 
 fn extent(value: &Val<'_>) -> Option<i64>
     ensures { result ≡ default_end (extent (val_of value.now)) }
 {
-    if let Some(text) = value.bytes() {
-        return Some(text.len() as i64);
-    }
     match value {
-        Val::List(items) => Some(items.len() as i64),
-        Val::Nothing
-        | Val::Null
-        | Val::Bool(_)
-        | Val::Num(_)
-        | Val::Text(_)
-        | Val::Made(_)
-        | Val::Map(_) => None,
+        Val::Map(_) => None,
+        _ => Some(value.size()? as i64),
     }
 }
 

@@ -2,7 +2,8 @@
 -- the input, in runes).
 use Rattle.std.specs.Prelude.{ℕ, List, take, Option, Some, None}
 use Rattle.std.specs.List.{flat_map}
-use Rattle.tmpl_values.specs.Rune.{runes, bytes_in}
+use Rattle.tmpl_values.specs.Rune.{bytes_in}
+use Rattle.tmpl_values.specs.computed.Rune.{runes}
 
 -- a text cut to a precision in runes
 abbrev pub cut : Option ℕ → List ℕ → List ℕ

@@ -14,7 +14,7 @@ use super::digits::write_digits;
 use super::form::{Form, Verb};
 use super::pad::{add_laid_out, add_padded, pad_from};
 use super::rune::cut;
-use crate::fault::CallFault;
+use crate::fault::{CallError, CallFault};
 use crate::growing::add_quote;
 use crate::index::number;
 use crate::join::{NothingText, add_operand};
@@ -24,7 +24,7 @@ use tmpl_values::{Val, digit};
 
 /// Adds what a form prints of a value.
 #[tactic(auto, unfolding(crate::specs::printf::Directive::printed))]
-pub(crate) fn add_printed(form: Form, value: &Val<'_>, bytes: &mut Vec<u8>) -> Result<(), CallFault>
+pub(crate) fn add_printed(form: Form, value: &Val<'_>, bytes: &mut Vec<u8>) -> Result<(), CallError>
     ensures { IsAdded (printed form (val_of value.now)) bytes.old.items bytes.new.items result }
 {
     match form.verb {
@@ -42,7 +42,7 @@ pub(crate) fn add_printed(form: Form, value: &Val<'_>, bytes: &mut Vec<u8>) -> R
 }
 
 /// `%v`: lists and maps stand without flags and width.
-fn add_value(form: Form, value: &Val<'_>, bytes: &mut Vec<u8>) -> Result<(), CallFault>
+fn add_value(form: Form, value: &Val<'_>, bytes: &mut Vec<u8>) -> Result<(), CallError>
     ensures { IsAdded (value_form form (val_of value.now)) bytes.old.items bytes.new.items result }
 {
     if let Some(text) = value.bytes() {
@@ -51,7 +51,7 @@ fn add_value(form: Form, value: &Val<'_>, bytes: &mut Vec<u8>) -> Result<(), Cal
     match value {
         Val::List(_) | Val::Map(_) => {
             if !form.is_bare() {
-                return Err(CallFault::FormatRefused);
+                return Err(CallError::Fault(CallFault::FormatRefused));
             }
             add_operand(value, NothingText::Nil, bytes)?;
             Ok(())
@@ -63,12 +63,12 @@ fn add_value(form: Form, value: &Val<'_>, bytes: &mut Vec<u8>) -> Result<(), Cal
 }
 
 /// Nothing, a truth value or a number, in a form with no flag but `-`.
-fn add_scalar(form: Form, value: &Val<'_>, bytes: &mut Vec<u8>) -> Result<(), CallFault>
+fn add_scalar(form: Form, value: &Val<'_>, bytes: &mut Vec<u8>) -> Result<(), CallError>
     ensures { IsAdded (text_form form (Some (inner_text (val_of value.now))))
         bytes.old.items bytes.new.items result }
 {
     if !form.has_minus_alone() {
-        return Err(CallFault::FormatRefused);
+        return Err(CallError::Fault(CallFault::FormatRefused));
     }
     let start = bytes.len();
     add_operand(value, NothingText::Nil, bytes)?;
@@ -77,30 +77,30 @@ fn add_scalar(form: Form, value: &Val<'_>, bytes: &mut Vec<u8>) -> Result<(), Ca
 }
 
 /// A text, in a form with no flag but `-`.
-fn add_text_form(form: Form, text: &[u8], bytes: &mut Vec<u8>) -> Result<(), CallFault>
+fn add_text_form(form: Form, text: &[u8], bytes: &mut Vec<u8>) -> Result<(), CallError>
     ensures { IsAdded (text_form form (Some text.now)) bytes.old.items bytes.new.items result }
 {
     if !form.has_minus_alone() {
-        return Err(CallFault::FormatRefused);
+        return Err(CallError::Fault(CallFault::FormatRefused));
     }
     add_padded(form, text, bytes)?;
     Ok(())
 }
 
 /// `%s`.
-fn add_string(form: Form, text: Option<&[u8]>, bytes: &mut Vec<u8>) -> Result<(), CallFault>
+fn add_string(form: Form, text: Option<&[u8]>, bytes: &mut Vec<u8>) -> Result<(), CallError>
     ensures { IsAdded
         (text_form form (option_map (cut form.precision) (option_map (λ t. t.now) text.entry)))
         bytes.old.items bytes.new.items result }
 {
     match text {
         Some(text) => add_text_form(form, cut(form.precision, text), bytes),
-        None => Err(CallFault::FormatRefused),
+        None => Err(CallError::Fault(CallFault::FormatRefused)),
     }
 }
 
 /// `%q`.
-fn add_quoted(form: Form, text: Option<&[u8]>, bytes: &mut Vec<u8>) -> Result<(), CallFault>
+fn add_quoted(form: Form, text: Option<&[u8]>, bytes: &mut Vec<u8>) -> Result<(), CallError>
     ensures { IsAdded (text_form form (option_map quote (option_map (λ t. t.now) text.entry)))
         bytes.old.items bytes.new.items result }
 {
@@ -111,12 +111,12 @@ fn add_quoted(form: Form, text: Option<&[u8]>, bytes: &mut Vec<u8>) -> Result<()
             pad_from(form, start, bytes)?;
             Ok(())
         }
-        _ => Err(CallFault::FormatRefused),
+        _ => Err(CallError::Fault(CallFault::FormatRefused)),
     }
 }
 
 /// `%c`.
-fn add_char(form: Form, code: Option<i64>, bytes: &mut Vec<u8>) -> Result<(), CallFault>
+fn add_char(form: Form, code: Option<i64>, bytes: &mut Vec<u8>) -> Result<(), CallError>
     ensures { IsAdded (text_form form (option_map char_text code))
         bytes.old.items bytes.new.items result }
 {
@@ -129,7 +129,7 @@ fn add_char(form: Form, code: Option<i64>, bytes: &mut Vec<u8>) -> Result<(), Ca
                 bytes,
             )
         }
-        None => Err(CallFault::FormatRefused),
+        None => Err(CallError::Fault(CallFault::FormatRefused)),
     }
 }
 
@@ -144,7 +144,7 @@ fn char_of(code: i64) -> char
 }
 
 /// `%t`.
-fn add_truth(form: Form, value: &Val<'_>, bytes: &mut Vec<u8>) -> Result<(), CallFault>
+fn add_truth(form: Form, value: &Val<'_>, bytes: &mut Vec<u8>) -> Result<(), CallError>
     ensures { IsAdded (text_form form (truth_of (val_of value.now)))
         bytes.old.items bytes.new.items result }
 {
@@ -157,12 +157,12 @@ fn add_truth(form: Form, value: &Val<'_>, bytes: &mut Vec<u8>) -> Result<(), Cal
         | Val::Text(_)
         | Val::Made(_)
         | Val::List(_)
-        | Val::Map(_) => Err(CallFault::FormatRefused),
+        | Val::Map(_) => Err(CallError::Fault(CallFault::FormatRefused)),
     }
 }
 
 /// `%d`.
-fn add_decimal(form: Form, n: Option<i64>, bytes: &mut Vec<u8>) -> Result<(), CallFault>
+fn add_decimal(form: Form, n: Option<i64>, bytes: &mut Vec<u8>) -> Result<(), CallError>
     ensures { IsAdded (option_map (number_form 10 false form) n)
         bytes.old.items bytes.new.items result }
 {
@@ -173,7 +173,7 @@ fn add_decimal(form: Form, n: Option<i64>, bytes: &mut Vec<u8>) -> Result<(), Ca
             add_laid_out(form, sign(form, n), digits, bytes)?;
             Ok(())
         }
-        None => Err(CallFault::FormatRefused),
+        None => Err(CallError::Fault(CallFault::FormatRefused)),
     }
 }
 
@@ -184,7 +184,7 @@ fn add_in_base(
     form: Form,
     n: Option<i64>,
     bytes: &mut Vec<u8>,
-) -> Result<(), CallFault>
+) -> Result<(), CallError>
     requires low { 2 ≤ base }
     requires high { base ≤ 16 }
     ensures { IsAdded (option_map (number_form base upper form) n)
@@ -198,7 +198,7 @@ fn add_in_base(
             add_laid_out(form, sign(form, n), &written[start..], bytes)?;
             Ok(())
         }
-        None => Err(CallFault::FormatRefused),
+        None => Err(CallError::Fault(CallFault::FormatRefused)),
     }
 }
 
@@ -218,7 +218,7 @@ fn sign(form: Form, n: i64) -> &'static [u8]
 }
 
 /// `%x` and `%X`.
-fn add_hex(upper: bool, form: Form, value: &Val<'_>, bytes: &mut Vec<u8>) -> Result<(), CallFault>
+fn add_hex(upper: bool, form: Form, value: &Val<'_>, bytes: &mut Vec<u8>) -> Result<(), CallError>
     ensures { IsAdded (hex_form upper form (val_of value.now))
         bytes.old.items bytes.new.items result }
 {
@@ -229,12 +229,12 @@ fn add_hex(upper: bool, form: Form, value: &Val<'_>, bytes: &mut Vec<u8>) -> Res
 }
 
 /// The bytes of a text, in a form with no flag but `-`.
-fn add_hex_text(upper: bool, form: Form, text: &[u8], bytes: &mut Vec<u8>) -> Result<(), CallFault>
+fn add_hex_text(upper: bool, form: Form, text: &[u8], bytes: &mut Vec<u8>) -> Result<(), CallError>
     ensures { IsAdded (text_form form (Some (flat_map (hex_pair upper) text.now)))
         bytes.old.items bytes.new.items result }
 {
     if !form.has_minus_alone() {
-        return Err(CallFault::FormatRefused);
+        return Err(CallError::Fault(CallFault::FormatRefused));
     }
     let start = bytes.len();
     add_pairs(text, upper, bytes)?;

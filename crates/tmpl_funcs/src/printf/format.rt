@@ -9,20 +9,20 @@ ghost use Rattle.tmpl_funcs.specs.computed.Format.{IsAdded, IsPieceAdded};
 use super::class::Class;
 use super::directive::add_printed;
 use super::reading::read_form;
-use crate::capacity::format_capacity;
-use crate::fault::CallFault;
+use crate::capacity::{format_capacity, reserved};
+use crate::fault::{CallError, CallFault};
 use std::alloc::Global;
 use tmpl_values::{Cell, Val};
 
 /// The first argument as a format of the others.
-pub(crate) fn printf<'a>(alloc: Global, arguments: &[Cell<'_>]) -> Result<Val<'a>, CallFault>
+pub(crate) fn printf<'a>(alloc: Global, arguments: &[Cell<'_>]) -> Result<Val<'a>, CallError>
     ensures { IsMade (printf_of (values_of arguments.now)) result }
 {
     match arguments {
-        [] => Err(CallFault::WrongCount),
+        [] => Err(CallError::Fault(CallFault::WrongCount)),
         [format, operands @ ..] => match format.val.bytes() {
             Some(format) => print_formatted(alloc, format, operands),
-            None => Err(CallFault::WrongKind),
+            None => Err(CallError::Fault(CallFault::WrongKind)),
         },
     }
 }
@@ -32,16 +32,16 @@ fn print_formatted<'a>(
     alloc: Global,
     format: &[u8],
     operands: &[Cell<'_>],
-) -> Result<Val<'a>, CallFault>
+) -> Result<Val<'a>, CallError>
     ensures { IsMade (formatted_if (formatted format.now (values_of operands.now))) result }
 {
-    let mut bytes = Vec::with_capacity(alloc, format_capacity(format, operands))?;
+    let mut bytes = reserved(alloc, format_capacity(format, operands));
     add_formatted(format, operands, &mut bytes)?;
     Ok(Val::made(bytes))
 }
 
 /// Adds the texts of the pieces of a format, which it reads from left to right.
-fn add_formatted(format: &[u8], operands: &[Cell<'_>], bytes: &mut Vec<u8>) -> Result<(), CallFault>
+fn add_formatted(format: &[u8], operands: &[Cell<'_>], bytes: &mut Vec<u8>) -> Result<(), CallError>
     ensures { IsAdded (formatted format.now (values_of operands.now))
         bytes.old.items bytes.new.items result }
 {
@@ -55,7 +55,7 @@ fn add_formatted(format: &[u8], operands: &[Cell<'_>], bytes: &mut Vec<u8>) -> R
     if used == operands.len() {
         Ok(())
     } else {
-        Err(CallFault::FormatRefused)
+        Err(CallError::Fault(CallFault::FormatRefused))
     }
 }
 
@@ -65,7 +65,7 @@ fn add_piece<'f>(
     format: &'f [u8],
     operands: &[Cell<'_>],
     bytes: &mut Vec<u8>,
-) -> Result<(&'f [u8], usize), CallFault>
+) -> Result<(&'f [u8], usize), CallError>
     requires { 0 < length format.now }
     ensures { IsPieceAdded format.now (values_of operands.now)
         bytes.old.items bytes.new.items result }
@@ -76,7 +76,7 @@ fn add_piece<'f>(
         return Ok((&format[run..], 0));
     }
     match &format[1..] {
-        [] => Err(CallFault::FormatRefused),
+        [] => Err(CallError::Fault(CallFault::FormatRefused)),
         [b'%', behind @ ..] => {
             bytes.push(b'%')?;
             Ok((behind, 0))
@@ -90,17 +90,17 @@ fn add_form<'f>(
     spelled: &'f [u8],
     operands: &[Cell<'_>],
     bytes: &mut Vec<u8>,
-) -> Result<(&'f [u8], usize), CallFault>
+) -> Result<(&'f [u8], usize), CallError>
     requires some { 0 < length spelled.now }
     requires other { is_plain (slice_index spelled.now 0) ≡ true }
     ensures { IsPieceAdded (37 ∷ spelled.now) (values_of operands.now)
         bytes.old.items bytes.new.items result }
 {
     let Some((form, behind)) = read_form(spelled) else {
-        return Err(CallFault::FormatRefused);
+        return Err(CallError::Fault(CallFault::FormatRefused));
     };
     match operands {
-        [] => Err(CallFault::FormatRefused),
+        [] => Err(CallError::Fault(CallFault::FormatRefused)),
         [operand, ..] => {
             add_printed(form, &operand.val, bytes)?;
             Ok((behind, 1))

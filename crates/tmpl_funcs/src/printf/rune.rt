@@ -1,6 +1,6 @@
 //! Texts counted and cut in runes.
 ghost use Rattle.std.specs.Prelude.{◌≡◌, ◌<◌, drop, length, suc};
-ghost use Rattle.tmpl_values.specs.Rune.{first_rune, runes, tail_len};
+ghost use Rattle.tmpl_values.specs.computed.Rune.{first_rune, runes, tail_len};
 ghost use Rattle.tmpl_funcs.specs.printf.Rune.{cut};
 
 use tmpl_values::first_char;

@@ -1,6 +1,6 @@
 //! Rows: a function, its arguments as a JSON list, and what it gives.
 use crate::growing::add_text;
-use crate::{CallFault, Func, call};
+use crate::{CallError, CallFault, Func, call};
 use std::alloc::{AllocError, Global};
 use std::process::Abort;
 use std::test::Fail;
@@ -25,7 +25,8 @@ pub(super) fn text_of(
             add_text(&value, &mut text)?;
             Ok(Ok(text))
         }
-        Err(fault) => Ok(Err(fault)),
+        Err(CallError::Fault(fault)) => Ok(Err(fault)),
+        Err(CallError::OutOfMemory) => Err(AllocError)?,
     }
 }
 
