@@ -4,8 +4,8 @@ use Rattle.std.proofs.lemmas.List.{map-append}
 use Rattle.tmpl_lex.specs.declared.piece.Token as declared
 use Rattle.tmpl_lex.specs.Piece.{Token}
 use Rattle.tmpl_lex.specs.View.{token_of}
-use Rattle.tmpl_lex.specs.Trim.{End, ended_by, has_right_delimiter, right_marked, right_delimiter}
-use Rattle.tmpl_lex.specs.Token.{front_token}
+use Rattle.tmpl_lex.specs.computed.Trim.{End, ended_by, has_right_delimiter, right_marked, right_delimiter}
+use Rattle.tmpl_lex.specs.computed.Token.{front_token}
 use Rattle.tmpl_lex.specs.computed.Action.{Inside, inside, inside_after, inside_from, with_token}
 use Rattle.tmpl_lex.proofs.TokenLemmas.{token-front, front-length}
 

@@ -7,7 +7,7 @@ use Rattle.tmpl_lex.specs.declared.piece.TokenKind.TheVariants as kind
 use Rattle.tmpl_lex.specs.Piece.{Token, text, action, unreadable}
 use Rattle.tmpl_lex.specs.computed.Cut.{cut_of, cut_within}
 use Rattle.tmpl_lex.specs.computed.Action.{opened, inside}
-use Rattle.tmpl_lex.specs.Action.{comment_end}
+use Rattle.tmpl_lex.specs.computed.Action.{comment_end}
 
 abbrev token : TokenKind → String → Token
 token k spelling = record { kind = k; bytes = codes spelling }
@@ -95,6 +95,30 @@ no_marker : cut_of (codes "a {{-3}} {{- 3}}") ≡
     ∷ []
 unfolding cut_of cut_within opened comment_end inside
 no_marker = refl
+
+-- an action of white space, with a marker on neither side, on each alone, and on both
+only_space : cut_of (codes "{{ }}{{- }}{{ -}}{{-  -}}") ≡
+    action 1 (token kind.Space " " ∷ [])
+    ∷ action 1 []
+    ∷ action 1 []
+    ∷ action 1 []
+    ∷ []
+unfolding cut_of cut_within opened comment_end inside
+only_space = refl
+
+-- the first `{{` counts, also of three or four braces, and no token begins with a brace
+braces : cut_of (codes "a{{{{b}}") ≡
+    text 1 (codes "a")
+    ∷ unreadable 1
+    ∷ []
+unfolding cut_of cut_within opened comment_end inside
+braces = refl
+
+three_braces : cut_of (codes "{{{ }}") ≡
+    unreadable 1
+    ∷ []
+unfolding cut_of cut_within opened comment_end inside
+three_braces = refl
 
 -- the one byte of white space belongs to the left marker, so the second `-` begins no token
 markers_alone : cut_of (codes "a {{- -}} b") ≡

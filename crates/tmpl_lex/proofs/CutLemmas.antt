@@ -1,18 +1,24 @@
 -- The pieces of a whole file, from action to action.
-use Rattle.std.proofs.Common.{arith, ◌≡◌, ℕ, zero, suc, ◌+◌, ◌-◌, ◌<◌, ◌≤◌, Bool, true, false, List, [], ◌∷◌, ◌++◌, Option, Some, None, refl, sym, ap, subst, ◌∙◌, length, take, drop, cond, append_assoc, append-nil, length-take, length-drop, nat_eq}
+use Rattle.std.proofs.Common.{arith, ◌≡◌, ℕ, zero, suc, ◌+◌, ◌-◌, ◌<◌, ◌≤◌, Bool, true, false, ◌&&◌, List, [], ◌∷◌, ◌++◌, Option, Some, None, refl, sym, ap, subst, ◌∙◌, length, take, drop, cond, append_assoc, append-nil, length-take, length-drop, length-append, nat_eq}
+use Rattle.std.proofs.lemmas.Bool.{eqb-true, and_parts, both_ways, false_from_ne_true}
 use Rattle.std.proofs.lemmas.List.{take_all}
-use Rattle.std.proofs.lemmas.List.Sums.{count_by-le-length, sum_by-take-drop}
-use Rattle.tmpl_lex.specs.Text.{leading, without_leading, without_trailing, text_piece, newlines, texts}
-use Rattle.tmpl_lex.specs.Trim.{End, left_marked, past_left, behind_marker}
+use Rattle.std.proofs.lemmas.List.Sums.{count_by-le-length, sum_by-take-drop, sum_by-append, sum_by-cons}
+use Rattle.std.proofs.Math.Seq.{take-append_seam}
+use Rattle.tmpl_lex.specs.Bytes.{is_space, Absent, BeginsNone}
+use Rattle.tmpl_lex.specs.Cut.{Leads, Cuts, last, closed, unclosed}
+use Rattle.tmpl_lex.specs.Delimiter.{IsLeftMarker, left_marker, Opens, opens, opens_marked}
 use Rattle.tmpl_lex.specs.Piece.{Piece, action, unreadable}
-use Rattle.tmpl_lex.specs.Cut.{stretch, split_open, Cuts, last, dropped, closed, unclosed}
-use Rattle.tmpl_lex.specs.Bytes.{split_pair}
-use Rattle.tmpl_lex.specs.Action.{comment_end, comment_closed, opens_comment}
-use Rattle.tmpl_lex.specs.computed.Action.{inside, Inside, Opened, comment, tokens, neither, opened, opened_by}
-use Rattle.tmpl_lex.specs.computed.Cut.{pieces_at, pieces_from, cut_within, cut_of, pieces_of, ends_at}
-use Rattle.tmpl_lex.proofs.PairLemmas.{split_pair-lengths}
+use Rattle.tmpl_lex.specs.Text.{text_piece, newlines}
+use Rattle.tmpl_lex.specs.computed.Action.{inside, Inside, Opened, comment, tokens, neither, opened, opened_by, comment_end, comment_closed, opens_comment}
+use Rattle.tmpl_lex.specs.computed.Bytes.{split_pair}
+use Rattle.tmpl_lex.specs.computed.Cut.{stretch, split_open, pieces_at, pieces_from, cut_within, cut_of, pieces_of, ends_at}
+use Rattle.tmpl_lex.specs.computed.Text.{leading, without_leading, without_trailing, texts}
+use Rattle.tmpl_lex.specs.computed.Trim.{End, left_marked, past_left, behind_marker}
 use Rattle.tmpl_lex.proofs.ActionLemmas.{right_delimiter-shorter, inside-shorter}
-use Rattle.tmpl_lex.proofs.SpellsLemmas.{opened-comment, opened-tokens, opened-neither, comment-opened, tokens-opened, neither-opened}
+use Rattle.tmpl_lex.proofs.PairLemmas.{split_pair-lengths}
+use Rattle.tmpl_lex.proofs.PartLemmas.{absent-none, none-absent, absent-split, split-is}
+use Rattle.tmpl_lex.proofs.SpellsLemmas.{opened-closed, closed-opened, neither-closed, closed-neither}
+use Rattle.tmpl_lex.proofs.TextLemmas.{texts-made, texts-only}
 
 -- ---- what stands behind a comment or an action is shorter than what stands behind its `{{`
 
@@ -21,7 +27,7 @@ comment_closed-shorter false o n e within h = let g : ◌≡◌ {A = Option End}
 comment_closed-shorter true None n e within h = let g : ◌≡◌ {A = Option End} None (Some e) = h in cc
 comment_closed-shorter true (Some p) n e within h = omega (arith, right_delimiter-shorter p.1 e h, within p refl)
 
-comment_end-shorter : (bs : List ℕ) (e : End) → comment_end bs ≡ Some e → length e.rest < length bs
+pub comment_end-shorter : (bs : List ℕ) (e : End) → comment_end bs ≡ Some e → length e.rest < length bs
 unfolding comment_end
 comment_end-shorter bs e h =
     comment_closed-shorter (opens_comment bs) (split_pair 42 47 (drop 2 bs)) (length bs) e (λ p at. omega (arith, split_pair-lengths 42 47 (drop 2 bs) p.0 p.1 at, length-drop 2 bs)) h
@@ -39,7 +45,7 @@ opened-shorter bs e h = go (comment_end bs) refl (inside bs) refl h
         omega (arith, inside-shorter bs i d, ap (λ (x : End). length x.rest) same)
     go None c None d h = let g : ◌≡◌ {A = Option End} (Some e) None = h in cc
 
-past_left-within : (bs : List ℕ) → length (past_left bs) ≤ length bs
+pub past_left-within : (bs : List ℕ) → length (past_left bs) ≤ length bs
 past_left-within bs = go (left_marked bs)
   where
     go : (t : Bool) → length (behind_marker t bs) ≤ length bs
@@ -95,6 +101,111 @@ IsAdded-step right line first second before after taken kept text old mid new o 
 pub without_trailing-unmarked : (bs : List ℕ) → bs ≡ without_trailing false bs
 without_trailing-unmarked bs = sym (take_all (length bs - 0) bs (omega arith))
 
+-- ---- what opens
+
+-- the bytes behind a `{{`: its marker, and what stands behind that
+pub record HasMarker (after : List ℕ) (left : Bool) (rest : List ℕ) : Type 0 where
+  pub marker : List ℕ
+  pub opens : Opens left (123 ∷ 123 ∷ marker) rest
+  pub is : after ≡ marker ++ rest
+
+marker-marked : {marker : List ℕ} (rest : List ℕ) → IsLeftMarker marker → left_marked (marker ++ rest) ≡ true
+marker-marked rest (left_marker e) = e
+
+marker-is : (after : List ℕ) → left_marked after ≡ true → HasMarker after true (drop 2 after)
+marker-is [] e = cc
+marker-is (a ∷ []) e = cc
+marker-is (a ∷ w ∷ after) e =
+    let both = and_parts (nat_eq a 45) (is_space w) e in record {
+      marker = 45 ∷ w ∷ [];
+      opens = opens_marked (left_marker both.1);
+      is = ap (λ k. k ∷ w ∷ after) (eqb-true a 45 both.0);
+    }
+
+has-marker : (after : List ℕ) → HasMarker after (left_marked after) (past_left after)
+has-marker after = go (left_marked after) refl
+  where
+    go : (t : Bool) → left_marked after ≡ t → HasMarker after t (behind_marker t after)
+    go true e = marker-is after e
+    go false e = record {
+      marker = [];
+      opens = opens (λ xs ys m is. both_ways (left_marked after) e (ap left_marked is ∙ marker-marked ys m));
+      is = refl;
+    }
+
+-- what is computed of what opens
+record IsMarked (left : Bool) (opening rest : List ℕ) : Type 0 where
+  marker : List ℕ
+  opening_is : opening ≡ 123 ∷ 123 ∷ marker
+  left_is : left_marked (marker ++ rest) ≡ left
+  past : past_left (marker ++ rest) ≡ rest
+
+unmarked-bare : (rest : List ℕ) → BeginsNone IsLeftMarker rest → left_marked rest ≡ false
+unmarked-bare [] h = refl
+unmarked-bare (a ∷ []) h = refl
+unmarked-bare (a ∷ w ∷ rest) h = false_from_ne_true (nat_eq a 45 && is_space w) (λ e.
+    let both = and_parts (nat_eq a 45) (is_space w) e in
+    h (45 ∷ w ∷ []) rest (left_marker both.1) (ap (λ k. k ∷ w ∷ rest) (eqb-true a 45 both.0)))
+
+marked-past : {marker : List ℕ} (rest : List ℕ) → IsLeftMarker marker → past_left (marker ++ rest) ≡ rest
+marked-past rest (left_marker {w = w} e) = ap (λ k. behind_marker k (45 ∷ w ∷ rest)) e
+
+is-marked : {left : Bool} {opening rest : List ℕ} → Opens left opening rest → IsMarked left opening rest
+is-marked (opens {rest = rest} h) =
+    let bare = unmarked-bare rest h in record { marker = []; opening_is = refl; left_is = bare; past = ap (λ k. behind_marker k rest) bare }
+is-marked (opens_marked {marker = marker} {rest = rest} m) = record { marker = marker; opening_is = refl; left_is = marker-marked rest m; past = marked-past rest m }
+
+-- ---- lines
+
+newlines-append : (xs ys : List ℕ) → newlines (xs ++ ys) ≡ newlines xs + newlines ys
+newlines-append xs ys = sum_by-append (λ b. cond (nat_eq b 10) 1 0) xs ys
+
+newlines-braces : (xs : List ℕ) → newlines (123 ∷ 123 ∷ xs) ≡ newlines xs
+newlines-braces xs = omega (arith, sum_by-cons (λ b. cond (nat_eq b 10) 1 0) 123 (123 ∷ xs), sum_by-cons (λ b. cond (nat_eq b 10) 1 0) 123 xs)
+
+stretch-is : (marker body rest after : List ℕ) → after ≡ marker ++ (body ++ rest) → stretch after rest ≡ marker ++ body
+stretch-is marker body rest after e =
+    let whole : after ≡ marker ++ body ++ rest = e ∙ sym (append_assoc marker body rest) in
+    let count : length after - length rest ≡ length (marker ++ body) = omega (arith, ap length whole, length-append (marker ++ body) rest) in
+    ap (λ n. take n after) count ∙ ap (take (length (marker ++ body))) whole ∙ take-append_seam (marker ++ body) rest
+
+lines-is : (line : ℕ) (before marker body rest after : List ℕ) → after ≡ marker ++ (body ++ rest) → line + newlines before + newlines (stretch after rest) ≡ line + newlines (before ++ 123 ∷ 123 ∷ marker ++ body)
+lines-is line before marker body rest after e =
+    let count = ap newlines (append_assoc before (123 ∷ 123 ∷ marker) body) ∙ newlines-append before (123 ∷ 123 ∷ (marker ++ body)) in
+    let same = ap newlines (stretch-is marker body rest after e) in
+    omega (arith, count, same, newlines-braces (marker ++ body))
+
+-- ---- the cut, by what is computed
+
+pub cuts-last : (right : Bool) (line : ℕ) (bs : List ℕ) → split_open bs ≡ None → Cuts right line bs (texts right false line bs)
+cuts-last right line bs e = last (none-absent 123 123 bs e) (texts-made right false line bs)
+
+leads-before : (right : Bool) (line : ℕ) (before : List ℕ) (marker rest : List ℕ) (left : Bool) → Absent (123 ∷ 123 ∷ []) (before ++ 123 ∷ []) → Opens left (123 ∷ 123 ∷ marker) rest → Leads right line before (123 ∷ 123 ∷ marker) rest (texts right left line before)
+leads-before right line before marker rest left first o = record { left = left; first = first; opens = o; texts = texts-made right left line before }
+
+pub cuts-unclosed : (right : Bool) (line : ℕ) (bs before after : List ℕ) → split_open bs ≡ Some (before, after) → opened (past_left after) ≡ neither → Cuts right line bs (texts right (left_marked after) line before ++ unreadable (line + newlines before) ∷ [])
+cuts-unclosed right line bs before after e n =
+    let split = split-is 123 123 bs (before, after) e in
+    let m = has-marker after in
+    let whole : before ++ 123 ∷ 123 ∷ m.marker ++ past_left after ≡ bs =
+    append_assoc before (123 ∷ 123 ∷ m.marker) (past_left after) ∙ sym (split.is ∙ ap (λ l. before ++ 123 ∷ 123 ∷ l) m.is) in
+    subst (λ (xs : List ℕ). Cuts right line xs (texts right (left_marked after) line before ++ unreadable (line + newlines before) ∷ [])) whole
+    (unclosed (leads-before right line before m.marker (past_left after) (left_marked after) split.first m.opens) (neither-closed (past_left after) n))
+
+pub cuts-closed : (right : Bool) (line : ℕ) (bs before after : List ℕ) (o : Opened) (end : End) (ps : List Piece) → split_open bs ≡ Some (before, after) → opened (past_left after) ≡ o → ends_at o ≡ Some end
+    → Cuts end.trims (line + newlines before + newlines (stretch after end.rest)) end.rest ps → Cuts right line bs (texts right (left_marked after) line before ++ pieces_of (line + newlines before) o ++ ps)
+cuts-closed right line bs before after o end ps e n at cuts =
+    let split = split-is 123 123 bs (before, after) e in
+    let m = has-marker after in
+    let c = opened-closed (line + newlines before) (past_left after) o end n at in
+    let opening : List ℕ = 123 ∷ 123 ∷ m.marker in
+    let after_is : after ≡ m.marker ++ (c.body ++ end.rest) = m.is ∙ ap (λ l. m.marker ++ l) c.is in
+    let whole : before ++ opening ++ c.body ++ end.rest ≡ bs =
+    append_assoc (before ++ opening) c.body end.rest ∙ append_assoc before opening (c.body ++ end.rest) ∙ sym (split.is ∙ ap (λ l. before ++ 123 ∷ 123 ∷ l) after_is) in
+    subst (λ (xs : List ℕ). Cuts right line xs (texts right (left_marked after) line before ++ pieces_of (line + newlines before) o ++ ps)) whole
+    (closed (leads-before right line before m.marker (c.body ++ end.rest) (left_marked after) split.first (subst (Opens (left_marked after) opening) c.is m.opens)) c.closed
+    (subst (λ (n : ℕ). Cuts end.trims n end.rest ps) (lines-is line before m.marker c.body end.rest after after_is) cuts))
+
 -- ---- the pieces so far
 
 -- these pieces, with those that the rest is cut into, are what the whole is cut into
@@ -106,40 +217,40 @@ Completed-start file pieces e = record { completes = λ more h. subst (λ d. Cut
 
 module _ (file : List ℕ) (old mid new : List Piece) (right : Bool) (line : ℕ) (bs before after : List ℕ) (so_far : Completed file old right line bs)
     (here : Some (before, after) ≡ split_open bs) (put : mid ≡ old ++ texts right (left_marked after) line before) where
-  append-joined : (now more : List Piece) → new ≡ mid ++ now → new ++ more ≡ old ++ (texts right (left_marked after) line before ++ (now ++ more))
+  append-joined : (now more : List Piece) → new ≡ mid ++ now → new ++ more ≡ old ++ (texts right (left_marked after) line before ++ now ++ more)
   append-joined now more grown =
       ap (λ d. d ++ more) (grown ∙ ap (λ d. d ++ now) put)
       ∙ append_assoc (old ++ texts right (left_marked after) line before) now more
       ∙ append_assoc old (texts right (left_marked after) line before) (now ++ more)
+      ∙ ap (λ d. old ++ d) (sym (append_assoc (texts right (left_marked after) line before) now more))
 
   pub Completed-more : (o : Opened) (e : End) (next : ℕ) → o ≡ opened (past_left after) → Some e ≡ ends_at o → new ≡ mid ++ pieces_of (line + newlines before) o → next ≡ line + newlines before + newlines (stretch after e.rest) → Completed file new e.trims next e.rest
-  Completed-more (comment end) e next is at grown n = record {
+  Completed-more o e next is at grown n = record {
     completes = λ more cuts.
-        let same : e ≡ end = cc in
-        let on = subst (λ (x : End). Cuts x.trims (line + newlines before + newlines (stretch after x.rest)) x.rest more) same (subst (λ (k : ℕ). Cuts e.trims k e.rest more) n cuts) in
-        subst (λ d. Cuts false 1 file d) (sym (append-joined [] more grown))
-        (so_far.completes (texts right (left_marked after) line before ++ more) (dropped (sym here) (opened-comment (past_left after) end (sym is)) on));
+        subst (λ d. Cuts false 1 file d) (sym (append-joined (pieces_of (line + newlines before) o) more grown))
+        (so_far.completes (texts right (left_marked after) line before ++ pieces_of (line + newlines before) o ++ more)
+        (cuts-closed right line bs before after o e more (sym here) (sym is) (sym at) (subst (λ (k : ℕ). Cuts e.trims k e.rest more) n cuts)));
   }
-  Completed-more (tokens ts end) e next is at grown n = record {
-    completes = λ more cuts.
-        let same : e ≡ end = cc in
-        let on = subst (λ (x : End). Cuts x.trims (line + newlines before + newlines (stretch after x.rest)) x.rest more) same (subst (λ (k : ℕ). Cuts e.trims k e.rest more) n cuts) in
-        subst (λ d. Cuts false 1 file d) (sym (append-joined (action (line + newlines before) ts ∷ []) more grown))
-        (so_far.completes (texts right (left_marked after) line before ++ action (line + newlines before) ts ∷ more) (let acted = opened-tokens (past_left after) ts end (sym is) in closed (sym here) acted.0 acted.1 on));
-  }
-  Completed-more neither e next is at grown n = let g : ◌≡◌ {A = Option End} (Some e) None = at in cc
 
   pub Completed-unclosed : (o : Opened) → o ≡ opened (past_left after) → None ≡ ends_at o → new ≡ mid ++ pieces_of (line + newlines before) o → Cuts false 1 file new
   Completed-unclosed (comment end) is at grown = let g : ◌≡◌ {A = Option End} None (Some end) = at in cc
   Completed-unclosed (tokens ts end) is at grown = let g : ◌≡◌ {A = Option End} None (Some end) = at in cc
   Completed-unclosed neither is at grown =
-      subst (λ d. Cuts false 1 file d) (sym (sym (append-nil new) ∙ append-joined (unreadable (line + newlines before) ∷ []) [] grown))
-      (so_far.completes (texts right (left_marked after) line before ++ unreadable (line + newlines before) ∷ []) (let open_one = opened-neither (past_left after) (sym is) in unclosed (sym here) open_one.0 open_one.1.1))
+      subst (λ d. Cuts false 1 file d) (sym (sym (append-nil new) ∙ append-joined (unreadable (line + newlines before) ∷ []) [] grown
+      ∙ ap (λ d. old ++ d) (append-nil (texts right (left_marked after) line before ++ unreadable (line + newlines before) ∷ []))))
+      (so_far.completes (texts right (left_marked after) line before ++ unreadable (line + newlines before) ∷ []) (cuts-unclosed right line bs before after (sym here) (sym is)))
 
 pub Completed-last : (file : List ℕ) (old new : List Piece) (right : Bool) (line : ℕ) (bs : List ℕ) → Completed file old right line bs → None ≡ split_open bs → new ≡ old ++ texts right false line bs → Cuts false 1 file new
-Completed-last file old new right line bs so_far e g = subst (λ d. Cuts false 1 file d) (sym g) (so_far.completes (texts right false line bs) (last (sym e)))
+Completed-last file old new right line bs so_far e g = subst (λ d. Cuts false 1 file d) (sym g) (so_far.completes (texts right false line bs) (cuts-last right line bs (sym e)))
 
 -- ---- one list of pieces
+
+-- the pieces of what a `{{` begins, and those behind it
+at-closed : (line : ℕ) (after : List ℕ) (o : Opened) (end : End) (further : Bool → ℕ → List ℕ → List Piece) → ends_at o ≡ Some end
+    → pieces_at line after o further ≡ pieces_of line o ++ further end.trims (line + newlines (stretch after end.rest)) end.rest
+at-closed line after (comment e) end further h = let same : e ≡ end = cc in ap (λ (x : End). further x.trims (line + newlines (stretch after x.rest)) x.rest) same
+at-closed line after (tokens ts e) end further h = let same : e ≡ end = cc in ap (λ (x : End). action line ts ∷ further x.trims (line + newlines (stretch after x.rest)) x.rest) same
+at-closed line after neither end further h = let g : ◌≡◌ {A = Option End} None (Some end) = h in cc
 
 -- bytes are cut into the pieces of `cut_within`
 cut_within-Cuts : (n : ℕ) (right : Bool) (line : ℕ) (bs : List ℕ) → length bs < n → Cuts right line bs (cut_within n right line bs)
@@ -148,40 +259,74 @@ cut_within-Cuts zero right line bs h = absurd (omega arith)
 cut_within-Cuts (suc n) right line bs h =
     go (λ t next rest (less : length rest < length bs). cut_within-Cuts n t next rest (omega arith)) (split_open bs) refl
   where
-    tell : ((t : Bool) (next : ℕ) (rest : List ℕ) → length rest < length bs → Cuts t next rest (cut_within n t next rest)) → (before after : List ℕ) → split_open bs ≡ Some (before, after) → (o : Opened) → opened (past_left after) ≡ o → Cuts right line bs (texts right (left_marked after) line before ++ pieces_at (line + newlines before) after o (cut_within n))
-    tell ih before after e neither f =
-        let open_one = opened-neither (past_left after) f in unclosed e open_one.0 open_one.1.1
-    tell ih before after e (comment end) f =
-        dropped e (opened-comment (past_left after) end f) (ih end.trims (line + newlines before + newlines (stretch after end.rest)) end.rest (omega (arith, split_open-shorter bs before after end (sym e) (ap ends_at (sym f)))))
-    tell ih before after e (tokens ts end) f =
-        let acted = opened-tokens (past_left after) ts end f in
-        closed e acted.0 acted.1 (ih end.trims (line + newlines before + newlines (stretch after end.rest)) end.rest (omega (arith, split_open-shorter bs before after end (sym e) (ap ends_at (sym f)))))
+    tell : ((t : Bool) (next : ℕ) (rest : List ℕ) → length rest < length bs → Cuts t next rest (cut_within n t next rest)) → (before after : List ℕ) → split_open bs ≡ Some (before, after) → (o : Opened) → opened (past_left after) ≡ o → (c : Option End) → ends_at o ≡ c → Cuts right line bs (texts right (left_marked after) line before ++ pieces_at (line + newlines before) after o (cut_within n))
+    tell ih before after e (comment end) f None at = let g : ◌≡◌ {A = Option End} (Some end) None = at in cc
+    tell ih before after e (tokens ts end) f None at = let g : ◌≡◌ {A = Option End} (Some end) None = at in cc
+    tell ih before after e neither f None at = cuts-unclosed right line bs before after e f
+    tell ih before after e o f (Some end) at =
+        subst (λ (ps : List Piece). Cuts right line bs ps)
+        (append_assoc (texts right (left_marked after) line before) (pieces_of (line + newlines before) o) (cut_within n end.trims (line + newlines before + newlines (stretch after end.rest)) end.rest)
+        ∙ ap (λ ps. texts right (left_marked after) line before ++ ps) (sym (at-closed (line + newlines before) after o end (cut_within n) at)))
+        (cuts-closed right line bs before after o end _ e f at (ih end.trims (line + newlines before + newlines (stretch after end.rest)) end.rest (omega (arith, split_open-shorter bs before after end (sym e) (sym (ap ends_at f ∙ at))))))
 
     go : ((t : Bool) (next : ℕ) (rest : List ℕ) → length rest < length bs → Cuts t next rest (cut_within n t next rest)) → (o : Option (List ℕ × List ℕ)) → split_open bs ≡ o → Cuts right line bs (pieces_from right line bs o (cut_within n))
-    go ih None e = last e
-    go ih (Some p) e = tell ih p.0 p.1 e (opened (past_left p.1)) refl
+    go ih None e = cuts-last right line bs e
+    go ih (Some p) e = tell ih p.0 p.1 e (opened (past_left p.1)) refl (ends_at (opened (past_left p.1))) refl
+
+-- what is computed of the text before an action or comment, and of what opens there
+record IsLed (right : Bool) (line : ℕ) (before opening rest : List ℕ) (pieces : List Piece) : Type 0 where
+  after : List ℕ
+  marker : List ℕ
+  opening_is : opening ≡ 123 ∷ 123 ∷ marker
+  after_is : after ≡ marker ++ rest
+  opens : split_open (before ++ (opening ++ rest)) ≡ Some (before, after)
+  past : past_left after ≡ rest
+  pieces_are : pieces ≡ texts right (left_marked after) line before
+
+is-led : {right : Bool} {line : ℕ} {before opening rest : List ℕ} {pieces : List Piece} → Leads right line before opening rest pieces → IsLed right line before opening rest pieces
+is-led {right} {line} {before} {opening} {rest} {pieces} h =
+    let m = is-marked h.opens in record {
+      after = m.marker ++ rest;
+      marker = m.marker;
+      opening_is = m.opening_is;
+      after_is = refl;
+      opens = ap (λ l. split_open (before ++ (l ++ rest))) m.opening_is ∙ absent-split 123 123 before (m.marker ++ rest) h.first;
+      past = m.past;
+      pieces_are = texts-only h.texts ∙ ap (λ t. texts right t line before) (sym m.left_is);
+    }
 
 -- and into no others
 pub Cuts-cut_within : (n : ℕ) (right : Bool) (line : ℕ) (bs : List ℕ) (ps : List Piece) → Cuts right line bs ps → length bs < n → ps ≡ cut_within n right line bs
 unfolding cut_within
 Cuts-cut_within zero right line bs ps cuts h = absurd (omega arith)
-Cuts-cut_within (suc n) right line bs _ (last e) h = ap (λ o. pieces_from right line bs o (cut_within n)) (sym e)
-Cuts-cut_within (suc n) right line bs _ (unclosed {before = before} {after = after} {ts = ts} e no_comment spelt) h =
-    let f = neither-opened (past_left after) ts no_comment spelt in
-    ap (λ o. texts right (left_marked after) line before ++ pieces_at (line + newlines before) after o (cut_within n)) (sym f)
-    ∙ ap (λ o. pieces_from right line bs o (cut_within n)) (sym e)
-Cuts-cut_within (suc n) right line bs _ (dropped {before = before} {after = after} {end = end} {ps = ps} e commented cuts) h =
-    let f = comment-opened (past_left after) end commented in
-    ap (λ more. texts right (left_marked after) line before ++ more)
-    (Cuts-cut_within n end.trims (line + newlines before + newlines (stretch after end.rest)) end.rest ps cuts (omega (arith, split_open-shorter bs before after end (sym e) (ap ends_at (sym f)))))
-    ∙ ap (λ o. texts right (left_marked after) line before ++ pieces_at (line + newlines before) after o (cut_within n)) (sym f)
-    ∙ ap (λ o. pieces_from right line bs o (cut_within n)) (sym e)
-Cuts-cut_within (suc n) right line bs _ (closed {before = before} {after = after} {ts = ts} {end = end} {ps = ps} e no_comment spelt cuts) h =
-    let f = tokens-opened (past_left after) ts end no_comment spelt in
-    ap (λ more. texts right (left_marked after) line before ++ action (line + newlines before) ts ∷ more)
-    (Cuts-cut_within n end.trims (line + newlines before + newlines (stretch after end.rest)) end.rest ps cuts (omega (arith, split_open-shorter bs before after end (sym e) (ap ends_at (sym f)))))
-    ∙ ap (λ o. texts right (left_marked after) line before ++ pieces_at (line + newlines before) after o (cut_within n)) (sym f)
-    ∙ ap (λ o. pieces_from right line bs o (cut_within n)) (sym e)
+Cuts-cut_within (suc n) right line bs ps (last none t) h =
+    texts-only t ∙ ap (λ o. pieces_from right line bs o (cut_within n)) (sym (absent-none 123 123 bs none))
+Cuts-cut_within (suc n) right line _ _ (unclosed {before = before} {opening = opening} {rest = rest} {texts = pieces} leads none) h =
+    let led = is-led leads in
+    let f : opened (past_left led.after) ≡ neither = ap opened led.past ∙ closed-neither rest none in
+    ap (λ (d : List Piece). d ++ unreadable (line + newlines before) ∷ []) led.pieces_are
+    ∙ ap (λ o. texts right (left_marked led.after) line before ++ pieces_at (line + newlines before) led.after o (cut_within n)) (sym f)
+    ∙ ap (λ o. pieces_from right line (before ++ opening ++ rest) o (cut_within n)) (sym (ap split_open (append_assoc before opening rest) ∙ led.opens))
+Cuts-cut_within (suc n) right line _ _ (closed {trims = trims} {before = before} {opening = opening} {body = body} {rest = rest} {texts = pieces} {here = here} {ps = ps} leads c cuts) h =
+    let led = is-led leads in
+    let end : End = record { trims = trims; rest = rest } in
+    let o : Opened = opened (past_left led.after) in
+    let is = closed-opened c in
+    let bs : List ℕ = before ++ opening ++ body ++ rest in
+    let at : ends_at o ≡ Some end = ap (λ l. ends_at (opened l)) led.past ∙ is.ends in
+    let split : split_open bs ≡ Some (before, led.after) = ap split_open (append_assoc (before ++ opening) body rest ∙ append_assoc before opening (body ++ rest)) ∙ led.opens in
+    let here_is : here ≡ pieces_of (line + newlines before) o = sym (ap (λ l. pieces_of (line + newlines before) (opened l)) led.past ∙ is.pieces) in
+    let lines : line + newlines (before ++ opening ++ body) ≡ line + newlines before + newlines (stretch led.after rest) =
+    ap (λ l. line + newlines (before ++ l ++ body)) led.opening_is ∙ sym (lines-is line before led.marker body rest led.after led.after_is) in
+    let next : ps ≡ cut_within n trims (line + newlines before + newlines (stretch led.after rest)) rest =
+    Cuts-cut_within n trims (line + newlines (before ++ opening ++ body)) rest ps cuts (omega (arith, split_open-shorter bs before led.after end (sym split) (sym at)))
+    ∙ ap (λ k. cut_within n trims k rest) lines in
+    ap (λ (d : List Piece). d ++ here ++ ps) led.pieces_are
+    ∙ append_assoc (texts right (left_marked led.after) line before) here ps
+    ∙ ap (λ (d : List Piece). texts right (left_marked led.after) line before ++ (d ++ ps)) here_is
+    ∙ ap (λ (d : List Piece). texts right (left_marked led.after) line before ++ (pieces_of (line + newlines before) o ++ d)) next
+    ∙ ap (λ (d : List Piece). texts right (left_marked led.after) line before ++ d) (sym (at-closed (line + newlines before) led.after o end (cut_within n) at))
+    ∙ ap (λ o. pieces_from right line bs o (cut_within n)) (sym split)
 
 -- each file is cut into the pieces of `cut_of`
 pub cut_of-Cuts : (bs : List ℕ) → Cuts false 1 bs (cut_of bs)

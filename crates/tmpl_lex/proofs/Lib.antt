@@ -2,8 +2,13 @@ pub mod ActionLemmas
 pub mod CutExamples
 pub mod CutLemmas
 pub mod NameLemmas
+pub mod PartLemmas
 pub mod PairLemmas
 pub mod QuotedLemmas
 pub mod RunLemmas
+pub mod StandLemmas
 pub mod SpellsLemmas
+pub mod TextLemmas
+pub mod TokenExamples
 pub mod TokenLemmas
+pub mod WeightLemmas

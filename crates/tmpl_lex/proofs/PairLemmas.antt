@@ -4,7 +4,7 @@ use Rattle.std.proofs.lemmas.Bool.{eqb-true, and_parts, false_from_ne_true}
 use Rattle.std.proofs.Math.Seq.{take-add}
 use lib.Seq.{drop-drop}
 use Rattle.memchr.specs.Find.{Nowhere, Passes, is_byte}
-use Rattle.tmpl_lex.specs.Bytes.{split_pair, split_here, with_first}
+use Rattle.tmpl_lex.specs.computed.Bytes.{split_pair, split_here, with_first}
 use Rattle.tmpl_lex.specs.computed.Bytes.{behind, split_from}
 
 pub split_pair-short : (x y : ℕ) (bs : List ℕ) (i : ℕ) → length bs ≤ i + 1 → split_pair x y (drop i bs) ≡ None

@@ -2,7 +2,7 @@
 use Rattle.std.proofs.Common.{arith, ◌≡◌, ◌∙◌, ℕ, zero, suc, ◌+◌, ◌<◌, Bool, false, List, [], ◌∷◌, ◌++◌, Option, Some, None, refl, ap, length, take, drop, nat_eq}
 use Rattle.std.proofs.lemmas.Bool.{false_from_ne_true}
 use Rattle.memchr.specs.Find.{Nowhere, Passes, is_byte}
-use Rattle.tmpl_lex.specs.Quoted.{with_byte, up_to, through, quoted}
+use Rattle.tmpl_lex.specs.computed.Quoted.{with_byte, up_to, through, quoted}
 
 -- ---- the next such byte
 

@@ -4,8 +4,8 @@ use Rattle.std.proofs.lemmas.Bool.{eqb-true, and_parts, both_ways}
 use Rattle.std.specs.List.{prefix_len}
 use Rattle.std.proofs.lemmas.List.{take-append-drop}
 use Rattle.tmpl_lex.specs.Bytes.{is_space}
-use Rattle.tmpl_lex.specs.Trim.{has_right_delimiter, has_dashed_delimiter}
-use Rattle.tmpl_lex.specs.Token.{space_run, kept_while}
+use Rattle.tmpl_lex.specs.computed.Trim.{has_right_delimiter, has_dashed_delimiter}
+use Rattle.tmpl_lex.specs.computed.Token.{space_run, kept_while}
 
 -- the bytes begin with these
 abbrev pub IsFront : List ℕ → List ℕ → Type 0

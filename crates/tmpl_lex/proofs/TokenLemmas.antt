@@ -10,8 +10,8 @@ use Rattle.tmpl_lex.specs.declared.token.Front.{Front}
 use Rattle.tmpl_lex.specs.declared.token.Front.TheVariants as front
 use Rattle.tmpl_lex.specs.Bytes.{is_name_byte, is_number_byte}
 use Rattle.tmpl_lex.specs.Piece.{Token}
-use Rattle.tmpl_lex.specs.Quoted.{up_to, unless, through, quoted}
-use Rattle.tmpl_lex.specs.Token.{Begun, front_token, front_of, begun, token_from, number, signed, dotted, declare, assigned, of_kind}
+use Rattle.tmpl_lex.specs.computed.Quoted.{up_to, unless, through, quoted}
+use Rattle.tmpl_lex.specs.computed.Token.{Begun, front_token, front_of, begun, token_from, number, signed, dotted, declare, assigned, of_kind}
 use Rattle.tmpl_lex.proofs.RunLemmas.{IsFront, front-nil, front-cons, front-take, space_run-front}
 
 -- all but the first byte, as code borrows them

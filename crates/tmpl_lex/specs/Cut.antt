@@ -1,39 +1,49 @@
 -- The cut of a file into texts and actions: actions stand between `{{` and `}}`, and all other bytes are text (the
 -- overview in the documentation of Go's text/template). That it is told by bytes, and the lines, are our own rules.
-use Rattle.std.specs.Prelude.{◌≡◌, ◌+◌, ◌-◌, ℕ, Bool, false, List, [], ◌∷◌, ◌++◌, length, take, Option, Some, None}
-use Rattle.tmpl_lex.specs.Action.{Spells, comment_end}
-use Rattle.tmpl_lex.specs.Bytes.{split_pair}
+use Rattle.std.specs.Prelude.{◌≡◌, ◌+◌, ℕ, Bool, false, List, [], ◌∷◌, ◌++◌, codes}
+use Rattle.tmpl_lex.specs.Bytes.{Absent}
+use Rattle.tmpl_lex.specs.Delimiter.{Opens, Closes}
 use Rattle.tmpl_lex.specs.Piece.{Token, Piece, action, unreadable}
-use Rattle.tmpl_lex.specs.Text.{newlines, texts}
-use Rattle.tmpl_lex.specs.Trim.{End, left_marked, past_left}
+use Rattle.tmpl_lex.specs.Text.{newlines, Texts}
+use Rattle.tmpl_lex.specs.Token.{bytes_of, Spells}
 
--- the bytes that stand before this rest of them
-abbrev pub stretch : List ℕ → List ℕ → List ℕ
-stretch bs rest = take (length bs - length rest) bs
+-- what stands behind an opening delimiter, up to the end of the one that closes it, whether that trims, the bytes
+-- behind it, and the piece that it is on this line
+pub data Closed : ℕ → List ℕ → Bool → List ℕ → List Piece → Type 0 where
+  -- a comment, which is no piece, ends with its first `*/`
+  a_comment : {line : ℕ} {trims : Bool} (inside : List ℕ) {closing rest : List ℕ}
+      → Absent (codes "*/") (inside ++ codes "*") → Closes trims closing
+      → Closed line (codes "/*" ++ inside ++ codes "*/" ++ closing) trims rest []
+  an_action : {line : ℕ} {trims : Bool} {ts : List Token} {closing rest : List ℕ}
+      → Spells ts (closing ++ rest) → Closes trims closing
+      → Closed line (bytes_of ts ++ closing) trims rest (action line ts ∷ [])
 
--- what stands before the first `{{`, and what stands after it
-abbrev pub split_open : List ℕ → Option (List ℕ × List ℕ)
-split_open bs = split_pair 123 123 bs
+-- no closed comment or action begins with these bytes
+abbrev pub NoneClosed : List ℕ → Type 0
+NoneClosed bs =
+    (line : ℕ) (body : List ℕ) (trims : Bool) (rest : List ℕ) (ps : List Piece) → Closed line body trims rest ps
+    → bs ≡ body ++ rest → ⊥
+
+-- the text before the first `{{`, with what opens there and the bytes behind it: no `{{` begins in it, nor with its
+-- last byte; it is these pieces
+pub record Leads (right : Bool) (line : ℕ) (before opening rest : List ℕ) (pieces : List Piece) : Type 0 where
+  pub left : Bool
+  pub first : Absent (codes "{{") (before ++ codes "{")
+  pub opens : Opens left opening rest
+  pub texts : Texts right left line before pieces
 
 -- the bytes, of which the first stands on this line, are cut into these pieces; `right` says that a right trim marker
 -- stands before them
 pub data Cuts : Bool → ℕ → List ℕ → List Piece → Type 0 where
   -- no action: all is text
-  last : {right : Bool} {line : ℕ} {bs : List ℕ}
-      → split_open bs ≡ None → Cuts right line bs (texts right false line bs)
-  -- a comment, which is no piece, and what the bytes behind it are cut into
-  dropped : {right : Bool} {line : ℕ} {bs before after : List ℕ} {end : End} {ps : List Piece}
-      → split_open bs ≡ Some (before, after) → comment_end (past_left after) ≡ Some end
-      → Cuts end.trims (line + newlines before + newlines (stretch after end.rest)) end.rest ps
-      → Cuts right line bs (texts right (left_marked after) line before ++ ps)
-  -- an action, and what the bytes behind it are cut into
-  closed : {right : Bool} {line : ℕ} {bs before after : List ℕ} {ts : List Token} {end : End} {ps : List Piece}
-      → split_open bs ≡ Some (before, after) → comment_end (past_left after) ≡ None
-      → Spells (past_left after) ts (Some end)
-      → Cuts end.trims (line + newlines before + newlines (stretch after end.rest)) end.rest ps
-      → Cuts right line bs (texts right (left_marked after) line before ++ action (line + newlines before) ts ∷ ps)
+  last : {right : Bool} {line : ℕ} {bs : List ℕ} {texts : List Piece}
+      → Absent (codes "{{") bs → Texts right false line bs texts → Cuts right line bs texts
+  -- a comment or an action, and what the bytes behind it are cut into
+  closed : {right trims : Bool} {line : ℕ} {before opening body rest : List ℕ} {texts here ps : List Piece}
+      → Leads right line before opening (body ++ rest) texts → Closed (line + newlines before) body trims rest here
+      → Cuts trims (line + newlines (before ++ opening ++ body)) rest ps
+      → Cuts right line (before ++ opening ++ body ++ rest) (texts ++ here ++ ps)
   -- a `{{` behind which no closed comment and no closed action begins
-  unclosed : {right : Bool} {line : ℕ} {bs before after : List ℕ} {ts : List Token}
-      → split_open bs ≡ Some (before, after) → comment_end (past_left after) ≡ None
-      → Spells (past_left after) ts None
-      → Cuts right line bs (texts right (left_marked after) line before ++ unreadable (line + newlines before) ∷ [])
+  unclosed : {right : Bool} {line : ℕ} {before opening rest : List ℕ} {texts : List Piece}
+      → Leads right line before opening rest texts → NoneClosed rest
+      → Cuts right line (before ++ opening ++ rest) (texts ++ unreadable (line + newlines before) ∷ [])

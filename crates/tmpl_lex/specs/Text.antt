@@ -1,34 +1,24 @@
--- What the trim markers beside a text take of it ("Text and spaces" in the documentation of Go's text/template).
-use Rattle.std.specs.Prelude.{ℕ, ◌+◌, ◌-◌, Bool, true, false, ◌==◌, List, [], ◌∷◌, length, take, drop, count_by}
-use Rattle.std.specs.List.{prefix_len, suffix_len}
-use Rattle.tmpl_lex.specs.Bytes.{is_space}
+-- What the trim markers beside a text leave of it ("Text and spaces" in the documentation of Go's text/template).
+use Rattle.std.specs.Prelude.{◌≡◌, ℕ, ◌+◌, Bool, true, false, ◌==◌, List, [], ◌∷◌, ◌++◌, count_by, reverse}
+use Rattle.std.specs.List.{list_all}
+use Rattle.std.specs.Str.{byte}
+use Rattle.tmpl_lex.specs.Bytes.{is_space, Stops, IsRun}
 use Rattle.tmpl_lex.specs.Piece.{Piece, text}
 
 -- how many newlines there are
 abbrev pub newlines : List ℕ → ℕ
-newlines bs = count_by (λ b. b == 10) bs
+newlines bs = count_by (λ b. b == byte "\n") bs
 
--- how many bytes of white space a right trim marker before the text takes, if there is one
-abbrev pub leading : Bool → List ℕ → ℕ
-leading true bs = prefix_len is_space bs
-leading false bs = 0
+-- what a right trim marker before these bytes takes of them, if there is one: all white space that they begin with
+pub data TrimsFront : Bool → List ℕ → List ℕ → Type 0 where
+  keeps_front : {kept : List ℕ} → TrimsFront false [] kept
+  trims_front : {taken kept : List ℕ} → IsRun is_space taken kept → TrimsFront true taken kept
 
--- how many bytes of white space there are at the end
-abbrev pub trailing_len : List ℕ → ℕ
-trailing_len bs = suffix_len is_space bs
-
--- how many a left trim marker behind the text takes, if there is one
-abbrev pub trailing : Bool → List ℕ → ℕ
-trailing true bs = trailing_len bs
-trailing false bs = 0
-
--- the text without what a right trim marker before it takes
-abbrev pub without_leading : Bool → List ℕ → List ℕ
-without_leading trims bs = drop (leading trims bs) bs
-
--- the text without what a left trim marker behind it takes
-abbrev pub without_trailing : Bool → List ℕ → List ℕ
-without_trailing trims bs = take (length bs - trailing trims bs) bs
+-- what a left trim marker behind these bytes takes, if there is one: all white space that they end with
+pub data TrimsEnd : Bool → List ℕ → List ℕ → Type 0 where
+  keeps_end : {kept : List ℕ} → TrimsEnd false kept []
+  trims_end : {kept taken : List ℕ} → list_all is_space taken ≡ true → Stops is_space (reverse kept)
+      → TrimsEnd true kept taken
 
 -- a text, which is no piece where it is empty
 abbrev pub text_piece : ℕ → List ℕ → List Piece
@@ -36,7 +26,8 @@ text_piece line [] = []
 text_piece line (b ∷ bs) = text line (b ∷ bs) ∷ []
 
 -- the bytes between two actions or comments, of which the first stands on this line, with a right trim marker before
--- them or none and a left one behind them or none; the text's line is that of its first byte which is kept
-abbrev pub texts : Bool → Bool → ℕ → List ℕ → List Piece
-texts right left line bs =
-    text_piece (line + newlines (take (leading right bs) bs)) (without_trailing left (without_leading right bs))
+-- them or none and a left one behind them or none, and the piece that they are; its line is that of its first byte
+pub data Texts : Bool → Bool → ℕ → List ℕ → List Piece → Type 0 where
+  trimmed : {right left : Bool} {line : ℕ} {front kept end : List ℕ}
+      → TrimsFront right front (kept ++ end) → TrimsEnd left kept end
+      → Texts right left line (front ++ kept ++ end) (text_piece (line + newlines front) kept)

@@ -1,9 +1,7 @@
 //! What begins behind a `{{`: a comment, an action, or neither.
 ghost use Rattle.std.specs.Prelude.{◌≡◌, ◌≤◌, IfOk, option_map, length};
-ghost use Rattle.tmpl_lex.specs.Action as spec;
 ghost use Rattle.tmpl_lex.specs.computed.Action as computed;
-ghost use Rattle.tmpl_lex.specs.View.{end_of};
-ghost use Rattle.tmpl_lex.specs.computed.View.{inside_of, opened_of};
+ghost use Rattle.tmpl_lex.specs.computed.View.{end_of, inside_of, opened_of};
 
 use crate::bytes::{after, split_pair};
 use crate::piece::Token;
@@ -60,9 +58,9 @@ fn moved_out<'b>(alloc: Global, scratch: &mut Vec<Token<'b>>) -> Result<Vec<Toke
 }
 
 /// The end of the comment that the bytes begin with: directly behind the first `*/` after `/*`.
-#[tactic(auto, unfolding(crate::specs::Action::comment_end))]
+#[tactic(auto, unfolding(crate::specs::computed::Action::comment_end))]
 fn comment_end(bytes: &[u8]) -> Option<End<'_>>
-    ensures { option_map end_of result ≡ spec.comment_end bytes.now }
+    ensures { option_map end_of result ≡ computed.comment_end bytes.now }
 {
     match bytes {
         [b'/', b'*', text @ ..] => {

@@ -2,8 +2,8 @@
 ghost use Rattle.std.specs.Prelude.{◌≡◌, ◌≤◌, length, drop};
 ghost use Rattle.std.specs.List.{prefix_len};
 ghost use Rattle.tmpl_lex.specs.Bytes as spec;
-ghost use Rattle.tmpl_lex.specs.View.{pair_of};
-ghost use Rattle.tmpl_lex.specs.computed.Bytes.{split_from};
+ghost use Rattle.tmpl_lex.specs.computed.Bytes as computed;
+ghost use Rattle.tmpl_lex.specs.computed.View.{pair_of};
 
 use memchr::memchr;
 
@@ -65,7 +65,7 @@ pub(crate) fn after(bytes: &[u8], len: usize) -> &[u8]
 /// after them.
 #[tactic(auto, using(crate::proofs::PairLemmas::pairs))]
 pub(crate) fn split_pair(bytes: &[u8], first: u8, second: u8) -> Option<(&[u8], &[u8])>
-    ensures { pair_of result ≡ spec.split_pair first second bytes.now }
+    ensures { pair_of result ≡ computed.split_pair first second bytes.now }
 {
     let mut i = find_from(bytes, first, second, 0);
     while i + 1 < bytes.len() {
@@ -83,8 +83,8 @@ fn find_from(bytes: &[u8], first: u8, second: u8, from: usize) -> usize
     requires { from ≤ length bytes.now }
     ensures further { from ≤ result }
     ensures within { result ≤ length bytes.now }
-    ensures same { split_from first second from bytes.now
-        ≡ split_from first second result bytes.now }
+    ensures same { computed.split_from first second from bytes.now
+        ≡ computed.split_from first second result bytes.now }
 {
     match memchr(first, after(bytes, from)) {
         Some(skipped) => from + skipped,

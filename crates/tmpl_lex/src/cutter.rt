@@ -1,11 +1,11 @@
 //! The cut of a file into pieces.
 ghost use Rattle.std.specs.Prelude.{◌≡◌, ◌++◌, ◌≤◌, IfOk, OnOk, List, false, length, map, option_map};
-ghost use Rattle.tmpl_lex.specs.View.{piece_of, end_of};
+ghost use Rattle.tmpl_lex.specs.View.{piece_of};
 ghost use Rattle.tmpl_lex.specs.Cut as spec;
 ghost use Rattle.tmpl_lex.specs.computed.Cut as computed;
 ghost use Rattle.tmpl_lex.specs.Text.{text_piece};
 ghost use Rattle.tmpl_lex.specs.computed.Cut.{ends_at, pieces_of};
-ghost use Rattle.tmpl_lex.specs.computed.View.{opened_of};
+ghost use Rattle.tmpl_lex.specs.computed.View.{end_of, opened_of};
 
 use crate::action::{Opened, read_opened};
 use crate::bytes::split_pair;
@@ -94,7 +94,7 @@ fn push_opened<'b>(
 /// The bytes that stand before this rest of them.
 fn stretch<'b>(bytes: &'b [u8], rest: &[u8]) -> &'b [u8]
     requires { length rest.now ≤ length bytes.now }
-    ensures { result.now ≡ spec.stretch bytes.now rest.now }
+    ensures { result.now ≡ computed.stretch bytes.now rest.now }
 {
     &bytes[..bytes.len() - rest.len()]
 }

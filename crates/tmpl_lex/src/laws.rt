@@ -1,5 +1,5 @@
 //! The laws of the cut and of tokens.
-ghost use Rattle.tmpl_lex.specs.Laws.{HasCut, HasNoOtherCut, TokensNamed};
+ghost use Rattle.tmpl_lex.specs.Laws.{HasCut, HasNoOtherCut, FindsToken, StandsWhereFound, OneToken};
 
 /// The law that each file is cut into one list of pieces, whatever memory there is.
 #[tactic(auto, using(crate::proofs::CutLemmas::laws))]
@@ -10,7 +10,9 @@ pub fn one_cut(bytes: &[u8])
     let _ = bytes;
 }
 
-/// The law that what stands behind the first byte of a field or variable is a name.
-pub fn tokens_named()
-    ensures { TokensNamed }
+/// The law that bytes begin with one token at most, the one that is computed, and with none where an action ends.
+pub fn one_token()
+    ensures found { FindsToken }
+    ensures stands { StandsWhereFound }
+    ensures one { OneToken }
 {}

@@ -1,13 +1,14 @@
 //! What the trim markers beside a text take of it, and its lines.
 ghost use Rattle.std.specs.Prelude.{◌≡◌, ◌+◌, ◌≤◌, length, take};
 ghost use Rattle.tmpl_lex.specs.Text as spec;
+ghost use Rattle.tmpl_lex.specs.computed.Text as computed;
 
 use crate::bytes::{is_space, white_len};
 
 /// The white space that a right trim marker before the text takes, if there is one, and the rest.
 pub(crate) fn split_leading(text: &[u8], trims: bool) -> (&[u8], &[u8])
-    ensures taken { result.0.now ≡ take (spec.leading trims text.now) text.now }
-    ensures kept { result.1.now ≡ spec.without_leading trims text.now }
+    ensures taken { result.0.now ≡ take (computed.leading trims text.now) text.now }
+    ensures kept { result.1.now ≡ computed.without_leading trims text.now }
     ensures len { length result.0.now + length result.1.now ≡ length text.now }
 {
     let taken = if trims { white_len(text) } else { 0 };
@@ -16,7 +17,7 @@ pub(crate) fn split_leading(text: &[u8], trims: bool) -> (&[u8], &[u8])
 
 /// The text without the white space that a left trim marker behind it takes, if there is one.
 pub(crate) fn without_trailing(text: &[u8], trims: bool) -> &[u8]
-    ensures { result.now ≡ spec.without_trailing trims text.now }
+    ensures { result.now ≡ computed.without_trailing trims text.now }
 {
     let taken = if trims { white_end_len(text) } else { 0 };
     &text[..text.len() - taken]
@@ -24,7 +25,7 @@ pub(crate) fn without_trailing(text: &[u8], trims: bool) -> &[u8]
 
 /// How many bytes of white space there are at the end.
 fn white_end_len(text: &[u8]) -> usize
-    ensures value { result ≡ spec.trailing_len text.now }
+    ensures value { result ≡ computed.trailing_len text.now }
     ensures within { result ≤ length text.now }
 {
     text.iter().rev().take_while(|b| is_space(**b)).count()

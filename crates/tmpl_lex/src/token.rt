@@ -1,7 +1,8 @@
 //! The tokens of an action.
 ghost use Rattle.std.specs.Prelude.{◌≡◌, ◌≤◌, ◌∷◌, IfSome, length, option_map, take};
-ghost use Rattle.tmpl_lex.specs.View.{begun_of, token_of};
-ghost use Rattle.tmpl_lex.specs.Token as spec;
+ghost use Rattle.tmpl_lex.specs.View.{token_of};
+ghost use Rattle.tmpl_lex.specs.computed.Token as spec;
+ghost use Rattle.tmpl_lex.specs.computed.View.{begun_of};
 
 use crate::bytes::{after, is_name_byte, is_space, name_len, number_len, white_len};
 use crate::piece::{Token, TokenKind};

@@ -1,7 +1,7 @@
 //! The trim markers, and where an action or comment ends.
 ghost use Rattle.std.specs.Prelude.{◌≡◌, option_map};
-ghost use Rattle.tmpl_lex.specs.Trim as spec;
-ghost use Rattle.tmpl_lex.specs.View.{end_of};
+ghost use Rattle.tmpl_lex.specs.computed.Trim as spec;
+ghost use Rattle.tmpl_lex.specs.computed.View.{end_of};
 
 use crate::bytes::is_space;
 

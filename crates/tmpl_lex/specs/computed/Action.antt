@@ -1,9 +1,26 @@
--- What begins behind a `{{`, computed: the twin of `Spells`.
-use Rattle.std.specs.Prelude.{ℕ, zero, suc, ◌-◌, List, [], ◌∷◌, length, Option, Some, None}
-use Rattle.tmpl_lex.specs.Action.{comment_end}
+-- What begins behind a `{{`, computed: the twin of `Closed`.
+use Rattle.std.specs.Prelude.{ℕ, zero, suc, ◌-◌, Bool, true, false, ◌&&◌, ◌==◌, List, [], ◌∷◌, length, drop}
+use Rattle.std.specs.Prelude.{Option, Some, None}
 use Rattle.tmpl_lex.specs.Piece.{Token}
-use Rattle.tmpl_lex.specs.Token.{front_token}
-use Rattle.tmpl_lex.specs.Trim.{End, right_delimiter}
+use Rattle.tmpl_lex.specs.computed.Bytes.{split_pair}
+use Rattle.tmpl_lex.specs.computed.Token.{front_token}
+use Rattle.tmpl_lex.specs.computed.Trim.{End, right_delimiter}
+
+-- the bytes begin with `/*`
+abbrev pub opens_comment : List ℕ → Bool
+opens_comment [] = false
+opens_comment (a ∷ []) = false
+opens_comment (a ∷ b ∷ bs) = a == 47 && b == 42
+
+-- the end directly behind a `*/`, by what stands before and behind that, where a comment began
+abbrev pub comment_closed : Bool → Option (List ℕ × List ℕ) → Option End
+comment_closed false p = None
+comment_closed true None = None
+comment_closed true (Some p) = right_delimiter p.1
+
+-- the end of the comment that the bytes begin with: directly behind the first `*/` after `/*`
+unfoldable pub comment_end : List ℕ → Option End
+comment_end bs = comment_closed (opens_comment bs) (split_pair 42 47 (drop 2 bs))
 
 -- the tokens of an action, and its end
 abbrev pub Inside : Type 0

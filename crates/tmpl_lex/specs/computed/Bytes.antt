@@ -1,6 +1,21 @@
--- Where two bytes first follow one another, from some place on.
-use Rattle.std.specs.Prelude.{ℕ, List, ◌++◌, take, drop, Option, Some, None}
-use Rattle.tmpl_lex.specs.Bytes.{split_pair}
+-- Where two bytes first follow one another.
+use Rattle.std.specs.Prelude.{ℕ, Bool, true, false, ◌&&◌, ◌==◌, List, [], ◌∷◌, ◌++◌, take, drop, Option, Some, None}
+
+-- what stands before and after a place, behind one byte more
+abbrev pub with_first : ℕ → Option (List ℕ × List ℕ) → Option (List ℕ × List ℕ)
+with_first b None = None
+with_first b (Some p) = Some (b ∷ p.0, p.1)
+
+-- what stands before and after a place, which is here, or further on
+abbrev pub split_here : Bool → ℕ → List ℕ → Option (List ℕ × List ℕ) → Option (List ℕ × List ℕ)
+split_here true a bs further = Some ([], drop 1 bs)
+split_here false a bs further = with_first a further
+
+-- what stands before the first place where these two bytes follow one another, and what stands after them
+abbrev pub split_pair : ℕ → ℕ → List ℕ → Option (List ℕ × List ℕ)
+split_pair x y [] = None
+split_pair x y (a ∷ []) = None
+split_pair x y (a ∷ b ∷ bs) = split_here (a == x && b == y) a (b ∷ bs) (split_pair x y (b ∷ bs))
 
 -- a place further on, with more bytes before it
 abbrev pub behind : List ℕ → Option (List ℕ × List ℕ) → Option (List ℕ × List ℕ)

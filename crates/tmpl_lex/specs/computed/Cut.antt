@@ -1,10 +1,20 @@
 -- The cut of a file, computed: the twin of `Cuts`.
-use Rattle.std.specs.Prelude.{ℕ, zero, suc, ◌+◌, Bool, false, List, [], ◌∷◌, ◌++◌, length, Option, Some, None}
-use Rattle.tmpl_lex.specs.Cut.{stretch, split_open}
+use Rattle.std.specs.Prelude.{ℕ, zero, suc, ◌+◌, ◌-◌, Bool, false, List, [], ◌∷◌, ◌++◌, length, take}
+use Rattle.std.specs.Prelude.{Option, Some, None}
 use Rattle.tmpl_lex.specs.Piece.{Piece, action, unreadable}
-use Rattle.tmpl_lex.specs.Text.{newlines, texts}
-use Rattle.tmpl_lex.specs.Trim.{End, left_marked, past_left}
+use Rattle.tmpl_lex.specs.Text.{newlines}
 use Rattle.tmpl_lex.specs.computed.Action.{Opened, comment, tokens, neither, opened}
+use Rattle.tmpl_lex.specs.computed.Bytes.{split_pair}
+use Rattle.tmpl_lex.specs.computed.Text.{texts}
+use Rattle.tmpl_lex.specs.computed.Trim.{End, left_marked, past_left}
+
+-- the bytes that stand before this rest of them
+abbrev pub stretch : List ℕ → List ℕ → List ℕ
+stretch bs rest = take (length bs - length rest) bs
+
+-- what stands before the first `{{`, and what stands after it
+abbrev pub split_open : List ℕ → Option (List ℕ × List ℕ)
+split_open bs = split_pair 123 123 bs
 
 -- the pieces that begin with a `{{` on this line, behind which these bytes stand and this begins
 abbrev pub pieces_at : ℕ → List ℕ → Opened → (Bool → ℕ → List ℕ → List Piece) → List Piece

@@ -1,11 +1,34 @@
 -- What Rust values of the reading of an action stand for.
-use Rattle.std.specs.Prelude.{List, map, Option, Some, None}
-use Rattle.tmpl_lex.specs.declared.piece.Token as declared_token
-use Rattle.tmpl_lex.specs.declared.trim.End as declared_end
+use Rattle.std.specs.Prelude.{ℕ, List, map, take, Option, Some, None}
+use Rattle.std.specs.Borrow.{Bor}
 use Rattle.tmpl_lex.specs.declared.action.Opened as declared_opened
 use Rattle.tmpl_lex.specs.declared.action.Opened.TheVariants as variant
-use Rattle.tmpl_lex.specs.View.{token_of, end_of}
+use Rattle.tmpl_lex.specs.declared.piece.Token as declared_token
+use Rattle.tmpl_lex.specs.declared.piece.TokenKind.{TokenKind}
+use Rattle.tmpl_lex.specs.declared.trim.End as declared_end
+use Rattle.tmpl_lex.specs.View.{token_of}
 use Rattle.tmpl_lex.specs.computed.Action.{Inside, Opened, comment, tokens, neither}
+use Rattle.tmpl_lex.specs.computed.Token.{Begun}
+use Rattle.tmpl_lex.specs.computed.Trim.{End}
+
+-- the first so many of the bytes
+abbrev pub taken_of : List ℕ → Option ℕ → Option (List ℕ)
+taken_of bs None = None
+taken_of bs (Some n) = Some (take n bs)
+
+-- the kind of a token, and its bytes behind the first, which are the first so many of these
+abbrev pub begun_of : List ℕ → Option (TokenKind × ℕ) → Option Begun
+begun_of bs None = None
+begun_of bs (Some p) = Some (p.0, take p.1 bs)
+
+-- the bytes on both sides of a place
+abbrev pub pair_of : Option (Bor (List ℕ) × Bor (List ℕ)) → Option (List ℕ × List ℕ)
+pair_of None = None
+pair_of (Some p) = Some (p.0.now, p.1.now)
+
+-- where an action or comment ends
+abbrev pub end_of : declared_end.End → End
+end_of e = record { trims = e.trims; rest = e.rest.now }
 
 -- the tokens that were read, and the end that was found
 abbrev pub inside_of : List declared_token.Token → Option declared_end.End → Option Inside

@@ -1,5 +1,5 @@
 use super::row::{check, shown, text};
-use crate::{Piece, cut, is_space, one_cut};
+use crate::{Piece, cut, is_space, one_cut, one_token};
 use std::test::Fail;
 
 #[test]
@@ -109,6 +109,7 @@ fn bytes_that_are_no_text(rt: HostRuntime) -> Result<(), Fail> {
         }
     }
     one_cut(&[0xff]);
+    one_token();
     assert!(rt; is_space(b'\t') && !is_space(0x0b));
     Ok(())
 }

@@ -1,5 +1,4 @@
 use super::row::check;
-use crate::{Piece, cut};
 use std::test::Fail;
 
 // Each kind of token at its shortest.
@@ -79,25 +78,5 @@ fn strings_and_characters(rt: HostRuntime) -> Result<(), Fail> {
     ] {
         check(&rt, rt.alloc(), file, pieces)?;
     }
-    Ok(())
-}
-
-// The bytes that are a token of an action on their own: 4 of white space, 10 digits, 52 letters,
-// `_`, 128 from 80h, and 7 signs.
-#[test]
-fn single_bytes(rt: HostRuntime) -> Result<(), Fail> {
-    let mut readable = 0u32;
-    for byte in 0..=255u8 {
-        if byte == b'}' {
-            continue;
-        }
-        for piece in &cut(rt.alloc(), &[b'{', b'{', byte, b'}', b'}'])? {
-            if let Piece::Action { tokens, .. } = piece {
-                assert_eq!(rt; tokens.len(), 1, "at {byte}");
-                readable = readable.saturating_add(1);
-            }
-        }
-    }
-    assert_eq!(rt; readable, 202);
     Ok(())
 }

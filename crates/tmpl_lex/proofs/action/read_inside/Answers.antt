@@ -1,5 +1,6 @@
 use Rattle.std.proofs.Common.{ap, arith, length, length-drop, map}
-use Rattle.tmpl_lex.specs.View.{token_of, end_of}
+use Rattle.tmpl_lex.specs.View.{token_of}
+use Rattle.tmpl_lex.specs.computed.View.{end_of}
 use Rattle.tmpl_lex.proofs.ActionLemmas.{IsWithin-front_token, inside-read}
 use Rattle.tmpl_lex.proofs.action.read_inside.Goals as goal
 

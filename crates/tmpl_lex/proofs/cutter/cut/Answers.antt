@@ -1,11 +1,11 @@
 use Rattle.std.proofs.Common.{◌≡◌, ◌+◌, Some, None, false, arith, sym, ap, ◌∙◌, map, option_map}
-use Rattle.tmpl_lex.specs.View.{piece_of, end_of}
-use Rattle.tmpl_lex.specs.Trim.{past_left}
-use Rattle.tmpl_lex.specs.Text.{without_trailing, newlines}
-use Rattle.tmpl_lex.specs.Cut.{stretch}
+use Rattle.tmpl_lex.specs.View.{piece_of}
+use Rattle.tmpl_lex.specs.computed.Trim.{past_left}
+use Rattle.tmpl_lex.specs.Text.{newlines}
+use Rattle.tmpl_lex.specs.computed.Text.{without_trailing}
 use Rattle.tmpl_lex.specs.computed.Action.{opened}
-use Rattle.tmpl_lex.specs.computed.Cut.{ends_at}
-use Rattle.tmpl_lex.specs.computed.View.{opened_of}
+use Rattle.tmpl_lex.specs.computed.Cut.{stretch, ends_at}
+use Rattle.tmpl_lex.specs.computed.View.{end_of, opened_of}
 use Rattle.tmpl_lex.proofs.CutLemmas.{Completed-more, Completed-unclosed, Completed-last, split_open-shorter, opened-past_left-shorter, newlines-within, newlines-split, texts-put, without_trailing-unmarked, Cuts-cut_of, IsAdded-step}
 use Rattle.tmpl_lex.proofs.cutter.cut.Goals as goal
 

@@ -1,6 +1,6 @@
 use Rattle.std.proofs.Common.{◌∙◌, Option, ℕ, sym, ap, subst}
 use Rattle.memchr.specs.Find.{IsFirstByte, is_byte}
-use Rattle.tmpl_lex.specs.View.{taken_of}
+use Rattle.tmpl_lex.specs.computed.View.{taken_of}
 use Rattle.tmpl_lex.proofs.QuotedLemmas.{through-none, through-some}
 use Rattle.tmpl_lex.proofs.quoted.through_len.Goals as goal
 

@@ -1,5 +1,5 @@
 use Rattle.std.proofs.Common.{◌∙◌, ap, take, drop, length, ◌-◌}
-use Rattle.tmpl_lex.specs.Token.{begun}
+use Rattle.tmpl_lex.specs.computed.Token.{begun}
 use Rattle.tmpl_lex.proofs.TokenLemmas.{front_token-cons, take-rest}
 use Rattle.tmpl_lex.proofs.token.front_token.Goals as goal
 

@@ -1,7 +1,7 @@
 use Rattle.std.proofs.Common.{◌≡◌, ◌∙◌, ◌-◌, ℕ, true, false, ap, take, drop}
 use Rattle.std.specs.List.{prefix_len}
 use Rattle.tmpl_lex.specs.Bytes.{is_space}
-use Rattle.tmpl_lex.specs.Trim.{has_dashed_delimiter}
+use Rattle.tmpl_lex.specs.computed.Trim.{has_dashed_delimiter}
 use Rattle.tmpl_lex.proofs.RunLemmas.{space_run-plain, space_run-marked}
 use Rattle.tmpl_lex.proofs.token.space_len.Goals as goal
 

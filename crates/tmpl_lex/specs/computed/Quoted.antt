@@ -1,4 +1,4 @@
--- What stands behind an opening quote, up to its closing one.
+-- What stands behind an opening quote, up to its closing one, computed.
 use Rattle.std.specs.Prelude.{ℕ, Bool, true, false, ◌&&◌, not, ◌==◌, List, [], ◌∷◌, Option, Some, None}
 
 -- what was found, behind one byte more

@@ -1,4 +1,4 @@
--- The trim markers, and where an action or comment ends ("Text and spaces" in the documentation of Go's text/template).
+-- The trim markers, and where an action or comment ends, computed: the twin of `Opens` and `Closes`.
 use Rattle.std.specs.Prelude.{ℕ, Bool, true, false, ◌&&◌, ◌==◌, List, [], ◌∷◌, drop, Option, Some, None}
 use Rattle.tmpl_lex.specs.Bytes.{is_space}
 

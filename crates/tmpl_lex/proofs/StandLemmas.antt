@@ -1,0 +1,492 @@
+-- The token that is computed at the front of bytes is the one that the table of tokens gives.
+use Rattle.std.proofs.Common.{arith, ◌≡◌, ◌∙◌, ℕ, Bool, true, false, ◌||◌, ◌&&◌, not, nat_eq, List, [], ◌∷◌, ◌++◌, Option, Some, None, refl, sym, ap, subst, length, drop, length-append, if◌then◌else◌, codes, ◌⊎◌, ⊎_elim}
+use Rattle.std.specs.Char.{is_ascii_digit}
+use Rattle.std.specs.List.{prefix_len, list_all, take_while}
+use Rattle.std.proofs.lemmas.Bool.{eqb-true, and_parts, both_ways, false_from_ne_true}
+use Rattle.std.proofs.lemmas.Bool.Decides.{nat_tests}
+use Rattle.std.proofs.Math.Bool.{and-false}
+use Rattle.std.proofs.lemmas.Option.{same_Some}
+use Rattle.tmpl_lex.specs.declared.piece.TokenKind.{TokenKind}
+use Rattle.tmpl_lex.specs.declared.piece.TokenKind.TheVariants as kind
+use Rattle.tmpl_lex.specs.declared.token.Front.{Front}
+use Rattle.tmpl_lex.specs.declared.token.Front.TheVariants as front
+use Rattle.tmpl_lex.specs.Bytes.{is_space, is_name_byte, is_number_byte, Absent, BeginsNone, IsRun}
+use Rattle.tmpl_lex.specs.Delimiter.{Closes, closes, closes_marked}
+use Rattle.tmpl_lex.specs.Laws.{IsFound, BeginsWith}
+use Rattle.tmpl_lex.specs.Piece.{Token}
+use Rattle.tmpl_lex.specs.Token as table
+use Rattle.tmpl_lex.specs.Token.{IsToken, IsQuoted, no_byte, a_byte, an_escape, IsSign, no_sign, plus, minus, EndsSpace, at_byte, at_marker}
+use Rattle.tmpl_lex.specs.computed.Quoted.{with_byte, up_to, unless, through, quoted}
+use Rattle.tmpl_lex.specs.computed.Token.{Begun, front_of, mark_of, begun, token_from, number, signed, dotted, declare, assigned, of_kind, space_run, kept_while, name_run}
+use Rattle.tmpl_lex.specs.computed.Trim.{End, ended_by, has_right_delimiter, has_dashed_delimiter, right_marked, right_delimiter}
+use Rattle.tmpl_lex.proofs.PartLemmas.{same-first, same-rest, same-test, run-taken, taken-run, taken-rest}
+
+-- ---- where an action ends
+
+pub closes-found : {trims : Bool} {closing : List ℕ} (rest : List ℕ) → Closes trims closing → right_delimiter (closing ++ rest) ≡ Some (record { trims = trims; rest = rest })
+closes-found rest closes = refl
+closes-found rest (closes_marked {w = w} h) =
+    let other : nat_eq w 125 ≡ false = grind (arith, nat_tests) in
+    ap (λ k. ended_by (k && false) (is_space w && true) (w ∷ 45 ∷ 125 ∷ 125 ∷ rest)) other
+    ∙ ap (λ k. ended_by false (k && true) (w ∷ 45 ∷ 125 ∷ 125 ∷ rest)) h
+
+-- a delimiter stands at the front
+pub record Ends (bs : List ℕ) (e : End) : Type 0 where
+  pub closing : List ℕ
+  pub closes : Closes e.trims closing
+  pub is : bs ≡ closing ++ e.rest
+
+braces-is : (bs : List ℕ) → has_right_delimiter bs ≡ true → bs ≡ 125 ∷ 125 ∷ drop 2 bs
+braces-is [] h = cc
+braces-is (a ∷ []) h = cc
+braces-is (a ∷ b ∷ bs) h =
+    let both = and_parts (nat_eq a 125) (nat_eq b 125) h in
+    ap (λ k. k ∷ b ∷ bs) (eqb-true a 125 both.0) ∙ ap (λ k. 125 ∷ k ∷ bs) (eqb-true b 125 both.1)
+
+dashed-is : (bs : List ℕ) → has_dashed_delimiter bs ≡ true → bs ≡ 45 ∷ 125 ∷ 125 ∷ drop 3 bs
+dashed-is [] h = cc
+dashed-is (a ∷ bs) h =
+    let both = and_parts (nat_eq a 45) (has_right_delimiter bs) h in
+    ap (λ k. k ∷ bs) (eqb-true a 45 both.0) ∙ ap (λ l. 45 ∷ l) (braces-is bs both.1)
+
+marked-is : (bs : List ℕ) → right_marked bs ≡ true → (w : ℕ) × ((is_space w ≡ true) × (bs ≡ w ∷ 45 ∷ 125 ∷ 125 ∷ drop 4 bs))
+marked-is [] h = cc
+marked-is (a ∷ bs) h =
+    let both = and_parts (is_space a) (has_dashed_delimiter bs) h in
+    (a, (both.0, ap (λ l. a ∷ l) (dashed-is bs both.1)))
+
+pub found-ends : (bs : List ℕ) (e : End) → right_delimiter bs ≡ Some e → Ends bs e
+found-ends bs e h = go (has_right_delimiter bs) refl (right_marked bs) refl h
+  where
+    go : (c : Bool) → has_right_delimiter bs ≡ c → (m : Bool) → right_marked bs ≡ m → ended_by c m bs ≡ Some e → Ends bs e
+    go true c m d h =
+        let same : record { trims = false; rest = drop 2 bs } ≡ e = cc in
+        subst (Ends bs) same (record { closing = 125 ∷ 125 ∷ []; closes = closes; is = braces-is bs c })
+    go false c true d h =
+        let same : record { trims = true; rest = drop 4 bs } ≡ e = cc in
+        let marked = marked-is bs d in
+        subst (Ends bs) same (record { closing = marked.0 ∷ 45 ∷ 125 ∷ 125 ∷ []; closes = closes_marked marked.1.0; is = marked.1.1 })
+    go false c false d h = let g : ◌≡◌ {A = Option End} None (Some e) = h in cc
+
+no-closes : (b : ℕ) (bs : List ℕ) → nat_eq b 125 ≡ false → has_right_delimiter (b ∷ bs) ≡ false
+no-closes b [] e = refl
+no-closes b (c ∷ bs) e = ap (λ k. k && nat_eq c 125) e
+
+pub no-end : (b : ℕ) (bs : List ℕ) → nat_eq b 125 ≡ false → is_space b ≡ false → right_delimiter (b ∷ bs) ≡ None
+no-end b bs e s =
+    ap (λ k. ended_by k (right_marked (b ∷ bs)) (b ∷ bs)) (no-closes b bs e)
+    ∙ ap (λ k. ended_by false (k && has_dashed_delimiter bs) (b ∷ bs)) s
+
+-- ---- white space
+
+ends-undashed : {rest : List ℕ} → EndsSpace rest → has_dashed_delimiter rest ≡ false
+ends-undashed (at_byte {rest = rest} s n) = false_from_ne_true (has_dashed_delimiter rest) (λ e. n (45 ∷ 125 ∷ 125 ∷ []) (drop 3 rest) refl (dashed-is rest e))
+ends-undashed (at_marker rest c) = marker-undashed c
+  where
+    marker-undashed : {t : Bool} {marker : List ℕ} → Closes t marker → has_dashed_delimiter (marker ++ rest) ≡ false
+    marker-undashed closes = refl
+    marker-undashed (closes_marked {w = w} h) =
+        let other : nat_eq w 45 ≡ false = grind (arith, nat_tests) in
+        ap (λ k. k && false) other
+
+ends-run : {rest : List ℕ} → EndsSpace rest → space_run rest ≡ []
+ends-run (at_byte {rest = []} s n) = refl
+ends-run (at_byte {rest = b ∷ bs} s n) = ap (λ k. kept_while (k && not (k && has_dashed_delimiter bs)) b (space_run bs)) s
+ends-run (at_marker rest c) = marker-run c
+  where
+    marker-run : {t : Bool} {marker : List ℕ} → Closes t marker → space_run (marker ++ rest) ≡ []
+    marker-run closes = refl
+    marker-run (closes_marked {w = w} h) = ap (λ k. kept_while (k && not (k && true)) w (space_run (45 ∷ 125 ∷ 125 ∷ rest))) h
+
+spaces-undashed : (bs rest : List ℕ) → list_all is_space bs ≡ true → EndsSpace rest → has_dashed_delimiter (bs ++ rest) ≡ false
+spaces-undashed [] rest h e = ends-undashed e
+spaces-undashed (b ∷ bs) rest h e =
+    let white : is_space b ≡ true = (and_parts (is_space b) (list_all is_space bs) h).0 in
+    let other : nat_eq b 45 ≡ false = grind (arith, nat_tests) in
+    ap (λ k. k && has_right_delimiter (bs ++ rest)) other
+
+spaces-run : (bs rest : List ℕ) → list_all is_space bs ≡ true → EndsSpace rest → space_run (bs ++ rest) ≡ bs
+spaces-run [] rest h e = ends-run e
+spaces-run (b ∷ bs) rest h e =
+    let both = and_parts (is_space b) (list_all is_space bs) h in
+    ap (λ k. kept_while (k && not (k && has_dashed_delimiter (bs ++ rest))) b (space_run (bs ++ rest))) both.0
+    ∙ ap (λ k. kept_while (not k) b (space_run (bs ++ rest))) (spaces-undashed bs rest both.1 e)
+    ∙ ap (λ l. b ∷ l) (spaces-run bs rest both.1 e)
+
+-- white space at the front, up to where it ends
+record Spaces (bs : List ℕ) : Type 0 where
+  rest : List ℕ
+  is : bs ≡ space_run bs ++ rest
+  white : list_all is_space (space_run bs) ≡ true
+  ends : EndsSpace rest
+
+undashed-begins : (bs : List ℕ) → has_dashed_delimiter bs ≡ false → BeginsNone (λ xs. xs ≡ codes "-}}") bs
+undashed-begins bs h xs ys e f = both_ways (has_dashed_delimiter bs) h (ap has_dashed_delimiter (f ∙ ap (λ l. l ++ ys) e))
+
+abbrev run : ℕ → List ℕ → Bool → Bool → List ℕ
+run b bs s d = kept_while (s && not (s && d)) b (space_run bs)
+
+run-spaces : (bs : List ℕ) → has_dashed_delimiter bs ≡ false → Spaces bs
+run-spaces [] h = record { rest = []; is = refl; white = refl; ends = at_byte tt (undashed-begins [] h) }
+run-spaces (b ∷ bs) h = go (is_space b) refl (has_dashed_delimiter bs) refl (run-spaces bs)
+  where
+    stops : (s d : Bool) → is_space b ≡ s → has_dashed_delimiter bs ≡ d → run b bs s d ≡ [] → EndsSpace (b ∷ bs) → Spaces (b ∷ bs)
+    stops s d e f none ends =
+        let run_is : space_run (b ∷ bs) ≡ [] = (λ i. run b bs (e i) (f i)) ∙ none in record {
+          rest = b ∷ bs;
+          is = sym (ap (λ l. l ++ b ∷ bs) run_is);
+          white = ap (list_all is_space) run_is;
+          ends = ends;
+        }
+
+    go : (s : Bool) → is_space b ≡ s → (d : Bool) → has_dashed_delimiter bs ≡ d → (has_dashed_delimiter bs ≡ false → Spaces bs) → Spaces (b ∷ bs)
+    go false e d f ih = stops false d e f refl (at_byte e (undashed-begins (b ∷ bs) h))
+    go true e true f ih =
+        let is : b ∷ bs ≡ (b ∷ 45 ∷ 125 ∷ 125 ∷ []) ++ drop 3 bs = ap (λ l. b ∷ l) (dashed-is bs f) in
+        stops true true e f refl (subst EndsSpace (sym is) (at_marker (drop 3 bs) (closes_marked e)))
+    go true e false f ih =
+        let more = ih f in
+        let run_is : space_run (b ∷ bs) ≡ b ∷ space_run bs = (λ i. run b bs (e i) (f i)) in record {
+          rest = more.rest;
+          is = ap (λ l. b ∷ l) more.is ∙ sym (ap (λ l. l ++ more.rest) run_is);
+          white = ap (list_all is_space) run_is ∙ ap (λ k. k && list_all is_space (space_run bs)) e ∙ more.white;
+          ends = more.ends;
+        }
+
+-- ---- quotes
+
+quoted-found : (q : ℕ) (bs rest : List ℕ) → nat_eq 92 q ≡ false → nat_eq q 10 ≡ false → IsQuoted q bs → quoted q false (bs ++ q ∷ [] ++ rest) ≡ Some (bs ++ q ∷ [])
+quoted-found q _ rest e n no_byte =
+    ap (λ k. unless k (up_to (nat_eq q q && true) q (quoted q (nat_eq q 92 && true) rest))) n
+    ∙ ap (λ k. up_to (k && true) q (quoted q (nat_eq q 92 && true) rest)) (same-test q)
+quoted-found q _ rest e n (a_byte {b = b} {bs = bs} l s c h) =
+    ap (λ k. unless k (up_to (nat_eq b q && true) b (quoted q (nat_eq b 92 && true) (bs ++ q ∷ [] ++ rest)))) l
+    ∙ ap (λ k. up_to (k && true) b (quoted q (nat_eq b 92 && true) (bs ++ q ∷ [] ++ rest))) c
+    ∙ ap (λ k. with_byte b (quoted q (k && true) (bs ++ q ∷ [] ++ rest))) s
+    ∙ ap (with_byte b) (quoted-found q bs rest e n h)
+quoted-found q _ rest e n (an_escape {b = b} {bs = bs} l h) =
+    ap (λ k. up_to (k && true) 92 (quoted q true (b ∷ (bs ++ q ∷ [] ++ rest)))) e
+    ∙ ap (λ k. with_byte 92 (unless k (up_to (nat_eq b q && false) b (quoted q (nat_eq b 92 && false) (bs ++ q ∷ [] ++ rest))))) l
+    ∙ ap (λ k. with_byte 92 (up_to k b (quoted q (nat_eq b 92 && false) (bs ++ q ∷ [] ++ rest)))) (and-false (nat_eq b q))
+    ∙ ap (λ k. with_byte 92 (with_byte b (quoted q k (bs ++ q ∷ [] ++ rest)))) (and-false (nat_eq b 92))
+    ∙ ap (λ o. with_byte 92 (with_byte b o)) (quoted-found q bs rest e n h)
+
+-- what was found: the bytes up to the quote, the quote, and what stands behind it
+record IsUpTo (Form : List ℕ → Type 0) (q : ℕ) (bs xs : List ℕ) : Type 0 where
+  inside : List ℕ
+  rest : List ℕ
+  form : Form inside
+  found : xs ≡ inside ++ q ∷ []
+  is : bs ≡ inside ++ q ∷ [] ++ rest
+
+-- .. where a backslash stands before them, or none
+abbrev Behind : ℕ → Bool → List ℕ → Type 0
+Behind q false bs = IsQuoted q bs
+Behind q true [] = ⊥
+Behind q true (b ∷ bs) = (nat_eq b 10 ≡ false) × IsQuoted q bs
+
+and-true : (t r : Bool) → (t && true) ≡ r → t ≡ r
+and-true true r e = e
+and-true false r e = e
+
+escape-behind : (q b : ℕ) (bs : List ℕ) → b ≡ 92 → Behind q true bs → IsQuoted q (b ∷ bs)
+escape-behind q b [] e h = absurd h
+escape-behind q b (c ∷ bs) e h = subst (λ (k : ℕ). IsQuoted q (k ∷ c ∷ bs)) (sym e) (an_escape h.0 h.1)
+
+one-more : (q b : ℕ) (e s : Bool) (bs xs : List ℕ) → ((ys : List ℕ) → Behind q s ys → Behind q e (b ∷ ys)) → (o : Option (List ℕ)) → ((ys : List ℕ) → o ≡ Some ys → IsUpTo (Behind q s) q bs ys) → with_byte b o ≡ Some xs → IsUpTo (Behind q e) q (b ∷ bs) xs
+one-more q b e s bs xs step None ih h = let g : ◌≡◌ {A = Option (List ℕ)} None (Some xs) = h in cc
+one-more q b e s bs xs step (Some ys) ih h =
+    let more = ih ys refl in
+    let same : b ∷ ys ≡ xs = cc in record {
+      inside = b ∷ more.inside;
+      rest = more.rest;
+      form = step more.inside more.form;
+      found = sym same ∙ ap (λ l. b ∷ l) more.found;
+      is = ap (λ l. b ∷ l) more.is;
+    }
+
+quoted-is : (q : ℕ) (e : Bool) (bs xs : List ℕ) → quoted q e bs ≡ Some xs → IsUpTo (Behind q e) q bs xs
+quoted-is q e [] xs h = let g : ◌≡◌ {A = Option (List ℕ)} None (Some xs) = h in cc
+quoted-is q false (b ∷ bs) xs h = go (nat_eq b 10) refl (nat_eq b q && true) refl (nat_eq b 92 && true) refl (λ s ys f. quoted-is q s bs ys f) h
+  where
+    go : (l : Bool) → nat_eq b 10 ≡ l → (t : Bool) → (nat_eq b q && true) ≡ t → (s : Bool) → (nat_eq b 92 && true) ≡ s → ((s : Bool) (ys : List ℕ) → quoted q s bs ≡ Some ys → IsUpTo (Behind q s) q bs ys) → unless l (up_to t b (quoted q s bs)) ≡ Some xs → IsUpTo (Behind q false) q (b ∷ bs) xs
+    go true el t et s es ih h = let g : ◌≡◌ {A = Option (List ℕ)} None (Some xs) = h in cc
+    go false el true et s es ih h =
+        let same : b ∷ [] ≡ xs = cc in
+        let is : b ≡ q = eqb-true b q (and-true (nat_eq b q) true et) in record {
+          inside = [];
+          rest = bs;
+          form = no_byte;
+          found = sym same ∙ ap (λ k. k ∷ []) is;
+          is = ap (λ k. k ∷ bs) is;
+        }
+    go false el false et false es ih h =
+        one-more q b false false bs xs (λ ys f. a_byte el (and-true (nat_eq b 92) false es) (and-true (nat_eq b q) false et) f) (quoted q false bs) (ih false) h
+    go false el false et true es ih h =
+        one-more q b false true bs xs (λ ys f. escape-behind q b ys (eqb-true b 92 (and-true (nat_eq b 92) true es)) f) (quoted q true bs) (ih true) h
+quoted-is q true (b ∷ bs) xs h = go (nat_eq b 10) refl (nat_eq b q && false) (and-false (nat_eq b q)) (nat_eq b 92 && false) (and-false (nat_eq b 92)) (λ ys f. quoted-is q false bs ys f) h
+  where
+    go : (l : Bool) → nat_eq b 10 ≡ l → (t : Bool) → t ≡ false → (s : Bool) → s ≡ false → ((ys : List ℕ) → quoted q false bs ≡ Some ys → IsUpTo (Behind q false) q bs ys) → unless l (up_to t b (quoted q s bs)) ≡ Some xs → IsUpTo (Behind q true) q (b ∷ bs) xs
+    go true el t et s es ih h = let g : ◌≡◌ {A = Option (List ℕ)} None (Some xs) = h in cc
+    go false el true et s es ih h = cc
+    go false el false et true es ih h = cc
+    go false el false et false es ih h = one-more q b true false bs xs (λ ys f. (el, f)) (quoted q false bs) ih h
+
+raw-found : (q : ℕ) (bs rest : List ℕ) → Absent (q ∷ []) bs → through q (bs ++ q ∷ [] ++ rest) ≡ Some (bs ++ q ∷ [])
+raw-found q [] rest h = ap (λ k. up_to k q (through q rest)) (same-test q)
+raw-found q (b ∷ bs) rest h =
+    ap (λ k. up_to k b (through q (bs ++ q ∷ [] ++ rest))) (false_from_ne_true (nat_eq b q) (λ e. h [] bs (ap (λ k. k ∷ bs) (eqb-true b q e))))
+    ∙ ap (with_byte b) (raw-found q bs rest (λ xs ys e. h (b ∷ xs) ys (ap (λ l. b ∷ l) e)))
+
+absent-more : (q b : ℕ) (bs : List ℕ) → nat_eq b q ≡ false → Absent (q ∷ []) bs → Absent (q ∷ []) (b ∷ bs)
+absent-more q b bs n h [] ys e = both_ways (nat_eq b q) n (ap (λ k. nat_eq k q) (same-first b q bs ys e) ∙ same-test q)
+absent-more q b bs n h (x ∷ xs) ys e = h xs ys (same-rest b x bs (xs ++ q ∷ [] ++ ys) e)
+
+raw-is : (q : ℕ) (bs xs : List ℕ) → through q bs ≡ Some xs → IsUpTo (Absent (q ∷ [])) q bs xs
+raw-is q [] xs h = let g : ◌≡◌ {A = Option (List ℕ)} None (Some xs) = h in cc
+raw-is q (b ∷ bs) xs h = go (nat_eq b q) refl (through q bs) (λ ys f. raw-is q bs ys f) h
+  where
+    go : (t : Bool) → nat_eq b q ≡ t → (o : Option (List ℕ)) → ((ys : List ℕ) → o ≡ Some ys → IsUpTo (Absent (q ∷ [])) q bs ys) → up_to t b o ≡ Some xs → IsUpTo (Absent (q ∷ [])) q (b ∷ bs) xs
+    go true e o ih h =
+        let same : b ∷ [] ≡ xs = cc in record {
+          inside = [];
+          rest = bs;
+          form = λ us ys f. absurd (omega (arith, ap length f, length-append (us ++ q ∷ []) ys, length-append us (q ∷ [])));
+          found = sym same ∙ ap (λ k. k ∷ []) (eqb-true b q e);
+          is = ap (λ k. k ∷ bs) (eqb-true b q e);
+        }
+    go false e None ih h = let g : ◌≡◌ {A = Option (List ℕ)} None (Some xs) = h in cc
+    go false e (Some ys) ih h =
+        let more = ih ys refl in
+        let same : b ∷ ys ≡ xs = cc in record {
+          inside = b ∷ more.inside;
+          rest = more.rest;
+          form = absent-more q b more.inside e more.form;
+          found = sym same ∙ ap (λ l. b ∷ l) more.found;
+          is = ap (λ l. b ∷ l) more.is;
+        }
+
+-- ---- the rows of the table
+
+abbrev token : TokenKind → List ℕ → Token
+token k bs = record { kind = k; bytes = bs }
+
+-- a token whose first byte tells
+by-first : (k : TokenKind) (b : ℕ) (bs rest : List ℕ) → nat_eq b 125 ≡ false → is_space b ≡ false → begun (front_of b) (bs ++ rest) ≡ Some (k, bs) → IsFound (b ∷ bs ++ rest) (token k (b ∷ bs))
+by-first k b bs rest e s h = record { no_end = no-end b (bs ++ rest) e s; front = ap (token_from b) h }
+
+front-white : (b : ℕ) → is_space b ≡ true → front_of b ≡ front.White
+front-white b h = ap (λ k. if k then front.White else if is_ascii_digit b then front.Digit else if is_name_byte b then front.Letter else mark_of b) h
+
+front-digit : (b : ℕ) → is_ascii_digit b ≡ true → front_of b ≡ front.Digit
+front-digit b h =
+    let white : is_space b ≡ false = grind (arith, nat_tests) in
+    ap (λ k. if k then front.White else if is_ascii_digit b then front.Digit else if is_name_byte b then front.Letter else mark_of b) white
+    ∙ ap (λ k. if k then front.Digit else if is_name_byte b then front.Letter else mark_of b) h
+
+front-letter : (b : ℕ) → is_ascii_digit b ≡ false → is_name_byte b ≡ true → front_of b ≡ front.Letter
+front-letter b d h =
+    let white : is_space b ≡ false = grind (arith, nat_tests) in
+    ap (λ k. if k then front.White else if is_ascii_digit b then front.Digit else if is_name_byte b then front.Letter else mark_of b) white
+    ∙ ap (λ k. if k then front.Digit else if is_name_byte b then front.Letter else mark_of b) d
+    ∙ ap (λ k. if k then front.Letter else mark_of b) h
+
+space-found : (b : ℕ) (bs rest : List ℕ) → list_all is_space (b ∷ bs) ≡ true → EndsSpace rest → IsFound (b ∷ bs ++ rest) (token kind.Space (b ∷ bs))
+space-found b bs rest h e =
+    let both = and_parts (is_space b) (list_all is_space bs) h in
+    let white : is_space b ≡ true = both.0 in
+    let brace : nat_eq b 125 ≡ false = grind (arith, nat_tests) in record {
+      no_end = ap (λ k. ended_by k (right_marked (b ∷ (bs ++ rest))) (b ∷ (bs ++ rest))) (no-closes b (bs ++ rest) brace)
+          ∙ ap (λ k. ended_by false (k && has_dashed_delimiter (bs ++ rest)) (b ∷ (bs ++ rest))) white
+          ∙ ap (λ k. ended_by false k (b ∷ (bs ++ rest))) (spaces-undashed bs rest both.1 e);
+      front = ap (λ f. token_from b (begun f (bs ++ rest))) (front-white b white)
+          ∙ ap (λ xs. Some (token kind.Space (b ∷ xs))) (spaces-run bs rest both.1 e);
+    }
+
+word-found : (b : ℕ) (bs rest : List ℕ) → is_ascii_digit b ≡ false → IsRun is_name_byte (b ∷ bs) rest → IsFound (b ∷ bs ++ rest) (token kind.Word (b ∷ bs))
+word-found b bs rest d run =
+    let both = and_parts (is_name_byte b) (list_all is_name_byte bs) run.passes in
+    let name : is_name_byte b ≡ true = both.0 in
+    let brace : nat_eq b 125 ≡ false = grind (arith, nat_tests) in
+    let white : is_space b ≡ false = grind (arith, nat_tests) in
+    by-first kind.Word b bs rest brace white
+    (ap (λ f. begun f (bs ++ rest)) (front-letter b d name)
+    ∙ ap (λ xs. Some (kind.Word, xs)) (run-taken is_name_byte bs rest (record { passes = both.1; longest = run.longest })))
+
+digits-found : (b : ℕ) (bs rest : List ℕ) → is_ascii_digit b ≡ true → IsRun is_number_byte bs rest → IsFound (b ∷ bs ++ rest) (token kind.Number (b ∷ bs))
+digits-found b bs rest d run =
+    let brace : nat_eq b 125 ≡ false = grind (arith, nat_tests) in
+    let white : is_space b ≡ false = grind (arith, nat_tests) in
+    by-first kind.Number b bs rest brace white
+    (ap (λ f. begun f (bs ++ rest)) (front-digit b d) ∙ ap (λ xs. Some (kind.Number, xs)) (run-taken is_number_byte bs rest run))
+
+signed-is : (b : ℕ) (bs rest : List ℕ) → is_ascii_digit b ≡ true → IsRun is_number_byte bs rest → signed (b ∷ bs ++ rest) ≡ Some (kind.Number, b ∷ bs)
+signed-is b bs rest d run = ap (λ k. number k b (bs ++ rest)) d ∙ ap (λ xs. Some (kind.Number, b ∷ xs)) (run-taken is_number_byte bs rest run)
+
+number-found : {sign : List ℕ} (b : ℕ) (bs rest : List ℕ) → IsSign sign → is_ascii_digit b ≡ true → IsRun is_number_byte bs rest → IsFound (sign ++ b ∷ bs ++ rest) (token kind.Number (sign ++ b ∷ bs))
+number-found b bs rest no_sign d run = digits-found b bs rest d run
+number-found b bs rest plus d run = by-first kind.Number 43 (b ∷ bs) rest refl refl (signed-is b bs rest d run)
+number-found b bs rest minus d run = by-first kind.Number 45 (b ∷ bs) rest refl refl (signed-is b bs rest d run)
+
+pub found : {k : TokenKind} {bs rest : List ℕ} → IsToken k bs rest → IsFound (bs ++ rest) (token k bs)
+found (table.space {b = b} {bs = bs} {rest = rest} h e) = space-found b bs rest h e
+found (table.word {b = b} {bs = bs} {rest = rest} d run) = word-found b bs rest d run
+found (table.number {bs = bs} {rest = rest} b s d run) = number-found b bs rest s d run
+found (table.field {b = b} {bs = bs} {rest = rest} run) = by-first kind.Field 46 (b ∷ bs) rest refl refl (ap (λ xs. Some (dotted xs)) (run-taken is_name_byte (b ∷ bs) rest run))
+found (table.dot {rest = rest} s) = by-first kind.Dot 46 [] rest refl refl (ap (λ xs. Some (dotted xs)) (run-taken is_name_byte [] rest (record { passes = refl; longest = s })))
+found (table.variable {name = name} {rest = rest} run) = by-first kind.Variable 36 name rest refl refl (ap (λ xs. Some (kind.Variable, xs)) (run-taken is_name_byte name rest run))
+found (table.string {bs = bs} {rest = rest} h) = by-first kind.String 34 (bs ++ 34 ∷ []) rest refl refl (ap (of_kind kind.String) (quoted-found 34 bs rest refl refl h))
+found (table.raw_string {rest = rest} bs h) = by-first kind.RawString 96 (bs ++ 96 ∷ []) rest refl refl (ap (of_kind kind.RawString) (raw-found 96 bs rest h))
+found (table.character {bs = bs} {rest = rest} h) = by-first kind.Character 39 (bs ++ 39 ∷ []) rest refl refl (ap (of_kind kind.Character) (quoted-found 39 bs rest refl refl h))
+found (table.declare {rest = rest}) = by-first kind.Declare 58 (61 ∷ []) rest refl refl refl
+found (table.assign {rest = rest}) = by-first kind.Assign 61 [] rest refl refl refl
+found (table.comma {rest = rest}) = by-first kind.Comma 44 [] rest refl refl refl
+found (table.pipe {rest = rest}) = by-first kind.Pipe 124 [] rest refl refl refl
+found (table.left_parenthesis {rest = rest}) = by-first kind.LeftParenthesis 40 [] rest refl refl refl
+found (table.right_parenthesis {rest = rest}) = by-first kind.RightParenthesis 41 [] rest refl refl refl
+
+-- ---- which bytes begin which token
+
+abbrev Tells : Front → ℕ → Type 0
+Tells front.White b = is_space b ≡ true
+Tells front.Letter b = (is_ascii_digit b ≡ false) × (is_name_byte b ≡ true)
+Tells front.Digit b = is_ascii_digit b ≡ true
+Tells front.Sign b = (b ≡ 43) ⊎ (b ≡ 45)
+Tells front.Period b = b ≡ 46
+Tells front.Dollar b = b ≡ 36
+Tells front.DoubleQuote b = b ≡ 34
+Tells front.Backquote b = b ≡ 96
+Tells front.SingleQuote b = b ≡ 39
+Tells front.Colon b = b ≡ 58
+Tells front.Equals b = b ≡ 61
+Tells front.Comma b = b ≡ 44
+Tells front.Bar b = b ≡ 124
+Tells front.LeftParenthesis b = b ≡ 40
+Tells front.RightParenthesis b = b ≡ 41
+Tells front.Other b = Unit {0}
+
+by-test : (t : Bool) (f g : Front) (b : ℕ) → (t ≡ true → Tells f b) → (t ≡ false → Tells g b) → Tells (if t then f else g) b
+by-test true f g b this that = this refl
+by-test false f g b this that = that refl
+
+sign-is : (b : ℕ) → (nat_eq b 43 || nat_eq b 45) ≡ true → (b ≡ 43) ⊎ (b ≡ 45)
+sign-is b e = grind (arith, nat_tests)
+
+mark-tells : (b : ℕ) → Tells (mark_of b) b
+mark-tells b =
+    by-test (nat_eq b 43 || nat_eq b 45) front.Sign _ b (sign-is b) (λ e1.
+    by-test (nat_eq b 46) front.Period _ b (eqb-true b 46) (λ e2.
+    by-test (nat_eq b 36) front.Dollar _ b (eqb-true b 36) (λ e3.
+    by-test (nat_eq b 34) front.DoubleQuote _ b (eqb-true b 34) (λ e4.
+    by-test (nat_eq b 96) front.Backquote _ b (eqb-true b 96) (λ e5.
+    by-test (nat_eq b 39) front.SingleQuote _ b (eqb-true b 39) (λ e6.
+    by-test (nat_eq b 58) front.Colon _ b (eqb-true b 58) (λ e7.
+    by-test (nat_eq b 61) front.Equals _ b (eqb-true b 61) (λ e8.
+    by-test (nat_eq b 44) front.Comma _ b (eqb-true b 44) (λ e9.
+    by-test (nat_eq b 124) front.Bar _ b (eqb-true b 124) (λ e10.
+    by-test (nat_eq b 40) front.LeftParenthesis _ b (eqb-true b 40) (λ e11.
+    by-test (nat_eq b 41) front.RightParenthesis front.Other b (eqb-true b 41) (λ e12. tt))))))))))))
+
+front-tells : (b : ℕ) → Tells (front_of b) b
+front-tells b =
+    by-test (is_space b) front.White _ b (λ e. e) (λ s.
+    by-test (is_ascii_digit b) front.Digit _ b (λ e. e) (λ d.
+    by-test (is_name_byte b) front.Letter (mark_of b) b (λ e. (d, e)) (λ n. mark-tells b)))
+
+-- ---- a token that is computed stands there
+
+record StandsAt (b : ℕ) (bs : List ℕ) (p : Begun) : Type 0 where
+  rest : List ℕ
+  stands : IsToken p.0 (b ∷ p.1) rest
+  is : bs ≡ p.1 ++ rest
+
+abbrev AtBegun : ℕ → List ℕ → Option Begun → Type 0
+AtBegun b bs None = Unit {0}
+AtBegun b bs (Some p) = StandsAt b bs p
+
+-- of a token whose first byte is known
+first-is : (k : TokenKind) (b c : ℕ) (bs xs rest : List ℕ) → b ≡ c → bs ≡ xs ++ rest → IsToken k (c ∷ xs) rest → StandsAt b bs (k, xs)
+first-is k b c bs xs rest e is h = record { rest = rest; stands = subst (λ (n : ℕ). IsToken k (n ∷ xs) rest) (sym e) h; is = is }
+
+number-stands : (sign : List ℕ) (c : ℕ) → IsSign (c ∷ []) → (b : ℕ) → b ≡ c → (bs : List ℕ) → AtBegun b bs (signed bs)
+number-stands sign c s b e [] = tt
+number-stands sign c s b e (d ∷ bs) = go (is_ascii_digit d) refl
+  where
+    go : (t : Bool) → is_ascii_digit d ≡ t → AtBegun b (d ∷ bs) (number t d bs)
+    go true h =
+        first-is kind.Number b c (d ∷ bs) (d ∷ take_while is_number_byte bs) (drop (prefix_len is_number_byte bs) bs) e
+        (sym (ap (λ l. d ∷ l) (taken-rest is_number_byte bs))) (table.number d s h (taken-run is_number_byte bs))
+    go false h = tt
+
+dotted-stands : (b : ℕ) → b ≡ 46 → (name rest bs : List ℕ) → IsRun is_name_byte name rest → bs ≡ name ++ rest → StandsAt b bs (dotted name)
+dotted-stands b e [] rest bs run is = first-is kind.Dot b 46 bs [] rest e is (table.dot run.longest)
+dotted-stands b e (c ∷ name) rest bs run is = first-is kind.Field b 46 bs (c ∷ name) rest e is (table.field run)
+
+quote-stands : (k : TokenKind) (q : ℕ) (Form : List ℕ → Type 0) → ((xs rest : List ℕ) → Form xs → IsToken k (q ∷ (xs ++ q ∷ [])) rest) → (b : ℕ) → b ≡ q → (bs : List ℕ) (o : Option (List ℕ)) → ((xs : List ℕ) → o ≡ Some xs → IsUpTo Form q bs xs) → AtBegun b bs (of_kind k o)
+quote-stands k q Form row b e bs None f = tt
+quote-stands k q Form row b e bs (Some xs) f =
+    let u = f xs refl in
+    first-is k b q bs xs u.rest e (u.is ∙ ap (λ l. l ++ u.rest) (sym u.found)) (subst (λ (l : List ℕ). IsToken k (q ∷ l) u.rest) (sym u.found) (row u.inside u.rest u.form))
+
+declare-stands : (b : ℕ) → b ≡ 58 → (bs : List ℕ) → AtBegun b bs (assigned bs)
+declare-stands b e [] = tt
+declare-stands b e (c ∷ bs) = go (nat_eq c 61) refl
+  where
+    go : (t : Bool) → nat_eq c 61 ≡ t → AtBegun b (c ∷ bs) (declare t)
+    go true h = first-is kind.Declare b 58 (c ∷ bs) (61 ∷ []) bs e (ap (λ n. n ∷ bs) (eqb-true c 61 h)) table.declare
+    go false h = tt
+
+space-stands : (b : ℕ) (bs : List ℕ) → is_space b ≡ true → right_marked (b ∷ bs) ≡ false → StandsAt b bs (kind.Space, space_run bs)
+space-stands b bs h m =
+    let spaces = run-spaces bs (ap (λ k. k && has_dashed_delimiter bs) (sym h) ∙ m) in record {
+      rest = spaces.rest;
+      stands = table.space (ap (λ k. k && list_all is_space (space_run bs)) h ∙ spaces.white) spaces.ends;
+      is = spaces.is;
+    }
+
+run-stands : (k : TokenKind) (p : ℕ → Bool) (b c : ℕ) (bs : List ℕ) → b ≡ c → IsToken k (c ∷ take_while p bs) (drop (prefix_len p bs) bs) → StandsAt b bs (k, take_while p bs)
+run-stands k p b c bs e h = first-is k b c bs (take_while p bs) (drop (prefix_len p bs) bs) e (sym (taken-rest p bs)) h
+
+begun-stands : (f : Front) (b : ℕ) (bs : List ℕ) → Tells f b → right_marked (b ∷ bs) ≡ false → AtBegun b bs (begun f bs)
+begun-stands front.White b bs h m = space-stands b bs h m
+begun-stands front.Letter b bs h m =
+    let run = taken-run is_name_byte bs in
+    run-stands kind.Word is_name_byte b b bs refl (table.word h.0 (record { passes = ap (λ k. k && list_all is_name_byte (name_run bs)) h.1 ∙ run.passes; longest = run.longest }))
+begun-stands front.Digit b bs h m = run-stands kind.Number is_number_byte b b bs refl (table.number b no_sign h (taken-run is_number_byte bs))
+begun-stands front.Sign b bs h m = ⊎_elim (λ e. number-stands [] 43 plus b e bs) (λ e. number-stands [] 45 minus b e bs) h
+begun-stands front.Period b bs h m = dotted-stands b h (name_run bs) (drop (prefix_len is_name_byte bs) bs) bs (taken-run is_name_byte bs) (sym (taken-rest is_name_byte bs))
+begun-stands front.Dollar b bs h m = run-stands kind.Variable is_name_byte b 36 bs h (table.variable (taken-run is_name_byte bs))
+begun-stands front.DoubleQuote b bs h m = quote-stands kind.String 34 (IsQuoted 34) (λ xs rest f. table.string f) b h bs (quoted 34 false bs) (quoted-is 34 false bs)
+begun-stands front.Backquote b bs h m = quote-stands kind.RawString 96 (Absent (96 ∷ [])) (λ xs rest f. table.raw_string xs f) b h bs (through 96 bs) (raw-is 96 bs)
+begun-stands front.SingleQuote b bs h m = quote-stands kind.Character 39 (IsQuoted 39) (λ xs rest f. table.character f) b h bs (quoted 39 false bs) (quoted-is 39 false bs)
+begun-stands front.Colon b bs h m = declare-stands b h bs
+begun-stands front.Equals b bs h m = first-is kind.Assign b 61 bs [] bs h refl table.assign
+begun-stands front.Comma b bs h m = first-is kind.Comma b 44 bs [] bs h refl table.comma
+begun-stands front.Bar b bs h m = first-is kind.Pipe b 124 bs [] bs h refl table.pipe
+begun-stands front.LeftParenthesis b bs h m = first-is kind.LeftParenthesis b 40 bs [] bs h refl table.left_parenthesis
+begun-stands front.RightParenthesis b bs h m = first-is kind.RightParenthesis b 41 bs [] bs h refl table.right_parenthesis
+begun-stands front.Other b bs h m = tt
+
+no-marker : (bs : List ℕ) → right_delimiter bs ≡ None → right_marked bs ≡ false
+no-marker bs h = go (has_right_delimiter bs) (right_marked bs) h
+  where
+    go : (c m : Bool) → ended_by c m bs ≡ None → m ≡ false
+    go true m h = let g : ◌≡◌ {A = Option End} (Some (record { trims = false; rest = drop 2 bs })) None = h in cc
+    go false true h = let g : ◌≡◌ {A = Option End} (Some (record { trims = true; rest = drop 4 bs })) None = h in cc
+    go false false h = refl
+
+pub stands : (bs : List ℕ) (t : Token) → IsFound bs t → BeginsWith bs t
+stands [] t h = let g : ◌≡◌ {A = Option Token} None (Some t) = h.front in cc
+stands (b ∷ bs) t h = go (begun (front_of b) bs) (begun-stands (front_of b) b bs (front-tells b) (no-marker (b ∷ bs) h.no_end)) h.front
+  where
+    go : (o : Option Begun) → AtBegun b bs o → token_from b o ≡ Some t → BeginsWith (b ∷ bs) t
+    go None at e = let g : ◌≡◌ {A = Option Token} None (Some t) = e in cc
+    go (Some p) at e =
+        let same : record { kind = p.0; bytes = b ∷ p.1 } ≡ t = cc in
+        subst (BeginsWith (b ∷ bs)) same (record { rest = at.rest; stands = at.stands; is = ap (λ l. b ∷ l) at.is })
+
+pub found-at : (bs : List ℕ) (t : Token) → BeginsWith bs t → IsFound bs t
+found-at bs t h = subst (λ (xs : List ℕ). IsFound xs t) (sym h.is) (found h.stands)
+
+pub one : (bs : List ℕ) (t u : Token) → BeginsWith bs t → BeginsWith bs u → t ≡ u
+one bs t u h k = same_Some t u (sym (found-at bs t h).front ∙ (found-at bs u k).front)
