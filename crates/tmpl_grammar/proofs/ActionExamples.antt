@@ -3,9 +3,10 @@ use Rattle.std.proofs.Common.{ℕ, pos, List, [], ◌∷◌, refl, codes}
 use Rattle.tmpl_lex.specs.declared.piece.TokenKind.TheVariants as kind
 use Rattle.tmpl_lex.specs.Piece.{Token}
 use Rattle.tmpl_grammar.specs.declared.tree.Control.TheVariants as control
-use Rattle.tmpl_grammar.specs.Constant.{constant_of}
 use Rattle.tmpl_grammar.specs.Constant.Integer.{integer}
-use Rattle.tmpl_grammar.specs.Operand.{operand_at, word_operand, func_named}
+use Rattle.tmpl_grammar.specs.Constant as constant
+use Rattle.tmpl_grammar.specs.Operand as operand
+use Rattle.tmpl_grammar.specs.computed.Operand.{operand_at, word_operand, func_named}
 use Rattle.tmpl_grammar.specs.computed.Parser.{step, finished}
 use Rattle.tmpl_grammar.specs.Tree.{dot, fields, number_constant, pipeline, Pipeline, unbound, declare, assign, Binding, Header, declare_pair}
 use Rattle.tmpl_grammar.specs.Action.{Action, pipeline_action, opening, else_branch, end_action, SpellsAction}
@@ -39,7 +40,7 @@ Nothing ts = (x : Action) → SpellsAction x ts → ⊥
 
 -- `{{ $x:=1 }}`
 a-declaration : SpellsAction (pipeline_action (headed (declare (codes "x")) (pipeline (single (number_constant (pos 1)))))) (space ∷ variable (codes "x") ∷ declares ∷ one ∷ space ∷ [])
-unfolding operand_at constant_of integer
+unfolding integer
 a-declaration = (
   refl,
   (
@@ -56,7 +57,7 @@ a-declaration = (
       refl,
       tt,
       refl,
-      (one ∷ space ∷ [], [], refl, ([], one ∷ [], space ∷ [], refl, tt, (one, [], refl, refl, refl), (refl, tt)), refl),
+      (one ∷ space ∷ [], [], refl, ([], one ∷ [], space ∷ [], refl, tt, (one, [], refl, operand.a_constant (constant.number refl), refl), (refl, tt)), refl),
     ),
   ),
 )
@@ -87,7 +88,7 @@ an-assignment = (
         refl,
         (refl, tt),
         refl,
-        (space ∷ field a ∷ [], [], refl, (space ∷ [], field a ∷ [], [], refl, (refl, tt), (field a, [], refl, refl, refl), tt), refl),
+        (space ∷ field a ∷ [], [], refl, (space ∷ [], field a ∷ [], [], refl, (refl, tt), (field a, [], refl, operand.field refl refl, refl), tt), refl),
       ),
     ),
   ),
@@ -133,7 +134,7 @@ a-range = (
             refl,
             (refl, tt),
             refl,
-            (space ∷ period ∷ [], [], refl, (space ∷ [], period ∷ [], [], refl, (refl, tt), (period, [], refl, refl, refl), tt), refl),
+            (space ∷ period ∷ [], [], refl, (space ∷ [], period ∷ [], [], refl, (refl, tt), (period, [], refl, operand.dot, refl), tt), refl),
           ),
         ),
       ),
@@ -158,7 +159,7 @@ an-else-if = (
     refl,
     (refl, tt),
     (refl, refl),
-    (refl, (space ∷ period ∷ [], [], refl, (space ∷ [], period ∷ [], [], refl, (refl, tt), (period, [], refl, refl, refl), tt), refl)),
+    (refl, (space ∷ period ∷ [], [], refl, (space ∷ [], period ∷ [], [], refl, (refl, tt), (period, [], refl, operand.dot, refl), tt), refl)),
   ),
 )
 

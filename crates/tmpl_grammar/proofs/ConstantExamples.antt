@@ -1,28 +1,27 @@
 -- What the definition of constants says of some tokens, computed.
 use Prim.Native.String.{String}
-use Rattle.std.proofs.Common.{◌≡◌, pos, negsuc, [], ◌∷◌, Option, Some, None, refl, codes}
-use Rattle.tmpl_lex.specs.declared.piece.TokenKind.{TokenKind}
+use Rattle.std.proofs.Common.{◌≡◌, pos, negsuc, [], ◌∷◌, Option, Some, None, refl, codes, arith}
 use Rattle.tmpl_lex.specs.declared.piece.TokenKind.TheVariants as kind
-use Rattle.tmpl_lex.specs.Piece.{Token}
 use Rattle.std.specs.Char.{encode_utf8}
 use Rattle.std.specs.Str.{chars}
-use Rattle.tmpl_values.specs.Rune.{first_rune}
+use Rattle.tmpl_values.specs.computed.Rune.{first_rune}
+use Rattle.tmpl_grammar.specs.Token.{token}
 use Rattle.tmpl_grammar.specs.Tree.{Operand, number_constant, text_constant}
 use Rattle.tmpl_grammar.specs.Constant.Integer.{integer}
-use Rattle.tmpl_grammar.specs.Constant.Quoted.{parts, part_at}
-use Rattle.tmpl_grammar.specs.Constant.{constant_of}
-
-abbrev token : TokenKind → String → Token
-token k spelling = record { kind = k; bytes = codes spelling }
+use Rattle.tmpl_grammar.specs.Constant as constant
+use Rattle.tmpl_grammar.specs.Constant.{IsConstant}
+use Rattle.tmpl_grammar.specs.Constant.Quoted.{alert, octal, four_digits, at_end, an_escape}
+use Rattle.tmpl_grammar.specs.computed.Quoted.{parts, part_at}
+use Rattle.tmpl_grammar.specs.computed.Constant.{constant_of}
 
 abbrev number : String → Option Operand
-number spelling = constant_of (token kind.Number spelling)
+number spelling = constant_of (token kind.Number (codes spelling))
 
 abbrev string : String → Option Operand
-string spelling = constant_of (token kind.String spelling)
+string spelling = constant_of (token kind.String (codes spelling))
 
 abbrev character : String → Option Operand
-character spelling = constant_of (token kind.Character spelling)
+character spelling = constant_of (token kind.Character (codes spelling))
 
 zero-alone : number "0" ≡ Some (number_constant (pos 0))
 unfolding constant_of integer
@@ -32,9 +31,9 @@ plus-seven : number "+7" ≡ Some (number_constant (pos 7))
 unfolding constant_of integer
 plus-seven = refl
 
-octal : number "017" ≡ Some (number_constant (pos 15))
+octal-number : number "017" ≡ Some (number_constant (pos 15))
 unfolding constant_of integer
-octal = refl
+octal-number = refl
 
 hexadecimal : number "0x1F" ≡ Some (number_constant (pos 31))
 unfolding constant_of integer
@@ -110,12 +109,12 @@ unfolding constant_of parts part_at first_rune chars encode_utf8
 plain = refl
 
 -- an ill-formed byte gives U+FFFD
-ill-formed : constant_of (record { kind = kind.String; bytes = 34 ∷ 255 ∷ 97 ∷ 34 ∷ [] }) ≡ Some (text_constant (239 ∷ 191 ∷ 189 ∷ 97 ∷ []))
+ill-formed : constant_of (token kind.String (34 ∷ 255 ∷ 97 ∷ 34 ∷ [])) ≡ Some (text_constant (239 ∷ 191 ∷ 189 ∷ 97 ∷ []))
 unfolding constant_of parts part_at first_rune chars encode_utf8
 ill-formed = refl
 
 -- in a raw string a backslash and an ill-formed byte stand for themselves, and a carriage return for nothing
-raw : constant_of (record { kind = kind.RawString; bytes = 96 ∷ 92 ∷ 110 ∷ 255 ∷ 13 ∷ 10 ∷ 96 ∷ [] }) ≡ Some (text_constant (92 ∷ 110 ∷ 255 ∷ 10 ∷ []))
+raw : constant_of (token kind.RawString (96 ∷ 92 ∷ 110 ∷ 255 ∷ 13 ∷ 10 ∷ 96 ∷ [])) ≡ Some (text_constant (92 ∷ 110 ∷ 255 ∷ 10 ∷ []))
 unfolding constant_of
 raw = refl
 
@@ -124,7 +123,7 @@ unfolding constant_of parts part_at first_rune chars encode_utf8
 letter = refl
 
 -- an ill-formed byte has the code of U+FFFD
-ill-formed-character : constant_of (record { kind = kind.Character; bytes = 39 ∷ 255 ∷ 39 ∷ [] }) ≡ Some (number_constant (pos 65533))
+ill-formed-character : constant_of (token kind.Character (39 ∷ 255 ∷ 39 ∷ [])) ≡ Some (number_constant (pos 65533))
 unfolding constant_of parts part_at first_rune chars encode_utf8
 ill-formed-character = refl
 
@@ -140,3 +139,22 @@ two = refl
 none : character "''" ≡ None
 unfolding constant_of parts part_at
 none = refl
+
+-- without its quotes nothing is a string
+unquoted-string : constant_of (token kind.String (codes "ab")) ≡ None
+unfolding constant_of
+unquoted-string = refl
+
+-- ---- by the relation
+
+-- an octal escape stands for its byte
+two-hundred-fifty-five : IsConstant (token kind.String (codes "\"\\377\\a\"")) (text_constant (255 ∷ 7 ∷ []))
+two-hundred-fifty-five =
+    constant.string {bs = codes "\\377\\a"}
+    (an_escape (octal {ds = codes "377"} (refl, (omega arith, (omega arith, (omega arith, tt)))) (omega arith)) (an_escape alert at_end))
+
+-- `\u` stands for its character
+accent : IsConstant (token kind.Character (codes "'\\u00e9'")) (number_constant (pos 233))
+accent =
+    constant.character {bs = codes "\\u00e9"}
+    (an_escape (four_digits {ds = codes "00e9"} (refl, (omega arith, (omega arith, (omega arith, (omega arith, tt))))) refl) at_end)

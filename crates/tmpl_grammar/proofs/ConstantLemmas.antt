@@ -1,17 +1,17 @@
 -- What the operands of one token are.
 use Rattle.std.proofs.Common.{◌≡◌, ℕ, ℤ, pos, Bool, true, false, List, [], ◌∷◌, Option, Some, None, refl, cond, bytes_eq, codes}
-use Rattle.std.specs.Option.{option_map}
+use Rattle.std.specs.Option.{option_map, option_and_then}
 use Rattle.tmpl_funcs.specs.declared.func.Func.{Func}
 use Rattle.tmpl_lex.specs.declared.piece.TokenKind.{TokenKind}
 use Rattle.tmpl_lex.specs.declared.piece.TokenKind.TheVariants as kind
 use Rattle.tmpl_lex.specs.Piece.{Token}
-use Rattle.tmpl_grammar.specs.Constant.{constant_of, constant_by}
+use Rattle.tmpl_grammar.specs.computed.Constant.{constant_of, constant_by, string_in, raw_string_in, character_in}
 use Rattle.tmpl_grammar.specs.Constant.Integer.{integer}
-use Rattle.tmpl_grammar.specs.Constant.Quoted.{between, unquoted, rune_code}
+use Rattle.tmpl_grammar.specs.computed.Quoted.{between, unquoted, rune_code}
 use Rattle.tmpl_grammar.specs.Token.{begins_name, name_in}
 use Rattle.tmpl_grammar.specs.Tree as tree
 use Rattle.tmpl_grammar.specs.Tree.{Operand}
-use Rattle.tmpl_grammar.specs.Operand.{operand_at, operand_by, word_operand, func_named, field_operand}
+use Rattle.tmpl_grammar.specs.computed.Operand.{operand_at, operand_by, word_operand, func_named, field_operand}
 use Rattle.tmpl_grammar.specs.Depth.{depth_of_operand}
 
 -- a number or a text
@@ -39,11 +39,23 @@ rune-value : (o : Option ℕ) → IsValue (option_map (λ n. tree.number_constan
 rune-value None = tt
 rune-value (Some n) = tt
 
+string-value : (o : Option (List ℕ)) → IsValue (option_and_then string_in o)
+string-value None = tt
+string-value (Some bs) = text-value (unquoted 34 bs)
+
+raw-value : (o : Option (List ℕ)) → IsValue (option_map raw_string_in o)
+raw-value None = tt
+raw-value (Some bs) = tt
+
+character-value : (o : Option (List ℕ)) → IsValue (option_and_then character_in o)
+character-value None = tt
+character-value (Some bs) = rune-value (rune_code 39 bs)
+
 value-by : (k : TokenKind) (bytes : List ℕ) → IsValue (constant_by k bytes)
 value-by kind.Number bytes = number-value (integer bytes)
-value-by kind.String bytes = text-value (unquoted 34 (between bytes))
-value-by kind.RawString bytes = tt
-value-by kind.Character bytes = rune-value (rune_code 39 (between bytes))
+value-by kind.String bytes = string-value (between 34 bytes)
+value-by kind.RawString bytes = raw-value (between 96 bytes)
+value-by kind.Character bytes = character-value (between 39 bytes)
 value-by kind.Space bytes = tt
 value-by kind.Word bytes = tt
 value-by kind.Field bytes = tt

@@ -7,7 +7,7 @@ use Rattle.tmpl_lex.specs.Piece.{Token}
 use Rattle.tmpl_grammar.specs.Token.{begins_name, name_in}
 use Rattle.tmpl_grammar.specs.Tree as tree
 use Rattle.tmpl_grammar.specs.Tree.{Operand, Operands, operands_from, commands_from}
-use Rattle.tmpl_grammar.specs.Operand.{operand_at}
+use Rattle.tmpl_grammar.specs.computed.Operand.{operand_at}
 use Rattle.tmpl_grammar.specs.computed.Parser as parser
 use Rattle.tmpl_grammar.specs.computed.Parser.{Parser, Partial, settled, more_commands, closed, kept, linked_by, step, step_by, steps, finished, commands_after}
 use Rattle.tmpl_grammar.proofs.ConstantLemmas.{IsFlat, flat-at}

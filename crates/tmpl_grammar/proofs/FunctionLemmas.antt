@@ -5,7 +5,7 @@ use lib.Pointwise.{bytes_decides}
 use Rattle.tmpl_funcs.specs.Func.{name_of}
 use Rattle.tmpl_funcs.specs.declared.func.Func.{Func}
 use Rattle.tmpl_funcs.specs.declared.func.Func.TheVariants.{And, Or, Not, Len, Index, Slice, Print, Println, Printf, Html, Urlquery, Eq, Ne, Lt, Le, Gt, Ge}
-use Rattle.tmpl_grammar.specs.Operand.{func_named, funcs}
+use Rattle.tmpl_grammar.specs.computed.Operand.{func_named, funcs}
 
 named-itself : (f : Func) → Some f ≡ func_named (name_of f)
 unfolding func_named

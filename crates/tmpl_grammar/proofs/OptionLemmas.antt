@@ -1,6 +1,6 @@
 -- Options and their values.
 use Rattle.std.proofs.Common.{◌≡◌, Option, Some, None, refl}
-use Rattle.std.specs.Option.{option_map}
+use Rattle.std.specs.Option.{option_map, option_and_then}
 use Rattle.std.proofs.lemmas.Option.{same_Some}
 
 pub no-value : {A B : Type 0} (x : A) → None ≡ Some x → B
@@ -15,3 +15,13 @@ pub record Mapped {A B : Type 0} (f : A → B) (o : Option A) (y : B) : Type 0 w
 pub mapped : {A B : Type 0} (f : A → B) (o : Option A) (y : B) → option_map f o ≡ Some y → Mapped f o y
 mapped f None y e = no-value y e
 mapped f (Some x) y e = record { source = x; is = refl; to = same_Some (f x) y e }
+
+-- what a chained option comes from
+pub record Chained {A B : Type 0} (f : A → Option B) (o : Option A) (y : B) : Type 0 where
+  pub source : A
+  pub is : o ≡ Some source
+  pub to : f source ≡ Some y
+
+pub chained : {A B : Type 0} (f : A → Option B) (o : Option A) (y : B) → option_and_then f o ≡ Some y → Chained f o y
+chained f None y e = no-value y e
+chained f (Some x) y e = record { source = x; is = refl; to = e }

@@ -1,10 +1,10 @@
 -- What holds of the actions that tokens of a file spell.
-use Rattle.std.proofs.Common.{◌≡◌, ◌∙◌, ℕ, ◌-◌, ◌≤◌, Bool, true, false, cond, List, [], ◌∷◌, ◌++◌, Option, Some, None, refl, sym, ap, subst, length, drop, pos, bytes_eq, codes}
-use Rattle.std.specs.Option.{option_map}
+use Rattle.std.proofs.Common.{◌≡◌, ◌∙◌, ℕ, ◌-◌, ◌≤◌, Bool, true, false, cond, List, [], ◌∷◌, ◌++◌, Option, Some, None, refl, sym, ap, subst, length, take, drop, if◌then◌else◌, pos, bytes_eq, codes}
+use Rattle.std.specs.Option.{option_map, option_and_then}
 use lib.IntN.{ℤ}
 use Rattle.tmpl_values.proofs.RuneLemmas.{AreBytes}
 use Rattle.tmpl_funcs.specs.declared.func.Func.{Func}
-use Rattle.tmpl_lex.specs.Laws.{IsNamed, OfKind}
+use Rattle.tmpl_lex.proofs.NameLemmas.{IsNamed, OfKind}
 use Rattle.tmpl_lex.specs.Piece.{Token}
 use Rattle.tmpl_lex.specs.declared.piece.TokenKind.{TokenKind}
 use Rattle.tmpl_lex.specs.declared.piece.TokenKind.TheVariants as kind
@@ -13,15 +13,17 @@ use Rattle.tmpl_grammar.specs.Tree as tree
 use Rattle.tmpl_grammar.specs.Tree.{Operand, Operands, Commands, Pipeline, pipeline, Binding, unbound, declare, assign, Header, declare_pair}
 use Rattle.tmpl_grammar.specs.Action.{Action, pipeline_action, opening, plain_else, else_branch, end_action, break_action, continue_action, SpellsAction}
 use Rattle.tmpl_grammar.specs.Header.{IsVariable, SpellsHeader, SpellsBinding, SpellsWhole}
-use Rattle.tmpl_grammar.specs.Constant.{constant_of, constant_by}
+use Rattle.tmpl_grammar.specs.computed.Constant.{constant_of, constant_by, string_in, raw_string_in, character_in}
 use Rattle.tmpl_grammar.specs.Depth.{depth_of, depth_of_pipeline, most_deep}
 use Rattle.tmpl_grammar.specs.Pipeline.{IsChain, SpellsOperand, SpellsMore, SpellsCommand, SpellsLater, SpellsPipeline}
 use Rattle.tmpl_grammar.specs.Constant.Integer.{integer}
-use Rattle.tmpl_grammar.specs.Constant.Quoted.{between, unquoted, rune_code}
-use Rattle.tmpl_grammar.specs.Operand.{operand_at, operand_by, word_operand, func_named, field_operand}
+use Rattle.tmpl_grammar.specs.computed.Quoted.{between, unquoted, rune_code}
+use Rattle.tmpl_grammar.specs.Operand.{IsOperand}
+use Rattle.tmpl_grammar.specs.computed.Operand.{operand_at, operand_by, word_operand, func_named, field_operand}
 use Rattle.tmpl_grammar.specs.Printable.{AreFieldNames, OfOperand, OfMore, OfCommand, OfLater, OfCommands, OfPipeline, OfVariable, OfBinding, OfAction, OfHeader}
 use Rattle.tmpl_grammar.specs.declared.action.Shape.{Shape}
 use Rattle.tmpl_grammar.specs.declared.action.Shape.TheVariants as shape
+use Rattle.tmpl_grammar.proofs.IsOperandLemmas.{computes-operand}
 use Rattle.tmpl_grammar.proofs.PrintableTokenLemmas.{IsRead, AreRead, bytes-drop, bytes-take}
 use Rattle.tmpl_grammar.proofs.PrintableConstantLemmas.{InRange, integer-range, OfText, unquoted-bytes, raw-bytes, OfCode, character-range}
 
@@ -43,14 +45,30 @@ character-of : (o : Option ℕ) → OfCode o → OfMaybe (option_map (λ n. tree
 character-of None h = tt
 character-of (Some n) h = h
 
-between-bytes : (bs : List ℕ) → AreBytes bs → AreBytes (between bs)
-between-bytes bs h = bytes-take (length bs - 2) (drop 1 bs) (bytes-drop 1 bs h)
+if-text : (t : Bool) (xs : List ℕ) → AreBytes xs → OfText (if t then Some xs else None)
+if-text true xs h = h
+if-text false xs h = tt
+
+between-bytes : (quote : ℕ) (bs : List ℕ) → AreBytes bs → OfText (between quote bs)
+between-bytes quote bs h = if-text _ (take (length bs - 2) (drop 1 bs)) (bytes-take (length bs - 2) (drop 1 bs) (bytes-drop 1 bs h))
+
+string-of : (o : Option (List ℕ)) → OfMaybe (option_and_then string_in o)
+string-of None = tt
+string-of (Some bs) = text-of (unquoted 34 bs) (unquoted-bytes bs)
+
+raw-of : (o : Option (List ℕ)) → OfText o → OfMaybe (option_map raw_string_in o)
+raw-of None h = tt
+raw-of (Some bs) h = raw-bytes bs h
+
+rune-of : (o : Option (List ℕ)) → OfMaybe (option_and_then character_in o)
+rune-of None = tt
+rune-of (Some bs) = character-of (rune_code 39 bs) (character-range bs)
 
 constant-is : (k : TokenKind) (bs : List ℕ) → AreBytes bs → OfMaybe (constant_by k bs)
 constant-is kind.Number bs h = number-of (integer bs) (integer-range bs)
-constant-is kind.String bs h = text-of (unquoted 34 (between bs)) (unquoted-bytes (between bs))
-constant-is kind.RawString bs h = raw-bytes (between bs) (between-bytes bs h)
-constant-is kind.Character bs h = character-of (rune_code 39 (between bs)) (character-range (between bs))
+constant-is kind.String bs h = string-of (between 34 bs)
+constant-is kind.RawString bs h = raw-of (between 96 bs) (between-bytes 96 bs h)
+constant-is kind.Character bs h = rune-of (between 39 bs)
 constant-is kind.Space bs h = tt
 constant-is kind.Word bs h = tt
 constant-is kind.Field bs h = tt
@@ -103,9 +121,9 @@ operand-is kind.Pipe t n h = tt
 operand-is kind.LeftParenthesis t n h = tt
 operand-is kind.RightParenthesis t n h = tt
 
-of-token : (t : Token) (o : Operand) → IsRead t → operand_at t ≡ Some o → OfOperand o
+of-token : (t : Token) (o : Operand) → IsRead t → IsOperand t o → OfOperand o
 unfolding operand_at
-of-token t o r e = subst OfMaybe e (operand-is t.kind t r.names r.bytes)
+of-token t o r is = subst OfMaybe (computes-operand t o is) (operand-is t.kind t r.names r.bytes)
 
 -- ---- pipelines
 

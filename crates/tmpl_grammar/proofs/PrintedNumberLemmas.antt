@@ -9,11 +9,11 @@ use Rattle.std.specs.Str.Parse.{IsNumeral, AllDigits, digits_value}
 use Rattle.std.proofs.lemmas.Fmt.{decimal_is_IsNumeral, decimal_digit, first_decimal}
 use Rattle.std.proofs.lemmas.Bool.{and_parts}
 use Rattle.std.proofs.lemmas.Bool.Decides.{nat_tests}
-use Rattle.tmpl_lex.specs.Bytes.{is_number_byte}
+use Rattle.tmpl_lex.specs.Bytes.{is_number_byte, Stops}
 use Rattle.tmpl_lex.specs.declared.piece.TokenKind.TheVariants as kind
 use Rattle.tmpl_grammar.specs.Constant.Integer.{is_plain, begins_plain, underscores_part, number_in, parted_number, behind_zero, magnitude, signed, integer}
-use Rattle.tmpl_grammar.specs.Print.{IsFront, Solid, solid, minus, token}
-use Rattle.tmpl_grammar.proofs.FrontLemmas.{halts, digit-front, minus-front}
+use Rattle.tmpl_grammar.specs.Print.{token}
+use Rattle.tmpl_grammar.proofs.FrontLemmas.{IsFront, digit-front, minus-front, Solid, solid, minus}
 use Rattle.tmpl_grammar.proofs.IntegerLemmas.{digits-plain}
 
 -- ---- the token
@@ -31,24 +31,24 @@ pub record Stands (bs rest : List ℕ) : Type 0 where
   pub solid_is : Solid (bs ++ rest)
 
 digit-solid : (d : ℕ) (bs : List ℕ) → is_ascii_digit d ≡ true → Solid (d ∷ bs)
-digit-solid d bs h = solid (grind (arith, nat_tests)) (grind (arith, nat_tests)) (grind (arith, nat_tests)) (grind (arith, nat_tests))
+digit-solid d bs h = solid (grind (arith, nat_tests)) (grind (arith, nat_tests))
 
 first-digit : (d : ℕ) (ds : List ℕ) → AllDigits 10 (d ∷ ds) → is_ascii_digit d ≡ true
 first-digit d ds h = let low = h.0 in grind (arith, nat_tests)
 
-plain-stands : (ds rest : List ℕ) → IsNumeral 10 ds → halts is_number_byte rest ≡ true → Stands ds rest
+plain-stands : (ds rest : List ℕ) → IsNumeral 10 ds → Stops is_number_byte rest → Stands ds rest
 plain-stands [] rest h stop = absurd (let some = h.0 in omega (arith, some))
 plain-stands (d ∷ ds) rest h stop =
     let digit = first-digit d ds h.1 in
     record { front = digit-front d ds rest digit (all-digits ds h.1.1) stop; solid_is = digit-solid d (ds ++ rest) digit }
 
-minus-stands : (ds rest : List ℕ) → IsNumeral 10 ds → halts is_number_byte rest ≡ true → Stands (45 ∷ ds) rest
+minus-stands : (ds rest : List ℕ) → IsNumeral 10 ds → Stops is_number_byte rest → Stands (45 ∷ ds) rest
 minus-stands [] rest h stop = absurd (let some = h.0 in omega (arith, some))
 minus-stands (d ∷ ds) rest h stop =
     let digit = first-digit d ds h.1 in
     record { front = minus-front d ds rest digit (all-digits ds h.1.1) stop; solid_is = minus digit }
 
-pub number-stands : (n : ℤ) (rest : List ℕ) → mag n < 2 ^ 63 → halts is_number_byte rest ≡ true → Stands (signed_decimal n) rest
+pub number-stands : (n : ℤ) (rest : List ℕ) → mag n < 2 ^ 63 → Stops is_number_byte rest → Stands (signed_decimal n) rest
 number-stands (pos n) rest h stop = plain-stands (decimal n) rest (decimal_is_IsNumeral n (omega arith)).0 stop
 number-stands (negsuc n) rest h stop = minus-stands (decimal (suc n)) rest (decimal_is_IsNumeral (suc n) (omega arith)).0 stop
 

@@ -1,28 +1,27 @@
 -- The tokens of a printed pipeline or action spell it.
-use Rattle.std.proofs.Common.{arith, ◌≡◌, ◌∙◌, ℕ, ◌-◌, Bool, true, false, List, [], ◌∷◌, ◌++◌, Some, refl, sym, ap, append_assoc, length, take, length-append}
-use Rattle.std.specs.Option.{option_map}
-use Rattle.std.proofs.Math.Seq.{take-append_seam}
+use Rattle.std.proofs.Common.{◌≡◌, ◌∙◌, ℕ, Bool, true, false, List, [], ◌∷◌, ◌++◌, Some, refl, sym, ap, append_assoc}
+use Rattle.std.specs.Option.{option_map, option_and_then}
 use Rattle.tmpl_values.specs.Quote.{quote, inside}
 use Rattle.tmpl_values.specs.Printable.{printable}
 use Rattle.tmpl_values.proofs.RuneLemmas.{AreBytes}
-use Rattle.tmpl_funcs.specs.declared.func.Func.{Func}
-use Rattle.tmpl_funcs.specs.declared.func.Func.TheVariants.{And, Or, Not, Len, Index, Slice, Print, Println, Printf, Html, Urlquery, Eq, Ne, Lt, Le, Gt, Ge}
 use Rattle.tmpl_funcs.specs.Func.{name_of}
 use Rattle.tmpl_lex.specs.Piece.{Token}
 use Rattle.tmpl_lex.specs.declared.piece.TokenKind.TheVariants as kind
-use Rattle.tmpl_grammar.specs.Token.{begins_name}
 use Rattle.tmpl_grammar.specs.Tree as tree
 use Rattle.tmpl_grammar.specs.Tree.{Operand, Operands, Commands, Pipeline, pipeline, Binding, unbound, declare, assign, Header, declare_pair}
 use Rattle.tmpl_grammar.specs.Action.{Action, pipeline_action, opening, plain_else, else_branch, end_action, break_action, continue_action, SpellsAction}
 use Rattle.tmpl_grammar.specs.Pipeline.{IsBlank, IsChain, SpellsOperand, SpellsMore, SpellsCommand, SpellsLater, SpellsPipeline}
 use Rattle.tmpl_grammar.specs.Header.{Then, IsVariable, IsSign, IsName, SpellsHeader, SpellsBinding, SpellsWhole}
-use Rattle.tmpl_grammar.specs.Constant.{constant_of}
-use Rattle.tmpl_grammar.specs.Constant.Quoted.{between, unquoted}
-use Rattle.tmpl_grammar.specs.Operand.{operand_at, word_operand, func_named, field_operand}
+use Rattle.tmpl_grammar.specs.Constant.{IsConstant}
+use Rattle.tmpl_grammar.specs.computed.Constant.{constant_of, string_in}
+use Rattle.tmpl_grammar.specs.Operand as operand
+use Rattle.tmpl_grammar.specs.Operand.{IsOperand}
+use Rattle.tmpl_grammar.specs.Constant as constant
 use Rattle.tmpl_grammar.specs.Print.{token, space, word, chain_tokens, truth_word, operand_tokens, more_tokens, command_tokens, later_tokens, commands_tokens, header_tokens, action_tokens, binding_tokens, pipeline_tokens}
 use Rattle.tmpl_grammar.specs.Printable.{AreFieldNames, OfOperand, OfMore, OfCommand, OfLater, OfCommands, OfPipeline, OfBinding, OfAction, OfHeader}
 use Rattle.tmpl_grammar.specs.declared.action.Shape.{Shape}
 use Rattle.tmpl_grammar.specs.declared.action.Shape.TheVariants as shape
+use Rattle.tmpl_grammar.proofs.IsConstantLemmas.{between-quotes, is-computed-constant}
 use Rattle.tmpl_grammar.proofs.QuotePartLemmas.{unquoted-inside}
 use Rattle.tmpl_grammar.proofs.PrintedNumberLemmas.{integer-decimal}
 
@@ -32,61 +31,18 @@ spells-chain : (ns : List (List ℕ)) → AreFieldNames ns → IsChain ns (chain
 spells-chain [] h = refl
 spells-chain (n ∷ ns) h = (token kind.Field (46 ∷ n), chain_tokens ns, refl, refl, h.0.0, refl, spells-chain ns h.1)
 
-field-at : (n : List ℕ) → begins_name n ≡ true → operand_at (token kind.Field (46 ∷ n)) ≡ Some (tree.fields (n ∷ []))
-unfolding operand_at
-field-at n h = ap (λ k. field_operand k n) h
+truth-at : (b : Bool) → IsOperand (word (truth_word b)) (tree.bool_constant b)
+truth-at true = operand.true_word
+truth-at false = operand.false_word
 
-variable-at : (n : List ℕ) → operand_at (token kind.Variable (36 ∷ n)) ≡ Some (tree.variable n [])
-unfolding operand_at
-variable-at n = refl
-
-dot-at : operand_at (token kind.Dot (46 ∷ [])) ≡ Some tree.dot
-unfolding operand_at
-dot-at = refl
-
-truth-at : (b : Bool) → operand_at (word (truth_word b)) ≡ Some (tree.bool_constant b)
-unfolding operand_at word_operand
-truth-at true = refl
-truth-at false = refl
-
-nil-at : operand_at (word (110 ∷ 105 ∷ 108 ∷ [])) ≡ Some tree.nil
-unfolding operand_at word_operand
-nil-at = refl
-
-function-at : (f : Func) → operand_at (word (name_of f)) ≡ Some (tree.function f)
-unfolding operand_at word_operand func_named
-function-at And = refl
-function-at Or = refl
-function-at Not = refl
-function-at Len = refl
-function-at Index = refl
-function-at Slice = refl
-function-at Print = refl
-function-at Println = refl
-function-at Printf = refl
-function-at Html = refl
-function-at Urlquery = refl
-function-at Eq = refl
-function-at Ne = refl
-function-at Lt = refl
-function-at Le = refl
-function-at Gt = refl
-function-at Ge = refl
-
-number-at : (bs : List ℕ) (n : lib.IntN.ℤ) → Rattle.tmpl_grammar.specs.Constant.Integer.integer bs ≡ Some n → operand_at (token kind.Number bs) ≡ Some (tree.number_constant n)
-unfolding operand_at constant_of
-number-at bs n h = ap (option_map tree.number_constant) h
-
-pub between-quotes : (xs : List ℕ) → between (34 ∷ (xs ++ 34 ∷ [])) ≡ xs
-between-quotes xs =
-    let n : length (34 ∷ (xs ++ 34 ∷ [])) - 2 ≡ length xs = omega (arith, length-append xs (34 ∷ [])) in
-    ap (λ k. take k (xs ++ 34 ∷ [])) n ∙ take-append_seam xs (34 ∷ [])
-
-string-at : (bs : List ℕ) → AreBytes bs → operand_at (token kind.String (quote bs)) ≡ Some (tree.text_constant bs)
-unfolding operand_at constant_of quote
+string-at : (bs : List ℕ) → AreBytes bs → constant_of (token kind.String (quote bs)) ≡ Some (tree.text_constant bs)
+unfolding constant_of quote
 string-at bs h =
-    ap (λ xs. option_map tree.text_constant (unquoted 34 xs)) (between-quotes (inside printable bs))
+    ap (option_and_then string_in) (between-quotes 34 (inside printable bs))
     ∙ ap (option_map tree.text_constant) (unquoted-inside printable bs h)
+
+pub quoted-constant : (bs : List ℕ) → AreBytes bs → IsConstant (token kind.String (quote bs)) (tree.text_constant bs)
+quoted-constant bs h = is-computed-constant (token kind.String (quote bs)) (tree.text_constant bs) (string-at bs h)
 
 -- ---- pipelines
 
@@ -105,15 +61,15 @@ spaced (tree.operand o os) ts s = (space ∷ s.0, s.1, s.2, ap (λ us. space ∷
 
 mutual
   spells-operand : (o : Operand) → OfOperand o → SpellsOperand o (operand_tokens o)
-  spells-operand tree.dot h = (token kind.Dot (46 ∷ []), [], refl, dot-at, refl)
+  spells-operand tree.dot h = (token kind.Dot (46 ∷ []), [], refl, operand.dot, refl)
   spells-operand (tree.fields []) h = absurd h
-  spells-operand (tree.fields (n ∷ ns)) h = (token kind.Field (46 ∷ n), chain_tokens ns, refl, field-at n h.0.0, spells-chain ns h.1)
-  spells-operand (tree.variable name names) h = (token kind.Variable (36 ∷ name), chain_tokens names, refl, variable-at name, spells-chain names h.1)
+  spells-operand (tree.fields (n ∷ ns)) h = (token kind.Field (46 ∷ n), chain_tokens ns, refl, operand.field refl h.0.0, spells-chain ns h.1)
+  spells-operand (tree.variable name names) h = (token kind.Variable (36 ∷ name), chain_tokens names, refl, operand.variable refl, spells-chain names h.1)
   spells-operand (tree.bool_constant b) h = (word (truth_word b), [], refl, truth-at b, refl)
-  spells-operand (tree.number_constant n) h = (token kind.Number _, [], refl, number-at _ n (integer-decimal n h), refl)
-  spells-operand (tree.text_constant bytes) h = (token kind.String (quote bytes), [], refl, string-at bytes h, refl)
-  spells-operand tree.nil h = (word _, [], refl, nil-at, refl)
-  spells-operand (tree.function f) h = (word (name_of f), [], refl, function-at f, refl)
+  spells-operand (tree.number_constant n) h = (token kind.Number _, [], refl, operand.a_constant (constant.number (integer-decimal n h)), refl)
+  spells-operand (tree.text_constant bytes) h = (token kind.String (quote bytes), [], refl, operand.a_constant (quoted-constant bytes h), refl)
+  spells-operand tree.nil h = (word _, [], refl, operand.nil_word, refl)
+  spells-operand (tree.function f) h = (word (name_of f), [], refl, operand.a_function f, refl)
   spells-operand (tree.group commands names) h = (token kind.LeftParenthesis (40 ∷ []), commands_tokens commands, token kind.RightParenthesis (41 ∷ []), chain_tokens names, refl, refl, refl, spells-commands commands h.0, spells-chain names h.1)
 
   -- with white space behind it

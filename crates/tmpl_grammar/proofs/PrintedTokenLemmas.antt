@@ -5,184 +5,185 @@ use Rattle.tmpl_values.specs.Printable.{printable}
 use Rattle.tmpl_funcs.specs.declared.func.Func.{Func}
 use Rattle.tmpl_funcs.specs.declared.func.Func.TheVariants.{And, Or, Not, Len, Index, Slice, Print, Println, Printf, Html, Urlquery, Eq, Ne, Lt, Le, Gt, Ge}
 use Rattle.tmpl_funcs.specs.Func.{name_of}
-use Rattle.tmpl_lex.specs.Bytes.{is_name_byte, is_number_byte}
+use Rattle.tmpl_lex.specs.Bytes.{is_name_byte, is_number_byte, Stops}
 use Rattle.tmpl_lex.specs.Piece.{Token}
+use Rattle.tmpl_lex.specs.Token as row
 use Rattle.tmpl_lex.specs.declared.piece.TokenKind.TheVariants as kind
 use Rattle.tmpl_grammar.specs.Tree as tree
 use Rattle.tmpl_grammar.specs.Tree.{Operand, Operands, Commands, Pipeline, pipeline, Binding, unbound, declare, assign, declare_pair}
 use Rattle.tmpl_grammar.specs.Action.{Action, pipeline_action, opening, plain_else, else_branch, end_action, break_action, continue_action, control_in}
-use Rattle.tmpl_grammar.specs.Print.{bytes_of, IsFront, Lexes, Solid, solid, IsInside, token, space, word, chain_tokens, truth_word, operand_tokens, more_tokens, command_tokens, later_tokens, commands_tokens, pipeline_tokens, header_tokens, action_tokens, binding_tokens, keyword_token}
+use Rattle.tmpl_grammar.specs.Print.{bytes_of, Spells, IsInside, token, space, word, chain_tokens, truth_word, operand_tokens, more_tokens, command_tokens, later_tokens, commands_tokens, pipeline_tokens, header_tokens, action_tokens, binding_tokens, keyword_token}
 use Rattle.tmpl_grammar.specs.Printable.{IsFieldName, AreFieldNames, IsFieldChain, OfOperand, OfMore, OfCommand, OfLater, OfCommands, OfPipeline, OfBinding, OfAction}
 use Rattle.tmpl_grammar.specs.declared.tree.Control.{Control}
 use Rattle.tmpl_grammar.specs.declared.tree.Control.TheVariants as control
 use Rattle.tmpl_grammar.specs.declared.keyword.Keyword.TheVariants as keyword
-use Rattle.tmpl_grammar.proofs.FrontLemmas.{halts, stops-name, word-front, dot-front, field-front, variable-front, string-front, declare-front, assign-front, comma-front, bar-front, left-front, right-front, space-front, bytes-append, lexes-append}
-use Rattle.tmpl_grammar.proofs.QuoteTokenLemmas.{quote-read}
+use Rattle.tmpl_grammar.proofs.FrontLemmas.{IsFront, Solid, solid, solid-unmarked, stops-name, word-front, field-front, variable-front, space-front, bytes-append, spells-append}
+use Rattle.tmpl_grammar.proofs.QuoteTokenLemmas.{quoted-inside}
 use Rattle.tmpl_grammar.proofs.PrintedNumberLemmas.{number-stands}
 
 -- these bytes end a number, and so any token that stands before them
-abbrev pub Stops : List ℕ → Type 0
-Stops rest = halts is_number_byte rest ≡ true
+abbrev pub EndsToken : List ℕ → Type 0
+EndsToken rest = Stops is_number_byte rest
 
 -- tokens that are read, and whose bytes may stand behind a space
 pub record Reads (ts : List Token) (rest : List ℕ) : Type 0 where
-  pub lexes : Lexes ts rest
+  pub spells : Spells ts rest
   pub firm : Solid (bytes_of ts ++ rest)
 
 -- one token alone
 pub one : (t : Token) (rest : List ℕ) → IsFront t rest → Solid (t.bytes ++ rest) → Reads (t ∷ []) rest
-one t rest f s = record { lexes = (f, tt); firm = subst (λ bs. Solid (bs ++ rest)) (sym (append-nil t.bytes)) s }
+one t rest f s = record { spells = (f, tt); firm = subst (λ bs. Solid (bs ++ rest)) (sym (append-nil t.bytes)) s }
 
 -- ---- chains
 
-field-stands : (n : List ℕ) (rest : List ℕ) → IsFieldName n → halts is_name_byte rest ≡ true → IsFront (token kind.Field (46 ∷ n)) rest
+field-stands : (n : List ℕ) (rest : List ℕ) → IsFieldName n → Stops is_name_byte rest → IsFront (token kind.Field (46 ∷ n)) rest
 field-stands [] rest h stop = let e = h.0 in cc
 field-stands (b ∷ n) rest h stop = field-front b n rest h.1 stop
 
-chain-stops : (ns : List (List ℕ)) (rest : List ℕ) → Stops rest → halts is_name_byte (bytes_of (chain_tokens ns) ++ rest) ≡ true
+chain-stops : (ns : List (List ℕ)) (rest : List ℕ) → EndsToken rest → Stops is_name_byte (bytes_of (chain_tokens ns) ++ rest)
 chain-stops [] rest stop = stops-name rest stop
 chain-stops (n ∷ ns) rest stop = refl
 
-chain-lexes : (ns : List (List ℕ)) (rest : List ℕ) → AreFieldNames ns → Stops rest → Lexes (chain_tokens ns) rest
-chain-lexes [] rest h stop = tt
-chain-lexes (n ∷ ns) rest h stop = (field-stands n (bytes_of (chain_tokens ns) ++ rest) h.0 (chain-stops ns rest stop), chain-lexes ns rest h.1 stop)
+chain-spells : (ns : List (List ℕ)) (rest : List ℕ) → AreFieldNames ns → EndsToken rest → Spells (chain_tokens ns) rest
+chain-spells [] rest h stop = tt
+chain-spells (n ∷ ns) rest h stop = (field-stands n (bytes_of (chain_tokens ns) ++ rest) h.0 (chain-stops ns rest stop), chain-spells ns rest h.1 stop)
 
-fields-reads : (ns : List (List ℕ)) (rest : List ℕ) → IsFieldChain ns → Stops rest → Reads (chain_tokens ns) rest
+fields-reads : (ns : List (List ℕ)) (rest : List ℕ) → IsFieldChain ns → EndsToken rest → Reads (chain_tokens ns) rest
 fields-reads [] rest h stop = absurd h
-fields-reads (n ∷ ns) rest h stop = record { lexes = chain-lexes (n ∷ ns) rest h stop; firm = solid refl refl refl refl }
+fields-reads (n ∷ ns) rest h stop = record { spells = chain-spells (n ∷ ns) rest h stop; firm = solid refl refl }
 
 -- ---- operands of one token
 
-function-reads : (f : Func) (rest : List ℕ) → halts is_name_byte rest ≡ true → Reads (word (name_of f) ∷ []) rest
-function-reads And rest stop = one (word (name_of And)) rest (word-front 97 _ rest refl refl refl refl stop) (solid refl refl refl refl)
-function-reads Or rest stop = one (word (name_of Or)) rest (word-front 111 _ rest refl refl refl refl stop) (solid refl refl refl refl)
-function-reads Not rest stop = one (word (name_of Not)) rest (word-front 110 _ rest refl refl refl refl stop) (solid refl refl refl refl)
-function-reads Len rest stop = one (word (name_of Len)) rest (word-front 108 _ rest refl refl refl refl stop) (solid refl refl refl refl)
-function-reads Index rest stop = one (word (name_of Index)) rest (word-front 105 _ rest refl refl refl refl stop) (solid refl refl refl refl)
-function-reads Slice rest stop = one (word (name_of Slice)) rest (word-front 115 _ rest refl refl refl refl stop) (solid refl refl refl refl)
-function-reads Print rest stop = one (word (name_of Print)) rest (word-front 112 _ rest refl refl refl refl stop) (solid refl refl refl refl)
-function-reads Println rest stop = one (word (name_of Println)) rest (word-front 112 _ rest refl refl refl refl stop) (solid refl refl refl refl)
-function-reads Printf rest stop = one (word (name_of Printf)) rest (word-front 112 _ rest refl refl refl refl stop) (solid refl refl refl refl)
-function-reads Html rest stop = one (word (name_of Html)) rest (word-front 104 _ rest refl refl refl refl stop) (solid refl refl refl refl)
-function-reads Urlquery rest stop = one (word (name_of Urlquery)) rest (word-front 117 _ rest refl refl refl refl stop) (solid refl refl refl refl)
-function-reads Eq rest stop = one (word (name_of Eq)) rest (word-front 101 _ rest refl refl refl refl stop) (solid refl refl refl refl)
-function-reads Ne rest stop = one (word (name_of Ne)) rest (word-front 110 _ rest refl refl refl refl stop) (solid refl refl refl refl)
-function-reads Lt rest stop = one (word (name_of Lt)) rest (word-front 108 _ rest refl refl refl refl stop) (solid refl refl refl refl)
-function-reads Le rest stop = one (word (name_of Le)) rest (word-front 108 _ rest refl refl refl refl stop) (solid refl refl refl refl)
-function-reads Gt rest stop = one (word (name_of Gt)) rest (word-front 103 _ rest refl refl refl refl stop) (solid refl refl refl refl)
-function-reads Ge rest stop = one (word (name_of Ge)) rest (word-front 103 _ rest refl refl refl refl stop) (solid refl refl refl refl)
+function-reads : (f : Func) (rest : List ℕ) → Stops is_name_byte rest → Reads (word (name_of f) ∷ []) rest
+function-reads And rest stop = one (word (name_of And)) rest (word-front 97 _ rest refl refl stop) (solid refl refl)
+function-reads Or rest stop = one (word (name_of Or)) rest (word-front 111 _ rest refl refl stop) (solid refl refl)
+function-reads Not rest stop = one (word (name_of Not)) rest (word-front 110 _ rest refl refl stop) (solid refl refl)
+function-reads Len rest stop = one (word (name_of Len)) rest (word-front 108 _ rest refl refl stop) (solid refl refl)
+function-reads Index rest stop = one (word (name_of Index)) rest (word-front 105 _ rest refl refl stop) (solid refl refl)
+function-reads Slice rest stop = one (word (name_of Slice)) rest (word-front 115 _ rest refl refl stop) (solid refl refl)
+function-reads Print rest stop = one (word (name_of Print)) rest (word-front 112 _ rest refl refl stop) (solid refl refl)
+function-reads Println rest stop = one (word (name_of Println)) rest (word-front 112 _ rest refl refl stop) (solid refl refl)
+function-reads Printf rest stop = one (word (name_of Printf)) rest (word-front 112 _ rest refl refl stop) (solid refl refl)
+function-reads Html rest stop = one (word (name_of Html)) rest (word-front 104 _ rest refl refl stop) (solid refl refl)
+function-reads Urlquery rest stop = one (word (name_of Urlquery)) rest (word-front 117 _ rest refl refl stop) (solid refl refl)
+function-reads Eq rest stop = one (word (name_of Eq)) rest (word-front 101 _ rest refl refl stop) (solid refl refl)
+function-reads Ne rest stop = one (word (name_of Ne)) rest (word-front 110 _ rest refl refl stop) (solid refl refl)
+function-reads Lt rest stop = one (word (name_of Lt)) rest (word-front 108 _ rest refl refl stop) (solid refl refl)
+function-reads Le rest stop = one (word (name_of Le)) rest (word-front 108 _ rest refl refl stop) (solid refl refl)
+function-reads Gt rest stop = one (word (name_of Gt)) rest (word-front 103 _ rest refl refl stop) (solid refl refl)
+function-reads Ge rest stop = one (word (name_of Ge)) rest (word-front 103 _ rest refl refl stop) (solid refl refl)
 
-truth-reads : (b : Bool) (rest : List ℕ) → halts is_name_byte rest ≡ true → Reads (word (truth_word b) ∷ []) rest
-truth-reads true rest stop = one (word (truth_word true)) rest (word-front 116 _ rest refl refl refl refl stop) (solid refl refl refl refl)
-truth-reads false rest stop = one (word (truth_word false)) rest (word-front 102 _ rest refl refl refl refl stop) (solid refl refl refl refl)
+truth-reads : (b : Bool) (rest : List ℕ) → Stops is_name_byte rest → Reads (word (truth_word b) ∷ []) rest
+truth-reads true rest stop = one (word (truth_word true)) rest (word-front 116 _ rest refl refl stop) (solid refl refl)
+truth-reads false rest stop = one (word (truth_word false)) rest (word-front 102 _ rest refl refl stop) (solid refl refl)
 
 pub string-reads : (bs rest : List ℕ) → Reads (token kind.String (quote bs) ∷ []) rest
 unfolding quote
 string-reads bs rest =
     one (token kind.String (34 ∷ (inside printable bs ++ 34 ∷ []))) rest
-    (string-front (inside printable bs ++ 34 ∷ []) rest (ap (λ xs. Rattle.tmpl_lex.specs.Quoted.quoted 34 false xs) (append_assoc (inside printable bs) (34 ∷ []) rest) ∙ quote-read printable bs rest))
-    (solid refl refl refl refl)
+    (row.string (quoted-inside printable bs))
+    (solid refl refl)
 
 -- ---- pipelines
 
-later-stops : (cs : Commands) (rest : List ℕ) → Stops rest → Stops (bytes_of (later_tokens cs) ++ rest)
+later-stops : (cs : Commands) (rest : List ℕ) → EndsToken rest → EndsToken (bytes_of (later_tokens cs) ++ rest)
 later-stops tree.no_command rest stop = stop
 later-stops (tree.command os cs) rest stop = refl
 
-more-stops : (os : Operands) (rest : List ℕ) → Stops rest → Stops (bytes_of (more_tokens os) ++ rest)
+more-stops : (os : Operands) (rest : List ℕ) → EndsToken rest → EndsToken (bytes_of (more_tokens os) ++ rest)
 more-stops tree.no_operand rest stop = stop
 more-stops (tree.operand o os) rest stop = refl
 
 -- one list behind another
-reads-append : (ts us : List Token) (rest : List ℕ) → Reads ts (bytes_of us ++ rest) → Lexes us rest → Reads (ts ++ us) rest
-reads-append ts us rest r l = record { lexes = lexes-append ts us rest r.lexes l; firm = subst Solid (sym (bytes-append ts us rest)) r.firm }
+reads-append : (ts us : List Token) (rest : List ℕ) → Reads ts (bytes_of us ++ rest) → Spells us rest → Reads (ts ++ us) rest
+reads-append ts us rest r l = record { spells = spells-append ts us rest r.spells l; firm = subst Solid (sym (bytes-append ts us rest)) r.firm }
 
 mutual
-  operand-reads : (o : Operand) (rest : List ℕ) → OfOperand o → Stops rest → Reads (operand_tokens o) rest
-  operand-reads tree.dot rest h stop = one (token kind.Dot (46 ∷ [])) rest (dot-front rest (stops-name rest stop)) (solid refl refl refl refl)
+  operand-reads : (o : Operand) (rest : List ℕ) → OfOperand o → EndsToken rest → Reads (operand_tokens o) rest
+  operand-reads tree.dot rest h stop = one (token kind.Dot (46 ∷ [])) rest (row.dot (stops-name rest stop)) (solid refl refl)
   operand-reads (tree.fields names) rest h stop = fields-reads names rest h stop
   operand-reads (tree.variable name names) rest h stop = record {
-    lexes = (variable-front name (bytes_of (chain_tokens names) ++ rest) h.0 (chain-stops names rest stop), chain-lexes names rest h.1 stop);
-    firm = solid refl refl refl refl;
+    spells = (variable-front name (bytes_of (chain_tokens names) ++ rest) h.0 (chain-stops names rest stop), chain-spells names rest h.1 stop);
+    firm = solid refl refl;
   }
   operand-reads (tree.bool_constant b) rest h stop = truth-reads b rest (stops-name rest stop)
   operand-reads (tree.number_constant n) rest h stop = let s = number-stands n rest h stop in one (token kind.Number _) rest s.front s.solid_is
   operand-reads (tree.text_constant bytes) rest h stop = string-reads bytes rest
-  operand-reads tree.nil rest h stop = one (word _) rest (word-front 110 _ rest refl refl refl refl (stops-name rest stop)) (solid refl refl refl refl)
+  operand-reads tree.nil rest h stop = one (word _) rest (word-front 110 _ rest refl refl (stops-name rest stop)) (solid refl refl)
   operand-reads (tree.function f) rest h stop = function-reads f rest (stops-name rest stop)
   operand-reads (tree.group commands names) rest h stop = record {
-    lexes = (
-      left-front _,
-      lexes-append (commands_tokens commands) (token kind.RightParenthesis (41 ∷ []) ∷ chain_tokens names) rest
-          (commands-reads commands (41 ∷ (bytes_of (chain_tokens names) ++ rest)) h.0 refl).lexes (right-front _, chain-lexes names rest h.1 stop),
+    spells = (
+      row.left_parenthesis,
+      spells-append (commands_tokens commands) (token kind.RightParenthesis (41 ∷ []) ∷ chain_tokens names) rest
+          (commands-reads commands (41 ∷ (bytes_of (chain_tokens names) ++ rest)) h.0 refl).spells (row.right_parenthesis, chain-spells names rest h.1 stop),
     );
-    firm = solid refl refl refl refl;
+    firm = solid refl refl;
   }
 
-  more-lexes : (os : Operands) (rest : List ℕ) → OfMore os → Stops rest → Lexes (more_tokens os) rest
-  more-lexes tree.no_operand rest h stop = tt
-  more-lexes (tree.operand o os) rest h stop =
-      let r = reads-append (operand_tokens o) (more_tokens os) rest (operand-reads o (bytes_of (more_tokens os) ++ rest) h.0 (more-stops os rest stop)) (more-lexes os rest h.1 stop) in
-      (space-front _ r.firm, r.lexes)
+  more-spells : (os : Operands) (rest : List ℕ) → OfMore os → EndsToken rest → Spells (more_tokens os) rest
+  more-spells tree.no_operand rest h stop = tt
+  more-spells (tree.operand o os) rest h stop =
+      let r = reads-append (operand_tokens o) (more_tokens os) rest (operand-reads o (bytes_of (more_tokens os) ++ rest) h.0 (more-stops os rest stop)) (more-spells os rest h.1 stop) in
+      (space-front _ r.firm, r.spells)
 
-  command-reads : (os : Operands) (rest : List ℕ) → OfCommand os → Stops rest → Reads (command_tokens os) rest
+  command-reads : (os : Operands) (rest : List ℕ) → OfCommand os → EndsToken rest → Reads (command_tokens os) rest
   command-reads tree.no_operand rest h stop = absurd h
-  command-reads (tree.operand o os) rest h stop = reads-append (operand_tokens o) (more_tokens os) rest (operand-reads o (bytes_of (more_tokens os) ++ rest) h.0 (more-stops os rest stop)) (more-lexes os rest h.1 stop)
+  command-reads (tree.operand o os) rest h stop = reads-append (operand_tokens o) (more_tokens os) rest (operand-reads o (bytes_of (more_tokens os) ++ rest) h.0 (more-stops os rest stop)) (more-spells os rest h.1 stop)
 
-  later-lexes : (cs : Commands) (rest : List ℕ) → OfLater cs → Stops rest → Lexes (later_tokens cs) rest
-  later-lexes tree.no_command rest h stop = tt
-  later-lexes (tree.command os cs) rest h stop =
-      let r = reads-append (command_tokens os) (later_tokens cs) rest (command-reads os (bytes_of (later_tokens cs) ++ rest) h.1 (later-stops cs rest stop)) (later-lexes cs rest h.2 stop) in
-      (space-front _ (solid refl refl refl refl), (bar-front _, (space-front _ r.firm, r.lexes)))
+  later-spells : (cs : Commands) (rest : List ℕ) → OfLater cs → EndsToken rest → Spells (later_tokens cs) rest
+  later-spells tree.no_command rest h stop = tt
+  later-spells (tree.command os cs) rest h stop =
+      let r = reads-append (command_tokens os) (later_tokens cs) rest (command-reads os (bytes_of (later_tokens cs) ++ rest) h.1 (later-stops cs rest stop)) (later-spells cs rest h.2 stop) in
+      (space-front _ (solid refl refl), (row.pipe, (space-front _ r.firm, r.spells)))
 
-  commands-reads : (cs : Commands) (rest : List ℕ) → OfCommands cs → Stops rest → Reads (commands_tokens cs) rest
+  commands-reads : (cs : Commands) (rest : List ℕ) → OfCommands cs → EndsToken rest → Reads (commands_tokens cs) rest
   commands-reads tree.no_command rest h stop = absurd h
-  commands-reads (tree.command os cs) rest h stop = reads-append (command_tokens os) (later_tokens cs) rest (command-reads os (bytes_of (later_tokens cs) ++ rest) h.0 (later-stops cs rest stop)) (later-lexes cs rest h.1 stop)
+  commands-reads (tree.command os cs) rest h stop = reads-append (command_tokens os) (later_tokens cs) rest (command-reads os (bytes_of (later_tokens cs) ++ rest) h.0 (later-stops cs rest stop)) (later-spells cs rest h.1 stop)
 
-pub pipeline-reads : (p : Pipeline) (rest : List ℕ) → OfPipeline p → Stops rest → Reads (pipeline_tokens p) rest
+pub pipeline-reads : (p : Pipeline) (rest : List ℕ) → OfPipeline p → EndsToken rest → Reads (pipeline_tokens p) rest
 pipeline-reads (pipeline cs) rest h stop = commands-reads cs rest h.0 stop
 
 -- ---- actions
 
 -- tokens behind one whose first byte may stand behind a space
-behind : (b : ℕ) (bs : List ℕ) (t : Token) (ts : List Token) (rest : List ℕ) → t.bytes ≡ b ∷ bs → Solid (b ∷ (bs ++ (bytes_of ts ++ rest))) → IsFront t (bytes_of ts ++ rest) → Lexes ts rest → Reads (t ∷ ts) rest
-behind b bs t ts rest e s f l = record { lexes = (f, l); firm = subst Solid (sym (append_assoc t.bytes (bytes_of ts) rest ∙ ap (λ xs. xs ++ (bytes_of ts ++ rest)) e)) s }
+behind : (b : ℕ) (bs : List ℕ) (t : Token) (ts : List Token) (rest : List ℕ) → t.bytes ≡ b ∷ bs → Solid (b ∷ (bs ++ (bytes_of ts ++ rest))) → IsFront t (bytes_of ts ++ rest) → Spells ts rest → Reads (t ∷ ts) rest
+behind b bs t ts rest e s f l = record { spells = (f, l); firm = subst Solid (sym (append_assoc t.bytes (bytes_of ts) rest ∙ ap (λ xs. xs ++ (bytes_of ts ++ rest)) e)) s }
 
-header-reads : (b : Binding) (p : Pipeline) (rest : List ℕ) → OfBinding b → OfPipeline p → Stops rest → Reads (binding_tokens b ++ pipeline_tokens p) rest
+header-reads : (b : Binding) (p : Pipeline) (rest : List ℕ) → OfBinding b → OfPipeline p → EndsToken rest → Reads (binding_tokens b ++ pipeline_tokens p) rest
 header-reads unbound p rest h k stop = pipeline-reads p rest k stop
 header-reads (declare name) p rest h k stop =
     let r = pipeline-reads p rest k stop in
-    behind 36 name _ _ rest refl (solid refl refl refl refl) (variable-front name _ h.1 refl) (space-front _ (solid refl refl refl refl), (declare-front _, (space-front _ r.firm, r.lexes)))
+    behind 36 name _ _ rest refl (solid refl refl) (variable-front name _ h.1 refl) (space-front _ (solid refl refl), (row.declare, (space-front _ r.firm, r.spells)))
 header-reads (assign name) p rest h k stop =
     let r = pipeline-reads p rest k stop in
-    behind 36 name _ _ rest refl (solid refl refl refl refl) (variable-front name _ h.1 refl) (space-front _ (solid refl refl refl refl), (assign-front _, (space-front _ r.firm, r.lexes)))
+    behind 36 name _ _ rest refl (solid refl refl) (variable-front name _ h.1 refl) (space-front _ (solid refl refl), (row.assign, (space-front _ r.firm, r.spells)))
 header-reads (declare_pair key name) p rest h k stop =
     let r = pipeline-reads p rest k stop in
-    behind 36 key _ _ rest refl (solid refl refl refl refl) (variable-front key _ h.0.1 refl)
-    (comma-front _, (space-front _ (solid refl refl refl refl), (variable-front name _ h.1.1 refl, (space-front _ (solid refl refl refl refl), (declare-front _, (space-front _ r.firm, r.lexes))))))
+    behind 36 key _ _ rest refl (solid refl refl) (variable-front key _ h.0.1 refl)
+    (row.comma, (space-front _ (solid refl refl), (variable-front name _ h.1.1 refl, (space-front _ (solid refl refl), (row.declare, (space-front _ r.firm, r.spells))))))
 
 -- a keyword, and tokens behind it and a space
 pub keyword-reads : (b : ℕ) (bs : List ℕ) (ts : List Token) (rest : List ℕ) → Solid (b ∷ (bs ++ (32 ∷ (bytes_of ts ++ rest)))) → IsFront (word (b ∷ bs)) (32 ∷ (bytes_of ts ++ rest)) → Reads ts rest → Reads (word (b ∷ bs) ∷ space ∷ ts) rest
-keyword-reads b bs ts rest s f r = behind b bs (word (b ∷ bs)) (space ∷ ts) rest refl s f (space-front _ r.firm, r.lexes)
+keyword-reads b bs ts rest s f r = behind b bs (word (b ∷ bs)) (space ∷ ts) rest refl s f (space-front _ r.firm, r.spells)
 
 control-reads : (c : Control) (ts : List Token) (rest : List ℕ) → Reads ts rest → Reads (keyword_token (keyword.Control c) ∷ space ∷ ts) rest
-control-reads control.If ts rest r = keyword-reads 105 _ ts rest (solid refl refl refl refl) (word-front 105 _ _ refl refl refl refl refl) r
-control-reads control.With ts rest r = keyword-reads 119 _ ts rest (solid refl refl refl refl) (word-front 119 _ _ refl refl refl refl refl) r
-control-reads control.Range ts rest r = keyword-reads 114 _ ts rest (solid refl refl refl refl) (word-front 114 _ _ refl refl refl refl refl) r
+control-reads control.If ts rest r = keyword-reads 105 _ ts rest (solid refl refl) (word-front 105 _ _ refl refl refl) r
+control-reads control.With ts rest r = keyword-reads 119 _ ts rest (solid refl refl) (word-front 119 _ _ refl refl refl) r
+control-reads control.Range ts rest r = keyword-reads 114 _ ts rest (solid refl refl) (word-front 114 _ _ refl refl refl) r
 
-pub action-reads : (a : Action) (rest : List ℕ) → OfAction a → Stops rest → Reads (action_tokens a) rest
+pub action-reads : (a : Action) (rest : List ℕ) → OfAction a → EndsToken rest → Reads (action_tokens a) rest
 action-reads (pipeline_action h) rest of stop = header-reads h.binding h.pipeline rest of.1 of.2 stop
 action-reads (opening c h) rest of stop = control-reads c (header_tokens h) rest (header-reads h.binding h.pipeline rest of.1 of.2 stop)
-action-reads plain_else rest of stop = one (word _) rest (word-front 101 _ rest refl refl refl refl (stops-name rest stop)) (solid refl refl refl refl)
+action-reads plain_else rest of stop = one (word _) rest (word-front 101 _ rest refl refl (stops-name rest stop)) (solid refl refl)
 action-reads (else_branch br h) rest of stop =
-    keyword-reads 101 _ (keyword_token (keyword.Control (control_in br)) ∷ space ∷ header_tokens h) rest (solid refl refl refl refl) (word-front 101 _ _ refl refl refl refl refl)
+    keyword-reads 101 _ (keyword_token (keyword.Control (control_in br)) ∷ space ∷ header_tokens h) rest (solid refl refl) (word-front 101 _ _ refl refl refl)
     (control-reads (control_in br) (header_tokens h) rest (header-reads h.binding h.pipeline rest of.1 of.2 stop))
-action-reads end_action rest of stop = one (word _) rest (word-front 101 _ rest refl refl refl refl (stops-name rest stop)) (solid refl refl refl refl)
-action-reads break_action rest of stop = one (word _) rest (word-front 98 _ rest refl refl refl refl (stops-name rest stop)) (solid refl refl refl refl)
-action-reads continue_action rest of stop = one (word _) rest (word-front 99 _ rest refl refl refl refl (stops-name rest stop)) (solid refl refl refl refl)
+action-reads end_action rest of stop = one (word _) rest (word-front 101 _ rest refl refl (stops-name rest stop)) (solid refl refl)
+action-reads break_action rest of stop = one (word _) rest (word-front 98 _ rest refl refl (stops-name rest stop)) (solid refl refl)
+action-reads continue_action rest of stop = one (word _) rest (word-front 99 _ rest refl refl (stops-name rest stop)) (solid refl refl)
 
 pub action-inside : (a : Action) → OfAction a → IsInside (action_tokens a)
 action-inside a h = record {
-  lexes = λ rest. (action-reads a (125 ∷ 125 ∷ rest) h refl).lexes;
-  firm = λ rest. (action-reads a (125 ∷ 125 ∷ rest) h refl).firm;
+  spells = λ rest. (action-reads a (125 ∷ 125 ∷ rest) h refl).spells;
+  unmarked = λ rest. solid-unmarked (action-reads a (125 ∷ 125 ∷ rest) h refl).firm;
 }

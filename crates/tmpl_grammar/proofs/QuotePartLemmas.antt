@@ -1,16 +1,19 @@
 -- The spelling of each rune in a quote is one part, and stands for the rune.
-use Rattle.std.proofs.Common.{◌≡◌, ◌∙◌, ℕ, ◌-◌, ◌^◌, ◌<◌, Bool, true, false, nat_eq, ◌||◌, List, [], ◌∷◌, ◌++◌, length, Option, Some, None, option_map, nat_lt, if◌then◌else◌, refl, sym, ap, subst, arith, length-append, option_and_then}
+use Rattle.std.proofs.Common.{◌≡◌, ◌∙◌, ℕ, ◌-◌, ◌^◌, ◌<◌, Bool, true, false, nat_eq, ◌||◌, List, [], ◌∷◌, ◌++◌, length, Option, Some, None, option_map, nat_lt, if◌then◌else◌, refl, sym, ap, subst, arith, option_and_then}
 use Rattle.std.specs.List.{flat_map}
 use Rattle.std.specs.Char.{encode_utf8, len_utf8, IsScalar}
 use Rattle.std.proofs.lemmas.Bool.Decides.{nat_tests}
-use Rattle.std.proofs.lemmas.Str.{length-encode, len_utf8_bounds, char_from_byte, encode_ascii}
+use Rattle.std.proofs.lemmas.Str.{length-encode, len_utf8_bounds, encode_ascii}
 use lib.Utf8.{scalar_fits}
-use Rattle.tmpl_values.specs.Rune.{Rune, char, byte, bytes_in, first_rune, runes}
+use Rattle.tmpl_values.specs.Rune.{Rune, char, byte, bytes_in}
+use Rattle.tmpl_values.specs.computed.Rune.{runes}
 use Rattle.tmpl_values.specs.Quote.{letters, letter_of, hexes, spelled, spelling, inside}
-use Rattle.tmpl_values.proofs.RuneLemmas.{first_rune-encode, IsRune, AreRunes, AreBytes, are_runes, text-runes}
-use Rattle.tmpl_grammar.specs.Constant.Quoted.{part_text, rune_part, as_byte, as_char, byte_named, escape_by, escape, part_at, with_part, parts_after, parts, unquoted}
+use Rattle.tmpl_values.proofs.RuneLemmas.{IsRune, AreRunes, AreBytes, are_runes, text-runes}
+use Rattle.tmpl_grammar.specs.Constant.Quoted.{part_text}
+use Rattle.tmpl_grammar.specs.computed.Quoted.{as_byte, as_char, byte_named, escape_by, part_at, with_part, parts_after, parts, unquoted}
 use Rattle.tmpl_grammar.specs.declared.constant.quoted.Part.{Part}
 use Rattle.tmpl_grammar.specs.declared.constant.quoted.Part.TheVariants.{Byte, Char}
+use Rattle.tmpl_grammar.proofs.HasPartsLemmas.{char-at}
 use Rattle.tmpl_grammar.proofs.HexLemmas.{length-hexes, code-hexes}
 
 -- so many bytes at the front are one part, which stands for this
@@ -95,22 +98,8 @@ part-letter c e rest is =
 
 -- ---- a character as it is
 
-other-first : (t : Bool) (m b c : ℕ) (bs rest : List ℕ) → b ∷ bs ≡ encode_utf8 c ++ rest → m < 128 → (c ≡ m → ⊥) → nat_eq b m ≡ t → t ≡ false
-other-first true m b c bs rest e low other h =
-    let is : b ≡ m = grind (arith, nat_tests) in
-    absurd (other (char_from_byte (b ∷ bs) rest c e (omega arith) (omega arith) ∙ is))
-other-first false m b c bs rest e low other h = refl
-
 part-plain : (c : ℕ) (rest : List ℕ) → IsScalar c → (c ≡ 92 → ⊥) → (c ≡ 34 → ⊥) → IsPart (encode_utf8 c ++ rest) (len_utf8 c) (encode_utf8 c)
-unfolding part_at
-part-plain c rest s slash quote = record { part = Char c; at = split (encode_utf8 c ++ rest) refl; is = refl }
-  where
-    split : (bs : List ℕ) → bs ≡ encode_utf8 c ++ rest → part_at 34 bs ≡ Some (Char c, len_utf8 c)
-    split [] e = absurd (omega (arith, ap length e, length-append (encode_utf8 c) rest, length-encode c, len_utf8_bounds c))
-    split (b ∷ bs) e =
-        ap (λ t. if t then escape 34 bs else (if nat_eq b 34 then None else Some (rune_part (first_rune (b ∷ bs))))) (other-first (nat_eq b 92) 92 b c bs rest e (omega arith) slash refl)
-        ∙ ap (λ t. if t then None else Some (rune_part (first_rune (b ∷ bs)))) (other-first (nat_eq b 34) 34 b c bs rest e (omega arith) quote refl)
-        ∙ ap (λ r. Some (rune_part r)) (ap first_rune e ∙ first_rune-encode c rest s)
+part-plain c rest s slash quote = record { part = Char c; at = char-at 34 c rest (omega arith) s slash quote; is = refl }
 
 -- ---- every spelling
 

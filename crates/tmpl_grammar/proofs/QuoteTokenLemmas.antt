@@ -1,42 +1,26 @@
 -- A quote is one string token, whatever stands behind it.
-use Rattle.std.proofs.Common.{◌≡◌, ◌∙◌, ℕ, zero, suc, ◌+◌, ◌/◌, ◌%◌, ◌<◌, Bool, true, false, nat_eq, ◌&&◌, List, [], ◌∷◌, ◌++◌, length, get_or, Option, Some, None, nat_lt, if◌then◌else◌, refl, sym, ap, arith, append_assoc, append-nil}
+use Rattle.std.proofs.Common.{◌≡◌, ◌∙◌, ℕ, zero, suc, ◌+◌, ◌/◌, ◌%◌, ◌<◌, Bool, true, false, nat_eq, List, [], ◌∷◌, ◌++◌, length, get_or, Option, Some, None, nat_lt, if◌then◌else◌, refl, sym, arith, append-nil}
 use Rattle.std.specs.List.{flat_map}
 use Rattle.std.specs.Char.{encode_utf8, digit_char}
 use Rattle.std.proofs.lemmas.Bool.Decides.{nat_tests}
 use Rattle.std.proofs.lemmas.Str.{inside_one}
-use Rattle.std.proofs.Math.Bool.{and-false}
-use Rattle.tmpl_lex.specs.Quoted.{with_byte, up_to, unless, quoted}
-use Rattle.tmpl_values.specs.Rune.{Rune, char, byte, runes}
+use Rattle.tmpl_lex.specs.Token.{IsQuoted, no_byte, a_byte, an_escape}
+use Rattle.tmpl_values.specs.Rune.{Rune, char, byte}
+use Rattle.tmpl_values.specs.computed.Rune.{runes}
 use Rattle.tmpl_values.specs.Quote.{letters, letter_of, hexes, spelled, spelling, inside}
 use Rattle.tmpl_grammar.proofs.QuotePartLemmas.{letter-no-newline, unlettered}
-
-abbrev led_by : List ℕ → Option (List ℕ) → Option (List ℕ)
-led_by [] o = o
-led_by (b ∷ s) o = with_byte b (led_by s o)
-
-led-append : (s u : List ℕ) (o : Option (List ℕ)) → led_by (s ++ u) o ≡ led_by s (led_by u o)
-led-append [] u o = refl
-led-append (b ∷ s) u o = ap (with_byte b) (led-append s u o)
-
-led-some : (s t : List ℕ) → led_by s (Some t) ≡ Some (s ++ t)
-led-some [] t = refl
-led-some (b ∷ s) t = ap (with_byte b) (led-some s t)
 
 -- bytes that end no string and begin no escape
 abbrev ArePlain : List ℕ → Type 0
 ArePlain [] = Unit {0}
 ArePlain (b ∷ bs) = (nat_eq b 34 ≡ false) × (nat_eq b 10 ≡ false) × (nat_eq b 92 ≡ false) × ArePlain bs
 
-within-plain : (s t : List ℕ) → ArePlain s → quoted 34 false (s ++ t) ≡ led_by s (quoted 34 false t)
-within-plain [] t h = refl
-within-plain (b ∷ s) t h = rw (h.0, h.1, h.2) (ap (with_byte b) (within-plain s t h.3))
+within-plain : (s t : List ℕ) → ArePlain s → IsQuoted 34 t → IsQuoted 34 (s ++ t)
+within-plain [] t h k = k
+within-plain (b ∷ s) t h k = a_byte h.1 h.2 h.0 (within-plain s t h.3 k)
 
-within-escape : (e : ℕ) (s t : List ℕ) → nat_eq e 10 ≡ false → ArePlain s → quoted 34 false (92 ∷ e ∷ (s ++ t)) ≡ led_by (92 ∷ e ∷ s) (quoted 34 false t)
-within-escape e s t n h =
-    ap (λ k. with_byte 92 (unless k (up_to (nat_eq e 34 && false) e (quoted 34 (nat_eq e 92 && false) (s ++ t))))) n
-    ∙ ap (λ k. with_byte 92 (up_to k e (quoted 34 (nat_eq e 92 && false) (s ++ t)))) (and-false (nat_eq e 34))
-    ∙ ap (λ k. with_byte 92 (with_byte e (quoted 34 k (s ++ t)))) (and-false (nat_eq e 92))
-    ∙ ap (λ o. with_byte 92 (with_byte e o)) (within-plain s t h)
+within-escape : (e : ℕ) (s t : List ℕ) → nat_eq e 10 ≡ false → ArePlain s → IsQuoted 34 t → IsQuoted 34 (92 ∷ e ∷ (s ++ t))
+within-escape e s t n h k = an_escape n (within-plain s t h k)
 
 -- ---- which bytes are plain
 
@@ -75,30 +59,25 @@ plain-encode c is = plain-at (encode_utf8 c) (λ k h. (
 
 -- ---- each spelling within a token
 
-code-within : (p low bmp : Bool) (c : ℕ) (t : List ℕ) → letter_of c letters ≡ None
-    → let s = (if p then encode_utf8 c else (if low then 92 ∷ 120 ∷ hexes 2 c else (if bmp then 92 ∷ 117 ∷ hexes 4 c else 92 ∷ 85 ∷ hexes 8 c))) in
-    quoted 34 false (s ++ t) ≡ led_by s (quoted 34 false t)
-code-within true low bmp c t is = within-plain (encode_utf8 c) t (plain-encode c is)
-code-within false true bmp c t is = within-escape 120 (hexes 2 c) t refl (plain-hexes 2 c)
-code-within false false true c t is = within-escape 117 (hexes 4 c) t refl (plain-hexes 4 c)
-code-within false false false c t is = within-escape 85 (hexes 8 c) t refl (plain-hexes 8 c)
+code-within : (p low bmp : Bool) (c : ℕ) (t : List ℕ) → letter_of c letters ≡ None → IsQuoted 34 t
+    → IsQuoted 34 ((if p then encode_utf8 c else (if low then 92 ∷ 120 ∷ hexes 2 c else (if bmp then 92 ∷ 117 ∷ hexes 4 c else 92 ∷ 85 ∷ hexes 8 c))) ++ t)
+code-within true low bmp c t is k = within-plain (encode_utf8 c) t (plain-encode c is) k
+code-within false true bmp c t is k = within-escape 120 (hexes 2 c) t refl (plain-hexes 2 c) k
+code-within false false true c t is k = within-escape 117 (hexes 4 c) t refl (plain-hexes 4 c) k
+code-within false false false c t is k = within-escape 85 (hexes 8 c) t refl (plain-hexes 8 c) k
 
-char-within : (prints : ℕ → Bool) (c : ℕ) (o : Option ℕ) (t : List ℕ) → letter_of c letters ≡ o → quoted 34 false (spelled prints c o ++ t) ≡ led_by (spelled prints c o) (quoted 34 false t)
-char-within prints c (Some e) t is = within-escape e [] t (letter-no-newline c e is) tt
-char-within prints c None t is = code-within (prints c) _ _ c t is
+char-within : (prints : ℕ → Bool) (c : ℕ) (o : Option ℕ) (t : List ℕ) → letter_of c letters ≡ o → IsQuoted 34 t → IsQuoted 34 (spelled prints c o ++ t)
+char-within prints c (Some e) t is k = within-escape e [] t (letter-no-newline c e is) tt k
+char-within prints c None t is k = code-within (prints c) _ _ c t is k
 
-within : (prints : ℕ → Bool) (r : Rune) (t : List ℕ) → quoted 34 false (spelling prints r ++ t) ≡ led_by (spelling prints r) (quoted 34 false t)
-within prints (char c) t = char-within prints c _ t refl
-within prints (byte b) t = within-escape 120 (hexes 2 b) t refl (plain-hexes 2 b)
+within : (prints : ℕ → Bool) (r : Rune) (t : List ℕ) → IsQuoted 34 t → IsQuoted 34 (spelling prints r ++ t)
+within prints (char c) t k = char-within prints c _ t refl k
+within prints (byte b) t k = within-escape 120 (hexes 2 b) t refl (plain-hexes 2 b) k
 
-all-within : (prints : ℕ → Bool) (rs : List Rune) (t : List ℕ) → quoted 34 false (flat_map (spelling prints) rs ++ t) ≡ led_by (flat_map (spelling prints) rs) (quoted 34 false t)
-all-within prints [] t = refl
-all-within prints (r ∷ rs) t =
-    ap (quoted 34 false) (append_assoc (spelling prints r) (flat_map (spelling prints) rs) t)
-    ∙ within prints r (flat_map (spelling prints) rs ++ t)
-    ∙ ap (led_by (spelling prints r)) (all-within prints rs t)
-    ∙ sym (led-append (spelling prints r) (flat_map (spelling prints) rs) (quoted 34 false t))
+all-within : (prints : ℕ → Bool) (rs : List Rune) → IsQuoted 34 (flat_map (spelling prints) rs)
+all-within prints [] = no_byte
+all-within prints (r ∷ rs) = within prints r (flat_map (spelling prints) rs) (all-within prints rs)
 
--- from behind its first `"`, a quote is read up to its last one
-pub quote-read : (prints : ℕ → Bool) (bs rest : List ℕ) → quoted 34 false (inside prints bs ++ 34 ∷ rest) ≡ Some (inside prints bs ++ 34 ∷ [])
-quote-read prints bs rest = all-within prints (runes bs) (34 ∷ rest) ∙ led-some (inside prints bs) (34 ∷ [])
+-- what stands between the quotes of a quote ends no string
+pub quoted-inside : (prints : ℕ → Bool) (bs : List ℕ) → IsQuoted 34 (inside prints bs)
+quoted-inside prints bs = all-within prints (runes bs)

@@ -2,7 +2,8 @@
 use Rattle.std.proofs.Common.{◌≡◌, ◌∙◌, ℕ, zero, suc, ◌-◌, ◌<◌, ◌≤◌, List, [], ◌∷◌, ◌++◌, length, drop, Option, Some, None, refl, sym, ap, arith, option_map, option_and_then, append_assoc, append-nil}
 use Rattle.std.specs.List.{flat_map}
 use Rattle.tmpl_grammar.specs.declared.constant.quoted.Part.{Part}
-use Rattle.tmpl_grammar.specs.Constant.Quoted.{Spelled, part_text, part_code, part_at, with_part, parts_after, parts, unquoted, one_code, rune_code}
+use Rattle.tmpl_grammar.specs.Constant.Quoted.{part_text, part_code}
+use Rattle.tmpl_grammar.specs.computed.Quoted.{Spelled, part_at, with_part, parts_after, parts, unquoted, one_code, rune_code}
 
 skip-to : (quote n : ℕ) (bs : List ℕ) → n ≤ length bs → parts_after quote n bs ≡ parts_after quote 0 (drop n bs)
 skip-to quote zero bs h = refl

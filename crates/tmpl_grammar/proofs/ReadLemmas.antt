@@ -9,10 +9,12 @@ use Rattle.tmpl_lex.specs.Piece.{Token}
 use Rattle.tmpl_grammar.specs.Token.{begins_name, name_in}
 use Rattle.tmpl_grammar.specs.Tree as tree
 use Rattle.tmpl_grammar.specs.Tree.{Operand, Operands, Commands, operands_from, commands_from}
-use Rattle.tmpl_grammar.specs.Operand.{operand_at, begins_later}
+use Rattle.tmpl_grammar.specs.Operand.{IsOperand, begins_later}
+use Rattle.tmpl_grammar.specs.computed.Operand.{operand_at}
 use Rattle.tmpl_grammar.specs.computed.Parser as parser
 use Rattle.tmpl_grammar.specs.computed.Parser.{Parser, Partial, settled, more_commands, may_stand, kept, linked, linked_by, step, step_by, steps, finished, finished_with, commands_after}
 use Rattle.tmpl_grammar.specs.Pipeline.{IsBlank, IsChain, IsChained, MayBeLater, SpellsOperand, SpellsMore, SpellsCommand, SpellsLater, SpellsPipeline}
+use Rattle.tmpl_grammar.proofs.IsOperandLemmas.{is-computed-operand}
 use Rattle.tmpl_grammar.proofs.ConstantLemmas.{IsToken, token-form}
 use Rattle.tmpl_grammar.proofs.SpelledLemmas.{parser_at, operand_list, command_list, operands-back, commands-back, Chains, fields-chain, variable-chain, group-chain}
 
@@ -230,22 +232,22 @@ unchained : (o : Operand) → ((n : List ℕ) → linked o n ≡ None) → (ts :
 unchained o cannot [] p e = (e, refl)
 unchained o cannot (t ∷ ts) p (is, begins, (q, link, rest)) = absurd (let c = cannot (name_in t) in let g : ⊥ = cc in g)
 
-one-spells : (o : Operand) (t : Token) → operand_at t ≡ Some o → ((n : List ℕ) → linked o n ≡ None) → ((ts : List Token) → IsChained o [] ts → SpellsOperand o ts) → Spells o (t ∷ [])
+one-spells : (o : Operand) (t : Token) → IsOperand t o → ((n : List ℕ) → linked o n ≡ None) → ((ts : List Token) → IsChained o [] ts → SpellsOperand o ts) → Spells o (t ∷ [])
 one-spells o t is cannot spells ts p e =
     let u = unchained o cannot ts p e in
     subst (λ p. SpellsOperand p (t ∷ ts)) u.0 (spells (t ∷ ts) (t, ts, refl, is, u.1))
 
 token-spells : (t : Token) (o : Operand) → operand_at t ≡ Some o → Spells o (t ∷ [])
-token-spells t o at = by o at (subst IsToken at (token-form t))
+token-spells t o at = by o (is-computed-operand t o at) (subst IsToken at (token-form t))
   where
-    by : (o : Operand) → operand_at t ≡ Some o → IsToken (Some o) → Spells o (t ∷ [])
+    by : (o : Operand) → IsOperand t o → IsToken (Some o) → Spells o (t ∷ [])
     by tree.dot at form = one-spells tree.dot t at (λ n. refl) (λ ts c. c)
     by (tree.fields names) at (n, is) = λ ts p e.
         let c = chained tree.fields fields-chain names ts p e in
-        subst (λ p. SpellsOperand p (t ∷ ts)) (sym (c.1 ∙ ap (λ ns. tree.fields (ns ++ c.0)) is)) (t, ts, refl, at ∙ ap (λ ns. Some (tree.fields ns)) is, c.2)
+        subst (λ p. SpellsOperand p (t ∷ ts)) (sym (c.1 ∙ ap (λ ns. tree.fields (ns ++ c.0)) is)) (t, ts, refl, subst (λ ns. IsOperand t (tree.fields ns)) is at, c.2)
     by (tree.variable x names) at is = λ ts p e.
         let c = chained (tree.variable x) (variable-chain x) names ts p e in
-        subst (λ p. SpellsOperand p (t ∷ ts)) (sym (c.1 ∙ ap (λ ns. tree.variable x (ns ++ c.0)) is)) (t, ts, refl, at ∙ ap (λ ns. Some (tree.variable x ns)) is, c.2)
+        subst (λ p. SpellsOperand p (t ∷ ts)) (sym (c.1 ∙ ap (λ ns. tree.variable x (ns ++ c.0)) is)) (t, ts, refl, subst (λ ns. IsOperand t (tree.variable x ns)) is at, c.2)
     by (tree.bool_constant b) at form = one-spells (tree.bool_constant b) t at (λ n. refl) (λ ts c. c)
     by (tree.number_constant n) at form = one-spells (tree.number_constant n) t at (λ n. refl) (λ ts c. c)
     by (tree.text_constant bytes) at form = one-spells (tree.text_constant bytes) t at (λ n. refl) (λ ts c. c)

@@ -8,10 +8,12 @@ use Rattle.tmpl_lex.specs.Piece.{Token}
 use Rattle.tmpl_grammar.specs.Token.{begins_name, name_in}
 use Rattle.tmpl_grammar.specs.Tree as tree
 use Rattle.tmpl_grammar.specs.Tree.{Operand, Operands, Commands, operands_from, commands_from}
-use Rattle.tmpl_grammar.specs.Operand.{operand_at, operand_by, begins_later}
+use Rattle.tmpl_grammar.specs.Operand.{IsOperand, begins_later}
+use Rattle.tmpl_grammar.specs.computed.Operand.{operand_at, operand_by}
 use Rattle.tmpl_grammar.specs.computed.Parser as parser
 use Rattle.tmpl_grammar.specs.computed.Parser.{Parser, Partial, settled, more_commands, closed, may_stand, kept, linked, linked_by, step, step_by, steps}
 use Rattle.tmpl_grammar.specs.Pipeline.{IsBlank, IsChain, IsChained, MayBeLater, SpellsOperand, SpellsMore, SpellsCommand, SpellsLater, SpellsPipeline}
+use Rattle.tmpl_grammar.proofs.IsOperandLemmas.{computes-operand}
 
 abbrev pub parser_at : List Partial → List Operands → List Operand → Option Operand → Parser
 parser_at ls cs os last = record { outer = ls; inner = record { commands = cs; operands = os }; last = last }
@@ -56,10 +58,13 @@ white-steps : (ls : List Partial) (cs : List Operands) (os : List Operand) (o : 
 white-steps ls cs os o t ts b = ap (λ p. steps p ts) (step-at kind.Space t (parser_at ls cs os (Some o)) b.0) ∙ blank-steps ls cs (os ++ o ∷ []) ts b.1
 
 -- a token that is an operand of its own, of whatever kind it is
-placed-step : (t : Token) (o : Operand) (ls : List Partial) (cs : List Operands) (os : List Operand) → operand_at t ≡ Some o → may_stand cs os o ≡ true → step t (parser_at ls cs os None) ≡ Some (parser_at ls cs os (Some o))
+placed-step : (t : Token) (o : Operand) (ls : List Partial) (cs : List Operands) (os : List Operand) → IsOperand t o → may_stand cs os o ≡ true → step t (parser_at ls cs os None) ≡ Some (parser_at ls cs os (Some o))
 unfolding step operand_at
-placed-step t o ls cs os is may = by t.kind refl
+placed-step t o ls cs os admitted may = by t.kind refl
   where
+    is : operand_at t ≡ Some o
+    is = computes-operand t o admitted
+
     same : parser.placed None (operand_at t) (parser_at ls cs os None) ≡ Some (parser_at ls cs os (Some o))
     same = ap (λ p. parser.placed None p (parser_at ls cs os None)) is ∙ ap (λ b. kept b (parser_at ls cs os (Some o))) may
 

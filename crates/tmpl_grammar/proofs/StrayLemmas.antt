@@ -3,7 +3,7 @@ use Rattle.std.proofs.Common.{◌≡◌, ◌∙◌, List, [], ◌∷◌, ◌++�
 use Rattle.std.specs.Option.{option_map, option_and_then}
 use Rattle.tmpl_lex.specs.declared.piece.TokenKind.TheVariants as kind
 use Rattle.tmpl_lex.specs.Piece.{Token}
-use Rattle.tmpl_grammar.specs.Operand.{operand_at, operand_by, word_operand, func_named}
+use Rattle.tmpl_grammar.specs.computed.Operand.{operand_at, operand_by, word_operand, func_named}
 use Rattle.tmpl_grammar.specs.computed.Parser.{Parser, step, steps, placed, start, finished}
 use Rattle.tmpl_grammar.specs.Tree.{Operand, Commands, pipeline}
 use Rattle.tmpl_grammar.specs.Pipeline.{IsBlank, SpellsPipeline}

@@ -1,12 +1,38 @@
 -- The laws that what is read is what the grammar spells, and that it is one tree at most.
 use Rattle.std.specs.Prelude.{◌≡◌, List, Some}
 use Rattle.tmpl_lex.specs.Piece.{Token}
-use Rattle.tmpl_grammar.specs.Tree.{Commands, pipeline}
+use Rattle.tmpl_grammar.specs.Tree.{Operand, Commands, pipeline}
+use Rattle.tmpl_grammar.specs.Constant.{IsConstant}
+use Rattle.tmpl_grammar.specs.Operand.{IsOperand}
 use Rattle.tmpl_grammar.specs.Action.{Action, SpellsAction}
 use Rattle.tmpl_grammar.specs.Pipeline.{SpellsPipeline}
 use Rattle.tmpl_grammar.specs.Print.{IsInside, action_tokens}
 use Rattle.tmpl_grammar.specs.Printable.{OfAction}
+use Rattle.tmpl_grammar.specs.computed.Constant.{constant_of}
+use Rattle.tmpl_grammar.specs.computed.Operand.{operand_at}
 use Rattle.tmpl_grammar.specs.computed.Reading.{pipeline_in, action_in}
+
+-- the constant of a token is computed
+abbrev pub ComputesConstant : Type 0
+ComputesConstant = (t : Token) (o : Operand) → IsConstant t o → constant_of t ≡ Some o
+
+-- .. and what is computed is its constant
+abbrev pub IsComputedConstant : Type 0
+IsComputedConstant = (t : Token) (o : Operand) → constant_of t ≡ Some o → IsConstant t o
+
+-- a token has one constant at most
+abbrev pub HasOneConstant : Type 0
+HasOneConstant = (t : Token) (o p : Operand) → IsConstant t o → IsConstant t p → o ≡ p
+
+-- the same of operands
+abbrev pub ComputesOperand : Type 0
+ComputesOperand = (t : Token) (o : Operand) → IsOperand t o → operand_at t ≡ Some o
+
+abbrev pub IsComputedOperand : Type 0
+IsComputedOperand = (t : Token) (o : Operand) → operand_at t ≡ Some o → IsOperand t o
+
+abbrev pub HasOneOperand : Type 0
+HasOneOperand = (t : Token) (o p : Operand) → IsOperand t o → IsOperand t p → o ≡ p
 
 -- a pipeline that tokens spell is read
 abbrev pub ReadsSpelled : Type 0

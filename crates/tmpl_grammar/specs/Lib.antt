@@ -4,6 +4,7 @@ pub mod Depth
 pub mod Header
 pub mod Keyword
 pub mod Laws
+pub mod Need
 pub mod Operand
 pub mod Pipeline
 pub mod Print

@@ -1,56 +1,25 @@
--- The operands that are one word or one token ("Arguments" and "Functions" in the documentation of Go's text/template).
-use Rattle.std.specs.Prelude.{ℕ, Bool, true, false, List, [], ◌∷◌, Option, Some}
-use Rattle.std.specs.Prelude.{None, option_map, find, codes, bytes_eq, if◌then◌else◌}
+-- The operands that are one token ("Arguments" and "Functions" in the documentation of Go's text/template).
+use Rattle.std.specs.Prelude.{◌≡◌, ℕ, Bool, true, false, List, [], ◌∷◌, codes}
 use Rattle.tmpl_funcs.specs.Func.{name_of}
 use Rattle.tmpl_funcs.specs.declared.func.Func.{Func}
-use Rattle.tmpl_funcs.specs.declared.func.Func.TheVariants.{And, Or, Not, Len, Index, Slice, Print, Println}
-use Rattle.tmpl_funcs.specs.declared.func.Func.TheVariants.{Printf, Html, Urlquery, Eq, Ne, Lt, Le, Gt, Ge}
-use Rattle.tmpl_lex.specs.declared.piece.TokenKind.{TokenKind}
 use Rattle.tmpl_lex.specs.declared.piece.TokenKind.TheVariants as kind
 use Rattle.tmpl_lex.specs.Piece.{Token}
-use Rattle.tmpl_grammar.specs.Constant.{constant_of}
-use Rattle.tmpl_grammar.specs.Token.{begins_name, name_in}
+use Rattle.tmpl_grammar.specs.Constant.{IsConstant}
+use Rattle.tmpl_grammar.specs.Token.{token, begins_name, name_in}
 use Rattle.tmpl_grammar.specs.Tree as tree
 use Rattle.tmpl_grammar.specs.Tree.{Operand}
 
--- the functions, each once
-abbrev pub funcs : List Func
-funcs =
-    And ∷ Or ∷ Not ∷ Len ∷ Index ∷ Slice ∷ Print ∷ Println ∷ Printf ∷ Html ∷ Urlquery ∷ Eq ∷ Ne ∷ Lt ∷ Le ∷ Gt ∷ Ge ∷ []
-
--- the function of this name, if there is one
-unfoldable pub func_named : List ℕ → Option Func
-func_named name = find (λ f. bytes_eq (name_of f) name) funcs
-
--- the operand that a word is: `true`, `false`, `nil` or a function. No keyword is one.
-unfoldable pub word_operand : List ℕ → Option Operand
-word_operand name =
-    if bytes_eq name (codes "true") then Some (tree.bool_constant true)
-    else if bytes_eq name (codes "false") then Some (tree.bool_constant false)
-    else if bytes_eq name (codes "nil") then Some tree.nil
-    else option_map tree.function (func_named name)
-
-abbrev pub field_operand : Bool → List ℕ → Option Operand
-field_operand true name = Some (tree.fields (name ∷ []))
-field_operand false name = None
-
-abbrev pub variable_operand : List ℕ → Operand
-variable_operand name = tree.variable name []
-
-abbrev pub operand_by : TokenKind → Token → Option Operand
-operand_by kind.Dot t = Some tree.dot
-operand_by kind.Field t = field_operand (begins_name (name_in t)) (name_in t)
-operand_by kind.Variable t = Some (variable_operand (name_in t))
-operand_by kind.Word t = word_operand t.bytes
-operand_by kind.Number t = constant_of t
-operand_by kind.String t = constant_of t
-operand_by kind.RawString t = constant_of t
-operand_by kind.Character t = constant_of t
-operand_by k t = None
-
--- the operand that a token is, to which a chain may still be added
-unfoldable pub operand_at : Token → Option Operand
-operand_at t = operand_by t.kind t
+-- the operand that a token is, to which a chain may still be added. No keyword is one.
+pub data IsOperand : Token → Operand → Type 0 where
+  dot : {bs : List ℕ} → IsOperand (token kind.Dot bs) tree.dot
+  field : {t : Token} → t.kind ≡ kind.Field → begins_name (name_in t) ≡ true
+      → IsOperand t (tree.fields (name_in t ∷ []))
+  variable : {t : Token} → t.kind ≡ kind.Variable → IsOperand t (tree.variable (name_in t) [])
+  true_word : IsOperand (token kind.Word (codes "true")) (tree.bool_constant true)
+  false_word : IsOperand (token kind.Word (codes "false")) (tree.bool_constant false)
+  nil_word : IsOperand (token kind.Word (codes "nil")) tree.nil
+  a_function : (f : Func) → IsOperand (token kind.Word (name_of f)) (tree.function f)
+  a_constant : {t : Token} {o : Operand} → IsConstant t o → IsOperand t o
 
 -- a constant, `nil` and dot begin no later command of a pipeline
 abbrev pub begins_later : Operand → Bool

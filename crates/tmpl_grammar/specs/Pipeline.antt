@@ -1,12 +1,12 @@
 -- The grammar of a pipeline ("Arguments" and "Pipelines" in the documentation of Go's text/template): which tokens
 -- spell which tree. White space may stand between any two tokens, but not inside a chain.
-use Rattle.std.specs.Prelude.{◌≡◌, ℕ, true, List, [], ◌∷◌, ◌++◌, Some}
+use Rattle.std.specs.Prelude.{◌≡◌, ℕ, true, List, [], ◌∷◌, ◌++◌}
 use Rattle.tmpl_lex.specs.declared.piece.TokenKind.TheVariants as kind
 use Rattle.tmpl_lex.specs.Piece.{Token}
 use Rattle.tmpl_grammar.specs.Token.{begins_name, name_in}
 use Rattle.tmpl_grammar.specs.Tree as tree
 use Rattle.tmpl_grammar.specs.Tree.{Operand, Operands, Commands}
-use Rattle.tmpl_grammar.specs.Operand.{operand_at, begins_later}
+use Rattle.tmpl_grammar.specs.Operand.{IsOperand, begins_later}
 
 -- perhaps white space
 abbrev pub IsBlank : List Token → Type 0
@@ -22,7 +22,7 @@ IsChain (n ∷ ns) ts =
 
 -- a token that is an operand of its own, and a chain
 abbrev pub IsChained : Operand → List (List ℕ) → List Token → Type 0
-IsChained o names ts = (t : Token) × (us : List Token) × (ts ≡ t ∷ us) × (operand_at t ≡ Some o) × IsChain names us
+IsChained o names ts = (t : Token) × (us : List Token) × (ts ≡ t ∷ us) × IsOperand t o × IsChain names us
 
 abbrev pub IsFields : List (List ℕ) → List Token → Type 0
 IsFields [] ts = ⊥

@@ -1,14 +1,13 @@
 -- The tokens by which an action is printed, and how they stand in a file.
-use Rattle.std.specs.Prelude.{◌≡◌, ℕ, Bool, true, false, ◌==◌, List, [], ◌∷◌, ◌++◌, None, Some, flat_map, codes}
-use Rattle.std.specs.Char.{is_ascii_digit}
+use Rattle.std.specs.Prelude.{ℕ, Bool, true, false, List, [], ◌∷◌, ◌++◌, codes}
 use Rattle.std.specs.Fmt.{signed_decimal}
 use Rattle.tmpl_values.specs.Quote.{quote}
 use Rattle.tmpl_funcs.specs.Func.{name_of}
-use Rattle.tmpl_lex.specs.Bytes.{is_space}
-use Rattle.tmpl_lex.specs.Trim.{right_delimiter}
-use Rattle.tmpl_lex.specs.Token.{front_token}
+use Rattle.tmpl_lex.specs.Bytes.{BeginsNone}
+use Rattle.tmpl_lex.specs.Delimiter.{IsLeftMarker}
+pub use Rattle.tmpl_lex.specs.Token.{bytes_of, Spells}
+pub use Rattle.tmpl_grammar.specs.Token.{token}
 use Rattle.tmpl_lex.specs.Piece.{Token}
-use Rattle.tmpl_lex.specs.declared.piece.TokenKind.{TokenKind}
 use Rattle.tmpl_lex.specs.declared.piece.TokenKind.TheVariants as kind
 use Rattle.tmpl_grammar.specs.Tree as tree
 use Rattle.tmpl_grammar.specs.Tree.{Operand, Operands, Commands, Pipeline, pipeline}
@@ -20,9 +19,6 @@ use Rattle.tmpl_grammar.specs.declared.keyword.Keyword.{Keyword}
 use Rattle.tmpl_grammar.specs.declared.keyword.Keyword.TheVariants as keyword
 
 -- ---- the tokens of a pipeline
-
-abbrev pub token : TokenKind → List ℕ → Token
-token k bs = record { kind = k; bytes = bs }
 
 abbrev pub space : Token
 space = token kind.Space (32 ∷ [])
@@ -103,28 +99,10 @@ action_tokens end_action = keyword_token keyword.End ∷ []
 action_tokens break_action = keyword_token keyword.Break ∷ []
 action_tokens continue_action = keyword_token keyword.Continue ∷ []
 
--- ---- how tokens stand in a file
+-- ---- how they stand in a file
 
-abbrev pub bytes_of : List Token → List ℕ
-bytes_of ts = flat_map (λ t. t.bytes) ts
-
--- the token stands at the front, with these bytes behind it
-pub record IsFront (t : Token) (rest : List ℕ) : Type 0 where
-  pub no_end : right_delimiter (t.bytes ++ rest) ≡ None
-  pub front : front_token (t.bytes ++ rest) ≡ Some t
-
--- the tokens stand one behind the other, with these bytes behind them
-abbrev pub Lexes : List Token → List ℕ → Type 0
-Lexes [] rest = Unit {0}
-Lexes (t ∷ ts) rest = IsFront t (bytes_of ts ++ rest) × Lexes ts rest
-
--- bytes that may stand behind a `{{`, a space or a bar: they begin no white space, comment, trim marker or end
-pub data Solid : List ℕ → Type 0 where
-  solid : {b : ℕ} {bs : List ℕ} → is_space b ≡ false → (b == 45) ≡ false → (b == 47) ≡ false → (b == 125) ≡ false
-      → Solid (b ∷ bs)
-  minus : {d : ℕ} {bs : List ℕ} → is_ascii_digit d ≡ true → Solid (45 ∷ d ∷ bs)
-
--- the tokens may stand in an action, whatever stands behind it
+-- the tokens may stand in an action, whatever stands behind it: they are spelled before its `}}`, and begin with no
+-- left trim marker
 pub record IsInside (ts : List Token) : Type 0 where
-  pub lexes : (rest : List ℕ) → Lexes ts (125 ∷ 125 ∷ rest)
-  pub firm : (rest : List ℕ) → Solid (bytes_of ts ++ 125 ∷ 125 ∷ rest)
+  pub spells : (rest : List ℕ) → Spells ts (codes "}}" ++ rest)
+  pub unmarked : (rest : List ℕ) → BeginsNone IsLeftMarker (bytes_of ts ++ (codes "}}" ++ rest))

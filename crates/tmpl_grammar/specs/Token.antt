@@ -6,6 +6,10 @@ use Rattle.tmpl_lex.specs.declared.piece.TokenKind.{TokenKind}
 use Rattle.tmpl_lex.specs.declared.piece.TokenKind.TheVariants as kind
 use Rattle.tmpl_lex.specs.Piece.{Token}
 
+-- a token of this kind and these bytes
+abbrev pub token : TokenKind → List ℕ → Token
+token k bs = record { kind = k; bytes = bs }
+
 abbrev pub is_space_kind : TokenKind → Bool
 is_space_kind kind.Space = true
 is_space_kind k = false

@@ -1,7 +1,7 @@
 //! Constants ("Arguments" in the documentation of Go's text/template).
 ghost use Rattle.std.specs.Prelude.{◌≡◌, IfOk, option_map};
 ghost use Rattle.tmpl_lex.specs.View.{token_of};
-ghost use Rattle.tmpl_grammar.specs.Constant.{constant_by, constant_of};
+ghost use Rattle.tmpl_grammar.specs.computed.Constant.{constant_by, constant_of};
 ghost use Rattle.tmpl_lex.specs.declared.piece.TokenKind.TheVariants as kind;
 ghost use Rattle.tmpl_grammar.specs.View.{operand_of};
 
@@ -18,7 +18,7 @@ use tmpl_values::Bytes;
 /// The constant that a token stands for: a whole number, a string, a raw string or a character by its
 /// code. None where the token is no constant: of another kind, misspelled, or a number that is not
 /// from -2^63 to 2^63 - 1. Memory is taken only for the text of a string, and its refusal is the error.
-#[tactic(auto, unfolding(crate::specs::Constant::constant_of))]
+#[tactic(auto, unfolding(crate::specs::computed::Constant::constant_of))]
 pub(crate) fn constant(alloc: Global, token: &Token<'_>) -> Result<Option<Operand>, AllocError>
     ensures { IfOk result (λ o. option_map operand_of o ≡ constant_of (token_of token.now)) }
 {
@@ -38,21 +38,28 @@ fn number(bytes: &[u8]) -> Option<Operand>
     Some(Operand::Number(integer(bytes)?))
 }
 
-/// The text of a string, which these bytes spell with its quotes; none where an escape is misspelled.
+/// The text of a string, which these bytes spell with its quotes; none where they do not, as by a
+/// misspelled escape.
 fn string(alloc: Global, bytes: &[u8]) -> Result<Option<Operand>, AllocError>
     ensures { IfOk result (λ o. option_map operand_of o ≡ constant_by kind.String bytes.now) }
 {
-    match unquoted(alloc, b'"', between(bytes))? {
+    let Some(inside) = between(b'"', bytes) else {
+        return Ok(None);
+    };
+    match unquoted(alloc, b'"', inside)? {
         Some(text) => Ok(Some(Operand::Text(Bytes::new(text)))),
         None => Ok(None),
     }
 }
 
-/// The text of a raw string, which these bytes spell with its quotes.
+/// The text of a raw string, which these bytes spell with its quotes; none where they are no such quotes.
 fn raw_string(alloc: Global, bytes: &[u8]) -> Result<Option<Operand>, AllocError>
     ensures { IfOk result (λ o. option_map operand_of o ≡ constant_by kind.RawString bytes.now) }
 {
-    let text = without_returns(alloc, between(bytes))?;
+    let Some(inside) = between(b'`', bytes) else {
+        return Ok(None);
+    };
+    let text = without_returns(alloc, inside)?;
     Ok(Some(Operand::Text(Bytes::new(text))))
 }
 
@@ -60,6 +67,6 @@ fn raw_string(alloc: Global, bytes: &[u8]) -> Result<Option<Operand>, AllocError
 fn character(bytes: &[u8]) -> Option<Operand>
     ensures { option_map operand_of result ≡ constant_by kind.Character bytes.now }
 {
-    let code = rune_code(b'\'', between(bytes))?;
+    let code = rune_code(b'\'', between(b'\'', bytes)?)?;
     Some(Operand::Number(i64::from(code)))
 }

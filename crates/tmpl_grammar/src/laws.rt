@@ -2,6 +2,22 @@
 ghost use Rattle.tmpl_grammar.specs.Laws.{ReadsSpelled, SpellsRead, SpellsOne};
 ghost use Rattle.tmpl_grammar.specs.Laws.{ReadsSpelledAction, SpellsReadAction, SpellsOneAction};
 ghost use Rattle.tmpl_grammar.specs.Laws.{PrintsTokens, SpellsTokens};
+ghost use Rattle.tmpl_grammar.specs.Laws.{ComputesConstant, HasOneConstant, IsComputedConstant};
+ghost use Rattle.tmpl_grammar.specs.Laws.{ComputesOperand, HasOneOperand, IsComputedOperand};
+
+/// The law that a token is one constant at most, and that just this one is computed.
+pub fn one_constant()
+    ensures computed { ComputesConstant }
+    ensures admitted { IsComputedConstant }
+    ensures one { HasOneConstant }
+{}
+
+/// The law that a token is one operand at most, and that just this one is computed.
+pub fn one_operand()
+    ensures computed { ComputesOperand }
+    ensures admitted { IsComputedOperand }
+    ensures one { HasOneOperand }
+{}
 
 /// The law that a list of tokens spells one pipeline at most, and that just this one is read.
 pub fn one_reading()

@@ -3,7 +3,7 @@ ghost use Rattle.std.specs.Prelude.{◌≡◌, ◌≤◌, IfOk, length, map, opt
 ghost use Rattle.std.specs.List.{list_all, prefix_len};
 ghost use Rattle.tmpl_lex.specs.View.{token_of};
 ghost use Rattle.tmpl_grammar.specs.Token as spec;
-ghost use Rattle.tmpl_grammar.specs.Operand as word;
+ghost use Rattle.tmpl_grammar.specs.computed.Operand as word;
 ghost use Rattle.tmpl_grammar.specs.View.{next_of, operand_of};
 
 use crate::constant::constant;
@@ -89,7 +89,7 @@ fn function_named(name: &[u8]) -> Option<Func>
 }
 
 /// The operand that a word is.
-#[tactic(auto, unfolding(crate::specs::Operand::word_operand))]
+#[tactic(auto, unfolding(crate::specs::computed::Operand::word_operand))]
 fn word(name: &[u8]) -> Option<Operand>
     ensures { option_map operand_of result ≡ word.word_operand name.now }
 {
@@ -131,7 +131,7 @@ fn variable(alloc: Global, name: &[u8]) -> Result<Operand, AllocError>
 }
 
 /// The operand that a token is, to which a chain may still be added.
-#[tactic(auto, unfolding(crate::specs::Operand::operand_at))]
+#[tactic(auto, unfolding(crate::specs::computed::Operand::operand_at))]
 pub(crate) fn operand_at(alloc: Global, token: &Token<'_>) -> Result<Option<Operand>, AllocError>
     ensures { IfOk result (λ o. option_map operand_of o ≡ word.operand_at (token_of token.now)) }
 {

@@ -1,16 +1,15 @@
--- What stands between quotes, as "Rune literals" and "String literals" in the specification of Go's language have it:
--- the parts that are spelled there, and what they stand for. That a text need not be UTF-8 is our own rule.
-use Rattle.std.specs.Prelude.{ℕ, zero, suc, ◌-◌, ◌==◌, not, nat_lt, nat_le, List, [], ◌∷◌, length, take}
-use Rattle.std.specs.Prelude.{drop, Option, Some, None, option_map, option_and_then, if◌then◌else◌, filter}
-use Rattle.std.specs.List.{flat_map}
-use Rattle.std.specs.Char.{encode_utf8, len_utf8}
+-- What stands between quotes ("Rune literals" and "String literals" in the specification of Go's language). That a text
+-- need not be UTF-8 is our own rule.
+use Rattle.std.specs.Prelude.{◌≡◌, ℕ, ◌<◌, ◌==◌, true, not, List, [], ◌∷◌, ◌++◌, length, filter, codes}
+use Rattle.std.specs.Char.{encode_utf8}
+use Rattle.std.specs.Str.{byte}
+use Rattle.std.specs.Str.Parse.{AllDigits, digits_value}
 use lib.Utf8.{scalar}
-use Rattle.tmpl_values.specs.Rune.{Rune, char, byte, first_rune}
-use Rattle.tmpl_grammar.specs.Constant.Integer.{number_in}
+use Rattle.tmpl_values.specs.Rune.{BeginsNoChar}
 use Rattle.tmpl_grammar.specs.declared.constant.quoted.Part.{Part}
 use Rattle.tmpl_grammar.specs.declared.constant.quoted.Part.TheVariants.{Byte, Char}
 
--- the bytes of a part
+-- the bytes that a part stands for
 abbrev pub part_text : Part → List ℕ
 part_text (Byte b) = b ∷ []
 part_text (Char c) = encode_utf8 c
@@ -20,90 +19,41 @@ abbrev pub part_code : Part → ℕ
 part_code (Byte b) = b
 part_code (Char c) = c
 
--- a part, and how many bytes spell it
-abbrev pub Spelled : Type 0
-Spelled = Part × ℕ
+-- so many digits in a base
+abbrev pub AreDigits : ℕ → ℕ → List ℕ → Type 0
+AreDigits base count ds = (length ds ≡ count) × AllDigits base ds
 
--- a rune stands for itself, and an ill-formed byte for U+FFFD
-abbrev pub rune_part : Rune → Spelled
-rune_part (char c) = (Char c, len_utf8 c)
-rune_part (byte b) = (Char 65533, 1)
+-- the escapes between two such quotes, and the part that each stands for: a byte by a letter, by three octal digits or
+-- by two of base 16; a character, which is no surrogate and at most 10FFFFh, by four or eight of base 16
+pub data IsEscape (quote : ℕ) : List ℕ → Part → Type 0 where
+  alert : IsEscape quote (codes "\\a") (Byte 7)
+  backspace : IsEscape quote (codes "\\b") (Byte 8)
+  form_feed : IsEscape quote (codes "\\f") (Byte 12)
+  newline : IsEscape quote (codes "\\n") (Byte 10)
+  carriage_return : IsEscape quote (codes "\\r") (Byte 13)
+  tab : IsEscape quote (codes "\\t") (Byte 9)
+  vertical_tab : IsEscape quote (codes "\\v") (Byte 11)
+  backslash : IsEscape quote (codes "\\\\") (Byte (byte "\\"))
+  the_quote : IsEscape quote (codes "\\" ++ quote ∷ []) (Byte quote)
+  octal : {ds : List ℕ} → AreDigits 8 3 ds → digits_value 8 ds < 256
+      → IsEscape quote (codes "\\" ++ ds) (Byte (digits_value 8 ds))
+  two_digits : {ds : List ℕ} → AreDigits 16 2 ds → IsEscape quote (codes "\\x" ++ ds) (Byte (digits_value 16 ds))
+  four_digits : {ds : List ℕ} → AreDigits 16 4 ds → scalar (digits_value 16 ds) ≡ true
+      → IsEscape quote (codes "\\u" ++ ds) (Char (digits_value 16 ds))
+  eight_digits : {ds : List ℕ} → AreDigits 16 8 ds → scalar (digits_value 16 ds) ≡ true
+      → IsEscape quote (codes "\\U" ++ ds) (Char (digits_value 16 ds))
 
--- a number as a byte, and as a character: no surrogate, and at most 10FFFFh
-abbrev pub as_byte : ℕ → ℕ → Option Spelled
-as_byte len n = if nat_lt n 256 then Some (Byte n, len) else None
-
-abbrev pub as_char : ℕ → ℕ → Option Spelled
-as_char len n = if scalar n then Some (Char n, len) else None
-
--- the number that so many digits at the front write
-abbrev pub code : ℕ → ℕ → List ℕ → Option ℕ
-code base count bs = if nat_le count (length bs) then number_in base (take count bs) else None
-
--- the byte that this letter stands for behind a backslash, where this quote ends the text
-abbrev pub byte_named : ℕ → ℕ → Option ℕ
-byte_named quote e =
-    if e == 97 then Some 7 else (if e == 98 then Some 8
-    else (if e == 102 then Some 12 else (if e == 110 then Some 10
-    else (if e == 114 then Some 13 else (if e == 116 then Some 9
-    else (if e == 118 then Some 11 else (if e == 92 then Some 92
-    else (if e == quote then Some quote else None))))))))
-
--- behind a backslash: `x`, `u` or `U` and digits, or octal digits
-abbrev pub coded : ℕ → List ℕ → Option Spelled
-coded e bs =
-    if e == 120 then option_and_then (as_byte 4) (code 16 2 bs)
-    else (if e == 117 then option_and_then (as_char 6) (code 16 4 bs)
-    else (if e == 85 then option_and_then (as_char 10) (code 16 8 bs)
-    else option_and_then (as_byte 4) (code 8 3 (e ∷ bs))))
-
-abbrev pub escape_by : Option ℕ → ℕ → List ℕ → Option Spelled
-escape_by None e bs = coded e bs
-escape_by (Some b) e bs = Some (Byte b, 2)
-
--- the escape whose backslash stands before these bytes
-abbrev pub escape : ℕ → List ℕ → Option Spelled
-escape quote [] = None
-escape quote (e ∷ bs) = escape_by (byte_named quote e) e bs
-
--- the part at the front: an escape, or a rune other than the quote
-unfoldable pub part_at : ℕ → List ℕ → Option Spelled
-part_at quote [] = None
-part_at quote (b ∷ bs) =
-    if b == 92 then escape quote bs
-    else (if b == quote then None else Some (rune_part (first_rune (b ∷ bs))))
-
-abbrev pub with_part : Part → Option (List Part) → Option (List Part)
-with_part p ps = option_map (λ ps. p ∷ ps) ps
-
--- the parts after so many bytes that belong to the part before
-abbrev pub parts_after : ℕ → ℕ → List ℕ → Option (List Part)
-parts_after quote n [] = Some []
-parts_after quote (suc n) (b ∷ bs) = parts_after quote n bs
-parts_after quote zero (b ∷ bs) =
-    option_and_then (λ p. with_part p.0 (parts_after quote (p.1 - 1) bs)) (part_at quote (b ∷ bs))
-
--- the parts from left to right, if the bytes are parts
-unfoldable pub parts : ℕ → List ℕ → Option (List Part)
-parts quote bs = parts_after quote 0 bs
-
--- the bytes between the first and the last
-abbrev pub between : List ℕ → List ℕ
-between bs = take (length bs - 2) (drop 1 bs)
-
--- the text of a string
-abbrev pub unquoted : ℕ → List ℕ → Option (List ℕ)
-unquoted quote bs = option_map (flat_map part_text) (parts quote bs)
+-- bytes between two such quotes spell these parts: characters other than the quote and the backslash, U+FFFD for each
+-- byte that begins none, and escapes
+pub data HasParts (quote : ℕ) : List ℕ → List Part → Type 0 where
+  at_end : HasParts quote [] []
+  a_char : {c : ℕ} {rest : List ℕ} {ps : List Part} → scalar c ≡ true → (c ≡ quote → ⊥) → (c ≡ byte "\\" → ⊥)
+      → HasParts quote rest ps → HasParts quote (encode_utf8 c ++ rest) (Char c ∷ ps)
+  a_byte : {b : ℕ} {rest : List ℕ} {ps : List Part} → BeginsNoChar (b ∷ rest)
+      → HasParts quote rest ps → HasParts quote (b ∷ rest) (Char 65533 ∷ ps)
+  an_escape : {spelling rest : List ℕ} {p : Part} {ps : List Part} → IsEscape quote spelling p
+      → HasParts quote rest ps → HasParts quote (spelling ++ rest) (p ∷ ps)
 
 -- the text of a raw string
 abbrev pub without_returns : List ℕ → List ℕ
-without_returns bs = filter (λ b. not (b == 13)) bs
-
-abbrev pub one_code : List Part → Option ℕ
-one_code [] = None
-one_code (p ∷ []) = Some (part_code p)
-one_code (p ∷ q ∷ ps) = None
-
--- the code of a character
-abbrev pub rune_code : ℕ → List ℕ → Option ℕ
-rune_code quote bs = option_and_then one_code (parts quote bs)
+without_returns bs = filter (λ b. not (b == byte "\r")) bs

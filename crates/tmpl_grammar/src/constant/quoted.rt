@@ -2,9 +2,10 @@
 //! literals" in the specification of Go's language).
 ghost use Rattle.std.specs.Prelude.{◌≡◌, ◌≤◌, ◌<◌, ◌^◌, ◌+◌, ◌++◌, ◌∷◌};
 ghost use Rattle.std.specs.Prelude.{IfOk, IfSome, OnOk, length, option_and_then, option_map};
-ghost use Rattle.tmpl_values.specs.Rune.{first_rune};
+ghost use Rattle.tmpl_values.specs.computed.Rune.{first_rune};
 ghost use Rattle.tmpl_grammar.specs.Constant.Integer as numeral;
-ghost use Rattle.tmpl_grammar.specs.Constant.Quoted as spec;
+ghost use Rattle.tmpl_grammar.specs.Constant.Quoted.{part_code, part_text, without_returns};
+ghost use Rattle.tmpl_grammar.specs.computed.Quoted as spec;
 ghost use Rattle.tmpl_grammar.specs.computed.Within.{within};
 
 use crate::constant::integer::number_in;
@@ -21,13 +22,19 @@ pub(crate) enum Part {
 /// A part, and how many bytes spell it.
 type Spelled = (Part, usize);
 
-/// The bytes between the first and the last.
-pub(crate) fn between(bytes: &[u8]) -> &[u8]
-    ensures { result.now ≡ spec.between bytes.now }
+/// The bytes between two such quotes, if the first byte and the last are such.
+pub(crate) fn between(quote: u8, bytes: &[u8]) -> Option<&[u8]>
+    ensures { option_map (λ s. s.now) result ≡ spec.between quote bytes.now }
 {
     match bytes {
-        [_, inside @ .., _] => inside,
-        _ => &[],
+        [first, inside @ .., last] => {
+            if *first == quote && *last == quote {
+                Some(inside)
+            } else {
+                None
+            }
+        }
+        _ => None,
     }
 }
 
@@ -53,7 +60,7 @@ pub(crate) fn unquoted(
 
 /// The text of a raw string: its bytes without carriage returns.
 pub(crate) fn without_returns(alloc: Global, bytes: &[u8]) -> Result<Vec<u8>, AllocError>
-    ensures { IfOk result (λ v. v.items ≡ spec.without_returns bytes.now) }
+    ensures { IfOk result (λ v. v.items ≡ without_returns bytes.now) }
 {
     bytes.iter().copied().filter(|b| *b != b'\r').collect(alloc)
 }
@@ -73,7 +80,7 @@ pub(crate) fn rune_code(quote: u8, bytes: &[u8]) -> Option<u32>
 impl Part {
     /// Puts it behind a text, a character by its UTF-8.
     fn add_to(self, text: &mut Vec<u8>) -> Result<(), AllocError>
-        ensures { OnOk result (text.new.items ≡ text.old.items ++ spec.part_text self) }
+        ensures { OnOk result (text.new.items ≡ text.old.items ++ part_text self) }
     {
         match self {
             Part::Byte(byte) => Ok(text.push(byte)?),
@@ -86,7 +93,7 @@ impl Part {
 
     /// The value of the byte, or the code of the character.
     fn code(self) -> u32
-        ensures { result ≡ spec.part_code self }
+        ensures { result ≡ part_code self }
     {
         match self {
             Part::Byte(byte) => u32::from(byte),
@@ -96,7 +103,7 @@ impl Part {
 }
 
 /// The part at the front.
-#[tactic(auto, unfolding(crate::specs::Constant::Quoted::part_at))]
+#[tactic(auto, unfolding(crate::specs::computed::Quoted::part_at))]
 fn part_at(quote: u8, bytes: &[u8]) -> Option<Spelled>
     ensures value { result ≡ spec.part_at quote bytes.now }
     ensures within { IfSome result (λ p. (0 < p.1) × (p.1 ≤ length bytes.now)) }

@@ -1,5 +1,5 @@
 use Rattle.std.proofs.Common.{◌∙◌, ap, sym, arith, drop, refl}
-use Rattle.tmpl_grammar.specs.Constant.Quoted.{unquoted}
+use Rattle.tmpl_grammar.specs.computed.Quoted.{unquoted}
 use Rattle.tmpl_grammar.proofs.ListLemmas.{take-rest}
 use Rattle.tmpl_grammar.proofs.QuotedLemmas.{led, unquoted-first, unquoted-none, unquoted-end}
 use Rattle.tmpl_grammar.proofs.constant.quoted.unquoted.Goals as goal

@@ -1,5 +1,5 @@
 use Rattle.std.proofs.Common.{◌≡◌, length}
-use Rattle.tmpl_grammar.specs.Constant.Quoted.{unquoted}
+use Rattle.tmpl_grammar.specs.computed.Quoted.{unquoted}
 use Rattle.tmpl_grammar.proofs.QuotedLemmas.{led}
 use Rattle.tmpl_grammar.proofs.constant.quoted.unquoted.Given as goal
 

@@ -1,0 +1,170 @@
+-- What an action needs is no more than two and one for each of its tokens.
+use Rattle.std.proofs.Common.{arith, ◌≡◌, ◌∙◌, ◌≤◌, ℕ, suc, ◌+◌, max, List, [], ◌∷◌, ◌++◌, ap, length, length-append}
+use Rattle.tmpl_lex.specs.Piece.{Token}
+use Rattle.tmpl_grammar.specs.Tree as tree
+use Rattle.tmpl_grammar.specs.Tree.{Operand, Operands, Commands, Pipeline, pipeline, Binding, unbound, declare, assign, declare_pair, Header}
+use Rattle.tmpl_grammar.specs.Pipeline.{IsChained, SpellsOperand, SpellsMore, SpellsCommand, SpellsLater, SpellsPipeline}
+use Rattle.tmpl_grammar.specs.Header.{SpellsBinding, SpellsWhole, SpellsHeader}
+use Rattle.tmpl_grammar.specs.Action.{Action, pipeline_action, opening, plain_else, else_branch, end_action, break_action, continue_action, SpellsAction}
+use Rattle.tmpl_grammar.specs.Need.{called_or_alone, need_of_operand, need_of_arguments, need_of_command, need_of_commands, need_of_pipeline, declared_count}
+use Rattle.tmpl_grammar.specs.declared.action.Shape.{Shape}
+use Rattle.tmpl_grammar.specs.declared.action.Shape.TheVariants as shape
+
+-- ---- each value has a cell
+
+by-first-least : (o : Operand) (call alone : ℕ) → 1 ≤ call → 1 ≤ alone → 1 ≤ called_or_alone o call alone
+by-first-least tree.dot call alone c a = a
+by-first-least (tree.fields names) call alone c a = a
+by-first-least (tree.variable name names) call alone c a = a
+by-first-least (tree.bool_constant b) call alone c a = a
+by-first-least (tree.number_constant n) call alone c a = a
+by-first-least (tree.text_constant bytes) call alone c a = a
+by-first-least tree.nil call alone c a = a
+by-first-least (tree.function f) call alone c a = c
+by-first-least (tree.group commands names) call alone c a = a
+
+commands-least : (piped : ℕ) (cs : Commands) → 1 ≤ need_of_commands piped cs
+commands-least piped tree.no_command = omega arith
+commands-least piped (tree.command os cs) = let rest = commands-least 1 cs in omega (arith, rest)
+
+operand-least : (o : Operand) → 1 ≤ need_of_operand o
+operand-least tree.dot = omega arith
+operand-least (tree.fields names) = omega arith
+operand-least (tree.variable name names) = omega arith
+operand-least (tree.bool_constant b) = omega arith
+operand-least (tree.number_constant n) = omega arith
+operand-least (tree.text_constant bytes) = omega arith
+operand-least tree.nil = omega arith
+operand-least (tree.function f) = omega arith
+operand-least (tree.group commands names) = commands-least 0 commands
+
+command-least : (piped : ℕ) (os : Operands) → 1 ≤ need_of_command piped os
+command-least piped tree.no_operand = omega arith
+command-least piped (tree.operand o os) = by-first-least o (max 1 (need_of_arguments piped os)) (need_of_operand o) (omega arith) (operand-least o)
+
+-- ---- each value has a token
+
+by-first-most : (o : Operand) (call alone most : ℕ) → call ≤ most → alone ≤ most → called_or_alone o call alone ≤ most
+by-first-most tree.dot call alone most c a = a
+by-first-most (tree.fields names) call alone most c a = a
+by-first-most (tree.variable name names) call alone most c a = a
+by-first-most (tree.bool_constant b) call alone most c a = a
+by-first-most (tree.number_constant n) call alone most c a = a
+by-first-most (tree.text_constant bytes) call alone most c a = a
+by-first-most tree.nil call alone most c a = a
+by-first-most (tree.function f) call alone most c a = c
+by-first-most (tree.group commands names) call alone most c a = a
+
+one-token : (o : Operand) (names : List (List ℕ)) (ts : List Token) → IsChained o names ts → 1 ≤ length ts
+one-token o names ts s =
+    let n : length ts ≡ suc (length s.1) = ap length s.2 in
+    omega (arith, n)
+
+joined : (ts us vs : List Token) → ts ≡ us ++ vs → length ts ≡ length us + length vs
+joined ts us vs e = ap length e ∙ length-append us vs
+
+mutual
+  operand-within : (o : Operand) (ts : List Token) → SpellsOperand o ts → need_of_operand o ≤ length ts
+  operand-within tree.dot ts s = one-token tree.dot [] ts s
+  operand-within (tree.fields []) ts s = absurd s
+  operand-within (tree.fields (n ∷ ns)) ts s = one-token (tree.fields (n ∷ [])) ns ts s
+  operand-within (tree.variable name names) ts s = one-token (tree.variable name []) names ts s
+  operand-within (tree.bool_constant b) ts s = one-token (tree.bool_constant b) [] ts s
+  operand-within (tree.number_constant n) ts s = one-token (tree.number_constant n) [] ts s
+  operand-within (tree.text_constant bytes) ts s = one-token (tree.text_constant bytes) [] ts s
+  operand-within tree.nil ts s = one-token tree.nil [] ts s
+  operand-within (tree.function f) ts s = one-token (tree.function f) [] ts s
+  operand-within (tree.group commands names) ts s =
+      let inner = commands-within commands s.1 s.7 in
+      omega (arith, inner, joined ts (s.0 ∷ s.1) (s.2 ∷ s.3) s.4)
+
+  arguments-within : (held : ℕ) (os : Operands) (ts : List Token) → SpellsMore os ts → need_of_arguments held os ≤ held + length ts
+  arguments-within held tree.no_operand ts s = omega arith
+  arguments-within held (tree.operand o os) ts s =
+      let here = operand-within o s.2 s.6 in
+      let more = arguments-within (suc held) os s.3 s.7 in
+      omega (arith, here, more, joined ts (s.0 ∷ s.1) (s.2 ++ s.3) s.4, length-append s.2 s.3)
+
+  command-within : (piped : ℕ) (os : Operands) (ts : List Token) → SpellsCommand os ts → need_of_command piped os ≤ piped + length ts
+  command-within piped tree.no_operand ts s = absurd s
+  command-within piped (tree.operand o os) ts s =
+      let here = operand-within o s.1 s.5 in
+      let more = arguments-within piped os s.2 s.6 in
+      let n = joined ts s.0 (s.1 ++ s.2) s.3 in
+      let m = length-append s.1 s.2 in
+      by-first-most o (max 1 (need_of_arguments piped os)) (need_of_operand o) (piped + length ts)
+      (omega (arith, operand-least o, here, more, n, m)) (omega (arith, here, n, m))
+
+  later-within : (cs : Commands) (ts : List Token) → SpellsLater cs ts → need_of_commands 1 cs ≤ 1 + length ts
+  later-within tree.no_command ts s = omega arith
+  later-within (tree.command os cs) ts s =
+      let here = command-within 1 os s.1 s.6 in
+      let more = later-within cs s.2 s.7 in
+      omega (arith, here, more, joined ts (s.0 ∷ s.1) s.2 s.3)
+
+  commands-within : (cs : Commands) (ts : List Token) → SpellsPipeline cs ts → need_of_commands 0 cs ≤ length ts
+  commands-within tree.no_command ts s = absurd s
+  commands-within (tree.command os cs) ts s =
+      let here = command-within 0 os s.0 s.3 in
+      let more = later-within cs s.1 s.4 in
+      omega (arith, command-least 0 os, here, more, joined ts s.0 s.1 s.2)
+
+-- ---- and so has each variable
+
+whole-within : (p : Pipeline) (ts : List Token) → SpellsWhole p ts → need_of_pipeline p ≤ length ts
+whole-within (pipeline cs) ts s = commands-within cs ts s
+
+-- one token is before those behind it
+behind : (ts ws : List Token) (t : Token) (us : List Token) → ts ≡ ws ++ t ∷ us → 1 + length us ≤ length ts
+behind ts ws t us e = omega (arith, joined ts ws (t ∷ us) e)
+
+bound-within : (b : Binding) (p : Pipeline) (ts : List Token) → SpellsBinding b (SpellsWhole p) ts → declared_count b + need_of_pipeline p ≤ length ts
+bound-within unbound p ts s = let n = whole-within p ts s in omega (arith, n)
+bound-within (declare name) p ts s =
+    omega (arith, behind ts s.0 s.1 s.2 s.3, behind s.2 s.6.0 s.6.1 s.6.2 s.6.3, whole-within p s.6.2 s.6.6)
+bound-within (assign name) p ts s =
+    omega (arith, behind ts s.0 s.1 s.2 s.3, behind s.2 s.6.0 s.6.1 s.6.2 s.6.3, whole-within p s.6.2 s.6.6)
+bound-within (declare_pair key name) p ts s =
+    let more = s.6.6 in
+    let sign = more.6 in
+    omega (
+      arith,
+      behind ts s.0 s.1 s.2 s.3,
+      behind s.2 s.6.0 s.6.1 s.6.2 s.6.3,
+      behind s.6.2 more.0 more.1 more.2 more.3,
+      behind more.2 sign.0 sign.1 sign.2 sign.3,
+      whole-within p sign.2 sign.6,
+    )
+
+-- ---- actions
+
+-- what a header's variables and its pipeline need together
+abbrev pub header_cells : Header → ℕ
+header_cells h = declared_count h.binding + need_of_pipeline h.pipeline
+
+-- what an action adds to what its template needs: a control has two at most for itself
+abbrev pub cells_of : Action → ℕ
+cells_of (pipeline_action h) = header_cells h
+cells_of (opening c h) = 2 + header_cells h
+cells_of plain_else = 0
+cells_of (else_branch br h) = 2 + header_cells h
+cells_of end_action = 0
+cells_of break_action = 0
+cells_of continue_action = 0
+
+header-within : (s : Shape) (h : Header) (ts : List Token) → SpellsHeader s h ts → header_cells h ≤ length ts
+header-within s h ts spelled = bound-within h.binding h.pipeline ts spelled.1
+
+pub action-within : (a : Action) (ts : List Token) → SpellsAction a ts → cells_of a ≤ 2 + length ts
+action-within (pipeline_action h) ts s = let n = header-within shape.Pipeline h ts s in omega (arith, n)
+action-within (opening c h) ts s =
+    let n = header-within (shape.Open c) h s.2 s.6 in
+    omega (arith, n, behind ts s.0 s.1 s.2 s.3)
+action-within plain_else ts s = omega arith
+action-within (else_branch br h) ts s =
+    let more = s.6 in
+    let n = header-within (shape.ElseBranch br) h more.2 more.6 in
+    omega (arith, n, behind ts s.0 s.1 s.2 s.3, behind s.2 more.0 more.1 more.2 more.3)
+action-within end_action ts s = omega arith
+action-within break_action ts s = omega arith
+action-within continue_action ts s = omega arith
