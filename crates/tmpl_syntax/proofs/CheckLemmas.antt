@@ -1,22 +1,19 @@
 -- The check, from item to item.
-use Rattle.std.proofs.Common.{arith, ◌≡◌, ◌≢◌, ℕ, suc, ◌+◌, ◌<◌, ◌≤◌, List, [], ◌∷◌, ◌++◌, refl, sym, ap, ◌∙◌, subst, length, map, drop, get_or, drop-cons, add-one, Option, Some, None, Result, Ok, Err}
+use Rattle.std.proofs.Common.{arith, ◌≡◌, ◌≢◌, ℕ, suc, ◌+◌, ◌<◌, ◌≤◌, List, [], ◌∷◌, ◌++◌, refl, sym, ap, ◌∙◌, subst, length, map, drop, get_or, drop-cons, add-one, Option, Some, None, Ok, Err}
 use Rattle.std.specs.Prelude.{slice_get}
 use Rattle.std.specs.Option.{option_map}
 use Rattle.std.proofs.lemmas.List.{drop_all}
 use Rattle.std.proofs.lemmas.Option.{slice_get_read, slice_get_within, slice_get-map, get_or_from_slice_get}
 use Rattle.tmpl_syntax.specs.declared.fault.Fault.{Fault}
-use Rattle.tmpl_syntax.specs.declared.fault.Fault.TheVariants.{Unreadable, NotAnAction, OutOfPlace, NestedTooDeeply, UndeclaredVariable}
-use Rattle.tmpl_syntax.specs.declared.fault.ParseKind.{ParseKind}
-use Rattle.tmpl_syntax.specs.declared.fault.ParseKind.TheVariants as kind
 use Rattle.tmpl_syntax.specs.declared.place.frame.Frame.{Frame}
 use Rattle.tmpl_syntax.specs.declared.item.Item as held
-use Rattle.tmpl_syntax.specs.Fault.{parse_kind}
+use Rattle.tmpl_syntax.specs.Fault.{Reason, of_action, open_at_end}
 use Rattle.tmpl_syntax.specs.Item.{Item}
 use Rattle.tmpl_syntax.specs.View.{item_of}
 use Rattle.tmpl_syntax.specs.Place.Role.{Name, Role, role_of, roles_of}
 use Rattle.tmpl_syntax.specs.Place.Body.{Verdict, fine, refused, left_open}
 use Rattle.tmpl_syntax.specs.computed.Frames.{top, seen_at, fault_at, frames_past, added_by, at_end, unless_fault, verdict_from, verdict_of}
-use Rattle.tmpl_syntax.specs.computed.Parse.{Refusal, IsRefusal, line_in, by_verdict, checked}
+use Rattle.tmpl_syntax.specs.computed.Parse.{IsRefusal, line_in, by_verdict, checked}
 use Rattle.tmpl_syntax.specs.Parse.{last_line}
 use Rattle.tmpl_syntax.proofs.FaultLemmas.{TellsRole, tells}
 use Rattle.tmpl_syntax.proofs.SoundLemmas.{Sound, sound-start, sound-past}
@@ -76,27 +73,20 @@ drop-none xs i le = drop_all i xs le
 pub checking-ended : (xs : List Role) (i : ℕ) (names : List Name) (fs : List Frame) → length xs ≤ i → IsChecking xs i names fs → verdict_of xs ≡ at_end fs
 checking-ended xs i names fs le c = c.goes ∙ ap (verdict_from i fs names) (drop-none xs i le)
 
-fault-refusal : {T : Type 0} (r : Result T Refusal) (line : ℕ) (f : Fault) → r ≡ Err (line, parse_kind f) → IsRefusal r line (parse_kind f)
-fault-refusal r line Unreadable e = e
-fault-refusal r line NotAnAction e = e
-fault-refusal r line OutOfPlace e = e
-fault-refusal r line NestedTooDeeply e = e
-fault-refusal r line UndeclaredVariable e = e
-
 module _ (bytes : List ℕ) (items : List Item) where
   by : (v : Verdict) → verdict_of (roles_of items) ≡ v → checked bytes items ≡ by_verdict (last_line bytes) items v
   unfolding checked
   by v e = ap (by_verdict (last_line bytes) items) e
 
-  pub checked-refused : (i : ℕ) (x : Item) (f : Fault) (line : ℕ) (k : ParseKind) → slice_get items i ≡ Some x → verdict_of (roles_of items) ≡ refused i f → line ≡ line_in (Some x) → k ≡ parse_kind f → IsRefusal (checked bytes items) line k
-  checked-refused i x f line k at e is kind_is =
-      subst (λ n. IsRefusal (checked bytes items) n k) (sym is) (subst (λ z. IsRefusal (checked bytes items) (line_in (Some x)) z) (sym kind_is)
-      (fault-refusal (checked bytes items) (line_in (Some x)) f (by (refused i f) e ∙ ap (λ o. Err (line_in o, parse_kind f)) at)))
+  pub checked-refused : (i : ℕ) (x : Item) (f : Fault) (line : ℕ) (o : Option Reason) → slice_get items i ≡ Some x → verdict_of (roles_of items) ≡ refused i f → line ≡ line_in (Some x) → o ≡ Some (of_action f) → IsRefusal (checked bytes items) line o
+  checked-refused i x f line o at e is named =
+      subst (λ n. IsRefusal (checked bytes items) n o) (sym is) (subst (λ z. IsRefusal (checked bytes items) (line_in (Some x)) z) (sym named)
+      (by (refused i f) e ∙ ap (λ y. Err (line_in y, of_action f)) at))
 
   pub checked-fine : (fs : List Frame) → length fs ≡ 0 → verdict_of (roles_of items) ≡ at_end fs → checked bytes items ≡ Ok tt
   checked-fine [] n e = by fine e
   checked-fine (f ∷ fs) n e = absurd (omega arith)
 
-  pub checked-open : (fs : List Frame) → length fs ≢ 0 → verdict_of (roles_of items) ≡ at_end fs → checked bytes items ≡ Err (last_line bytes, kind.OpenAtEnd)
+  pub checked-open : (fs : List Frame) → length fs ≢ 0 → verdict_of (roles_of items) ≡ at_end fs → checked bytes items ≡ Err (last_line bytes, open_at_end)
   checked-open [] n e = absurd (n refl)
   checked-open (f ∷ fs) n e = by left_open e

@@ -1,5 +1,5 @@
 -- The pieces of a file are read as the items that are computed.
-use Rattle.std.proofs.Common.{arith, ◌≡◌, ◌∙◌, ◌≤◌, ◌<◌, ℕ, List, [], ◌∷◌, Option, Some, None, refl, ap, sym, subst, ⊎_elim}
+use Rattle.std.proofs.Common.{arith, ◌≡◌, ◌∙◌, ◌≤◌, ◌<◌, ℕ, Bool, true, false, List, [], ◌∷◌, map, Option, Some, None, refl, ap, sym, subst, ⊎_elim}
 use Rattle.std.proofs.lemmas.Bool.{le-leb, cases_lt}
 use Rattle.std.proofs.lemmas.Bool.Decides.{leb_tells}
 use Rattle.std.proofs.lemmas.Option.{same_Some}
@@ -9,9 +9,11 @@ use Rattle.tmpl_lex.proofs.CutLemmas.{cut_of-Cuts, Cuts-cut_of}
 use Rattle.tmpl_grammar.specs.Action.{Action, pipeline_action, opening, plain_else, else_branch, end_action, break_action, continue_action, SpellsAction, shape_of}
 use Rattle.tmpl_grammar.specs.Depth.{depth_of_pipeline, depth_of, most_deep, limited, limited_to, within_limit, reading_of, unread as unread_within, too_deep as deep_within, read as read_within}
 use Rattle.tmpl_grammar.specs.computed.Reading.{action_in}
-use Rattle.tmpl_syntax.specs.Item.{Item, item, IsItem, a_text, an_unreadable, unread, too_deep, read, AreItems, no_item, an_item}
+use Rattle.tmpl_syntax.specs.Item.{Item, item, HasItems, IsItem, a_text, an_unreadable, unread, too_deep, read, AreItems, no_item, an_item}
 use Rattle.tmpl_syntax.specs.computed.Item.{read_item, item_in, items_in}
-use Rattle.tmpl_syntax.specs.Laws.{HasItemsOf, HasNoOtherItems}
+use Rattle.tmpl_syntax.specs.Language.{Branches, every_branch, has_action}
+use Rattle.tmpl_syntax.specs.Laws.{HasItemsOf, HasOneList, HasSomeItems}
+use Rattle.tmpl_syntax.specs.computed.Parse.{items_of}
 use Rattle.tmpl_grammar.specs.declared.action.Shape.{Shape}
 use Rattle.tmpl_grammar.specs.declared.action.Shape.TheVariants as shape
 use Rattle.tmpl_grammar.proofs.ActionLemmas.{reads-action, spells-action, none-spelled}
@@ -51,52 +53,120 @@ deep-read end_action lt = absurd (omega (arith, lt))
 deep-read break_action lt = absurd (omega (arith, lt))
 deep-read continue_action lt = absurd (omega (arith, lt))
 
+-- ---- the actions of a language
+
+-- this language has every action
+pub has-every : (a : Action) → has_action every_branch a ≡ true
+has-every (pipeline_action h) = refl
+has-every (opening c h) = refl
+has-every plain_else = refl
+has-every (else_branch b h) = refl
+has-every end_action = refl
+has-every break_action = refl
+has-every continue_action = refl
+
+abbrev pub if_there : Bool → Action → Option Action
+if_there true a = Some a
+if_there false a = None
+
+-- an action, if it is one of the language
+abbrev pub kept : Branches → Option Action → Option Action
+kept branches None = None
+kept branches (Some a) = if_there (has_action branches a) a
+
+kept-every : (o : Option Action) → kept every_branch o ≡ o
+kept-every None = refl
+kept-every (Some a) = ap (λ b. if_there b a) (has-every a)
+
+-- the item that a piece is read as
+abbrev pub item_for : Branches → Piece → Item
+item_for branches (text line bytes) = item_in (text line bytes)
+item_for branches (action line ts) = item line (read_item (reading_of (kept branches (action_in ts))))
+item_for branches (unreadable line) = item_in (unreadable line)
+
+for-every : (p : Piece) → item_for every_branch p ≡ item_in p
+for-every (text line bytes) = refl
+for-every (action line ts) = ap (λ o. item line (read_item (reading_of o))) (kept-every (action_in ts))
+for-every (unreadable line) = refl
+
 -- ---- one item
 
-action-item : (line : ℕ) (ts : List Token) → IsItem (action line ts) (item_in (action line ts))
-action-item line ts = by (action_in ts) refl
-  where
-    by : (o : Option Action) → action_in ts ≡ o → IsItem (action line ts) (item line (read_item (reading_of o)))
-    by None e = unread (none-spelled ts e)
-    by (Some a) e = ⊎_elim
-        (λ lt. let d = deep-read a lt in
-        subst (λ r. IsItem (action line ts) (item line (read_item r))) (sym d.is) (too_deep a (spells-action ts a e) d.shape_is lt))
-        (λ le. subst (λ r. IsItem (action line ts) (item line (read_item r))) (sym (within-read a le)) (read (spells-action ts a e) le))
-        (cases_lt most_deep (depth_of a))
+module _ (branches : Branches) where
+  read-item : (line : ℕ) (ts : List Token) (a : Action) → SpellsAction a ts → has_action branches a ≡ true → IsItem branches (action line ts) (item line (read_item (within_limit a)))
+  read-item line ts a s t = ⊎_elim
+      (λ lt. let d = deep-read a lt in
+      subst (λ r. IsItem branches (action line ts) (item line (read_item r))) (sym d.is) (too_deep a s t d.shape_is lt))
+      (λ le. subst (λ r. IsItem branches (action line ts) (item line (read_item r))) (sym (within-read a le)) (read s t le))
+      (cases_lt most_deep (depth_of a))
 
-pub piece-item : (p : Piece) → IsItem p (item_in p)
-piece-item (text line bytes) = a_text
-piece-item (action line ts) = action-item line ts
-piece-item (unreadable line) = an_unreadable
+  action-item : (line : ℕ) (ts : List Token) → IsItem branches (action line ts) (item_for branches (action line ts))
+  action-item line ts = by (action_in ts) refl
+    where
+      there : (a : Action) → action_in ts ≡ Some a → (b : Bool) → has_action branches a ≡ b → IsItem branches (action line ts) (item line (read_item (reading_of (if_there b a))))
+      there a e true t = read-item line ts a (spells-action ts a e) t
+      there a e false t = unread (λ b s h. let same : b ≡ a = same_Some b a (sym (reads-action ts b s) ∙ e) in absurd (let g : true ≡ false = sym h ∙ ap (has_action branches) same ∙ t in cc))
 
-unread-only : (line : ℕ) (ts : List Token) → ((a : Action) → SpellsAction a ts → ⊥) → (o : Option Action) → action_in ts ≡ o → item line (read_item unread_within) ≡ item line (read_item (reading_of o))
-unread-only line ts none None e = refl
-unread-only line ts none (Some a) e = absurd (none a (spells-action ts a e))
+      by : (o : Option Action) → action_in ts ≡ o → IsItem branches (action line ts) (item line (read_item (reading_of (kept branches o))))
+      by None e = unread (λ a s h. none-spelled ts e a s)
+      by (Some a) e = there a e (has_action branches a) refl
 
-only-item : {p : Piece} {x : Item} → IsItem p x → x ≡ item_in p
-only-item a_text = refl
-only-item an_unreadable = refl
-only-item (unread {line = line} {ts = ts} none) = unread-only line ts none (action_in ts) refl
-only-item (too_deep {line = line} {ts = ts} {s = s} a spells is lt) =
-    let d = deep-read a lt in
-    ap (λ k. item line (read_item (deep_within k))) (same_Some s d.shape (sym is ∙ d.shape_is))
-    ∙ ap (λ r. item line (read_item r)) (sym d.is)
-    ∙ ap (λ o. item line (read_item (reading_of o))) (sym (reads-action ts a spells))
-only-item (read {line = line} {ts = ts} {a = a} spells le) =
-    ap (λ r. item line (read_item r)) (sym (within-read a le)) ∙ ap (λ o. item line (read_item (reading_of o))) (sym (reads-action ts a spells))
+  pub piece-item : (p : Piece) → IsItem branches p (item_for branches p)
+  piece-item (text line bytes) = a_text
+  piece-item (action line ts) = action-item line ts
+  piece-item (unreadable line) = an_unreadable
 
--- ---- the items of a file
+  -- tokens that spell an action of the language
+  spelled-read : (ts : List Token) (a : Action) → SpellsAction a ts → has_action branches a ≡ true → reading_of (kept branches (action_in ts)) ≡ within_limit a
+  spelled-read ts a s t = ap (λ o. reading_of (kept branches o)) (reads-action ts a s) ∙ ap (λ b. reading_of (if_there b a)) t
 
-are-items : (ps : List Piece) → AreItems ps (items_in ps)
-are-items [] = no_item
-are-items (p ∷ ps) = an_item (piece-item p) (are-items ps)
+  unread-only : (line : ℕ) (ts : List Token) → ((a : Action) → SpellsAction a ts → has_action branches a ≡ true → ⊥) → (o : Option Action) → action_in ts ≡ o → item line (read_item unread_within) ≡ item line (read_item (reading_of (kept branches o)))
+  unread-only line ts none None e = refl
+  unread-only line ts none (Some a) e = by (has_action branches a) refl
+    where
+      by : (b : Bool) → has_action branches a ≡ b → item line (read_item unread_within) ≡ item line (read_item (reading_of (if_there b a)))
+      by true t = absurd (none a (spells-action ts a e) t)
+      by false t = refl
 
-only-items : {ps : List Piece} {xs : List Item} → AreItems ps xs → xs ≡ items_in ps
-only-items no_item = refl
-only-items (an_item {p = p} {x = x} {ps = ps} {xs = xs} i is) = ap (λ y. y ∷ xs) (only-item i) ∙ ap (λ ys. item_in p ∷ ys) (only-items is)
+  only-item : {p : Piece} {x : Item} → IsItem branches p x → x ≡ item_for branches p
+  only-item a_text = refl
+  only-item an_unreadable = refl
+  only-item (unread {line = line} {ts = ts} none) = unread-only line ts none (action_in ts) refl
+  only-item (too_deep {line = line} {ts = ts} {s = s} a spells t is lt) =
+      let d = deep-read a lt in
+      ap (λ k. item line (read_item (deep_within k))) (same_Some s d.shape (sym is ∙ d.shape_is))
+      ∙ ap (λ r. item line (read_item r)) (sym d.is)
+      ∙ ap (λ r. item line (read_item r)) (sym (spelled-read ts a spells t))
+  only-item (read {line = line} {ts = ts} {a = a} spells t le) =
+      ap (λ r. item line (read_item r)) (sym (within-read a le)) ∙ ap (λ r. item line (read_item r)) (sym (spelled-read ts a spells t))
+
+  -- ---- the items of a file
+
+  are-items : (ps : List Piece) → AreItems branches ps (map (item_for branches) ps)
+  are-items [] = no_item
+  are-items (p ∷ ps) = an_item (piece-item p) (are-items ps)
+
+  only-items : {ps : List Piece} {xs : List Item} → AreItems branches ps xs → xs ≡ map (item_for branches) ps
+  only-items no_item = refl
+  only-items (an_item {p = p} {x = x} {ps = ps} {xs = xs} i is) = ap (λ y. y ∷ xs) (only-item i) ∙ ap (λ ys. item_for branches p ∷ ys) (only-items is)
+
+  has-those : (bytes : List ℕ) → HasItems branches bytes (map (item_for branches) (cut_of bytes))
+  has-those bytes = record { pieces = cut_of bytes; cut = cut_of-Cuts bytes; read = are-items (cut_of bytes) }
+
+  only-those : (bytes : List ℕ) (items : List Item) → HasItems branches bytes items → items ≡ map (item_for branches) (cut_of bytes)
+  only-those bytes items h = only-items h.read ∙ ap (map (item_for branches)) (Cuts-cut_of bytes h.pieces h.cut)
+
+pub has-some : HasSomeItems
+has-some branches bytes = (map (item_for branches) (cut_of bytes), has-those branches bytes)
+
+pub one-list : HasOneList
+one-list branches bytes xs ys h k = only-those branches bytes xs h ∙ sym (only-those branches bytes ys k)
+
+in-every : (ps : List Piece) → map (item_for every_branch) ps ≡ items_in ps
+in-every [] = refl
+in-every (p ∷ ps) = ap (λ y. y ∷ map (item_for every_branch) ps) (for-every p) ∙ ap (λ ys. item_in p ∷ ys) (in-every ps)
 
 pub has-items : HasItemsOf
-has-items bytes = record { pieces = cut_of bytes; cut = cut_of-Cuts bytes; read = are-items (cut_of bytes) }
+has-items bytes = subst (HasItems every_branch bytes) (in-every (cut_of bytes)) (has-those every_branch bytes)
 
-pub no-others : HasNoOtherItems
-no-others bytes items h = only-items h.read ∙ ap items_in (Cuts-cut_of bytes h.pieces h.cut)
+pub no-others : (bytes : List ℕ) (items : List Item) → HasItems every_branch bytes items → items ≡ items_of bytes
+no-others bytes items h = one-list every_branch bytes items (items_of bytes) h (has-items bytes)

@@ -11,6 +11,11 @@ pub mod FitLemmas
 pub mod ItemLemmas
 pub mod JoinLemmas
 pub mod JudgeLemmas
+pub mod KeptLemmas
+pub mod LanguageExamples
+pub mod LargerLemmas
+pub mod NeedExamples
+pub mod NeedLemmas
 pub mod OneSpellingLemmas
 pub mod OneVerdictLemmas
 pub mod OpenLemmas
@@ -18,7 +23,6 @@ pub mod PlaceLemmas
 pub mod PrintExamples
 pub mod PrintableNodeLemmas
 pub mod PrintablePieceLemmas
-pub mod PrintableSetLemmas
 pub mod PrintedItemLemmas
 pub mod PrintedNodeLemmas
 pub mod ReadingLemmas

@@ -5,6 +5,7 @@ use Rattle.tmpl_grammar.specs.Tree.{Header}
 use Rattle.tmpl_grammar.specs.Action.{opening, else_branch, end_action, control_in}
 use Rattle.tmpl_grammar.specs.declared.tree.Control.{Control}
 use Rattle.tmpl_syntax.specs.Tree.{Nodes, none, then, control_node}
+use Rattle.tmpl_syntax.specs.Language.{Branches}
 use Rattle.tmpl_syntax.specs.Item.{Item, item, text_item, unreadable_item, unread_item, deep_item, action_item, IsItem, a_text as text_read, an_unreadable, unread, too_deep, read, AreItems, no_item, an_item}
 use Rattle.tmpl_syntax.specs.Spelling.{Leads, nothing, a_text, an_action, a_break, a_continue, a_control, Closes, an_end, an_else, an_else_branch}
 use Rattle.tmpl_grammar.specs.declared.action.Branch.{Branch}
@@ -28,14 +29,14 @@ abbrev OfItems : List Item → Type 0
 OfItems [] = Unit {0}
 OfItems (x ∷ xs) = OfItem x × OfItems xs
 
-of-item : {p : Piece} {x : Item} → IsItem p x → OfPiece p → OfItem x
+of-item : {branches : Branches} {p : Piece} {x : Item} → IsItem branches p x → OfPiece p → OfItem x
 of-item text_read h = h
 of-item an_unreadable h = tt
 of-item (unread n) h = tt
-of-item (too_deep a s e lt) h = tt
-of-item (read {ts = ts} {a = a} s le) h = of_action a ts le h s
+of-item (too_deep a s t e lt) h = tt
+of-item (read {ts = ts} {a = a} s t le) h = of_action a ts le h s
 
-of-items : {ps : List Piece} {xs : List Item} → AreItems ps xs → OfPieces ps → OfItems xs
+of-items : {branches : Branches} {ps : List Piece} {xs : List Item} → AreItems branches ps xs → OfPieces ps → OfItems xs
 of-items no_item h = tt
 of-items (an_item i is) h = (of-item i h.0, of-items is h.1)
 
@@ -77,4 +78,4 @@ mutual
       ((tt, said-append (node_said (control_node (control_in br) r body other)) [] (control-of (control_in br) r (nodes_said body) (else_said other (nodes_said other)) (branch-of br r h.0) inner.0 behind.0) tt), behind.1)
 
 pub keeps-printable : KeepsPrintable
-keeps-printable bytes items ns h has spells = (leads-of spells (of-items has.read (cuts-of has.cut h))).0
+keeps-printable branches bytes items ns h has spells = (leads-of spells (of-items has.read (cuts-of has.cut h))).0

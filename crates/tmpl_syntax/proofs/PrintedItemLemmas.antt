@@ -4,12 +4,15 @@ use Rattle.tmpl_lex.specs.Piece.{Token, Piece, text, action}
 use Rattle.tmpl_grammar.specs.Tree.{Pipeline, pipeline}
 use Rattle.tmpl_grammar.specs.Action.{Action, pipeline_action, opening, plain_else, else_branch, end_action, break_action, continue_action}
 use Rattle.tmpl_grammar.specs.Depth.{depth_of, depth_of_pipeline, most_deep}
+use Rattle.tmpl_syntax.specs.Language.{every_branch}
 use Rattle.tmpl_syntax.specs.Item.{Item, item, text_item, action_item, a_text as text_read, read, AreItems, no_item, an_item}
 use Rattle.tmpl_syntax.specs.Print.Join.{Part, a_text, an_action, AreParts, SamePieces, no_piece, same_text, same_action}
 use Rattle.tmpl_syntax.specs.Print.Printed.{Said, said_text, said, nodes_said, part_of}
 use Rattle.tmpl_grammar.specs.Printable.{OfPipeline, OfAction}
 use Rattle.tmpl_syntax.specs.Print.Printable.{AreSaid}
 use Rattle.tmpl_syntax.specs.Print.Laws.{Says, says_nothing, says_text, says, ReadsSame}
+use Rattle.tmpl_syntax.proofs.ItemLemmas.{has-every}
+use Rattle.tmpl_lex.proofs.PartLemmas.{absent-nil}
 use Rattle.tmpl_syntax.proofs.JoinLemmas.{cut-back}
 use Rattle.tmpl_grammar.proofs.PrintedTokenLemmas.{action-inside}
 use Rattle.tmpl_grammar.proofs.PrintedSpellingLemmas.{spells-tokens}
@@ -35,7 +38,7 @@ within continue_action h = omega arith
 -- items that pieces are read as, and that say this
 record ItemsSaid (ss : List Said) (ps : List Piece) : Type 0 where
   items : List Item
-  are : AreItems ps items
+  are : AreItems every_branch ps items
   say : Says ss items
 
 pub record TextFirst (t : List ℕ) (ps : List Part) (qs : List Piece) : Type 0 where
@@ -60,19 +63,19 @@ pub none-first : {qs : List Piece} → SamePieces [] qs → qs ≡ []
 none-first no_piece = refl
 
 items-said : (ss : List Said) (qs : List Piece) → AreSaid ss → SamePieces (map part_of ss) qs → ItemsSaid ss qs
-items-said [] qs h s = record { items = []; are = subst (λ ps. AreItems ps []) (sym (none-first s)) no_item; say = says_nothing }
+items-said [] qs h s = record { items = []; are = subst (λ ps. AreItems every_branch ps []) (sym (none-first s)) no_item; say = says_nothing }
 items-said (said_text t ∷ ss) qs h s =
     let f = text-first s in
     let more = items-said ss f.rest h.1 f.same in
-    record { items = item f.line (text_item t) ∷ more.items; are = subst (λ ps. AreItems ps (item f.line (text_item t) ∷ more.items)) (sym f.is) (an_item text_read more.are); say = says_text more.say }
+    record { items = item f.line (text_item t) ∷ more.items; are = subst (λ ps. AreItems every_branch ps (item f.line (text_item t) ∷ more.items)) (sym f.is) (an_item text_read more.are); say = says_text more.say }
 items-said (said a ∷ ss) qs h s =
     let f = action-first s in
     let more = items-said ss f.rest h.1 f.same in
-    record { items = item f.line (action_item a) ∷ more.items; are = subst (λ ps. AreItems ps (item f.line (action_item a) ∷ more.items)) (sym f.is) (an_item (read (spells-tokens a h.0) (within a h.0)) more.are); say = says more.say }
+    record { items = item f.line (action_item a) ∷ more.items; are = subst (λ ps. AreItems every_branch ps (item f.line (action_item a) ∷ more.items)) (sym f.is) (an_item (read (spells-tokens a h.0) (has-every a) (within a h.0)) more.are); say = says more.say }
 
 pub reads-same : ReadsSame
 reads-same ns h =
-    let c = cut-back (map part_of (nodes_said ns)) (are-parts (nodes_said ns) h) [] refl 1 in
+    let c = cut-back (map part_of (nodes_said ns)) (are-parts (nodes_said ns) h) [] (absent-nil 123 123) 1 in
     let i = items-said (nodes_said ns) c.pieces h c.same in
     let s = spells-alike ns i.items i.say in
     record {

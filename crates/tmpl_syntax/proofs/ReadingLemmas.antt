@@ -1,24 +1,25 @@
--- What a file's reading says by the verdict on its items.
-use Rattle.std.proofs.Common.{arith, ◌≡◌, ◌<◌, ◌≤◌, ℕ, List, [], ◌∷◌, get_or, Option, Some, Result, Ok, Err, refl, sym, ap, subst, ◌∙◌, length, ⊎_elim}
+-- A file is accepted or refused just as the function says.
+use Rattle.std.proofs.Common.{arith, ◌≡◌, ◌<◌, ◌≤◌, ℕ, List, [], ◌∷◌, get_or, Option, Some, None, Result, Ok, Err, refl, sym, ap, subst, ◌∙◌, length, ⊎_elim}
 use Rattle.std.specs.Prelude.{slice_get}
 use Rattle.std.proofs.lemmas.Bool.{cases_lt}
 use Rattle.std.proofs.lemmas.List.{length-map}
 use Rattle.std.proofs.lemmas.Option.{slice_get-get_or}
 use Rattle.tmpl_syntax.specs.declared.fault.Fault.{Fault}
+use Rattle.tmpl_syntax.specs.Language.{every_branch}
 use Rattle.tmpl_syntax.specs.declared.fault.Fault.TheVariants as fault
-use Rattle.tmpl_syntax.specs.declared.fault.ParseKind.{ParseKind}
-use Rattle.tmpl_syntax.specs.declared.fault.ParseKind.TheVariants.{Unreadable, NotAnAction, OutOfPlace, NestedTooDeeply, UndeclaredVariable, OpenAtEnd, TooLong, OutOfMemory}
-use Rattle.tmpl_syntax.specs.Fault.{parse_kind}
+use Rattle.tmpl_syntax.specs.Fault.{Reason, unreadable, not_an_action, out_of_place, nested_too_deeply, undeclared_variable, open_at_end, too_long, of_action}
 use Rattle.tmpl_syntax.specs.Item.{ItemKind, Item, item, HasItems}
 use Rattle.tmpl_syntax.specs.Place.Role.{role_of, roles_of}
 use Rattle.tmpl_syntax.specs.Place.Body.{Verdict, fine, refused, left_open, Judged}
 use Rattle.tmpl_syntax.specs.computed.Frames.{verdict_of}
 use Rattle.tmpl_syntax.specs.computed.Build.{nodes_from}
 use Rattle.tmpl_syntax.specs.Set.{Template}
+use Rattle.tmpl_syntax.specs.Laws.{AcceptsAsParsed, RefusesAsParsed}
 use Rattle.tmpl_syntax.specs.computed.Parse.{Refusal, IsRefusal, line_in, line_at, by_verdict, checked, spelled, items_of, placed, parsed}
-use Rattle.tmpl_syntax.specs.Parse.{last_line, most_bytes, IsDefined, IsRefusedAt, IsRefusedBy}
-use Rattle.tmpl_syntax.proofs.ItemLemmas.{has-items}
-use Rattle.tmpl_syntax.proofs.OneVerdictLemmas.{within}
+use Rattle.tmpl_syntax.specs.Parse.{last_line, most_bytes, IsAccepted, IsRefusedAt, IsRefusedBy, IsRefusedFor}
+use Rattle.tmpl_syntax.proofs.ItemLemmas.{has-items, no-others}
+use Rattle.tmpl_syntax.proofs.OneVerdictLemmas.{within, one-verdict}
+use Rattle.tmpl_syntax.proofs.OneSpellingLemmas.{one-spelling}
 use Rattle.tmpl_syntax.proofs.VerdictLemmas.{judged-all}
 use Rattle.tmpl_syntax.proofs.SpellingLemmas.{spells-fine}
 use Rattle.tmpl_syntax.proofs.FileLemmas.{parsed-long, parsed-short}
@@ -54,64 +55,95 @@ module _ (set : List Template) (file bytes : List ℕ) where
   judged-by : (v : Verdict) → verdict_of (roles_of (items_of bytes)) ≡ v → Judged (roles_of (items_of bytes)) v
   judged-by v e = subst (Judged (roles_of (items_of bytes))) e (judged-all (roles_of (items_of bytes)))
 
-  pub accepted : (new : List Template) → parsed set file bytes ≡ Ok new → (length bytes ≤ most_bytes) × (items : List Item) × HasItems bytes items × Judged (roles_of items) fine × IsDefined set file items new
+  -- ---- from the function
+
+  pub accepted : (new : List Template) → parsed set file bytes ≡ Ok new → IsAccepted every_branch set file bytes new
   accepted new e = ⊎_elim
-      (λ long. no-value new (1, TooLong) (sym e ∙ parsed-long set file bytes long))
+      (λ long. no-value new (1, too_long) (sym e ∙ parsed-long set file bytes long))
       (λ short. by short (verdict_of (roles_of (items_of bytes))) refl)
       (cases_lt most_bytes (length bytes))
     where
-      by : length bytes ≤ most_bytes → (v : Verdict) → verdict_of (roles_of (items_of bytes)) ≡ v → (length bytes ≤ most_bytes) × (items : List Item) × HasItems bytes items × Judged (roles_of items) fine × IsDefined set file items new
-      by short fine v = (
-        short,
-        items_of bytes,
-        has-items bytes,
-        judged-by fine v,
-        record {
-          nodes = nodes_from (items_of bytes);
-          spells = spells-fine (items_of bytes) v;
-          set = ap (value_or new) (sym e ∙ short-by fine short v);
-        },
-      )
+      by : length bytes ≤ most_bytes → (v : Verdict) → verdict_of (roles_of (items_of bytes)) ≡ v → IsAccepted every_branch set file bytes new
+      by short fine v = record {
+        short = short;
+        items = items_of bytes;
+        has = has-items bytes;
+        judged = judged-by fine v;
+        nodes = nodes_from (items_of bytes);
+        spells = spells-fine (items_of bytes) v;
+        set = ap (value_or new) (sym e ∙ short-by fine short v);
+      }
       by short (refused i f) v = no-value new _ (sym e ∙ short-by (refused i f) short v)
       by short left_open v = no-value new _ (sym e ∙ short-by left_open short v)
 
-  refused-as : (line : ℕ) (f : Fault) → length bytes ≤ most_bytes → IsRefusedAt (items_of bytes) line (parse_kind f) → IsRefusedBy bytes line (parse_kind f)
+  refused-there : (i : ℕ) (f : Fault) (line : ℕ) → line ≡ line_at (items_of bytes) i → Judged (roles_of (items_of bytes)) (refused i f) → IsRefusedAt (items_of bytes) line (of_action f)
+  refused-there i f line e j =
+      let lt : i < length (items_of bytes) = let n = within (roles_of (items_of bytes)) i f j.applies in omega (arith, n, length-map (items_of bytes) role_of) in
+      let x = item-there (items_of bytes) i lt in
+      let it = named-item (slice_get (items_of bytes) i) x.0 line x.1 (e ∙ ap line_in x.1) in
+      record { place = i; fault = f; first = j; what = it.0; at = it.1; why = refl }
+
+  refused-as : (line : ℕ) (f : Fault) → length bytes ≤ most_bytes → IsRefusedAt (items_of bytes) line (of_action f) → IsRefusedBy every_branch bytes line (of_action f)
   refused-as line fault.Unreadable h r = (h, items_of bytes, has-items bytes, r)
   refused-as line fault.NotAnAction h r = (h, items_of bytes, has-items bytes, r)
   refused-as line fault.OutOfPlace h r = (h, items_of bytes, has-items bytes, r)
   refused-as line fault.NestedTooDeeply h r = (h, items_of bytes, has-items bytes, r)
   refused-as line fault.UndeclaredVariable h r = (h, items_of bytes, has-items bytes, r)
 
-  refused-there : (i : ℕ) (f : Fault) (line : ℕ) → line ≡ line_at (items_of bytes) i → Judged (roles_of (items_of bytes)) (refused i f) → IsRefusedAt (items_of bytes) line (parse_kind f)
-  refused-there i f line e j =
-      let lt : i < length (items_of bytes) = let n = within (roles_of (items_of bytes)) i f j.applies in omega (arith, n, length-map (items_of bytes) role_of) in
-      let x = item-there (items_of bytes) i lt in
-      let it = named-item (slice_get (items_of bytes) i) x.0 line x.1 (e ∙ ap line_in x.1) in
-      record { place = i; fault = f; first = j; what = it.0; at = it.1; kind_is = refl }
-
-  refusal-from : (line : ℕ) (kind : ParseKind) → parsed set file bytes ≡ Err (line, kind) → IsRefusedBy bytes line kind
-  refusal-from line kind e = ⊎_elim
-      (λ long. let s = same-refusal (line, kind) (1, TooLong) (sym e ∙ parsed-long set file bytes long) in
-      subst (IsRefusedBy bytes line) (sym (ap (λ (r : Refusal). r.1) s)) (long, ap (λ (r : Refusal). r.0) s))
+  pub refusal : (line : ℕ) (reason : Reason) → parsed set file bytes ≡ Err (line, reason) → IsRefusedBy every_branch bytes line reason
+  refusal line reason e = ⊎_elim
+      (λ long. let s = same-refusal (line, reason) (1, too_long) (sym e ∙ parsed-long set file bytes long) in
+      subst (IsRefusedBy every_branch bytes line) (sym (ap (λ (r : Refusal). r.1) s)) (long, ap (λ (r : Refusal). r.0) s))
       (λ short. by short (verdict_of (roles_of (items_of bytes))) refl)
       (cases_lt most_bytes (length bytes))
     where
-      by : length bytes ≤ most_bytes → (v : Verdict) → verdict_of (roles_of (items_of bytes)) ≡ v → IsRefusedBy bytes line kind
-      by short fine v = no-value _ (line, kind) (sym (short-by fine short v) ∙ e)
+      by : length bytes ≤ most_bytes → (v : Verdict) → verdict_of (roles_of (items_of bytes)) ≡ v → IsRefusedBy every_branch bytes line reason
+      by short fine v = no-value _ (line, reason) (sym (short-by fine short v) ∙ e)
       by short (refused i f) v =
-          let s = same-refusal (line, kind) (line_at (items_of bytes) i, parse_kind f) (sym e ∙ short-by (refused i f) short v) in
-          subst (IsRefusedBy bytes line) (sym (ap (λ (r : Refusal). r.1) s))
+          let s = same-refusal (line, reason) (line_at (items_of bytes) i, of_action f) (sym e ∙ short-by (refused i f) short v) in
+          subst (IsRefusedBy every_branch bytes line) (sym (ap (λ (r : Refusal). r.1) s))
           (refused-as line f short (refused-there i f line (ap (λ (r : Refusal). r.0) s) (judged-by (refused i f) v)))
       by short left_open v =
-          let s = same-refusal (line, kind) (last_line bytes, OpenAtEnd) (sym e ∙ short-by left_open short v) in
-          subst (IsRefusedBy bytes line) (sym (ap (λ (r : Refusal). r.1) s)) (short, items_of bytes, has-items bytes, judged-by left_open v, ap (λ (r : Refusal). r.0) s)
+          let s = same-refusal (line, reason) (last_line bytes, open_at_end) (sym e ∙ short-by left_open short v) in
+          subst (IsRefusedBy every_branch bytes line) (sym (ap (λ (r : Refusal). r.1) s)) (short, items_of bytes, has-items bytes, judged-by left_open v, ap (λ (r : Refusal). r.0) s)
 
-  pub refusal-of : (line : ℕ) (kind : ParseKind) → IsRefusal (parsed set file bytes) line kind → IsRefusedBy bytes line kind
-  refusal-of line Unreadable e = refusal-from line Unreadable e
-  refusal-of line NotAnAction e = refusal-from line NotAnAction e
-  refusal-of line OutOfPlace e = refusal-from line OutOfPlace e
-  refusal-of line NestedTooDeeply e = refusal-from line NestedTooDeeply e
-  refusal-of line UndeclaredVariable e = refusal-from line UndeclaredVariable e
-  refusal-of line OpenAtEnd e = refusal-from line OpenAtEnd e
-  refusal-of line TooLong e = refusal-from line TooLong e
-  refusal-of line OutOfMemory e = e
+  -- .. where memory may run out
+  pub refusal-for : (line : ℕ) (o : Option Reason) → IsRefusal (parsed set file bytes) line o → IsRefusedFor every_branch bytes line o
+  refusal-for line None e = e
+  refusal-for line (Some reason) e = refusal line reason e
+
+  -- ---- to the function
+
+  -- a file of items on which this is the verdict
+  verdict-as : (items : List Item) → HasItems every_branch bytes items → (v : Verdict) → Judged (roles_of items) v → length bytes ≤ most_bytes → parsed set file bytes ≡ placed set file (spelled (by_verdict (last_line bytes) items v) (nodes_from items))
+  verdict-as items has v j short =
+      let same : items ≡ items_of bytes = no-others bytes items has in
+      let is : verdict_of (roles_of items) ≡ v = one-verdict (roles_of items) (verdict_of (roles_of items)) v (judged-all (roles_of items)) j in
+      short-by v short (ap (λ xs. verdict_of (roles_of xs)) (sym same) ∙ is)
+      ∙ ap (λ xs. placed set file (spelled (by_verdict (last_line bytes) xs v) (nodes_from xs))) (sym same)
+
+  pub parsed-accepted : (new : List Template) → IsAccepted every_branch set file bytes new → parsed set file bytes ≡ Ok new
+  parsed-accepted new h =
+      let is : verdict_of (roles_of h.items) ≡ fine = one-verdict (roles_of h.items) (verdict_of (roles_of h.items)) fine (judged-all (roles_of h.items)) h.judged in
+      let nodes : nodes_from h.items ≡ h.nodes = one-spelling h.items (nodes_from h.items) h.nodes (spells-fine h.items is) h.spells in
+      verdict-as h.items h.has fine h.judged h.short ∙ ap (λ ns. placed set file (Ok ns)) nodes ∙ ap (λ ts. Ok ts) (sym h.set)
+
+  refused-there-as : (line : ℕ) (reason : Reason) → length bytes ≤ most_bytes → (items : List Item) → HasItems every_branch bytes items → IsRefusedAt items line reason → parsed set file bytes ≡ Err (line, reason)
+  refused-there-as line reason short items has r =
+      verdict-as items has (refused r.place r.fault) r.first short ∙ ap (λ o. Err (line_in o, of_action r.fault)) r.at
+      ∙ ap (λ why. Err (line, why)) (sym r.why)
+
+  pub parsed-refused : (line : ℕ) (reason : Reason) → IsRefusedBy every_branch bytes line reason → parsed set file bytes ≡ Err (line, reason)
+  parsed-refused line too_long (long, at) = parsed-long set file bytes long ∙ ap (λ n. Err (n, too_long)) (sym at)
+  parsed-refused line open_at_end (short, items, has, j, at) = verdict-as items has left_open j short ∙ ap (λ n. Err (n, open_at_end)) (sym at)
+  parsed-refused line unreadable h = refused-there-as line unreadable h.0 h.1 h.2 h.3
+  parsed-refused line not_an_action h = refused-there-as line not_an_action h.0 h.1 h.2 h.3
+  parsed-refused line out_of_place h = refused-there-as line out_of_place h.0 h.1 h.2 h.3
+  parsed-refused line nested_too_deeply h = refused-there-as line nested_too_deeply h.0 h.1 h.2 h.3
+  parsed-refused line undeclared_variable h = refused-there-as line undeclared_variable h.0 h.1 h.2 h.3
+
+pub accepts-as-parsed : AcceptsAsParsed
+accepts-as-parsed old file bytes new = (accepted old file bytes new, parsed-accepted old file bytes new)
+
+pub refuses-as-parsed : RefusesAsParsed
+refuses-as-parsed old file bytes line reason = (refusal old file bytes line reason, parsed-refused old file bytes line reason)

@@ -50,8 +50,8 @@ kept (t ∷ ts) name tree blank there = go (bytes_eq name t.0) (kept ts name tre
     go false ih h = ap (λ us. t ∷ us) (ih h)
 
 -- a blank definition of a name that is there leaves the set as it is
-pub defined-kept : (ts : List Template) (name : List ℕ) (tree : Tree) → (is_blank tree.nodes && is_some (tree_named name ts)) ≡ true → ts ≡ defined ts name tree
-defined-kept ts name tree e = let parts = and_parts (is_blank tree.nodes) (is_some (tree_named name ts)) e in kept ts name tree parts.0 parts.1
+pub kept-as-is : (ts : List Template) (name : List ℕ) (tree : Tree) → (is_blank tree.nodes && is_some (tree_named name ts)) ≡ true → ts ≡ defined ts name tree
+kept-as-is ts name tree e = let parts = and_parts (is_blank tree.nodes) (is_some (tree_named name ts)) e in kept ts name tree parts.0 parts.1
 
 -- any other is inserted
 pub defined-insert : (es : List Entry) (k : Vec ℕ Global) (tree : held.Tree) → (is_blank (tree_of tree).nodes && is_some (tree_named k.items (map template_of es))) ≡ false → map template_of (insert_entry (λ (x y : Vec ℕ Global). bytes_eq x.items y.items) es k tree) ≡ defined (map template_of es) k.items (tree_of tree)

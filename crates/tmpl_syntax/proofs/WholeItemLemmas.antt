@@ -1,55 +1,42 @@
 -- The pieces of a printed set are read as what it says.
 use Rattle.std.proofs.Common.{arith, ◌≡◌, ◌∙◌, ◌≤◌, ℕ, true, List, [], ◌∷◌, ◌++◌, Option, Some, None, refl, sym, ap, subst, map, append_assoc}
-use Rattle.std.specs.Option.{option_map}
-use Rattle.tmpl_values.proofs.RuneLemmas.{AreBytes}
-use Rattle.tmpl_values.specs.Quote.{quote, inside}
-use Rattle.tmpl_values.specs.Printable.{printable}
+use Rattle.tmpl_values.specs.Quote.{quote}
 use Rattle.tmpl_lex.specs.Piece.{Piece}
 use Rattle.tmpl_lex.specs.declared.piece.TokenKind.TheVariants as kind
-use Rattle.tmpl_grammar.specs.Tree as tree
 use Rattle.tmpl_grammar.specs.Tree.{Pipeline, pipeline}
-use Rattle.tmpl_grammar.specs.Constant.{constant_of}
 use Rattle.tmpl_grammar.specs.Depth.{depth_of_pipeline, most_deep}
 use Rattle.tmpl_grammar.specs.Printable.{OfPipeline}
-use Rattle.tmpl_grammar.specs.Constant.Quoted.{unquoted}
-use Rattle.tmpl_grammar.specs.Print.{bytes_of, Solid, solid, IsInside, token, space, word, pipeline_tokens}
+use Rattle.tmpl_grammar.specs.Print.{bytes_of, IsInside, token, space, word, pipeline_tokens}
 use Rattle.tmpl_syntax.specs.Print.Join.{AreParts, SamePieces}
-use Rattle.tmpl_syntax.specs.Print.WholeTree.{Action, old, define_action, call_action, block_action, IsQuoted, SpellsGiven, SpellsAction, depth_of, Item, item, text_item, action_item, a_text_piece, read, AreItems, no_item, an_item, given_tokens, action_tokens, Said, said_text, said, part_of, OfGiven, OfAction, AreSaid, Says, says_nothing, says_text, says}
-use Rattle.tmpl_grammar.proofs.FrontLemmas.{word-front, space-front}
-use Rattle.tmpl_grammar.proofs.QuotePartLemmas.{unquoted-inside}
-use Rattle.tmpl_grammar.proofs.PrintedTokenLemmas.{Stops, Reads, string-reads, pipeline-reads, keyword-reads, action-reads}
-use Rattle.tmpl_grammar.proofs.PrintedSpellingLemmas.{between-quotes, spells-tokens, spaced-pipeline}
+use Rattle.tmpl_syntax.specs.Print.WholeTree.{Action, old, define_action, call_action, block_action, SpellsGiven, SpellsAction, depth_of, Item, item, text_item, action_item, a_text_piece, read, AreItems, no_item, an_item, given_tokens, action_tokens, Said, said_text, said, part_of, OfGiven, OfAction, AreSaid, Says, says_nothing, says_text, says}
+use Rattle.tmpl_grammar.proofs.FrontLemmas.{Solid, solid, solid-unmarked, word-front, space-front}
+use Rattle.tmpl_grammar.proofs.PrintedTokenLemmas.{EndsToken, Reads, string-reads, pipeline-reads, keyword-reads, action-reads}
+use Rattle.tmpl_grammar.proofs.PrintedSpellingLemmas.{quoted-constant, spells-tokens, spaced-pipeline}
 use Rattle.tmpl_syntax.proofs.PrintedItemLemmas.{within, text-first, action-first, none-first}
 
 -- ---- tokens
 
-given-reads : (name : List ℕ) (given : Option Pipeline) (rest : List ℕ) → OfGiven given → Stops rest → Reads (token kind.String (quote name) ∷ given_tokens given) rest
+given-reads : (name : List ℕ) (given : Option Pipeline) (rest : List ℕ) → OfGiven given → EndsToken rest → Reads (token kind.String (quote name) ∷ given_tokens given) rest
 given-reads name None rest h stop = string-reads name rest
 given-reads name (Some p) rest h stop =
     let r = pipeline-reads p rest h stop in
     let s = string-reads name (32 ∷ (bytes_of (pipeline_tokens p) ++ rest)) in
     record {
-      lexes = (s.lexes.0, (space-front _ r.firm, r.lexes));
+      spells = (s.spells.0, (space-front _ r.firm, r.spells));
       firm = subst Solid (ap (λ bs. bs ++ 32 ∷ (bytes_of (pipeline_tokens p) ++ rest)) (Rattle.std.proofs.Common.append-nil (quote name)) ∙ sym (append_assoc (quote name) (32 ∷ bytes_of (pipeline_tokens p)) rest)) s.firm;
     }
 
-whole-reads : (a : Action) (rest : List ℕ) → OfAction a → Stops rest → Reads (action_tokens a) rest
+whole-reads : (a : Action) (rest : List ℕ) → OfAction a → EndsToken rest → Reads (action_tokens a) rest
 whole-reads (old a) rest h stop = action-reads a rest h stop
-whole-reads (define_action name) rest h stop = keyword-reads 100 _ (token kind.String (quote name) ∷ []) rest (solid refl refl refl refl) (word-front 100 _ _ refl refl refl refl refl) (string-reads name rest)
-whole-reads (call_action name given) rest h stop = keyword-reads 116 _ (token kind.String (quote name) ∷ given_tokens given) rest (solid refl refl refl refl) (word-front 116 _ _ refl refl refl refl refl) (given-reads name given rest h.1 stop)
-whole-reads (block_action name p) rest h stop = keyword-reads 98 _ (token kind.String (quote name) ∷ given_tokens (Some p)) rest (solid refl refl refl refl) (word-front 98 _ _ refl refl refl refl refl) (given-reads name (Some p) rest h.1 stop)
+whole-reads (define_action name) rest h stop = keyword-reads 100 _ (token kind.String (quote name) ∷ []) rest (solid refl refl) (word-front 100 _ _ refl refl refl) (string-reads name rest)
+whole-reads (call_action name given) rest h stop = keyword-reads 116 _ (token kind.String (quote name) ∷ given_tokens given) rest (solid refl refl) (word-front 116 _ _ refl refl refl) (given-reads name given rest h.1 stop)
+whole-reads (block_action name p) rest h stop = keyword-reads 98 _ (token kind.String (quote name) ∷ given_tokens (Some p)) rest (solid refl refl) (word-front 98 _ _ refl refl refl) (given-reads name (Some p) rest h.1 stop)
 
 whole-inside : (a : Action) → OfAction a → IsInside (action_tokens a)
 whole-inside a h = record {
-  lexes = λ rest. (whole-reads a (125 ∷ 125 ∷ rest) h refl).lexes;
-  firm = λ rest. (whole-reads a (125 ∷ 125 ∷ rest) h refl).firm;
+  spells = λ rest. (whole-reads a (125 ∷ 125 ∷ rest) h refl).spells;
+  unmarked = λ rest. solid-unmarked (whole-reads a (125 ∷ 125 ∷ rest) h refl).firm;
 }
-
-quoted-is : (name : List ℕ) → AreBytes name → IsQuoted name (token kind.String (quote name))
-unfolding constant_of quote
-quoted-is name h =
-    ap (λ xs. option_map tree.text_constant (unquoted 34 xs)) (between-quotes (inside printable name))
-    ∙ ap (option_map tree.text_constant) (unquoted-inside printable name h)
 
 spells-given : (given : Option Pipeline) → OfGiven given → SpellsGiven given (given_tokens given)
 spells-given None h = tt
@@ -57,9 +44,9 @@ spells-given (Some (pipeline cs)) h = spaced-pipeline cs h
 
 whole-spells : (a : Action) → OfAction a → SpellsAction a (action_tokens a)
 whole-spells (old a) h = spells-tokens a h
-whole-spells (define_action name) h = ([], word _, _, refl, tt, (refl, refl), (space ∷ [], token kind.String (quote name), [], refl, (refl, tt), quoted-is name h, tt))
-whole-spells (call_action name given) h = ([], word _, _, refl, tt, (refl, refl), (space ∷ [], token kind.String (quote name), given_tokens given, refl, (refl, tt), quoted-is name h.0, spells-given given h.1))
-whole-spells (block_action name p) h = ([], word _, _, refl, tt, (refl, refl), (space ∷ [], token kind.String (quote name), given_tokens (Some p), refl, (refl, tt), quoted-is name h.0, spells-given (Some p) h.1))
+whole-spells (define_action name) h = ([], word _, _, refl, tt, (refl, refl), (space ∷ [], token kind.String (quote name), [], refl, (refl, tt), quoted-constant name h, tt))
+whole-spells (call_action name given) h = ([], word _, _, refl, tt, (refl, refl), (space ∷ [], token kind.String (quote name), given_tokens given, refl, (refl, tt), quoted-constant name h.0, spells-given given h.1))
+whole-spells (block_action name p) h = ([], word _, _, refl, tt, (refl, refl), (space ∷ [], token kind.String (quote name), given_tokens (Some p), refl, (refl, tt), quoted-constant name h.0, spells-given (Some p) h.1))
 
 pipeline-depth : (p : Pipeline) → OfPipeline p → depth_of_pipeline p ≤ most_deep
 pipeline-depth (pipeline cs) h = h.1

@@ -3,6 +3,8 @@ use Rattle.std.proofs.Common.{◌≡◌, ◌∙◌, ℕ, List, [], ◌∷◌, �
 use Rattle.tmpl_syntax.specs.Print.WholeTree.{Node, text_node, action_node, break_node, continue_node, call_node, Nodes, none, then, Definition, Action, Item, item, text_item, action_item, control_node, Leads, nothing, leads_text, leads_action, leads_break, leads_continue, leads_control, leads_call, leads_define, Closes, an_end, an_else, Said, said_text, said, ended, else_said, control_said, node_said, nodes_said, set_said, part_of, unlined_node, unlined, AreSaid, ArePrintable, Says, says_nothing, says_text, says, unlined_all, newline_nodes, SetReadsSame}
 use Rattle.tmpl_grammar.specs.Tree.{Header}
 use Rattle.tmpl_grammar.specs.declared.tree.Control.{Control}
+use Rattle.tmpl_lex.specs.Bytes.{Absent}
+use Rattle.tmpl_lex.proofs.PartLemmas.{absent-nil, absent-cons}
 use Rattle.tmpl_syntax.proofs.JoinLemmas.{cut-back}
 use Rattle.tmpl_syntax.proofs.WholeItemLemmas.{are-parts, items-said}
 
@@ -150,14 +152,17 @@ said-append [] ts h k = k
 said-append (said_text t ∷ ss) ts h k = (h.0, said-append ss ts h.1 k)
 said-append (said a ∷ ss) ts h k = (h.0, said-append ss ts h.1 k)
 
+newline-clear : Absent (123 ∷ 123 ∷ []) (10 ∷ [])
+newline-clear = absent-cons 123 123 10 [] refl (absent-nil 123 123)
+
 set-is-said : (ds : List Definition) → ArePrintable ds → AreSaid (set_said ds)
 set-is-said [] h = tt
-set-is-said (d ∷ ds) h = (h.0, said-append (nodes_said d.1) (ended ∷ said_text (10 ∷ []) ∷ set_said ds) h.1 (tt, (record { some = omega Rattle.std.proofs.Common.arith; clear = refl }, set-is-said ds h.2)))
+set-is-said (d ∷ ds) h = (h.0, said-append (nodes_said d.1) (ended ∷ said_text (10 ∷ []) ∷ set_said ds) h.1 (tt, (record { some = omega Rattle.std.proofs.Common.arith; clear = newline-clear }, set-is-said ds h.2)))
 
 pub set-reads-same : SetReadsSame
 set-reads-same ds h =
     let are = set-is-said ds h in
-    let c = cut-back (map part_of (set_said ds)) (are-parts (set_said ds) are) [] refl 1 in
+    let c = cut-back (map part_of (set_said ds)) (are-parts (set_said ds) are) [] (absent-nil 123 123) 1 in
     let i = items-said (set_said ds) c.pieces are c.same in
     let s = set-leads ds i.items i.say in
     record {

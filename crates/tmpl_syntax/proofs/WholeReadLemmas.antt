@@ -2,6 +2,7 @@
 use Rattle.std.proofs.Common.{◌≤◌, ℕ, List, [], ◌∷◌, ◌++◌, Option, Some, None, subst}
 use Rattle.tmpl_values.proofs.RuneLemmas.{AreBytes}
 use Rattle.tmpl_lex.specs.Piece.{Token, Piece}
+use Rattle.tmpl_grammar.specs.Tree as tree
 use Rattle.tmpl_grammar.specs.Tree.{Header, Pipeline, pipeline}
 use Rattle.tmpl_grammar.specs.Action as one
 use Rattle.tmpl_grammar.specs.declared.tree.Control.{Control}
@@ -12,13 +13,14 @@ use Rattle.tmpl_syntax.specs.Print.Join.{IsText}
 use Rattle.tmpl_syntax.specs.Print.WholeTree.{Nodes, none, then, Definition, Action, old, define_action, call_action, block_action, IsQuoted, SpellsGiven, SpellsAction, depth_of, depth_given, Item, item, text_item, action_item, IsItem, a_text_piece, read, AreItems, no_item, an_item, control_node, Leads, nothing, leads_text, leads_action, leads_break, leads_continue, leads_control, leads_call, leads_define, leads_block, Closes, an_end, an_else, an_else_if, Said, ended, else_said, control_said, node_said, nodes_said, OfGiven, OfAction, AreSaid, ArePrintable, SetKeeps}
 use Rattle.tmpl_grammar.proofs.PrintableTokenLemmas.{IsRead, AreRead}
 use Rattle.tmpl_syntax.proofs.PrintablePieceLemmas.{OfPiece, OfPieces, cuts-of}
+use Rattle.tmpl_grammar.proofs.IsConstantLemmas.{computes-constant}
 use Rattle.tmpl_grammar.proofs.PrintableActionLemmas.{OfMaybe, constant-maybe, behind, of-commands, of_action}
 use Rattle.tmpl_syntax.proofs.WholeNodeLemmas.{said-append}
 
 -- ---- actions
 
 of-name : (name : List ℕ) (t : Token) → IsRead t → IsQuoted name t → AreBytes name
-of-name name t r q = subst OfMaybe q (constant-maybe t r.bytes)
+of-name name t r q = subst OfMaybe (computes-constant t (tree.text_constant name) q) (constant-maybe t r.bytes)
 
 of-given : (given : Option Pipeline) (ts : List Token) → depth_given given ≤ most_deep → AreRead ts → SpellsGiven given ts → OfGiven given
 of-given None ts d r s = tt

@@ -1,11 +1,12 @@
 -- The pieces of a file with each action read: what they are read as, by the grammar of actions and the limit of
 -- parentheses.
-use Rattle.std.specs.Prelude.{◌≡◌, ◌≤◌, ◌<◌, ℕ, false, List, [], ◌∷◌, Some}
+use Rattle.std.specs.Prelude.{◌≡◌, ◌≤◌, ◌<◌, ℕ, true, false, List, [], ◌∷◌, Some}
 use Rattle.tmpl_lex.specs.Cut.{Cuts}
 use Rattle.tmpl_lex.specs.Piece.{Token, Piece, text, action, unreadable}
 use Rattle.tmpl_grammar.specs.Action.{Action, shape_of, SpellsAction}
 use Rattle.tmpl_grammar.specs.Depth.{depth_of, most_deep}
 use Rattle.tmpl_grammar.specs.declared.action.Shape.{Shape}
+use Rattle.tmpl_syntax.specs.Language.{Branches, has_action}
 
 -- a text, an action that is unreadable, one that has no reading, one of this shape whose parentheses nest too deep, or
 -- one that is read
@@ -20,29 +21,31 @@ pub data ItemKind : Type 0 where
 pub data Item : Type 0 where
   item : ℕ → ItemKind → Item
 
--- a piece is read as this item
-pub data IsItem : Piece → Item → Type 0 where
-  a_text : {line : ℕ} {bytes : List ℕ} → IsItem (text line bytes) (item line (text_item bytes))
-  an_unreadable : {line : ℕ} → IsItem (unreadable line) (item line unreadable_item)
-  -- tokens that spell no action
+-- in a language of these else branches, a piece is read as this item
+pub data IsItem (branches : Branches) : Piece → Item → Type 0 where
+  a_text : {line : ℕ} {bytes : List ℕ} → IsItem branches (text line bytes) (item line (text_item bytes))
+  an_unreadable : {line : ℕ} → IsItem branches (unreadable line) (item line unreadable_item)
+  -- tokens that spell no action of the language
   unread : {line : ℕ} {ts : List Token}
-      → ((a : Action) → SpellsAction a ts → ⊥) → IsItem (action line ts) (item line unread_item)
+      → ((a : Action) → SpellsAction a ts → has_action branches a ≡ true → ⊥)
+      → IsItem branches (action line ts) (item line unread_item)
   -- tokens that spell one whose parentheses nest too deep
   too_deep : {line : ℕ} {ts : List Token} {s : Shape} (a : Action)
-      → SpellsAction a ts → shape_of a ≡ Some s → most_deep < depth_of a
-      → IsItem (action line ts) (item line (deep_item s))
+      → SpellsAction a ts → has_action branches a ≡ true → shape_of a ≡ Some s → most_deep < depth_of a
+      → IsItem branches (action line ts) (item line (deep_item s))
   -- tokens that spell one within the limit
   read : {line : ℕ} {ts : List Token} {a : Action}
-      → SpellsAction a ts → depth_of a ≤ most_deep → IsItem (action line ts) (item line (action_item a))
+      → SpellsAction a ts → has_action branches a ≡ true → depth_of a ≤ most_deep
+      → IsItem branches (action line ts) (item line (action_item a))
 
 -- the pieces are read as these items, one by one
-pub data AreItems : List Piece → List Item → Type 0 where
-  no_item : AreItems [] []
+pub data AreItems (branches : Branches) : List Piece → List Item → Type 0 where
+  no_item : AreItems branches [] []
   an_item : {p : Piece} {x : Item} {ps : List Piece} {xs : List Item}
-      → IsItem p x → AreItems ps xs → AreItems (p ∷ ps) (x ∷ xs)
+      → IsItem branches p x → AreItems branches ps xs → AreItems branches (p ∷ ps) (x ∷ xs)
 
 -- a file of these bytes is cut into pieces that are read as these items
-pub record HasItems (bytes : List ℕ) (items : List Item) : Type 0 where
+pub record HasItems (branches : Branches) (bytes : List ℕ) (items : List Item) : Type 0 where
   pub pieces : List Piece
   pub cut : Cuts false 1 bytes pieces
-  pub read : AreItems pieces items
+  pub read : AreItems branches pieces items

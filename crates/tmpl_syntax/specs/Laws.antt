@@ -1,20 +1,33 @@
 -- Laws of the definitions.
-use Rattle.std.specs.Prelude.{◌≡◌, ℕ, List}
-use Rattle.tmpl_syntax.specs.Tree.{Nodes}
+use Rattle.std.specs.Prelude.{◌≡◌, ◌↔◌, ◌≤◌, ◌+◌, ℕ, true, List, Ok, Err, length}
+use Rattle.tmpl_grammar.specs.declared.action.Branch.{Branch}
+use Rattle.tmpl_syntax.specs.Tree.{Nodes, Tree}
+use Rattle.tmpl_syntax.specs.Language.{Branches, every_branch}
 use Rattle.tmpl_syntax.specs.Item.{Item, HasItems}
 use Rattle.tmpl_syntax.specs.Place.Role.{Role, roles_of}
 use Rattle.tmpl_syntax.specs.Place.Body.{Verdict, fine, Judged}
 use Rattle.tmpl_syntax.specs.computed.Frames.{verdict_of}
 use Rattle.tmpl_syntax.specs.Spelling.{Spells}
+use Rattle.tmpl_syntax.specs.Need.{need, most_need}
+use Rattle.tmpl_syntax.specs.Parse.{most_bytes}
 use Rattle.tmpl_syntax.specs.computed.Build.{nodes_from}
-use Rattle.tmpl_syntax.specs.computed.Parse.{items_of}
+use Rattle.tmpl_syntax.specs.Fault.{Reason}
+use Rattle.tmpl_syntax.specs.Set.{Template}
+use Rattle.tmpl_syntax.specs.Parse.{IsAccepted, IsRefusedBy}
+use Rattle.tmpl_syntax.specs.computed.Parse.{items_of, parsed}
 
--- each file has items, and no others
+-- in each language a file has items, and no others
+abbrev pub HasSomeItems : Type 0
+HasSomeItems = (branches : Branches) (bytes : List ℕ) → (items : List Item) × HasItems branches bytes items
+
+abbrev pub HasOneList : Type 0
+HasOneList =
+    (branches : Branches) (bytes : List ℕ) (xs ys : List Item) → HasItems branches bytes xs → HasItems branches bytes ys
+    → xs ≡ ys
+
+-- in this language they are those that are computed
 abbrev pub HasItemsOf : Type 0
-HasItemsOf = (bytes : List ℕ) → HasItems bytes (items_of bytes)
-
-abbrev pub HasNoOtherItems : Type 0
-HasNoOtherItems = (bytes : List ℕ) (items : List Item) → HasItems bytes items → items ≡ items_of bytes
+HasItemsOf = (bytes : List ℕ) → HasItems every_branch bytes (items_of bytes)
 
 -- each list has a verdict, and no other
 abbrev pub HasVerdict : Type 0
@@ -30,3 +43,37 @@ SpellsWhereFine = (items : List Item) → Judged (roles_of items) fine → Spell
 -- each list spells at most one list of nodes
 abbrev pub SpellsAtMostOne : Type 0
 SpellsAtMostOne = (items : List Item) (ns ms : Nodes) → Spells items ns → Spells items ms → ns ≡ ms
+
+-- a file is accepted just where the function gives a set, and the set is then that one
+abbrev pub AcceptsAsParsed : Type 0
+AcceptsAsParsed =
+    (old : List Template) (file bytes : List ℕ) (new : List Template)
+    → (parsed old file bytes ≡ Ok new) ↔ IsAccepted every_branch old file bytes new
+
+-- it is refused just where the function gives a refusal, and line and reason are then those
+abbrev pub RefusesAsParsed : Type 0
+RefusesAsParsed =
+    (old : List Template) (file bytes : List ℕ) (line : ℕ) (reason : Reason)
+    → (parsed old file bytes ≡ Err (line, reason)) ↔ IsRefusedBy every_branch bytes line reason
+
+-- one language has each else branch of another
+abbrev pub IsLarger : Branches → Branches → Type 0
+IsLarger large small = (b : Branch) → small b ≡ true → large b ≡ true
+
+-- .. and accepts each file that the other accepts, which makes the same set
+abbrev pub AcceptsInLarger : Type 0
+AcceptsInLarger =
+    (large small : Branches) → IsLarger large small → (old : List Template) (file bytes : List ℕ) (new : List Template)
+    → IsAccepted small old file bytes new → IsAccepted large old file bytes new
+
+-- each tree that a file spells needs at most three cells and one for each byte of the file
+abbrev pub NeedsAtMostBytes : Type 0
+NeedsAtMostBytes =
+    (branches : Branches) (bytes : List ℕ) (items : List Item) (tree : Tree) → HasItems branches bytes items
+    → Spells items tree.nodes → need tree ≤ 3 + length bytes
+
+-- so of a file within the limit it needs at most so many
+abbrev pub NeedsAtMost : Type 0
+NeedsAtMost =
+    (branches : Branches) (bytes : List ℕ) (items : List Item) (tree : Tree) → length bytes ≤ most_bytes
+    → HasItems branches bytes items → Spells items tree.nodes → need tree ≤ most_need

@@ -63,8 +63,9 @@ tree_of t = record { file = t.file; nodes = nodes_in t.nodes.items }
 abbrev pub template_of : Vec ℕ Global × held_tree.Tree → Template
 template_of e = (e.0.items, tree_of e.1)
 
+-- a set is held as these entries
 unfoldable pub set_view : Set → List Template
-set_view s = map template_of s.templates.entries
+set_view entries = map template_of entries
 
 -- the names that are left to give
 abbrev pub names_left : Names → List (List ℕ)

@@ -1,6 +1,6 @@
 //! Why a file is refused.
-ghost use Rattle.std.specs.Prelude.{◌≡◌};
-ghost use Rattle.tmpl_syntax.specs.Fault.{out_of_memory, parse_kind};
+ghost use Rattle.std.specs.Prelude.{◌≡◌, Some};
+ghost use Rattle.tmpl_syntax.specs.Fault.{of_action, out_of_memory, reason_of};
 
 use std::alloc::AllocError;
 
@@ -49,7 +49,7 @@ pub(crate) enum Fault {
 impl Fault {
     /// The kind of the refusal that this fault makes.
     pub(crate) fn kind(self) -> ParseKind
-        ensures { result ≡ parse_kind self }
+        ensures { reason_of result ≡ Some (of_action self) }
     {
         match self {
             Fault::Unreadable => ParseKind::Unreadable,

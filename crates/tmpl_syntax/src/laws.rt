@@ -1,15 +1,18 @@
 //! Laws of the definitions that the contracts speak of.
-ghost use Rattle.tmpl_syntax.specs.Laws.{HasItemsOf, HasNoOtherItems, HasVerdict, HasOneVerdict};
-ghost use Rattle.tmpl_syntax.specs.Laws.{SpellsWhereFine, SpellsAtMostOne};
+ghost use Rattle.tmpl_syntax.specs.Laws.{HasItemsOf, HasOneList, HasSomeItems, HasVerdict, HasOneVerdict};
+ghost use Rattle.tmpl_syntax.specs.Laws.{SpellsWhereFine, SpellsAtMostOne, AcceptsAsParsed, RefusesAsParsed};
+ghost use Rattle.tmpl_syntax.specs.Laws.{AcceptsInLarger};
+ghost use Rattle.tmpl_syntax.specs.Laws.{NeedsAtMost, NeedsAtMostBytes};
 ghost use Rattle.tmpl_syntax.specs.Print.Join.{CutsBack};
 ghost use Rattle.tmpl_syntax.specs.Print.Laws.{AcceptsBack, KeepsPrintable, ReadsSame};
 ghost use Rattle.tmpl_syntax.specs.Print.WholeTree.{SetKeeps, SetReadsSame};
 
 /// The law that each file has one list of items: its bytes are cut into one list of pieces, and each piece
-/// is read as one item.
+/// is read as one item. So it is in every language that else branches tell apart.
 pub fn one_list_of_items()
-    ensures exists { HasItemsOf }
-    ensures one { HasNoOtherItems }
+    ensures exists { HasSomeItems }
+    ensures one { HasOneList }
+    ensures computed { HasItemsOf }
 {}
 
 /// The law that each list of items has one verdict: none is refused and nothing is open at its end,
@@ -23,6 +26,26 @@ pub fn one_verdict()
 pub fn one_spelling()
     ensures exists { SpellsWhereFine }
     ensures one { SpellsAtMostOne }
+{}
+
+/// The law that each file has one outcome, which the function `parsed` gives: it is accepted and makes one set of
+/// the set that is there, or it is refused at one line for one reason.
+pub fn one_outcome()
+    ensures accepted { AcceptsAsParsed }
+    ensures refused { RefusesAsParsed }
+{}
+
+/// The law that a language with more else branches accepts each file that one with fewer accepts, and makes the same
+/// set of it.
+pub fn more_branches()
+    ensures { AcceptsInLarger }
+{}
+
+/// The law that a tree which a file spells needs at most three cells of a run's stack and one for each byte of the
+/// file, and so 16,777,219 where the file is within the limit.
+pub fn bounded_need()
+    ensures by_bytes { NeedsAtMostBytes }
+    ensures within { NeedsAtMost }
 {}
 
 /// The law that parts which are joined to a file are cut into the same parts.

@@ -14,8 +14,8 @@ mod tree;
 
 pub use fault::{ParseFault, ParseKind};
 pub use laws::{
-    accepted_back, cut_back, one_list_of_items, one_spelling, one_verdict, printable, printed_back,
-    set_back, set_printable,
+    accepted_back, bounded_need, cut_back, more_branches, one_list_of_items, one_outcome,
+    one_spelling, one_verdict, printable, printed_back, set_back, set_printable,
 };
 pub use parse::{base_name, parse_file};
 pub use set::{Names, Set};

@@ -5,7 +5,6 @@ ghost use Rattle.tmpl_syntax.specs.View.{item_of, set_view};
 ghost use Rattle.tmpl_syntax.specs.Parse as spec;
 ghost use Rattle.tmpl_syntax.specs.Parse.{IsReading};
 ghost use Rattle.tmpl_syntax.specs.computed.Parse.{IsAdded, IsParse, items_of};
-ghost use Rattle.tmpl_syntax.specs.Print.Laws.{ArePrintable};
 
 use crate::build::build;
 use crate::fault::{ParseFault, ParseKind, Refusal};
@@ -41,7 +40,6 @@ pub fn parse_file<'f>(
 ) -> Result<(), ParseFault<'f>>
     ensures reading { IsReading (set_view set.old) file.entry bytes.now (set_view set.new) result }
     ensures value { IsParse (set_view set.old) file.entry bytes.now (set_view set.new) result }
-    ensures printable { ArePrintable (set_view set.old) → ArePrintable (set_view set.new) }
 {
     match add_file(alloc, set, file, bytes) {
         Ok(()) => Ok(()),

@@ -1,7 +1,8 @@
 //! The set of templates.
-ghost use Rattle.std.specs.Prelude.{◌≡◌, ◌&&◌, [], OnOk, OnErr, is_some, map, option_map};
+ghost use Rattle.std.specs.Prelude.{◌≡◌, ◌&&◌, [], IfSome, OnOk, OnErr, is_some, map, option_map};
 ghost use Rattle.std.specs.Iterator.{YieldsFirstRef, item_count};
 ghost use Rattle.tmpl_syntax.specs.View.{set_view, names_left, tree_of};
+ghost use Rattle.tmpl_syntax.specs.Kept.{IsKept};
 ghost use Rattle.tmpl_syntax.specs.Set.{defined, is_blank, tree_named};
 
 use crate::blank::is_blank;
@@ -9,6 +10,7 @@ use crate::tree::Tree;
 use indexmap::IndexMap;
 use indexmap::map::Keys;
 use std::alloc::{AllocError, Global};
+use std::marker::Model;
 
 /// Templates by their names, in the order in which the names were first defined (our own rule; Go
 /// keeps no order). A name is bytes that need not be UTF-8.
@@ -23,6 +25,26 @@ pub struct Names<'s> {
     keys: Keys<'s, Vec<u8>, Tree>,
 }
 
+impl Model for Set {
+    ghost use Rattle.std.specs.Prelude.{ℕ, List, Vec};
+    ghost use Rattle.std.specs.declared.alloc.Global.{Global};
+    ghost use Rattle.tmpl_syntax.specs.declared.tree.Tree.{Tree};
+
+    ghost Value = { List (Vec ℕ Global × Tree) };
+
+    ghost use Rattle.std.specs.Coded.{codes};
+    ghost use Rattle.tmpl_syntax.specs.contracts.tree.Tree as held;
+
+    ghost coded = { Prim.hlevel (codes, held.the_row.coded) };
+
+    ghost use Rattle.tmpl_syntax.specs.View.{set_view};
+    ghost use Rattle.tmpl_syntax.specs.Kept.{AreKept};
+
+    ghost view = { λ s. s.templates.entries };
+
+    ghost invariant = { λ s. AreKept (set_view s.templates.entries) };
+}
+
 impl Set {
     /// A set of no templates.
     pub fn new(alloc: Global) -> Set
@@ -35,7 +57,8 @@ impl Set {
 
     /// The tree of the template of this name, if there is one.
     pub fn get(&self, name: &[u8]) -> Option<&Tree>
-        ensures { option_map (λ t. tree_of t.now) result ≡ tree_named name.now (set_view self.now) }
+        ensures value { option_map (λ t. tree_of t.now) result ≡ tree_named name.now (set_view self.now) }
+        ensures kept { IfSome result (λ t. IsKept (tree_of t.now)) }
     {
         self.templates.get(name)
     }
@@ -43,6 +66,7 @@ impl Set {
     /// Adds a definition: a new name goes last, and a name that is there keeps its place and gets
     /// the new body, unless that is blank. After an error the set is as it was.
     pub(crate) fn define(&mut self, name: Vec<u8>, tree: Tree) -> Result<(), AllocError>
+        requires { IsKept (tree_of tree) }
         ensures ok { OnOk result (set_view self.new
             ≡ defined (set_view self.old) name.items (tree_of tree)) }
         ensures err { OnErr result (set_view self.new ≡ set_view self.old) }

@@ -1,8 +1,9 @@
 -- Texts and actions joined to a file: the inverse of the cut.
-use Rattle.std.specs.Prelude.{◌≡◌, ◌<◌, ℕ, Bool, true, false, ◌==◌, List, [], ◌∷◌, ◌++◌, length, None}
+use Rattle.std.specs.Prelude.{◌<◌, ℕ, Bool, true, false, ◌==◌, List, [], ◌∷◌, ◌++◌, length, codes}
+use Rattle.tmpl_lex.specs.Bytes.{Absent}
 use Rattle.tmpl_lex.specs.Text.{text_piece}
 use Rattle.tmpl_lex.specs.Piece.{Token, Piece, text, action}
-use Rattle.tmpl_lex.specs.Cut.{Cuts, split_open}
+use Rattle.tmpl_lex.specs.Cut.{Cuts}
 use Rattle.tmpl_syntax.specs.declared.print.Before.{Before}
 use Rattle.tmpl_syntax.specs.declared.print.Before.TheVariants.{Nothing, Text, Brace}
 use Rattle.tmpl_grammar.specs.Print.{IsInside, bytes_of}
@@ -58,7 +59,7 @@ after before (an_action ts ∷ ps) = after Nothing ps
 -- a text is not empty, and `{{` is not in it
 pub record IsText (t : List ℕ) : Type 0 where
   pub some : 0 < length t
-  pub clear : split_open t ≡ None
+  pub clear : Absent (codes "{{") t
 
 abbrev pub AreParts : List Part → Type 0
 AreParts [] = Unit {0}

@@ -3,7 +3,7 @@ use Rattle.std.specs.Prelude.{◌≡◌, ℕ, List, [], ◌∷◌}
 use Rattle.tmpl_values.proofs.RuneLemmas.{AreBytes}
 use Rattle.tmpl_syntax.specs.Tree.{Nodes}
 use Rattle.tmpl_grammar.specs.Action.{Action}
-use Rattle.tmpl_syntax.specs.Set.{Template}
+use Rattle.tmpl_syntax.specs.Language.{Branches, every_branch}
 use Rattle.tmpl_syntax.specs.Item.{Item, item, text_item, action_item, HasItems}
 use Rattle.tmpl_syntax.specs.Spelling.{Spells}
 use Rattle.tmpl_syntax.specs.Place.Role.{roles_of}
@@ -22,7 +22,7 @@ pub data Says : List Said → List Item → Type 0 where
 -- printed nodes are cut into pieces, and these are read as items, which spell the same nodes apart from lines
 pub record ReadBack (ns : Nodes) : Type 0 where
   pub items : List Item
-  pub has : HasItems (printed ns) items
+  pub has : HasItems every_branch (printed ns) items
   pub say : Says (nodes_said ns) items
   pub nodes : Nodes
   pub spells : Spells items nodes
@@ -34,16 +34,11 @@ ReadsSame = (ns : Nodes) → IsPrintable ns → ReadBack ns
 -- what a file of bytes spells can be printed
 abbrev pub KeepsPrintable : Type 0
 KeepsPrintable =
-    (bytes : List ℕ) (items : List Item) (ns : Nodes) → AreBytes bytes → HasItems bytes items → Spells items ns
-    → IsPrintable ns
+    (branches : Branches) (bytes : List ℕ) (items : List Item) (ns : Nodes) → AreBytes bytes
+    → HasItems branches bytes items → Spells items ns → IsPrintable ns
 
 -- items that say what the nodes of an accepted list say are accepted
 abbrev pub AcceptsBack : Type 0
 AcceptsBack =
     (items : List Item) (ns : Nodes) → Judged (roles_of items) fine → Spells items ns → (read : List Item)
     → Says (nodes_said ns) read → Judged (roles_of read) fine
-
--- each tree of a set can be printed
-abbrev pub ArePrintable : List Template → Type 0
-ArePrintable [] = Unit {0}
-ArePrintable (t ∷ ts) = IsPrintable t.1.nodes × ArePrintable ts

@@ -9,7 +9,7 @@ use Rattle.tmpl_grammar.specs.Tree as tree
 use Rattle.tmpl_grammar.specs.Tree.{Header, Pipeline, pipeline}
 use Rattle.tmpl_grammar.specs.Action as one
 use Rattle.tmpl_grammar.specs.Header.{Then}
-use Rattle.tmpl_grammar.specs.Constant.{constant_of}
+use Rattle.tmpl_grammar.specs.Constant.{IsConstant}
 use Rattle.tmpl_grammar.specs.Depth as depth
 use Rattle.tmpl_grammar.specs.Depth.{depth_of_pipeline, most_deep}
 use Rattle.tmpl_grammar.specs.Pipeline.{IsBlank, SpellsPipeline}
@@ -51,7 +51,7 @@ pub data Action : Type 0 where
 
 -- a string or raw string of this text
 abbrev pub IsQuoted : List ℕ → Token → Type 0
-IsQuoted name t = constant_of t ≡ Some (tree.text_constant name)
+IsQuoted name t = IsConstant t (tree.text_constant name)
 
 abbrev pub IsKey : List ℕ → Token → Type 0
 IsKey bs t = (t.kind ≡ kind.Word) × (t.bytes ≡ bs)

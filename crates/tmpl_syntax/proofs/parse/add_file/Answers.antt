@@ -1,4 +1,4 @@
-use Rattle.std.proofs.Common.{◌≡◌, List, ℕ, refl, sym, ap, subst, ◌∙◌, map, Ok}
+use Rattle.std.proofs.Common.{◌≡◌, arith, List, ℕ, refl, sym, ap, subst, ◌∙◌, map, Ok}
 use Rattle.tmpl_syntax.specs.View.{nodes_in}
 use Rattle.tmpl_syntax.specs.Item.{Item}
 use Rattle.tmpl_syntax.specs.View.{item_of}
@@ -7,6 +7,9 @@ use Rattle.tmpl_syntax.specs.Set.{defined}
 use Rattle.tmpl_syntax.specs.computed.Build.{nodes_from}
 use Rattle.tmpl_syntax.specs.computed.Parse.{IsRefusal, checked, spelled, items_of, placed}
 use Rattle.tmpl_syntax.specs.Parse.{base_name}
+use Rattle.tmpl_syntax.specs.Fault.{reason_of}
+use Rattle.tmpl_values.proofs.RuneLemmas.{are_bytes}
+use Rattle.tmpl_syntax.proofs.KeptLemmas.{file-kept}
 use Rattle.tmpl_syntax.proofs.FileLemmas.{parsed-long, parsed-short, refusal-placed, adding-ends}
 use Rattle.tmpl_syntax.proofs.parse.add_file.Goals as goal
 
@@ -19,8 +22,16 @@ returns-in_err-check c =
     let bytes = c.args.bytes.now in
     let items : map item_of c.as_slice.result.now ≡ items_of bytes = ap (map item_of) c.as_slice.ensures.value ∙ c.in_ok-items.ensures in
     adding-ends (set_view c.args.set.now) c.args.file.now bytes c.from_residual-in_err-check.result refusal c.from_residual-in_err-check.ensures.1
-    (refusal-placed (set_view c.args.set.now) c.args.file.now bytes refusal.line refusal.kind c.if-bytes-gt-MOST_BYTES.false
-    (subst (λ (xs : List Item). IsRefusal (checked bytes xs) refusal.line refusal.kind) items c.in_err-check.ensures))
+    (refusal-placed (set_view c.args.set.now) c.args.file.now bytes refusal.line (reason_of refusal.kind) c.if-bytes-gt-MOST_BYTES.false
+    (subst (λ (xs : List Item). IsRefusal (checked bytes xs) refusal.line (reason_of refusal.kind)) items c.in_err-check.ensures))
+
+pub define-requires : goal.define-requires
+define-requires c =
+    let bytes = c.args.bytes.now in
+    let read : map item_of c.in_ok-items.items.items ≡ items_of bytes = c.in_ok-items.ensures in
+    let items : map item_of c.as_slice.result.now ≡ items_of bytes = ap (map item_of) c.as_slice.ensures.value ∙ read in
+    file-kept c.new-file.result bytes (nodes_in c.in_ok-nodes.nodes.items) (are_bytes bytes c.type_inv.bytes) (omega (arith, c.if-bytes-gt-MOST_BYTES.false))
+    (ap (checked bytes) (sym items) ∙ c.in_ok-check.ensures) (c.in_ok-nodes.ensures ∙ ap nodes_from read)
 
 pub returns : goal.returns
 returns c =

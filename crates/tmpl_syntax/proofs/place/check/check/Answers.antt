@@ -1,7 +1,7 @@
 use Rattle.std.proofs.Common.{refl, arith, ◌≡◌, ◌≢◌, ◌≤◌, reverse, length, map, sym, ap, ◌∙◌, Err}
 use Rattle.std.proofs.lemmas.Grind.{common_steps}
 use Rattle.std.proofs.lemmas.List.{length-map, length-reverse}
-use Rattle.tmpl_syntax.specs.declared.fault.ParseKind.TheVariants.{OpenAtEnd}
+use Rattle.tmpl_syntax.specs.Fault.{open_at_end, reason_of}
 use Rattle.tmpl_syntax.specs.View.{item_of}
 use Rattle.tmpl_syntax.specs.Place.Role.{role_of, roles_of}
 use Rattle.tmpl_syntax.specs.View.{known_names}
@@ -17,7 +17,7 @@ returns-in-Some c =
     let i = c.loop-item.item-index in
     let x = c.item-item.result in
     let at = item-at items i x c.loop-item-test.true c.item-item.is in
-    checked-refused c.args.bytes.now (map item_of items) i (item_of x) c.in-Some.fault x.line c.kind.result at
+    checked-refused c.args.bytes.now (map item_of items) i (item_of x) c.in-Some.fault x.line (reason_of c.kind.result) at
     (checking-refused (roles_of (map item_of items)) i (known_names c.loop-item.names) (reverse c.loop-item.stack.items) (role_of (item_of x)) (role-at (map item_of items) i (item_of x) at) c.loop-item.invariant
     c.newest-outside.result (known_names c.forget.new.names) c.newest-outside.ensures c.forget.ensures c.in-Some.fault (sym c.in-Some.ensures))
     refl c.kind.ensures
@@ -47,4 +47,4 @@ returns c =
     let ended : length (roles_of (map item_of items)) ≤ c.loop-item.item-index = omega (arith, length-map (map item_of items) role_of, length-map items item_of) in
     checked-open c.args.bytes.now (map item_of items) (reverse c.loop-item.stack.items) (λ e. some (sym (length-reverse c.loop-item.stack.items) ∙ e))
     (checking-ended (roles_of (map item_of items)) c.loop-item.item-index _ _ ended c.loop-item.invariant)
-    ∙ ap (λ n. Err (n, OpenAtEnd)) (sym c.last_line.ensures)
+    ∙ ap (λ n. Err (n, open_at_end)) (sym c.last_line.ensures)

@@ -1,0 +1,76 @@
+-- Each tree of a set is kept as files are added.
+use Rattle.std.proofs.Common.{◌≡◌, ◌≤◌, length, ℕ, Bool, true, false, List, [], ◌∷◌, Option, Some, None, Ok, refl, sym, subst, cond, if◌then◌else◌, Bor}
+use Rattle.std.specs.Prelude.{IfSome, find}
+use Rattle.std.specs.Option.{option_map}
+use Rattle.std.specs.Str.{bytes_eq}
+use Rattle.tmpl_values.proofs.RuneLemmas.{AreBytes}
+use Rattle.tmpl_syntax.specs.Tree.{Nodes, Tree}
+use Rattle.tmpl_syntax.specs.View.{tree_of}
+use Rattle.tmpl_syntax.specs.declared.tree.Tree as held
+use Rattle.tmpl_syntax.specs.Language.{every_branch}
+use Rattle.tmpl_syntax.specs.Item.{Item}
+use Rattle.tmpl_syntax.specs.Place.Role.{roles_of}
+use Rattle.tmpl_syntax.specs.Place.Body.{Verdict, fine, refused, left_open}
+use Rattle.tmpl_syntax.specs.Set.{Template, has_name, tree_named, is_blank, chosen, defined}
+use Rattle.tmpl_syntax.specs.Kept.{IsKept, AreKept}
+use Rattle.tmpl_syntax.specs.Parse.{last_line, most_bytes}
+use Rattle.tmpl_syntax.specs.computed.Frames.{verdict_of}
+use Rattle.tmpl_syntax.specs.computed.Build.{nodes_from}
+use Rattle.tmpl_syntax.specs.computed.Parse.{by_verdict, checked, items_of}
+use Rattle.tmpl_syntax.proofs.ItemLemmas.{has-items}
+use Rattle.tmpl_syntax.proofs.SpellingLemmas.{spells-fine}
+use Rattle.tmpl_syntax.proofs.NeedLemmas.{need-most}
+use Rattle.tmpl_syntax.proofs.PrintableNodeLemmas.{keeps-printable}
+
+-- ---- a definition
+
+chosen-kept : (b : Bool) (old new : Tree) → IsKept old → IsKept new → IsKept (if b then old else new)
+chosen-kept true old new h k = h
+chosen-kept false old new h k = k
+
+pub defined-kept : (ts : List Template) (name : List ℕ) (tree : Tree) → AreKept ts → IsKept tree → AreKept (defined ts name tree)
+defined-kept [] name tree h k = (k, tt)
+defined-kept (t ∷ ts) name tree h k = go (bytes_eq name t.0) (defined-kept ts name tree h.1 k)
+  where
+    go : (b : Bool) → AreKept (defined ts name tree) → AreKept (if b then (t.0, chosen t.1 tree) ∷ ts else t ∷ defined ts name tree)
+    go true more = (chosen-kept (is_blank tree.nodes) t.1 tree h.0 k, h.1)
+    go false more = (h.0, more)
+
+-- ---- a look-up
+
+abbrev IsKeptIf : Option Tree → Type 0
+IsKeptIf None = Unit {0}
+IsKeptIf (Some tree) = IsKept tree
+
+named-kept : (name : List ℕ) (ts : List Template) → AreKept ts → IsKeptIf (tree_named name ts)
+named-kept name [] h = tt
+named-kept name (t ∷ ts) h = go (bytes_eq name t.0) (named-kept name ts h.1)
+  where
+    go : (b : Bool) → IsKeptIf (tree_named name ts) → IsKeptIf (option_map (λ (u : Template). u.1) (cond b (Some t) (find (has_name name) ts)))
+    go true more = h.0
+    go false more = more
+
+pub found-kept : (name : List ℕ) (ts : List Template) (o : Option (Bor held.Tree)) → AreKept ts → option_map (λ (t : Bor held.Tree). tree_of t.now) o ≡ tree_named name ts → IfSome o (λ (t : Bor held.Tree). IsKept (tree_of t.now))
+found-kept name ts None h e = tt
+found-kept name ts (Some t) h e = subst IsKeptIf (sym e) (named-kept name ts h)
+
+-- ---- the tree of a file
+
+verdict-fine : (last : ℕ) (items : List Item) (v : Verdict) → by_verdict last items v ≡ Ok tt → v ≡ fine
+verdict-fine last items fine e = refl
+verdict-fine last items (refused i f) e = absurd (let g : ⊥ = cc in g)
+verdict-fine last items left_open e = absurd (let g : ⊥ = cc in g)
+
+checked-verdict : (bytes : List ℕ) (items : List Item) → checked bytes items ≡ Ok tt → verdict_of (roles_of items) ≡ fine
+unfolding checked
+checked-verdict bytes items e = verdict-fine (last_line bytes) items (verdict_of (roles_of items)) e
+
+pub file-kept : (file bytes : List ℕ) (nodes : Nodes) → AreBytes bytes → length bytes ≤ most_bytes → checked bytes (items_of bytes) ≡ Ok tt → nodes ≡ nodes_from (items_of bytes) → IsKept (record { file = file; nodes = nodes })
+file-kept file bytes nodes h within passed built =
+    let items = items_of bytes in
+    let spelled = spells-fine items (checked-verdict bytes items passed) in
+    subst (λ (ns : Nodes). IsKept (record { file = file; nodes = ns })) (sym built)
+    (record {
+      printable = keeps-printable every_branch bytes items (nodes_from items) h (has-items bytes) spelled;
+      need = need-most every_branch bytes items (record { file = file; nodes = nodes_from items }) within (has-items bytes) spelled;
+    })

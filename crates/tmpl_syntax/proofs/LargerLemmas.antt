@@ -1,0 +1,51 @@
+-- What a language accepts, one with more else branches accepts.
+use Rattle.std.proofs.Common.{◌≡◌, ℕ, true, suc, List, Some, refl, ap, length}
+use Rattle.std.specs.Prelude.{slice_get}
+use Rattle.tmpl_lex.specs.Piece.{Piece}
+use Rattle.tmpl_grammar.specs.Action.{Action, pipeline_action, opening, plain_else, else_branch, end_action, break_action, continue_action}
+use Rattle.tmpl_syntax.specs.declared.fault.Fault.TheVariants.{NotAnAction}
+use Rattle.tmpl_syntax.specs.Language.{Branches, has_action}
+use Rattle.tmpl_syntax.specs.Item.{Item, IsItem, a_text, an_unreadable, unread, too_deep, read, AreItems, no_item, an_item}
+use Rattle.tmpl_syntax.specs.Place.Role.{Role, unread_role, role_of, roles_of}
+use Rattle.tmpl_syntax.specs.Place.Body.{NoneRefused, unread as unread_applies}
+use Rattle.tmpl_syntax.specs.Laws.{IsLarger, AcceptsInLarger}
+use Rattle.tmpl_syntax.proofs.OneVerdictLemmas.{within}
+
+-- no item of these is unread
+abbrev AllRead : List Role → Type 0
+AllRead xs = (k : ℕ) → slice_get xs k ≡ Some unread_role → ⊥
+
+all-read : (xs : List Role) → NoneRefused xs (length xs) → AllRead xs
+all-read xs none k at = none k NotAnAction (within xs k NotAnAction (unread_applies at)) (unread_applies at)
+
+module _ (large small : Branches) (more : IsLarger large small) where
+  has-more : (a : Action) → has_action small a ≡ true → has_action large a ≡ true
+  has-more (pipeline_action h) t = refl
+  has-more (opening c h) t = refl
+  has-more plain_else t = refl
+  has-more (else_branch b h) t = more b t
+  has-more end_action t = refl
+  has-more break_action t = refl
+  has-more continue_action t = refl
+
+  same-item : {p : Piece} {x : Item} → IsItem small p x → (role_of x ≡ unread_role → ⊥) → IsItem large p x
+  same-item a_text h = a_text
+  same-item an_unreadable h = an_unreadable
+  same-item (unread none) h = absurd (h refl)
+  same-item (too_deep a s t e lt) h = too_deep a s (has-more a t) e lt
+  same-item (read {a = a} s t le) h = read s (has-more a t) le
+
+  same-items : {ps : List Piece} {xs : List Item} → AreItems small ps xs → AllRead (roles_of xs) → AreItems large ps xs
+  same-items no_item h = no_item
+  same-items (an_item i is) h = an_item (same-item i (λ e. h 0 (ap (λ r. Some r) e))) (same-items is (λ k e. h (suc k) e))
+
+pub accepts-in-larger : AcceptsInLarger
+accepts-in-larger large small more old file bytes new h = record {
+  short = h.short;
+  items = h.items;
+  has = record { pieces = h.has.pieces; cut = h.has.cut; read = same-items large small more h.has.read (all-read (roles_of h.items) h.judged.0) };
+  judged = h.judged;
+  nodes = h.nodes;
+  spells = h.spells;
+  set = h.set;
+}

@@ -1,0 +1,15 @@
+-- What holds of each tree of a set.
+use Rattle.std.specs.Prelude.{◌≤◌, List, [], ◌∷◌}
+use Rattle.tmpl_syntax.specs.Tree.{Tree}
+use Rattle.tmpl_syntax.specs.Set.{Template}
+use Rattle.tmpl_syntax.specs.Need.{need, most_need}
+use Rattle.tmpl_syntax.specs.Print.Printable.{IsPrintable}
+
+-- it can be printed, and a run of it needs no more cells than a file within the limit of length has bytes, and three
+pub record IsKept (tree : Tree) : Type 0 where
+  pub printable : IsPrintable tree.nodes
+  pub need : need tree ≤ most_need
+
+abbrev pub AreKept : List Template → Type 0
+AreKept [] = Unit {0}
+AreKept (t ∷ ts) = IsKept t.1 × AreKept ts

@@ -1,0 +1,27 @@
+-- The languages that are told apart: by the controls with which an else part may begin.
+use Rattle.std.specs.Prelude.{Bool, true}
+use Rattle.tmpl_grammar.specs.Action.{Action, pipeline_action, opening, plain_else, else_branch}
+use Rattle.tmpl_grammar.specs.Action.{end_action, break_action, continue_action}
+use Rattle.tmpl_grammar.specs.declared.action.Branch.{Branch}
+use Rattle.tmpl_grammar.specs.declared.action.Branch.TheVariants as branch
+
+abbrev pub Branches : Type 0
+Branches = Branch → Bool
+
+-- this language has all that the grammar has
+abbrev pub every_branch : Branches
+every_branch b = true
+
+-- Go 1.22 has `else if` alone
+abbrev pub go_1_22 : Branches
+go_1_22 branch.If = true
+
+-- whether an action is one of the language
+abbrev pub has_action : Branches → Action → Bool
+has_action branches (pipeline_action h) = true
+has_action branches (opening c h) = true
+has_action branches plain_else = true
+has_action branches (else_branch b h) = branches b
+has_action branches end_action = true
+has_action branches break_action = true
+has_action branches continue_action = true
