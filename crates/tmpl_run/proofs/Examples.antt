@@ -2,14 +2,15 @@
 use Rattle.std.proofs.Common.{◌≡◌, ℕ, true, false, List, [], ◌∷◌, Some, None, Ok, Err, refl, codes}
 use Rattle.std.specs.Prelude.{pos}
 use Rattle.tmpl_values.specs.Value.{Value, nothing, null, boolean, number, string, sequence, mapping, no_item, item, no_entry, entry}
-use Rattle.tmpl_funcs.specs.declared.func.Func.TheVariants.{And, Or, Not, Len}
+use Rattle.tmpl_funcs.specs.declared.func.Func.TheVariants.{And, Or, Not, Len, Index, Print, Println, Printf, Html, Urlquery}
 use Rattle.tmpl_funcs.specs.declared.fault.CallFault.TheVariants.{WrongCount, WrongKind}
-use Rattle.tmpl_grammar.specs.Tree.{Operand, dot, fields, variable, number_constant, nil, function, group, Operands, no_operand, operand, no_command, command, Pipeline, pipeline, Binding, unbound, declare, assign, declare_pair}
+use Rattle.tmpl_grammar.specs.Tree.{Operand, dot, fields, variable, number_constant, text_constant, nil, function, group, Operands, no_operand, operand, no_command, command, Pipeline, pipeline, Binding, unbound, declare, assign, declare_pair}
 use Rattle.tmpl_grammar.specs.declared.tree.Control.TheVariants as control
 use Rattle.tmpl_syntax.specs.Tree.{NodeKind, Nodes, Tree, none, then, text, action, control_node, break_node, continue_node}
-use Rattle.tmpl_run.specs.Meaning.{Ran, Cause, ran_with, steps_spent, not_a_function, nil_command, lacks_field, not_a_range, call_failed}
+use Rattle.tmpl_run.specs.Meaning.{Ran, Cause, ran_with, steps_spent, not_a_function, nil_command, lacks_field, lacks_entry, not_a_range, call_failed}
 use Rattle.tmpl_run.specs.Pipeline.{Given, Place, pipeline_value}
-use Rattle.tmpl_run.specs.declared.missing_key.MissingKey.TheVariants.{Default}
+use Rattle.tmpl_run.specs.declared.missing_key.MissingKey.TheVariants.{Default, Invalid, Zero, Error}
+use Rattle.tmpl_run.specs.declared.missing_key.MissingKey.{MissingKey}
 
 -- ---- short ways to write them
 
@@ -158,3 +159,99 @@ nil-as-a-command = refl
 -- .a 1: what is no function is refused before it is evaluated
 argument-of-a-field : pipeline_value (here (one 1)) (call (operand (fields (a ∷ [])) (operand (number_constant (pos 1)) no_operand))) ≡ refuses not_a_function
 argument-of-a-field = refl
+
+-- ---- texts that are made
+
+abbrev runs : Nodes → Value → Ran
+runs ns d = run 20 ns d
+
+abbrev calls : Operands → NodeKind
+calls os = action (record { binding = unbound; pipeline = call os })
+
+abbrev letter : Operand
+letter = text_constant (codes "a")
+
+abbrev puts_made : List ℕ → Ran
+puts_made bytes = record (puts bytes) { made_text = true }
+
+abbrev stops_made : List ℕ → ℕ → Cause → Ran
+stops_made bytes line cause = record (stops bytes line cause) { made_text = true }
+
+-- {{print "a"}}
+print-makes-text : runs (then 1 (calls (operand (function Print) (operand letter no_operand))) none) nothing ≡ puts_made (codes "a")
+print-makes-text = refl
+
+-- {{not print}}: a function as an argument is a call of it
+bare-print-makes-text : runs (then 1 (calls (operand (function Not) (operand (function Print) no_operand))) none) nothing ≡ puts_made (codes "true")
+bare-print-makes-text = refl
+
+-- {{printf}}: the number of its arguments is refused before it makes anything
+printf-without-a-format : runs (then 1 (calls (operand (function Printf) no_operand)) none) nothing ≡ stops [] 1 (call_failed Printf WrongCount)
+printf-without-a-format = refl
+
+-- {{printf .}} of nothing: it was called with all its arguments
+printf-of-a-wrong-kind : runs (then 1 (calls (operand (function Printf) (operand dot no_operand))) none) nothing ≡ stops_made [] 1 (call_failed Printf WrongKind)
+printf-of-a-wrong-kind = refl
+
+-- {{print .a.b}}: an operand without a value, so no call
+print-of-a-fault : runs (then 1 (calls (operand (function Print) (operand (fields (a ∷ b ∷ [])) no_operand))) none) (mapping (entry a null no_entry)) ≡ stops [] 1 (lacks_field b)
+print-of-a-fault = refl
+
+-- {{and "" (print "a")}}: the call behind the deciding operand is none
+cut-off-by-and : runs (then 1 (calls (operand (function And) (operand (text_constant []) (operand (group (command (operand (function Print) (operand letter no_operand)) no_command) []) no_operand)))) none) nothing ≡ puts []
+cut-off-by-and = refl
+
+-- {{print "a"}}{{.a.b}}: the mark stays
+made-before-a-fault : runs (then 1 (calls (operand (function Print) (operand letter no_operand))) (then 2 (put (fields (a ∷ b ∷ []))) none)) (mapping (entry a null no_entry)) ≡ stops_made (codes "a") 2 (lacks_field b)
+made-before-a-fault = refl
+
+-- {{if .}}{{print "a"}}{{end}}, which is not taken
+not-taken : runs (then 1 (if_dot (then 1 (calls (operand (function Print) (operand letter no_operand))) none) none) none) nothing ≡ puts []
+not-taken = refl
+
+-- {{html}}, {{urlquery}} and {{println}} make text, and {{index .}} does not
+html-makes-text : runs (then 1 (put (function Html)) (then 1 (put (function Urlquery)) none)) nothing ≡ puts_made []
+html-makes-text = refl
+
+println-makes-text : runs (then 1 (put (function Println)) none) nothing ≡ puts_made (codes "\n")
+println-makes-text = refl
+
+index-makes-none : runs (then 1 (calls (operand (function Index) (operand dot no_operand))) none) (string (codes "s")) ≡ puts (codes "s")
+index-makes-none = refl
+
+-- ---- the modes for missing keys
+
+abbrev in_mode : MissingKey → Operand → Value → Ran
+in_mode mode o d = ran_with mode 9 (codes "t") (tree_of (then 3 (put o) none)) d
+
+abbrev empty_map : Value
+empty_map = mapping no_entry
+
+zero-of-a-map : in_mode Zero (fields (a ∷ [])) empty_map ≡ puts (codes "<no value>")
+zero-of-a-map = refl
+
+-- null has no fields, and nothing has
+zero-in-a-chain : in_mode Zero (fields (a ∷ b ∷ [])) empty_map ≡ stops [] 3 (lacks_field b)
+zero-in-a-chain = refl
+
+default-in-a-chain : in_mode Default (fields (a ∷ b ∷ [])) empty_map ≡ puts (codes "<no value>")
+default-in-a-chain = refl
+
+invalid-in-a-chain : in_mode Invalid (fields (a ∷ b ∷ [])) empty_map ≡ puts (codes "<no value>")
+invalid-in-a-chain = refl
+
+zero-of-nothing : in_mode Zero (fields (a ∷ b ∷ [])) nothing ≡ puts (codes "<no value>")
+zero-of-nothing = refl
+
+error-of-a-map : in_mode Error (fields (a ∷ [])) empty_map ≡ stops [] 3 (lacks_entry a)
+error-of-a-map = refl
+
+error-of-nothing : in_mode Error (fields (a ∷ [])) nothing ≡ stops [] 3 (lacks_entry a)
+error-of-nothing = refl
+
+-- an entry that is null is there
+error-of-a-null : in_mode Error (fields (a ∷ [])) (mapping (entry a null no_entry)) ≡ puts (codes "<no value>")
+error-of-a-null = refl
+
+error-in-a-chain : in_mode Error (fields (a ∷ b ∷ [])) (mapping (entry a null no_entry)) ≡ stops [] 3 (lacks_field b)
+error-in-a-chain = refl

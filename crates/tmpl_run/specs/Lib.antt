@@ -1,5 +1,6 @@
 pub mod computed
 pub mod Fault
+pub mod Laws
 pub mod Meaning
 pub mod Pipeline
 pub mod Sink

@@ -4,12 +4,14 @@
 #![tactic(auto)]
 
 mod fault;
+mod laws;
 mod missing_key;
 mod options;
 mod sink;
 mod values;
 
 pub use fault::{RunFault, RunFaultKind};
+pub use laws::joins_by_table;
 pub use missing_key::MissingKey;
 pub use options::Options;
 pub use sink::{Sink, SinkFault, put_all};
