@@ -1,11 +1,11 @@
 -- Lines and their pieces, and what is put of them.
-use Rattle.std.proofs.Common.{◌≡◌, ◌∙◌, ◌++◌, ◌+◌, ◌<◌, ℕ, List, [], ◌∷◌, Result, refl, ap, sym, drop, get_or, length, append_assoc, codes, inr}
+use Rattle.std.proofs.Common.{◌≡◌, ◌∙◌, ◌++◌, ◌+◌, ◌<◌, ℕ, Bool, true, false, List, [], ◌∷◌, Result, refl, ap, sym, drop, get_or, length, append_assoc, codes, inr}
 use Rattle.std.proofs.lemmas.List.{at_drop_more}
 use Rattle.tmpl_values.proofs.PutLemmas.{IsPut-nil}
 use Rattle.tmpl_run.specs.Sink.{IsPut, Told, Sunk, Whole, as_puts, sunk}
 use Rattle.tmpl_run.specs.declared.sink.SinkFault.{SinkFault}
 use Rattle.tmpl_run.proofs.PutLemmas.{counts_once, whole_or_cut}
-use Rattle.tmpl.specs.Outcome.{Answer, Once, Outcome, Says, memory_line}
+use Rattle.tmpl.specs.Outcome.{Answer, Begun, Once, Outcome, Says, memory_line}
 use Rattle.tmpl.specs.Part.{Piece, joined, line, piece_text}
 use Rattle.tmpl.specs.Source.{Bytes}
 use Rattle.tmpl.specs.View.{piece_of, pieces_of}
@@ -42,6 +42,10 @@ pub ruleset said = (put_once, put_says)
 pub nothing_put : (t : Told) → Whole [] (sunk t t)
 nothing_put t = IsPut-nil (as_puts t)
 
+begun_nothing : (made : Bool) (text : Bytes) (t : Told) → Begun made text (sunk t t)
+begun_nothing true text t = (refl, ([], text, refl, (nothing_put t).bytes))
+begun_nothing false text t = (refl, refl)
+
 -- memory was refused, and nothing was put
 pub nothing_out : (e : Answer) (t : Told) (err : Sunk) (code : ℕ) → code ≡ 7 → Says memory_line err → Outcome e (sunk t t) err code
-nothing_out e t err code is says = inr (inr ((refl, refl), is, says))
+nothing_out e t err code is says = inr (inr (begun_nothing e.made_text e.text t, is, says))

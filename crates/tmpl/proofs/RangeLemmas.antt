@@ -4,9 +4,7 @@ use Rattle.std.proofs.Math.Numerals.{add-one}
 use Rattle.std.specs.Option.{option_map, unwrap_or}
 use Rattle.std.specs.List.{slice_get}
 use Rattle.tmpl_values.specs.Value.{Value}
-use Rattle.tmpl_values.specs.Elements.{Element, elements}
-use Rattle.tmpl_values.specs.Item.{item_at}
-use Rattle.tmpl_values.proofs.ElementLemmas.{at, element-at}
+use Rattle.tmpl_values.specs.Elements.{Element, element_at, elements, item_at}
 use Rattle.tmpl_syntax.specs.declared.tree.ControlNode.{ControlNode}
 use Rattle.tmpl_run.specs.Meaning.{Setting, Next, Run, after_turn}
 use Rattle.tmpl.specs.View.{end_seen}
@@ -31,7 +29,7 @@ from i (Some es) = Some (drop i es)
 
 module _ (s : Setting) (line : ℕ) (c : ControlNode) (r : Run) where
   -- from an element on
-  pub turns-next : (o : Option (List Element)) (i : ℕ) (e : Element) → at o i ≡ Some e → turns_run s line c (from i o) r ≡ after_turn (turn_run s line c e r) (turns_run s line c (from (i + 1) o))
+  pub turns-next : (o : Option (List Element)) (i : ℕ) (e : Element) → element_at i o ≡ Some e → turns_run s line c (from i o) r ≡ after_turn (turn_run s line c e r) (turns_run s line c (from (i + 1) o))
   turns-next None i e h = let g : None ≡ Some e = h in cc
   turns-next (Some es) i e h =
       ap (λ xs. turns_run s line c (Some xs) r) (next-drop es i e h)
@@ -39,9 +37,9 @@ module _ (s : Setting) (line : ℕ) (c : ControlNode) (r : Run) where
 
 -- there is an element at each place before the last
 pub not-past : (v : Value) (n i : ℕ) → Some n ≡ option_map length (elements v) → i < n → item_at i v ≡ None → ⊥
-not-past v n i h lt none = go (elements v) h (sym (element-at v i) ∙ none)
+not-past v n i h lt none = go (elements v) h none
   where
-    go : (o : Option (List Element)) → Some n ≡ option_map length o → at o i ≡ None → ⊥
+    go : (o : Option (List Element)) → Some n ≡ option_map length o → element_at i o ≡ None → ⊥
     go None e f = let g : Some n ≡ None = e in cc
     go (Some es) e f = let is : n ≡ length es = ap (λ o. unwrap_or o 0) e in past-get es i (omega (arith, is, lt)) f
 

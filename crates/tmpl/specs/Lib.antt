@@ -1,5 +1,7 @@
+pub mod Adapter
 pub mod computed
 pub mod Help
+pub mod Laws
 pub mod Outcome
 pub mod Part
 pub mod Source

@@ -1,5 +1,6 @@
 -- What is observed of the two sinks and the status, where the command comes to an end.
-use Rattle.std.specs.Prelude.{◌≡◌, ◌≢◌, ◌+◌, ◌⊎◌, ℕ, Bool, [], ◌∷◌, codes}
+use Rattle.std.specs.Prelude.{◌≡◌, ◌≢◌, ◌+◌, ◌⊎◌, ℕ, Bool, true, false, [], ◌∷◌, codes}
+use Rattle.tmpl_values.specs.Put.{Begins}
 use Rattle.tmpl_run.specs.Sink.{Cut, Sunk, Untouched, Whole}
 use Rattle.tmpl.specs.Source.{Bytes}
 use Rattle.tmpl.specs.Part.{line, plain}
@@ -13,6 +14,8 @@ pub record Answer : Type 0 where
   pub status : ℕ
   -- it stopped at a read that failed
   pub unread : Bool
+  -- it came to a run that makes text: one that calls a function which makes one, with all its arguments
+  pub made_text : Bool
 
 -- the whole of a line, or a beginning of it where the sink failed
 abbrev pub Says : Bytes → Sunk → Type 0
@@ -32,13 +35,22 @@ Exact a out err code = Whole a.text out × (code ≡ a.status) × Says a.line er
 abbrev pub Unwritten : Answer → Sunk → Sunk → ℕ → Type 0
 Unwritten a out err code = Cut a.text out × (code ≡ 6) × Says write_line err
 
--- memory was refused: nothing was put out
-abbrev pub Refused : Sunk → Sunk → ℕ → Type 0
-Refused out err code = Untouched out × (code ≡ 7) × Says memory_line err
+-- the sink did not fail, and took a beginning of the text; nothing where no text is made
+abbrev pub Begun : Bool → Bytes → Sunk → Type 0
+Begun true text s = (s.after.failures ≡ s.before.failures) × Begins s.before.bytes s.after.bytes text
+Begun false text s = Untouched s
+
+-- memory was refused: a beginning of the text, and nothing unless the command comes to a run that makes text
+abbrev pub Refused : Answer → Sunk → Sunk → ℕ → Type 0
+Refused a out err code = Begun a.made_text a.text out × (code ≡ 7) × Says memory_line err
 
 -- one of the three
 abbrev pub Outcome : Answer → Sunk → Sunk → ℕ → Type 0
-Outcome a out err code = Exact a out err code ⊎ (Unwritten a out err code ⊎ Refused out err code)
+Outcome a out err code = Exact a out err code ⊎ (Unwritten a out err code ⊎ Refused a out err code)
+
+-- where the status is that of refused memory, nothing was put out at all
+abbrev pub Spared : Sunk → ℕ → Type 0
+Spared out code = code ≡ 7 → Untouched out
 
 -- the status is 6 exactly where the output failed, and it failed once at most
 abbrev pub Counted : ℕ → ℕ → ℕ → Type 0

@@ -21,4 +21,4 @@ joined (p ∷ ps) = piece_text p ++ joined ps
 
 -- a line of the program: its name, the pieces, and a newline
 abbrev pub line : List Piece → Bytes
-line pieces = codes "tmpl: " ++ (joined pieces ++ 10 ∷ [])
+line pieces = codes "tmpl: " ++ (joined pieces ++ codes "\n")

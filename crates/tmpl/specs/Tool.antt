@@ -1,16 +1,14 @@
 -- The command as one function of the words and of the contents of files.
 use Rattle.std.specs.Prelude.{◌≡◌, ◌⊎◌, ◌+◌, ℕ, zero, suc, Bool, true, false, List, [], ◌∷◌, ◌++◌, Option, Some}
-use Rattle.std.specs.Prelude.{None, Result, Ok, Err, codes}
+use Rattle.std.specs.Prelude.{None, Result, Ok, Err, codes, unwrap_or}
 use Rattle.tmpl_values.specs.Value.{Value}
-use Rattle.tmpl_values.specs.Json.{data_of}
-use Rattle.tmpl_values.specs.declared.json.DataFault.{DataFault}
-use Rattle.tmpl_values.specs.declared.json.DataFault.TheVariants as data_fault
+use Rattle.tmpl_values.specs.Json.{Flaw, not_json, not_whole, data_of}
 use Rattle.tmpl_syntax.specs.Tree.{Tree}
 use Rattle.tmpl_syntax.specs.Set.{Template, tree_named}
 use Rattle.tmpl_syntax.specs.Parse.{base_name}
 use Rattle.tmpl_syntax.specs.computed.Parse.{Refusal, parsed}
-use Rattle.tmpl_syntax.specs.declared.fault.ParseKind.{ParseKind}
-use Rattle.tmpl_syntax.specs.declared.fault.ParseKind.TheVariants as kind
+use Rattle.tmpl_syntax.specs.Fault as refused
+use Rattle.tmpl_syntax.specs.Fault.{Reason}
 use Rattle.tmpl_run.specs.Sink.{Sunk}
 use Rattle.tmpl_run.specs.Meaning.{Cause, steps_spent, not_a_function, nil_command, lacks_field, lacks_entry}
 use Rattle.tmpl_run.specs.Meaning.{not_a_range, call_failed, Fault, Ran, ran}
@@ -27,11 +25,12 @@ use Rattle.tmpl.specs.Outcome.{Answer, Outcome}
 
 -- nothing is put out, and a line is said
 abbrev pub only_line : List Piece → ℕ → Answer
-only_line pieces status = record { text = []; line = line pieces; status = status; unread = false }
+only_line pieces status =
+    record { text = []; line = line pieces; status = status; unread = false; made_text = false }
 
 -- a text is put out, and nothing went wrong
 abbrev pub only_text : Bytes → Answer
-only_text text = record { text = text; line = []; status = 0; unread = false }
+only_text text = record { text = text; line = []; status = 0; unread = false; made_text = false }
 
 abbrev pub words_answer : Answer
 words_answer = only_line (plain (codes "arguments refused; see tmpl --help") ∷ []) 2
@@ -43,30 +42,29 @@ abbrev pub unread_answer : Bytes → Answer
 unread_answer name =
     record (only_line (plain name ∷ plain (codes ": read failed") ∷ []) 3) { unread = true }
 
-abbrev pub memory_answer : Answer
-memory_answer = only_line (plain (codes "out of memory") ∷ []) 7
+abbrev pub parse_text : Reason → Bytes
+parse_text refused.unreadable = codes "unclosed or unreadable action"
+parse_text refused.not_an_action = codes "action not understood"
+parse_text refused.out_of_place = codes "out of place"
+parse_text refused.undeclared_variable = codes "undeclared variable"
+parse_text refused.open_at_end = codes "file ends inside a control"
+parse_text refused.nested_too_deeply = codes "nested too deeply"
+parse_text refused.too_long = codes "file longer than 16777216 bytes"
 
-abbrev pub parse_text : ParseKind → Bytes
-parse_text kind.Unreadable = codes "unclosed or unreadable action"
-parse_text kind.NotAnAction = codes "action not understood"
-parse_text kind.OutOfPlace = codes "out of place"
-parse_text kind.UndeclaredVariable = codes "undeclared variable"
-parse_text kind.OpenAtEnd = codes "file ends inside a control"
-parse_text kind.NestedTooDeeply = codes "nested too deeply"
-parse_text kind.TooLong = codes "file longer than 16777216 bytes"
-parse_text kind.OutOfMemory = codes "out of memory"
+-- a file is refused at this line, with this text
+abbrev pub located_answer : Bytes → ℕ → Bytes → Answer
+located_answer file at why =
+    only_line (plain file ∷ plain (codes ":") ∷ number at ∷ plain (codes ": ") ∷ plain why ∷ []) 4
 
 abbrev pub refused_answer : Bytes → Refusal → Answer
-refused_answer file r = only_line
-    (plain file ∷ plain (codes ":") ∷ number r.0 ∷ plain (codes ": ") ∷ plain (parse_text r.1) ∷ []) 4
+refused_answer file r = located_answer file r.0 (parse_text r.1)
 
-abbrev pub data_text : DataFault → Bytes
-data_text data_fault.NotJson = codes ": not JSON"
-data_text data_fault.NotWhole = codes ": number not whole or out of range"
-data_text data_fault.OutOfMemory = codes ": out of memory"
+abbrev pub flaw_text : Flaw → Bytes
+flaw_text not_json = codes ": not JSON"
+flaw_text not_whole = codes ": number not whole or out of range"
 
-abbrev pub data_answer : Bytes → DataFault → Answer
-data_answer file f = only_line (plain file ∷ plain (data_text f) ∷ []) 5
+abbrev pub data_answer : Bytes → Flaw → Answer
+data_answer file f = only_line (plain file ∷ plain (flaw_text f) ∷ []) 5
 
 abbrev pub unnamed_answer : Bytes → Answer
 unnamed_answer name = only_line (plain (codes "no template ") ∷ quoted name ∷ []) 4
@@ -77,7 +75,6 @@ call_text call.WrongKind = codes "wrong kind of argument"
 call_text call.OutOfRange = codes "out of range"
 call_text call.NotComparable = codes "can't be compared"
 call_text call.FormatRefused = codes "format refused"
-call_text call.OutOfMemory = codes "out of memory"
 
 abbrev pub cause_pieces : Cause → List Piece
 cause_pieces (steps_spent limit) =
@@ -108,8 +105,46 @@ run_status (Some f) = 1
 
 -- a run: the whole text, or that before the fault
 abbrev pub run_answer : Ran → Answer
-run_answer r =
-    record { text = r.text; line = run_line r.fault; status = run_status r.fault; unread = false }
+run_answer r = record {
+  text = r.text;
+  line = run_line r.fault;
+  status = run_status r.fault;
+  unread = false;
+  made_text = r.made_text;
+}
+
+-- ---- stages
+
+-- goes on with what a stage gives, or stops at its answer
+abbrev pub or_stop : {T U : Type 0} → Result T Answer → (T → Result U Answer) → Result U Answer
+or_stop (Ok t) next = next t
+or_stop (Err a) next = Err a
+
+-- where the command comes to an end: after its last stage, or where it stops
+abbrev pub end_of : Result Answer Answer → Answer
+end_of (Ok a) = a
+end_of (Err a) = a
+
+-- the answer of stages that stop
+abbrev pub stop_of : {T : Type 0} → Result T Answer → Option Answer
+stop_of (Ok t) = None
+stop_of (Err a) = Some a
+
+-- ---- the words
+
+abbrev pub usage : Bytes
+usage = codes "usage: tmpl [--data FILE] [--missingkey default|invalid|zero|error] [--name NAME] "
+    ++ codes "[--depth N] [--steps N] FILE...\n"
+
+-- words that ask for help get the usage, and nothing else
+abbrev pub unless_help : Bool → Result (Unit {0}) Answer
+unless_help true = Err (only_text usage)
+unless_help false = Ok tt
+
+-- what words ask for that are not refused
+abbrev pub or_refused_words : Option Wanted → Result Wanted Answer
+or_refused_words None = Err words_answer
+or_refused_words (Some w) = Ok w
 
 -- ---- the files
 
@@ -133,32 +168,30 @@ abbrev pub or_refused : Bytes → Result (List Template) Refusal → Result (Lis
 or_refused name (Ok set) = Ok set
 or_refused name (Err r) = Err (refused_answer name r)
 
+-- the bytes of a file that is there
+abbrev pub or_not_found : Bytes → Option Bytes → Result Bytes Answer
+or_not_found name None = Err (not_found_answer name)
+or_not_found name (Some bytes) = Ok bytes
+
 -- the set with one more file
 abbrev pub read_in : List Template → Bytes → Option Bytes → Result (List Template) Answer
-read_in set name None = Err (not_found_answer name)
-read_in set name (Some bytes) = or_refused name (parsed set name bytes)
-
-abbrev pub after_file : Result (List Template) Answer → (List Template → Result (List Template) Answer)
-    → Result (List Template) Answer
-after_file (Ok set) next = next set
-after_file (Err a) next = Err a
+read_in set name found = or_stop (or_not_found name found) (λ bytes. or_refused name (parsed set name bytes))
 
 -- each FILE in turn, read and then parsed; the read that fails, if any, is so many reads ahead
 abbrev pub loaded : Files → Option ℕ → List Template → List Bytes → Result (List Template) Answer
 loaded files fails set [] = Ok set
 loaded files None set (name ∷ names) =
-    after_file (read_in set name (files name)) (λ s. loaded files None s names)
+    or_stop (read_in set name (files name)) (λ s. loaded files None s names)
 loaded files (Some zero) set (name ∷ names) = Err (unread_answer name)
 loaded files (Some (suc k)) set (name ∷ names) =
-    after_file (read_in set name (files name)) (λ s. loaded files (Some k) s names)
+    or_stop (read_in set name (files name)) (λ s. loaded files (Some k) s names)
 
-abbrev pub or_data_refused : Bytes → Result Value DataFault → Result (Option Value) Answer
+abbrev pub or_data_refused : Bytes → Result Value Flaw → Result (Option Value) Answer
 or_data_refused name (Ok input) = Ok (Some input)
 or_data_refused name (Err f) = Err (data_answer name f)
 
 abbrev pub data_in : Bytes → Option Bytes → Result (Option Value) Answer
-data_in name None = Err (not_found_answer name)
-data_in name (Some bytes) = or_data_refused name (data_of bytes)
+data_in name found = or_stop (or_not_found name found) (λ bytes. or_data_refused name (data_of bytes))
 
 -- the data, read and parsed, if the words name a file of it
 abbrev pub data_found : Files → Bool → Option Bytes → Result (Option Value) Answer
@@ -173,46 +206,32 @@ abbrev pub first_name : List Bytes → Bytes
 first_name [] = []
 first_name (name ∷ names) = base_name name
 
-abbrev pub asked_name : Option Bytes → List Bytes → Bytes
-asked_name None files = first_name files
-asked_name (Some name) files = name
+-- the name that words ask for
+abbrev pub asked_name : Wanted → Bytes
+asked_name w = unwrap_or w.name (first_name w.files)
 
-abbrev pub rendered_tree : WantedOptions → Bytes → Option Tree → Option Value → Answer
-rendered_tree w name None input = unnamed_answer name
-rendered_tree w name (Some tree) input = run_answer (ran w.missing_key w.steps name tree input)
+-- the tree of the template of this name, if there is one
+abbrev pub or_unnamed : Bytes → Option Tree → Result Tree Answer
+or_unnamed name None = Err (unnamed_answer name)
+or_unnamed name (Some tree) = Ok tree
 
--- the name looked up, and the run
-abbrev pub rendered : WantedOptions → Bytes → List Template → Option Value → Answer
-rendered w name set input = rendered_tree w name (tree_named name set) input
+-- the run of a tree under this name
+abbrev pub run_of : WantedOptions → Bytes → Option Value → Tree → Answer
+run_of options name input tree = run_answer (ran options.missing_key options.steps name tree input)
 
-abbrev pub after_data : Wanted → List Template → Result (Option Value) Answer → Answer
-after_data w set (Ok input) = rendered w.options (asked_name w.name w.files) set input
-after_data w set (Err a) = a
-
--- the data, and then the run
-abbrev pub after_set : Files → Bool → Wanted → List Template → Answer
-after_set files fails w set = after_data w set (data_found files fails w.data_file)
-
-abbrev pub after_load : Files → Bool → Wanted → Result (List Template) Answer → Answer
-after_load files fails w (Ok set) = after_set files fails w set
-after_load files fails w (Err a) = a
-
-abbrev pub after_words : Files → Failing → Option Wanted → Answer
-after_words files failing None = words_answer
-after_words files failing (Some w) =
-    after_load files (fails_data failing) w (loaded files (failing_file failing) [] w.files)
-
-abbrev pub usage : Bytes
-usage = codes "usage: tmpl [--data FILE] [--missingkey default|invalid|zero|error] [--name NAME] "
-    ++ codes "[--depth N] [--steps N] FILE...\n"
-
-abbrev pub after_help : List Bytes → Files → Failing → Bool → Answer
-after_help words files failing true = only_text usage
-after_help words files failing false = after_words files failing (wanted words)
-
--- what the command comes to
+-- what the command comes to: help, the words, each FILE, the data, the name, and the run
 abbrev pub tool_answer : List Bytes → Files → Failing → Answer
-tool_answer words files failing = after_help words files failing (asks_help words)
+tool_answer words files failing = end_of
+    (or_stop (unless_help (asks_help words)) (λ u.
+    or_stop (or_refused_words (wanted words)) (λ w.
+    or_stop (loaded files (failing_file failing) [] w.files) (λ set.
+    or_stop (data_found files (fails_data failing) w.data_file) (λ input.
+    or_stop (or_unnamed (asked_name w) (tree_named (asked_name w) set)) (λ tree.
+    Ok (run_of w.options (asked_name w) input tree)))))))
+
+-- what words come to that read no file: those that ask for help, and those that are refused
+abbrev pub words_alone : List Bytes → Option Answer
+words_alone words = stop_of (or_stop (unless_help (asks_help words)) (λ u. or_refused_words (wanted words)))
 
 -- ---- what is observed
 

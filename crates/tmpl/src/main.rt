@@ -1,8 +1,14 @@
 //! The command `tmpl`: renders templates of the language of Go's `text/template` with data from JSON.
 #![tactic(auto)]
 
+ghost use Rattle.std.specs.Prelude.{◌≡◌, ◌<◌, ◌-◌, ◌^◌};
+ghost use Rattle.std.specs.Process.{exit_status};
+ghost use Rattle.tmpl_run.specs.Sink.{sunk};
+ghost use Rattle.tmpl.specs.Adapter.{SaysFlush, flushed};
+
 mod evaluator;
 mod files;
+mod laws;
 mod messages;
 mod render;
 mod status;
@@ -18,6 +24,7 @@ use crate::status::Status;
 use std::env;
 use std::io::ErrorKind;
 use std::process::ExitCode;
+use tmpl_run::{Sink, SinkFault};
 
 /// Runs the command over the file system and the standard streams.
 fn main(rt: HostRuntime) -> ExitCode {
@@ -36,13 +43,24 @@ fn main(rt: HostRuntime) -> ExitCode {
         Err(_) => return exit(words_refused(&mut err)),
     };
     let status = tool::tool(alloc, words.as_slice(), &mut source, &mut out, &mut err);
-    match out.flush() {
-        Err(_) if status.code == 0 => exit(write_failed(&mut err)),
-        _ => exit(status),
+    exit(after_flush(out.flush(), status, &mut err))
+}
+
+/// The status after the last flush of the output; where that fails and all went well before, it says so.
+fn after_flush<E: Sink>(flush: Result<(), SinkFault>, status: Status, err: &mut E) -> Status
+    requires { (E.so_far err.old).failures < 2 ^ 64 - 1 }
+    ensures code { result.code ≡ flushed flush status.code }
+    ensures line { SaysFlush flush status.code (sunk (E.so_far err.old) (E.so_far err.new)) }
+{
+    match flush {
+        Err(SinkFault) if status.code == 0 => write_failed(err),
+        _ => status,
     }
 }
 
 /// The status as the process's exit code.
-fn exit(status: Status) -> ExitCode {
+fn exit(status: Status) -> ExitCode
+    ensures { exit_status result ≡ status.code }
+{
     ExitCode::from(status.code)
 }

@@ -4,9 +4,10 @@ ghost use Rattle.tmpl_values.specs.View.{value_of};
 ghost use Rattle.tmpl_syntax.specs.View.{set_view};
 ghost use Rattle.tmpl_run.specs.Sink.{sunk};
 ghost use Rattle.tmpl.specs.View.{ran_seen};
-ghost use Rattle.tmpl.specs.Outcome.{Counted, Once, Outcome};
-ghost use Rattle.tmpl.specs.Tool.{asked_name, only_text, rendered, run_answer};
-ghost use Rattle.tmpl.specs.View.{options_seen, seen};
+ghost use Rattle.tmpl.specs.Outcome.{Counted, Once, Outcome, Spared};
+ghost use Rattle.tmpl.specs.Tool.{asked_name, end_of, only_text, run_answer};
+ghost use Rattle.tmpl.specs.View.{seen};
+ghost use Rattle.tmpl.specs.computed.Load.{rendered};
 
 use crate::evaluator::{Rendered, evaluate};
 use crate::messages::lines::{out_of_memory, run_failed, unnamed, write_failed};
@@ -23,6 +24,7 @@ pub(crate) fn put_out<O: Sink, E: Sink>(text: &[u8], out: &mut O, err: &mut E) -
     requires err { (E.so_far err.old).failures < 2 ^ 64 - 1 }
     ensures counts { Counted (O.so_far out.old).failures (O.so_far out.new).failures result.code }
     ensures cuts { Once (E.so_far err.old).failures (E.so_far err.new).failures }
+    ensures spared { Spared (sunk (O.so_far out.old) (O.so_far out.new)) result.code }
     ensures outcome { Outcome (only_text text.now)
         (sunk (O.so_far out.old) (O.so_far out.new))
         (sunk (E.so_far err.old) (E.so_far err.new))
@@ -40,6 +42,7 @@ fn put_run<O: Sink, E: Sink>(run: &Rendered<'_>, out: &mut O, err: &mut E) -> St
     requires err { (E.so_far err.old).failures < 2 ^ 64 - 1 }
     ensures counts { Counted (O.so_far out.old).failures (O.so_far out.new).failures result.code }
     ensures cuts { Once (E.so_far err.old).failures (E.so_far err.new).failures }
+    ensures spared { Spared (sunk (O.so_far out.old) (O.so_far out.new)) result.code }
     ensures outcome { Outcome (run_answer (ran_seen run.now))
         (sunk (O.so_far out.old) (O.so_far out.new))
         (sunk (E.so_far err.old) (E.so_far err.new))
@@ -56,7 +59,7 @@ fn put_run<O: Sink, E: Sink>(run: &Rendered<'_>, out: &mut O, err: &mut E) -> St
 
 /// The name that is asked for, or that of the first file's own template.
 fn asked_name<'a>(request: &Request<'a>) -> &'a [u8]
-    ensures { result.now ≡ asked_name (seen request.now).name (seen request.now).files }
+    ensures { result.now ≡ asked_name (seen request.now) }
 {
     match request.name {
         Some(name) => name.as_bytes(),
@@ -80,9 +83,9 @@ pub(crate) fn render<O: Sink, E: Sink>(
     requires err { (E.so_far err.old).failures < 2 ^ 64 - 1 }
     ensures counts { Counted (O.so_far out.old).failures (O.so_far out.new).failures result.code }
     ensures cuts { Once (E.so_far err.old).failures (E.so_far err.new).failures }
-    ensures outcome { Outcome (rendered (options_seen request.now.options)
-        (asked_name (seen request.now).name (seen request.now).files) (set_view set.now)
-        (option_map (λ d. value_of d.now) «data».entry))
+    ensures spared { Spared (sunk (O.so_far out.old) (O.so_far out.new)) result.code }
+    ensures outcome { Outcome (end_of (rendered (seen request.now) (set_view set.now)
+        (option_map (λ d. value_of d.now) «data».entry)))
         (sunk (O.so_far out.old) (O.so_far out.new))
         (sunk (E.so_far err.old) (E.so_far err.new))
         result.code }

@@ -1,6 +1,5 @@
 //! Why the program stops before it puts anything out.
 use tmpl_syntax::ParseFault;
-use tmpl_values::DataFault;
 
 /// Why the program stops before it puts anything out.
 #[derive(Clone, Copy, Debug)]
@@ -11,8 +10,10 @@ pub(crate) enum Stop<'a> {
     Failed(&'a str),
     /// A template file was refused.
     Template(ParseFault<'a>),
-    /// The file of this name holds no data.
-    Data(&'a str, DataFault),
+    /// The file of this name holds no JSON.
+    NotJson(&'a str),
+    /// A number in the data of this file is not whole, or out of range.
+    NotWhole(&'a str),
     /// Memory was refused.
     OutOfMemory,
 }

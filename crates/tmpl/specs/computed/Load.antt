@@ -1,30 +1,61 @@
 -- What the parts of the program that read files answer.
-use Rattle.std.specs.Prelude.{true, false, ◌≡◌, ◌+◌, ℕ, List, Option, Some, None, Result, Ok, Err, option_map}
+use Rattle.std.specs.Prelude.{true, false, ◌≡◌, ◌+◌, ℕ, Bool, List, [], Option, Some, None, Result, Ok, Err, codes}
+use Rattle.std.specs.Prelude.{◌∷◌, option_map}
+use Rattle.tmpl_values.specs.Json.{not_json, not_whole}
 use Rattle.tmpl_values.specs.Value.{Value}
 use Rattle.tmpl_values.specs.View.{value_of}
 use Rattle.tmpl_values.specs.declared.data.Data.{Data}
-use Rattle.tmpl_syntax.specs.Set.{Template}
+use Rattle.tmpl_syntax.specs.Set.{Template, tree_named}
 use Rattle.tmpl_syntax.specs.View.{set_view}
+use Rattle.tmpl_syntax.specs.Fault.{Reason, reason_of}
 use Rattle.tmpl_syntax.specs.computed.Parse.{parsed}
 use Rattle.tmpl_syntax.specs.declared.fault.ParseFault.{ParseFault}
 use Rattle.tmpl_syntax.specs.declared.fault.ParseKind.{ParseKind}
 use Rattle.tmpl_syntax.specs.declared.fault.ParseKind.TheVariants as kind
 use Rattle.tmpl.specs.Source.{Bytes, Files}
 use Rattle.tmpl.specs.Outcome.{Answer}
-use Rattle.tmpl.specs.Tool.{data_answer, data_found, loaded, memory_answer, not_found_answer, or_refused}
-use Rattle.tmpl.specs.Tool.{read_in, refused_answer, unread_answer}
-use Rattle.tmpl.specs.Tool.{Failing, after_words, asked_name, no_read, rendered}
+use Rattle.tmpl.specs.Tool.{data_answer, data_found, loaded, not_found_answer, only_line, or_refused}
+use Rattle.tmpl.specs.Tool.{located_answer, parse_text, read_in, unread_answer, or_stop, or_unnamed, run_of}
+use Rattle.tmpl.specs.Tool.{Failing, failing_file, fails_data, asked_name, no_read}
 use Rattle.tmpl.specs.Words.{Wanted}
+use Rattle.tmpl.specs.Part.{plain}
 use Rattle.tmpl.specs.declared.files.inputs.Inputs.{Inputs}
 use Rattle.tmpl.specs.declared.stop.Stop.{Stop}
 use Rattle.tmpl.specs.declared.stop.Stop.TheVariants as stop
+
+-- ---- the stages behind a stage
+
+-- the name looked up, and the run
+abbrev pub rendered : Wanted → List Template → Option Value → Result Answer Answer
+rendered w set input = or_stop (or_unnamed (asked_name w) (tree_named (asked_name w) set))
+    (λ tree. Ok (run_of w.options (asked_name w) input tree))
+
+-- the data, and then the run
+abbrev pub after_set : Files → Bool → Wanted → List Template → Result Answer Answer
+after_set files fails w set = or_stop (data_found files fails w.data_file) (rendered w set)
+
+-- each FILE, and so on
+abbrev pub after_words : Files → Failing → Wanted → Result Answer Answer
+after_words files failing w =
+    or_stop (loaded files (failing_file failing) [] w.files) (after_set files (fails_data failing) w)
+
+-- ---- stops
+
+-- the text for a kind of refusal; one for want of memory stops the program in another way
+abbrev pub text_for : Option Reason → Bytes
+text_for None = codes "out of memory"
+text_for (Some reason) = parse_text reason
+
+abbrev pub memory_answer : Answer
+memory_answer = only_line (plain (codes "out of memory") ∷ []) 7
 
 -- what the program comes to where it stops before it puts anything out
 abbrev pub stop_answer : Stop → Answer
 stop_answer (stop.NotFound name) = not_found_answer name.now
 stop_answer (stop.Failed name) = unread_answer name.now
-stop_answer (stop.Template f) = refused_answer f.file.now (f.line, f.kind)
-stop_answer (stop.Data name f) = data_answer name.now f
+stop_answer (stop.Template f) = located_answer f.file.now f.line (text_for (reason_of f.kind))
+stop_answer (stop.NotJson name) = data_answer name.now not_json
+stop_answer (stop.NotWhole name) = data_answer name.now not_whole
 stop_answer stop.OutOfMemory = memory_answer
 
 -- the count of failures rose exactly where a read failed
@@ -91,12 +122,12 @@ ReadsData files name (Err stop) = DataStops files name stop
 -- where the templates or the data stop the program
 abbrev pub InputStops : Files → Wanted → Stop → Type 0
 InputStops files w (stop.Failed name) =
-    (failing : Failing) × (after_words files failing (Some w) ≡ unread_answer name.now)
+    (failing : Failing) × (after_words files failing w ≡ Err (unread_answer name.now))
 InputStops files w stop.OutOfMemory = Unit {0}
-InputStops files w stop = after_words files no_read (Some w) ≡ stop_answer stop
+InputStops files w stop = after_words files no_read w ≡ Err (stop_answer stop)
 
 -- the templates and the data
 abbrev pub ReadsInputs : Files → Wanted → Result Inputs Stop → Type 0
-ReadsInputs files w (Ok inputs) = after_words files no_read (Some w)
-    ≡ rendered w.options (asked_name w.name w.files) (set_view inputs.set) (data_value inputs.data)
+ReadsInputs files w (Ok inputs) =
+    after_words files no_read w ≡ rendered w (set_view inputs.set) (data_value inputs.data)
 ReadsInputs files w (Err stop) = InputStops files w stop

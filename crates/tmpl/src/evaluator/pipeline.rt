@@ -16,7 +16,7 @@ ghost use Rattle.tmpl_run.specs.View.{value_seen};
 
 use crate::evaluator::variables::Variables;
 use std::alloc::{AllocError, Global};
-use tmpl_funcs::{CallFault, Func, call};
+use tmpl_funcs::{CallError, CallFault, Func, call};
 use tmpl_grammar::{Command, Operand, Pipeline};
 use tmpl_run::{MissingKey, RunFaultKind, decides, without_null};
 use tmpl_values::{Bytes, Cell, Val};
@@ -253,8 +253,8 @@ fn apply<'a>(
             result: Ok(value),
             made_text,
         }),
-        Err(CallFault::OutOfMemory) => Err(AllocError),
-        Err(fault) => Ok(Given {
+        Err(CallError::OutOfMemory) => Err(AllocError),
+        Err(CallError::Fault(fault)) => Ok(Given {
             result: Err(RunFaultKind::Call(func, fault)),
             made_text,
         }),

@@ -1,10 +1,11 @@
 //! Files and standard streams as sources and sinks. Of these nothing is told but their failures.
 ghost use Rattle.std.specs.Prelude.{◌≡◌, None};
+ghost use Rattle.tmpl.specs.Adapter.{answered, source_fault, taken};
 
 use crate::files::source::{Source, SourceFault};
 use std::alloc::Global;
 use std::fs;
-use std::io::{ErrorKind, Write};
+use std::io::{self, ErrorKind, Write};
 use std::rt::Files;
 use tmpl_run::{Sink, SinkFault};
 
@@ -30,17 +31,32 @@ impl<'a, R: Files + AllocGlobal> Source for FileSource<'a, R> {
     ghost failures = { λ s. s.failures };
 
     fn read(&mut self, _alloc: Global, name: &str) -> Result<Vec<u8>, SourceFault> {
-        match fs::read(self.rt, name) {
-            Ok(bytes) => Ok(bytes),
-            Err(error) => match error.kind() {
-                ErrorKind::NotFound => Err(SourceFault::NotFound),
-                ErrorKind::OutOfMemory => Err(SourceFault::OutOfMemory),
-                _ => {
-                    self.failures += 1;
-                    Err(SourceFault::Failed)
-                }
-            },
+        let read = answered(fs::read(self.rt, name));
+        if let Err(SourceFault::Failed) = read {
+            self.failures += 1;
         }
+        read
+    }
+}
+
+/// What a read of the system answers.
+fn answered(read: io::Result<Vec<u8>>) -> Result<Vec<u8>, SourceFault>
+    ensures { result ≡ answered read }
+{
+    match read {
+        Ok(bytes) => Ok(bytes),
+        Err(error) => Err(source_fault(error.kind())),
+    }
+}
+
+/// Why a file could not be read.
+fn source_fault(kind: ErrorKind) -> SourceFault
+    ensures { result ≡ source_fault kind }
+{
+    match kind {
+        ErrorKind::NotFound => SourceFault::NotFound,
+        ErrorKind::OutOfMemory => SourceFault::OutOfMemory,
+        _ => SourceFault::Failed,
     }
 }
 
@@ -75,12 +91,20 @@ impl<W: Write + Drop> Sink for WriterSink<W> {
     ghost so_far = { λ s. record { bytes = None; failures = s.failures } };
 
     fn put(&mut self, bytes: &[u8]) -> Result<usize, SinkFault> {
-        match self.writer.write(bytes) {
-            Ok(count) if count > 0 => Ok(count),
-            _ => {
-                self.failures += 1;
-                Err(SinkFault)
-            }
+        let taken = taken(self.writer.write(bytes));
+        if taken.is_err() {
+            self.failures += 1;
         }
+        taken
+    }
+}
+
+/// How many bytes a write took; that it took none is a failure.
+fn taken(written: io::Result<usize>) -> Result<usize, SinkFault>
+    ensures { result ≡ taken written }
+{
+    match written {
+        Ok(0) | Err(_) => Err(SinkFault),
+        Ok(count) => Ok(count),
     }
 }

@@ -38,8 +38,9 @@ fn read_named<'a, S: Source>(
     match source.read(alloc, name) {
         Ok(bytes) => match Data::from_json(alloc, bytes.as_slice()) {
             Ok(data) => Ok(Some(data)),
+            Err(DataFault::NotJson) => Err(Stop::NotJson(name)),
+            Err(DataFault::NotWhole) => Err(Stop::NotWhole(name)),
             Err(DataFault::OutOfMemory) => Err(Stop::OutOfMemory),
-            Err(fault) => Err(Stop::Data(name, fault)),
         },
         Err(SourceFault::NotFound) => Err(Stop::NotFound(name)),
         Err(SourceFault::Failed) => Err(Stop::Failed(name)),

@@ -1,13 +1,14 @@
 //! What the program says where it does not end well.
-ghost use Rattle.std.specs.Prelude.{◌≡◌, ◌≢◌, ◌<◌, ◌^◌, ◌-◌};
+ghost use Rattle.std.specs.Prelude.{◌≡◌, ◌≢◌, ◌<◌, ◌^◌, ◌-◌, ◌∷◌, []};
 ghost use Rattle.tmpl_run.specs.Sink.{IsPut, as_puts, sunk};
 ghost use Rattle.tmpl_run.specs.View.{cause_of, fault_seen};
 ghost use Rattle.tmpl.specs.Outcome.{Once, Says, memory_line, write_line};
-ghost use Rattle.tmpl.specs.Part.{joined, line};
-ghost use Rattle.tmpl.specs.Tool.{call_text, cause_pieces, data_text, fault_line, parse_text};
+ghost use Rattle.tmpl.specs.Part.{joined, line, plain};
+ghost use Rattle.tmpl.specs.Tool.{call_text, cause_pieces, fault_line};
 ghost use Rattle.tmpl.specs.Tool.{unnamed_answer, words_answer};
 ghost use Rattle.tmpl.specs.View.{pieces_of};
-ghost use Rattle.tmpl.specs.computed.Load.{stop_answer};
+ghost use Rattle.tmpl.specs.computed.Load.{stop_answer, text_for};
+ghost use Rattle.tmpl_syntax.specs.Fault.{reason_of};
 
 use crate::messages::part::{Part, put_line, put_parts};
 use crate::status::Status;
@@ -15,7 +16,6 @@ use crate::stop::Stop;
 use tmpl_funcs::CallFault;
 use tmpl_run::{RunFault, RunFaultKind, Sink, SinkFault, put_all};
 use tmpl_syntax::ParseKind;
-use tmpl_values::DataFault;
 
 /// Says a line of these parts. A sink that fails cuts it.
 #[tactic(auto, using(crate::proofs::MessageLemmas::said))]
@@ -82,7 +82,7 @@ pub(crate) fn unnamed<E: Sink>(err: &mut E, name: &[u8]) -> Status
 
 /// Why a template file was refused, in words.
 fn parse_text(kind: ParseKind) -> &'static str
-    ensures { result.now ≡ parse_text kind }
+    ensures { result.now ≡ text_for (reason_of kind) }
 {
     match kind {
         ParseKind::Unreadable => "unclosed or unreadable action",
@@ -96,15 +96,17 @@ fn parse_text(kind: ParseKind) -> &'static str
     }
 }
 
-/// Why data was refused, in words.
-fn data_text(fault: DataFault) -> &'static str
-    ensures { result.now ≡ data_text fault }
+/// Says why a file, of which the name comes first, stops the program, and gives this status.
+fn refuse_file<E: Sink>(err: &mut E, name: &str, why: &str, code: u8) -> Status
+    requires { (E.so_far err.old).failures < 2 ^ 64 - 1 }
+    ensures code { result.code ≡ code }
+    ensures cuts { Once (E.so_far err.old).failures (E.so_far err.new).failures }
+    ensures line { Says (line (plain name.now ∷ plain why.now ∷ []))
+        (sunk (E.so_far err.old) (E.so_far err.new)) }
 {
-    match fault {
-        DataFault::NotJson => ": not JSON",
-        DataFault::NotWhole => ": number not whole or out of range",
-        DataFault::OutOfMemory => ": out of memory",
-    }
+    let parts = [Part::Text(name), Part::Text(why)];
+    say(err, parts.as_slice());
+    Status { code }
 }
 
 /// Says why the program stops.
@@ -117,16 +119,8 @@ pub(crate) fn refuse<E: Sink>(err: &mut E, stop: &Stop<'_>) -> Status
         (sunk (E.so_far err.old) (E.so_far err.new)) }
 {
     match *stop {
-        Stop::NotFound(name) => {
-            let parts = [Part::Text(name), Part::Text(": no such file")];
-            say(err, parts.as_slice());
-            Status { code: 3 }
-        }
-        Stop::Failed(name) => {
-            let parts = [Part::Text(name), Part::Text(": read failed")];
-            say(err, parts.as_slice());
-            Status { code: 3 }
-        }
+        Stop::NotFound(name) => refuse_file(err, name, ": no such file", 3),
+        Stop::Failed(name) => refuse_file(err, name, ": read failed", 3),
         Stop::Template(fault) => {
             let parts = [
                 Part::Text(fault.file),
@@ -138,11 +132,8 @@ pub(crate) fn refuse<E: Sink>(err: &mut E, stop: &Stop<'_>) -> Status
             say(err, parts.as_slice());
             Status { code: 4 }
         }
-        Stop::Data(name, fault) => {
-            let parts = [Part::Text(name), Part::Text(data_text(fault))];
-            say(err, parts.as_slice());
-            Status { code: 5 }
-        }
+        Stop::NotJson(name) => refuse_file(err, name, ": not JSON", 5),
+        Stop::NotWhole(name) => { refuse_file(err, name, ": number not whole or out of range", 5) }
         Stop::OutOfMemory => out_of_memory(err),
     }
 }
@@ -157,7 +148,6 @@ fn call_text(fault: CallFault) -> &'static str
         CallFault::OutOfRange => "out of range",
         CallFault::NotComparable => "can't be compared",
         CallFault::FormatRefused => "format refused",
-        CallFault::OutOfMemory => "out of memory",
     }
 }
 

@@ -1,12 +1,14 @@
-use Rattle.std.proofs.Common.{◌≡◌, ◌∙◌, ap, sym, map, rules, false, inl}
+use Rattle.std.proofs.Common.{◌≡◌, ◌∙◌, ap, refl, sym, map, rules, false, inl}
 use Rattle.std.specs.String.{string_bytes}
 use Rattle.std.specs.Option.{option_map}
 use Rattle.tmpl_values.specs.View.{value_of}
 use Rattle.tmpl_syntax.specs.View.{set_view}
 use Rattle.tmpl.specs.Help.{asks_help}
-use Rattle.tmpl.specs.Tool.{asked_name, rendered}
+use Rattle.tmpl_run.specs.Sink.{sunk}
+use Rattle.tmpl.specs.Tool.{end_of, no_read, tool_answer}
+use Rattle.tmpl.proofs.MessageLemmas.{nothing_out}
 use Rattle.tmpl.specs.View.{seen}
-use Rattle.tmpl.specs.computed.Load.{data_value}
+use Rattle.tmpl.specs.computed.Load.{data_value, rendered}
 use Rattle.tmpl_run.proofs.ToldLemmas.{if_told, of_told}
 use Rattle.tmpl.proofs.StopLemmas.{accepted, outcome_as, stops}
 use Rattle.tmpl.proofs.tool.tool.Goals as goal
@@ -24,7 +26,7 @@ returns-in-Ok-read_inputs-clause-told g c =
     (inl (
       c.in-Ok-read_inputs.ensures.counts,
       outcome_as _ c.render.result.code _ _ _
-          (reads ∙ ap (rendered w.options (asked_name w.name w.files) (set_view inputs.set)) (sym same))
+          (ap end_of (reads ∙ ap (rendered w (set_view inputs.set)) (sym same)))
           c.render.ensures.outcome,
     )))
 
@@ -37,3 +39,10 @@ returns-in-Ok-clause-told g c =
     accepted _ c.refuse.result.code _ _ _ w files words c.in-Ok.ensures helps
     (stops _ c.refuse.result.code _ _ _ w files c.in-Err.stop c.in-Err.ensures.counts
     (of_told _ _ files told c.in-Err.ensures.reads) c.refuse.ensures.code c.refuse.ensures.line))
+
+pub returns-clause-told : goal.returns-clause-told
+returns-clause-told g c =
+    let words = map (λ word. string_bytes word) c.args.words.now in
+    let err = sunk (g.E.Sink.so_far c.args.err.now) (g.E.Sink.so_far c.out_of_memory.new.err) in
+    if_told _ (g.S.Source.contents c.args.source.now) (λ files told.
+    inl (refl, nothing_out (tool_answer words files no_read) (g.O.Sink.so_far c.args.out.now) err c.out_of_memory.result.code c.out_of_memory.ensures.code c.out_of_memory.ensures.line))

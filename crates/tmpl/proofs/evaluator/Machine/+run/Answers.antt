@@ -2,7 +2,6 @@ use Rattle.std.proofs.Common.{◌≡◌, ◌∙◌, ◌+◌, ◌≤◌, IfOk, ap
 use Rattle.tmpl_values.specs.Elements.{elements}
 use Rattle.std.specs.Option.{option_map}
 use Rattle.tmpl_values.specs.View.{element_of, val_of}
-use Rattle.tmpl_values.proofs.ElementLemmas.{element-at}
 use Rattle.tmpl_syntax.specs.View.{kind_of, node_of}
 use Rattle.tmpl_syntax.specs.Tree.{Node}
 use Rattle.tmpl_syntax.specs.declared.tree.Node.{out-Node}
@@ -30,7 +29,7 @@ turns-returns-in-Broke-clause-run t c =
     let i = c.loop-i.i in
     let rest = turns_run s line node (from (i + 1) (elements v)) in
     c.loop-i.invariant.run
-    ∙ turns-next s line node (run_of c.loop-i.self) (elements v) i (val_of c.in-Some.key, val_of c.in-Some.element) (sym (element-at v i) ∙ sym c.in-Some.ensures.value)
+    ∙ turns-next s line node (run_of c.loop-i.self) (elements v) i (val_of c.in-Some.key, val_of c.in-Some.element) (sym c.in-Some.ensures.value)
     ∙ ap (λ part. after_turn part rest) c.in_ok-turn.ensures.run
     ∙ ap (λ end. after_turn (run_of c.turn.new.self, end_seen end) rest) c.in-Broke.is
 
@@ -43,7 +42,7 @@ turns-returns-in-Faulted-clause-run t c =
     let i = c.loop-i.i in
     let rest = turns_run s line node (from (i + 1) (elements v)) in
     c.loop-i.invariant.run
-    ∙ turns-next s line node (run_of c.loop-i.self) (elements v) i (val_of c.in-Some.key, val_of c.in-Some.element) (sym (element-at v i) ∙ sym c.in-Some.ensures.value)
+    ∙ turns-next s line node (run_of c.loop-i.self) (elements v) i (val_of c.in-Some.key, val_of c.in-Some.element) (sym c.in-Some.ensures.value)
     ∙ ap (λ part. after_turn part rest) c.in_ok-turn.ensures.run
     ∙ ap (λ end. after_turn (run_of c.turn.new.self, end_seen end) rest) c.in-Faulted.is
 
@@ -58,7 +57,7 @@ turns-loop-i-preserved t c =
     elim c.match-item.branch [
       | turns-in-Some+in_ok-turn+in-Done w ↦
           let goes_on = c.loop-i.invariant.run
-          ∙ turns-next s line node (run_of c.loop-i.self) (elements v) i (val_of w.in-Some.key, val_of w.in-Some.element) (sym (element-at v i) ∙ sym w.in-Some.ensures.value)
+          ∙ turns-next s line node (run_of c.loop-i.self) (elements v) i (val_of w.in-Some.key, val_of w.in-Some.element) (sym w.in-Some.ensures.value)
           ∙ ap (λ part. after_turn part rest) w.in_ok-turn.ensures.run in
           record {
             whole = ap (λ m. m.text.failures) w.self-is ∙ w.in_ok-turn.ensures.whole;

@@ -1,7 +1,4 @@
 use Rattle.tmpl.proofs.messages.lines.refuse.Goals as goal
 
-pub returns-in-NotFound-clause-line : goal.returns-in-NotFound-clause-line
-returns-in-NotFound-clause-line g c = rw (c.in-NotFound.is) (rw c.as_slice.ensures at c.say.ensures.line)
-
 pub returns-in-OutOfMemory-clause-line : goal.returns-in-OutOfMemory-clause-line
 returns-in-OutOfMemory-clause-line g c = rw (c.in-OutOfMemory.is) c.out_of_memory.ensures.line

@@ -1,0 +1,41 @@
+-- What the answers of the operating system stand for, and the end of the command.
+use Rattle.std.specs.Prelude.{ℕ, zero, suc, Result, Ok, Err, Vec}
+use Rattle.std.specs.declared.alloc.Global.{Global}
+use Rattle.std.specs.IoError.{error_kind}
+use Rattle.std.specs.declared.io.Error.{Error}
+use Rattle.std.specs.declared.io.ErrorKind.{ErrorKind}
+use Rattle.std.specs.declared.io.ErrorKind.TheVariants as io
+use Rattle.tmpl_run.specs.Sink.{Sunk, Untouched}
+use Rattle.tmpl_run.specs.declared.sink.SinkFault.{SinkFault}
+use Rattle.tmpl.specs.Outcome.{Says, write_line}
+use Rattle.tmpl.specs.declared.files.source.SourceFault.{SourceFault}
+use Rattle.tmpl.specs.declared.files.source.SourceFault.TheVariants as fault
+
+-- a file is missing exactly where the system says that there is none of the name
+abbrev pub source_fault : ErrorKind → SourceFault
+source_fault io.NotFound = fault.NotFound
+source_fault io.OutOfMemory = fault.OutOfMemory
+source_fault kind = fault.Failed
+
+-- what a read of the system answers
+abbrev pub answered : Result (Vec ℕ Global) Error → Result (Vec ℕ Global) SourceFault
+answered (Ok bytes) = Ok bytes
+answered (Err e) = Err (source_fault (error_kind e))
+
+-- how many bytes a write took: one that took none failed, as one that the system refused
+abbrev pub taken : Result ℕ Error → Result ℕ SinkFault
+taken (Ok zero) = Err (record {})
+taken (Ok (suc n)) = Ok (suc n)
+taken (Err e) = Err (record {})
+
+-- the status after the last flush: one that fails is a failed write, and outranks that all went well
+abbrev pub flushed : Result (Unit {0}) SinkFault → ℕ → ℕ
+flushed (Ok u) code = code
+flushed (Err f) zero = 6
+flushed (Err f) (suc n) = suc n
+
+-- what is said of the last flush
+abbrev pub SaysFlush : Result (Unit {0}) SinkFault → ℕ → Sunk → Type 0
+SaysFlush (Ok u) code err = Untouched err
+SaysFlush (Err f) zero err = Says write_line err
+SaysFlush (Err f) (suc n) err = Untouched err
