@@ -3,6 +3,7 @@ import json
 import os
 import signal
 import subprocess
+import threading
 
 TESTS = os.path.dirname(os.path.abspath(__file__))
 TOP = os.path.dirname(TESTS)
@@ -37,6 +38,11 @@ def content(it):
     raise ValueError(f"no content: {it}")
 
 
+def is_pipe(it):
+    """Whether a file of a row is a named pipe."""
+    return not isinstance(it, str) and set(it) == {"pipe"}
+
+
 class Row:
     """The words and files of one run, where its output goes, and what must come of it."""
 
@@ -46,7 +52,9 @@ class Row:
             raise ValueError(f"{self.name}: unknown keys {sorted(set(it) - KEYS)}")
         self.program = content(it.get("program", "tmpl"))
         self.words = [content(word) for word in it["words"]]
-        self.files = {name: None if what == {"folder": True} else content(what) for name, what in it.get("files", {}).items()}
+        files = it.get("files", {}).items()
+        self.pipes = {name: content(what["pipe"]) for name, what in files if is_pipe(what)}
+        self.files = {name: None if what == {"folder": True} else content(what) for name, what in files if not is_pipe(what)}
         self.stdin = content(it["stdin"]) if "stdin" in it else None
         self.stdout = it.get("stdout", "pipe")
         self.stderr = it.get("stderr", "pipe")
@@ -65,6 +73,10 @@ class Row:
         """Whether a run needs nothing changed in the new process before it starts."""
         return self.stdout != "pipe that nobody reads" and self.stderr != "closed"
 
+    def is_again(self):
+        """Whether it can be run again in the same folder: a named pipe is read once."""
+        return not self.pipes
+
     def lay(self, folder):
         """Writes the files of the row into the folder."""
         for name, what in self.files.items():
@@ -73,6 +85,23 @@ class Row:
             if what is not None:
                 with open(path, "wb") as it:
                     it.write(what)
+
+    def lay_pipes(self, folder):
+        """Makes the named pipes of the row. What each holds is written once: a second read of it finds nobody."""
+        for name, what in self.pipes.items():
+            path = os.path.join(folder, name)
+            if not os.path.exists(path):
+                os.mkfifo(path)
+            threading.Thread(target=fill, args=(path, what), daemon=True).start()
+
+
+def fill(path, what):
+    """Writes what a named pipe holds, as soon as somebody reads it."""
+    try:
+        with open(path, "wb") as it:
+            it.write(what)
+    except BrokenPipeError:
+        pass
 
 
 def read_rows():
@@ -123,6 +152,7 @@ def run(row, folder, environment=None, keep=()):
         if row.stderr == "closed":
             os.close(2)
 
+    row.lay_pipes(folder)
     try:
         ran = subprocess.run(
             [row.program, *row.words],

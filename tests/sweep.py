@@ -88,7 +88,7 @@ def memory_tests():
 def main():
     if not harness.is_built():
         return harness.closing(0, 1)
-    rows = [it for it in harness.read_rows() if it.is_plain() and it.size() <= SMALL]
+    rows = [it for it in harness.read_rows() if it.is_plain() and it.is_again() and it.size() <= SMALL]
     with tempfile.TemporaryDirectory() as folder, ThreadPoolExecutor(len(os.sched_getaffinity(0))) as pool:
         shim = f"{folder}/fail_alloc.so"
         build_shim("fail_alloc.c", shim)
