@@ -22,8 +22,8 @@ demo:
 # the gate: every proof from nothing, then the tests over the program that it left, as each of the two compilers built it
 test:
 	python3 tests/gate.py "rt ci" "python3 tests/edits.py --apply" "python3 tests/run.py" \
-		"env TMPL=$(PROGRAM).by-rattle python3 tests/run.py" "python3 tests/places.py" "python3 tests/calls.py" \
-		"python3 tests/writes.py" "python3 tests/sweep.py"
+		"env TMPL=$(PROGRAM).by-rattle python3 tests/run.py" "python3 tests/places.py" "python3 tests/tables.py" \
+		"python3 tests/calls.py" "python3 tests/writes.py" "python3 tests/sweep.py"
 
 # proves one crate, CRATE=NAME, over what earlier runs kept in out/
 check:
