@@ -7,23 +7,26 @@ use Rattle.tmpl_lex.specs.declared.piece.TokenKind.{TokenKind}
 use Rattle.tmpl_lex.specs.declared.piece.TokenKind.TheVariants as kind
 use Rattle.tmpl_lex.specs.Piece.{Token}
 use Rattle.tmpl_grammar.specs.Token.{is_space_kind, is_white, is_blank, next}
-use Rattle.tmpl_grammar.specs.Tree.{Commands, Pipeline, pipeline, Binding, unbound, declare, assign, declare_pair, Header}
-use Rattle.tmpl_grammar.specs.Action.{Action, pipeline_action, opening, plain_else, else_branch, end_action, break_action, continue_action, action_with, control_in, SpellsAction}
+use Rattle.tmpl_grammar.specs.Tree.{Operand, text_constant, Commands, Pipeline, pipeline, Binding, unbound, declare, assign, declare_pair, Header}
+use Rattle.tmpl_grammar.specs.Action.{Action, pipeline_action, opening, plain_else, else_branch, end_action, break_action, continue_action, define_action, template_action, block_action, action_with, control_in, IsQuoted, SpellsGiven, SpellsAction}
 use Rattle.tmpl_grammar.specs.Pipeline.{IsBlank, SpellsPipeline}
 use Rattle.tmpl_grammar.specs.Header.{IsSign, IsVariable, Then, SpellsWhole, SpellsBinding, SpellsHeader}
 use Rattle.tmpl_grammar.specs.Keyword.{spelling, IsWord}
-use Rattle.tmpl_grammar.specs.computed.Reading.{header_in, spells_keyword, keyword_by, keyword_of, alone, branch_of, else_branched, else_keyword, else_by, action_by, action_behind, action_at, action_in}
+use Rattle.tmpl_grammar.specs.computed.Reading.{header_in, spells_keyword, keyword_by, keyword_of, alone, branch_of, text_in, quoted_before, quoted_at, with_name, named_action, define_by, called, template_by, block_by, pipeline_in, else_branched, else_keyword, else_by, action_by, action_behind, action_at, action_in}
+use Rattle.tmpl_grammar.specs.computed.Constant.{constant_by, constant_of}
 use Rattle.tmpl_grammar.specs.Laws.{ReadsSpelledAction, SpellsReadAction, SpellsOneAction}
 use Rattle.tmpl_grammar.specs.declared.tree.Control.TheVariants as control
 use Rattle.tmpl_grammar.specs.declared.action.Branch.{Branch}
 use Rattle.tmpl_grammar.specs.declared.action.Branch.TheVariants as branch
-use Rattle.tmpl_grammar.specs.declared.action.Shape.{Shape}
-use Rattle.tmpl_grammar.specs.declared.action.Shape.TheVariants as shape
+use Rattle.tmpl_grammar.specs.declared.action.HeaderShape.{HeaderShape}
+use Rattle.tmpl_grammar.specs.declared.action.HeaderShape.TheVariants as shape
 use Rattle.tmpl_grammar.specs.declared.keyword.Keyword.{Keyword}
 use Rattle.tmpl_grammar.specs.declared.keyword.Keyword.TheVariants as word
 use Rattle.tmpl_grammar.proofs.OptionLemmas.{no-value, mapped}
 use Rattle.tmpl_grammar.proofs.TokenLemmas.{no-next, blank-next, blank-all, all-blank, then-led, led-then}
 use Rattle.tmpl_grammar.proofs.StrayLemmas.{word-stray, then-stray, dead-read, blank-read, spelled-lives}
+use Rattle.tmpl_grammar.proofs.IsConstantLemmas.{computes-constant, is-computed-constant}
+use Rattle.tmpl_grammar.proofs.PipelineLemmas.{reads-spelled, spells-read}
 use Rattle.tmpl_grammar.proofs.HeaderLemmas.{variable-other, IsRest, header-read, header-spelled}
 
 -- ---- keywords
@@ -36,6 +39,9 @@ known word.Else = refl
 known word.End = refl
 known word.Break = refl
 known word.Continue = refl
+known word.Define = refl
+known word.Template = refl
+known word.Block = refl
 
 word-known : (k : Keyword) (t : Token) → IsWord k t → keyword_of t ≡ Some k
 unfolding keyword_of
@@ -48,7 +54,7 @@ chosen bs k j rest more false is e = more e
 
 spelled-known : (bs : List ℕ) (k : Keyword) → spells_keyword bs ≡ Some k → bs ≡ spelling k
 spelled-known bs k e =
-    at (word.Control control.If) _ (at (word.Control control.With) _ (at (word.Control control.Range) _ (at word.Else _ (at word.End _ (at word.Break _ (at word.Continue None (λ n. no-value k n))))))) e
+    at (word.Control control.If) _ (at (word.Control control.With) _ (at (word.Control control.Range) _ (at word.Else _ (at word.End _ (at word.Break _ (at word.Continue _ (at word.Define _ (at word.Template _ (at word.Block None (λ n. no-value k n)))))))))) e
   where
     at : (j : Keyword) (rest : Option Keyword) → (rest ≡ Some k → bs ≡ spelling k) → cond (bytes_eq bs (spelling j)) (Some j) rest ≡ Some k → bs ≡ spelling k
     at j rest more e = chosen bs k j rest more (bytes_eq bs (spelling j)) refl e
@@ -120,7 +126,7 @@ header-plain (assign name) p ts s = named-plain name (Then (IsSign kind.Assign) 
 header-plain (declare_pair key name) p ts s =
     named-plain key (Then (IsSign kind.Comma) (Then (IsVariable name) (Then (IsSign kind.Declare) (SpellsWhole p)))) ts s
 
-bound-read : (s : Shape) (h : Header) (ts : List Token) → SpellsHeader s h ts → option_map (action_with s) (header_in s ts) ≡ Some (action_with s h)
+bound-read : (s : HeaderShape) (h : Header) (ts : List Token) → SpellsHeader s h ts → option_map (action_with s) (header_in s ts) ≡ Some (action_with s h)
 bound-read s h ts spelled = ap (option_map (action_with s)) (header-read s h ts spelled)
 
 plain-read : (h : Header) (ts : List Token) → SpellsHeader shape.Pipeline h ts → action_in ts ≡ Some (pipeline_action h)
@@ -152,6 +158,88 @@ branch-keyword word.Else br e = no-value br e
 branch-keyword word.End br e = no-value br e
 branch-keyword word.Break br e = no-value br e
 branch-keyword word.Continue br e = no-value br e
+branch-keyword word.Define br e = no-value br e
+branch-keyword word.Template br e = no-value br e
+branch-keyword word.Block br e = no-value br e
+
+-- ---- names in quotes
+
+quoted-other : (k : TokenKind) (name bs : List ℕ) → constant_by k bs ≡ Some (text_constant name) → is_space_kind k ≡ false
+quoted-other kind.Space name bs e = no-value (text_constant name) e
+quoted-other kind.Word name bs e = refl
+quoted-other kind.Number name bs e = refl
+quoted-other kind.Field name bs e = refl
+quoted-other kind.Dot name bs e = refl
+quoted-other kind.Variable name bs e = refl
+quoted-other kind.String name bs e = refl
+quoted-other kind.RawString name bs e = refl
+quoted-other kind.Character name bs e = refl
+quoted-other kind.Declare name bs e = refl
+quoted-other kind.Assign name bs e = refl
+quoted-other kind.Comma name bs e = refl
+quoted-other kind.Pipe name bs e = refl
+quoted-other kind.LeftParenthesis name bs e = refl
+quoted-other kind.RightParenthesis name bs e = refl
+
+quoted-solid : (name : List ℕ) (t : Token) → IsQuoted name t → is_white t ≡ false
+unfolding constant_of
+quoted-solid name t q = quoted-other t.kind name t.bytes (computes-constant t (text_constant name) q)
+
+named-read : (made : List ℕ → List Token → Option Action) (name : List ℕ) (Rest : List Token → Type 0) (a : Action) (us : List Token) → ((vs : List Token) → Rest vs → made name vs ≡ Some a) → Then (IsQuoted name) Rest us → named_action made us ≡ Some a
+named-read made name Rest a us f s =
+    let l = then-led (IsQuoted name) Rest us (quoted-solid name) s in
+    ap (λ o. with_name made (quoted_at o)) l.first_is
+    ∙ ap (λ o. with_name made (quoted_before l.rest (text_in o))) (computes-constant l.token (text_constant name) l.is)
+    ∙ f l.rest l.behind
+
+given-read : (name : List ℕ) (given : Option Pipeline) (vs : List Token) → SpellsGiven given vs → template_by name vs ≡ Some (template_action name given)
+given-read name None vs b = ap (λ w. cond w (Some (template_action name None)) (option_map (called name) (pipeline_in vs))) (blank-all vs b)
+given-read name (Some (pipeline cs)) vs s = by (is_blank vs) refl
+  where
+    by : (w : Bool) → is_blank vs ≡ w → template_by name vs ≡ Some (template_action name (Some (pipeline cs)))
+    by true is = spelled-lives vs cs s (blank-read vs (all-blank vs is))
+    by false is =
+        ap (λ w. cond w (Some (template_action name None)) (option_map (called name) (pipeline_in vs))) is
+        ∙ ap (option_map (called name)) (reads-spelled vs cs s)
+
+-- a name that comes first, and what stands behind it
+record Quoted (made : List ℕ → List Token → Option Action) (us : List Token) (a : Action) : Type 0 where
+  name : List ℕ
+  token : Token
+  rest : List Token
+  first_is : next us ≡ Some (token, rest)
+  quoted : IsQuoted name token
+  is : made name rest ≡ Some a
+
+quoted-from : (made : List ℕ → List Token → Option Action) (us : List Token) (a : Action) → named_action made us ≡ Some a → Quoted made us a
+quoted-from made us a e = by (next us) refl e
+  where
+    by-constant : (t : Token) (vs : List Token) → next us ≡ Some (t, vs) → (o : Option Operand) → constant_of t ≡ o → with_name made (quoted_before vs (text_in o)) ≡ Some a → Quoted made us a
+    by-constant t vs n (Some (text_constant name)) is e =
+        record { name = name; token = t; rest = vs; first_is = n; quoted = is-computed-constant t (text_constant name) is; is = e }
+    by-constant t vs n o is e = no-value a e
+
+    by : (o : Option (Token × List Token)) → next us ≡ o → with_name made (quoted_at o) ≡ Some a → Quoted made us a
+    by None n e = no-value a e
+    by (Some p) n e = by-constant p.0 p.1 n (constant_of p.0) refl e
+
+-- a pipeline behind a name, or nothing
+record GivenTo (name : List ℕ) (vs : List Token) (a : Action) : Type 0 where
+  given : Option Pipeline
+  spells : SpellsGiven given vs
+  is : template_action name given ≡ a
+
+pipeline-spelled : (p : Pipeline) (vs : List Token) → pipeline_in vs ≡ Some p → SpellsWhole p vs
+pipeline-spelled (pipeline cs) vs e = spells-read vs cs e
+
+given-spelled : (name : List ℕ) (vs : List Token) (a : Action) → template_by name vs ≡ Some a → GivenTo name vs a
+given-spelled name vs a e = by (is_blank vs) refl e
+  where
+    by : (w : Bool) → is_blank vs ≡ w → cond w (Some (template_action name None)) (option_map (called name) (pipeline_in vs)) ≡ Some a → GivenTo name vs a
+    by true is e = record { given = None; spells = all-blank vs is; is = same_Some (template_action name None) a e }
+    by false is e =
+        let p = mapped (called name) (pipeline_in vs) a e in
+        record { given = Some p.source; spells = pipeline-spelled p.source vs p.is; is = p.to }
 
 pub reads-action : ReadsSpelledAction
 reads-action ts (pipeline_action h) s = plain-read h ts s
@@ -165,6 +253,16 @@ reads-action ts (else_branch br h) s =
 reads-action ts end_action s = keyed word.End IsBlank end_action (alone-read end_action) ts s
 reads-action ts break_action s = keyed word.Break IsBlank break_action (alone-read break_action) ts s
 reads-action ts continue_action s = keyed word.Continue IsBlank continue_action (alone-read continue_action) ts s
+reads-action ts (define_action name) s =
+    keyed word.Define (Then (IsQuoted name) IsBlank) (define_action name)
+    (λ us t. named-read define_by name IsBlank (define_action name) us (λ vs b. alone-read (define_action name) vs b) t) ts s
+reads-action ts (template_action name given) s =
+    keyed word.Template (Then (IsQuoted name) (SpellsGiven given)) (template_action name given)
+    (λ us t. named-read template_by name (SpellsGiven given) (template_action name given) us (λ vs b. given-read name given vs b) t) ts s
+reads-action ts (block_action name (pipeline cs)) s =
+    let Rest : List Token → Type 0 = SpellsWhole (pipeline cs) in
+    keyed word.Block (Then (IsQuoted name) Rest) (block_action name (pipeline cs))
+    (λ us t. named-read block_by name Rest (block_action name (pipeline cs)) us (λ vs b. ap (option_map (block_action name)) (reads-spelled vs cs b)) t) ts s
 
 alone-blank : (a c : Action) (us : List Token) → alone a us ≡ Some c → IsBlank us × (a ≡ c)
 alone-blank a c us e = by (is_blank us) refl e
@@ -175,7 +273,7 @@ alone-blank a c us e = by (is_blank us) refl e
 
 module _ (ts : List Token) (a : Action) where
   -- an action with a header, by the tokens of the header
-  bound-spelled : (s : Shape) (us : List Token) → ((h : Header) → SpellsHeader s h us → SpellsAction (action_with s h) ts) → option_map (action_with s) (header_in s us) ≡ Some a → SpellsAction a ts
+  bound-spelled : (s : HeaderShape) (us : List Token) → ((h : Header) → SpellsHeader s h us → SpellsAction (action_with s h) ts) → option_map (action_with s) (header_in s us) ≡ Some a → SpellsAction a ts
   bound-spelled s us f e =
       let h = mapped (action_with s) (header_in s us) a e in
       subst (λ x. SpellsAction x ts) h.to (f h.source (header-spelled s h.source us h.is))
@@ -205,6 +303,10 @@ module _ (ts : List Token) (a : Action) where
       by None m e = subst (λ x. SpellsAction x ts) (same_Some plain_else a e) (led-then (IsWord word.Else) IsBlank ts t us n w (no-next us m))
       by (Some p) m e = by-keyword p.0 p.1 m (keyword_of p.0) refl e
 
+  named-spelled : (k : Keyword) (name : List ℕ) (Rest : List Token → Type 0) (t : Token) (us : List Token) → next ts ≡ Some (t, us) → IsWord k t → (s : Token) (vs : List Token) → next us ≡ Some (s, vs) → IsQuoted name s → Rest vs → Then (IsWord k) (Then (IsQuoted name) Rest) ts
+  named-spelled k name Rest t us n w s vs m q rest =
+      led-then (IsWord k) (Then (IsQuoted name) Rest) ts t us n w (led-then (IsQuoted name) Rest us s vs m q rest)
+
   keyword-spelled : (k : Keyword) (t : Token) (us : List Token) → next ts ≡ Some (t, us) → IsWord k t → action_by k us ≡ Some a → SpellsAction a ts
   keyword-spelled (word.Control c) t us n w e =
       bound-spelled (shape.Open c) us (λ h spelled. led-then (IsWord (word.Control c)) (SpellsHeader (shape.Open c) h) ts t us n w spelled) e
@@ -212,6 +314,18 @@ module _ (ts : List Token) (a : Action) where
   keyword-spelled word.End t us n w e = alone-spelled word.End end_action t us n w (λ s. s) e
   keyword-spelled word.Break t us n w e = alone-spelled word.Break break_action t us n w (λ s. s) e
   keyword-spelled word.Continue t us n w e = alone-spelled word.Continue continue_action t us n w (λ s. s) e
+  keyword-spelled word.Define t us n w e =
+      let q = quoted-from define_by us a e in
+      let b = alone-blank (define_action q.name) a q.rest q.is in
+      subst (λ x. SpellsAction x ts) b.1 (named-spelled word.Define q.name IsBlank t us n w q.token q.rest q.first_is q.quoted b.0)
+  keyword-spelled word.Template t us n w e =
+      let q = quoted-from template_by us a e in
+      let g = given-spelled q.name q.rest a q.is in
+      subst (λ x. SpellsAction x ts) g.is (named-spelled word.Template q.name (SpellsGiven g.given) t us n w q.token q.rest q.first_is q.quoted g.spells)
+  keyword-spelled word.Block t us n w e =
+      let q = quoted-from block_by us a e in
+      let p = mapped (block_action q.name) (pipeline_in q.rest) a q.is in
+      subst (λ x. SpellsAction x ts) p.to (named-spelled word.Block q.name (SpellsWhole p.source) t us n w q.token q.rest q.first_is q.quoted (pipeline-spelled p.source q.rest p.is))
 
   first-spelled : (o : Option (Token × List Token)) → next ts ≡ o → action_at o ts ≡ Some a → SpellsAction a ts
   first-spelled None n e = no-value a e

@@ -9,7 +9,7 @@ use Rattle.tmpl_grammar.specs.Tree.{Commands, Pipeline, pipeline, Binding, unbou
 use Rattle.tmpl_grammar.specs.Pipeline.{SpellsPipeline}
 use Rattle.tmpl_grammar.specs.Header.{IsSign, IsName, IsVariable, Then, may_bind, SpellsBinding, SpellsWhole, SpellsHeader}
 use Rattle.tmpl_grammar.specs.computed.Reading.{pipeline_in, named_by, named_kind, named_at, named, Front, plain, bound, second_by, second_signed, second_named, front_by, front_signed, front_named, front_in, split_by, split, header_with, header_if, header_by, header_in}
-use Rattle.tmpl_grammar.specs.declared.action.Shape.{Shape}
+use Rattle.tmpl_grammar.specs.declared.action.HeaderShape.{HeaderShape}
 use Rattle.tmpl_grammar.proofs.PipelineLemmas.{reads-spelled, spells-read}
 use Rattle.tmpl_grammar.proofs.OptionLemmas.{no-value, mapped}
 use Rattle.tmpl_grammar.proofs.TokenLemmas.{then-led, led-then, then-map}
@@ -194,7 +194,7 @@ split-bound (declare_pair key name) p ts s =
       behind = q.behind;
     }
 
-pub header-read : (s : Shape) (h : Header) (ts : List Token) → SpellsHeader s h ts → header_in s ts ≡ Some h
+pub header-read : (s : HeaderShape) (h : Header) (ts : List Token) → SpellsHeader s h ts → header_in s ts ≡ Some h
 header-read s h ts (may, spelled) =
     let r = split-bound h.binding h.pipeline ts spelled in
     ap (header_by s) r.is
@@ -212,20 +212,20 @@ spells-bound (declare_pair key name) rest R r ts a =
     (Then (IsVariable name) (Then (IsSign kind.Declare) R)) (behind-signed (IsVariable name) (IsSign kind.Declare) rest R r) us t) ts a
 
 -- a binding that is allowed, and a pipeline behind it
-record ReadAs (s : Shape) (b : Binding) (o : Option Pipeline) (h : Header) : Type 0 where
+record ReadAs (s : HeaderShape) (b : Binding) (o : Option Pipeline) (h : Header) : Type 0 where
   source : Pipeline
   may : may_bind s b ≡ true
   is : o ≡ Some source
   to : header_with b source ≡ h
 
-if-read : (s : Shape) (b : Binding) (o : Option Pipeline) (h : Header) → header_if (may_bind s b) b o ≡ Some h → ReadAs s b o h
+if-read : (s : HeaderShape) (b : Binding) (o : Option Pipeline) (h : Header) → header_if (may_bind s b) b o ≡ Some h → ReadAs s b o h
 if-read s b o h e = by (may_bind s b) refl e
   where
     by : (t : Bool) → may_bind s b ≡ t → header_if t b o ≡ Some h → ReadAs s b o h
     by true may e = let m = mapped (header_with b) o h e in record { source = m.source; may = may; is = m.is; to = m.to }
     by false may e = no-value h e
 
-pub header-spelled : (s : Shape) (h : Header) (ts : List Token) → header_in s ts ≡ Some h → SpellsHeader s h ts
+pub header-spelled : (s : HeaderShape) (h : Header) (ts : List Token) → header_in s ts ≡ Some h → SpellsHeader s h ts
 unfolding split
 header-spelled s h ts e = by (front_in ts) (front-tells ts) e
   where

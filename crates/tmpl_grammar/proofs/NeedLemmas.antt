@@ -1,14 +1,14 @@
 -- What an action needs is no more than two and one for each of its tokens.
-use Rattle.std.proofs.Common.{arith, ◌≡◌, ◌∙◌, ◌≤◌, ℕ, suc, ◌+◌, max, List, [], ◌∷◌, ◌++◌, ap, length, length-append}
+use Rattle.std.proofs.Common.{arith, ◌≡◌, ◌∙◌, ◌≤◌, ℕ, suc, ◌+◌, max, List, [], ◌∷◌, ◌++◌, Option, Some, None, ap, length, length-append}
 use Rattle.tmpl_lex.specs.Piece.{Token}
 use Rattle.tmpl_grammar.specs.Tree as tree
 use Rattle.tmpl_grammar.specs.Tree.{Operand, Operands, Commands, Pipeline, pipeline, Binding, unbound, declare, assign, declare_pair, Header}
 use Rattle.tmpl_grammar.specs.Pipeline.{IsChained, SpellsOperand, SpellsMore, SpellsCommand, SpellsLater, SpellsPipeline}
 use Rattle.tmpl_grammar.specs.Header.{SpellsBinding, SpellsWhole, SpellsHeader}
-use Rattle.tmpl_grammar.specs.Action.{Action, pipeline_action, opening, plain_else, else_branch, end_action, break_action, continue_action, SpellsAction}
-use Rattle.tmpl_grammar.specs.Need.{called_or_alone, need_of_operand, need_of_arguments, need_of_command, need_of_commands, need_of_pipeline, declared_count}
-use Rattle.tmpl_grammar.specs.declared.action.Shape.{Shape}
-use Rattle.tmpl_grammar.specs.declared.action.Shape.TheVariants as shape
+use Rattle.tmpl_grammar.specs.Action.{Action, pipeline_action, opening, plain_else, else_branch, end_action, break_action, continue_action, define_action, template_action, block_action, SpellsGiven, SpellsAction}
+use Rattle.tmpl_grammar.specs.Need.{called_or_alone, need_of_operand, need_of_arguments, need_of_command, need_of_commands, need_of_pipeline, need_of_given, declared_count}
+use Rattle.tmpl_grammar.specs.declared.action.HeaderShape.{HeaderShape}
+use Rattle.tmpl_grammar.specs.declared.action.HeaderShape.TheVariants as shape
 
 -- ---- each value has a cell
 
@@ -151,9 +151,16 @@ cells_of (else_branch br h) = 2 + header_cells h
 cells_of end_action = 0
 cells_of break_action = 0
 cells_of continue_action = 0
+cells_of (define_action name) = 0
+cells_of (template_action name given) = need_of_given given
+cells_of (block_action name p) = need_of_pipeline p
 
-header-within : (s : Shape) (h : Header) (ts : List Token) → SpellsHeader s h ts → header_cells h ≤ length ts
+header-within : (s : HeaderShape) (h : Header) (ts : List Token) → SpellsHeader s h ts → header_cells h ≤ length ts
 header-within s h ts spelled = bound-within h.binding h.pipeline ts spelled.1
+
+given-within : (given : Option Pipeline) (ts : List Token) → SpellsGiven given ts → need_of_given given ≤ 1 + length ts
+given-within None ts s = omega arith
+given-within (Some p) ts s = let n = whole-within p ts s in omega (arith, n)
 
 pub action-within : (a : Action) (ts : List Token) → SpellsAction a ts → cells_of a ≤ 2 + length ts
 action-within (pipeline_action h) ts s = let n = header-within shape.Pipeline h ts s in omega (arith, n)
@@ -168,3 +175,12 @@ action-within (else_branch br h) ts s =
 action-within end_action ts s = omega arith
 action-within break_action ts s = omega arith
 action-within continue_action ts s = omega arith
+action-within (define_action name) ts s = omega arith
+action-within (template_action name given) ts s =
+    let named = s.6 in
+    let n = given-within given named.2 named.6 in
+    omega (arith, n, behind ts s.0 s.1 s.2 s.3, behind s.2 named.0 named.1 named.2 named.3)
+action-within (block_action name p) ts s =
+    let named = s.6 in
+    let n = whole-within p named.2 named.6 in
+    omega (arith, n, behind ts s.0 s.1 s.2 s.3, behind s.2 named.0 named.1 named.2 named.3)

@@ -11,7 +11,7 @@ use Rattle.tmpl_lex.specs.declared.piece.TokenKind.TheVariants as kind
 use Rattle.tmpl_grammar.specs.Token.{begins_name, name_in}
 use Rattle.tmpl_grammar.specs.Tree as tree
 use Rattle.tmpl_grammar.specs.Tree.{Operand, Operands, Commands, Pipeline, pipeline, Binding, unbound, declare, assign, Header, declare_pair}
-use Rattle.tmpl_grammar.specs.Action.{Action, pipeline_action, opening, plain_else, else_branch, end_action, break_action, continue_action, SpellsAction}
+use Rattle.tmpl_grammar.specs.Action.{Action, pipeline_action, opening, plain_else, else_branch, end_action, break_action, continue_action, define_action, template_action, block_action, IsQuoted, SpellsAction}
 use Rattle.tmpl_grammar.specs.Header.{IsVariable, SpellsHeader, SpellsBinding, SpellsWhole}
 use Rattle.tmpl_grammar.specs.computed.Constant.{constant_of, constant_by, string_in, raw_string_in, character_in}
 use Rattle.tmpl_grammar.specs.Depth.{depth_of, depth_of_pipeline, most_deep}
@@ -21,9 +21,10 @@ use Rattle.tmpl_grammar.specs.computed.Quoted.{between, unquoted, rune_code}
 use Rattle.tmpl_grammar.specs.Operand.{IsOperand}
 use Rattle.tmpl_grammar.specs.computed.Operand.{operand_at, operand_by, word_operand, func_named, field_operand}
 use Rattle.tmpl_grammar.specs.Printable.{AreFieldNames, OfOperand, OfMore, OfCommand, OfLater, OfCommands, OfPipeline, OfVariable, OfBinding, OfAction, OfHeader}
-use Rattle.tmpl_grammar.specs.declared.action.Shape.{Shape}
-use Rattle.tmpl_grammar.specs.declared.action.Shape.TheVariants as shape
+use Rattle.tmpl_grammar.specs.declared.action.HeaderShape.{HeaderShape}
+use Rattle.tmpl_grammar.specs.declared.action.HeaderShape.TheVariants as shape
 use Rattle.tmpl_grammar.proofs.IsOperandLemmas.{computes-operand}
+use Rattle.tmpl_grammar.proofs.IsConstantLemmas.{computes-constant}
 use Rattle.tmpl_grammar.proofs.PrintableTokenLemmas.{IsRead, AreRead, bytes-drop, bytes-take}
 use Rattle.tmpl_grammar.proofs.PrintableConstantLemmas.{InRange, integer-range, OfText, unquoted-bytes, raw-bytes, OfCode, character-range}
 
@@ -213,10 +214,13 @@ of-bound (declare_pair key name) p ts d r s =
     let j = behind sign.0 sign.1 sign.2 more.2 sign.3 k.1 in
     ((of-variable key s.1 h.0 s.5, of-variable name more.1 k.0 more.5), of-whole p sign.2 d j.1 sign.6)
 
-of-header : (s : Shape) (h : Header) (ts : List Token) → depth_of_pipeline h.pipeline ≤ most_deep → AreRead ts → SpellsHeader s h ts → OfHeader s h
+of-header : (s : HeaderShape) (h : Header) (ts : List Token) → depth_of_pipeline h.pipeline ≤ most_deep → AreRead ts → SpellsHeader s h ts → OfHeader s h
 of-header s h ts d r spelled =
     let of = of-bound h.binding h.pipeline ts d r spelled.1 in
     (spelled.0, of.0, of.1)
+
+of-name : (name : List ℕ) (t : Token) → IsRead t → IsQuoted name t → AreBytes name
+of-name name t r q = subst OfMaybe (computes-constant t (tree.text_constant name) q) (constant-maybe t r.bytes)
 
 pub of_action : (a : Action) (ts : List Token) → depth_of a ≤ most_deep → AreRead ts → SpellsAction a ts → OfAction a
 of_action (pipeline_action h) ts d r s = of-header shape.Pipeline h ts d r s
@@ -229,3 +233,21 @@ of_action (else_branch br h) ts d r s =
 of_action end_action ts d r s = tt
 of_action break_action ts d r s = tt
 of_action continue_action ts d r s = tt
+of_action (define_action name) ts d r s =
+    let h = behind s.0 s.1 s.2 ts s.3 r in
+    let n = s.6 in
+    of-name name n.1 (behind n.0 n.1 n.2 s.2 n.3 h.1).0 n.5
+of_action (template_action name None) ts d r s =
+    let h = behind s.0 s.1 s.2 ts s.3 r in
+    let n = s.6 in
+    (of-name name n.1 (behind n.0 n.1 n.2 s.2 n.3 h.1).0 n.5, tt)
+of_action (template_action name (Some p)) ts d r s =
+    let h = behind s.0 s.1 s.2 ts s.3 r in
+    let n = s.6 in
+    let k = behind n.0 n.1 n.2 s.2 n.3 h.1 in
+    (of-name name n.1 k.0 n.5, of-whole p n.2 d k.1 n.6)
+of_action (block_action name p) ts d r s =
+    let h = behind s.0 s.1 s.2 ts s.3 r in
+    let n = s.6 in
+    let k = behind n.0 n.1 n.2 s.2 n.3 h.1 in
+    (of-name name n.1 k.0 n.5, of-whole p n.2 d k.1 n.6)

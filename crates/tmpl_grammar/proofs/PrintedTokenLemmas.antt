@@ -1,5 +1,5 @@
 -- The tokens of a printed pipeline or action are read from its bytes.
-use Rattle.std.proofs.Common.{◌≡◌, ◌∙◌, ℕ, Bool, true, false, List, [], ◌∷◌, ◌++◌, refl, sym, ap, subst, append_assoc, append-nil}
+use Rattle.std.proofs.Common.{◌≡◌, ◌∙◌, ℕ, Bool, true, false, List, [], ◌∷◌, ◌++◌, Option, Some, None, refl, sym, ap, subst, append_assoc, append-nil}
 use Rattle.tmpl_values.specs.Quote.{quote, inside}
 use Rattle.tmpl_values.specs.Printable.{printable}
 use Rattle.tmpl_funcs.specs.declared.func.Func.{Func}
@@ -11,9 +11,9 @@ use Rattle.tmpl_lex.specs.Token as row
 use Rattle.tmpl_lex.specs.declared.piece.TokenKind.TheVariants as kind
 use Rattle.tmpl_grammar.specs.Tree as tree
 use Rattle.tmpl_grammar.specs.Tree.{Operand, Operands, Commands, Pipeline, pipeline, Binding, unbound, declare, assign, declare_pair}
-use Rattle.tmpl_grammar.specs.Action.{Action, pipeline_action, opening, plain_else, else_branch, end_action, break_action, continue_action, control_in}
-use Rattle.tmpl_grammar.specs.Print.{bytes_of, Spells, IsInside, token, space, word, chain_tokens, truth_word, operand_tokens, more_tokens, command_tokens, later_tokens, commands_tokens, pipeline_tokens, header_tokens, action_tokens, binding_tokens, keyword_token}
-use Rattle.tmpl_grammar.specs.Printable.{IsFieldName, AreFieldNames, IsFieldChain, OfOperand, OfMore, OfCommand, OfLater, OfCommands, OfPipeline, OfBinding, OfAction}
+use Rattle.tmpl_grammar.specs.Action.{Action, pipeline_action, opening, plain_else, else_branch, end_action, break_action, continue_action, define_action, template_action, block_action, control_in}
+use Rattle.tmpl_grammar.specs.Print.{bytes_of, Spells, IsInside, token, space, word, chain_tokens, truth_word, operand_tokens, more_tokens, command_tokens, later_tokens, commands_tokens, pipeline_tokens, header_tokens, action_tokens, binding_tokens, keyword_token, given_tokens}
+use Rattle.tmpl_grammar.specs.Printable.{IsFieldName, AreFieldNames, IsFieldChain, OfOperand, OfMore, OfCommand, OfLater, OfCommands, OfPipeline, OfBinding, OfGiven, OfAction}
 use Rattle.tmpl_grammar.specs.declared.tree.Control.{Control}
 use Rattle.tmpl_grammar.specs.declared.tree.Control.TheVariants as control
 use Rattle.tmpl_grammar.specs.declared.keyword.Keyword.TheVariants as keyword
@@ -171,6 +171,17 @@ control-reads control.If ts rest r = keyword-reads 105 _ ts rest (solid refl ref
 control-reads control.With ts rest r = keyword-reads 119 _ ts rest (solid refl refl) (word-front 119 _ _ refl refl refl) r
 control-reads control.Range ts rest r = keyword-reads 114 _ ts rest (solid refl refl) (word-front 114 _ _ refl refl refl) r
 
+-- a name, and a pipeline behind it or nothing
+given-reads : (name : List ℕ) (given : Option Pipeline) (rest : List ℕ) → OfGiven given → EndsToken rest → Reads (token kind.String (quote name) ∷ given_tokens given) rest
+given-reads name None rest h stop = string-reads name rest
+given-reads name (Some p) rest h stop =
+    let r = pipeline-reads p rest h stop in
+    let s = string-reads name (32 ∷ (bytes_of (pipeline_tokens p) ++ rest)) in
+    record {
+      spells = (s.spells.0, (space-front _ r.firm, r.spells));
+      firm = subst Solid (ap (λ bs. bs ++ 32 ∷ (bytes_of (pipeline_tokens p) ++ rest)) (append-nil (quote name)) ∙ sym (append_assoc (quote name) (32 ∷ bytes_of (pipeline_tokens p)) rest)) s.firm;
+    }
+
 pub action-reads : (a : Action) (rest : List ℕ) → OfAction a → EndsToken rest → Reads (action_tokens a) rest
 action-reads (pipeline_action h) rest of stop = header-reads h.binding h.pipeline rest of.1 of.2 stop
 action-reads (opening c h) rest of stop = control-reads c (header_tokens h) rest (header-reads h.binding h.pipeline rest of.1 of.2 stop)
@@ -181,6 +192,9 @@ action-reads (else_branch br h) rest of stop =
 action-reads end_action rest of stop = one (word _) rest (word-front 101 _ rest refl refl (stops-name rest stop)) (solid refl refl)
 action-reads break_action rest of stop = one (word _) rest (word-front 98 _ rest refl refl (stops-name rest stop)) (solid refl refl)
 action-reads continue_action rest of stop = one (word _) rest (word-front 99 _ rest refl refl (stops-name rest stop)) (solid refl refl)
+action-reads (define_action name) rest of stop = keyword-reads 100 _ (token kind.String (quote name) ∷ []) rest (solid refl refl) (word-front 100 _ _ refl refl refl) (string-reads name rest)
+action-reads (template_action name given) rest of stop = keyword-reads 116 _ (token kind.String (quote name) ∷ given_tokens given) rest (solid refl refl) (word-front 116 _ _ refl refl refl) (given-reads name given rest of.1 stop)
+action-reads (block_action name p) rest of stop = keyword-reads 98 _ (token kind.String (quote name) ∷ given_tokens (Some p)) rest (solid refl refl) (word-front 98 _ _ refl refl refl) (given-reads name (Some p) rest of.1 stop)
 
 pub action-inside : (a : Action) → OfAction a → IsInside (action_tokens a)
 action-inside a h = record {

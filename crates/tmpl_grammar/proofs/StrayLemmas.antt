@@ -47,6 +47,9 @@ keyword-none word.Else = refl
 keyword-none word.End = refl
 keyword-none word.Break = refl
 keyword-none word.Continue = refl
+keyword-none word.Define = refl
+keyword-none word.Template = refl
+keyword-none word.Block = refl
 
 pub word-stray : (k : Keyword) (t : Token) → IsWord k t → IsStray t
 unfolding operand_at

@@ -1,16 +1,19 @@
 -- What one action says, and which tokens spell it ("Actions" in the documentation of Go's text/template).
-use Rattle.std.specs.Prelude.{List, Option, Some, None}
+use Rattle.std.specs.Prelude.{ℕ, List, Option, Some, None}
 use Rattle.tmpl_lex.specs.Piece.{Token}
-use Rattle.tmpl_grammar.specs.Tree.{Header}
+use Rattle.tmpl_grammar.specs.Tree.{text_constant, Pipeline, Header}
+use Rattle.tmpl_grammar.specs.Constant.{IsConstant}
 use Rattle.tmpl_grammar.specs.Pipeline.{IsBlank}
-use Rattle.tmpl_grammar.specs.Header.{Then, SpellsHeader}
+use Rattle.tmpl_grammar.specs.Header.{Then, SpellsWhole, SpellsHeader}
 use Rattle.tmpl_grammar.specs.Keyword.{IsWord}
 use Rattle.tmpl_grammar.specs.declared.tree.Control.{Control}
 use Rattle.tmpl_grammar.specs.declared.tree.Control.TheVariants as control
 use Rattle.tmpl_grammar.specs.declared.action.Branch.{Branch}
 use Rattle.tmpl_grammar.specs.declared.action.Branch.TheVariants as branch
+use Rattle.tmpl_grammar.specs.declared.action.HeaderShape.{HeaderShape}
+use Rattle.tmpl_grammar.specs.declared.action.HeaderShape.TheVariants as shape
 use Rattle.tmpl_grammar.specs.declared.action.Shape.{Shape}
-use Rattle.tmpl_grammar.specs.declared.action.Shape.TheVariants as shape
+use Rattle.tmpl_grammar.specs.declared.action.Shape.TheVariants as piped
 use Rattle.tmpl_grammar.specs.declared.keyword.Keyword.TheVariants as word
 
 -- an else branch is an else part that begins with a control of its own
@@ -22,11 +25,26 @@ pub data Action : Type 0 where
   end_action : Action
   break_action : Action
   continue_action : Action
+  -- a template of this name begins
+  define_action : List ℕ → Action
+  -- the template of this name is run, with the value of a pipeline or with nothing
+  template_action : List ℕ → Option Pipeline → Action
+  -- .. and begins here as well
+  block_action : List ℕ → Pipeline → Action
 
 -- the control with which an else part begins
 abbrev pub control_in : Branch → Control
 control_in branch.If = control.If
 control_in branch.With = control.With
+
+-- a string or raw string of this text
+abbrev pub IsQuoted : List ℕ → Token → Type 0
+IsQuoted name t = IsConstant t (text_constant name)
+
+-- a pipeline, or nothing
+abbrev pub SpellsGiven : Option Pipeline → List Token → Type 0
+SpellsGiven None ts = IsBlank ts
+SpellsGiven (Some p) ts = SpellsWhole p ts
 
 -- an action: a header alone, or a keyword and what stands behind it
 abbrev pub SpellsAction : Action → List Token → Type 0
@@ -38,19 +56,27 @@ SpellsAction (else_branch br h) ts =
 SpellsAction end_action ts = Then (IsWord word.End) IsBlank ts
 SpellsAction break_action ts = Then (IsWord word.Break) IsBlank ts
 SpellsAction continue_action ts = Then (IsWord word.Continue) IsBlank ts
+SpellsAction (define_action name) ts = Then (IsWord word.Define) (Then (IsQuoted name) IsBlank) ts
+SpellsAction (template_action name given) ts =
+    Then (IsWord word.Template) (Then (IsQuoted name) (SpellsGiven given)) ts
+SpellsAction (block_action name p) ts = Then (IsWord word.Block) (Then (IsQuoted name) (SpellsWhole p)) ts
 
 -- the action of this shape with this header
-abbrev pub action_with : Shape → Header → Action
+abbrev pub action_with : HeaderShape → Header → Action
 action_with shape.Pipeline h = pipeline_action h
 action_with (shape.Open c) h = opening c h
 action_with (shape.ElseBranch br) h = else_branch br h
 
--- the shape of an action that has a header
+-- the shape of an action that has a pipeline
 abbrev pub shape_of : Action → Option Shape
-shape_of (pipeline_action h) = Some shape.Pipeline
-shape_of (opening c h) = Some (shape.Open c)
+shape_of (pipeline_action h) = Some (piped.Header shape.Pipeline)
+shape_of (opening c h) = Some (piped.Header (shape.Open c))
 shape_of plain_else = None
-shape_of (else_branch br h) = Some (shape.ElseBranch br)
+shape_of (else_branch br h) = Some (piped.Header (shape.ElseBranch br))
 shape_of end_action = None
 shape_of break_action = None
 shape_of continue_action = None
+shape_of (define_action name) = None
+shape_of (template_action name None) = None
+shape_of (template_action name (Some p)) = Some piped.Template
+shape_of (block_action name p) = Some piped.Block

@@ -9,8 +9,8 @@ use Rattle.tmpl_grammar.specs.Tree.{Pipeline, pipeline, Binding, unbound, declar
 use Rattle.tmpl_grammar.specs.Pipeline.{IsBlank, SpellsPipeline}
 use Rattle.tmpl_grammar.specs.declared.tree.Control.{Control}
 use Rattle.tmpl_grammar.specs.declared.tree.Control.TheVariants as control
-use Rattle.tmpl_grammar.specs.declared.action.Shape.{Shape}
-use Rattle.tmpl_grammar.specs.declared.action.Shape.TheVariants as shape
+use Rattle.tmpl_grammar.specs.declared.action.HeaderShape.{HeaderShape}
+use Rattle.tmpl_grammar.specs.declared.action.HeaderShape.TheVariants as shape
 
 -- ---- single tokens
 
@@ -39,13 +39,13 @@ is_range control.If = false
 is_range control.With = false
 is_range control.Range = true
 
-abbrev pub opens_range : Shape → Bool
+abbrev pub opens_range : HeaderShape → Bool
 opens_range shape.Pipeline = false
 opens_range (shape.Open c) = is_range c
 opens_range (shape.ElseBranch b) = false
 
 -- how a header may bind variables: the header of a range assigns to none, and it alone declares two
-abbrev pub may_bind : Shape → Binding → Bool
+abbrev pub may_bind : HeaderShape → Binding → Bool
 may_bind s unbound = true
 may_bind s (declare name) = true
 may_bind s (assign name) = not (opens_range s)
@@ -63,5 +63,5 @@ abbrev pub SpellsWhole : Pipeline → List Token → Type 0
 SpellsWhole (pipeline commands) ts = SpellsPipeline commands ts
 
 -- the header of an action of this shape
-abbrev pub SpellsHeader : Shape → Header → List Token → Type 0
+abbrev pub SpellsHeader : HeaderShape → Header → List Token → Type 0
 SpellsHeader s h ts = (may_bind s h.binding ≡ true) × SpellsBinding h.binding (SpellsWhole h.pipeline) ts

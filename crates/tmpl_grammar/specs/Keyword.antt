@@ -19,6 +19,9 @@ spelling word.Else = codes "else"
 spelling word.End = codes "end"
 spelling word.Break = codes "break"
 spelling word.Continue = codes "continue"
+spelling word.Define = codes "define"
+spelling word.Template = codes "template"
+spelling word.Block = codes "block"
 
 -- the word that spells this keyword
 abbrev pub IsWord : Keyword → Token → Type 0

@@ -1,6 +1,6 @@
 -- How many cells of a stack a pipeline needs while it is computed, where each value that is held has one. That cells
 -- are counted is our own rule.
-use Rattle.std.specs.Prelude.{ℕ, suc, ◌+◌, max}
+use Rattle.std.specs.Prelude.{ℕ, suc, ◌+◌, max, Option, Some, None}
 use Rattle.tmpl_grammar.specs.Tree as tree
 use Rattle.tmpl_grammar.specs.Tree.{Operand, Operands, Commands, Pipeline}
 use Rattle.tmpl_grammar.specs.Tree.{Binding, unbound, declare, assign, declare_pair}
@@ -44,6 +44,11 @@ abbrev mutual
 
 abbrev pub need_of_pipeline : Pipeline → ℕ
 need_of_pipeline (tree.pipeline commands) = need_of_commands 0 commands
+
+-- a call of a template holds the dot that it hands on
+abbrev pub need_of_given : Option Pipeline → ℕ
+need_of_given None = 1
+need_of_given (Some p) = need_of_pipeline p
 
 -- how many variables are declared
 abbrev pub declared_count : Binding → ℕ

@@ -1,5 +1,5 @@
 -- The tokens by which an action is printed, and how they stand in a file.
-use Rattle.std.specs.Prelude.{ℕ, Bool, true, false, List, [], ◌∷◌, ◌++◌, codes}
+use Rattle.std.specs.Prelude.{ℕ, Bool, true, false, List, [], ◌∷◌, ◌++◌, Option, Some, None, codes}
 use Rattle.std.specs.Fmt.{signed_decimal}
 use Rattle.tmpl_values.specs.Quote.{quote}
 use Rattle.tmpl_funcs.specs.Func.{name_of}
@@ -13,7 +13,8 @@ use Rattle.tmpl_grammar.specs.Tree as tree
 use Rattle.tmpl_grammar.specs.Tree.{Operand, Operands, Commands, Pipeline, pipeline}
 use Rattle.tmpl_grammar.specs.Tree.{Binding, unbound, declare, assign, declare_pair, Header}
 use Rattle.tmpl_grammar.specs.Action.{Action, pipeline_action, opening, plain_else, else_branch}
-use Rattle.tmpl_grammar.specs.Action.{end_action, break_action, continue_action, control_in}
+use Rattle.tmpl_grammar.specs.Action.{end_action, break_action, continue_action, define_action, template_action}
+use Rattle.tmpl_grammar.specs.Action.{block_action, control_in}
 use Rattle.tmpl_grammar.specs.Keyword.{spelling}
 use Rattle.tmpl_grammar.specs.declared.keyword.Keyword.{Keyword}
 use Rattle.tmpl_grammar.specs.declared.keyword.Keyword.TheVariants as keyword
@@ -89,6 +90,15 @@ header_tokens h = binding_tokens h.binding ++ pipeline_tokens h.pipeline
 abbrev pub keyword_token : Keyword → Token
 keyword_token k = word (spelling k)
 
+-- a pipeline, behind a space
+abbrev pub given_tokens : Option Pipeline → List Token
+given_tokens None = []
+given_tokens (Some p) = space ∷ pipeline_tokens p
+
+-- a keyword, a name in quotes, and what stands behind it
+abbrev pub named_tokens : Keyword → List ℕ → List Token → List Token
+named_tokens k name ts = keyword_token k ∷ space ∷ token kind.String (quote name) ∷ ts
+
 abbrev pub action_tokens : Action → List Token
 action_tokens (pipeline_action h) = header_tokens h
 action_tokens (opening c h) = keyword_token (keyword.Control c) ∷ space ∷ header_tokens h
@@ -98,6 +108,9 @@ action_tokens (else_branch br h) =
 action_tokens end_action = keyword_token keyword.End ∷ []
 action_tokens break_action = keyword_token keyword.Break ∷ []
 action_tokens continue_action = keyword_token keyword.Continue ∷ []
+action_tokens (define_action name) = named_tokens keyword.Define name []
+action_tokens (template_action name given) = named_tokens keyword.Template name (given_tokens given)
+action_tokens (block_action name p) = named_tokens keyword.Block name (given_tokens (Some p))
 
 -- ---- how they stand in a file
 

@@ -1,5 +1,5 @@
 -- What holds of each action that is read from a file, and lets it be printed and read again.
-use Rattle.std.specs.Prelude.{◌≡◌, ◌<◌, ◌≤◌, ◌^◌, ℕ, true, List, [], ◌∷◌}
+use Rattle.std.specs.Prelude.{◌≡◌, ◌<◌, ◌≤◌, ◌^◌, ℕ, true, List, [], ◌∷◌, Option, Some, None}
 use Rattle.std.specs.List.{list_all}
 use lib.Signed.{mag}
 use Rattle.tmpl_values.proofs.RuneLemmas.{AreBytes}
@@ -9,12 +9,13 @@ use Rattle.tmpl_grammar.specs.Tree as tree
 use Rattle.tmpl_grammar.specs.Tree.{Operand, Operands, Commands, Pipeline, pipeline}
 use Rattle.tmpl_grammar.specs.Tree.{Binding, unbound, declare, assign, declare_pair, Header}
 use Rattle.tmpl_grammar.specs.Action.{Action, pipeline_action, opening, plain_else}
-use Rattle.tmpl_grammar.specs.Action.{else_branch, end_action, break_action, continue_action}
+use Rattle.tmpl_grammar.specs.Action.{else_branch, end_action, break_action, continue_action, define_action}
+use Rattle.tmpl_grammar.specs.Action.{template_action, block_action}
 use Rattle.tmpl_grammar.specs.Header.{IsName, may_bind}
 use Rattle.tmpl_grammar.specs.Pipeline.{MayBeLater}
 use Rattle.tmpl_grammar.specs.Depth.{depth_of_pipeline, most_deep}
-use Rattle.tmpl_grammar.specs.declared.action.Shape.{Shape}
-use Rattle.tmpl_grammar.specs.declared.action.Shape.TheVariants as shape
+use Rattle.tmpl_grammar.specs.declared.action.HeaderShape.{HeaderShape}
+use Rattle.tmpl_grammar.specs.declared.action.HeaderShape.TheVariants as shape
 
 -- ---- names
 
@@ -77,8 +78,12 @@ OfBinding (assign name) = OfVariable name
 OfBinding (declare_pair key name) = OfVariable key × OfVariable name
 
 -- in an action of this shape
-abbrev pub OfHeader : Shape → Header → Type 0
+abbrev pub OfHeader : HeaderShape → Header → Type 0
 OfHeader s h = (may_bind s h.binding ≡ true) × OfBinding h.binding × OfPipeline h.pipeline
+
+abbrev pub OfGiven : Option Pipeline → Type 0
+OfGiven None = Unit {0}
+OfGiven (Some p) = OfPipeline p
 
 abbrev pub OfAction : Action → Type 0
 OfAction (pipeline_action h) = OfHeader shape.Pipeline h
@@ -88,3 +93,6 @@ OfAction (else_branch br h) = OfHeader (shape.ElseBranch br) h
 OfAction end_action = Unit {0}
 OfAction break_action = Unit {0}
 OfAction continue_action = Unit {0}
+OfAction (define_action name) = AreBytes name
+OfAction (template_action name given) = AreBytes name × OfGiven given
+OfAction (block_action name p) = AreBytes name × OfPipeline p

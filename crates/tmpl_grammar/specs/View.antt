@@ -8,7 +8,7 @@ use Rattle.tmpl_grammar.specs.Tree.{Operand, dot, fields, variable, bool_constan
 use Rattle.tmpl_grammar.specs.Tree.{function, group, Operands, operands_from, Commands, commands_from, Pipeline}
 use Rattle.tmpl_grammar.specs.Tree.{pipeline, Binding, unbound, declare, assign, declare_pair, Header}
 use Rattle.tmpl_grammar.specs.Action.{Action, pipeline_action, opening, plain_else, else_branch, end_action}
-use Rattle.tmpl_grammar.specs.Action.{break_action, continue_action}
+use Rattle.tmpl_grammar.specs.Action.{break_action, continue_action, define_action, template_action, block_action}
 use Rattle.tmpl_grammar.specs.Depth as depth
 use Rattle.tmpl_grammar.specs.computed.Reading as reading
 use Rattle.tmpl_grammar.specs.computed.Parser as parser
@@ -82,6 +82,9 @@ action_of (act.ElseBranch branch h) = else_branch branch (header_of h)
 action_of act.End = end_action
 action_of act.Break = break_action
 action_of act.Continue = continue_action
+action_of (act.Define name) = define_action name
+action_of (act.Template name given) = template_action name (option_map pipeline_of given)
+action_of (act.Block name p) = block_action name (pipeline_of p)
 
 abbrev pub action_reading : held_reading.Reading held_action.Action → depth.Reading Action
 action_reading held.Unread = depth.unread
@@ -94,6 +97,9 @@ pipeline_reading (held.TooDeep s) = depth.too_deep s
 pipeline_reading (held.Read p) = depth.read (pipeline_of p)
 
 -- ---- steps of the reading
+
+abbrev pub quoted_of : List ℕ × Bor (List held_token.Token) → List ℕ × List Token
+quoted_of p = (p.0, map token_of p.1.now)
 
 abbrev pub next_of : held_token.Token × Bor (List held_token.Token) → Token × List Token
 next_of p = (token_of p.0, map token_of p.1.now)

@@ -4,7 +4,8 @@ ghost use Rattle.tmpl_grammar.specs.Action.{action_with, control_in};
 ghost use Rattle.tmpl_grammar.specs.Header.{may_bind};
 ghost use Rattle.tmpl_grammar.specs.View.{action_of, binding_of, header_of};
 
-use crate::tree::{Binding, Control, Header};
+use crate::tree::{Binding, Control, Header, Pipeline};
+use tmpl_values::Bytes;
 
 /// A control with which an else part begins: `{{else if P}}` ("Actions" in the documentation of Go's text/template) and
 /// `{{else with P}}` (there from Go 1.23 on).
@@ -43,14 +44,29 @@ pub enum Action {
     Break,
     /// Goes to the next element of that range.
     Continue,
+    /// `define`: begins the body of a template of this name, which an `end` closes.
+    Define(Bytes),
+    /// `template`: runs the template of this name, with the value of the pipeline or with nothing.
+    Template(Bytes, Option<Pipeline>),
+    /// `block`: begins the body of a template of this name, which an `end` closes, and runs it here with the value of
+    /// the pipeline.
+    Block(Bytes, Pipeline),
 }
 
 /// Which kind of action one with a header is.
 #[derive(Clone, Copy, Debug, PartialEq, Eq)]
-pub enum Shape {
+pub enum HeaderShape {
     Pipeline,
     Open(Control),
     ElseBranch(Branch),
+}
+
+/// Which kind of action one with a pipeline is.
+#[derive(Clone, Copy, Debug, PartialEq, Eq)]
+pub enum Shape {
+    Header(HeaderShape),
+    Template,
+    Block,
 }
 
 /// What tokens are read as.
@@ -63,15 +79,15 @@ pub enum Reading<T> {
     Read(T),
 }
 
-impl Shape {
+impl HeaderShape {
     /// The action of this shape with this header.
     pub(crate) fn with(self, header: Header) -> Action
         ensures { action_of result ≡ action_with self (header_of header) }
     {
         match self {
-            Shape::Pipeline => Action::Pipeline(header),
-            Shape::Open(control) => Action::Open(control, header),
-            Shape::ElseBranch(branch) => Action::ElseBranch(branch, header),
+            HeaderShape::Pipeline => Action::Pipeline(header),
+            HeaderShape::Open(control) => Action::Open(control, header),
+            HeaderShape::ElseBranch(branch) => Action::ElseBranch(branch, header),
         }
     }
 
@@ -79,7 +95,7 @@ impl Shape {
     pub(crate) fn may_bind(self, binding: &Binding) -> bool
         ensures { result ≡ may_bind self (binding_of binding.now) }
     {
-        let is_range = matches!(self, Shape::Open(Control::Range));
+        let is_range = matches!(self, HeaderShape::Open(Control::Range));
         match binding {
             Binding::Unbound | Binding::Declare(_) => true,
             Binding::Assign(_) => !is_range,

@@ -2,6 +2,7 @@
 ghost use Rattle.std.specs.Prelude.{◌≡◌};
 ghost use Rattle.tmpl_lex.specs.View.{token_of};
 ghost use Rattle.tmpl_grammar.specs.computed.Reading.{branch_of, keyword_of, spells_keyword};
+ghost use Rattle.tmpl_grammar.specs.computed.Reading.{spells_template_keyword};
 
 use crate::action::Branch;
 use crate::tree::Control;
@@ -15,6 +16,9 @@ pub(crate) enum Keyword {
     End,
     Break,
     Continue,
+    Define,
+    Template,
+    Block,
 }
 
 impl Keyword {
@@ -29,7 +33,10 @@ impl Keyword {
             | Keyword::Else
             | Keyword::End
             | Keyword::Break
-            | Keyword::Continue => None,
+            | Keyword::Continue
+            | Keyword::Define
+            | Keyword::Template
+            | Keyword::Block => None,
         }
     }
 }
@@ -63,6 +70,21 @@ fn spelled(name: &[u8]) -> Option<Keyword>
         Some(Keyword::Break)
     } else if name == b"continue".as_slice() {
         Some(Keyword::Continue)
+    } else {
+        spelled_of_templates(name)
+    }
+}
+
+/// The keyword of this spelling, of those that speak of templates.
+fn spelled_of_templates(name: &[u8]) -> Option<Keyword>
+    ensures { result ≡ spells_template_keyword name.now }
+{
+    if name == b"define".as_slice() {
+        Some(Keyword::Define)
+    } else if name == b"template".as_slice() {
+        Some(Keyword::Template)
+    } else if name == b"block".as_slice() {
+        Some(Keyword::Block)
     } else {
         None
     }

@@ -12,7 +12,7 @@ mod pipeline;
 mod read;
 mod tree;
 
-pub use action::{Action, Branch, Reading, Shape};
+pub use action::{Action, Branch, HeaderShape, Reading, Shape};
 pub use laws::{one_action, one_reading, printed_spelling, printed_tokens};
 pub use read::read_action;
 pub use tree::{Binding, Command, Control, Header, Operand, Pair, Pipeline};

@@ -8,16 +8,20 @@ use Rattle.tmpl_lex.specs.declared.piece.TokenKind.TheVariants as kind
 use Rattle.tmpl_lex.specs.Piece.{Token}
 pub use Rattle.tmpl_grammar.specs.Token.{is_white, is_blank, without_front, next, name_in, begins_name}
 use Rattle.tmpl_grammar.specs.computed.Parser.{start, commands_after}
-use Rattle.tmpl_grammar.specs.Tree.{Operands, Pipeline, pipeline, Binding, unbound}
+use Rattle.tmpl_grammar.specs.Tree.{Operand, Operands, Pipeline, pipeline, Binding, unbound}
 use Rattle.tmpl_grammar.specs.Tree.{declare, assign, declare_pair, Header, commands_from}
 use Rattle.tmpl_grammar.specs.Header.{may_bind}
 use Rattle.tmpl_grammar.specs.Depth.{Reading, reading_of, pipeline_within}
 use Rattle.tmpl_grammar.specs.Action.{Action, plain_else, end_action, break_action, continue_action, action_with}
+use Rattle.tmpl_grammar.specs.Action.{define_action, template_action, block_action}
+use Rattle.tmpl_grammar.specs.computed.Constant.{constant_of}
+use Rattle.tmpl_grammar.specs.Tree as tree
 use Rattle.tmpl_grammar.specs.declared.tree.Control.TheVariants as control
 use Rattle.tmpl_grammar.specs.declared.action.Branch.{Branch}
 use Rattle.tmpl_grammar.specs.declared.action.Branch.TheVariants as branch
+use Rattle.tmpl_grammar.specs.declared.action.HeaderShape.{HeaderShape}
 use Rattle.tmpl_grammar.specs.declared.action.Shape.{Shape}
-use Rattle.tmpl_grammar.specs.declared.action.Shape.TheVariants as shape
+use Rattle.tmpl_grammar.specs.declared.action.HeaderShape.TheVariants as shape
 use Rattle.tmpl_grammar.specs.declared.keyword.Keyword.{Keyword}
 use Rattle.tmpl_grammar.specs.declared.keyword.Keyword.TheVariants as word
 
@@ -104,14 +108,22 @@ abbrev pub header_if : Bool → Binding → Option Pipeline → Option Header
 header_if true b o = option_map (header_with b) o
 header_if false b o = None
 
-abbrev pub header_by : Shape → Binding × List Token → Option Header
+abbrev pub header_by : HeaderShape → Binding × List Token → Option Header
 header_by s h = header_if (may_bind s h.0) h.0 (pipeline_in h.1)
 
 -- the header of an action of this shape
-abbrev pub header_in : Shape → List Token → Option Header
+abbrev pub header_in : HeaderShape → List Token → Option Header
 header_in s ts = header_by s (split ts)
 
 -- ---- actions
+
+-- those that speak of templates
+abbrev pub spells_template_keyword : List ℕ → Option Keyword
+spells_template_keyword name =
+    if bytes_eq name (codes "define") then Some word.Define
+    else if bytes_eq name (codes "template") then Some word.Template
+    else if bytes_eq name (codes "block") then Some word.Block
+    else None
 
 abbrev pub spells_keyword : List ℕ → Option Keyword
 spells_keyword name =
@@ -122,7 +134,7 @@ spells_keyword name =
     else if bytes_eq name (codes "end") then Some word.End
     else if bytes_eq name (codes "break") then Some word.Break
     else if bytes_eq name (codes "continue") then Some word.Continue
-    else None
+    else spells_template_keyword name
 
 abbrev pub keyword_by : TokenKind → List ℕ → Option Keyword
 keyword_by kind.Word name = spells_keyword name
@@ -145,6 +157,9 @@ branch_of word.Else = None
 branch_of word.End = None
 branch_of word.Break = None
 branch_of word.Continue = None
+branch_of word.Define = None
+branch_of word.Template = None
+branch_of word.Block = None
 
 abbrev pub else_branched : Option Branch → List Token → Option Action
 else_branched None ts = None
@@ -160,12 +175,52 @@ abbrev pub else_by : Option (Token × List Token) → Option Action
 else_by None = Some plain_else
 else_by (Some p) = else_keyword (keyword_of p.0) p.1
 
+-- the text of a string or raw string
+abbrev pub text_in : Option Operand → Option (List ℕ)
+text_in (Some (tree.text_constant bytes)) = Some bytes
+text_in o = None
+
+abbrev pub quoted_before : List Token → Option (List ℕ) → Option (List ℕ × List Token)
+quoted_before ts o = option_map (λ name. (name, ts)) o
+
+abbrev pub quoted_at : Option (Token × List Token) → Option (List ℕ × List Token)
+quoted_at None = None
+quoted_at (Some p) = quoted_before p.1 (text_in (constant_of p.0))
+
+-- the name that comes first, in quotes, and the tokens behind it
+abbrev pub quoted_in : List Token → Option (List ℕ × List Token)
+quoted_in ts = quoted_at (next ts)
+
+-- an action by its name and what stands behind that
+abbrev pub with_name : (List ℕ → List Token → Option Action) → Option (List ℕ × List Token) → Option Action
+with_name by None = None
+with_name by (Some p) = by p.0 p.1
+
+abbrev pub named_action : (List ℕ → List Token → Option Action) → List Token → Option Action
+named_action by ts = with_name by (quoted_in ts)
+
+abbrev pub define_by : List ℕ → List Token → Option Action
+define_by name ts = alone (define_action name) ts
+
+abbrev pub called : List ℕ → Pipeline → Action
+called name p = template_action name (Some p)
+
+abbrev pub template_by : List ℕ → List Token → Option Action
+template_by name ts =
+    if is_blank ts then Some (template_action name None) else option_map (called name) (pipeline_in ts)
+
+abbrev pub block_by : List ℕ → List Token → Option Action
+block_by name ts = option_map (block_action name) (pipeline_in ts)
+
 abbrev pub action_by : Keyword → List Token → Option Action
 action_by (word.Control c) ts = option_map (action_with (shape.Open c)) (header_in (shape.Open c) ts)
 action_by word.Else ts = else_by (next ts)
 action_by word.End ts = alone end_action ts
 action_by word.Break ts = alone break_action ts
 action_by word.Continue ts = alone continue_action ts
+action_by word.Define ts = named_action define_by ts
+action_by word.Template ts = named_action template_by ts
+action_by word.Block ts = named_action block_by ts
 
 -- by the keyword that comes first, if one does
 abbrev pub action_behind : Option Keyword → List Token → List Token → Option Action
