@@ -6,7 +6,8 @@ use Rattle.tmpl_syntax.specs.declared.fault.ParseKind.{ParseKind}
 use Rattle.tmpl_syntax.specs.declared.fault.ParseKind.TheVariants as kind
 use Rattle.tmpl_syntax.specs.declared.fault.Refusal.{Refusal}
 
--- its first refused action is so, or it ends inside a control, or it is too long
+-- its first refused action is so, or it ends inside a control or a template, or it is too long, or it defines a template
+-- twice
 pub data Reason : Type 0 where
   unreadable : Reason
   not_an_action : Reason
@@ -15,6 +16,7 @@ pub data Reason : Type 0 where
   undeclared_variable : Reason
   open_at_end : Reason
   too_long : Reason
+  second_definition : Reason
 
 -- the reason that the fault of an action is
 abbrev pub of_action : Fault → Reason
@@ -33,6 +35,7 @@ reason_of kind.NestedTooDeeply = Some nested_too_deeply
 reason_of kind.UndeclaredVariable = Some undeclared_variable
 reason_of kind.OpenAtEnd = Some open_at_end
 reason_of kind.TooLong = Some too_long
+reason_of kind.SecondDefinition = Some second_definition
 reason_of kind.OutOfMemory = None
 
 abbrev pub out_of_memory : Refusal

@@ -1,7 +1,8 @@
 -- The languages that are told apart: by the controls with which an else part may begin.
 use Rattle.std.specs.Prelude.{Bool, true, false}
 use Rattle.tmpl_grammar.specs.Action.{Action, pipeline_action, opening, plain_else, else_branch}
-use Rattle.tmpl_grammar.specs.Action.{end_action, break_action, continue_action}
+use Rattle.tmpl_grammar.specs.Action.{end_action, break_action, continue_action, define_action, template_action}
+use Rattle.tmpl_grammar.specs.Action.{block_action}
 use Rattle.tmpl_grammar.specs.declared.action.Branch.{Branch}
 use Rattle.tmpl_grammar.specs.declared.action.Branch.TheVariants as branch
 
@@ -26,3 +27,6 @@ has_action branches (else_branch b h) = branches b
 has_action branches end_action = true
 has_action branches break_action = true
 has_action branches continue_action = true
+has_action branches (define_action name) = true
+has_action branches (template_action name given) = true
+has_action branches (block_action name p) = true

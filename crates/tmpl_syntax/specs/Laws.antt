@@ -1,16 +1,16 @@
 -- Laws of the definitions.
-use Rattle.std.specs.Prelude.{◌≡◌, ◌↔◌, ◌≤◌, ◌+◌, ℕ, true, List, Ok, Err, length}
+use Rattle.std.specs.Prelude.{◌≡◌, ◌↔◌, ◌≤◌, ◌+◌, ℕ, true, List, Ok, Err, Contains, length}
 use Rattle.tmpl_grammar.specs.declared.action.Branch.{Branch}
-use Rattle.tmpl_syntax.specs.Tree.{Nodes, Tree}
+use Rattle.tmpl_syntax.specs.Tree.{Nodes, Definition}
 use Rattle.tmpl_syntax.specs.Language.{Branches, every_branch}
 use Rattle.tmpl_syntax.specs.Item.{Item, HasItems}
 use Rattle.tmpl_syntax.specs.Place.Role.{Role, roles_of}
 use Rattle.tmpl_syntax.specs.Place.Body.{Verdict, fine, Judged}
 use Rattle.tmpl_syntax.specs.computed.Frames.{verdict_of}
 use Rattle.tmpl_syntax.specs.Spelling.{Spells}
-use Rattle.tmpl_syntax.specs.Need.{need, most_need}
-use Rattle.tmpl_syntax.specs.Parse.{most_bytes}
-use Rattle.tmpl_syntax.specs.computed.Build.{nodes_from}
+use Rattle.tmpl_syntax.specs.Need.{need, need_of_nodes, most_need}
+use Rattle.tmpl_syntax.specs.Parse.{most_bytes, all_defined, template_in}
+use Rattle.tmpl_syntax.specs.computed.Build.{nodes_from, definitions_from}
 use Rattle.tmpl_syntax.specs.Fault.{Reason}
 use Rattle.tmpl_syntax.specs.Set.{Template}
 use Rattle.tmpl_syntax.specs.Parse.{IsAccepted, IsRefusedBy}
@@ -36,13 +36,16 @@ HasVerdict = (xs : List Role) → Judged xs (verdict_of xs)
 abbrev pub HasOneVerdict : Type 0
 HasOneVerdict = (xs : List Role) (v w : Verdict) → Judged xs v → Judged xs w → v ≡ w
 
--- a list on which the verdict is fine spells nodes
+-- a list on which the verdict is fine spells definitions and nodes
 abbrev pub SpellsWhereFine : Type 0
-SpellsWhereFine = (items : List Item) → Judged (roles_of items) fine → Spells items (nodes_from items)
+SpellsWhereFine =
+    (items : List Item) → Judged (roles_of items) fine → Spells items (definitions_from items) (nodes_from items)
 
--- each list spells at most one list of nodes
+-- each list spells these at most once
 abbrev pub SpellsAtMostOne : Type 0
-SpellsAtMostOne = (items : List Item) (ns ms : Nodes) → Spells items ns → Spells items ms → ns ≡ ms
+SpellsAtMostOne =
+    (items : List Item) (ds es : List Definition) (ns ms : Nodes) → Spells items ds ns → Spells items es ms
+    → (ds ≡ es) × (ns ≡ ms)
 
 -- a file is accepted just where the function gives a set, and the set is then that one
 abbrev pub AcceptsAsParsed : Type 0
@@ -54,7 +57,7 @@ AcceptsAsParsed =
 abbrev pub RefusesAsParsed : Type 0
 RefusesAsParsed =
     (old : List Template) (file bytes : List ℕ) (line : ℕ) (reason : Reason)
-    → (parsed old file bytes ≡ Err (line, reason)) ↔ IsRefusedBy every_branch bytes line reason
+    → (parsed old file bytes ≡ Err (line, reason)) ↔ IsRefusedBy every_branch file bytes line reason
 
 -- one language has each else branch of another
 abbrev pub IsLarger : Branches → Branches → Type 0
@@ -66,14 +69,16 @@ AcceptsInLarger =
     (large small : Branches) → IsLarger large small → (old : List Template) (file bytes : List ℕ) (new : List Template)
     → IsAccepted small old file bytes new → IsAccepted large old file bytes new
 
--- each tree that a file spells needs at most three cells and one for each byte of the file
+-- each template that a file spells needs at most three cells and one for each byte of the file
 abbrev pub NeedsAtMostBytes : Type 0
 NeedsAtMostBytes =
-    (branches : Branches) (bytes : List ℕ) (items : List Item) (tree : Tree) → HasItems branches bytes items
-    → Spells items tree.nodes → need tree ≤ 3 + length bytes
+    (branches : Branches) (bytes : List ℕ) (items : List Item) (file : List ℕ) (ds : List Definition) (own : Nodes)
+    → HasItems branches bytes items → Spells items ds own → (d : Definition) → Contains (all_defined file ds own) d
+    → 3 + need_of_nodes d.nodes ≤ 3 + length bytes
 
 -- so of a file within the limit it needs at most so many
 abbrev pub NeedsAtMost : Type 0
 NeedsAtMost =
-    (branches : Branches) (bytes : List ℕ) (items : List Item) (tree : Tree) → length bytes ≤ most_bytes
-    → HasItems branches bytes items → Spells items tree.nodes → need tree ≤ most_need
+    (branches : Branches) (bytes : List ℕ) (items : List Item) (file : List ℕ) (ds : List Definition) (own : Nodes)
+    → length bytes ≤ most_bytes → HasItems branches bytes items → Spells items ds own → (d : Definition)
+    → Contains (all_defined file ds own) d → need (template_in file d).1 ≤ most_need

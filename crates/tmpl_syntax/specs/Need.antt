@@ -1,11 +1,12 @@
 -- How many cells of a stack a template needs while it is run, where each value that is held has one: told by the
 -- nesting of its tree alone. That cells are counted is our own rule.
 use Rattle.std.specs.Prelude.{ℕ, ◌+◌, max}
-use Rattle.tmpl_grammar.specs.Need.{need_of_pipeline, declared_count}
+use Rattle.tmpl_grammar.specs.Need.{need_of_pipeline, need_of_given, declared_count}
 use Rattle.tmpl_grammar.specs.declared.tree.Control.{Control}
 use Rattle.tmpl_grammar.specs.declared.tree.Control.TheVariants as control
 use Rattle.tmpl_syntax.specs.Tree as tree
-use Rattle.tmpl_syntax.specs.Tree.{NodeKind, text, action, control_node, break_node, continue_node, Nodes, Tree}
+use Rattle.tmpl_syntax.specs.Tree.{NodeKind, text, action, control_node, break_node, continue_node, template_node}
+use Rattle.tmpl_syntax.specs.Tree.{Nodes, Tree}
 
 -- a control whose header declares so many variables, by what the nodes of its body and of its else part need
 abbrev pub need_of_parts : Control → ℕ → ℕ → ℕ → ℕ
@@ -23,6 +24,7 @@ left_behind (action h) = declared_count h.binding
 left_behind (control_node c h body other) = 0
 left_behind break_node = 0
 left_behind continue_node = 0
+left_behind (template_node name given) = 0
 
 abbrev mutual
   -- while the pipeline of a header is computed its variables are not there yet
@@ -34,6 +36,7 @@ abbrev mutual
       (need_of_parts c (declared_count h.binding) (need_of_nodes body) (need_of_nodes other))
   need_of_node break_node = 0
   need_of_node continue_node = 0
+  need_of_node (template_node name given) = need_of_given given
 
   -- the most that one of the nodes needs, above the variables that those before it in this list leave
   pub need_of_nodes : Nodes → ℕ

@@ -1,18 +1,19 @@
--- What a file adds to the set, or why it is refused. A file is one template, named by the file's base name as by Go's
--- `ParseFiles`; the limit on its length, and the kinds and lines of refusals, are our own rules.
-use Rattle.std.specs.Prelude.{◌≡◌, ◌==◌, ◌+◌, ◌≤◌, ◌<◌, ℕ, List, Option, Some, None, Result, Ok, Err}
-use Rattle.std.specs.Prelude.{length, slice_get}
+-- What a file adds to the set, or why it is refused. What stands outside its definitions is a template too, named by the
+-- file's base name as by Go's `ParseFiles`; the limit on its length, and the kinds and lines of refusals, are our own
+-- rules.
+use Rattle.std.specs.Prelude.{◌≡◌, ◌==◌, ◌+◌, ◌≤◌, ◌<◌, ℕ, false, List, [], ◌∷◌, ◌++◌, Option, Some, None}
+use Rattle.std.specs.Prelude.{Result, Ok, Err, Contains, length, map, slice_get}
 use Rattle.std.specs.List.{after_last}
 use Rattle.std.specs.Borrow.{Bor}
 use Rattle.tmpl_lex.specs.Text.{newlines}
-use Rattle.tmpl_syntax.specs.Tree.{Nodes}
+use Rattle.tmpl_syntax.specs.Tree.{Nodes, Definition}
 use Rattle.tmpl_syntax.specs.Language.{Branches, every_branch, go_1_22}
 use Rattle.tmpl_syntax.specs.Item.{ItemKind, Item, item, HasItems}
 use Rattle.tmpl_syntax.specs.Place.Role.{roles_of}
 use Rattle.tmpl_syntax.specs.Place.Body.{fine, refused, left_open, Judged}
-use Rattle.tmpl_syntax.specs.Spelling.{Spells}
-use Rattle.tmpl_syntax.specs.Fault.{Reason, of_action, open_at_end, too_long, reason_of}
-use Rattle.tmpl_syntax.specs.Set.{Template, defined}
+use Rattle.tmpl_syntax.specs.Spelling.{definition, Spells}
+use Rattle.tmpl_syntax.specs.Fault.{Reason, of_action, open_at_end, too_long, second_definition, reason_of}
+use Rattle.tmpl_syntax.specs.Set.{Template, is_blank, defined_each}
 use Rattle.tmpl_syntax.specs.declared.fault.Fault.{Fault}
 use Rattle.tmpl_syntax.specs.declared.fault.ParseFault.{ParseFault}
 
@@ -28,17 +29,55 @@ base_name path = after_last (λ b. b == 47) path
 abbrev pub most_bytes : ℕ
 most_bytes = 16777216
 
--- a file is cut into pieces, and these are read as items by the grammar; it is accepted if no item of it is refused and
--- nothing is open at its end, and the set has then its own template, whose nodes the items spell
+-- the file's own template, which is the last of those that it defines, at line 1
+abbrev pub own_definition : List ℕ → Nodes → Definition
+own_definition file nodes = definition 1 (base_name file) nodes
+
+-- the templates of a file whose items spell these definitions and nodes
+abbrev pub all_defined : List ℕ → List Definition → Nodes → List Definition
+all_defined file ds own = ds ++ own_definition file own ∷ []
+
+-- a template in this file
+abbrev pub template_in : List ℕ → Definition → Template
+template_in file d = (d.name, record { file = file; nodes = d.nodes })
+
+-- among these definitions is one of the same name as that one, and neither is blank
+pub record IsSecond (earlier : List Definition) (d : Definition) : Type 0 where
+  pub first : Definition
+  pub there : Contains earlier first
+  pub name : first.name ≡ d.name
+  pub some_there : is_blank first.nodes ≡ false
+  pub some_here : is_blank d.nodes ≡ false
+
+abbrev pub NoneSecond : List Definition → Type 0
+NoneSecond ds =
+    (before : List Definition) (d : Definition) (behind : List Definition) → ds ≡ before ++ d ∷ behind
+    → IsSecond before d → ⊥
+
+-- the first one that has an earlier one of its name stands at this line
+pub record HasSecond (ds : List Definition) (line : ℕ) : Type 0 where
+  pub before : List Definition
+  pub second : Definition
+  pub behind : List Definition
+  pub are : ds ≡ before ++ second ∷ behind
+  pub is_second : IsSecond before second
+  pub is_first : NoneSecond before
+  pub at : line ≡ second.line
+
+-- a file is cut into pieces, and these are read as items by the grammar; it is accepted if no item of it is refused,
+-- nothing is open at its end, and none of the templates that the items spell is a second one, and these are then
+-- added to the set, one by one
 pub record IsAccepted (branches : Branches) (old : List Template) (file bytes : List ℕ) (new : List Template)
     : Type 0 where
   pub short : length bytes ≤ most_bytes
   pub items : List Item
   pub has : HasItems branches bytes items
   pub judged : Judged (roles_of items) fine
-  pub nodes : Nodes
-  pub spells : Spells items nodes
-  pub set : new ≡ defined old (base_name file) (record { file = file; nodes = nodes })
+  pub definitions : List Definition
+  pub own : Nodes
+  pub spells : Spells items definitions own
+  pub once : NoneSecond (all_defined file definitions own)
+  pub set : new ≡ defined_each old (map (template_in file) (all_defined file definitions own))
 
 -- the item at a place is the first that is refused, and this is its line, and why
 pub record IsRefusedAt (items : List Item) (line : ℕ) (reason : Reason) : Type 0 where
@@ -49,25 +88,28 @@ pub record IsRefusedAt (items : List Item) (line : ℕ) (reason : Reason) : Type
   pub at : slice_get items place ≡ Some (item line what)
   pub why : reason ≡ of_action fault
 
--- a file of these bytes is refused at this line, for this reason
-abbrev pub IsRefusedBy : Branches → List ℕ → ℕ → Reason → Type 0
-IsRefusedBy branches bytes line too_long = (most_bytes < length bytes) × (line ≡ 1)
-IsRefusedBy branches bytes line open_at_end =
+-- a file of this path and these bytes is refused at this line, for this reason
+abbrev pub IsRefusedBy : Branches → List ℕ → List ℕ → ℕ → Reason → Type 0
+IsRefusedBy branches file bytes line too_long = (most_bytes < length bytes) × (line ≡ 1)
+IsRefusedBy branches file bytes line open_at_end =
     (length bytes ≤ most_bytes) × (items : List Item) × HasItems branches bytes items
     × Judged (roles_of items) left_open × (line ≡ last_line bytes)
-IsRefusedBy branches bytes line reason =
+IsRefusedBy branches file bytes line second_definition =
+    (length bytes ≤ most_bytes) × (items : List Item) × HasItems branches bytes items × Judged (roles_of items) fine
+    × (ds : List Definition) × (own : Nodes) × Spells items ds own × HasSecond (all_defined file ds own) line
+IsRefusedBy branches file bytes line reason =
     (length bytes ≤ most_bytes) × (items : List Item) × HasItems branches bytes items × IsRefusedAt items line reason
 
 -- .. or for none, which is want of memory
-abbrev pub IsRefusedFor : Branches → List ℕ → ℕ → Option Reason → Type 0
-IsRefusedFor branches bytes line None = line ≡ 1
-IsRefusedFor branches bytes line (Some reason) = IsRefusedBy branches bytes line reason
+abbrev pub IsRefusedFor : Branches → List ℕ → List ℕ → ℕ → Option Reason → Type 0
+IsRefusedFor branches file bytes line None = line ≡ 1
+IsRefusedFor branches file bytes line (Some reason) = IsRefusedBy branches file bytes line reason
 
 -- what the parser answers: the file is accepted, or the set stays and the file is named, with its line and reason
 abbrev pub IsReading : List Template → Bor (List ℕ) → List ℕ → List Template → Result (Unit {0}) ParseFault → Type 0
 IsReading old file bytes new (Ok u) = IsAccepted every_branch old file.now bytes new
 IsReading old file bytes new (Err fault) =
-    (fault.file ≡ file) × (new ≡ old) × IsRefusedFor every_branch bytes fault.line (reason_of fault.kind)
+    (fault.file ≡ file) × (new ≡ old) × IsRefusedFor every_branch file.now bytes fault.line (reason_of fault.kind)
 
 -- what Go 1.22 accepts is accepted, want of memory aside, and the set is then what it is there
 abbrev pub IsAsBefore : List Template → Bor (List ℕ) → List ℕ → List Template → Result (Unit {0}) ParseFault → Type 0

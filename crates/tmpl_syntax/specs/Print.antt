@@ -2,4 +2,3 @@ pub mod Join
 pub mod Laws
 pub mod Printable
 pub mod Printed
-pub mod WholeTree

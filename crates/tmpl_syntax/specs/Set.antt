@@ -5,7 +5,8 @@ use Rattle.std.specs.List.{list_all}
 use Rattle.std.specs.Str.{bytes_eq}
 use Rattle.tmpl_lex.specs.Bytes.{is_space}
 use Rattle.tmpl_syntax.specs.Tree as tree
-use Rattle.tmpl_syntax.specs.Tree.{NodeKind, text, action, control_node, break_node, continue_node, Nodes, Tree}
+use Rattle.tmpl_syntax.specs.Tree.{NodeKind, text, action, control_node, break_node, continue_node, template_node}
+use Rattle.tmpl_syntax.specs.Tree.{Nodes, Tree}
 
 -- a name and a tree
 abbrev pub Template : Type 0
@@ -24,6 +25,7 @@ is_blank_node (action h) = false
 is_blank_node (control_node c h body other) = false
 is_blank_node break_node = false
 is_blank_node continue_node = false
+is_blank_node (template_node name given) = false
 
 -- whether all nodes are texts of white space
 abbrev pub is_blank : Nodes → Bool
@@ -39,3 +41,8 @@ abbrev pub defined : List Template → List ℕ → Tree → List Template
 defined [] name tree = (name, tree) ∷ []
 defined (t ∷ ts) name tree =
     if bytes_eq name t.0 then (t.0, chosen t.1 tree) ∷ ts else t ∷ defined ts name tree
+
+-- .. after definitions, one by one
+abbrev pub defined_each : List Template → List Template → List Template
+defined_each set [] = set
+defined_each set (t ∷ ts) = defined_each (defined set t.0 t.1) ts

@@ -30,7 +30,11 @@ fn is_blank_node(node: &Node) -> bool
 {
     match &node.what {
         NodeKind::Text(bytes) => is_white(bytes.as_slice()),
-        NodeKind::Action(_) | NodeKind::Control(_) | NodeKind::Break | NodeKind::Continue => false,
+        NodeKind::Action(_)
+        | NodeKind::Control(_)
+        | NodeKind::Break
+        | NodeKind::Continue
+        | NodeKind::Template(_, _) => false,
     }
 }
 

@@ -1,15 +1,17 @@
-//! The nodes of a file.
+//! The definitions of a file.
 ghost use Rattle.std.specs.Prelude.{◌≡◌, IfOk, map, reverse};
-ghost use Rattle.tmpl_grammar.specs.View.{action_of, header_of};
+ghost use Rattle.tmpl_grammar.specs.Action.{block_action};
+ghost use Rattle.tmpl_grammar.specs.View.{action_of, header_of, pipeline_of};
 ghost use Rattle.tmpl_syntax.specs.Item.{action_item, item};
 ghost use Rattle.tmpl_syntax.specs.Tree.{control_node};
-ghost use Rattle.tmpl_syntax.specs.View.{item_of, kind_of, level_of, nodes_in, parts_of};
+ghost use Rattle.tmpl_syntax.specs.View.{definition_of, item_of, kind_of, level_of, nodes_in, parts_of};
+ghost use Rattle.tmpl_syntax.specs.computed.Parse.{all_from};
 ghost use Rattle.tmpl_syntax.specs.computed.Build as spec;
 
 use crate::item::{Item, ItemKind};
-use crate::tree::{ControlNode, Node, NodeKind};
+use crate::tree::{ControlNode, Definition, Node, NodeKind};
 use std::alloc::{AllocError, Global};
-use tmpl_grammar::{Action, Branch, Control, Header};
+use tmpl_grammar::{Action, Branch, Control, Header, Pipeline};
 use tmpl_values::Bytes;
 
 /// What is known of a part from a place on.
@@ -27,22 +29,49 @@ pub(crate) struct Parts {
     pub(crate) inner: Level,
     /// The nearest last.
     pub(crate) around: Vec<Level>,
+    /// The templates that are defined from the place on, the last one first.
+    pub(crate) definitions: Vec<Definition>,
 }
 
-/// The nodes of a file's items, each of which stands where it may. They are built from the last item
-/// to the first, so that an else part is there before the control to which it belongs.
-pub(crate) fn build(alloc: Global, items: Vec<Item<'_>>) -> Result<Vec<Node>, AllocError>
-    ensures { IfOk result (λ v. nodes_in v.items ≡ spec.nodes_from (map item_of items.entry.items)) }
+/// The templates that a file's items define, each of which stands where it may, in the order of their headers; the file's
+/// own, of this name, is the last. They are built from the last item to the first, so that an else part is there before
+/// the control to which it belongs.
+pub(crate) fn build(
+    alloc: Global,
+    items: Vec<Item<'_>>,
+    name: Bytes,
+) -> Result<Vec<Definition>, AllocError>
+    ensures { IfOk result (λ v. map definition_of v.items
+        ≡ all_from name (map item_of items.entry.items)) }
+{
+    let Parts {
+        inner,
+        mut definitions,
+        ..
+    } = parts_before(alloc, items)?;
+    definitions.reverse();
+    definitions.push(Definition {
+        line: 1,
+        name,
+        nodes: in_order(inner.nodes),
+    })?;
+    Ok(definitions)
+}
+
+/// The parts from the first of these items on.
+fn parts_before(alloc: Global, items: Vec<Item<'_>>) -> Result<Parts, AllocError>
+    ensures { IfOk result (λ p. parts_of p ≡ spec.parts_before (map item_of items.entry.items) spec.no_parts) }
 {
     let mut items = items;
     let mut parts = Parts {
         inner: Level::new(alloc),
         around: Vec::new(alloc),
+        definitions: Vec::new(alloc),
     };
     while let Some(item) = items.pop() {
         parts = put(alloc, parts, item)?;
     }
-    Ok(in_order(parts.inner.nodes))
+    Ok(parts)
 }
 
 impl Level {
@@ -94,7 +123,53 @@ fn put_action(alloc: Global, parts: Parts, line: u64, action: Action) -> Result<
         Action::End => end(alloc, parts),
         Action::Break => put_node(parts, line, NodeKind::Break),
         Action::Continue => put_node(parts, line, NodeKind::Continue),
+        Action::Define(name) => put_definition(alloc, parts, line, name),
+        Action::Template(name, given) => put_node(parts, line, NodeKind::Template(name, given)),
+        Action::Block(name, pipeline) => put_block(alloc, parts, line, name, pipeline),
     }
+}
+
+/// Puts a definition before the others: its body is the innermost part.
+fn put_definition(
+    alloc: Global,
+    parts: Parts,
+    line: u64,
+    name: Bytes,
+) -> Result<Parts, AllocError>
+    ensures { IfOk result (λ p. parts_of p ≡ spec.definition_before line name (parts_of parts)) }
+{
+    let Parts {
+        inner,
+        mut around,
+        mut definitions,
+    } = parts;
+    definitions.push(Definition {
+        line,
+        name,
+        nodes: in_order(inner.nodes),
+    })?;
+    let inner = outer(alloc, &mut around);
+    Ok(Parts {
+        inner,
+        around,
+        definitions,
+    })
+}
+
+/// Puts a definition, and a call of it before the nodes of the part around.
+fn put_block(
+    alloc: Global,
+    parts: Parts,
+    line: u64,
+    name: Bytes,
+    pipeline: Pipeline,
+) -> Result<Parts, AllocError>
+    ensures { IfOk result (λ p. parts_of p
+        ≡ spec.parts_with (item line (action_item (block_action name (pipeline_of pipeline)))) (parts_of parts)) }
+{
+    let called = Bytes::new(name.as_slice().to_vec(alloc)?);
+    let parts = put_definition(alloc, parts, line, name)?;
+    put_node(parts, line, NodeKind::Template(called, Some(pipeline)))
 }
 
 /// Puts a node before those of the innermost part.
@@ -117,10 +192,19 @@ fn put_control(
     ensures { IfOk result (λ p. parts_of p
         ≡ spec.control_before line control (header_of header) (parts_of parts)) }
 {
-    let Parts { inner, mut around } = parts;
+    let Parts {
+        inner,
+        mut around,
+        definitions,
+    } = parts;
     let what = control_kind(alloc, control, header, inner)?;
     let inner = outer(alloc, &mut around);
-    put_node(Parts { inner, around }, line, what)
+    let parts = Parts {
+        inner,
+        around,
+        definitions,
+    };
+    put_node(parts, line, what)
 }
 
 /// A control whose body, and the else part behind it, are these.
@@ -157,13 +241,19 @@ fn outer(alloc: Global, around: &mut Vec<Level>) -> Level
 fn begin_else(alloc: Global, parts: Parts) -> Parts
     ensures { parts_of result ≡ spec.else_before (parts_of parts) }
 {
-    let Parts { inner, around } = parts;
-    Parts {
-        inner: Level {
-            nodes: Vec::new(alloc),
-            other: in_order(inner.nodes),
-        },
+    let Parts {
+        inner,
         around,
+        definitions,
+    } = parts;
+    let inner = Level {
+        nodes: Vec::new(alloc),
+        other: in_order(inner.nodes),
+    };
+    Parts {
+        inner,
+        around,
+        definitions,
     }
 }
 
@@ -177,14 +267,14 @@ fn begin_branch(
 ) -> Result<Parts, AllocError>
     ensures { IfOk result (λ p. parts_of p ≡ spec.branch_before line branch (header_of header) (parts_of parts)) }
 {
-    let Parts { inner, around } = parts;
-    let what = control_kind(alloc, branch.control(), header, inner)?;
+    let what = control_kind(alloc, branch.control(), header, parts.inner)?;
     Ok(Parts {
         inner: Level {
             nodes: Vec::new(alloc),
             other: vec![in alloc; Node { line, what }]?,
         },
-        around,
+        around: parts.around,
+        definitions: parts.definitions,
     })
 }
 
@@ -192,10 +282,11 @@ fn begin_branch(
 fn end(alloc: Global, parts: Parts) -> Result<Parts, AllocError>
     ensures { IfOk result (λ p. parts_of p ≡ spec.end_before (parts_of parts)) }
 {
-    let Parts { inner, mut around } = parts;
-    around.push(inner)?;
+    let mut around = parts.around;
+    around.push(parts.inner)?;
     Ok(Parts {
         inner: Level::new(alloc),
         around,
+        definitions: parts.definitions,
     })
 }

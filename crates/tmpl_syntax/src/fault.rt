@@ -21,17 +21,21 @@ pub enum ParseKind {
     /// An action whose tokens have no reading.
     NotAnAction,
     /// An `end`, `else`, `else if` or `else with` at which nothing is open; one of the last three after
-    /// the `else` of the same control; an `else if` of no `if`, an `else with` of no `with`; a `break`
-    /// or `continue` that stands in no range's body.
+    /// the `else` of the same control, or directly in a `define` or `block`; an `else if` of no `if`, an
+    /// `else with` of no `with`; a `define` inside anything; a `break` or `continue` that stands in no
+    /// range's body of its template.
     OutOfPlace,
-    /// A control, `else if` or `else with` inside 500 others, or parentheses inside 100 others (our own limits).
+    /// A control, `block`, `else if` or `else with` inside 500 others, or parentheses inside 100 others (our own limits).
     NestedTooDeeply,
     /// A variable that is used or assigned where none of its name is in scope.
     UndeclaredVariable,
-    /// A control that has no `end`; the line is the last one of the file.
+    /// A control, `define` or `block` that has no `end`; the line is the last one of the file.
     OpenAtEnd,
     /// More than 16,777,216 bytes; the line is 1.
     TooLong,
+    /// A template of a name of which the file has an earlier one, neither being blank; the line is that of the later
+    /// header, or 1 for the file's own template.
+    SecondDefinition,
     /// Memory ran out; the line is 1.
     OutOfMemory,
 }

@@ -4,8 +4,7 @@ ghost use Rattle.tmpl_syntax.specs.Laws.{SpellsWhereFine, SpellsAtMostOne, Accep
 ghost use Rattle.tmpl_syntax.specs.Laws.{AcceptsInLarger};
 ghost use Rattle.tmpl_syntax.specs.Laws.{NeedsAtMost, NeedsAtMostBytes};
 ghost use Rattle.tmpl_syntax.specs.Print.Join.{CutsBack};
-ghost use Rattle.tmpl_syntax.specs.Print.Laws.{AcceptsBack, KeepsPrintable, ReadsSame};
-ghost use Rattle.tmpl_syntax.specs.Print.WholeTree.{SetKeeps, SetReadsSame};
+ghost use Rattle.tmpl_syntax.specs.Print.Laws.{AcceptsBack, KeepsPrintable, ReadsSame, SetReadsSame};
 
 /// The law that each file has one list of items: its bytes are cut into one list of pieces, and each piece
 /// is read as one item. So it is in every language that else branches tell apart.
@@ -22,7 +21,7 @@ pub fn one_verdict()
     ensures one { HasOneVerdict }
 {}
 
-/// The law that a list of items spells at most one list of nodes, and one where the verdict is fine.
+/// The law that a list of items spells definitions and nodes in one way at most, and in one where the verdict is fine.
 pub fn one_spelling()
     ensures exists { SpellsWhereFine }
     ensures one { SpellsAtMostOne }
@@ -41,7 +40,7 @@ pub fn more_branches()
     ensures { AcceptsInLarger }
 {}
 
-/// The law that a tree which a file spells needs at most three cells of a run's stack and one for each byte of the
+/// The law that a template which a file spells needs at most three cells of a run's stack and one for each byte of the
 /// file, and so 16,777,219 where the file is within the limit.
 pub fn bounded_need()
     ensures by_bytes { NeedsAtMostBytes }
@@ -58,12 +57,12 @@ pub fn printed_back()
     ensures { ReadsSame }
 {}
 
-/// The law that the nodes which a file spells can be printed.
+/// The law that the templates which a file defines can be printed.
 pub fn printable()
     ensures { KeepsPrintable }
 {}
 
-/// The law that what an accepted file says is accepted when it is printed.
+/// The law that what the own template of an accepted file says is accepted when it is printed.
 pub fn accepted_back()
     ensures { AcceptsBack }
 {}
@@ -71,9 +70,4 @@ pub fn accepted_back()
 /// The law that a printed set is read as the same definitions, apart from lines.
 pub fn set_back()
     ensures { SetReadsSame }
-{}
-
-/// The law that the definitions which a file spells can be printed.
-pub fn set_printable()
-    ensures { SetKeeps }
 {}

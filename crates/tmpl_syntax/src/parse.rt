@@ -1,17 +1,19 @@
 //! Reading a file into the set.
 ghost use Rattle.std.specs.Prelude.{◌≡◌, ◌≤◌, ◌==◌, IfOk, length, map, not};
 ghost use Rattle.std.specs.List.{suffix_len};
-ghost use Rattle.tmpl_syntax.specs.View.{item_of, set_view};
+ghost use Rattle.tmpl_syntax.specs.View.{definition_of, item_of, set_view, template_of};
 ghost use Rattle.tmpl_syntax.specs.Parse as spec;
-ghost use Rattle.tmpl_syntax.specs.Parse.{IsAsBefore, IsReading};
-ghost use Rattle.tmpl_syntax.specs.computed.Parse.{IsAdded, IsParse, items_of};
+ghost use Rattle.tmpl_syntax.specs.Parse.{IsAsBefore, IsReading, template_in};
+ghost use Rattle.tmpl_syntax.specs.computed.Parse.{IsAdded, IsOnce, IsParse, items_of};
 
+use crate::blank::is_blank;
 use crate::build::build;
 use crate::fault::{ParseFault, ParseKind, Refusal};
 use crate::item::{Item, read_all};
 use crate::place::check::check;
+use crate::place::names::KnownNames;
 use crate::set::Set;
-use crate::tree::Tree;
+use crate::tree::{Definition, Tree};
 use std::alloc::{AllocError, Global};
 use tmpl_lex::cut;
 use tmpl_values::Bytes;
@@ -19,18 +21,20 @@ use tmpl_values::Bytes;
 /// The most bytes that a file may have.
 const MOST_BYTES: usize = 16_777_216;
 
-/// Adds the template of a file to the set. Its name is the part of the path after the last `/`, as
-/// Go's `ParseFiles` has it. A new name goes last. A name that is there keeps its place and gets the
-/// new body, unless that is blank, nothing but white space (Go's `Template.Parse`); that a blank body
-/// replaces no blank one either is our own rule.
+/// Adds the templates of a file to the set: those that it defines, by `define` and `block`, in the order of their headers,
+/// and then its own, what stands outside these, whose name is the part of the path after the last `/`, as Go's
+/// `ParseFiles` has it. A new name goes last. A name that is there keeps its place and gets the new body, unless that is
+/// blank, nothing but white space (Go's `Template.Parse`); that a blank body replaces no blank one either is our own rule.
+/// All of the file's templates are added, or none.
 ///
 /// # Errors
 ///
 /// The first action of the file that is unreadable, has no reading, is out of place, is nested too
 /// deeply or uses a variable that is not in scope, at the line of its `{{`: of these the first that
-/// applies to it, in this order. If no action is refused and a control has no `end`, the file is
-/// refused at its last line, which is 1 and the number of its newlines. Before all that, at line 1,
-/// a file of more than 16,777,216 bytes (our own limit). Want of memory at any time, at line 1.
+/// applies to it, in this order. If no action is refused and something open has no `end`, the file is
+/// refused at its last line, which is 1 and the number of its newlines. Last, the first definition that has
+/// an earlier one of its name in the file, neither being blank. Before all that, at line 1, a file of more
+/// than 16,777,216 bytes (our own limit). Want of memory at any time, at line 1.
 /// After an error the set is as it was.
 ///
 /// `else with` is there since Go 1.23. A file that is accepted without it makes the same set with it.
@@ -54,7 +58,7 @@ pub fn parse_file<'f>(
     }
 }
 
-/// Adds a file's own template to the set.
+/// Adds a file's templates to the set.
 fn add_file(alloc: Global, set: &mut Set, file: &str, bytes: &[u8]) -> Result<(), Refusal>
     ensures { IsAdded (set_view set.old) file.now bytes.now (set_view set.new) result }
 {
@@ -66,11 +70,50 @@ fn add_file(alloc: Global, set: &mut Set, file: &str, bytes: &[u8]) -> Result<()
     }
     let items = read_file(alloc, bytes)?;
     check(alloc, items.as_slice(), bytes)?;
-    let nodes = build(alloc, items)?;
-    let name = copy_of(alloc, base_name(file))?;
-    let file = Bytes::new(copy_of(alloc, file.as_bytes())?);
-    set.define(name, Tree { file, nodes })?;
+    let name = Bytes::new(copy_of(alloc, base_name(file))?);
+    let definitions = build(alloc, items, name)?;
+    refuse_second(alloc, definitions.as_slice())?;
+    set.define_all(templates_of(alloc, file, definitions)?)?;
     Ok(())
+}
+
+/// Refuses the first definition that has an earlier one of its name, neither being blank.
+fn refuse_second(alloc: Global, definitions: &[Definition]) -> Result<(), Refusal>
+    ensures { IsOnce (map definition_of definitions.now) result }
+{
+    let mut names = KnownNames::new(alloc);
+    for definition in definitions {
+        if is_blank(definition.nodes.as_slice()) {
+            continue;
+        }
+        let name = definition.name.as_slice();
+        if names.knows(name) {
+            return Err(Refusal {
+                line: definition.line,
+                kind: ParseKind::SecondDefinition,
+            });
+        }
+        names.push(name)?;
+    }
+    Ok(())
+}
+
+/// The definitions as templates in this file.
+fn templates_of(
+    alloc: Global,
+    file: &str,
+    definitions: Vec<Definition>,
+) -> Result<Vec<(Vec<u8>, Tree)>, AllocError>
+    ensures { IfOk result (λ v. map template_of v.items
+        ≡ map (template_in file.now) (map definition_of definitions.items)) }
+{
+    let mut templates = Vec::with_capacity(alloc, definitions.len())?;
+    for definition in definitions {
+        let file = Bytes::new(copy_of(alloc, file.as_bytes())?);
+        let Definition { name, nodes, .. } = definition;
+        templates.push((name.into_vec(), Tree { file, nodes }))?;
+    }
+    Ok(templates)
 }
 
 /// The items of a file.

@@ -2,7 +2,8 @@
 
 pub(crate) mod check;
 mod frame;
-mod names;
+pub(crate) mod names;
 mod pass;
 mod rules;
+mod scopes;
 mod uses;

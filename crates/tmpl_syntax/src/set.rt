@@ -1,9 +1,10 @@
 //! The set of templates.
-ghost use Rattle.std.specs.Prelude.{◌≡◌, ◌&&◌, [], IfSome, OnOk, OnErr, is_some, map, option_map};
+ghost use Rattle.std.specs.Prelude.{◌≡◌, ◌≤◌, ◌<◌, ◌+◌, [], IfSome, OnOk, OnErr, length, map, option_map};
 ghost use Rattle.std.specs.Iterator.{YieldsFirstRef, item_count};
-ghost use Rattle.tmpl_syntax.specs.View.{set_view, names_left, tree_of};
-ghost use Rattle.tmpl_syntax.specs.Kept.{IsKept};
-ghost use Rattle.tmpl_syntax.specs.Set.{defined, is_blank, tree_named};
+ghost use Rattle.indexmap.specs.IndexMap.{spare};
+ghost use Rattle.tmpl_syntax.specs.View.{set_view, names_left, template_of, tree_of};
+ghost use Rattle.tmpl_syntax.specs.Kept.{AreKept, IsKept};
+ghost use Rattle.tmpl_syntax.specs.Set.{defined, defined_each, tree_named};
 
 use crate::blank::is_blank;
 use crate::tree::Tree;
@@ -63,27 +64,18 @@ impl Set {
         self.templates.get(name)
     }
 
-    /// Adds a definition: a new name goes last, and a name that is there keeps its place and gets
-    /// the new body, unless that is blank. After an error the set is as it was.
-    pub(crate) fn define(&mut self, name: Vec<u8>, tree: Tree) -> Result<(), AllocError>
-        requires { IsKept (tree_of tree) }
+    /// Adds templates, one by one: a new name goes last, and a name that is there keeps its place and gets
+    /// the new body, unless that is blank. All of them are added, or the set is as it was.
+    pub(crate) fn define_all(&mut self, templates: Vec<(Vec<u8>, Tree)>) -> Result<(), AllocError>
+        requires { AreKept (map template_of templates.items) }
         ensures ok { OnOk result (set_view self.new
-            ≡ defined (set_view self.old) name.items (tree_of tree)) }
+            ≡ defined_each (set_view self.old) (map template_of templates.items)) }
         ensures err { OnErr result (set_view self.new ≡ set_view self.old) }
     {
-        if self.keeps(name.as_slice(), &tree) {
-            return Ok(());
-        }
-        self.templates.insert(name, tree)?;
+        // there is room for each before the first is added
+        self.templates.reserve(templates.len())?;
+        define_each(&mut self.templates, templates);
         Ok(())
-    }
-
-    /// Whether a definition leaves the set as it is: a blank one of a name that is there.
-    fn keeps(&self, name: &[u8], tree: &Tree) -> bool
-        ensures { result ≡ (is_blank (tree_of tree.now).nodes
-            && is_some (tree_named name.now (set_view self.now))) }
-    {
-        is_blank(tree.nodes.as_slice()) && self.get(name).is_some()
     }
 
     /// The names, in the order in which they were first defined.
@@ -108,5 +100,27 @@ impl<'s> Iterator for Names<'s> {
             Some(name) => Some(name.as_slice()),
             None => None,
         }
+    }
+}
+
+/// Adds templates, one by one, for each of which there is room.
+fn define_each(set: &mut IndexMap<Vec<u8>, Tree>, templates: Vec<(Vec<u8>, Tree)>)
+    requires { length templates.items ≤ spare set.old }
+    ensures { set_view set.new.entries ≡ defined_each (set_view set.old.entries) (map template_of templates.items) }
+{
+    for (name, tree) in templates {
+        define(set, name, tree);
+    }
+}
+
+/// Adds a template, for which there is room.
+fn define(set: &mut IndexMap<Vec<u8>, Tree>, name: Vec<u8>, tree: Tree)
+    requires { 0 < spare set.old }
+    ensures defined { set_view set.new.entries ≡ defined (set_view set.old.entries) name.items (tree_of tree) }
+    ensures room { spare set.old ≤ spare set.new + 1 }
+{
+    let stays = is_blank(tree.nodes.as_slice()) && set.contains_key(name.as_slice());
+    if !stays {
+        let _ = set.insert(name, tree);
     }
 }

@@ -1,5 +1,5 @@
 //! The tree of a template.
-use tmpl_grammar::{Control, Header};
+use tmpl_grammar::{Control, Header, Pipeline};
 use tmpl_values::Bytes;
 
 /// A node of a template ("Actions"). Its line counts from 1 in the file that the node stands in: an action's is that of
@@ -24,6 +24,8 @@ pub enum NodeKind {
     Break,
     /// Goes to the next element of that range.
     Continue,
+    /// A call: runs the template of this name with the value of the pipeline, or with nothing. A `block` is one too.
+    Template(Bytes, Option<Pipeline>),
 }
 
 /// A control. A part that is left out is one of no nodes, and an `else if` is an `if` that is the whole else part,
@@ -46,4 +48,13 @@ pub struct Tree {
     /// The path of the file as it was given.
     pub file: Bytes,
     pub nodes: Vec<Node>,
+}
+
+/// A template that a file defines.
+#[derive(Drop)]
+pub(crate) struct Definition {
+    /// That of its header, or 1 for the file's own template.
+    pub(crate) line: u64,
+    pub(crate) name: Bytes,
+    pub(crate) nodes: Vec<Node>,
 }

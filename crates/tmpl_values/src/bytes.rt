@@ -25,6 +25,13 @@ impl Bytes {
         Bytes { items }
     }
 
+    /// The bytes, to be changed or kept elsewhere.
+    pub fn into_vec(self) -> Vec<u8>
+        ensures { result.items ≡ self }
+    {
+        self.items
+    }
+
     /// The bytes.
     pub fn as_slice(&self) -> &[u8]
         ensures { result.now ≡ self.now }

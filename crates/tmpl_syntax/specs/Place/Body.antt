@@ -3,7 +3,8 @@ use Rattle.std.specs.Prelude.{◌≡◌, ℕ, suc, ◌<◌, ◌≤◌, Bool, tru
 use Rattle.std.specs.Prelude.{length, slice_get, Option, Some, None, ◌⊎◌, Contains}
 use Rattle.tmpl_grammar.specs.declared.action.Branch.{Branch}
 use Rattle.tmpl_grammar.specs.declared.action.Branch.TheVariants.{If as if_branch, With as with_branch}
-use Rattle.tmpl_grammar.specs.declared.tree.Control.{Control}
+use Rattle.tmpl_syntax.specs.declared.place.frame.Opening.{Opening}
+use Rattle.tmpl_syntax.specs.declared.place.frame.Opening.TheVariants as opened
 use Rattle.tmpl_grammar.specs.declared.tree.Control.TheVariants.{If, With, Range}
 use Rattle.tmpl_syntax.specs.declared.fault.Fault.{Fault}
 use Rattle.tmpl_syntax.specs.declared.fault.Fault.TheVariants.{Unreadable, NotAnAction, OutOfPlace}
@@ -15,53 +16,61 @@ use Rattle.tmpl_syntax.specs.Place.Open.{HasElse, is_template, OfOneTemplate}
 use Rattle.tmpl_syntax.specs.Place.Scope.{IsInScope}
 
 -- an `else if` stands in an `if` alone, and an `else with` in a `with`
-abbrev pub joins : Branch → Control → Bool
-joins if_branch If = true
-joins if_branch With = false
-joins if_branch Range = false
-joins with_branch If = false
-joins with_branch With = true
-joins with_branch Range = false
+abbrev pub joins : Branch → Opening → Bool
+joins if_branch (opened.Control If) = true
+joins if_branch (opened.Control With) = false
+joins if_branch (opened.Control Range) = false
+joins with_branch (opened.Control If) = false
+joins with_branch (opened.Control With) = true
+joins with_branch (opened.Control Range) = false
+joins b opened.Define = false
+joins b opened.Block = false
 
 -- nothing is open at i, or its last opening is a template's body, or has an else already
 pub data TakesNoElse (xs : List Role) (i : ℕ) : Type 0 where
   nothing_open : NothingOpen xs i → TakesNoElse xs i
-  of_a_template : {j : ℕ} → (l : IsLast xs j i) → is_template l.is_open.control ≡ true → TakesNoElse xs i
+  of_a_template : {j : ℕ} → (l : IsLast xs j i) → is_template l.is_open.opened ≡ true → TakesNoElse xs i
   after_an_else : {j : ℕ} → IsLast xs j i → HasElse xs j i → TakesNoElse xs i
 
 -- the last opening open at i has no else part that begins so
 pub record TakesNoBranch (xs : List Role) (b : Branch) (i : ℕ) : Type 0 where
   pub opened : ℕ
   pub last : IsLast xs opened i
-  pub other : joins b last.is_open.control ≡ false
+  pub other : joins b last.is_open.opened ≡ false
 
 -- a range of the template of i that is open at i with no else of its own before i
 pub record IsLoop (xs : List Role) (j i : ℕ) : Type 0 where
   pub is_open : IsOpen xs j i
-  pub range : is_open.control ≡ Range
+  pub range : is_open.opened ≡ opened.Control Range
   pub template : OfOneTemplate xs j i
   pub bare : HasElse xs j i → ⊥
 
--- out of place: an end, else or else branch at which nothing is open; an else or else branch after an else of the same
--- opening; an else branch of another control; a break or continue in no range's body
+-- a define at which something is open is out of place
+abbrev pub MayNotOpen : List Role → ℕ → Opening → Type 0
+MayNotOpen xs i (opened.Control c) = ⊥
+MayNotOpen xs i opened.Define = (j : ℕ) × IsOpen xs j i
+MayNotOpen xs i opened.Block = ⊥
+
+-- .. and an end, else or else branch at which nothing is open; an else or else branch of a define or block, or after an
+-- else of the same opening; an else branch of another control; a break or continue in no range's body
 abbrev pub IsMisplaced : List Role → ℕ → Act → Type 0
 IsMisplaced xs i (plain p) = ⊥
-IsMisplaced xs i (opener c p) = ⊥
+IsMisplaced xs i (opener c p) = MayNotOpen xs i c
 IsMisplaced xs i bare_else = TakesNoElse xs i
 IsMisplaced xs i (branch_else b p) = TakesNoElse xs i ⊎ TakesNoBranch xs b i
 IsMisplaced xs i closer = NothingOpen xs i
 IsMisplaced xs i jump = (j : ℕ) → IsLoop xs j i → ⊥
 
--- the controls that are a level while they are open
-abbrev pub is_level : Control → Bool
-is_level If = true
-is_level With = true
-is_level Range = true
+-- the openings that are a level while they are open
+abbrev pub is_level : Opening → Bool
+is_level (opened.Control c) = true
+is_level opened.Define = false
+is_level opened.Block = true
 
--- a level is an open if, with or range, or an else branch that belongs to an open one
+-- a level is an open if, with, range or block, or an else branch that belongs to an open one
 pub data IsLevel (xs : List Role) (k i : ℕ) : Type 0 where
-  of_opening : (o : IsOpen xs k i) → is_level o.control ≡ true → IsLevel xs k i
-  of_else_branch : {j : ℕ} → IsElseBranchOf xs j k → (o : IsOpen xs j i) → is_level o.control ≡ true → IsLevel xs k i
+  of_opening : (o : IsOpen xs k i) → is_level o.opened ≡ true → IsLevel xs k i
+  of_else_branch : {j : ℕ} → IsElseBranchOf xs j k → (o : IsOpen xs j i) → is_level o.opened ≡ true → IsLevel xs k i
 
 -- of the places before m, n are levels at i
 pub data Levels (xs : List Role) (i : ℕ) : ℕ → ℕ → Type 0 where

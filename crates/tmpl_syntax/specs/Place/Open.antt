@@ -2,12 +2,12 @@
 use Rattle.std.specs.Prelude.{◌≡◌, ℕ, ◌+◌, ◌<◌, ◌≤◌, Bool, true, false, List}
 use Rattle.std.specs.Prelude.{count_by, slice_get, slice_range, Option, Some, None}
 use Rattle.tmpl_grammar.specs.declared.action.Branch.{Branch}
-use Rattle.tmpl_grammar.specs.declared.tree.Control.{Control}
-use Rattle.tmpl_grammar.specs.declared.tree.Control.TheVariants.{If, With, Range}
+use Rattle.tmpl_syntax.specs.declared.place.frame.Opening.{Opening}
+use Rattle.tmpl_syntax.specs.declared.place.frame.Opening.TheVariants as opened
 use Rattle.tmpl_syntax.specs.Place.Role.{Names, Act, plain, opener, bare_else, branch_else, closer}
 use Rattle.tmpl_syntax.specs.Place.Role.{jump, Role, text_role, unreadable_role, unread_role, act_role}
 
-abbrev pub opening_of : Act → Option Control
+abbrev pub opening_of : Act → Option Opening
 opening_of (plain p) = None
 opening_of (opener c p) = Some c
 opening_of bare_else = None
@@ -15,14 +15,14 @@ opening_of (branch_else b p) = None
 opening_of closer = None
 opening_of jump = None
 
--- an opening is an if, with or range
-abbrev pub opening : Role → Option Control
+-- an opening is an if, with, range, define or block
+abbrev pub opening : Role → Option Opening
 opening text_role = None
 opening unreadable_role = None
 opening unread_role = None
 opening (act_role a) = opening_of a
 
-abbrev pub there : Option Control → Bool
+abbrev pub there : Option Opening → Bool
 there None = false
 there (Some c) = true
 
@@ -43,14 +43,14 @@ ends unreadable_role = false
 ends unread_role = false
 ends (act_role a) = is_end a
 
-abbrev pub IsOpening : Option Role → Control → Type 0
+abbrev pub IsOpening : Option Role → Opening → Type 0
 IsOpening None c = ⊥
 IsOpening (Some x) c = opening x ≡ Some c
 
 -- the opening at j is open at a later i if no front of the stretch strictly between them has more ends than openings
 pub record IsOpen (xs : List Role) (j i : ℕ) : Type 0 where
-  pub control : Control
-  pub at : IsOpening (slice_get xs j) control
+  pub opened : Opening
+  pub at : IsOpening (slice_get xs j) opened
   pub before : j < i
   pub fronts : (n : ℕ) → j < n → n ≤ i
       → count_by ends (slice_range xs (j + 1) n) ≤ count_by opens (slice_range xs (j + 1) n)
@@ -79,16 +79,16 @@ pub record IsElseBranchOf (xs : List Role) (j k : ℕ) : Type 0 where
 abbrev pub HasElse : List Role → ℕ → ℕ → Type 0
 HasElse xs j i = (k : ℕ) × (k < i) × IsElseOf xs j k
 
--- the controls whose body is a template of its own: none of these
-abbrev pub is_template : Control → Bool
-is_template If = false
-is_template With = false
-is_template Range = false
+-- the openings whose body is a template of its own
+abbrev pub is_template : Opening → Bool
+is_template (opened.Control c) = false
+is_template opened.Define = true
+is_template opened.Block = true
 
 -- an opening at j, open at i, whose body is a template of its own
 pub record IsBody (xs : List Role) (j i : ℕ) : Type 0 where
   pub is_open : IsOpen xs j i
-  pub own : is_template is_open.control ≡ true
+  pub own : is_template is_open.opened ≡ true
 
 -- the template of i is that of the last such opening that is open at i, else the file's
 abbrev pub IsTemplate : List Role → ℕ → Option ℕ → Type 0

@@ -1,16 +1,20 @@
 -- What counts of an item for the place in which it stands: which kind of action it is, and the names in it. Names
 -- are without their `$`.
-use Rattle.std.specs.Prelude.{ℕ, Bool, true, false, List, [], ◌∷◌, ◌++◌, map}
+use Rattle.std.specs.Prelude.{ℕ, Bool, true, false, List, [], ◌∷◌, ◌++◌, map, Option, Some, None}
 use Rattle.tmpl_grammar.specs.Tree.{Operand, dot, fields, variable, bool_constant, number_constant, text_constant}
 use Rattle.tmpl_grammar.specs.Tree.{nil, function, group, Operands, no_operand, operand, Commands, no_command, command}
 use Rattle.tmpl_grammar.specs.Tree.{Pipeline, pipeline, Binding, unbound, declare, assign, declare_pair, Header}
-use Rattle.tmpl_grammar.specs.Action.{Action, pipeline_action, opening, plain_else}
-use Rattle.tmpl_grammar.specs.Action.{else_branch, end_action, break_action, continue_action}
+use Rattle.tmpl_grammar.specs.Action as action
+use Rattle.tmpl_grammar.specs.Action.{Action, pipeline_action, plain_else}
+use Rattle.tmpl_grammar.specs.Action.{else_branch, end_action, break_action, continue_action, define_action}
+use Rattle.tmpl_grammar.specs.Action.{template_action, block_action}
 use Rattle.tmpl_syntax.specs.Item.{Item, item, text_item, unreadable_item, unread_item, deep_item, action_item}
 use Rattle.tmpl_grammar.specs.declared.action.Branch.{Branch}
 use Rattle.tmpl_grammar.specs.declared.action.Shape.{Shape}
-use Rattle.tmpl_grammar.specs.declared.action.Shape.TheVariants as shape
-use Rattle.tmpl_grammar.specs.declared.tree.Control.{Control}
+use Rattle.tmpl_grammar.specs.declared.action.Shape.TheVariants as piped
+use Rattle.tmpl_grammar.specs.declared.action.HeaderShape.TheVariants as shape
+use Rattle.tmpl_syntax.specs.declared.place.frame.Opening.{Opening}
+use Rattle.tmpl_syntax.specs.declared.place.frame.Opening.TheVariants as opening
 
 abbrev pub Name : Type 0
 Name = List ℕ
@@ -21,11 +25,11 @@ pub record Names : Type 0 where
   pub uses : List Name
   pub nested : Bool
 
--- a plain action puts out or binds a value, an opener opens a control, a branch_else is an else part that begins with a
--- control of its own, a closer is an `end`, and a jump a break or continue
+-- a plain action puts out or binds a value or runs a template, an opener opens a control or a template, a branch_else
+-- is an else part that begins with a control of its own, a closer is an `end`, and a jump a break or continue
 pub data Act : Type 0 where
   plain : Names → Act
-  opener : Control → Names → Act
+  opener : Opening → Names → Act
   bare_else : Act
   branch_else : Branch → Names → Act
   closer : Act
@@ -85,23 +89,36 @@ names_of h = record {
   nested = false;
 }
 
+abbrev pub no_names : Names
+no_names = record { declares = []; uses = []; nested = false }
+
+-- the names in what a template is run with
+abbrev pub names_given : Option Pipeline → Names
+names_given None = no_names
+names_given (Some p) = record { declares = []; uses = used_by p; nested = false }
+
 abbrev pub act_of : Action → Act
 act_of (pipeline_action h) = plain (names_of h)
-act_of (opening c h) = opener c (names_of h)
+act_of (action.opening c h) = opener (opening.Control c) (names_of h)
 act_of plain_else = bare_else
 act_of (else_branch branch h) = branch_else branch (names_of h)
 act_of end_action = closer
 act_of break_action = jump
 act_of continue_action = jump
+act_of (define_action name) = opener opening.Define no_names
+act_of (template_action name given) = plain (names_given given)
+act_of (block_action name p) = opener opening.Block (names_given (Some p))
 
 -- parentheses that nest too deep, whose names do not count: they are asked for last
 abbrev pub deep_names : Names
 deep_names = record { declares = []; uses = []; nested = true }
 
 abbrev pub act_of_shape : Shape → Act
-act_of_shape shape.Pipeline = plain deep_names
-act_of_shape (shape.Open c) = opener c deep_names
-act_of_shape (shape.ElseBranch branch) = branch_else branch deep_names
+act_of_shape (piped.Header shape.Pipeline) = plain deep_names
+act_of_shape (piped.Header (shape.Open c)) = opener (opening.Control c) deep_names
+act_of_shape (piped.Header (shape.ElseBranch branch)) = branch_else branch deep_names
+act_of_shape piped.Template = plain deep_names
+act_of_shape piped.Block = opener opening.Block deep_names
 
 abbrev pub role_of : Item → Role
 role_of (item line (text_item bytes)) = text_role

@@ -1,15 +1,17 @@
 -- Laws of printed trees.
-use Rattle.std.specs.Prelude.{◌≡◌, ℕ, List, [], ◌∷◌}
+use Rattle.std.specs.Prelude.{◌≡◌, ℕ, List, [], ◌∷◌, map, codes}
 use Rattle.tmpl_values.proofs.RuneLemmas.{AreBytes}
-use Rattle.tmpl_syntax.specs.Tree.{Nodes}
+use Rattle.tmpl_syntax.specs.Tree.{Nodes, none, then, text, Definition}
+use Rattle.tmpl_syntax.specs.Set.{Template}
+use Rattle.tmpl_syntax.specs.Parse.{template_in}
 use Rattle.tmpl_grammar.specs.Action.{Action}
 use Rattle.tmpl_syntax.specs.Language.{Branches, every_branch}
 use Rattle.tmpl_syntax.specs.Item.{Item, item, text_item, action_item, HasItems}
 use Rattle.tmpl_syntax.specs.Spelling.{Spells}
 use Rattle.tmpl_syntax.specs.Place.Role.{roles_of}
 use Rattle.tmpl_syntax.specs.Place.Body.{fine, Judged}
-use Rattle.tmpl_syntax.specs.Print.Printed.{Said, said_text, said, nodes_said, printed, unlined}
-use Rattle.tmpl_syntax.specs.Print.Printable.{IsPrintable}
+use Rattle.tmpl_syntax.specs.Print.Printed.{Said, said_text, said, nodes_said, printed, printed_set, unlined}
+use Rattle.tmpl_syntax.specs.Print.Printable.{IsPrintable, ArePrintable}
 
 -- the items say this, at some lines
 pub data Says : List Said → List Item → Type 0 where
@@ -19,26 +21,59 @@ pub data Says : List Said → List Item → Type 0 where
   says : {line : ℕ} {a : Action} {ss : List Said} {xs : List Item} → Says ss xs
       → Says (said a ∷ ss) (item line (action_item a) ∷ xs)
 
--- printed nodes are cut into pieces, and these are read as items, which spell the same nodes apart from lines
+-- printed nodes are cut into pieces, and these are read as items, which spell no definition, and the same nodes apart
+-- from lines
 pub record ReadBack (ns : Nodes) : Type 0 where
   pub items : List Item
   pub has : HasItems every_branch (printed ns) items
   pub say : Says (nodes_said ns) items
   pub nodes : Nodes
-  pub spells : Spells items nodes
+  pub spells : Spells items [] nodes
   pub alike : unlined nodes ≡ unlined ns
 
 abbrev pub ReadsSame : Type 0
 ReadsSame = (ns : Nodes) → IsPrintable ns → ReadBack ns
 
--- what a file of bytes spells can be printed
+-- a template of each definition that a file of bytes spells can be printed, and so can the file's own
 abbrev pub KeepsPrintable : Type 0
 KeepsPrintable =
-    (branches : Branches) (bytes : List ℕ) (items : List Item) (ns : Nodes) → AreBytes bytes
-    → HasItems branches bytes items → Spells items ns → IsPrintable ns
+    (branches : Branches) (bytes : List ℕ) (items : List Item) (ds : List Definition) (own : Nodes) → AreBytes bytes
+    → HasItems branches bytes items → Spells items ds own
+    → ((path : List ℕ) → ArePrintable (map (template_in path) ds)) × IsPrintable own
 
--- items that say what the nodes of an accepted list say are accepted
+-- items that say what the nodes of an accepted list's own template say are accepted
 abbrev pub AcceptsBack : Type 0
 AcceptsBack =
-    (items : List Item) (ns : Nodes) → Judged (roles_of items) fine → Spells items ns → (read : List Item)
-    → Says (nodes_said ns) read → Judged (roles_of read) fine
+    (items : List Item) (ds : List Definition) (own : Nodes) → Judged (roles_of items) fine → Spells items ds own
+    → (read : List Item) → Says (nodes_said own) read → Judged (roles_of read) fine
+
+-- ---- sets
+
+-- a name and nodes, apart from files and lines
+abbrev pub Unlined : Type 0
+Unlined = List ℕ × Nodes
+
+abbrev pub unlined_definition : Definition → Unlined
+unlined_definition d = (d.name, unlined d.nodes)
+
+abbrev pub unlined_template : Template → Unlined
+unlined_template t = (t.0, unlined t.1.nodes)
+
+-- as many newlines, each a text of its own
+abbrev pub newline_nodes : List Template → Nodes
+newline_nodes [] = none
+newline_nodes (t ∷ ts) = then 0 (text (codes "\n")) (newline_nodes ts)
+
+-- a printed set is cut into pieces, and these are read as items, which spell the same templates in the same order, apart
+-- from files and lines, and a newline behind each
+pub record SetBack (ts : List Template) : Type 0 where
+  pub items : List Item
+  pub has : HasItems every_branch (printed_set ts) items
+  pub definitions : List Definition
+  pub own : Nodes
+  pub spells : Spells items definitions own
+  pub alike : map unlined_definition definitions ≡ map unlined_template ts
+  pub newlines : unlined own ≡ newline_nodes ts
+
+abbrev pub SetReadsSame : Type 0
+SetReadsSame = (ts : List Template) → ArePrintable ts → SetBack ts

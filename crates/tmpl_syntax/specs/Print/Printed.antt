@@ -1,11 +1,13 @@
--- How a tree is printed: its texts and actions one behind the other.
-use Rattle.std.specs.Prelude.{ℕ, List, [], ◌∷◌, ◌++◌, map}
+-- How a tree and a set are printed: their texts and actions one behind the other.
+use Rattle.std.specs.Prelude.{ℕ, List, [], ◌∷◌, ◌++◌, map, codes}
 use Rattle.tmpl_grammar.specs.Tree.{Header}
 use Rattle.tmpl_grammar.specs.Action.{Action, pipeline_action, opening, plain_else}
-use Rattle.tmpl_grammar.specs.Action.{end_action, break_action, continue_action}
+use Rattle.tmpl_grammar.specs.Action.{end_action, break_action, continue_action, define_action, template_action}
 use Rattle.tmpl_grammar.specs.Print.{action_tokens}
 use Rattle.tmpl_grammar.specs.declared.tree.Control.{Control}
-use Rattle.tmpl_syntax.specs.Tree.{NodeKind, text, action, control_node, break_node, continue_node, Nodes, none, then}
+use Rattle.tmpl_syntax.specs.Tree.{NodeKind, text, action, control_node, break_node, continue_node, template_node}
+use Rattle.tmpl_syntax.specs.Tree.{Nodes, none, then}
+use Rattle.tmpl_syntax.specs.Set.{Template}
 use Rattle.tmpl_syntax.specs.declared.print.Before.TheVariants.{Nothing}
 use Rattle.tmpl_syntax.specs.Print.Join.{Part, a_text, an_action, joined}
 
@@ -30,10 +32,17 @@ abbrev mutual
   node_said (control_node c h body other) = control_said c h (nodes_said body) (else_said other (nodes_said other))
   node_said break_node = said break_action ∷ []
   node_said continue_node = said continue_action ∷ []
+  node_said (template_node name given) = said (template_action name given) ∷ []
 
   pub nodes_said : Nodes → List Said
   nodes_said none = []
   nodes_said (then line n ns) = node_said n ++ nodes_said ns
+
+-- each template in a definition of its own, and a newline behind it
+abbrev pub set_said : List Template → List Said
+set_said [] = []
+set_said (t ∷ ts) =
+    said (define_action t.0) ∷ (nodes_said t.1.nodes ++ said end_action ∷ said_text (codes "\n") ∷ set_said ts)
 
 abbrev pub part_of : Said → Part
 part_of (said_text bytes) = a_text bytes
@@ -48,6 +57,7 @@ abbrev mutual
   unlined_node (control_node c h body other) = control_node c h (unlined body) (unlined other)
   unlined_node break_node = break_node
   unlined_node continue_node = continue_node
+  unlined_node (template_node name given) = template_node name given
 
   pub unlined : Nodes → Nodes
   unlined none = none
@@ -58,3 +68,7 @@ abbrev mutual
 -- the bytes of nodes: the inverse of cutting, reading and spelling
 abbrev pub printed : Nodes → List ℕ
 printed ns = joined Nothing (map part_of (nodes_said ns))
+
+-- the bytes of a set
+abbrev pub printed_set : List Template → List ℕ
+printed_set ts = joined Nothing (map part_of (set_said ts))

@@ -1,12 +1,14 @@
--- The nodes of a file's items, from the last item to the first: what is known at a place are the nodes up to the end of
+-- The definitions and the nodes of a file's items, from the last item to the first: what is known at a place are the nodes up to the end of
 -- the part in which it stands, and those of the else part behind it; and the same for each control around it.
-use Rattle.std.specs.Prelude.{ℕ, List, [], ◌∷◌}
+use Rattle.std.specs.Prelude.{ℕ, List, [], ◌∷◌, Some}
 use Rattle.tmpl_grammar.specs.Tree.{Header}
 use Rattle.tmpl_grammar.specs.Action.{pipeline_action, opening, plain_else, else_branch, end_action, break_action}
-use Rattle.tmpl_grammar.specs.Action.{continue_action, control_in}
+use Rattle.tmpl_grammar.specs.Action.{continue_action, define_action, template_action, block_action, control_in}
 use Rattle.tmpl_grammar.specs.declared.tree.Control.{Control}
 use Rattle.tmpl_grammar.specs.declared.action.Branch.{Branch}
 use Rattle.tmpl_syntax.specs.Tree.{NodeKind, Nodes, none, then, text, action, control_node, break_node, continue_node}
+use Rattle.tmpl_syntax.specs.Tree.{template_node, Definition}
+use Rattle.tmpl_syntax.specs.Spelling.{definition}
 use Rattle.tmpl_syntax.specs.Item.{Item, item, text_item, unreadable_item, unread_item, deep_item, action_item}
 
 -- the nodes of a part from a place on, and those of the else part behind it
@@ -14,10 +16,11 @@ pub record Level : Type 0 where
   pub nodes : Nodes
   pub other : Nodes
 
--- the innermost part, and those around it, the nearest first
+-- the innermost part, those around it, the nearest first, and the definitions from the place on
 pub record Parts : Type 0 where
   pub inner : Level
   pub around : List Level
+  pub definitions : List Definition
 
 abbrev pub no_level : Level
 no_level = record { nodes = none; other = none }
@@ -35,30 +38,38 @@ abbrev pub with_node_before : ℕ → NodeKind → Level → Level
 with_node_before line n l = record { nodes = then line n l.nodes; other = l.other }
 
 abbrev pub put_before : ℕ → NodeKind → Parts → Parts
-put_before line n p = record { inner = with_node_before line n p.inner; around = p.around }
+put_before line n p = record p { inner = with_node_before line n p.inner }
 
 -- a control whose body and else part are behind it
 abbrev pub control_before : ℕ → Control → Header → Parts → Parts
 control_before line c h p = record {
   inner = with_node_before line (control_node c h p.inner.nodes p.inner.other) (first_of p.around);
   around = rest_of p.around;
+  definitions = p.definitions;
+}
+
+-- a template whose body is behind it
+abbrev pub definition_before : ℕ → List ℕ → Parts → Parts
+definition_before line name p = record {
+  inner = first_of p.around;
+  around = rest_of p.around;
+  definitions = definition line name p.inner.nodes ∷ p.definitions;
 }
 
 -- an else, whose part is behind it
 abbrev pub else_before : Parts → Parts
-else_before p = record { inner = record { nodes = none; other = p.inner.nodes }; around = p.around }
+else_before p = record p { inner = record { nodes = none; other = p.inner.nodes } }
 
 abbrev pub branch_before : ℕ → Branch → Header → Parts → Parts
-branch_before line branch h p = record {
+branch_before line branch h p = record p {
   inner = record {
     nodes = none;
     other = then line (control_node (control_in branch) h p.inner.nodes p.inner.other) none;
   };
-  around = p.around;
 }
 
 abbrev pub end_before : Parts → Parts
-end_before p = record { inner = no_level; around = p.inner ∷ p.around }
+end_before p = record { inner = no_level; around = p.inner ∷ p.around; definitions = p.definitions }
 
 -- the parts from an item on, by those behind it
 abbrev pub parts_with : Item → Parts → Parts
@@ -73,6 +84,10 @@ parts_with (item line (action_item (else_branch branch h))) p = branch_before li
 parts_with (item line (action_item end_action)) p = end_before p
 parts_with (item line (action_item break_action)) p = put_before line break_node p
 parts_with (item line (action_item continue_action)) p = put_before line continue_node p
+parts_with (item line (action_item (define_action name))) p = definition_before line name p
+parts_with (item line (action_item (template_action name given))) p = put_before line (template_node name given) p
+parts_with (item line (action_item (block_action name q))) p =
+    put_before line (template_node name (Some q)) (definition_before line name p)
 
 -- the parts from the first of these items on, by those behind the last
 abbrev pub parts_before : List Item → Parts → Parts
@@ -81,7 +96,10 @@ parts_before (x ∷ xs) p = parts_with x (parts_before xs p)
 
 -- at the end of a file
 abbrev pub no_parts : Parts
-no_parts = record { inner = no_level; around = [] }
+no_parts = record { inner = no_level; around = []; definitions = [] }
 
 unfoldable pub nodes_from : List Item → Nodes
 nodes_from xs = (parts_before xs no_parts).inner.nodes
+
+unfoldable pub definitions_from : List Item → List Definition
+definitions_from xs = (parts_before xs no_parts).definitions

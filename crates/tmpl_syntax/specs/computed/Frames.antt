@@ -6,6 +6,8 @@ use Rattle.std.specs.List.{list_any, list_all}
 use Rattle.std.specs.Str.{bytes_eq}
 use Rattle.tmpl_grammar.specs.declared.action.Branch.{Branch}
 use Rattle.tmpl_grammar.specs.declared.tree.Control.{Control}
+use Rattle.tmpl_syntax.specs.declared.place.frame.Opening.{Opening}
+use Rattle.tmpl_syntax.specs.declared.place.frame.Opening.TheVariants as opened
 use Rattle.tmpl_grammar.specs.declared.tree.Control.TheVariants.{If, With, Range}
 use Rattle.tmpl_syntax.specs.declared.place.frame.Frame.{Frame}
 use Rattle.tmpl_syntax.specs.declared.fault.Fault.{Fault}
@@ -20,15 +22,17 @@ abbrev pub top : List Frame → Option Frame
 top [] = None
 top (f ∷ fs) = Some f
 
--- inside a control: may a break stand there
-abbrev pub loops : Control → Bool → Bool → Bool
-loops If has_else around = around
-loops With has_else around = around
-loops Range has_else around = not has_else || around
+-- inside an opening: may a break stand there
+abbrev pub loops : Opening → Bool → Bool → Bool
+loops (opened.Control If) has_else around = around
+loops (opened.Control With) has_else around = around
+loops (opened.Control Range) has_else around = not has_else || around
+loops opened.Define has_else around = false
+loops opened.Block has_else around = false
 
 abbrev pub in_loop : Option Frame → Bool
 in_loop None = false
-in_loop (Some f) = loops f.control f.has_else f.around
+in_loop (Some f) = loops f.opening f.has_else f.around
 
 abbrev pub levels : Option Frame → ℕ
 levels None = 0
@@ -36,20 +40,25 @@ levels (Some f) = f.levels
 
 abbrev pub takes_else : Option Frame → Bool
 takes_else None = false
-takes_else (Some f) = not (is_template f.control) && not f.has_else
+takes_else (Some f) = not (is_template f.opening) && not f.has_else
 
 abbrev pub takes_branch : Branch → Option Frame → Bool
 takes_branch b None = false
-takes_branch b (Some f) = joins b f.control
+takes_branch b (Some f) = joins b f.opening
 
 abbrev pub is_inside : Option Frame → Bool
 is_inside None = false
 is_inside (Some f) = true
 
+abbrev pub may_open : Opening → Option Frame → Bool
+may_open (opened.Control c) t = true
+may_open opened.Define t = not (is_inside t)
+may_open opened.Block t = true
+
 -- not out of place
 abbrev pub is_placed : Act → Option Frame → Bool
 is_placed (plain p) t = true
-is_placed (opener c p) t = true
+is_placed (opener c p) t = may_open c t
 is_placed bare_else t = takes_else t
 is_placed (branch_else b p) t = takes_else t && takes_branch b t
 is_placed closer t = is_inside t
@@ -97,16 +106,10 @@ abbrev pub fault_in : Act → Option Frame → List Name → Option Fault
 fault_in a t names = first_fault (is_placed a t) (is_too_deep a t) (knows names (used (names_in a)))
 
 -- how many levels an opening adds
-abbrev pub level_of : Control → ℕ
-level_of If = 1
-level_of With = 1
-level_of Range = 1
-
--- of the names in the header of a control, those that its body sees
-abbrev pub heading : Control → List Name → List Name
-heading If names = names
-heading With names = names
-heading Range names = names
+abbrev pub level_of : Opening → ℕ
+level_of (opened.Control c) = 1
+level_of opened.Define = 0
+level_of opened.Block = 1
 
 -- how many names an else part sees, of those before the header and those with it: a range's own are not seen there
 abbrev pub part_of : Control → ℕ → ℕ → ℕ
@@ -114,15 +117,26 @@ part_of If before after = after
 part_of With before after = after
 part_of Range before after = before
 
--- a control in whose outside this frame is the newest and there are n names
-abbrev pub entered : Control → Names → Option Frame → ℕ → Frame
+-- the names at the start of what is opened, and at the start of its else part: a template sees none from outside
+abbrev pub start_of : Opening → ℕ → ℕ
+start_of (opened.Control c) before = before
+start_of opened.Define before = 0
+start_of opened.Block before = 0
+
+abbrev pub else_start : Opening → ℕ → ℕ → ℕ
+else_start (opened.Control c) before after = part_of c before after
+else_start opened.Define before after = 0
+else_start opened.Block before after = 0
+
+-- an opening in whose outside this frame is the newest and there are n names
+abbrev pub entered : Opening → Names → Option Frame → ℕ → Frame
 entered c p t n = record {
-  control = c;
+  opening = c;
   has_else = false;
   around = in_loop t;
   levels = levels t + level_of c;
-  start = n;
-  part = part_of c n (n + length p.declares);
+  start = start_of c n;
+  part = else_start c n (n + length p.declares);
 }
 
 abbrev pub elsed : Frame → Frame
@@ -153,14 +167,45 @@ frames_after (branch_else b p) fs n = branched_all (n + length p.declares) fs
 frames_after closer fs n = ended_all fs
 frames_after jump fs n = fs
 
--- the names that it adds for those behind it
-abbrev pub added : Act → List Name
-added (plain p) = p.declares
-added (opener c p) = heading c p.declares
-added bare_else = []
-added (branch_else b p) = p.declares
-added closer = []
-added jump = []
+-- the names of the template in which a place stands, and those of the templates around it, the nearest first
+pub record Known : Type 0 where
+  pub inner : List Name
+  pub around : List (List Name)
+
+abbrev pub with_inner : Known → List Name → Known
+with_inner k names = record { inner = names; around = k.around }
+
+abbrev pub first_names : List (List Name) → List Name
+first_names [] = []
+first_names (ns ∷ nss) = ns
+
+abbrev pub rest_names : List (List Name) → List (List Name)
+rest_names [] = []
+rest_names (ns ∷ nss) = nss
+
+-- behind an opening: a control adds what its header declares, and in a template nothing is known yet
+abbrev pub opened_names : Opening → List Name → Known → Known
+opened_names (opened.Control c) declares k = with_inner k (k.inner ++ declares)
+opened_names opened.Define declares k = record { inner = []; around = k.inner ∷ k.around }
+opened_names opened.Block declares k = record { inner = []; around = k.inner ∷ k.around }
+
+abbrev pub closed_if : Bool → Known → Known
+closed_if true k = record { inner = first_names k.around; around = rest_names k.around }
+closed_if false k = k
+
+-- behind the `end` of an opening: the names around a template are known again
+abbrev pub closed_names : Option Frame → Known → Known
+closed_names None k = k
+closed_names (Some f) k = closed_if (is_template f.opening) k
+
+-- the names behind an action that is in place and sees these
+abbrev pub known_after : Act → Option Frame → Known → Known
+known_after (plain p) t k = with_inner k (k.inner ++ p.declares)
+known_after (opener c p) t k = opened_names c p.declares k
+known_after bare_else t k = k
+known_after (branch_else b p) t k = with_inner k (k.inner ++ p.declares)
+known_after closer t k = closed_names t k
+known_after jump t k = k
 
 -- the same for an item
 abbrev pub seen_at : Role → Option Frame → List Name → List Name
@@ -181,11 +226,11 @@ frames_past unreadable_role fs n = fs
 frames_past unread_role fs n = fs
 frames_past (act_role a) fs n = frames_after a fs n
 
-abbrev pub added_by : Role → List Name
-added_by text_role = []
-added_by unreadable_role = []
-added_by unread_role = []
-added_by (act_role a) = added a
+abbrev pub known_past : Role → Option Frame → Known → Known
+known_past text_role t k = k
+known_past unreadable_role t k = k
+known_past unread_role t k = k
+known_past (act_role a) t k = known_after a t k
 
 abbrev pub at_end : List Frame → Verdict
 at_end [] = fine
@@ -196,12 +241,15 @@ unless_fault None i v = v
 unless_fault (Some f) i v = refused i f
 
 -- the verdict of the items from the place i on, where these frames and names stand
-abbrev pub verdict_from : ℕ → List Frame → List Name → List Role → Verdict
-verdict_from i fs names [] = at_end fs
-verdict_from i fs names (x ∷ xs) =
-    let seen = seen_at x (top fs) names in
+abbrev pub verdict_from : ℕ → List Frame → Known → List Role → Verdict
+verdict_from i fs known [] = at_end fs
+verdict_from i fs known (x ∷ xs) =
+    let seen = seen_at x (top fs) known.inner in
     unless_fault (fault_at x (top fs) seen) i
-    (verdict_from (i + 1) (frames_past x fs (length seen)) (seen ++ added_by x) xs)
+    (verdict_from (i + 1) (frames_past x fs (length seen)) (known_past x (top fs) (with_inner known seen)) xs)
+
+abbrev pub none_known : Known
+none_known = record { inner = []; around = [] }
 
 unfoldable pub verdict_of : List Role → Verdict
-verdict_of xs = verdict_from 0 [] [] xs
+verdict_of xs = verdict_from 0 [] none_known xs

@@ -7,7 +7,7 @@ ghost use Rattle.tmpl_syntax.specs.computed.Parse.{IsChecked};
 use crate::fault::{ParseKind, Refusal};
 use crate::item::Item;
 use crate::place::frame::Frame;
-use crate::place::names::KnownNames;
+use crate::place::scopes::Scopes;
 use crate::place::pass::{forget, newest, take_in};
 use crate::place::rules::fault_of;
 use std::alloc::Global;
@@ -17,17 +17,17 @@ pub(crate) fn check(alloc: Global, items: &[Item<'_>], bytes: &[u8]) -> Result<(
     ensures { IsChecked bytes.now (map item_of items.now) result }
 {
     let mut stack: Vec<Frame> = Vec::new(alloc);
-    let mut names = KnownNames::new(alloc);
+    let mut scopes = Scopes::new(alloc);
     for item in items {
         let outside = newest(&stack);
-        forget(&mut names, item, outside);
-        if let Some(fault) = fault_of(item, outside, &names) {
+        forget(&mut scopes.inner, item, outside);
+        if let Some(fault) = fault_of(item, outside, &scopes.inner) {
             return Err(Refusal {
                 line: item.line,
                 kind: fault.kind(),
             });
         }
-        take_in(&mut stack, &mut names, item)?;
+        take_in(alloc, &mut stack, &mut scopes, item)?;
     }
     if stack.is_empty() {
         Ok(())

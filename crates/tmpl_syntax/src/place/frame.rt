@@ -1,19 +1,52 @@
-//! An open control.
+//! What is open.
+ghost use Rattle.std.specs.Prelude.{◌≡◌};
+ghost use Rattle.tmpl_syntax.specs.Place.Open.{is_template};
+ghost use Rattle.tmpl_syntax.specs.computed.Frames.{level_of};
 
 use tmpl_grammar::Control;
 
-/// An open control, and what stands inside it.
+/// What begins a part that an `end` closes.
+#[derive(Clone, Copy)]
+pub(crate) enum Opening {
+    Control(Control),
+    Define,
+    Block,
+}
+
+/// What is open, and what stands inside it.
 #[derive(Clone, Copy)]
 pub(crate) struct Frame {
-    pub(crate) control: Control,
+    pub(crate) opening: Opening,
     /// Whether a plain else of it came.
     pub(crate) has_else: bool,
     /// Whether a break may stand where it was opened.
     pub(crate) around: bool,
     /// The levels that stand inside it.
     pub(crate) levels: usize,
-    /// How many names there were where it was opened.
+    /// How many names of its template there were where it was opened.
     pub(crate) start: usize,
     /// How many names an else part of it sees.
     pub(crate) part: usize,
+}
+
+impl Opening {
+    /// Whether its body is a template of its own.
+    pub(crate) fn is_template(self) -> bool
+        ensures { result ≡ is_template self }
+    {
+        match self {
+            Opening::Control(_) => false,
+            Opening::Define | Opening::Block => true,
+        }
+    }
+
+    /// How many levels it adds.
+    pub(super) fn levels(self) -> usize
+        ensures { result ≡ level_of self }
+    {
+        match self {
+            Opening::Control(_) | Opening::Block => 1,
+            Opening::Define => 0,
+        }
+    }
 }

@@ -1,21 +1,25 @@
 //! What stands after an item: the frames of what is open, and the names that are known.
-ghost use Rattle.std.specs.Prelude.{◌≡◌, ◌<◌, ◌++◌, ◌∷◌, ◌+◌, IfOk, reverse, false, Some, None, length};
+ghost use Rattle.std.specs.Prelude.{◌≡◌, ◌≤◌, ◌<◌, ◌++◌, ◌∷◌, ◌+◌, IfOk, List, reverse, true, false, Some, None, length};
 ghost use Rattle.tmpl_grammar.specs.View.{action_of, binding_of, header_of};
-ghost use Rattle.tmpl_syntax.specs.View.{item_of, known_names};
+ghost use Rattle.tmpl_syntax.specs.View.{item_of, known_names, scopes_of};
 ghost use Rattle.tmpl_syntax.specs.Place.Role as role;
-ghost use Rattle.tmpl_syntax.specs.Place.Role.{act_of, act_of_shape, names_of, role_of};
+ghost use Rattle.tmpl_syntax.specs.Place.Role.{Name, Names, act_of, act_of_shape, names_of, role_of};
 ghost use Rattle.tmpl_syntax.specs.Place.Body as body;
+ghost use Rattle.tmpl_syntax.specs.Place.Open.{is_template};
 ghost use Rattle.tmpl_syntax.specs.computed.Frames as spec;
-ghost use Rattle.tmpl_syntax.specs.computed.Frames.{added, added_by, fault_at, heading, is_too_deep, levels, names_at};
+ghost use Rattle.tmpl_syntax.specs.computed.Frames.{closed_names, ended_all, fault_at, is_too_deep, known_after};
+ghost use Rattle.tmpl_syntax.specs.computed.Frames.{known_past, level_of, levels, names_at, opened_names};
 ghost use Rattle.tmpl_syntax.specs.computed.Frames.{branched_all, elsed_all, entered, frames_after, frames_past};
 ghost use Rattle.tmpl_syntax.specs.computed.Frames.{seen_at, top};
+ghost use Rattle.tmpl_syntax.specs.declared.place.frame.Opening.TheVariants as opening;
 
 use crate::item::{Item, ItemKind};
-use crate::place::frame::Frame;
+use crate::place::frame::{Frame, Opening};
 use crate::place::names::KnownNames;
+use crate::place::scopes::Scopes;
 use crate::place::rules::{is_in_loop, levels_in};
-use std::alloc::AllocError;
-use tmpl_grammar::{Action, Binding, Control, Header, Shape};
+use std::alloc::{AllocError, Global};
+use tmpl_grammar::{Action, Binding, Control, Header, HeaderShape, Shape};
 
 /// The newest frame.
 pub(super) fn newest(stack: &Vec<Frame>) -> Option<Frame>
@@ -44,8 +48,10 @@ fn forget_part(names: &mut KnownNames<'_>, shape: Shape, frame: Frame)
     ensures { known_names names.new ≡ names_at (act_of_shape shape) (Some frame) (known_names names.old) }
 {
     match shape {
-        Shape::ElseBranch(_) => names.truncate(frame.part),
-        Shape::Pipeline | Shape::Open(_) => {}
+        Shape::Header(HeaderShape::ElseBranch(_)) => names.truncate(frame.part),
+        Shape::Header(HeaderShape::Pipeline | HeaderShape::Open(_))
+        | Shape::Template
+        | Shape::Block => {}
     }
 }
 
@@ -56,51 +62,104 @@ fn forget_at(names: &mut KnownNames<'_>, action: &Action, frame: Frame)
     match action {
         Action::Else | Action::ElseBranch(_, _) => names.truncate(frame.part),
         Action::End => names.truncate(frame.start),
-        Action::Pipeline(_) | Action::Open(_, _) | Action::Break | Action::Continue => {}
+        Action::Pipeline(_)
+        | Action::Open(_, _)
+        | Action::Break
+        | Action::Continue
+        | Action::Define(_)
+        | Action::Template(_, _)
+        | Action::Block(_, _) => {}
     }
 }
 
-/// Takes in an item that is not refused: the frames behind it, and the names that it adds.
+/// Takes in an item that is not refused: the frames behind it, and the names that are known there.
 pub(super) fn take_in<'i>(
+    alloc: Global,
     stack: &mut Vec<Frame>,
-    names: &mut KnownNames<'i>,
+    scopes: &mut Scopes<'i>,
     item: &'i Item<'_>,
 ) -> Result<(), AllocError>
-    requires { fault_at (role_of (item_of item.now)) (top (reverse stack.old.items)) (known_names names.old) ≡ None }
+    requires { fault_at (role_of (item_of item.now)) (top (reverse stack.old.items))
+        (scopes_of scopes.old).inner ≡ None }
     ensures frames { IfOk result (λ u. reverse stack.new.items
-        ≡ frames_past (role_of (item_of item.now)) (reverse stack.old.items) (length (known_names names.old))) }
-    ensures names { IfOk result (λ u. known_names names.new
-        ≡ known_names names.old ++ added_by (role_of (item_of item.now))) }
+        ≡ frames_past (role_of (item_of item.now)) (reverse stack.old.items)
+        (length (scopes_of scopes.old).inner)) }
+    ensures names { IfOk result (λ u. scopes_of scopes.new
+        ≡ known_past (role_of (item_of item.now)) (top (reverse stack.old.items)) (scopes_of scopes.old)) }
 {
     match &item.what {
-        ItemKind::Action(action) => take_in_action(stack, names, action),
+        ItemKind::Action(action) => take_in_action(alloc, stack, scopes, action),
         _ => Ok(()),
     }
 }
 
 /// Takes in an action that is not refused.
 fn take_in_action<'i>(
+    alloc: Global,
     stack: &mut Vec<Frame>,
-    names: &mut KnownNames<'i>,
+    scopes: &mut Scopes<'i>,
     action: &'i Action,
 ) -> Result<(), AllocError>
     requires { is_too_deep (act_of (action_of action.now)) (top (reverse stack.old.items)) ≡ false }
     ensures frames { IfOk result (λ u. reverse stack.new.items
-        ≡ frames_after (act_of (action_of action.now)) (reverse stack.old.items) (length (known_names names.old))) }
-    ensures names { IfOk result (λ u. known_names names.new
-        ≡ known_names names.old ++ added (act_of (action_of action.now))) }
+        ≡ frames_after (act_of (action_of action.now)) (reverse stack.old.items)
+        (length (scopes_of scopes.old).inner)) }
+    ensures names { IfOk result (λ u. scopes_of scopes.new
+        ≡ known_after (act_of (action_of action.now)) (top (reverse stack.old.items)) (scopes_of scopes.old)) }
 {
     match action {
-        Action::Pipeline(header) => declare(names, &header.binding),
-        Action::Open(control, header) => enter(stack, names, *control, header),
+        Action::Pipeline(header) => declare(&mut scopes.inner, &header.binding),
+        Action::Open(control, header) => enter(stack, &mut scopes.inner, *control, header),
         Action::Else => pass_else(stack),
-        Action::ElseBranch(_, header) => pass_branch(stack, names, &header.binding),
+        Action::ElseBranch(_, header) => pass_branch(stack, &mut scopes.inner, &header.binding),
         Action::End => {
-            stack.pop();
+            leave(alloc, stack, scopes);
             Ok(())
         }
-        Action::Break | Action::Continue => Ok(()),
+        Action::Define(_) => enter_template(alloc, stack, scopes, Opening::Define),
+        Action::Block(_, _) => enter_template(alloc, stack, scopes, Opening::Block),
+        Action::Break | Action::Continue | Action::Template(_, _) => Ok(()),
     }
+}
+
+/// Closes what was opened last.
+fn leave(alloc: Global, stack: &mut Vec<Frame>, scopes: &mut Scopes<'_>)
+    ensures frames { reverse stack.new.items ≡ ended_all (reverse stack.old.items) }
+    ensures names { scopes_of scopes.new ≡ closed_names (top (reverse stack.old.items)) (scopes_of scopes.old) }
+{
+    if let Some(frame) = stack.pop() {
+        if frame.opening.is_template() {
+            scopes.leave(alloc);
+        }
+    }
+}
+
+/// Opens a template.
+fn enter_template(
+    alloc: Global,
+    stack: &mut Vec<Frame>,
+    scopes: &mut Scopes<'_>,
+    opening: Opening,
+) -> Result<(), AllocError>
+    requires template { is_template opening ≡ true }
+    requires levels { levels (top (reverse stack.old.items)) + level_of opening ≤ body.most_levels }
+    ensures frames { (names : Names) → IfOk result (λ u. reverse stack.new.items
+        ≡ entered opening names (top (reverse stack.old.items)) (length (scopes_of scopes.old).inner)
+        ∷ reverse stack.old.items) }
+    ensures names { (declares : List Name) → IfOk result (λ u. scopes_of scopes.new
+        ≡ opened_names opening declares (scopes_of scopes.old)) }
+{
+    let outside = newest(stack);
+    scopes.enter(alloc)?;
+    stack.push(Frame {
+        opening,
+        has_else: false,
+        around: is_in_loop(outside),
+        levels: levels_in(outside) + opening.levels(),
+        start: 0,
+        part: 0,
+    })?;
+    Ok(())
 }
 
 /// Adds the names that a header declares.
@@ -127,16 +186,16 @@ fn enter<'i>(
 ) -> Result<(), AllocError>
     requires { levels (top (reverse stack.old.items)) < body.most_levels }
     ensures frames { let h = names_of (header_of header.now) in IfOk result (λ u. reverse stack.new.items
-        ≡ entered control h (top (reverse stack.old.items)) (length (known_names names.old))
+        ≡ entered (opening.Control control) h (top (reverse stack.old.items)) (length (known_names names.old))
         ∷ reverse stack.old.items) }
     ensures names { let h = names_of (header_of header.now) in IfOk result (λ u. known_names names.new
-        ≡ known_names names.old ++ heading control h.declares) }
+        ≡ known_names names.old ++ h.declares) }
 {
     let outside = newest(stack);
     let start = names.len();
     declare(names, &header.binding)?;
     stack.push(Frame {
-        control,
+        opening: Opening::Control(control),
         has_else: false,
         around: is_in_loop(outside),
         levels: levels_in(outside) + 1,

@@ -10,10 +10,10 @@ ghost use Rattle.tmpl_syntax.specs.computed.Frames.{takes_branch, takes_else};
 
 use crate::fault::Fault;
 use crate::item::{Item, ItemKind};
-use crate::place::frame::Frame;
+use crate::place::frame::{Frame, Opening};
 use crate::place::names::KnownNames;
 use crate::place::uses::knows_its_names;
-use tmpl_grammar::{Action, Branch, Control, Shape};
+use tmpl_grammar::{Action, Branch, Control, HeaderShape, Shape};
 
 /// The most levels that may stand (our own limit): an open control is one, and an else branch up to its `end`.
 const MOST_LEVELS: usize = 500;
@@ -66,8 +66,12 @@ fn is_shape_in_place(shape: Shape, outside: Option<Frame>) -> bool
     ensures { result ≡ is_placed (act_of_shape shape) outside }
 {
     match shape {
-        Shape::Pipeline | Shape::Open(_) => true,
-        Shape::ElseBranch(branch) => may_take_else(outside) && may_take_branch(branch, outside),
+        Shape::Header(HeaderShape::Pipeline | HeaderShape::Open(_))
+        | Shape::Template
+        | Shape::Block => true,
+        Shape::Header(HeaderShape::ElseBranch(branch)) => {
+            may_take_else(outside) && may_take_branch(branch, outside)
+        }
     }
 }
 
@@ -76,7 +80,11 @@ fn is_in_place(action: &Action, outside: Option<Frame>) -> bool
     ensures { result ≡ is_placed (act_of (action_of action.now)) outside }
 {
     match action {
-        Action::Pipeline(_) | Action::Open(_, _) => true,
+        Action::Pipeline(_)
+        | Action::Open(_, _)
+        | Action::Template(_, _)
+        | Action::Block(_, _) => true,
+        Action::Define(_) => outside.is_none(),
         Action::Else => may_take_else(outside),
         Action::ElseBranch(branch, _) => {
             may_take_else(outside) && may_take_branch(*branch, outside)
@@ -91,7 +99,7 @@ fn may_take_else(outside: Option<Frame>) -> bool
     ensures { result ≡ takes_else outside }
 {
     match outside {
-        Some(frame) => !frame.has_else,
+        Some(frame) => !frame.opening.is_template() && !frame.has_else,
         None => false,
     }
 }
@@ -101,18 +109,18 @@ fn may_take_branch(branch: Branch, outside: Option<Frame>) -> bool
     ensures { result ≡ takes_branch branch outside }
 {
     match outside {
-        Some(frame) => may_join(branch, frame.control),
+        Some(frame) => may_join(branch, frame.opening),
         None => false,
     }
 }
 
-/// Whether an else part that begins so may belong to this control.
-fn may_join(branch: Branch, control: Control) -> bool
-    ensures { result ≡ body.joins branch control }
+/// Whether an else part that begins so may belong to what is opened so.
+fn may_join(branch: Branch, opening: Opening) -> bool
+    ensures { result ≡ body.joins branch opening }
 {
     match branch {
-        Branch::If => matches!(control, Control::If),
-        Branch::With => matches!(control, Control::With),
+        Branch::If => matches!(opening, Opening::Control(Control::If)),
+        Branch::With => matches!(opening, Opening::Control(Control::With)),
     }
 }
 
@@ -122,9 +130,10 @@ pub(super) fn is_in_loop(outside: Option<Frame>) -> bool
 {
     match outside {
         None => false,
-        Some(frame) => match frame.control {
-            Control::If | Control::With => frame.around,
-            Control::Range => !frame.has_else || frame.around,
+        Some(frame) => match frame.opening {
+            Opening::Control(Control::If | Control::With) => frame.around,
+            Opening::Control(Control::Range) => !frame.has_else || frame.around,
+            Opening::Define | Opening::Block => false,
         },
     }
 }
@@ -141,7 +150,7 @@ fn adds_level(action: &Action) -> bool
     ensures { result ≡ body.opens_level (act_of (action_of action.now)) }
 {
     match action {
-        Action::Open(_, _) | Action::ElseBranch(_, _) => true,
+        Action::Open(_, _) | Action::ElseBranch(_, _) | Action::Block(_, _) => true,
         _ => false,
     }
 }

@@ -18,7 +18,15 @@ pub(super) fn knows_its_names(action: &Action, names: &KnownNames<'_>) -> bool
         Action::Pipeline(header) | Action::Open(_, header) | Action::ElseBranch(_, header) => {
             knows_header(names, header)
         }
-        Action::Else | Action::End | Action::Break | Action::Continue => true,
+        Action::Template(_, Some(pipeline)) | Action::Block(_, pipeline) => {
+            knows_pipeline(names, pipeline)
+        }
+        Action::Template(_, None)
+        | Action::Define(_)
+        | Action::Else
+        | Action::End
+        | Action::Break
+        | Action::Continue => true,
     }
 }
 

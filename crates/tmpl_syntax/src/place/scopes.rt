@@ -1,0 +1,50 @@
+//! The names that are known in the template of a place, and in those around it.
+ghost use Rattle.std.specs.Prelude.{◌≡◌, ◌∷◌, [], IfOk, true};
+ghost use Rattle.tmpl_syntax.specs.View.{known_names, scopes_of};
+ghost use Rattle.tmpl_syntax.specs.computed.Frames.{closed_if, none_known};
+
+use crate::place::names::KnownNames;
+use std::alloc::{AllocError, Global};
+use std::mem;
+
+/// A template sees no names of the one in which it is defined, and these are known again behind it.
+#[derive(Drop)]
+pub(crate) struct Scopes<'i> {
+    /// Those of the template in which a place stands.
+    pub(crate) inner: KnownNames<'i>,
+    /// Those of the templates around it, the nearest last.
+    around: Vec<KnownNames<'i>>,
+}
+
+impl<'i> Scopes<'i> {
+    /// No names.
+    pub(crate) fn new(alloc: Global) -> Scopes<'i>
+        ensures { scopes_of result ≡ none_known }
+    {
+        Scopes {
+            inner: KnownNames::new(alloc),
+            around: Vec::new(alloc),
+        }
+    }
+
+    /// Begins a template, in which none is known yet.
+    pub(crate) fn enter(&mut self, alloc: Global) -> Result<(), AllocError>
+        ensures inner { IfOk result (λ u. (scopes_of self.new).inner ≡ []) }
+        ensures around { IfOk result (λ u. (scopes_of self.new).around
+            ≡ (scopes_of self.old).inner ∷ (scopes_of self.old).around) }
+    {
+        let outer = mem::replace(&mut self.inner, KnownNames::new(alloc));
+        self.around.push(outer)?;
+        Ok(())
+    }
+
+    /// Ends a template.
+    pub(crate) fn leave(&mut self, alloc: Global)
+        ensures { scopes_of self.new ≡ closed_if true (scopes_of self.old) }
+    {
+        self.inner = match self.around.pop() {
+            Some(outer) => outer,
+            None => KnownNames::new(alloc),
+        };
+    }
+}
