@@ -11,8 +11,8 @@ unfolding parts_of
 returns c =
     let a = c.args in
     let parts = level_of a.parts.inner in
-    same-parts _ _ _ _ _ _ (ap nodes_in (ap reverse c.new.ensures.items))
+    same-parts _ _ _ _ _ _ _ _ (ap nodes_in (ap reverse c.new.ensures.items))
     (ap nodes_in c.in_ok-vec.ensures.items
     ∙ ap (λ (n : Node). then n.line n.what none) (node_of-Node a.line _)
     ∙ ap (λ w. then a.line w none) c.in_ok-what.ensures
-    ∙ ap (λ k. then a.line (control_node k (header_of a.header) parts.nodes parts.other) none) c.control.ensures) refl
+    ∙ ap (λ k. then a.line (control_node k (header_of a.header) parts.nodes parts.other) none) c.control.ensures) refl refl

@@ -6,4 +6,4 @@ use Rattle.tmpl_syntax.proofs.build.begin_else.Goals as goal
 
 pub returns : goal.returns
 unfolding parts_of
-returns c = same-parts _ _ _ _ _ _ (ap nodes_in (ap reverse c.new.ensures.items)) (ap nodes_in c.in_order.ensures) refl
+returns c = same-parts _ _ _ _ _ _ _ _ (ap nodes_in (ap reverse c.new.ensures.items)) (ap nodes_in c.in_order.ensures) refl refl

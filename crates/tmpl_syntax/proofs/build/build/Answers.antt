@@ -1,35 +1,20 @@
-use Rattle.std.proofs.Common.{arith, length, ◌≡◌, [], ◌∷◌, ap, map, reverse, sym, ◌∙◌}
+use Rattle.std.proofs.Common.{◌≡◌, [], ◌∷◌, ◌++◌, List, refl, ap, reverse, map, ◌∙◌}
 use Rattle.std.proofs.lemmas.List.{map-append}
-use Rattle.tmpl_syntax.specs.View.{nodes_in}
-use Rattle.tmpl_syntax.specs.View.{item_of}
+use Rattle.tmpl_syntax.specs.Tree.{Nodes, Definition}
+use Rattle.tmpl_syntax.specs.Spelling.{definition}
+use Rattle.tmpl_syntax.specs.View.{definition_of, item_of, nodes_in, parts_of}
 use Rattle.tmpl_syntax.specs.computed.Build as build
-use Rattle.tmpl_syntax.specs.computed.Build.{parts_before, no_parts, nodes_from}
-use Rattle.tmpl_syntax.specs.View.{level_of, parts_of}
-use Rattle.tmpl_syntax.proofs.BuildLemmas.{before-last, same-parts}
-use Rattle.std.proofs.lemmas.List.{nil_from_length}
+use Rattle.tmpl_syntax.specs.computed.Build.{nodes_from, definitions_from}
 use Rattle.tmpl_syntax.proofs.build.build.Goals as goal
 
-pub loop-item-init : goal.loop-item-init
-unfolding parts_of
-loop-item-init c =
-    ap (parts_before (map item_of c.args.items.items))
-    (same-parts _ _ _ _ _ _ (ap (λ (l : build.Level). l.nodes) c.new.ensures) (ap (λ (l : build.Level). l.other) c.new.ensures)
-    (ap (λ ls. map level_of (reverse ls)) c.new-2.ensures.items))
-
-pub loop-item-preserved : goal.loop-item-preserved
-loop-item-preserved c =
-    let rest = c.pop.new.self.items in
-    let item = c.in-Some.item in
-    ap (parts_before (map item_of rest)) c.in_ok-parts.ensures
-    ∙ sym (before-last (map item_of rest) (item_of item) (parts_of c.loop-item.parts))
-    ∙ ap (λ xs. parts_before xs (parts_of c.loop-item.parts)) (sym (ap (map item_of) c.in-Some.ensures.items ∙ map-append item_of rest (item ∷ [])))
-    ∙ c.loop-item.invariant
-
 pub returns : goal.returns
-unfolding nodes_from parts_of
+unfolding parts_of nodes_from definitions_from
 returns c =
-    let items = c.loop-item.items.items in
-    let left : length items ≡ 0 = omega (arith, c.in_default.ensures.cases.0) in
-    let all : parts_of c.loop-item.parts ≡ parts_before (map item_of c.args.items.items) no_parts =
-    ap (λ xs. parts_before (map item_of xs) (parts_of c.loop-item.parts)) (sym (nil_from_length items left)) ∙ c.loop-item.invariant in
-    ap nodes_in c.in_order.ensures ∙ ap (λ (p : build.Parts). p.inner.nodes) all
+    let name = c.args.name in
+    let parts = c.in_ok-inner.field-0 in
+    let own : nodes_in c.in_order.result.items ≡ (parts_of parts).inner.nodes = ap nodes_in c.in_order.ensures in
+    ap (map definition_of) c.in_ok-push.ensures.items
+    ∙ map-append definition_of c.reverse.new.self.items _
+    ∙ ap (λ ds. map definition_of ds ++ definition 1 name (nodes_in c.in_order.result.items) ∷ []) c.reverse.ensures.items
+    ∙ ap (λ ns. (parts_of parts).definitions ++ definition 1 name ns ∷ []) own
+    ∙ ap (λ (p : build.Parts). p.definitions ++ definition 1 name p.inner.nodes ∷ []) c.in_ok-inner.ensures

@@ -8,5 +8,5 @@ pub returns : goal.returns
 unfolding parts_of
 returns c =
     subst (λ (x : build.Parts). IfOk c.put_node.result (λ p. parts_of p ≡ x))
-    (same-before _ _ _ _ _ _ _ c.in_ok-what.ensures c.outer-inner.ensures.first c.outer-inner.ensures.rest)
+    (same-before _ _ _ _ _ _ _ _ c.in_ok-what.ensures c.outer-inner.ensures.first c.outer-inner.ensures.rest)
     c.put_node.ensures

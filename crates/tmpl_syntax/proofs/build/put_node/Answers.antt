@@ -10,6 +10,6 @@ pub returns : goal.returns
 unfolding parts_of
 returns c =
     let inner = c.args.parts.inner in
-    same-parts _ _ _ _ _ _
+    same-parts _ _ _ _ _ _ _ _
     (ap nodes_in (reverse-push inner.nodes.items _ c.push.new.self.items c.in_ok-push.ensures.items)
-    ∙ ap (λ (n : Node). then n.line n.what (nodes_in (reverse inner.nodes.items))) (node_of-Node c.args.line c.args.what)) refl refl
+    ∙ ap (λ (n : Node). then n.line n.what (nodes_in (reverse inner.nodes.items))) (node_of-Node c.args.line c.args.what)) refl refl refl

@@ -1,0 +1,14 @@
+use Rattle.std.proofs.Common.{◌≡◌, ◌∷◌, List, ap, reverse, map, ◌∙◌}
+use Rattle.tmpl_syntax.specs.Tree.{Nodes, Definition}
+use Rattle.tmpl_syntax.specs.Spelling.{definition}
+use Rattle.tmpl_syntax.specs.View.{definition_of, nodes_in, parts_of}
+use Rattle.tmpl_syntax.proofs.BuildLemmas.{same-around, reverse-push}
+use Rattle.tmpl_syntax.proofs.build.put_definition.Goals as goal
+
+pub returns : goal.returns
+unfolding parts_of
+returns c =
+    let ds = map definition_of (reverse c.args.parts.definitions.items) in
+    same-around _ _ _ _ _ _ c.outer-inner.ensures.first c.outer-inner.ensures.rest
+    (ap (map definition_of) (reverse-push c.args.parts.definitions.items _ c.push.new.self.items c.in_ok-push.ensures.items)
+    ∙ ap (λ ns. definition c.args.line c.args.name (nodes_in ns) ∷ ds) c.in_order.ensures)
