@@ -1,13 +1,14 @@
 """Runs the built program over what tables accept and make of each letter, byte and name, and compares that with the
 rules told directly, as docs/LANGUAGE.md has them: what stands behind a backslash in strings and characters, each byte
-through `html`, `urlquery` and the quote, and words that are a function's name but for a letter. It shares no code with
-the program. TMPL=PATH names another build."""
+through `html`, `urlquery` and the quote, words that are a function's name but for a letter, and the calls of functions.py.
+It shares no code with the program. TMPL=PATH names another build."""
 import subprocess
 import sys
 import tempfile
 import unicodedata
 from concurrent.futures import ThreadPoolExecutor
 
+import functions
 import harness
 
 FUNCTIONS = "and eq ge gt html index le len lt ne not or print printf println slice urlquery".split()
@@ -117,15 +118,18 @@ def names():
 
 
 def check(case):
-    """What the program says of a template, and what it should say, where they differ."""
-    source, out, refusal = case
+    """What the program says of a template, and what it should say, where they differ. With data, what is said is a fault."""
+    source, out, refusal, *data = case
     out = out.encode() if isinstance(out, str) else out
-    want = (4, b"", f"tmpl: m:1: {refusal}\n".encode()) if out is None else (0, out, b"")
+    refused = (1, b"", f'tmpl: m:1: in "m": {refusal}\n') if data else (4, b"", f"tmpl: m:1: {refusal}\n")
+    want = (*refused[:2], refused[2].encode()) if out is None else (0, out, b"")
     with tempfile.TemporaryDirectory() as folder:
-        with open(f"{folder}/m", "wb") as file:
-            file.write(source.encode())
+        for name, content in zip("md", (source, *data)):
+            with open(f"{folder}/{name}", "wb") as file:
+                file.write(content.encode())
         how = {"cwd": folder, "stdin": subprocess.DEVNULL, "capture_output": True}
-        ran = subprocess.run([harness.PROGRAM, "m"], timeout=harness.SECONDS, **how)
+        words = ["--data", "d", "m"] if data else ["m"]
+        ran = subprocess.run([harness.PROGRAM, *words], timeout=harness.SECONDS, **how)
     got = (ran.returncode, ran.stdout, ran.stderr)
     return None if got == want else f"FAILED {source!r}\n    wanted {want}\n    got {got}"
 
@@ -133,7 +137,7 @@ def check(case):
 def main():
     if not harness.is_built():
         return harness.closing(0, 1)
-    cases = [*escapes(), *each_byte(), *names()]
+    cases = [*escapes(), *each_byte(), *names(), *functions.cases()]
     with ThreadPoolExecutor() as pool:
         wrong = [it for it in pool.map(check, cases) if it]
     print(*wrong[:20], sep="\n")
