@@ -13,8 +13,6 @@ mod made;
 mod put;
 mod quote;
 mod rune;
-#[cfg(test)]
-mod tests;
 mod text;
 mod value;
 
