@@ -270,8 +270,8 @@ def numbers():
     """Each number of up to three of these bytes, and of four behind a prefix, and ones beyond the ends."""
     spelled = {first + "".join(more) for first in "018" for n in range(3) for more in itertools.product("018_xboa.", repeat=n)}
     spelled |= {front + "".join(more) for front in ("0x", "0b", "0o", "0_") for more in itertools.product("01_g", repeat=2)}
-    spelled |= {f"{sign}{it}" for it in ("0x1p4", "1i", "1\u00e9", "0_x1", "0x__1", "0b", "18446744073709551616") for sign in ("", "-")}
-    spelled |= {"18446744073709551617", "340282366920938463463374607431768211457", "+9223372036854775808"}
+    spelled |= {"0x1p4", "1i", "1\u00e9", "0_x1", "0x__1", "-0b", "0b2", "1e3", "+9223372036854775808", "-18446744073709551617"}
+    spelled |= {"18446744073709551616", "340282366920938463463374607431768211457"}
     values = {source: whole_number(source) for source in sorted(spelled)}
     yield from (("{{%s}}" % source, None, NOT_UNDERSTOOD) for source, value in values.items() if value is None)
     known = [source for source, value in values.items() if value is not None]
