@@ -300,14 +300,9 @@ def check(case):
     refused = (1, b"", f'tmpl: m:1: in "m": {refusal}\n') if data else (4, b"", f"tmpl: m:1: {refusal}\n")
     want = (*refused[:2], refused[2].encode()) if out is None else (0, out, b"")
     with tempfile.TemporaryDirectory() as folder:
-<<<<<<< HEAD
         for name, content in zip("md", (source, *data)):
             with open(f"{folder}/{name}", "wb") as file:
-                file.write(content.encode())
-=======
-        with open(f"{folder}/m", "wb") as file:
-            file.write(source.encode() if isinstance(source, str) else source)
->>>>>>> rows-b
+                file.write(content.encode() if isinstance(content, str) else content)
         how = {"cwd": folder, "stdin": subprocess.DEVNULL, "capture_output": True}
         words = ["--data", "d", "m"] if data else ["m"]
         ran = subprocess.run([harness.PROGRAM, *words], timeout=harness.SECONDS, **how)
@@ -318,12 +313,8 @@ def check(case):
 def main():
     if not harness.is_built():
         return harness.closing(0, 1)
-<<<<<<< HEAD
     cases = [*escapes(), *each_byte(), *names(), *functions.cases()]
-=======
-    cases = [*escapes(), *each_byte(), *names()]
     cases += [*together(short_actions()), *together(between_quotes()), *numbers(), *refused_constants(), *refused_actions()]
->>>>>>> rows-b
     with ThreadPoolExecutor() as pool:
         wrong = [it for it in pool.map(check, cases) if it]
     print(*wrong[:20], sep="\n")
