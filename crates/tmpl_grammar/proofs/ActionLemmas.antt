@@ -8,13 +8,14 @@ use Rattle.tmpl_lex.specs.declared.piece.TokenKind.TheVariants as kind
 use Rattle.tmpl_lex.specs.Piece.{Token}
 use Rattle.tmpl_grammar.specs.Token.{is_space_kind, is_white, is_blank, next}
 use Rattle.tmpl_grammar.specs.Tree.{Commands, Pipeline, pipeline, Binding, unbound, declare, assign, declare_pair, Header}
-use Rattle.tmpl_grammar.specs.Action.{Action, pipeline_action, opening, plain_else, else_branch, end_action, break_action, continue_action, action_with, SpellsAction}
+use Rattle.tmpl_grammar.specs.Action.{Action, pipeline_action, opening, plain_else, else_branch, end_action, break_action, continue_action, action_with, control_in, SpellsAction}
 use Rattle.tmpl_grammar.specs.Pipeline.{IsBlank, SpellsPipeline}
 use Rattle.tmpl_grammar.specs.Header.{IsSign, IsVariable, Then, SpellsWhole, SpellsBinding, SpellsHeader}
 use Rattle.tmpl_grammar.specs.Keyword.{spelling, IsWord}
-use Rattle.tmpl_grammar.specs.computed.Reading.{header_in, spells_keyword, keyword_by, keyword_of, alone, else_keyword, else_by, action_by, action_behind, action_at, action_in}
+use Rattle.tmpl_grammar.specs.computed.Reading.{header_in, spells_keyword, keyword_by, keyword_of, alone, branch_of, else_branched, else_keyword, else_by, action_by, action_behind, action_at, action_in}
 use Rattle.tmpl_grammar.specs.Laws.{ReadsSpelledAction, SpellsReadAction, SpellsOneAction}
 use Rattle.tmpl_grammar.specs.declared.tree.Control.TheVariants as control
+use Rattle.tmpl_grammar.specs.declared.action.Branch.{Branch}
 use Rattle.tmpl_grammar.specs.declared.action.Branch.TheVariants as branch
 use Rattle.tmpl_grammar.specs.declared.action.Shape.{Shape}
 use Rattle.tmpl_grammar.specs.declared.action.Shape.TheVariants as shape
@@ -138,15 +139,29 @@ else-read k us Rest a f s =
     let l = then-led (IsWord k) Rest us (word-other k) s in
     ap else_by l.first_is ∙ ap (λ o. else_keyword o l.rest) (word-known k l.token l.is) ∙ f l.rest l.behind
 
+-- a branch is found by the control with which it begins, and by no other keyword
+branch-known : (br : Branch) → branch_of (word.Control (control_in br)) ≡ Some br
+branch-known branch.If = refl
+branch-known branch.With = refl
+
+branch-keyword : (k : Keyword) (br : Branch) → branch_of k ≡ Some br → k ≡ word.Control (control_in br)
+branch-keyword (word.Control control.If) br e = ap (λ b. word.Control (control_in b)) (same_Some branch.If br e)
+branch-keyword (word.Control control.With) br e = ap (λ b. word.Control (control_in b)) (same_Some branch.With br e)
+branch-keyword (word.Control control.Range) br e = no-value br e
+branch-keyword word.Else br e = no-value br e
+branch-keyword word.End br e = no-value br e
+branch-keyword word.Break br e = no-value br e
+branch-keyword word.Continue br e = no-value br e
+
 pub reads-action : ReadsSpelledAction
 reads-action ts (pipeline_action h) s = plain-read h ts s
 reads-action ts (opening c h) s =
     keyed (word.Control c) (SpellsHeader (shape.Open c) h) (opening c h) (λ us spelled. bound-read (shape.Open c) h us spelled) ts s
 reads-action ts plain_else s = keyed word.Else IsBlank plain_else (λ us b. ap else_by (blank-next us b)) ts s
-reads-action ts (else_branch branch.If h) s =
-    let Spelled : List Token → Type 0 = SpellsHeader (shape.ElseBranch branch.If) h in
-    keyed word.Else (Then (IsWord (word.Control control.If)) Spelled) (else_branch branch.If h)
-    (λ us t. else-read (word.Control control.If) us Spelled (else_branch branch.If h) (λ vs spelled. bound-read (shape.ElseBranch branch.If) h vs spelled) t) ts s
+reads-action ts (else_branch br h) s =
+    let Spelled : List Token → Type 0 = SpellsHeader (shape.ElseBranch br) h in
+    keyed word.Else (Then (IsWord (word.Control (control_in br))) Spelled) (else_branch br h)
+    (λ us t. else-read (word.Control (control_in br)) us Spelled (else_branch br h) (λ vs spelled. ap (λ o. else_branched o vs) (branch-known br) ∙ bound-read (shape.ElseBranch br) h vs spelled) t) ts s
 reads-action ts end_action s = keyed word.End IsBlank end_action (alone-read end_action) ts s
 reads-action ts break_action s = keyed word.Break IsBlank break_action (alone-read break_action) ts s
 reads-action ts continue_action s = keyed word.Continue IsBlank continue_action (alone-read continue_action) ts s
@@ -174,12 +189,17 @@ module _ (ts : List Token) (a : Action) where
   else-spelled t us n w e = by (next us) refl e
     where
       by-keyword : (s : Token) (vs : List Token) → next us ≡ Some (s, vs) → (o : Option Keyword) → keyword_of s ≡ o → else_keyword o vs ≡ Some a → SpellsAction a ts
-      by-keyword s vs m (Some (word.Control control.If)) is e =
-          bound-spelled (shape.ElseBranch branch.If) vs
-          (λ h spelled. let Spelled : List Token → Type 0 = SpellsHeader (shape.ElseBranch branch.If) h in
-          led-then (IsWord word.Else) (Then (IsWord (word.Control control.If)) Spelled) ts t us n w
-          (led-then (IsWord (word.Control control.If)) Spelled us s vs m (known-word s (word.Control control.If) is) spelled)) e
-      by-keyword s vs m o is e = no-value a e
+      by-keyword s vs m None is e = no-value a e
+      by-keyword s vs m (Some k) is e = by-branch (branch_of k) refl e
+        where
+          by-branch : (o : Option Branch) → branch_of k ≡ o → else_branched o vs ≡ Some a → SpellsAction a ts
+          by-branch None found e = no-value a e
+          by-branch (Some br) found e =
+              bound-spelled (shape.ElseBranch br) vs
+              (λ h spelled. let Spelled : List Token → Type 0 = SpellsHeader (shape.ElseBranch br) h in
+              let key : Keyword = word.Control (control_in br) in
+              led-then (IsWord word.Else) (Then (IsWord key) Spelled) ts t us n w
+              (led-then (IsWord key) Spelled us s vs m (subst (λ x. IsWord x s) (branch-keyword k br found) (known-word s k is)) spelled)) e
 
       by : (o : Option (Token × List Token)) → next us ≡ o → else_by o ≡ Some a → SpellsAction a ts
       by None m e = subst (λ x. SpellsAction x ts) (same_Some plain_else a e) (led-then (IsWord word.Else) IsBlank ts t us n w (no-next us m))

@@ -26,6 +26,7 @@ pub data Action : Type 0 where
 -- the control with which an else part begins
 abbrev pub control_in : Branch → Control
 control_in branch.If = control.If
+control_in branch.With = control.With
 
 -- an action: a header alone, or a keyword and what stands behind it
 abbrev pub SpellsAction : Action → List Token → Type 0

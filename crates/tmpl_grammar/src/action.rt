@@ -1,15 +1,29 @@
 //! What one action says.
 ghost use Rattle.std.specs.Prelude.{◌≡◌};
-ghost use Rattle.tmpl_grammar.specs.Action.{action_with};
+ghost use Rattle.tmpl_grammar.specs.Action.{action_with, control_in};
 ghost use Rattle.tmpl_grammar.specs.Header.{may_bind};
 ghost use Rattle.tmpl_grammar.specs.View.{action_of, binding_of, header_of};
 
 use crate::tree::{Binding, Control, Header};
 
-/// A control with which an else part begins, as in `{{else if P}}`.
+/// A control with which an else part begins: `{{else if P}}` ("Actions" in the documentation of Go's text/template) and
+/// `{{else with P}}` (there from Go 1.23 on).
 #[derive(Clone, Copy, Debug, PartialEq, Eq)]
 pub enum Branch {
     If,
+    With,
+}
+
+impl Branch {
+    /// The control with which the else part begins.
+    pub fn control(self) -> Control
+        ensures { result ≡ control_in self }
+    {
+        match self {
+            Branch::If => Control::If,
+            Branch::With => Control::With,
+        }
+    }
 }
 
 /// What one action says ("Actions" in the documentation of Go's text/template).
@@ -21,7 +35,7 @@ pub enum Action {
     Open(Control, Header),
     /// `else` alone: begins the other part of the control around it.
     Else,
-    /// `else if`: begins the other part, which is a control of its own up to the same `end`.
+    /// `else if` or `else with`: begins the other part, which is a control of its own up to the same `end`.
     ElseBranch(Branch, Header),
     /// Closes the control around it.
     End,

@@ -1,8 +1,9 @@
 //! The words that begin an action.
 ghost use Rattle.std.specs.Prelude.{◌≡◌};
 ghost use Rattle.tmpl_lex.specs.View.{token_of};
-ghost use Rattle.tmpl_grammar.specs.computed.Reading.{keyword_of, spells_keyword};
+ghost use Rattle.tmpl_grammar.specs.computed.Reading.{branch_of, keyword_of, spells_keyword};
 
+use crate::action::Branch;
 use crate::tree::Control;
 use tmpl_lex::{Token, TokenKind};
 
@@ -14,6 +15,23 @@ pub(crate) enum Keyword {
     End,
     Break,
     Continue,
+}
+
+impl Keyword {
+    /// The control with which an else part begins where this stands behind `else`, if one does.
+    pub(crate) fn branch(self) -> Option<Branch>
+        ensures { result ≡ branch_of self }
+    {
+        match self {
+            Keyword::Control(Control::If) => Some(Branch::If),
+            Keyword::Control(Control::With) => Some(Branch::With),
+            Keyword::Control(Control::Range)
+            | Keyword::Else
+            | Keyword::End
+            | Keyword::Break
+            | Keyword::Continue => None,
+        }
+    }
 }
 
 /// The keyword that a token is, if it is one.

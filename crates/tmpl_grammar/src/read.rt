@@ -6,12 +6,12 @@ ghost use Rattle.tmpl_grammar.specs.Depth as depth;
 ghost use Rattle.tmpl_grammar.specs.View.{action_of, action_reading};
 ghost use Rattle.tmpl_grammar.specs.computed.Reading as spec;
 
-use crate::action::{Action, Branch, Reading, Shape};
+use crate::action::{Action, Reading, Shape};
 use crate::header::split;
 use crate::keyword::{Keyword, keyword_in};
 use crate::operand::{is_blank, next};
 use crate::pipeline::pipeline;
-use crate::tree::{Control, Header};
+use crate::tree::Header;
 use std::alloc::{AllocError, Global};
 use tmpl_lex::Token;
 
@@ -79,7 +79,7 @@ fn read_bound(
     }
 }
 
-/// An `else`, behind which nothing or an `if` stands.
+/// An `else`, behind which nothing, an `if` or a `with` stands.
 fn read_else(alloc: Global, rest: &[Token<'_>]) -> Result<Reading<Action>, AllocError>
     ensures { IfOk result (λ a. action_reading a
         ≡ depth.reading_of (spec.else_by (spec.next (map token_of rest.now)))) }
@@ -87,12 +87,11 @@ fn read_else(alloc: Global, rest: &[Token<'_>]) -> Result<Reading<Action>, Alloc
     match next(rest) {
         None => Ok(Reading::Read(Action::Else)),
         Some((first, rest)) => match keyword_in(first) {
-            Some(Keyword::Control(Control::If)) => read_bound(
-                alloc,
-                Shape::ElseBranch(Branch::If),
-                rest,
-            ),
-            _ => Ok(Reading::Unread),
+            Some(keyword) => match keyword.branch() {
+                Some(branch) => read_bound(alloc, Shape::ElseBranch(branch), rest),
+                None => Ok(Reading::Unread),
+            },
+            None => Ok(Reading::Unread),
         },
     }
 }

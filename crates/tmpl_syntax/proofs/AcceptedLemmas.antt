@@ -4,13 +4,14 @@ use Rattle.std.proofs.lemmas.Bool.{false≢true, and_parts}
 use Rattle.std.proofs.lemmas.List.{take-take, take-append-le}
 use Rattle.std.proofs.Math.Seq.{take-append_seam}
 use Rattle.std.specs.Cmp.Derive.{both_true}
+use Rattle.tmpl_grammar.specs.declared.action.Branch.{Branch}
 use Rattle.tmpl_grammar.specs.declared.action.Branch.TheVariants as branch
 use Rattle.tmpl_grammar.specs.declared.tree.Control.{Control}
 use Rattle.tmpl_grammar.specs.declared.tree.Control.TheVariants.{If, With, Range}
 use Rattle.tmpl_syntax.specs.declared.place.frame.Frame.{Frame}
 use Rattle.tmpl_grammar.specs.Tree.{Header}
 use Rattle.tmpl_syntax.specs.Tree.{NodeKind, text, action, control_node, break_node, continue_node, Nodes, none, then}
-use Rattle.tmpl_grammar.specs.Action.{pipeline_action, opening, plain_else, else_branch, end_action, break_action, continue_action}
+use Rattle.tmpl_grammar.specs.Action.{pipeline_action, opening, plain_else, else_branch, end_action, break_action, continue_action, control_in}
 use Rattle.tmpl_syntax.specs.Item.{Item, item, action_item}
 use Rattle.tmpl_syntax.specs.Place.Role.{Name, names_of, roles_of}
 use Rattle.tmpl_syntax.specs.Place.Open.{is_template}
@@ -58,13 +59,24 @@ placed-test : (p d k : Bool) → no_fault (first_fault p d k) ≡ true → (p �
 placed-test true d k e = (refl, sym (first-none d k) ∙ e)
 placed-test false d k e = absurd (false≢true e)
 
-joins-if : (k : Control) → joins branch.If k ≡ true → k ≡ If
-joins-if If e = refl
-joins-if With e = absurd (false≢true e)
-joins-if Range e = absurd (false≢true e)
+-- an else branch joins the control with which it begins, and that is no range
+joins-control : (b : Branch) (k : Control) → joins b k ≡ true → k ≡ control_in b
+joins-control branch.If If e = refl
+joins-control branch.If With e = absurd (false≢true e)
+joins-control branch.If Range e = absurd (false≢true e)
+joins-control branch.With If e = absurd (false≢true e)
+joins-control branch.With With e = refl
+joins-control branch.With Range e = absurd (false≢true e)
 
-if-loops : (k : Control) (x a : Bool) → k ≡ If → loops k x a ≡ a
-if-loops k x a e = ap (λ j. loops j x a) e
+branch-loops : (b : Branch) (k : Control) (x a : Bool) → k ≡ control_in b → loops k x a ≡ a
+branch-loops branch.If k x a e = ap (λ j. loops j x a) e
+branch-loops branch.With k x a e = ap (λ j. loops j x a) e
+
+branch-fits : (b : Branch) (line : ℕ) (r : Header) (body other : Nodes) (loop : Bool) (n : ℕ) (names : List Name)
+    → fits (then line (control_node If r body other) none) loop n names ≡ true
+    → fits (then line (control_node (control_in b) r body other) none) loop n names ≡ true
+branch-fits branch.If line r body other loop n names e = e
+branch-fits branch.With line r body other loop n names e = e
 
 -- the names before a control are those behind it
 control-names : (c : Control) (r : Header) (names : List Name) (body : Nodes) → take (length names) (seen_behind (names ++ heading c (names_of r).declares) body) ≡ names
@@ -124,20 +136,20 @@ mutual
       let inner = leads-fit l (elsed f ∷ fs) seen e.1 in
       let fits_in = length-take f.part names in
       (inner.0, subst (λ k. passes fs k (roles_of ys) ≡ true) (take-seen f.start other seen (omega arith) ∙ take-take f.start f.part names low) inner.1)
-  closes-fit (an_else_branch {branch = branch.If} {h = r} {xs = xs} {ys = ys} {zs = zs} {body = body} {other = other} l o) f fs names own low high h =
+  closes-fit (an_else_branch {line = line} {branch = b} {h = r} {xs = xs} {ys = ys} {zs = zs} {body = body} {other = other} l o) f fs names own low high h =
       let seen : List Name = take f.part names in
       let inside : List Name = seen ++ (names_of r).declares in
       let g : Frame = branched f (length seen + length ((names_of r).declares)) in
       let e = and_parts _ (passes (g ∷ fs) inside (roles_of xs)) h in
-      let t = placed-test (takes_else (Some f) && joins branch.If f.control) (leb most_levels f.levels) (knows seen (names_of r).uses) e.0 in
-      let control_is = joins-if f.control (and_parts (takes_else (Some f)) (joins branch.If f.control) t.0).1 in
+      let t = placed-test (takes_else (Some f) && joins b f.control) (leb most_levels f.levels) (knows seen (names_of r).uses) e.0 in
+      let control_is = joins-control b f.control (and_parts (takes_else (Some f)) (joins b f.control) t.0).1 in
       let inner = leads-fit l (g ∷ fs) inside e.1 in
       let count = length-append seen ((names_of r).declares) in
       let fits_in = length-take f.part names in
       let behind = closes-fit o g fs (seen_behind inside body) own (omega arith) (part-long inside body (length seen + length ((names_of r).declares)) (omega arith)) inner.1 in
-      let body_fits = subst (λ k. fits body k (f.levels + 1) inside ≡ true) (if-loops f.control f.has_else f.around control_is ∙ sym (if-loops f.control true f.around control_is)) inner.0 in
+      let body_fits = subst (λ k. fits body k (f.levels + 1) inside ≡ true) (branch-loops b f.control f.has_else f.around control_is ∙ sym (branch-loops b f.control true f.around control_is)) inner.0 in
       let other_fits = subst (λ k. fits other (loops f.control true f.around) (f.levels + 1) k ≡ true) (take-seen (length seen + length ((names_of r).declares)) body inside (omega arith)) behind.0 in (
-        both_true (both_true t.1 (both_true body_fits other_fits)) refl,
+        branch-fits b line r body other (loops f.control true f.around) f.levels seen (both_true (both_true t.1 (both_true body_fits other_fits)) refl),
         subst (λ k. passes fs k (roles_of zs) ≡ true) (take-seen f.start body inside (omega arith) ∙ take-append-le f.start seen ((names_of r).declares) (omega arith) ∙ take-take f.start f.part names low) behind.1,
       )
 

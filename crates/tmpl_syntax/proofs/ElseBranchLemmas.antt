@@ -5,7 +5,7 @@ use Rattle.std.proofs.lemmas.Bool.{cases_lt, and_parts, not-true}
 use Rattle.std.proofs.lemmas.Bool.Decides.{Decides-like}
 use Rattle.std.proofs.lemmas.List.{append-nil}
 use Rattle.tmpl_grammar.specs.declared.action.Branch.{Branch}
-use Rattle.tmpl_grammar.specs.declared.action.Branch.TheVariants.{If as if_branch}
+use Rattle.tmpl_grammar.specs.declared.action.Branch.TheVariants.{If as if_branch, With as with_branch}
 use Rattle.tmpl_syntax.specs.declared.place.frame.Frame.{Frame}
 use Rattle.tmpl_syntax.specs.Place.Open.{opens, ends, NothingOpen, IsLast, IsElseOf, IsElseBranchOf, HasElse, is_template}
 use Rattle.tmpl_syntax.specs.Place.Body.{joins, is_level}
@@ -43,6 +43,7 @@ level-there Range e = refl
 -- no else that opens a level is one of a range
 joins-range : (b : Branch) → joins b Range ≡ false
 joins-range if_branch = refl
+joins-range with_branch = refl
 
 pub joins-no-range : (b : Branch) (c : Control) → joins b c ≡ true → c ≢ Range
 joins-no-range b c j e = let t : true ≡ false = sym j ∙ ap (joins b) e ∙ joins-range b in cc

@@ -1,15 +1,20 @@
 -- What a language accepts, one with more else branches accepts.
-use Rattle.std.proofs.Common.{◌≡◌, ℕ, true, suc, List, Some, refl, ap, length}
+use Rattle.std.proofs.Common.{◌≡◌, ◌∙◌, ℕ, true, suc, List, Option, Some, None, Ok, refl, ap, sym, length}
 use Rattle.std.specs.Prelude.{slice_get}
 use Rattle.tmpl_lex.specs.Piece.{Piece}
 use Rattle.tmpl_grammar.specs.Action.{Action, pipeline_action, opening, plain_else, else_branch, end_action, break_action, continue_action}
 use Rattle.tmpl_syntax.specs.declared.fault.Fault.TheVariants.{NotAnAction}
-use Rattle.tmpl_syntax.specs.Language.{Branches, has_action}
+use Rattle.tmpl_syntax.specs.Language.{Branches, every_branch, go_1_22, has_action}
 use Rattle.tmpl_syntax.specs.Item.{Item, IsItem, a_text, an_unreadable, unread, too_deep, read, AreItems, no_item, an_item}
 use Rattle.tmpl_syntax.specs.Place.Role.{Role, unread_role, role_of, roles_of}
 use Rattle.tmpl_syntax.specs.Place.Body.{NoneRefused, unread as unread_applies}
 use Rattle.tmpl_syntax.specs.Laws.{IsLarger, AcceptsInLarger}
 use Rattle.tmpl_syntax.proofs.OneVerdictLemmas.{within}
+use Rattle.tmpl_syntax.proofs.ReadingLemmas.{value_or, no-value, parsed-accepted}
+use Rattle.tmpl_syntax.specs.Fault.{Reason}
+use Rattle.tmpl_syntax.specs.Set.{Template}
+use Rattle.tmpl_syntax.specs.Parse.{IsAccepted}
+use Rattle.tmpl_syntax.specs.computed.Parse.{IsRefusal, parsed}
 
 -- no item of these is unread
 abbrev AllRead : List Role → Type 0
@@ -49,3 +54,15 @@ accepts-in-larger large small more old file bytes new h = record {
   spells = h.spells;
   set = h.set;
 }
+
+-- what Go 1.22 makes of a file is what is parsed
+module _ (old : List Template) (file bytes : List ℕ) (set : List Template) (accepted : IsAccepted go_1_22 old file bytes set) where
+  parsed-before : parsed old file bytes ≡ Ok set
+  parsed-before = parsed-accepted old file bytes set (accepts-in-larger every_branch go_1_22 (λ b t. refl) old file bytes set accepted)
+
+  pub same-before : (new : List Template) → parsed old file bytes ≡ Ok new → new ≡ set
+  same-before new e = ap (value_or new) (sym e ∙ parsed-before)
+
+  pub only-memory : (line : ℕ) (o : Option Reason) → IsRefusal (parsed old file bytes) line o → o ≡ None
+  only-memory line None r = refl
+  only-memory line (Some reason) r = no-value set (line, reason) (sym parsed-before ∙ r)

@@ -51,6 +51,7 @@ control-of c r body other h b o = (h, said-append body (other ++ said end_action
 -- the header of an else branch may be that of its control
 branch-of : (b : Branch) (r : Header) → OfAction (else_branch b r) → OfAction (opening (control_in b) r)
 branch-of branch.If r h = h
+branch-of branch.With r h = h
 
 else-of : (other : Nodes) → AreSaid (nodes_said other) → AreSaid (else_said other (nodes_said other))
 else-of none h = tt

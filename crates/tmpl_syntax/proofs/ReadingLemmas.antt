@@ -33,14 +33,14 @@ abbrev refusal_or : Refusal → Result (List Template) Refusal → Refusal
 refusal_or r (Ok x) = r
 refusal_or r (Err s) = s
 
-abbrev value_or : List Template → Result (List Template) Refusal → List Template
+abbrev pub value_or : List Template → Result (List Template) Refusal → List Template
 value_or y (Ok x) = x
 value_or y (Err s) = y
 
 same-refusal : (r s : Refusal) → ◌≡◌ {A = Result (List Template) Refusal} (Err r) (Err s) → r ≡ s
 same-refusal r s e = ap (refusal_or r) e
 
-no-value : {A : Type 0} (x : List Template) (r : Refusal) → ◌≡◌ {A = Result (List Template) Refusal} (Ok x) (Err r) → A
+pub no-value : {A : Type 0} (x : List Template) (r : Refusal) → ◌≡◌ {A = Result (List Template) Refusal} (Ok x) (Err r) → A
 no-value x r e = absurd (let g : ⊥ = cc in g)
 
 item-there : (xs : List Item) (i : ℕ) → i < length xs → (x : Item) × (slice_get xs i ≡ Some x)

@@ -69,6 +69,7 @@ control-of c r body other h b o = (h, said-append body (other ++ ended ∷ []) b
 -- the header of an else branch may be that of its control
 branch-of : (b : Branch) (r : Header) → OfAction (old (one.else_branch b r)) → OfAction (old (one.opening (one.control_in b) r))
 branch-of branch.If r h = h
+branch-of branch.With r h = h
 
 else-of : (other : Nodes) → AreSaid (nodes_said other) → AreSaid (else_said other (nodes_said other))
 else-of none h = tt

@@ -1,5 +1,5 @@
 -- The languages that are told apart: by the controls with which an else part may begin.
-use Rattle.std.specs.Prelude.{Bool, true}
+use Rattle.std.specs.Prelude.{Bool, true, false}
 use Rattle.tmpl_grammar.specs.Action.{Action, pipeline_action, opening, plain_else, else_branch}
 use Rattle.tmpl_grammar.specs.Action.{end_action, break_action, continue_action}
 use Rattle.tmpl_grammar.specs.declared.action.Branch.{Branch}
@@ -12,9 +12,10 @@ Branches = Branch → Bool
 abbrev pub every_branch : Branches
 every_branch b = true
 
--- Go 1.22 has `else if` alone
+-- Go 1.22 has `else if` alone: `else with` came with Go 1.23
 abbrev pub go_1_22 : Branches
 go_1_22 branch.If = true
+go_1_22 branch.With = false
 
 -- whether an action is one of the language
 abbrev pub has_action : Branches → Action → Bool

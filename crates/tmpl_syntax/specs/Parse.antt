@@ -6,7 +6,7 @@ use Rattle.std.specs.List.{after_last}
 use Rattle.std.specs.Borrow.{Bor}
 use Rattle.tmpl_lex.specs.Text.{newlines}
 use Rattle.tmpl_syntax.specs.Tree.{Nodes}
-use Rattle.tmpl_syntax.specs.Language.{Branches, every_branch}
+use Rattle.tmpl_syntax.specs.Language.{Branches, every_branch, go_1_22}
 use Rattle.tmpl_syntax.specs.Item.{ItemKind, Item, item, HasItems}
 use Rattle.tmpl_syntax.specs.Place.Role.{roles_of}
 use Rattle.tmpl_syntax.specs.Place.Body.{fine, refused, left_open, Judged}
@@ -68,3 +68,10 @@ abbrev pub IsReading : List Template → Bor (List ℕ) → List ℕ → List Te
 IsReading old file bytes new (Ok u) = IsAccepted every_branch old file.now bytes new
 IsReading old file bytes new (Err fault) =
     (fault.file ≡ file) × (new ≡ old) × IsRefusedFor every_branch bytes fault.line (reason_of fault.kind)
+
+-- what Go 1.22 accepts is accepted, want of memory aside, and the set is then what it is there
+abbrev pub IsAsBefore : List Template → Bor (List ℕ) → List ℕ → List Template → Result (Unit {0}) ParseFault → Type 0
+IsAsBefore old file bytes new (Ok u) =
+    (set : List Template) → IsAccepted go_1_22 old file.now bytes set → new ≡ set
+IsAsBefore old file bytes new (Err fault) =
+    (set : List Template) → IsAccepted go_1_22 old file.now bytes set → reason_of fault.kind ≡ None

@@ -1,5 +1,5 @@
 -- The nodes that a file's items spell, by cases on the nodes. A control has the nodes of its body, up to its `end` or
--- the else part that belongs to it. A part that is left out is one of no nodes, and an `else if` is an `if`, at its own
+-- the else part that belongs to it. A part that is left out is one of no nodes, and an else branch is its control, at its own
 -- line, that is the whole else part and shares the `end`.
 use Rattle.std.specs.Prelude.{ℕ, List, [], ◌∷◌}
 use Rattle.tmpl_grammar.specs.Tree.{Header}

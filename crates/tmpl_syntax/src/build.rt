@@ -1,6 +1,5 @@
 //! The nodes of a file.
 ghost use Rattle.std.specs.Prelude.{◌≡◌, IfOk, map, reverse};
-ghost use Rattle.tmpl_grammar.specs.Action.{control_in};
 ghost use Rattle.tmpl_grammar.specs.View.{action_of, header_of};
 ghost use Rattle.tmpl_syntax.specs.Item.{action_item, item};
 ghost use Rattle.tmpl_syntax.specs.Tree.{control_node};
@@ -179,7 +178,7 @@ fn begin_branch(
     ensures { IfOk result (λ p. parts_of p ≡ spec.branch_before line branch (header_of header) (parts_of parts)) }
 {
     let Parts { inner, around } = parts;
-    let what = control_kind(alloc, control_in(branch), header, inner)?;
+    let what = control_kind(alloc, branch.control(), header, inner)?;
     Ok(Parts {
         inner: Level {
             nodes: Vec::new(alloc),
@@ -187,15 +186,6 @@ fn begin_branch(
         },
         around,
     })
-}
-
-/// The control with which an else part begins.
-fn control_in(branch: Branch) -> Control
-    ensures { result ≡ control_in branch }
-{
-    match branch {
-        Branch::If => Control::If,
-    }
 }
 
 /// Begins a part before an `end`.

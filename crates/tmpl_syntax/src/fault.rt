@@ -20,11 +20,11 @@ pub enum ParseKind {
     Unreadable,
     /// An action whose tokens have no reading.
     NotAnAction,
-    /// An `end`, `else` or `else if` at which nothing is open; an `else` or `else if` after the `else`
-    /// of the same control; an `else if` of a `with` or `range`; a `break` or `continue` that stands
-    /// in no range's body.
+    /// An `end`, `else`, `else if` or `else with` at which nothing is open; one of the last three after
+    /// the `else` of the same control; an `else if` of no `if`, an `else with` of no `with`; a `break`
+    /// or `continue` that stands in no range's body.
     OutOfPlace,
-    /// A control or `else if` inside 500 others, or parentheses inside 100 others (our own limits).
+    /// A control, `else if` or `else with` inside 500 others, or parentheses inside 100 others (our own limits).
     NestedTooDeeply,
     /// A variable that is used or assigned where none of its name is in scope.
     UndeclaredVariable,

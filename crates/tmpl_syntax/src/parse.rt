@@ -3,7 +3,7 @@ ghost use Rattle.std.specs.Prelude.{◌≡◌, ◌≤◌, ◌==◌, IfOk, length
 ghost use Rattle.std.specs.List.{suffix_len};
 ghost use Rattle.tmpl_syntax.specs.View.{item_of, set_view};
 ghost use Rattle.tmpl_syntax.specs.Parse as spec;
-ghost use Rattle.tmpl_syntax.specs.Parse.{IsReading};
+ghost use Rattle.tmpl_syntax.specs.Parse.{IsAsBefore, IsReading};
 ghost use Rattle.tmpl_syntax.specs.computed.Parse.{IsAdded, IsParse, items_of};
 
 use crate::build::build;
@@ -32,6 +32,8 @@ const MOST_BYTES: usize = 16_777_216;
 /// refused at its last line, which is 1 and the number of its newlines. Before all that, at line 1,
 /// a file of more than 16,777,216 bytes (our own limit). Want of memory at any time, at line 1.
 /// After an error the set is as it was.
+///
+/// `else with` is there since Go 1.23. A file that is accepted without it makes the same set with it.
 pub fn parse_file<'f>(
     alloc: Global,
     set: &mut Set,
@@ -40,6 +42,7 @@ pub fn parse_file<'f>(
 ) -> Result<(), ParseFault<'f>>
     ensures reading { IsReading (set_view set.old) file.entry bytes.now (set_view set.new) result }
     ensures value { IsParse (set_view set.old) file.entry bytes.now (set_view set.new) result }
+    ensures before { IsAsBefore (set_view set.old) file.entry bytes.now (set_view set.new) result }
 {
     match add_file(alloc, set, file, bytes) {
         Ok(()) => Ok(()),

@@ -26,7 +26,8 @@ pub enum NodeKind {
     Continue,
 }
 
-/// A control. A part that is left out is one of no nodes, and an `else if` is an `if` that is the whole else part.
+/// A control. A part that is left out is one of no nodes, and an `else if` is an `if` that is the whole else part,
+/// as an `else with` is a `with`.
 ///
 /// An `if`: the body where the value is not empty, else the other part. A `with`: the same, and the body has the value
 /// as its dot. A `range`: the body once for each element, or the other part where there is none.

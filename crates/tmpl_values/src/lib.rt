@@ -28,4 +28,4 @@ pub use put::Put;
 pub use quote::put_quoted;
 pub use rune::first_char;
 pub use text::put_text;
-pub use value::{Cell, Val};
+pub use value::{Cell, Val, count_below};

@@ -14,6 +14,7 @@ use Rattle.tmpl_grammar.specs.Header.{may_bind}
 use Rattle.tmpl_grammar.specs.Depth.{Reading, reading_of, pipeline_within}
 use Rattle.tmpl_grammar.specs.Action.{Action, plain_else, end_action, break_action, continue_action, action_with}
 use Rattle.tmpl_grammar.specs.declared.tree.Control.TheVariants as control
+use Rattle.tmpl_grammar.specs.declared.action.Branch.{Branch}
 use Rattle.tmpl_grammar.specs.declared.action.Branch.TheVariants as branch
 use Rattle.tmpl_grammar.specs.declared.action.Shape.{Shape}
 use Rattle.tmpl_grammar.specs.declared.action.Shape.TheVariants as shape
@@ -135,12 +136,26 @@ keyword_of t = keyword_by t.kind t.bytes
 abbrev pub alone : Action → List Token → Option Action
 alone a ts = if is_blank ts then Some a else None
 
-abbrev pub else_keyword : Option Keyword → List Token → Option Action
-else_keyword (Some (word.Control control.If)) ts =
-    option_map (action_with (shape.ElseBranch branch.If)) (header_in (shape.ElseBranch branch.If) ts)
-else_keyword k ts = None
+-- the else branch that begins with a keyword, if one does
+abbrev pub branch_of : Keyword → Option Branch
+branch_of (word.Control control.If) = Some branch.If
+branch_of (word.Control control.With) = Some branch.With
+branch_of (word.Control control.Range) = None
+branch_of word.Else = None
+branch_of word.End = None
+branch_of word.Break = None
+branch_of word.Continue = None
 
--- behind an `else`: nothing, or an `if`
+abbrev pub else_branched : Option Branch → List Token → Option Action
+else_branched None ts = None
+else_branched (Some br) ts =
+    option_map (action_with (shape.ElseBranch br)) (header_in (shape.ElseBranch br) ts)
+
+abbrev pub else_keyword : Option Keyword → List Token → Option Action
+else_keyword None ts = None
+else_keyword (Some k) ts = else_branched (branch_of k) ts
+
+-- behind an `else`: nothing, or an `if` or `with`
 abbrev pub else_by : Option (Token × List Token) → Option Action
 else_by None = Some plain_else
 else_by (Some p) = else_keyword (keyword_of p.0) p.1

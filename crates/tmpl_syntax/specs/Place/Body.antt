@@ -2,7 +2,7 @@
 use Rattle.std.specs.Prelude.{◌≡◌, ℕ, suc, ◌<◌, ◌≤◌, Bool, true, false, List}
 use Rattle.std.specs.Prelude.{length, slice_get, Option, Some, None, ◌⊎◌, Contains}
 use Rattle.tmpl_grammar.specs.declared.action.Branch.{Branch}
-use Rattle.tmpl_grammar.specs.declared.action.Branch.TheVariants.{If as if_branch}
+use Rattle.tmpl_grammar.specs.declared.action.Branch.TheVariants.{If as if_branch, With as with_branch}
 use Rattle.tmpl_grammar.specs.declared.tree.Control.{Control}
 use Rattle.tmpl_grammar.specs.declared.tree.Control.TheVariants.{If, With, Range}
 use Rattle.tmpl_syntax.specs.declared.fault.Fault.{Fault}
@@ -14,11 +14,14 @@ use Rattle.tmpl_syntax.specs.Place.Open.{IsOpen, NothingOpen, IsLast, IsElseBran
 use Rattle.tmpl_syntax.specs.Place.Open.{HasElse, is_template, OfOneTemplate}
 use Rattle.tmpl_syntax.specs.Place.Scope.{IsInScope}
 
--- an else if stands in an `if` alone
+-- an `else if` stands in an `if` alone, and an `else with` in a `with`
 abbrev pub joins : Branch → Control → Bool
 joins if_branch If = true
 joins if_branch With = false
 joins if_branch Range = false
+joins with_branch If = false
+joins with_branch With = true
+joins with_branch Range = false
 
 -- nothing is open at i, or its last opening is a template's body, or has an else already
 pub data TakesNoElse (xs : List Role) (i : ℕ) : Type 0 where
@@ -39,8 +42,8 @@ pub record IsLoop (xs : List Role) (j i : ℕ) : Type 0 where
   pub template : OfOneTemplate xs j i
   pub bare : HasElse xs j i → ⊥
 
--- out of place: an end, else or else if at which nothing is open; an else or else if after an else of the same opening;
--- an else if of no `if`; a break or continue in no range's body
+-- out of place: an end, else or else branch at which nothing is open; an else or else branch after an else of the same
+-- opening; an else branch of another control; a break or continue in no range's body
 abbrev pub IsMisplaced : List Role → ℕ → Act → Type 0
 IsMisplaced xs i (plain p) = ⊥
 IsMisplaced xs i (opener c p) = ⊥
@@ -55,7 +58,7 @@ is_level If = true
 is_level With = true
 is_level Range = true
 
--- a level is an open if, with or range, or an else if that belongs to an open one
+-- a level is an open if, with or range, or an else branch that belongs to an open one
 pub data IsLevel (xs : List Role) (k i : ℕ) : Type 0 where
   of_opening : (o : IsOpen xs k i) → is_level o.control ≡ true → IsLevel xs k i
   of_else_branch : {j : ℕ} → IsElseBranchOf xs j k → (o : IsOpen xs j i) → is_level o.control ≡ true → IsLevel xs k i
@@ -75,7 +78,7 @@ names_in (branch_else b p) = Some p
 names_in closer = None
 names_in jump = None
 
--- an opening that is a level, or an else if
+-- an opening that is a level, or an else branch
 abbrev pub opens_level : Act → Bool
 opens_level (plain p) = false
 opens_level (opener c p) = is_level c

@@ -68,7 +68,7 @@ pub record IsElseOf (xs : List Role) (j k : ℕ) : Type 0 where
   pub at : slice_get xs k ≡ Some (act_role bare_else)
   pub belongs : IsLast xs j k
 
--- .. and so does an else if
+-- .. and so does an else branch
 pub record IsElseBranchOf (xs : List Role) (j k : ℕ) : Type 0 where
   pub branch : Branch
   pub names : Names

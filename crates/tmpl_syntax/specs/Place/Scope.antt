@@ -7,14 +7,14 @@ use Rattle.tmpl_grammar.specs.declared.tree.Control.TheVariants.{Range}
 use Rattle.tmpl_syntax.specs.Place.Role.{Name, Names, plain, opener, branch_else, Role, act_role}
 use Rattle.tmpl_syntax.specs.Place.Open.{IsOpen, NothingOpen, IsLast, IsElseOf, IsElseBranchOf, HasElse, OfOneTemplate}
 
--- no else or else if of the opening at j stands after k and up to i
+-- no else or else branch of the opening at j stands after k and up to i
 pub record IsOnePart (xs : List Role) (j k i : ℕ) : Type 0 where
   pub no_else : (m : ℕ) → k < m → m ≤ i → IsElseOf xs j m → ⊥
   pub no_branch : (m : ℕ) → k < m → m ≤ i → IsElseBranchOf xs j m → ⊥
 
 -- the action at k declares the name, and its declaration reaches i:
 pub data Declares (xs : List Role) (k i : ℕ) (name : Name) : Type 0 where
-  -- as an action, the last opening open at k, if any, is open at i with no else or else if of it between or at i;
+  -- as an action, the last opening open at k, if any, is open at i with no else or else branch of it between or at i;
   at_the_top : {p : Names} → slice_get xs k ≡ Some (act_role (plain p)) → Contains p.declares name → NothingOpen xs k
       → Declares xs k i name
   inside : {p : Names} {j : ℕ} → slice_get xs k ≡ Some (act_role (plain p)) → Contains p.declares name → IsLast xs j k
@@ -22,7 +22,7 @@ pub data Declares (xs : List Role) (k i : ℕ) (name : Name) : Type 0 where
   -- in the header of an opening, that opening is open at i, and a range has no else of its own between;
   in_header : {c : Control} {p : Names} → slice_get xs k ≡ Some (act_role (opener c p)) → Contains p.declares name
       → IsOpen xs k i → (c ≡ Range → HasElse xs k i → ⊥) → Declares xs k i name
-  -- in an else if, the opening to which it belongs is open at i
+  -- in an else branch, the opening to which it belongs is open at i
   in_else_branch : {b : Branch} {p : Names} {j : ℕ} → slice_get xs k ≡ Some (act_role (branch_else b p))
       → Contains p.declares name → IsLast xs j k → IsOpen xs j i → Declares xs k i name
 

@@ -66,7 +66,7 @@ is_nested (Some p) = p.nested
 abbrev pub is_too_deep : Act → Option Frame → Bool
 is_too_deep a t = is_nested (names_in a) || (opens_level a && leb most_levels (levels t))
 
--- of the names before an action, those that it sees: an else or else if ends the part before it, and an `end` the
+-- of the names before an action, those that it sees: an else or else branch ends the part before it, and an `end` the
 -- control
 abbrev pub names_at : Act → Option Frame → List Name → List Name
 names_at (plain p) t names = names
@@ -132,7 +132,7 @@ abbrev pub elsed_all : List Frame → List Frame
 elsed_all [] = []
 elsed_all (f ∷ fs) = elsed f ∷ fs
 
--- an else if with so many names at the beginning of its part
+-- an else branch with so many names at the beginning of its part
 abbrev pub branched : Frame → ℕ → Frame
 branched f part = record f { levels = f.levels + 1; part = part }
 

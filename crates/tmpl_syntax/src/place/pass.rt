@@ -24,8 +24,8 @@ pub(super) fn newest(stack: &Vec<Frame>) -> Option<Frame>
     stack.last().copied()
 }
 
-/// Forgets the names that an item does not see: an `else` or `else if` ends the part before it, and an
-/// `end` the control.
+/// Forgets the names that an item does not see: an `else` or else branch ends the part before it, and
+/// an `end` the control.
 pub(super) fn forget(names: &mut KnownNames<'_>, item: &Item<'_>, outside: Option<Frame>)
     ensures { known_names names.new ≡ seen_at (role_of (item_of item.now)) outside (known_names names.old) }
 {

@@ -15,7 +15,7 @@ use crate::place::names::KnownNames;
 use crate::place::uses::knows_its_names;
 use tmpl_grammar::{Action, Branch, Control, Shape};
 
-/// The most levels that may stand (our own limit): an open control is one, and an `else if` up to its `end`.
+/// The most levels that may stand (our own limit): an open control is one, and an else branch up to its `end`.
 const MOST_LEVELS: usize = 500;
 
 /// The fault of an item, if it has one.
@@ -112,6 +112,7 @@ fn may_join(branch: Branch, control: Control) -> bool
 {
     match branch {
         Branch::If => matches!(control, Control::If),
+        Branch::With => matches!(control, Control::With),
     }
 }
 

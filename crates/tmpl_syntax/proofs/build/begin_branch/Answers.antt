@@ -15,4 +15,4 @@ returns c =
     (ap nodes_in c.in_ok-vec.ensures.items
     ∙ ap (λ (n : Node). then n.line n.what none) (node_of-Node a.line _)
     ∙ ap (λ w. then a.line w none) c.in_ok-what.ensures
-    ∙ ap (λ k. then a.line (control_node k (header_of a.header) parts.nodes parts.other) none) c.control_in.ensures) refl
+    ∙ ap (λ k. then a.line (control_node k (header_of a.header) parts.nodes parts.other) none) c.control.ensures) refl

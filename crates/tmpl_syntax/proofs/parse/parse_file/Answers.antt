@@ -2,6 +2,7 @@ use Rattle.std.proofs.Common.{refl}
 use Rattle.tmpl_syntax.specs.View.{set_view}
 use Rattle.tmpl_syntax.specs.Fault.{reason_of}
 use Rattle.tmpl_syntax.proofs.ReadingLemmas.{accepted, refusal-for}
+use Rattle.tmpl_syntax.proofs.LargerLemmas.{same-before, only-memory}
 use Rattle.tmpl_syntax.proofs.parse.parse_file.Goals as goal
 
 pub returns-in-Ok-clause-reading : goal.returns-in-Ok-clause-reading
@@ -10,3 +11,11 @@ returns-in-Ok-clause-reading c = accepted (set_view c.args.set.now) c.args.file.
 pub returns-in-Err-clause-reading : goal.returns-in-Err-clause-reading
 returns-in-Err-clause-reading c =
     (refl, c.in-Err.ensures.0, refusal-for (set_view c.args.set.now) c.args.file.now c.args.bytes.now c.in-Err.refusal.line (reason_of c.in-Err.refusal.kind) c.in-Err.ensures.1)
+
+pub returns-in-Ok-clause-before : goal.returns-in-Ok-clause-before
+returns-in-Ok-clause-before c set accepted =
+    same-before (set_view c.args.set.now) c.args.file.now c.args.bytes.now set accepted (set_view c.add_file.new.set) c.in-Ok.ensures
+
+pub returns-in-Err-clause-before : goal.returns-in-Err-clause-before
+returns-in-Err-clause-before c set accepted =
+    only-memory (set_view c.args.set.now) c.args.file.now c.args.bytes.now set accepted c.in-Err.refusal.line (reason_of c.in-Err.refusal.kind) c.in-Err.ensures.1
