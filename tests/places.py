@@ -17,6 +17,7 @@ PLACES = {
     "range": "{{range .}}",
     "else": "{{else}}",
     "else if": "{{else if .}}",
+    "else with": "{{else with .}}",
     "end": "{{end}}",
     "break": "{{break}}",
     "continue": "{{continue}}",
@@ -39,7 +40,9 @@ DECLARES = {
 }
 USES = {"{{$x = .}}": ["x"], "{{else if $y := $x}}": ["x"]}
 OPENINGS = ("if", "with", "range")
-BRANCHES = ("else", "else if")
+BRANCHES = ("else", "else if", "else with")
+# the control to which an else branch belongs
+OF_CONTROL = {"else if": "if", "else with": "with"}
 # In OUTER INNER else end else end one more action stands behind each of the six in turn: the line that is then out of
 # place, 0 where none is.
 MORE = {
@@ -74,6 +77,9 @@ SCOPES = [
     *[("if:x end $x", 3), ("with:x end $x", 3), ("if=x end", 1), ("with=x end", 1), (":x if=x =x else =x end $x", 0)],
     # one of the header of an `else if`, in what is left of the control
     *[("if elseif:x $x elseif$x $x else $x end", 0), ("if $x elseif:x end", 2), ("if elseif:x end $x", 4)],
+    # .. and of an `else with`
+    *[("with elsewith:x $x elsewith$x $x else $x end", 0), ("with:x elsewith$x $x end", 0), ("with elsewith:x end $x", 4)],
+    *[("with $x elsewith:x end", 2), ("with elsewith :x elsewith$x end", 4), ("with :x elsewith$x end", 3)],
     # those of a range, in its body alone
     *[("range:x $x end", 0), ("range:k,x $k $x end", 0), ("range:x else $x end", 3), ("range:k,x else $k end", 3)],
     *[("range:x end $x", 3), ("range:x range:y $x $y else $x end $x end", 0), ("range:x range:y else $y end end", 4)],
@@ -108,7 +114,7 @@ def is_misplaced(kinds, i):
     if kinds[i] in BRANCHES:
         if opening is None or branches(kinds, opening, ["else"], opening, i):
             return True
-        return kinds[i] == "else if" and kinds[opening] != "if"
+        return kinds[i] != "else" and kinds[opening] != OF_CONTROL[kinds[i]]
     if kinds[i] in ("break", "continue"):
         ranges = [j for j in range(i) if kinds[j] == "range" and is_open(kinds, j, i)]
         return all(branches(kinds, j, ["else"], j, i) for j in ranges)
@@ -120,7 +126,7 @@ def reaches(kinds, k, i):
     if kinds[k] in OPENINGS:
         return is_open(kinds, k, i) and not (kinds[k] == "range" and branches(kinds, k, ["else"], k, i))
     opening = last_open(kinds, k)
-    if kinds[k] == "else if":
+    if kinds[k] in OF_CONTROL:
         return is_open(kinds, opening, i)
     return opening is None or is_open(kinds, opening, i) and not branches(kinds, opening, BRANCHES, k, i + 1)
 
@@ -168,7 +174,7 @@ def action(word):
         return f"{{{{{keyword}}}}}"
     names = ", ".join(f"${name}" for name in names.split(","))
     pipeline = {"": ".", ":": f"{names} := .", "=": f"{names} = .", "$": names}[sign]
-    return f"{{{{{keyword.replace('elseif', 'else if')} {pipeline}}}}}"
+    return f"{{{{{re.sub('^else(if|with)', r'else \1', keyword)} {pipeline}}}}}"
 
 
 def scopes():
