@@ -174,7 +174,8 @@ def action(word):
         return f"{{{{{keyword}}}}}"
     names = ", ".join(f"${name}" for name in names.split(","))
     pipeline = {"": ".", ":": f"{names} := .", "=": f"{names} = .", "$": names}[sign]
-    return f"{{{{{re.sub('^else(if|with)', r'else \1', keyword)} {pipeline}}}}}"
+    spelled = re.sub("^else(if|with)", r"else \1", keyword)
+    return f"{{{{{spelled} {pipeline}}}}}"
 
 
 def scopes():
