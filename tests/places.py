@@ -1,7 +1,9 @@
 """Runs the built program over every short list of actions, and compares where and why each is refused with
 the rules told directly, by stretches of the list, as docs/LANGUAGE.md has them. Each action stands on a
-line of its own. `places.py N` goes up to lists of N actions. TMPL=PATH names another build."""
+line of its own. Then it runs longer lists, whose lines were worked out by hand. `places.py N` goes up to lists of N
+actions. TMPL=PATH names another build."""
 import itertools
+import re
 import subprocess
 import sys
 import tempfile
@@ -15,6 +17,7 @@ PLACES = {
     "range": "{{range .}}",
     "else": "{{else}}",
     "else if": "{{else if .}}",
+    "else with": "{{else with .}}",
     "end": "{{end}}",
     "break": "{{break}}",
     "continue": "{{continue}}",
@@ -37,7 +40,53 @@ DECLARES = {
 }
 USES = {"{{$x = .}}": ["x"], "{{else if $y := $x}}": ["x"]}
 OPENINGS = ("if", "with", "range")
-BRANCHES = ("else", "else if")
+BRANCHES = ("else", "else if", "else with")
+# the control to which an else branch belongs
+OF_CONTROL = {"else if": "if", "else with": "with"}
+# In OUTER INNER else end else end one more action stands behind each of the six in turn: the line that is then out of
+# place, 0 where none is.
+MORE = {
+    "else": dict.fromkeys((f"{outer} {inner}" for outer in OPENINGS for inner in OPENINGS), "644667"),
+    "end": dict.fromkeys((f"{outer} {inner}" for outer in OPENINGS for inner in OPENINGS), "666677"),
+    "else if": {
+        **{"if if": "004067", "if with": "034067", "if range": "034067"},
+        **{"with if": "204567", "with with": "234567", "with range": "234567"},
+        **{"range if": "204567", "range with": "234567", "range range": "234567"},
+    },
+    "break": {
+        **{"if if": "234567", "if with": "234567", "if range": "204567"},
+        **{"with if": "234567", "with with": "234567", "with range": "204567"},
+        **{"range if": "000067", "range with": "000067", "range range": "000067"},
+    },
+}
+MORE["continue"] = MORE["break"]
+# Lists of actions, as `action` spells them, and the line of the variable that is not in scope, 0 where each is.
+SCOPES = [
+    # `$` alone is always there, and a name is there after the action that declares it
+    *[("$", 0), ("if$ elseif$ end", 0), ("$x", 1), ("=x", 1), (":x $x =x", 0), ("$x :x", 1), (":x $y", 2)],
+    *[(":xy $x", 2), (":x :x $x", 0)],
+    # to the end of the file, also inside of controls
+    *[(":x if$x . elseif$x . else $x end $x", 0), (":x range$x . else $x end with$x $x end", 0)],
+    # one of a part, to the end of that part
+    *[("if :x $x end $x", 5), ("if :x $x else $x end", 5), ("if :x elseif$x end", 3)],
+    *[("if elseif :x $x else $x end", 6), ("if elseif :x elseif$x end", 4), ("if else :x $x end $x", 6)],
+    *[("with :x $x else $x end", 5), ("range :x $x else $x end", 5), ("range :x break $x end $x", 6)],
+    *[("if if :x end $x end", 5), ("if :x if $x end $x end", 0)],
+    # one of the header of an `if` or `with`, in both parts, and not in its own pipeline
+    *[("if:x $x else $x end", 0), ("if:x elseif$x $x else $x end", 0), ("with:x $x else $x end", 0)],
+    *[("if:x end $x", 3), ("with:x end $x", 3), ("if=x end", 1), ("with=x end", 1), (":x if=x =x else =x end $x", 0)],
+    # one of the header of an `else if`, in what is left of the control
+    *[("if elseif:x $x elseif$x $x else $x end", 0), ("if $x elseif:x end", 2), ("if elseif:x end $x", 4)],
+    # .. and of an `else with`
+    *[("with elsewith:x $x elsewith$x $x else $x end", 0), ("with:x elsewith$x $x end", 0), ("with elsewith:x end $x", 4)],
+    *[("with $x elsewith:x end", 2), ("with elsewith :x elsewith$x end", 4), ("with :x elsewith$x end", 3)],
+    # those of a range, in its body alone
+    *[("range:x $x end", 0), ("range:k,x $k $x end", 0), ("range:x else $x end", 3), ("range:k,x else $k end", 3)],
+    *[("range:x end $x", 3), ("range:x range:y $x $y else $x end $x end", 0), ("range:x range:y else $y end end", 4)],
+    # a name that is hidden comes back
+    *[(":x if:x $x end $x", 0), (":x if :x else $x end $x", 0), ("if:x if:x end $x end", 0)],
+    *[("if:x if :x else end $x end $x", 8)],
+]
 
 
 def is_open(kinds, j, i):
@@ -65,7 +114,7 @@ def is_misplaced(kinds, i):
     if kinds[i] in BRANCHES:
         if opening is None or branches(kinds, opening, ["else"], opening, i):
             return True
-        return kinds[i] == "else if" and kinds[opening] != "if"
+        return kinds[i] != "else" and kinds[opening] != OF_CONTROL[kinds[i]]
     if kinds[i] in ("break", "continue"):
         ranges = [j for j in range(i) if kinds[j] == "range" and is_open(kinds, j, i)]
         return all(branches(kinds, j, ["else"], j, i) for j in ranges)
@@ -77,7 +126,7 @@ def reaches(kinds, k, i):
     if kinds[k] in OPENINGS:
         return is_open(kinds, k, i) and not (kinds[k] == "range" and branches(kinds, k, ["else"], k, i))
     opening = last_open(kinds, k)
-    if kinds[k] == "else if":
+    if kinds[k] in OF_CONTROL:
         return is_open(kinds, opening, i)
     return opening is None or is_open(kinds, opening, i) and not branches(kinds, opening, BRANCHES, k, i + 1)
 
@@ -100,15 +149,43 @@ def refusal(kinds, actions):
 
 
 def lists(table, most):
+    """Every list of up to so many actions, and its refusal."""
     for length in range(1, most + 1):
         for kinds in itertools.product(table, repeat=length):
-            yield kinds, [table[kind] for kind in kinds]
+            actions = [table[kind] for kind in kinds]
+            yield actions, refusal(kinds, actions)
+
+
+def with_more():
+    """Two controls, with an action more at each place."""
+    for more, table in MORE.items():
+        for openings, lines in table.items():
+            kinds = [*openings.split(), "else", "end", "else", "end"]
+            for place, line in enumerate(map(int, lines), 1):
+                actions = [PLACES[kind] for kind in (*kinds[:place], more, *kinds[place:])]
+                yield actions, (line, "out of place") if line else None
+
+
+def action(word):
+    """The action of a word: its keyword, or none or a dot where it is a pipeline, and behind that `:x` or `:k,x`, which
+    declares, `=x`, which assigns, or `$x`, which uses."""
+    keyword, sign, names = re.fullmatch("([a-z]*)[.]?([:=$]?)(.*)", word).groups()
+    if keyword in ("else", "end", "break", "continue"):
+        return f"{{{{{keyword}}}}}"
+    names = ", ".join(f"${name}" for name in names.split(","))
+    pipeline = {"": ".", ":": f"{names} := .", "=": f"{names} = .", "$": names}[sign]
+    spelled = re.sub("^else(if|with)", r"else \1", keyword)
+    return f"{{{{{spelled} {pipeline}}}}}"
+
+
+def scopes():
+    for words, line in SCOPES:
+        yield [action(word) for word in words.split()], (line, "undeclared variable") if line else None
 
 
 def check(case):
     """What the program says of a list of actions, and what it should say, where they differ."""
-    kinds, actions = case
-    found = refusal(kinds, actions)
+    actions, found = case
     want = (4, f"tmpl: m:{found[0]}: {found[1]}\n") if found else (0, "")
     with tempfile.TemporaryDirectory() as folder:
         with open(f"{folder}/m", "w") as file:
@@ -122,7 +199,7 @@ def check(case):
 def main(most):
     if not harness.is_built():
         return harness.closing(0, 1)
-    cases = [case for table in (PLACES, NAMES) for case in lists(table, most)]
+    cases = [*lists(PLACES, most), *lists(NAMES, most), *with_more(), *scopes()]
     with ThreadPoolExecutor() as pool:
         wrong = [it for it in pool.map(check, cases) if it]
     print(*wrong[:20], sep="\n")

@@ -7,7 +7,7 @@ import resource
 import threading
 
 SECONDS = 0.5  # between two looks
-KINDS = ("proof", "tests", "edits")
+KINDS = ("proof", "edits")
 TICK = 1 / os.sysconf("SC_CLK_TCK")
 
 
@@ -20,12 +20,12 @@ def seen(process):
 
 
 def work_of(process):
-    """The crate that a prover works on, and what it does: the proof, that of the tests, or that of a wrong body."""
+    """The crate that a prover works on, and what it does: the proof, or that of a wrong body."""
     with open(f"/proc/{process}/cmdline", "rb") as it:
         words = it.read().decode(errors="replace").split("\0")
     crate = words[words.index("--crate-name") + 1] if "--crate-name" in words[:-1] else "other"
     room = os.path.basename(os.readlink(f"/proc/{process}/cwd"))
-    kind = "edits" if room.startswith("rt-edit") else "tests" if "--test" in words else "proof"
+    kind = "edits" if room.startswith("rt-edit") else "proof"
     return crate, kind
 
 

@@ -1,9 +1,6 @@
 """Runs the built program over each small row with its Nth allocation refused, N from 1 until none is.
-Each run must answer as the row does, or put out nothing and end with status 7 and its line. Then each
-test of a module `memory` is run so, of each crate whose tests the gate built: it must pass, or end for
-want of memory of its own. Other tests are left out, since they hold that memory is there.
+Each run must answer as the row does, or put out nothing and end with status 7 and its line.
 TMPL=PATH names another build."""
-import glob
 import os
 import subprocess
 import sys
@@ -63,28 +60,6 @@ def sweep_row(shim, row):
         return (row.name, *sweep(shim, lambda *how: harness.run(row, folder, *how), wrong))
 
 
-def sweep_test(shim, program, name):
-    def once(environment, keep):
-        how = {"stdin": subprocess.DEVNULL, "stdout": subprocess.PIPE, "stderr": subprocess.STDOUT, "timeout": harness.SECONDS}
-        ran = subprocess.run([program, name], env={**os.environ, **environment}, pass_fds=keep, cwd="/", **how)
-        return ran.returncode, ran.stdout
-
-    def wrong(got, refused):
-        status, output = got
-        ended = status == 0 or refused and output.startswith(b"error: AllocError\n")
-        return [] if ended else [f"    status: {status}", f"    output: {harness.short(output)}"]
-
-    return (f"{os.path.basename(program)} {name}", *sweep(shim, once, wrong))
-
-
-def memory_tests():
-    """The tests of modules named memory, with the program that holds each."""
-    for program in sorted(glob.glob(f"{harness.TOP}/crates/*/out/*_tests")):
-        listed = subprocess.run([program, "--list"], stdout=subprocess.PIPE, check=True).stdout.decode()
-        names = [it[: -len(": test")] for it in listed.splitlines() if it.endswith(": test")]
-        yield from ((program, name) for name in names if "memory" in name.split("::")[:-1])
-
-
 def main():
     if not harness.is_built():
         return harness.closing(0, 1)
@@ -93,7 +68,6 @@ def main():
         shim = f"{folder}/fail_alloc.so"
         build_shim("fail_alloc.c", shim)
         done = [pool.submit(sweep_row, shim, it) for it in rows]
-        done += [pool.submit(sweep_test, shim, *it) for it in memory_tests()]
         passed, failed, runs = harness.tally(it.result() for it in done)
     print(f"{runs} allocations were refused, one in each run")
     return harness.closing(passed, failed)

@@ -1,13 +1,17 @@
 """Runs the built program over what tables accept and make of each letter, byte and name, and compares that with the
 rules told directly, as docs/LANGUAGE.md has them: what stands behind a backslash in strings and characters, each byte
-through `html`, `urlquery` and the quote, and words that are a function's name but for a letter. It shares no code with
-the program. TMPL=PATH names another build."""
+through `html`, `urlquery` and the quote, words that are a function's name but for a letter, actions of one byte and of
+two, each byte between quotes, numbers, actions that are none, and the calls of functions.py. It shares no code with the
+program. TMPL=PATH names another build."""
+import itertools
+import re
 import subprocess
 import sys
 import tempfile
 import unicodedata
 from concurrent.futures import ThreadPoolExecutor
 
+import functions
 import harness
 
 FUNCTIONS = "and eq ge gt html index le len lt ne not or print printf println slice urlquery".split()
@@ -18,6 +22,35 @@ ESCAPES = {"a": 7, "b": 8, "f": 12, "n": 10, "r": 13, "t": 9, "v": 11, "\\": 92}
 DIGITS = {"x": 2, "u": 4, "U": 8}
 NOT_UNDERSTOOD = "action not understood"
 UNREADABLE = "unclosed or unreadable action"
+# for actions of one byte or two: white space, signs that are tokens by themselves, and bytes before which any other is tried
+WHITE = " \t\r\n"
+SIGNS = {sign: sign for sign in ".$=,|()"}
+GOES_ON = " .$1a-"
+TOGETHER = 64  # accepted actions in one file
+# the base of a number, what stands before its digits, and how it is written
+BASES = [
+    (16, "0[xX]", "0[xX](_?[0-9a-fA-F])+"),
+    (2, "0[bB]", "0[bB](_?[01])+"),
+    (8, "0[oO]?", "0[oO]?(_?[0-7])+"),
+    (10, "", "(0|[1-9](_?[0-9])*)"),
+]
+NO_ACTIONS = [
+    # a later command that begins with a constant, `nil` or dot
+    *[".a | 1", ".a | .", ".a | nil", ".a | true", '.a | "x"', ".a | `x` 1", ".a | 'x'", "(.a | .)"],
+    # commands without an operand
+    *[". |", "|.", ".a||.b", "()", "(.a |)", "(| .a)"],
+    # operands that touch
+    *["print(1)", "(1)(2)", ".a(1)", ".a$", "$$", "..", '1"a"'],
+    # chains behind what has none
+    *["len.x", "nil.a", "true.a", '"a".b', "'a'.b", "..a", "(.) .1", "(.).1"],
+    # parentheses that do not match
+    *["(.a", ".a)", "(.a))"],
+    # words that are no operands
+    *["print if", "print end", "(else)", "end .", "unknown", "print unknown", "if", "if .a := 1", "range $i, := ."],
+    *["range $i, .a", "with $x, $y := .", "$ := 1", ".a, .b", ".a = 1"],
+    # constants that are none
+    *["08", "print 1.5", '"\\q"'],
+]
 
 
 def text(code):
@@ -116,16 +149,163 @@ def names():
         yield "{{if false}}{{print %s}}{{end}}" % word, "" if known else None, None if known else NOT_UNDERSTOOD
 
 
+def is_name(byte):
+    """Whether the byte may stand in a name."""
+    return byte >= 0x80 or chr(byte).isalnum() or chr(byte) == "_"
+
+
+def single(byte):
+    """The token that one byte is on its own."""
+    if chr(byte) in WHITE:
+        return "space"
+    if 0x30 <= byte <= 0x39:
+        return "number"
+    return "word" if is_name(byte) else SIGNS.get(chr(byte))
+
+
+def double(first, second):
+    """The token that two bytes are together."""
+    front, behind = chr(first), chr(second)
+    kind = single(first)
+    if kind == "space":
+        return "space" if behind in WHITE else None
+    if kind == "number":
+        return "number" if is_name(second) or behind == "." else None
+    if front in "+-":
+        return "number" if single(second) == "number" else None
+    if kind == "word" or front in ".$":
+        return {"word": "word", ".": "field", "$": "variable"}[kind] if is_name(second) else None
+    return {'""': "string", "``": "string", "''": "character", ":=": ":="}.get(front + behind)
+
+
+def tokens(inside):
+    """The tokens between the braces, one byte or two; none where the action is unreadable."""
+    if len(inside) == 1:
+        kind = single(inside[0])
+        return [(kind, inside)] if kind else [] if inside == b"}" else None
+    kind = double(*inside)
+    if kind:
+        return [(kind, inside)]
+    first, second = chr(inside[0]), chr(inside[1])
+    one, other = single(inside[0]), single(inside[1])
+    if first == "-" and second in WHITE or first in WHITE and second == "-" or inside == b"}}":
+        return []
+    if one and second == "}":
+        return [(one, inside[:1])]
+    return [(one, inside[:1]), (other, inside[1:])] if one and other else None
+
+
+def whole_number(source):
+    """The number that this spells, or none."""
+    for base, digits, form in BASES:
+        if re.fullmatch(f"[+-]?{form}", source):
+            value = int(re.sub(f"^([+-]?){digits}", r"\1", source).replace("_", ""), base)
+            return value if -(2**63) <= value < 2**63 else None
+    return None
+
+
+def meaning(inside):
+    """What comes of an action of one byte or two that is no variable with a name: its output, or why it is refused."""
+    found = tokens(inside)
+    if found is None:
+        return None, UNREADABLE
+    kinds = [(kind, spelling) for kind, spelling in found if kind != "space"]
+    text_behind = b"}" if inside.endswith(b"}") else b""
+    if len(kinds) != 1:
+        return None, NOT_UNDERSTOOD
+    kind, spelling = kinds[0]
+    if kind == "number":
+        value = whole_number(spelling.decode("latin-1"))
+        return (None, NOT_UNDERSTOOD) if value is None else (str(value).encode() + text_behind, None)
+    if kind in (".", "$") or kind == "field" and not spelling[1:].isdigit():
+        return b"<no value>" + text_behind, None
+    return (b"", None) if kind == "string" else (None, NOT_UNDERSTOOD)
+
+
+def insides():
+    """Each byte, each pair of bytes of which both are of few or the first begins a token that goes on."""
+    yield from (bytes([byte]) for byte in range(256))
+    few = {byte for byte in range(256) if byte < 0x80 and not chr(byte).isalnum() and byte >= 0x20}
+    few |= {ord(it) for it in "\t\r\n\0\v\f\x1f017ae\x80\xff"}
+    for first, second in itertools.product(range(256), repeat=2):
+        if first in few and second in few or chr(first) in GOES_ON:
+            yield bytes([first, second])
+
+
+def together(cases):
+    """These cases, each accepted action with many others in one file, since a refused one would refuse the file."""
+    cases = list(cases)
+    yield from (case for case in cases if case[2])
+    accepted = [case for case in cases if not case[2]]
+    for at in range(0, len(accepted), TOGETHER):
+        some = accepted[at : at + TOGETHER]
+        yield b"".join(it[0] + b"\n" for it in some), b"".join(it[1] + b"\n" for it in some), None
+
+
+def short_actions():
+    """Each of these as an action, variables declared before, and functions not run, since they lack arguments."""
+    for inside in insides():
+        source = b"{{" + inside + b"}}"
+        if inside.decode("latin-1") in FUNCTIONS:
+            yield b"{{if false}}" + source + b"{{end}}", b"", None
+        elif tokens(inside) == [("variable", inside)]:
+            yield b"{{" + inside + b" := 1}}" + source, b"1", None
+        else:
+            yield source, *meaning(inside)
+
+
+def between_quotes():
+    """Each byte alone between quotes of each kind."""
+    for byte in range(256):
+        inside = bytes([byte])
+        for quote, refused, out in (
+            (b'"', b'\n"\\', inside if byte < 0x80 else "\ufffd".encode()),
+            (b"`", b"`", inside.replace(b"\r", b"")),
+            (b"'", b"\n'\\", b"%d" % (byte if byte < 0x80 else 0xFFFD)),
+        ):
+            source = b"{{" + quote + inside + quote + b"}}"
+            yield (source, None, UNREADABLE) if inside in refused else (source, out, None)
+
+
+def numbers():
+    """Each number of up to three of these bytes, and of four behind a prefix, and ones beyond the ends."""
+    spelled = {first + "".join(more) for first in "018" for n in range(3) for more in itertools.product("018_xboa.", repeat=n)}
+    spelled |= {front + "".join(more) for front in ("0x", "0b", "0o", "0_") for more in itertools.product("01_g", repeat=2)}
+    spelled |= {"0x1p4", "1i", "1\u00e9", "0_x1", "0x__1", "-0b", "0b2", "1e3", "+9223372036854775808", "-18446744073709551617"}
+    spelled |= {"18446744073709551616", "340282366920938463463374607431768211457"}
+    values = {source: whole_number(source) for source in sorted(spelled)}
+    yield from (("{{%s}}" % source, None, NOT_UNDERSTOOD) for source, value in values.items() if value is None)
+    known = [source for source, value in values.items() if value is not None]
+    yield "".join("{{%s}}," % it for it in known), "".join(f"{values[it]}," for it in known), None
+
+
+def refused_constants():
+    """Escapes of bad digits, and characters of more than one part."""
+    for have in ("\\08a", "\\12", "\\xg0", "\\x_1", "\\X41", "\\u12", "\\u+123", "\\U0000d800", "\\UFFFFFFFF", "a\\'", "\\\u00e9"):
+        yield '{{"%s"}}' % have, None, NOT_UNDERSTOOD
+    for have in ("\\na", "a\\n", "\\400", "\\xf"):
+        yield "{{'%s'}}" % have, None, NOT_UNDERSTOOD
+
+
+def refused_actions():
+    """Actions that can be read, and are none of the language."""
+    for inside in NO_ACTIONS:
+        yield "{{%s}}" % inside, None, NOT_UNDERSTOOD
+
+
 def check(case):
-    """What the program says of a template, and what it should say, where they differ."""
-    source, out, refusal = case
+    """What the program says of a template, and what it should say, where they differ. With data, what is said is a fault."""
+    source, out, refusal, *data = case
     out = out.encode() if isinstance(out, str) else out
-    want = (4, b"", f"tmpl: m:1: {refusal}\n".encode()) if out is None else (0, out, b"")
+    refused = (1, b"", f'tmpl: m:1: in "m": {refusal}\n') if data else (4, b"", f"tmpl: m:1: {refusal}\n")
+    want = (*refused[:2], refused[2].encode()) if out is None else (0, out, b"")
     with tempfile.TemporaryDirectory() as folder:
-        with open(f"{folder}/m", "wb") as file:
-            file.write(source.encode())
+        for name, content in zip("md", (source, *data)):
+            with open(f"{folder}/{name}", "wb") as file:
+                file.write(content.encode() if isinstance(content, str) else content)
         how = {"cwd": folder, "stdin": subprocess.DEVNULL, "capture_output": True}
-        ran = subprocess.run([harness.PROGRAM, "m"], timeout=harness.SECONDS, **how)
+        words = ["--data", "d", "m"] if data else ["m"]
+        ran = subprocess.run([harness.PROGRAM, *words], timeout=harness.SECONDS, **how)
     got = (ran.returncode, ran.stdout, ran.stderr)
     return None if got == want else f"FAILED {source!r}\n    wanted {want}\n    got {got}"
 
@@ -133,7 +313,8 @@ def check(case):
 def main():
     if not harness.is_built():
         return harness.closing(0, 1)
-    cases = [*escapes(), *each_byte(), *names()]
+    cases = [*escapes(), *each_byte(), *names(), *functions.cases()]
+    cases += [*together(short_actions()), *together(between_quotes()), *numbers(), *refused_constants(), *refused_actions()]
     with ThreadPoolExecutor() as pool:
         wrong = [it for it in pool.map(check, cases) if it]
     print(*wrong[:20], sep="\n")

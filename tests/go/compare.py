@@ -24,6 +24,8 @@ WORDS = ["", "a", "Ada", "x<y & \"z\"", "é→", "two words", "tab\there", "'quo
 NUMBERS = [0, 1, -1, 7, 42, 255, -255, 1000, 2**31, 2**63 - 1, -(2**63)]
 TEXTS = [" ", "\n", "a", "text ", "  \n\t", "{ ", "}", "} }", "é", "<b>", "\r\n", "x" * 40, "{ { ", "-"]
 ODDS_OF_A_FAULT = 0.02
+# a range over a number goes on for as long as the number says
+STEPS = "100000"
 
 
 class Drawing:
@@ -261,6 +263,9 @@ class Drawing:
     def range_(self, dot, depth):
         r = self.random
         said, value = self.pipeline(dot, r.choice(["list", "map", "null"]))
+        if self.kind(value) == "number":
+            # a fault before Go 1.24
+            return r.choice(TEXTS)
         entries = sorted(value.items()) if isinstance(value, dict) else list(enumerate(value)) if isinstance(value, list) else []
         key, element = entries[0] if entries else (0, "text")
         # names of their own: in the else part Go's are still there, with the value of the pipeline, and ours are not
@@ -322,14 +327,14 @@ def ours(it, folder):
     for name, what in (("m", it["Template"]), ("d", json.dumps(it["Data"]))):
         with open(f"{folder}/{name}", "w", encoding="utf-8", newline="") as file:
             file.write(what)
-    ran = subprocess.run([harness.PROGRAM, "--data", "d", "m"], cwd=folder, stdout=subprocess.PIPE, stderr=subprocess.PIPE, timeout=harness.SECONDS)
+    ran = subprocess.run([harness.PROGRAM, "--steps", STEPS, "--data", "d", "m"], cwd=folder, stdout=subprocess.PIPE, stderr=subprocess.PIPE, timeout=harness.SECONDS)
     return ran.returncode, ran.stdout, ran.stderr.decode(errors="replace")
 
 
 def judge(it, theirs, folder):
     """Whether both agree, and what came of it; or what differs. A format that we refuse may print something in Go, as `%d`
-    of a text does: then the texts must be equal up to there. A number out of range is refused as the template is read,
-    and by Go when it runs."""
+    of a text does, and a number that is ranged over is a fault before Go 1.24: then the texts must be equal up to there. A
+    number out of range is refused as the template is read, and by Go when it runs."""
     status, text, line = ours(it, folder)
     their_text = base64.b64decode(theirs["Text"] or "")
     if status == 1 and line.endswith(": printf: format refused\n") and their_text.startswith(text):
@@ -338,6 +343,8 @@ def judge(it, theirs, folder):
         return "done", None
     if status == 1 and theirs["Read"] and not theirs["Done"] and text == their_text:
         return "faulted", None
+    if status != 4 and re.search(r"range can't iterate over -?\d+$", theirs["Fault"]) and text.startswith(their_text):
+        return "cut short", None
     if status == 4 and (not theirs["Read"] or theirs["Fault"].endswith("overflows int")):
         return "refused", None
     told = "Go read it" if theirs["Read"] else "Go refused it"
@@ -366,7 +373,7 @@ def main(count=2000, first=0):
             if wrong:
                 print(f"DIFFERS seed {int(first) + number}: {it['Template']!r} with {json.dumps(it['Data'])}", wrong, sep="\n")
     print(f"both ended well {told['done']} times, faulted {told['faulted']} times and refused the template {told['refused']} times; "
-          f"{told['cut short']} runs were equal up to a format that we refuse")
+          f"{told['cut short']} runs were equal up to a format that we refuse or a number that Go does not range over")
     return harness.closing(sum(told.values()) - told["differs"], told["differs"])
 
 

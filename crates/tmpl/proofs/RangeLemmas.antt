@@ -1,14 +1,16 @@
 -- The elements of a range, one after the other.
-use Rattle.std.proofs.Common.{◌≡◌, ◌∙◌, ◌⊎◌, ◌+◌, ◌<◌, ℕ, zero, suc, sym, ap, length, drop, List, [], ◌∷◌, Some, None, Option, arith, inl, inr}
+use Rattle.std.proofs.Common.{◌≡◌, ◌∙◌, ◌⊎◌, ◌+◌, ◌<◌, ℕ, zero, suc, refl, sym, ap, length, drop, List, [], ◌∷◌, Some, None, Option, arith, inl, inr}
 use Rattle.std.proofs.Math.Numerals.{add-one}
 use Rattle.std.specs.Option.{option_map, unwrap_or}
 use Rattle.std.specs.List.{slice_get}
-use Rattle.tmpl_values.specs.Value.{Value}
-use Rattle.tmpl_values.specs.Elements.{Element, element_at, elements, item_at}
-use Rattle.tmpl_syntax.specs.declared.tree.ControlNode.{ControlNode}
-use Rattle.tmpl_run.specs.Meaning.{Setting, Next, Run, after_turn}
+use Rattle.tmpl_values.specs.Value.{Value, nothing, null, boolean, number, string, sequence, mapping}
+use Rattle.tmpl_values.specs.Elements.{Element, element_at, item_at}
+use Rattle.tmpl_grammar.specs.Tree.{Binding, unbound, declare, assign, declare_pair}
+use Rattle.tmpl_grammar.specs.View.{binding_of}
+use Rattle.tmpl_syntax.specs.declared.tree.ControlNode.{ControlNode, out-ControlNode}
+use Rattle.tmpl_run.specs.Meaning.{Setting, Next, Run, after_turn, visited}
 use Rattle.tmpl.specs.View.{end_seen}
-use Rattle.tmpl.specs.computed.Evaluator.{turn_run, turns_run}
+use Rattle.tmpl.specs.computed.Evaluator.{turn_run, turns_run, visited_by}
 use Rattle.tmpl.specs.declared.evaluator.End as code_end
 use Rattle.tmpl.specs.declared.evaluator.End.TheVariants as ending
 
@@ -35,9 +37,27 @@ module _ (s : Setting) (line : ℕ) (c : ControlNode) (r : Run) where
       ap (λ xs. turns_run s line c (Some xs) r) (next-drop es i e h)
       ∙ ap (λ n. after_turn (turn_run s line c e r) (turns_run s line c (Some (drop n es)))) (sym (add-one i))
 
+-- what a range visits are the elements of the value
+visited-at : (b : Binding) (v : Value) (n i : ℕ) → Some n ≡ option_map length (visited b v) → element_at i (visited b v) ≡ item_at i v
+visited-at unbound v n i h = refl
+visited-at (declare name) v n i h = refl
+visited-at (assign name) v n i h = refl
+visited-at (declare_pair key name) nothing n i h = refl
+visited-at (declare_pair key name) null n i h = refl
+visited-at (declare_pair key name) (boolean t) n i h = refl
+visited-at (declare_pair key name) (number m) n i h = let g : Some n ≡ None = h in cc
+visited-at (declare_pair key name) (string s) n i h = refl
+visited-at (declare_pair key name) (sequence vs) n i h = refl
+visited-at (declare_pair key name) (mapping es) n i h = refl
+
+-- so the item at a place is what is visited there
+pub visited_by-at : (c : ControlNode) (v : Value) (n i : ℕ) → Some n ≡ option_map length (visited_by c v) → element_at i (visited_by c v) ≡ item_at i v
+visited_by-at c v n i h =
+    let node = out-ControlNode c in visited-at (binding_of node.header.binding) v n i h
+
 -- there is an element at each place before the last
-pub not-past : (v : Value) (n i : ℕ) → Some n ≡ option_map length (elements v) → i < n → item_at i v ≡ None → ⊥
-not-past v n i h lt none = go (elements v) h none
+pub not-past : (c : ControlNode) (v : Value) (n i : ℕ) → Some n ≡ option_map length (visited_by c v) → i < n → item_at i v ≡ None → ⊥
+not-past c v n i h lt none = go (visited_by c v) h (visited_by-at c v n i h ∙ none)
   where
     go : (o : Option (List Element)) → Some n ≡ option_map length o → element_at i o ≡ None → ⊥
     go None e f = let g : Some n ≡ None = e in cc

@@ -1,14 +1,13 @@
 //! A plain evaluator: it walks the tree and builds the whole text in memory, as a rope.
 ghost use Rattle.std.specs.Prelude.{◌≡◌, ◌≤◌, IfOk, OnOk, Some, length, option_map};
-ghost use Rattle.tmpl_values.specs.Elements.{elements};
 ghost use Rattle.tmpl_values.specs.View.{val_of, value_of};
 ghost use Rattle.tmpl_grammar.specs.View.{binding_of, header_of, pipeline_of};
 ghost use Rattle.tmpl_syntax.specs.View.{node_of, nodes_in, tree_of};
 ghost use Rattle.tmpl_run.specs.Meaning.{acting, alone, done, faulted_at, meaning, meanings, putting, ran, scope};
-ghost use Rattle.tmpl_run.specs.Meaning.{shown, starting_dot, stepped, with_bound};
+ghost use Rattle.tmpl_run.specs.Meaning.{shown, starting_dot, stepped, visited, with_bound};
 ghost use Rattle.tmpl_run.specs.View.{cause_of};
 ghost use Rattle.tmpl.specs.computed.Evaluator.{HasValue, control_run, if_run, range_run, turn_run, turns_run};
-ghost use Rattle.tmpl.specs.computed.Evaluator.{with_run};
+ghost use Rattle.tmpl.specs.computed.Evaluator.{visited_by, with_run};
 ghost use Rattle.tmpl.specs.View.{end_seen, ran_seen, run_of, setting_seen};
 ghost use Rattle.tmpl_run.specs.View.{value_seen};
 
@@ -21,7 +20,9 @@ use crate::evaluator::rope::Rope;
 use crate::evaluator::variables::Variables;
 use std::alloc::{AllocError, Global};
 use tmpl_grammar::{Binding, Control, Header, Pipeline};
-use tmpl_run::{MissingKey, Options, RunFault, RunFaultKind, element_count, without_null};
+use tmpl_run::{
+    MissingKey, Options, RunFault, RunFaultKind, element_count, pair_count, without_null,
+};
 use tmpl_syntax::{ControlNode, Node, NodeKind, Tree};
 use tmpl_values::{Bytes, Data, Val, put_text};
 
@@ -373,7 +374,7 @@ impl<'a> Machine<'a> {
             ≡ (run_of self.new, end_seen end)) }
     {
         match self.value(setting, &node.header.pipeline, dot)? {
-            Ok(value) => match element_count(&value) {
+            Ok(value) => match visited_count(&node.header.binding, &value) {
                 None => Ok(setting.faulted_at(line, RunFaultKind::NotARange)),
                 Some(0) => self.nodes(setting, node.other.as_slice(), dot),
                 Some(count) => self.turns(setting, line, node, &value, count),
@@ -393,11 +394,12 @@ impl<'a> Machine<'a> {
         count: u64,
     ) -> Result<End<'a>, AllocError>
         requires whole { self.old.text.failures ≡ 0 }
-        requires count { Some count ≡ option_map length (elements (val_of value.now)) }
+        requires count { Some count ≡ option_map length (visited_by node.now (val_of value.now)) }
         ensures whole { OnOk result (self.new.text.failures ≡ 0) }
         ensures left { self.new.left ≤ self.old.left }
         ensures run { IfOk result (λ end.
-            turns_run (setting_seen setting.now) line node.now (elements (val_of value.now)) (run_of self.old)
+            turns_run (setting_seen setting.now) line node.now (visited_by node.now (val_of value.now))
+            (run_of self.old)
             ≡ (run_of self.new, end_seen end)) }
     {
         for i in 0..count {
@@ -439,6 +441,16 @@ impl<'a> Machine<'a> {
         let end = self.nodes(setting, node.body.as_slice(), &element)?;
         self.variables.truncate(count);
         Ok(end)
+    }
+}
+
+/// How many elements a range visits of the value; none where its variables can't range over it.
+fn visited_count(binding: &Binding, value: &Val<'_>) -> Option<u64>
+    ensures { result ≡ option_map length (visited (binding_of binding.now) (val_of value.now)) }
+{
+    match binding {
+        Binding::Unbound | Binding::Declare(_) | Binding::Assign(_) => element_count(value),
+        Binding::DeclarePair(_) => pair_count(value),
     }
 }
 

@@ -13,8 +13,6 @@ mod messages;
 mod render;
 mod status;
 mod stop;
-#[cfg(test)]
-mod tests;
 mod tool;
 mod words;
 

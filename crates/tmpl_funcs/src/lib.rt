@@ -20,6 +20,3 @@ pub use dispatch::call;
 pub use fault::{CallError, CallFault};
 pub use func::Func;
 pub use laws::one_format_reading;
-
-#[cfg(test)]
-mod tests;

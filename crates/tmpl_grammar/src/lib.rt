@@ -16,6 +16,3 @@ pub use action::{Action, Branch, HeaderShape, Reading, Shape};
 pub use laws::{one_action, one_reading, printed_spelling, printed_tokens};
 pub use read::read_action;
 pub use tree::{Binding, Command, Control, Header, Operand, Pair, Pipeline};
-
-#[cfg(test)]
-mod tests;

@@ -7,8 +7,6 @@ mod cutter;
 mod laws;
 mod piece;
 mod quoted;
-#[cfg(test)]
-mod tests;
 mod text;
 mod token;
 mod trim;

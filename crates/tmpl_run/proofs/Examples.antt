@@ -1,6 +1,7 @@
 -- What the meaning says of some templates.
-use Rattle.std.proofs.Common.{◌≡◌, ℕ, true, false, List, [], ◌∷◌, Some, None, Ok, Err, refl, codes}
-use Rattle.std.specs.Prelude.{pos}
+use Rattle.std.proofs.Common.{◌≡◌, ℕ, true, false, List, [], ◌∷◌, ◌++◌, Some, None, Ok, Err, refl, codes}
+use Rattle.std.specs.Prelude.{pos, negsuc}
+use Rattle.tmpl_values.specs.Text.{text_of}
 use Rattle.tmpl_values.specs.Value.{Value, nothing, null, boolean, number, string, sequence, mapping, no_item, item, no_entry, entry}
 use Rattle.tmpl_funcs.specs.declared.func.Func.TheVariants.{And, Or, Not, Len, Index, Print, Println, Printf, Html, Urlquery}
 use Rattle.tmpl_funcs.specs.declared.fault.CallFault.TheVariants.{WrongCount, WrongKind}
@@ -85,8 +86,36 @@ keys = refl
 no-element : run 9 (then 1 (range_dot unbound (then 1 (text (codes "x")) none) (then 1 (text (codes "y")) none)) none) (sequence no_item) ≡ puts (codes "y")
 no-element = refl
 
-not-a-range : run 9 (then 7 (range_dot unbound (then 1 (text (codes "x")) none) (then 1 (text (codes "y")) none)) none) (one 3) ≡ stops [] 7 not_a_range
+not-a-range : run 9 (then 7 (range_dot unbound (then 1 (text (codes "x")) none) (then 1 (text (codes "y")) none)) none) (boolean true) ≡ stops [] 7 not_a_range
 not-a-range = refl
+
+-- {{range .}}{{.}}{{else}}y{{end}} over the numbers below one
+numbers-below : run 9 (then 1 (range_dot unbound (then 1 (put dot) none) (then 1 (text (codes "y")) none)) none) (one 3) ≡ puts ((text_of (one 0) ++ text_of (one 1)) ++ text_of (one 2))
+numbers-below = refl
+
+numbers-below-zero : run 9 (then 1 (range_dot unbound (then 1 (put dot) none) (then 1 (text (codes "y")) none)) none) (one 0) ≡ puts (codes "y")
+numbers-below-zero = refl
+
+numbers-below-minus-one : run 9 (then 1 (range_dot unbound (then 1 (put dot) none) (then 1 (text (codes "y")) none)) none) (number (negsuc 0)) ≡ puts (codes "y")
+numbers-below-minus-one = refl
+
+-- {{range $x := .}}{{$x}}{{end}}: the one variable is the number
+variable-of-numbers : run 9 (then 1 (range_dot (declare x) (then 1 (put (variable x [])) none) none) none) (one 2) ≡ puts (text_of (one 0) ++ text_of (one 1))
+variable-of-numbers = refl
+
+-- {{range $a, $b := .}}x{{else}}y{{end}} over a number, also over one that has nothing below it
+pairs-of-a-number : run 9 (then 7 (range_dot (declare_pair a b) (then 1 (text (codes "x")) none) (then 1 (text (codes "y")) none)) none) (one 2) ≡ stops [] 7 not_a_range
+pairs-of-a-number = refl
+
+pairs-of-zero : run 9 (then 7 (range_dot (declare_pair a b) (then 1 (text (codes "x")) none) (then 1 (text (codes "y")) none)) none) (one 0) ≡ stops [] 7 not_a_range
+pairs-of-zero = refl
+
+pairs-of-minus-one : run 9 (then 7 (range_dot (declare_pair a b) (then 1 (text (codes "x")) none) (then 1 (text (codes "y")) none)) none) (number (negsuc 0)) ≡ stops [] 7 not_a_range
+pairs-of-minus-one = refl
+
+-- each number costs a step
+steps-of-numbers : run 5 (then 1 (range_dot unbound (then 2 (put dot) none) none) none) (one 3) ≡ stops (text_of (one 0) ++ text_of (one 1)) 1 (steps_spent 5)
+steps-of-numbers = refl
 
 -- a step for the range, one for each element and one for each text
 steps-of-a-range : run 4 (then 1 (range_dot unbound (then 2 (text (codes "x")) none) none) none) three ≡ stops (codes "x") 2 (steps_spent 4)

@@ -3,7 +3,7 @@ use Rattle.std.specs.Prelude.{ℕ, ◌-◌, nat_eq, Bool, true, false, ◌||◌,
 use Rattle.std.specs.Prelude.{Option, Some, None, Result, Ok, Err, if◌then◌else◌}
 use Rattle.std.specs.Str.{bytes_eq}
 use Rattle.tmpl_values.specs.Value.{Value, nothing}
-use Rattle.tmpl_values.specs.Elements.{Element, elements}
+use Rattle.tmpl_values.specs.Elements.{Element, elements, pairs}
 use Rattle.tmpl_values.specs.Text.{text_of}
 use Rattle.tmpl_values.specs.Truth.{truth}
 use Rattle.tmpl_grammar.specs.Tree.{Pipeline, Binding, unbound, declare, assign, declare_pair, Header}
@@ -156,6 +156,13 @@ turns s line b body [] r = (r, done)
 turns s line b body (e ∷ es) r =
     after_turn (turn s line b body e r) (turns s line b body es)
 
+-- the elements that a range visits, if it may range over the value: with two variables it may not over a number
+abbrev pub visited : Binding → Value → Option (List Element)
+visited unbound v = elements v
+visited (declare name) v = elements v
+visited (assign name) v = elements v
+visited (declare_pair key name) v = pairs v
+
 -- a range over the elements, or its other part where there are none
 abbrev pub over : Setting → ℕ → Binding → (Value → Next) → Next → Option (List Element) → Next
 over s line b body other None r = (r, faulted_at s line not_a_range)
@@ -164,7 +171,7 @@ over s line b body other (Some (e ∷ es)) r = turns s line b body (e ∷ es) r
 
 abbrev pub ranging : Setting → ℕ → Header → Value → (Value → Next) → Next → Next
 ranging s line h d body other =
-    with_pipeline s line h.pipeline d (λ v. over s line h.binding body other (elements v))
+    with_pipeline s line h.pipeline d (λ v. over s line h.binding body other (visited h.binding v))
 
 -- a control, by its body with a dot and its other part
 abbrev pub controlled : Setting → ℕ → Control → Header → Value → (Value → Next) → Next → Next

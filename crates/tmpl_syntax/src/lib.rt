@@ -24,6 +24,3 @@ pub use tmpl_grammar::{
     printed_spelling, printed_tokens,
 };
 pub use tree::{ControlNode, Node, NodeKind, Tree};
-
-#[cfg(test)]
-mod tests;

@@ -1,12 +1,14 @@
 -- The elements of a range by their places.
-use Rattle.std.proofs.Common.{◌≡◌, ◌∙◌, ℕ, zero, suc, ◌+◌, ◌<◌, ◌≤◌, pos, List, [], ◌∷◌, get_or, length, Some, None, Option, refl, ap, sym, arith}
+use Rattle.std.proofs.Common.{◌≡◌, ◌∙◌, ℕ, zero, suc, ◌+◌, ◌<◌, ◌≤◌, ℤ, pos, negsuc, List, [], ◌∷◌, get_or, length, Some, None, Option, refl, ap, sym, arith}
 use Rattle.std.specs.List.{slice_get}
+use Rattle.std.proofs.lemmas.List.FromFn.{get_or-map-range_with_len, length-map-range_with_len}
+use Rattle.std.proofs.lemmas.Option.{slice_get-get_or}
 use Rattle.std.specs.Option.{option_map}
 use Rattle.tmpl_values.specs.Value.{Value, nothing, null, boolean, number, string, sequence, mapping, Items, no_item, item, Entries, no_entry, entry}
 use Rattle.tmpl_values.specs.declared.data.Data.{Data}
 use Rattle.tmpl_values.specs.row.View.{value_of, items_of, entries_of}
 use Rattle.tmpl_values.specs.Item.{item_count, entry_count}
-use Rattle.tmpl_values.specs.Elements.{indexed, keyed, elements}
+use Rattle.tmpl_values.specs.Elements.{indexed, keyed, itself, numbers_below, elements}
 
 length-indexed : (n : ℕ) (vs : Items) → length (indexed n vs) ≡ item_count vs
 length-indexed n no_item = refl
@@ -42,12 +44,31 @@ keyed-past i [] h = refl
 keyed-past zero (e ∷ es) h = absurd (omega arith)
 keyed-past (suc i) (e ∷ es) h = keyed-past i es (omega arith)
 
+-- .. and of whole numbers
+pub numbers-of : (n : ℤ) (i : ℕ) → i < length (numbers_below n) → slice_get (numbers_below n) i ≡ Some (itself i)
+numbers-of (pos n) i h =
+    let long : length (numbers_below (pos n)) ≡ n = length-map-range_with_len itself 0 n in
+    slice_get-get_or (numbers_below (pos n)) i (itself 0) h
+    ∙ ap Some (get_or-map-range_with_len itself 0 n i i (itself 0) (omega (arith, long, h)) (omega arith))
+numbers-of (negsuc n) i h = absurd (omega arith)
+
+-- how many there are below a number
+abbrev pub count_below : ℤ → ℕ
+count_below (pos n) = n
+count_below (negsuc n) = 0
+
+pub length-numbers : (n : ℤ) → length (numbers_below n) ≡ count_below n
+length-numbers (pos n) = length-map-range_with_len itself 0 n
+length-numbers (negsuc n) = refl
+
+pub ruleset numbers = (length-numbers)
+
 -- how many elements a value has that may be ranged over
 abbrev pub count : Value → Option ℕ
 count nothing = Some 0
 count null = Some 0
 count (boolean b) = None
-count (number n) = None
+count (number n) = Some (count_below n)
 count (string s) = None
 count (sequence vs) = Some (item_count vs)
 count (mapping entries) = Some (entry_count entries)
@@ -56,7 +77,7 @@ pub count-is : (v : Value) → count v ≡ option_map length (elements v)
 count-is nothing = refl
 count-is null = refl
 count-is (boolean b) = refl
-count-is (number n) = refl
+count-is (number n) = ap Some (sym (length-numbers n))
 count-is (string s) = refl
 count-is (sequence vs) = ap Some (sym (length-indexed 0 vs))
 count-is (mapping entries) = ap Some (sym (length-keyed entries))

@@ -1,7 +1,8 @@
 -- The elements that a range visits ("Actions", at `range`), each behind its index or key: the items of a sequence in
--- order and those of a mapping by key. That nothing and null have none, and that no other value may be ranged over, are
--- our own rules.
-use Rattle.std.specs.Prelude.{ℕ, suc, pos, List, [], ◌∷◌, slice_get, Option, Some, None}
+-- order and those of a mapping by key; and, as Go 1.24 has it, the whole numbers from 0 to before a number. That nothing
+-- and null have none, and that no other value may be ranged over, are our own rules.
+use Rattle.std.specs.Prelude.{ℕ, suc, ℤ, pos, negsuc, List, [], ◌∷◌, map, slice_get, Option, Some, None}
+use Rattle.std.specs.List.{range_with_len}
 use Rattle.tmpl_values.specs.Value.{Value, nothing, null, boolean, number, string, sequence, mapping, Items, no_item}
 use Rattle.tmpl_values.specs.Value.{item, Entries, no_entry, entry}
 
@@ -19,15 +20,34 @@ abbrev pub keyed : Entries → List Element
 keyed no_entry = []
 keyed (entry k v es) = (string k, v) ∷ keyed es
 
+-- a whole number as an element, which is its own index
+abbrev pub itself : ℕ → Element
+itself i = (number (pos i), number (pos i))
+
+-- the whole numbers from 0 to before this one
+abbrev pub numbers_below : ℤ → List Element
+numbers_below (pos n) = map itself (range_with_len 0 n)
+numbers_below (negsuc n) = []
+
 -- the elements of a value, if it may be ranged over
 abbrev pub elements : Value → Option (List Element)
 elements nothing = Some []
 elements null = Some []
 elements (boolean b) = None
-elements (number n) = None
+elements (number n) = Some (numbers_below n)
 elements (string s) = None
 elements (sequence vs) = Some (indexed 0 vs)
 elements (mapping es) = Some (keyed es)
+
+-- .. if it may be ranged over with a variable for the index or key as well: a number may not
+abbrev pub pairs : Value → Option (List Element)
+pairs nothing = elements nothing
+pairs null = elements null
+pairs (boolean b) = elements (boolean b)
+pairs (number n) = None
+pairs (string s) = elements (string s)
+pairs (sequence vs) = elements (sequence vs)
+pairs (mapping es) = elements (mapping es)
 
 -- the element at a place among these, if there is one
 abbrev pub element_at : ℕ → Option (List Element) → Option Element

@@ -13,8 +13,6 @@ mod made;
 mod put;
 mod quote;
 mod rune;
-#[cfg(test)]
-mod tests;
 mod text;
 mod value;
 
@@ -30,4 +28,4 @@ pub use put::Put;
 pub use quote::put_quoted;
 pub use rune::first_char;
 pub use text::put_text;
-pub use value::{Cell, Val};
+pub use value::{Cell, Val, count_below};

@@ -1,11 +1,11 @@
 //! The values of a run.
 ghost use Rattle.std.specs.Prelude.{◌≡◌, ◌-◌, ◌^◌, ◌<◌, ◌≤◌, length, true, false, IfOk, IfSome, option_map};
-ghost use Rattle.tmpl_values.specs.Value.{string, sequence, mapping};
+ghost use Rattle.tmpl_values.specs.Value.{number, string, sequence, mapping};
 ghost use Rattle.tmpl_values.specs.View.{value_of, items_of, entries_of, val_of, is_kept, is_made, field_of};
 ghost use Rattle.tmpl_values.specs.View.{is_borrowed, element_of, IsShared};
 ghost use Rattle.tmpl_values.specs.Truth.{truth};
 ghost use Rattle.tmpl_values.specs.Field.{field_at};
-ghost use Rattle.tmpl_values.specs.Elements.{item_at};
+ghost use Rattle.tmpl_values.specs.Elements.{item_at, numbers_below};
 ghost use Rattle.tmpl_values.specs.Item.{bytes_of, size_of, HasPart, part_of, items_from, first_items};
 
 use crate::bytes::Bytes;
@@ -88,19 +88,19 @@ impl<'a> Val<'a> {
         }
     }
 
-    /// The index or key at a place, and the element: the items of a list in order, from 0 on, and
-    /// those of a map by rising keys ("Actions" in the documentation of `text/template`, at
-    /// `range`). Other kinds have none.
+    /// The index or key at a place, and the element: the items of a list in order, from 0 on,
+    /// those of a map by rising keys, and the whole numbers from 0 to before a number, each behind
+    /// itself ("Actions" in the documentation of `text/template`, at `range`; the numbers as Go
+    /// 1.24 has them). A number below 1, and other kinds, have none.
     pub fn item(&self, i: u64) -> Option<(Val<'a>, Val<'a>)>
         ensures value { option_map element_of result ≡ item_at i (val_of self.now) }
         ensures borrowed { IfSome result (λ p. (is_made p.0 ≡ false) × (is_made p.1 ≡ false)) }
     {
         match self {
+            Val::Num(n) => number_item(*n, i),
             Val::List(items) => list_item(items, i as usize),
             Val::Map(table) => map_item(table.as_slice(), i as usize),
-            Val::Nothing | Val::Null | Val::Bool(_) | Val::Num(_) | Val::Text(_) | Val::Made(_) => {
-                None
-            }
+            Val::Nothing | Val::Null | Val::Bool(_) | Val::Text(_) | Val::Made(_) => None,
         }
     }
 
@@ -183,6 +183,27 @@ impl<'a> Val<'a> {
             Val::List(items) => Val::List(items_between(items, i as usize, j as usize)),
             other => other,
         }
+    }
+}
+
+/// How many whole numbers there are from 0 to before this one: none where it is below 1.
+#[tactic(auto, using(crate::proofs::ElementLemmas::numbers))]
+pub fn count_below(n: i64) -> u64
+    ensures value { result ≡ length (numbers_below n) }
+    ensures fits { result < 2 ^ 63 }
+{
+    if n < 0 { 0 } else { n as u64 }
+}
+
+/// The whole number at a place, if it is below this one, behind itself.
+fn number_item<'a>(n: i64, i: u64) -> Option<(Val<'a>, Val<'a>)>
+    ensures value { option_map element_of result ≡ item_at i (number n) }
+    ensures borrowed { IfSome result (λ p. (is_made p.0 ≡ false) × (is_made p.1 ≡ false)) }
+{
+    if i < count_below(n) {
+        Some((Val::Num(i as i64), Val::Num(i as i64)))
+    } else {
+        None
     }
 }
 

@@ -7,7 +7,7 @@ use Rattle.tmpl_grammar.specs.View.{binding_of, header_of}
 use Rattle.tmpl_syntax.specs.View.{nodes_in}
 use Rattle.tmpl_syntax.specs.declared.tree.ControlNode.{ControlNode, out-ControlNode}
 use Rattle.tmpl_run.specs.Meaning.{Cause, Setting, Run, Next, done, choosing, controlled, meanings, ranging}
-use Rattle.tmpl_run.specs.Meaning.{turn, turns}
+use Rattle.tmpl_run.specs.Meaning.{turn, turns, visited}
 use Rattle.tmpl_run.specs.Pipeline.{pipeline_value}
 
 -- its body and its other part
@@ -42,6 +42,11 @@ range_run s line c d =
 abbrev pub turn_run : Setting → ℕ → ControlNode → Element → Next
 turn_run s line c e =
     let node = out-ControlNode c in turn s line (binding_of node.header.binding) (body_run s c) e
+
+-- the elements of a value that it visits, if it may
+abbrev pub visited_by : ControlNode → Value → Option (List Element)
+visited_by c v =
+    let node = out-ControlNode c in visited (binding_of node.header.binding) v
 
 -- its body for each of the elements, if there are any to visit
 abbrev pub turns_run : Setting → ℕ → ControlNode → Option (List Element) → Next

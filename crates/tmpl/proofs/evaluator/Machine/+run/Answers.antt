@@ -1,5 +1,4 @@
 use Rattle.std.proofs.Common.{◌≡◌, ◌∙◌, ◌+◌, ◌≤◌, IfOk, ap, arith, sym, subst}
-use Rattle.tmpl_values.specs.Elements.{elements}
 use Rattle.std.specs.Option.{option_map}
 use Rattle.tmpl_values.specs.View.{element_of, val_of}
 use Rattle.tmpl_syntax.specs.View.{kind_of, node_of}
@@ -8,8 +7,8 @@ use Rattle.tmpl_syntax.specs.declared.tree.Node.{out-Node}
 use Rattle.tmpl_syntax.proofs.ViewLemmas.{control_seen, kind_of-fields, node_of-fields}
 use Rattle.tmpl_run.specs.Meaning.{after_turn, stepped}
 use Rattle.tmpl.specs.View.{end_seen, run_of, setting_seen}
-use Rattle.tmpl.specs.computed.Evaluator.{turns_run}
-use Rattle.tmpl.proofs.RangeLemmas.{from, not-past, turn_on, turns-next}
+use Rattle.tmpl.specs.computed.Evaluator.{turns_run, visited_by}
+use Rattle.tmpl.proofs.RangeLemmas.{from, not-past, turn_on, turns-next, visited_by-at}
 use Rattle.tmpl.proofs.evaluator.Machine.+run.Goals.{turns-in-Some+in_ok-turn+in-Done, turns-in_default}
 use Rattle.tmpl.proofs.evaluator.Machine.+run.Goals as goal
 
@@ -27,9 +26,10 @@ turns-returns-in-Broke-clause-run t c =
     let line = c.args.line in
     let v = val_of c.args.value.now in
     let i = c.loop-i.i in
-    let rest = turns_run s line node (from (i + 1) (elements v)) in
+    let es = visited_by node v in
+    let rest = turns_run s line node (from (i + 1) es) in
     c.loop-i.invariant.run
-    ∙ turns-next s line node (run_of c.loop-i.self) (elements v) i (val_of c.in-Some.key, val_of c.in-Some.element) (sym c.in-Some.ensures.value)
+    ∙ turns-next s line node (run_of c.loop-i.self) es i (val_of c.in-Some.key, val_of c.in-Some.element) (visited_by-at node v c.args.count i c.requires.count ∙ sym c.in-Some.ensures.value)
     ∙ ap (λ part. after_turn part rest) c.in_ok-turn.ensures.run
     ∙ ap (λ end. after_turn (run_of c.turn.new.self, end_seen end) rest) c.in-Broke.is
 
@@ -40,9 +40,10 @@ turns-returns-in-Faulted-clause-run t c =
     let line = c.args.line in
     let v = val_of c.args.value.now in
     let i = c.loop-i.i in
-    let rest = turns_run s line node (from (i + 1) (elements v)) in
+    let es = visited_by node v in
+    let rest = turns_run s line node (from (i + 1) es) in
     c.loop-i.invariant.run
-    ∙ turns-next s line node (run_of c.loop-i.self) (elements v) i (val_of c.in-Some.key, val_of c.in-Some.element) (sym c.in-Some.ensures.value)
+    ∙ turns-next s line node (run_of c.loop-i.self) es i (val_of c.in-Some.key, val_of c.in-Some.element) (visited_by-at node v c.args.count i c.requires.count ∙ sym c.in-Some.ensures.value)
     ∙ ap (λ part. after_turn part rest) c.in_ok-turn.ensures.run
     ∙ ap (λ end. after_turn (run_of c.turn.new.self, end_seen end) rest) c.in-Faulted.is
 
@@ -53,16 +54,17 @@ turns-loop-i-preserved t c =
     let line = c.args.line in
     let v = val_of c.args.value.now in
     let i = c.loop-i.i in
-    let rest = turns_run s line node (from (i + 1) (elements v)) in
+    let es = visited_by node v in
+    let rest = turns_run s line node (from (i + 1) es) in
     elim c.match-item.branch [
       | turns-in-Some+in_ok-turn+in-Done w ↦
           let goes_on = c.loop-i.invariant.run
-          ∙ turns-next s line node (run_of c.loop-i.self) (elements v) i (val_of w.in-Some.key, val_of w.in-Some.element) (sym w.in-Some.ensures.value)
+          ∙ turns-next s line node (run_of c.loop-i.self) es i (val_of w.in-Some.key, val_of w.in-Some.element) (visited_by-at node v c.args.count i c.requires.count ∙ sym w.in-Some.ensures.value)
           ∙ ap (λ part. after_turn part rest) w.in_ok-turn.ensures.run in
           record {
             whole = ap (λ m. m.text.failures) w.self-is ∙ w.in_ok-turn.ensures.whole;
             left = subst (λ m. m.left ≤ c.args.self.now.left) (sym w.self-is) (omega (arith, w.in_ok-turn.ensures.left, c.loop-i.invariant.left));
             run = goes_on ∙ turn_on (run_of w.turn.new.self) rest w.in_ok-turn.field-0 w.in-Done.is ∙ ap (λ m. rest (run_of m)) (sym w.self-is);
           }
-      | turns-in_default w ↦ absurd (not-past v c.args.count i c.requires.count c.loop-i-test.true (sym c.item.ensures.value ∙ ap (option_map element_of) w.in_default.is))
+      | turns-in_default w ↦ absurd (not-past node v c.args.count i c.requires.count c.loop-i-test.true (sym c.item.ensures.value ∙ ap (option_map element_of) w.in_default.is))
     ]

@@ -2,9 +2,8 @@ use Rattle.std.proofs.Common.{◌≡◌, ◌≤◌, ◌+◌, ◌*◌, drop}
 use Rattle.tmpl_values.specs.View.{val_of}
 use Rattle.tmpl_syntax.specs.View.{nodes_in}
 use Rattle.tmpl_run.specs.Meaning.{meanings}
-use Rattle.tmpl_values.specs.Elements.{elements}
 use Rattle.tmpl.specs.View.{run_of, setting_seen}
-use Rattle.tmpl.specs.computed.Evaluator.{turns_run}
+use Rattle.tmpl.specs.computed.Evaluator.{turns_run, visited_by}
 use Rattle.tmpl.proofs.RangeLemmas.{from}
 use Rattle.tmpl.proofs.evaluator.Machine.+run.Given as goal
 
@@ -52,7 +51,7 @@ invariant-nodes-loop-node l =
 abbrev pub invariant-turns-loop-i : goal.invariant-turns-loop-i
 invariant-turns-loop-i l =
     let s = setting_seen l.setting in
-    let es = elements (val_of l.value) in
+    let es = visited_by l.node (val_of l.value) in
     record {
       whole : l.self.text.failures ≡ 0;
       left : l.self.left ≤ l.initial.self.left;

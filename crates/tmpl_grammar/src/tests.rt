@@ -1,2 +1,0 @@
-//! Constants, as tokens spell them.
-mod constant;
