@@ -5,21 +5,20 @@ use Rattle.std.specs.Result.{IsErrAnd}
 use Rattle.tmpl_syntax.specs.Fault.{Reason, too_long, reason_of}
 use Rattle.tmpl_syntax.specs.declared.fault.Refusal as held_refusal
 use Rattle.tmpl_syntax.specs.Set.{Template}
-use Rattle.tmpl_syntax.specs.computed.Build.{nodes_from}
-use Rattle.tmpl_syntax.specs.computed.Parse.{Refusal, IsRefusal, checked, spelled, body_of, items_of, placed, parsed, IsAdded}
-use Rattle.tmpl_syntax.specs.Parse.{most_bytes}
+use Rattle.tmpl_syntax.specs.computed.Parse.{Refusal, IsRefusal, checked, spelled, bodies_of, all_from, items_of, placed, parsed, IsAdded}
+use Rattle.tmpl_syntax.specs.Parse.{base_name, most_bytes}
 
 module _ (set : List Template) (file bytes : List ℕ) where
   pub parsed-long : most_bytes < length bytes → parsed set file bytes ≡ Err (1, too_long)
   unfolding parsed
-  parsed-long h = ap (λ b. cond b (Err (1, too_long)) (placed set file (body_of bytes (items_of bytes)))) (lt-ltb most_bytes (length bytes) h)
+  parsed-long h = ap (λ b. cond b (Err (1, too_long)) (placed set file (bodies_of file bytes (items_of bytes)))) (lt-ltb most_bytes (length bytes) h)
 
-  pub parsed-short : length bytes ≤ most_bytes → parsed set file bytes ≡ placed set file (body_of bytes (items_of bytes))
+  pub parsed-short : length bytes ≤ most_bytes → parsed set file bytes ≡ placed set file (bodies_of file bytes (items_of bytes))
   unfolding parsed
-  parsed-short h = ap (λ b. cond b (Err (1, too_long)) (placed set file (body_of bytes (items_of bytes)))) (le-ltb most_bytes (length bytes) h)
+  parsed-short h = ap (λ b. cond b (Err (1, too_long)) (placed set file (bodies_of file bytes (items_of bytes)))) (le-ltb most_bytes (length bytes) h)
 
   refused-short : (r : Refusal) → length bytes ≤ most_bytes → checked bytes (items_of bytes) ≡ Err r → parsed set file bytes ≡ Err r
-  refused-short r h e = parsed-short h ∙ ap (λ c. placed set file (spelled c (nodes_from (items_of bytes)))) e
+  refused-short r h e = parsed-short h ∙ ap (λ c. placed set file (spelled c (all_from (base_name file) (items_of bytes)))) e
 
   -- the refusal of the items is that of their file
   pub refusal-placed : (line : ℕ) (o : Option Reason) → length bytes ≤ most_bytes → IsRefusal (checked bytes (items_of bytes)) line o → IsRefusal (parsed set file bytes) line o

@@ -6,7 +6,7 @@ use Rattle.std.proofs.lemmas.Option.{same_Some}
 use Rattle.tmpl_lex.specs.computed.Cut.{cut_of}
 use Rattle.tmpl_lex.specs.Piece.{Token, Piece, text, action, unreadable}
 use Rattle.tmpl_lex.proofs.CutLemmas.{cut_of-Cuts, Cuts-cut_of}
-use Rattle.tmpl_grammar.specs.Action.{Action, pipeline_action, opening, plain_else, else_branch, end_action, break_action, continue_action, SpellsAction, shape_of}
+use Rattle.tmpl_grammar.specs.Action.{Action, pipeline_action, opening, plain_else, else_branch, end_action, break_action, continue_action, define_action, template_action, block_action, SpellsAction, shape_of}
 use Rattle.tmpl_grammar.specs.Depth.{depth_of_pipeline, depth_of, most_deep, limited, limited_to, within_limit, reading_of, unread as unread_within, too_deep as deep_within, read as read_within}
 use Rattle.tmpl_grammar.specs.computed.Reading.{action_in}
 use Rattle.tmpl_syntax.specs.Item.{Item, item, HasItems, IsItem, a_text, an_unreadable, unread, too_deep, read, AreItems, no_item, an_item}
@@ -15,7 +15,8 @@ use Rattle.tmpl_syntax.specs.Language.{Branches, every_branch, has_action}
 use Rattle.tmpl_syntax.specs.Laws.{HasItemsOf, HasOneList, HasSomeItems}
 use Rattle.tmpl_syntax.specs.computed.Parse.{items_of}
 use Rattle.tmpl_grammar.specs.declared.action.Shape.{Shape}
-use Rattle.tmpl_grammar.specs.declared.action.Shape.TheVariants as shape
+use Rattle.tmpl_grammar.specs.declared.action.Shape.TheVariants as piped
+use Rattle.tmpl_grammar.specs.declared.action.HeaderShape.TheVariants as shape
 use Rattle.tmpl_grammar.proofs.ActionLemmas.{reads-action, spells-action, none-spelled}
 
 -- ---- the limit
@@ -30,13 +31,17 @@ limited-deep s n x lt = ⊎_elim
     (leb_tells n most_deep)
 
 within-read : (a : Action) → depth_of a ≤ most_deep → within_limit a ≡ read_within a
-within-read (pipeline_action h) le = limited-within shape.Pipeline (depth_of_pipeline h.pipeline) (pipeline_action h) le
-within-read (opening c h) le = limited-within (shape.Open c) (depth_of_pipeline h.pipeline) (opening c h) le
+within-read (pipeline_action h) le = limited-within (piped.Header shape.Pipeline) (depth_of_pipeline h.pipeline) (pipeline_action h) le
+within-read (opening c h) le = limited-within (piped.Header (shape.Open c)) (depth_of_pipeline h.pipeline) (opening c h) le
 within-read plain_else le = refl
-within-read (else_branch br h) le = limited-within (shape.ElseBranch br) (depth_of_pipeline h.pipeline) (else_branch br h) le
+within-read (else_branch br h) le = limited-within (piped.Header (shape.ElseBranch br)) (depth_of_pipeline h.pipeline) (else_branch br h) le
 within-read end_action le = refl
 within-read break_action le = refl
 within-read continue_action le = refl
+within-read (define_action name) le = refl
+within-read (template_action name None) le = refl
+within-read (template_action name (Some p)) le = limited-within piped.Template (depth_of_pipeline p) (template_action name (Some p)) le
+within-read (block_action name p) le = limited-within piped.Block (depth_of_pipeline p) (block_action name p) le
 
 -- an action that is too deep, by its shape
 pub record Deep (a : Action) : Type 0 where
@@ -44,14 +49,22 @@ pub record Deep (a : Action) : Type 0 where
   pub shape_is : shape_of a ≡ Some shape
   pub is : within_limit a ≡ deep_within shape
 
+-- .. of a pipeline that is too deep
+deep-by : (a : Action) (s : Shape) (n : ℕ) → shape_of a ≡ Some s → within_limit a ≡ limited s n a → most_deep < n → Deep a
+deep-by a s n is e lt = record { shape = s; shape_is = is; is = e ∙ limited-deep s n a lt }
+
 deep-read : (a : Action) → most_deep < depth_of a → Deep a
-deep-read (pipeline_action h) lt = record { shape = shape.Pipeline; shape_is = refl; is = limited-deep shape.Pipeline (depth_of_pipeline h.pipeline) (pipeline_action h) lt }
-deep-read (opening c h) lt = record { shape = shape.Open c; shape_is = refl; is = limited-deep (shape.Open c) (depth_of_pipeline h.pipeline) (opening c h) lt }
+deep-read (pipeline_action h) lt = deep-by (pipeline_action h) (piped.Header shape.Pipeline) (depth_of_pipeline h.pipeline) refl refl lt
+deep-read (opening c h) lt = deep-by (opening c h) (piped.Header (shape.Open c)) (depth_of_pipeline h.pipeline) refl refl lt
 deep-read plain_else lt = absurd (omega (arith, lt))
-deep-read (else_branch br h) lt = record { shape = shape.ElseBranch br; shape_is = refl; is = limited-deep (shape.ElseBranch br) (depth_of_pipeline h.pipeline) (else_branch br h) lt }
+deep-read (else_branch br h) lt = deep-by (else_branch br h) (piped.Header (shape.ElseBranch br)) (depth_of_pipeline h.pipeline) refl refl lt
 deep-read end_action lt = absurd (omega (arith, lt))
 deep-read break_action lt = absurd (omega (arith, lt))
 deep-read continue_action lt = absurd (omega (arith, lt))
+deep-read (define_action name) lt = absurd (omega (arith, lt))
+deep-read (template_action name None) lt = absurd (omega (arith, lt))
+deep-read (template_action name (Some p)) lt = deep-by (template_action name (Some p)) piped.Template (depth_of_pipeline p) refl refl lt
+deep-read (block_action name p) lt = deep-by (block_action name p) piped.Block (depth_of_pipeline p) refl refl lt
 
 -- ---- the actions of a language
 
@@ -64,6 +77,9 @@ has-every (else_branch b h) = refl
 has-every end_action = refl
 has-every break_action = refl
 has-every continue_action = refl
+has-every (define_action name) = refl
+has-every (template_action name given) = refl
+has-every (block_action name p) = refl
 
 abbrev pub if_there : Bool → Action → Option Action
 if_there true a = Some a

@@ -2,7 +2,7 @@
 use Rattle.std.proofs.Common.{◌≡◌, ◌∙◌, ℕ, true, suc, List, Option, Some, None, Ok, refl, ap, sym, length}
 use Rattle.std.specs.Prelude.{slice_get}
 use Rattle.tmpl_lex.specs.Piece.{Piece}
-use Rattle.tmpl_grammar.specs.Action.{Action, pipeline_action, opening, plain_else, else_branch, end_action, break_action, continue_action}
+use Rattle.tmpl_grammar.specs.Action.{Action, pipeline_action, opening, plain_else, else_branch, end_action, break_action, continue_action, define_action, template_action, block_action}
 use Rattle.tmpl_syntax.specs.declared.fault.Fault.TheVariants.{NotAnAction}
 use Rattle.tmpl_syntax.specs.Language.{Branches, every_branch, go_1_22, has_action}
 use Rattle.tmpl_syntax.specs.Item.{Item, IsItem, a_text, an_unreadable, unread, too_deep, read, AreItems, no_item, an_item}
@@ -32,6 +32,9 @@ module _ (large small : Branches) (more : IsLarger large small) where
   has-more end_action t = refl
   has-more break_action t = refl
   has-more continue_action t = refl
+  has-more (define_action name) t = refl
+  has-more (template_action name given) t = refl
+  has-more (block_action name p) t = refl
 
   same-item : {p : Piece} {x : Item} → IsItem small p x → (role_of x ≡ unread_role → ⊥) → IsItem large p x
   same-item a_text h = a_text
@@ -50,8 +53,10 @@ accepts-in-larger large small more old file bytes new h = record {
   items = h.items;
   has = record { pieces = h.has.pieces; cut = h.has.cut; read = same-items large small more h.has.read (all-read (roles_of h.items) h.judged.0) };
   judged = h.judged;
-  nodes = h.nodes;
+  definitions = h.definitions;
+  own = h.own;
   spells = h.spells;
+  once = h.once;
   set = h.set;
 }
 

@@ -27,6 +27,7 @@ pub mod PrintedItemLemmas
 pub mod PrintedNodeLemmas
 pub mod ReadingLemmas
 pub mod ScopeLemmas
+pub mod SecondLemmas
 pub mod SetLemmas
 pub mod SoundLemmas
 pub mod SpellingLemmas

@@ -1,5 +1,5 @@
 -- What a template needs is no more than three and the bytes of its file.
-use Rattle.std.proofs.Common.{arith, ◌≤◌, ℕ, ◌+◌, List, [], ◌∷◌, length}
+use Rattle.std.proofs.Common.{arith, ◌≤◌, ℕ, ◌+◌, List, [], ◌∷◌, length, map}
 use Rattle.tmpl_lex.specs.Piece.{Piece}
 use Rattle.tmpl_lex.proofs.WeightLemmas.{weight_of, weight, weight-within}
 use Rattle.tmpl_grammar.specs.Need.{declared_count}
@@ -7,12 +7,14 @@ use Rattle.tmpl_grammar.specs.declared.tree.Control.{Control}
 use Rattle.tmpl_grammar.specs.declared.tree.Control.TheVariants as control
 use Rattle.tmpl_grammar.specs.Action.{control_in}
 use Rattle.tmpl_grammar.proofs.NeedLemmas.{cells_of, action-within}
-use Rattle.tmpl_syntax.specs.Tree.{Nodes, Tree}
+use Rattle.tmpl_syntax.specs.Tree.{Nodes, Definition}
+use Rattle.tmpl_syntax.specs.Set.{Template}
 use Rattle.tmpl_syntax.specs.Language.{Branches}
 use Rattle.tmpl_syntax.specs.Item.{Item, item, text_item, unreadable_item, unread_item, deep_item, action_item, IsItem, a_text as text_read, an_unreadable, unread, too_deep, read, AreItems, no_item, an_item, HasItems}
-use Rattle.tmpl_syntax.specs.Spelling.{Leads, nothing, a_text, an_action, a_break, a_continue, a_control, Closes, an_end, an_else, an_else_branch, Spells}
-use Rattle.tmpl_syntax.specs.Need.{need_of_parts, need_of_nodes, need, most_need}
-use Rattle.tmpl_syntax.specs.Parse.{most_bytes}
+use Rattle.tmpl_syntax.specs.Spelling.{Leads, nothing, a_text, an_action, a_break, a_continue, a_control, a_template, a_define, a_block, Closes, an_end, an_else, an_else_branch}
+use Rattle.tmpl_syntax.specs.Need.{need_of_parts, need_of_nodes, NeedAtMost, most_need}
+use Rattle.tmpl_syntax.specs.Parse.{all_defined, template_in}
+use Rattle.tmpl_syntax.specs.Laws.{NeedsAtMostBytes, NeedsAtMost}
 
 -- ---- items
 
@@ -49,7 +51,7 @@ parts-within control.With declared body other = omega arith
 parts-within control.Range declared body other = omega arith
 
 mutual
-  leads-within : {xs ys : List Item} {ns : Nodes} → Leads xs ns ys → need_of_nodes ns + cells ys ≤ cells xs
+  leads-within : {xs ys : List Item} {ds es : List Definition} {ns : Nodes} → Leads xs ds ns ys es → need_of_nodes ns + cells ys ≤ cells xs
   leads-within nothing = omega arith
   leads-within (a_text l) = let more = leads-within l in omega (arith, more)
   leads-within (an_action {h = h} l) = let more = leads-within l in omega (arith, more)
@@ -60,8 +62,17 @@ mutual
       let behind = closes-within o in
       let more = leads-within l in
       omega (arith, inner, behind, more, parts-within c (declared_count h.binding) (need_of_nodes body) (need_of_nodes other))
+  leads-within (a_template {given = given} l) = let more = leads-within l in omega (arith, more)
+  leads-within (a_define b l) =
+      let inner = leads-within b in
+      let more = leads-within l in
+      omega (arith, inner, more)
+  leads-within (a_block b l) =
+      let inner = leads-within b in
+      let more = leads-within l in
+      omega (arith, inner, more)
 
-  closes-within : {xs ys : List Item} {other : Nodes} → Closes xs other ys → need_of_nodes other + cells ys ≤ cells xs
+  closes-within : {xs ys : List Item} {ds es : List Definition} {other : Nodes} → Closes xs ds other ys es → need_of_nodes other + cells ys ≤ cells xs
   closes-within an_end = omega arith
   closes-within (an_else l) = let more = leads-within l in omega (arith, more)
   closes-within (an_else_branch {branch = branch} {h = h} {body = body} {other = other} b o) =
@@ -69,14 +80,58 @@ mutual
       let behind = closes-within o in
       omega (arith, inner, behind, parts-within (control_in branch) (declared_count h.binding) (need_of_nodes body) (need_of_nodes other))
 
+-- ---- definitions
+
+-- the nodes of each need at most so many
+abbrev Within : ℕ → List Definition → Type 0
+Within n [] = Unit {0}
+Within n (d ∷ ds) = (need_of_nodes d.nodes ≤ n) × Within n ds
+
+mutual
+  leads-defined : {xs ys : List Item} {ds es : List Definition} {ns : Nodes} → Leads xs ds ns ys es → (n : ℕ) → cells xs ≤ n → Within n es → Within n ds
+  leads-defined nothing n le w = w
+  leads-defined (a_text l) n le w = leads-defined l n (omega (arith, le)) w
+  leads-defined (an_action {h = h} l) n le w = leads-defined l n (omega (arith, le)) w
+  leads-defined (a_break l) n le w = leads-defined l n (omega (arith, le)) w
+  leads-defined (a_continue l) n le w = leads-defined l n (omega (arith, le)) w
+  leads-defined (a_control {h = h} b o l) n le w =
+      let inner = leads-within b in
+      let behind = closes-within o in
+      leads-defined b n (omega (arith, le))
+      (closes-defined o n (omega (arith, le, inner))
+      (leads-defined l n (omega (arith, le, inner, behind)) w))
+  leads-defined (a_template {given = given} l) n le w = leads-defined l n (omega (arith, le)) w
+  leads-defined (a_define b l) n le w =
+      let inner = leads-within b in
+      (omega (arith, inner, le), leads-defined b n (omega (arith, le)) (leads-defined l n (omega (arith, le, inner)) w))
+  leads-defined (a_block b l) n le w =
+      let inner = leads-within b in
+      (omega (arith, inner, le), leads-defined b n (omega (arith, le)) (leads-defined l n (omega (arith, le, inner)) w))
+
+  closes-defined : {xs ys : List Item} {ds es : List Definition} {other : Nodes} → Closes xs ds other ys es → (n : ℕ) → cells xs ≤ n → Within n es → Within n ds
+  closes-defined an_end n le w = w
+  closes-defined (an_else l) n le w = leads-defined l n (omega (arith, le)) w
+  closes-defined (an_else_branch {h = h} b o) n le w =
+      let inner = leads-within b in
+      leads-defined b n (omega (arith, le)) (closes-defined o n (omega (arith, le, inner)) w)
+
 -- ---- files
 
-pub need-within : (branches : Branches) (bytes : List ℕ) (items : List Item) (tree : Tree) → HasItems branches bytes items → Spells items tree.nodes → need tree ≤ 3 + length bytes
-need-within branches bytes items tree has spells =
+all-within : (file : List ℕ) (n : ℕ) (ds : List Definition) (own : Nodes) → Within n ds → need_of_nodes own ≤ n → NeedAtMost (3 + n) (map (template_in file) (all_defined file ds own))
+all-within file n [] own w le = (omega (arith, le), tt)
+all-within file n (d ∷ ds) own w le = let here = w.0 in (omega (arith, here), all-within file n ds own w.1 le)
+
+pub need-within : NeedsAtMostBytes
+need-within branches file bytes items ds own has spells =
     let nodes = leads-within spells in
     let read = items-within has.read in
     let cut = weight-within has.cut in
-    omega (arith, nodes, read, cut)
+    all-within file (length bytes) ds own (leads-defined spells (length bytes) (omega (arith, read, cut)) tt) (omega (arith, nodes, read, cut))
 
-pub need-most : (branches : Branches) (bytes : List ℕ) (items : List Item) (tree : Tree) → length bytes ≤ most_bytes → HasItems branches bytes items → Spells items tree.nodes → need tree ≤ most_need
-need-most branches bytes items tree within has spells = let n = need-within branches bytes items tree has spells in omega (arith, within, n)
+need-less : (n m : ℕ) (ts : List Template) → n ≤ m → NeedAtMost n ts → NeedAtMost m ts
+need-less n m [] le h = tt
+need-less n m (t ∷ ts) le h = let here = h.0 in (omega (arith, here, le), need-less n m ts le h.1)
+
+pub need-most : NeedsAtMost
+need-most branches file bytes items ds own within has spells =
+    need-less (3 + length bytes) most_need _ (omega (arith, within)) (need-within branches file bytes items ds own has spells)

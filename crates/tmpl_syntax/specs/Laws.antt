@@ -1,5 +1,5 @@
 -- Laws of the definitions.
-use Rattle.std.specs.Prelude.{◌≡◌, ◌↔◌, ◌≤◌, ◌+◌, ℕ, true, List, Ok, Err, Contains, length}
+use Rattle.std.specs.Prelude.{◌≡◌, ◌↔◌, ◌≤◌, ◌+◌, ℕ, true, List, Ok, Err, length, map}
 use Rattle.tmpl_grammar.specs.declared.action.Branch.{Branch}
 use Rattle.tmpl_syntax.specs.Tree.{Nodes, Definition}
 use Rattle.tmpl_syntax.specs.Language.{Branches, every_branch}
@@ -8,7 +8,7 @@ use Rattle.tmpl_syntax.specs.Place.Role.{Role, roles_of}
 use Rattle.tmpl_syntax.specs.Place.Body.{Verdict, fine, Judged}
 use Rattle.tmpl_syntax.specs.computed.Frames.{verdict_of}
 use Rattle.tmpl_syntax.specs.Spelling.{Spells}
-use Rattle.tmpl_syntax.specs.Need.{need, need_of_nodes, most_need}
+use Rattle.tmpl_syntax.specs.Need.{NeedAtMost, most_need}
 use Rattle.tmpl_syntax.specs.Parse.{most_bytes, all_defined, template_in}
 use Rattle.tmpl_syntax.specs.computed.Build.{nodes_from, definitions_from}
 use Rattle.tmpl_syntax.specs.Fault.{Reason}
@@ -69,16 +69,16 @@ AcceptsInLarger =
     (large small : Branches) → IsLarger large small → (old : List Template) (file bytes : List ℕ) (new : List Template)
     → IsAccepted small old file bytes new → IsAccepted large old file bytes new
 
--- each template that a file spells needs at most three cells and one for each byte of the file
+-- each template of a file needs at most three cells and one for each byte of the file
 abbrev pub NeedsAtMostBytes : Type 0
 NeedsAtMostBytes =
-    (branches : Branches) (bytes : List ℕ) (items : List Item) (file : List ℕ) (ds : List Definition) (own : Nodes)
-    → HasItems branches bytes items → Spells items ds own → (d : Definition) → Contains (all_defined file ds own) d
-    → 3 + need_of_nodes d.nodes ≤ 3 + length bytes
+    (branches : Branches) (file bytes : List ℕ) (items : List Item) (ds : List Definition) (own : Nodes)
+    → HasItems branches bytes items → Spells items ds own
+    → NeedAtMost (3 + length bytes) (map (template_in file) (all_defined file ds own))
 
 -- so of a file within the limit it needs at most so many
 abbrev pub NeedsAtMost : Type 0
 NeedsAtMost =
-    (branches : Branches) (bytes : List ℕ) (items : List Item) (file : List ℕ) (ds : List Definition) (own : Nodes)
-    → length bytes ≤ most_bytes → HasItems branches bytes items → Spells items ds own → (d : Definition)
-    → Contains (all_defined file ds own) d → need (template_in file d).1 ≤ most_need
+    (branches : Branches) (file bytes : List ℕ) (items : List Item) (ds : List Definition) (own : Nodes)
+    → length bytes ≤ most_bytes → HasItems branches bytes items → Spells items ds own
+    → NeedAtMost most_need (map (template_in file) (all_defined file ds own))

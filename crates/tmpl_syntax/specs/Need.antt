@@ -1,12 +1,13 @@
 -- How many cells of a stack a template needs while it is run, where each value that is held has one: told by the
 -- nesting of its tree alone. That cells are counted is our own rule.
-use Rattle.std.specs.Prelude.{ℕ, ◌+◌, max}
+use Rattle.std.specs.Prelude.{◌≤◌, ℕ, ◌+◌, max, List, [], ◌∷◌}
 use Rattle.tmpl_grammar.specs.Need.{need_of_pipeline, need_of_given, declared_count}
 use Rattle.tmpl_grammar.specs.declared.tree.Control.{Control}
 use Rattle.tmpl_grammar.specs.declared.tree.Control.TheVariants as control
 use Rattle.tmpl_syntax.specs.Tree as tree
 use Rattle.tmpl_syntax.specs.Tree.{NodeKind, text, action, control_node, break_node, continue_node, template_node}
 use Rattle.tmpl_syntax.specs.Tree.{Nodes, Tree}
+use Rattle.tmpl_syntax.specs.Set.{Template}
 
 -- a control whose header declares so many variables, by what the nodes of its body and of its else part need
 abbrev pub need_of_parts : Control → ℕ → ℕ → ℕ → ℕ
@@ -50,3 +51,8 @@ need t = 3 + need_of_nodes t.nodes
 -- the most that a template needs that a file within the limit of length spells: three, and one for each byte
 abbrev pub most_need : ℕ
 most_need = 16777219
+
+-- each of these templates needs at most so many
+abbrev pub NeedAtMost : ℕ → List Template → Type 0
+NeedAtMost n [] = Unit {0}
+NeedAtMost n (t ∷ ts) = (need t.1 ≤ n) × NeedAtMost n ts

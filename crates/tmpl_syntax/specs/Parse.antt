@@ -2,7 +2,7 @@
 -- file's base name as by Go's `ParseFiles`; the limit on its length, and the kinds and lines of refusals, are our own
 -- rules.
 use Rattle.std.specs.Prelude.{◌≡◌, ◌==◌, ◌+◌, ◌≤◌, ◌<◌, ℕ, false, List, [], ◌∷◌, ◌++◌, Option, Some, None}
-use Rattle.std.specs.Prelude.{Result, Ok, Err, Contains, length, map, slice_get}
+use Rattle.std.specs.Prelude.{Result, Ok, Err, length, map, slice_get}
 use Rattle.std.specs.List.{after_last}
 use Rattle.std.specs.Borrow.{Bor}
 use Rattle.tmpl_lex.specs.Text.{newlines}
@@ -43,11 +43,13 @@ template_in file d = (d.name, record { file = file; nodes = d.nodes })
 
 -- among these definitions is one of the same name as that one, and neither is blank
 pub record IsSecond (earlier : List Definition) (d : Definition) : Type 0 where
+  pub front : List Definition
   pub first : Definition
-  pub there : Contains earlier first
+  pub rest : List Definition
+  pub are : earlier ≡ front ++ first ∷ rest
   pub name : first.name ≡ d.name
-  pub some_there : is_blank first.nodes ≡ false
-  pub some_here : is_blank d.nodes ≡ false
+  pub first_some : is_blank first.nodes ≡ false
+  pub some : is_blank d.nodes ≡ false
 
 abbrev pub NoneSecond : List Definition → Type 0
 NoneSecond ds =
