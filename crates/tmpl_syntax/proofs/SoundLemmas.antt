@@ -142,7 +142,7 @@ after xs i names fs (opener c p) at e s = stands-opened xs i names c p fs at s
 after xs i names [] bare_else at e s = let g : false ≡ true = e in cc
 after xs i names (f ∷ fs) bare_else at e s = no-more xs (i + 1) (take f.part names) (elsed f ∷ fs) (stands-elsed xs i names f fs at e s)
 after xs i names [] (branch_else b p) at e s = let g : false ≡ true = e in cc
-after xs i names (f ∷ fs) (branch_else b p) at e s = let k = and_parts (takes_else (Some f)) (joins b f.control) e in let l = length-take-le f.part names s.2.within.parted in subst (λ n. Stands xs (i + 1) (take f.part names ++ p.declares) (branched f (n + length p.declares) ∷ fs)) (sym l) (stands-branched xs i names f fs b p at k.0 k.1 s)
+after xs i names (f ∷ fs) (branch_else b p) at e s = let k = and_parts (takes_else (Some f)) (joins b f.opening) e in let l = length-take-le f.part names s.2.within.parted in subst (λ n. Stands xs (i + 1) (take f.part names ++ p.declares) (branched f (n + length p.declares) ∷ fs)) (sym l) (stands-branched xs i names f fs b p at k.0 k.1 s)
 after xs i names [] closer at e s = let g : false ≡ true = e in cc
 after xs i names (f ∷ fs) closer at e s = no-more xs (i + 1) (take f.start names) fs (stands-ended xs i names f fs at s)
 after xs i names fs jump at e s = no-more xs (i + 1) names fs (stands-still xs i names (act_role jump) fs at refl refl (λ g. cc) (λ q g. cc) (λ c q g. cc) (λ b q g. cc) s)

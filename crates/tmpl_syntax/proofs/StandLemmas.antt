@@ -11,11 +11,12 @@ use Rattle.tmpl_syntax.specs.Place.Open.{opens, ends, IsOpening, NothingOpen, Is
 use Rattle.tmpl_syntax.specs.Place.Body.{IsLoop, Levels}
 use Rattle.tmpl_syntax.specs.computed.Frames.{top, loops, in_loop, levels, heading, entered}
 use Rattle.tmpl_syntax.proofs.FaultLemmas.{IsWithin}
-use Rattle.tmpl_syntax.proofs.OpenLemmas.{ups, downs, count-split, same-control, same-piece, cut, Same, opened-keeps, opened_new}
+use Rattle.tmpl_syntax.proofs.OpenLemmas.{ups, downs, count-split, same-opening, same-piece, cut, Same, opened-keeps, opened_new}
 use Rattle.tmpl_syntax.proofs.PlaceLemmas.{alike-back, alike-even, alike-opened, template-moves, levels-same, levels-opened, InLoop, loop-moves, else_before, else-same, loop-same, loop-same-back}
 use Rattle.tmpl_syntax.proofs.ScopeLemmas.{Brought, brought-same, brought-same-back, brought-opened, brought-header, brought-opened-back}
 use Rattle.tmpl_syntax.proofs.ElsePartLemmas.{Part, part-later, part-sooner}
-use Rattle.tmpl_grammar.specs.declared.tree.Control.{Control}
+use Rattle.tmpl_syntax.specs.declared.place.frame.Opening.{Opening}
+use Rattle.tmpl_syntax.specs.declared.place.frame.Opening.TheVariants as opened
 use Rattle.tmpl_grammar.specs.declared.tree.Control.TheVariants.{If, With, Range}
 use Rattle.tmpl_syntax.specs.Place.Role.{Name, Names, opener, bare_else, Role, act_role}
 
@@ -30,14 +31,14 @@ pub record Here (xs : List Role) (i : ℕ) (t : Option Frame) (names : List Name
 
 -- the frame stands for the opening at j, the last one open at i
 pub record Stood (xs : List Role) (i : ℕ) (names : List Name) (f : Frame) (j : ℕ) : Type 0 where
-  pub control : IsOpening (slice_get xs j) f.control
+  pub opened : IsOpening (slice_get xs j) f.opening
   pub last : IsLast xs j i
   pub over : ups xs (j + 1) i ≡ downs xs (j + 1) i
   pub has : Decides f.has_else (HasElse xs j i)
   pub around : Decides f.around (InLoop xs j)
   pub within : IsWithin f (length names)
-  pub to : is_template f.control ≡ false → (n : Name) → Contains (take f.part names) n → Part xs j i n
-  pub back : is_template f.control ≡ false → (n : Name) → Part xs j i n → Contains (take f.part names) n
+  pub to : is_template f.opening ≡ false → (n : Name) → Contains (take f.part names) n → Part xs j i n
+  pub back : is_template f.opening ≡ false → (n : Name) → Part xs j i n → Contains (take f.part names) n
 
 -- .. and the frames below it stand as they stood at j
 abbrev pub Stands : List Role → ℕ → List Name → List Frame → Type 0
@@ -70,7 +71,7 @@ module _ (xs : List Role) (j m : ℕ) (s : Same xs j m) (names ds : List Name) (
       let le = s.even.le in
       let e : take f.part (names ++ ds) ≡ take f.part names = take-append-le f.part names ds h.within.parted in
       record {
-        control = h.control;
+        opened = h.opened;
         last = record { is_open = s.even.keeps q o; last = λ k qk ok. h.last.last k qk (s.even.only k ok) };
         over = omega (arith, h.over, s.even.balance, count-split opens xs (q + 1) j m (omega arith) le, count-split ends xs (q + 1) j m (omega arith) le);
         has = Decides-like f.has_else (else_before xs q j m le) (else-same xs q j m s o) h.has;
@@ -88,7 +89,7 @@ module _ (xs : List Role) (j m : ℕ) (s : Same xs j m) (names ds : List Name) (
       (here-moves (Some f) h.0, h.1, stood-moves f h.1 h.2, subst (λ l. Stands xs h.1 l fs) (sym e) h.3)
 
 -- an opening
-module _ (xs : List Role) (i : ℕ) (names : List Name) (c : Control) (p : Names) (at : slice_get xs i ≡ Some (act_role (opener c p))) (o : IsOpening (slice_get xs i) c) (t : Option Frame) (h : Here xs i t names) where
+module _ (xs : List Role) (i : ℕ) (names : List Name) (c : Opening) (p : Names) (at : slice_get xs i ≡ Some (act_role (opener c p))) (o : IsOpening (slice_get xs i) c) (t : Option Frame) (h : Here xs i t names) where
   no-else-here : (q : ℕ) → IsElseOf xs q i → ⊥
   no-else-here q e = let g : act_role (opener c p) ≡ act_role bare_else = same-piece xs i (act_role (opener c p)) (act_role bare_else) at e.at in cc
 
@@ -101,12 +102,12 @@ module _ (xs : List Role) (i : ℕ) (names : List Name) (c : Control) (p : Names
   loop-on : is_template c ≡ false → InLoop xs i → InLoop xs (i + 1)
   loop-on own l = (l.0, loop-moves xs l.0 i (i + 1) (alike-opened xs (act_role (opener c p)) i c at refl o own) (opened-keeps xs (act_role (opener c p)) i l.0 at refl l.1.is_open) (has-before l.0) l.1)
 
-  loop-off : is_template c ≡ false → c ≢ Range → InLoop xs (i + 1) → InLoop xs i
+  loop-off : is_template c ≡ false → c ≢ opened.Control Range → InLoop xs (i + 1) → InLoop xs i
   loop-off own nr l = ⊎_elim
       (λ lt. (l.0, loop-moves xs l.0 (i + 1) i (alike-back xs i (i + 1) (alike-opened xs (act_role (opener c p)) i c at refl o own)) (cut xs l.0 i (i + 1) lt (omega arith) l.1.is_open) (else_before xs l.0 i (i + 1) (omega arith)) l.1))
       (λ ge. let b = l.1.is_open.before in let s : l.0 ≡ i = omega arith in
       let w : IsLoop xs i (i + 1) = subst (λ k. IsLoop xs k (i + 1)) s l.1 in
-      absurd (nr (same-control xs i c w.is_open.control o w.is_open.at ∙ w.range)))
+      absurd (nr (same-opening xs i c w.is_open.opened o w.is_open.at ∙ w.range)))
       (cases_lt l.0 i)
 
   here-plain : (l : Bool) → is_template c ≡ false → Decides l (InLoop xs (i + 1)) → l ≡ loops c false (in_loop t) → heading c p.declares ≡ p.declares → Here xs (i + 1) (Some (entered c p t (length names))) (names ++ heading c p.declares)
@@ -131,9 +132,9 @@ module _ (xs : List Role) (i : ℕ) (names : List Name) (c : Control) (p : Names
           (λ new. Contains-append_right names (heading c p.declares) n (subst (λ z. Contains z n) (sym eh) new))
           (brought-opened-back xs i n c p at o own b)
 
-  pub here-opened : (d : Control) → c ≡ d → Here xs (i + 1) (Some (entered c p t (length names))) (names ++ heading c p.declares)
-  here-opened If e = here-plain (in_loop t) (ap is_template e) (Decides-like (in_loop t) (loop-on (ap is_template e)) (loop-off (ap is_template e) (λ r. let g : If ≡ Range = sym e ∙ r in cc)) h.looped) (ap (λ z. loops z false (in_loop t)) (sym e)) (ap (λ z. heading z p.declares) e)
-  here-opened With e = here-plain (in_loop t) (ap is_template e) (Decides-like (in_loop t) (loop-on (ap is_template e)) (loop-off (ap is_template e) (λ r. let g : With ≡ Range = sym e ∙ r in cc)) h.looped) (ap (λ z. loops z false (in_loop t)) (sym e)) (ap (λ z. heading z p.declares) e)
+  pub here-opened : (d : Opening) → c ≡ d → Here xs (i + 1) (Some (entered c p t (length names))) (names ++ heading c p.declares)
+  here-opened If e = here-plain (in_loop t) (ap is_template e) (Decides-like (in_loop t) (loop-on (ap is_template e)) (loop-off (ap is_template e) (λ r. let g : If ≡ opened.Control Range = sym e ∙ r in cc)) h.looped) (ap (λ z. loops z false (in_loop t)) (sym e)) (ap (λ z. heading z p.declares) e)
+  here-opened With e = here-plain (in_loop t) (ap is_template e) (Decides-like (in_loop t) (loop-on (ap is_template e)) (loop-off (ap is_template e) (λ r. let g : With ≡ opened.Control Range = sym e ∙ r in cc)) h.looped) (ap (λ z. loops z false (in_loop t)) (sym e)) (ap (λ z. heading z p.declares) e)
   here-opened Range e = here-plain true (ap is_template e) (λ g. new-loop, λ l. refl) (ap (λ z. loops z false (in_loop t)) (sym e)) (ap (λ z. heading z p.declares) e)
     where
       new-loop : InLoop xs (i + 1)

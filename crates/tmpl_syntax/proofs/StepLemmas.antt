@@ -10,21 +10,22 @@ use Rattle.tmpl_syntax.specs.declared.place.frame.Frame.{Frame}
 use Rattle.tmpl_syntax.specs.Place.Open.{opens, ends, IsOpening, IsLast, HasElse, is_template}
 use Rattle.tmpl_syntax.specs.Place.Body.{IsLoop, Levels}
 use Rattle.tmpl_syntax.specs.computed.Frames.{top, loops, part_of, heading, entered}
-use Rattle.tmpl_syntax.proofs.OpenLemmas.{count-split, count-none, same-control, same-piece, cut, through, Even, shut-at, even-step, opened_new}
+use Rattle.tmpl_syntax.proofs.OpenLemmas.{count-split, count-none, same-opening, same-piece, cut, through, Even, shut-at, even-step, opened_new}
 use Rattle.tmpl_syntax.proofs.PlaceLemmas.{alike-back, alike-even, alike-last, template-moves, InLoop, loop-moves, else_before}
 use Rattle.tmpl_syntax.proofs.ScopeLemmas.{Reaches, Brought}
 use Rattle.tmpl_syntax.proofs.ElsePartLemmas.{Part, earlier, header, branch_header, part-later, IsPartAt, BroughtFrom, to-part, from-part}
 use Rattle.tmpl_syntax.proofs.StandLemmas.{Here, Stood, Stands, here-of, here-opened}
-use Rattle.tmpl_grammar.specs.declared.tree.Control.{Control}
+use Rattle.tmpl_syntax.specs.declared.place.frame.Opening.{Opening}
+use Rattle.tmpl_syntax.specs.declared.place.frame.Opening.TheVariants as opened
 use Rattle.tmpl_grammar.specs.declared.tree.Control.TheVariants.{If, With, Range}
 use Rattle.tmpl_syntax.specs.Place.Role.{Name, Names, opener, bare_else, Role, act_role}
 
 -- after an opening
-module _ (xs : List Role) (i : ℕ) (names : List Name) (c : Control) (p : Names) (at : slice_get xs i ≡ Some (act_role (opener c p))) (o : IsOpening (slice_get xs i) c) (t : Option Frame) (h : Here xs i t names) where
+module _ (xs : List Role) (i : ℕ) (names : List Name) (c : Opening) (p : Names) (at : slice_get xs i ≡ Some (act_role (opener c p))) (o : IsOpening (slice_get xs i) c) (t : Option Frame) (h : Here xs i t names) where
   not-after : {A : Type 0} → (k : ℕ) → k < i + 1 → IsLast xs i k → A
   not-after k lt l = let b = l.is_open.before in absurd (omega arith)
 
-  part-new : (n : Name) → Part xs i (i + 1) n → (Brought xs i i n) ⊎ (Contains p.declares n × (c ≡ Range → ⊥))
+  part-new : (n : Name) → Part xs i (i + 1) n → (Brought xs i i n) ⊎ (Contains p.declares n × (c ≡ opened.Control Range → ⊥))
   part-new n (earlier b) = inl b
   part-new n (header {c = d} {p = q} e k r) =
       let g : act_role (opener c p) ≡ act_role (opener d q) = same-piece xs i (act_role (opener c p)) (act_role (opener d q)) at e in
@@ -34,18 +35,18 @@ module _ (xs : List Role) (i : ℕ) (names : List Name) (c : Control) (p : Names
   part-new n (branch_header lt e k l) = not-after _ lt l
 
   -- an else part sees no fewer names than there were before, and no more than there are in the body
-  part-above : (d : Control) → length names ≤ part_of d (length names) (length names + length p.declares)
+  part-above : (d : Opening) → length names ≤ part_of d (length names) (length names + length p.declares)
   part-above If = omega arith
   part-above With = omega arith
   part-above Range = omega arith
 
-  part-below : (d : Control) → part_of d (length names) (length names + length p.declares) ≤ length names + length (heading d p.declares)
+  part-below : (d : Opening) → part_of d (length names) (length names + length p.declares) ≤ length names + length (heading d p.declares)
   part-below If = omega arith
   part-below With = omega arith
   part-below Range = omega arith
 
   -- what the parts see at first: for an if or with
-  part-wide : c ≢ Range → (n : Name) → Contains (take (length names + length p.declares) (names ++ p.declares)) n → Part xs i (i + 1) n
+  part-wide : c ≢ opened.Control Range → (n : Name) → Contains (take (length names + length p.declares) (names ++ p.declares)) n → Part xs i (i + 1) n
   part-wide nr n k =
       let e : take (length names + length p.declares) (names ++ p.declares) ≡ names ++ p.declares = take_all (length names + length p.declares) (names ++ p.declares) (omega (arith, length-append names p.declares)) in
       ⊎_elim (λ l. earlier (h.to n l)) (λ r. header at r nr)
@@ -59,14 +60,14 @@ module _ (xs : List Role) (i : ℕ) (names : List Name) (c : Control) (p : Names
       (λ r. Contains-append_right names p.declares n r.0)
       (part-new n k))
 
-  part-first : (d : Control) → c ≡ d → is_template d ≡ false → (n : Name) → Contains (take (part_of d (length names) (length names + length p.declares)) (names ++ heading d p.declares)) n → Part xs i (i + 1) n
-  part-first If e own n k = part-wide (λ r. let g : If ≡ Range = sym e ∙ r in cc) n k
-  part-first With e own n k = part-wide (λ r. let g : With ≡ Range = sym e ∙ r in cc) n k
+  part-first : (d : Opening) → c ≡ d → is_template d ≡ false → (n : Name) → Contains (take (part_of d (length names) (length names + length p.declares)) (names ++ heading d p.declares)) n → Part xs i (i + 1) n
+  part-first If e own n k = part-wide (λ r. let g : If ≡ opened.Control Range = sym e ∙ r in cc) n k
+  part-first With e own n k = part-wide (λ r. let g : With ≡ opened.Control Range = sym e ∙ r in cc) n k
   part-first Range e own n k =
       let s : take (length names) (names ++ p.declares) ≡ names = take_at names p.declares (length names) refl in
       earlier (h.to n (subst (λ l. Contains l n) s k))
 
-  part-first-back : (d : Control) → c ≡ d → is_template d ≡ false → (n : Name) → Part xs i (i + 1) n → Contains (take (part_of d (length names) (length names + length p.declares)) (names ++ heading d p.declares)) n
+  part-first-back : (d : Opening) → c ≡ d → is_template d ≡ false → (n : Name) → Part xs i (i + 1) n → Contains (take (part_of d (length names) (length names + length p.declares)) (names ++ heading d p.declares)) n
   part-first-back If e own n k = part-wide-back n k
   part-first-back With e own n k = part-wide-back n k
   part-first-back Range e own n k =
@@ -75,7 +76,7 @@ module _ (xs : List Role) (i : ℕ) (names : List Name) (c : Control) (p : Names
 
   stood-opened : Stood xs (i + 1) (names ++ heading c p.declares) (entered c p t (length names)) i
   stood-opened = record {
-    control = o;
+    opened = o;
     last = record { is_open = opened_new xs i c o; last = λ k lt b. let g = b.before in omega arith };
     over = omega (arith, count-none opens xs (i + 1), count-none ends xs (i + 1));
     has = (λ e. let g : true ≡ false = sym e in cc, λ e. let a = e.1 in let b = e.2.belongs.is_open.before in absurd (omega arith));
@@ -88,7 +89,7 @@ module _ (xs : List Role) (i : ℕ) (names : List Name) (c : Control) (p : Names
     back = λ own n k. part-first-back c refl own n k;
   }
 
-pub stands-opened : (xs : List Role) (i : ℕ) (names : List Name) (c : Control) (p : Names) (fs : List Frame) → slice_get xs i ≡ Some (act_role (opener c p)) → Stands xs i names fs → Stands xs (i + 1) (names ++ heading c p.declares) (entered c p (top fs) (length names) ∷ fs)
+pub stands-opened : (xs : List Role) (i : ℕ) (names : List Name) (c : Opening) (p : Names) (fs : List Frame) → slice_get xs i ≡ Some (act_role (opener c p)) → Stands xs i names fs → Stands xs (i + 1) (names ++ heading c p.declares) (entered c p (top fs) (length names) ∷ fs)
 stands-opened xs i names c p fs at s =
     let o : IsOpening (slice_get xs i) c = subst (λ z. IsOpening z c) (sym at) refl in
     let h = here-of xs i names fs s in (
@@ -102,15 +103,15 @@ stands-opened xs i names c p fs at s =
 abbrev pub changed : Frame → Bool → ℕ → List Name → Frame
 changed f has lv ds = record f { has_else = has; levels = lv; part = f.part + length ds }
 
-module _ (xs : List Role) (i : ℕ) (names : List Name) (f : Frame) (fs : List Frame) (s : Stands xs i names (f ∷ fs)) (x : Role) (at : slice_get xs i ≡ Some x) (shut : opens x ≡ false) (no_end : ends x ≡ false) (part : IsPartAt xs s.1 i) (own : is_template f.control ≡ false) where
+module _ (xs : List Role) (i : ℕ) (names : List Name) (f : Frame) (fs : List Frame) (s : Stands xs i names (f ∷ fs)) (x : Role) (at : slice_get xs i ≡ Some x) (shut : opens x ≡ false) (no_end : ends x ≡ false) (part : IsPartAt xs s.1 i) (own : is_template f.opening ≡ false) where
   even : Even xs i (i + 1)
   even = even-step xs x i at shut no_end
 
   last-after : IsLast xs s.1 (i + 1)
   last-after = record { is_open = even.keeps s.1 s.2.last.is_open; last = λ k lt o. s.2.last.last k lt (even.only k o) }
 
-  own-after : is_template last-after.is_open.control ≡ false
-  own-after = ap is_template (same-control xs s.1 last-after.is_open.control f.control last-after.is_open.at s.2.control) ∙ own
+  own-after : is_template last-after.is_open.opened ≡ false
+  own-after = ap is_template (same-opening xs s.1 last-after.is_open.opened f.opening last-after.is_open.at s.2.opened) ∙ own
 
   low : s.1 < i
   low = s.2.last.is_open.before
@@ -131,23 +132,23 @@ module _ (xs : List Role) (i : ℕ) (names : List Name) (f : Frame) (fs : List F
         (cases_lt has.0 s.1)) l.1,
   )
 
-  loop-out : (f.control ≡ Range → HasElse xs s.1 (i + 1)) → InLoop xs (i + 1) → InLoop xs s.1
+  loop-out : (f.opening ≡ opened.Control Range → HasElse xs s.1 (i + 1)) → InLoop xs (i + 1) → InLoop xs s.1
   loop-out ranged l = ⊎_elim
       (λ e. let w : IsLoop xs s.1 (i + 1) = subst (λ k. IsLoop xs k (i + 1)) e l.1 in
-      absurd (w.bare (ranged (same-control xs s.1 f.control w.is_open.control s.2.control w.is_open.at ∙ w.range))))
+      absurd (w.bare (ranged (same-opening xs s.1 f.opening w.is_open.opened s.2.opened w.is_open.at ∙ w.range))))
       (λ o. ⊎_elim
       (λ lt. (l.0, loop-moves xs l.0 (i + 1) s.1 (alike-back xs s.1 (i + 1) (alike-last xs s.1 (i + 1) last-after own-after)) (cut xs l.0 s.1 (i + 1) lt (let z = low in omega arith) l.1.is_open) (else_before xs l.0 s.1 (i + 1) (let z = low in omega arith)) l.1))
       (λ gt. absurd (last-after.last l.0 gt l.1.is_open)) o)
       (cases_order l.0 s.1)
 
-  module _ (has : Bool) (lv : ℕ) (ds : List Name) (leveled : Levels xs (i + 1) (i + 1) lv) (has_is : Decides has (HasElse xs s.1 (i + 1))) (ranged : f.control ≡ Range → HasElse xs s.1 (i + 1)) (looped : loops f.control has f.around ≡ f.around)
+  module _ (has : Bool) (lv : ℕ) (ds : List Name) (leveled : Levels xs (i + 1) (i + 1) lv) (has_is : Decides has (HasElse xs s.1 (i + 1))) (ranged : f.opening ≡ opened.Control Range → HasElse xs s.1 (i + 1)) (looped : loops f.opening has f.around ≡ f.around)
       (new : (n : Name) → Contains ds n → Reaches xs i (i + 1) (i + 1) n) (old : (n : Name) → Reaches xs i (i + 1) (i + 1) n → Contains ds n)
       (new_part : (n : Name) → Contains ds n → Part xs s.1 (i + 1) n) (old_part : (n : Name) → Part xs s.1 (i + 1) n → Part xs s.1 i n ⊎ Contains ds n) where
     front : length (take f.part names) ≡ f.part
     front = length-take-le f.part names s.2.within.parted
 
-    ranged-last : last-after.is_open.control ≡ Range → HasElse xs s.1 (i + 1)
-    ranged-last e = ranged (same-control xs s.1 f.control last-after.is_open.control s.2.control last-after.is_open.at ∙ e)
+    ranged-last : last-after.is_open.opened ≡ opened.Control Range → HasElse xs s.1 (i + 1)
+    ranged-last e = ranged (same-opening xs s.1 f.opening last-after.is_open.opened s.2.opened last-after.is_open.at ∙ e)
 
     seen : (n : Name) → Part xs s.1 i n → BroughtFrom xs i (i + 1) (i + 1) n
     seen n k = from-part xs s.1 i (i + 1) (i + 1) last-after own-after part low (omega arith) (omega arith) (omega arith) ranged-last below-here.template below-here.is_template_here n k
@@ -174,7 +175,7 @@ module _ (xs : List Role) (i : ℕ) (names : List Name) (f : Frame) (fs : List F
 
     stood-parted : Stood xs (i + 1) (take f.part names ++ ds) (changed f has lv ds) s.1
     stood-parted = record {
-      control = s.2.control;
+      opened = s.2.opened;
       last = last-after;
       over = let z = low in omega (arith, s.2.over, even.balance, count-split opens xs (s.1 + 1) i (i + 1) (omega arith) (omega arith), count-split ends xs (s.1 + 1) i (i + 1) (omega arith) (omega arith));
       has = has_is;
