@@ -172,8 +172,8 @@ module _ (xs : List Role) (i : ℕ) (known : Known) where
   scope-has fs s jump at e p is n k = let g : None ≡ Some p = is in cc
 
   module _ (fs : List Frame) (s : Stands xs i known fs) (a : Act) (at : slice_get xs i ≡ Some (act_role a)) (e : is_placed a (top fs) ≡ true) where
-    pub known : IsKnown (used (names_in a)) (names_at a (top fs) names) → IsUndeclared xs i a → ⊥
-    known k u = u.unknown (in-scope fs s a at e u.names u.of_action u.name (k u.name (subst (λ o. Contains (used o) u.name) (sym u.of_action) u.uses)))
+    pub none-unknown : IsKnown (used (names_in a)) (names_at a (top fs) names) → IsUndeclared xs i a → ⊥
+    none-unknown k u = u.unknown (in-scope fs s a at e u.names u.of_action u.name (k u.name (subst (λ o. Contains (used o) u.name) (sym u.of_action) u.uses)))
 
     pub unknown : IsUnknown (used (names_in a)) (names_at a (top fs) names) → IsUndeclared xs i a
     unknown u = go (names_in a) refl (u.1)
