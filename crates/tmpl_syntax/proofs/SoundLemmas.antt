@@ -2,7 +2,7 @@
 use Rattle.std.proofs.Common.{arith, ◌≡◌, ◌≢◌, ℕ, ◌+◌, ◌<◌, true, false, List, [], ◌∷◌, ◌++◌, take, refl, sym, subst, length, Some, None, ⊎_elim}
 use Rattle.std.specs.Prelude.{slice_get}
 use Rattle.std.proofs.lemmas.Bool.{cases_lt, and_parts}
-use Rattle.std.proofs.lemmas.List.{append-nil, length-take-le}
+use Rattle.std.proofs.lemmas.List.{length-take-le}
 use Rattle.tmpl_syntax.specs.declared.fault.Fault.{Fault}
 use Rattle.tmpl_syntax.specs.declared.fault.Fault.TheVariants.{Unreadable, NotAnAction, OutOfPlace, NestedTooDeeply, UndeclaredVariable}
 use Rattle.tmpl_syntax.specs.declared.place.frame.Frame.{Frame}
@@ -14,7 +14,7 @@ use Rattle.tmpl_syntax.proofs.StandLemmas.{Here, Stands, here-of}
 use Rattle.tmpl_syntax.proofs.StepLemmas.{stands-opened}
 use Rattle.tmpl_syntax.proofs.ElseBranchLemmas.{stands-elsed, stands-branched, stands-ended, stands-declared, stands-still}
 use Rattle.tmpl_syntax.proofs.JudgeLemmas.{unplaced, placed, deep, shallow, none-unknown, unknown}
-use Rattle.tmpl_syntax.specs.Place.Role.{Name, Act, plain, opener, bare_else, branch_else, closer, jump, Role, text_role, unreadable_role, unread_role, act_role}
+use Rattle.tmpl_syntax.specs.Place.Role.{Act, plain, opener, bare_else, branch_else, closer, jump, Role, text_role, unreadable_role, unread_role, act_role}
 
 pub record Sound (xs : List Role) (i : ℕ) (known : Known) (fs : List Frame) : Type 0 where
   pub stands : Stands xs i known fs

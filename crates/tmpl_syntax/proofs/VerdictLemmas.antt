@@ -1,11 +1,11 @@
 -- The verdict in one pass is the one that the definition gives.
-use Rattle.std.proofs.Common.{arith, ◌≡◌, ℕ, suc, ◌+◌, ◌<◌, List, [], ◌∷◌, ◌++◌, refl, sym, ap, ◌∙◌, length, drop, get_or, length-drop, get_or-drop, Option, Some, None}
+use Rattle.std.proofs.Common.{arith, ◌≡◌, ℕ, suc, ◌+◌, ◌<◌, List, [], ◌∷◌, refl, sym, ap, ◌∙◌, length, drop, get_or, length-drop, get_or-drop, Option, Some, None}
 use Rattle.std.specs.Prelude.{slice_get}
 use Rattle.std.proofs.lemmas.List.{drop-drop}
 use Rattle.std.proofs.lemmas.Option.{slice_get-get_or}
 use Rattle.tmpl_syntax.specs.declared.fault.Fault.{Fault}
 use Rattle.tmpl_syntax.specs.declared.place.frame.Frame.{Frame}
-use Rattle.tmpl_syntax.specs.Place.Role.{Name, Role}
+use Rattle.tmpl_syntax.specs.Place.Role.{Role}
 use Rattle.tmpl_syntax.specs.Place.Body.{Verdict, Judged}
 use Rattle.tmpl_syntax.specs.computed.Frames.{top, fault_at, seen_at, frames_past, Known, with_inner, known_past, none_known, unless_fault, verdict_from, verdict_of}
 use Rattle.tmpl_syntax.proofs.FaultLemmas.{TellsRole, tells}

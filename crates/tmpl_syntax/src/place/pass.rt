@@ -1,5 +1,5 @@
 //! What stands after an item: the frames of what is open, and the names that are known.
-ghost use Rattle.std.specs.Prelude.{◌≡◌, ◌≤◌, ◌<◌, ◌++◌, [], ◌∷◌, ◌+◌, IfOk, reverse, true, false, Some, None, length};
+ghost use Rattle.std.specs.Prelude.{◌≡◌, ◌<◌, ◌++◌, [], ◌∷◌, ◌+◌, IfOk, reverse, true, false, Some, None, length};
 ghost use Rattle.tmpl_grammar.specs.View.{action_of, binding_of, header_of};
 ghost use Rattle.tmpl_syntax.specs.View.{item_of, known_names, scopes_of};
 ghost use Rattle.tmpl_syntax.specs.Place.Role as role;
