@@ -17,8 +17,8 @@ ghost use Rattle.tmpl_syntax.specs.declared.place.frame.Opening.TheVariants as o
 use crate::item::{Item, ItemKind};
 use crate::place::frame::{Frame, Opening};
 use crate::place::names::KnownNames;
-use crate::place::scopes::Scopes;
 use crate::place::rules::{is_in_loop, levels_in};
+use crate::place::scopes::Scopes;
 use std::alloc::{AllocError, Global};
 use tmpl_grammar::{Action, Binding, Control, Header, HeaderShape, Shape};
 
