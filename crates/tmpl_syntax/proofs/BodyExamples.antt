@@ -1,11 +1,11 @@
 -- What the definitions say of some lists of actions.
-use Rattle.std.proofs.Common.{◌≡◌, ℕ, List, [], ◌∷◌, refl, subst}
+use Rattle.std.proofs.Common.{◌≡◌, ℕ, List, [], ◌∷◌, ◌++◌, refl, subst, replicate, Some}
 use Rattle.tmpl_grammar.specs.declared.action.Branch.TheVariants.{If as if_branch}
-use Rattle.tmpl_syntax.specs.declared.fault.Fault.TheVariants.{NotAnAction, OutOfPlace, UndeclaredVariable}
+use Rattle.tmpl_syntax.specs.declared.fault.Fault.TheVariants.{NotAnAction, OutOfPlace, NestedTooDeeply, UndeclaredVariable}
 use Rattle.tmpl_grammar.specs.Tree.{Operand, dot, variable, operand, no_operand, command, no_command, Pipeline, pipeline, Binding, unbound, declare, assign, declare_pair, Header}
 use Rattle.tmpl_grammar.specs.declared.tree.Control.TheVariants as control
 use Rattle.tmpl_syntax.specs.Tree.{Nodes, none, then, text, action, control_node, break_node}
-use Rattle.tmpl_grammar.specs.Action.{pipeline_action, opening, plain_else, else_branch, end_action, break_action}
+use Rattle.tmpl_grammar.specs.Action.{pipeline_action, opening, plain_else, else_branch, end_action, break_action, define_action, template_action, block_action}
 use Rattle.tmpl_syntax.specs.Item.{Item, item, text_item, unreadable_item, unread_item, action_item}
 use Rattle.tmpl_syntax.specs.Place.Role.{roles_of}
 use Rattle.tmpl_syntax.specs.Place.Body.{Verdict, fine, refused, left_open, Judged}
@@ -77,6 +77,19 @@ end_it line = item line (action_item end_action)
 
 abbrev break_it : ℕ → Item
 break_it line = item line (action_item break_action)
+
+-- `{{define "x"}}`, `{{block "x" .}}`, `{{block "x" $x}}`, `{{template "x" $x}}`
+abbrev define_it : Item
+define_it = item 1 (action_item (define_action x))
+
+abbrev block_it : Item
+block_it = item 1 (action_item (block_action x (single dot)))
+
+abbrev block_given : List ℕ → Item
+block_given name = item 1 (action_item (block_action x (single (variable name []))))
+
+abbrev runs_given : List ℕ → Item
+runs_given name = item 1 (action_item (template_action x (Some (single (variable name [])))))
 
 abbrev Says : List Item → Verdict → Type 0
 Says items v = Judged (roles_of items) v
@@ -161,6 +174,95 @@ no-reading = says (if_it 1 ∷ item 1 unread_item ∷ end_it 1 ∷ end_it 1 ∷ 
 open-at-the-end : Says (if_it 1 ∷ else_if 1 ∷ with_it 1 ∷ end_it 1 ∷ []) left_open
 unfolding verdict_of
 open-at-the-end = says (if_it 1 ∷ else_if 1 ∷ with_it 1 ∷ end_it 1 ∷ []) left_open refl
+
+-- only at the top may a define stand
+defines-beside-one-another : Says (define_it ∷ puts 1 ∷ end_it 1 ∷ word 1 ∷ define_it ∷ end_it 1 ∷ []) fine
+unfolding verdict_of
+defines-beside-one-another = says (define_it ∷ puts 1 ∷ end_it 1 ∷ word 1 ∷ define_it ∷ end_it 1 ∷ []) fine refl
+
+a-define-inside-an-if : Says (if_it 1 ∷ define_it ∷ end_it 1 ∷ end_it 1 ∷ []) (refused 1 OutOfPlace)
+unfolding verdict_of
+a-define-inside-an-if = says (if_it 1 ∷ define_it ∷ end_it 1 ∷ end_it 1 ∷ []) (refused 1 OutOfPlace) refl
+
+a-define-inside-a-define : Says (define_it ∷ define_it ∷ end_it 1 ∷ end_it 1 ∷ []) (refused 1 OutOfPlace)
+unfolding verdict_of
+a-define-inside-a-define = says (define_it ∷ define_it ∷ end_it 1 ∷ end_it 1 ∷ []) (refused 1 OutOfPlace) refl
+
+a-define-inside-a-block : Says (block_it ∷ define_it ∷ end_it 1 ∷ end_it 1 ∷ []) (refused 1 OutOfPlace)
+unfolding verdict_of
+a-define-inside-a-block = says (block_it ∷ define_it ∷ end_it 1 ∷ end_it 1 ∷ []) (refused 1 OutOfPlace) refl
+
+-- .. and a block anywhere
+a-block-inside-a-define : Says (define_it ∷ if_it 1 ∷ block_it ∷ puts 1 ∷ end_it 1 ∷ end_it 1 ∷ end_it 1 ∷ []) fine
+unfolding verdict_of
+a-block-inside-a-define = says (define_it ∷ if_it 1 ∷ block_it ∷ puts 1 ∷ end_it 1 ∷ end_it 1 ∷ end_it 1 ∷ []) fine refl
+
+an-else-of-a-define : Says (define_it ∷ else_it 1 ∷ end_it 1 ∷ []) (refused 1 OutOfPlace)
+unfolding verdict_of
+an-else-of-a-define = says (define_it ∷ else_it 1 ∷ end_it 1 ∷ []) (refused 1 OutOfPlace) refl
+
+an-else-if-of-a-block : Says (if_it 1 ∷ block_it ∷ else_if 1 ∷ end_it 1 ∷ end_it 1 ∷ []) (refused 2 OutOfPlace)
+unfolding verdict_of
+an-else-if-of-a-block = says (if_it 1 ∷ block_it ∷ else_if 1 ∷ end_it 1 ∷ end_it 1 ∷ []) (refused 2 OutOfPlace) refl
+
+-- a break inside a block needs a range inside it
+break-in-a-block : Says (range_it 1 ∷ block_it ∷ break_it 1 ∷ end_it 1 ∷ end_it 1 ∷ []) (refused 2 OutOfPlace)
+unfolding verdict_of
+break-in-a-block = says (range_it 1 ∷ block_it ∷ break_it 1 ∷ end_it 1 ∷ end_it 1 ∷ []) (refused 2 OutOfPlace) refl
+
+break-in-a-range-in-a-block : Says (block_it ∷ range_it 1 ∷ break_it 1 ∷ end_it 1 ∷ end_it 1 ∷ []) fine
+unfolding verdict_of
+break-in-a-range-in-a-block = says (block_it ∷ range_it 1 ∷ break_it 1 ∷ end_it 1 ∷ end_it 1 ∷ []) fine refl
+
+break-behind-a-block : Says (range_it 1 ∷ block_it ∷ end_it 1 ∷ break_it 1 ∷ end_it 1 ∷ []) fine
+unfolding verdict_of
+break-behind-a-block = says (range_it 1 ∷ block_it ∷ end_it 1 ∷ break_it 1 ∷ end_it 1 ∷ []) fine refl
+
+-- a block sees no name from outside, its own pipeline does, and behind it the name is known again
+no-name-from-outside-a-block : Says (declares x ∷ block_it ∷ uses x ∷ end_it 1 ∷ []) (refused 2 UndeclaredVariable)
+unfolding verdict_of
+no-name-from-outside-a-block = says (declares x ∷ block_it ∷ uses x ∷ end_it 1 ∷ []) (refused 2 UndeclaredVariable) refl
+
+a-header-s-name-outside-a-block : Says (if_new x ∷ block_it ∷ uses x ∷ end_it 1 ∷ end_it 1 ∷ []) (refused 2 UndeclaredVariable)
+unfolding verdict_of
+a-header-s-name-outside-a-block = says (if_new x ∷ block_it ∷ uses x ∷ end_it 1 ∷ end_it 1 ∷ []) (refused 2 UndeclaredVariable) refl
+
+the-pipeline-of-a-block : Says (declares x ∷ block_given x ∷ end_it 1 ∷ []) fine
+unfolding verdict_of
+the-pipeline-of-a-block = says (declares x ∷ block_given x ∷ end_it 1 ∷ []) fine refl
+
+known-again-behind-a-block : Says (declares x ∷ block_it ∷ declares y ∷ uses y ∷ end_it 1 ∷ uses x ∷ []) fine
+unfolding verdict_of
+known-again-behind-a-block = says (declares x ∷ block_it ∷ declares y ∷ uses y ∷ end_it 1 ∷ uses x ∷ []) fine refl
+
+gone-behind-a-block : Says (block_it ∷ declares y ∷ end_it 1 ∷ uses y ∷ []) (refused 3 UndeclaredVariable)
+unfolding verdict_of
+gone-behind-a-block = says (block_it ∷ declares y ∷ end_it 1 ∷ uses y ∷ []) (refused 3 UndeclaredVariable) refl
+
+no-name-from-outside-a-define : Says (declares x ∷ define_it ∷ uses x ∷ end_it 1 ∷ []) (refused 2 UndeclaredVariable)
+unfolding verdict_of
+no-name-from-outside-a-define = says (declares x ∷ define_it ∷ uses x ∷ end_it 1 ∷ []) (refused 2 UndeclaredVariable) refl
+
+a-block-in-a-first-part : Says (if_it 1 ∷ declares x ∷ block_it ∷ declares y ∷ end_it 1 ∷ uses x ∷ else_it 1 ∷ uses x ∷ end_it 1 ∷ []) (refused 7 UndeclaredVariable)
+unfolding verdict_of
+a-block-in-a-first-part = says (if_it 1 ∷ declares x ∷ block_it ∷ declares y ∷ end_it 1 ∷ uses x ∷ else_it 1 ∷ uses x ∷ end_it 1 ∷ []) (refused 7 UndeclaredVariable) refl
+
+the-pipeline-of-a-template : Says (runs_given x ∷ []) (refused 0 UndeclaredVariable)
+unfolding verdict_of
+the-pipeline-of-a-template = says (runs_given x ∷ []) (refused 0 UndeclaredVariable) refl
+
+a-define-open-at-the-end : Says (define_it ∷ if_it 1 ∷ end_it 1 ∷ []) left_open
+unfolding verdict_of
+a-define-open-at-the-end = says (define_it ∷ if_it 1 ∷ end_it 1 ∷ []) left_open refl
+
+-- a block is a level, and a define none
+as-many-levels-as-may-stand : Says (define_it ∷ replicate 500 block_it ++ replicate 501 (end_it 1)) fine
+unfolding verdict_of
+as-many-levels-as-may-stand = says (define_it ∷ replicate 500 block_it ++ replicate 501 (end_it 1)) fine refl
+
+a-level-too-many : Says (define_it ∷ replicate 501 block_it) (refused 501 NestedTooDeeply)
+unfolding verdict_of
+a-level-too-many = says (define_it ∷ replicate 501 block_it) (refused 501 NestedTooDeeply) refl
 
 -- `{{if .}}w{{else if .}}{{.}}{{else}}w{{end}}{{.}}`, each on a line of its own
 abbrev chain : List Item

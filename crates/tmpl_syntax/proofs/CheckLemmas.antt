@@ -1,5 +1,5 @@
 -- The check, from item to item.
-use Rattle.std.proofs.Common.{arith, ◌≡◌, ◌≢◌, ℕ, suc, ◌+◌, ◌<◌, ◌≤◌, List, [], ◌∷◌, ◌++◌, refl, sym, ap, ◌∙◌, subst, length, map, drop, get_or, drop-cons, add-one, Option, Some, None, Ok, Err}
+use Rattle.std.proofs.Common.{arith, ◌≡◌, ◌≢◌, ℕ, suc, ◌+◌, ◌<◌, ◌≤◌, List, [], ◌∷◌, refl, sym, ap, ◌∙◌, subst, length, map, drop, get_or, drop-cons, add-one, Option, Some, None, Ok, Err}
 use Rattle.std.specs.Prelude.{slice_get}
 use Rattle.std.specs.Option.{option_map}
 use Rattle.std.proofs.lemmas.List.{drop_all}
@@ -12,22 +12,22 @@ use Rattle.tmpl_syntax.specs.Item.{Item}
 use Rattle.tmpl_syntax.specs.View.{item_of}
 use Rattle.tmpl_syntax.specs.Place.Role.{Name, Role, role_of, roles_of}
 use Rattle.tmpl_syntax.specs.Place.Body.{Verdict, fine, refused, left_open}
-use Rattle.tmpl_syntax.specs.computed.Frames.{top, seen_at, fault_at, frames_past, added_by, at_end, unless_fault, verdict_from, verdict_of}
+use Rattle.tmpl_syntax.specs.computed.Frames.{top, seen_at, fault_at, frames_past, at_end, Known, with_inner, known_past, none_known, unless_fault, verdict_from, verdict_of}
 use Rattle.tmpl_syntax.specs.computed.Parse.{IsRefusal, line_in, by_verdict, checked}
 use Rattle.tmpl_syntax.specs.Parse.{last_line}
 use Rattle.tmpl_syntax.proofs.FaultLemmas.{TellsRole, tells}
 use Rattle.tmpl_syntax.proofs.SoundLemmas.{Sound, sound-start, sound-past}
 
 -- up to the place i none is refused, and there these frames and names stand
-pub record IsChecking (xs : List Role) (i : ℕ) (names : List Name) (fs : List Frame) : Type 0 where
-  pub sound : Sound xs i names fs
-  pub goes : verdict_of xs ≡ verdict_from i fs names (drop i xs)
+pub record IsChecking (xs : List Role) (i : ℕ) (known : Known) (fs : List Frame) : Type 0 where
+  pub sound : Sound xs i known fs
+  pub goes : verdict_of xs ≡ verdict_from i fs known (drop i xs)
 
-pub checking-start : (xs : List Role) (names : List Name) (fs : List Frame) → names ≡ [] → fs ≡ [] → IsChecking xs 0 names fs
+pub checking-start : (xs : List Role) (known : Known) (fs : List Frame) → known ≡ none_known → fs ≡ [] → IsChecking xs 0 known fs
 unfolding verdict_of
-checking-start xs names fs e f = subst (λ n. IsChecking xs 0 n fs) (sym e) (subst (λ s. IsChecking xs 0 [] s) (sym f) start)
+checking-start xs known fs e f = subst (λ k. IsChecking xs 0 k fs) (sym e) (subst (λ s. IsChecking xs 0 none_known s) (sym f) start)
   where
-    start : IsChecking xs 0 [] []
+    start : IsChecking xs 0 none_known []
     start = record { sound = sound-start xs; goes = refl }
 
 drop-at : (xs : List Role) (i : ℕ) (x : Role) → slice_get xs i ≡ Some x → drop i xs ≡ x ∷ drop (i + 1) xs
@@ -35,27 +35,33 @@ drop-at xs i x at =
     let within : i < length xs = slice_get_within xs i x at in
     drop-cons xs i x within ∙ ap (λ y. y ∷ drop (suc i) xs) (get_or_from_slice_get xs i x x at) ∙ ap (λ k. x ∷ drop k xs) (sym (add-one i))
 
-module _ (xs : List Role) (i : ℕ) (names : List Name) (fs : List Frame) (x : Role) (at : slice_get xs i ≡ Some x) (c : IsChecking xs i names fs) where
-  here : (o : Option Fault) → fault_at x (top fs) (seen_at x (top fs) names) ≡ o → verdict_of xs ≡ unless_fault o i (verdict_from (i + 1) (frames_past x fs (length (seen_at x (top fs) names))) (seen_at x (top fs) names ++ added_by x) (drop (i + 1) xs))
-  here o e = c.goes ∙ ap (verdict_from i fs names) (drop-at xs i x at) ∙ ap (λ p. unless_fault p i (verdict_from (i + 1) (frames_past x fs (length (seen_at x (top fs) names))) (seen_at x (top fs) names ++ added_by x) (drop (i + 1) xs))) e
+module _ (xs : List Role) (i : ℕ) (known : Known) (fs : List Frame) (x : Role) (at : slice_get xs i ≡ Some x) (c : IsChecking xs i known fs) where
+  abbrev seen : List Name
+  seen = seen_at x (top fs) known.inner
 
-  past : fault_at x (top fs) (seen_at x (top fs) names) ≡ None → IsChecking xs (i + 1) (seen_at x (top fs) names ++ added_by x) (frames_past x fs (length (seen_at x (top fs) names)))
+  abbrev next : List Name → Known
+  next names = known_past x (top fs) (with_inner known names)
+
+  here : (o : Option Fault) → fault_at x (top fs) seen ≡ o → verdict_of xs ≡ unless_fault o i (verdict_from (i + 1) (frames_past x fs (length seen)) (next seen) (drop (i + 1) xs))
+  here o e = c.goes ∙ ap (verdict_from i fs known) (drop-at xs i x at) ∙ ap (λ p. unless_fault p i (verdict_from (i + 1) (frames_past x fs (length seen)) (next seen) (drop (i + 1) xs))) e
+
+  past : fault_at x (top fs) seen ≡ None → IsChecking xs (i + 1) (next seen) (frames_past x fs (length seen))
   past none = record {
-    sound = sound-past xs i names fs x at (subst (TellsRole x (top fs) (seen_at x (top fs) names)) none (tells x (top fs) (seen_at x (top fs) names))) c.sound;
+    sound = sound-past xs i known fs x at (subst (TellsRole x (top fs) seen) none (tells x (top fs) seen)) c.sound;
     goes = here None none;
   }
 
-  module _ (t : Option Frame) (ms : List Name) (same : t ≡ top fs) (sees : ms ≡ seen_at x t names) where
-    sees' : ms ≡ seen_at x (top fs) names
-    sees' = sees ∙ ap (λ u. seen_at x u names) same
+  module _ (t : Option Frame) (ms : List Name) (same : t ≡ top fs) (sees : ms ≡ seen_at x t known.inner) where
+    sees' : ms ≡ seen
+    sees' = sees ∙ ap (λ u. seen_at x u known.inner) same
 
-    fault-same : (o : Option Fault) → fault_at x t ms ≡ o → fault_at x (top fs) (seen_at x (top fs) names) ≡ o
+    fault-same : (o : Option Fault) → fault_at x t ms ≡ o → fault_at x (top fs) seen ≡ o
     fault-same o e = sym (ap (λ u. fault_at x u ms) same ∙ ap (fault_at x (top fs)) sees') ∙ e
 
-    pub checking-past : (ns : List Name) (gs : List Frame) → ns ≡ ms ++ added_by x → gs ≡ frames_past x fs (length ms) → fault_at x t ms ≡ None → IsChecking xs (i + 1) ns gs
-    checking-past ns gs e f none =
-        subst (λ n. IsChecking xs (i + 1) n gs) (sym (e ∙ ap (λ l. l ++ added_by x) sees'))
-        (subst (λ s. IsChecking xs (i + 1) (seen_at x (top fs) names ++ added_by x) s) (sym (f ∙ ap (λ l. frames_past x fs (length l)) sees')) (past (fault-same None none)))
+    pub checking-past : (k : Known) (gs : List Frame) → k ≡ next ms → gs ≡ frames_past x fs (length ms) → fault_at x t ms ≡ None → IsChecking xs (i + 1) k gs
+    checking-past k gs e f none =
+        subst (λ n. IsChecking xs (i + 1) n gs) (sym (e ∙ ap next sees'))
+        (subst (λ s. IsChecking xs (i + 1) (next seen) s) (sym (f ∙ ap (λ l. frames_past x fs (length l)) sees')) (past (fault-same None none)))
 
     pub checking-refused : (f : Fault) → fault_at x t ms ≡ Some f → verdict_of xs ≡ refused i f
     checking-refused f e = here (Some f) (fault-same (Some f) e)
@@ -70,8 +76,8 @@ role-at items i x at = slice_get-map role_of items i ∙ ap (option_map role_of)
 drop-none : (xs : List Role) (i : ℕ) → length xs ≤ i → drop i xs ≡ []
 drop-none xs i le = drop_all i xs le
 
-pub checking-ended : (xs : List Role) (i : ℕ) (names : List Name) (fs : List Frame) → length xs ≤ i → IsChecking xs i names fs → verdict_of xs ≡ at_end fs
-checking-ended xs i names fs le c = c.goes ∙ ap (verdict_from i fs names) (drop-none xs i le)
+pub checking-ended : (xs : List Role) (i : ℕ) (known : Known) (fs : List Frame) → length xs ≤ i → IsChecking xs i known fs → verdict_of xs ≡ at_end fs
+checking-ended xs i known fs le c = c.goes ∙ ap (verdict_from i fs known) (drop-none xs i le)
 
 module _ (bytes : List ℕ) (items : List Item) where
   by : (v : Verdict) → verdict_of (roles_of items) ≡ v → checked bytes items ≡ by_verdict (last_line bytes) items v

@@ -4,17 +4,18 @@ use Rattle.std.specs.Prelude.{slice_get, Contains}
 use Rattle.std.proofs.lemmas.Bool.{cases_order, cases_lt}
 use Rattle.tmpl_grammar.specs.declared.action.Branch.{Branch}
 use Rattle.tmpl_syntax.specs.Place.Open.{opens, IsOpening, IsOpen, IsLast, IsElseOf, IsElseBranchOf, HasElse, is_template, IsTemplate, OfOneTemplate}
-use Rattle.tmpl_syntax.proofs.OpenLemmas.{same-control, cut, through, shut-at}
+use Rattle.tmpl_syntax.proofs.OpenLemmas.{same-opening, cut, through, shut-at}
 use Rattle.tmpl_syntax.proofs.PlaceLemmas.{alike-back, alike-last, one-moves, template-moves, else_before}
 use Rattle.tmpl_syntax.proofs.ScopeLemmas.{Reaches, from_top, from_inside, from_header, from_else_branch, Brought, reaches-moves}
-use Rattle.tmpl_grammar.specs.declared.tree.Control.{Control}
+use Rattle.tmpl_syntax.specs.declared.place.frame.Opening.{Opening}
+use Rattle.tmpl_syntax.specs.declared.place.frame.Opening.TheVariants as opened
 use Rattle.tmpl_grammar.specs.declared.tree.Control.TheVariants.{Range}
 use Rattle.tmpl_syntax.specs.Place.Role.{Name, Names, plain, opener, bare_else, branch_else, Role, act_role}
 
 -- what an else part of the opening at j sees, were it to begin at h
 pub data Part (xs : List Role) (j h : ℕ) (name : Name) : Type 0 where
   earlier : Brought xs j j name → Part xs j h name
-  header : {c : Control} {p : Names} → slice_get xs j ≡ Some (act_role (opener c p)) → Contains p.declares name → (c ≡ Range → ⊥) → Part xs j h name
+  header : {c : Opening} {p : Names} → slice_get xs j ≡ Some (act_role (opener c p)) → Contains p.declares name → (c ≡ opened.Control Range → ⊥) → Part xs j h name
   branch_header : {k : ℕ} {b : Branch} {p : Names} → k < h → slice_get xs k ≡ Some (act_role (branch_else b p)) → Contains p.declares name → IsLast xs j k → Part xs j h name
 
 -- a later beginning, with no else if of it between
@@ -39,7 +40,7 @@ pub record BroughtFrom (xs : List Role) (h a b : ℕ) (name : Name) : Type 0 whe
   pub template : OfOneTemplate xs by a
   pub reaches : Reaches xs by a b name
 
-module _ (xs : List Role) (j h a b : ℕ) (l : IsLast xs j a) (own : is_template l.is_open.control ≡ false) (part : IsPartAt xs j h) (jh : j < h) (ha : h ≤ a) (hb : h < b) (ba : b ≤ a + 1) (ranged : l.is_open.control ≡ Range → HasElse xs j a) where
+module _ (xs : List Role) (j h a b : ℕ) (l : IsLast xs j a) (own : is_template l.is_open.opened ≡ false) (part : IsPartAt xs j h) (jh : j < h) (ha : h ≤ a) (hb : h < b) (ba : b ≤ a + 1) (ranged : l.is_open.opened ≡ opened.Control Range → HasElse xs j a) where
   at-opening : (x : Role) → slice_get xs j ≡ Some x → opens x ≡ false → ⊥
   at-opening x at shut = shut-at xs x j a at shut l.is_open
 
@@ -72,7 +73,7 @@ module _ (xs : List Role) (j h a b : ℕ) (l : IsLast xs j a) (own : is_template
   at-j : (n : Name) → Reaches xs j a b n → Part xs j h n
   at-j n (from_top {p = p} e c z) = absurd (at-opening (act_role (plain p)) e refl)
   at-j n (from_inside {p = p} e c lq o ne nt) = absurd (at-opening (act_role (plain p)) e refl)
-  at-j n (from_header {c = d} {p = p} e c o r) = header e c (λ is. r is (ranged (same-control xs j l.is_open.control d l.is_open.at (subst (λ z. IsOpening z d) (sym e) refl) ∙ is)))
+  at-j n (from_header {c = d} {p = p} e c o r) = header e c (λ is. r is (ranged (same-opening xs j l.is_open.opened d l.is_open.at (subst (λ z. IsOpening z d) (sym e) refl) ∙ is)))
   at-j n (from_else_branch {c = d} {p = p} e c lq o) = absurd (at-opening (act_role (branch_else d p)) e refl)
 
   after-j : (k : ℕ) (n : Name) → j < k → k < h → Reaches xs k a b n → Part xs j h n
@@ -119,6 +120,6 @@ module _ (xs : List Role) (j h a b : ℕ) (l : IsLast xs j a) (own : is_template
       record {
         by = k;
         before = kh;
-        template = (t, template-moves xs j k (alike-last xs j k lk (ap is_template (same-control xs j lk.is_open.control l.is_open.control lk.is_open.at l.is_open.at) ∙ own)) t is, template-moves xs j a (alike-last xs j a l own) t is);
+        template = (t, template-moves xs j k (alike-last xs j k lk (ap is_template (same-opening xs j lk.is_open.opened l.is_open.opened lk.is_open.at l.is_open.at) ∙ own)) t is, template-moves xs j a (alike-last xs j a l own) t is);
         reaches = from_else_branch e c lk l.is_open;
       }

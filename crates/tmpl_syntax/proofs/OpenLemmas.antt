@@ -9,7 +9,7 @@ use Rattle.std.proofs.Math.Seq.{take-suc}
 use Rattle.std.proofs.lemmas.List.Sums.{sum_by-append}
 use Rattle.tmpl_grammar.specs.declared.action.Branch.{Branch}
 use Rattle.tmpl_syntax.specs.Place.Open.{opening, there, opens, ends, IsOpening, IsOpen, IsLast, IsElseOf, IsElseBranchOf}
-use Rattle.tmpl_grammar.specs.declared.tree.Control.{Control}
+use Rattle.tmpl_syntax.specs.declared.place.frame.Opening.{Opening}
 use Rattle.tmpl_syntax.specs.Place.Role.{Names, plain, opener, bare_else, branch_else, closer, jump, Role, text_role, unreadable_role, unread_role, act_role}
 
 abbrev pub one_if : Bool → ℕ
@@ -50,12 +50,12 @@ pub count-more : (p : Role → Bool) (xs : List Role) (x : Role) (a n : ℕ) →
 count-more p xs x a n le at = count-split p xs a n (n + 1) le (omega arith) ∙ ap (λ k. count_by p (slice_range xs a n) + k) (count-one p xs x n at)
 
 -- the piece of an opening
-pub record Opens (xs : List Role) (j : ℕ) (c : Control) : Type 0 where
+pub record Opens (xs : List Role) (j : ℕ) (c : Opening) : Type 0 where
   pub piece : Role
   pub at : slice_get xs j ≡ Some piece
   pub is : opening piece ≡ Some c
 
-pub piece-of : (xs : List Role) (j : ℕ) (c : Control) → IsOpening (slice_get xs j) c → Opens xs j c
+pub piece-of : (xs : List Role) (j : ℕ) (c : Opening) → IsOpening (slice_get xs j) c → Opens xs j c
 piece-of xs j c h = go (slice_get xs j) refl h
   where
     go : (o : Option Role) → slice_get xs j ≡ o → IsOpening o c → Opens xs j c
@@ -65,14 +65,14 @@ piece-of xs j c h = go (slice_get xs j) refl h
 pub same-piece : (xs : List Role) (i : ℕ) (a b : Role) → slice_get xs i ≡ Some a → slice_get xs i ≡ Some b → a ≡ b
 same-piece xs i a b e f = let g : Some a ≡ Some b = sym e ∙ f in cc
 
-pub same-control : (xs : List Role) (j : ℕ) (c d : Control) → IsOpening (slice_get xs j) c → IsOpening (slice_get xs j) d → c ≡ d
-same-control xs j c d a b =
+pub same-opening : (xs : List Role) (j : ℕ) (c d : Opening) → IsOpening (slice_get xs j) c → IsOpening (slice_get xs j) d → c ≡ d
+same-opening xs j c d a b =
     let p = piece-of xs j c a in
     let q = piece-of xs j d b in
     let e : p.piece ≡ q.piece = same-piece xs j p.piece q.piece p.at q.at in
     let s : Some c ≡ Some d = sym p.is ∙ ap opening e ∙ q.is in cc
 
-pub opening-no-end : (x : Role) (c : Control) → opening x ≡ Some c → ends x ≡ false
+pub opening-no-end : (x : Role) (c : Opening) → opening x ≡ Some c → ends x ≡ false
 opening-no-end text_role c e = refl
 opening-no-end unreadable_role c e = refl
 opening-no-end unread_role c e = refl
@@ -83,30 +83,30 @@ opening-no-end (act_role (branch_else b p)) c e = refl
 opening-no-end (act_role closer) c e = let g : None ≡ Some c = e in cc
 opening-no-end (act_role jump) c e = refl
 
-pub opening-opens : (x : Role) (c : Control) → opening x ≡ Some c → opens x ≡ true
+pub opening-opens : (x : Role) (c : Opening) → opening x ≡ Some c → opens x ≡ true
 opening-opens x c e = ap there e
 
 -- a place between
 pub cut : (xs : List Role) (k m i : ℕ) → k < m → m ≤ i → IsOpen xs k i → IsOpen xs k m
-cut xs k m i lt le h = record { control = h.control; at = h.at; before = lt; fronts = λ n from to. h.fronts n from (omega arith) }
+cut xs k m i lt le h = record { opened = h.opened; at = h.at; before = lt; fronts = λ n from to. h.fronts n from (omega arith) }
 
 -- what is open at an open opening is open
 pub through : (xs : List Role) (k j i : ℕ) → IsOpen xs k j → IsOpen xs j i → IsOpen xs k i
 through xs k j i a b = record {
-  control = a.control;
+  opened = a.opened;
   at = a.at;
   before = let lt = a.before in let gt = b.before in omega arith;
   fronts = λ n from to. ⊎_elim
-      (λ beyond. let p = piece-of xs j b.control b.at in
+      (λ beyond. let p = piece-of xs j b.opened b.at in
       let lt = a.before in
       let first = a.fronts j lt (omega arith) in
       let second = b.fronts n beyond to in
-      let no_end = opening-no-end p.piece b.control p.is in
-      let opened = opening-opens p.piece b.control p.is in
+      let no_end = opening-no-end p.piece b.opened p.is in
+      let rises = opening-opens p.piece b.opened p.is in
       let e1 = count-more ends xs p.piece (k + 1) j (omega arith) p.at in
       let e2 = count-more opens xs p.piece (k + 1) j (omega arith) p.at in
       let z : one_if (ends p.piece) ≡ 0 = ap one_if no_end in
-      let o : one_if (opens p.piece) ≡ 1 = ap one_if opened in
+      let o : one_if (opens p.piece) ≡ 1 = ap one_if rises in
       omega (arith, e1, e2, z, o, first, second, count-split ends xs (k + 1) (j + 1) n (omega arith) (omega arith), count-split opens xs (k + 1) (j + 1) n (omega arith) (omega arith)))
       (λ le. a.fronts n from le)
       (cases_lt j n);
@@ -131,9 +131,9 @@ pub record Same (xs : List Role) (j m : ℕ) : Type 0 where
 -- what opens nothing is no opening
 pub shut-at : (xs : List Role) (x : Role) (i m : ℕ) → slice_get xs i ≡ Some x → opens x ≡ false → IsOpen xs i m → ⊥
 shut-at xs x i m at shut h =
-    let p = piece-of xs i h.control h.at in
+    let p = piece-of xs i h.opened h.at in
     let e : p.piece ≡ x = same-piece xs i p.piece x p.at at in
-    let t : true ≡ false = sym (opening-opens p.piece h.control p.is) ∙ ap opens e ∙ shut in cc
+    let t : true ≡ false = sym (opening-opens p.piece h.opened p.is) ∙ ap opens e ∙ shut in cc
 
 pub even-step : (xs : List Role) (x : Role) (i : ℕ) → slice_get xs i ≡ Some x → opens x ≡ false → ends x ≡ false → Even xs i (i + 1)
 even-step xs x i at o e =
@@ -143,7 +143,7 @@ even-step xs x i at o e =
       le = omega arith;
       balance = omega (arith, zo, ze, count-one ends xs x i at, count-one opens xs x i at);
       keeps = λ k h. record {
-        control = h.control;
+        opened = h.opened;
         at = h.at;
         before = let lt = h.before in omega arith;
         fronts = λ n from to. let lt = h.before in ⊎_elim
@@ -163,9 +163,9 @@ even-step xs x i at o e =
 pub same-ended : (xs : List Role) (j i : ℕ) → IsLast xs j i → ups xs (j + 1) i ≡ downs xs (j + 1) i → slice_get xs i ≡ Some (act_role closer) → Same xs j (i + 1)
 same-ended xs j i l over at =
     let lt = l.is_open.before in
-    let p = piece-of xs j l.is_open.control l.is_open.at in
-    let zo : one_if (ends p.piece) ≡ 0 = ap one_if (opening-no-end p.piece l.is_open.control p.is) in
-    let oo : one_if (opens p.piece) ≡ 1 = ap one_if (opening-opens p.piece l.is_open.control p.is) in
+    let p = piece-of xs j l.is_open.opened l.is_open.at in
+    let zo : one_if (ends p.piece) ≡ 0 = ap one_if (opening-no-end p.piece l.is_open.opened p.is) in
+    let oo : one_if (opens p.piece) ≡ 1 = ap one_if (opening-opens p.piece l.is_open.opened p.is) in
     let me = count-more ends xs (act_role closer) (j + 1) i (omega arith) at in
     let mo = count-more opens xs (act_role closer) (j + 1) i (omega arith) at in
     record {
@@ -173,7 +173,7 @@ same-ended xs j i l over at =
         le = omega arith;
         balance = omega (arith, over, zo, oo, me, mo, count-one ends xs p.piece j p.at, count-one opens xs p.piece j p.at, count-split ends xs j (j + 1) (i + 1) (omega arith) (omega arith), count-split opens xs j (j + 1) (i + 1) (omega arith) (omega arith));
         keeps = λ k h. let on = through xs k j i h l.is_open in record {
-          control = on.control;
+          opened = on.opened;
           at = on.at;
           before = let kt = on.before in omega arith;
           fronts = λ n from to. let kt = h.before in ⊎_elim
@@ -234,7 +234,7 @@ opened-keeps xs x i k at e h =
     let ze : one_if (ends x) ≡ 0 = ap one_if e in
     let lt = h.before in
     record {
-      control = h.control;
+      opened = h.opened;
       at = h.at;
       before = omega arith;
       fronts = λ n from to. ⊎_elim
@@ -245,9 +245,9 @@ opened-keeps xs x i k at e h =
           (cases_lt n (i + 1));
     }
 
-abbrev pub opened_new : (xs : List Role) (i : ℕ) (c : Control) → IsOpening (slice_get xs i) c → IsOpen xs i (i + 1)
+abbrev pub opened_new : (xs : List Role) (i : ℕ) (c : Opening) → IsOpening (slice_get xs i) c → IsOpen xs i (i + 1)
 opened_new xs i c at = record {
-  control = c;
+  opened = c;
   at = at;
   before = omega arith;
   fronts = λ n from to. let s : i + 1 ≡ n = omega arith in subst (λ m. downs xs (i + 1) m ≤ ups xs (i + 1) m) s (omega (arith, count-none ends xs (i + 1), count-none opens xs (i + 1)));

@@ -1,14 +1,14 @@
 -- Templates, levels and loops move with what is open.
-use Rattle.std.proofs.Common.{arith, ◌≡◌, ◌≢◌, ℕ, zero, suc, ◌+◌, ◌<◌, ◌≤◌, true, false, List, refl, sym, ap, ◌∙◌, subst, add-one, Option, Some, None, ⊎_elim}
+use Rattle.std.proofs.Common.{arith, ◌≡◌, ◌≢◌, ℕ, zero, suc, ◌+◌, ◌<◌, ◌≤◌, true, false, List, refl, sym, ap, ◌∙◌, subst, add-one, add-zero, Option, Some, None, ⊎_elim}
 use Rattle.std.specs.Prelude.{slice_get}
 use Rattle.std.proofs.lemmas.Bool.{cases_order, cases_lt}
 use Rattle.tmpl_grammar.specs.declared.action.Branch.{Branch}
 use Rattle.tmpl_syntax.specs.Place.Open.{ends, IsOpening, IsOpen, IsLast, IsElseBranchOf, HasElse, is_template, IsBody, IsTemplate, OfOneTemplate}
 use Rattle.tmpl_syntax.specs.Place.Body.{is_level, IsLoop, IsLevel, of_opening, of_else_branch, Levels, none, one, other}
 use Rattle.tmpl_syntax.specs.computed.Frames.{level_of}
-use Rattle.tmpl_syntax.proofs.OpenLemmas.{same-control, same-piece, cut, through, Even, Same, shut-at, opened-keeps, opened_new}
-use Rattle.tmpl_grammar.specs.declared.tree.Control.{Control}
-use Rattle.tmpl_grammar.specs.declared.tree.Control.TheVariants.{If, With, Range}
+use Rattle.tmpl_syntax.proofs.OpenLemmas.{same-opening, same-piece, cut, through, Even, Same, shut-at, opened-keeps, opened_new}
+use Rattle.tmpl_syntax.specs.declared.place.frame.Opening.{Opening}
+use Rattle.tmpl_syntax.specs.declared.place.frame.Opening.TheVariants as opened
 use Rattle.tmpl_syntax.specs.Place.Role.{Names, opener, bare_else, branch_else, Role, act_role}
 
 -- at two places the bodies of the same defines and blocks are open
@@ -17,7 +17,7 @@ pub record Alike (xs : List Role) (a b : ℕ) : Type 0 where
   pub back : (k : ℕ) → IsBody xs k b → IsBody xs k a
 
 pub move-body : (xs : List Role) (k a b : ℕ) → IsBody xs k a → IsOpen xs k b → IsBody xs k b
-move-body xs k a b h o = record { is_open = o; own = subst (λ c. is_template c ≡ true) (same-control xs k h.is_open.control o.control h.is_open.at o.at) h.own }
+move-body xs k a b h o = record { is_open = o; own = subst (λ c. is_template c ≡ true) (same-opening xs k h.is_open.opened o.opened h.is_open.at o.at) h.own }
 
 pub template-moves : (xs : List Role) (a b : ℕ) → Alike xs a b → (t : Option ℕ) → IsTemplate xs a t → IsTemplate xs b t
 template-moves xs a b e None h = λ j o. h j (e.back j o)
@@ -33,7 +33,7 @@ pub alike-even : (xs : List Role) (a b : ℕ) → Even xs a b → Alike xs a b
 alike-even xs a b e = record { to = λ k h. move-body xs k a b h (e.keeps k h.is_open); back = λ k h. move-body xs k b a h (e.only k h.is_open) }
 
 -- inside a control that is no define or block
-pub alike-last : (xs : List Role) (j i : ℕ) → (l : IsLast xs j i) → is_template l.is_open.control ≡ false → Alike xs j i
+pub alike-last : (xs : List Role) (j i : ℕ) → (l : IsLast xs j i) → is_template l.is_open.opened ≡ false → Alike xs j i
 alike-last xs j i l nt = record {
   to = λ k h. move-body xs k j i h (through xs k j i h.is_open l.is_open);
   back = λ k h. ⊎_elim
@@ -47,10 +47,10 @@ alike-last xs j i l nt = record {
     own : (k : ℕ) → k ≡ j → IsBody xs k i → ⊥
     own k e h =
         let b : IsBody xs j i = subst (λ n. IsBody xs n i) e h in
-        let c : b.is_open.control ≡ l.is_open.control = same-control xs j b.is_open.control l.is_open.control b.is_open.at l.is_open.at in
+        let c : b.is_open.opened ≡ l.is_open.opened = same-opening xs j b.is_open.opened l.is_open.opened b.is_open.at l.is_open.at in
         let t : true ≡ false = sym b.own ∙ ap is_template c ∙ nt in cc
 
-pub alike-opened : (xs : List Role) (x : Role) (i : ℕ) (c : Control) → slice_get xs i ≡ Some x → ends x ≡ false → IsOpening (slice_get xs i) c → is_template c ≡ false → Alike xs i (i + 1)
+pub alike-opened : (xs : List Role) (x : Role) (i : ℕ) (c : Opening) → slice_get xs i ≡ Some x → ends x ≡ false → IsOpening (slice_get xs i) c → is_template c ≡ false → Alike xs i (i + 1)
 alike-opened xs x i c at e o nt = record {
   to = λ k h. move-body xs k i (i + 1) h (opened-keeps xs x i k at e h.is_open);
   back = λ k h. ⊎_elim
@@ -62,14 +62,22 @@ alike-opened xs x i c at e o nt = record {
     own : (k : ℕ) → k ≡ i → IsBody xs k (i + 1) → ⊥
     own k s h =
         let b : IsBody xs i (i + 1) = subst (λ n. IsBody xs n (i + 1)) s h in
-        let d : b.is_open.control ≡ c = same-control xs i b.is_open.control c b.is_open.at o in
+        let d : b.is_open.opened ≡ c = same-opening xs i b.is_open.opened c b.is_open.at o in
         let t : true ≡ false = sym b.own ∙ ap is_template d ∙ nt in cc
+
+-- the body of a define or block is a template of its own, and no place before it is of that template
+pub template-opened : (xs : List Role) (i : ℕ) (c : Opening) → IsOpening (slice_get xs i) c → is_template c ≡ true → IsTemplate xs (i + 1) (Some i)
+template-opened xs i c o own = (record { is_open = opened_new xs i c o; own = own }, λ j lt b. let k = b.is_open.before in omega arith)
+
+pub template-apart : (xs : List Role) (j k i : ℕ) → IsBody xs j i → k ≤ j → OfOneTemplate xs k i → ⊥
+template-apart xs j k i b le (None, at, here) = here j b
+template-apart xs j k i b le (Some t, at, here) = let lt = at.0.is_open.before in here.1 j (omega arith) b
 
 -- levels
 
 pub level-moves : (xs : List Role) (k a b : ℕ) → ((q : ℕ) → q ≤ k → IsOpen xs q a → IsOpen xs q b) → IsLevel xs k a → IsLevel xs k b
-level-moves xs k a b f (of_opening o nt) = let n = f k (omega arith) o in of_opening n (ap is_level (same-control xs k n.control o.control n.at o.at) ∙ nt)
-level-moves xs k a b f (of_else_branch {j = j} t o nt) = let lt = t.belongs.is_open.before in let n = f j (omega arith) o in of_else_branch t n (ap is_level (same-control xs j n.control o.control n.at o.at) ∙ nt)
+level-moves xs k a b f (of_opening o nt) = let n = f k (omega arith) o in of_opening n (ap is_level (same-opening xs k n.opened o.opened n.at o.at) ∙ nt)
+level-moves xs k a b f (of_else_branch {j = j} t o nt) = let lt = t.belongs.is_open.before in let n = f j (omega arith) o in of_else_branch t n (ap is_level (same-opening xs j n.opened o.opened n.at o.at) ∙ nt)
 
 pub levels-unique : {xs : List Role} {i m n p : ℕ} → Levels xs i m n → Levels xs i m p → n ≡ p
 levels-unique none none = refl
@@ -118,12 +126,12 @@ levels-else xs i n e at r = levels-no xs (i + 1) i n (levels-even xs i n e r) fr
     fresh (of_opening o nt) = shut-at xs (act_role bare_else) i (i + 1) at refl o
     fresh (of_else_branch {j = q} t o nt) = no-else_branch xs (act_role bare_else) i q at (λ b p g. cc) t
 
-pub levels-else_branch : (xs : List Role) (i j n : ℕ) → Even xs i (i + 1) → (t : IsElseBranchOf xs j i) → is_level t.belongs.is_open.control ≡ true → Levels xs i i n → Levels xs (i + 1) (i + 1) (n + 1)
+pub levels-else_branch : (xs : List Role) (i j n : ℕ) → Even xs i (i + 1) → (t : IsElseBranchOf xs j i) → is_level t.belongs.is_open.opened ≡ true → Levels xs i i n → Levels xs (i + 1) (i + 1) (n + 1)
 levels-else_branch xs i j n e t nt r =
     let o = e.keeps j t.belongs.is_open in
-    levels-yes xs (i + 1) i n (levels-even xs i n e r) (of_else_branch t o (ap is_level (same-control xs j o.control t.belongs.is_open.control o.at t.belongs.is_open.at) ∙ nt))
+    levels-yes xs (i + 1) i n (levels-even xs i n e r) (of_else_branch t o (ap is_level (same-opening xs j o.opened t.belongs.is_open.opened o.at t.belongs.is_open.at) ∙ nt))
 
-pub levels-opened : (xs : List Role) (i n : ℕ) (c : Control) (p : Names) → slice_get xs i ≡ Some (act_role (opener c p)) → IsOpening (slice_get xs i) c → Levels xs i i n → Levels xs (i + 1) (i + 1) (n + level_of c)
+pub levels-opened : (xs : List Role) (i n : ℕ) (c : Opening) (p : Names) → slice_get xs i ≡ Some (act_role (opener c p)) → IsOpening (slice_get xs i) c → Levels xs i i n → Levels xs (i + 1) (i + 1) (n + level_of c)
 levels-opened xs i n c p at o r = go c o
   where
     below : Levels xs (i + 1) i n
@@ -131,13 +139,17 @@ levels-opened xs i n c p at o r = go c o
         (λ k lt. level-moves xs k i (i + 1) (λ q le. opened-keeps xs (act_role (opener c p)) i q at refl))
         (λ k lt. level-moves xs k (i + 1) i (λ q le. cut xs q i (i + 1) (omega arith) (omega arith))) r
 
-    yes : (d : Control) → IsOpening (slice_get xs i) d → is_level d ≡ true → Levels xs (i + 1) (i + 1) (n + 1)
+    yes : (d : Opening) → IsOpening (slice_get xs i) d → is_level d ≡ true → Levels xs (i + 1) (i + 1) (n + 1)
     yes d od nt = levels-yes xs (i + 1) i n below (of_opening (opened_new xs i d od) nt)
 
-    go : (d : Control) → IsOpening (slice_get xs i) d → Levels xs (i + 1) (i + 1) (n + level_of d)
-    go If od = yes If od refl
-    go With od = yes With od refl
-    go Range od = yes Range od refl
+    no : (d : Opening) → IsOpening (slice_get xs i) d → is_level d ≡ false → IsLevel xs i (i + 1) → ⊥
+    no d od nt (of_opening h is) = let t : true ≡ false = sym is ∙ ap is_level (same-opening xs i h.opened d h.at od) ∙ nt in cc
+    no d od nt (of_else_branch {j = q} t h is) = no-else_branch xs (act_role (opener c p)) i q at (λ b r g. cc) t
+
+    go : (d : Opening) → IsOpening (slice_get xs i) d → Levels xs (i + 1) (i + 1) (n + level_of d)
+    go (opened.Control d) od = yes (opened.Control d) od refl
+    go opened.Define od = subst (λ k. Levels xs (i + 1) (i + 1) k) (sym (add-zero n)) (levels-no xs (i + 1) i n below (no opened.Define od refl))
+    go opened.Block od = yes opened.Block od refl
 
 -- loops
 
@@ -147,7 +159,7 @@ InLoop xs i = (j : ℕ) × IsLoop xs j i
 pub loop-moves : (xs : List Role) (q a b : ℕ) → Alike xs a b → IsOpen xs q b → (HasElse xs q b → HasElse xs q a) → IsLoop xs q a → IsLoop xs q b
 loop-moves xs q a b e o h l = record {
   is_open = o;
-  range = same-control xs q o.control l.is_open.control o.at l.is_open.at ∙ l.range;
+  range = same-opening xs q o.opened l.is_open.opened o.at l.is_open.at ∙ l.range;
   template = one-moves xs q a b e l.template;
   bare = λ g. l.bare (h g);
 }

@@ -2,25 +2,25 @@
 use Rattle.std.proofs.Common.{arith, ◌≡◌, ◌≢◌, ℕ, ◌+◌, ◌<◌, true, false, List, [], ◌∷◌, ◌++◌, take, refl, sym, subst, length, Some, None, ⊎_elim}
 use Rattle.std.specs.Prelude.{slice_get}
 use Rattle.std.proofs.lemmas.Bool.{cases_lt, and_parts}
-use Rattle.std.proofs.lemmas.List.{append-nil, length-take-le}
+use Rattle.std.proofs.lemmas.List.{length-take-le}
 use Rattle.tmpl_syntax.specs.declared.fault.Fault.{Fault}
 use Rattle.tmpl_syntax.specs.declared.fault.Fault.TheVariants.{Unreadable, NotAnAction, OutOfPlace, NestedTooDeeply, UndeclaredVariable}
 use Rattle.tmpl_syntax.specs.declared.place.frame.Frame.{Frame}
 use Rattle.tmpl_syntax.specs.Place.Body.{joins, IsMisplaced, none, IsTooDeep, IsUndeclared, Applies, unreadable, unread, misplaced, too_deep, undeclared, rank, NoneRefused, IsRefused, Judged}
-use Rattle.tmpl_syntax.specs.computed.Frames.{top, takes_else, is_placed, is_too_deep, names_at, seen_at, added, added_by, frames_after, frames_past, elsed, branched, at_end}
+use Rattle.tmpl_syntax.specs.computed.Frames.{top, takes_else, is_placed, is_too_deep, names_at, seen_at, frames_after, frames_past, branched, at_end, Known, with_inner, known_after, known_past, none_known}
 use Rattle.tmpl_syntax.proofs.FaultLemmas.{Tells, TellsRole, in-nothing}
 use Rattle.tmpl_syntax.proofs.OpenLemmas.{same-piece}
 use Rattle.tmpl_syntax.proofs.StandLemmas.{Here, Stands, here-of}
 use Rattle.tmpl_syntax.proofs.StepLemmas.{stands-opened}
 use Rattle.tmpl_syntax.proofs.ElseBranchLemmas.{stands-elsed, stands-branched, stands-ended, stands-declared, stands-still}
-use Rattle.tmpl_syntax.proofs.JudgeLemmas.{unplaced, placed, deep, shallow, known, unknown}
-use Rattle.tmpl_syntax.specs.Place.Role.{Name, Act, plain, opener, bare_else, branch_else, closer, jump, Role, text_role, unreadable_role, unread_role, act_role}
+use Rattle.tmpl_syntax.proofs.JudgeLemmas.{unplaced, placed, deep, shallow, none-unknown, unknown}
+use Rattle.tmpl_syntax.specs.Place.Role.{Act, plain, opener, bare_else, branch_else, closer, jump, Role, text_role, unreadable_role, unread_role, act_role}
 
-pub record Sound (xs : List Role) (i : ℕ) (names : List Name) (fs : List Frame) : Type 0 where
-  pub stands : Stands xs i names fs
+pub record Sound (xs : List Role) (i : ℕ) (known : Known) (fs : List Frame) : Type 0 where
+  pub stands : Stands xs i known fs
   pub none_refused : NoneRefused xs i
 
-pub sound-start : (xs : List Role) → Sound xs 0 [] []
+pub sound-start : (xs : List Role) → Sound xs 0 none_known []
 sound-start xs = record {
   stands = (
     λ j o. let b = o.before in omega arith,
@@ -55,9 +55,9 @@ no-deep xs i x at ne (too_deep {a = a} e m) = ne a (same-piece xs i x (act_role 
 no-undeclared : (xs : List Role) (i : ℕ) (x : Role) → slice_get xs i ≡ Some x → ((a : Act) → x ≡ act_role a → IsUndeclared xs i a → ⊥) → Applies xs i UndeclaredVariable → ⊥
 no-undeclared xs i x at ne (undeclared {a = a} e m) = ne a (same-piece xs i x (act_role a) at e) m
 
-module _ (xs : List Role) (i : ℕ) (names : List Name) (fs : List Frame) (s : Sound xs i names fs) where
-  h : Here xs i (top fs) names
-  h = here-of xs i names fs s.stands
+module _ (xs : List Role) (i : ℕ) (known : Known) (fs : List Frame) (s : Sound xs i known fs) where
+  h : Here xs i (top fs) known.inner
+  h = here-of xs i known fs s.stands
 
   fine-text : (x : Role) → slice_get xs i ≡ Some x → ((a : Act) → x ≢ act_role a) → x ≢ unreadable_role → x ≢ unread_role → (f : Fault) → Applies xs i f → ⊥
   fine-text x at nr nu nd Unreadable = no-unreadable xs i x at nu
@@ -71,22 +71,22 @@ module _ (xs : List Role) (i : ℕ) (names : List Name) (fs : List Frame) (s : S
     own P b e p = let g : a ≡ b = cc in subst P (sym g) p
 
     not-misplaced : is_placed a (top fs) ≡ true → Applies xs i OutOfPlace → ⊥
-    not-misplaced e = no-misplaced xs i (act_role a) at (λ b g m. placed xs i names fs a s.stands e (own (IsMisplaced xs i) b g m))
+    not-misplaced e = no-misplaced xs i (act_role a) at (λ b g m. placed xs i known fs a s.stands e (own (IsMisplaced xs i) b g m))
 
     not-deep : is_too_deep a (top fs) ≡ false → Applies xs i NestedTooDeeply → ⊥
-    not-deep e = no-deep xs i (act_role a) at (λ b g m. shallow xs i a (top fs) names h e (own (IsTooDeep xs i) b g m))
+    not-deep e = no-deep xs i (act_role a) at (λ b g m. shallow xs i a (top fs) known.inner h e (own (IsTooDeep xs i) b g m))
 
-    fine-action : Tells a (top fs) (names_at a (top fs) names) None → (f : Fault) → Applies xs i f → ⊥
+    fine-action : Tells a (top fs) (names_at a (top fs) known.inner) None → (f : Fault) → Applies xs i f → ⊥
     fine-action e Unreadable = no-unreadable xs i (act_role a) at (λ g. cc)
     fine-action e NotAnAction = no-unread xs i (act_role a) at (λ g. cc)
     fine-action e OutOfPlace = not-misplaced e.0
     fine-action e NestedTooDeeply = not-deep e.1
-    fine-action e UndeclaredVariable = no-undeclared xs i (act_role a) at (λ b g m. known xs i names fs s.stands a at e.0 e.2 (own (IsUndeclared xs i) b g m))
+    fine-action e UndeclaredVariable = no-undeclared xs i (act_role a) at (λ b g m. none-unknown xs i known fs s.stands a at e.0 e.2 (own (IsUndeclared xs i) b g m))
 
-    refused-action : (fault : Fault) → Tells a (top fs) (names_at a (top fs) names) (Some fault) → IsRefused xs i fault
+    refused-action : (fault : Fault) → Tells a (top fs) (names_at a (top fs) known.inner) (Some fault) → IsRefused xs i fault
     refused-action Unreadable e = absurd e
     refused-action NotAnAction e = absurd e
-    refused-action OutOfPlace e = record { applies = misplaced at (unplaced xs i names fs a s.stands e); first_fault = first; first_item = s.none_refused }
+    refused-action OutOfPlace e = record { applies = misplaced at (unplaced xs i known fs a s.stands e); first_fault = first; first_item = s.none_refused }
       where
         first : (f : Fault) → rank f < rank OutOfPlace → Applies xs i f → ⊥
         first Unreadable lt = no-unreadable xs i (act_role a) at (λ g. cc)
@@ -94,7 +94,7 @@ module _ (xs : List Role) (i : ℕ) (names : List Name) (fs : List Frame) (s : S
         first OutOfPlace lt = absurd (omega arith)
         first NestedTooDeeply lt = absurd (omega arith)
         first UndeclaredVariable lt = absurd (omega arith)
-    refused-action NestedTooDeeply e = record { applies = too_deep at (deep xs i a (top fs) names h e.1); first_fault = first; first_item = s.none_refused }
+    refused-action NestedTooDeeply e = record { applies = too_deep at (deep xs i a (top fs) known.inner h e.1); first_fault = first; first_item = s.none_refused }
       where
         first : (f : Fault) → rank f < rank NestedTooDeeply → Applies xs i f → ⊥
         first Unreadable lt = no-unreadable xs i (act_role a) at (λ g. cc)
@@ -102,7 +102,7 @@ module _ (xs : List Role) (i : ℕ) (names : List Name) (fs : List Frame) (s : S
         first OutOfPlace lt = not-misplaced e.0
         first NestedTooDeeply lt = absurd (omega arith)
         first UndeclaredVariable lt = absurd (omega arith)
-    refused-action UndeclaredVariable e = record { applies = undeclared at (unknown xs i names fs s.stands a at e.0 e.2); first_fault = first; first_item = s.none_refused }
+    refused-action UndeclaredVariable e = record { applies = undeclared at (unknown xs i known fs s.stands a at e.0 e.2); first_fault = first; first_item = s.none_refused }
       where
         first : (f : Fault) → rank f < rank UndeclaredVariable → Applies xs i f → ⊥
         first Unreadable lt = no-unreadable xs i (act_role a) at (λ g. cc)
@@ -111,7 +111,7 @@ module _ (xs : List Role) (i : ℕ) (names : List Name) (fs : List Frame) (s : S
         first NestedTooDeeply lt = not-deep e.1
         first UndeclaredVariable lt = absurd (omega arith)
 
-  pub refused-here : (x : Role) (fault : Fault) → slice_get xs i ≡ Some x → TellsRole x (top fs) (seen_at x (top fs) names) (Some fault) → IsRefused xs i fault
+  pub refused-here : (x : Role) (fault : Fault) → slice_get xs i ≡ Some x → TellsRole x (top fs) (seen_at x (top fs) known.inner) (Some fault) → IsRefused xs i fault
   refused-here text_role fault at e = let g : Some fault ≡ None = e in cc
   refused-here (act_role a) fault at e = refused-action a at fault e
   refused-here unreadable_role fault at e = let g : fault ≡ Unreadable = cc in subst (IsRefused xs i) (sym g) (record { applies = unreadable at; first_fault = λ f lt. absurd (omega arith); first_item = s.none_refused })
@@ -124,36 +124,37 @@ module _ (xs : List Role) (i : ℕ) (names : List Name) (fs : List Frame) (s : S
       first NestedTooDeeply lt = absurd (omega arith)
       first UndeclaredVariable lt = absurd (omega arith)
 
-  fine-here : (x : Role) → slice_get xs i ≡ Some x → TellsRole x (top fs) (seen_at x (top fs) names) None → (f : Fault) → Applies xs i f → ⊥
+  fine-here : (x : Role) → slice_get xs i ≡ Some x → TellsRole x (top fs) (seen_at x (top fs) known.inner) None → (f : Fault) → Applies xs i f → ⊥
   fine-here text_role at e = fine-text text_role at (λ a g. cc) (λ g. cc) (λ g. cc)
   fine-here (act_role a) at e = fine-action a at e
   fine-here unreadable_role at e = let g : None ≡ Some Unreadable = e in cc
   fine-here unread_role at e = let g : None ≡ Some NotAnAction = e in cc
 
-  more : (x : Role) → slice_get xs i ≡ Some x → TellsRole x (top fs) (seen_at x (top fs) names) None → NoneRefused xs (i + 1)
+  more : (x : Role) → slice_get xs i ≡ Some x → TellsRole x (top fs) (seen_at x (top fs) known.inner) None → NoneRefused xs (i + 1)
   more x at e k f lt a = ⊎_elim (λ low. s.none_refused k f low a) (λ ge. let g : k ≡ i = omega arith in fine-here x at e f (subst (λ n. Applies xs n f) g a)) (cases_lt k i)
 
-no-more : (xs : List Role) (i : ℕ) (names : List Name) (fs : List Frame) → Stands xs i names fs → Stands xs i (names ++ []) fs
-no-more xs i names fs s = subst (λ l. Stands xs i l fs) (sym (append-nil names)) s
-
-after : (xs : List Role) (i : ℕ) (names : List Name) (fs : List Frame) (a : Act) → slice_get xs i ≡ Some (act_role a) → is_placed a (top fs) ≡ true → Stands xs i names fs → Stands xs (i + 1) (names_at a (top fs) names ++ added a) (frames_after a fs (length (names_at a (top fs) names)))
-after xs i names fs (plain p) at e s = stands-declared xs i names p fs at s
-after xs i names fs (opener c p) at e s = stands-opened xs i names c p fs at s
-after xs i names [] bare_else at e s = let g : false ≡ true = e in cc
-after xs i names (f ∷ fs) bare_else at e s = no-more xs (i + 1) (take f.part names) (elsed f ∷ fs) (stands-elsed xs i names f fs at e s)
-after xs i names [] (branch_else b p) at e s = let g : false ≡ true = e in cc
-after xs i names (f ∷ fs) (branch_else b p) at e s = let k = and_parts (takes_else (Some f)) (joins b f.control) e in let l = length-take-le f.part names s.2.within.parted in subst (λ n. Stands xs (i + 1) (take f.part names ++ p.declares) (branched f (n + length p.declares) ∷ fs)) (sym l) (stands-branched xs i names f fs b p at k.0 k.1 s)
-after xs i names [] closer at e s = let g : false ≡ true = e in cc
-after xs i names (f ∷ fs) closer at e s = no-more xs (i + 1) (take f.start names) fs (stands-ended xs i names f fs at s)
-after xs i names fs jump at e s = no-more xs (i + 1) names fs (stands-still xs i names (act_role jump) fs at refl refl (λ g. cc) (λ q g. cc) (λ c q g. cc) (λ b q g. cc) s)
+after : (xs : List Role) (i : ℕ) (known : Known) (fs : List Frame) (a : Act) → slice_get xs i ≡ Some (act_role a) → is_placed a (top fs) ≡ true → Stands xs i known fs → Stands xs (i + 1) (known_after a (top fs) (with_inner known (names_at a (top fs) known.inner))) (frames_after a fs (length (names_at a (top fs) known.inner)))
+after xs i known fs (plain p) at e s = stands-declared xs i known p fs at s
+after xs i known fs (opener c p) at e s = stands-opened xs i known p fs s c at
+after xs i known [] bare_else at e s = let g : false ≡ true = e in cc
+after xs i known (f ∷ fs) bare_else at e s = stands-elsed xs i known f fs at e s
+after xs i known [] (branch_else b p) at e s = let g : false ≡ true = e in cc
+after xs i known (f ∷ fs) (branch_else b p) at e s =
+    let names = take f.part known.inner in
+    let k = and_parts (takes_else (Some f)) (joins b f.opening) e in
+    let l = length-take-le f.part known.inner s.2.within.parted in
+    subst (λ n. Stands xs (i + 1) (with_inner known (names ++ p.declares)) (branched f (n + length p.declares) ∷ fs)) (sym l) (stands-branched xs i known f fs b p at k.0 k.1 s)
+after xs i known [] closer at e s = let g : false ≡ true = e in cc
+after xs i known (f ∷ fs) closer at e s = stands-ended xs i known f fs at s
+after xs i known fs jump at e s = stands-still xs i known (act_role jump) fs at refl refl (λ g. cc) (λ q g. cc) (λ c q g. cc) (λ b q g. cc) s
 
 -- what stands after an item that is not refused
-pub sound-past : (xs : List Role) (i : ℕ) (names : List Name) (fs : List Frame) (x : Role) → slice_get xs i ≡ Some x → TellsRole x (top fs) (seen_at x (top fs) names) None → Sound xs i names fs → Sound xs (i + 1) (seen_at x (top fs) names ++ added_by x) (frames_past x fs (length (seen_at x (top fs) names)))
-sound-past xs i names fs text_role at e s = record { stands = no-more xs (i + 1) names fs (stands-still xs i names text_role fs at refl refl (λ g. cc) (λ q g. cc) (λ c q g. cc) (λ b q g. cc) s.stands); none_refused = more xs i names fs s text_role at e }
-sound-past xs i names fs unreadable_role at e s = let g : None ≡ Some Unreadable = e in cc
-sound-past xs i names fs unread_role at e s = let g : None ≡ Some NotAnAction = e in cc
-sound-past xs i names fs (act_role a) at e s = record { stands = after xs i names fs a at e.0 s.stands; none_refused = more xs i names fs s (act_role a) at e }
+pub sound-past : (xs : List Role) (i : ℕ) (known : Known) (fs : List Frame) (x : Role) → slice_get xs i ≡ Some x → TellsRole x (top fs) (seen_at x (top fs) known.inner) None → Sound xs i known fs → Sound xs (i + 1) (known_past x (top fs) (with_inner known (seen_at x (top fs) known.inner))) (frames_past x fs (length (seen_at x (top fs) known.inner)))
+sound-past xs i known fs text_role at e s = record { stands = stands-still xs i known text_role fs at refl refl (λ g. cc) (λ q g. cc) (λ c q g. cc) (λ b q g. cc) s.stands; none_refused = more xs i known fs s text_role at e }
+sound-past xs i known fs unreadable_role at e s = let g : None ≡ Some Unreadable = e in cc
+sound-past xs i known fs unread_role at e s = let g : None ≡ Some NotAnAction = e in cc
+sound-past xs i known fs (act_role a) at e s = record { stands = after xs i known fs a at e.0 s.stands; none_refused = more xs i known fs s (act_role a) at e }
 
-pub sound-end : (xs : List Role) (i : ℕ) (names : List Name) (fs : List Frame) → i ≡ length xs → Sound xs i names fs → Judged xs (at_end fs)
-sound-end xs i names [] e s = let all : Sound xs (length xs) names [] = subst (λ n. Sound xs n names []) e s in (all.none_refused, all.stands.0)
-sound-end xs i names (f ∷ fs) e s = let all : Sound xs (length xs) names (f ∷ fs) = subst (λ n. Sound xs n names (f ∷ fs)) e s in (all.none_refused, all.stands.1, all.stands.2.last.is_open)
+pub sound-end : (xs : List Role) (i : ℕ) (known : Known) (fs : List Frame) → i ≡ length xs → Sound xs i known fs → Judged xs (at_end fs)
+sound-end xs i known [] e s = let all : Sound xs (length xs) known [] = subst (λ n. Sound xs n known []) e s in (all.none_refused, all.stands.0)
+sound-end xs i known (f ∷ fs) e s = let all : Sound xs (length xs) known (f ∷ fs) = subst (λ n. Sound xs n known (f ∷ fs)) e s in (all.none_refused, all.stands.1, all.stands.2.last.is_open)

@@ -9,12 +9,14 @@ use Rattle.std.proofs.lemmas.List.Elements.{Contains-append_left, Contains-appen
 use Rattle.tmpl_syntax.specs.declared.place.frame.Frame.{Frame}
 use Rattle.tmpl_syntax.specs.Place.Open.{opens, ends, IsOpening, NothingOpen, IsLast, IsElseOf, HasElse, is_template, IsTemplate}
 use Rattle.tmpl_syntax.specs.Place.Body.{IsLoop, Levels}
-use Rattle.tmpl_syntax.specs.computed.Frames.{top, loops, in_loop, levels, heading, entered}
-use Rattle.tmpl_syntax.proofs.FaultLemmas.{IsWithin}
-use Rattle.tmpl_syntax.proofs.OpenLemmas.{ups, downs, count-split, same-control, same-piece, cut, Same, opened-keeps, opened_new}
-use Rattle.tmpl_syntax.proofs.PlaceLemmas.{alike-back, alike-even, alike-opened, template-moves, levels-same, levels-opened, InLoop, loop-moves, else_before, else-same, loop-same, loop-same-back}
+use Rattle.tmpl_syntax.specs.computed.Frames.{top, loops, in_loop, levels, entered, Known, with_inner, closed_if, closed_names}
+use Rattle.tmpl_syntax.proofs.FaultLemmas.{IsWithin, in-nothing}
+use Rattle.tmpl_syntax.proofs.OpenLemmas.{ups, downs, count-split, same-opening, same-piece, cut, Same, opened-keeps, opened_new}
+use Rattle.tmpl_syntax.proofs.PlaceLemmas.{alike-back, alike-even, alike-opened, template-moves, template-opened, template-apart, levels-same, levels-opened, InLoop, loop-moves, else_before, else-same, loop-same, loop-same-back}
 use Rattle.tmpl_syntax.proofs.ScopeLemmas.{Brought, brought-same, brought-same-back, brought-opened, brought-header, brought-opened-back}
 use Rattle.tmpl_syntax.proofs.ElsePartLemmas.{Part, part-later, part-sooner}
+use Rattle.tmpl_syntax.specs.declared.place.frame.Opening.{Opening}
+use Rattle.tmpl_syntax.specs.declared.place.frame.Opening.TheVariants as opened
 use Rattle.tmpl_grammar.specs.declared.tree.Control.{Control}
 use Rattle.tmpl_grammar.specs.declared.tree.Control.TheVariants.{If, With, Range}
 use Rattle.tmpl_syntax.specs.Place.Role.{Name, Names, opener, bare_else, Role, act_role}
@@ -30,26 +32,33 @@ pub record Here (xs : List Role) (i : ℕ) (t : Option Frame) (names : List Name
 
 -- the frame stands for the opening at j, the last one open at i
 pub record Stood (xs : List Role) (i : ℕ) (names : List Name) (f : Frame) (j : ℕ) : Type 0 where
-  pub control : IsOpening (slice_get xs j) f.control
+  pub opened : IsOpening (slice_get xs j) f.opening
   pub last : IsLast xs j i
   pub over : ups xs (j + 1) i ≡ downs xs (j + 1) i
   pub has : Decides f.has_else (HasElse xs j i)
   pub around : Decides f.around (InLoop xs j)
   pub within : IsWithin f (length names)
-  pub to : is_template f.control ≡ false → (n : Name) → Contains (take f.part names) n → Part xs j i n
-  pub back : is_template f.control ≡ false → (n : Name) → Part xs j i n → Contains (take f.part names) n
+  pub to : is_template f.opening ≡ false → (n : Name) → Contains (take f.part names) n → Part xs j i n
+  pub back : is_template f.opening ≡ false → (n : Name) → Part xs j i n → Contains (take f.part names) n
+
+-- what is known again behind the end of the frame
+abbrev pub closed_at : Frame → Known → Known
+closed_at f known = closed_names (Some f) (with_inner known (take f.start known.inner))
 
 -- .. and the frames below it stand as they stood at j
-abbrev pub Stands : List Role → ℕ → List Name → List Frame → Type 0
-Stands xs i names [] = NothingOpen xs i × Here xs i None names
-Stands xs i names (f ∷ fs) = Here xs i (Some f) names × (j : ℕ) × Stood xs i names f j × Stands xs j (take f.start names) fs
+abbrev pub Stands : List Role → ℕ → Known → List Frame → Type 0
+Stands xs i known [] = NothingOpen xs i × Here xs i None known.inner
+Stands xs i known (f ∷ fs) = Here xs i (Some f) known.inner × (j : ℕ) × Stood xs i known.inner f j × Stands xs j (closed_at f known) fs
 
-pub here-of : (xs : List Role) (i : ℕ) (names : List Name) (fs : List Frame) → Stands xs i names fs → Here xs i (top fs) names
-here-of xs i names [] s = s.1
-here-of xs i names (f ∷ fs) s = s.0
+pub here-of : (xs : List Role) (i : ℕ) (known : Known) (fs : List Frame) → Stands xs i known fs → Here xs i (top fs) known.inner
+here-of xs i known [] s = s.1
+here-of xs i known (f ∷ fs) s = s.0
 
 -- to a place where the same stands, with what was declared on the way
-module _ (xs : List Role) (j m : ℕ) (s : Same xs j m) (names ds : List Name) (new : (n : Name) → Contains ds n → Brought xs m m n) (old : (n : Name) → (b : Brought xs m m n) → j ≤ b.by → Contains ds n) where
+module _ (xs : List Role) (j m : ℕ) (s : Same xs j m) (known : Known) (ds : List Name) (new : (n : Name) → Contains ds n → Brought xs m m n) (old : (n : Name) → (b : Brought xs m m n) → j ≤ b.by → Contains ds n) where
+  abbrev names : List Name
+  names = known.inner
+
   here-moves : (t : Option Frame) → Here xs j t names → Here xs m t (names ++ ds)
   here-moves t h = record {
     template = h.template;
@@ -70,7 +79,7 @@ module _ (xs : List Role) (j m : ℕ) (s : Same xs j m) (names ds : List Name) (
       let le = s.even.le in
       let e : take f.part (names ++ ds) ≡ take f.part names = take-append-le f.part names ds h.within.parted in
       record {
-        control = h.control;
+        opened = h.opened;
         last = record { is_open = s.even.keeps q o; last = λ k qk ok. h.last.last k qk (s.even.only k ok) };
         over = omega (arith, h.over, s.even.balance, count-split opens xs (q + 1) j m (omega arith) le, count-split ends xs (q + 1) j m (omega arith) le);
         has = Decides-like f.has_else (else_before xs q j m le) (else-same xs q j m s o) h.has;
@@ -80,15 +89,20 @@ module _ (xs : List Role) (j m : ℕ) (s : Same xs j m) (names ds : List Name) (
         back = λ own n p. subst (λ l. Contains l n) (sym e) (h.back own n (part-sooner xs q j m n (λ k from to. s.no_branch q k from to o) p));
       }
 
-  pub stands-moves : (fs : List Frame) → Stands xs j names fs → Stands xs m (names ++ ds) fs
+  pub stands-moves : (fs : List Frame) → Stands xs j known fs → Stands xs m (with_inner known (names ++ ds)) fs
   stands-moves [] h = (λ k o. h.0 k (s.even.only k o), here-moves None h.1)
   stands-moves (f ∷ fs) h =
       let w = h.2.within in
       let e : take f.start (names ++ ds) ≡ take f.start names = take-append-le f.start names ds (let p = w.parted in let q = w.started in omega arith) in
-      (here-moves (Some f) h.0, h.1, stood-moves f h.1 h.2, subst (λ l. Stands xs h.1 l fs) (sym e) h.3)
+      (here-moves (Some f) h.0, h.1, stood-moves f h.1 h.2, subst (λ l. Stands xs h.1 (closed_if (is_template f.opening) (with_inner known l)) fs) (sym e) h.3)
+
+loops-template : (c : Opening) (has around : Bool) → is_template c ≡ true → loops c has around ≡ false
+loops-template (opened.Control c) has around own = let g : false ≡ true = own in cc
+loops-template opened.Define has around own = refl
+loops-template opened.Block has around own = refl
 
 -- an opening
-module _ (xs : List Role) (i : ℕ) (names : List Name) (c : Control) (p : Names) (at : slice_get xs i ≡ Some (act_role (opener c p))) (o : IsOpening (slice_get xs i) c) (t : Option Frame) (h : Here xs i t names) where
+module _ (xs : List Role) (i : ℕ) (names : List Name) (c : Opening) (p : Names) (at : slice_get xs i ≡ Some (act_role (opener c p))) (o : IsOpening (slice_get xs i) c) (t : Option Frame) (h : Here xs i t names) where
   no-else-here : (q : ℕ) → IsElseOf xs q i → ⊥
   no-else-here q e = let g : act_role (opener c p) ≡ act_role bare_else = same-piece xs i (act_role (opener c p)) (act_role bare_else) at e.at in cc
 
@@ -101,48 +115,59 @@ module _ (xs : List Role) (i : ℕ) (names : List Name) (c : Control) (p : Names
   loop-on : is_template c ≡ false → InLoop xs i → InLoop xs (i + 1)
   loop-on own l = (l.0, loop-moves xs l.0 i (i + 1) (alike-opened xs (act_role (opener c p)) i c at refl o own) (opened-keeps xs (act_role (opener c p)) i l.0 at refl l.1.is_open) (has-before l.0) l.1)
 
-  loop-off : is_template c ≡ false → c ≢ Range → InLoop xs (i + 1) → InLoop xs i
+  loop-off : is_template c ≡ false → c ≢ opened.Control Range → InLoop xs (i + 1) → InLoop xs i
   loop-off own nr l = ⊎_elim
       (λ lt. (l.0, loop-moves xs l.0 (i + 1) i (alike-back xs i (i + 1) (alike-opened xs (act_role (opener c p)) i c at refl o own)) (cut xs l.0 i (i + 1) lt (omega arith) l.1.is_open) (else_before xs l.0 i (i + 1) (omega arith)) l.1))
       (λ ge. let b = l.1.is_open.before in let s : l.0 ≡ i = omega arith in
       let w : IsLoop xs i (i + 1) = subst (λ k. IsLoop xs k (i + 1)) s l.1 in
-      absurd (nr (same-control xs i c w.is_open.control o w.is_open.at ∙ w.range)))
+      absurd (nr (same-opening xs i c w.is_open.opened o w.is_open.at ∙ w.range)))
       (cases_lt l.0 i)
 
-  here-plain : (l : Bool) → is_template c ≡ false → Decides l (InLoop xs (i + 1)) → l ≡ loops c false (in_loop t) → heading c p.declares ≡ p.declares → Here xs (i + 1) (Some (entered c p t (length names))) (names ++ heading c p.declares)
-  here-plain l own d dl eh = record {
-    template = h.template;
-    is_template_here = template-moves xs i (i + 1) (alike-opened xs (act_role (opener c p)) i c at refl o own) h.template h.is_template_here;
-    levels_are = levels-opened xs i (levels t) c p at o h.levels_are;
-    looped = subst (λ b. Decides b (InLoop xs (i + 1))) dl d;
-    to = λ n k. to n k;
-    back = λ n b. back n b;
-  }
-    where
-      to : (n : Name) → Contains (names ++ heading c p.declares) n → Brought xs (i + 1) (i + 1) n
-      to n k = ⊎_elim
+  module _ (own : is_template c ≡ false) where
+    here-plain : (l : Bool) → Decides l (InLoop xs (i + 1)) → l ≡ loops c false (in_loop t) → Here xs (i + 1) (Some (entered c p t (length names))) (names ++ p.declares)
+    here-plain l d dl = record {
+      template = h.template;
+      is_template_here = template-moves xs i (i + 1) (alike-opened xs (act_role (opener c p)) i c at refl o own) h.template h.is_template_here;
+      levels_are = levels-opened xs i (levels t) c p at o h.levels_are;
+      looped = subst (λ b. Decides b (InLoop xs (i + 1))) dl d;
+      to = λ n k. ⊎_elim
           (λ l. brought-opened xs i n c p at o own (h.to n l))
-          (λ r. brought-header xs i n h.template c p at o own h.is_template_here (subst (λ z. Contains z n) eh r))
-          (Contains-append_cases names (heading c p.declares) n k)
+          (λ r. brought-header xs i n h.template c p at o own h.is_template_here r)
+          (Contains-append_cases names p.declares n k);
+      back = λ n b. ⊎_elim
+          (λ old. Contains-append_left names p.declares n (h.back n old))
+          (λ new. Contains-append_right names p.declares n new)
+          (brought-opened-back xs i n c p at o own b);
+    }
 
-      back : (n : Name) → Brought xs (i + 1) (i + 1) n → Contains (names ++ heading c p.declares) n
-      back n b = ⊎_elim
-          (λ old. Contains-append_left names (heading c p.declares) n (h.back n old))
-          (λ new. Contains-append_right names (heading c p.declares) n (subst (λ z. Contains z n) (sym eh) new))
-          (brought-opened-back xs i n c p at o own b)
+    new-loop : c ≡ opened.Control Range → InLoop xs (i + 1)
+    new-loop e = (
+      i,
+      record {
+        is_open = opened_new xs i c o;
+        range = e;
+        template = (h.template, h.is_template_here, template-moves xs i (i + 1) (alike-opened xs (act_role (opener c p)) i c at refl o own) h.template h.is_template_here);
+        bare = none-of-it;
+      },
+    )
 
-  pub here-opened : (d : Control) → c ≡ d → Here xs (i + 1) (Some (entered c p t (length names))) (names ++ heading c p.declares)
-  here-opened If e = here-plain (in_loop t) (ap is_template e) (Decides-like (in_loop t) (loop-on (ap is_template e)) (loop-off (ap is_template e) (λ r. let g : If ≡ Range = sym e ∙ r in cc)) h.looped) (ap (λ z. loops z false (in_loop t)) (sym e)) (ap (λ z. heading z p.declares) e)
-  here-opened With e = here-plain (in_loop t) (ap is_template e) (Decides-like (in_loop t) (loop-on (ap is_template e)) (loop-off (ap is_template e) (λ r. let g : With ≡ Range = sym e ∙ r in cc)) h.looped) (ap (λ z. loops z false (in_loop t)) (sym e)) (ap (λ z. heading z p.declares) e)
-  here-opened Range e = here-plain true (ap is_template e) (λ g. new-loop, λ l. refl) (ap (λ z. loops z false (in_loop t)) (sym e)) (ap (λ z. heading z p.declares) e)
-    where
-      new-loop : InLoop xs (i + 1)
-      new-loop = (
-        i,
-        record {
-          is_open = opened_new xs i c o;
-          range = e;
-          template = (h.template, h.is_template_here, template-moves xs i (i + 1) (alike-opened xs (act_role (opener c p)) i c at refl o (ap is_template e)) h.template h.is_template_here);
-          bare = none-of-it;
-        },
-      )
+    pub here-control : (d : Control) → c ≡ opened.Control d → Here xs (i + 1) (Some (entered c p t (length names))) (names ++ p.declares)
+    here-control If e = here-plain (in_loop t) (Decides-like (in_loop t) (loop-on own) (loop-off own (λ r. let g : opened.Control If ≡ opened.Control Range = sym e ∙ r in cc)) h.looped) (ap (λ z. loops z false (in_loop t)) (sym e))
+    here-control With e = here-plain (in_loop t) (Decides-like (in_loop t) (loop-on own) (loop-off own (λ r. let g : opened.Control With ≡ opened.Control Range = sym e ∙ r in cc)) h.looped) (ap (λ z. loops z false (in_loop t)) (sym e))
+    here-control Range e = here-plain true (λ g. new-loop e, λ l. refl) (ap (λ z. loops z false (in_loop t)) (sym e))
+
+  -- in a template nothing is known, and no loop is around it
+  pub here-template : is_template c ≡ true → Here xs (i + 1) (Some (entered c p t (length names))) []
+  here-template own =
+      let body = template-opened xs i c o own in
+      record {
+        template = Some i;
+        is_template_here = body;
+        levels_are = levels-opened xs i (levels t) c p at o h.levels_are;
+        looped = (
+          λ e. let g : true ≡ false = sym e ∙ loops-template c false (in_loop t) own in cc,
+          λ l. absurd (let lt = l.1.is_open.before in template-apart xs i l.0 (i + 1) body.0 (omega arith) l.1.template),
+        );
+        to = λ n k. in-nothing n k;
+        back = λ n b. absurd (let lt = b.before in template-apart xs i b.by (i + 1) body.0 (omega arith) b.template);
+      }

@@ -1,5 +1,5 @@
 -- What stands after each action.
-use Rattle.std.proofs.Common.{arith, ◌≡◌, ◌≢◌, ℕ, ◌+◌, ◌<◌, ◌≤◌, Bool, true, false, List, ◌∷◌, ◌++◌, refl, sym, ap, ◌∙◌, subst, length, take, Option, Some, inl, inr, ⊎_elim, ◌⊎◌}
+use Rattle.std.proofs.Common.{arith, ◌≡◌, ◌≢◌, ℕ, ◌+◌, ◌<◌, ◌≤◌, Bool, true, false, List, [], ◌∷◌, ◌++◌, refl, sym, ap, ◌∙◌, subst, length, take, Option, Some, inl, inr, ⊎_elim, ◌⊎◌}
 use Rattle.std.specs.Prelude.{slice_get, Contains}
 use Rattle.std.specs.Bool.{Decides}
 use Rattle.std.proofs.lemmas.Bool.{cases_order, cases_lt}
@@ -9,22 +9,25 @@ use Rattle.std.proofs.lemmas.List.{length-append, length-take-le, take-take, tak
 use Rattle.tmpl_syntax.specs.declared.place.frame.Frame.{Frame}
 use Rattle.tmpl_syntax.specs.Place.Open.{opens, ends, IsOpening, IsLast, HasElse, is_template}
 use Rattle.tmpl_syntax.specs.Place.Body.{IsLoop, Levels}
-use Rattle.tmpl_syntax.specs.computed.Frames.{top, loops, part_of, heading, entered}
-use Rattle.tmpl_syntax.proofs.OpenLemmas.{count-split, count-none, same-control, same-piece, cut, through, Even, shut-at, even-step, opened_new}
+use Rattle.tmpl_syntax.specs.computed.Frames.{top, loops, part_of, entered, Known, with_inner, closed_if, opened_names}
+use Rattle.tmpl_syntax.proofs.FaultLemmas.{IsWithin}
+use Rattle.tmpl_syntax.proofs.OpenLemmas.{count-split, count-none, same-opening, same-piece, cut, through, Even, shut-at, even-step, opened_new}
 use Rattle.tmpl_syntax.proofs.PlaceLemmas.{alike-back, alike-even, alike-last, template-moves, InLoop, loop-moves, else_before}
 use Rattle.tmpl_syntax.proofs.ScopeLemmas.{Reaches, Brought}
 use Rattle.tmpl_syntax.proofs.ElsePartLemmas.{Part, earlier, header, branch_header, part-later, IsPartAt, BroughtFrom, to-part, from-part}
-use Rattle.tmpl_syntax.proofs.StandLemmas.{Here, Stood, Stands, here-of, here-opened}
+use Rattle.tmpl_syntax.proofs.StandLemmas.{Here, Stood, closed_at, Stands, here-of, here-control, here-template}
+use Rattle.tmpl_syntax.specs.declared.place.frame.Opening.{Opening}
+use Rattle.tmpl_syntax.specs.declared.place.frame.Opening.TheVariants as opened
 use Rattle.tmpl_grammar.specs.declared.tree.Control.{Control}
 use Rattle.tmpl_grammar.specs.declared.tree.Control.TheVariants.{If, With, Range}
 use Rattle.tmpl_syntax.specs.Place.Role.{Name, Names, opener, bare_else, Role, act_role}
 
 -- after an opening
-module _ (xs : List Role) (i : ℕ) (names : List Name) (c : Control) (p : Names) (at : slice_get xs i ≡ Some (act_role (opener c p))) (o : IsOpening (slice_get xs i) c) (t : Option Frame) (h : Here xs i t names) where
+module _ (xs : List Role) (i : ℕ) (names : List Name) (c : Opening) (p : Names) (at : slice_get xs i ≡ Some (act_role (opener c p))) (o : IsOpening (slice_get xs i) c) (t : Option Frame) (h : Here xs i t names) where
   not-after : {A : Type 0} → (k : ℕ) → k < i + 1 → IsLast xs i k → A
   not-after k lt l = let b = l.is_open.before in absurd (omega arith)
 
-  part-new : (n : Name) → Part xs i (i + 1) n → (Brought xs i i n) ⊎ (Contains p.declares n × (c ≡ Range → ⊥))
+  part-new : (n : Name) → Part xs i (i + 1) n → (Brought xs i i n) ⊎ (Contains p.declares n × (c ≡ opened.Control Range → ⊥))
   part-new n (earlier b) = inl b
   part-new n (header {c = d} {p = q} e k r) =
       let g : act_role (opener c p) ≡ act_role (opener d q) = same-piece xs i (act_role (opener c p)) (act_role (opener d q)) at e in
@@ -39,13 +42,13 @@ module _ (xs : List Role) (i : ℕ) (names : List Name) (c : Control) (p : Names
   part-above With = omega arith
   part-above Range = omega arith
 
-  part-below : (d : Control) → part_of d (length names) (length names + length p.declares) ≤ length names + length (heading d p.declares)
+  part-below : (d : Control) → part_of d (length names) (length names + length p.declares) ≤ length names + length p.declares
   part-below If = omega arith
   part-below With = omega arith
   part-below Range = omega arith
 
   -- what the parts see at first: for an if or with
-  part-wide : c ≢ Range → (n : Name) → Contains (take (length names + length p.declares) (names ++ p.declares)) n → Part xs i (i + 1) n
+  part-wide : c ≢ opened.Control Range → (n : Name) → Contains (take (length names + length p.declares) (names ++ p.declares)) n → Part xs i (i + 1) n
   part-wide nr n k =
       let e : take (length names + length p.declares) (names ++ p.declares) ≡ names ++ p.declares = take_all (length names + length p.declares) (names ++ p.declares) (omega (arith, length-append names p.declares)) in
       ⊎_elim (λ l. earlier (h.to n l)) (λ r. header at r nr)
@@ -59,64 +62,99 @@ module _ (xs : List Role) (i : ℕ) (names : List Name) (c : Control) (p : Names
       (λ r. Contains-append_right names p.declares n r.0)
       (part-new n k))
 
-  part-first : (d : Control) → c ≡ d → is_template d ≡ false → (n : Name) → Contains (take (part_of d (length names) (length names + length p.declares)) (names ++ heading d p.declares)) n → Part xs i (i + 1) n
-  part-first If e own n k = part-wide (λ r. let g : If ≡ Range = sym e ∙ r in cc) n k
-  part-first With e own n k = part-wide (λ r. let g : With ≡ Range = sym e ∙ r in cc) n k
-  part-first Range e own n k =
+  part-first : (d : Control) → c ≡ opened.Control d → (n : Name) → Contains (take (part_of d (length names) (length names + length p.declares)) (names ++ p.declares)) n → Part xs i (i + 1) n
+  part-first If e n k = part-wide (λ r. let g : opened.Control If ≡ opened.Control Range = sym e ∙ r in cc) n k
+  part-first With e n k = part-wide (λ r. let g : opened.Control With ≡ opened.Control Range = sym e ∙ r in cc) n k
+  part-first Range e n k =
       let s : take (length names) (names ++ p.declares) ≡ names = take_at names p.declares (length names) refl in
       earlier (h.to n (subst (λ l. Contains l n) s k))
 
-  part-first-back : (d : Control) → c ≡ d → is_template d ≡ false → (n : Name) → Part xs i (i + 1) n → Contains (take (part_of d (length names) (length names + length p.declares)) (names ++ heading d p.declares)) n
-  part-first-back If e own n k = part-wide-back n k
-  part-first-back With e own n k = part-wide-back n k
-  part-first-back Range e own n k =
+  part-first-back : (d : Control) → c ≡ opened.Control d → (n : Name) → Part xs i (i + 1) n → Contains (take (part_of d (length names) (length names + length p.declares)) (names ++ p.declares)) n
+  part-first-back If e n k = part-wide-back n k
+  part-first-back With e n k = part-wide-back n k
+  part-first-back Range e n k =
       let s : take (length names) (names ++ p.declares) ≡ names = take_at names p.declares (length names) refl in
       subst (λ l. Contains l n) (sym s) (⊎_elim (λ b. h.back n b) (λ r. absurd (r.1 e)) (part-new n k))
 
-  stood-opened : Stood xs (i + 1) (names ++ heading c p.declares) (entered c p t (length names)) i
-  stood-opened = record {
-    control = o;
+  stood-opened : (ns : List Name) → IsWithin (entered c p t (length names)) (length ns)
+      → (is_template c ≡ false → (n : Name) → Contains (take (entered c p t (length names)).part ns) n → Part xs i (i + 1) n)
+      → (is_template c ≡ false → (n : Name) → Part xs i (i + 1) n → Contains (take (entered c p t (length names)).part ns) n)
+      → Stood xs (i + 1) ns (entered c p t (length names)) i
+  stood-opened ns within to back = record {
+    opened = o;
     last = record { is_open = opened_new xs i c o; last = λ k lt b. let g = b.before in omega arith };
     over = omega (arith, count-none opens xs (i + 1), count-none ends xs (i + 1));
     has = (λ e. let g : true ≡ false = sym e in cc, λ e. let a = e.1 in let b = e.2.belongs.is_open.before in absurd (omega arith));
     around = h.looped;
-    within = record {
-      started = part-above c;
-      parted = let s = part-below c in omega (arith, length-append names (heading c p.declares));
-    };
-    to = λ own n k. part-first c refl own n k;
-    back = λ own n k. part-first-back c refl own n k;
+    within = within;
+    to = to;
+    back = back;
   }
 
-pub stands-opened : (xs : List Role) (i : ℕ) (names : List Name) (c : Control) (p : Names) (fs : List Frame) → slice_get xs i ≡ Some (act_role (opener c p)) → Stands xs i names fs → Stands xs (i + 1) (names ++ heading c p.declares) (entered c p (top fs) (length names) ∷ fs)
-stands-opened xs i names c p fs at s =
-    let o : IsOpening (slice_get xs i) c = subst (λ z. IsOpening z c) (sym at) refl in
-    let h = here-of xs i names fs s in (
-      here-opened xs i names c p at o (top fs) h c refl,
-      i,
-      stood-opened xs i names c p at o (top fs) h,
-      subst (λ l. Stands xs i l fs) (sym (take_at names (heading c p.declares) (length names) refl)) s,
-    )
+module _ (xs : List Role) (i : ℕ) (known : Known) (p : Names) (fs : List Frame) (s : Stands xs i known fs) where
+  control-opened : (d : Control) → slice_get xs i ≡ Some (act_role (opener (opened.Control d) p)) → Stands xs (i + 1) (opened_names (opened.Control d) p.declares known) (entered (opened.Control d) p (top fs) (length known.inner) ∷ fs)
+  control-opened d at =
+      let c = opened.Control d in
+      let o : IsOpening (slice_get xs i) c = subst (λ z. IsOpening z c) (sym at) refl in
+      let h = here-of xs i known fs s in (
+        here-control xs i known.inner c p at o (top fs) h refl d refl,
+        i,
+        stood-opened xs i known.inner c p at o (top fs) h (known.inner ++ p.declares)
+            (record {
+              started = part-above xs i known.inner c p at o (top fs) h d;
+              parted = let b = part-below xs i known.inner c p at o (top fs) h d in omega (arith, length-append known.inner p.declares);
+            })
+            (λ own n k. part-first xs i known.inner c p at o (top fs) h d refl n k)
+            (λ own n k. part-first-back xs i known.inner c p at o (top fs) h d refl n k),
+        subst (λ l. Stands xs i (with_inner known l) fs) (sym (take_at known.inner p.declares (length known.inner) refl)) s,
+      )
+
+  -- in a template nothing is known, and behind it what is known here
+  pub stands-opened : (c : Opening) → slice_get xs i ≡ Some (act_role (opener c p)) → Stands xs (i + 1) (opened_names c p.declares known) (entered c p (top fs) (length known.inner) ∷ fs)
+  stands-opened (opened.Control d) at = control-opened d at
+  stands-opened opened.Define at =
+      let c = opened.Define in
+      let o : IsOpening (slice_get xs i) c = subst (λ z. IsOpening z c) (sym at) refl in
+      let h = here-of xs i known fs s in (
+        here-template xs i known.inner c p at o (top fs) h refl,
+        i,
+        stood-opened xs i known.inner c p at o (top fs) h [] (record { started = omega arith; parted = omega arith })
+            (λ own. let g : true ≡ false = own in cc) (λ own. let g : true ≡ false = own in cc),
+        s,
+      )
+  stands-opened opened.Block at =
+      let c = opened.Block in
+      let o : IsOpening (slice_get xs i) c = subst (λ z. IsOpening z c) (sym at) refl in
+      let h = here-of xs i known fs s in (
+        here-template xs i known.inner c p at o (top fs) h refl,
+        i,
+        stood-opened xs i known.inner c p at o (top fs) h [] (record { started = omega arith; parted = omega arith })
+            (λ own. let g : true ≡ false = own in cc) (λ own. let g : true ≡ false = own in cc),
+        s,
+      )
 
 -- after an else or else if
 abbrev pub changed : Frame → Bool → ℕ → List Name → Frame
 changed f has lv ds = record f { has_else = has; levels = lv; part = f.part + length ds }
 
-module _ (xs : List Role) (i : ℕ) (names : List Name) (f : Frame) (fs : List Frame) (s : Stands xs i names (f ∷ fs)) (x : Role) (at : slice_get xs i ≡ Some x) (shut : opens x ≡ false) (no_end : ends x ≡ false) (part : IsPartAt xs s.1 i) (own : is_template f.control ≡ false) where
+module _ (xs : List Role) (i : ℕ) (known : Known) (f : Frame) (fs : List Frame) (s : Stands xs i known (f ∷ fs)) (x : Role) (at : slice_get xs i ≡ Some x) (shut : opens x ≡ false) (no_end : ends x ≡ false) (part : IsPartAt xs s.1 i) (own : is_template f.opening ≡ false) where
+  abbrev names : List Name
+  names = known.inner
+
   even : Even xs i (i + 1)
   even = even-step xs x i at shut no_end
 
   last-after : IsLast xs s.1 (i + 1)
   last-after = record { is_open = even.keeps s.1 s.2.last.is_open; last = λ k lt o. s.2.last.last k lt (even.only k o) }
 
-  own-after : is_template last-after.is_open.control ≡ false
-  own-after = ap is_template (same-control xs s.1 last-after.is_open.control f.control last-after.is_open.at s.2.control) ∙ own
+  own-after : is_template last-after.is_open.opened ≡ false
+  own-after = ap is_template (same-opening xs s.1 last-after.is_open.opened f.opening last-after.is_open.at s.2.opened) ∙ own
 
   low : s.1 < i
   low = s.2.last.is_open.before
 
-  below-here : Here xs s.1 (top fs) (take f.start names)
-  below-here = here-of xs s.1 (take f.start names) fs s.3
+  below-here : Here xs s.1 (top fs) (closed_at f known).inner
+  below-here = here-of xs s.1 (closed_at f known) fs s.3
 
   -- a loop around the opening is one around its else part
   loop-in : InLoop xs s.1 → InLoop xs (i + 1)
@@ -131,23 +169,23 @@ module _ (xs : List Role) (i : ℕ) (names : List Name) (f : Frame) (fs : List F
         (cases_lt has.0 s.1)) l.1,
   )
 
-  loop-out : (f.control ≡ Range → HasElse xs s.1 (i + 1)) → InLoop xs (i + 1) → InLoop xs s.1
+  loop-out : (f.opening ≡ opened.Control Range → HasElse xs s.1 (i + 1)) → InLoop xs (i + 1) → InLoop xs s.1
   loop-out ranged l = ⊎_elim
       (λ e. let w : IsLoop xs s.1 (i + 1) = subst (λ k. IsLoop xs k (i + 1)) e l.1 in
-      absurd (w.bare (ranged (same-control xs s.1 f.control w.is_open.control s.2.control w.is_open.at ∙ w.range))))
+      absurd (w.bare (ranged (same-opening xs s.1 f.opening w.is_open.opened s.2.opened w.is_open.at ∙ w.range))))
       (λ o. ⊎_elim
       (λ lt. (l.0, loop-moves xs l.0 (i + 1) s.1 (alike-back xs s.1 (i + 1) (alike-last xs s.1 (i + 1) last-after own-after)) (cut xs l.0 s.1 (i + 1) lt (let z = low in omega arith) l.1.is_open) (else_before xs l.0 s.1 (i + 1) (let z = low in omega arith)) l.1))
       (λ gt. absurd (last-after.last l.0 gt l.1.is_open)) o)
       (cases_order l.0 s.1)
 
-  module _ (has : Bool) (lv : ℕ) (ds : List Name) (leveled : Levels xs (i + 1) (i + 1) lv) (has_is : Decides has (HasElse xs s.1 (i + 1))) (ranged : f.control ≡ Range → HasElse xs s.1 (i + 1)) (looped : loops f.control has f.around ≡ f.around)
+  module _ (has : Bool) (lv : ℕ) (ds : List Name) (leveled : Levels xs (i + 1) (i + 1) lv) (has_is : Decides has (HasElse xs s.1 (i + 1))) (ranged : f.opening ≡ opened.Control Range → HasElse xs s.1 (i + 1)) (looped : loops f.opening has f.around ≡ f.around)
       (new : (n : Name) → Contains ds n → Reaches xs i (i + 1) (i + 1) n) (old : (n : Name) → Reaches xs i (i + 1) (i + 1) n → Contains ds n)
       (new_part : (n : Name) → Contains ds n → Part xs s.1 (i + 1) n) (old_part : (n : Name) → Part xs s.1 (i + 1) n → Part xs s.1 i n ⊎ Contains ds n) where
     front : length (take f.part names) ≡ f.part
     front = length-take-le f.part names s.2.within.parted
 
-    ranged-last : last-after.is_open.control ≡ Range → HasElse xs s.1 (i + 1)
-    ranged-last e = ranged (same-control xs s.1 f.control last-after.is_open.control s.2.control last-after.is_open.at ∙ e)
+    ranged-last : last-after.is_open.opened ≡ opened.Control Range → HasElse xs s.1 (i + 1)
+    ranged-last e = ranged (same-opening xs s.1 f.opening last-after.is_open.opened s.2.opened last-after.is_open.at ∙ e)
 
     seen : (n : Name) → Part xs s.1 i n → BroughtFrom xs i (i + 1) (i + 1) n
     seen n k = from-part xs s.1 i (i + 1) (i + 1) last-after own-after part low (omega arith) (omega arith) (omega arith) ranged-last below-here.template below-here.is_template_here n k
@@ -174,7 +212,7 @@ module _ (xs : List Role) (i : ℕ) (names : List Name) (f : Frame) (fs : List F
 
     stood-parted : Stood xs (i + 1) (take f.part names ++ ds) (changed f has lv ds) s.1
     stood-parted = record {
-      control = s.2.control;
+      opened = s.2.opened;
       last = last-after;
       over = let z = low in omega (arith, s.2.over, even.balance, count-split opens xs (s.1 + 1) i (i + 1) (omega arith) (omega arith), count-split ends xs (s.1 + 1) i (i + 1) (omega arith) (omega arith));
       has = has_is;
@@ -193,5 +231,5 @@ module _ (xs : List Role) (i : ℕ) (names : List Name) (f : Frame) (fs : List F
     below : take f.start (take f.part names ++ ds) ≡ take f.start names
     below = take-append-le f.start (take f.part names) ds (let a = s.2.within.started in omega (arith, front)) ∙ take-take f.start f.part names s.2.within.started
 
-    pub stands-parted : Stands xs (i + 1) (take f.part names ++ ds) (changed f has lv ds ∷ fs)
-    stands-parted = (here-parted, s.1, stood-parted, subst (λ l. Stands xs s.1 l fs) (sym below) s.3)
+    pub stands-parted : Stands xs (i + 1) (with_inner known (take f.part names ++ ds)) (changed f has lv ds ∷ fs)
+    stands-parted = (here-parted, s.1, stood-parted, subst (λ l. Stands xs s.1 (closed_if (is_template f.opening) (with_inner known l)) fs) (sym below) s.3)

@@ -7,12 +7,13 @@ ghost use Rattle.tmpl_syntax.specs.computed.Parse.{IsChecked};
 use crate::fault::{ParseKind, Refusal};
 use crate::item::Item;
 use crate::place::frame::Frame;
-use crate::place::scopes::Scopes;
 use crate::place::pass::{forget, newest, take_in};
 use crate::place::rules::fault_of;
+use crate::place::scopes::Scopes;
 use std::alloc::Global;
 
-/// Refuses the first action that is refused, or else at its last line a file that ends inside a control.
+/// Refuses the first action that is refused, or else at its last line a file in which something is open at the end.
+#[tactic(auto, unfolding(crate::specs::View::scopes_of))]
 pub(crate) fn check(alloc: Global, items: &[Item<'_>], bytes: &[u8]) -> Result<(), Refusal>
     ensures { IsChecked bytes.now (map item_of items.now) result }
 {

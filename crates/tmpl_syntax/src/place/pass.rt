@@ -1,14 +1,15 @@
 //! What stands after an item: the frames of what is open, and the names that are known.
-ghost use Rattle.std.specs.Prelude.{◌≡◌, ◌≤◌, ◌<◌, ◌++◌, ◌∷◌, ◌+◌, IfOk, List, reverse, true, false, Some, None, length};
+ghost use Rattle.std.specs.Prelude.{◌≡◌, ◌<◌, ◌++◌, [], ◌∷◌, ◌+◌, IfOk, reverse, true, false, Some, None, length};
 ghost use Rattle.tmpl_grammar.specs.View.{action_of, binding_of, header_of};
 ghost use Rattle.tmpl_syntax.specs.View.{item_of, known_names, scopes_of};
 ghost use Rattle.tmpl_syntax.specs.Place.Role as role;
-ghost use Rattle.tmpl_syntax.specs.Place.Role.{Name, Names, act_of, act_of_shape, names_of, role_of};
+ghost use Rattle.tmpl_syntax.specs.Place.Role.{act_of, act_of_shape, names_of, no_names, role_of};
 ghost use Rattle.tmpl_syntax.specs.Place.Body as body;
+ghost use Rattle.tmpl_syntax.specs.Place.Body.{is_level};
 ghost use Rattle.tmpl_syntax.specs.Place.Open.{is_template};
 ghost use Rattle.tmpl_syntax.specs.computed.Frames as spec;
 ghost use Rattle.tmpl_syntax.specs.computed.Frames.{closed_names, ended_all, fault_at, is_too_deep, known_after};
-ghost use Rattle.tmpl_syntax.specs.computed.Frames.{known_past, level_of, levels, names_at, opened_names};
+ghost use Rattle.tmpl_syntax.specs.computed.Frames.{known_past, levels, names_at, opened_names};
 ghost use Rattle.tmpl_syntax.specs.computed.Frames.{branched_all, elsed_all, entered, frames_after, frames_past};
 ghost use Rattle.tmpl_syntax.specs.computed.Frames.{seen_at, top};
 ghost use Rattle.tmpl_syntax.specs.declared.place.frame.Opening.TheVariants as opening;
@@ -16,8 +17,8 @@ ghost use Rattle.tmpl_syntax.specs.declared.place.frame.Opening.TheVariants as o
 use crate::item::{Item, ItemKind};
 use crate::place::frame::{Frame, Opening};
 use crate::place::names::KnownNames;
-use crate::place::scopes::Scopes;
 use crate::place::rules::{is_in_loop, levels_in};
+use crate::place::scopes::Scopes;
 use std::alloc::{AllocError, Global};
 use tmpl_grammar::{Action, Binding, Control, Header, HeaderShape, Shape};
 
@@ -94,6 +95,7 @@ pub(super) fn take_in<'i>(
 }
 
 /// Takes in an action that is not refused.
+#[tactic(auto, unfolding(crate::specs::View::scopes_of))]
 fn take_in_action<'i>(
     alloc: Global,
     stack: &mut Vec<Frame>,
@@ -142,12 +144,11 @@ fn enter_template(
     opening: Opening,
 ) -> Result<(), AllocError>
     requires template { is_template opening ≡ true }
-    requires levels { levels (top (reverse stack.old.items)) + level_of opening ≤ body.most_levels }
-    ensures frames { (names : Names) → IfOk result (λ u. reverse stack.new.items
-        ≡ entered opening names (top (reverse stack.old.items)) (length (scopes_of scopes.old).inner)
+    requires levels { is_level opening ≡ true → levels (top (reverse stack.old.items)) < body.most_levels }
+    ensures frames { IfOk result (λ u. reverse stack.new.items
+        ≡ entered opening no_names (top (reverse stack.old.items)) (length (scopes_of scopes.old).inner)
         ∷ reverse stack.old.items) }
-    ensures names { (declares : List Name) → IfOk result (λ u. scopes_of scopes.new
-        ≡ opened_names opening declares (scopes_of scopes.old)) }
+    ensures names { IfOk result (λ u. scopes_of scopes.new ≡ opened_names opening [] (scopes_of scopes.old)) }
 {
     let outside = newest(stack);
     scopes.enter(alloc)?;

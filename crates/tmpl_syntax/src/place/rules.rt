@@ -80,10 +80,8 @@ fn is_in_place(action: &Action, outside: Option<Frame>) -> bool
     ensures { result ≡ is_placed (act_of (action_of action.now)) outside }
 {
     match action {
-        Action::Pipeline(_)
-        | Action::Open(_, _)
-        | Action::Template(_, _)
-        | Action::Block(_, _) => true,
+        Action::Pipeline(_) | Action::Open(_, _) | Action::Template(_, _) | Action::Block(_, _) =>
+            true,
         Action::Define(_) => outside.is_none(),
         Action::Else => may_take_else(outside),
         Action::ElseBranch(branch, _) => {

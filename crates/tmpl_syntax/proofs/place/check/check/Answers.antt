@@ -2,33 +2,34 @@ use Rattle.std.proofs.Common.{refl, arith, ◌≡◌, ◌≢◌, ◌≤◌, reve
 use Rattle.std.proofs.lemmas.Grind.{common_steps}
 use Rattle.std.proofs.lemmas.List.{length-map, length-reverse}
 use Rattle.tmpl_syntax.specs.Fault.{open_at_end, reason_of}
-use Rattle.tmpl_syntax.specs.View.{item_of}
+use Rattle.tmpl_syntax.specs.View.{item_of, known_names, scopes_of}
 use Rattle.tmpl_syntax.specs.Place.Role.{role_of, roles_of}
-use Rattle.tmpl_syntax.specs.View.{known_names}
 use Rattle.tmpl_syntax.proofs.CheckLemmas.{checking-start, checking-past, checking-refused, checking-ended, item-at, role-at, checked-refused, checked-fine, checked-open}
 use Rattle.tmpl_syntax.proofs.place.check.check.Goals as goal
 
 pub loop-item-init : goal.loop-item-init
-loop-item-init c = checking-start (roles_of (map item_of c.args.items.now)) _ _ c.new-names.ensures (ap reverse c.new-stack.ensures.items)
+loop-item-init c = checking-start (roles_of (map item_of c.args.items.now)) _ _ c.new-scopes.ensures (ap reverse c.new-stack.ensures.items)
 
 pub returns-in-Some : goal.returns-in-Some
+unfolding scopes_of
 returns-in-Some c =
     let items = c.args.items.now in
     let i = c.loop-item.item-index in
     let x = c.item-item.result in
     let at = item-at items i x c.loop-item-test.true c.item-item.is in
     checked-refused c.args.bytes.now (map item_of items) i (item_of x) c.in-Some.fault x.line (reason_of c.kind.result) at
-    (checking-refused (roles_of (map item_of items)) i (known_names c.loop-item.names) (reverse c.loop-item.stack.items) (role_of (item_of x)) (role-at (map item_of items) i (item_of x) at) c.loop-item.invariant
+    (checking-refused (roles_of (map item_of items)) i (scopes_of c.loop-item.scopes) (reverse c.loop-item.stack.items) (role_of (item_of x)) (role-at (map item_of items) i (item_of x) at) c.loop-item.invariant
     c.newest-outside.result (known_names c.forget.new.names) c.newest-outside.ensures c.forget.ensures c.in-Some.fault (sym c.in-Some.ensures))
     refl c.kind.ensures
 
 pub loop-item-preserved : goal.loop-item-preserved
+unfolding scopes_of
 loop-item-preserved c =
     let items = c.args.items.now in
     let i = c.loop-item.item-index in
     let x = c.item-item.result in
     let at = item-at items i x c.loop-item-test.true c.item-item.is in
-    checking-past (roles_of (map item_of items)) i (known_names c.loop-item.names) (reverse c.loop-item.stack.items) (role_of (item_of x)) (role-at (map item_of items) i (item_of x) at) c.loop-item.invariant
+    checking-past (roles_of (map item_of items)) i (scopes_of c.loop-item.scopes) (reverse c.loop-item.stack.items) (role_of (item_of x)) (role-at (map item_of items) i (item_of x) at) c.loop-item.invariant
     c.newest-outside.result (known_names c.forget.new.names) c.newest-outside.ensures c.forget.ensures
     _ _ c.in_ok-take_in.ensures.names c.in_ok-take_in.ensures.frames (sym c.in_default.ensures)
 
