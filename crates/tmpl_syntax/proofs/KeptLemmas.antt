@@ -1,22 +1,24 @@
 -- Each tree of a set is kept as files are added.
-use Rattle.std.proofs.Common.{◌≡◌, ◌≤◌, length, ℕ, Bool, true, false, List, [], ◌∷◌, Option, Some, None, Ok, refl, sym, subst, cond, if◌then◌else◌, Bor}
+use Rattle.std.proofs.Common.{◌≡◌, ◌≤◌, length, ℕ, Bool, true, false, List, [], ◌∷◌, Option, Some, None, Ok, refl, sym, subst, cond, if◌then◌else◌, Bor, map}
 use Rattle.std.specs.Prelude.{IfSome, find}
 use Rattle.std.specs.Option.{option_map}
 use Rattle.std.specs.Str.{bytes_eq}
 use Rattle.tmpl_values.proofs.RuneLemmas.{AreBytes}
-use Rattle.tmpl_syntax.specs.Tree.{Nodes, Tree}
+use Rattle.tmpl_syntax.specs.Tree.{Nodes, Tree, Definition}
 use Rattle.tmpl_syntax.specs.View.{tree_of}
 use Rattle.tmpl_syntax.specs.declared.tree.Tree as held
 use Rattle.tmpl_syntax.specs.Language.{every_branch}
 use Rattle.tmpl_syntax.specs.Item.{Item}
 use Rattle.tmpl_syntax.specs.Place.Role.{roles_of}
 use Rattle.tmpl_syntax.specs.Place.Body.{Verdict, fine, refused, left_open}
-use Rattle.tmpl_syntax.specs.Set.{Template, has_name, tree_named, is_blank, chosen, defined}
+use Rattle.tmpl_syntax.specs.Set.{Template, has_name, tree_named, is_blank, chosen, defined, defined_each}
 use Rattle.tmpl_syntax.specs.Kept.{IsKept, AreKept}
-use Rattle.tmpl_syntax.specs.Parse.{last_line, most_bytes}
+use Rattle.tmpl_syntax.specs.Parse.{last_line, base_name, most_bytes, all_defined, template_in}
+use Rattle.tmpl_syntax.specs.Need.{NeedAtMost, most_need}
+use Rattle.tmpl_syntax.specs.Print.Printable.{IsPrintable, ArePrintable}
 use Rattle.tmpl_syntax.specs.computed.Frames.{verdict_of}
-use Rattle.tmpl_syntax.specs.computed.Build.{nodes_from}
-use Rattle.tmpl_syntax.specs.computed.Parse.{by_verdict, checked, items_of}
+use Rattle.tmpl_syntax.specs.computed.Build.{nodes_from, definitions_from}
+use Rattle.tmpl_syntax.specs.computed.Parse.{by_verdict, checked, all_from, items_of}
 use Rattle.tmpl_syntax.proofs.ItemLemmas.{has-items}
 use Rattle.tmpl_syntax.proofs.SpellingLemmas.{spells-fine}
 use Rattle.tmpl_syntax.proofs.NeedLemmas.{need-most}
@@ -65,12 +67,28 @@ checked-verdict : (bytes : List ℕ) (items : List Item) → checked bytes items
 unfolding checked
 checked-verdict bytes items e = verdict-fine (last_line bytes) items (verdict_of (roles_of items)) e
 
-pub file-kept : (file bytes : List ℕ) (nodes : Nodes) → AreBytes bytes → length bytes ≤ most_bytes → checked bytes (items_of bytes) ≡ Ok tt → nodes ≡ nodes_from (items_of bytes) → IsKept (record { file = file; nodes = nodes })
-file-kept file bytes nodes h within passed built =
+-- templates that can be printed and are bounded
+both-kept : (ts : List Template) → ArePrintable ts → NeedAtMost most_need ts → AreKept ts
+both-kept [] p n = tt
+both-kept (t ∷ ts) p n = (record { printable = p.1; need = n.0 }, both-kept ts p.2 n.1)
+
+printable-all : (file : List ℕ) (ds : List Definition) (own : Nodes) → AreBytes (base_name file) → ArePrintable (map (template_in file) ds) → IsPrintable own → ArePrintable (map (template_in file) (all_defined file ds own))
+printable-all file [] own name p o = (name, o, tt)
+printable-all file (d ∷ ds) own name p o = (p.0, p.1, printable-all file ds own name p.2 o)
+
+-- the templates of a file are kept; these are those that were built
+pub file-kept : (file bytes : List ℕ) (ts : List Template) → AreBytes (base_name file) → AreBytes bytes → length bytes ≤ most_bytes → checked bytes (items_of bytes) ≡ Ok tt → ts ≡ map (template_in file) (all_from (base_name file) (items_of bytes)) → AreKept ts
+file-kept file bytes ts name h within passed built =
     let items = items_of bytes in
+    let ds = definitions_from items in
+    let own = nodes_from items in
     let spelled = spells-fine items (checked-verdict bytes items passed) in
-    subst (λ (ns : Nodes). IsKept (record { file = file; nodes = ns })) (sym built)
-    (record {
-      printable = keeps-printable every_branch bytes items (nodes_from items) h (has-items bytes) spelled;
-      need = need-most every_branch bytes items (record { file = file; nodes = nodes_from items }) within (has-items bytes) spelled;
-    })
+    let printable = keeps-printable every_branch bytes items ds own h (has-items bytes) spelled in
+    subst AreKept (sym built)
+    (both-kept _ (printable-all file ds own name (printable.0 file) printable.1) (need-most every_branch file bytes items ds own within (has-items bytes) spelled))
+
+-- ---- definitions one by one
+
+pub each-kept : (set ts : List Template) → AreKept set → AreKept ts → AreKept (defined_each set ts)
+each-kept set [] h k = h
+each-kept set (t ∷ ts) h k = each-kept (defined set t.0 t.1) ts (defined-kept set t.0 t.1 h k.0) k.1

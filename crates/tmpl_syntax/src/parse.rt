@@ -105,15 +105,26 @@ fn templates_of(
     definitions: Vec<Definition>,
 ) -> Result<Vec<(Vec<u8>, Tree)>, AllocError>
     ensures { IfOk result (λ v. map template_of v.items
-        ≡ map (template_in file.now) (map definition_of definitions.items)) }
+        ≡ map (λ d. template_in file.now (definition_of d)) definitions.items) }
 {
     let mut templates = Vec::with_capacity(alloc, definitions.len())?;
     for definition in definitions {
-        let file = Bytes::new(copy_of(alloc, file.as_bytes())?);
-        let Definition { name, nodes, .. } = definition;
-        templates.push((name.into_vec(), Tree { file, nodes }))?;
+        templates.push(template(alloc, file, definition)?)?;
     }
     Ok(templates)
+}
+
+/// The definition as a template in this file.
+fn template(
+    alloc: Global,
+    file: &str,
+    definition: Definition,
+) -> Result<(Vec<u8>, Tree), AllocError>
+    ensures { IfOk result (λ t. template_of t ≡ template_in file.now (definition_of definition)) }
+{
+    let Definition { name, nodes, .. } = definition;
+    let file = Bytes::new(copy_of(alloc, file.as_bytes())?);
+    Ok((name.into_vec(), Tree { file, nodes }))
 }
 
 /// The items of a file.

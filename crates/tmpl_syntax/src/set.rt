@@ -1,10 +1,10 @@
 //! The set of templates.
-ghost use Rattle.std.specs.Prelude.{◌≡◌, ◌≤◌, ◌<◌, ◌+◌, [], IfSome, OnOk, OnErr, length, map, option_map};
+ghost use Rattle.std.specs.Prelude.{◌≡◌, ◌≤◌, ◌<◌, ◌+◌, ◌&&◌, [], IfSome, OnOk, OnErr, is_some, length, map, option_map};
 ghost use Rattle.std.specs.Iterator.{YieldsFirstRef, item_count};
 ghost use Rattle.indexmap.specs.IndexMap.{spare};
 ghost use Rattle.tmpl_syntax.specs.View.{set_view, names_left, template_of, tree_of};
 ghost use Rattle.tmpl_syntax.specs.Kept.{AreKept, IsKept};
-ghost use Rattle.tmpl_syntax.specs.Set.{defined, defined_each, tree_named};
+ghost use Rattle.tmpl_syntax.specs.Set.{defined, defined_each, is_blank, tree_named};
 
 use crate::blank::is_blank;
 use crate::tree::Tree;
@@ -119,8 +119,15 @@ fn define(set: &mut IndexMap<Vec<u8>, Tree>, name: Vec<u8>, tree: Tree)
     ensures defined { set_view set.new.entries ≡ defined (set_view set.old.entries) name.items (tree_of tree) }
     ensures room { spare set.old ≤ spare set.new + 1 }
 {
-    let stays = is_blank(tree.nodes.as_slice()) && set.contains_key(name.as_slice());
-    if !stays {
+    if !keeps(set, name.as_slice(), &tree) {
+        // an insertion where there is room takes no memory
         let _ = set.insert(name, tree);
     }
+}
+
+/// Whether a definition leaves the set as it is: a blank one of a name that is there.
+fn keeps(set: &IndexMap<Vec<u8>, Tree>, name: &[u8], tree: &Tree) -> bool
+    ensures { result ≡ (is_blank (tree_of tree.now).nodes && is_some (tree_named name.now (set_view set.now.entries))) }
+{
+    is_blank(tree.nodes.as_slice()) && set.contains_key(name)
 }
