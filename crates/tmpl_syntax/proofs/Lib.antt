@@ -34,7 +34,4 @@ pub mod SpellingLemmas
 pub mod StandLemmas
 pub mod StepLemmas
 pub mod VerdictLemmas
-pub mod WholeItemLemmas
-pub mod WholeNodeLemmas
-pub mod WholeReadLemmas
 pub mod ViewLemmas

@@ -1,19 +1,20 @@
--- The nodes that an accepted file spells can be printed.
-use Rattle.std.proofs.Common.{List, [], ◌∷◌, ◌++◌}
+-- What a file spells can be printed: its definitions, and the nodes of its own template.
+use Rattle.std.proofs.Common.{ℕ, List, [], ◌∷◌, ◌++◌, map}
 use Rattle.tmpl_lex.specs.Piece.{Piece}
 use Rattle.tmpl_grammar.specs.Tree.{Header}
 use Rattle.tmpl_grammar.specs.Action.{opening, else_branch, end_action, control_in}
 use Rattle.tmpl_grammar.specs.declared.tree.Control.{Control}
-use Rattle.tmpl_syntax.specs.Tree.{Nodes, none, then, control_node}
+use Rattle.tmpl_syntax.specs.Tree.{Nodes, none, then, control_node, Definition}
 use Rattle.tmpl_syntax.specs.Language.{Branches}
 use Rattle.tmpl_syntax.specs.Item.{Item, item, text_item, unreadable_item, unread_item, deep_item, action_item, IsItem, a_text as text_read, an_unreadable, unread, too_deep, read, AreItems, no_item, an_item}
-use Rattle.tmpl_syntax.specs.Spelling.{Leads, nothing, a_text, an_action, a_break, a_continue, a_control, Closes, an_end, an_else, an_else_branch}
+use Rattle.tmpl_syntax.specs.Spelling.{Leads, nothing, a_text, an_action, a_break, a_continue, a_control, a_template, a_define, a_block, Closes, an_end, an_else, an_else_branch}
 use Rattle.tmpl_grammar.specs.declared.action.Branch.{Branch}
 use Rattle.tmpl_grammar.specs.declared.action.Branch.TheVariants as branch
 use Rattle.tmpl_syntax.specs.Print.Join.{IsText}
 use Rattle.tmpl_syntax.specs.Print.Printed.{Said, said_text, said, else_said, control_said, node_said, nodes_said}
 use Rattle.tmpl_grammar.specs.Printable.{OfAction}
-use Rattle.tmpl_syntax.specs.Print.Printable.{AreSaid}
+use Rattle.tmpl_syntax.specs.Print.Printable.{AreSaid, ArePrintable}
+use Rattle.tmpl_syntax.specs.Parse.{template_in}
 use Rattle.tmpl_syntax.specs.Print.Laws.{KeepsPrintable}
 use Rattle.tmpl_syntax.proofs.PrintablePieceLemmas.{OfPiece, OfPieces, cuts-of}
 use Rattle.tmpl_grammar.proofs.PrintableActionLemmas.{of_action}
@@ -40,7 +41,7 @@ of-items : {branches : Branches} {ps : List Piece} {xs : List Item} → AreItems
 of-items no_item h = tt
 of-items (an_item i is) h = (of-item i h.0, of-items is h.1)
 
-said-append : (ss ts : List Said) → AreSaid ss → AreSaid ts → AreSaid (ss ++ ts)
+pub said-append : (ss ts : List Said) → AreSaid ss → AreSaid ts → AreSaid (ss ++ ts)
 said-append [] ts h k = k
 said-append (said_text t ∷ ss) ts h k = (h.0, said-append ss ts h.1 k)
 said-append (said a ∷ ss) ts h k = (h.0, said-append ss ts h.1 k)
@@ -57,26 +58,51 @@ else-of : (other : Nodes) → AreSaid (nodes_said other) → AreSaid (else_said 
 else-of none h = tt
 else-of (then line n ns) h = (tt, h)
 
-mutual
-  leads-of : {xs ys : List Item} {ns : Nodes} → Leads xs ns ys → OfItems xs → AreSaid (nodes_said ns) × OfItems ys
-  leads-of nothing h = (tt, h)
-  leads-of (a_text l) h = let more = leads-of l h.1 in ((h.0, more.0), more.1)
-  leads-of (an_action l) h = let more = leads-of l h.1 in ((h.0, more.0), more.1)
-  leads-of (a_break l) h = let more = leads-of l h.1 in ((tt, more.0), more.1)
-  leads-of (a_continue l) h = let more = leads-of l h.1 in ((tt, more.0), more.1)
-  leads-of (a_control {c = c} {h = r} {body = body} {other = other} {ns = ns} b o l) h =
-      let inner = leads-of b h.1 in
-      let behind = closes-of o inner.1 in
-      let more = leads-of l behind.1 in
-      (said-append (node_said (control_node c r body other)) (nodes_said ns) (control-of c r (nodes_said body) (else_said other (nodes_said other)) h.0 inner.0 behind.0) more.0, more.1)
+-- this can be printed, and the items behind it are as good; the definitions can if those behind them can
+record Kept (ss : List Said) (ys : List Item) (ds es : List Definition) : Type 0 where
+  nodes : AreSaid ss
+  behind_them : OfItems ys
+  definitions : (path : List ℕ) → ArePrintable (map (template_in path) es) → ArePrintable (map (template_in path) ds)
 
-  closes-of : {xs ys : List Item} {other : Nodes} → Closes xs other ys → OfItems xs → AreSaid (else_said other (nodes_said other)) × OfItems ys
-  closes-of an_end h = (tt, h.1)
-  closes-of (an_else {other = other} l) h = let more = leads-of l h.1 in (else-of other more.0, more.1.1)
+mutual
+  leads-of : {xs ys : List Item} {ds es : List Definition} {ns : Nodes} → Leads xs ds ns ys es → OfItems xs → Kept (nodes_said ns) ys ds es
+  leads-of nothing h = record { nodes = tt; behind_them = h; definitions = λ path k. k }
+  leads-of (a_text l) h = let m = leads-of l h.1 in record { nodes = (h.0, m.nodes); behind_them = m.behind_them; definitions = m.definitions }
+  leads-of (an_action l) h = let m = leads-of l h.1 in record { nodes = (h.0, m.nodes); behind_them = m.behind_them; definitions = m.definitions }
+  leads-of (a_break l) h = let m = leads-of l h.1 in record { nodes = (tt, m.nodes); behind_them = m.behind_them; definitions = m.definitions }
+  leads-of (a_continue l) h = let m = leads-of l h.1 in record { nodes = (tt, m.nodes); behind_them = m.behind_them; definitions = m.definitions }
+  leads-of (a_template l) h = let m = leads-of l h.1 in record { nodes = (h.0, m.nodes); behind_them = m.behind_them; definitions = m.definitions }
+  leads-of (a_control {c = c} {h = r} {body = body} {other = other} {ns = ns} b o l) h =
+      let i = leads-of b h.1 in
+      let e = closes-of o i.behind_them in
+      let m = leads-of l e.behind_them in
+      record {
+        nodes = said-append (node_said (control_node c r body other)) (nodes_said ns) (control-of c r (nodes_said body) (else_said other (nodes_said other)) h.0 i.nodes e.nodes) m.nodes;
+        behind_them = m.behind_them;
+        definitions = λ path k. i.definitions path (e.definitions path (m.definitions path k));
+      }
+  leads-of (a_define b l) h =
+      let i = leads-of b h.1 in
+      let m = leads-of l i.behind_them.1 in
+      record { nodes = m.nodes; behind_them = m.behind_them; definitions = λ path k. (h.0, i.nodes, i.definitions path (m.definitions path k)) }
+  leads-of (a_block b l) h =
+      let i = leads-of b h.1 in
+      let m = leads-of l i.behind_them.1 in
+      record { nodes = (h.0, m.nodes); behind_them = m.behind_them; definitions = λ path k. (h.0.0, i.nodes, i.definitions path (m.definitions path k)) }
+
+  closes-of : {xs ys : List Item} {ds es : List Definition} {other : Nodes} → Closes xs ds other ys es → OfItems xs → Kept (else_said other (nodes_said other)) ys ds es
+  closes-of an_end h = record { nodes = tt; behind_them = h.1; definitions = λ path k. k }
+  closes-of (an_else {other = other} l) h = let m = leads-of l h.1 in record { nodes = else-of other m.nodes; behind_them = m.behind_them.1; definitions = m.definitions }
   closes-of (an_else_branch {branch = br} {h = r} {body = body} {other = other} l o) h =
-      let inner = leads-of l h.1 in
-      let behind = closes-of o inner.1 in
-      ((tt, said-append (node_said (control_node (control_in br) r body other)) [] (control-of (control_in br) r (nodes_said body) (else_said other (nodes_said other)) (branch-of br r h.0) inner.0 behind.0) tt), behind.1)
+      let i = leads-of l h.1 in
+      let e = closes-of o i.behind_them in
+      record {
+        nodes = (tt, said-append (node_said (control_node (control_in br) r body other)) [] (control-of (control_in br) r (nodes_said body) (else_said other (nodes_said other)) (branch-of br r h.0) i.nodes e.nodes) tt);
+        behind_them = e.behind_them;
+        definitions = λ path k. i.definitions path (e.definitions path k);
+      }
 
 pub keeps-printable : KeepsPrintable
-keeps-printable branches bytes items ns h has spells = (leads-of spells (of-items has.read (cuts-of has.cut h))).0
+keeps-printable branches bytes items ds own h has spells =
+    let k = leads-of spells (of-items has.read (cuts-of has.cut h)) in
+    (λ path. k.definitions path tt, k.nodes)

@@ -1,22 +1,24 @@
--- The pieces of a printed file are read as what its nodes say.
-use Rattle.std.proofs.Common.{arith, ◌≡◌, ◌≤◌, ℕ, List, [], ◌∷◌, refl, sym, subst, map}
+-- The pieces of a printed file are read as what its nodes say, and those of a printed set as what it says.
+use Rattle.std.proofs.Common.{arith, ◌≡◌, ◌≤◌, ℕ, List, [], ◌∷◌, Some, None, refl, sym, subst, map, codes}
 use Rattle.tmpl_lex.specs.Piece.{Token, Piece, text, action}
 use Rattle.tmpl_grammar.specs.Tree.{Pipeline, pipeline}
-use Rattle.tmpl_grammar.specs.Action.{Action, pipeline_action, opening, plain_else, else_branch, end_action, break_action, continue_action}
+use Rattle.tmpl_grammar.specs.Action.{Action, pipeline_action, opening, plain_else, else_branch, end_action, break_action, continue_action, define_action, template_action, block_action}
 use Rattle.tmpl_grammar.specs.Depth.{depth_of, depth_of_pipeline, most_deep}
 use Rattle.tmpl_syntax.specs.Language.{every_branch}
 use Rattle.tmpl_syntax.specs.Item.{Item, item, text_item, action_item, a_text as text_read, read, AreItems, no_item, an_item}
-use Rattle.tmpl_syntax.specs.Print.Join.{Part, a_text, an_action, AreParts, SamePieces, no_piece, same_text, same_action}
-use Rattle.tmpl_syntax.specs.Print.Printed.{Said, said_text, said, nodes_said, part_of}
+use Rattle.tmpl_syntax.specs.Set.{Template}
+use Rattle.tmpl_syntax.specs.Print.Join.{Part, a_text, an_action, IsText, AreParts, SamePieces, no_piece, same_text, same_action}
+use Rattle.tmpl_syntax.specs.Print.Printed.{Said, said_text, said, nodes_said, set_said, part_of}
 use Rattle.tmpl_grammar.specs.Printable.{OfPipeline, OfAction}
-use Rattle.tmpl_syntax.specs.Print.Printable.{AreSaid}
-use Rattle.tmpl_syntax.specs.Print.Laws.{Says, says_nothing, says_text, says, ReadsSame}
+use Rattle.tmpl_syntax.specs.Print.Printable.{AreSaid, ArePrintable}
+use Rattle.tmpl_syntax.specs.Print.Laws.{Says, says_nothing, says_text, says, ReadsSame, SetReadsSame}
 use Rattle.tmpl_syntax.proofs.ItemLemmas.{has-every}
-use Rattle.tmpl_lex.proofs.PartLemmas.{absent-nil}
+use Rattle.tmpl_lex.proofs.PartLemmas.{absent-nil, absent-cons}
 use Rattle.tmpl_syntax.proofs.JoinLemmas.{cut-back}
 use Rattle.tmpl_grammar.proofs.PrintedTokenLemmas.{action-inside}
 use Rattle.tmpl_grammar.proofs.PrintedSpellingLemmas.{spells-tokens}
-use Rattle.tmpl_syntax.proofs.PrintedNodeLemmas.{spells-alike}
+use Rattle.tmpl_syntax.proofs.PrintableNodeLemmas.{said-append}
+use Rattle.tmpl_syntax.proofs.PrintedNodeLemmas.{spells-alike, set-leads}
 
 are-parts : (ss : List Said) → AreSaid ss → AreParts (map part_of ss)
 are-parts [] h = tt
@@ -26,7 +28,7 @@ are-parts (said a ∷ ss) h = (action-inside a h.0, are-parts ss h.1)
 pipeline_within : (p : Pipeline) → OfPipeline p → depth_of_pipeline p ≤ most_deep
 pipeline_within (pipeline cs) h = h.1
 
-pub within : (a : Action) → OfAction a → depth_of a ≤ most_deep
+within : (a : Action) → OfAction a → depth_of a ≤ most_deep
 within (pipeline_action r) h = pipeline_within r.pipeline h.2
 within (opening c r) h = pipeline_within r.pipeline h.2
 within plain_else h = omega arith
@@ -34,6 +36,10 @@ within (else_branch br r) h = pipeline_within r.pipeline h.2
 within end_action h = omega arith
 within break_action h = omega arith
 within continue_action h = omega arith
+within (define_action name) h = omega arith
+within (template_action name None) h = omega arith
+within (template_action name (Some p)) h = pipeline_within p h.1
+within (block_action name p) h = pipeline_within p h.1
 
 -- items that pieces are read as, and that say this
 record ItemsSaid (ss : List Said) (ps : List Piece) : Type 0 where
@@ -41,25 +47,25 @@ record ItemsSaid (ss : List Said) (ps : List Piece) : Type 0 where
   are : AreItems every_branch ps items
   say : Says ss items
 
-pub record TextFirst (t : List ℕ) (ps : List Part) (qs : List Piece) : Type 0 where
-  pub line : ℕ
-  pub rest : List Piece
-  pub is : qs ≡ text line t ∷ rest
-  pub same : SamePieces ps rest
+record TextFirst (t : List ℕ) (ps : List Part) (qs : List Piece) : Type 0 where
+  line : ℕ
+  rest : List Piece
+  is : qs ≡ text line t ∷ rest
+  same : SamePieces ps rest
 
-pub text-first : {t : List ℕ} {ps : List Part} {qs : List Piece} → SamePieces (a_text t ∷ ps) qs → TextFirst t ps qs
+text-first : {t : List ℕ} {ps : List Part} {qs : List Piece} → SamePieces (a_text t ∷ ps) qs → TextFirst t ps qs
 text-first (same_text {line = line} {qs = qs} s) = record { line = line; rest = qs; is = refl; same = s }
 
-pub record ActionFirst (ts : List Token) (ps : List Part) (qs : List Piece) : Type 0 where
-  pub line : ℕ
-  pub rest : List Piece
-  pub is : qs ≡ action line ts ∷ rest
-  pub same : SamePieces ps rest
+record ActionFirst (ts : List Token) (ps : List Part) (qs : List Piece) : Type 0 where
+  line : ℕ
+  rest : List Piece
+  is : qs ≡ action line ts ∷ rest
+  same : SamePieces ps rest
 
-pub action-first : {ts : List Token} {ps : List Part} {qs : List Piece} → SamePieces (an_action ts ∷ ps) qs → ActionFirst ts ps qs
+action-first : {ts : List Token} {ps : List Part} {qs : List Piece} → SamePieces (an_action ts ∷ ps) qs → ActionFirst ts ps qs
 action-first (same_action {line = line} {qs = qs} s) = record { line = line; rest = qs; is = refl; same = s }
 
-pub none-first : {qs : List Piece} → SamePieces [] qs → qs ≡ []
+none-first : {qs : List Piece} → SamePieces [] qs → qs ≡ []
 none-first no_piece = refl
 
 items-said : (ss : List Said) (qs : List Piece) → AreSaid ss → SamePieces (map part_of ss) qs → ItemsSaid ss qs
@@ -85,4 +91,29 @@ reads-same ns h =
       nodes = s.nodes;
       spells = s.spells;
       alike = s.alike;
+    }
+
+-- ---- a set
+
+newline-is-text : IsText (codes "\n")
+newline-is-text = record { some = omega arith; clear = absent-cons 123 123 10 [] refl (absent-nil 123 123) }
+
+set-is-said : (ts : List Template) → ArePrintable ts → AreSaid (set_said ts)
+set-is-said [] h = tt
+set-is-said (t ∷ ts) h = (h.0, said-append (nodes_said t.1.nodes) (said end_action ∷ said_text (codes "\n") ∷ set_said ts) h.1 (tt, (newline-is-text, set-is-said ts h.2)))
+
+pub set-reads-same : SetReadsSame
+set-reads-same ts h =
+    let are = set-is-said ts h in
+    let c = cut-back (map part_of (set_said ts)) (are-parts (set_said ts) are) [] (absent-nil 123 123) 1 in
+    let i = items-said (set_said ts) c.pieces are c.same in
+    let s = set-leads ts i.items i.say in
+    record {
+      items = i.items;
+      has = record { pieces = c.pieces; cut = c.cuts; read = i.are };
+      definitions = s.definitions;
+      own = s.own;
+      spells = s.spells;
+      alike = s.alike;
+      newlines = s.newlines;
     }

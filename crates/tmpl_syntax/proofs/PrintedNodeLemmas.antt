@@ -1,15 +1,17 @@
--- What nodes say spells the same nodes, apart from lines.
-use Rattle.std.proofs.Common.{◌≡◌, ◌∙◌, ℕ, List, [], ◌∷◌, ◌++◌, refl, sym, ap, subst, append_assoc, append-nil}
+-- What nodes say spells the same nodes, apart from lines, and what a set says spells its definitions.
+use Rattle.std.proofs.Common.{◌≡◌, ◌∙◌, ℕ, List, [], ◌∷◌, ◌++◌, refl, sym, ap, subst, append_assoc, append-nil, map, codes}
 use Rattle.tmpl_grammar.specs.Tree.{Header}
 use Rattle.tmpl_grammar.specs.declared.tree.Control.{Control}
-use Rattle.tmpl_syntax.specs.Tree.{NodeKind, text, action, control_node, break_node, continue_node, Nodes, none, then}
 use Rattle.tmpl_grammar.specs.Action.{Action, end_action}
-use Rattle.tmpl_syntax.specs.Item.{Item, item, action_item}
-use Rattle.tmpl_syntax.specs.Spelling.{Leads, nothing, a_text, an_action, a_break, a_continue, a_control, Closes, an_end, an_else}
-use Rattle.tmpl_syntax.specs.Print.Printed.{Said, said_text, said, else_said, control_said, node_said, nodes_said, unlined_node, unlined}
-use Rattle.tmpl_syntax.specs.Print.Laws.{Says, says_nothing, says_text, says}
+use Rattle.tmpl_syntax.specs.Tree.{NodeKind, text, action, control_node, break_node, continue_node, template_node, Nodes, none, then, Definition}
+use Rattle.tmpl_syntax.specs.Item.{Item, item, text_item, action_item}
+use Rattle.tmpl_syntax.specs.Set.{Template}
+use Rattle.tmpl_syntax.specs.Spelling.{definition, Leads, nothing, a_text, an_action, a_break, a_continue, a_control, a_template, a_define, Closes, an_end, an_else, Spells}
+use Rattle.tmpl_syntax.specs.Print.Printed.{Said, said_text, said, else_said, control_said, node_said, nodes_said, set_said, unlined_node, unlined}
+use Rattle.tmpl_syntax.specs.Print.Laws.{Says, says_nothing, says_text, says, unlined_definition, unlined_template, newline_nodes}
 
--- the first of them
+-- ---- the first of the items
+
 record First (a : Action) (ss : List Said) (xs : List Item) : Type 0 where
   line : ℕ
   rest : List Item
@@ -19,11 +21,25 @@ record First (a : Action) (ss : List Said) (xs : List Item) : Type 0 where
 first-said : {a : Action} {ss : List Said} {xs : List Item} → Says (said a ∷ ss) xs → First a ss xs
 first-said (says {line = line} {xs = xs} s) = record { line = line; rest = xs; is = refl; says_rest = s }
 
--- the first items spell the nodes, apart from lines, and the others say the rest
+record FirstText (t : List ℕ) (ss : List Said) (xs : List Item) : Type 0 where
+  line : ℕ
+  rest : List Item
+  is : xs ≡ item line (text_item t) ∷ rest
+  says_rest : Says ss rest
+
+first-text : {t : List ℕ} {ss : List Said} {xs : List Item} → Says (said_text t ∷ ss) xs → FirstText t ss xs
+first-text (says_text {line = line} {xs = xs} s) = record { line = line; rest = xs; is = refl; says_rest = s }
+
+no-rest : {xs : List Item} → Says [] xs → xs ≡ []
+no-rest says_nothing = refl
+
+-- ---- nodes
+
+-- the first items spell the nodes, apart from lines, with no definition among them, and the others say the rest
 record LeadsNodes (ns : Nodes) (ss : List Said) (xs : List Item) : Type 0 where
   nodes : Nodes
   rest : List Item
-  leads : Leads xs nodes rest
+  leads : {ds : List Definition} → Leads xs ds nodes rest ds
   alike : unlined nodes ≡ unlined ns
   says_rest : Says ss rest
 
@@ -32,24 +48,21 @@ record LeadsNode (n : NodeKind) (ss : List Said) (xs : List Item) : Type 0 where
   line : ℕ
   node : NodeKind
   rest : List Item
-  leads : {ms : Nodes} {zs : List Item} → Leads rest ms zs → Leads xs (then line node ms) zs
+  leads : {ms : Nodes} {zs : List Item} {ds es : List Definition} → Leads rest ds ms zs es → Leads xs ds (then line node ms) zs es
   alike : unlined_node node ≡ unlined_node n
   says_rest : Says ss rest
 
 record LeadsElse (other : Nodes) (ss : List Said) (xs : List Item) : Type 0 where
   nodes : Nodes
   rest : List Item
-  closes : Closes xs nodes rest
+  closes : {ds : List Definition} → Closes xs ds nodes rest ds
   alike : unlined nodes ≡ unlined other
   says_rest : Says ss rest
-
-text-leads : {bytes : List ℕ} {ss : List Said} {xs : List Item} → Says (said_text bytes ∷ ss) xs → LeadsNode (text bytes) ss xs
-text-leads (says_text {line = line} {t = bytes} {xs = xs} s) = record { line = line; node = text bytes; rest = xs; leads = λ l. a_text l; alike = refl; says_rest = s }
 
 else-leads : (other : Nodes) → ((ss : List Said) (xs : List Item) → Says (nodes_said other ++ ss) xs → LeadsNodes other ss xs) → (ss : List Said) (xs : List Item) → Says (else_said other (nodes_said other) ++ said end_action ∷ ss) xs → LeadsElse other ss xs
 else-leads none ih ss xs s =
     let f = first-said s in
-    record { nodes = none; rest = f.rest; closes = subst (λ ys. Closes ys none f.rest) (sym f.is) an_end; alike = refl; says_rest = f.says_rest }
+    record { nodes = none; rest = f.rest; closes = λ {ds}. subst (λ ys. Closes ys ds none f.rest ds) (sym f.is) an_end; alike = refl; says_rest = f.says_rest }
 else-leads (then line n ns) ih ss xs s =
     let f = first-said s in
     let l = ih (said end_action ∷ ss) f.rest f.says_rest in
@@ -57,7 +70,7 @@ else-leads (then line n ns) ih ss xs s =
     record {
       nodes = l.nodes;
       rest = e.rest;
-      closes = subst (λ ys. Closes ys l.nodes e.rest) (sym f.is) (an_else (subst (Leads f.rest l.nodes) e.is l.leads));
+      closes = λ {ds}. subst (λ ys. Closes ys ds l.nodes e.rest ds) (sym f.is) (an_else (subst (λ ys. Leads f.rest ds l.nodes ys ds) e.is l.leads));
       alike = l.alike;
       says_rest = e.says_rest;
     }
@@ -77,24 +90,29 @@ control-leads c h body other in_body in_other ss xs s =
       line = f.line;
       node = control_node c h b.nodes e.nodes;
       rest = e.rest;
-      leads = λ {ms} {zs} l. subst (λ ys. Leads ys (then f.line (control_node c h b.nodes e.nodes) ms) zs) (sym f.is) (a_control b.leads e.closes l);
+      leads = λ {ms} {zs} {ds} {es} l. subst (λ ys. Leads ys ds (then f.line (control_node c h b.nodes e.nodes) ms) zs es) (sym f.is) (a_control b.leads e.closes l);
       alike = control-alike c h b.nodes e.nodes body other b.alike e.alike;
       says_rest = e.says_rest;
     }
 
 mutual
   node-leads : (n : NodeKind) (ss : List Said) (xs : List Item) → Says (node_said n ++ ss) xs → LeadsNode n ss xs
-  node-leads (text bytes) ss xs s = text-leads s
+  node-leads (text bytes) ss xs s =
+      let f = first-text s in
+      record { line = f.line; node = text bytes; rest = f.rest; leads = λ {ms} {zs} {ds} {es} l. subst (λ ys. Leads ys ds (then f.line (text bytes) ms) zs es) (sym f.is) (a_text l); alike = refl; says_rest = f.says_rest }
   node-leads (action h) ss xs s =
       let f = first-said s in
-      record { line = f.line; node = action h; rest = f.rest; leads = λ {ms} {zs} l. subst (λ ys. Leads ys (then f.line (action h) ms) zs) (sym f.is) (an_action l); alike = refl; says_rest = f.says_rest }
+      record { line = f.line; node = action h; rest = f.rest; leads = λ {ms} {zs} {ds} {es} l. subst (λ ys. Leads ys ds (then f.line (action h) ms) zs es) (sym f.is) (an_action l); alike = refl; says_rest = f.says_rest }
   node-leads (control_node c h body other) ss xs s = control-leads c h body other (nodes-leads body) (nodes-leads other) ss xs s
   node-leads break_node ss xs s =
       let f = first-said s in
-      record { line = f.line; node = break_node; rest = f.rest; leads = λ {ms} {zs} l. subst (λ ys. Leads ys (then f.line break_node ms) zs) (sym f.is) (a_break l); alike = refl; says_rest = f.says_rest }
+      record { line = f.line; node = break_node; rest = f.rest; leads = λ {ms} {zs} {ds} {es} l. subst (λ ys. Leads ys ds (then f.line break_node ms) zs es) (sym f.is) (a_break l); alike = refl; says_rest = f.says_rest }
   node-leads continue_node ss xs s =
       let f = first-said s in
-      record { line = f.line; node = continue_node; rest = f.rest; leads = λ {ms} {zs} l. subst (λ ys. Leads ys (then f.line continue_node ms) zs) (sym f.is) (a_continue l); alike = refl; says_rest = f.says_rest }
+      record { line = f.line; node = continue_node; rest = f.rest; leads = λ {ms} {zs} {ds} {es} l. subst (λ ys. Leads ys ds (then f.line continue_node ms) zs es) (sym f.is) (a_continue l); alike = refl; says_rest = f.says_rest }
+  node-leads (template_node name given) ss xs s =
+      let f = first-said s in
+      record { line = f.line; node = template_node name given; rest = f.rest; leads = λ {ms} {zs} {ds} {es} l. subst (λ ys. Leads ys ds (then f.line (template_node name given) ms) zs es) (sym f.is) (a_template l); alike = refl; says_rest = f.says_rest }
 
   nodes-leads : (ns : Nodes) (ss : List Said) (xs : List Item) → Says (nodes_said ns ++ ss) xs → LeadsNodes ns ss xs
   nodes-leads none ss xs s = record { nodes = none; rest = xs; leads = nothing; alike = refl; says_rest = s }
@@ -107,15 +125,41 @@ mutual
 
 -- ---- all of them
 
-no-rest : {xs : List Item} → Says [] xs → xs ≡ []
-no-rest says_nothing = refl
-
 pub record Spelling (ns : Nodes) (xs : List Item) : Type 0 where
   pub nodes : Nodes
-  pub spells : Leads xs nodes []
+  pub spells : Spells xs [] nodes
   pub alike : unlined nodes ≡ unlined ns
 
 pub spells-alike : (ns : Nodes) (xs : List Item) → Says (nodes_said ns) xs → Spelling ns xs
 spells-alike ns xs s =
     let l = nodes-leads ns [] xs (subst (λ ts. Says ts xs) (sym (append-nil (nodes_said ns))) s) in
-    record { nodes = l.nodes; spells = subst (Leads xs l.nodes) (no-rest l.says_rest) l.leads; alike = l.alike }
+    record { nodes = l.nodes; spells = subst (λ ys. Leads xs [] l.nodes ys []) (no-rest l.says_rest) l.leads; alike = l.alike }
+
+-- ---- a set
+
+pub record SetSpelling (ts : List Template) (xs : List Item) : Type 0 where
+  pub definitions : List Definition
+  pub own : Nodes
+  pub spells : Spells xs definitions own
+  pub alike : map unlined_definition definitions ≡ map unlined_template ts
+  pub newlines : unlined own ≡ newline_nodes ts
+
+pub set-leads : (ts : List Template) (xs : List Item) → Says (set_said ts) xs → SetSpelling ts xs
+set-leads [] xs s = record { definitions = []; own = none; spells = subst (λ ys. Leads ys [] none [] []) (sym (no-rest s)) nothing; alike = refl; newlines = refl }
+set-leads (t ∷ ts) xs s =
+    let f = first-said s in
+    let b = nodes-leads t.1.nodes (said end_action ∷ said_text (codes "\n") ∷ set_said ts) f.rest f.says_rest in
+    let e = first-said b.says_rest in
+    let n = first-text e.says_rest in
+    let more = set-leads ts n.rest n.says_rest in
+    let own : Nodes = then n.line (text (codes "\n")) more.own in
+    let first : Definition = definition f.line t.0 b.nodes in
+    record {
+      definitions = first ∷ more.definitions;
+      own = own;
+      spells = subst (λ ys. Leads ys (first ∷ more.definitions) own [] []) (sym f.is)
+          (a_define (subst (λ ys. Leads f.rest more.definitions b.nodes ys more.definitions) e.is b.leads)
+          (subst (λ ys. Leads ys more.definitions own [] []) (sym n.is) (a_text more.spells)));
+      alike = ap (λ ns. (t.0, ns) ∷ map unlined_definition more.definitions) b.alike ∙ ap (λ es. unlined_template t ∷ es) more.alike;
+      newlines = ap (then 0 (text (codes "\n"))) more.newlines;
+    }

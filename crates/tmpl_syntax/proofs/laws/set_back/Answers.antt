@@ -1,4 +1,4 @@
-use Rattle.tmpl_syntax.proofs.WholeNodeLemmas.{set-reads-same}
+use Rattle.tmpl_syntax.proofs.PrintedItemLemmas.{set-reads-same}
 use Rattle.tmpl_syntax.proofs.laws.set_back.Goals as goal
 
 pub returns : goal.returns
