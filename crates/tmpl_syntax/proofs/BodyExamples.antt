@@ -4,14 +4,14 @@ use Rattle.tmpl_grammar.specs.declared.action.Branch.TheVariants.{If as if_branc
 use Rattle.tmpl_syntax.specs.declared.fault.Fault.TheVariants.{NotAnAction, OutOfPlace, NestedTooDeeply, UndeclaredVariable}
 use Rattle.tmpl_grammar.specs.Tree.{Operand, dot, variable, operand, no_operand, command, no_command, Pipeline, pipeline, Binding, unbound, declare, assign, declare_pair, Header}
 use Rattle.tmpl_grammar.specs.declared.tree.Control.TheVariants as control
-use Rattle.tmpl_syntax.specs.Tree.{Nodes, none, then, text, action, control_node, break_node}
+use Rattle.tmpl_syntax.specs.Tree.{Nodes, none, then, text, action, control_node, break_node, template_node}
 use Rattle.tmpl_grammar.specs.Action.{pipeline_action, opening, plain_else, else_branch, end_action, break_action, define_action, template_action, block_action}
 use Rattle.tmpl_syntax.specs.Item.{Item, item, text_item, unreadable_item, unread_item, action_item}
 use Rattle.tmpl_syntax.specs.Place.Role.{roles_of}
 use Rattle.tmpl_syntax.specs.Place.Body.{Verdict, fine, refused, left_open, Judged}
 use Rattle.tmpl_syntax.specs.computed.Frames.{verdict_of}
-use Rattle.tmpl_syntax.specs.Spelling.{Spells}
-use Rattle.tmpl_syntax.specs.computed.Build.{nodes_from}
+use Rattle.tmpl_syntax.specs.Spelling.{definition, Spells}
+use Rattle.tmpl_syntax.specs.computed.Build.{nodes_from, definitions_from}
 use Rattle.tmpl_syntax.proofs.SpellingLemmas.{spells-fine}
 use Rattle.tmpl_syntax.proofs.VerdictLemmas.{judged-all}
 
@@ -274,14 +274,27 @@ chain_nodes =
     (then 3 (control_node control.If (headed unbound dot) (then 4 (action (headed unbound dot)) none) (then 6 (text (119 ∷ [])) none)) none))
     (then 8 (action (headed unbound dot)) none)
 
-an-else-if-is-the-whole-else-part : Spells chain chain_nodes
-unfolding verdict_of nodes_from
+an-else-if-is-the-whole-else-part : Spells chain [] chain_nodes
+unfolding verdict_of nodes_from definitions_from
 an-else-if-is-the-whole-else-part = spells-fine chain refl
 
 -- `{{range .}}{{range .}}{{else}}{{break}}{{end}}{{end}}`: the break stands in the inner else part
 abbrev inner_break : List Item
 inner_break = range_it 1 ∷ range_it 1 ∷ else_it 1 ∷ break_it 1 ∷ end_it 1 ∷ end_it 1 ∷ []
 
-an-inner-else-part : Spells inner_break (then 1 (control_node control.Range (headed unbound dot) (then 1 (control_node control.Range (headed unbound dot) none (then 1 break_node none)) none) none) none)
-unfolding verdict_of nodes_from
+an-inner-else-part : Spells inner_break [] (then 1 (control_node control.Range (headed unbound dot) (then 1 (control_node control.Range (headed unbound dot) none (then 1 break_node none)) none) none) none)
+unfolding verdict_of nodes_from definitions_from
 an-inner-else-part = spells-fine inner_break refl
+
+-- `{{define "b"}}w{{block "b" .}}{{.}}{{end}}{{end}}{{.}}`: the outer one comes first, and a block is a call of its template
+abbrev nested : List Item
+nested = define_it ∷ word 2 ∷ block_it ∷ puts 4 ∷ end_it 5 ∷ end_it 6 ∷ puts 7 ∷ []
+
+abbrev nested_call : Nodes
+nested_call = then 1 (template_node x (Some (single dot))) none
+
+definitions-in-the-order-of-their-headers : Spells nested
+    (definition 1 x (then 2 (text (119 ∷ [])) nested_call) ∷ definition 1 x (then 4 (action (headed unbound dot)) none) ∷ [])
+    (then 7 (action (headed unbound dot)) none)
+unfolding verdict_of nodes_from definitions_from
+definitions-in-the-order-of-their-headers = spells-fine nested refl

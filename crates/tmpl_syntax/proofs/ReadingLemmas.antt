@@ -114,9 +114,16 @@ module _ (set : List Template) (file bytes : List ℕ) where
       once short v None o = no-value _ (line, reason) (sym (short-by fine short v ∙ ap (λ second. placed set file (unless_second second ds)) o) ∙ e)
       once short v (Some at) o =
           let s = same-refusal (line, reason) (at, second_definition) (sym e ∙ short-by fine short v ∙ ap (λ second. placed set file (unless_second second ds)) o) in
-          subst (IsRefusedBy every_branch file bytes line) (sym (ap (λ (r : Refusal). r.1) s))
-          (short, items_of bytes, has-items bytes, judged-by fine v, definitions_from (items_of bytes), nodes_from (items_of bytes), spells-fine (items_of bytes) v,
-          subst (HasSecond ds) (sym (ap (λ (r : Refusal). r.0) s)) (has-second ds at o))
+          subst (IsRefusedBy every_branch file bytes line) (sym (ap (λ (r : Refusal). r.1) s)) (
+            short,
+            items_of bytes,
+            has-items bytes,
+            judged-by fine v,
+            definitions_from (items_of bytes),
+            nodes_from (items_of bytes),
+            spells-fine (items_of bytes) v,
+            subst (HasSecond ds) (sym (ap (λ (r : Refusal). r.0) s)) (has-second ds at o),
+          )
 
       by : length bytes ≤ most_bytes → (v : Verdict) → verdict_of (roles_of (items_of bytes)) ≡ v → IsRefusedBy every_branch file bytes line reason
       by short fine v = once short v (second_in ds) refl

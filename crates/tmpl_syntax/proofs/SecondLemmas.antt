@@ -1,11 +1,16 @@
 -- The second definition of a name that is found is the first there is.
-use Rattle.std.proofs.Common.{arith, ◌≡◌, ◌∙◌, ℕ, ◌+◌, Bool, true, false, ◌||◌, List, [], ◌∷◌, ◌++◌, Option, Some, None, refl, sym, ap, subst, append_assoc, append-nil, length, length-append, bytes_eq, ◌⊎◌, inl, inr, ⊎_elim}
+use Rattle.std.proofs.Common.{arith, ◌≡◌, ◌∙◌, ℕ, ◌+◌, Bool, true, false, ◌||◌, List, [], ◌∷◌, ◌++◌, Option, Some, None, refl, sym, ap, subst, append_assoc, append-nil, length, length-append, bytes_eq, drop, get_or, map, suc, add-one, ◌<◌, ◌⊎◌, inl, inr, ⊎_elim}
 use Rattle.std.specs.List.{list_any}
+use Rattle.std.specs.Prelude.{slice_get}
+use Rattle.std.specs.Option.{option_map}
+use Rattle.std.proofs.Math.Seq.{drop-cons}
 use Rattle.std.proofs.lemmas.Bool.{false≢true}
 use Rattle.std.proofs.lemmas.List.Folds.{list_any-append}
-use Rattle.std.proofs.lemmas.Option.{same_Some}
+use Rattle.std.proofs.lemmas.Option.{slice_get_read, slice_get_within, slice_get-map, get_or_from_slice_get}
 use lib.Pointwise.{bytes_decides}
 use Rattle.tmpl_syntax.specs.Tree.{Definition}
+use Rattle.tmpl_syntax.specs.View.{definition_of, nodes_in}
+use Rattle.tmpl_syntax.specs.declared.tree.Definition as held
 use Rattle.tmpl_syntax.specs.Place.Role.{Name}
 use Rattle.tmpl_syntax.specs.Set.{is_blank}
 use Rattle.tmpl_syntax.specs.Parse.{IsSecond, NoneSecond, HasSecond}
@@ -159,3 +164,39 @@ second-some ds line s = by (second_in ds) (found-in ds)
     by : (o : Option ℕ) → Found ds o → o ≡ Some line
     by None f = not-both ds line f s
     by (Some n) f = ap (λ k. Some k) (one-line ds n line f s)
+
+-- ---- one after the other
+
+drop-next : {A : Type 0} (xs : List A) (i : ℕ) (x : A) → slice_get xs i ≡ Some x → drop i xs ≡ x ∷ drop (i + 1) xs
+drop-next xs i x at =
+    drop-cons xs i x (slice_get_within xs i x at)
+    ∙ ap (λ y. y ∷ drop (suc i) xs) (get_or_from_slice_get xs i x x at)
+    ∙ ap (λ n. x ∷ drop n xs) (sym (add-one i))
+
+module _ (names : List Name) (held_ds : List held.Definition) (i : ℕ) (d : held.Definition) (lt : i < length held_ds) (is : d ≡ get_or held_ds i d) where
+  abbrev ds : List Definition
+  ds = map definition_of held_ds
+
+  abbrev without : Option ℕ
+  without = second_from names (drop (i + 1) ds)
+
+  abbrev with_it : Option ℕ
+  with_it = second_from (names ++ d.name ∷ []) (drop (i + 1) ds)
+
+  -- the definition at a place decides, or what stands behind it
+  next : second_from names (drop i ds) ≡ second_if (is_blank (nodes_in d.nodes.items)) (is_known names d.name) d.line without with_it
+  next =
+      let at : slice_get ds i ≡ Some (definition_of d) = slice_get-map definition_of held_ds i ∙ ap (option_map definition_of) (slice_get_read held_ds (length held_ds) i d refl lt is) in
+      ap (second_from names) (drop-next ds i (definition_of d) at)
+
+  pub next-blank : is_blank (nodes_in d.nodes.items) ≡ true → second_from names (drop i ds) ≡ without
+  next-blank blank = next ∙ ap (λ b. second_if b (is_known names d.name) d.line without with_it) blank
+
+  some : (known : Bool) → is_blank (nodes_in d.nodes.items) ≡ false → is_known names d.name ≡ known → second_from names (drop i ds) ≡ second_if false known d.line without with_it
+  some known blank k = next ∙ ap (λ b. second_if b (is_known names d.name) d.line without with_it) blank ∙ ap (λ b. second_if false b d.line without with_it) k
+
+  pub next-known : is_blank (nodes_in d.nodes.items) ≡ false → is_known names d.name ≡ true → second_from names (drop i ds) ≡ Some d.line
+  next-known blank known = some true blank known
+
+  pub next-new : is_blank (nodes_in d.nodes.items) ≡ false → is_known names d.name ≡ false → second_from names (drop i ds) ≡ with_it
+  next-new blank known = some false blank known

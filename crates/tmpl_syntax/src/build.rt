@@ -130,12 +130,7 @@ fn put_action(alloc: Global, parts: Parts, line: u64, action: Action) -> Result<
 }
 
 /// Puts a definition before the others: its body is the innermost part.
-fn put_definition(
-    alloc: Global,
-    parts: Parts,
-    line: u64,
-    name: Bytes,
-) -> Result<Parts, AllocError>
+fn put_definition(alloc: Global, parts: Parts, line: u64, name: Bytes) -> Result<Parts, AllocError>
     ensures { IfOk result (λ p. parts_of p ≡ spec.definition_before line name (parts_of parts)) }
 {
     let Parts {

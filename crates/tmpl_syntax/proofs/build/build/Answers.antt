@@ -1,8 +1,7 @@
-use Rattle.std.proofs.Common.{◌≡◌, [], ◌∷◌, ◌++◌, List, refl, ap, reverse, map, ◌∙◌}
+use Rattle.std.proofs.Common.{◌≡◌, [], ◌∷◌, ◌++◌, ap, map, ◌∙◌}
 use Rattle.std.proofs.lemmas.List.{map-append}
-use Rattle.tmpl_syntax.specs.Tree.{Nodes, Definition}
 use Rattle.tmpl_syntax.specs.Spelling.{definition}
-use Rattle.tmpl_syntax.specs.View.{definition_of, item_of, nodes_in, parts_of}
+use Rattle.tmpl_syntax.specs.View.{definition_of, nodes_in, parts_of}
 use Rattle.tmpl_syntax.specs.computed.Build as build
 use Rattle.tmpl_syntax.specs.computed.Build.{nodes_from, definitions_from}
 use Rattle.tmpl_syntax.proofs.build.build.Goals as goal

@@ -1,5 +1,4 @@
-use Rattle.std.proofs.Common.{◌≡◌, ◌∷◌, List, ap, reverse, map, ◌∙◌}
-use Rattle.tmpl_syntax.specs.Tree.{Nodes, Definition}
+use Rattle.std.proofs.Common.{◌∷◌, ap, reverse, map, ◌∙◌}
 use Rattle.tmpl_syntax.specs.Spelling.{definition}
 use Rattle.tmpl_syntax.specs.View.{definition_of, nodes_in, parts_of}
 use Rattle.tmpl_syntax.proofs.BuildLemmas.{same-around, reverse-push}

@@ -1,4 +1,4 @@
-use Rattle.std.proofs.Common.{rules, arith, ◌≡◌, ◌≤◌, ◌∷◌, List, [], length, map, refl, sym, ap, subst, ◌∙◌}
+use Rattle.std.proofs.Common.{arith, ◌≡◌, ◌≤◌, List, length, map, sym, ap, subst, ◌∙◌}
 use Rattle.std.proofs.lemmas.List.{nil_from_length}
 use Rattle.indexmap.specs.IndexMap.{spare}
 use Rattle.tmpl_syntax.specs.View.{set_view, template_of}
@@ -16,11 +16,12 @@ define-requires c = omega (arith, ap length c.in-Some.ensures.steps.0, c.loop-na
 
 pub loop-name-preserved : goal.loop-name-preserved
 loop-name-preserved c =
-    let rest : List Template = map template_of c.next.new.self.rest.items in
-    (ap (λ (ts : List Template). defined_each ts rest) c.define.ensures.defined
-    ∙ ap (λ (es : List Entry). defined_each (set_view c.loop-name.set.entries) (map template_of es)) (sym c.in-Some.ensures.steps.0)
-    ∙ c.loop-name.invariant.0,
-    omega (arith, ap length c.in-Some.ensures.steps.0, c.loop-name.invariant.1, c.define.ensures.room))
+    let rest : List Template = map template_of c.next.new.self.rest.items in (
+      ap (λ (ts : List Template). defined_each ts rest) c.define.ensures.defined
+          ∙ ap (λ (es : List Entry). defined_each (set_view c.loop-name.set.entries) (map template_of es)) (sym c.in-Some.ensures.steps.0)
+          ∙ c.loop-name.invariant.0,
+      omega (arith, ap length c.in-Some.ensures.steps.0, c.loop-name.invariant.1, c.define.ensures.room),
+    )
 
 pub returns : goal.returns
 returns c =

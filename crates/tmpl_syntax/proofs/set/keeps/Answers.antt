@@ -1,6 +1,6 @@
-use Rattle.std.proofs.Common.{◌≡◌, ◌&&◌, true, Option, Some, None, refl, sym, ap, ◌∙◌}
+use Rattle.std.proofs.Common.{◌≡◌, ◌&&◌, Option, Some, None, refl, sym, ap, ◌∙◌}
 use Rattle.std.specs.Option.{option_map, is_some}
-use Rattle.tmpl_syntax.specs.View.{tree_of, nodes_in, set_view, template_of}
+use Rattle.tmpl_syntax.specs.View.{tree_of, nodes_in, set_view}
 use Rattle.tmpl_syntax.specs.Set.{tree_named, is_blank}
 use Rattle.tmpl_syntax.proofs.SetLemmas.{lookup-view}
 use Rattle.tmpl_syntax.proofs.set.keeps.Goals as goal

@@ -1,7 +1,6 @@
-use Rattle.std.proofs.Common.{List, sym, ap, subst, map, ◌∙◌}
+use Rattle.std.proofs.Common.{List, sym, subst, map}
 use Rattle.tmpl_syntax.specs.View.{set_view, template_of}
 use Rattle.tmpl_syntax.specs.Kept.{AreKept}
-use Rattle.tmpl_syntax.specs.Set.{defined_each}
 use Rattle.tmpl_syntax.proofs.SetLemmas.{Entry}
 use Rattle.tmpl_syntax.proofs.KeptLemmas.{each-kept}
 use Rattle.tmpl_syntax.proofs.set.Set.define_all.Goals as goal
