@@ -1,5 +1,5 @@
 -- The meaning of a template: its text, and the fault that ends it if there is one.
-use Rattle.std.specs.Prelude.{ℕ, ◌-◌, nat_eq, Bool, true, false, ◌||◌, List, [], ◌∷◌, ◌++◌, length, drop}
+use Rattle.std.specs.Prelude.{ℕ, zero, suc, ◌-◌, nat_eq, Bool, true, false, ◌||◌, List, [], ◌∷◌, ◌++◌, length, drop}
 use Rattle.std.specs.Prelude.{Option, Some, None, Result, Ok, Err, if◌then◌else◌}
 use Rattle.std.specs.Str.{bytes_eq}
 use Rattle.tmpl_values.specs.Value.{Value, nothing}
@@ -10,9 +10,10 @@ use Rattle.tmpl_grammar.specs.Tree.{Pipeline, Binding, unbound, declare, assign,
 use Rattle.tmpl_grammar.specs.declared.tree.Control.{Control}
 use Rattle.tmpl_grammar.specs.declared.tree.Control.TheVariants as control
 use Rattle.tmpl_syntax.specs.Tree as tree
-use Rattle.tmpl_syntax.specs.Tree.{NodeKind, text, action, control_node, break_node, continue_node, Nodes, Tree}
+use Rattle.tmpl_syntax.specs.Tree.{NodeKind, text, action, control_node, break_node, continue_node, template_node, Nodes, Tree}
+use Rattle.tmpl_syntax.specs.Set.{Template, tree_named}
 pub use Rattle.tmpl_run.specs.Fault.{Cause, Fault, steps_spent, not_a_function, nil_command, lacks_field}
-pub use Rattle.tmpl_run.specs.Fault.{lacks_entry, not_a_range, call_failed}
+pub use Rattle.tmpl_run.specs.Fault.{lacks_entry, not_a_range, call_failed, no_template, calls_too_deep}
 use Rattle.tmpl_run.specs.Pipeline.{Environment, Given, pipeline_value, without_null}
 use Rattle.tmpl_run.specs.declared.missing_key.MissingKey.{MissingKey}
 
@@ -36,13 +37,6 @@ bound (declare_pair key name) e env = (name, e.1) ∷ (key, e.0) ∷ env
 
 -- ---- runs
 
--- how a template is run: the mode, the limit of steps, and the file and name of the template
-pub record Setting : Type 0 where
-  pub missing_key : MissingKey
-  pub step_limit : ℕ
-  pub file : List ℕ
-  pub template : List ℕ
-
 -- where a run stands: the variables, the text so far, the steps left, and whether a function that makes a text was
 -- called with all its arguments
 pub record Run : Type 0 where
@@ -61,12 +55,29 @@ pub data End : Type 0 where
 abbrev pub Next : Type 0
 Next = Run → Run × End
 
+-- what a name calls: the run of a template over a value, or why there is none
+abbrev pub Calls : Type 0
+Calls = List ℕ → Result (Value → Next) Cause
+
+-- the rules of a run: the mode, the limit of steps, and how many templates may be inside one another
+pub record Rules : Type 0 where
+  pub missing_key : MissingKey
+  pub step_limit : ℕ
+  pub depth_limit : ℕ
+
+-- how a template is run: by these rules, in this file and under this name, and what names call in it
+pub record Setting : Type 0 where
+  pub rules : Rules
+  pub file : List ℕ
+  pub template : List ℕ
+  pub calls : Calls
+
 abbrev pub faulted_at : Setting → ℕ → Cause → End
 faulted_at s line cause =
     faulted (record { file = s.file; line = line; template = s.template; cause = cause })
 
 abbrev pub spend_if : Bool → Setting → ℕ → Next → Next
-spend_if true s line go r = (r, faulted_at s line (steps_spent s.step_limit))
+spend_if true s line go r = (r, faulted_at s line (steps_spent s.rules.step_limit))
 spend_if false s line go r = go (record r { left = r.left - 1 })
 
 -- takes a step and goes on, or stops where none is left
@@ -94,7 +105,7 @@ with_given s line g go r = with_value s line g.result go (record r { made_text =
 -- goes on with the value of a pipeline, or stops
 abbrev pub with_pipeline : Setting → ℕ → Pipeline → Value → (Value → Next) → Next
 with_pipeline s line p d go r =
-    with_given s line (pipeline_value (record { missing_key = s.missing_key; dot = d; env = r.env }) p) go r
+    with_given s line (pipeline_value (record { missing_key = s.rules.missing_key; dot = d; env = r.env }) p) go r
 
 -- the variables are as many again as they were: those declared since are gone, and values assigned stay
 abbrev pub scoped : ℕ → Run × End → Run × End
@@ -179,6 +190,20 @@ controlled s line control.If h d body other = choosing s line h d (λ v. body d)
 controlled s line control.With h d body other = choosing s line h d body other
 controlled s line control.Range h d body other = ranging s line h d body other
 
+-- goes on with what a name calls, or stops
+abbrev pub with_callee : Setting → ℕ → Result (Value → Next) Cause → ((Value → Next) → Next) → Next
+with_callee s line (Ok body) go r = go body r
+with_callee s line (Err cause) go r = (r, faulted_at s line cause)
+
+-- goes on with the value that is handed to a template: that of the pipeline, or nothing
+abbrev pub handing : Setting → ℕ → Option Pipeline → Value → (Value → Next) → Next
+handing s line None d go = go nothing
+handing s line (Some p) d go = with_pipeline s line p d go
+
+-- a call: the template is looked for before its pipeline is looked at
+abbrev pub calling : Setting → ℕ → List ℕ → Option Pipeline → Value → Next
+calling s line name given d = with_callee s line (s.calls name) (handing s line given d)
+
 abbrev mutual
   -- a node with this dot, once its step is taken; its variables last to the end of a control
   pub stepped : Setting → ℕ → NodeKind → Value → Next
@@ -188,6 +213,7 @@ abbrev mutual
       scope (controlled s line c h d (λ v. meanings s body v) (meanings s other d))
   stepped s line break_node d = λ r. (r, broke)
   stepped s line continue_node d = λ r. (r, continued)
+  stepped s line (template_node name given) d = calling s line name given d
 
   -- the nodes one after the other, up to the first that is not done; each costs a step before anything else
   pub meanings : Setting → Nodes → Value → Next
@@ -197,6 +223,41 @@ abbrev mutual
 -- a node with this dot
 abbrev pub meaning : Setting → ℕ → NodeKind → Value → Next
 meaning s line n d = spend s line (stepped s line n d)
+
+-- ---- calls
+
+-- where a template ends, whatever it ends in: one that is accepted breaks out of nothing but a range of its own
+abbrev pub left_by : End → End
+left_by done = done
+left_by broke = done
+left_by continued = done
+left_by (faulted f) = faulted f
+
+-- behind a template the variables are those of its caller
+abbrev pub returned : Environment → Run × End → Run × End
+returned env part = (record part.0 { env = env }, left_by part.1)
+
+-- a template sees no variable but `$`, which is the value that is handed to it
+abbrev pub apart : Value → Next → Next
+apart v body r = returned r.env (body (record r { env = ([], v) ∷ [] }))
+
+abbrev pub setting_of : Rules → Calls → List ℕ → Tree → Setting
+setting_of rules calls name t = record { rules = rules; file = t.file; template = name; calls = calls }
+
+-- the run of a template of this name that calls so
+abbrev pub called : Rules → Calls → List ℕ → Option Tree → Result (Value → Next) Cause
+called rules calls name None = Err (no_template name)
+called rules calls name (Some t) = Ok (λ v. apart v (meanings (setting_of rules calls name t) t.nodes v))
+
+-- .. where no call more may be made
+abbrev pub uncalled : Rules → List ℕ → Option Tree → Result (Value → Next) Cause
+uncalled rules name None = Err (no_template name)
+uncalled rules name (Some t) = Err (calls_too_deep rules.depth_limit)
+
+-- what names call in this set, where so many calls may be made inside one another
+abbrev pub calls_within : Rules → List Template → ℕ → Calls
+calls_within rules set zero name = uncalled rules name (tree_named name set)
+calls_within rules set (suc n) name = called rules (calls_within rules set n) name (tree_named name set)
 
 -- ---- whole templates
 
@@ -214,10 +275,6 @@ fault_of broke = None
 fault_of continued = None
 fault_of (faulted f) = Some f
 
-abbrev pub setting_of : MissingKey → ℕ → List ℕ → Tree → Setting
-setting_of missing_key step_limit name t =
-    record { missing_key = missing_key; step_limit = step_limit; file = t.file; template = name }
-
 abbrev pub ran_of : Run × End → Ran
 ran_of r = record { text = r.0.text; fault = fault_of r.1; made_text = r.0.made_text }
 
@@ -230,10 +287,11 @@ starting_dot (Some v) = without_null v
 abbrev pub started : ℕ → Value → Run
 started step_limit d = record { env = ([], d) ∷ []; text = []; left = step_limit; made_text = false }
 
-abbrev pub ran_with : MissingKey → ℕ → List ℕ → Tree → Value → Ran
-ran_with missing_key step_limit name t d =
-    ran_of (meanings (setting_of missing_key step_limit name t) t.nodes d (started step_limit d))
+abbrev pub ran_with : Rules → List Template → List ℕ → Tree → Value → Ran
+ran_with rules set name t d =
+    ran_of (meanings (setting_of rules (calls_within rules set (rules.depth_limit - 1)) name t) t.nodes d
+    (started rules.step_limit d))
 
--- what a template of this name puts out over the data
-abbrev pub ran : MissingKey → ℕ → List ℕ → Tree → Option Value → Ran
-ran missing_key step_limit name t input = ran_with missing_key step_limit name t (starting_dot input)
+-- what a template of this name and set puts out over the data
+abbrev pub ran : Rules → List Template → List ℕ → Tree → Option Value → Ran
+ran rules set name t input = ran_with rules set name t (starting_dot input)

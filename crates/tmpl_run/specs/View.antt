@@ -4,7 +4,7 @@ use Rattle.tmpl_values.specs.Value.{Value}
 use Rattle.tmpl_values.specs.View.{val_of}
 use Rattle.tmpl_values.specs.declared.value.Val.{Val}
 use Rattle.tmpl_run.specs.Fault.{Cause, steps_spent, not_a_function, nil_command, lacks_field, lacks_entry}
-use Rattle.tmpl_run.specs.Fault.{not_a_range, call_failed, Fault}
+use Rattle.tmpl_run.specs.Fault.{not_a_range, call_failed, no_template, calls_too_deep, Fault}
 use Rattle.tmpl_run.specs.declared.fault.RunFaultKind.{RunFaultKind}
 use Rattle.tmpl_run.specs.declared.fault.RunFaultKind.TheVariants as kind
 use Rattle.tmpl_run.specs.declared.fault.RunFault.{RunFault}
@@ -17,6 +17,8 @@ cause_of kind.NotARange = not_a_range
 cause_of kind.NotAFunction = not_a_function
 cause_of kind.NilCommand = nil_command
 cause_of (kind.Call f fault) = call_failed f fault
+cause_of (kind.NoTemplate name) = no_template name.now
+cause_of (kind.CallsTooDeep limit) = calls_too_deep limit
 
 abbrev pub fault_seen : RunFault → Fault
 fault_seen f =

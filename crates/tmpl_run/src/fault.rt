@@ -18,6 +18,10 @@ pub enum RunFaultKind<'a> {
     NilCommand,
     /// A function refused its arguments.
     Call(Func, CallFault),
+    /// A call of a template of this name, of which there is none.
+    NoTemplate(&'a [u8]),
+    /// A call inside so many templates, which is as many as there may be, the starting one counted.
+    CallsTooDeep(u32),
 }
 
 /// A run that failed: why, and where. The text before the fault is put out all the same.
