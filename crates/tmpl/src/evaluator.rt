@@ -474,6 +474,7 @@ fn starting_dot(data: Option<&Data>) -> Val<'_>
 }
 
 /// What the template of this set puts out over the data.
+#[tactic(auto, unfolding(crate::specs::View::calls_seen))]
 pub(crate) fn evaluate<'a>(
     alloc: Global,
     options: &Options,

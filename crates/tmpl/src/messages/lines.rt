@@ -217,10 +217,7 @@ fn put_reason<E: Sink>(err: &mut E, kind: RunFaultKind<'_>) -> Result<(), SinkFa
             put_parts(err, parts.as_slice())
         }
         RunFaultKind::CallsTooDeep(limit) => {
-            let parts = [
-                Part::Text("calls deeper than "),
-                Part::Number(limit as u64),
-            ];
+            let parts = [Part::Text("calls deeper than "), Part::Number(limit as u64)];
             put_parts(err, parts.as_slice())
         }
         RunFaultKind::NotARange => {
