@@ -60,3 +60,4 @@ module _ (old : List Template) (name bytes : Bytes) (f : ParseFault) (file : f.f
   add_stops kind.NestedTooDeeply is e = refusal_stops _ (ap reason_of is) e
   add_stops kind.OpenAtEnd is e = refusal_stops _ (ap reason_of is) e
   add_stops kind.TooLong is e = refusal_stops _ (ap reason_of is) e
+  add_stops kind.SecondDefinition is e = refusal_stops _ (ap reason_of is) e

@@ -11,7 +11,7 @@ use Rattle.tmpl.specs.Words.{Wanted, wanted}
 use Rattle.tmpl.specs.Source.{Bytes, Files}
 use Rattle.tmpl.specs.Outcome.{Answer, Begun}
 use Rattle.tmpl.specs.Laws.{AskFor, GivesHelp, RefusesWords, Runs, StopsAtData, StopsAtFile, StopsAtName, TellsFailedWrite, TellsRefusedMemory}
-use Rattle.tmpl.specs.Tool.{Failing, asked_name, data_found, end_of, failing_file, fails_data, loaded, no_read, or_data_refused, or_not_found, or_refused, or_refused_words, or_stop, or_unnamed, read_in, run_of, run_status, tool_answer, unless_help}
+use Rattle.tmpl.specs.Tool.{Failing, asked_name, data_found, end_of, failing_file, fails_data, loaded, no_read, or_data_refused, or_not_found, or_refused, or_refused_words, or_stop, or_unnamed, read_in, rules_of, run_of, run_status, tool_answer, unless_help}
 use Rattle.tmpl.specs.computed.Load.{after_set, after_words, rendered}
 
 pub gives_help : GivesHelp
@@ -37,9 +37,9 @@ module _ (words : List Bytes) (files : Files) (w : Wanted) (asks : AskFor words 
     with_data r is = with_files (Ok set) loads ∙ ap (λ r. end_of (or_stop r (rendered w set))) is
 
     with_name : (input : Option Value) → data_found files false w.data_file ≡ Ok input → (o : Option Tree) → tree_named (asked_name w) set ≡ o
-        → tool_answer words files no_read ≡ end_of (or_stop (or_unnamed (asked_name w) o) (λ tree. Ok (run_of w.options (asked_name w) input tree)))
+        → tool_answer words files no_read ≡ end_of (or_stop (or_unnamed (asked_name w) o) (λ tree. Ok (run_of w.options set (asked_name w) input tree)))
     with_name input found o is =
-        with_data (Ok input) found ∙ ap (λ o. end_of (or_stop (or_unnamed (asked_name w) o) (λ tree. Ok (run_of w.options (asked_name w) input tree)))) is
+        with_data (Ok input) found ∙ ap (λ o. end_of (or_stop (or_unnamed (asked_name w) o) (λ tree. Ok (run_of w.options set (asked_name w) input tree)))) is
 
 -- the files before a file, and that file
 loaded_part : (files : Files) (set : List Template) (before : List Bytes) (rest : List Bytes)
@@ -161,8 +161,8 @@ run-other (Some f) = other-1
 
 rendered-other : (w : Wanted) (set : List Template) (input : Option Value) → IsOther (rendered w set input)
 rendered-other w set input =
-    or_stop-other (or_unnamed (asked_name w) (tree_named (asked_name w) set)) (λ tree. Ok (run_of w.options (asked_name w) input tree))
-    (name-stops (asked_name w) (tree_named (asked_name w) set)) (λ tree. run-other (ran w.options.missing_key w.options.steps (asked_name w) tree input).fault)
+    or_stop-other (or_unnamed (asked_name w) (tree_named (asked_name w) set)) (λ tree. Ok (run_of w.options set (asked_name w) input tree))
+    (name-stops (asked_name w) (tree_named (asked_name w) set)) (λ tree. run-other (ran (rules_of w.options) set (asked_name w) tree input).fault)
 
 answer-other : (words : List Bytes) (files : Files) (failing : Failing) → (tool_answer words files failing).status ≢ 7
 answer-other words files failing =

@@ -52,7 +52,7 @@ abbrev pub Runs : Type 0
 Runs = (words : List Bytes) (files : Files) (w : Wanted) (set : List Template) → Load words files w set
     → (input : Option Value) → data_found files false w.data_file ≡ Ok input
     → (tree : Tree) → tree_named (asked_name w) set ≡ Some tree
-    → tool_answer words files no_read ≡ run_of w.options (asked_name w) input tree
+    → tool_answer words files no_read ≡ run_of w.options set (asked_name w) input tree
 
 -- where the output fails, it took a beginning of the text, and the status is 6 with its line, whatever else went wrong
 abbrev pub TellsFailedWrite : Type 0

@@ -11,7 +11,7 @@ use Rattle.tmpl_syntax.specs.Fault as refused
 use Rattle.tmpl_syntax.specs.Fault.{Reason}
 use Rattle.tmpl_run.specs.Sink.{Sunk}
 use Rattle.tmpl_run.specs.Meaning.{Cause, steps_spent, not_a_function, nil_command, lacks_field, lacks_entry}
-use Rattle.tmpl_run.specs.Meaning.{not_a_range, call_failed, Fault, Ran, ran}
+use Rattle.tmpl_run.specs.Meaning.{not_a_range, call_failed, no_template, calls_too_deep, Fault, Rules, Ran, ran}
 use Rattle.tmpl_funcs.specs.Func.{name_of}
 use Rattle.tmpl_funcs.specs.declared.fault.CallFault.{CallFault}
 use Rattle.tmpl_funcs.specs.declared.fault.CallFault.TheVariants as call
@@ -50,6 +50,7 @@ parse_text refused.undeclared_variable = codes "undeclared variable"
 parse_text refused.open_at_end = codes "file ends inside a control"
 parse_text refused.nested_too_deeply = codes "nested too deeply"
 parse_text refused.too_long = codes "file longer than 16777216 bytes"
+parse_text refused.second_definition = codes "second definition"
 
 -- a file is refused at this line, with this text
 abbrev pub located_answer : Bytes → ℕ → Bytes → Answer
@@ -85,6 +86,8 @@ cause_pieces (lacks_entry name) = plain (codes "no entry for key ") ∷ quoted n
 cause_pieces not_a_range = plain (codes "can't range over this value") ∷ []
 cause_pieces not_a_function = plain (codes "not a function") ∷ []
 cause_pieces nil_command = plain (codes "nil is not a command") ∷ []
+cause_pieces (no_template name) = plain (codes "no template ") ∷ quoted name ∷ []
+cause_pieces (calls_too_deep limit) = plain (codes "calls deeper than ") ∷ number limit ∷ []
 cause_pieces (call_failed f fault) = plain (name_of f) ∷ plain (codes ": ") ∷ plain (call_text fault) ∷ []
 
 -- a line that says where a run stopped, and why
@@ -215,9 +218,13 @@ abbrev pub or_unnamed : Bytes → Option Tree → Result Tree Answer
 or_unnamed name None = Err (unnamed_answer name)
 or_unnamed name (Some tree) = Ok tree
 
--- the run of a tree under this name
-abbrev pub run_of : WantedOptions → Bytes → Option Value → Tree → Answer
-run_of options name input tree = run_answer (ran options.missing_key options.steps name tree input)
+abbrev pub rules_of : WantedOptions → Rules
+rules_of options =
+    record { missing_key = options.missing_key; step_limit = options.steps; depth_limit = options.depth }
+
+-- the run of a tree of this set under this name
+abbrev pub run_of : WantedOptions → List Template → Bytes → Option Value → Tree → Answer
+run_of options set name input tree = run_answer (ran (rules_of options) set name tree input)
 
 -- what the command comes to: help, the words, each FILE, the data, the name, and the run
 abbrev pub tool_answer : List Bytes → Files → Failing → Answer
@@ -227,7 +234,7 @@ tool_answer words files failing = end_of
     or_stop (loaded files (failing_file failing) [] w.files) (λ set.
     or_stop (data_found files (fails_data failing) w.data_file) (λ input.
     or_stop (or_unnamed (asked_name w) (tree_named (asked_name w) set)) (λ tree.
-    Ok (run_of w.options (asked_name w) input tree)))))))
+    Ok (run_of w.options set (asked_name w) input tree)))))))
 
 -- what words come to that read no file: those that ask for help, and those that are refused
 abbrev pub words_alone : List Bytes → Option Answer

@@ -5,7 +5,8 @@ use Rattle.tmpl_values.specs.Value.{Value}
 use Rattle.tmpl_values.specs.View.{val_of}
 use Rattle.tmpl_values.specs.declared.value.Cell.{Cell}
 use Rattle.tmpl_funcs.specs.View.{values_of}
-use Rattle.tmpl_run.specs.Meaning.{Cause, Setting, Run, End, done, broke, continued, faulted, Ran}
+use Rattle.tmpl_run.specs.Meaning.{Cause, Calls, Rules, Setting, Run, End, done, broke, continued, faulted, calls_within, Ran}
+use Rattle.tmpl_syntax.specs.View.{set_view}
 use Rattle.tmpl_run.specs.Pipeline.{Environment, Given, GivenAll, Place}
 use Rattle.tmpl_run.specs.View.{cause_of, fault_seen, value_seen}
 use Rattle.tmpl_run.specs.declared.fault.RunFaultKind.{RunFaultKind}
@@ -80,12 +81,24 @@ env_in vs = reverse (map variable_of vs)
 abbrev pub env_of : Variables → Environment
 env_of vs = env_in vs.items.items
 
+abbrev pub rules_seen : Options → Rules
+rules_seen options =
+    record { missing_key = options.missing_key; step_limit = options.steps; depth_limit = options.depth }
+
+abbrev pub setting_rules : code_setting.Setting → Rules
+setting_rules s =
+    record { missing_key = s.missing_key; step_limit = s.step_limit; depth_limit = s.depth_limit }
+
+-- what names call
+unfoldable pub calls_seen : code_setting.Setting → Calls
+calls_seen s = calls_within (setting_rules s) (set_view s.set.now) s.calls_left
+
 abbrev pub setting_seen : code_setting.Setting → Setting
 setting_seen s = record {
-  missing_key = s.missing_key;
-  step_limit = s.step_limit;
+  rules = setting_rules s;
   file = s.file.now;
   template = s.template.now;
+  calls = calls_seen s;
 }
 
 abbrev pub run_of : code_machine.Machine → Run

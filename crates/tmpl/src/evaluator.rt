@@ -2,15 +2,16 @@
 ghost use Rattle.std.specs.Prelude.{◌≡◌, ◌≤◌, IfOk, OnOk, Some, length, option_map};
 ghost use Rattle.tmpl_values.specs.View.{val_of, value_of};
 ghost use Rattle.tmpl_grammar.specs.View.{binding_of, header_of, pipeline_of};
-ghost use Rattle.tmpl_syntax.specs.View.{node_of, nodes_in, tree_of};
+ghost use Rattle.tmpl_syntax.specs.View.{node_of, nodes_in, set_view, tree_of};
 ghost use Rattle.tmpl_run.specs.Meaning.{acting, alone, done, faulted_at, meaning, meanings, putting, ran, scope};
 ghost use Rattle.tmpl_run.specs.Meaning.{shown, starting_dot, stepped, visited, with_bound};
 ghost use Rattle.tmpl_run.specs.View.{cause_of};
 ghost use Rattle.tmpl.specs.computed.Evaluator.{HasValue, control_run, if_run, range_run, turn_run, turns_run};
 ghost use Rattle.tmpl.specs.computed.Evaluator.{visited_by, with_run};
-ghost use Rattle.tmpl.specs.View.{end_seen, ran_seen, run_of, setting_seen};
+ghost use Rattle.tmpl.specs.View.{end_seen, ran_seen, rules_seen, run_of, setting_seen};
 ghost use Rattle.tmpl_run.specs.View.{value_seen};
 
+mod call;
 mod pipeline;
 pub(crate) mod rope;
 mod variables;
@@ -23,7 +24,7 @@ use tmpl_grammar::{Binding, Control, Header, Pipeline};
 use tmpl_run::{
     MissingKey, Options, RunFault, RunFaultKind, element_count, pair_count, without_null,
 };
-use tmpl_syntax::{ControlNode, Node, NodeKind, Tree};
+use tmpl_syntax::{ControlNode, Node, NodeKind, Set, Tree};
 use tmpl_values::{Bytes, Data, Val, put_text};
 
 /// What a run came to: its text, and the fault that ended it.
@@ -40,6 +41,11 @@ pub(crate) struct Rendered<'a> {
 struct Setting<'a> {
     missing_key: MissingKey,
     step_limit: u64,
+    depth_limit: u32,
+    /// The templates that may be called.
+    set: &'a Set,
+    /// How many templates more may be inside this one.
+    calls_left: u32,
     file: &'a [u8],
     template: &'a [u8],
 }
@@ -147,6 +153,9 @@ impl<'a> Machine<'a> {
             NodeKind::Control(control) => self.control(setting, node.line, control, dot),
             NodeKind::Break => Ok(End::Broke),
             NodeKind::Continue => Ok(End::Continued),
+            NodeKind::Template(name, given) => {
+                self.call(setting, node.line, name.as_slice(), given, dot)
+            }
         }
     }
 
@@ -464,20 +473,24 @@ fn starting_dot(data: Option<&Data>) -> Val<'_>
     }
 }
 
-/// What the template puts out over the data.
+/// What the template of this set puts out over the data.
 pub(crate) fn evaluate<'a>(
     alloc: Global,
     options: &Options,
+    set: &'a Set,
     name: &'a [u8],
     tree: &'a Tree,
     data: Option<&'a Data>,
 ) -> Result<Rendered<'a>, AllocError>
-    ensures { IfOk result (λ rendered. ran_seen rendered ≡ ran options.now.missing_key options.now.steps
+    ensures { IfOk result (λ rendered. ran_seen rendered ≡ ran (rules_seen options.now) (set_view set.now)
         name.now (tree_of tree.now) (option_map (λ d. value_of d.now) «data».entry)) }
 {
     let setting = Setting {
         missing_key: options.missing_key,
         step_limit: options.steps,
+        depth_limit: options.depth,
+        set,
+        calls_left: options.depth - 1,
         file: tree.file.as_slice(),
         template: name,
     };

@@ -92,7 +92,7 @@ pub(crate) fn render<O: Sink, E: Sink>(
 {
     let name = asked_name(request);
     match set.get(name) {
-        Some(tree) => match evaluate(alloc, &request.options, name, tree, data) {
+        Some(tree) => match evaluate(alloc, &request.options, set, name, tree, data) {
             Ok(run) => put_run(&run, out, err),
             Err(_) => out_of_memory(err),
         },

@@ -7,8 +7,9 @@ use Rattle.tmpl_funcs.specs.declared.func.Func.TheVariants.{And, Or, Not, Len, I
 use Rattle.tmpl_funcs.specs.declared.fault.CallFault.TheVariants.{WrongCount, WrongKind}
 use Rattle.tmpl_grammar.specs.Tree.{Operand, dot, fields, variable, number_constant, text_constant, nil, function, group, Operands, no_operand, operand, no_command, command, Pipeline, pipeline, Binding, unbound, declare, assign, declare_pair}
 use Rattle.tmpl_grammar.specs.declared.tree.Control.TheVariants as control
-use Rattle.tmpl_syntax.specs.Tree.{NodeKind, Nodes, Tree, none, then, text, action, control_node, break_node, continue_node}
-use Rattle.tmpl_run.specs.Meaning.{Ran, Cause, ran_with, steps_spent, not_a_function, nil_command, lacks_field, lacks_entry, not_a_range, call_failed}
+use Rattle.tmpl_syntax.specs.Tree.{NodeKind, Nodes, Tree, none, then, text, action, control_node, break_node, continue_node, template_node}
+use Rattle.tmpl_run.specs.Meaning.{Ran, Cause, Rules, ran_with, steps_spent, not_a_function, nil_command, lacks_field, lacks_entry, not_a_range, call_failed, no_template, calls_too_deep}
+use Rattle.tmpl_syntax.specs.Set.{Template}
 use Rattle.tmpl_run.specs.Pipeline.{Given, Place, pipeline_value}
 use Rattle.tmpl_run.specs.declared.missing_key.MissingKey.TheVariants.{Default, Invalid, Zero, Error}
 use Rattle.tmpl_run.specs.declared.missing_key.MissingKey.{MissingKey}
@@ -51,9 +52,12 @@ three = sequence (item (string (codes "1")) (item (string (codes "2")) (item (st
 abbrev tree_of : Nodes → Tree
 tree_of ns = record { file = codes "f"; nodes = ns }
 
+abbrev rules : MissingKey → ℕ → ℕ → Rules
+rules mode steps depth = record { missing_key = mode; step_limit = steps; depth_limit = depth }
+
 -- a run with so many steps over this dot
 abbrev run : ℕ → Nodes → Value → Ran
-run steps ns d = ran_with Default steps (codes "t") (tree_of ns) d
+run steps ns d = ran_with (rules Default steps 1000) [] (codes "t") (tree_of ns) d
 
 abbrev puts : List ℕ → Ran
 puts bytes = record { text = bytes; fault = None; made_text = false }
@@ -251,7 +255,7 @@ index-makes-none = refl
 -- ---- the modes for missing keys
 
 abbrev in_mode : MissingKey → Operand → Value → Ran
-in_mode mode o d = ran_with mode 9 (codes "t") (tree_of (then 3 (put o) none)) d
+in_mode mode o d = ran_with (rules mode 9 1000) [] (codes "t") (tree_of (then 3 (put o) none)) d
 
 abbrev empty_map : Value
 empty_map = mapping no_entry
@@ -284,3 +288,61 @@ error-of-a-null = refl
 
 error-in-a-chain : in_mode Error (fields (a ∷ b ∷ [])) (mapping (entry a null no_entry)) ≡ stops [] 3 (lacks_field b)
 error-in-a-chain = refl
+
+-- ---- calls
+
+-- the template t in the file f, and these of the file g
+abbrev beside : List ℕ → Nodes → Template
+beside name ns = (name, record { file = codes "g"; nodes = ns })
+
+abbrev run_with : ℕ → ℕ → List Template → Nodes → Value → Ran
+run_with steps depth set ns d = ran_with (rules Default steps depth) set (codes "t") (tree_of ns) d
+
+abbrev dot_call : ℕ → List ℕ → Nodes → Nodes
+dot_call line name ns = then line (template_node name (Some (only dot))) ns
+
+abbrev bare_call : List ℕ → Nodes → Nodes
+bare_call name ns = then 1 (template_node name None) ns
+
+-- a run that ends in another template
+abbrev stops_in : List ℕ → List ℕ → List ℕ → ℕ → Cause → Ran
+stops_in bytes file template line cause =
+    record { text = bytes; fault = Some (record { file = file; line = line; template = template; cause = cause }); made_text = false }
+
+-- {{template "a" .}} where there is none, in the caller's line, before its pipeline, which is {{template "a" (nil)}}
+a-call-of-none : run_with 9 9 [] (dot_call 3 a none) three ≡ stops [] 3 (no_template a)
+a-call-of-none = refl
+
+a-call-of-none-first : run_with 9 9 [] (then 3 (template_node a (Some (only nil))) none) three ≡ stops [] 3 (no_template a)
+a-call-of-none-first = refl
+
+-- {{define "a"}}{{$}}{{.}}{{end}}{{template "a"}}: without a pipeline a template has nothing, whatever the caller's dot
+a-call-without-a-pipeline : run_with 9 9 (beside a (then 1 (put (variable [] [])) (then 1 (put dot) none)) ∷ []) (bare_call a none) three ≡ puts (codes "<no value><no value>")
+a-call-without-a-pipeline = refl
+
+-- .. and with one, its value, as dot and as `$`; behind it the caller has its own dot and variables again
+a-call-with-a-pipeline : run_with 9 9 (beside a (then 1 (put (variable [] [])) (then 1 (set (declare x) dot) none)) ∷ []) (then 1 (set (declare x) (text_constant (codes "1"))) (then 1 (template_node a (Some (only (text_constant b)))) (then 1 (put (variable x [])) (then 1 (put dot) none)))) (string a) ≡ puts (codes "b1a")
+a-call-with-a-pipeline = refl
+
+-- {{define "a"}}x{{template "a"}}{{end}}{{template "a"}} with depth 3: each inside the other, up to three
+calls-too-deep : run_with 9 3 (beside a (then 1 (text (codes "x")) (bare_call a none)) ∷ []) (bare_call a none) nothing ≡ stops_in (codes "xx") (codes "g") a 1 (calls_too_deep 3)
+calls-too-deep = refl
+
+-- calls beside each other are no deeper
+calls-beside : run_with 9 2 (beside a (then 1 (text (codes "x")) none) ∷ []) (bare_call a (bare_call a none)) nothing ≡ puts (codes "xx")
+calls-beside = refl
+
+-- with depth 1 the starting template calls none, not even before its pipeline is looked at
+no-call-at-all : run_with 9 1 (beside a none ∷ []) (then 2 (template_node a (Some (only nil))) none) nothing ≡ stops [] 2 (calls_too_deep 1)
+no-call-at-all = refl
+
+-- a fault in a template is told there
+a-fault-of-the-callee : run_with 9 9 (beside a (then 7 (put nil) none) ∷ []) (then 1 (text b) (bare_call a none)) nothing ≡ stops_in b (codes "g") a 7 nil_command
+a-fault-of-the-callee = refl
+
+-- steps are counted across calls, and a call is one
+steps-across-calls : run_with 4 9 (beside a (then 5 (text (codes "x")) none) ∷ []) (bare_call a (bare_call a none)) nothing ≡ puts (codes "xx")
+steps-across-calls = refl
+
+a-step-too-few : run_with 3 9 (beside a (then 5 (text (codes "x")) none) ∷ []) (bare_call a (bare_call a none)) nothing ≡ stops_in (codes "x") (codes "g") a 5 (steps_spent 3)
+a-step-too-few = refl

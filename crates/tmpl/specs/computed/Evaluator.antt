@@ -1,12 +1,16 @@
 -- The parts of the meaning that the evaluator's functions run.
-use Rattle.std.specs.Prelude.{ℕ, ◌≡◌, ◌||◌, List, Option, Some, None, Result}
-use Rattle.tmpl_values.specs.Value.{Value}
+use Rattle.std.specs.Prelude.{ℕ, ◌≡◌, ◌||◌, List, Option, Some, None, Result, Ok, Err}
+use Rattle.tmpl_values.specs.Value.{Value, nothing}
 use Rattle.tmpl_values.specs.Elements.{Element}
 use Rattle.tmpl_grammar.specs.Tree.{Pipeline}
 use Rattle.tmpl_grammar.specs.View.{binding_of, header_of}
 use Rattle.tmpl_syntax.specs.View.{nodes_in}
 use Rattle.tmpl_syntax.specs.declared.tree.ControlNode.{ControlNode, out-ControlNode}
-use Rattle.tmpl_run.specs.Meaning.{Cause, Setting, Run, Next, done, choosing, controlled, meanings, ranging}
+use Rattle.tmpl_run.specs.View.{cause_of}
+use Rattle.tmpl_run.specs.declared.fault.RunFaultKind.{RunFaultKind}
+use Rattle.tmpl.specs.View.{setting_seen}
+use Rattle.tmpl.specs.declared.evaluator.call.Callee.{Callee}
+use Rattle.tmpl_run.specs.Meaning.{Cause, Setting, Run, Next, apart, done, choosing, controlled, meanings, ranging}
 use Rattle.tmpl_run.specs.Meaning.{turn, turns, visited}
 use Rattle.tmpl_run.specs.Pipeline.{pipeline_value}
 
@@ -57,5 +61,15 @@ turns_run s line c (Some es) r =
 -- what a pipeline gives in a run, and the run after it
 abbrev pub HasValue : Setting → Pipeline → Value → Run → Result Value Cause → Run → Type 0
 HasValue s p d old v new =
-    let g = pipeline_value (record { missing_key = s.missing_key; dot = d; env = old.env }) p in
+    let g = pipeline_value (record { missing_key = s.rules.missing_key; dot = d; env = old.env }) p in
     (v ≡ g.result) × (new ≡ record old { made_text = old.made_text || g.made_text })
+
+-- .. what is handed to a template
+abbrev pub HasHanded : Setting → Option Pipeline → Value → Run → Result Value Cause → Run → Type 0
+HasHanded s None d old v new = (v ≡ Ok nothing) × (new ≡ old)
+HasHanded s (Some p) d old v new = HasValue s p d old v new
+
+-- what a name calls, or why it calls nothing
+abbrev pub callee_seen : Result Callee RunFaultKind → Result (Value → Next) Cause
+callee_seen (Ok c) = Ok (λ v. apart v (meanings (setting_seen c.setting) (nodes_in c.nodes.now) v))
+callee_seen (Err kind) = Err (cause_of kind)

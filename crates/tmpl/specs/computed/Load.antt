@@ -28,7 +28,7 @@ use Rattle.tmpl.specs.declared.stop.Stop.TheVariants as stop
 -- the name looked up, and the run
 abbrev pub rendered : Wanted → List Template → Option Value → Result Answer Answer
 rendered w set input = or_stop (or_unnamed (asked_name w) (tree_named (asked_name w) set))
-    (λ tree. Ok (run_of w.options (asked_name w) input tree))
+    (λ tree. Ok (run_of w.options set (asked_name w) input tree))
 
 -- the data, and then the run
 abbrev pub after_set : Files → Bool → Wanted → List Template → Result Answer Answer

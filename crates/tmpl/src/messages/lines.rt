@@ -92,6 +92,7 @@ fn parse_text(kind: ParseKind) -> &'static str
         ParseKind::OpenAtEnd => "file ends inside a control",
         ParseKind::NestedTooDeeply => "nested too deeply",
         ParseKind::TooLong => "file longer than 16777216 bytes",
+        ParseKind::SecondDefinition => "second definition",
         ParseKind::OutOfMemory => "out of memory",
     }
 }
@@ -209,6 +210,17 @@ fn put_reason<E: Sink>(err: &mut E, kind: RunFaultKind<'_>) -> Result<(), SinkFa
         }
         RunFaultKind::NoEntry(name) => {
             let parts = [Part::Text("no entry for key "), Part::Quoted(name)];
+            put_parts(err, parts.as_slice())
+        }
+        RunFaultKind::NoTemplate(name) => {
+            let parts = [Part::Text("no template "), Part::Quoted(name)];
+            put_parts(err, parts.as_slice())
+        }
+        RunFaultKind::CallsTooDeep(limit) => {
+            let parts = [
+                Part::Text("calls deeper than "),
+                Part::Number(limit as u64),
+            ];
             put_parts(err, parts.as_slice())
         }
         RunFaultKind::NotARange => {

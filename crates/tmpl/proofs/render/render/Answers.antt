@@ -21,10 +21,10 @@ returns-in-Ok-clause-outcome g c =
     let code = c.put_run.result.code in
     let out = sunk (g.O.Sink.so_far c.args.out.now) (g.O.Sink.so_far c.put_run.new.out) in
     let err = sunk (g.E.Sink.so_far c.args.err.now) (g.E.Sink.so_far c.put_run.new.err) in
-    subst (λ (n : Bytes). Outcome (end_of (or_stop (or_unnamed n (tree_named n set)) (λ tree. Ok (run_of w.options n input tree)))) out err code)
+    subst (λ (n : Bytes). Outcome (end_of (or_stop (or_unnamed n (tree_named n set)) (λ tree. Ok (run_of w.options set n input tree)))) out err code)
     c.asked_name-name.ensures
     (outcome_as err code out _ (run_answer (ran_seen c.in-Ok.run'))
-    (ap (λ o. end_of (or_stop (or_unnamed name o) (λ tree. Ok (run_of w.options name input tree)))) (sym c.in-Some.ensures.value) ∙ ap run_answer (sym c.in-Ok.ensures))
+    (ap (λ o. end_of (or_stop (or_unnamed name o) (λ tree. Ok (run_of w.options set name input tree)))) (sym c.in-Some.ensures.value) ∙ ap run_answer (sym c.in-Ok.ensures))
     c.put_run.ensures.outcome)
 
 pub returns-in-None-clause-outcome : goal.returns-in-None-clause-outcome

@@ -29,6 +29,12 @@ decreases-choose l = 7 * l.self.now.left + 2
 abbrev pub decreases-choose_dot : goal.decreases-choose_dot
 decreases-choose_dot l = 7 * l.self.now.left + 2
 
+abbrev pub decreases-apart : goal.decreases-apart
+decreases-apart l = 7 * l.self.now.left + 2
+
+abbrev pub decreases-call : goal.decreases-call
+decreases-call l = 7 * l.self.now.left + 3
+
 abbrev pub decreases-within : goal.decreases-within
 decreases-within l = 7 * l.self.now.left + 4
 
