@@ -5,7 +5,8 @@ use Rattle.tmpl_values.specs.Value.{Value}
 use Rattle.tmpl_values.specs.View.{val_of}
 use Rattle.tmpl_values.specs.declared.value.Cell.{Cell}
 use Rattle.tmpl_funcs.specs.View.{values_of}
-use Rattle.tmpl_run.specs.Meaning.{Cause, Calls, Rules, Setting, Run, End, done, broke, continued, faulted, calls_within, Ran}
+use Rattle.tmpl_run.specs.Meaning.{Cause, Calls, Rules, Setting, Run, End, done, broke, continued, faulted}
+use Rattle.tmpl_run.specs.Meaning.{calls_within, Ran}
 use Rattle.tmpl_syntax.specs.View.{set_view}
 use Rattle.tmpl_run.specs.Pipeline.{Environment, Given, GivenAll, Place}
 use Rattle.tmpl_run.specs.View.{cause_of, fault_seen, value_seen}

@@ -69,7 +69,8 @@ pipeline_within s (Some p) = limited s (depth_of_pipeline p) p
 
 -- an action within the limit, which only one with a pipeline may pass
 abbrev pub within_limit : Action → Reading Action
-within_limit (pipeline_action h) = limited (piped.Header shape.Pipeline) (depth_of_pipeline h.pipeline) (pipeline_action h)
+within_limit (pipeline_action h) =
+    limited (piped.Header shape.Pipeline) (depth_of_pipeline h.pipeline) (pipeline_action h)
 within_limit (opening c h) = limited (piped.Header (shape.Open c)) (depth_of_pipeline h.pipeline) (opening c h)
 within_limit plain_else = read plain_else
 within_limit (else_branch br h) =

@@ -10,7 +10,8 @@ use Rattle.tmpl_grammar.specs.Tree.{Pipeline, Binding, unbound, declare, assign,
 use Rattle.tmpl_grammar.specs.declared.tree.Control.{Control}
 use Rattle.tmpl_grammar.specs.declared.tree.Control.TheVariants as control
 use Rattle.tmpl_syntax.specs.Tree as tree
-use Rattle.tmpl_syntax.specs.Tree.{NodeKind, text, action, control_node, break_node, continue_node, template_node, Nodes, Tree}
+use Rattle.tmpl_syntax.specs.Tree.{NodeKind, text, action, control_node, break_node, continue_node}
+use Rattle.tmpl_syntax.specs.Tree.{template_node, Nodes, Tree}
 use Rattle.tmpl_syntax.specs.Set.{Template, tree_named}
 pub use Rattle.tmpl_run.specs.Fault.{Cause, Fault, steps_spent, not_a_function, nil_command, lacks_field}
 pub use Rattle.tmpl_run.specs.Fault.{lacks_entry, not_a_range, call_failed, no_template, calls_too_deep}

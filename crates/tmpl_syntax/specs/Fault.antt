@@ -6,8 +6,8 @@ use Rattle.tmpl_syntax.specs.declared.fault.ParseKind.{ParseKind}
 use Rattle.tmpl_syntax.specs.declared.fault.ParseKind.TheVariants as kind
 use Rattle.tmpl_syntax.specs.declared.fault.Refusal.{Refusal}
 
--- its first refused action is so, or it ends inside a control or a template, or it is too long, or it defines a template
--- twice
+-- its first refused action is so, or it ends inside a control or a template, or it is too long, or it defines a
+-- template twice
 pub data Reason : Type 0 where
   unreadable : Reason
   not_an_action : Reason

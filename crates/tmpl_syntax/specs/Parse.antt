@@ -1,6 +1,6 @@
--- What a file adds to the set, or why it is refused. What stands outside its definitions is a template too, named by the
--- file's base name as by Go's `ParseFiles`; the limit on its length, and the kinds and lines of refusals, are our own
--- rules.
+-- What a file adds to the set, or why it is refused. What stands outside its definitions is a template too, named by
+-- the file's base name as by Go's `ParseFiles`; the limit on its length, and the kinds and lines of refusals, are our
+-- own rules.
 use Rattle.std.specs.Prelude.{◌≡◌, ◌==◌, ◌+◌, ◌≤◌, ◌<◌, ℕ, false, List, [], ◌∷◌, ◌++◌, Option, Some, None}
 use Rattle.std.specs.Prelude.{Result, Ok, Err, length, map, slice_get}
 use Rattle.std.specs.List.{after_last}

@@ -1,7 +1,7 @@
--- The definitions and the nodes that a file's items spell, by cases on the nodes. A control has the nodes of its body, up
--- to its `end` or the else part that belongs to it. A part that is left out is one of no nodes, and an else branch is its
--- control, at its own line, that is the whole else part and shares the `end`. A `define` is no node and a `block` is a
--- call of its template; the body of each is a definition, which comes before those inside it.
+-- The definitions and the nodes that a file's items spell, by cases on the nodes. A control has the nodes of its
+-- body, up to its `end` or the else part that belongs to it. A part that is left out is one of no nodes, and an else
+-- branch is its control, at its own line, that is the whole else part and shares the `end`. A `define` is no node and
+-- a `block` is a call of its template; the body of each is a definition, which comes before those inside it.
 use Rattle.std.specs.Prelude.{ℕ, List, [], ◌∷◌, Option, Some}
 use Rattle.tmpl_grammar.specs.Tree.{Pipeline, Header}
 use Rattle.tmpl_grammar.specs.Action.{pipeline_action, opening, plain_else, else_branch, end_action, break_action}
@@ -16,8 +16,8 @@ abbrev pub definition : ℕ → List ℕ → Nodes → Definition
 definition line name nodes = record { line = line; name = name; nodes = nodes }
 
 mutual
-  -- the first items spell these nodes, and those last are left; of the definitions from the first item on those last are
-  -- left as well
+  -- the first items spell these nodes, and those last are left; of the definitions from the first item on those last
+  -- are left as well
   pub data Leads : List Item → List Definition → Nodes → List Item → List Definition → Type 0 where
     nothing : {xs : List Item} {ds : List Definition} → Leads xs ds none xs ds
     a_text : {line : ℕ} {bytes : List ℕ} {xs ys : List Item} {ds es : List Definition} {ns : Nodes}

@@ -33,9 +33,9 @@ pub(crate) struct Parts {
     pub(crate) definitions: Vec<Definition>,
 }
 
-/// The templates that a file's items define, each of which stands where it may, in the order of their headers; the file's
-/// own, of this name, is the last. They are built from the last item to the first, so that an else part is there before
-/// the control to which it belongs.
+/// The templates that a file's items define, each of which stands where it may, in the order of their headers; the
+/// file's own, of this name, is the last. They are built from the last item to the first, so that an else part is
+/// there before the control to which it belongs.
 pub(crate) fn build(
     alloc: Global,
     items: Vec<Item<'_>>,

@@ -25,7 +25,8 @@ pub enum ParseKind {
     /// `else with` of no `with`; a `define` inside anything; a `break` or `continue` that stands in no
     /// range's body of its template.
     OutOfPlace,
-    /// A control, `block`, `else if` or `else with` inside 500 others, or parentheses inside 100 others (our own limits).
+    /// A control, `block`, `else if` or `else with` inside 500 others, or parentheses inside 100 others (our own
+    /// limits).
     NestedTooDeeply,
     /// A variable that is used or assigned where none of its name is in scope.
     UndeclaredVariable,

@@ -21,11 +21,11 @@ use tmpl_values::Bytes;
 /// The most bytes that a file may have.
 const MOST_BYTES: usize = 16_777_216;
 
-/// Adds the templates of a file to the set: those that it defines, by `define` and `block`, in the order of their headers,
-/// and then its own, what stands outside these, whose name is the part of the path after the last `/`, as Go's
-/// `ParseFiles` has it. A new name goes last. A name that is there keeps its place and gets the new body, unless that is
-/// blank, nothing but white space (Go's `Template.Parse`); that a blank body replaces no blank one either is our own rule.
-/// All of the file's templates are added, or none.
+/// Adds the templates of a file to the set: those that it defines, by `define` and `block`, in the order of their
+/// headers, and then its own, what stands outside these, whose name is the part of the path after the last `/`, as
+/// Go's `ParseFiles` has it. A new name goes last. A name that is there keeps its place and gets the new body, unless
+/// that is blank, nothing but white space (Go's `Template.Parse`); that a blank body replaces no blank one either is
+/// our own rule. All of the file's templates are added, or none.
 ///
 /// # Errors
 ///

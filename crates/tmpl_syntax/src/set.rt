@@ -1,5 +1,6 @@
 //! The set of templates.
-ghost use Rattle.std.specs.Prelude.{◌≡◌, ◌≤◌, ◌<◌, ◌+◌, ◌&&◌, [], IfSome, OnOk, OnErr, is_some, length, map, option_map};
+ghost use Rattle.std.specs.Prelude.{◌≡◌, ◌≤◌, ◌<◌, ◌+◌, ◌&&◌, [], IfSome, OnOk, OnErr};
+ghost use Rattle.std.specs.Prelude.{is_some, length, map, option_map};
 ghost use Rattle.std.specs.Iterator.{YieldsFirstRef, item_count};
 ghost use Rattle.indexmap.specs.IndexMap.{spare};
 ghost use Rattle.tmpl_syntax.specs.View.{set_view, names_left, template_of, tree_of};

@@ -1,6 +1,6 @@
 -- The elements that a range visits ("Actions", at `range`), each behind its index or key: the items of a sequence in
--- order and those of a mapping by key; and, as Go 1.24 has it, the whole numbers from 0 to before a number. That nothing
--- and null have none, and that no other value may be ranged over, are our own rules.
+-- order and those of a mapping by key; and, as Go 1.24 has it, the whole numbers from 0 to before a number. That
+-- nothing and null have none, and that no other value may be ranged over, are our own rules.
 use Rattle.std.specs.Prelude.{ℕ, suc, ℤ, pos, negsuc, List, [], ◌∷◌, map, slice_get, Option, Some, None}
 use Rattle.std.specs.List.{range_with_len}
 use Rattle.tmpl_values.specs.Value.{Value, nothing, null, boolean, number, string, sequence, mapping, Items, no_item}

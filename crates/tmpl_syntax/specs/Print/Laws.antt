@@ -64,8 +64,8 @@ abbrev pub newline_nodes : List Template → Nodes
 newline_nodes [] = none
 newline_nodes (t ∷ ts) = then 0 (text (codes "\n")) (newline_nodes ts)
 
--- a printed set is cut into pieces, and these are read as items, which spell the same templates in the same order, apart
--- from files and lines, and a newline behind each
+-- a printed set is cut into pieces, and these are read as items, which spell the same templates in the same order,
+-- apart from files and lines, and a newline behind each
 pub record SetBack (ts : List Template) : Type 0 where
   pub items : List Item
   pub has : HasItems every_branch (printed_set ts) items

@@ -1,5 +1,6 @@
--- The definitions and the nodes of a file's items, from the last item to the first: what is known at a place are the nodes up to the end of
--- the part in which it stands, and those of the else part behind it; and the same for each control around it.
+-- The definitions and the nodes of a file's items, from the last item to the first: what is known at a place are the
+-- nodes up to the end of the part in which it stands, and those of the else part behind it; and the same for each
+-- control around it.
 use Rattle.std.specs.Prelude.{ℕ, List, [], ◌∷◌, Some}
 use Rattle.tmpl_grammar.specs.Tree.{Header}
 use Rattle.tmpl_grammar.specs.Action.{pipeline_action, opening, plain_else, else_branch, end_action, break_action}
