@@ -211,6 +211,36 @@ def bench_range(folder):
     judge_linear(points)
 
 
+def definitions(count):
+    """So many definitions, each called once."""
+    return [b'{{define "t%d"}}%d{{end}}{{template "t%d"}}\n' % (n, n, n) for n in range(count)]
+
+
+def doubling(levels):
+    """Templates of which each calls the next twice: two to the power of the levels calls of the last one."""
+    calls = [b'{{define "t%d"}}{{template "t%d"}}{{template "t%d"}}{{end}}' % (n, n + 1, n + 1) for n in range(levels)]
+    return [*calls, b'{{define "t%d"}}{{end}}{{template "t0"}}' % levels]
+
+
+def bench_templates(folder):
+    print("Definitions and a call of each, to /dev/null")
+    points = []
+    for count in (1_000, 2_500, 10_000):
+        file = write(f"{folder}/defined", definitions(count))
+        (ours,) = medians(11, [harness.PROGRAM, file])
+        points.append((count, ours[0]))
+        print(f"  {count:6} definitions: tmpl {milliseconds(ours[0])} in {ours[1] // 1024:.0f} MiB")
+    judge_linear(points)
+    print("Levels of two calls each, to /dev/null")
+    points = []
+    for levels in (14, 16, 18):
+        file = write(f"{folder}/doubled", doubling(levels))
+        (ours,) = medians(11, [harness.PROGRAM, file])
+        points.append((2**levels, ours[0]))
+        print(f"  {levels} levels: tmpl {milliseconds(ours[0])} in {ours[1] // 1024:.0f} MiB, {ours[0] / 2 ** (levels + 1) * 1e9:.0f} ns a call")
+    judge_linear(points)
+
+
 def bench_calls(folder):
     print("Calls of functions, a million each")
     shim = f"{folder}/shim.so"
@@ -274,6 +304,8 @@ def bench_go(folder):
         ("10,000 calls of printf and len", [b'{{printf "%5d" (len "ab")}}\n' * 10_000], data),
         ("a range of printf, 100,000 times", [b'{{range $i, $e := .}}{{printf "%5d %-10d|" $i $e}}{{end}}'], numbers),
         ("10 MB of JSON put as text", [b"{{.}}"], write(f"{folder}/members", members(10_000_000))),
+        ("10,000 definitions and a call of each", definitions(10_000), data),
+        ("18 levels of two calls each", doubling(18), data),
         ("16 MiB of text", [LINE * (16 * MIB // len(LINE))], data),
     ):
         file = write(f"{folder}/template", pieces)
@@ -294,6 +326,7 @@ def main():
         bench_memory(folder)
         bench_range(folder)
         bench_call_template(folder)
+        bench_templates(folder)
         bench_calls(folder)
         bench_parts(folder)
         bench_reading(folder)

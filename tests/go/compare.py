@@ -2,9 +2,9 @@
 
     compare.py [COUNT] [SEED]
 
-Of each three one is a whole template, drawn along with its data, so that many runs end well and the others fault
-somewhere in the middle; one is a heap of braces, markers, comments and quotes; and one is a constant, spelled well or
-nearly so. What is drawn is what both have: where a rule is narrower than Go's or our own, it is left out. Texts must be
+Of each four one is a set of one to three files, drawn along with its data, so that many runs end well and the others fault
+somewhere in the middle; one is a heap of braces, markers, comments and quotes; one is a constant, spelled well or
+nearly so; and one is a heap of controls, definitions, blocks and calls. What is drawn is what both have: where a rule is narrower than Go's or our own, it is left out. Texts must be
 equal up to the fault, if there is one, and both must refuse the template, fault, or neither."""
 import base64
 import json
@@ -24,12 +24,14 @@ WORDS = ["", "a", "Ada", "x<y & \"z\"", "é→", "two words", "tab\there", "'quo
 NUMBERS = [0, 1, -1, 7, 42, 255, -255, 1000, 2**31, 2**63 - 1, -(2**63)]
 TEXTS = [" ", "\n", "a", "text ", "  \n\t", "{ ", "}", "} }", "é", "<b>", "\r\n", "x" * 40, "{ { ", "-"]
 ODDS_OF_A_FAULT = 0.02
+# Names of templates. Each calls none but later ones, so that no run goes on for ever.
+TEMPLATES = ["t0", "t1", "t2", "t3"]
 # a range over a number goes on for as long as the number says
 STEPS = "100000"
 
 
 class Drawing:
-    """Draws one template with its data. A value that an expression has is known as a sample, of the first element of a
+    """Draws a set of files with its data. A value that an expression has is known as a sample, of the first element of a
     range for example, and steers what is drawn next; it need not be the value of each run through there."""
 
     def __init__(self, seed):
@@ -37,6 +39,10 @@ class Drawing:
         self.data = self.value(4, "map")
         self.scopes = []
         self.loops = 0
+        # the template that is drawn, the own one of a file at first, and those that the file has
+        self.level = -1
+        self.defined = set()
+        self.dots = [self.random.choice(self.paths(self.data))[1] for _ in TEMPLATES]
 
     # ---- data
 
@@ -118,6 +124,8 @@ class Drawing:
         r = self.random
         spelled, value = self.wanted(dot, r.choice(["text", "list", "map"]), depth)
         if self.kind(value) not in ("text", "list", "map"):
+            if r.random() > ODDS_OF_A_FAULT:
+                spelled = '"x"'
             return f"len {spelled}", 1
         if r.random() < 0.3 and isinstance(value, (str, list)) and value:
             i = r.randrange(len(value)) if r.random() > ODDS_OF_A_FAULT else len(value) + 20
@@ -210,7 +218,7 @@ class Drawing:
 
     def node(self, dot, depth):
         r = self.random
-        choice = r.randrange(12)
+        choice = r.randrange(14)
         if choice < 2:
             return r.choice(TEXTS)
         if choice == 2:
@@ -221,12 +229,14 @@ class Drawing:
             return self.declaration(dot)
         if choice == 7 and self.loops:
             return self.action(f"if {self.pipeline(dot, 'truth')[0]}") + self.action(r.choice(["break", "continue"])) + self.action("end")
+        if choice >= 12:
+            return self.call_template(dot)
         return r.choice([self.if_, self.with_, self.range_, self.range_])(dot, depth - 1)
 
     def declaration(self, dot):
         r = self.random
         spelled, value = self.pipeline(dot)
-        names = self.names()
+        names = [name for name in self.names() if name]
         if names and r.random() < 0.5:
             return self.action(f"${r.choice(sorted(names))} = {spelled}")
         name = r.choice(["x", "y", "z"])
@@ -239,6 +249,53 @@ class Drawing:
         if self.random.random() < 0.2:
             return f"$h := {spelled}", value, [("h", value)]
         return spelled, value, []
+
+    # ---- templates
+
+    def body(self, level, dot, depth):
+        """The body of a template, with `$` as its one variable."""
+        kept = self.scopes, self.loops, self.level
+        self.scopes, self.loops, self.level = [[("", dot)]], 0, level
+        drawn = self.nodes(dot, depth)
+        self.scopes, self.loops, self.level = kept
+        return drawn
+
+    def call_template(self, dot):
+        """A call or block of a later template, mostly with the value for which its body is drawn."""
+        r = self.random
+        later = range(self.level + 1, len(TEMPLATES))
+        if r.random() < ODDS_OF_A_FAULT:
+            return self.action('template "none"' + r.choice(["", " ."]))
+        if not later:
+            return r.choice(TEXTS)
+        level = r.choice(later)
+        there = [spelled for spelled, value in self.paths(dot) if value == self.dots[level]]
+        handed = r.choice(there) if there and r.random() < 0.8 else self.pipeline(dot, self.kind(self.dots[level]))[0]
+        if level not in self.defined and r.random() < 0.5:
+            self.defined.add(level)
+            return self.action(f'block "{TEMPLATES[level]}" {handed}') + self.body(level, self.dots[level], 2) + self.action("end")
+        return self.action(f'template "{TEMPLATES[level]}"' + (f" {handed}" if r.random() < 0.9 else ""))
+
+    def definition(self, level):
+        self.defined.add(level)
+        return self.action(f'define "{TEMPLATES[level]}"') + self.body(level, self.dots[level], 2) + self.action("end")
+
+    def file(self, odds):
+        """The text of a file that defines each template that is not there with these odds, rarely twice."""
+        r = self.random
+        self.defined = set()
+        own = self.body(-1, self.data, 4) + self.body(-1, self.data, 4) if r.random() < odds + 0.3 else "\n"
+        defined = [self.definition(level) for level in range(len(TEMPLATES)) if level not in self.defined and r.random() < odds]
+        if r.random() < ODDS_OF_A_FAULT:
+            defined.append('{{define "t0"}}x{{end}}')
+        r.shuffle(defined)
+        at = r.randrange(len(defined) + 1)
+        return "".join([*defined[:at], own, *defined[at:]])
+
+    def files(self):
+        r = self.random
+        others = r.choice([[], [], ["n"], ["n"], ["n", "m"]])
+        return [("m", self.file(0.8))] + [(name, self.file(0.4)) for name in others]
 
     def if_(self, dot, depth):
         said, _, declared = self.header(dot, self.random.choice(["truth", "number", "text", "list"]))
@@ -263,8 +320,8 @@ class Drawing:
     def range_(self, dot, depth):
         r = self.random
         said, value = self.pipeline(dot, r.choice(["list", "map", "null"]))
-        if self.kind(value) == "number":
-            # a fault before Go 1.24
+        if self.kind(value) == "number" or self.kind(value) in ("text", "truth") and r.random() > ODDS_OF_A_FAULT:
+            # a number is a fault before Go 1.24
             return r.choice(TEXTS)
         entries = sorted(value.items()) if isinstance(value, dict) else list(enumerate(value)) if isinstance(value, list) else []
         key, element = entries[0] if entries else (0, "text")
@@ -314,30 +371,58 @@ def draw_constant(r):
     return "{{print " + spelled + "}}"
 
 
+def draw_controls(r):
+    """Controls, definitions, blocks and calls, mostly ended. White space is left out: of two blank definitions in a file Go
+    takes the later one, and we the earlier. Data is null, so that no range has an element."""
+    defines = ['{{define "a"}}', '{{define "b"}}', '{{define "m"}}']
+    openings = ["{{if true}}", "{{with false}}", "{{range .}}", '{{block "a" .}}', '{{block "b" true}}']
+    others = ["{{else}}", "{{else if true}}", "{{break}}", '{{template "a" 1}}', '{{template "b"}}', "x", "{{.}}", "{{$}}"]
+    drawn, opened = [], 0
+    for _ in range(r.randrange(1, 10)):
+        choice = r.random()
+        if choice < 0.4:
+            drawn.append(r.choice(openings if opened and r.random() < 0.95 else defines + openings))
+            opened += 1
+        elif choice < 0.65 and opened:
+            drawn.append("{{end}}")
+            opened -= 1
+        else:
+            drawn.append(r.choices(others, [2, 1, 1, 4, 4, 8, 4, 3])[0])
+    return "".join(drawn) + "{{end}}" * (opened if r.random() < 0.9 else r.randrange(3))
+
+
 def draw(seed):
     drawing = Drawing(seed)
-    kind = seed % 3
-    if kind:
-        return {"Template": (draw_heap if kind == 1 else draw_constant)(drawing.random), "Data": drawing.data}
-    template = drawing.nodes(drawing.data, 4) + drawing.nodes(drawing.data, 4)
-    return {"Template": template, "Data": drawing.data}
+    r, kind = drawing.random, seed % 4
+    data = drawing.data
+    if kind == 0:
+        files = drawing.files()
+    elif kind == 3:
+        data = None
+        files = [("m", draw_controls(r))] + [("n", draw_controls(r))] * (r.random() < 0.3)
+    else:
+        files = [("m", (draw_heap if kind == 1 else draw_constant)(r))]
+    return {"Files": [{"Name": name, "Text": text} for name, text in files], "Data": data}
 
 
 def ours(it, folder):
-    for name, what in (("m", it["Template"]), ("d", json.dumps(it["Data"]))):
+    # two files may have one base name
+    templates = {f"{number}/{file['Name']}": file["Text"] for number, file in enumerate(it["Files"])}
+    for name, what in {**templates, "d": json.dumps(it["Data"])}.items():
+        os.makedirs(os.path.dirname(f"{folder}/{name}"), exist_ok=True)
         with open(f"{folder}/{name}", "w", encoding="utf-8", newline="") as file:
             file.write(what)
-    ran = subprocess.run([harness.PROGRAM, "--steps", STEPS, "--data", "d", "m"], cwd=folder, stdout=subprocess.PIPE, stderr=subprocess.PIPE, timeout=harness.SECONDS)
+    ran = subprocess.run([harness.PROGRAM, "--steps", STEPS, "--data", "d", *templates], cwd=folder, stdout=subprocess.PIPE, stderr=subprocess.PIPE, timeout=harness.SECONDS)
     return ran.returncode, ran.stdout, ran.stderr.decode(errors="replace")
 
 
 def judge(it, theirs, folder):
     """Whether both agree, and what came of it; or what differs. A format that we refuse may print something in Go, as `%d`
-    of a text does, and a number that is ranged over is a fault before Go 1.24: then the texts must be equal up to there. A
-    number out of range is refused as the template is read, and by Go when it runs."""
+    of a text does, a number that is ranged over is a fault before Go 1.24, and Go calls deeper and takes any number of steps:
+    then the texts must be equal up to there. A number out of range is refused as the template is read, and by Go when it runs."""
     status, text, line = ours(it, folder)
     their_text = base64.b64decode(theirs["Text"] or "")
-    if status == 1 and line.endswith(": printf: format refused\n") and their_text.startswith(text):
+    if status == 1 and re.search(r": (printf: format refused|calls deeper than \d+|more than \d+ steps)\n$", line) and their_text.startswith(text):
         return "cut short", None
     if status == 0 and theirs["Done"] and text == their_text:
         return "done", None
@@ -371,9 +456,9 @@ def main(count=2000, first=0):
             kind, wrong = judge(it, theirs, folder)
             told[kind] += 1
             if wrong:
-                print(f"DIFFERS seed {int(first) + number}: {it['Template']!r} with {json.dumps(it['Data'])}", wrong, sep="\n")
+                print(f"DIFFERS seed {int(first) + number}: {it['Files']!r} with {json.dumps(it['Data'])}", wrong, sep="\n")
     print(f"both ended well {told['done']} times, faulted {told['faulted']} times and refused the template {told['refused']} times; "
-          f"{told['cut short']} runs were equal up to a format that we refuse or a number that Go does not range over")
+          f"{told['cut short']} runs were equal up to a format that we refuse, a limit of ours or a number that Go does not range over")
     return harness.closing(sum(told.values()) - told["differs"], told["differs"])
 
 

@@ -15,12 +15,17 @@ import (
 	"text/template"
 )
 
-type Case struct {
-	Template string
-	Data     json.RawMessage
+type File struct {
+	Name, Text string
 }
 
-// Answer is what came of a case. Read is whether the template was read, and Done whether its run ended well.
+// Case is a set of files, of which the first is rendered.
+type Case struct {
+	Files []File
+	Data  json.RawMessage
+}
+
+// Answer is what came of a case. Read is whether all files were read, and Done whether the run ended well.
 type Answer struct {
 	Read, Done bool
 	Text       []byte
@@ -61,12 +66,19 @@ func read(data []byte) (any, error) {
 	return whole(it)
 }
 
-func render(name, text string, data any, out io.Writer) (read bool, fault error) {
-	parsed, err := template.New(name).Parse(text)
-	if err != nil {
-		return false, err
+// render does what ParseFiles and Execute do. A later file may have replaced the template of the first.
+func render(files []File, data any, out io.Writer) (read bool, fault error) {
+	set := template.New(files[0].Name)
+	for _, it := range files {
+		one := set
+		if it.Name != set.Name() {
+			one = set.New(it.Name)
+		}
+		if _, err := one.Parse(it.Text); err != nil {
+			return false, err
+		}
 	}
-	return true, parsed.Execute(out, data)
+	return true, set.ExecuteTemplate(out, set.Name(), data)
 }
 
 func answer(it Case) Answer {
@@ -75,7 +87,7 @@ func answer(it Case) Answer {
 		return Answer{Fault: err.Error()}
 	}
 	var out bytes.Buffer
-	read, fault := render("m", it.Template, data, &out)
+	read, fault := render(it.Files, data, &out)
 	answer := Answer{Read: read, Done: fault == nil, Text: out.Bytes()}
 	if fault != nil {
 		answer.Fault = fault.Error()
@@ -111,7 +123,7 @@ func renderFile(file string, rest []string) error {
 		}
 	}
 	out := bufio.NewWriter(os.Stdout)
-	if _, err := render(filepath.Base(file), string(text), data, out); err != nil {
+	if _, err := render([]File{{filepath.Base(file), string(text)}}, data, out); err != nil {
 		return err
 	}
 	return out.Flush()
