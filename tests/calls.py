@@ -1,7 +1,8 @@
 """Counts the allocations of one call of a function, over arguments from JSON: a call takes at most one where it makes
 a text, and none elsewhere. It is the difference between many calls and fewer of the program that does one part of
 what `tmpl` does, which takes no other memory between two calls. Then that a template which reads a made text from a
-variable or as dot takes no more for it than for a text of its own, which shows that nothing is copied."""
+variable, as dot or as what it is called with takes no more for it than for a text of its own, which shows that nothing is
+copied; and that a call of a template takes one, for the variables of the callee."""
 import json
 import os
 import subprocess
@@ -68,6 +69,19 @@ READERS = [
     "{{if $x := X}}{{range $}}{{slice $x 1}}{{end}}{{end}}",
     "{{with X}}{{range $}}{{len $}}{{end}}{{.}}{{.}}{{end}}",
     "{{with $x := X}}{{range $}}{{$x}}{{end}}{{end}}",
+    '{{define "t"}}{{.}}{{len $}}{{end}}{{$x := X}}{{range .}}{{template "t" $x}}{{end}}',
+    '{{$x := X}}{{range .}}{{block "b" $x}}{{$y := .}}{{$y}}{{$}}{{end}}{{end}}',
+]
+# calls in a turn of a range, with as many allocations as they are calls
+DEFINED = '{{define "t"}}{{.}}{{end}}{{define "u"}}{{$x := .}}{{$y := $x}}{{$x}}{{end}}{{define "v"}}{{template "t" .}}{{template "u"}}{{end}}'
+CALLERS = [
+    ('{{template "t"}}', 1),
+    ('{{template "t" .}}', 1),
+    ('{{template "u" .}}', 1),
+    ('{{block "b" .}}{{.}}{{end}}', 1),
+    ('{{template "t" .}}{{template "u"}}', 2),
+    ('{{template "v" .}}', 3),
+    ('{{$x := .}}{{with $y := $x}}{{template "t" $y}}{{$x}}{{end}}', 1),
 ]
 
 
@@ -138,6 +152,14 @@ def judge_reader(shim, folder, reader):
     return reader, 1, [] if made <= held + 0.05 else [f"    a turn takes {made:g} allocations with a made text, {held:g} with another"]
 
 
+def judge_caller(shim, folder, calls, most):
+    taken = a_turn(shim, folder, DEFINED + "{{range .}}" + calls + "{{end}}")
+    if taken is None:
+        return calls, 1, ["    it is not rendered"]
+    # the text that was put grows now and then
+    return calls, 1, [] if taken <= most + 0.05 else [f"    takes {taken:g} allocations, at most {most} wanted"]
+
+
 def main():
     if not os.access(PARTS, os.X_OK):
         sys.exit("there is no program of parts: the gate builds it")
@@ -146,6 +168,7 @@ def main():
         sweep.build_shim("fail_alloc.c", shim)
         results = [judge(shim, folder, *row) for row in TIMED + MAKERS + OTHERS]
         results += [judge_reader(shim, folder, it) for it in READERS]
+        results += [judge_caller(shim, folder, *it) for it in CALLERS]
     passed, failed, _ = harness.tally(results)
     return harness.closing(passed, failed)
 
