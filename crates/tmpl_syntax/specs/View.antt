@@ -64,7 +64,7 @@ abbrev pub definition_of : held_definition.Definition → Definition
 definition_of d = definition d.line d.name (nodes_in d.nodes.items)
 
 abbrev pub tree_of : held_tree.Tree → Tree
-tree_of t = record { file = t.file; nodes = nodes_in t.nodes.items }
+tree_of t = record { file = t.file.value; nodes = nodes_in t.nodes.items }
 
 -- ---- sets
 

@@ -15,6 +15,7 @@ use crate::place::names::KnownNames;
 use crate::set::Set;
 use crate::tree::{Definition, Tree};
 use std::alloc::{AllocError, Global};
+use std::rc::Rc;
 use tmpl_lex::cut;
 use tmpl_values::Bytes;
 
@@ -107,23 +108,32 @@ fn templates_of(
     ensures { IfOk result (λ v. map template_of v.items
         ≡ map (λ d. template_in file.now (definition_of d)) definitions.items) }
 {
+    let path = Rc::new(alloc, Bytes::new(copy_of(alloc, file.as_bytes())?))?;
+    templates_at(alloc, &path, definitions)
+}
+
+/// The definitions as templates in the file of this path, which they share.
+fn templates_at(
+    alloc: Global,
+    path: &Rc<Bytes>,
+    definitions: Vec<Definition>,
+) -> Result<Vec<(Vec<u8>, Tree)>, AllocError>
+    ensures { IfOk result (λ v. map template_of v.items
+        ≡ map (λ d. template_in path.now.value (definition_of d)) definitions.items) }
+{
     let mut templates = Vec::with_capacity(alloc, definitions.len())?;
     for definition in definitions {
-        templates.push(template(alloc, file, definition)?)?;
+        templates.push(template(path, definition)?)?;
     }
     Ok(templates)
 }
 
-/// The definition as a template in this file.
-fn template(
-    alloc: Global,
-    file: &str,
-    definition: Definition,
-) -> Result<(Vec<u8>, Tree), AllocError>
-    ensures { IfOk result (λ t. template_of t ≡ template_in file.now (definition_of definition)) }
+/// The definition as a template in the file of this path.
+fn template(path: &Rc<Bytes>, definition: Definition) -> Result<(Vec<u8>, Tree), AllocError>
+    ensures { IfOk result (λ t. template_of t ≡ template_in path.now.value (definition_of definition)) }
 {
     let Definition { name, nodes, .. } = definition;
-    let file = Bytes::new(copy_of(alloc, file.as_bytes())?);
+    let file = Rc::clone(path)?;
     Ok((name.into_vec(), Tree { file, nodes }))
 }
 

@@ -1,4 +1,5 @@
 //! The tree of a template.
+use std::rc::Rc;
 use tmpl_grammar::{Control, Header, Pipeline};
 use tmpl_values::Bytes;
 
@@ -45,8 +46,8 @@ pub struct ControlNode {
 /// The body of a template, and the file that it stands in.
 #[derive(Drop)]
 pub struct Tree {
-    /// The path of the file as it was given.
-    pub file: Bytes,
+    /// The path of the file as it was given, which all templates of a file share.
+    pub file: Rc<Bytes>,
     pub nodes: Vec<Node>,
 }
 
