@@ -1,0 +1,460 @@
+"""A small reading of template files by the rules of docs/LANGUAGE.md told directly: where and why a file is refused, if it is.
+And one of data: the text of the value, or why it is refused. It shares no code with the program, and is slow and plain: it is
+there to be compared with."""
+import json
+import re
+
+WHITE = b" \t\r\n"
+WHITES = (b" ", b"\t", b"\r", b"\n")
+NAME = rb"[A-Za-z0-9_\x80-\xff]"
+# the tokens but space, and comments, which are looked at first
+TOKENS = re.compile(
+    rb"(?P<number>[+-]?[0-9](?:" + NAME + rb"|\.)*)|(?P<word>" + NAME + rb"+)|(?P<field>\." + NAME + rb"+)|(?P<dot>\.)"
+    rb"|(?P<variable>\$" + NAME + rb'*)|(?P<string>"(?:[^"\\\n]|\\[^\n])*")|(?P<raw>`[^`]*`)|(?P<char>\'(?:[^\'\\\n]|\\[^\n])*\')'
+    rb"|(?P<sign>:=|[=,|()])"
+)
+NUMBER = re.compile(rb"([+-]?)(?:(0[xX])((?:_?[0-9a-fA-F])+)|(0[oO]|0)((?:_?[0-7])+)|(0[bB])((?:_?[01])+)|(0|[1-9](?:_?[0-9])*))")
+ESCAPE = rb"\\(?:([abfnrtv\\%s])|([0-7]{3})|x([0-9a-fA-F]{2})|u([0-9a-fA-F]{4})|U([0-9a-fA-F]{8}))"
+LETTERS = dict(zip(b"abfnrtv", b"\a\b\f\n\r\t\v"))
+FUNCTIONS = b"and or not len index slice print println printf html urlquery eq ne lt le gt ge".split()
+KEYWORDS = b"if with range else end break continue define template block".split()
+CONTROLS = (b"if", b"with", b"range")
+LEVELS, PARENTHESES = 500, 100
+UNREADABLE, NOT_AN_ACTION, OUT_OF_PLACE = "unclosed or unreadable action", "action not understood", "out of place"
+TOO_DEEP, UNDECLARED = "nested too deeply", "undeclared variable"
+OPEN, SECOND = "file ends inside a control", "second definition"
+
+
+class Refused(Exception):
+    """An action, data or a file that is refused, and why."""
+
+
+# ---- pieces
+
+
+def action_at(data, at):
+    """The tokens of the action whose `{{` is there, None for a comment, whether it trims what is behind, and where it ends.
+    A token is its kind, its bytes, and whether space stands before it."""
+    at += 4 if data[at + 2 : at + 3] == b"-" and data[at + 3 : at + 4] in WHITES else 2
+    if data.startswith(b"/*", at):
+        end = data.find(b"*/", at + 2)
+        if end < 0:
+            raise Refused(UNREADABLE)
+        return (None, *end_at(data, end + 2))
+    tokens, space = [], False
+    while True:
+        try:
+            return (tokens, *end_at(data, at))
+        except Refused:
+            pass
+        if data[at : at + 1] in WHITES:
+            at, space = at + 1, True
+            continue
+        found = TOKENS.match(data, at)
+        if not found:
+            raise Refused(UNREADABLE)
+        tokens.append((found.lastgroup, found.group(), space))
+        at, space = found.end(), False
+
+
+def end_at(data, at):
+    """Whether the end of an action that stands there trims, and where it ends."""
+    if data.startswith(b"}}", at):
+        return False, at + 2
+    if data[at : at + 1] in WHITES and data.startswith(b"-}}", at + 1):
+        return True, at + 4
+    raise Refused(UNREADABLE)
+
+
+def pieces(data):
+    """Texts, as bytes, and actions, as their line and tokens, or the line and None for an unreadable one, which is the last."""
+    at, trims = 0, False
+    while True:
+        start = data.find(b"{{", at)
+        text = data[at:] if start < 0 else data[at:start]
+        text = text.lstrip(WHITE) if trims else text
+        if start >= 0 and data[start + 2 : start + 3] == b"-" and data[start + 3 : start + 4] in WHITES:
+            text = text.rstrip(WHITE)
+        if text:
+            yield text
+        if start < 0:
+            return
+        line = 1 + data.count(b"\n", 0, start)
+        try:
+            tokens, trims, at = action_at(data, start)
+        except Refused:
+            yield line, None
+            return
+        if tokens is not None:
+            yield line, tokens
+
+
+# ---- constants
+
+
+def number(spelled):
+    found = NUMBER.fullmatch(spelled)
+    if not found:
+        raise Refused(NOT_AN_ACTION)
+    sign, hexadecimal, sixteen, octal, eight, binary, two, ten = found.groups()
+    digits, base = (sixteen, 16) if hexadecimal else (eight, 8) if octal else (two, 2) if binary else (ten, 10)
+    value = int(digits.replace(b"_", b""), base) * (-1 if sign == b"-" else 1)
+    if not -(2**63) <= value < 2**63:
+        raise Refused(NOT_AN_ACTION)
+    return value
+
+
+def runes(data):
+    """The well-formed encodings and the single bytes of which bytes are made."""
+    while data:
+        size = next((size for size in (1, 2, 3, 4) if is_rune(data[:size])), 1)
+        yield data[:size]
+        data = data[size:]
+
+
+def is_rune(data):
+    try:
+        return len(data.decode()) == 1
+    except UnicodeDecodeError:
+        return False
+
+
+def unescaped(inside, quote):
+    """The runes inside of a string or character, each with its number, and the bytes that it stands for."""
+    escape = re.compile(ESCAPE % quote)
+    while inside:
+        if inside[:1] != b"\\":
+            rune = next(runes(inside))
+            code = ord(rune.decode(errors="replace"))
+            yield code, chr(code).encode()
+            inside = inside[len(rune) :]
+            continue
+        found = escape.match(inside)
+        if not found:
+            raise Refused(NOT_AN_ACTION)
+        letter, octal, *hexadecimal = found.groups()
+        if letter:
+            code = LETTERS.get(letter[0], letter[0])
+        else:
+            code = int(octal, 8) if octal else int(next(filter(None, hexadecimal)), 16)
+        is_byte = bool(octal or hexadecimal[0])
+        if is_byte and code > 255 or 0xD800 <= code <= 0xDFFF or code > 0x10FFFF:
+            raise Refused(NOT_AN_ACTION)
+        yield code, bytes([code]) if is_byte else chr(code).encode()
+        inside = inside[found.end() :]
+
+
+def text(kind, spelled):
+    """The bytes of a string or raw string."""
+    inside = spelled[1:-1]
+    if kind == "raw":
+        return inside.replace(b"\r", b"")
+    return b"".join(them for _, them in unescaped(inside, b'"'))
+
+
+def character(spelled):
+    if len(list(unescaped(spelled[1:-1], b"'"))) != 1:
+        raise Refused(NOT_AN_ACTION)
+
+
+# ---- the grammar of an action
+
+
+class Action:
+    """What an action is, by the grammar: its kind, the name of a template in it, the variables that it declares and those that it
+    looks up, and whether it has parentheses that are too deep."""
+
+    def __init__(self, tokens):
+        self.tokens, self.at, self.depth = tokens, 0, 0
+        self.name, self.declared, self.used, self.is_too_deep = None, [], [], False
+        self.kind = self.read()
+        self.need(self.at == len(tokens))
+
+    def need(self, holds):
+        if not holds:
+            raise Refused(NOT_AN_ACTION)
+
+    def peek(self, more=0):
+        return self.tokens[self.at + more][:2] if self.at + more < len(self.tokens) else (None, None)
+
+    def take(self):
+        self.at += 1
+        return self.tokens[self.at - 1]
+
+    def takes(self, *wanted):
+        """Whether the next token is this one, which is then taken."""
+        is_there = self.peek() in [("sign", it) for it in wanted] or self.peek() in [("word", it) for it in wanted]
+        self.at += is_there
+        return is_there
+
+    def read(self):
+        for kind in KEYWORDS:
+            if self.takes(kind):
+                return self.rest(kind)
+        self.bound(["pair"])
+        return b"pipeline"
+
+    def rest(self, kind):
+        """What stands behind a keyword, and what the action is by it."""
+        if kind == b"else" and self.takes(b"if", b"with"):
+            kind = b"else " + self.tokens[self.at - 1][1]
+            self.bound(["pair"])
+        elif kind in CONTROLS:
+            self.bound(["=" if kind == b"range" else "pair"])
+        elif kind in (b"define", b"template", b"block"):
+            self.need(self.peek()[0] in ("string", "raw"))
+            self.name = text(*self.take()[:2])
+            if kind == b"block" or kind == b"template" and self.at < len(self.tokens):
+                self.pipeline()
+        return kind
+
+    def bound(self, without):
+        """A pipeline, perhaps behind variables and a sign."""
+        signs = [self.peek(it) for it in range(4)]
+        names = [name[1:] for kind, name in signs if kind == "variable"]
+        if signs[0][0] == "variable" and signs[1] in [("sign", b":="), ("sign", b"=")]:
+            is_new = signs[1][1] == b":="
+            self.need(names[0] and (is_new or "=" not in without))
+            self.at += 2
+            self.pipeline()
+            (self.declared if is_new else self.used).append(names[0])
+        elif signs[0][0] == "variable" and signs[1] == ("sign", b",") and signs[2][0] == "variable" and signs[3] == ("sign", b":="):
+            self.need(all(names[:2]) and "pair" not in without)
+            self.at += 4
+            self.pipeline()
+            self.declared += names[:2]
+        else:
+            self.pipeline()
+
+    def pipeline(self):
+        self.command(True)
+        while self.takes(b"|"):
+            self.command(False)
+
+    def command(self, is_first):
+        is_value = self.peek()[0] in ("number", "string", "raw", "char", "dot") or self.peek() in [("word", it) for it in (b"true", b"false", b"nil")]
+        self.need(is_first or not is_value)
+        self.operand()
+        while self.at < len(self.tokens) and self.peek() not in [("sign", b"|"), ("sign", b")")]:
+            self.need(self.tokens[self.at][2])
+            self.operand()
+
+    def operand(self):
+        self.need(self.at < len(self.tokens))
+        kind, spelled, _ = self.take()
+        if kind == "number":
+            number(spelled)
+        elif kind in ("string", "raw"):
+            text(kind, spelled)
+        elif kind == "char":
+            character(spelled)
+        elif kind == "word":
+            self.need(spelled in (b"true", b"false", b"nil", *FUNCTIONS))
+        elif kind == "field":
+            self.need(not spelled[1:2].isdigit())
+            self.chain()
+        elif kind == "variable":
+            self.used += [spelled[1:]] * (spelled != b"$")
+            self.chain()
+        elif kind == "sign":
+            self.need(spelled == b"(")
+            self.depth += 1
+            self.is_too_deep |= self.depth > PARENTHESES
+            self.pipeline()
+            self.need(self.takes(b")"))
+            self.depth -= 1
+            self.chain()
+
+    def chain(self):
+        while self.peek()[0] == "field" and not self.tokens[self.at][2]:
+            self.need(not self.take()[1][1:2].isdigit())
+
+
+# ---- a file
+
+
+class Frame:
+    """What is open: a control, a define or a block."""
+
+    def __init__(self, kind, outer, names, body):
+        self.kind, self.outer, self.names, self.body = kind, outer, names, body
+        self.has_else, self.levels = False, int(kind != b"define")
+
+
+class Body:
+    """What a template is made of, as far as it matters here."""
+
+    def __init__(self, name, line):
+        self.name, self.line, self.is_blank = name, line, True
+
+
+class Reading:
+    """The file so far, action by action."""
+
+    def __init__(self, name):
+        self.frames, self.names = [], frozenset()
+        self.own = Body(name, 1)
+        self.body, self.bodies = self.own, []
+
+    def top(self):
+        return self.frames[-1] if self.frames else None
+
+    def text(self, it):
+        self.body.is_blank &= not it.strip(WHITE)
+
+    def is_in_range(self):
+        for it in reversed(self.frames):
+            if it.kind in (b"define", b"block"):
+                return False
+            if it.kind == b"range" and not it.has_else:
+                return True
+        return False
+
+    def may_stand(self, kind):
+        top = self.top()
+        if kind == b"end":
+            return bool(top)
+        if kind == b"define":
+            return not top
+        if kind in (b"break", b"continue"):
+            return self.is_in_range()
+        if kind.startswith(b"else"):
+            wanted = {b"else": CONTROLS, b"else if": (b"if",), b"else with": (b"with",)}[kind]
+            return bool(top) and top.kind in wanted and not top.has_else
+        return True
+
+    def action(self, line, tokens):
+        """Takes one action more, or raises why it is refused."""
+        if tokens is None:
+            raise Refused(UNREADABLE)
+        it = Action(tokens)
+        if not self.may_stand(it.kind):
+            raise Refused(OUT_OF_PLACE)
+        opens = it.kind in (*CONTROLS, b"block", b"else if", b"else with")
+        if it.is_too_deep or sum(frame.levels for frame in self.frames) + opens > LEVELS:
+            raise Refused(TOO_DEEP)
+        if it.kind in (b"else if", b"else with"):
+            self.names = self.top().names
+        if set(it.used) - self.names:
+            raise Refused(UNDECLARED)
+        self.step(line, it)
+
+    def step(self, line, it):
+        if it.kind == b"end":
+            frame = self.frames.pop()
+            self.names, self.body = frame.outer, frame.body
+            return
+        self.body.is_blank &= it.kind == b"define"
+        declared = self.names | set(it.declared)
+        if it.kind in CONTROLS:
+            self.frames.append(Frame(it.kind, self.names, self.names if it.kind == b"range" else declared, self.body))
+        elif it.kind in (b"define", b"block"):
+            self.frames.append(Frame(it.kind, self.names, frozenset(), self.body))
+            self.body, declared = Body(it.name, line), frozenset()
+            self.bodies.append(self.body)
+        elif it.kind.startswith(b"else"):
+            frame = self.top()
+            declared = frame.names | set(it.declared)
+            frame.names, frame.has_else = declared, it.kind == b"else"
+            frame.levels += it.kind != b"else"
+        self.names = declared
+
+    def second(self):
+        """The line of the first second definition, if there is one."""
+        seen = set()
+        for it in [*self.bodies, self.own]:
+            if not it.is_blank:
+                if it.name in seen:
+                    return it.line
+                seen.add(it.name)
+        return None
+
+
+def refusal(name, data):
+    """The line at which a file of this base name is refused, and why; None where it is accepted, read alone."""
+    reading = Reading(name)
+    for it in pieces(data):
+        if isinstance(it, bytes):
+            reading.text(it)
+            continue
+        try:
+            reading.action(*it)
+        except Refused as why:
+            return it[0], str(why)
+    if reading.frames:
+        return 1 + data.count(b"\n"), OPEN
+    line = reading.second()
+    return (line, SECOND) if line else None
+
+
+# ---- data
+
+NOT_JSON, NOT_WHOLE = "not JSON", "number not whole or out of range"
+
+
+def deepest(data):
+    """How deep lists and maps of JSON are nested, outside of its texts."""
+    depth = most = 0
+    for it in re.findall(rb'"(?:[^"\\]|\\.)*"|[][{}]', data, re.DOTALL):
+        depth += {b"[": 1, b"{": 1, b"]": -1, b"}": -1}.get(it, 0)
+        most = max(most, depth)
+    return most
+
+
+class Flaw:
+    """A number that is refused, where it is looked at."""
+
+
+def flaw(spelled):
+    if abs(float(spelled)) == float("inf"):
+        raise Refused(NOT_JSON)
+    return Flaw()
+
+
+def whole(spelled):
+    value = int(spelled)
+    return value if -(2**63) <= value < 2**63 and spelled != "-0" else flaw(spelled)
+
+
+def no_json(_):
+    raise Refused(NOT_JSON)
+
+
+def has_flaw(value):
+    """Whether a number in it is refused. One that a later member of its key hides is not there any more."""
+    parts = value if isinstance(value, list) else value.values() if isinstance(value, dict) else ()
+    return isinstance(value, Flaw) or any(map(has_flaw, parts))
+
+
+def data_value(data):
+    """The value of data."""
+    if deepest(data) > 127:
+        raise Refused(NOT_JSON)
+    try:
+        value = json.loads(data.decode(), parse_int=whole, parse_float=flaw, parse_constant=no_json)
+        # no half of a pair of surrogates
+        json.dumps(value, ensure_ascii=False, default=lambda _: 0).encode()
+    except ValueError as why:
+        raise Refused(NOT_JSON) from why
+    if has_flaw(value):
+        raise Refused(NOT_WHOLE)
+    return value
+
+
+def inner(value):
+    """The text of a value inside of a list or map."""
+    if value is None:
+        return "<nil>"
+    if isinstance(value, bool):
+        return str(value).lower()
+    if isinstance(value, list):
+        return f"[{' '.join(map(inner, value))}]"
+    if isinstance(value, dict):
+        return f"map[{' '.join(f'{key}:{inner(value[key])}' for key in sorted(value, key=str.encode))}]"
+    return str(value)
+
+
+def data_text(data):
+    """What `{{.}}` puts out for data."""
+    value = data_value(data)
+    return ("<no value>" if value is None else inner(value)).encode()
