@@ -47,7 +47,7 @@ module _ (m n : Modes) where
       (pick (p (placed m)) (placed m) (placed n) _ _ mode (found p e c d rest))
 
   rules_like : AllLike m n (built (tool_app m)).top.rules (built (tool_app n)).top.rules
-  rules_like = both _ _ _ _ (same _) (both _ _ _ _ mode (both _ _ _ _ (same _) (both _ _ _ _ (same _) (both _ _ _ _ (same _) (both _ _ _ _ (same _) nil)))))
+  rules_like = both _ _ _ _ (same _) (both _ _ _ _ mode (both _ _ _ _ (same _) (both _ _ _ _ (same _) (both _ _ _ _ (same _) (both _ _ _ _ (same _) (both _ _ _ _ (same _) nil))))))
 
   -- ---- one use of an argument
 

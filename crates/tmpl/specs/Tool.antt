@@ -137,7 +137,7 @@ stop_of (Err a) = Some a
 
 abbrev pub usage : Bytes
 usage = codes "usage: tmpl [--data FILE] [--missingkey default|invalid|zero|error] [--name NAME] "
-    ++ codes "[--depth N] [--steps N] FILE...\n"
+    ++ codes "[--depth N] [--steps N] [--print] FILE...\n"
 
 -- words that ask for help get the usage, and nothing else
 abbrev pub unless_help : Bool → Result (Unit {0}) Answer

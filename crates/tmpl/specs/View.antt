@@ -43,6 +43,7 @@ seen request = record {
   data_file = option_map (λ s. s.now) request.data_file;
   name = option_map (λ s. s.now) request.name;
   options = options_seen request.options;
+  print = request.print;
   files = map (λ s. s.now) request.files.items;
 }
 

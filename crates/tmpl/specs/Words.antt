@@ -1,6 +1,6 @@
 -- What the words of a command line ask for, by clap's definition of a simple command.
-use Rattle.std.specs.Prelude.{◌≡◌, ℕ, true, List, [], ◌∷◌, Option, Some, None, pos, map, codes, unwrap_or}
-use Rattle.std.specs.Prelude.{if◌then◌else◌}
+use Rattle.std.specs.Prelude.{◌≡◌, ℕ, Bool, true, false, List, [], ◌∷◌, Option, Some, None, pos, map, codes}
+use Rattle.std.specs.Prelude.{if◌then◌else◌, unwrap_or}
 use Rattle.std.specs.Borrow.{Bor}
 use Rattle.std.specs.Str.{bytes_eq}
 use Rattle.std.specs.Str.Parse.{digits_value, without_leading_plus}
@@ -9,7 +9,7 @@ use Rattle.clap.specs.Simple.{on_top}
 use Rattle.clap.specs.Words.{Kinds}
 use Rattle.clap.specs.Lexer.{usize_max}
 use Rattle.clap.specs.ValueTests.{is_unsigned_in}
-use Rattle.clap.specs.declared.builder.ArgAction.TheVariants.{Set}
+use Rattle.clap.specs.declared.builder.ArgAction.TheVariants.{Set, SetTrue}
 use Rattle.clap.specs.declared.builder.ValueParser.TheVariants as vp
 use Rattle.tmpl_run.specs.declared.missing_key.MissingKey.{MissingKey}
 use Rattle.tmpl_run.specs.declared.missing_key.MissingKey.TheVariants.{Default, Invalid, Zero, Error}
@@ -48,6 +48,10 @@ depth_rule = record (option_rule (codes "depth")) { parser = Some (vp.Signed (po
 abbrev pub steps_rule : Rule
 steps_rule = record (option_rule (codes "steps")) { parser = Some (vp.Unsigned 1 4611686018427387904) }
 
+-- an option without a value
+abbrev pub print_rule : Rule
+print_rule = record (new_rule (codes "print")) { long = Some (codes "print"); action = Some SetTrue }
+
 abbrev pub file_rule : Rule
 file_rule = record (new_rule (codes "file")) {
   required = true;
@@ -63,8 +67,8 @@ first_options modes = with_rule (with_rule (with_rule bare_app
     (option_rule (codes "data"))) (mode_rule modes)) (option_rule (codes "name"))
 
 abbrev pub tool_app : Modes → App
-tool_app modes = with_rule (with_rule (with_rule (first_options modes)
-    depth_rule) steps_rule) file_rule
+tool_app modes = with_rule (with_rule (with_rule (with_rule (first_options modes)
+    depth_rule) steps_rule) print_rule) file_rule
 
 -- ---- the options that the words name
 
@@ -83,6 +87,11 @@ number_in default low high None = default
 number_in default low high (Some text) =
     if is_unsigned_in low high text then digits_value 10 (without_leading_plus text) else default
 
+-- whether an option without a value is given
+abbrev pub is_set : Option Text → Bool
+is_set None = false
+is_set (Some text) = bytes_eq text (codes "true")
+
 -- how a template is to be run, as words ask for it
 pub record WantedOptions : Type 0 where
   pub missing_key : MissingKey
@@ -94,6 +103,8 @@ pub record Wanted : Type 0 where
   pub data_file : Option Text
   pub name : Option Text
   pub options : WantedOptions
+  -- the set is to be printed, and nothing run
+  pub print : Bool
   pub files : List Text
 
 abbrev pub options_wanted : List Row → WantedOptions
@@ -109,6 +120,7 @@ wanted_in rows = record {
   data_file = first_of (codes "data") rows;
   name = first_of (codes "name") rows;
   options = options_wanted rows;
+  print = is_set (first_of (codes "print") rows);
   files = unwrap_or (all_of (codes "file") rows) [];
 }
 

@@ -19,7 +19,7 @@ use tmpl_run::Sink;
 /// What `--help` puts out.
 static USAGE: &[u8] =
     b"usage: tmpl [--data FILE] [--missingkey default|invalid|zero|error] [--name NAME] \
-    [--depth N] [--steps N] FILE...\n";
+    [--depth N] [--steps N] [--print] FILE...\n";
 
 /// The command `tmpl` over a source of files, an output and an error sink.
 ///

@@ -2,7 +2,7 @@
 ghost use Rattle.std.specs.Prelude.{◌≡◌, ◌≢◌, ◌≤◌, ◌<◌, ◌^◌, codes, option_map, map, unwrap_or, [], Some, IfOk, IfErr};
 ghost use Rattle.clap.specs.Words.{all_of, first_of, one_of, found_of, rows_of, kind_of};
 ghost use Rattle.tmpl.specs.computed.Words.{Answers, Parses};
-ghost use Rattle.tmpl.specs.Words.{mode_named, mode_of, number_in, options_wanted, wanted, wanted_in};
+ghost use Rattle.tmpl.specs.Words.{is_set, mode_named, mode_of, number_in, options_wanted, wanted, wanted_in};
 ghost use Rattle.tmpl.specs.View.{options_seen, seen};
 ghost use Rattle.std.specs.String.{string_bytes};
 
@@ -92,6 +92,16 @@ fn steps_of(matches: &ArgMatches<'_>) -> u64
     )
 }
 
+/// Whether `--print` is given.
+fn print_of(matches: &ArgMatches<'_>) -> bool
+    ensures { result ≡ is_set (first_of (codes "print") (rows_of (found_of matches.now))) }
+{
+    match matches.get_str("print") {
+        Some(text) => text == "true",
+        None => false,
+    }
+}
+
 /// The names, in a list of its own.
 fn copied<'a>(alloc: Global, given: &[&'a str]) -> Result<Vec<&'a str>, AllocError>
     ensures { IfOk result (λ files. files.items ≡ given.now) }
@@ -118,6 +128,7 @@ fn request_in<'a>(alloc: Global, matches: &ArgMatches<'a>) -> Result<Request<'a>
         data_file: matches.get_str("data"),
         name: matches.get_str("name"),
         options: options_in(matches),
+        print: print_of(matches),
         files: files_of(alloc, matches)?,
     })
 }

@@ -1,7 +1,8 @@
 //! The command, by clap's builder.
 ghost use Rattle.std.specs.Prelude.{◌≡◌, false, IfOk};
 ghost use Rattle.clap.specs.Words.{app_of, rule_of};
-ghost use Rattle.tmpl.specs.Words.{depth_rule, file_rule, first_options, mode_rule, option_rule, steps_rule, tool_app};
+ghost use Rattle.tmpl.specs.Words.{depth_rule, file_rule, first_options, mode_rule, option_rule, print_rule};
+ghost use Rattle.tmpl.specs.Words.{steps_rule, tool_app};
 
 use clap::{Arg, ArgAction, Command, value_parser};
 use std::alloc::{AllocError, Global};
@@ -38,6 +39,16 @@ fn steps_arg<'a>(alloc: Global) -> Arg<'a>
     option_arg(alloc, "steps").value_parser(value_parser!(u64).range(1..=4_611_686_018_427_387_904))
 }
 
+/// The option `--print`, which takes no value.
+fn print_arg<'a>(alloc: Global) -> Arg<'a>
+    ensures rule { rule_of result ≡ print_rule }
+    ensures local { result.global ≡ false }
+{
+    Arg::new(alloc, "print")
+        .long("print")
+        .action(ArgAction::SetTrue)
+}
+
 /// The template files.
 fn file_arg<'a>(alloc: Global) -> Arg<'a>
     ensures rule { rule_of result ≡ file_rule }
@@ -57,12 +68,13 @@ fn first_part<'a>(alloc: Global, modes: &'a [&'a str]) -> Result<Command<'a>, Al
         .arg(option_arg(alloc, "name"))
 }
 
-/// The command line of the program: five options of one value each, and at least one file.
+/// The command line of the program: five options of one value each, one of none, and at least one file.
 pub(crate) fn command<'a>(alloc: Global, modes: &'a [&'a str]) -> Result<Command<'a>, AllocError>
     ensures { IfOk result (λ c. app_of c ≡ tool_app modes.entry) }
 {
     first_part(alloc, modes)?
         .arg(depth_arg(alloc))?
         .arg(steps_arg(alloc))?
+        .arg(print_arg(alloc))?
         .arg(file_arg(alloc))
 }

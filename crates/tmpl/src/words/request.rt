@@ -14,6 +14,8 @@ pub struct Request<'a> {
     /// The template to run; the first file's own where none is named.
     pub name: Option<&'a str>,
     pub options: Options,
+    /// Whether the set of templates is to be printed, and nothing run.
+    pub print: bool,
     /// The template files, at least one, in the order of the words.
     pub files: Vec<&'a str>,
 }

@@ -11,5 +11,6 @@ returns c =
       data_file = data_file i;
       name = name i;
       options = c.options_in.ensures i;
+      print = c.print_of.ensures i;
       files = c.in_ok-files_of.ensures i;
     }
