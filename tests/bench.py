@@ -171,6 +171,24 @@ def bench_parsing(folder):
         judge_linear(points)
 
 
+def bench_printing(folder):
+    """What printing costs beside reading: what a process takes longer that prints the set, where the other runs a template of
+    one byte."""
+    tiny = write(f"{folder}/tiny", [b"x"])
+    for name, piece in (("small actions", SMALL_ACTIONS), ("actions of one field", b"{{.a}}\n"), ("definitions", None)):
+        print(f"The printing of {name}")
+        points = []
+        for size in (10_000, 250_000, 1_000_000):
+            pieces = [piece * (size // len(piece))] if piece else definitions(size // 42)
+            file = write(f"{folder}/printed", pieces)
+            runs = [[harness.PROGRAM, "--print", tiny, file], [harness.PROGRAM, tiny, file], [harness.PROGRAM, tiny]]
+            printed, read, bare = (it[0] for it in medians(21, *runs))
+            points.append((size, printed))
+            print(f"  {size:7} bytes: printed in {milliseconds(printed)}, read alone in {milliseconds(read)}, without the file {milliseconds(bare)}")
+        judge("printing to reading", (printed - read) / max(read - bare, 1e-9), 0.25)
+        judge_linear(points)
+
+
 def bench_call_template(folder):
     print("A template of function calls, to /dev/null")
     points = []
@@ -322,6 +340,7 @@ def main():
         bench_text(folder)
         bench_cut(folder)
         bench_parsing(folder)
+        bench_printing(folder)
         bench_actions(folder)
         bench_memory(folder)
         bench_range(folder)

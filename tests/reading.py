@@ -1,8 +1,9 @@
-"""A small reading of template files by the rules of docs/LANGUAGE.md told directly: where and why a file is refused, if it is.
-And one of data: the text of the value, or why it is refused. It shares no code with the program, and is slow and plain: it is
-there to be compared with."""
+"""A small reading of template files by the rules of docs/LANGUAGE.md told directly: where and why a file is refused, if it is,
+and what is printed of a set of files. And one of data: the text of the value, or why it is refused. It shares no code with
+the program, and is slow and plain: it is there to be compared with."""
 import json
 import re
+import unicodedata
 
 WHITE = b" \t\r\n"
 WHITES = (b" ", b"\t", b"\r", b"\n")
@@ -153,8 +154,29 @@ def text(kind, spelled):
 
 
 def character(spelled):
-    if len(list(unescaped(spelled[1:-1], b"'"))) != 1:
+    """The number of a character's code."""
+    codes = [code for code, _ in unescaped(spelled[1:-1], b"'")]
+    if len(codes) != 1:
         raise Refused(NOT_AN_ACTION)
+    return codes[0]
+
+
+def quoted_rune(rune):
+    """How a rune stands in a quote."""
+    if not is_rune(rune):
+        return b"\\x%02x" % rune[0]
+    code, letters = ord(rune.decode()), {number: letter for letter, number in LETTERS.items()}
+    if rune in (b'"', b"\\"):
+        return b"\\" + rune
+    if rune == b" " or unicodedata.category(rune.decode())[0] in "LMNPS":
+        return rune
+    if code in letters:
+        return b"\\%c" % letters[code]
+    return b"\\x%02x" % code if code < 0x80 else b"\\u%04x" % code if code < 0x10000 else b"\\U%08x" % code
+
+
+def quote(data):
+    return b'"%s"' % b"".join(map(quoted_rune, runes(data)))
 
 
 # ---- the grammar of an action
@@ -162,12 +184,12 @@ def character(spelled):
 
 class Action:
     """What an action is, by the grammar: its kind, the name of a template in it, the variables that it declares and those that it
-    looks up, and whether it has parentheses that are too deep."""
+    looks up, whether it has parentheses that are too deep, and how it is printed."""
 
     def __init__(self, tokens):
         self.tokens, self.at, self.depth = tokens, 0, 0
         self.name, self.declared, self.used, self.is_too_deep = None, [], [], False
-        self.kind = self.read()
+        self.kind, self.said = self.read()
         self.need(self.at == len(tokens))
 
     def need(self, holds):
@@ -182,92 +204,102 @@ class Action:
         return self.tokens[self.at - 1]
 
     def takes(self, *wanted):
-        """Whether the next token is this one, which is then taken."""
-        is_there = self.peek() in [("sign", it) for it in wanted] or self.peek() in [("word", it) for it in wanted]
+        """Whether the next token is one of these words and signs, which is then taken."""
+        kind, spelled = self.peek()
+        is_there = kind in ("sign", "word") and spelled in wanted
         self.at += is_there
         return is_there
 
     def read(self):
-        for kind in KEYWORDS:
-            if self.takes(kind):
-                return self.rest(kind)
-        self.bound(["pair"])
-        return b"pipeline"
-
-    def rest(self, kind):
-        """What stands behind a keyword, and what the action is by it."""
+        if not self.takes(*KEYWORDS):
+            return b"pipeline", self.bound()
+        kind = self.tokens[self.at - 1][1]
         if kind == b"else" and self.takes(b"if", b"with"):
-            kind = b"else " + self.tokens[self.at - 1][1]
-            self.bound(["pair"])
-        elif kind in CONTROLS:
-            self.bound(["=" if kind == b"range" else "pair"])
-        elif kind in (b"define", b"template", b"block"):
-            self.need(self.peek()[0] in ("string", "raw"))
-            self.name = text(*self.take()[:2])
-            if kind == b"block" or kind == b"template" and self.at < len(self.tokens):
-                self.pipeline()
-        return kind
+            control = self.tokens[self.at - 1][1]
+            return b"else " + control, control + b" " + self.bound()
+        if kind in CONTROLS:
+            return kind, kind + b" " + self.bound(is_range=kind == b"range")
+        if kind in (b"define", b"template", b"block"):
+            return kind, self.named(kind)
+        return kind, kind
 
-    def bound(self, without):
+    def named(self, kind):
+        """The name of a template, and the pipeline behind it; a block is printed as a call."""
+        self.need(self.peek()[0] in ("string", "raw"))
+        self.name = text(*self.take()[:2])
+        said = (b"define " if kind == b"define" else b"template ") + quote(self.name)
+        has_more = kind == b"block" or kind == b"template" and self.at < len(self.tokens)
+        return said + b" " + self.pipeline() if has_more else said
+
+    def bound(self, is_range=False):
         """A pipeline, perhaps behind variables and a sign."""
-        signs = [self.peek(it) for it in range(4)]
-        names = [name[1:] for kind, name in signs if kind == "variable"]
-        if signs[0][0] == "variable" and signs[1] in [("sign", b":="), ("sign", b"=")]:
-            is_new = signs[1][1] == b":="
-            self.need(names[0] and (is_new or "=" not in without))
+        kinds, signs = zip(*(self.peek(it) for it in range(4)))
+        if kinds[0] == "variable" and signs[1] in (b":=", b"="):
+            self.need(signs[0] != b"$" and not (is_range and signs[1] == b"="))
             self.at += 2
-            self.pipeline()
-            (self.declared if is_new else self.used).append(names[0])
-        elif signs[0][0] == "variable" and signs[1] == ("sign", b",") and signs[2][0] == "variable" and signs[3] == ("sign", b":="):
-            self.need(all(names[:2]) and "pair" not in without)
+            said = self.pipeline()
+            (self.declared if signs[1] == b":=" else self.used).append(signs[0][1:])
+            return b"%s %s %s" % (signs[0], signs[1], said)
+        if kinds[0] == kinds[2] == "variable" and signs[1] == b"," and signs[3] == b":=":
+            self.need(is_range and b"$" not in (signs[0], signs[2]))
             self.at += 4
-            self.pipeline()
-            self.declared += names[:2]
-        else:
-            self.pipeline()
+            said = self.pipeline()
+            self.declared += [signs[0][1:], signs[2][1:]]
+            return b"%s, %s := %s" % (signs[0], signs[2], said)
+        return self.pipeline()
 
     def pipeline(self):
-        self.command(True)
+        said = [self.command()]
         while self.takes(b"|"):
-            self.command(False)
+            kind, spelled = self.peek()
+            self.need(kind not in ("number", "string", "raw", "char", "dot") and spelled not in (b"true", b"false", b"nil"))
+            said.append(self.command())
+        return b" | ".join(said)
 
-    def command(self, is_first):
-        is_value = self.peek()[0] in ("number", "string", "raw", "char", "dot") or self.peek() in [("word", it) for it in (b"true", b"false", b"nil")]
-        self.need(is_first or not is_value)
-        self.operand()
+    def command(self):
+        said = [self.operand()]
         while self.at < len(self.tokens) and self.peek() not in [("sign", b"|"), ("sign", b")")]:
             self.need(self.tokens[self.at][2])
-            self.operand()
+            said.append(self.operand())
+        return b" ".join(said)
 
     def operand(self):
         self.need(self.at < len(self.tokens))
         kind, spelled, _ = self.take()
         if kind == "number":
-            number(spelled)
-        elif kind in ("string", "raw"):
-            text(kind, spelled)
-        elif kind == "char":
-            character(spelled)
-        elif kind == "word":
+            return b"%d" % number(spelled)
+        if kind in ("string", "raw"):
+            return quote(text(kind, spelled))
+        if kind == "char":
+            return b"%d" % character(spelled)
+        if kind == "word":
             self.need(spelled in (b"true", b"false", b"nil", *FUNCTIONS))
-        elif kind == "field":
+            return spelled
+        if kind == "field":
             self.need(not spelled[1:2].isdigit())
-            self.chain()
-        elif kind == "variable":
+            return spelled + self.chain()
+        if kind == "variable":
             self.used += [spelled[1:]] * (spelled != b"$")
-            self.chain()
-        elif kind == "sign":
+            return spelled + self.chain()
+        if kind == "sign":
             self.need(spelled == b"(")
-            self.depth += 1
-            self.is_too_deep |= self.depth > PARENTHESES
-            self.pipeline()
-            self.need(self.takes(b")"))
-            self.depth -= 1
-            self.chain()
+            return self.group()
+        return spelled
+
+    def group(self):
+        self.depth += 1
+        self.is_too_deep |= self.depth > PARENTHESES
+        said = self.pipeline()
+        self.need(self.takes(b")"))
+        self.depth -= 1
+        return b"(%s)%s" % (said, self.chain())
 
     def chain(self):
+        said = b""
         while self.peek()[0] == "field" and not self.tokens[self.at][2]:
-            self.need(not self.take()[1][1:2].isdigit())
+            said += self.take()[1]
+            self.need(not said[said.rindex(b".") + 1 :][:1].isdigit())
+        return said
 
 
 # ---- a file
@@ -282,10 +314,19 @@ class Frame:
 
 
 class Body:
-    """What a template is made of, as far as it matters here."""
+    """What a template says: its texts as bytes, and its actions as they are printed, each in a list of its own."""
 
     def __init__(self, name, line):
-        self.name, self.line, self.is_blank = name, line, True
+        self.name, self.line, self.says = name, line, []
+
+    def is_blank(self):
+        return all(isinstance(it, bytes) and not it.strip(WHITE) for it in self.says)
+
+    def end(self, ends):
+        """The end of a control and its else branches, with no else part where that is empty."""
+        if self.says[-1] == [b"else"]:
+            self.says.pop()
+        self.says += [[b"end"]] * ends
 
 
 class Reading:
@@ -300,7 +341,7 @@ class Reading:
         return self.frames[-1] if self.frames else None
 
     def text(self, it):
-        self.body.is_blank &= not it.strip(WHITE)
+        self.body.says.append(it)
 
     def is_in_range(self):
         for it in reversed(self.frames):
@@ -342,36 +383,47 @@ class Reading:
     def step(self, line, it):
         if it.kind == b"end":
             frame = self.frames.pop()
+            if frame.kind in CONTROLS:
+                self.body.end(frame.levels)
             self.names, self.body = frame.outer, frame.body
             return
-        self.body.is_blank &= it.kind == b"define"
-        declared = self.names | set(it.declared)
+        if it.kind.startswith(b"else"):
+            self.body.says.append([b"else"])
+        if it.kind not in (b"else", b"define"):
+            self.body.says.append([it.said])
+        self.names = self.opened(line, it, self.names | set(it.declared))
+
+    def opened(self, line, it, names):
+        """The names that are in scope behind an action with these, and what it opens."""
         if it.kind in CONTROLS:
-            self.frames.append(Frame(it.kind, self.names, self.names if it.kind == b"range" else declared, self.body))
+            self.frames.append(Frame(it.kind, self.names, self.names if it.kind == b"range" else names, self.body))
         elif it.kind in (b"define", b"block"):
             self.frames.append(Frame(it.kind, self.names, frozenset(), self.body))
-            self.body, declared = Body(it.name, line), frozenset()
+            self.body = Body(it.name, line)
             self.bodies.append(self.body)
+            return frozenset()
         elif it.kind.startswith(b"else"):
             frame = self.top()
-            declared = frame.names | set(it.declared)
-            frame.names, frame.has_else = declared, it.kind == b"else"
+            frame.names |= set(it.declared)
+            frame.has_else = it.kind == b"else"
             frame.levels += it.kind != b"else"
-        self.names = declared
+            return frame.names
+        return names
 
     def second(self):
         """The line of the first second definition, if there is one."""
         seen = set()
         for it in [*self.bodies, self.own]:
-            if not it.is_blank:
+            if not it.is_blank():
                 if it.name in seen:
                     return it.line
                 seen.add(it.name)
         return None
 
 
-def refusal(name, data):
-    """The line at which a file of this base name is refused, and why; None where it is accepted, read alone."""
+def read(name, data):
+    """The templates of a file of this base name, read alone, in the order of their headers, its own as the last; or the line at
+    which the file is refused, and why."""
     reading = Reading(name)
     for it in pieces(data):
         if isinstance(it, bytes):
@@ -380,11 +432,49 @@ def refusal(name, data):
         try:
             reading.action(*it)
         except Refused as why:
-            return it[0], str(why)
+            return None, (it[0], str(why))
     if reading.frames:
-        return 1 + data.count(b"\n"), OPEN
+        return None, (1 + data.count(b"\n"), OPEN)
     line = reading.second()
-    return (line, SECOND) if line else None
+    return (None, (line, SECOND)) if line else ([*reading.bodies, reading.own], None)
+
+
+def refusal(name, data):
+    """The line at which a file of this base name is refused, and why; None where it is accepted, read alone."""
+    return read(name, data)[1]
+
+
+# ---- the printed set
+
+
+def printed(files):
+    """What is printed of the set of files, each with its base name; or of the first that is refused its place, line and reason."""
+    bodies = {}
+    for place, (name, data) in enumerate(files):
+        added, refused = read(name, data)
+        if refused:
+            return None, (place, *refused)
+        for body in added:
+            if body.name not in bodies or not body.is_blank():
+                bodies[body.name] = body
+    says = []
+    for name, body in bodies.items():
+        says += [[b"define " + quote(name)], *body.says, [b"end"], b"\n"]
+    return joined(says), None
+
+
+def joined(says):
+    """Texts and actions, with a comment between two texts, and no brace of a text right before a `{{`."""
+    before, out = b"", []
+    for it in says:
+        opening = b" {{- " if before.endswith(b"{") else b"{{"
+        if isinstance(it, bytes):
+            out += [opening + b"/**/}}"] * bool(before) + [it]
+            before = it
+        else:
+            out.append(opening + it[0] + b"}}")
+            before = b""
+    return b"".join(out)
 
 
 # ---- data
