@@ -36,8 +36,8 @@ impl Put for Growing<'_> {
     }
 }
 
-/// Adds the text of a value.
-pub(crate) fn add_text(value: &Val<'_>, bytes: &mut Vec<u8>) -> Result<(), AllocError>
+/// Adds the text that a value has as an action.
+pub fn add_text(value: &Val<'_>, bytes: &mut Vec<u8>) -> Result<(), AllocError>
     ensures { OnOk result (bytes.new.items ≡ bytes.old.items ++ text_of (val_of value.now)) }
 {
     let mut growing = Growing { bytes, failures: 0 };
@@ -45,7 +45,7 @@ pub(crate) fn add_text(value: &Val<'_>, bytes: &mut Vec<u8>) -> Result<(), Alloc
 }
 
 /// Adds the quote of a text.
-pub(crate) fn add_quote(text: &[u8], bytes: &mut Vec<u8>) -> Result<(), AllocError>
+pub fn add_quote(text: &[u8], bytes: &mut Vec<u8>) -> Result<(), AllocError>
     ensures { OnOk result (bytes.new.items ≡ bytes.old.items ++ quote text.now) }
 {
     let mut growing = Growing { bytes, failures: 0 };

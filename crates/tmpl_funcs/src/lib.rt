@@ -19,4 +19,5 @@ mod slice;
 pub use dispatch::call;
 pub use fault::{CallError, CallFault};
 pub use func::Func;
+pub use growing::{add_quote, add_text};
 pub use laws::one_format_reading;

@@ -21,6 +21,7 @@ pub mod OptionLemmas
 pub mod PipelineExamples
 pub mod PipelineLemmas
 pub mod PositionLemmas
+pub mod PrintLemmas
 pub mod PrintableActionLemmas
 pub mod PrintableConstantLemmas
 pub mod PrintableTokenLemmas

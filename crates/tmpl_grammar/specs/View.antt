@@ -1,5 +1,5 @@
 -- What trees, and the steps of the reading, stand for, apart from how they are held.
-use Rattle.std.specs.Prelude.{ℕ, List, map, reverse, option_map}
+use Rattle.std.specs.Prelude.{ℕ, List, Option, map, reverse, option_map}
 use Rattle.std.specs.Borrow.{Bor}
 use Rattle.tmpl_lex.specs.declared.piece.Token as held_token
 use Rattle.tmpl_lex.specs.Piece.{Token}
@@ -24,6 +24,8 @@ use Rattle.tmpl_grammar.specs.declared.tree.Header as held_header
 use Rattle.tmpl_grammar.specs.declared.action.Action as held_action
 use Rattle.tmpl_grammar.specs.declared.action.Action.TheVariants as act
 use Rattle.tmpl_grammar.specs.declared.action.Reading as held_reading
+use Rattle.tmpl_grammar.specs.declared.print.PrintedAction.{PrintedAction}
+use Rattle.tmpl_grammar.specs.declared.print.PrintedAction.TheVariants as print
 use Rattle.tmpl_grammar.specs.declared.action.Reading.TheVariants as held
 use Rattle.tmpl_grammar.specs.declared.header.Front.{Front}
 use Rattle.tmpl_grammar.specs.declared.header.Front.TheVariants as front
@@ -85,6 +87,21 @@ action_of act.Continue = continue_action
 action_of (act.Define name) = define_action name
 action_of (act.Template name given) = template_action name (option_map pipeline_of given)
 action_of (act.Block name p) = block_action name (pipeline_of p)
+
+-- the pipeline that a call is given
+abbrev pub given_of : Option (Bor held_pipeline.Pipeline) → Option Pipeline
+given_of given = option_map (λ p. pipeline_of p.now) given
+
+-- an action that is printed
+abbrev pub printed_of : PrintedAction → Action
+printed_of (print.Pipeline h) = pipeline_action (header_of h.now)
+printed_of (print.Open c h) = opening c (header_of h.now)
+printed_of print.Else = plain_else
+printed_of print.End = end_action
+printed_of print.Break = break_action
+printed_of print.Continue = continue_action
+printed_of (print.Define name) = define_action name.now
+printed_of (print.Template name given) = template_action name.now (given_of given)
 
 abbrev pub action_reading : held_reading.Reading held_action.Action → depth.Reading Action
 action_reading held.Unread = depth.unread

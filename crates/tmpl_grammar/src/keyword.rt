@@ -1,6 +1,7 @@
 //! The words that begin an action.
 ghost use Rattle.std.specs.Prelude.{◌≡◌};
 ghost use Rattle.tmpl_lex.specs.View.{token_of};
+ghost use Rattle.tmpl_grammar.specs.Keyword.{spelling};
 ghost use Rattle.tmpl_grammar.specs.computed.Reading.{branch_of, keyword_of, spells_keyword};
 ghost use Rattle.tmpl_grammar.specs.computed.Reading.{spells_template_keyword};
 
@@ -22,6 +23,24 @@ pub(crate) enum Keyword {
 }
 
 impl Keyword {
+    /// Its spelling.
+    pub(crate) fn spelling(self) -> &'static [u8]
+        ensures { result.now ≡ spelling self }
+    {
+        match self {
+            Keyword::Control(Control::If) => b"if",
+            Keyword::Control(Control::With) => b"with",
+            Keyword::Control(Control::Range) => b"range",
+            Keyword::Else => b"else",
+            Keyword::End => b"end",
+            Keyword::Break => b"break",
+            Keyword::Continue => b"continue",
+            Keyword::Define => b"define",
+            Keyword::Template => b"template",
+            Keyword::Block => b"block",
+        }
+    }
+
     /// The control with which an else part begins where this stands behind `else`, if one does.
     pub(crate) fn branch(self) -> Option<Branch>
         ensures { result ≡ branch_of self }

@@ -9,10 +9,12 @@ mod keyword;
 mod laws;
 mod operand;
 mod pipeline;
+mod print;
 mod read;
 mod tree;
 
 pub use action::{Action, Branch, HeaderShape, Reading, Shape};
 pub use laws::{one_action, one_reading, printed_spelling, printed_tokens};
+pub use print::PrintedAction;
 pub use read::read_action;
 pub use tree::{Binding, Command, Control, Header, Operand, Pair, Pipeline};

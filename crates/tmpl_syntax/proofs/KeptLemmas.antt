@@ -30,13 +30,13 @@ chosen-kept : (b : Bool) (old new : Tree) → IsKept old → IsKept new → IsKe
 chosen-kept true old new h k = h
 chosen-kept false old new h k = k
 
-pub defined-kept : (ts : List Template) (name : List ℕ) (tree : Tree) → AreKept ts → IsKept tree → AreKept (defined ts name tree)
-defined-kept [] name tree h k = (k, tt)
-defined-kept (t ∷ ts) name tree h k = go (bytes_eq name t.0) (defined-kept ts name tree h.1 k)
+pub defined-kept : (ts : List Template) (name : List ℕ) (tree : Tree) → AreKept ts → AreBytes name → IsKept tree → AreKept (defined ts name tree)
+defined-kept [] name tree h b k = (b, k, tt)
+defined-kept (t ∷ ts) name tree h b k = go (bytes_eq name t.0) (defined-kept ts name tree h.2 b k)
   where
     go : (b : Bool) → AreKept (defined ts name tree) → AreKept (if b then (t.0, chosen t.1 tree) ∷ ts else t ∷ defined ts name tree)
-    go true more = (chosen-kept (is_blank tree.nodes) t.1 tree h.0 k, h.1)
-    go false more = (h.0, more)
+    go true more = (h.0, chosen-kept (is_blank tree.nodes) t.1 tree h.1 k, h.2)
+    go false more = (h.0, h.1, more)
 
 -- ---- a look-up
 
@@ -46,10 +46,10 @@ IsKeptIf (Some tree) = IsKept tree
 
 named-kept : (name : List ℕ) (ts : List Template) → AreKept ts → IsKeptIf (tree_named name ts)
 named-kept name [] h = tt
-named-kept name (t ∷ ts) h = go (bytes_eq name t.0) (named-kept name ts h.1)
+named-kept name (t ∷ ts) h = go (bytes_eq name t.0) (named-kept name ts h.2)
   where
     go : (b : Bool) → IsKeptIf (tree_named name ts) → IsKeptIf (option_map (λ (u : Template). u.1) (cond b (Some t) (find (has_name name) ts)))
-    go true more = h.0
+    go true more = h.1
     go false more = more
 
 pub found-kept : (name : List ℕ) (ts : List Template) (o : Option (Bor held.Tree)) → AreKept ts → option_map (λ (t : Bor held.Tree). tree_of t.now) o ≡ tree_named name ts → IfSome o (λ (t : Bor held.Tree). IsKept (tree_of t.now))
@@ -70,7 +70,12 @@ checked-verdict bytes items e = verdict-fine (last_line bytes) items (verdict_of
 -- templates that can be printed and are bounded
 both-kept : (ts : List Template) → ArePrintable ts → NeedAtMost most_need ts → AreKept ts
 both-kept [] p n = tt
-both-kept (t ∷ ts) p n = (record { printable = p.1; need = n.0 }, both-kept ts p.2 n.1)
+both-kept (t ∷ ts) p n = (p.0, record { printable = p.1; need = n.0 }, both-kept ts p.2 n.1)
+
+-- templates that are kept can be printed
+pub kept-printable : (ts : List Template) → AreKept ts → ArePrintable ts
+kept-printable [] h = tt
+kept-printable (t ∷ ts) h = (h.0, h.1.printable, kept-printable ts h.2)
 
 printable-all : (file : List ℕ) (ds : List Definition) (own : Nodes) → AreBytes (base_name file) → ArePrintable (map (template_in file) ds) → IsPrintable own → ArePrintable (map (template_in file) (all_defined file ds own))
 printable-all file [] own name p o = (name, o, tt)
@@ -91,4 +96,4 @@ file-kept file bytes ts name h within passed built =
 
 pub each-kept : (set ts : List Template) → AreKept set → AreKept ts → AreKept (defined_each set ts)
 each-kept set [] h k = h
-each-kept set (t ∷ ts) h k = each-kept (defined set t.0 t.1) ts (defined-kept set t.0 t.1 h k.0) k.1
+each-kept set (t ∷ ts) h k = each-kept (defined set t.0 t.1) ts (defined-kept set t.0 t.1 h k.0 k.1) k.2

@@ -19,6 +19,7 @@ pub mod NeedLemmas
 pub mod OneSpellingLemmas
 pub mod OneVerdictLemmas
 pub mod OpenLemmas
+pub mod PageLemmas
 pub mod PlaceLemmas
 pub mod PrintExamples
 pub mod PrintableNodeLemmas

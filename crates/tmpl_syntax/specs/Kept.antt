@@ -1,5 +1,6 @@
 -- What holds of each tree of a set.
 use Rattle.std.specs.Prelude.{◌≤◌, List, [], ◌∷◌}
+use Rattle.tmpl_values.proofs.RuneLemmas.{AreBytes}
 use Rattle.tmpl_syntax.specs.Tree.{Tree}
 use Rattle.tmpl_syntax.specs.Set.{Template}
 use Rattle.tmpl_syntax.specs.Need.{need, most_need}
@@ -10,6 +11,7 @@ pub record IsKept (tree : Tree) : Type 0 where
   pub printable : IsPrintable tree.nodes
   pub need : need tree ≤ most_need
 
+-- so it is of each tree of a set, whose names are bytes
 abbrev pub AreKept : List Template → Type 0
 AreKept [] = Unit {0}
-AreKept (t ∷ ts) = IsKept t.1 × AreKept ts
+AreKept (t ∷ ts) = AreBytes t.0 × IsKept t.1 × AreKept ts

@@ -11,6 +11,7 @@ use Rattle.tmpl_syntax.specs.Item.{unread_item, deep_item, action_item, Item, it
 use Rattle.tmpl_syntax.specs.Set.{Template}
 use Rattle.tmpl_syntax.specs.Place.Role.{Name}
 use Rattle.tmpl_syntax.specs.computed.Build as build
+use Rattle.tmpl_syntax.specs.computed.Print as print
 use Rattle.tmpl_syntax.specs.declared.tree.Node as held_node
 use Rattle.tmpl_syntax.specs.declared.tree.Node.{fold-Node}
 use Rattle.tmpl_syntax.specs.declared.tree.NodeKind as held_node_kind
@@ -25,6 +26,7 @@ use Rattle.tmpl_syntax.specs.declared.item.ItemKind as held_kind
 use Rattle.tmpl_syntax.specs.declared.item.ItemKind.TheVariants as held
 use Rattle.tmpl_syntax.specs.declared.set.Set.{Set}
 use Rattle.tmpl_syntax.specs.declared.set.Names.{Names}
+use Rattle.tmpl_syntax.specs.declared.print.Page.{Page}
 use Rattle.tmpl_syntax.specs.declared.place.names.KnownNames.{KnownNames}
 use Rattle.tmpl_syntax.specs.declared.place.scopes.Scopes.{Scopes}
 use Rattle.tmpl_syntax.specs.computed.Frames.{Known}
@@ -78,6 +80,12 @@ set_view entries = map template_of entries
 -- the names that are left to give
 abbrev pub names_left : Names → List (List ℕ)
 names_left n = map (λ (k : Vec ℕ Global). k.items) n.keys
+
+-- ---- printing
+
+-- a file's bytes as far as it is printed, and what stands behind them
+unfoldable pub page_of : Page → print.Page
+page_of p = (p.bytes.items, p.before)
 
 -- ---- items
 

@@ -3,3 +3,4 @@ pub mod Count
 pub mod Frames
 pub mod Item
 pub mod Parse
+pub mod Print

@@ -18,6 +18,7 @@ pub use laws::{
     one_spelling, one_verdict, printable, printed_back, set_back,
 };
 pub use parse::{base_name, parse_file};
+pub use print::{print_set, print_tree};
 pub use set::{Names, Set};
 pub use tmpl_grammar::{
     Binding, Command, Control, Header, Operand, Pair, Pipeline, one_action, one_reading,

@@ -1,4 +1,18 @@
 //! Trees printed as template files.
+ghost use Rattle.std.specs.Prelude.{◌≡◌, ◌∷◌, [], IfOk, OnOk, codes};
+ghost use Rattle.tmpl_grammar.specs.View.{printed_of};
+ghost use Rattle.tmpl_syntax.specs.Print.Join.{behind, ends_brace, opening, parting};
+ghost use Rattle.tmpl_syntax.specs.Print.Laws.{SetBack};
+ghost use Rattle.tmpl_syntax.specs.Print.Printed.{else_said, node_said, nodes_said, printed, printed_set};
+ghost use Rattle.tmpl_syntax.specs.Print.Printed.{said, said_text};
+ghost use Rattle.tmpl_syntax.specs.View.{control_of, node_of, nodes_in, page_of, set_view, tree_of};
+ghost use Rattle.tmpl_syntax.specs.declared.print.Before.TheVariants.{Nothing};
+ghost use Rattle.tmpl_syntax.specs.computed.Print.{page_with, template_said};
+
+use crate::set::Set;
+use crate::tree::{ControlNode, Node, NodeKind, Tree};
+use std::alloc::{AllocError, Global};
+use tmpl_grammar::PrintedAction;
 
 /// What stands just before a place of a printed file.
 #[derive(Clone, Copy)]
@@ -9,4 +23,172 @@ pub(crate) enum Before {
     Text,
     /// A text that ends in `{`.
     Brace,
+}
+
+/// A file as far as it is printed.
+#[derive(Drop)]
+pub(crate) struct Page {
+    bytes: Vec<u8>,
+    before: Before,
+}
+
+/// A set as one template file: each template as a definition with a newline behind it, in the order of the set.
+///
+/// Read as a file, it makes the same templates in the same order, apart from files and lines.
+pub fn print_set(alloc: Global, set: &Set) -> Result<Vec<u8>, AllocError>
+    ensures printed { IfOk result (λ v. v.items ≡ printed_set (set_view set.now)) }
+    ensures read_back { IfOk result (λ v. SetBack v.items (set_view set.now)) }
+{
+    let mut page = Page::new(alloc);
+    for (name, tree) in set.templates.iter() {
+        page.template(name.as_slice(), tree)?;
+    }
+    Ok(page.bytes)
+}
+
+/// The body of a template as a template file.
+pub fn print_tree(alloc: Global, tree: &Tree) -> Result<Vec<u8>, AllocError>
+    ensures { IfOk result (λ v. v.items ≡ printed (tree_of tree.now).nodes) }
+{
+    let mut page = Page::new(alloc);
+    page.nodes(tree.nodes.as_slice())?;
+    Ok(page.bytes)
+}
+
+impl Page {
+    /// An empty file.
+    #[tactic(auto, unfolding(crate::specs::View::page_of))]
+    fn new(alloc: Global) -> Page
+        ensures { page_of result ≡ ([], Nothing) }
+    {
+        Page {
+            bytes: Vec::new(alloc),
+            before: Before::Nothing,
+        }
+    }
+
+    /// Adds a template as a definition, and a newline.
+    fn template(&mut self, name: &[u8], tree: &Tree) -> Result<(), AllocError>
+        ensures { OnOk result (page_of self.new
+            ≡ page_with (page_of self.old) (template_said (name.now, tree_of tree.now))) }
+    {
+        self.action(PrintedAction::Define(name))?;
+        self.nodes(tree.nodes.as_slice())?;
+        self.action(PrintedAction::End)?;
+        self.text(b"\n")
+    }
+
+    /// Adds nodes.
+    #[cycle(print)]
+    fn nodes(&mut self, nodes: &[Node]) -> Result<(), AllocError>
+        ensures { OnOk result (page_of self.new ≡ page_with (page_of self.old) (nodes_said (nodes_in nodes.now))) }
+    {
+        for node in nodes {
+            self.node(node)?;
+        }
+        Ok(())
+    }
+
+    /// Adds one node.
+    #[cycle(print)]
+    fn node(&mut self, node: &Node) -> Result<(), AllocError>
+        ensures { OnOk result (page_of self.new ≡ page_with (page_of self.old) (node_said (node_of node.now).what)) }
+    {
+        match &node.what {
+            NodeKind::Text(bytes) => self.text(bytes.as_slice()),
+            NodeKind::Action(header) => self.action(PrintedAction::Pipeline(header)),
+            NodeKind::Control(control) => self.control(control),
+            NodeKind::Break => self.action(PrintedAction::Break),
+            NodeKind::Continue => self.action(PrintedAction::Continue),
+            NodeKind::Template(name, given) => self.action(PrintedAction::Template(
+                name.as_slice(),
+                given.as_ref(),
+            )),
+        }
+    }
+
+    /// Adds a control with its parts.
+    #[cycle(print)]
+    fn control(&mut self, control: &ControlNode) -> Result<(), AllocError>
+        ensures { OnOk result (page_of self.new ≡ page_with (page_of self.old) (node_said (control_of control.now))) }
+    {
+        self.action(PrintedAction::Open(control.control, &control.header))?;
+        self.nodes(control.body.as_slice())?;
+        self.else_part(control.other.as_slice())?;
+        self.action(PrintedAction::End)
+    }
+
+    /// Adds an else part, where it has nodes.
+    #[cycle(print)]
+    fn else_part(&mut self, nodes: &[Node]) -> Result<(), AllocError>
+        ensures { OnOk result (page_of self.new
+            ≡ page_with (page_of self.old) (else_said (nodes_in nodes.now) (nodes_said (nodes_in nodes.now)))) }
+    {
+        if nodes.is_empty() {
+            return Ok(());
+        }
+        self.action(PrintedAction::Else)?;
+        self.nodes(nodes)
+    }
+
+    /// Adds an action.
+    fn action(&mut self, action: PrintedAction<'_>) -> Result<(), AllocError>
+        ensures { OnOk result (page_of self.new
+            ≡ page_with (page_of self.old) (said (printed_of action.entry) ∷ [])) }
+    {
+        self.bytes.extend_from_slice(opening(self.before))?;
+        action.print(&mut self.bytes)?;
+        self.bytes.extend_from_slice(b"}}")?;
+        self.before = Before::Nothing;
+        Ok(())
+    }
+
+    /// Adds a text.
+    fn text(&mut self, text: &[u8]) -> Result<(), AllocError>
+        ensures { OnOk result (page_of self.new ≡ page_with (page_of self.old) (said_text text.now ∷ [])) }
+    {
+        self.bytes.extend_from_slice(parting(self.before))?;
+        self.bytes.extend_from_slice(text)?;
+        self.before = behind(text);
+        Ok(())
+    }
+}
+
+/// What opens an action: its `{{`, which takes back a space behind a text that ends in `{`.
+fn opening(before: Before) -> &'static [u8]
+    ensures { result.now ≡ opening before }
+{
+    match before {
+        Before::Nothing | Before::Text => b"{{",
+        Before::Brace => b" {{- ",
+    }
+}
+
+/// What parts a text from one before it: a comment, which takes back a space behind a text that ends in `{`.
+fn parting(before: Before) -> &'static [u8]
+    ensures { result.now ≡ parting before }
+{
+    match before {
+        Before::Nothing => b"",
+        Before::Text => b"{{/**/}}",
+        Before::Brace => b" {{- /**/}}",
+    }
+}
+
+/// What stands behind a text.
+fn behind(text: &[u8]) -> Before
+    ensures { result ≡ behind text.now }
+{
+    if ends_in_brace(text) {
+        Before::Brace
+    } else {
+        Before::Text
+    }
+}
+
+/// Whether a text ends in `{`.
+fn ends_in_brace(text: &[u8]) -> bool
+    ensures { result ≡ ends_brace text.now }
+{
+    text.ends_with(b"{")
 }

@@ -18,7 +18,7 @@ use std::marker::Model;
 /// keeps no order). A name is bytes that need not be UTF-8.
 #[derive(Drop)]
 pub struct Set {
-    templates: IndexMap<Vec<u8>, Tree>,
+    pub(crate) templates: IndexMap<Vec<u8>, Tree>,
 }
 
 /// The names of a set, in its order.

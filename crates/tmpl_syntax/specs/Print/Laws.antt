@@ -64,11 +64,11 @@ abbrev pub newline_nodes : List Template → Nodes
 newline_nodes [] = none
 newline_nodes (t ∷ ts) = then 0 (text (codes "\n")) (newline_nodes ts)
 
--- a printed set is cut into pieces, and these are read as items, which spell the same templates in the same order,
--- apart from files and lines, and a newline behind each
-pub record SetBack (ts : List Template) : Type 0 where
+-- bytes are cut into pieces, and these are read as items, which spell these templates in this order, apart from files
+-- and lines, and a newline behind each
+pub record SetBack (bytes : List ℕ) (ts : List Template) : Type 0 where
   pub items : List Item
-  pub has : HasItems every_branch (printed_set ts) items
+  pub has : HasItems every_branch bytes items
   pub definitions : List Definition
   pub own : Nodes
   pub spells : Spells items definitions own
@@ -76,4 +76,4 @@ pub record SetBack (ts : List Template) : Type 0 where
   pub newlines : unlined own ≡ newline_nodes ts
 
 abbrev pub SetReadsSame : Type 0
-SetReadsSame = (ts : List Template) → ArePrintable ts → SetBack ts
+SetReadsSame = (ts : List Template) → ArePrintable ts → SetBack (printed_set ts) ts

@@ -1,0 +1,107 @@
+-- What is said first and what is said next are one page.
+use Rattle.std.proofs.Common.{◌≡◌, ◌∙◌, ℕ, Bool, true, false, List, [], ◌∷◌, ◌++◌, refl, sym, ap, append_assoc, append-nil, map, codes, nat_eq, length, drop, arith, ◌-◌, ◌==◌}
+use Rattle.std.proofs.lemmas.List.{map-append}
+use Rattle.std.proofs.Math.Bool.{and-true}
+use Rattle.std.proofs.lemmas.Bool.{both_ways, eqb-true, false_from_ne_true}
+use Rattle.std.specs.List.{ends_with}
+use Rattle.std.specs.Cmp.Lexicographic.{pointwise}
+use Rattle.tmpl_grammar.specs.Print.{action_tokens, bytes_of}
+use Rattle.tmpl_syntax.specs.declared.print.Before.{Before}
+use Rattle.tmpl_syntax.specs.declared.print.Before.TheVariants.{Nothing}
+use Rattle.tmpl_syntax.specs.Print.Join.{Part, a_text, an_action, after, behind, ends_brace, joined, opening, parting}
+use Rattle.tmpl_grammar.specs.Action.{Action, define_action, end_action, plain_else}
+use Rattle.tmpl_syntax.specs.Set.{Template}
+use Rattle.tmpl_syntax.specs.View.{nodes_in}
+use Rattle.tmpl_syntax.specs.declared.tree.Node as held
+use Rattle.tmpl_syntax.specs.Print.Printed.{Said, said, said_text, else_said, nodes_said, part_of, set_said}
+use Rattle.tmpl_syntax.specs.computed.Print.{Page, page_with, template_said}
+
+joined-append : (before : Before) (ps qs : List Part) → joined before (ps ++ qs) ≡ joined before ps ++ joined (after before ps) qs
+joined-append before [] qs = refl
+joined-append before (a_text t ∷ ps) qs =
+    ap (λ bs. parting before ++ (t ++ bs)) (joined-append (behind t) ps qs) ∙
+    sym (append_assoc (parting before) (t ++ joined (behind t) ps) (joined (after (behind t) ps) qs) ∙ ap (λ bs. parting before ++ bs) (append_assoc t (joined (behind t) ps) (joined (after (behind t) ps) qs)))
+joined-append before (an_action ts ∷ ps) qs =
+    let rest = joined Nothing ps in
+    let more = joined (after Nothing ps) qs in
+    ap (λ bs. opening before ++ (bytes_of ts ++ 125 ∷ 125 ∷ bs)) (joined-append Nothing ps qs) ∙
+    sym (append_assoc (opening before) (bytes_of ts ++ 125 ∷ 125 ∷ rest) more ∙ ap (λ bs. opening before ++ bs) (append_assoc (bytes_of ts) (125 ∷ 125 ∷ rest) more))
+
+after-append : (before : Before) (ps qs : List Part) → after before (ps ++ qs) ≡ after (after before ps) qs
+after-append before [] qs = refl
+after-append before (a_text t ∷ ps) qs = after-append (behind t) ps qs
+after-append before (an_action ts ∷ ps) qs = after-append Nothing ps qs
+
+pub page_append : (p : Page) (ss rs : List Said) → page_with (page_with p ss) rs ≡ page_with p (ss ++ rs)
+unfolding page_with
+page_append p ss rs =
+    let ps = map part_of ss in
+    let qs = map part_of rs in
+    let bytes : (p.0 ++ joined p.1 ps) ++ joined (after p.1 ps) qs ≡ p.0 ++ joined p.1 (map part_of (ss ++ rs)) =
+    append_assoc p.0 (joined p.1 ps) (joined (after p.1 ps) qs) ∙ ap (λ bs. p.0 ++ bs) (sym (joined-append p.1 ps qs) ∙ ap (joined p.1) (sym (map-append part_of ss rs))) in
+    let end : after (after p.1 ps) qs ≡ after p.1 (map part_of (ss ++ rs)) = sym (after-append p.1 ps qs) ∙ ap (after p.1) (sym (map-append part_of ss rs)) in
+    ap (λ bs. (bs, after (after p.1 ps) qs)) bytes ∙ ap (λ (b : Before). (p.0 ++ joined p.1 (map part_of (ss ++ rs)), b)) end
+
+pub page_nothing : (p : Page) → page_with p [] ≡ p
+unfolding page_with
+page_nothing p = ap (λ bs. (bs, p.1)) (append-nil p.0)
+
+-- a set says what its first template says, and then what the others say
+pub set_said_first : (t : Template) (ts : List Template) → set_said (t ∷ ts) ≡ template_said t ++ set_said ts
+set_said_first t ts =
+    ap (λ ss. said (define_action t.0) ∷ ss) (sym (append_assoc (nodes_said t.1.nodes) (said end_action ∷ said_text (codes "\n") ∷ []) (set_said ts)))
+
+-- an action, put piece by piece
+pub action-put : (before : Before) (a : Action) (old : List ℕ) {opened inside closed : List ℕ} → opened ≡ old ++ opening before
+    → inside ≡ opened ++ bytes_of (action_tokens a) → closed ≡ inside ++ codes "}}" → (closed, Nothing) ≡ page_with (old, before) (said a ∷ [])
+unfolding page_with
+action-put before a old {opened} {inside} {closed} h i j =
+    let tokens = bytes_of (action_tokens a) in
+    ap (λ (bs : List ℕ). (bs, Nothing)) (j ∙ ap (λ bs. bs ++ codes "}}") (i ∙ ap (λ bs. bs ++ tokens) h)
+    ∙ append_assoc (old ++ opening before) tokens (codes "}}") ∙ append_assoc old (opening before) (tokens ++ codes "}}"))
+
+-- a text, put piece by piece
+pub text-put : (before : Before) (t old : List ℕ) {parted ended : List ℕ} → parted ≡ old ++ parting before → ended ≡ parted ++ t
+    → (ended, behind t) ≡ page_with (old, before) (said_text t ∷ [])
+unfolding page_with
+text-put before t old {parted} {ended} h i =
+    ap (λ (bs : List ℕ). (bs, behind t)) (i ∙ ap (λ bs. bs ++ t) h ∙ append_assoc old (parting before) t ∙ ap (λ bs. old ++ (parting before ++ bs)) (sym (append-nil t)))
+
+same-flipped : (a b : ℕ) → nat_eq a b ≡ true → nat_eq b a ≡ nat_eq a b
+same-flipped a b e = let same = eqb-true a b e in ap (λ x. nat_eq x a) (sym same) ∙ ap (nat_eq a) same
+
+flip : (a b : ℕ) → nat_eq a b ≡ nat_eq b a
+flip a b = go (nat_eq a b) refl
+  where
+    go : (r : Bool) → nat_eq a b ≡ r → nat_eq a b ≡ nat_eq b a
+    go true e = sym (same-flipped a b e)
+    go false e = e ∙ sym (false_from_ne_true (nat_eq b a) (λ k. both_ways (nat_eq a b) e (same-flipped b a k ∙ k)))
+
+last-at : (b : ℕ) (t : List ℕ) → pointwise nat_eq (123 ∷ []) (drop (length t) (b ∷ t)) ≡ ends_brace (b ∷ t)
+last-at b [] = and-true (nat_eq 123 b) ∙ flip 123 b
+last-at b (c ∷ t) = last-at c t
+
+-- the last byte of a text
+pub last_brace : (t : List ℕ) → ends_with nat_eq t (123 ∷ []) ≡ ends_brace t
+last_brace [] = refl
+last_brace (b ∷ t) =
+    let at : length {A = ℕ} (b ∷ t) - 1 ≡ length t = omega arith in
+    ap (λ n. pointwise nat_eq (123 ∷ []) (drop n (b ∷ t))) at ∙ last-at b t
+
+-- a control, put part by part
+pub control-put : (p : Page) (o e : Said) (body other : List Said) {first second third fourth : Page} → first ≡ page_with p (o ∷ [])
+    → second ≡ page_with first body → third ≡ page_with second other → fourth ≡ page_with third (e ∷ [])
+    → fourth ≡ page_with p (o ∷ (body ++ (other ++ e ∷ [])))
+control-put p o e body other {first} {second} {third} {fourth} h i j k =
+    let ends : fourth ≡ page_with second (other ++ e ∷ []) = k ∙ ap (λ q. page_with q (e ∷ [])) j ∙ page_append second other (e ∷ []) in
+    ends ∙ ap (λ q. page_with q (other ++ e ∷ [])) i ∙ page_append first body (other ++ e ∷ []) ∙ ap (λ q. page_with q (body ++ (other ++ e ∷ []))) h
+    ∙ page_append p (o ∷ []) (body ++ (other ++ e ∷ []))
+
+-- an else part of no nodes, and one of nodes
+pub no_else : (p : Page) (ns : List held.Node) → true ≡ (length ns == 0) → p ≡ page_with p (else_said (nodes_in ns) (nodes_said (nodes_in ns)))
+no_else p [] e = sym (page_nothing p)
+no_else p (n ∷ ns) e = let none = eqb-true (length (n ∷ ns)) 0 (sym e) in absurd (let g : ⊥ = omega (arith, none) in g)
+
+pub some_else : (ns : List held.Node) (ss : List Said) → false ≡ (length ns == 0) → else_said (nodes_in ns) ss ≡ said plain_else ∷ ss
+some_else [] ss e = absurd (let g : ⊥ = cc in g)
+some_else (n ∷ ns) ss e = refl

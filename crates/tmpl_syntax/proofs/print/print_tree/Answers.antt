@@ -1,0 +1,12 @@
+use Rattle.std.proofs.Common.{◌∙◌, [], ap}
+use Rattle.tmpl_syntax.specs.declared.print.Before.TheVariants.{Nothing}
+use Rattle.tmpl_syntax.specs.View.{nodes_in, page_of}
+use Rattle.tmpl_syntax.specs.Print.Printed.{nodes_said}
+use Rattle.tmpl_syntax.specs.computed.Print.{page_with}
+use Rattle.tmpl_syntax.proofs.print.print_tree.Goals as goal
+
+pub returns : goal.returns
+unfolding page_of page_with
+returns c =
+    ap (λ p. p.0) (c.in_ok-nodes.ensures ∙ ap (λ p. page_with p (nodes_said (nodes_in c.as_slice.result.now))) c.new-page.ensures)
+    ∙ ap (λ ns. (page_with ([], Nothing) (nodes_said (nodes_in ns))).0) c.as_slice.ensures.value
