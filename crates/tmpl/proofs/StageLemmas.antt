@@ -5,14 +5,15 @@ use Rattle.tmpl_values.specs.Json.{Flaw, data_of}
 use Rattle.tmpl_syntax.specs.Tree.{Tree}
 use Rattle.tmpl_syntax.specs.Set.{Template, tree_named}
 use Rattle.tmpl_syntax.specs.computed.Parse.{Refusal, parsed}
+use Rattle.tmpl_syntax.specs.Print.Printed.{printed_set}
 use Rattle.tmpl_run.specs.Meaning.{Fault, ran}
 use Rattle.tmpl.specs.Help.{asks_help}
 use Rattle.tmpl.specs.Words.{Wanted, wanted}
 use Rattle.tmpl.specs.Source.{Bytes, Files}
 use Rattle.tmpl.specs.Outcome.{Answer, Begun}
-use Rattle.tmpl.specs.Laws.{AskFor, GivesHelp, RefusesWords, Runs, StopsAtData, StopsAtFile, StopsAtName, TellsFailedWrite, TellsRefusedMemory}
-use Rattle.tmpl.specs.Tool.{Failing, asked_name, data_found, end_of, failing_file, fails_data, loaded, no_read, or_data_refused, or_not_found, or_refused, or_refused_words, or_stop, or_unnamed, read_in, rules_of, run_of, run_status, tool_answer, unless_help}
-use Rattle.tmpl.specs.computed.Load.{after_set, after_words, rendered}
+use Rattle.tmpl.specs.Laws.{AskFor, GivesHelp, GoOn, Prints, RefusesWords, Runs, StopsAtData, StopsAtFile, StopsAtName, TellsFailedWrite, TellsRefusedMemory}
+use Rattle.tmpl.specs.Tool.{Failing, asked_name, data_found, end_of, failing_file, fails_data, loaded, no_read, only_text, or_data_refused, or_not_found, or_refused, or_refused_words, or_stop, or_unnamed, read_in, rules_of, run_of, run_status, tool_answer, unless_help, unless_printed}
+use Rattle.tmpl.specs.computed.Load.{after_print, after_set, after_words, rendered}
 
 pub gives_help : GivesHelp
 gives_help words files failing helps =
@@ -33,13 +34,17 @@ module _ (words : List Bytes) (files : Files) (w : Wanted) (asks : AskFor words 
   with_files r is = with_words words files no_read asks.0 (Some w) asks.1 ∙ ap (λ r. end_of (or_stop r (after_set files false w))) is
 
   module _ (set : List Template) (loads : loaded files None [] w.files ≡ Ok set) where
-    with_data : (r : Result (Option Value) Answer) → data_found files false w.data_file ≡ r → tool_answer words files no_read ≡ end_of (or_stop r (rendered w set))
-    with_data r is = with_files (Ok set) loads ∙ ap (λ r. end_of (or_stop r (rendered w set))) is
+    with_print : (p : Bool) → w.print ≡ p → tool_answer words files no_read ≡ end_of (or_stop (unless_printed p set) (λ v. after_print files false w set))
+    with_print p is = with_files (Ok set) loads ∙ ap (λ p. end_of (or_stop (unless_printed p set) (λ v. after_print files false w set))) is
 
-    with_name : (input : Option Value) → data_found files false w.data_file ≡ Ok input → (o : Option Tree) → tree_named (asked_name w) set ≡ o
-        → tool_answer words files no_read ≡ end_of (or_stop (or_unnamed (asked_name w) o) (λ tree. Ok (run_of w.options set (asked_name w) input tree)))
-    with_name input found o is =
-        with_data (Ok input) found ∙ ap (λ o. end_of (or_stop (or_unnamed (asked_name w) o) (λ tree. Ok (run_of w.options set (asked_name w) input tree)))) is
+    module _ (is_run : w.print ≡ false) where
+      with_data : (r : Result (Option Value) Answer) → data_found files false w.data_file ≡ r → tool_answer words files no_read ≡ end_of (or_stop r (rendered w set))
+      with_data r is = with_print false is_run ∙ ap (λ r. end_of (or_stop r (rendered w set))) is
+
+      with_name : (input : Option Value) → data_found files false w.data_file ≡ Ok input → (o : Option Tree) → tree_named (asked_name w) set ≡ o
+          → tool_answer words files no_read ≡ end_of (or_stop (or_unnamed (asked_name w) o) (λ tree. Ok (run_of w.options set (asked_name w) input tree)))
+      with_name input found o is =
+          with_data (Ok input) found ∙ ap (λ o. end_of (or_stop (or_unnamed (asked_name w) o) (λ tree. Ok (run_of w.options set (asked_name w) input tree)))) is
 
 -- the files before a file, and that file
 loaded_part : (files : Files) (set : List Template) (before : List Bytes) (rest : List Bytes)
@@ -59,14 +64,17 @@ stops_at_file words files w asks before name behind is set loads a refused =
     (ap (loaded files None []) is ∙ loaded_part files [] before (name ∷ behind) ∙ ap (λ r. or_stop r (λ s. loaded files None s (name ∷ behind))) loads
     ∙ ap (λ r. or_stop r (λ s. loaded files None s behind)) refused)
 
+pub prints : Prints
+prints words files w set loads is = with_print words files w loads.0 set loads.1 true is
+
 pub stops_at_data : StopsAtData
-stops_at_data words files w set loads a is = with_data words files w loads.0 set loads.1 (Err a) is
+stops_at_data words files w set goes a is = with_data words files w goes.0.0 set goes.0.1 goes.1 (Err a) is
 
 pub stops_at_name : StopsAtName
-stops_at_name words files w set loads input found none = with_name words files w loads.0 set loads.1 input found None none
+stops_at_name words files w set goes input found none = with_name words files w goes.0.0 set goes.0.1 goes.1 input found None none
 
 pub runs : Runs
-runs words files w set loads input found tree is = with_name words files w loads.0 set loads.1 input found (Some tree) is
+runs words files w set goes input found tree is = with_name words files w goes.0.0 set goes.0.1 goes.1 input found (Some tree) is
 
 -- ---- the ends
 
@@ -141,6 +149,10 @@ files-stop files (Some zero) set (name ∷ names) = other-3
 files-stop files (Some (suc k)) set (name ∷ names) =
     or_stop-stops (read_in set name (files name)) (λ s. loaded files (Some k) s names) (file-stops set name (files name)) (λ s. files-stop files (Some k) s names)
 
+print-stops : (b : Bool) (set : List Template) → Stops (unless_printed b set)
+print-stops true set = other-0
+print-stops false set = tt
+
 flaw-stops : (name : Bytes) (r : Result Value Flaw) → Stops (or_data_refused name r)
 flaw-stops name (Ok v) = tt
 flaw-stops name (Err f) = other-5
@@ -169,8 +181,9 @@ answer-other words files failing =
     or_stop-other (unless_help (asks_help words)) (λ u. or_stop (or_refused_words (wanted words)) (after_words files failing)) (help-stops (asks_help words)) (λ u.
     or_stop-other (or_refused_words (wanted words)) (after_words files failing) (words-stop (wanted words)) (λ w.
     or_stop-other (loaded files (failing_file failing) [] w.files) (after_set files (fails_data failing) w) (files-stop files (failing_file failing) [] w.files) (λ set.
+    or_stop-other (unless_printed w.print set) (λ v. after_print files (fails_data failing) w set) (print-stops w.print set) (λ v.
     or_stop-other (data_found files (fails_data failing) w.data_file) (rendered w set) (data-stops files (fails_data failing) w.data_file) (λ input.
-    rendered-other w set input))))
+    rendered-other w set input)))))
 
 pub tells_refused_memory : TellsRefusedMemory
 tells_refused_memory words files failing out err code (inl exact) is = absurd (answer-other words files failing (sym exact.1 ∙ is))

@@ -7,8 +7,8 @@ use Rattle.tmpl.specs.Words.{Wanted, wanted}
 use Rattle.tmpl.specs.Help.{asks_help}
 use Rattle.tmpl.specs.Source.{Bytes, Files}
 use Rattle.tmpl.specs.Outcome.{Answer, Outcome, Says}
-use Rattle.tmpl.specs.Tool.{Failing, Follows, asked_name, data_found, data_read, end_of, file_read, loaded, no_read, or_refused_words, or_stop, or_unnamed, run_of, stop_of, tool_answer, unless_help, unnamed_answer, words_alone}
-use Rattle.tmpl.specs.computed.Load.{Counts, DataStops, InputStops, LoadStops, after_set, after_words, rendered, stop_answer}
+use Rattle.tmpl.specs.Tool.{Failing, Follows, asked_name, data_found, data_read, end_of, failing_file, fails_data, file_read, loaded, no_read, or_refused_words, or_stop, or_unnamed, run_of, stop_of, tool_answer, unless_help, unless_printed, unnamed_answer, words_alone}
+use Rattle.tmpl.specs.computed.Load.{Counts, DataStops, InputStops, LoadStops, after_print, after_set, after_words, finished, rendered, stop_answer}
 use Rattle.tmpl.specs.declared.stop.Stop.{Stop}
 use Rattle.tmpl.specs.declared.stop.Stop.TheVariants as stop
 use Rattle.tmpl.proofs.MessageLemmas.{nothing_out, nothing_put}
@@ -24,23 +24,38 @@ module _ (files : Files) (w : Wanted) where
   load_stops stop.OutOfMemory h = tt
 
   module _ (set : List Template) (loads : loaded files None [] w.files ≡ Ok set) where
-    data_stops_as : (s : Stop) → data_found files false w.data_file ≡ Err (stop_answer s) → after_words files no_read w ≡ Err (stop_answer s)
-    data_stops_as s h = ap (λ r. or_stop r (after_set files false w)) loads ∙ ap (λ r. or_stop r (rendered w set)) h
+    -- the set is to be printed, whatever the data is
+    pub printed_next : (input : Option Value) → w.print ≡ true → after_words files no_read w ≡ finished w set input
+    printed_next input is =
+        ap (λ r. or_stop r (after_set files false w)) loads ∙ ap (λ p. or_stop (unless_printed p set) (λ v. after_print files false w set)) is
+        ∙ sym (ap (λ p. or_stop (unless_printed p set) (λ v. rendered w set input)) is)
 
-    -- the data stops the program
-    pub data_stops : (s : Stop) → DataStops files w.data_file s → InputStops files w s
-    data_stops (stop.NotFound m) h = data_stops_as (stop.NotFound m) h
-    data_stops (stop.Failed m) h =
-        (data_read, ap (λ r. or_stop r (after_set files true w)) loads ∙ ap (λ r. or_stop r (rendered w set)) h)
-    data_stops (stop.Template f) h = data_stops_as (stop.Template f) h
-    data_stops (stop.NotJson m) h = data_stops_as (stop.NotJson m) h
-    data_stops (stop.NotWhole m) h = data_stops_as (stop.NotWhole m) h
-    data_stops stop.OutOfMemory h = tt
+    module _ (runs : w.print ≡ false) where
+      -- the templates are read, and the data is next
+      data_next : (failing : Failing) → loaded files (failing_file failing) [] w.files ≡ Ok set
+          → after_words files failing w ≡ after_print files (fails_data failing) w set
+      data_next failing all =
+          ap (λ r. or_stop r (after_set files (fails_data failing) w)) all
+          ∙ ap (λ p. or_stop (unless_printed p set) (λ v. after_print files (fails_data failing) w set)) runs
 
-    -- nothing stops it
-    pub all_read : (input : Option Value) → data_found files false w.data_file ≡ Ok input
-        → after_words files no_read w ≡ rendered w set input
-    all_read input found = ap (λ r. or_stop r (after_set files false w)) loads ∙ ap (λ r. or_stop r (rendered w set)) found
+      data_stops_as : (s : Stop) → data_found files false w.data_file ≡ Err (stop_answer s) → after_words files no_read w ≡ Err (stop_answer s)
+      data_stops_as s h = data_next no_read loads ∙ ap (λ r. or_stop r (rendered w set)) h
+
+      -- the data stops the program
+      pub data_stops : (s : Stop) → DataStops files w.data_file s → InputStops files w s
+      data_stops (stop.NotFound m) h = data_stops_as (stop.NotFound m) h
+      data_stops (stop.Failed m) h = (data_read, data_next data_read loads ∙ ap (λ r. or_stop r (rendered w set)) h)
+      data_stops (stop.Template f) h = data_stops_as (stop.Template f) h
+      data_stops (stop.NotJson m) h = data_stops_as (stop.NotJson m) h
+      data_stops (stop.NotWhole m) h = data_stops_as (stop.NotWhole m) h
+      data_stops stop.OutOfMemory h = tt
+
+      -- nothing stops it
+      pub all_read : (input : Option Value) → data_found files false w.data_file ≡ Ok input
+          → after_words files no_read w ≡ finished w set input
+      all_read input found =
+          data_next no_read loads ∙ ap (λ r. or_stop r (rendered w set)) found
+          ∙ sym (ap (λ p. or_stop (unless_printed p set) (λ v. rendered w set input)) runs)
 
 module _ (err : Sunk) (code : ℕ) where
   -- an outcome of what comes to the same

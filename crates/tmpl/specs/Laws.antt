@@ -3,6 +3,7 @@ use Rattle.std.specs.Prelude.{◌≡◌, ◌≢◌, ◌+◌, ◌++◌, ℕ, true
 use Rattle.tmpl_values.specs.Value.{Value}
 use Rattle.tmpl_syntax.specs.Tree.{Tree}
 use Rattle.tmpl_syntax.specs.Set.{Template, tree_named}
+use Rattle.tmpl_syntax.specs.Print.Printed.{printed_set}
 use Rattle.tmpl_run.specs.Sink.{Cut, Sunk}
 use Rattle.tmpl.specs.Help.{asks_help}
 use Rattle.tmpl.specs.Words.{Wanted, wanted}
@@ -36,20 +37,29 @@ StopsAtFile = (words : List Bytes) (files : Files) (w : Wanted) → AskFor words
 abbrev pub Load : List Bytes → Files → Wanted → List Template → Type 0
 Load words files w set = AskFor words w × (loaded files None [] w.files ≡ Ok set)
 
+-- then a set that is to be printed is put out, whatever the data, the name and the options of the run are
+abbrev pub Prints : Type 0
+Prints = (words : List Bytes) (files : Files) (w : Wanted) (set : List Template) → Load words files w set
+    → w.print ≡ true → tool_answer words files no_read ≡ only_text (printed_set set)
+
+-- the words are taken, every FILE is read and accepted, and a template is to be run
+abbrev pub GoOn : List Bytes → Files → Wanted → List Template → Type 0
+GoOn words files w set = Load words files w set × (w.print ≡ false)
+
 -- then data that is missing or refused is the end
 abbrev pub StopsAtData : Type 0
-StopsAtData = (words : List Bytes) (files : Files) (w : Wanted) (set : List Template) → Load words files w set
+StopsAtData = (words : List Bytes) (files : Files) (w : Wanted) (set : List Template) → GoOn words files w set
     → (a : Answer) → data_found files false w.data_file ≡ Err a → tool_answer words files no_read ≡ a
 
 -- then a name that no template has is the end
 abbrev pub StopsAtName : Type 0
-StopsAtName = (words : List Bytes) (files : Files) (w : Wanted) (set : List Template) → Load words files w set
+StopsAtName = (words : List Bytes) (files : Files) (w : Wanted) (set : List Template) → GoOn words files w set
     → (input : Option Value) → data_found files false w.data_file ≡ Ok input
     → tree_named (asked_name w) set ≡ None → tool_answer words files no_read ≡ unnamed_answer (asked_name w)
 
 -- and else it is the run of the template of that name
 abbrev pub Runs : Type 0
-Runs = (words : List Bytes) (files : Files) (w : Wanted) (set : List Template) → Load words files w set
+Runs = (words : List Bytes) (files : Files) (w : Wanted) (set : List Template) → GoOn words files w set
     → (input : Option Value) → data_found files false w.data_file ≡ Ok input
     → (tree : Tree) → tree_named (asked_name w) set ≡ Some tree
     → tool_answer words files no_read ≡ run_of w.options set (asked_name w) input tree

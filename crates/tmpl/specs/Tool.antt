@@ -6,6 +6,7 @@ use Rattle.tmpl_values.specs.Json.{Flaw, not_json, not_whole, data_of}
 use Rattle.tmpl_syntax.specs.Tree.{Tree}
 use Rattle.tmpl_syntax.specs.Set.{Template, tree_named}
 use Rattle.tmpl_syntax.specs.Parse.{base_name}
+use Rattle.tmpl_syntax.specs.Print.Printed.{printed_set}
 use Rattle.tmpl_syntax.specs.computed.Parse.{Refusal, parsed}
 use Rattle.tmpl_syntax.specs.Fault as refused
 use Rattle.tmpl_syntax.specs.Fault.{Reason}
@@ -202,6 +203,13 @@ data_found files fails None = Ok None
 data_found files true (Some name) = Err (unread_answer name)
 data_found files false (Some name) = data_in name (files name)
 
+-- ---- the printed set
+
+-- a set that is to be printed is put out, and nothing else is looked at
+abbrev pub unless_printed : Bool → List Template → Result (Unit {0}) Answer
+unless_printed true set = Err (only_text (printed_set set))
+unless_printed false set = Ok tt
+
 -- ---- the command
 
 -- the name of the first FILE's own template
@@ -226,15 +234,16 @@ rules_of options =
 abbrev pub run_of : WantedOptions → List Template → Bytes → Option Value → Tree → Answer
 run_of options set name input tree = run_answer (ran (rules_of options) set name tree input)
 
--- what the command comes to: help, the words, each FILE, the data, the name, and the run
+-- what the command comes to: help, the words, each FILE, the printed set, the data, the name, and the run
 abbrev pub tool_answer : List Bytes → Files → Failing → Answer
 tool_answer words files failing = end_of
     (or_stop (unless_help (asks_help words)) (λ u.
     or_stop (or_refused_words (wanted words)) (λ w.
     or_stop (loaded files (failing_file failing) [] w.files) (λ set.
+    or_stop (unless_printed w.print set) (λ v.
     or_stop (data_found files (fails_data failing) w.data_file) (λ input.
     or_stop (or_unnamed (asked_name w) (tree_named (asked_name w) set)) (λ tree.
-    Ok (run_of w.options set (asked_name w) input tree)))))))
+    Ok (run_of w.options set (asked_name w) input tree))))))))
 
 -- what words come to that read no file: those that ask for help, and those that are refused
 abbrev pub words_alone : List Bytes → Option Answer

@@ -1,12 +1,13 @@
 //! The laws of the command: its stages, and its ends.
-ghost use Rattle.tmpl.specs.Laws.{GivesHelp, RefusesWords, Runs, StopsAtData, StopsAtFile, StopsAtName};
+ghost use Rattle.tmpl.specs.Laws.{GivesHelp, Prints, RefusesWords, Runs, StopsAtData, StopsAtFile, StopsAtName};
 ghost use Rattle.tmpl.specs.Laws.{TellsFailedWrite, TellsRefusedMemory};
 
-/// The laws of the stages: help, the words, the FILEs in turn, the data, the name, and the run.
+/// The laws of the stages: help, the words, the FILEs in turn, the printed set, the data, the name, and the run.
 pub fn stages()
     ensures help { GivesHelp }
     ensures words { RefusesWords }
     ensures files { StopsAtFile }
+    ensures print { Prints }
     ensures input { StopsAtData }
     ensures name { StopsAtName }
     ensures run { Runs }

@@ -6,6 +6,7 @@ ghost use Rattle.std.specs.Process.{exit_status};
 ghost use Rattle.tmpl_run.specs.Sink.{sunk};
 ghost use Rattle.tmpl.specs.Adapter.{SaysFlush, flushed};
 
+mod answer;
 mod evaluator;
 mod files;
 mod laws;

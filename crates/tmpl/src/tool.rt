@@ -5,10 +5,11 @@ ghost use Rattle.tmpl_run.specs.Sink.{sunk};
 ghost use Rattle.tmpl.specs.Outcome.{Counted, Once, Outcome, Spared};
 ghost use Rattle.tmpl.specs.Tool.{Follows, tool_answer, words_alone};
 
+use crate::answer::answer;
 use crate::files::inputs::read_inputs;
 use crate::files::source::Source;
 use crate::messages::lines::{out_of_memory, refuse, words_refused};
-use crate::render::{put_out, render};
+use crate::render::put_out;
 use crate::status::Status;
 use crate::words::help::asks_help;
 use crate::words::request::Refused;
@@ -57,7 +58,7 @@ pub fn tool<S: Source, O: Sink, E: Sink>(
     }
     match request_of(alloc, words) {
         Ok(request) => match read_inputs(alloc, &request, source) {
-            Ok(inputs) => render(alloc, &request, &inputs.set, inputs.data.as_ref(), out, err),
+            Ok(inputs) => answer(alloc, &request, &inputs.set, inputs.data.as_ref(), out, err),
             Err(stop) => refuse(err, &stop),
         },
         Err(Refused::Words) => words_refused(err),

@@ -16,6 +16,7 @@ use Rattle.tmpl.specs.Source.{Bytes, Files}
 use Rattle.tmpl.specs.Outcome.{Answer}
 use Rattle.tmpl.specs.Tool.{data_answer, data_found, loaded, not_found_answer, only_line, or_refused}
 use Rattle.tmpl.specs.Tool.{located_answer, parse_text, read_in, unread_answer, or_stop, or_unnamed, run_of}
+use Rattle.tmpl.specs.Tool.{unless_printed}
 use Rattle.tmpl.specs.Tool.{Failing, failing_file, fails_data, asked_name, no_read}
 use Rattle.tmpl.specs.Words.{Wanted}
 use Rattle.tmpl.specs.Part.{plain}
@@ -30,9 +31,17 @@ abbrev pub rendered : Wanted → List Template → Option Value → Result Answe
 rendered w set input = or_stop (or_unnamed (asked_name w) (tree_named (asked_name w) set))
     (λ tree. Ok (run_of w.options set (asked_name w) input tree))
 
+-- the set printed, or the name looked up and the run
+abbrev pub finished : Wanted → List Template → Option Value → Result Answer Answer
+finished w set input = or_stop (unless_printed w.print set) (λ v. rendered w set input)
+
 -- the data, and then the run
+abbrev pub after_print : Files → Bool → Wanted → List Template → Result Answer Answer
+after_print files fails w set = or_stop (data_found files fails w.data_file) (rendered w set)
+
+-- the set printed, or the data and so on
 abbrev pub after_set : Files → Bool → Wanted → List Template → Result Answer Answer
-after_set files fails w set = or_stop (data_found files fails w.data_file) (rendered w set)
+after_set files fails w set = or_stop (unless_printed w.print set) (λ v. after_print files fails w set)
 
 -- each FILE, and so on
 abbrev pub after_words : Files → Failing → Wanted → Result Answer Answer
@@ -129,5 +138,5 @@ InputStops files w stop = after_words files no_read w ≡ Err (stop_answer stop)
 -- the templates and the data
 abbrev pub ReadsInputs : Files → Wanted → Result Inputs Stop → Type 0
 ReadsInputs files w (Ok inputs) =
-    after_words files no_read w ≡ rendered w (set_view inputs.set) (data_value inputs.data)
+    after_words files no_read w ≡ finished w (set_view inputs.set) (data_value inputs.data)
 ReadsInputs files w (Err stop) = InputStops files w stop

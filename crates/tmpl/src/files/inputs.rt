@@ -1,4 +1,4 @@
-//! What a run needs of the files: the templates, and the data.
+//! What the command needs of the files: the templates, and the data of a run.
 ghost use Rattle.std.specs.Prelude.{◌-◌, ◌^◌, ◌<◌, IfSome};
 ghost use Rattle.tmpl.specs.View.{seen};
 ghost use Rattle.tmpl.specs.computed.Load.{Counts, ReadsInputs};
@@ -12,16 +12,16 @@ use std::alloc::Global;
 use tmpl_syntax::Set;
 use tmpl_values::Data;
 
-/// What a run needs of the files.
+/// What the command needs of the files.
 #[derive(Drop)]
 pub(crate) struct Inputs {
     /// The templates of all the files.
     pub set: Set,
-    /// The data; none where the words name no file of it.
+    /// The data; none where the words name no file of it, or nothing is to be run.
     pub data: Option<Data>,
 }
 
-/// Reads the templates, and then the data. A read that fails is the last one.
+/// Reads the templates, and then the data of a run. A read that fails is the last one.
 pub(crate) fn read_inputs<'a, S: Source>(
     alloc: Global,
     request: &Request<'a>,
@@ -33,6 +33,9 @@ pub(crate) fn read_inputs<'a, S: Source>(
 {
     let mut set = Set::new(alloc);
     load_files(alloc, &mut set, source, request.files.as_slice())?;
+    if request.print {
+        return Ok(Inputs { set, data: None });
+    }
     let data = read_data(alloc, source, request.data_file)?;
     Ok(Inputs { set, data })
 }

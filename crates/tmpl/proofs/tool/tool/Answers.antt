@@ -8,7 +8,7 @@ use Rattle.tmpl_run.specs.Sink.{sunk}
 use Rattle.tmpl.specs.Tool.{end_of, no_read, tool_answer}
 use Rattle.tmpl.proofs.MessageLemmas.{nothing_out}
 use Rattle.tmpl.specs.View.{seen}
-use Rattle.tmpl.specs.computed.Load.{data_value, rendered}
+use Rattle.tmpl.specs.computed.Load.{data_value, finished}
 use Rattle.tmpl_run.proofs.ToldLemmas.{if_told, of_told}
 use Rattle.tmpl.proofs.StopLemmas.{accepted, outcome_as, stops}
 use Rattle.tmpl.proofs.tool.tool.Goals as goal
@@ -22,12 +22,12 @@ returns-in-Ok-read_inputs-clause-told g c =
     let same : option_map (λ d. value_of d.now) c.as_ref.result ≡ data_value inputs.data = search rules in
     if_told _ (g.S.Source.contents c.args.source.now) (λ files told.
     let reads = of_told _ _ files told c.in-Ok-read_inputs.ensures.reads in
-    accepted _ c.render.result.code _ _ _ w files words c.in-Ok.ensures helps
+    accepted _ c.answer.result.code _ _ _ w files words c.in-Ok.ensures helps
     (inl (
       c.in-Ok-read_inputs.ensures.counts,
-      outcome_as _ c.render.result.code _ _ _
-          (ap end_of (reads ∙ ap (rendered w (set_view inputs.set)) (sym same)))
-          c.render.ensures.outcome,
+      outcome_as _ c.answer.result.code _ _ _
+          (ap end_of (reads ∙ ap (finished w (set_view inputs.set)) (sym same)))
+          c.answer.ensures.outcome,
     )))
 
 pub returns-in-Ok-clause-told : goal.returns-in-Ok-clause-told

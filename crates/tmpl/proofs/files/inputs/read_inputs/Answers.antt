@@ -1,4 +1,4 @@
-use Rattle.std.proofs.Common.{◌≡◌, ◌∙◌, ap, sym, subst, map, [], List, Bor, None, Ok}
+use Rattle.std.proofs.Common.{◌≡◌, ◌∙◌, ap, sym, subst, map, rules, [], List, Bor, None, Ok}
 use Rattle.tmpl_syntax.specs.Set.{Template}
 use Rattle.tmpl_syntax.specs.View.{set_view}
 use Rattle.tmpl.specs.Source.{Bytes}
@@ -31,7 +31,7 @@ returns-in_err-data-clause-reads g c =
     ∙ ap (λ (old : List Template). loaded files None old (map (λ s. s.now) c.as_slice.result.now)) (sym c.new-set.ensures)
     ∙ of_told _ _ files told c.in_ok-load_files.ensures.loads in
     let stops = of_told _ _ files (c.in_ok-load_files.ensures.contents ∙ told) c.in_err-data.ensures.reads in
-    err_up (ReadsInputs files w) c.from_residual-in_err-data.result _ c.from_residual-in_err-data.ensures.1 (data_stops files w set loads stop stops))
+    err_up (ReadsInputs files w) c.from_residual-in_err-data.result _ c.from_residual-in_err-data.ensures.1 (data_stops files w set loads (search rules) stop stops))
 
 pub returns-clause-reads : goal.returns-clause-reads
 returns-clause-reads g c =
@@ -42,4 +42,4 @@ returns-clause-reads g c =
     ap (λ (ns : List (Bor Bytes)). loaded files None [] (map (λ s. s.now) ns)) (sym c.as_slice.ensures.value)
     ∙ ap (λ (old : List Template). loaded files None old (map (λ s. s.now) c.as_slice.result.now)) (sym c.new-set.ensures)
     ∙ of_told _ _ files told c.in_ok-load_files.ensures.loads in
-    all_read files w set loads (data_value c.in_ok-data.data) (of_told _ _ files (c.in_ok-load_files.ensures.contents ∙ told) c.in_ok-data.ensures.reads))
+    all_read files w set loads (search rules) (data_value c.in_ok-data.data) (of_told _ _ files (c.in_ok-load_files.ensures.contents ∙ told) c.in_ok-data.ensures.reads))

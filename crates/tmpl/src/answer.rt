@@ -1,0 +1,64 @@
+//! What is put out of the templates: the printed set, or the text of a run.
+ghost use Rattle.std.specs.Prelude.{◌≡◌, ◌<◌, ◌^◌, ◌-◌, option_map};
+ghost use Rattle.tmpl_values.specs.View.{value_of};
+ghost use Rattle.tmpl_syntax.specs.View.{set_view};
+ghost use Rattle.tmpl_syntax.specs.Print.Printed.{printed_set};
+ghost use Rattle.tmpl_run.specs.Sink.{sunk};
+ghost use Rattle.tmpl.specs.Outcome.{Counted, Once, Outcome, Spared};
+ghost use Rattle.tmpl.specs.Tool.{end_of, only_text};
+ghost use Rattle.tmpl.specs.View.{seen};
+ghost use Rattle.tmpl.specs.computed.Load.{finished};
+
+use crate::messages::lines::out_of_memory;
+use crate::render::{put_out, render};
+use crate::status::Status;
+use crate::words::request::Request;
+use std::alloc::Global;
+use tmpl_run::Sink;
+use tmpl_syntax::{Set, print_set};
+use tmpl_values::Data;
+
+/// Puts the printed set out.
+fn print<O: Sink, E: Sink>(alloc: Global, set: &Set, out: &mut O, err: &mut E) -> Status
+    requires out { (O.so_far out.old).failures < 2 ^ 64 - 1 }
+    requires err { (E.so_far err.old).failures < 2 ^ 64 - 1 }
+    ensures counts { Counted (O.so_far out.old).failures (O.so_far out.new).failures result.code }
+    ensures cuts { Once (E.so_far err.old).failures (E.so_far err.new).failures }
+    ensures spared { Spared (sunk (O.so_far out.old) (O.so_far out.new)) result.code }
+    ensures outcome { Outcome (only_text (printed_set (set_view set.now)))
+        (sunk (O.so_far out.old) (O.so_far out.new))
+        (sunk (E.so_far err.old) (E.so_far err.new))
+        result.code }
+{
+    match print_set(alloc, set) {
+        Ok(text) => put_out(text.as_slice(), out, err),
+        Err(_) => out_of_memory(err),
+    }
+}
+
+/// Prints the set where the words ask for that, and else runs the template that they ask for.
+pub(crate) fn answer<O: Sink, E: Sink>(
+    alloc: Global,
+    request: &Request<'_>,
+    set: &Set,
+    data: Option<&Data>,
+    out: &mut O,
+    err: &mut E,
+) -> Status
+    requires out { (O.so_far out.old).failures < 2 ^ 64 - 1 }
+    requires err { (E.so_far err.old).failures < 2 ^ 64 - 1 }
+    ensures counts { Counted (O.so_far out.old).failures (O.so_far out.new).failures result.code }
+    ensures cuts { Once (E.so_far err.old).failures (E.so_far err.new).failures }
+    ensures spared { Spared (sunk (O.so_far out.old) (O.so_far out.new)) result.code }
+    ensures outcome { Outcome (end_of (finished (seen request.now) (set_view set.now)
+        (option_map (λ d. value_of d.now) «data».entry)))
+        (sunk (O.so_far out.old) (O.so_far out.new))
+        (sunk (E.so_far err.old) (E.so_far err.new))
+        result.code }
+{
+    if request.print {
+        print(alloc, set, out, err)
+    } else {
+        render(alloc, request, set, data, out, err)
+    }
+}
