@@ -84,8 +84,10 @@ impl Set {
         ensures value { option_map (λ t. (t.0.now, tree_of t.1.now)) result ≡ slice_get (set_view self.now) number }
         ensures kept { IfSome result (λ t. IsKept (tree_of t.1.now)) }
     {
-        let (name, tree) = self.templates.as_slice().get_index(number)?;
-        Some((name.as_slice(), tree))
+        match self.templates.as_slice().get_index(number) {
+            Some((name, tree)) => Some((name.as_slice(), tree)),
+            None => None,
+        }
     }
 
     /// Adds templates, one by one: a new name goes last, and a name that is there keeps its place and gets
