@@ -38,10 +38,10 @@ One o code rest = code ≡ act o ∷ rest
 
 -- ---- operands
 
--- a chain of fields behind a value, if there is one
-abbrev pub ChainedAt : List (List ℕ) → Part → Part
-ChainedAt [] Value code rest = Value code rest
-ChainedAt (name ∷ names) Value code rest = Value code (act (chained (name ∷ names)) ∷ rest)
+-- behind a value: the chain of fields from it, if there is one, and then the rest
+abbrev pub chain_before : List (List ℕ) → Code → Code
+chain_before [] rest = rest
+chain_before (name ∷ names) rest = act (chained (name ∷ names)) ∷ rest
 
 -- the variable of a slot, below so many values
 abbrev pub VariableAt : Option ℕ → ℕ → Part
@@ -112,14 +112,14 @@ abbrev mutual
   OperandAt dot above cells code rest = One push_dot code rest
   OperandAt (fields names) above cells code rest = One (push_fields names) code rest
   OperandAt (variable name names) above cells code rest =
-      ChainedAt names (VariableAt (slot_named name cells) above) code rest
+      VariableAt (slot_named name cells) above code (chain_before names rest)
   OperandAt (bool_constant b) above cells code rest = One (push_bool b) code rest
   OperandAt (number_constant n) above cells code rest = One (push_number n) code rest
   OperandAt (text_constant bytes) above cells code rest = One (push_text bytes) code rest
   OperandAt nil above cells code rest = One push_nothing code rest
   OperandAt (function f) above cells code rest = BareAt (takes f 0) f code rest
   OperandAt (group commands names) above cells code rest =
-      ChainedAt names (CommandsAt commands false above cells) code rest
+      CommandsAt commands false above cells code (chain_before names rest)
 
   -- the operands of a call, each above the values of those before it
   pub OperandsAt : Operands → ℕ → Layout → Part

@@ -5,3 +5,4 @@ pub mod MakesText
 pub mod Program
 pub mod Room
 pub mod View
+pub mod computed

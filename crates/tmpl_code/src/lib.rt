@@ -1,8 +1,13 @@
 //! Flat code: the templates of a set as one list of instructions with jumps.
 #![tactic(auto)]
 
+mod binding;
+mod code;
 mod instruction;
+mod node;
+mod pipeline;
 mod program;
+mod scope;
 
 pub use instruction::{Instruction, Operation, Refusal};
 pub use program::Program;
