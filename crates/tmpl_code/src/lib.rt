@@ -4,6 +4,8 @@
 mod binding;
 mod code;
 mod instruction;
+mod makes_text;
+mod need;
 mod node;
 mod pipeline;
 mod program;

@@ -40,7 +40,7 @@ pub(crate) fn declared_in(nodes: &[Node]) -> Result<usize, AllocError>
 }
 
 /// How many variables a node leaves.
-fn left_behind(node: &Node) -> usize
+pub(crate) fn left_behind(node: &Node) -> usize
     ensures { result ≡ left_behind (node_of node.now).what }
 {
     match &node.what {
