@@ -4,4 +4,5 @@ pub mod NeedLemmas
 pub mod NodeLemmas
 pub mod NodeTailLemmas
 pub mod OperandLemmas
+pub mod ProgramLemmas
 pub mod TailLemmas

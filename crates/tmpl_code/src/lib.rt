@@ -12,4 +12,4 @@ mod program;
 mod scope;
 
 pub use instruction::{Instruction, Operation, Refusal};
-pub use program::Program;
+pub use program::{Entry, Program, compile};

@@ -1,5 +1,5 @@
 //! The set of templates.
-ghost use Rattle.std.specs.Prelude.{◌≡◌, ◌≤◌, ◌<◌, ◌+◌, ◌&&◌, [], IfSome, OnOk, OnErr};
+ghost use Rattle.std.specs.Prelude.{◌≡◌, ◌≤◌, ◌<◌, ◌+◌, ◌&&◌, [], IfSome, OnOk, OnErr, Some};
 ghost use Rattle.std.specs.Prelude.{is_some, length, map, option_map, slice_get};
 ghost use Rattle.std.specs.Iterator.{YieldsFirstRef, item_count};
 ghost use Rattle.indexmap.specs.IndexMap.{spare};
@@ -79,14 +79,15 @@ impl Set {
         self.templates.get_index_of(name)
     }
 
-    /// The name and the tree of the template of this number, if there are so many.
-    pub fn template(&self, number: usize) -> Option<(&[u8], &Tree)>
-        ensures value { option_map (λ t. (t.0.now, tree_of t.1.now)) result ≡ slice_get (set_view self.now) number }
-        ensures kept { IfSome result (λ t. IsKept (tree_of t.1.now)) }
+    /// The name and the tree of the template of this number.
+    pub fn template(&self, number: usize) -> (&[u8], &Tree)
+        requires { number < length (set_view self.now) }
+        ensures value { slice_get (set_view self.now) number ≡ Some (result.0.now, tree_of result.1.now) }
+        ensures kept { IsKept (tree_of result.1.now) }
     {
         match self.templates.as_slice().get_index(number) {
-            Some((name, tree)) => Some((name.as_slice(), tree)),
-            None => None,
+            Some((name, tree)) => (name.as_slice(), tree),
+            None => unreachable!(),
         }
     }
 

@@ -1,13 +1,14 @@
 -- What the compiler holds, apart from how it is held. Code is held from its last instruction to its first, cells from the
 -- oldest to the newest.
-use Rattle.std.specs.Prelude.{ℕ, ◌+◌, ◌-◌, ◌≤◌, Bool, true, false, List, ◌∷◌, length, drop, Option, Some, None, map}
+use Rattle.std.specs.Prelude.{ℕ, ◌+◌, ◌-◌, ◌≤◌, Bool, true, false, List, [], ◌∷◌, length, drop, Option, Some, None, map}
 use Rattle.std.specs.Prelude.{option_map, reverse}
 use Rattle.std.specs.Borrow.{Bor}
 use Rattle.tmpl_grammar.specs.Tree.{Binding, unbound, declare, assign, declare_pair}
 use Rattle.tmpl_syntax.specs.Tree as tree
 use Rattle.tmpl_syntax.specs.Tree.{NodeKind, text, action, control_node, break_node, continue_node, template_node}
 use Rattle.tmpl_syntax.specs.Tree.{Nodes}
-use Rattle.tmpl_code.specs.Code.{Code, Part, Exit}
+use Rattle.tmpl_syntax.specs.Set.{Template}
+use Rattle.tmpl_code.specs.Code.{Code, Part, Exit, TreeAt}
 use Rattle.tmpl_code.specs.Instruction.{Instruction, act, decide}
 use Rattle.tmpl_code.specs.Layout.{Layout, grown}
 use Rattle.tmpl_code.specs.View.{instruction_of}
@@ -74,3 +75,15 @@ shrunk (template_node name given) cells = cells
 -- what binds the variables of a range, and then its body
 abbrev pub TurnsAt : Part → Part → Part
 TurnsAt Turn Body code rest = (first : Code) × Turn code first × Body first rest
+
+-- the places in code of this size from which on there is so much code
+abbrev pub places : ℕ → List ℕ → List ℕ
+places size lengths = map (λ n. size - n) lengths
+
+-- the code of each of these templates starts where so much code is left
+abbrev pub LastStarts : List Template → List Template → List ℕ → Code → Type 0
+LastStarts all [] [] code = Unit {0}
+LastStarts all [] (n ∷ ns) code = ⊥
+LastStarts all (t ∷ ts) [] code = ⊥
+LastStarts all (t ∷ ts) (n ∷ ns) code =
+    (n ≤ length code) × ((rest : Code) × TreeAt all t.1.nodes (last_of n code) rest) × LastStarts all ts ns code
