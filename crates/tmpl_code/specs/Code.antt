@@ -17,7 +17,7 @@ use Rattle.tmpl_syntax.specs.Tree as tree
 use Rattle.tmpl_syntax.specs.Tree.{NodeKind, text, action, control_node, break_node, continue_node, template_node}
 use Rattle.tmpl_syntax.specs.Tree.{Nodes}
 use Rattle.tmpl_syntax.specs.Set.{Template, number_of}
-use Rattle.tmpl_code.specs.Instruction.{Refusal, not_a_function, nil_command, wrong_count, no_template, Operation}
+use Rattle.tmpl_code.specs.Instruction.{not_a_function, nil_command, wrong_count, no_template, Operation}
 use Rattle.tmpl_code.specs.Instruction.{push_nothing, push_bool, push_number, push_text, push_dot, push_fields}
 use Rattle.tmpl_code.specs.Instruction.{push_slot, chained, call_with, decide, settle, refuse, Instruction, spend, put}
 use Rattle.tmpl_code.specs.Instruction.{act, show, hold, set, set_dot, unless, enter_with, end_with, cut, enter, turn}

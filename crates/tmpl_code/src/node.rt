@@ -7,7 +7,9 @@ ghost use Rattle.tmpl_code.specs.Code as spec;
 ghost use Rattle.tmpl_code.specs.Layout.{bound_on, declared_in, grown};
 ghost use Rattle.tmpl_code.specs.computed.Held.{IsOpen, TurnsAt, all_grown, code_of, exit_seen, layout_of, shrunk};
 
-use crate::binding::{close, declared_count, declares, declares_key, open, put_header, put_shown, put_turn};
+use crate::binding::{
+    close, declared_count, declares, declares_key, open, put_header, put_shown, put_turn,
+};
 use crate::code::Code;
 use crate::instruction::{Instruction, Operation, Refusal};
 use crate::pipeline::{put_pipeline, sum};
@@ -108,7 +110,11 @@ fn put_break(code: &mut Code<'_>, scope: &Scope<'_>, exit: Option<Around>) -> Re
 }
 
 /// Puts a continue.
-fn put_continue(code: &mut Code<'_>, scope: &Scope<'_>, exit: Option<Around>) -> Result<(), AllocError>
+fn put_continue(
+    code: &mut Code<'_>,
+    scope: &Scope<'_>,
+    exit: Option<Around>,
+) -> Result<(), AllocError>
     requires { IsOpen exit (code_of code.old) (layout_of scope.now) }
     ensures { OnOk result (spec.ContinueAt (exit_seen exit (code_of code.old)) (layout_of scope.now)
         (code_of code.new) (code_of code.old)) }
@@ -214,7 +220,13 @@ fn put_node<'s>(
         NodeKind::Break => put_break(code, scope, exit),
         NodeKind::Continue => put_continue(code, scope, exit),
         NodeKind::Template(name, given) => {
-            put_template(code, scope, name.as_slice(), set.number(name.as_slice()), given)
+            put_template(
+                code,
+                scope,
+                name.as_slice(),
+                set.number(name.as_slice()),
+                given,
+            )
         }
     }
 }
@@ -416,7 +428,14 @@ fn put_range<'s>(
         line,
     })?;
     let below = scope.len();
-    put_turns(code, scope, set, Around { after, line, below }, binding, body)?;
+    put_turns(
+        code,
+        scope,
+        set,
+        Around { after, line, below },
+        binding,
+        body,
+    )?;
     let skip = code.len() - second;
     code.push(Instruction::Enter {
         key: declares_key(binding),

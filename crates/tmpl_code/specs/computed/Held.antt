@@ -9,7 +9,7 @@ use Rattle.tmpl_syntax.specs.Tree.{NodeKind, text, action, control_node, break_n
 use Rattle.tmpl_syntax.specs.Tree.{Nodes}
 use Rattle.tmpl_syntax.specs.Set.{Template}
 use Rattle.tmpl_code.specs.Code.{Code, Part, Exit, TreeAt}
-use Rattle.tmpl_code.specs.Instruction.{Instruction, act, decide}
+use Rattle.tmpl_code.specs.Instruction.{act, decide}
 use Rattle.tmpl_code.specs.Layout.{Layout, grown}
 use Rattle.tmpl_code.specs.View.{instruction_of}
 use Rattle.tmpl_code.specs.declared.code.Code as held_code
