@@ -1,5 +1,5 @@
--- What the compiler holds, apart from how it is held. Code is held from its last instruction to its first, cells from the
--- oldest to the newest.
+-- What the compiler holds, apart from how it is held. Code is held from its last instruction to its first, cells from
+-- the oldest to the newest.
 use Rattle.std.specs.Prelude.{ℕ, ◌+◌, ◌-◌, ◌≤◌, Bool, true, false, List, [], ◌∷◌, length, drop, Option, Some, None, map}
 use Rattle.std.specs.Prelude.{option_map, reverse}
 use Rattle.std.specs.Borrow.{Bor}
