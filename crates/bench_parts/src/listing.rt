@@ -133,7 +133,12 @@ fn put_operation(
             put_fields(writer, names)
         }
         Operation::Call { func, count, piped } => {
-            write!(writer, "call {} {count}{}", func.name(), word(*piped, " piped"))
+            write!(
+                writer,
+                "call {} {count}{}",
+                func.name(),
+                word(*piped, " piped")
+            )
         }
         Operation::Decide { is_or, piped, skip } => {
             let name = if *is_or { "or" } else { "and" };

@@ -143,7 +143,12 @@ fn main(rt: HostRuntime) -> io::Result<ExitCode> {
         ("read", []) => read(&rt, alloc, bytes)?,
         ("data", []) => convert(&rt, alloc, bytes)?,
         ("text", []) => put(alloc, bytes, BufWriter::new(alloc, rt.stdout())?),
-        ("list", []) => list(alloc, file.as_str(), bytes, BufWriter::new(alloc, rt.stdout())?)?,
+        ("list", []) => list(
+            alloc,
+            file.as_str(),
+            bytes,
+            BufWriter::new(alloc, rt.stdout())?,
+        )?,
         ("cut", []) => cut_up(&rt, alloc, bytes)?,
         ("call", [name, count]) => call_over(&rt, alloc, bytes, name.as_str(), count.as_str())?,
         _ => false,
