@@ -1,5 +1,5 @@
 -- Each tree of a set is kept as files are added.
-use Rattle.std.proofs.Common.{◌≡◌, ◌≤◌, length, ℕ, Bool, true, false, List, [], ◌∷◌, Option, Some, None, Ok, refl, sym, subst, cond, if◌then◌else◌, Bor, map}
+use Rattle.std.proofs.Common.{◌≡◌, ◌≤◌, length, ℕ, zero, suc, slice_get, Bool, true, false, List, [], ◌∷◌, Option, Some, None, Ok, refl, sym, subst, cond, if◌then◌else◌, Bor, map}
 use Rattle.std.specs.Prelude.{IfSome, find}
 use Rattle.std.specs.Option.{option_map}
 use Rattle.std.specs.Str.{bytes_eq}
@@ -23,6 +23,20 @@ use Rattle.tmpl_syntax.proofs.ItemLemmas.{has-items}
 use Rattle.tmpl_syntax.proofs.SpellingLemmas.{spells-fine}
 use Rattle.tmpl_syntax.proofs.NeedLemmas.{need-most}
 use Rattle.tmpl_syntax.proofs.PrintableNodeLemmas.{keeps-printable}
+
+-- ---- by number
+
+abbrev KeptIf : Option Template → Type 0
+KeptIf None = Unit {0}
+KeptIf (Some t) = IsKept t.1
+
+kept-at : (ts : List Template) (number : ℕ) → AreKept ts → KeptIf (slice_get ts number)
+kept-at [] number h = tt
+kept-at (t ∷ ts) zero h = h.1
+kept-at (t ∷ ts) (suc number) h = kept-at ts number h.2
+
+pub at-kept : (ts : List Template) (number : ℕ) (t : Template) → AreKept ts → Some t ≡ slice_get ts number → IsKept t.1
+at-kept ts number t h at = subst KeptIf (sym at) (kept-at ts number h)
 
 -- ---- a definition
 

@@ -1,14 +1,14 @@
 -- The set's entries as a list of names and trees.
-use Rattle.std.proofs.Common.{◌≡◌, ℕ, Bool, true, false, List, [], ◌∷◌, Option, Some, refl, sym, ap, ◌∙◌, ◌&&◌, cond, map, Vec, Global}
+use Rattle.std.proofs.Common.{◌≡◌, ℕ, suc, ◌+◌, nat_lt, not, length, Bool, true, false, List, [], ◌∷◌, Option, Some, None, refl, sym, ap, ◌∙◌, ◌&&◌, cond, map, Vec, Global}
 use Rattle.std.specs.Option.{option_map, is_some}
-use Rattle.std.specs.List.{find, list_all}
+use Rattle.std.specs.List.{find, list_all, position, position_or_len}
 use Rattle.std.specs.Str.{bytes_eq}
 use Rattle.std.specs.Map.{lookup, keys_of}
 use Rattle.std.proofs.lemmas.Bool.{and_parts}
 use Rattle.tmpl_syntax.specs.View.{tree_of, node_of, nodes_in, template_of}
 use Rattle.tmpl_syntax.specs.Tree.{Tree}
 use Rattle.tmpl_syntax.specs.declared.tree.Tree as held
-use Rattle.tmpl_syntax.specs.Set.{Template, tree_named, has_name, is_blank_node, is_blank, defined, chosen}
+use Rattle.tmpl_syntax.specs.Set.{Template, tree_named, number_of, has_name, is_blank_node, is_blank, defined, chosen}
 use Rattle.tmpl_syntax.specs.declared.tree.Node as held_node
 use Rattle.indexmap.specs.IndexMap.{insert_entry}
 
@@ -64,3 +64,21 @@ defined-insert (d ∷ es) k tree e = go (bytes_eq k.items d.0.items) (is_blank (
     go false blank is ih h = ap (λ ts. template_of d ∷ ts) (ih h)
 
 pub ruleset blanks = blank-list
+
+-- ---- by number
+
+place-view : (name : List ℕ) (es : List Entry) → position_or_len (λ (k : Vec ℕ Global). bytes_eq name k.items) (keys_of es) ≡ position_or_len (has_name name) (map template_of es)
+place-view name [] = refl
+place-view name (e ∷ es) = ap (λ n. cond (not (bytes_eq name e.0.items)) (1 + n) 0) (place-view name es)
+
+count-view : (es : List Entry) → length (keys_of es) ≡ length (map template_of es)
+count-view [] = refl
+count-view (e ∷ es) = ap (λ n. suc n) (count-view es)
+
+abbrev within : ℕ → ℕ → Option ℕ
+within place count = cond (nat_lt place count) (Some place) None
+
+pub number-view : (name : List ℕ) (es : List Entry) → position (λ (k : Vec ℕ Global). bytes_eq name k.items) (keys_of es) ≡ number_of name (map template_of es)
+number-view name es =
+    ap (λ place. within place (length (keys_of es))) (place-view name es)
+    ∙ ap (λ count. within (position_or_len (has_name name) (map template_of es)) count) (count-view es)

@@ -1,6 +1,7 @@
 -- The set of templates: a list of names and trees, in the order in which the names were first defined, which is our
 -- own rule. That a blank definition replaces no body is from the documentation of Go's `Template.Parse`.
-use Rattle.std.specs.Prelude.{ℕ, Bool, true, false, ◌&&◌, List, [], ◌∷◌, Option, find, option_map, if◌then◌else◌}
+use Rattle.std.specs.Prelude.{ℕ, Bool, true, false, ◌&&◌, List, [], ◌∷◌, Option, find, position, option_map}
+use Rattle.std.specs.Prelude.{if◌then◌else◌}
 use Rattle.std.specs.List.{list_all}
 use Rattle.std.specs.Str.{bytes_eq}
 use Rattle.tmpl_lex.specs.Bytes.{is_space}
@@ -18,6 +19,10 @@ has_name name t = bytes_eq name t.0
 -- the tree of the template of this name
 abbrev pub tree_named : List ℕ → List Template → Option Tree
 tree_named name ts = option_map (λ t. t.1) (find (has_name name) ts)
+
+-- its number: how many templates stand before it
+abbrev pub number_of : List ℕ → List Template → Option ℕ
+number_of name ts = position (has_name name) ts
 
 abbrev pub is_blank_node : NodeKind → Bool
 is_blank_node (text bytes) = list_all is_space bytes

@@ -1,11 +1,11 @@
 //! The set of templates.
-ghost use Rattle.std.specs.Prelude.{◌≡◌, ◌≤◌, ◌<◌, ◌+◌, ◌&&◌, [], IfSome, OnOk, OnErr};
-ghost use Rattle.std.specs.Prelude.{is_some, length, map, option_map};
+ghost use Rattle.std.specs.Prelude.{◌≡◌, ◌≤◌, ◌<◌, ◌+◌, ◌&&◌, [], IfSome, OnOk, OnErr, Some};
+ghost use Rattle.std.specs.Prelude.{is_some, length, map, option_map, slice_get};
 ghost use Rattle.std.specs.Iterator.{YieldsFirstRef, item_count};
 ghost use Rattle.indexmap.specs.IndexMap.{spare};
 ghost use Rattle.tmpl_syntax.specs.View.{set_view, names_left, template_of, tree_of};
 ghost use Rattle.tmpl_syntax.specs.Kept.{AreKept, IsKept};
-ghost use Rattle.tmpl_syntax.specs.Set.{defined, defined_each, is_blank, tree_named};
+ghost use Rattle.tmpl_syntax.specs.Set.{defined, defined_each, is_blank, number_of, tree_named};
 
 use crate::blank::is_blank;
 use crate::tree::Tree;
@@ -63,6 +63,32 @@ impl Set {
         ensures kept { IfSome result (λ t. IsKept (tree_of t.now)) }
     {
         self.templates.get(name)
+    }
+
+    /// How many templates there are.
+    pub fn len(&self) -> usize
+        ensures { result ≡ length (set_view self.now) }
+    {
+        self.templates.len()
+    }
+
+    /// The number of the template of this name, if there is one: how many stand before it.
+    pub fn number(&self, name: &[u8]) -> Option<usize>
+        ensures { result ≡ number_of name.now (set_view self.now) }
+    {
+        self.templates.get_index_of(name)
+    }
+
+    /// The name and the tree of the template of this number.
+    pub fn template(&self, number: usize) -> (&[u8], &Tree)
+        requires { number < length (set_view self.now) }
+        ensures value { slice_get (set_view self.now) number ≡ Some (result.0.now, tree_of result.1.now) }
+        ensures kept { IsKept (tree_of result.1.now) }
+    {
+        match self.templates.as_slice().get_index(number) {
+            Some((name, tree)) => (name.as_slice(), tree),
+            None => unreachable!(),
+        }
     }
 
     /// Adds templates, one by one: a new name goes last, and a name that is there keeps its place and gets

@@ -1,0 +1,48 @@
+-- One operand or command more, from the last to the first.
+use Rattle.std.proofs.Common.{arith, ◌≡◌, ◌∙◌, ◌+◌, ◌-◌, ◌<◌, ◌≤◌, ℕ, zero, suc, Bool, true, false, List, [], ◌∷◌, length, drop, get_or, refl, ap, sym, subst}
+use Rattle.std.proofs.lemmas.List.{at_drop_more}
+use Rattle.tmpl_grammar.specs.Tree.{Operands, no_operand, operand}
+use Rattle.tmpl_grammar.specs.View.{operand_of, operands_in, commands_in}
+use Rattle.tmpl_grammar.specs.declared.tree.Operand as held
+use Rattle.tmpl_grammar.specs.declared.tree.Command as held_command
+use Rattle.tmpl_code.specs.computed.Held.{decided}
+use Rattle.tmpl_code.specs.Layout.{Layout}
+use Rattle.tmpl_code.specs.Code.{Code, is_last, DecideAt, OperandAt, JunctionAt}
+use Rattle.tmpl_code.proofs.TailLemmas.{passes, junction_ends}
+
+pub drop-all : {X : Type 0} (xs : List X) (i : ℕ) → length xs ≤ i → drop i xs ≡ []
+drop-all [] zero h = refl
+drop-all [] (suc i) h = refl
+drop-all (x ∷ xs) zero h = absurd (omega arith)
+drop-all (x ∷ xs) (suc i) h = drop-all xs i (omega arith)
+
+pub commands_from : (cs : List held_command.Command) (i : ℕ) (c : held_command.Command) → i < length cs → c ≡ get_or cs i c
+    → commands_in (drop i cs) ≡ commands_in (c ∷ drop (i + 1) cs)
+commands_from cs i c h is = at_drop_more commands_in cs i c h ∙ ap (λ (d : held_command.Command). commands_in (d ∷ drop (i + 1) cs)) (sym is)
+
+pub operands_from : (os : List held.Operand) (i : ℕ) (o : held.Operand) → i < length os → o ≡ get_or os i o
+    → operands_in (drop i os) ≡ operands_in (o ∷ drop (i + 1) os)
+operands_from os i o h is = at_drop_more operands_in os i o h ∙ ap (λ (d : held.Operand). operands_in (d ∷ drop (i + 1) os)) (sym is)
+
+-- one operand more
+pub junction_more : (lay : Layout) (above : ℕ) (is_or piped : Bool) (os : List held.Operand) (i : ℕ) (o : held.Operand) (last : Bool) (new mid more old : Code)
+    → i < length os → o ≡ get_or os i o → last ≡ is_last (operands_in (drop (i + 1) os)) piped → mid ≡ decided last is_or piped (length old) more
+    → OperandAt (operand_of o) above lay new mid → JunctionAt is_or (operands_in (drop (i + 1) os)) piped above lay more old
+    → JunctionAt is_or (operands_in (drop i os)) piped above lay new old
+junction_more lay above is_or piped os i o last new mid more old h is e put at others =
+    subst (λ (x : Operands). JunctionAt is_or x piped above lay new old) (sym (operands_from os i o h is)) (mid, at, decides)
+  where
+    go : (os : Operands) (piped b last : Bool) → last ≡ b → mid ≡ decided last is_or piped (length old) more → JunctionAt is_or os piped above lay more old → (b ≡ true → more ≡ old)
+        → DecideAt b is_or piped (JunctionAt is_or os piped above lay) mid old
+    go os piped true true e put others none = put ∙ none refl
+    go os piped true false e put others none = cc
+    go os piped false true e put others none = cc
+    go os piped false false e put others none = (length more - length old, more, put, others, passes old more (junction_ends is_or os piped above lay more old others))
+
+    none : (os : Operands) (piped : Bool) → is_last os piped ≡ true → JunctionAt is_or os piped above lay more old → more ≡ old
+    none no_operand false e l = l
+    none no_operand true e l = l
+    none (operand o os) piped e l = cc
+
+    decides : DecideAt (is_last (operands_in (drop (i + 1) os)) piped) is_or piped (JunctionAt is_or (operands_in (drop (i + 1) os)) piped above lay) mid old
+    decides = go (operands_in (drop (i + 1) os)) piped (is_last (operands_in (drop (i + 1) os)) piped) last e put others (λ t. none (operands_in (drop (i + 1) os)) piped t others)

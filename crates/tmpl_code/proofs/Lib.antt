@@ -1,0 +1,9 @@
+pub mod BackwardLemmas
+pub mod HeldLemmas
+pub mod NeedLemmas
+pub mod NodeLemmas
+pub mod NodeTailLemmas
+pub mod OperandLemmas
+pub mod ProgramLemmas
+pub mod RoomExamples
+pub mod TailLemmas

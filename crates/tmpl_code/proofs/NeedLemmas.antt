@@ -1,0 +1,7 @@
+-- What arguments need, from one to the next.
+use Rattle.std.proofs.Common.{◌≡◌, ℕ, refl}
+use Rattle.tmpl_grammar.specs.Tree.{no_operand}
+use Rattle.tmpl_grammar.specs.Need.{need_of_arguments}
+
+pub no_argument : (n : ℕ) → need_of_arguments n no_operand ≡ n
+no_argument n = refl

@@ -1,0 +1,94 @@
+-- Nodes, one level at a time.
+use Rattle.std.proofs.Common.{arith, ◌≡◌, ◌∙◌, ◌+◌, ◌<◌, ◌≤◌, ℕ, zero, suc, List, [], ◌∷◌, length, take, drop, get_or, refl, ap, sym, subst}
+use Rattle.std.proofs.lemmas.List.{at_drop_more}
+use Rattle.tmpl_grammar.specs.Tree.{Binding, unbound, declare, assign, declare_pair}
+use Rattle.tmpl_syntax.specs.Tree as tree
+use Rattle.tmpl_syntax.specs.Tree.{NodeKind, Node, Nodes, text, action, control_node, break_node, continue_node, template_node}
+use Rattle.tmpl_syntax.specs.Set.{Template}
+use Rattle.tmpl_syntax.specs.View.{node_of, nodes_in}
+use Rattle.tmpl_syntax.specs.declared.tree.Node as held
+use Rattle.tmpl_code.specs.Code.{Code, Exit, NodeAt, NodesAt}
+use Rattle.tmpl_code.specs.Instruction.{spend}
+use Rattle.tmpl_code.specs.Layout.{Layout, bound_on, grown}
+use Rattle.tmpl_code.specs.computed.Held.{bound_off, shrunk, all_grown}
+
+-- how much there is to put
+abbrev mutual
+  pub node_weight : NodeKind → ℕ
+  node_weight (text bytes) = 0
+  node_weight (action h) = 0
+  node_weight (control_node c h body other) = suc (nodes_weight body + nodes_weight other)
+  node_weight break_node = 0
+  node_weight continue_node = 0
+  node_weight (template_node name given) = 0
+
+  pub nodes_weight : Nodes → ℕ
+  nodes_weight tree.none = 0
+  nodes_weight (tree.then line n ns) = suc (node_weight n + nodes_weight ns)
+
+pub weight-at : (ns : List held.Node) (i : ℕ) (d : held.Node) → i < length ns → node_weight (node_of (get_or ns i d)).what < nodes_weight (nodes_in ns)
+weight-at [] i d h = absurd (omega arith)
+weight-at (n ∷ ns) zero d h = omega arith
+weight-at (n ∷ ns) (suc i) d h = let below : node_weight (node_of (get_or ns i d)).what < nodes_weight (nodes_in ns) = weight-at ns i d (omega arith) in omega (arith, below)
+
+pub item-weight : (ns : List held.Node) (i : ℕ) (n : held.Node) → i < length ns → n ≡ get_or ns i n → node_weight (node_of n).what < nodes_weight (nodes_in ns)
+item-weight ns i n h is = subst (λ (m : held.Node). node_weight (node_of m).what < nodes_weight (nodes_in ns)) (sym is) (weight-at ns i n h)
+
+pub bound_off-on : (b : Binding) (lay : Layout) → bound_off b (bound_on b lay) ≡ lay
+bound_off-on unbound lay = refl
+bound_off-on (declare x) lay = refl
+bound_off-on (assign x) lay = refl
+bound_off-on (declare_pair k x) lay = refl
+
+pub shrunk-grown : (n : NodeKind) (lay : Layout) → shrunk n (grown n lay) ≡ lay
+shrunk-grown (text bytes) lay = refl
+shrunk-grown (action h) lay = bound_off-on h.binding lay
+shrunk-grown (control_node c h body other) lay = refl
+shrunk-grown break_node lay = refl
+shrunk-grown continue_node lay = refl
+shrunk-grown (template_node name given) lay = refl
+
+-- the nodes up to a place, and one more
+pub grown-next : (ns : List held.Node) (i : ℕ) (n : held.Node) (lay : Layout) → i < length ns → n ≡ get_or ns i n
+    → all_grown (nodes_in (take (i + 1) ns)) lay ≡ grown (node_of n).what (all_grown (nodes_in (take i ns)) lay)
+grown-next [] i n lay h is = absurd (omega arith)
+grown-next (m ∷ ns) zero n lay h is = ap (λ (k : held.Node). grown (node_of k).what lay) (sym is)
+grown-next (m ∷ ns) (suc i) n lay h is =
+    let one : suc i + 1 ≡ suc (i + 1) = omega arith in
+    ap (λ k. all_grown (nodes_in (take k (m ∷ ns))) lay) one ∙ grown-next ns i n (grown (node_of m).what lay) (omega arith) is
+
+pub bound-longer : (b : Binding) (lay : Layout) → length lay ≤ length (bound_on b lay)
+bound-longer unbound lay = omega arith
+bound-longer (declare x) lay = omega arith
+bound-longer (assign x) lay = omega arith
+bound-longer (declare_pair k x) lay = omega arith
+
+pub ruleset offs = (bound_off-on, bound-longer)
+
+pub all_grown-longer : (ns : Nodes) (lay : Layout) → length lay ≤ length (all_grown ns lay)
+all_grown-longer tree.none lay = omega arith
+all_grown-longer (tree.then line (text bytes) ns) lay = all_grown-longer ns lay
+all_grown-longer (tree.then line (action h) ns) lay = let one = bound-longer h.binding lay in let rest = all_grown-longer ns (bound_on h.binding lay) in omega arith
+all_grown-longer (tree.then line (control_node c h body other) ns) lay = all_grown-longer ns lay
+all_grown-longer (tree.then line break_node ns) lay = all_grown-longer ns lay
+all_grown-longer (tree.then line continue_node ns) lay = all_grown-longer ns lay
+all_grown-longer (tree.then line (template_node name given) ns) lay = all_grown-longer ns lay
+
+-- the layout before a node, and behind it
+module _ (ns : List held.Node) (i j : ℕ) (n : held.Node) (lay now : Layout) (h : j < length ns) (next : i ≡ j + 1) (is : n ≡ get_or ns j n) (grew : now ≡ all_grown (nodes_in (take i ns)) lay) where
+  pub grows : now ≡ grown (node_of n).what (all_grown (nodes_in (take j ns)) lay)
+  grows = grew ∙ ap (λ k. all_grown (nodes_in (take k ns)) lay) next ∙ grown-next ns j n lay h is
+
+  pub shrinks : shrunk (node_of n).what now ≡ all_grown (nodes_in (take j ns)) lay
+  shrinks = ap (shrunk (node_of n).what) grows ∙ shrunk-grown (node_of n).what (all_grown (nodes_in (take j ns)) lay)
+
+-- one node more
+pub nodes_more : (ts : List Template) (ns : List held.Node) (i j : ℕ) (n : held.Node) (x : Exit) (before after : Layout) (new start mid old : Code)
+    → j < length ns → i ≡ j + 1 → n ≡ get_or ns j n → after ≡ grown (node_of n).what before → new ≡ spend (node_of n).line ∷ start
+    → NodeAt ts (node_of n).line (node_of n).what before x start mid → NodesAt ts (nodes_in (drop i ns)) after x mid old
+    → NodesAt ts (nodes_in (drop j ns)) before x new old
+nodes_more ts ns i j n x before after new start mid old h next is grew step one rest =
+    let here : nodes_in (drop j ns) ≡ nodes_in (n ∷ drop (j + 1) ns) = at_drop_more nodes_in ns j n h ∙ ap (λ (m : held.Node). nodes_in (m ∷ drop (j + 1) ns)) (sym is) in
+    let more = subst (λ k. NodesAt ts (nodes_in (drop k ns)) after x mid old) next rest in
+    subst (λ (y : Nodes). NodesAt ts y before x new old) (sym here)
+    (start, mid, step, one, subst (λ (l : Layout). NodesAt ts (nodes_in (drop (j + 1) ns)) l x mid old) grew more)

@@ -1,0 +1,51 @@
+-- One template more.
+use Rattle.std.proofs.Common.{arith, ◌≡◌, ◌∙◌, ◌-◌, ℕ, zero, suc, List, [], ◌∷◌, ◌++◌, length, drop, reverse, Some, None, slice_get, ap, sym, subst}
+use Rattle.std.proofs.lemmas.List.{reverse-append}
+use Rattle.tmpl_syntax.specs.Tree.{Nodes}
+use Rattle.tmpl_syntax.specs.Set.{Template}
+use Rattle.tmpl_code.specs.Layout.{declared_in, first_layout}
+use Rattle.tmpl_code.specs.Instruction.{return_from}
+use Rattle.tmpl_code.specs.Code.{Code, TreeAt, Starts}
+use Rattle.tmpl_code.specs.computed.Held.{last_of, places, LastStarts}
+use Rattle.tmpl_code.proofs.TailLemmas.{Ends, ends_under, longer}
+use Rattle.tmpl_code.proofs.NodeTailLemmas.{nodes_ends, last-on}
+
+tree_ends : (all : List Template) (ns : Nodes) (code rest : Code) → TreeAt all ns code rest → Ends rest code
+tree_ends all ns code rest l = ends_under (return_from (declared_in ns)) code rest (nodes_ends all ns first_layout None code (return_from (declared_in ns) ∷ rest) l)
+
+-- where code stands that is put before other code, the others stand as before
+starts_on : (all ts : List Template) (ns : List ℕ) (old new : Code) → Ends old new → LastStarts all ts ns old → LastStarts all ts ns new
+starts_on all [] [] old new e s = tt
+starts_on all [] (n ∷ ns) old new e s = absurd s
+starts_on all (t ∷ ts) [] old new e s = absurd s
+starts_on all (t ∷ ts) (n ∷ ns) old new e s =
+    let more = longer old new e in
+    let within = s.0 in
+    let same : last_of n new ≡ last_of n old = ap (last_of n) e.is ∙ last-on e.front old n s.0 in
+    (omega arith, (s.1.0, subst (λ (c : Code). TreeAt all t.1.nodes c s.1.0) (sym same) s.1.1), starts_on all ts ns old new e s.2)
+
+whole : (code : Code) → last_of (length code) code ≡ code
+whole code = let none : length code - length code ≡ 0 = omega arith in ap (λ n. drop n code) none
+
+-- the templates from a number on
+pub from-number : (ts : List Template) (i : ℕ) (t : Template) → slice_get ts i ≡ Some t → drop i ts ≡ t ∷ drop (suc i) ts
+from-number [] i t at = cc
+from-number (u ∷ us) zero t at = let same : u ≡ t = cc in ap (λ (x : Template). x ∷ us) same
+from-number (u ∷ us) (suc i) t at = from-number us i t at
+
+pub starts_more : (all : List Template) (i : ℕ) (t : Template) (ns more : List ℕ) (n : ℕ) (old new : Code) → slice_get all i ≡ Some t
+    → more ≡ ns ++ n ∷ [] → n ≡ length new → TreeAt all t.1.nodes new old → LastStarts all (drop (suc i) all) (reverse ns) old
+    → LastStarts all (drop i all) (reverse more) new
+starts_more all i t ns more n old new at put len lies s =
+    let first : reverse more ≡ n ∷ reverse ns = ap reverse put ∙ reverse-append ns (n ∷ []) in
+    let begins : last_of n new ≡ new = ap (λ k. last_of k new) len ∙ whole new in
+    subst (λ (ts : List Template). LastStarts all ts (reverse more) new) (sym (from-number all i t at))
+    (subst (λ (ks : List ℕ). LastStarts all (t ∷ drop (suc i) all) ks new) (sym first)
+    (omega (arith, len), (old, subst (λ (c : Code). TreeAt all t.1.nodes c old) (sym begins) lies), starts_on all (drop (suc i) all) (reverse ns) old new (tree_ends all t.1.nodes new old lies) s))
+
+-- so much code is left from its place on
+pub starts : (all ts : List Template) (ns : List ℕ) (code : Code) → LastStarts all ts ns code → Starts all ts (places (length code) ns) code
+starts all [] [] code s = tt
+starts all [] (n ∷ ns) code s = absurd s
+starts all (t ∷ ts) [] code s = absurd s
+starts all (t ∷ ts) (n ∷ ns) code s = (s.1, starts all ts ns code s.2)

@@ -1,0 +1,38 @@
+use Rattle.std.proofs.Common.{◌≡◌, ◌≤◌, ◌+◌, ◌*◌, drop, length}
+use Rattle.tmpl_grammar.specs.View.{commands_in, operand_of, operands_in}
+use Rattle.tmpl_grammar.specs.Need.{need_of_commands, need_of_arguments}
+use Rattle.tmpl_code.proofs.OperandLemmas.{all_weight, weight, weights}
+use Rattle.tmpl_code.proofs.need.+pipes.Given as goal
+
+abbrev pub decreases-need_of_commands : goal.decreases-need_of_commands
+decreases-need_of_commands l = 4 * all_weight (commands_in l.commands.now) + 3
+
+abbrev pub decreases-need_of_piped : goal.decreases-need_of_piped
+decreases-need_of_piped l = 4 * all_weight (commands_in l.commands.now) + 2
+
+abbrev pub decreases-need_of_command : goal.decreases-need_of_command
+decreases-need_of_command l = 4 * weights (operands_in l.operands.now) + 2
+
+abbrev pub decreases-need_of_arguments : goal.decreases-need_of_arguments
+decreases-need_of_arguments l = 4 * weights (operands_in l.operands.now) + 1
+
+abbrev pub decreases-need_of_operand : goal.decreases-need_of_operand
+decreases-need_of_operand l = 4 * weight (operand_of l.operand.now)
+
+abbrev pub decreases-need_of_piped-loop-i : goal.decreases-need_of_piped-loop-i
+decreases-need_of_piped-loop-i l = l.i
+
+abbrev pub decreases-need_of_arguments-loop-i : goal.decreases-need_of_arguments-loop-i
+decreases-need_of_arguments-loop-i l = l.i
+
+abbrev pub invariant-need_of_piped-loop-i : goal.invariant-need_of_piped-loop-i
+invariant-need_of_piped-loop-i l = record {
+  within : l.i ≤ length l.commands;
+  most : l.most ≡ need_of_commands 1 (commands_in (drop l.i l.commands));
+}
+
+abbrev pub invariant-need_of_arguments-loop-i : goal.invariant-need_of_arguments-loop-i
+invariant-need_of_arguments-loop-i l = record {
+  within : l.i ≤ length l.operands;
+  most : l.most ≡ need_of_arguments (l.held + l.i) (operands_in (drop l.i l.operands));
+}

@@ -1,0 +1,326 @@
+-- Which code is that of a tree: what `compile` promises, and what a run of code rests on. Code is the list of
+-- instructions from a place on, and `rest` is what stands behind the code of the tree; so nothing hangs on where it
+-- stands. Each case says what that of the tree's meaning says, and each tree has code: a variable that is not in scope
+-- is nothing, and a break out of no range ends the template.
+use Rattle.std.specs.Prelude.{◌≡◌, ℕ, suc, ◌+◌, ◌-◌, Bool, true, false, List, [], ◌∷◌, length, drop, Option, Some, None}
+use Rattle.tmpl_funcs.specs.Func.{takes}
+use Rattle.tmpl_funcs.specs.declared.func.Func.{Func}
+use Rattle.tmpl_funcs.specs.declared.func.Func.TheVariants.{And, Or}
+use Rattle.tmpl_grammar.specs.Tree.{Operand, dot, fields, variable, bool_constant, number_constant}
+use Rattle.tmpl_grammar.specs.Tree.{text_constant, nil, function, group, Operands, no_operand, operand}
+use Rattle.tmpl_grammar.specs.Tree.{Commands, no_command, command, Pipeline, pipeline}
+use Rattle.tmpl_grammar.specs.Tree.{Binding, unbound, declare, assign, declare_pair, Header}
+use Rattle.tmpl_grammar.specs.Need.{declared_count}
+use Rattle.tmpl_grammar.specs.declared.tree.Control.{Control}
+use Rattle.tmpl_grammar.specs.declared.tree.Control.TheVariants as control
+use Rattle.tmpl_syntax.specs.Tree as tree
+use Rattle.tmpl_syntax.specs.Tree.{NodeKind, text, action, control_node, break_node, continue_node, template_node}
+use Rattle.tmpl_syntax.specs.Tree.{Nodes}
+use Rattle.tmpl_syntax.specs.Set.{Template, number_of}
+use Rattle.tmpl_code.specs.Instruction.{not_a_function, nil_command, wrong_count, no_template, Operation}
+use Rattle.tmpl_code.specs.Instruction.{push_nothing, push_bool, push_number, push_text, push_dot, push_fields}
+use Rattle.tmpl_code.specs.Instruction.{push_slot, chained, call_with, decide, settle, refuse, Instruction, spend, put}
+use Rattle.tmpl_code.specs.Instruction.{act, show, hold, set, set_dot, unless, enter_with, end_with, cut, enter, turn}
+use Rattle.tmpl_code.specs.Instruction.{next, leave, deepen, invoke, return_from}
+use Rattle.tmpl_code.specs.Layout.{Layout, slot_named, bound_on, declares, declares_key, grown, declared_in}
+use Rattle.tmpl_code.specs.Layout.{first_layout}
+
+-- from a place on
+abbrev pub Code : Type 0
+Code = List Instruction
+
+-- what stands from a place up to another, both told by the code from there on
+abbrev pub Part : Type 1
+Part = Code → Code → Type 0
+
+-- one step of a pipeline
+abbrev pub One : Operation → Part
+One o code rest = code ≡ act o ∷ rest
+
+-- ---- operands
+
+-- behind a value: the chain of fields from it, if there is one, and then the rest
+abbrev pub chain_before : List (List ℕ) → Code → Code
+chain_before [] rest = rest
+chain_before (name ∷ names) rest = act (chained (name ∷ names)) ∷ rest
+
+-- the variable of a slot, below so many values
+abbrev pub VariableAt : Option ℕ → ℕ → Part
+VariableAt None above code rest = One push_nothing code rest
+VariableAt (Some slot) above code rest = One (push_slot (above + slot)) code rest
+
+-- a function as an argument: a call without arguments
+abbrev pub BareAt : Bool → Func → Part
+BareAt true f code rest = One (call_with f 0 false) code rest
+BareAt false f code rest = One (refuse (wrong_count f)) code rest
+
+-- ---- commands
+
+abbrev pub piped_count : Bool → ℕ
+piped_count false = 0
+piped_count true = 1
+
+abbrev pub operand_count : Operands → ℕ
+operand_count no_operand = 0
+operand_count (operand o os) = suc (operand_count os)
+
+abbrev pub argument_count : Operands → Bool → ℕ
+argument_count os piped = operand_count os + piped_count piped
+
+-- whether no argument stands behind an operand before these
+abbrev pub is_last : Operands → Bool → Bool
+is_last no_operand false = true
+is_last no_operand true = false
+is_last (operand o os) piped = false
+
+-- a first operand that is no function and stands alone
+abbrev pub AloneAt : Operand → Part → Part
+AloneAt nil Value code rest = One (refuse nil_command) code rest
+AloneAt o Value code rest = Value code rest
+
+-- a first operand that is no function: it takes no argument
+abbrev pub FirstAt : Bool → Operand → Part → Part
+FirstAt true o Value code rest = AloneAt o Value code rest
+FirstAt false o Value code rest = One (refuse not_a_function) code rest
+
+-- a command by its first operand: a call where that is a function
+abbrev pub CommandBy : Operand → Operands → Bool → Part → (Func → Part) → Part
+CommandBy (function f) os piped Value Call code rest = Call f code rest
+CommandBy o os piped Value Call code rest = FirstAt (is_last os piped) o Value code rest
+
+-- a call, by whether the function takes so many arguments
+abbrev pub CountedAt : Bool → Func → Part → Part
+CountedAt true f Call code rest = Call code rest
+CountedAt false f Call code rest = One (refuse (wrong_count f)) code rest
+
+-- by the function: `and` and `or` decide behind each operand
+abbrev pub CallBy : Func → Part → Part → Part → Part
+CallBy And All Both Either = Both
+CallBy Or All Both Either = Either
+CallBy f All Both Either = All
+
+-- behind an operand of an `or`, or else of an `and`: where the value decides, the others are passed over; none is
+-- behind the last argument
+abbrev pub DecideAt : Bool → Bool → Bool → Part → Part
+DecideAt true is_or piped Others code rest = code ≡ rest
+DecideAt false is_or piped Others code rest =
+    (skip : ℕ) × (more : Code)
+    × (code ≡ act (decide is_or piped skip) ∷ more) × Others more rest × (drop skip more ≡ rest)
+
+abbrev mutual
+  -- an operand, where so many values lie above the cells of this layout
+  pub OperandAt : Operand → ℕ → Layout → Part
+  OperandAt dot above cells code rest = One push_dot code rest
+  OperandAt (fields names) above cells code rest = One (push_fields names) code rest
+  OperandAt (variable name names) above cells code rest =
+      VariableAt (slot_named name cells) above code (chain_before names rest)
+  OperandAt (bool_constant b) above cells code rest = One (push_bool b) code rest
+  OperandAt (number_constant n) above cells code rest = One (push_number n) code rest
+  OperandAt (text_constant bytes) above cells code rest = One (push_text bytes) code rest
+  OperandAt nil above cells code rest = One push_nothing code rest
+  OperandAt (function f) above cells code rest = BareAt (takes f 0) f code rest
+  OperandAt (group commands names) above cells code rest =
+      CommandsAt commands false above cells code (chain_before names rest)
+
+  -- the operands of a call, each above the values of those before it
+  pub OperandsAt : Operands → ℕ → Layout → Part
+  OperandsAt no_operand above cells code rest = code ≡ rest
+  OperandsAt (operand o os) above cells code rest =
+      (mid : Code) × OperandAt o above cells code mid × OperandsAt os (suc above) cells mid rest
+
+  -- the operands of an `or`, or else of an `and`
+  pub JunctionAt : Bool → Operands → Bool → ℕ → Layout → Part
+  JunctionAt is_or no_operand piped above cells code rest = code ≡ rest
+  JunctionAt is_or (operand o os) piped above cells code rest =
+      (mid : Code) × OperandAt o above cells code mid
+      × DecideAt (is_last os piped) is_or piped (JunctionAt is_or os piped above cells) mid rest
+
+  -- a command, where so many values lie above the cells, of which a piped one is the newest
+  pub CommandAt : Operands → Bool → ℕ → Layout → Part
+  CommandAt no_operand piped above cells code rest = One (refuse not_a_function) code rest
+  CommandAt (operand o os) piped above cells code rest =
+      CommandBy o os piped (OperandAt o above cells)
+      (λ f. CountedAt (takes f (argument_count os piped)) f
+      (CallBy f
+      (λ code rest. OperandsAt os above cells code (act (call_with f (operand_count os) piped) ∷ rest))
+      (JunctionAt false os piped above cells)
+      (JunctionAt true os piped above cells)))
+      code rest
+
+  -- the commands from left to right, where so many values lie above the cells, and one more that is piped to the first,
+  -- if it is so; a null that a command gives is made nothing
+  pub CommandsAt : Commands → Bool → ℕ → Layout → Part
+  CommandsAt no_command false above cells code rest = One push_nothing code rest
+  CommandsAt no_command true above cells code rest = code ≡ rest
+  CommandsAt (command os cs) piped above cells code rest =
+      (mid : Code) × CommandAt os piped (above + piped_count piped) cells code (act settle ∷ mid)
+      × CommandsAt cs true above cells mid rest
+
+abbrev pub PipelineAt : Pipeline → Layout → Part
+PipelineAt (pipeline commands) cells code rest = CommandsAt commands false 0 cells code rest
+
+-- ---- bindings
+
+-- a value that is assigned to the variable of a slot, and stays on top
+abbrev pub SetAt : Option ℕ → Part
+SetAt None code rest = code ≡ rest
+SetAt (Some slot) code rest = code ≡ set slot ∷ rest
+
+-- what binds variables to the value on top
+abbrev pub BindAt : Binding → Layout → Part
+BindAt unbound cells code rest = code ≡ rest
+BindAt (declare name) cells code rest = code ≡ hold false ∷ rest
+BindAt (assign name) cells code rest = SetAt (slot_named name cells) code rest
+BindAt (declare_pair key name) cells code rest = code ≡ hold true ∷ rest
+
+-- the pipeline of a header, and what binds its value
+abbrev pub HeaderAt : Header → Layout → Part
+HeaderAt h cells code rest = (mid : Code) × PipelineAt h.pipeline cells code mid × BindAt h.binding cells mid rest
+
+-- the end of an action, whose value was bound
+abbrev pub ShownAt : Binding → Part
+ShownAt unbound code rest = code ≡ show ∷ rest
+ShownAt (declare name) code rest = code ≡ rest
+ShownAt (assign name) code rest = code ≡ cut 1 0 ∷ rest
+ShownAt (declare_pair key name) code rest = code ≡ rest
+
+-- the element that a range visits, assigned to the variable of a slot
+abbrev pub SetDotAt : Option ℕ → Part
+SetDotAt None code rest = code ≡ rest
+SetDotAt (Some slot) code rest = code ≡ set_dot slot ∷ rest
+
+-- what binds the variables of a range to the element that it visits, above the cells of the range
+abbrev pub TurnAt : Binding → Layout → Part
+TurnAt unbound cells code rest = code ≡ turn 0 ∷ rest
+TurnAt (declare name) cells code rest = code ≡ turn 1 ∷ rest
+TurnAt (assign name) cells code rest =
+    (mid : Code) × (code ≡ turn 0 ∷ mid) × SetDotAt (slot_named name cells) mid rest
+TurnAt (declare_pair key name) cells code rest = code ≡ turn 2 ∷ rest
+
+-- ---- breaks
+
+-- the range around: the code behind it, its line, and how many cells lie below its own two
+pub record Around : Type 0 where
+  pub out : Code
+  pub line : ℕ
+  pub below : ℕ
+
+abbrev pub Exit : Type 0
+Exit = Option Around
+
+-- so many cells lie above the two of the range around
+abbrev pub Above : Around → Layout → ℕ → Type 0
+Above a cells count = count + 2 + a.below ≡ length cells
+
+-- out of no range: the template ends, of which three cells lie below
+abbrev pub BreakAt : Exit → Layout → Part
+BreakAt None cells code rest = code ≡ return_from (length cells - 3) ∷ rest
+BreakAt (Some a) cells code rest =
+    (count : ℕ) × (skip : ℕ) × Above a cells count × (code ≡ leave count skip ∷ rest) × (drop skip rest ≡ a.out)
+
+abbrev pub ContinueAt : Exit → Layout → Part
+ContinueAt None cells code rest = code ≡ return_from (length cells - 3) ∷ rest
+ContinueAt (Some a) cells code rest =
+    (count : ℕ) × (skip : ℕ) × Above a cells count × (code ≡ next count skip a.line ∷ rest) × (drop skip rest ≡ a.out)
+
+-- ---- calls
+
+-- the value that is handed to a template: that of the pipeline, or nothing
+abbrev pub GivenAt : Option Pipeline → Layout → Part
+GivenAt None cells code rest = One push_nothing code rest
+GivenAt (Some p) cells code rest = PipelineAt p cells code rest
+
+-- a call, by the number of the template: it is looked for before its pipeline is looked at
+abbrev pub CallAt : List ℕ → Option ℕ → Option Pipeline → Layout → Part
+CallAt name None given cells code rest = One (refuse (no_template name)) code rest
+CallAt name (Some number) given cells code rest =
+    (mid : Code) × (code ≡ deepen ∷ mid) × GivenAt given cells mid (invoke number ∷ rest)
+
+-- ---- controls
+
+-- the parts of an `if`, which leave so many variables each, behind its header
+abbrev pub IfAt : Binding → ℕ → ℕ → Part → Part → Part
+IfAt b in_body in_other Body Other code rest =
+    (first : Code) × (second : Code) × (skip : ℕ) × (to : ℕ)
+    × (code ≡ unless (declares b) skip ∷ first)
+    × Body first (cut (declared_count b + in_body) to ∷ second)
+    × Other second (cut (declared_count b + in_other) 0 ∷ rest)
+    × (drop skip first ≡ second) × (drop to second ≡ rest)
+
+-- those of a `with`
+abbrev pub WithAt : Binding → ℕ → ℕ → Part → Part → Part
+WithAt b in_body in_other Body Other code rest =
+    (first : Code) × (second : Code) × (skip : ℕ) × (to : ℕ)
+    × (code ≡ enter_with (declares b) skip ∷ first)
+    × Body first (end_with in_body (declared_count b) to ∷ second)
+    × Other second (cut (declared_count b + in_other) 0 ∷ rest)
+    × (drop skip first ≡ second) × (drop to second ≡ rest)
+
+-- those of a range of this line, behind its pipeline
+abbrev pub RangeAt : ℕ → Binding → ℕ → ℕ → Part → Part → Part → Part
+RangeAt line b in_body in_other Turn Body Other code rest =
+    (start : Code) × (first : Code) × (second : Code) × (skip : ℕ) × (to : ℕ)
+    × (code ≡ enter (declares_key b) skip ∷ start)
+    × Turn start first
+    × Body first (next (declared_count b + in_body) to line ∷ second)
+    × Other second (cut in_other 0 ∷ rest)
+    × (drop skip start ≡ second) × (drop to second ≡ rest)
+
+-- nodes, by the layout before them and the range around
+abbrev pub NodesPart : Type 1
+NodesPart = Layout → Exit → Part
+
+-- a control, by the nodes of its two parts, which leave so many variables each
+abbrev pub ControlAt : ℕ → Control → Header → ℕ → ℕ → NodesPart → NodesPart → NodesPart
+ControlAt line control.If h in_body in_other Body Other cells exit code rest =
+    (mid : Code) × HeaderAt h cells code mid
+    × IfAt h.binding in_body in_other
+    (Body (bound_on h.binding cells) exit) (Other (bound_on h.binding cells) exit) mid rest
+ControlAt line control.With h in_body in_other Body Other cells exit code rest =
+    (mid : Code) × HeaderAt h cells code mid
+    × WithAt h.binding in_body in_other
+    (Body (None ∷ bound_on h.binding cells) exit) (Other (bound_on h.binding cells) exit) mid rest
+ControlAt line control.Range h in_body in_other Body Other cells exit code rest =
+    (mid : Code) × PipelineAt h.pipeline cells code mid
+    × RangeAt line h.binding in_body in_other
+    (TurnAt h.binding (None ∷ None ∷ cells))
+    (Body (bound_on h.binding (None ∷ None ∷ cells))
+    (Some (record { out = rest; line = line; below = length cells })))
+    (Other cells exit) mid rest
+
+-- ---- nodes
+
+abbrev mutual
+  -- a node of this line, once its step is taken; calls are of these templates
+  pub NodeAt : List Template → ℕ → NodeKind → Layout → Exit → Part
+  NodeAt ts line (text bytes) cells exit code rest = code ≡ put bytes ∷ rest
+  NodeAt ts line (action h) cells exit code rest =
+      (mid : Code) × HeaderAt h cells code mid × ShownAt h.binding mid rest
+  NodeAt ts line (control_node c h body other) cells exit code rest =
+      ControlAt line c h (declared_in body) (declared_in other) (NodesAt ts body) (NodesAt ts other) cells exit
+      code rest
+  NodeAt ts line break_node cells exit code rest = BreakAt exit cells code rest
+  NodeAt ts line continue_node cells exit code rest = ContinueAt exit cells code rest
+  NodeAt ts line (template_node name given) cells exit code rest =
+      CallAt name (number_of name ts) given cells code rest
+
+  -- the nodes one after the other; each costs a step before anything else
+  pub NodesAt : List Template → Nodes → Layout → Exit → Part
+  NodesAt ts tree.none cells exit code rest = code ≡ rest
+  NodesAt ts (tree.then line n ns) cells exit code rest =
+      (start : Code) × (mid : Code) × (code ≡ spend line ∷ start)
+      × NodeAt ts line n cells exit start mid × NodesAt ts ns (grown n cells) exit mid rest
+
+-- a whole template
+abbrev pub TreeAt : List Template → Nodes → Part
+TreeAt ts ns code rest = NodesAt ts ns first_layout None code (return_from (declared_in ns) ∷ rest)
+
+-- ---- all templates
+
+-- the code of each of these templates starts at its place
+abbrev pub Starts : List Template → List Template → List ℕ → Code → Type 0
+Starts all [] [] code = Unit {0}
+Starts all [] (place ∷ places) code = ⊥
+Starts all (t ∷ ts) [] code = ⊥
+Starts all (t ∷ ts) (place ∷ places) code =
+    ((rest : Code) × TreeAt all t.1.nodes (drop place code) rest) × Starts all ts places code

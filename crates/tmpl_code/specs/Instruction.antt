@@ -1,0 +1,54 @@
+-- The instructions of flat code, apart from how they are held; `src/instruction.rt` says what each does. What is passed
+-- over counts from the next instruction on, and slots and counts of cells from the newest cell on.
+use Rattle.std.specs.Prelude.{ℕ, ℤ, Bool, List}
+use Rattle.tmpl_funcs.specs.declared.func.Func.{Func}
+
+-- what the form of a command or of a call alone refuses
+pub data Refusal : Type 0 where
+  not_a_function : Refusal
+  nil_command : Refusal
+  wrong_count : Func → Refusal
+  no_template : List ℕ → Refusal
+
+-- a step of a pipeline
+pub data Operation : Type 0 where
+  push_nothing : Operation
+  push_bool : Bool → Operation
+  push_number : ℤ → Operation
+  push_text : List ℕ → Operation
+  push_dot : Operation
+  push_fields : List (List ℕ) → Operation
+  push_slot : ℕ → Operation
+  chained : List (List ℕ) → Operation
+  -- so many arguments, and whether a piped value lies below them
+  call_with : Func → ℕ → Bool → Operation
+  -- whether it is an `or`, whether a piped value lies below, and how many it passes over
+  decide : Bool → Bool → ℕ → Operation
+  settle : Operation
+  refuse : Refusal → Operation
+
+pub data Instruction : Type 0 where
+  spend : ℕ → Instruction
+  put : List ℕ → Instruction
+  act : Operation → Instruction
+  show : Instruction
+  -- whether a variable for an index or key is declared below
+  hold : Bool → Instruction
+  set : ℕ → Instruction
+  set_dot : ℕ → Instruction
+  -- whether the value is a variable, and how many it passes over
+  unless : Bool → ℕ → Instruction
+  enter_with : Bool → ℕ → Instruction
+  -- so many cells above the saved dot and so many below it, and how many it passes over
+  end_with : ℕ → ℕ → ℕ → Instruction
+  cut : ℕ → ℕ → Instruction
+  -- whether the index or key is wanted
+  enter : Bool → ℕ → Instruction
+  -- so many variables
+  turn : ℕ → Instruction
+  -- so many cells, how many it passes over, and the line of the range
+  next : ℕ → ℕ → ℕ → Instruction
+  leave : ℕ → ℕ → Instruction
+  deepen : Instruction
+  invoke : ℕ → Instruction
+  return_from : ℕ → Instruction

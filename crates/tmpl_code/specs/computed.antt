@@ -1,0 +1,2 @@
+-- What the compiler holds, and what its private contracts say of it.
+pub mod Held

@@ -1,0 +1,89 @@
+-- What the compiler holds, apart from how it is held. Code is held from its last instruction to its first, cells from
+-- the oldest to the newest.
+use Rattle.std.specs.Prelude.{ℕ, ◌+◌, ◌-◌, ◌≤◌, Bool, true, false, List, [], ◌∷◌, length, drop, Option, Some, None, map}
+use Rattle.std.specs.Prelude.{option_map, reverse}
+use Rattle.std.specs.Borrow.{Bor}
+use Rattle.tmpl_grammar.specs.Tree.{Binding, unbound, declare, assign, declare_pair}
+use Rattle.tmpl_syntax.specs.Tree as tree
+use Rattle.tmpl_syntax.specs.Tree.{NodeKind, text, action, control_node, break_node, continue_node, template_node}
+use Rattle.tmpl_syntax.specs.Tree.{Nodes}
+use Rattle.tmpl_syntax.specs.Set.{Template}
+use Rattle.tmpl_code.specs.Code.{Code, Part, Exit, TreeAt}
+use Rattle.tmpl_code.specs.Instruction.{act, decide}
+use Rattle.tmpl_code.specs.Layout.{Layout, grown}
+use Rattle.tmpl_code.specs.View.{instruction_of}
+use Rattle.tmpl_code.specs.declared.code.Code as held_code
+use Rattle.tmpl_code.specs.declared.instruction.Instruction as held_instruction
+use Rattle.tmpl_code.specs.declared.node.Around as held_around
+use Rattle.tmpl_code.specs.declared.scope.Scope as held_scope
+
+abbrev pub code_in : List held_instruction.Instruction → Code
+code_in is = map instruction_of (reverse is)
+
+unfoldable pub code_of : held_code.Code → Code
+code_of c = code_in c.instructions.items
+
+abbrev pub name_seen : Option (Bor (List ℕ)) → Option (List ℕ)
+name_seen name = option_map (λ (n : Bor (List ℕ)). n.now) name
+
+abbrev pub layout_in : List (Option (Bor (List ℕ))) → Layout
+layout_in names = map name_seen (reverse names)
+
+unfoldable pub layout_of : held_scope.Scope → Layout
+layout_of s = layout_in s.names.items
+
+-- behind an operand of `and` or `or`, of which the last of so many instructions come behind the whole
+abbrev pub decided : Bool → Bool → Bool → ℕ → Code → Code
+decided true is_or piped end code = code
+decided false is_or piped end code = act (decide is_or piped (length code - end)) ∷ code
+
+-- the last so many instructions
+abbrev pub last_of : ℕ → Code → Code
+last_of n code = drop (length code - n) code
+
+-- the range around, by how much code lies behind it
+abbrev pub exit_seen : Option held_around.Around → Code → Exit
+exit_seen None code = None
+exit_seen (Some a) code = Some (record { out = last_of a.after code; line = a.line; below = a.below })
+
+-- the range around is open
+abbrev pub IsOpen : Option held_around.Around → Code → Layout → Type 0
+IsOpen None code cells = Unit {0}
+IsOpen (Some a) code cells = (a.after ≤ length code) × (a.below + 2 ≤ length cells)
+
+-- behind nodes
+abbrev pub all_grown : Nodes → Layout → Layout
+all_grown tree.none cells = cells
+all_grown (tree.then line n ns) cells = all_grown ns (grown n cells)
+
+-- without the variables that are declared
+abbrev pub bound_off : Binding → Layout → Layout
+bound_off unbound cells = cells
+bound_off (declare name) cells = drop 1 cells
+bound_off (assign name) cells = cells
+bound_off (declare_pair key name) cells = drop 1 (drop 1 cells)
+
+-- without the variables that a node leaves
+abbrev pub shrunk : NodeKind → Layout → Layout
+shrunk (text bytes) cells = cells
+shrunk (action h) cells = bound_off h.binding cells
+shrunk (control_node c h body other) cells = cells
+shrunk break_node cells = cells
+shrunk continue_node cells = cells
+shrunk (template_node name given) cells = cells
+
+-- what binds the variables of a range, and then its body
+abbrev pub TurnsAt : Part → Part → Part
+TurnsAt Turn Body code rest = (first : Code) × Turn code first × Body first rest
+
+-- the places in code of this size from which on there is so much code
+abbrev pub places : ℕ → List ℕ → List ℕ
+places size lengths = map (λ n. size - n) lengths
+
+-- the code of each of these templates starts where so much code is left
+abbrev pub LastStarts : List Template → List Template → List ℕ → Code → Type 0
+LastStarts all [] [] code = Unit {0}
+LastStarts all [] (n ∷ ns) code = ⊥
+LastStarts all (t ∷ ts) [] code = ⊥
+LastStarts all (t ∷ ts) (n ∷ ns) code =
+    (n ≤ length code) × ((rest : Code) × TreeAt all t.1.nodes (last_of n code) rest) × LastStarts all ts ns code

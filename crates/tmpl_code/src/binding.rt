@@ -1,0 +1,143 @@
+//! What binds the value of a pipeline: headers to code, and their variables in scope.
+ghost use Rattle.std.specs.Prelude.{◌≡◌, OnOk, None, ◌∷◌};
+ghost use Rattle.tmpl_grammar.specs.Need.{declared_count};
+ghost use Rattle.tmpl_grammar.specs.View.{binding_of, header_of};
+ghost use Rattle.tmpl_code.specs.Code as spec;
+ghost use Rattle.tmpl_code.specs.Layout.{bound_on, declares, declares_key};
+ghost use Rattle.tmpl_code.specs.computed.Held.{bound_off, code_of, layout_of};
+
+use crate::code::Code;
+use crate::instruction::Instruction;
+use crate::pipeline::put_pipeline;
+use crate::scope::Scope;
+use std::alloc::AllocError;
+use tmpl_grammar::{Binding, Header};
+
+/// Puts the pipeline of a header, and what binds its value.
+pub(crate) fn put_header<'s>(
+    code: &mut Code<'s>,
+    scope: &Scope<'s>,
+    header: &'s Header,
+) -> Result<(), AllocError>
+    ensures { OnOk result (spec.HeaderAt (header_of header.now) (layout_of scope.now)
+        (code_of code.new) (code_of code.old)) }
+{
+    put_bind(code, scope, &header.binding)?;
+    put_pipeline(code, scope, &header.pipeline)
+}
+
+/// Puts what binds variables to the value on top.
+fn put_bind(code: &mut Code<'_>, scope: &Scope<'_>, binding: &Binding) -> Result<(), AllocError>
+    ensures { OnOk result (spec.BindAt (binding_of binding.now) (layout_of scope.now)
+        (code_of code.new) (code_of code.old)) }
+{
+    match binding {
+        Binding::Unbound => Ok(()),
+        Binding::Declare(_) => code.push(Instruction::Hold { key: false }),
+        Binding::Assign(name) => put_set(code, scope.slot(name.as_slice())),
+        Binding::DeclarePair(_) => code.push(Instruction::Hold { key: true }),
+    }
+}
+
+fn put_set(code: &mut Code<'_>, slot: Option<usize>) -> Result<(), AllocError>
+    ensures { OnOk result (spec.SetAt slot (code_of code.new) (code_of code.old)) }
+{
+    match slot {
+        Some(slot) => code.push(Instruction::Set(slot)),
+        None => Ok(()),
+    }
+}
+
+/// Puts the end of an action, whose value was bound.
+pub(crate) fn put_shown(code: &mut Code<'_>, binding: &Binding) -> Result<(), AllocError>
+    ensures { OnOk result (spec.ShownAt (binding_of binding.now) (code_of code.new) (code_of code.old)) }
+{
+    match binding {
+        Binding::Unbound => code.push(Instruction::Show),
+        Binding::Assign(_) => code.push(Instruction::Drop { count: 1, skip: 0 }),
+        Binding::Declare(_) | Binding::DeclarePair(_) => Ok(()),
+    }
+}
+
+/// Puts what binds the variables of a range to the element that it visits.
+pub(crate) fn put_turn(
+    code: &mut Code<'_>,
+    scope: &Scope<'_>,
+    binding: &Binding,
+) -> Result<(), AllocError>
+    ensures { OnOk result (spec.TurnAt (binding_of binding.now) (layout_of scope.now)
+        (code_of code.new) (code_of code.old)) }
+{
+    if let Binding::Assign(name) = binding {
+        put_set_dot(code, scope.slot(name.as_slice()))?;
+    }
+    code.push(Instruction::Turn(declared_count(binding)))
+}
+
+fn put_set_dot(code: &mut Code<'_>, slot: Option<usize>) -> Result<(), AllocError>
+    ensures { OnOk result (spec.SetDotAt slot (code_of code.new) (code_of code.old)) }
+{
+    match slot {
+        Some(slot) => code.push(Instruction::SetDot(slot)),
+        None => Ok(()),
+    }
+}
+
+/// Whether variables are declared.
+pub(crate) fn declares(binding: &Binding) -> bool
+    ensures { result ≡ declares (binding_of binding.now) }
+{
+    match binding {
+        Binding::Declare(_) | Binding::DeclarePair(_) => true,
+        Binding::Unbound | Binding::Assign(_) => false,
+    }
+}
+
+/// Whether one is declared for an index or key.
+pub(crate) fn declares_key(binding: &Binding) -> bool
+    ensures { result ≡ declares_key (binding_of binding.now) }
+{
+    match binding {
+        Binding::DeclarePair(_) => true,
+        Binding::Unbound | Binding::Declare(_) | Binding::Assign(_) => false,
+    }
+}
+
+/// How many are declared.
+pub(crate) fn declared_count(binding: &Binding) -> usize
+    ensures { result ≡ declared_count (binding_of binding.now) }
+{
+    match binding {
+        Binding::Unbound | Binding::Assign(_) => 0,
+        Binding::Declare(_) => 1,
+        Binding::DeclarePair(_) => 2,
+    }
+}
+
+/// The variables that are declared come into scope.
+pub(crate) fn open<'s>(scope: &mut Scope<'s>, binding: &'s Binding) -> Result<(), AllocError>
+    ensures { OnOk result (layout_of scope.new ≡ bound_on (binding_of binding.now) (layout_of scope.old)) }
+{
+    match binding {
+        Binding::Declare(name) => scope.declare(name.as_slice()),
+        Binding::DeclarePair(pair) => {
+            scope.declare(pair.key.as_slice())?;
+            scope.declare(pair.element.as_slice())
+        }
+        Binding::Unbound | Binding::Assign(_) => Ok(()),
+    }
+}
+
+/// They go out of scope.
+pub(crate) fn close(scope: &mut Scope<'_>, binding: &Binding)
+    ensures { layout_of scope.new ≡ bound_off (binding_of binding.now) (layout_of scope.old) }
+{
+    match binding {
+        Binding::Declare(_) => scope.forget(),
+        Binding::DeclarePair(_) => {
+            scope.forget();
+            scope.forget();
+        }
+        Binding::Unbound | Binding::Assign(_) => {}
+    }
+}

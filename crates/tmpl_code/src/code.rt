@@ -1,0 +1,61 @@
+//! The code so far. It is put from the last instruction to the first, so what stands behind an instruction is known
+//! when it is put, and no jump is ever written back.
+ghost use Rattle.std.specs.Prelude.{◌≡◌, ◌∷◌, [], OnOk, length};
+ghost use Rattle.tmpl_code.specs.Instruction.{act};
+ghost use Rattle.tmpl_code.specs.View.{instruction_of, instructions_of, operation_of};
+ghost use Rattle.tmpl_code.specs.computed.Held.{code_of};
+
+use crate::instruction::{Instruction, Operation};
+use std::alloc::{AllocError, Global};
+
+/// Instructions, the first one last.
+#[derive(Drop)]
+pub(crate) struct Code<'s> {
+    instructions: Vec<Instruction<'s>>,
+}
+
+impl<'s> Code<'s> {
+    /// No code.
+    #[tactic(auto, unfolding(crate::specs::computed::Held::code_of))]
+    pub(crate) fn new(alloc: Global) -> Self
+        ensures { code_of result ≡ [] }
+    {
+        Code {
+            instructions: Vec::new(alloc),
+        }
+    }
+
+    /// How many instructions there are.
+    #[tactic(auto, using(crate::proofs::HeldLemmas::code_length), unfolding(crate::specs::computed::Held::code_of))]
+    pub(crate) fn len(&self) -> usize
+        ensures { result ≡ length (code_of self.now) }
+    {
+        self.instructions.len()
+    }
+
+    /// Puts an instruction before the others.
+    #[tactic(auto, using(crate::proofs::HeldLemmas::code_push), unfolding(crate::specs::computed::Held::code_of))]
+    pub(crate) fn push(&mut self, instruction: Instruction<'s>) -> Result<(), AllocError>
+        ensures { OnOk result (code_of self.new ≡ instruction_of instruction.entry ∷ code_of self.old) }
+    {
+        self.instructions.push(instruction)?;
+        Ok(())
+    }
+
+    /// Puts a step of a pipeline before the others.
+    pub(crate) fn operate(&mut self, operation: Operation<'s>) -> Result<(), AllocError>
+        ensures { OnOk result (code_of self.new ≡ act (operation_of operation.entry) ∷ code_of self.old) }
+    {
+        self.push(Instruction::Operate(operation))
+    }
+
+    /// The instructions, the first one first.
+    #[tactic(auto, unfolding(crate::specs::computed::Held::code_of))]
+    pub(crate) fn into_instructions(self) -> Vec<Instruction<'s>>
+        ensures { instructions_of result.items ≡ code_of self.entry }
+    {
+        let Code { mut instructions } = self;
+        instructions.reverse();
+        instructions
+    }
+}

@@ -1,0 +1,130 @@
+//! Instructions of flat code.
+use tmpl_funcs::Func;
+use tmpl_values::Bytes;
+
+/// What the form of a command or of a call of a template alone refuses. It is put where the run would get to it.
+#[derive(Clone, Copy)]
+pub enum Refusal<'s> {
+    /// An argument or a piped value for what is no function.
+    NotAFunction,
+    /// `nil` as a whole command.
+    NilCommand,
+    /// A function that does not take so many arguments.
+    WrongCount(Func),
+    /// A call of a template, of this name, that is not there.
+    NoTemplate(&'s [u8]),
+}
+
+/// A step of a pipeline. Slots count from the newest cell on, and what is passed over from the next instruction on.
+#[derive(Clone, Copy)]
+pub enum Operation<'s> {
+    /// Puts nothing on the stack.
+    Nothing,
+    /// Puts a truth value on the stack.
+    Bool(bool),
+    /// Puts a whole number on the stack.
+    Number(i64),
+    /// Puts a text of the template on the stack.
+    Text(&'s [u8]),
+    /// Puts dot on the stack.
+    Dot,
+    /// Puts a field of a field of .. of dot on the stack, or stops where there is none.
+    Fields(&'s [Bytes]),
+    /// Puts the value of a slot on the stack.
+    Slot(usize),
+    /// Takes the newest value for its field of a field of .., or stops where there is none.
+    Chain(&'s [Bytes]),
+    /// Takes so many of the newest values, and the piped one if it lies below them, for what the function gives for
+    /// them; the piped one is the last argument.
+    Call {
+        func: Func,
+        count: usize,
+        piped: bool,
+    },
+    /// Where the newest value decides an `or`, or else an `and`, passes over so many instructions and forgets the piped
+    /// value, if it lies below; else forgets the newest value.
+    Decide {
+        is_or: bool,
+        piped: bool,
+        skip: usize,
+    },
+    /// Makes a null on top nothing.
+    Settle,
+    /// Stops.
+    Refuse(Refusal<'s>),
+}
+
+/// An instruction. What is passed over counts from the next instruction on, slots and counts of cells from the newest
+/// cell on. A variable that a header declares stays below what its node puts on the stack.
+#[derive(Clone, Copy)]
+pub enum Instruction<'s> {
+    /// Takes a step at this line, which the faults from here on bear, or stops where none is left.
+    Spend(u64),
+    /// Puts out a text of the template.
+    Text(&'s [u8]),
+    /// A step of a pipeline.
+    Operate(Operation<'s>),
+    /// Takes the newest value and puts out its text.
+    Show,
+    /// The newest value becomes a variable; where an index or key is declared too, nothing becomes one below it.
+    Hold {
+        key: bool,
+    },
+    /// Copies the newest value to the slot, which counts from below it.
+    Set(usize),
+    /// Copies dot to the slot.
+    SetDot(usize),
+    /// Passes over so many instructions where the newest value is empty; forgets the value unless it is a variable.
+    Unless {
+        kept: bool,
+        skip: usize,
+    },
+    /// Where the newest value is not empty it becomes dot, and the dot from outside is saved in its cell, or in a new
+    /// one where it is a variable. Where it is empty passes over so many, and forgets it unless it is a variable.
+    With {
+        kept: bool,
+        skip: usize,
+    },
+    /// Forgets so many cells, takes dot back from the next one, forgets the variables of the header, and passes over so
+    /// many instructions.
+    EndWith {
+        count: usize,
+        variables: usize,
+        skip: usize,
+    },
+    /// Forgets so many cells and passes over so many instructions.
+    Drop {
+        count: usize,
+        skip: usize,
+    },
+    /// Opens a range over the newest value and takes a step: saves dot, and the place of the next instruction, in a new
+    /// cell. Passes over so many instructions, and forgets the value, where it has no element; stops where it is no
+    /// range, or has no index or key where one is wanted.
+    Enter {
+        key: bool,
+        skip: usize,
+    },
+    /// The element that is visited becomes dot, and the values of so many variables: of none, or of one, or of one
+    /// above one for its index or key.
+    Turn(usize),
+    /// Forgets so many cells and goes to the place that the range saved, for its next element, which takes a step at
+    /// this line; where there is none forgets the range, takes dot back and passes over so many instructions.
+    Next {
+        count: usize,
+        skip: usize,
+        line: u64,
+    },
+    /// Forgets so many cells and the range below them, takes dot back and passes over so many instructions.
+    Leave {
+        count: usize,
+        skip: usize,
+    },
+    /// Stops where as many templates are inside one another as there may be.
+    Deepen,
+    /// Saves dot and the place of the next instruction, and runs the template of this number with the newest value as
+    /// dot and `$`.
+    Invoke(usize),
+    /// Forgets so many cells and the three of the template below them, takes dot back and goes to where the caller goes
+    /// on; ends the run where there is none.
+    Return(usize),
+}

@@ -1,0 +1,308 @@
+//! Pipelines to code, each from its last operand to its first.
+ghost use Rattle.std.specs.Prelude.{◌≡◌, ◌+◌, ◌≤◌, ◌∷◌, IfOk, OnOk, false, length, true};
+ghost use Rattle.tmpl_funcs.specs.Func.{takes};
+ghost use Rattle.tmpl_grammar.specs.View.{commands_in, operand_of, operands_in, pipeline_of};
+ghost use Rattle.tmpl_code.specs.Code as spec;
+ghost use Rattle.tmpl_code.specs.Instruction.{act, call_with};
+ghost use Rattle.tmpl_code.specs.Layout.{slot_named};
+ghost use Rattle.tmpl_code.specs.computed.Held.{code_of, decided, layout_of};
+
+use crate::code::Code;
+use crate::instruction::{Operation, Refusal};
+use crate::scope::Scope;
+use std::alloc::AllocError;
+use tmpl_funcs::Func;
+use tmpl_grammar::{Command, Operand, Pipeline};
+use tmpl_values::Bytes;
+
+/// The sum; no memory would hold so many if it were larger than a number.
+pub(crate) fn sum(a: usize, b: usize) -> Result<usize, AllocError>
+    ensures { IfOk result (λ n. n ≡ a + b) }
+{
+    match a.checked_add(b) {
+        Some(n) => Ok(n),
+        None => Err(AllocError),
+    }
+}
+
+/// Puts a pipeline.
+pub(crate) fn put_pipeline<'s>(
+    code: &mut Code<'s>,
+    scope: &Scope<'s>,
+    pipeline: &'s Pipeline,
+) -> Result<(), AllocError>
+    ensures { OnOk result (spec.PipelineAt (pipeline_of pipeline.now) (layout_of scope.now)
+        (code_of code.new) (code_of code.old)) }
+{
+    put_commands(code, scope, 0, pipeline.commands.as_slice())
+}
+
+/// Puts commands, to the first of which nothing is piped, above so many values.
+#[cycle(pipeline)]
+fn put_commands<'s>(
+    code: &mut Code<'s>,
+    scope: &Scope<'s>,
+    above: usize,
+    commands: &'s [Command],
+) -> Result<(), AllocError>
+    ensures { OnOk result (spec.CommandsAt (commands_in commands.now) false above (layout_of scope.now)
+        (code_of code.new) (code_of code.old)) }
+{
+    match commands {
+        [first, rest @ ..] => {
+            put_piped(code, scope, above, rest)?;
+            code.operate(Operation::Settle)?;
+            put_command(code, scope, above, false, first.operands.as_slice())
+        }
+        [] => code.operate(Operation::Nothing),
+    }
+}
+
+/// Puts commands to each of which a value is piped.
+#[cycle(pipeline)]
+fn put_piped<'s>(
+    code: &mut Code<'s>,
+    scope: &Scope<'s>,
+    above: usize,
+    commands: &'s [Command],
+) -> Result<(), AllocError>
+    ensures { OnOk result (spec.CommandsAt (commands_in commands.now) true above (layout_of scope.now)
+        (code_of code.new) (code_of code.old)) }
+{
+    let below = sum(above, 1)?;
+    let mut i = commands.len();
+    while i > 0 {
+        i -= 1;
+        code.operate(Operation::Settle)?;
+        put_command(code, scope, below, true, commands[i].operands.as_slice())?;
+    }
+    Ok(())
+}
+
+/// Puts a command, above so many values, of which a piped one is the newest.
+#[cycle(pipeline)]
+fn put_command<'s>(
+    code: &mut Code<'s>,
+    scope: &Scope<'s>,
+    above: usize,
+    piped: bool,
+    operands: &'s [Operand],
+) -> Result<(), AllocError>
+    ensures { OnOk result (spec.CommandAt (operands_in operands.now) piped above (layout_of scope.now)
+        (code_of code.new) (code_of code.old)) }
+{
+    match operands {
+        [first, rest @ ..] => match first {
+            Operand::Function(func) => put_call(code, scope, above, piped, *func, rest),
+            _ if is_last(rest, piped) => put_alone(code, scope, above, first),
+            _ => code.operate(Operation::Refuse(Refusal::NotAFunction)),
+        },
+        [] => code.operate(Operation::Refuse(Refusal::NotAFunction)),
+    }
+}
+
+/// Whether no argument stands behind an operand before these.
+#[tactic(auto, using(crate::proofs::OperandLemmas::counts))]
+fn is_last(rest: &[Operand], piped: bool) -> bool
+    ensures { result ≡ spec.is_last (operands_in rest.now) piped }
+{
+    match rest {
+        [] => !piped,
+        [_, ..] => false,
+    }
+}
+
+/// Puts an operand that is a whole command, and no function.
+#[cycle(pipeline)]
+fn put_alone<'s>(
+    code: &mut Code<'s>,
+    scope: &Scope<'s>,
+    above: usize,
+    operand: &'s Operand,
+) -> Result<(), AllocError>
+    ensures { OnOk result (spec.AloneAt (operand_of operand.now)
+        (spec.OperandAt (operand_of operand.now) above (layout_of scope.now)) (code_of code.new) (code_of code.old)) }
+{
+    match operand {
+        Operand::Nil => code.operate(Operation::Refuse(Refusal::NilCommand)),
+        _ => put_operand(code, scope, above, operand),
+    }
+}
+
+#[tactic(auto, using(crate::proofs::OperandLemmas::counts))]
+fn argument_count(operands: &[Operand], piped: bool) -> u64
+    ensures { result ≡ spec.argument_count (operands_in operands.now) piped }
+{
+    if piped {
+        operands.len() as u64 + 1
+    } else {
+        operands.len() as u64
+    }
+}
+
+#[tactic(auto, using(crate::proofs::OperandLemmas::counts))]
+fn operand_count(operands: &[Operand]) -> usize
+    ensures { result ≡ spec.operand_count (operands_in operands.now) }
+{
+    operands.len()
+}
+
+/// Puts a call of a function.
+#[cycle(pipeline)]
+fn put_call<'s>(
+    code: &mut Code<'s>,
+    scope: &Scope<'s>,
+    above: usize,
+    piped: bool,
+    func: Func,
+    operands: &'s [Operand],
+) -> Result<(), AllocError>
+    ensures { let os = operands_in operands.now in let cells = layout_of scope.now in
+        OnOk result (spec.CountedAt (takes func (spec.argument_count os piped)) func
+        (spec.CallBy func
+        (λ code rest. spec.OperandsAt os above cells code (act (call_with func (spec.operand_count os) piped) ∷ rest))
+        (spec.JunctionAt false os piped above cells)
+        (spec.JunctionAt true os piped above cells))
+        (code_of code.new) (code_of code.old)) }
+{
+    if !func.takes(argument_count(operands, piped)) {
+        return code.operate(Operation::Refuse(Refusal::WrongCount(func)));
+    }
+    match func {
+        Func::And => put_junction(code, scope, above, false, piped, operands),
+        Func::Or => put_junction(code, scope, above, true, piped, operands),
+        _ => {
+            let count = operand_count(operands);
+            code.operate(Operation::Call { func, count, piped })?;
+            put_operands(code, scope, above, operands)
+        }
+    }
+}
+
+/// Puts the operands of a call.
+#[cycle(pipeline)]
+fn put_operands<'s>(
+    code: &mut Code<'s>,
+    scope: &Scope<'s>,
+    above: usize,
+    operands: &'s [Operand],
+) -> Result<(), AllocError>
+    ensures { OnOk result (spec.OperandsAt (operands_in operands.now) above (layout_of scope.now)
+        (code_of code.new) (code_of code.old)) }
+{
+    let mut i = operands.len();
+    while i > 0 {
+        i -= 1;
+        put_operand(code, scope, sum(above, i)?, &operands[i])?;
+    }
+    Ok(())
+}
+
+/// Puts the operands of an `or`, or else of an `and`.
+#[cycle(pipeline)]
+fn put_junction<'s>(
+    code: &mut Code<'s>,
+    scope: &Scope<'s>,
+    above: usize,
+    is_or: bool,
+    piped: bool,
+    operands: &'s [Operand],
+) -> Result<(), AllocError>
+    ensures { OnOk result (spec.JunctionAt is_or (operands_in operands.now) piped above (layout_of scope.now)
+        (code_of code.new) (code_of code.old)) }
+{
+    let end = code.len();
+    let mut last = !piped;
+    let mut i = operands.len();
+    while i > 0 {
+        i -= 1;
+        put_decide(code, end, is_or, piped, last)?;
+        put_operand(code, scope, above, &operands[i])?;
+        last = false;
+    }
+    Ok(())
+}
+
+/// Puts what decides behind an operand, unless that is the last argument; what the others put ends at the end.
+fn put_decide(
+    code: &mut Code<'_>,
+    end: usize,
+    is_or: bool,
+    piped: bool,
+    last: bool,
+) -> Result<(), AllocError>
+    requires { end ≤ length (code_of code.old) }
+    ensures { OnOk result (code_of code.new ≡ decided last is_or piped end (code_of code.old)) }
+{
+    if last {
+        return Ok(());
+    }
+    let skip = code.len() - end;
+    code.operate(Operation::Decide { is_or, piped, skip })
+}
+
+/// Puts an operand, above so many values.
+#[cycle(pipeline)]
+#[tactic(auto, using(tmpl_grammar::proofs::ViewLemmas::group_seen))]
+fn put_operand<'s>(
+    code: &mut Code<'s>,
+    scope: &Scope<'s>,
+    above: usize,
+    operand: &'s Operand,
+) -> Result<(), AllocError>
+    ensures { OnOk result (spec.OperandAt (operand_of operand.now) above (layout_of scope.now)
+        (code_of code.new) (code_of code.old)) }
+{
+    match operand {
+        Operand::Dot => code.operate(Operation::Dot),
+        Operand::Fields(names) => code.operate(Operation::Fields(names.as_slice())),
+        Operand::Variable { name, fields } => {
+            put_chain(code, fields.as_slice())?;
+            put_variable(code, scope.slot(name.as_slice()), above)
+        }
+        Operand::Bool(held) => code.operate(Operation::Bool(*held)),
+        Operand::Number(number) => code.operate(Operation::Number(*number)),
+        Operand::Text(bytes) => code.operate(Operation::Text(bytes.as_slice())),
+        Operand::Nil => code.operate(Operation::Nothing),
+        Operand::Function(func) => put_bare(code, *func),
+        Operand::Group { commands, fields } => {
+            put_chain(code, fields.as_slice())?;
+            put_commands(code, scope, above, commands.as_slice())
+        }
+    }
+}
+
+/// Puts a chain of fields behind a value, if there is one.
+fn put_chain<'s>(code: &mut Code<'s>, names: &'s [Bytes]) -> Result<(), AllocError>
+    ensures { OnOk result (code_of code.new ≡ spec.chain_before names.now (code_of code.old)) }
+{
+    match names {
+        [] => Ok(()),
+        [_, ..] => code.operate(Operation::Chain(names)),
+    }
+}
+
+/// Puts the variable of a slot, below so many values.
+fn put_variable(code: &mut Code<'_>, slot: Option<usize>, above: usize) -> Result<(), AllocError>
+    ensures { OnOk result (spec.VariableAt slot above (code_of code.new) (code_of code.old)) }
+{
+    match slot {
+        Some(slot) => code.operate(Operation::Slot(sum(above, slot)?)),
+        None => code.operate(Operation::Nothing),
+    }
+}
+
+/// Puts a function as an argument: a call without arguments.
+fn put_bare(code: &mut Code<'_>, func: Func) -> Result<(), AllocError>
+    ensures { OnOk result (spec.BareAt (takes func 0) func (code_of code.new) (code_of code.old)) }
+{
+    if func.takes(0) {
+        code.operate(Operation::Call {
+            func,
+            count: 0,
+            piped: false,
+        })
+    } else {
+        code.operate(Operation::Refuse(Refusal::WrongCount(func)))
+    }
+}

@@ -1,0 +1,55 @@
+//! Programs: the code of all templates of a set.
+ghost use Rattle.std.specs.Prelude.{◌≡◌, option_map};
+ghost use Rattle.tmpl_syntax.specs.Set.{number_of};
+ghost use Rattle.tmpl_syntax.specs.View.{set_view};
+ghost use Rattle.tmpl_code.specs.MakesText.{set_makes_text};
+ghost use Rattle.tmpl_code.specs.Room.{largest_need, room};
+
+use crate::instruction::Instruction;
+use tmpl_syntax::Set;
+
+/// The code of the templates of a set, which borrows from the set.
+#[derive(Drop)]
+pub struct Program<'s> {
+    pub set: &'s Set,
+    pub instructions: Vec<Instruction<'s>>,
+    /// Where the code of each template starts, in the order of the set.
+    pub starts: Vec<usize>,
+    /// How many cells the template needs that needs most.
+    pub(crate) need: u32,
+    pub(crate) makes_text: bool,
+    ghost needs: { need ≡ largest_need (set_view set.now) },
+    ghost makes: { makes_text ≡ set_makes_text (set_view set.now) },
+}
+
+/// A template of a program, by its number.
+#[derive(Clone, Copy)]
+pub struct Entry {
+    pub number: usize,
+}
+
+impl<'s> Program<'s> {
+    /// The template of this name, if the set has one.
+    pub fn entry(&self, name: &[u8]) -> Option<Entry>
+        ensures { option_map (λ e. e.number) result ≡ number_of name.now (set_view self.now.set.now) }
+    {
+        match self.set.number(name) {
+            Some(number) => Some(Entry { number }),
+            None => None,
+        }
+    }
+
+    /// How many cells a stack must have for every run, where so many templates may be inside one another.
+    pub fn room(&self, depth: u32) -> u64
+        ensures { result ≡ room depth (set_view self.now.set.now) }
+    {
+        depth as u64 * self.need as u64
+    }
+
+    /// Whether a template names a function that makes a text. Where none does, no run takes memory.
+    pub fn makes_text(&self) -> bool
+        ensures { result ≡ set_makes_text (set_view self.now.set.now) }
+    {
+        self.makes_text
+    }
+}
