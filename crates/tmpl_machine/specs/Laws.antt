@@ -1,0 +1,35 @@
+-- Laws of the machine.
+use Rattle.std.specs.Prelude.{◌≡◌, ◌≤◌, ℕ, List, ◌++◌, Option, Some, slice_get}
+use Rattle.tmpl_values.specs.Value.{Value}
+use Rattle.tmpl_syntax.specs.Set.{Template}
+use Rattle.tmpl_run.specs.Meaning.{Ran, ran, starting_dot}
+use Rattle.tmpl_code.specs.Code.{Starts}
+use Rattle.tmpl_code.specs.Room.{room}
+use Rattle.tmpl_machine.specs.State.{Plan, State, starting}
+use Rattle.tmpl_machine.specs.Ends.{Ends}
+
+-- the code is that of the templates
+abbrev pub IsLinked : Plan → Type 0
+IsLinked plan = Starts plan.templates plan.templates plan.starts plan.code
+
+-- over a stack of as many cells as the room of the set says, a run that starts at a template comes to just the text, the
+-- fault and the mark that the template means: each turn is ready, and none gets stuck
+abbrev pub ComesToMeaning : Type 0
+ComesToMeaning =
+    (plan : Plan) (size : ℕ) → IsLinked plan → 1 ≤ plan.rules.depth_limit
+    → room plan.rules.depth_limit plan.templates ≤ size
+    → (number start : ℕ) (t : Template) (input : Option Value)
+    → slice_get plan.templates number ≡ Some t → slice_get plan.starts number ≡ Some start
+    → Ends plan size (starting plan number start (starting_dot input)) (ran plan.rules plan.templates t.0 t.1 input)
+
+-- a state has one end at most, whatever the size of the stack
+abbrev pub HasOneEnd : Type 0
+HasOneEnd = (plan : Plan) (m n : ℕ) (s : State) (f g : Ran) → Ends plan m s f → Ends plan n s g → f ≡ g
+
+-- a text begins another
+abbrev pub Begins : List ℕ → List ℕ → Type 0
+Begins a b = (more : List ℕ) × (b ≡ a ++ more)
+
+-- what was put out so far begins the text of the end
+abbrev pub OnlyAdds : Type 0
+OnlyAdds = (plan : Plan) (size : ℕ) (s : State) (end : Ran) → Ends plan size s end → Begins s.text end.text

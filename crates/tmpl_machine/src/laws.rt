@@ -1,0 +1,17 @@
+//! Laws of the machine that the definitions describe.
+ghost use Rattle.tmpl_machine.specs.Laws.{ComesToMeaning, HasOneEnd, OnlyAdds};
+
+/// The law that the code of a set comes to the meaning of each of its templates, on a stack of the set's room.
+pub fn comes_to_meaning()
+    ensures { ComesToMeaning }
+{}
+
+/// The law that a state of the machine has one end at most.
+pub fn one_end()
+    ensures { HasOneEnd }
+{}
+
+/// The law that a run only adds to what it has put out.
+pub fn only_adds()
+    ensures { OnlyAdds }
+{}
