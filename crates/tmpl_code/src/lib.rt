@@ -3,6 +3,7 @@
 
 mod binding;
 mod code;
+mod compiler;
 mod instruction;
 mod makes_text;
 mod need;
@@ -11,5 +12,6 @@ mod pipeline;
 mod program;
 mod scope;
 
+pub use compiler::compile;
 pub use instruction::{Instruction, Operation, Refusal};
-pub use program::{Entry, Program, compile};
+pub use program::{Entry, Program};

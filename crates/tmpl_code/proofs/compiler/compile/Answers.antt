@@ -1,0 +1,55 @@
+use Rattle.std.proofs.Common.{◌≡◌, ◌∙◌, ◌+◌, ◌-◌, ◌≤◌, ℕ, suc, Bool, ◌||◌, List, ◌∷◌, max, drop, length, map, reverse, ap, sym, subst, arith}
+use Rattle.std.specs.Vec.{with_items}
+use Rattle.std.proofs.lemmas.List.{with_items_is}
+use Rattle.tmpl_syntax.specs.Need.{need, need_of_nodes, most_need}
+use Rattle.tmpl_syntax.specs.Set.{Template}
+use Rattle.tmpl_syntax.specs.Tree.{Nodes}
+use Rattle.tmpl_syntax.specs.View.{nodes_in, set_view, tree_of}
+use Rattle.tmpl_code.specs.Code.{Code, Starts, TreeAt}
+use Rattle.tmpl_code.specs.MakesText.{nodes_make_text, set_makes_text}
+use Rattle.tmpl_code.specs.Room.{largest_need}
+use Rattle.tmpl_code.specs.computed.Held.{LastStarts, code_of, places}
+use Rattle.tmpl_code.proofs.ProgramLemmas.{from-number, starts, starts_more}
+use Rattle.tmpl_code.proofs.compiler.compile.Goals as goal
+
+pub loop-i-preserved : goal.loop-i-preserved
+loop-i-preserved c =
+    let l = c.loop-i in
+    let ts = set_view c.args.set.now in
+    let i = l.i - 1 in
+    let next : l.i ≡ suc i = omega arith in
+    let t : Template = (c.template.result.0.now, tree_of c.template.result.1.now) in
+    let old = code_of l.code in
+    let new = code_of c.put_tree.new.code in
+    let nodes : nodes_in c.as_slice-nodes.result.now ≡ t.1.nodes = ap nodes_in c.as_slice-nodes.ensures.value in
+    let here : t ∷ drop (suc i) ts ≡ drop i ts = sym (from-number ts i t c.template.ensures.value) in
+    let starts = subst (λ n. LastStarts ts (drop n ts) (reverse l.lengths.items) old) next l.invariant.starts in
+    let lies = subst (λ (ns : Nodes). TreeAt ts ns new old) nodes c.in_ok-put_tree.ensures in
+    let needs : c.in_ok-need.field-0 ≡ need t.1 = c.in_ok-need.ensures ∙ ap (λ (ns : Nodes). 3 + need_of_nodes ns) nodes in
+    let most : l.most ≡ largest_need (drop (suc i) ts) = l.invariant.most ∙ ap (λ n. largest_need (drop n ts)) next in
+    let makes : l.makes_text ≡ set_makes_text (drop (suc i) ts) = l.invariant.makes ∙ ap (λ n. set_makes_text (drop n ts)) next in
+    let within : length ts ≡ length ts = λ j. length ts in
+    let bound = c.template.ensures.kept.need in
+    let above = c.larger-most.ensures in
+    record {
+      within = omega arith;
+      starts = starts_more ts i t l.lengths.items c.push.new.self.items c.len.result old new c.template.ensures.value c.in_ok-push.ensures.items c.len.ensures lies starts;
+      most = above ∙ (λ j. max (needs j) (most j)) ∙ ap largest_need here;
+      bounded = omega (arith, above, needs, bound);
+      makes = (λ j. (c.nodes_make_text.ensures ∙ ap nodes_make_text nodes) j || makes j) ∙ ap set_makes_text here;
+    }
+
+pub returns-clause-linked : goal.returns-clause-linked
+returns-clause-linked c =
+    let l = c.loop-i in
+    let ts = set_view c.args.set.now in
+    let code = code_of l.code in
+    let none : l.i ≡ 0 = omega arith in
+    let last = subst (λ n. LastStarts ts (drop n ts) (reverse l.lengths.items) code) none l.invariant.starts in
+    let many = c.to_places.auto.counts in
+    let long = c.as_mut_slice.ensures.len in
+    let kept = with_items_is c.reverse.new.self c.to_places.new.counts (omega (arith, many, long)) in
+    let at : places (length code) (reverse l.lengths.items) ≡ (with_items c.reverse.new.self c.to_places.new.counts).items =
+    sym (kept ∙ c.to_places.ensures ∙ (λ j. places (c.len-2.ensures j) ((c.as_mut_slice.ensures.value ∙ c.reverse.ensures.items) j))) in
+    subst (λ (is : Code). Starts ts ts (with_items c.reverse.new.self c.to_places.new.counts).items is) (sym c.into_instructions.ensures)
+    (subst (λ (ns : List ℕ). Starts ts ts ns code) at (starts ts ts (reverse l.lengths.items) code last))
