@@ -26,11 +26,7 @@ impl<'s> Code<'s> {
     }
 
     /// How many instructions there are.
-    #[tactic(
-        auto,
-        using(crate::proofs::HeldLemmas::code_length),
-        unfolding(crate::specs::computed::Held::code_of)
-    )]
+    #[tactic(auto, using(crate::proofs::HeldLemmas::code_length), unfolding(crate::specs::computed::Held::code_of))]
     pub(crate) fn len(&self) -> usize
         ensures { result ≡ length (code_of self.now) }
     {
@@ -38,11 +34,7 @@ impl<'s> Code<'s> {
     }
 
     /// Puts an instruction before the others.
-    #[tactic(
-        auto,
-        using(crate::proofs::HeldLemmas::code_push),
-        unfolding(crate::specs::computed::Held::code_of)
-    )]
+    #[tactic(auto, using(crate::proofs::HeldLemmas::code_push), unfolding(crate::specs::computed::Held::code_of))]
     pub(crate) fn push(&mut self, instruction: Instruction<'s>) -> Result<(), AllocError>
         ensures { OnOk result (code_of self.new ≡ instruction_of instruction.entry ∷ code_of self.old) }
     {

@@ -5,9 +5,12 @@ ghost use Rattle.tmpl_syntax.specs.Need.{left_behind};
 ghost use Rattle.tmpl_syntax.specs.View.{control_of, node_of, nodes_in, set_view};
 ghost use Rattle.tmpl_code.specs.Code as spec;
 ghost use Rattle.tmpl_code.specs.Layout.{bound_on, declared_in, grown};
+ghost use Rattle.tmpl_code.specs.View.{instruction_of};
 ghost use Rattle.tmpl_code.specs.computed.Held.{IsOpen, TurnsAt, all_grown, code_of, exit_seen, layout_of, shrunk};
 
-use crate::binding::{close, declared_count, declares, declares_key, open, put_header, put_shown, put_turn};
+use crate::binding::{
+    close, declared_count, declares, declares_key, open, put_header, put_shown, put_turn,
+};
 use crate::code::Code;
 use crate::instruction::{Instruction, Operation, Refusal};
 use crate::pipeline::{put_pipeline, sum};
@@ -108,7 +111,11 @@ fn put_break(code: &mut Code<'_>, scope: &Scope<'_>, exit: Option<Around>) -> Re
 }
 
 /// Puts a continue.
-fn put_continue(code: &mut Code<'_>, scope: &Scope<'_>, exit: Option<Around>) -> Result<(), AllocError>
+fn put_continue(
+    code: &mut Code<'_>,
+    scope: &Scope<'_>,
+    exit: Option<Around>,
+) -> Result<(), AllocError>
     requires { IsOpen exit (code_of code.old) (layout_of scope.now) }
     ensures { OnOk result (spec.ContinueAt (exit_seen exit (code_of code.old)) (layout_of scope.now)
         (code_of code.new) (code_of code.old)) }
@@ -141,8 +148,7 @@ fn put_template<'s>(
     match number {
         Some(number) => {
             code.push(Instruction::Invoke(number))?;
-            put_given(code, scope, given)?;
-            code.push(Instruction::Deepen)
+            put_given(code, scope, given)
         }
         None => code.operate(Operation::Refuse(Refusal::NoTemplate(name))),
     }
@@ -184,9 +190,25 @@ pub(crate) fn put_nodes<'s>(
         let node = &nodes[i];
         shrink(scope, node);
         put_node(code, scope, set, exit, node)?;
-        code.push(Instruction::Spend(node.line))?;
+        code.push(first_instruction(set, node))?;
     }
     Ok(())
+}
+
+/// What takes the step of a node, or, for a call of a template that is there, looks whether one is left.
+fn first_instruction<'s>(set: &Set, node: &Node) -> Instruction<'s>
+    ensures { instruction_of result ≡ spec.step_of (set_view set.now) (node_of node.now).line (node_of node.now).what }
+{
+    match &node.what {
+        NodeKind::Template(name, _) => match set.number(name.as_slice()) {
+            Some(_) => Instruction::Deepen(node.line),
+            None => Instruction::Spend(node.line),
+        },
+        NodeKind::Text(_) | NodeKind::Action(_) | NodeKind::Control(_) => Instruction::Spend(
+            node.line,
+        ),
+        NodeKind::Break | NodeKind::Continue => Instruction::Spend(node.line),
+    }
 }
 
 /// Puts a node whose step is taken.
@@ -214,7 +236,13 @@ fn put_node<'s>(
         NodeKind::Break => put_break(code, scope, exit),
         NodeKind::Continue => put_continue(code, scope, exit),
         NodeKind::Template(name, given) => {
-            put_template(code, scope, name.as_slice(), set.number(name.as_slice()), given)
+            put_template(
+                code,
+                scope,
+                name.as_slice(),
+                set.number(name.as_slice()),
+                given,
+            )
         }
     }
 }
@@ -416,7 +444,14 @@ fn put_range<'s>(
         line,
     })?;
     let below = scope.len();
-    put_turns(code, scope, set, Around { after, line, below }, binding, body)?;
+    put_turns(
+        code,
+        scope,
+        set,
+        Around { after, line, below },
+        binding,
+        body,
+    )?;
     let skip = code.len() - second;
     code.push(Instruction::Enter {
         key: declares_key(binding),

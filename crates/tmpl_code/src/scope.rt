@@ -23,11 +23,7 @@ impl<'s> Scope<'s> {
     }
 
     /// How many cells there are.
-    #[tactic(
-        auto,
-        using(crate::proofs::HeldLemmas::layout_length),
-        unfolding(crate::specs::computed::Held::layout_of)
-    )]
+    #[tactic(auto, using(crate::proofs::HeldLemmas::layout_length), unfolding(crate::specs::computed::Held::layout_of))]
     pub(crate) fn len(&self) -> usize
         ensures { result ≡ length (layout_of self.now) }
     {
@@ -35,11 +31,7 @@ impl<'s> Scope<'s> {
     }
 
     /// A variable more.
-    #[tactic(
-        auto,
-        using(crate::proofs::HeldLemmas::layout_push),
-        unfolding(crate::specs::computed::Held::layout_of)
-    )]
+    #[tactic(auto, using(crate::proofs::HeldLemmas::layout_push), unfolding(crate::specs::computed::Held::layout_of))]
     pub(crate) fn declare(&mut self, name: &'s [u8]) -> Result<(), AllocError>
         ensures { OnOk result (layout_of self.new ≡ Some name.now ∷ layout_of self.old) }
     {
@@ -48,11 +40,7 @@ impl<'s> Scope<'s> {
     }
 
     /// A saved cell more.
-    #[tactic(
-        auto,
-        using(crate::proofs::HeldLemmas::layout_push),
-        unfolding(crate::specs::computed::Held::layout_of)
-    )]
+    #[tactic(auto, using(crate::proofs::HeldLemmas::layout_push), unfolding(crate::specs::computed::Held::layout_of))]
     pub(crate) fn save(&mut self) -> Result<(), AllocError>
         ensures { OnOk result (layout_of self.new ≡ None ∷ layout_of self.old) }
     {
@@ -61,11 +49,7 @@ impl<'s> Scope<'s> {
     }
 
     /// Forgets the newest cell.
-    #[tactic(
-        auto,
-        using(crate::proofs::HeldLemmas::layout_pop),
-        unfolding(crate::specs::computed::Held::layout_of)
-    )]
+    #[tactic(auto, using(crate::proofs::HeldLemmas::layout_pop), unfolding(crate::specs::computed::Held::layout_of))]
     pub(crate) fn forget(&mut self)
         ensures { layout_of self.new ≡ drop 1 (layout_of self.old) }
     {
@@ -73,11 +57,7 @@ impl<'s> Scope<'s> {
     }
 
     /// The slot of the newest variable of a name.
-    #[tactic(
-        auto,
-        using(crate::proofs::HeldLemmas::finds),
-        unfolding(crate::specs::computed::Held::layout_of)
-    )]
+    #[tactic(auto, using(crate::proofs::HeldLemmas::finds), unfolding(crate::specs::computed::Held::layout_of))]
     pub(crate) fn slot(&self, name: &[u8]) -> Option<usize>
         ensures { result ≡ slot_named name.now (layout_of self.now) }
     {
