@@ -18,16 +18,16 @@ use Rattle.tmpl_syntax.specs.Set.{Template, has_name, number_of, tree_named}
 use Rattle.tmpl_run.specs.Fault.{Cause, calls_too_deep}
 use Rattle.tmpl_run.specs.Fault as fault
 use Rattle.tmpl_run.specs.Meaning as meaning
-use Rattle.tmpl_run.specs.Meaning.{Calls, End, Next, Ran, Rules, Run, Setting, apart, called, calls_within, handing, left_by, meanings, setting_of, uncalled, with_callee}
+use Rattle.tmpl_run.specs.Meaning.{Calls, End, Next, Ran, Rules, Run, Setting, apart, called, calls_within, handing, left_by, meanings, setting_of, spend_if, uncalled, with_callee}
 use Rattle.tmpl_code.specs.Instruction as code
 use Rattle.tmpl_code.specs.Layout.{Layout, first_layout}
 use Rattle.tmpl_code.specs.Room.{largest_need}
-use Rattle.tmpl_code.specs.Code.{CallAt, Code, GivenAt, Starts, TreeAt}
+use Rattle.tmpl_code.specs.Code.{CallAt, Code, GivenAt, Starts, TreeAt, step_of_call}
 use Rattle.tmpl_machine.specs.Cell.{Cell, cell, fresh}
 use Rattle.tmpl_machine.specs.State.{Plan, State}
-use Rattle.tmpl_machine.specs.Machine.{deepened, fault_at, frame, goes, invoked, ran_so, returned_if}
+use Rattle.tmpl_machine.specs.Machine.{Turn, deepened, frame, goes, invoked, paid_if, returned_if}
 use Rattle.tmpl_machine.specs.Ends.{Comes, Ends}
-use Rattle.tmpl_machine.proofs.HeaderLemmas.{Pipelines, run_at, value-leads, valued}
+use Rattle.tmpl_machine.proofs.HeaderLemmas.{Pipelines, run_at, value-leads, valued, with_left}
 use Rattle.tmpl_machine.proofs.NodeLemmas as nodes
 use Rattle.tmpl_machine.proofs.PlaceLemmas.{ahead, ahead-one}
 use Rattle.tmpl_machine.proofs.SlotLemmas.{Frame, below, below-same, env_of, frame_of, length-frame, run_of}
@@ -182,23 +182,27 @@ module _ (plan : Plan) (room : ℕ) (f : Ran) (who : Who) (me : Template) (is-me
 
   -- the call itself, with its value on the stack
   invokes : (m : ℕ) → TemplateLeads plan room f m → who.depth + suc m ≡ plan.rules.depth_limit → (g : Option Ring) (lay : Layout) (fr : Frame) (rest : Code) (s : State) (name : List ℕ) (number : ℕ) (named : Named name plan.templates number) (v : Value) (made : Bool) (place : ℕ)
-      → Stands plan who rest lay fr (record s { place = place + 1 }) → drop place plan.code ≡ code.invoke number ∷ rest → length fr + spare_of (suc m) ≤ room
-      → After (Onward rest lay fr s.dot) g (apart v (meanings (setting_of plan.rules (calls_of m) name named.t.1) named.t.1.nodes v) (run_at lay made s))
+      → nat_eq s.left 0 ≡ false → Stands plan who rest lay fr (record s { place = place + 1 }) → drop place plan.code ≡ code.invoke number ∷ rest → length fr + spare_of (suc m) ≤ room
+      → After (Onward rest lay fr s.dot) g (apart v (meanings (setting_of plan.rules (calls_of m) name named.t.1) named.t.1.nodes v) (with_left (s.left - 1) (run_at lay made s)))
       → Leading (valued v made place s)
-  invokes m callee depth g lay fr rest s name number named v made place st at fits k =
+  invokes m callee depth g lay fr rest s name number named v made place some st at fits k =
       ways.takes plan room f who me is-me home (valued v made place s) (code.invoke number) rest st.runs at
       (let a = long in let b = most in let c = more in omega arith)
-      (subst (λ o. Comes Leading (invoked number o (fresh v) s.cells (valued v made place s)) f) (sym start.at)
+      (subst (λ o. Comes Leading (invoked plan me number o (fresh v) s.cells (valued v made place s)) f) (sym start.at)
+      (subst (λ b. Comes Leading (paid_if b plan me s.line (valued v made place s) enters) f) (sym some)
       (callee (record { number = number; depth = suc s.depth }) named.t named.at (omega arith) (let same : s.depth ≡ who.depth = ap (λ (w : Who). w.depth) st.runs in omega arith)
       (called_frame (cell nothing (place + 1)) (cell s.dot s.template) s.cells) inside refl start.at refl (omega arith) (let a = long in let b = most in let c = more in let d = length-called in omega arith)
       (goes-back (Onward rest lay fr s.dot) g lay fr rest (record s { made_text = made }) number named.t named.at v place (record { at = st.at; runs = st.runs; frame = st.frame; deep = st.deep }) (meanings (setting_of plan.rules (calls_of m) named.t.0 named.t.1) named.t.1.nodes v (run_of first_layout inside))
-      (subst (λ (n : List ℕ). After (Onward rest lay fr s.dot) g (apart v (meanings (setting_of plan.rules (calls_of m) n named.t.1) named.t.1.nodes v) (run_at lay made s))) named.same k))))
+      (subst (λ (n : List ℕ). After (Onward rest lay fr s.dot) g (apart v (meanings (setting_of plan.rules (calls_of m) n named.t.1) named.t.1.nodes v) (with_left (s.left - 1) (run_at lay made s)))) named.same k)))))
     where
       start : Started plan.templates named.t plan.starts plan.code number
       start = starts-at plan.templates plan.templates plan.starts plan.code number named.t linked named.at
 
+      enters : State → Turn
+      enters t = goes (record t { cells = fresh v ∷ cell nothing (t.place + 1) ∷ cell t.dot t.template ∷ s.cells; dot = v; template = number; depth = suc t.depth; place = start.place })
+
       inside : State
-      inside = record s { cells = fresh v ∷ cell nothing (place + 1) ∷ cell s.dot s.template ∷ s.cells; dot = v; made_text = made; template = number; depth = suc s.depth; place = start.place }
+      inside = record s { cells = fresh v ∷ cell nothing (place + 1) ∷ cell s.dot s.template ∷ s.cells; dot = v; left = s.left - 1; made_text = made; template = number; depth = suc s.depth; place = start.place }
 
       long : length fr ≡ length s.cells
       long = sym (ap length st.frame) ∙ length-frame lay s.cells st.deep
@@ -212,18 +216,19 @@ module _ (plan : Plan) (room : ℕ) (f : Ran) (who : Who) (me : Template) (is-me
       length-called : length (called_frame (cell nothing (place + 1)) (cell s.dot s.template) s.cells) ≡ 3 + length s.cells
       length-called = let same = length-frame [] s.cells (omega arith) in omega arith
 
-  pub call-leads : (n : ℕ) → Deeper plan room f n → who.depth + n ≡ plan.rules.depth_limit → (line : ℕ) (name : List ℕ) (given : Option Pipeline) → nodes.NodeLeads plan room f who me is-me home (calls_of n) (spare_of n) pipes line (tree.template_node name given)
-  call-leads n deeper depth line name given g lay fr here rest s l st same-line inside fits more-fits k = by (number_of name plan.templates) refl l
+  pub call-leads : (n : ℕ) → Deeper plan room f n → who.depth + n ≡ plan.rules.depth_limit → (line : ℕ) (name : List ℕ) (given : Option Pipeline) → nodes.StepLeads plan room f who me is-me home (calls_of n) (spare_of n) pipes line (tree.template_node name given)
+  call-leads n deeper depth line name given g lay fr here start rest s l at-node st inside fits more-fits k = by (number_of name plan.templates) refl l at-node
     where
       A : Run → Type 0
       A = Onward rest lay fr s.dot
 
-      by : (o : Option ℕ) → number_of name plan.templates ≡ o → CallAt name o given lay here rest → Leading s
-      by None e l =
-          ways.takes plan room f who me is-me home s (code.act (code.refuse (code.no_template name))) rest st.runs (st.at ∙ l) tt
-          (ap (λ i. ran_so s (Some (fault_at me i (fault.no_template name)))) same-line
-          ∙ subst (λ c. After A g (with_callee (set_of n) line c (handing (set_of n) line given s.dot) (run_of lay s))) (calls-none plan.rules plan.templates n name (unnumbered name plan.templates e)) k)
-      by (Some number) e l = enters n deeper depth fits k
+      by : (o : Option ℕ) → number_of name plan.templates ≡ o → here ≡ step_of_call line o ∷ start → CallAt name o given lay start rest → Leading s
+      by None e l at-node =
+          ways.spends plan room f who me is-me home (calls_of n) A g lay line start s (meaning.calling (set_of n) line name given s.dot) st.runs (st.at ∙ l) k
+          (λ at k. ways.takes plan room f who me is-me home (ways.step_taken line s) (code.act (code.refuse (code.no_template name))) rest st.runs (at ∙ at-node) tt
+          (subst (λ c. After A g (with_callee (set_of n) line c (handing (set_of n) line given s.dot) (run_of lay (ways.step_taken line s)))) (calls-none plan.rules plan.templates n name (unnumbered name plan.templates e)) k))
+      by (Some number) e l at-node =
+          ways.takes plan room f who me is-me home s (code.deepen line) start st.runs (st.at ∙ l) tt (pays (nat_eq s.left 0) refl k)
         where
           named : Named name plan.templates number
           named = numbered name plan.templates number e
@@ -231,19 +236,23 @@ module _ (plan : Plan) (room : ℕ) (f : Ran) (who : Who) (me : Template) (is-me
           same-depth : s.depth ≡ who.depth
           same-depth = ap (λ (w : Who). w.depth) st.runs
 
-          enters : (n : ℕ) → Deeper plan room f n → who.depth + n ≡ plan.rules.depth_limit → length fr + need_of_given given + spare_of n ≤ room → After A g (with_callee (set_of n) line (calls_of n name) (handing (set_of n) line given s.dot) (run_of lay s)) → Leading s
-          enters zero deeper depth fits k =
-              ways.takes plan room f who me is-me home s code.deepen l.0 st.runs (st.at ∙ l.1) tt
-              (subst (λ b. Comes Leading (deepened b plan me s) f) (sym closed)
-              (ap (λ i. ran_so s (Some (fault_at me i (calls_too_deep plan.rules.depth_limit)))) same-line
-              ∙ subst (λ c. After A g (with_callee (set_of zero) line c (handing (set_of zero) line given s.dot) (run_of lay s))) (ap (uncalled plan.rules name) named.tree) k))
+          next : State
+          next = record s { line = line; place = s.place + 1 }
+
+          there : drop (s.place + 1) plan.code ≡ start
+          there = ahead-one plan.code start s.place (code.deepen line) (st.at ∙ l)
+
+          enters : (n : ℕ) → Deeper plan room f n → who.depth + n ≡ plan.rules.depth_limit → length fr + need_of_given given + spare_of n ≤ room → nat_eq s.left 0 ≡ false
+              → After A g (with_callee (set_of n) line (calls_of n name) (handing (set_of n) line given s.dot) (with_left (s.left - 1) (run_of lay s))) → Comes Leading (deepened false (nat_lt s.depth plan.rules.depth_limit) plan me line s) f
+          enters zero deeper depth fits some k =
+              subst (λ b. Comes Leading (deepened false b plan me line s) f) (sym closed)
+              (subst (λ c. After A g (with_callee (set_of zero) line c (handing (set_of zero) line given s.dot) (with_left (s.left - 1) (run_of lay s)))) (ap (uncalled plan.rules name) named.tree) k)
             where
               closed : nat_lt s.depth plan.rules.depth_limit ≡ false
               closed = let same = same-depth in let under : plan.rules.depth_limit ≤ s.depth = omega arith in grind (arith, nat_tests)
-          enters (suc m) deeper depth fits k =
-              ways.takes plan room f who me is-me home s code.deepen l.0 st.runs (st.at ∙ l.1) tt
-              (subst (λ b. Comes Leading (deepened b plan me s) f) (sym is-open)
-              (hands given l.2 fits (subst (λ c. After A g (with_callee (set_of (suc m)) line c (handing (set_of (suc m)) line given s.dot) (run_of lay s))) (ap (called plan.rules (calls_of m) name) named.tree) k)))
+          enters (suc m) deeper depth fits some k =
+              subst (λ b. Comes Leading (deepened false b plan me line s) f) (sym is-open)
+              (hands given at-node fits (subst (λ c. After A g (with_callee (set_of (suc m)) line c (handing (set_of (suc m)) line given s.dot) (with_left (s.left - 1) (run_of lay s)))) (ap (called plan.rules (calls_of m) name) named.tree) k))
             where
               is-open : nat_lt s.depth plan.rules.depth_limit ≡ true
               is-open = let same = same-depth in let over : s.depth < plan.rules.depth_limit = omega arith in grind (arith, nat_tests)
@@ -251,19 +260,17 @@ module _ (plan : Plan) (room : ℕ) (f : Ran) (who : Who) (me : Template) (is-me
               body : Value → Next
               body v = apart v (meanings (setting_of plan.rules (calls_of m) name named.t.1) named.t.1.nodes v)
 
-              next : State
-              next = record s { place = s.place + 1 }
+              gets : (v : Value) (made : Bool) (place : ℕ) → drop place plan.code ≡ code.invoke number ∷ rest → After A g (body v (with_left (s.left - 1) (run_at lay made s))) → Leading (valued v made place next)
+              gets v made place at k = invokes m deeper depth g lay fr rest next name number named v made place some (record { at = ahead-one plan.code rest place (code.invoke number) at; runs = st.runs; frame = st.frame; deep = st.deep }) at (omega arith) k
 
-              there : drop (s.place + 1) plan.code ≡ l.0
-              there = ahead-one plan.code l.0 s.place code.deepen (st.at ∙ l.1)
-
-              gets : (v : Value) (made : Bool) (place : ℕ) → drop place plan.code ≡ code.invoke number ∷ rest → After A g (body v (run_at lay made s)) → Leading (valued v made place next)
-              gets v made place at k = invokes m deeper depth g lay fr rest next name number named v made place (record { at = ahead-one plan.code rest place (code.invoke number) at; runs = st.runs; frame = st.frame; deep = st.deep }) at (omega arith) k
-
-              hands : (given : Option Pipeline) → GivenAt given lay l.0 (code.invoke number ∷ rest) → length fr + need_of_given given + spare_of (suc m) ≤ room → After A g (handing (set_of (suc m)) line given s.dot body (run_of lay s)) → Leading next
+              hands : (given : Option Pipeline) → GivenAt given lay start (code.invoke number ∷ rest) → length fr + need_of_given given + spare_of (suc m) ≤ room → After A g (handing (set_of (suc m)) line given s.dot body (with_left (s.left - 1) (run_of lay s))) → Leading next
               hands None l fits k =
                   ways.takes plan room f who me is-me home next (code.act code.push_nothing) (code.invoke number ∷ rest) st.runs (there ∙ l) (let long = sym (ap length st.frame) ∙ length-frame lay s.cells st.deep in omega arith)
                   (gets nothing s.made_text (s.place + 1 + 1 + 0) (ahead plan.code (code.invoke number ∷ rest) (s.place + 1) 0 (code.act code.push_nothing) (there ∙ l)) k)
               hands (Some p) l fits k =
-                  value-leads plan room f who me is-me home (calls_of (suc m)) pipes A g line p lay fr _ (code.invoke number ∷ rest) next body l (record { at = there; runs = st.runs; frame = st.frame; deep = st.deep }) same-line refl (omega arith) k
+                  value-leads plan room f who me is-me home (calls_of (suc m)) pipes A g line (s.left - 1) p lay fr start (code.invoke number ∷ rest) next body l (record { at = there; runs = st.runs; frame = st.frame; deep = st.deep }) refl refl (omega arith) k
                   (λ v made place at k. gets v made place at k)
+
+          pays : (b : Bool) → nat_eq s.left 0 ≡ b → After A g (spend_if b (set_of n) line (meaning.calling (set_of n) line name given s.dot) (run_of lay s)) → Comes Leading (deepened b (nat_lt s.depth plan.rules.depth_limit) plan me line s) f
+          pays true is k = k
+          pays false is k = enters n deeper depth fits is k

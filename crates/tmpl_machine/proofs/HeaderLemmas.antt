@@ -73,6 +73,10 @@ headed b v cs m place s = record s { cells = fresh v ∷ under b cs; made_text =
 abbrev pub run_at : Layout → Bool → State → Run
 run_at lay m s = record { env = env_of lay s.cells; text = s.text; left = s.left; made_text = m }
 
+-- .. with so many steps left
+abbrev pub with_left : ℕ → Run → Run
+with_left left r = record r { left = left }
+
 pub plain-is : (a b : Code) → a ≡ b → Plain b → Plain a
 plain-is a b e p = subst Plain (sym e) p
 
@@ -111,16 +115,16 @@ module _ (plan : Plan) (room : ℕ) (f : Ran) (who : Who) (me : Template) (is-me
   bind-plain (declare_pair k x) lay mid rest l p = plain-is mid (code.hold true ∷ rest) l refl
 
   -- a pipeline, behind whose value the meaning goes on
-  pub value-leads : (A : Run → Type 0) (g : Option Ring) (line : ℕ) (p : Pipeline) (lay : Layout) (fr : Frame) (start mid : Code) (s : State) (go : Value → Next)
+  pub value-leads : (A : Run → Type 0) (g : Option Ring) (line left : ℕ) (p : Pipeline) (lay : Layout) (fr : Frame) (start mid : Code) (s : State) (go : Value → Next)
       → PipelineAt p lay start mid → Stands plan who start lay fr s → s.line ≡ line → Plain mid → length fr + need_of_pipeline p ≤ room
-      → ways.After plan room f who me is-me home A g (with_pipeline (setting_of plan.rules calls me.0 me.1) line p s.dot go (run_of lay s))
-      → ((v : Value) (m : Bool) (place : ℕ) → drop place plan.code ≡ mid → ways.After plan room f who me is-me home A g (go v (run_at lay m s)) → Ends plan room (valued v m place s) f)
+      → ways.After plan room f who me is-me home A g (with_pipeline (setting_of plan.rules calls me.0 me.1) line p s.dot go (with_left left (run_of lay s)))
+      → ((v : Value) (m : Bool) (place : ℕ) → drop place plan.code ≡ mid → ways.After plan room f who me is-me home A g (go v (with_left left (run_at lay m s))) → Ends plan room (valued v m place s) f)
       → Ends plan room s f
-  value-leads A g line p lay fr start mid s go l st same-line plain fits k more =
+  value-leads A g line left p lay fr start mid s go l st same-line plain fits k more =
       pipes p lay start mid s st.runs l st.at st.deep (let long = length-frame lay s.cells st.deep in let same = ap length st.frame in omega arith) plain
       (by (given_in plan lay s p).result (s.made_text || (given_in plan lay s p).made_text) k)
     where
-      by : (r : Result Value Cause) (m : Bool) → ways.After plan room f who me is-me home A g (with_value (setting_of plan.rules calls me.0 me.1) line r go (run_at lay m s)) → Gives plan me (λ t. Ends plan room t f) f mid s r m
+      by : (r : Result Value Cause) (m : Bool) → ways.After plan room f who me is-me home A g (with_value (setting_of plan.rules calls me.0 me.1) line r go (with_left left (run_at lay m s))) → Gives plan me (λ t. Ends plan room t f) f mid s r m
       by (Ok v) m k = λ place at. more v m place at k
       by (Err cause) m k = ap (λ n. ran_so (record s { made_text = m }) (Some (fault_at me n cause))) same-line ∙ k
 
@@ -132,7 +136,7 @@ module _ (plan : Plan) (room : ℕ) (f : Ran) (who : Who) (me : Template) (is-me
       → ways.After plan room f who me is-me home A g (go v (run_at lay m s)) → Ends plan room (headed h.binding v cs m place s) f)
       → Ends plan room s f
   header-leads A g line h lay fr start mid s go l st same-line plain fits more-fits k more =
-      value-leads A g line h.pipeline lay fr start l.0 s go l.1 st same-line (bind-plain h.binding lay l.0 mid l.2 plain) fits k
+      value-leads A g line s.left h.pipeline lay fr start l.0 s go l.1 st same-line (bind-plain h.binding lay l.0 mid l.2 plain) fits k
       (λ v m place at k. bind-leads h.binding lay fr v l.0 mid s m place st.runs l.2 at st.frame st.deep (let long = length-frame lay s.cells st.deep in let same = ap length st.frame in omega arith)
       (λ cs place at frame deep env. more v cs m place at frame deep env k))
 

@@ -1,6 +1,7 @@
 -- What each instruction leaves of a run: the text is only added to, and the cells stay within their room.
 use Rattle.std.proofs.Common.{◌≡◌, ◌∙◌, ◌+◌, ◌++◌, nat_eq, nat_lt, ℕ, zero, suc, Bool, true, false, List, [], ◌∷◌, drop, refl, ap, sym, subst, Option, Some, None, append-nil, append_assoc}
 use Rattle.std.specs.Prelude.{slice_get}
+use Rattle.tmpl_values.specs.Value.{nothing}
 use Rattle.tmpl_values.specs.Elements.{Element}
 use Rattle.tmpl_values.specs.Text.{text_of}
 use Rattle.tmpl_values.specs.Truth.{truth}
@@ -76,13 +77,21 @@ module _ (plan : Plan) (me : Template) (s : State) where
   again-adds skip line d v cs [] = begins-same s.text
   again-adds skip line d v cs (e ∷ es) = paid-adds line (λ s. d ∷ cell v.val (suc v.num) ∷ cs) (λ s. d.num)
 
-  deepened-adds : (b : Bool) → Adds s.text (deepened b plan me s)
-  deepened-adds true = begins-same s.text
-  deepened-adds false = begins-same s.text
+  deepened-adds : (b c : Bool) (line : ℕ) → Adds s.text (deepened b c plan me line s)
+  deepened-adds true c line = begins-same s.text
+  deepened-adds false true line = begins-same s.text
+  deepened-adds false false line = begins-same s.text
 
-  invoked-adds : (number : ℕ) (o : Option ℕ) (c : Cell) (cs : List Cell) → Adds s.text (invoked number o c cs s)
+  invoked-adds : (number : ℕ) (o : Option ℕ) (c : Cell) (cs : List Cell) → Adds s.text (invoked plan me number o c cs s)
   invoked-adds number None c cs = tt
-  invoked-adds number (Some start) c cs = begins-same s.text
+  invoked-adds number (Some start) c cs = by (nat_eq s.left 0)
+    where
+      enters : State → Turn
+      enters t = goes (record t { cells = fresh c.val ∷ cell nothing (t.place + 1) ∷ cell t.dot t.template ∷ cs; dot = c.val; template = number; depth = suc t.depth; place = start })
+
+      by : (b : Bool) → Adds s.text (paid_if b plan me s.line s enters)
+      by true = begins-same s.text
+      by false = begins-same s.text
 
   returned-adds : (b : Bool) (cs : List Cell) → Adds s.text (returned_if b cs s)
   returned-adds true cs = begins-same s.text
@@ -104,7 +113,7 @@ module _ (plan : Plan) (me : Template) (s : State) where
   adds (code.turn n) = ring-adds s.text s.cells _ (λ d v cs. turned-adds n (left_in v))
   adds (code.next n skip line) = ring-adds s.text (drop n s.cells) _ (λ d v cs. again-adds skip line d v cs (drop 1 (left_in v)))
   adds (code.leave n skip) = ring-adds s.text (drop n s.cells) _ (λ d v cs. begins-same s.text)
-  adds code.deepen = deepened-adds (nat_lt s.depth plan.rules.depth_limit)
+  adds (code.deepen line) = deepened-adds (nat_eq s.left 0) (nat_lt s.depth plan.rules.depth_limit) line
   adds (code.invoke number) = top-adds s.text s.cells _ (λ c cs. invoked-adds number (slice_get plan.starts number) c cs)
   adds (code.return_from n) = returned-adds (nat_eq s.depth 1) (drop n s.cells)
 

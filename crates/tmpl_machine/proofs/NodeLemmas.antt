@@ -12,10 +12,11 @@ use Rattle.tmpl_syntax.specs.Tree.{NodeKind, Nodes}
 use Rattle.tmpl_syntax.specs.Need.{left_behind, need_of_node, need_of_nodes}
 use Rattle.tmpl_syntax.specs.Set.{Template}
 use Rattle.tmpl_run.specs.Pipeline.{Environment}
+use Rattle.tmpl_run.specs.Meaning as meaning
 use Rattle.tmpl_run.specs.Meaning.{Calls, End, Next, Ran, Run, Setting, alone, choosing, meanings, oldest, one_of, setting_of, shown, stepped, with_bound}
 use Rattle.tmpl_code.specs.Instruction as code
 use Rattle.tmpl_code.specs.Layout.{Layout, bound_on, declared_in, declares, grown}
-use Rattle.tmpl_code.specs.Code.{Code, NodeAt, NodesAt, ShownAt}
+use Rattle.tmpl_code.specs.Code.{Code, NodeAt, NodesAt, ShownAt, step_of}
 use Rattle.tmpl_machine.specs.Cell.{Cell, fresh}
 use Rattle.tmpl_machine.specs.State.{Plan, State}
 use Rattle.tmpl_machine.specs.Machine.{branch, goes, kept_on, top, with_dot}
@@ -109,6 +110,17 @@ module _ (plan : Plan) (room : ℕ) (f : Ran) (who : Who) (me : Template) (is-me
   NodeLeads line n = (g : Option Ring) (lay : Layout) (fr : Frame) (here rest : Code) (s : State) → NodeAt plan.templates line n lay (exit_of g) here rest → Stands plan who here lay fr s → s.line ≡ line → Inside home g lay fr
       → length fr + need_of_node n + spare ≤ room → length fr + left_behind n ≤ room
       → After (Onward rest (grown n lay) (grown_in n fr) s.dot) g (stepped set line n s.dot (run_of lay s)) → Leading s
+
+  -- .. and of one whose step is to be taken
+  abbrev pub StepLeads : ℕ → NodeKind → Type 0
+  StepLeads line n = (g : Option Ring) (lay : Layout) (fr : Frame) (here start rest : Code) (s : State) → here ≡ step_of plan.templates line n ∷ start → NodeAt plan.templates line n lay (exit_of g) start rest → Stands plan who here lay fr s → Inside home g lay fr
+      → length fr + need_of_node n + spare ≤ room → length fr + left_behind n ≤ room
+      → After (Onward rest (grown n lay) (grown_in n fr) s.dot) g (meaning.spend set line (stepped set line n s.dot) (run_of lay s)) → Leading s
+
+  pub spent : (line : ℕ) (n : NodeKind) → step_of plan.templates line n ≡ code.spend line → NodeLeads line n → StepLeads line n
+  spent line n e leads g lay fr here start rest s l at-node st inside fits more-fits k =
+      ways.spends plan room f who me is-me home calls (Onward rest (grown n lay) (grown_in n fr) s.dot) g lay line start s (stepped set line n s.dot) st.runs (st.at ∙ l ∙ ap (λ i. i ∷ start) e) k
+      (λ at k. leads g lay fr start rest (ways.step_taken line s) at-node (record { at = at; runs = st.runs; frame = st.frame; deep = st.deep }) refl inside fits more-fits k)
 
   -- ---- actions
 

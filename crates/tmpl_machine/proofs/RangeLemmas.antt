@@ -331,7 +331,7 @@ module _ (plan : Plan) (room : ℕ) (f : Ran) (who : Who) (me : Template) (is-me
 
   pub range-leads : (line : ℕ) (h : Header) (body other : Nodes) → NodesLead body → NodesLead other → nodes.NodeLeads plan room f who me is-me home calls spare pipes line (tree.control_node control.Range h body other)
   range-leads line h body other ih-body ih-other g lay fr here rest s l st same-line inside fits more-fits k =
-      value-leads plan room f who me is-me home calls pipes B g line h.pipeline lay fr here l.0 s go
+      value-leads plan room f who me is-me home calls pipes B g line s.left h.pipeline lay fr here l.0 s go
       l.1 st same-line (subst Plain (sym l.2.5) refl) (omega arith)
       (ways.unscope plan room f who me is-me home A g lay fr (length (env_of lay s.cells)) (ranging set line h s.dot (λ v. meanings set body v) (meanings set other s.dot) (run_of lay s)) (length-env lay s.cells st.deep) inside k)
       (λ v m place at k. ways.takes plan room f who me is-me home (valued v m place s) (code.enter (declares_key h.binding) l.2.3) l.2.0 st.runs (at ∙ l.2.5)

@@ -1,5 +1,5 @@
 -- The code of a template comes to what the template means.
-use Rattle.std.proofs.Common.{arith, ◌≡◌, ◌∙◌, ◌+◌, ◌-◌, ◌*◌, ◌≤◌, nat_eq, ℕ, zero, suc, [], ◌∷◌, length, drop, refl, ap, sym, subst, Some, None}
+use Rattle.std.proofs.Common.{arith, ◌≡◌, ◌∙◌, ◌+◌, ◌-◌, ◌*◌, ◌≤◌, nat_eq, ℕ, zero, suc, List, [], ◌∷◌, length, drop, refl, ap, sym, subst, Some, None}
 use Rattle.std.specs.Prelude.{slice_get}
 use Rattle.std.proofs.Math.Nat.{suc-mul}
 use Rattle.tmpl_grammar.specs.Tree.{Header}
@@ -23,7 +23,7 @@ use Rattle.tmpl_machine.specs.Ends.{Comes, Ends}
 use Rattle.tmpl_machine.proofs.CallLemmas.{Deeper, Started, TemplateLeads, call-leads, need-most, starts-at}
 use Rattle.tmpl_machine.proofs.HeaderLemmas.{Pipelines}
 use Rattle.tmpl_machine.proofs.NodeLemmas as nodes
-use Rattle.tmpl_machine.proofs.NodeLemmas.{action-leads, if-leads, inside-grown, length-grown, with-leads}
+use Rattle.tmpl_machine.proofs.NodeLemmas.{action-leads, if-leads, inside-grown, length-grown, spent, with-leads}
 use Rattle.tmpl_machine.proofs.PlaceLemmas.{ahead-one}
 use Rattle.tmpl_machine.proofs.RangeLemmas.{break-leads, continue-leads, range-leads}
 use Rattle.tmpl_machine.proofs.SlotLemmas.{Frame, all_grown, all_grown_in, frame-drop, frame-grown, frame_of, grown_in, over-grown, over-none, run_of}
@@ -50,36 +50,38 @@ module _ (plan : Plan) (room : ℕ) (f : Ran) (who : Who) (me : Template) (is-me
   control-leads line control.With h body other ih-body ih-other = with-leads plan room f who me is-me home calls spare pipes line h body other ih-body ih-other
   control-leads line control.Range h body other ih-body ih-other = range-leads plan room f who me is-me home calls spare pipes line h body other ih-body ih-other
 
+  text-leads : (line : ℕ) (bytes : List ℕ) → nodes.NodeLeads plan room f who me is-me home calls spare pipes line (tree.text bytes)
+  text-leads line bytes g lay fr here rest s l st same-line inside fits more-fits k =
+      ways.takes plan room f who me is-me home s (code.put bytes) rest st.runs (st.at ∙ l) tt
+      (k _ (record { at = ahead-one plan.code rest s.place (code.put bytes) (st.at ∙ l); runs = st.runs; frame = st.frame; deep = st.deep }) refl refl)
+
   mutual
-    node-leads : (line : ℕ) (n : NodeKind) → nodes.NodeLeads plan room f who me is-me home calls spare pipes line n
-    node-leads line (tree.text bytes) g lay fr here rest s l st same-line inside fits more-fits k =
-        ways.takes plan room f who me is-me home s (code.put bytes) rest st.runs (st.at ∙ l) tt
-        (k _ (record { at = ahead-one plan.code rest s.place (code.put bytes) (st.at ∙ l); runs = st.runs; frame = st.frame; deep = st.deep }) refl refl)
-    node-leads line (tree.action h) g lay fr here rest s l st same-line inside fits more-fits k = action-leads plan room f who me is-me home calls spare pipes line h g lay fr here rest s l st same-line inside fits more-fits k
-    node-leads line (tree.control_node c h body other) g lay fr here rest s l st same-line inside fits more-fits k =
-        control-leads line c h body other (λ g lay fr here rest s l st inside fits k. nodes-lead body g lay fr here rest s l st inside fits k)
-        (λ g lay fr here rest s l st inside fits k. nodes-lead other g lay fr here rest s l st inside fits k) g lay fr here rest s l st same-line inside fits more-fits k
-    node-leads line tree.break_node g lay fr here rest s l st same-line inside fits more-fits k = break-leads plan room f who me is-me home calls spare pipes line g lay fr here rest s l st same-line inside fits more-fits k
-    node-leads line tree.continue_node g lay fr here rest s l st same-line inside fits more-fits k = continue-leads plan room f who me is-me home calls spare pipes line g lay fr here rest s l st same-line inside fits more-fits k
-    node-leads line (tree.template_node name given) g lay fr here rest s l st same-line inside fits more-fits k =
-        call-leads plan room f who me is-me home pipes first linked n deeper depth line name given g lay fr here rest s l st same-line inside fits more-fits k
+    step-leads : (line : ℕ) (n : NodeKind) → nodes.StepLeads plan room f who me is-me home calls spare pipes line n
+    step-leads line (tree.text bytes) g lay fr here start rest s l at-node st inside fits more-fits k =
+        spent plan room f who me is-me home calls spare pipes line (tree.text bytes) refl (text-leads line bytes) g lay fr here start rest s l at-node st inside fits more-fits k
+    step-leads line (tree.action h) g lay fr here start rest s l at-node st inside fits more-fits k =
+        spent plan room f who me is-me home calls spare pipes line (tree.action h) refl (action-leads plan room f who me is-me home calls spare pipes line h) g lay fr here start rest s l at-node st inside fits more-fits k
+    step-leads line (tree.control_node c h body other) g lay fr here start rest s l at-node st inside fits more-fits k =
+        spent plan room f who me is-me home calls spare pipes line (tree.control_node c h body other) refl
+        (control-leads line c h body other (λ g lay fr here rest s l st inside fits k. nodes-lead body g lay fr here rest s l st inside fits k)
+        (λ g lay fr here rest s l st inside fits k. nodes-lead other g lay fr here rest s l st inside fits k)) g lay fr here start rest s l at-node st inside fits more-fits k
+    step-leads line tree.break_node g lay fr here start rest s l at-node st inside fits more-fits k = spent plan room f who me is-me home calls spare pipes line tree.break_node refl (break-leads plan room f who me is-me home calls spare pipes line) g lay fr here start rest s l at-node st inside fits more-fits k
+    step-leads line tree.continue_node g lay fr here start rest s l at-node st inside fits more-fits k = spent plan room f who me is-me home calls spare pipes line tree.continue_node refl (continue-leads plan room f who me is-me home calls spare pipes line) g lay fr here start rest s l at-node st inside fits more-fits k
+    step-leads line (tree.template_node name given) g lay fr here start rest s l at-node st inside fits more-fits k =
+        call-leads plan room f who me is-me home pipes first linked n deeper depth line name given g lay fr here start rest s l at-node st inside fits more-fits k
 
     nodes-lead : (ns : Nodes) → nodes.NodesLead plan room f who me is-me home calls spare pipes ns
     nodes-lead tree.none g lay fr here rest s l st inside fits k = k s (record { at = st.at ∙ l; runs = st.runs; frame = st.frame; deep = st.deep }) refl refl
     nodes-lead (tree.then line n ns) g lay fr here rest s l st inside fits k =
-        ways.spends plan room f who me is-me home calls B g lay line l.0 s (stepped set line n s.dot) st.runs (st.at ∙ l.2)
-        (ways.then-on plan room f who me is-me home A g x.0 x.1 (meanings set ns s.dot) k)
-        (λ at k. node-leads line n g lay fr l.0 l.1 (ways.step_taken line s) l.3 (record { at = at; runs = st.runs; frame = st.frame; deep = st.deep }) refl inside (omega arith) (omega arith)
-        (ways.then-map plan room f who me is-me home B (ways.Onward plan room f who me is-me home l.1 (grown n lay) (grown_in n fr) s.dot) g (stepped set line n s.dot (run_of lay (ways.step_taken line s))).0 (stepped set line n s.dot (run_of lay (ways.step_taken line s))).1
+        step-leads line n g lay fr here l.0 l.1 s l.2 l.3 st inside (omega arith) (omega arith)
+        (ways.then-map plan room f who me is-me home (λ r. ways.After plan room f who me is-me home A g (meanings set ns s.dot r)) (ways.Onward plan room f who me is-me home l.1 (grown n lay) (grown_in n fr) s.dot) g x.0 x.1
         (λ r k t stands dot run. nodes-lead ns g (grown n lay) (grown_in n fr) l.1 rest t l.4 stands (inside-grown home g n lay fr inside) (let long = length-grown n fr in omega arith)
         (subst (λ d. ways.After plan room f who me is-me home (ways.Onward plan room f who me is-me home rest (all_grown ns (grown n lay)) (all_grown_in ns (grown_in n fr)) d) g (meanings set ns d (run_of (grown n lay) t))) (sym dot)
-        (subst (λ r. ways.After plan room f who me is-me home A g (meanings set ns s.dot r)) (sym run) k))) k))
+        (subst (λ r. ways.After plan room f who me is-me home A g (meanings set ns s.dot r)) (sym run) k)))
+        (ways.then-on plan room f who me is-me home A g x.0 x.1 (meanings set ns s.dot) k))
       where
         A : Run → Type 0
         A = ways.Onward plan room f who me is-me home rest (all_grown ns (grown n lay)) (all_grown_in ns (grown_in n fr)) s.dot
-
-        B : Run → Type 0
-        B r = ways.After plan room f who me is-me home A g (meanings set ns s.dot r)
 
         x : Run × End
         x = meaning.spend set line (stepped set line n s.dot) (run_of lay s)

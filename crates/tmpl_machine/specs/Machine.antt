@@ -139,21 +139,23 @@ again plan t skip line d v cs (e ∷ es) s =
 
 -- ---- calls
 
-abbrev pub deepened : Bool → Plan → Template → State → Turn
-deepened true plan t s = onto s.cells (s.place + 1) s
-deepened false plan t s = failed t s.line (calls_too_deep plan.rules.depth_limit) s
+-- by whether no step is left, and whether fewer templates are inside one another than may be
+abbrev pub deepened : Bool → Bool → Plan → Template → ℕ → State → Turn
+deepened true shallow plan t line s = failed t line (steps_spent plan.rules.step_limit) s
+deepened false true plan t line s = goes (record s { line = line; place = s.place + 1 })
+deepened false false plan t line s = failed t line (calls_too_deep plan.rules.depth_limit) s
 
 -- the template of this number, which starts here, over a value
-abbrev pub invoked : ℕ → Option ℕ → Cell → List Cell → State → Turn
-invoked number None c cs s = stuck
-invoked number (Some start) c cs s =
-    goes (record s {
+abbrev pub invoked : Plan → Template → ℕ → Option ℕ → Cell → List Cell → State → Turn
+invoked plan t number None c cs s = stuck
+invoked plan t number (Some start) c cs s =
+    paid plan t s.line s (λ s. goes (record s {
       cells = fresh c.val ∷ cell nothing (s.place + 1) ∷ cell s.dot s.template ∷ cs;
       dot = c.val;
       template = number;
       depth = suc s.depth;
       place = start;
-    })
+    }))
 
 -- the end of a template, which is that of the run where it is the first one
 abbrev pub returned_if : Bool → List Cell → State → Turn
@@ -192,8 +194,10 @@ done plan t (code.next n skip line) s =
     ring (drop n s.cells) (λ d v cs. again plan t skip line d v cs (drop 1 (left_in v)) s)
 done plan t (code.leave n skip) s =
     ring (drop n s.cells) (λ d v cs. goes (record s { cells = cs; dot = d.val; place = s.place + 1 + skip }))
-done plan t code.deepen s = deepened (nat_lt s.depth plan.rules.depth_limit) plan t s
-done plan t (code.invoke number) s = top s.cells (λ c cs. invoked number (slice_get plan.starts number) c cs s)
+done plan t (code.deepen line) s =
+    deepened (nat_eq s.left 0) (nat_lt s.depth plan.rules.depth_limit) plan t line s
+done plan t (code.invoke number) s =
+    top s.cells (λ c cs. invoked plan t number (slice_get plan.starts number) c cs s)
 done plan t (code.return_from n) s = returned_if (nat_eq s.depth 1) (drop n s.cells) s
 
 -- the instruction at its place, in the template that runs

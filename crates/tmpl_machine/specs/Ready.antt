@@ -43,6 +43,6 @@ Has (code.enter key skip) n room = n < room
 Has (code.turn m) n room = n + m ≤ room
 Has (code.next m skip line) n room = Unit {0}
 Has (code.leave m skip) n room = Unit {0}
-Has code.deepen n room = Unit {0}
+Has (code.deepen line) n room = Unit {0}
 Has (code.invoke number) n room = n + 2 ≤ room
 Has (code.return_from m) n room = Unit {0}
