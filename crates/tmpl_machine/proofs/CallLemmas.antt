@@ -168,7 +168,7 @@ module _ (plan : Plan) (room : ℕ) (f : Ran) (who : Who) (me : Template) (is-me
           deep : u.depth ≡ suc s.depth
           deep = ap (λ (w : Who). w.depth) ret.runs
 
-          inner : nat_eq u.depth 1 ≡ false
+          inner : nat_lt 1 u.depth ≡ true
           inner = let d = deep in let one = first in let same : s.depth ≡ who.depth = ap (λ (w : Who). w.depth) st.runs in let other : 2 ≤ u.depth = omega arith in grind (arith, nat_tests)
 
           cells : (c : Cell) × (drop ret.n u.cells ≡ c ∷ cell nothing (place + 1) ∷ cell s.dot s.template ∷ s.cells)

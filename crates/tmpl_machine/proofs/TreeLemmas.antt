@@ -1,5 +1,5 @@
 -- The code of a template comes to what the template means.
-use Rattle.std.proofs.Common.{arith, ◌≡◌, ◌∙◌, ◌+◌, ◌-◌, ◌*◌, ◌≤◌, nat_eq, ℕ, zero, suc, List, [], ◌∷◌, length, drop, refl, ap, sym, subst, Some, None}
+use Rattle.std.proofs.Common.{arith, ◌≡◌, ◌∙◌, ◌+◌, ◌-◌, ◌*◌, ◌≤◌, nat_lt, ℕ, zero, suc, List, [], ◌∷◌, length, drop, refl, ap, sym, subst, Some, None}
 use Rattle.std.specs.Prelude.{slice_get}
 use Rattle.std.proofs.Math.Nat.{suc-mul}
 use Rattle.tmpl_grammar.specs.Tree.{Header}
@@ -147,7 +147,7 @@ module _ (plan : Plan) (room : ℕ) (linked : Starts plan.templates plan.templat
       leaves : seen x.0 None ≡ f → ways.Leaves plan room f who me is-me home x.0
       leaves is t ret same =
           ways.takes plan room f who me is-me home t (code.return_from ret.n) ret.more ret.runs ret.at tt
-          (subst (λ n. Comes (λ t. Ends plan room t f) (returned_if (nat_eq n 1) (drop ret.n t.cells) t) f) (sym (ap (λ (w : Who). w.depth) ret.runs)) (ap (λ (r : Run). seen r None) same ∙ is))
+          (subst (λ n. Comes (λ t. Ends plan room t f) (returned_if (nat_lt 1 n) (drop ret.n t.cells) t) f) (sym (ap (λ (w : Who). w.depth) ret.runs)) (ap (λ (r : Run). seen r None) same ∙ is))
 
       by : (e : End) → x.1 ≡ e → ways.Then plan room f who me is-me home (ways.Leaves plan room f who me is-me home) None x.0 e
       by meaning.done e = leaves (λ j. ran_of (x.0, sym e j))

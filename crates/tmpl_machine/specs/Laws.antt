@@ -1,11 +1,12 @@
 -- Laws of the machine.
-use Rattle.std.specs.Prelude.{◌≡◌, ◌≤◌, ℕ, List, ◌++◌, Option, Some, slice_get}
+use Rattle.std.specs.Prelude.{◌≡◌, ◌<◌, ◌≤◌, ◌⊎◌, ℕ, List, ◌++◌, Option, Some, slice_get}
 use Rattle.tmpl_values.specs.Value.{Value}
 use Rattle.tmpl_syntax.specs.Set.{Template}
 use Rattle.tmpl_run.specs.Meaning.{Ran, ran, starting_dot}
 use Rattle.tmpl_code.specs.Code.{Starts}
 use Rattle.tmpl_code.specs.Room.{room}
 use Rattle.tmpl_machine.specs.State.{Plan, State, starting}
+use Rattle.tmpl_machine.specs.Machine.{goes, next_of}
 use Rattle.tmpl_machine.specs.Ends.{Ends}
 
 -- the code is that of the templates
@@ -25,6 +26,17 @@ ComesToMeaning =
 -- a state has one end at most, whatever the size of the stack
 abbrev pub HasOneEnd : Type 0
 HasOneEnd = (plan : Plan) (m n : ℕ) (s : State) (f g : Ran) → Ends plan m s f → Ends plan n s g → f ≡ g
+
+-- steps are lessened, or left as they are and how many templates are inside one another is lessened, or both are left as
+-- they are and the place goes forward in the code
+abbrev pub Lessens : State → State → Type 0
+Lessens s t =
+    (t.left < s.left)
+    ⊎ ((t.left ≡ s.left) × ((t.depth < s.depth) ⊎ ((t.depth ≡ s.depth) × (s.place < t.place))))
+
+-- so does each turn
+abbrev pub EachTurnLessens : Type 0
+EachTurnLessens = (plan : Plan) (s t : State) → next_of plan s ≡ goes t → Lessens s t
 
 -- a text begins another
 abbrev pub Begins : List ℕ → List ℕ → Type 0

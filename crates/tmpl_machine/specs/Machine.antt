@@ -157,10 +157,10 @@ invoked plan t number (Some start) c cs s =
       place = start;
     }))
 
--- the end of a template, which is that of the run where it is the first one
+-- the end of a template, by whether it is inside another: that of the first one is the end of the run
 abbrev pub returned_if : Bool → List Cell → State → Turn
-returned_if true cs s = ended (ran_so s None)
-returned_if false cs s =
+returned_if false cs s = ended (ran_so s None)
+returned_if true cs s =
     frame cs (λ back saved cs. goes (record s {
       cells = cs;
       dot = saved.val;
@@ -198,7 +198,7 @@ done plan t (code.deepen line) s =
     deepened (nat_eq s.left 0) (nat_lt s.depth plan.rules.depth_limit) plan t line s
 done plan t (code.invoke number) s =
     top s.cells (λ c cs. invoked plan t number (slice_get plan.starts number) c cs s)
-done plan t (code.return_from n) s = returned_if (nat_eq s.depth 1) (drop n s.cells) s
+done plan t (code.return_from n) s = returned_if (nat_lt 1 s.depth) (drop n s.cells) s
 
 -- the instruction at its place, in the template that runs
 abbrev pub done_in : Plan → Option Template → Option Instruction → State → Turn
