@@ -11,3 +11,4 @@ pub mod RangeLemmas
 pub mod CallLemmas
 pub mod TreeLemmas
 pub mod MoveLemmas
+pub mod RoomLemmas

@@ -27,7 +27,7 @@ use Rattle.tmpl_machine.proofs.HeaderLemmas.{Pipelines, Plain, run_at, value-lea
 use Rattle.tmpl_machine.proofs.NodeLemmas as nodes
 use Rattle.tmpl_machine.proofs.NodeLemmas.{length-bound}
 use Rattle.tmpl_machine.proofs.PlaceLemmas.{ahead, ahead-one}
-use Rattle.tmpl_machine.proofs.SlotLemmas.{Frame, all_grown, all_grown_in, bound_in, cut-drop, env_of, first-saved, frame-binding, frame-bound, frame-drop, frame-set, frame_of, length-env, length-frame, named, over-binding, over-bound, over-none, run_of, stored, stored-none}
+use Rattle.tmpl_machine.proofs.SlotLemmas.{First, Frame, all_grown, all_grown_in, bound_in, cut-drop, env_of, first-saved, frame-binding, frame-bound, frame-drop, frame-set, frame_of, length-env, length-frame, named, over-binding, over-bound, over-none, run_of, stored, stored-none}
 use Rattle.tmpl_machine.proofs.WayLemmas as ways
 use Rattle.tmpl_machine.proofs.WayLemmas.{Inside, Ring, Rooted, Stands, Who, Within, bare, cut_to, exit_of}
 use Rattle.tmpl_code.specs.Layout.{first_layout}
@@ -87,19 +87,21 @@ module _ (plan : Plan) (room : ℕ) (f : Ran) (who : Who) (me : Template) (is-me
       × (env_of g.lay es ≡ oldest (named g.lay) (env_of lay s.cells))
 
   ring-first : (g : Ring) (lay : Layout) (fr : Frame) (here : Code) (s : State) (w : Within g lay fr) → Stands plan who here lay fr s → Ringed g lay w.n s
-  ring-first g lay fr here s w st =
-      let size = w.over.size in
-      let deep = st.deep in
-      let long = length-drop w.n s.cells in
-      let one = first-saved (None ∷ g.lay) (drop w.n s.cells) (cell g.dot g.place) (Some (cell g.value g.index) ∷ g.frame)
-      (frame-drop w.n lay (None ∷ None ∷ g.lay) s.cells w.over st.deep ∙ ap (drop w.n) st.frame ∙ w.cells) (omega arith) in
-      let two = first-saved g.lay one.rest (cell g.value g.index) g.frame one.frame one.deep in (
-        two.rest,
-        one.cells ∙ ap (λ l. cell g.dot g.place ∷ l) two.cells,
-        two.frame,
-        two.deep,
-        sym two.env ∙ sym one.env ∙ sym (cut-drop w.n lay (None ∷ None ∷ g.lay) s.cells w.over st.deep),
-      )
+  ring-first g lay fr here s w st = (
+    two.rest,
+    one.cells ∙ ap (λ l. cell g.dot g.place ∷ l) two.cells,
+    two.frame,
+    two.deep,
+    sym two.env ∙ sym one.env ∙ sym (cut-drop w.n lay (None ∷ None ∷ g.lay) s.cells w.over st.deep),
+  )
+    where
+      one : First (None ∷ g.lay) (drop w.n s.cells) (cell g.dot g.place) (Some (cell g.value g.index) ∷ g.frame)
+      one = first-saved (None ∷ g.lay) (drop w.n s.cells) (cell g.dot g.place) (Some (cell g.value g.index) ∷ g.frame)
+          (frame-drop w.n lay (None ∷ None ∷ g.lay) s.cells w.over st.deep ∙ ap (drop w.n) st.frame ∙ w.cells)
+          (let size = w.over.size in let deep = st.deep in let long = length-drop w.n s.cells in omega arith)
+
+      two : First g.lay one.rest (cell g.value g.index) g.frame
+      two = first-saved g.lay one.rest (cell g.value g.index) g.frame one.frame one.deep
 
   -- the end of the template
   returning : (lay : Layout) (fr : Frame) (here rest : Code) (s : State) → here ≡ code.return_from (length lay - 3) ∷ rest → Stands plan who here lay fr s → Rooted home lay fr → ways.Returning plan room f who me is-me home s

@@ -1,5 +1,5 @@
 -- Laws of the machine.
-use Rattle.std.specs.Prelude.{◌≡◌, ◌<◌, ◌≤◌, ◌⊎◌, ℕ, List, ◌++◌, Option, Some, slice_get}
+use Rattle.std.specs.Prelude.{◌≡◌, ◌<◌, ◌≤◌, ◌⊎◌, ℕ, List, ◌++◌, length, Option, Some, slice_get}
 use Rattle.tmpl_values.specs.Value.{Value}
 use Rattle.tmpl_syntax.specs.Set.{Template}
 use Rattle.tmpl_run.specs.Meaning.{Ran, ran, starting_dot}
@@ -13,8 +13,8 @@ use Rattle.tmpl_machine.specs.Ends.{Ends}
 abbrev pub IsLinked : Plan → Type 0
 IsLinked plan = Starts plan.templates plan.templates plan.starts plan.code
 
--- over a stack of as many cells as the room of the set says, a run that starts at a template comes to just the text, the
--- fault and the mark that the template means: each turn is ready, and none gets stuck
+-- over a stack of as many cells as the room of the set says, a run that starts at a template comes to just the text,
+-- the fault and the mark that the template means: each turn is ready, and none gets stuck
 abbrev pub ComesToMeaning : Type 0
 ComesToMeaning =
     (plan : Plan) (size : ℕ) → IsLinked plan → 1 ≤ plan.rules.depth_limit
@@ -22,6 +22,12 @@ ComesToMeaning =
     → (number start : ℕ) (t : Template) (input : Option Value)
     → slice_get plan.templates number ≡ Some t → slice_get plan.starts number ≡ Some start
     → Ends plan size (starting plan number start (starting_dot input)) (ran plan.rules plan.templates t.0 t.1 input)
+
+-- of a state that comes to an end there are never more cells than that
+abbrev pub StaysWithin : Type 0
+StaysWithin =
+    (plan : Plan) (size : ℕ) (s t : State) (end : Ran) → Ends plan size s end → length s.cells ≤ size
+    → next_of plan s ≡ goes t → length t.cells ≤ size
 
 -- a state has one end at most, whatever the size of the stack
 abbrev pub HasOneEnd : Type 0

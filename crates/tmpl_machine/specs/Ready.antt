@@ -1,5 +1,5 @@
--- What an instruction needs of the stack: that the cells which it takes or looks at are there, and that there is room for
--- those which it puts, where there may be so many.
+-- What an instruction needs of the stack: that the cells which it takes or looks at are there, and that there is room
+-- for those which it puts, where there may be so many.
 use Rattle.std.specs.Prelude.{ℕ, suc, ◌+◌, ◌-◌, ◌≤◌, ◌<◌, Bool, true, false}
 use Rattle.tmpl_code.specs.Code.{piped_count}
 use Rattle.tmpl_code.specs.Instruction as code

@@ -31,8 +31,8 @@ pub record State : Type 0 where
   -- that of the next instruction
   pub place : ℕ
 
--- before the first instruction of the template of this number, which starts here, over a value: `$` lies above two cells
--- that tell of no caller
+-- before the first instruction of the template of this number, which starts here, over a value: `$` lies above two
+-- cells that tell of no caller
 abbrev pub starting : Plan → ℕ → ℕ → Value → State
 starting plan number start v = record {
   cells = fresh v ∷ fresh nothing ∷ fresh nothing ∷ [];

@@ -9,8 +9,8 @@ use Rattle.tmpl_funcs.specs.declared.fault.CallFault.TheVariants.{WrongCount}
 use Rattle.tmpl_run.specs.Fault as fault
 use Rattle.tmpl_run.specs.Fault.{Cause, call_failed}
 use Rattle.tmpl_run.specs.Pipeline.{Place, chain, decides, or_call_failed, without_null}
-use Rattle.tmpl_code.specs.Instruction.{Operation, push_nothing, push_bool, push_number, push_text, push_dot, push_fields}
-use Rattle.tmpl_code.specs.Instruction.{push_slot, chained, call_with, decide, settle, refuse}
+use Rattle.tmpl_code.specs.Instruction.{Operation, push_nothing, push_bool, push_number, push_text, push_dot}
+use Rattle.tmpl_code.specs.Instruction.{push_fields, push_slot, chained, call_with, decide, settle, refuse}
 use Rattle.tmpl_code.specs.Instruction.{Refusal, not_a_function, nil_command, wrong_count, no_template}
 use Rattle.tmpl_code.specs.Code.{piped_count}
 use Rattle.tmpl_machine.specs.Cell.{Cell, fresh, slot, values_in}

@@ -1,9 +1,14 @@
 //! Laws of the machine that the definitions describe.
-ghost use Rattle.tmpl_machine.specs.Laws.{ComesToMeaning, EachTurnLessens, HasOneEnd, OnlyAdds};
+ghost use Rattle.tmpl_machine.specs.Laws.{ComesToMeaning, EachTurnLessens, HasOneEnd, OnlyAdds, StaysWithin};
 
 /// The law that the code of a set comes to the meaning of each of its templates, on a stack of the set's room.
 pub fn comes_to_meaning()
     ensures { ComesToMeaning }
+{}
+
+/// The law that a run keeps within the cells of its stack.
+pub fn stays_within()
+    ensures { StaysWithin }
 {}
 
 /// The law that a state of the machine has one end at most.

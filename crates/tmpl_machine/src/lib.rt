@@ -4,4 +4,4 @@
 
 mod laws;
 
-pub use laws::{comes_to_meaning, each_turn_lessens, one_end, only_adds};
+pub use laws::{comes_to_meaning, each_turn_lessens, one_end, only_adds, stays_within};
