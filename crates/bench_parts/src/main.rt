@@ -2,22 +2,27 @@
 //!
 //! Words: the part, and a file. A JSON file: `read` into `serde_json`'s own tree, `data` into data. A template: `cut`
 //! into pieces. Each puts out how many nanoseconds it took, and so do calls: `call`, a JSON file with a list of
-//! arguments, the name of the function, and how many. `text`: a JSON file into data, whose text is put out.
+//! arguments, the name of the function, and how many. `text`: a JSON file into data, whose text is put out. `list`: a
+//! template and the code of the templates that it defines, which is put out as a list.
 #![tactic(auto)]
 
 mod calls;
+mod listing;
 
 ghost use Rattle.std.specs.Prelude.{◌≡◌, None};
 
 use crate::calls::call_often;
+use crate::listing::put_listing;
 use std::alloc::Global;
 use std::io::{self, BufWriter, Write};
 use std::process::ExitCode;
 use std::rt::Clock;
 use std::time::Instant;
 use std::{env, fs};
+use tmpl_code::compile;
 use tmpl_funcs::Func;
 use tmpl_lex::cut;
+use tmpl_syntax::{Set, parse_file};
 use tmpl_values::{Data, Put, Val, put_text};
 
 /// Standard output, of which nothing is told.
@@ -110,6 +115,21 @@ fn put(alloc: Global, bytes: &[u8], writer: impl Write + Drop) -> bool {
     put_text(&Val::of(&held), &mut output).is_ok()
 }
 
+/// Compiles a template, and puts out its code.
+fn list(alloc: Global, file: &str, bytes: &[u8], writer: impl Write + Drop) -> io::Result<bool> {
+    let mut writer = writer;
+    let mut set = Set::new(alloc);
+    if parse_file(alloc, &mut set, file, bytes).is_err() {
+        return Ok(false);
+    }
+    let Ok(program) = compile(alloc, &set) else {
+        return Ok(false);
+    };
+    put_listing(&mut writer, &program)?;
+    writer.flush()?;
+    Ok(true)
+}
+
 fn main(rt: HostRuntime) -> io::Result<ExitCode> {
     let alloc = rt.alloc();
     let words: Vec<String> = env::args(&rt)?.collect(alloc)?;
@@ -123,6 +143,7 @@ fn main(rt: HostRuntime) -> io::Result<ExitCode> {
         ("read", []) => read(&rt, alloc, bytes)?,
         ("data", []) => convert(&rt, alloc, bytes)?,
         ("text", []) => put(alloc, bytes, BufWriter::new(alloc, rt.stdout())?),
+        ("list", []) => list(alloc, file.as_str(), bytes, BufWriter::new(alloc, rt.stdout())?)?,
         ("cut", []) => cut_up(&rt, alloc, bytes)?,
         ("call", [name, count]) => call_over(&rt, alloc, bytes, name.as_str(), count.as_str())?,
         _ => false,

@@ -5,4 +5,5 @@ pub mod NodeLemmas
 pub mod NodeTailLemmas
 pub mod OperandLemmas
 pub mod ProgramLemmas
+pub mod RoomExamples
 pub mod TailLemmas

@@ -7,7 +7,7 @@ use Rattle.tmpl_grammar.specs.declared.tree.Control.TheVariants as control
 use Rattle.tmpl_syntax.specs.Tree as tree
 use Rattle.tmpl_syntax.specs.Tree.{NodeKind, text, action, control_node, break_node, continue_node, template_node, Nodes}
 use Rattle.tmpl_syntax.specs.Set.{Template, number_of}
-use Rattle.tmpl_code.specs.Instruction.{Instruction, unless, enter_with, end_with, cut, enter, turn, next, invoke}
+use Rattle.tmpl_code.specs.Instruction.{Instruction, unless, enter_with, end_with, cut, enter, next, invoke}
 use Rattle.tmpl_code.specs.Layout.{Layout, slot_named, bound_on, declares, declares_key, grown, declared_in}
 use Rattle.tmpl_code.specs.Code.{Code, Part, NodesPart, Exit, PipelineAt, SetAt, BindAt, ShownAt, SetDotAt, TurnAt, BreakAt, ContinueAt, GivenAt, CallAt, HeaderAt, IfAt, WithAt, RangeAt, ControlAt, NodeAt, NodesAt, step_of}
 use Rattle.tmpl_code.specs.computed.Held.{exit_seen, last_of, IsOpen, TurnsAt}

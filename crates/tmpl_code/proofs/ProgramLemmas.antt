@@ -1,7 +1,7 @@
 -- One template more.
-use Rattle.std.proofs.Common.{arith, ◌≡◌, ◌∙◌, ◌+◌, ◌-◌, ◌<◌, ◌≤◌, ℕ, zero, suc, List, [], ◌∷◌, ◌++◌, length, drop, map, reverse, Option, Some, None, slice_get, ap, sym, subst, refl}
+use Rattle.std.proofs.Common.{arith, ◌≡◌, ◌∙◌, ◌-◌, ℕ, zero, suc, List, [], ◌∷◌, ◌++◌, length, drop, reverse, Some, None, slice_get, ap, sym, subst}
 use Rattle.std.proofs.lemmas.List.{reverse-append}
-use Rattle.tmpl_syntax.specs.Tree.{Tree, Nodes}
+use Rattle.tmpl_syntax.specs.Tree.{Nodes}
 use Rattle.tmpl_syntax.specs.Set.{Template}
 use Rattle.tmpl_code.specs.Layout.{declared_in, first_layout}
 use Rattle.tmpl_code.specs.Instruction.{return_from}

@@ -1,7 +1,7 @@
 -- Which code is that of a tree: what `compile` promises, and what a run of code rests on. Code is the list of
 -- instructions from a place on, and `rest` is what stands behind the code of the tree; so nothing hangs on where it
--- stands. Each case says what that of the tree's meaning says, and each tree has code: a variable that is not in scope is
--- nothing, and a break out of no range ends the template.
+-- stands. Each case says what that of the tree's meaning says, and each tree has code: a variable that is not in scope
+-- is nothing, and a break out of no range ends the template.
 use Rattle.std.specs.Prelude.{◌≡◌, ℕ, suc, ◌+◌, ◌-◌, Bool, true, false, List, [], ◌∷◌, length, drop, Option, Some, None}
 use Rattle.tmpl_funcs.specs.Func.{takes}
 use Rattle.tmpl_funcs.specs.declared.func.Func.{Func}
@@ -17,12 +17,13 @@ use Rattle.tmpl_syntax.specs.Tree as tree
 use Rattle.tmpl_syntax.specs.Tree.{NodeKind, text, action, control_node, break_node, continue_node, template_node}
 use Rattle.tmpl_syntax.specs.Tree.{Nodes}
 use Rattle.tmpl_syntax.specs.Set.{Template, number_of}
-use Rattle.tmpl_code.specs.Instruction.{Refusal, not_a_function, nil_command, wrong_count, no_template, Operation}
+use Rattle.tmpl_code.specs.Instruction.{not_a_function, nil_command, wrong_count, no_template, Operation}
 use Rattle.tmpl_code.specs.Instruction.{push_nothing, push_bool, push_number, push_text, push_dot, push_fields}
 use Rattle.tmpl_code.specs.Instruction.{push_slot, chained, call_with, decide, settle, refuse, Instruction, spend, put}
 use Rattle.tmpl_code.specs.Instruction.{act, show, hold, set, set_dot, unless, enter_with, end_with, cut, enter, turn}
 use Rattle.tmpl_code.specs.Instruction.{next, leave, deepen, invoke, return_from}
-use Rattle.tmpl_code.specs.Layout.{Layout, slot_named, bound_on, declares, declares_key, grown, declared_in, first_layout}
+use Rattle.tmpl_code.specs.Layout.{Layout, slot_named, bound_on, declares, declares_key, grown, declared_in}
+use Rattle.tmpl_code.specs.Layout.{first_layout}
 
 -- from a place on
 abbrev pub Code : Type 0
@@ -98,8 +99,8 @@ CallBy And All Both Either = Both
 CallBy Or All Both Either = Either
 CallBy f All Both Either = All
 
--- behind an operand of an `or`, or else of an `and`: where the value decides, the others are passed over; none is behind
--- the last argument
+-- behind an operand of an `or`, or else of an `and`: where the value decides, the others are passed over; none is
+-- behind the last argument
 abbrev pub DecideAt : Bool → Bool → Bool → Part → Part
 DecideAt true is_or piped Others code rest = code ≡ rest
 DecideAt false is_or piped Others code rest =
@@ -309,7 +310,8 @@ abbrev mutual
   NodeAt ts line (action h) cells exit code rest =
       (mid : Code) × HeaderAt h cells code mid × ShownAt h.binding mid rest
   NodeAt ts line (control_node c h body other) cells exit code rest =
-      ControlAt line c h (declared_in body) (declared_in other) (NodesAt ts body) (NodesAt ts other) cells exit code rest
+      ControlAt line c h (declared_in body) (declared_in other) (NodesAt ts body) (NodesAt ts other) cells exit
+      code rest
   NodeAt ts line break_node cells exit code rest = BreakAt exit cells code rest
   NodeAt ts line continue_node cells exit code rest = ContinueAt exit cells code rest
   NodeAt ts line (template_node name given) cells exit code rest =

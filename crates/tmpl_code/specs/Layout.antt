@@ -59,7 +59,7 @@ abbrev pub declared_in : Nodes → ℕ
 declared_in tree.none = 0
 declared_in (tree.then line n ns) = left_behind n + declared_in ns
 
--- that of a template at its start: `$`, which is a variable of the empty name, above two cells for where its caller goes
--- on and for the dot of the caller
+-- that of a template at its start: `$`, which is a variable of the empty name, above two cells for where its caller
+-- goes on and for the dot of the caller
 abbrev pub first_layout : Layout
 first_layout = Some [] ∷ None ∷ None ∷ []

@@ -1,5 +1,5 @@
--- The room of a set: how many cells a stack must have for every run of its templates, as many of which may be inside one
--- another. That cells are counted is our own rule.
+-- The room of a set: how many cells a stack must have for every run of its templates, so many of which may be inside
+-- one another. That cells are counted is our own rule.
 use Rattle.std.specs.Prelude.{ℕ, ◌*◌, max, List, [], ◌∷◌}
 use Rattle.tmpl_syntax.specs.Need.{need}
 use Rattle.tmpl_syntax.specs.Set.{Template}

@@ -1,5 +1,5 @@
-//! The code so far. It is put from the last instruction to the first, so what stands behind an instruction is known when
-//! it is put, and no jump is ever written back.
+//! The code so far. It is put from the last instruction to the first, so what stands behind an instruction is known
+//! when it is put, and no jump is ever written back.
 ghost use Rattle.std.specs.Prelude.{◌≡◌, ◌∷◌, [], OnOk, length};
 ghost use Rattle.tmpl_code.specs.Instruction.{act};
 ghost use Rattle.tmpl_code.specs.View.{instruction_of, instructions_of, operation_of};

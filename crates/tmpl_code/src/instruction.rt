@@ -79,8 +79,8 @@ pub enum Instruction<'s> {
         kept: bool,
         skip: usize,
     },
-    /// Where the newest value is not empty it becomes dot, and the dot from outside is saved in its cell, or in a new one
-    /// where it is a variable. Where it is empty passes over so many, and forgets it unless it is a variable.
+    /// Where the newest value is not empty it becomes dot, and the dot from outside is saved in its cell, or in a new
+    /// one where it is a variable. Where it is empty passes over so many, and forgets it unless it is a variable.
     With {
         kept: bool,
         skip: usize,
@@ -104,8 +104,8 @@ pub enum Instruction<'s> {
         key: bool,
         skip: usize,
     },
-    /// The element that is visited becomes dot, and the values of so many variables: of none, or of one, or of one above
-    /// one for its index or key.
+    /// The element that is visited becomes dot, and the values of so many variables: of none, or of one, or of one
+    /// above one for its index or key.
     Turn(usize),
     /// Forgets so many cells and goes to the place that the range saved, for its next element, which takes a step at
     /// this line; where there is none forgets the range, takes dot back and passes over so many instructions.

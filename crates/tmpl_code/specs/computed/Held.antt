@@ -1,5 +1,5 @@
--- What the compiler holds, apart from how it is held. Code is held from its last instruction to its first, cells from the
--- oldest to the newest.
+-- What the compiler holds, apart from how it is held. Code is held from its last instruction to its first, cells from
+-- the oldest to the newest.
 use Rattle.std.specs.Prelude.{ℕ, ◌+◌, ◌-◌, ◌≤◌, Bool, true, false, List, [], ◌∷◌, length, drop, Option, Some, None, map}
 use Rattle.std.specs.Prelude.{option_map, reverse}
 use Rattle.std.specs.Borrow.{Bor}
@@ -9,7 +9,7 @@ use Rattle.tmpl_syntax.specs.Tree.{NodeKind, text, action, control_node, break_n
 use Rattle.tmpl_syntax.specs.Tree.{Nodes}
 use Rattle.tmpl_syntax.specs.Set.{Template}
 use Rattle.tmpl_code.specs.Code.{Code, Part, Exit, TreeAt}
-use Rattle.tmpl_code.specs.Instruction.{Instruction, act, decide}
+use Rattle.tmpl_code.specs.Instruction.{act, decide}
 use Rattle.tmpl_code.specs.Layout.{Layout, grown}
 use Rattle.tmpl_code.specs.View.{instruction_of}
 use Rattle.tmpl_code.specs.declared.code.Code as held_code

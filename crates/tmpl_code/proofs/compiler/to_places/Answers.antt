@@ -1,4 +1,4 @@
-use Rattle.std.proofs.Common.{◌≡◌, ◌∙◌, ◌++◌, ◌-◌, ◌≤◌, ℕ, zero, suc, List, [], ◌∷◌, drop, get_or, length, map, take, set, arith, ap, refl, sym}
+use Rattle.std.proofs.Common.{◌≡◌, ◌∙◌, ◌++◌, ◌-◌, ◌≤◌, ℕ, zero, suc, List, [], ◌∷◌, drop, get_or, length, map, take, set, arith, ap, refl}
 use Rattle.std.proofs.lemmas.List.Edits.{map_over_more}
 use Rattle.tmpl_code.proofs.compiler.to_places.Goals as goal
 

@@ -1,4 +1,4 @@
-use Rattle.std.proofs.Common.{◌-◌, ap, arith}
+use Rattle.std.proofs.Common.{ap, arith}
 use Rattle.tmpl_grammar.specs.View.{operands_in}
 use Rattle.tmpl_grammar.specs.declared.tree.Command as held_command
 use Rattle.tmpl_code.proofs.OperandLemmas.{item-weight, item-weights, weights}

@@ -1,10 +1,9 @@
-use Rattle.std.proofs.Common.{◌≡◌, ◌∙◌, ◌+◌, ◌-◌, ◌∷◌, OnOk, Some, None, length, drop, take, refl, ap, sym, subst, arith}
-use Rattle.tmpl_grammar.specs.Need.{declared_count}
+use Rattle.std.proofs.Common.{◌≡◌, ◌∙◌, ◌+◌, ◌-◌, ◌∷◌, Some, None, length, drop, take, refl, ap, sym, subst, arith}
 use Rattle.tmpl_grammar.specs.View.{binding_of}
 use Rattle.tmpl_syntax.specs.View.{node_of, nodes_in, set_view}
 use Rattle.tmpl_code.specs.computed.Held.{TurnsAt, all_grown, code_of, exit_seen, layout_of}
 use Rattle.tmpl_code.specs.Layout.{Layout, bound_on, declared_in}
-use Rattle.tmpl_code.specs.Code.{Code, Exit, NodeAt, NodesAt, TurnAt}
+use Rattle.tmpl_code.specs.Code.{Exit, NodeAt, NodesAt, TurnAt}
 use Rattle.tmpl_syntax.specs.Tree.{Node}
 use Rattle.tmpl_code.proofs.NodeLemmas.{all_grown-longer, grows, nodes_more, shrinks, item-weight}
 use Rattle.tmpl_code.proofs.NodeTailLemmas.{behind, both, turned, nodes_ends, exit_on, open_on, on_ok, if_at, with_at, range_at}
