@@ -12,3 +12,4 @@ pub mod CallLemmas
 pub mod TreeLemmas
 pub mod MoveLemmas
 pub mod RoomLemmas
+pub mod LoopLemmas

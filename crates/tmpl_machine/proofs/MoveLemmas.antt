@@ -1,6 +1,6 @@
 -- What each instruction lessens, and what it leaves of the text.
 use Rattle.std.proofs.lemmas.Bool.Decides.{nat_tests}
-use Rattle.std.proofs.Common.{arith, ◌≢◌, inl, inr, ◌<◌, ◌-◌, ◌≡◌, ◌∙◌, ◌+◌, ◌++◌, nat_eq, nat_lt, ℕ, zero, suc, Bool, true, false, List, [], ◌∷◌, drop, refl, ap, sym, subst, Option, Some, None, append-nil, append_assoc}
+use Rattle.std.proofs.Common.{arith, ◌≢◌, inl, inr, ◌<◌, ◌≤◌, ◌-◌, ◌≡◌, ◌∙◌, ◌+◌, ◌++◌, nat_eq, nat_lt, ℕ, zero, suc, Bool, true, false, List, [], ◌∷◌, drop, refl, ap, sym, subst, Option, Some, None, append-nil, append_assoc}
 use Rattle.std.specs.Prelude.{slice_get}
 use Rattle.tmpl_values.specs.Value.{nothing}
 use Rattle.tmpl_values.specs.Elements.{Element}
@@ -25,7 +25,7 @@ begins-on a b c x y = (x.0 ++ y.0, y.1 ∙ ap (λ l. l ++ y.0) x.1 ∙ append_as
 
 -- the measure is lessened, and the text only added to
 abbrev pub Moves : State → Turn → Type 0
-Moves s (goes t) = Lessens s t × Begins s.text t.text
+Moves s (goes t) = Lessens s t × Begins s.text t.text × (t.depth ≤ suc s.depth)
 Moves s (ended r) = Begins s.text r.text
 Moves s stuck = Unit {0}
 
@@ -56,37 +56,37 @@ module _ (plan : Plan) (me : Template) (s : State) where
     where
       by : (b : Bool) → nat_eq s.left 0 ≡ b → Moves s (paid_if b plan me line s (λ s. onto (cs s) (place s) s))
       by true e = same
-      by false e = (inl (fewer e), same)
+      by false e = (inl (fewer e), same, omega arith)
 
   piped-moves : (o : code.Operation) (w : Went) → Moves s (piped me o w s)
-  piped-moves o (on skip cs) = (inr (refl, inr (refl, omega arith)), same)
+  piped-moves o (on skip cs) = (inr (refl, inr (refl, omega arith)), same, omega arith)
   piped-moves o (halted cause) = same
   piped-moves o lacks = tt
 
   branch-moves : (t kept : Bool) (skip : ℕ) (c : Cell) (cs : List Cell) → Moves s (branch t kept skip c cs s)
-  branch-moves true kept skip c cs = (inr (refl, inr (refl, omega arith)), same)
-  branch-moves false kept skip c cs = (inr (refl, inr (refl, omega arith)), same)
+  branch-moves true kept skip c cs = (inr (refl, inr (refl, omega arith)), same, omega arith)
+  branch-moves false kept skip c cs = (inr (refl, inr (refl, omega arith)), same, omega arith)
 
   with-moves : (t kept : Bool) (skip : ℕ) (c : Cell) (cs : List Cell) → Moves s (with_dot t kept skip c cs s)
-  with-moves true kept skip c cs = (inr (refl, inr (refl, omega arith)), same)
-  with-moves false kept skip c cs = (inr (refl, inr (refl, omega arith)), same)
+  with-moves true kept skip c cs = (inr (refl, inr (refl, omega arith)), same, omega arith)
+  with-moves false kept skip c cs = (inr (refl, inr (refl, omega arith)), same, omega arith)
 
   opened-moves : (skip : ℕ) (c : Cell) (cs : List Cell) (o : Option (List Element)) → Moves s (opened plan me skip c cs o s)
   opened-moves skip c cs None = same
-  opened-moves skip c cs (Some []) = (inr (refl, inr (refl, omega arith)), same)
+  opened-moves skip c cs (Some []) = (inr (refl, inr (refl, omega arith)), same, omega arith)
   opened-moves skip c cs (Some (e ∷ es)) = paid-moves s.line (λ s. cell s.dot (s.place + 1) ∷ fresh c.val ∷ cs) (λ s. s.place + 1)
 
   turned-moves : (n : ℕ) (es : List Element) → Moves s (turned n es s)
   turned-moves n [] = tt
-  turned-moves n (e ∷ es) = (inr (refl, inr (refl, omega arith)), same)
+  turned-moves n (e ∷ es) = (inr (refl, inr (refl, omega arith)), same, omega arith)
 
   again-moves : (skip line : ℕ) (d v : Cell) (cs : List Cell) (es : List Element) → Moves s (again plan me skip line d v cs es s)
-  again-moves skip line d v cs [] = (inr (refl, inr (refl, omega arith)), same)
+  again-moves skip line d v cs [] = (inr (refl, inr (refl, omega arith)), same, omega arith)
   again-moves skip line d v cs (e ∷ es) = paid-moves line (λ s. d ∷ cell v.val (suc v.num) ∷ cs) (λ s. d.num)
 
   deepened-moves : (b c : Bool) (line : ℕ) → Moves s (deepened b c plan me line s)
   deepened-moves true c line = same
-  deepened-moves false true line = (inr (refl, inr (refl, omega arith)), same)
+  deepened-moves false true line = (inr (refl, inr (refl, omega arith)), same, omega arith)
   deepened-moves false false line = same
 
   invoked-moves : (number : ℕ) (o : Option ℕ) (c : Cell) (cs : List Cell) → Moves s (invoked plan me number o c cs s)
@@ -98,28 +98,28 @@ module _ (plan : Plan) (me : Template) (s : State) where
 
       by : (b : Bool) → nat_eq s.left 0 ≡ b → Moves s (paid_if b plan me s.line s enters)
       by true e = same
-      by false e = (inl (fewer e), same)
+      by false e = (inl (fewer e), same, omega arith)
 
   returned-moves : (b : Bool) (cs : List Cell) → nat_lt 1 s.depth ≡ b → Moves s (returned_if b cs s)
   returned-moves false cs e = same
-  returned-moves true cs e = frame-moves s cs _ (λ back saved cs. (inr (refl, inl (let deep : 1 < s.depth = grind (arith, nat_tests) in omega arith)), same))
+  returned-moves true cs e = frame-moves s cs _ (λ back saved cs. (inr (refl, inl (let deep : 1 < s.depth = grind (arith, nat_tests) in omega arith)), same, omega arith))
 
   moves : (i : Instruction) → Moves s (done plan me i s)
   moves (code.spend line) = paid-moves line (λ s. s.cells) (λ s. s.place + 1)
-  moves (code.put bytes) = (inr (refl, inr (refl, omega arith)), (bytes, refl))
+  moves (code.put bytes) = (inr (refl, inr (refl, omega arith)), (bytes, refl), omega arith)
   moves (code.act o) = piped-moves o (step (record { missing_key = plan.rules.missing_key; dot = s.dot; env = [] }) o s.cells)
-  moves code.show = top-moves s s.cells _ (λ c cs. (inr (refl, inr (refl, omega arith)), (text_of c.val, refl)))
-  moves (code.hold key) = top-moves s s.cells _ (λ c cs. (inr (refl, inr (refl, omega arith)), same))
-  moves (code.set slot) = top-moves s s.cells _ (λ c cs. (inr (refl, inr (refl, omega arith)), same))
-  moves (code.set_dot slot) = (inr (refl, inr (refl, omega arith)), same)
+  moves code.show = top-moves s s.cells _ (λ c cs. (inr (refl, inr (refl, omega arith)), (text_of c.val, refl), omega arith))
+  moves (code.hold key) = top-moves s s.cells _ (λ c cs. (inr (refl, inr (refl, omega arith)), same, omega arith))
+  moves (code.set slot) = top-moves s s.cells _ (λ c cs. (inr (refl, inr (refl, omega arith)), same, omega arith))
+  moves (code.set_dot slot) = (inr (refl, inr (refl, omega arith)), same, omega arith)
   moves (code.unless kept skip) = top-moves s s.cells _ (λ c cs. branch-moves (truth c.val) kept skip c cs)
   moves (code.enter_with kept skip) = top-moves s s.cells _ (λ c cs. with-moves (truth c.val) kept skip c cs)
-  moves (code.end_with n variables skip) = top-moves s (drop n s.cells) _ (λ c cs. (inr (refl, inr (refl, omega arith)), same))
-  moves (code.cut n skip) = (inr (refl, inr (refl, omega arith)), same)
+  moves (code.end_with n variables skip) = top-moves s (drop n s.cells) _ (λ c cs. (inr (refl, inr (refl, omega arith)), same, omega arith))
+  moves (code.cut n skip) = (inr (refl, inr (refl, omega arith)), same, omega arith)
   moves (code.enter key skip) = top-moves s s.cells _ (λ c cs. opened-moves skip c cs (elements_for key c.val))
   moves (code.turn n) = ring-moves s s.cells _ (λ d v cs. turned-moves n (left_in v))
   moves (code.next n skip line) = ring-moves s (drop n s.cells) _ (λ d v cs. again-moves skip line d v cs (drop 1 (left_in v)))
-  moves (code.leave n skip) = ring-moves s (drop n s.cells) _ (λ d v cs. (inr (refl, inr (refl, omega arith)), same))
+  moves (code.leave n skip) = ring-moves s (drop n s.cells) _ (λ d v cs. (inr (refl, inr (refl, omega arith)), same, omega arith))
   moves (code.deepen line) = deepened-moves (nat_eq s.left 0) (nat_lt s.depth plan.rules.depth_limit) line
   moves (code.invoke number) = top-moves s s.cells _ (λ c cs. invoked-moves number (slice_get plan.starts number) c cs)
   moves (code.return_from n) = returned-moves (nat_lt 1 s.depth) (drop n s.cells) refl
@@ -131,6 +131,9 @@ next-moves plan s = by (slice_get plan.templates s.template) (slice_get plan.cod
     by None i = tt
     by (Some t) None = tt
     by (Some t) (Some i) = moves plan t s i
+
+pub next-depth : (plan : Plan) (s t : State) → next_of plan s ≡ goes t → t.depth ≤ suc s.depth
+next-depth plan s t e = (subst (Moves s) e (next-moves plan s)).2
 
 pub each-lessens : (plan : Plan) (s t : State) → next_of plan s ≡ goes t → Lessens s t
 each-lessens plan s t e = (subst (Moves s) e (next-moves plan s)).0

@@ -33,8 +33,8 @@ StaysWithin =
 abbrev pub HasOneEnd : Type 0
 HasOneEnd = (plan : Plan) (m n : ℕ) (s : State) (f g : Ran) → Ends plan m s f → Ends plan n s g → f ≡ g
 
--- steps are lessened, or left as they are and how many templates are inside one another is lessened, or both are left as
--- they are and the place goes forward in the code
+-- the steps left are lessened, or they stay and how many templates are inside one another is lessened, or both stay and
+-- the place goes forward in the code
 abbrev pub Lessens : State → State → Type 0
 Lessens s t =
     (t.left < s.left)
