@@ -1,0 +1,241 @@
+"""Lists the code of small templates by the program that does one part of what `tmpl` does, and compares it with lists
+written by hand. The proofs say which code is that of a tree; these lists show that what they say was meant. A jump is
+listed by the place where it ends."""
+import os
+import subprocess
+import sys
+import tempfile
+
+import harness
+
+PARTS = f"{harness.TOP}/crates/bench_parts/out/bench_parts"
+
+# a template file of the name m, and the code of what it defines
+ROWS = [
+    (
+        "x",
+        """template "m"
+        0 spend line 1
+        1 put "x"
+        2 return 0""",
+    ),
+    (
+        "{{.a.b}}",
+        """template "m"
+        0 spend line 1
+        1 push .a.b
+        2 settle
+        3 show
+        4 return 0""",
+    ),
+    (
+        "{{$x := 1}}{{$x = 2}}{{$x}}",
+        """template "m"
+        0 spend line 1
+        1 push 1
+        2 settle
+        3 hold
+        4 spend line 1
+        5 push 2
+        6 settle
+        7 set 0
+        8 drop 1 -> 9
+        9 spend line 1
+        10 push slot 0
+        11 settle
+        12 show
+        13 return 1""",
+    ),
+    # a value that decides passes over the other operands, and none decides behind the last
+    (
+        "{{and .a 0 (len .b)}}",
+        """template "m"
+        0 spend line 1
+        1 push .a
+        2 and -> 8
+        3 push 0
+        4 and -> 8
+        5 push .b
+        6 call len 1
+        7 settle
+        8 settle
+        9 show
+        10 return 0""",
+    ),
+    # what is piped is the last argument, and lies below the others
+    (
+        '{{"a" | printf "%s%s" "b" | or}}',
+        """template "m"
+        0 spend line 1
+        1 push "a"
+        2 settle
+        3 push "%s%s"
+        4 push "b"
+        5 call printf 2 piped
+        6 settle
+        7 settle
+        8 show
+        9 return 0""",
+    ),
+    # slots count from the newest cell, so over the operands that are computed already
+    (
+        "{{print 1 $ (print $)}}{{(or .a $.b).c}}",
+        """template "m"
+        0 spend line 1
+        1 push 1
+        2 push slot 1
+        3 push slot 2
+        4 call print 1
+        5 settle
+        6 call print 3
+        7 settle
+        8 show
+        9 spend line 1
+        10 push .a
+        11 or -> 14
+        12 push slot 0
+        13 chain .b
+        14 settle
+        15 chain .c
+        16 settle
+        17 show
+        18 return 0""",
+    ),
+    (
+        "{{if $x := .a}}{{$x}}{{else}}no{{end}}",
+        """template "m"
+        0 spend line 1
+        1 push .a
+        2 settle
+        3 hold
+        4 unless kept -> 10
+        5 spend line 1
+        6 push slot 0
+        7 settle
+        8 show
+        9 drop 1 -> 13
+        10 spend line 1
+        11 put "no"
+        12 drop 1 -> 13
+        13 return 0""",
+    ),
+    # a break out of a `with` forgets the dot that it saved, and goes behind the range and its else part
+    (
+        "{{range .}}\n{{with .k}}{{break}}{{end}}{{else}}none{{end}}",
+        r"""template "m"
+        0 spend line 1
+        1 push dot
+        2 settle
+        3 enter -> 16
+        4 turn 0
+        5 spend line 1
+        6 put "\n"
+        7 spend line 2
+        8 push .k
+        9 settle
+        10 with -> 14
+        11 spend line 2
+        12 leave 1 -> 19
+        13 end with 0 0 -> 15
+        14 drop 0 -> 15
+        15 next 0 line 1 -> 19
+        16 spend line 2
+        17 put "none"
+        18 drop 0 -> 19
+        19 return 0""",
+    ),
+    (
+        "{{range $i, $e := .a}}{{with $x := $e}}{{continue}}{{end}}{{end}}",
+        """template "m"
+        0 spend line 1
+        1 push .a
+        2 settle
+        3 enter key -> 15
+        4 turn 2
+        5 spend line 1
+        6 push slot 0
+        7 settle
+        8 hold
+        9 with kept -> 13
+        10 spend line 1
+        11 next 4 line 1 -> 16
+        12 end with 0 1 -> 14
+        13 drop 1 -> 14
+        14 next 2 line 1 -> 16
+        15 drop 0 -> 16
+        16 return 0""",
+    ),
+    # a call of a template looks for the name first, then for a step and at the depth, then at what it hands on; it takes
+    # its step where the template begins
+    (
+        '{{template "t" 1}}{{template "u"}}{{template "none"}}{{define "t"}}x{{end}}{{define "u"}}{{end}}',
+        """template "t"
+        0 spend line 1
+        1 put "x"
+        2 return 0
+        template "u"
+        3 return 0
+        template "m"
+        4 deepen line 1
+        5 push 1
+        6 settle
+        7 invoke 0
+        8 deepen line 1
+        9 push nothing
+        10 invoke 1
+        11 spend line 1
+        12 refuse template "none"
+        13 return 0""",
+    ),
+    # what the form of a command refuses stands where the run would get to it
+    (
+        "{{len}}{{nil}}{{.a 1}}{{print len}}",
+        """template "m"
+        0 spend line 1
+        1 refuse the count of len
+        2 settle
+        3 show
+        4 spend line 1
+        5 refuse nil
+        6 settle
+        7 show
+        8 spend line 1
+        9 refuse what is no function
+        10 settle
+        11 show
+        12 spend line 1
+        13 refuse the count of len
+        14 call print 1
+        15 settle
+        16 show
+        17 return 0""",
+    ),
+]
+
+
+def listed(template):
+    """The list of the code of a template file of the name m."""
+    with tempfile.TemporaryDirectory() as folder:
+        with open(f"{folder}/m", "w", newline="") as file:
+            file.write(template)
+        ran = subprocess.run([PARTS, "list", "m"], cwd=folder, stdout=subprocess.PIPE, timeout=harness.SECONDS)
+        return ran.stdout.decode() if not ran.returncode else f"status {ran.returncode}\n"
+
+
+def main():
+    if not os.access(PARTS, os.X_OK):
+        print("there is no bench_parts: build it by `make bench`, or by `make test`")
+        return 1
+    failed = 0
+    for template, code in ROWS:
+        wanted = "".join(line.strip() + "\n" for line in code.splitlines())
+        found = listed(template)
+        if found != wanted:
+            failed += 1
+            print(f"FAILED {template!r}: wanted\n{wanted}but found\n{found}")
+    print(f"{len(ROWS) - failed} passed, {failed} failed")
+    return 1 if failed else 0
+
+
+if __name__ == "__main__":
+    sys.exit(main())
