@@ -165,7 +165,8 @@ ROWS = [
         15 drop 0 -> 16
         16 return 0""",
     ),
-    # a call of a template looks at the name first, then at the depth, then at what it hands on
+    # a call of a template looks for the name first, then for a step and at the depth, then at what it hands on; it takes
+    # its step where the template begins
     (
         '{{template "t" 1}}{{template "u"}}{{template "none"}}{{define "t"}}x{{end}}{{define "u"}}{{end}}',
         """template "t"
@@ -175,18 +176,16 @@ ROWS = [
         template "u"
         3 return 0
         template "m"
-        4 spend line 1
-        5 deepen
-        6 push 1
-        7 settle
-        8 invoke 0
-        9 spend line 1
-        10 deepen
-        11 push nothing
-        12 invoke 1
-        13 spend line 1
-        14 refuse template "none"
-        15 return 0""",
+        4 deepen line 1
+        5 push 1
+        6 settle
+        7 invoke 0
+        8 deepen line 1
+        9 push nothing
+        10 invoke 1
+        11 spend line 1
+        12 refuse template "none"
+        13 return 0""",
     ),
     # what the form of a command refuses stands where the run would get to it
     (

@@ -102,7 +102,7 @@ fn put_more(
             write!(writer, "leave {count}")?;
             put_target(writer, place, *skip)
         }
-        Instruction::Deepen => write!(writer, "deepen"),
+        Instruction::Deepen(line) => write!(writer, "deepen line {line}"),
         Instruction::Invoke(number) => write!(writer, "invoke {number}"),
         Instruction::Return(count) => write!(writer, "return {count}"),
         _ => Ok(()),

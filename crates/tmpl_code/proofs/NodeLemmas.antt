@@ -7,8 +7,7 @@ use Rattle.tmpl_syntax.specs.Tree.{NodeKind, Node, Nodes, text, action, control_
 use Rattle.tmpl_syntax.specs.Set.{Template}
 use Rattle.tmpl_syntax.specs.View.{node_of, nodes_in}
 use Rattle.tmpl_syntax.specs.declared.tree.Node as held
-use Rattle.tmpl_code.specs.Code.{Code, Exit, NodeAt, NodesAt}
-use Rattle.tmpl_code.specs.Instruction.{spend}
+use Rattle.tmpl_code.specs.Code.{Code, Exit, NodeAt, NodesAt, step_of}
 use Rattle.tmpl_code.specs.Layout.{Layout, bound_on, grown}
 use Rattle.tmpl_code.specs.computed.Held.{bound_off, shrunk, all_grown}
 
@@ -84,7 +83,7 @@ module _ (ns : List held.Node) (i j : ℕ) (n : held.Node) (lay now : Layout) (h
 
 -- one node more
 pub nodes_more : (ts : List Template) (ns : List held.Node) (i j : ℕ) (n : held.Node) (x : Exit) (before after : Layout) (new start mid old : Code)
-    → j < length ns → i ≡ j + 1 → n ≡ get_or ns j n → after ≡ grown (node_of n).what before → new ≡ spend (node_of n).line ∷ start
+    → j < length ns → i ≡ j + 1 → n ≡ get_or ns j n → after ≡ grown (node_of n).what before → new ≡ step_of ts (node_of n).line (node_of n).what ∷ start
     → NodeAt ts (node_of n).line (node_of n).what before x start mid → NodesAt ts (nodes_in (drop i ns)) after x mid old
     → NodesAt ts (nodes_in (drop j ns)) before x new old
 nodes_more ts ns i j n x before after new start mid old h next is grew step one rest =

@@ -7,9 +7,9 @@ use Rattle.tmpl_grammar.specs.declared.tree.Control.TheVariants as control
 use Rattle.tmpl_syntax.specs.Tree as tree
 use Rattle.tmpl_syntax.specs.Tree.{NodeKind, text, action, control_node, break_node, continue_node, template_node, Nodes}
 use Rattle.tmpl_syntax.specs.Set.{Template, number_of}
-use Rattle.tmpl_code.specs.Instruction.{Instruction, spend, unless, enter_with, end_with, cut, enter, next, deepen, invoke}
+use Rattle.tmpl_code.specs.Instruction.{Instruction, unless, enter_with, end_with, cut, enter, next, invoke}
 use Rattle.tmpl_code.specs.Layout.{Layout, slot_named, bound_on, declares, declares_key, grown, declared_in}
-use Rattle.tmpl_code.specs.Code.{Code, Part, NodesPart, Exit, PipelineAt, SetAt, BindAt, ShownAt, SetDotAt, TurnAt, BreakAt, ContinueAt, GivenAt, CallAt, HeaderAt, IfAt, WithAt, RangeAt, ControlAt, NodeAt, NodesAt}
+use Rattle.tmpl_code.specs.Code.{Code, Part, NodesPart, Exit, PipelineAt, SetAt, BindAt, ShownAt, SetDotAt, TurnAt, BreakAt, ContinueAt, GivenAt, CallAt, HeaderAt, IfAt, WithAt, RangeAt, ControlAt, NodeAt, NodesAt, step_of}
 use Rattle.tmpl_code.specs.computed.Held.{exit_seen, last_of, IsOpen, TurnsAt}
 use Rattle.tmpl_code.specs.declared.node.Around as held_around
 use Rattle.tmpl_code.proofs.TailLemmas.{Ends, PartEnds, ends_same, ends_on, ends_one, ends_both, ends_under, longer, passes, commands_ends}
@@ -62,7 +62,7 @@ given_ends (Some p) lay code rest l = pipeline_ends p lay code rest l
 
 template_ends : (name : List ℕ) (number : Option ℕ) (given : Option Pipeline) (lay : Layout) → PartEnds (CallAt name number given lay)
 template_ends name None given lay code rest l = ends_one _ code rest l
-template_ends name (Some n) given lay code rest l = ends_on deepen code l.0 rest l.1 (ends_under (invoke n) l.0 rest (given_ends given lay l.0 (invoke n ∷ rest) l.2))
+template_ends name (Some n) given lay code rest l = ends_under (invoke n) code rest (given_ends given lay code (invoke n ∷ rest) l)
 
 -- ---- controls
 
@@ -116,7 +116,7 @@ mutual
   pub nodes_ends : (ts : List Template) (ns : Nodes) (lay : Layout) (exit : Exit) (code rest : Code) → NodesAt ts ns lay exit code rest → Ends rest code
   nodes_ends ts tree.none lay exit code rest l = ends_same code rest l
   nodes_ends ts (tree.then line n ns) lay exit code rest l =
-      ends_on (spend line) code l.0 rest l.2
+      ends_on (step_of ts line n) code l.0 rest l.2
       (ends_both l.0 l.1 rest (node_ends ts line n lay exit l.0 l.1 l.3) (nodes_ends ts ns (grown n lay) exit l.1 rest l.4))
 
 -- ---- the range around

@@ -233,8 +233,21 @@ GivenAt (Some p) cells code rest = PipelineAt p cells code rest
 -- a call, by the number of the template: it is looked for before its pipeline is looked at
 abbrev pub CallAt : List ℕ → Option ℕ → Option Pipeline → Layout → Part
 CallAt name None given cells code rest = One (refuse (no_template name)) code rest
-CallAt name (Some number) given cells code rest =
-    (mid : Code) × (code ≡ deepen ∷ mid) × GivenAt given cells mid (invoke number ∷ rest)
+CallAt name (Some number) given cells code rest = GivenAt given cells code (invoke number ∷ rest)
+
+-- what takes the step of a node; that of a call of a template which is there is only looked for, and then how deep calls
+-- are, before its pipeline, and is taken where the template begins
+abbrev pub step_of_call : ℕ → Option ℕ → Instruction
+step_of_call line None = spend line
+step_of_call line (Some number) = deepen line
+
+abbrev pub step_of : List Template → ℕ → NodeKind → Instruction
+step_of ts line (text bytes) = spend line
+step_of ts line (action h) = spend line
+step_of ts line (control_node c h body other) = spend line
+step_of ts line break_node = spend line
+step_of ts line continue_node = spend line
+step_of ts line (template_node name given) = step_of_call line (number_of name ts)
 
 -- ---- controls
 
@@ -308,7 +321,7 @@ abbrev mutual
   pub NodesAt : List Template → Nodes → Layout → Exit → Part
   NodesAt ts tree.none cells exit code rest = code ≡ rest
   NodesAt ts (tree.then line n ns) cells exit code rest =
-      (start : Code) × (mid : Code) × (code ≡ spend line ∷ start)
+      (start : Code) × (mid : Code) × (code ≡ step_of ts line n ∷ start)
       × NodeAt ts line n cells exit start mid × NodesAt ts ns (grown n cells) exit mid rest
 
 -- a whole template

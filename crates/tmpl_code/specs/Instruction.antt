@@ -49,6 +49,7 @@ pub data Instruction : Type 0 where
   -- so many cells, how many it passes over, and the line of the range
   next : ℕ → ℕ → ℕ → Instruction
   leave : ℕ → ℕ → Instruction
-  deepen : Instruction
+  -- the line of the call
+  deepen : ℕ → Instruction
   invoke : ℕ → Instruction
   return_from : ℕ → Instruction

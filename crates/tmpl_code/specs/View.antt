@@ -48,7 +48,7 @@ instruction_of (i.Enter key skip) = enter key skip
 instruction_of (i.Turn count) = turn count
 instruction_of (i.Next count skip line) = next count skip line
 instruction_of (i.Leave count skip) = leave count skip
-instruction_of i.Deepen = deepen
+instruction_of (i.Deepen line) = deepen line
 instruction_of (i.Invoke number) = invoke number
 instruction_of (i.Return count) = return_from count
 

@@ -119,10 +119,11 @@ pub enum Instruction<'s> {
         count: usize,
         skip: usize,
     },
-    /// Stops where as many templates are inside one another as there may be.
-    Deepen,
-    /// Saves dot and the place of the next instruction, and runs the template of this number with the newest value as
-    /// dot and `$`.
+    /// Stops at this line, which the faults from here on bear, where no step is left, or where as many templates are inside
+    /// one another as there may be.
+    Deepen(u64),
+    /// Takes a step, saves dot and the place of the next instruction, and runs the template of this number with the newest
+    /// value as dot and `$`.
     Invoke(usize),
     /// Forgets so many cells and the three of the template below them, takes dot back and goes to where the caller goes
     /// on; ends the run where there is none.

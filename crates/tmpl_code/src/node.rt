@@ -5,6 +5,7 @@ ghost use Rattle.tmpl_syntax.specs.Need.{left_behind};
 ghost use Rattle.tmpl_syntax.specs.View.{control_of, node_of, nodes_in, set_view};
 ghost use Rattle.tmpl_code.specs.Code as spec;
 ghost use Rattle.tmpl_code.specs.Layout.{bound_on, declared_in, grown};
+ghost use Rattle.tmpl_code.specs.View.{instruction_of};
 ghost use Rattle.tmpl_code.specs.computed.Held.{IsOpen, TurnsAt, all_grown, code_of, exit_seen, layout_of, shrunk};
 
 use crate::binding::{
@@ -147,8 +148,7 @@ fn put_template<'s>(
     match number {
         Some(number) => {
             code.push(Instruction::Invoke(number))?;
-            put_given(code, scope, given)?;
-            code.push(Instruction::Deepen)
+            put_given(code, scope, given)
         }
         None => code.operate(Operation::Refuse(Refusal::NoTemplate(name))),
     }
@@ -190,9 +190,25 @@ pub(crate) fn put_nodes<'s>(
         let node = &nodes[i];
         shrink(scope, node);
         put_node(code, scope, set, exit, node)?;
-        code.push(Instruction::Spend(node.line))?;
+        code.push(first_instruction(set, node))?;
     }
     Ok(())
+}
+
+/// What takes the step of a node, or, for a call of a template that is there, looks whether one is left.
+fn first_instruction<'s>(set: &Set, node: &Node) -> Instruction<'s>
+    ensures { instruction_of result ≡ spec.step_of (set_view set.now) (node_of node.now).line (node_of node.now).what }
+{
+    match &node.what {
+        NodeKind::Template(name, _) => match set.number(name.as_slice()) {
+            Some(_) => Instruction::Deepen(node.line),
+            None => Instruction::Spend(node.line),
+        },
+        NodeKind::Text(_) | NodeKind::Action(_) | NodeKind::Control(_) => Instruction::Spend(
+            node.line,
+        ),
+        NodeKind::Break | NodeKind::Continue => Instruction::Spend(node.line),
+    }
 }
 
 /// Puts a node whose step is taken.

@@ -9,7 +9,6 @@ use Rattle.tmpl_code.proofs.NodeLemmas.{all_grown-longer, grows, nodes_more, shr
 use Rattle.tmpl_code.proofs.NodeTailLemmas.{behind, both, turned, nodes_ends, exit_on, open_on, on_ok, if_at, with_at, range_at}
 use Rattle.tmpl_code.proofs.TailLemmas.{ends_both, ends_one, longer}
 use Rattle.tmpl_syntax.proofs.ViewLemmas.{node_of-fields}
-use Rattle.tmpl_code.specs.Instruction.{spend}
 use Rattle.tmpl_code.specs.declared.node.Around as held_around
 use Rattle.tmpl_code.proofs.node.+nodes.Goals as goal
 
@@ -150,7 +149,7 @@ put_nodes-loop-i-preserved t c =
     let shrunk_is = c.shrink.ensures ∙ shrinks ns l.i (l.i - 1) item lay (layout_of l.scope) (omega arith) (omega arith) c.index-nodes-i.is l.invariant.layout in
     let layout : layout_of c.put_node.new.scope ≡ before = c.in_ok-put_node.ensures.scope ∙ shrunk_is in
     let one = subst (λ (y : Exit). NodeAt ts line what (layout_of c.shrink.new.scope) y (code_of c.put_node.new.code) (code_of l.code)) (exit_on a.exit old (code_of l.code) lay c.requires ends) c.in_ok-put_node.ensures.code in
-    let step = c.in_ok-push.ensures ∙ ap (λ n. spend n ∷ code_of c.put_node.new.code) (sym (ap (λ (n : Node). n.line) (node_of-fields item))) in
+    let step = c.in_ok-push.ensures ∙ ap (λ i. i ∷ code_of c.put_node.new.code) c.first_instruction.ensures in
     let put = nodes_more ts ns l.i (l.i - 1) item x before (layout_of l.scope) (code_of c.push.new.self) (code_of c.put_node.new.code) (code_of l.code) old (omega arith) (omega arith) c.index-nodes-i.is
     (grows ns l.i (l.i - 1) item lay (layout_of l.scope) (omega arith) (omega arith) c.index-nodes-i.is l.invariant.layout) step
     (subst (λ (y : Layout). NodeAt ts line what y x (code_of c.put_node.new.code) (code_of l.code)) shrunk_is one) l.invariant.put in

@@ -1,0 +1,15 @@
+pub mod ExecLemmas
+pub mod PipelineLemmas
+pub mod PlaceLemmas
+pub mod AbleLemmas
+pub mod SlotLemmas
+pub mod WayLemmas
+pub mod HeaderLemmas
+pub mod StepLemmas
+pub mod NodeLemmas
+pub mod RangeLemmas
+pub mod CallLemmas
+pub mod TreeLemmas
+pub mod MoveLemmas
+pub mod RoomLemmas
+pub mod LoopLemmas

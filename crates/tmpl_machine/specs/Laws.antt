@@ -1,0 +1,53 @@
+-- Laws of the machine.
+use Rattle.std.specs.Prelude.{◌≡◌, ◌<◌, ◌≤◌, ◌⊎◌, ℕ, List, ◌++◌, length, Option, Some, slice_get}
+use Rattle.tmpl_values.specs.Value.{Value}
+use Rattle.tmpl_syntax.specs.Set.{Template}
+use Rattle.tmpl_run.specs.Meaning.{Ran, ran, starting_dot}
+use Rattle.tmpl_code.specs.Code.{Starts}
+use Rattle.tmpl_code.specs.Room.{room}
+use Rattle.tmpl_machine.specs.State.{Plan, State, starting}
+use Rattle.tmpl_machine.specs.Machine.{goes, next_of}
+use Rattle.tmpl_machine.specs.Ends.{Ends}
+
+-- the code is that of the templates
+abbrev pub IsLinked : Plan → Type 0
+IsLinked plan = Starts plan.templates plan.templates plan.starts plan.code
+
+-- over a stack of as many cells as the room of the set says, a run that starts at a template comes to just the text,
+-- the fault and the mark that the template means: each turn is ready, and none gets stuck
+abbrev pub ComesToMeaning : Type 0
+ComesToMeaning =
+    (plan : Plan) (size : ℕ) → IsLinked plan → 1 ≤ plan.rules.depth_limit
+    → room plan.rules.depth_limit plan.templates ≤ size
+    → (number start : ℕ) (t : Template) (input : Option Value)
+    → slice_get plan.templates number ≡ Some t → slice_get plan.starts number ≡ Some start
+    → Ends plan size (starting plan number start (starting_dot input)) (ran plan.rules plan.templates t.0 t.1 input)
+
+-- of a state that comes to an end there are never more cells than that
+abbrev pub StaysWithin : Type 0
+StaysWithin =
+    (plan : Plan) (size : ℕ) (s t : State) (end : Ran) → Ends plan size s end → length s.cells ≤ size
+    → next_of plan s ≡ goes t → length t.cells ≤ size
+
+-- a state has one end at most, whatever the size of the stack
+abbrev pub HasOneEnd : Type 0
+HasOneEnd = (plan : Plan) (m n : ℕ) (s : State) (f g : Ran) → Ends plan m s f → Ends plan n s g → f ≡ g
+
+-- the steps left are lessened, or they stay and how many templates are inside one another is lessened, or both stay and
+-- the place goes forward in the code
+abbrev pub Lessens : State → State → Type 0
+Lessens s t =
+    (t.left < s.left)
+    ⊎ ((t.left ≡ s.left) × ((t.depth < s.depth) ⊎ ((t.depth ≡ s.depth) × (s.place < t.place))))
+
+-- so does each turn
+abbrev pub EachTurnLessens : Type 0
+EachTurnLessens = (plan : Plan) (s t : State) → next_of plan s ≡ goes t → Lessens s t
+
+-- a text begins another
+abbrev pub Begins : List ℕ → List ℕ → Type 0
+Begins a b = (more : List ℕ) × (b ≡ a ++ more)
+
+-- what was put out so far begins the text of the end
+abbrev pub OnlyAdds : Type 0
+OnlyAdds = (plan : Plan) (size : ℕ) (s : State) (end : Ran) → Ends plan size s end → Begins s.text end.text

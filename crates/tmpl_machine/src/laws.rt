@@ -1,0 +1,27 @@
+//! Laws of the machine that the definitions describe.
+ghost use Rattle.tmpl_machine.specs.Laws.{ComesToMeaning, EachTurnLessens, HasOneEnd, OnlyAdds, StaysWithin};
+
+/// The law that the code of a set comes to the meaning of each of its templates, on a stack of the set's room.
+pub fn comes_to_meaning()
+    ensures { ComesToMeaning }
+{}
+
+/// The law that a run keeps within the cells of its stack.
+pub fn stays_within()
+    ensures { StaysWithin }
+{}
+
+/// The law that a state of the machine has one end at most.
+pub fn one_end()
+    ensures { HasOneEnd }
+{}
+
+/// The law that a run only adds to what it has put out.
+pub fn only_adds()
+    ensures { OnlyAdds }
+{}
+
+/// The law that a run ends: each turn takes a step, or closes a template, or goes forward in the code.
+pub fn each_turn_lessens()
+    ensures { EachTurnLessens }
+{}

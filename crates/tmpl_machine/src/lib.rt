@@ -1,0 +1,7 @@
+//! The machine that runs flat code: what one instruction does, and the law that the code of a set comes to the meaning
+//! of its templates.
+#![tactic(auto)]
+
+mod laws;
+
+pub use laws::{comes_to_meaning, each_turn_lessens, one_end, only_adds, stays_within};
