@@ -1,12 +1,13 @@
 """Lists the code of small templates by the program that does one part of what `tmpl` does, and compares it with lists
-written by hand. The proofs say which code is that of a tree; these lists show that what they say was meant. A jump is
-listed by the place where it ends."""
+written by hand, also with each allocation refused in turn. The proofs say which code is that of a tree; these lists show
+that what they say was meant. A jump is listed by the place where it ends."""
 import os
 import subprocess
 import sys
 import tempfile
 
 import harness
+import sweep
 
 PARTS = f"{harness.TOP}/crates/bench_parts/out/bench_parts"
 
@@ -213,28 +214,43 @@ ROWS = [
 ]
 
 
-def listed(template):
-    """The list of the code of a template file of the name m."""
-    with tempfile.TemporaryDirectory() as folder:
-        with open(f"{folder}/m", "w", newline="") as file:
-            file.write(template)
-        ran = subprocess.run([PARTS, "list", "m"], cwd=folder, stdout=subprocess.PIPE, timeout=harness.SECONDS)
-        return ran.stdout.decode() if not ran.returncode else f"status {ran.returncode}\n"
+def listed(folder, template, more, keep):
+    """The status, and the list of the code of a template file of the name m."""
+    with open(f"{folder}/m", "w", newline="", encoding="utf-8") as file:
+        file.write(template)
+    ran = subprocess.run(
+        [PARTS, "list", "m"],
+        cwd=folder,
+        env={**os.environ, **more},
+        pass_fds=keep,
+        stdout=subprocess.PIPE,
+        stderr=subprocess.DEVNULL,
+        timeout=harness.SECONDS,
+    )
+    return ran.returncode, ran.stdout.decode()
+
+
+def judge(shim, folder, template, code):
+    """Compares the list, also with each allocation refused in turn: then there is the same list, or none and status 1."""
+    wanted = "".join(line.strip() + "\n" for line in code.splitlines())
+
+    def wrong(got, refused):
+        if got == (0, wanted) or refused and got == (1, ""):
+            return []
+        return [f"    status {got[0]}, and not the list that was wanted:", got[1]]
+
+    return (template, *sweep.sweep(shim, lambda *how: listed(folder, template, *how), wrong))
 
 
 def main():
     if not os.access(PARTS, os.X_OK):
-        print("there is no bench_parts: build it by `make bench`, or by `make test`")
-        return 1
-    failed = 0
-    for template, code in ROWS:
-        wanted = "".join(line.strip() + "\n" for line in code.splitlines())
-        found = listed(template)
-        if found != wanted:
-            failed += 1
-            print(f"FAILED {template!r}: wanted\n{wanted}but found\n{found}")
-    print(f"{len(ROWS) - failed} passed, {failed} failed")
-    return 1 if failed else 0
+        sys.exit("there is no program of parts: the gate builds it")
+    with tempfile.TemporaryDirectory() as folder:
+        shim = f"{folder}/shim.so"
+        sweep.build_shim("fail_alloc.c", shim)
+        passed, failed, runs = harness.tally(judge(shim, folder, *row) for row in ROWS)
+    print(f"{runs} allocations were refused, one in each run")
+    return harness.closing(passed, failed)
 
 
 if __name__ == "__main__":

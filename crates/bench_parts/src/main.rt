@@ -2,8 +2,9 @@
 //!
 //! Words: the part, and a file. A JSON file: `read` into `serde_json`'s own tree, `data` into data. A template: `cut`
 //! into pieces. Each puts out how many nanoseconds it took, and so do calls: `call`, a JSON file with a list of
-//! arguments, the name of the function, and how many. `text`: a JSON file into data, whose text is put out. `list`: a
-//! template and the code of the templates that it defines, which is put out as a list.
+//! arguments, the name of the function, and how many. `text`: a JSON file into data, whose text is put out. A
+//! template: `parse` into a set, `compile` the set; `code` puts out how many bytes its code takes, and `list` puts out
+//! the code.
 #![tactic(auto)]
 
 mod calls;
@@ -18,7 +19,7 @@ use std::io::{self, BufWriter, Write};
 use std::process::ExitCode;
 use std::rt::Clock;
 use std::time::Instant;
-use std::{env, fs};
+use std::{env, fs, mem};
 use tmpl_code::compile;
 use tmpl_funcs::Func;
 use tmpl_lex::cut;
@@ -115,6 +116,40 @@ fn put(alloc: Global, bytes: &[u8], writer: impl Write + Drop) -> bool {
     put_text(&Val::of(&held), &mut output).is_ok()
 }
 
+/// Parses a template, and says how long that took.
+fn parse(rt: &(impl Print + Clock), alloc: Global, file: &str, bytes: &[u8]) -> io::Result<bool> {
+    let mut set = Set::new(alloc);
+    let begun = Instant::now(rt)?;
+    let parsed = parse_file(alloc, &mut set, file, bytes);
+    put_elapsed(rt, begun)?;
+    Ok(parsed.is_ok())
+}
+
+/// Compiles a template, and says how long that took, or how many bytes the code takes.
+fn compile_set(
+    rt: &(impl Print + Clock),
+    alloc: Global,
+    file: &str,
+    bytes: &[u8],
+    is_timed: bool,
+) -> io::Result<bool> {
+    let mut set = Set::new(alloc);
+    if parse_file(alloc, &mut set, file, bytes).is_err() {
+        return Ok(false);
+    }
+    let begun = Instant::now(rt)?;
+    let Ok(program) = compile(alloc, &set) else {
+        return Ok(false);
+    };
+    if is_timed {
+        put_elapsed(rt, begun)?;
+    } else {
+        let size = mem::size_of_val(program.instructions.as_slice());
+        println!(rt; "{size}")?;
+    }
+    Ok(true)
+}
+
 /// Compiles a template, and puts out its code.
 fn list(alloc: Global, file: &str, bytes: &[u8], writer: impl Write + Drop) -> io::Result<bool> {
     let mut writer = writer;
@@ -143,6 +178,9 @@ fn main(rt: HostRuntime) -> io::Result<ExitCode> {
         ("read", []) => read(&rt, alloc, bytes)?,
         ("data", []) => convert(&rt, alloc, bytes)?,
         ("text", []) => put(alloc, bytes, BufWriter::new(alloc, rt.stdout())?),
+        ("parse", []) => parse(&rt, alloc, file.as_str(), bytes)?,
+        ("compile", []) => compile_set(&rt, alloc, file.as_str(), bytes, true)?,
+        ("code", []) => compile_set(&rt, alloc, file.as_str(), bytes, false)?,
         ("list", []) => list(
             alloc,
             file.as_str(),

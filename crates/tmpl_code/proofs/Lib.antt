@@ -6,4 +6,5 @@ pub mod NodeTailLemmas
 pub mod OperandLemmas
 pub mod ProgramLemmas
 pub mod RoomExamples
+pub mod ScopeLemmas
 pub mod TailLemmas

@@ -1,2 +1,3 @@
 -- What the compiler holds, and what its private contracts say of it.
+pub mod Cells
 pub mod Held

@@ -1,8 +1,7 @@
 -- What the compiler holds, apart from how it is held. Code is held from its last instruction to its first, cells from
 -- the oldest to the newest.
 use Rattle.std.specs.Prelude.{ℕ, ◌+◌, ◌-◌, ◌≤◌, Bool, true, false, List, [], ◌∷◌, length, drop, Option, Some, None, map}
-use Rattle.std.specs.Prelude.{option_map, reverse}
-use Rattle.std.specs.Borrow.{Bor}
+use Rattle.std.specs.Prelude.{reverse}
 use Rattle.tmpl_grammar.specs.Tree.{Binding, unbound, declare, assign, declare_pair}
 use Rattle.tmpl_syntax.specs.Tree as tree
 use Rattle.tmpl_syntax.specs.Tree.{NodeKind, text, action, control_node, break_node, continue_node, template_node}
@@ -12,6 +11,7 @@ use Rattle.tmpl_code.specs.Code.{Code, Part, Exit, TreeAt}
 use Rattle.tmpl_code.specs.Instruction.{act, decide}
 use Rattle.tmpl_code.specs.Layout.{Layout, grown}
 use Rattle.tmpl_code.specs.View.{instruction_of}
+use Rattle.tmpl_code.specs.computed.Cells.{layout_in}
 use Rattle.tmpl_code.specs.declared.code.Code as held_code
 use Rattle.tmpl_code.specs.declared.instruction.Instruction as held_instruction
 use Rattle.tmpl_code.specs.declared.node.Around as held_around
@@ -23,14 +23,8 @@ code_in is = map instruction_of (reverse is)
 unfoldable pub code_of : held_code.Code → Code
 code_of c = code_in c.instructions.items
 
-abbrev pub name_seen : Option (Bor (List ℕ)) → Option (List ℕ)
-name_seen name = option_map (λ (n : Bor (List ℕ)). n.now) name
-
-abbrev pub layout_in : List (Option (Bor (List ℕ))) → Layout
-layout_in names = map name_seen (reverse names)
-
 unfoldable pub layout_of : held_scope.Scope → Layout
-layout_of s = layout_in s.names.items
+layout_of s = layout_in s.cells.items
 
 -- behind an operand of `and` or `or`, of which the last of so many instructions come behind the whole
 abbrev pub decided : Bool → Bool → Bool → ℕ → Code → Code
