@@ -72,7 +72,7 @@ ROWS = [
         2 settle
         3 push "%s%s"
         4 push "b"
-        5 call printf 2 piped
+        5 call piped printf 2
         6 settle
         7 settle
         8 show

@@ -3,6 +3,7 @@
 use std::io::{self, Write};
 use std::str;
 use tmpl_code::{Instruction, Operation, Program, Refusal};
+use tmpl_funcs::Func;
 use tmpl_values::Bytes;
 
 /// Puts out the name of each template and then its instructions.
@@ -10,31 +11,65 @@ pub(crate) fn put_listing(writer: &mut impl Write, program: &Program<'_>) -> io:
     let mut names = program.set.names();
     for (place, instruction) in program.instructions.iter().enumerate() {
         if program.starts.contains(&place) {
-            put_name(writer, names.next())?;
+            writer.write_all(b"template")?;
+            put_text(writer, names.next().unwrap_or(b""))?;
+            writer.write_all(b"\n")?;
         }
         write!(writer, "{place} ")?;
         put_instruction(writer, place, instruction)?;
-        writeln!(writer)?;
     }
     Ok(())
 }
 
-fn put_name(writer: &mut impl Write, name: Option<&[u8]>) -> io::Result<()> {
-    write!(writer, "template ")?;
-    put_text(writer, name.unwrap_or(b""))?;
-    writeln!(writer)
+/// Puts out a line: what is done, with what, and where a jump ends.
+fn put_instruction(
+    writer: &mut impl Write,
+    place: usize,
+    instruction: &Instruction<'_>,
+) -> io::Result<()> {
+    writer.write_all(words(instruction).as_bytes())?;
+    match instruction {
+        Instruction::Text(bytes) => put_text(writer, bytes)?,
+        Instruction::Operate(operation) => put_operands(writer, operation)?,
+        _ => {}
+    }
+    put_number(writer, " ", count(instruction))?;
+    put_number(writer, " ", variables(instruction))?;
+    put_number(writer, " line ", line(instruction))?;
+    let target = skip(instruction).map(|skip| place.saturating_add(1).saturating_add(skip) as u64);
+    put_number(writer, " -> ", target)?;
+    writer.write_all(b"\n")
+}
+
+/// Puts out what a step of a pipeline is done with.
+fn put_operands(writer: &mut impl Write, operation: &Operation<'_>) -> io::Result<()> {
+    match operation {
+        Operation::Number(number) => write!(writer, " {number}"),
+        Operation::Text(bytes) => put_text(writer, bytes),
+        Operation::Fields(names) | Operation::Chain(names) => put_fields(writer, names),
+        Operation::Call { func, .. } => put_func(writer, *func),
+        Operation::Refuse(Refusal::WrongCount(func)) => put_func(writer, *func),
+        Operation::Refuse(Refusal::NoTemplate(name)) => put_text(writer, name.as_slice()),
+        _ => Ok(()),
+    }
+}
+
+/// Puts out a number behind a word, if there is one.
+fn put_number(writer: &mut impl Write, word: &str, number: Option<u64>) -> io::Result<()> {
+    match number {
+        Some(number) => write!(writer, "{word}{number}"),
+        None => Ok(()),
+    }
 }
 
 /// Puts out a text between quotation marks.
 fn put_text(writer: &mut impl Write, bytes: &[u8]) -> io::Result<()> {
-    match str::from_utf8(bytes) {
-        Ok(text) => write!(writer, "{text:?}"),
-        Err(_) => write!(writer, "{bytes:?}"),
-    }
+    write!(writer, " {:?}", str::from_utf8(bytes).unwrap_or("?"))
 }
 
 /// Puts out a chain of fields.
 fn put_fields(writer: &mut impl Write, names: &[Bytes]) -> io::Result<()> {
+    writer.write_all(b" ")?;
     for name in names {
         writer.write_all(b".")?;
         writer.write_all(name.as_slice())?;
@@ -42,132 +77,104 @@ fn put_fields(writer: &mut impl Write, names: &[Bytes]) -> io::Result<()> {
     Ok(())
 }
 
-fn put_instruction(
-    writer: &mut impl Write,
-    place: usize,
-    instruction: &Instruction<'_>,
-) -> io::Result<()> {
+fn put_func(writer: &mut impl Write, func: Func) -> io::Result<()> {
+    writer.write_all(b" ")?;
+    writer.write_all(func.name().as_bytes())
+}
+
+fn either(first: bool, one: &'static str, other: &'static str) -> &'static str {
+    if first { one } else { other }
+}
+
+/// What an instruction does.
+fn words(instruction: &Instruction<'_>) -> &'static str {
     match instruction {
-        Instruction::Spend(line) => write!(writer, "spend line {line}"),
-        Instruction::Text(bytes) => {
-            write!(writer, "put ")?;
-            put_text(writer, bytes)
-        }
-        Instruction::Operate(operation) => put_operation(writer, place, operation),
-        Instruction::Show => write!(writer, "show"),
-        Instruction::Hold { key } => write!(writer, "hold{}", word(*key, " key")),
-        Instruction::Set(slot) => write!(writer, "set {slot}"),
-        Instruction::SetDot(slot) => write!(writer, "set dot {slot}"),
-        Instruction::Unless { kept, skip } => {
-            write!(writer, "unless{}", word(*kept, " kept"))?;
-            put_target(writer, place, *skip)
-        }
-        Instruction::With { kept, skip } => {
-            write!(writer, "with{}", word(*kept, " kept"))?;
-            put_target(writer, place, *skip)
-        }
-        Instruction::EndWith {
-            count,
-            variables,
-            skip,
-        } => {
-            write!(writer, "end with {count} {variables}")?;
-            put_target(writer, place, *skip)
-        }
-        Instruction::Drop { count, skip } => {
-            write!(writer, "drop {count}")?;
-            put_target(writer, place, *skip)
-        }
-        _ => put_more(writer, place, instruction),
+        Instruction::Spend(_) => "spend",
+        Instruction::Text(_) => "put",
+        Instruction::Operate(operation) => operation_words(operation),
+        Instruction::Show => "show",
+        Instruction::Hold { key } => either(*key, "hold key", "hold"),
+        Instruction::Set(_) => "set",
+        Instruction::SetDot(_) => "set dot",
+        Instruction::Unless { kept, .. } => either(*kept, "unless kept", "unless"),
+        Instruction::With { kept, .. } => either(*kept, "with kept", "with"),
+        Instruction::EndWith { .. } => "end with",
+        Instruction::Drop { .. } => "drop",
+        Instruction::Enter { key, .. } => either(*key, "enter key", "enter"),
+        Instruction::Turn(_) => "turn",
+        Instruction::Next { .. } => "next",
+        Instruction::Leave { .. } => "leave",
+        Instruction::Deepen => "deepen",
+        Instruction::Invoke(_) => "invoke",
+        Instruction::Return(_) => "return",
     }
 }
 
-/// Puts out an instruction of a range or a call.
-fn put_more(
-    writer: &mut impl Write,
-    place: usize,
-    instruction: &Instruction<'_>,
-) -> io::Result<()> {
-    match instruction {
-        Instruction::Enter { key, skip } => {
-            write!(writer, "enter{}", word(*key, " key"))?;
-            put_target(writer, place, *skip)
-        }
-        Instruction::Turn(count) => write!(writer, "turn {count}"),
-        Instruction::Next { count, skip, line } => {
-            write!(writer, "next {count} line {line}")?;
-            put_target(writer, place, *skip)
-        }
-        Instruction::Leave { count, skip } => {
-            write!(writer, "leave {count}")?;
-            put_target(writer, place, *skip)
-        }
-        Instruction::Deepen(line) => write!(writer, "deepen line {line}"),
-        Instruction::Invoke(number) => write!(writer, "invoke {number}"),
-        Instruction::Return(count) => write!(writer, "return {count}"),
-        _ => Ok(()),
-    }
-}
-
-fn put_operation(
-    writer: &mut impl Write,
-    place: usize,
-    operation: &Operation<'_>,
-) -> io::Result<()> {
+fn operation_words(operation: &Operation<'_>) -> &'static str {
     match operation {
-        Operation::Nothing => write!(writer, "push nothing"),
-        Operation::Bool(held) => write!(writer, "push {held}"),
-        Operation::Number(number) => write!(writer, "push {number}"),
-        Operation::Text(bytes) => {
-            write!(writer, "push ")?;
-            put_text(writer, bytes)
-        }
-        Operation::Dot => write!(writer, "push dot"),
-        Operation::Fields(names) => {
-            write!(writer, "push ")?;
-            put_fields(writer, names)
-        }
-        Operation::Slot(slot) => write!(writer, "push slot {slot}"),
-        Operation::Chain(names) => {
-            write!(writer, "chain ")?;
-            put_fields(writer, names)
-        }
-        Operation::Call { func, count, piped } => {
-            write!(
-                writer,
-                "call {} {count}{}",
-                func.name(),
-                word(*piped, " piped")
-            )
-        }
-        Operation::Decide { is_or, piped, skip } => {
-            let name = if *is_or { "or" } else { "and" };
-            write!(writer, "{name}{}", word(*piped, " piped"))?;
-            put_target(writer, place, *skip)
-        }
-        Operation::Settle => write!(writer, "settle"),
-        Operation::Refuse(refusal) => put_refusal(writer, refusal),
+        Operation::Nothing => "push nothing",
+        Operation::Bool(held) => either(*held, "push true", "push false"),
+        Operation::Number(_) | Operation::Text(_) | Operation::Fields(_) => "push",
+        Operation::Dot => "push dot",
+        Operation::Slot(_) => "push slot",
+        Operation::Chain(_) => "chain",
+        Operation::Call { piped, .. } => either(*piped, "call piped", "call"),
+        Operation::Decide { is_or, piped, .. } => either(
+            *is_or,
+            either(*piped, "or piped", "or"),
+            either(*piped, "and piped", "and"),
+        ),
+        Operation::Settle => "settle",
+        Operation::Refuse(Refusal::NotAFunction) => "refuse what is no function",
+        Operation::Refuse(Refusal::NilCommand) => "refuse nil",
+        Operation::Refuse(Refusal::WrongCount(_)) => "refuse the count of",
+        Operation::Refuse(Refusal::NoTemplate(_)) => "refuse template",
     }
 }
 
-fn put_refusal(writer: &mut impl Write, refusal: &Refusal<'_>) -> io::Result<()> {
-    match refusal {
-        Refusal::NotAFunction => write!(writer, "refuse what is no function"),
-        Refusal::NilCommand => write!(writer, "refuse nil"),
-        Refusal::WrongCount(func) => write!(writer, "refuse the count of {}", func.name()),
-        Refusal::NoTemplate(name) => {
-            write!(writer, "refuse template ")?;
-            put_text(writer, name)
-        }
+/// The slot, the number of cells or arguments, or the number of the template.
+fn count(instruction: &Instruction<'_>) -> Option<u64> {
+    match instruction {
+        Instruction::Set(count)
+        | Instruction::SetDot(count)
+        | Instruction::Turn(count)
+        | Instruction::Invoke(count)
+        | Instruction::Return(count)
+        | Instruction::EndWith { count, .. }
+        | Instruction::Drop { count, .. }
+        | Instruction::Next { count, .. }
+        | Instruction::Leave { count, .. }
+        | Instruction::Operate(Operation::Slot(count))
+        | Instruction::Operate(Operation::Call { count, .. }) => Some(*count as u64),
+        _ => None,
     }
 }
 
-/// Puts out where a jump ends that passes over so many instructions.
-fn put_target(writer: &mut impl Write, place: usize, skip: usize) -> io::Result<()> {
-    let target = place.saturating_add(1).saturating_add(skip);
-    write!(writer, " -> {target}")
+fn variables(instruction: &Instruction<'_>) -> Option<u64> {
+    match instruction {
+        Instruction::EndWith { variables, .. } => Some(*variables as u64),
+        _ => None,
+    }
 }
 
-fn word(there: bool, word: &'static str) -> &'static str {
-    if there { word } else { "" }
+fn line(instruction: &Instruction<'_>) -> Option<u64> {
+    match instruction {
+        Instruction::Spend(line) | Instruction::Next { line, .. } => Some(*line),
+        _ => None,
+    }
+}
+
+/// How many instructions a jump passes over.
+fn skip(instruction: &Instruction<'_>) -> Option<usize> {
+    match instruction {
+        Instruction::Unless { skip, .. }
+        | Instruction::With { skip, .. }
+        | Instruction::EndWith { skip, .. }
+        | Instruction::Drop { skip, .. }
+        | Instruction::Enter { skip, .. }
+        | Instruction::Next { skip, .. }
+        | Instruction::Leave { skip, .. }
+        | Instruction::Operate(Operation::Decide { skip, .. }) => Some(*skip),
+        _ => None,
+    }
 }

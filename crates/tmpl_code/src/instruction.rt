@@ -12,7 +12,7 @@ pub enum Refusal<'s> {
     /// A function that does not take so many arguments.
     WrongCount(Func),
     /// A call of a template, of this name, that is not there.
-    NoTemplate(&'s [u8]),
+    NoTemplate(&'s Bytes),
 }
 
 /// A step of a pipeline. Slots count from the newest cell on, and what is passed over from the next instruction on.

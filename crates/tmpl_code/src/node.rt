@@ -18,6 +18,7 @@ use crate::scope::Scope;
 use std::alloc::AllocError;
 use tmpl_grammar::{Binding, Control, Header, Pipeline};
 use tmpl_syntax::{ControlNode, Node, NodeKind, Set};
+use tmpl_values::Bytes;
 
 /// The range around a place.
 #[derive(Clone, Copy)]
@@ -138,7 +139,7 @@ fn put_continue(
 fn put_template<'s>(
     code: &mut Code<'s>,
     scope: &Scope<'s>,
-    name: &'s [u8],
+    name: &'s Bytes,
     number: Option<usize>,
     given: &'s Option<Pipeline>,
 ) -> Result<(), AllocError>
@@ -236,13 +237,7 @@ fn put_node<'s>(
         NodeKind::Break => put_break(code, scope, exit),
         NodeKind::Continue => put_continue(code, scope, exit),
         NodeKind::Template(name, given) => {
-            put_template(
-                code,
-                scope,
-                name.as_slice(),
-                set.number(name.as_slice()),
-                given,
-            )
+            put_template(code, scope, name, set.number(name.as_slice()), given)
         }
     }
 }
