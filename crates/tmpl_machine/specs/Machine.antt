@@ -106,12 +106,16 @@ abbrev pub elements_for : Bool → Value → Option (List Element)
 elements_for false v = elements v
 elements_for true v = pairs v
 
--- a range opens over these elements, whose value is in this cell
+-- a range opens over these elements, whose value is in this cell; its turn gives a dot again
 abbrev pub opened : Plan → Template → ℕ → Cell → List Cell → Option (List Element) → State → Turn
 opened plan t skip c cs None s = failed t s.line not_a_range s
 opened plan t skip c cs (Some []) s = onto cs (s.place + 1 + skip) s
 opened plan t skip c cs (Some (e ∷ es)) s =
-    paid plan t s.line s (λ s. onto (cell s.dot (s.place + 1) ∷ fresh c.val ∷ cs) (s.place + 1) s)
+    paid plan t s.line s (λ s. goes (record s {
+      cells = cell s.dot (s.place + 1) ∷ fresh c.val ∷ cs;
+      dot = nothing;
+      place = s.place + 1;
+    }))
 
 abbrev pub elements_in : Option (List Element) → List Element
 elements_in None = []

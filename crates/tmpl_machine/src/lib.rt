@@ -3,5 +3,6 @@
 #![tactic(auto)]
 
 mod laws;
+mod stack;
 
 pub use laws::{comes_to_meaning, each_turn_lessens, one_end, only_adds, stays_within};
