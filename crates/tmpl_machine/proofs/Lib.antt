@@ -14,3 +14,4 @@ pub mod MoveLemmas
 pub mod RoomLemmas
 pub mod LoopLemmas
 pub mod StackLemmas
+pub mod TurnLemmas

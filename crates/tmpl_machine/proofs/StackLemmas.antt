@@ -1,12 +1,13 @@
 -- A stack as a list of its live cells.
 use Rattle.std.proofs.Common.{arith, ◌≡◌, ◌∙◌, ◌+◌, ◌-◌, ◌<◌, ◌≤◌, ℕ, zero, suc, List, [], ◌∷◌, length, drop, take, set, get_or, map, reverse, refl, ap, sym}
-use Rattle.std.proofs.lemmas.List.{length-map, length-reverse, get_or-set_other, length-set, length-take-le, reverse-append}
+use Rattle.std.proofs.lemmas.List.{length-map, length-reverse, get_or-set_other, length-set, length-take-le, reverse-append, length-drop}
 use Rattle.std.proofs.Math.Seq.{take-suc, take-suc-set}
 use Rattle.std.proofs.Math.Numerals.{add-one}
 use Rattle.tmpl_values.specs.declared.value.Cell as held
 use Rattle.tmpl_values.specs.View.{val_of}
-use Rattle.tmpl_machine.specs.Cell.{Cell, slot}
-use Rattle.tmpl_machine.specs.Held.{cell_of, cells_in, val_at}
+use Rattle.tmpl_machine.specs.Cell.{Cell, slot_cell}
+use Rattle.tmpl_machine.specs.Machine.{Turn, ring, top}
+use Rattle.tmpl_machine.specs.Held.{cell_at, cell_of, cells_in}
 
 pub live-length : (top : ℕ) (cs : List held.Cell) → top ≤ length cs → length (cells_in top cs) ≡ top
 live-length top cs h = length-map (reverse (take top cs)) cell_of ∙ length-reverse (take top cs) ∙ length-take-le top cs h
@@ -41,25 +42,25 @@ live-drop (suc k) (suc top) (c ∷ cs) h g =
 pub live-popped : (count top : ℕ) (old new : List held.Cell) → count ≤ top → top ≤ length old → take (top - count) new ≡ take (top - count) old → cells_in (top - count) new ≡ drop count (cells_in top old)
 live-popped count top old new h g left = live-same (top - count) new old left ∙ live-drop count top old h g
 
-pub val_at-is : (cs : List held.Cell) (i : ℕ) (d : held.Cell) → i < length cs → val_at cs i ≡ val_of (get_or cs i d).val
-val_at-is [] i d h = absurd (omega arith)
-val_at-is (c ∷ cs) zero d h = refl
-val_at-is (c ∷ cs) (suc i) d h = val_at-is cs i d (omega arith)
+pub cell_at-is : (cs : List held.Cell) (i : ℕ) (d : held.Cell) → i < length cs → cell_at cs i ≡ cell_of (get_or cs i d)
+cell_at-is [] i d h = absurd (omega arith)
+cell_at-is (c ∷ cs) zero d h = refl
+cell_at-is (c ∷ cs) (suc i) d h = cell_at-is cs i d (omega arith)
 
 -- a slot, counted from the newest cell
-pub slot-at : (top k : ℕ) (cs : List held.Cell) → k < top → top ≤ length cs → slot k (cells_in top cs) ≡ val_at cs (top - 1 - k)
+pub slot-at : (top k : ℕ) (cs : List held.Cell) → k < top → top ≤ length cs → slot_cell k (cells_in top cs) ≡ cell_at cs (top - 1 - k)
 slot-at zero k cs h g = absurd (omega arith)
 slot-at (suc top) k [] h g = absurd (omega arith)
 slot-at (suc top) zero (c ∷ cs) h g =
     let one : suc top ≡ top + 1 = omega arith in
     let at : suc top - 1 - 0 ≡ top = omega arith in
-    ap (λ n. slot 0 (cells_in n (c ∷ cs))) one ∙ ap (λ (l : List Cell). slot 0 l) (live-more top (c ∷ cs) c (omega arith))
-    ∙ sym (val_at-is (c ∷ cs) top c (omega arith)) ∙ ap (val_at (c ∷ cs)) (sym at)
+    ap (λ n. slot_cell 0 (cells_in n (c ∷ cs))) one ∙ ap (λ (l : List Cell). slot_cell 0 l) (live-more top (c ∷ cs) c (omega arith))
+    ∙ sym (cell_at-is (c ∷ cs) top c (omega arith)) ∙ ap (cell_at (c ∷ cs)) (sym at)
 slot-at (suc top) (suc k) (c ∷ cs) h g =
     let one : suc top ≡ top + 1 = omega arith in
     let at : top - 1 - k ≡ suc top - 1 - suc k = omega arith in
-    ap (λ n. slot (suc k) (cells_in n (c ∷ cs))) one ∙ ap (λ (l : List Cell). slot (suc k) l) (live-more top (c ∷ cs) c (omega arith))
-    ∙ slot-at top k (c ∷ cs) (omega arith) (omega arith) ∙ ap (val_at (c ∷ cs)) at
+    ap (λ n. slot_cell (suc k) (cells_in n (c ∷ cs))) one ∙ ap (λ (l : List Cell). slot_cell (suc k) l) (live-more top (c ∷ cs) c (omega arith))
+    ∙ slot-at top k (c ∷ cs) (omega arith) (omega arith) ∙ ap (cell_at (c ∷ cs)) at
 
 -- a write to it
 pub live-set : (top k : ℕ) (cs : List held.Cell) (d : held.Cell) → k < top → top ≤ length cs → cells_in top (set cs (top - 1 - k) d) ≡ set (cells_in top cs) k (cell_of d)
@@ -81,4 +82,26 @@ live-set (suc top) (suc k) cs d h g =
 
 pub ruleset stacks = (live-length, live-push, live-taken, live-popped, slot-at, live-set)
 
-pub ruleset cells = val_at-is
+pub num_at-is : (cs : List held.Cell) (i : ℕ) (d : held.Cell) → i < length cs → (get_or cs i d).num ≡ (cell_at cs i).num
+num_at-is cs i d h = ap (λ (c : Cell). c.num) (sym (cell_at-is cs i d h))
+
+pub val_at-is : (cs : List held.Cell) (i : ℕ) (d : held.Cell) → i < length cs → val_of (get_or cs i d).val ≡ (cell_at cs i).val
+val_at-is cs i d h = ap (λ (c : Cell). c.val) (sym (cell_at-is cs i d h))
+
+pub ruleset cells = (num_at-is, val_at-is)
+
+-- the newest cell is there
+pub top-is : (cs : List Cell) (go : Cell → List Cell → Turn) → 1 ≤ length cs → top cs go ≡ go (slot_cell 0 cs) (drop 1 cs)
+top-is [] go h = absurd (omega arith)
+top-is (c ∷ cs) go h = refl
+
+-- .. and two of them
+pub ring-is : (cs : List Cell) (go : Cell → Cell → List Cell → Turn) → 2 ≤ length cs → ring cs go ≡ go (slot_cell 0 cs) (slot_cell 1 cs) (drop 2 cs)
+ring-is [] go h = absurd (omega arith)
+ring-is (c ∷ []) go h = absurd (omega arith)
+ring-is (c ∷ d ∷ cs) go h = refl
+
+pub length-drop-cells : (n : ℕ) (cs : List Cell) → length (drop n cs) ≡ length cs - n
+length-drop-cells n cs = length-drop n cs
+
+pub ruleset tops = (top-is, ring-is, length-drop-cells)
