@@ -1,6 +1,6 @@
 -- A pipeline finds its cells, and needs no more of them than its need.
 use Rattle.std.proofs.Common.{arith, ◌≡◌, ◌+◌, ◌-◌, ◌≤◌, ◌<◌, ℕ, zero, suc, Bool, true, false, List, [], ◌∷◌, length, drop, refl, ap, sym, subst, Option, Some, None}
-use Rattle.tmpl_funcs.specs.Func.{takes}
+use Rattle.tmpl_funcs.specs.Func.{is_called, takes}
 use Rattle.tmpl_funcs.specs.declared.func.Func.{Func}
 use Rattle.tmpl_funcs.specs.declared.func.Func.TheVariants.{And, Or}
 use Rattle.tmpl_grammar.specs.Tree.{Operand, dot, fields, variable, bool_constant, number_constant, text_constant, nil, function, group, Operands, no_operand, operand, Commands, no_command, command, Pipeline, pipeline}
@@ -51,10 +51,16 @@ last-alone no_operand false e = refl
 last-alone no_operand true e = cc
 last-alone (operand o os) piped e = cc
 
-called-by : (f : Func) (All Both Either : Part) (code rest : Code) (G : Type 0) → (All code rest → G) → (f ≡ And → Both code rest → G) → (f ≡ Or → Either code rest → G) → CallBy f All Both Either code rest → G
+called-by : (f : Func) (All Both Either : Part) (code rest : Code) (G : Type 0) → (is_called f ≡ true → All code rest → G) → (f ≡ And → Both code rest → G) → (f ≡ Or → Either code rest → G) → CallBy f All Both Either code rest → G
 called-by And All Both Either code rest G a b c l = b refl l
 called-by Or All Both Either code rest G a b c l = c refl l
-called-by _ All Both Either code rest G a b c l = a l
+called-by _ All Both Either code rest G a b c l = a refl l
+
+-- what takes no argument is no `and` and no `or`
+bare-called : (f : Func) → takes f 0 ≡ true → is_called f ≡ true
+bare-called And e = cc
+bare-called Or e = cc
+bare-called _ e = refl
 
 module _ (most last : ℕ) where
   able-is : (code rest : Code) (n : ℕ) → code ≡ rest → Able most last rest 0 n → Able most last code 0 n
@@ -80,9 +86,9 @@ module _ (most last : ℕ) where
   chained-able [] rest m h = h
   chained-able (name ∷ names) rest m h = (omega arith, h)
 
-  bare-able : (t : Bool) (f : Func) (m : ℕ) (code rest : Code) → m < most → BareAt t f code rest → Able most last rest 0 (suc m) → Able most last code 0 m
-  bare-able true f m code rest room l h = let none : m ≡ m - 0 = omega arith in able-is code _ m l ((omega arith, omega arith), able-at rest (suc m) (suc (m - 0)) (ap suc none) h)
-  bare-able false f m code rest room l h = able-is code _ m l (tt, tt)
+  bare-able : (t : Bool) (f : Func) (m : ℕ) (code rest : Code) → takes f 0 ≡ t → m < most → BareAt t f code rest → Able most last rest 0 (suc m) → Able most last code 0 m
+  bare-able true f m code rest e room l h = let none : m ≡ m - 0 = omega arith in able-is code _ m l ((bare-called f e, omega arith, omega arith), able-at rest (suc m) (suc (m - 0)) (ap suc none) h)
+  bare-able false f m code rest e room l h = able-is code _ m l (tt, tt)
 
   first-able : (t : Bool) (o : Operand) (m : ℕ) (code rest : Code) (Value-at : Part) → (t ≡ true → Value-at code rest → Able most last code 0 m) → FirstAt t o Value-at code rest → Able most last code 0 m
   first-able false o m code rest Value-at h l = able-is code _ m l (tt, tt)
@@ -152,7 +158,7 @@ module _ (most last : ℕ) where
     operand-able (number_constant k) n lay code rest m within room l h = able-is code _ m l (omega arith, h)
     operand-able (text_constant bytes) n lay code rest m within room l h = able-is code _ m l (omega arith, h)
     operand-able nil n lay code rest m within room l h = able-is code _ m l (omega arith, h)
-    operand-able (function f) n lay code rest m within room l h = bare-able (takes f 0) f m code rest (omega arith) l h
+    operand-able (function f) n lay code rest m within room l h = bare-able (takes f 0) f m code rest refl (omega arith) l h
     operand-able (group cs names) n lay code rest m within room l h =
         able-at code (m + 0) m (omega arith) (commands-able cs false n lay code (chain_before names rest) m within room l (chained-able names rest m h))
 
@@ -185,8 +191,8 @@ module _ (most last : ℕ) where
         let All : Part = λ code rest. OperandsAt os n lay code (act (call_with f (operand_count os) piped) ∷ rest) in
         counted-able (takes f count) f m code rest (CallBy f All (JunctionAt false os piped n lay) (JunctionAt true os piped n lay))
         (λ t k. called-by f All (JunctionAt false os piped n lay) (JunctionAt true os piped n lay) code rest (Able most last code 0 m)
-        (λ k. operands-able os (piped_count piped) n lay code all m base within is (omega arith) k
-        ((omega arith, omega arith), able-at rest (suc base) (suc (m + operand_count os - (operand_count os + piped_count piped))) (omega arith) h))
+        (λ named k. operands-able os (piped_count piped) n lay code all m base within is (omega arith) k
+        ((named, omega arith, omega arith), able-at rest (suc base) (suc (m + operand_count os - (operand_count os + piped_count piped))) (omega arith) h))
         (λ e k. junction-able os (piped_count piped) false piped n lay code rest m base within is (omega arith) (omega arith) (some-both f And count (λ x. cc) e t) k h)
         (λ e k. junction-able os (piped_count piped) true piped n lay code rest m base within is (omega arith) (omega arith) (some-both f Or count (λ x. cc) e t) k h) k) l
     command-able (operand o os) piped n lay code rest m base within is room l h =

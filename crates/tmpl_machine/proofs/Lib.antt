@@ -13,3 +13,5 @@ pub mod TreeLemmas
 pub mod MoveLemmas
 pub mod RoomLemmas
 pub mod LoopLemmas
+pub mod StackLemmas
+pub mod TurnLemmas

@@ -74,7 +74,14 @@ module _ (plan : Plan) (me : Template) (s : State) where
   opened-moves : (skip : ℕ) (c : Cell) (cs : List Cell) (o : Option (List Element)) → Moves s (opened plan me skip c cs o s)
   opened-moves skip c cs None = same
   opened-moves skip c cs (Some []) = (inr (refl, inr (refl, omega arith)), same, omega arith)
-  opened-moves skip c cs (Some (e ∷ es)) = paid-moves s.line (λ s. cell s.dot (s.place + 1) ∷ fresh c.val ∷ cs) (λ s. s.place + 1)
+  opened-moves skip c cs (Some (e ∷ es)) = by (nat_eq s.left 0) refl
+    where
+      opens : State → Turn
+      opens t = goes (record t { cells = cell t.dot (t.place + 1) ∷ fresh c.val ∷ cs; dot = nothing; place = t.place + 1 })
+
+      by : (b : Bool) → nat_eq s.left 0 ≡ b → Moves s (paid_if b plan me s.line s opens)
+      by true e = same
+      by false e = (inl (fewer e), same, omega arith)
 
   turned-moves : (n : ℕ) (es : List Element) → Moves s (turned n es s)
   turned-moves n [] = tt

@@ -370,9 +370,9 @@ module _ (plan : Plan) (room : ℕ) (f : Ran) (who : Who) (me : Template) (is-me
           here-es = elements-are (declares_key h.binding) v (e ∷ es) is
 
           on : (c : Bool) → After B g (after_turn (spend_if c set line (scope (λ r. meanings set body e.1 (with_bound h.binding e r))) (run_at lay m s)) (turns set line h.binding (λ v. meanings set body v) es))
-              → Comes Leading (paid_if c plan me s.line (valued v m place s) (λ t. onto (cell t.dot (t.place + 1) ∷ fresh v ∷ s.cells) (t.place + 1) t)) f
+              → Comes Leading (paid_if c plan me s.line (valued v m place s) (λ t. goes (record t { cells = cell t.dot (t.place + 1) ∷ fresh v ∷ s.cells; dot = nothing; place = t.place + 1 }))) f
           on true h = ap (λ n. ran_so (valued v m place s) (Some (fault_at me n (meaning.steps_spent plan.rules.step_limit)))) same-line ∙ h
           on false hk =
               turn-leads h.binding line body g lay fr l.2.0 l.2.1 l.2.2 rest l.2.4 s.dot v (place + 1) l.2.10 more begin l.2.6 l.2.7 ih-body e es 0 s.cells
-              (record (valued v m place s) { left = s.left - 1; place = place + 1 }) st.runs here-es begin st.frame st.deep hk
+              (record (valued v m place s) { dot = nothing; left = s.left - 1; place = place + 1 }) st.runs here-es begin st.frame st.deep hk
               (λ r hr t tu. next-leads h.binding line body g lay fr l.2.0 l.2.1 l.2.2 rest l.2.4 s.dot v (place + 1) l.2.10 more begin l.2.6 l.2.7 ih-body es 0 (one-less (elements_in (elements v)) 0 e es here-es) r hr t tu)

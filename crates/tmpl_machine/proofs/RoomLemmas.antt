@@ -47,8 +47,8 @@ module _ (size : ℕ) where
   step-within (code.chained names) s [] fits h = tt
   step-within (code.chained names) s (c ∷ cs) fits h = pushed-within (chain s.missing_key names c.val) cs (omega arith)
   step-within (code.call_with f n p) s cs fits h =
-      let within = fits.0 in
-      let room = fits.1 in
+      let within = fits.1 in
+      let room = fits.2 in
       let left = length-drop n cs in
       called-within f (values_in (reverse (take n cs))) p (drop n cs) (length cs - (n + piped_count p)) (omega arith) (omega arith)
   step-within (code.decide is_or p skip) s [] fits h = tt
@@ -114,7 +114,14 @@ module _ (size : ℕ) where
     opened-within : (skip : ℕ) (c : Cell) (cs : List Cell) (o : Option (List Element)) → length s.cells ≡ suc (length cs) → length s.cells < size → Within (opened plan me skip c cs o s)
     opened-within skip c cs None e h = tt
     opened-within skip c cs (Some []) e h = omega arith
-    opened-within skip c cs (Some (x ∷ xs)) e h = paid-within s.line (λ s. cell s.dot (s.place + 1) ∷ fresh c.val ∷ cs) (λ s. s.place + 1) (λ t. omega arith)
+    opened-within skip c cs (Some (x ∷ xs)) e h = by (nat_eq s.left 0)
+      where
+        opens : State → Turn
+        opens t = goes (record t { cells = cell t.dot (t.place + 1) ∷ fresh c.val ∷ cs; dot = nothing; place = t.place + 1 })
+
+        by : (b : Bool) → Within (paid_if b plan me s.line s opens)
+        by true = tt
+        by false = omega arith
 
     turned-within : (n : ℕ) (es : List Element) → length s.cells + n ≤ size → Within (turned n es s)
     turned-within n [] h = tt

@@ -68,7 +68,7 @@ step-after (code.push_slot k) s cs most Next fits h = h
 step-after (code.chained names) s [] most Next fits h = tt
 step-after (code.chained names) s (c ∷ cs) most Next fits h = pushed-after Next (chain s.missing_key names c.val) cs h
 step-after (code.call_with f n p) s cs most Next fits h =
-    let within = fits.0 in
+    let within = fits.1 in
     let left = length-drop n cs in
     called-after Next f (values_in (reverse (take n cs))) p (drop n cs) (length cs - (n + piped_count p)) (omega arith) h
 step-after (code.decide stop p skip) s [] most Next fits h = tt

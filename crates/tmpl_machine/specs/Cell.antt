@@ -17,8 +17,11 @@ fresh v = cell v 0
 abbrev pub values_in : List Cell → List Value
 values_in cs = map (λ (c : Cell). c.val) cs
 
--- the value of a slot, which counts from the newest cell
+-- the cell of a slot, which counts from the newest cell
+abbrev pub slot_cell : ℕ → List Cell → Cell
+slot_cell k [] = fresh nothing
+slot_cell zero (c ∷ cs) = c
+slot_cell (suc k) (c ∷ cs) = slot_cell k cs
+
 abbrev pub slot : ℕ → List Cell → Value
-slot k [] = nothing
-slot zero (c ∷ cs) = c.val
-slot (suc k) (c ∷ cs) = slot k cs
+slot k cs = (slot_cell k cs).val

@@ -1,7 +1,11 @@
 pub mod Cell
 pub mod Ends
+pub mod Held
 pub mod Laws
 pub mod Machine
+pub mod Machines
 pub mod Ready
 pub mod State
 pub mod Step
+pub mod Turned
+pub mod View

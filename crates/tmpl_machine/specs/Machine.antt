@@ -1,5 +1,5 @@
 -- What one instruction does.
-use Rattle.std.specs.Prelude.{ℕ, zero, suc, ◌+◌, ◌-◌, nat_eq, nat_lt, Bool, true, false, List, [], ◌∷◌, ◌++◌, drop}
+use Rattle.std.specs.Prelude.{ℕ, zero, suc, ◌+◌, ◌-◌, nat_eq, nat_lt, Bool, true, false, List, [], ◌∷◌, ◌++◌, length, drop}
 use Rattle.std.specs.Prelude.{Option, Some, None, slice_get, slice_set}
 use Rattle.tmpl_values.specs.Value.{Value, nothing}
 use Rattle.tmpl_values.specs.Elements.{Element, elements, pairs}
@@ -106,12 +106,16 @@ abbrev pub elements_for : Bool → Value → Option (List Element)
 elements_for false v = elements v
 elements_for true v = pairs v
 
--- a range opens over these elements, whose value is in this cell
+-- a range opens over these elements, whose value is in this cell; its turn gives a dot again
 abbrev pub opened : Plan → Template → ℕ → Cell → List Cell → Option (List Element) → State → Turn
 opened plan t skip c cs None s = failed t s.line not_a_range s
 opened plan t skip c cs (Some []) s = onto cs (s.place + 1 + skip) s
 opened plan t skip c cs (Some (e ∷ es)) s =
-    paid plan t s.line s (λ s. onto (cell s.dot (s.place + 1) ∷ fresh c.val ∷ cs) (s.place + 1) s)
+    paid plan t s.line s (λ s. goes (record s {
+      cells = cell s.dot (s.place + 1) ∷ fresh c.val ∷ cs;
+      dot = nothing;
+      place = s.place + 1;
+    }))
 
 abbrev pub elements_in : Option (List Element) → List Element
 elements_in None = []
@@ -120,6 +124,10 @@ elements_in (Some es) = es
 -- the elements of a range from the one that is visited on
 abbrev pub left_in : Cell → List Element
 left_in v = drop v.num (elements_in (elements v.val))
+
+-- whether there is one behind that
+abbrev pub has_more : Cell → Bool
+has_more v = nat_lt v.num (length (elements_in (elements v.val)) - 1)
 
 -- so many variables: the element, above its index or key
 abbrev pub variables_on : ℕ → Element → List Cell → List Cell

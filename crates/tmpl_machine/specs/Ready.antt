@@ -1,12 +1,13 @@
 -- What an instruction needs of the stack: that the cells which it takes or looks at are there, and that there is room
 -- for those which it puts, where there may be so many.
-use Rattle.std.specs.Prelude.{ℕ, suc, ◌+◌, ◌-◌, ◌≤◌, ◌<◌, Bool, true, false}
+use Rattle.std.specs.Prelude.{◌≡◌, ℕ, suc, ◌+◌, ◌-◌, ◌≤◌, ◌<◌, Bool, true, false}
+use Rattle.tmpl_funcs.specs.Func.{is_called}
 use Rattle.tmpl_code.specs.Code.{piped_count}
 use Rattle.tmpl_code.specs.Instruction as code
 use Rattle.tmpl_code.specs.Instruction.{Operation, push_nothing, push_bool, push_number, push_text, push_dot}
 use Rattle.tmpl_code.specs.Instruction.{push_fields, push_slot, chained, call_with, decide, settle, refuse, Instruction}
 
--- a step of a pipeline over so many cells
+-- a step of a pipeline over so many cells; `and` and `or` are no calls
 abbrev pub Fits : Operation → ℕ → ℕ → Type 0
 Fits push_nothing n room = n < room
 Fits (push_bool b) n room = n < room
@@ -17,7 +18,7 @@ Fits (push_fields names) n room = n < room
 Fits (push_slot k) n room = (k < n) × (n < room)
 Fits (chained names) n room = 1 ≤ n
 Fits (call_with f count piped) n room =
-    (count + piped_count piped ≤ n) × (n - (count + piped_count piped) < room)
+    (is_called f ≡ true) × (count + piped_count piped ≤ n) × (n - (count + piped_count piped) < room)
 Fits (decide is_or piped skip) n room = 1 + piped_count piped ≤ n
 Fits settle n room = 1 ≤ n
 Fits (refuse why) n room = Unit {0}

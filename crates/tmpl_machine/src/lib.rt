@@ -2,6 +2,11 @@
 //! of its templates.
 #![tactic(auto)]
 
+mod control;
 mod laws;
+mod machine;
+mod range;
+mod stack;
+mod variable;
 
 pub use laws::{comes_to_meaning, each_turn_lessens, one_end, only_adds, stays_within};

@@ -1,0 +1,112 @@
+//! Steps, `if` and `with`.
+ghost use Rattle.std.specs.Prelude.{◌≡◌, ◌+◌, ◌<◌, ◌≤◌, ◌^◌, false, length, if◌then◌else◌, OnOk};
+ghost use Rattle.tmpl_values.specs.Truth.{truth};
+ghost use Rattle.tmpl_run.specs.Fault.{steps_spent};
+ghost use Rattle.tmpl_code.specs.Instruction as code;
+ghost use Rattle.tmpl_machine.specs.Cell.{slot};
+ghost use Rattle.tmpl_machine.specs.Machine.{done, failed, goes};
+ghost use Rattle.tmpl_machine.specs.Machines.{Told, state_of};
+ghost use Rattle.tmpl_machine.specs.Ready.{RoomIf};
+ghost use Rattle.tmpl_machine.specs.View.{cells_of, size_of};
+
+use crate::machine::Machine;
+use std::alloc::AllocError;
+use std::mem;
+use tmpl_values::Cell;
+
+impl<'m, 'a> Machine<'m, 'a> {
+    /// Takes a step at this line, if one is left.
+    pub(crate) fn spend(&mut self, line: u64) -> bool
+        ghost run: { Told }
+        requires place { self.old.place + 1 < 2 ^ 64 }
+        ensures step { done run.plan run.template (code.spend line) (state_of run self.old)
+            ≡ (if result then goes (state_of run self.new)
+            else failed run.template line (steps_spent run.plan.rules.step_limit) (state_of run self.old)) }
+        ensures line { self.new.line ≡ line }
+    {
+        self.line = line;
+        if self.left == 0 {
+            return false;
+        }
+        self.left -= 1;
+        self.place += 1;
+        true
+    }
+
+    /// Forgets so many cells and goes to where a jump ends.
+    pub(crate) fn forget(&mut self, count: usize, skip: usize)
+        ghost run: { Told }
+        requires place { self.old.place + 1 + skip < 2 ^ 64 }
+        requires found { count ≤ length (cells_of self.old.stack) }
+        ensures { done run.plan run.template (code.cut count skip) (state_of run self.old)
+            ≡ goes (state_of run self.new) }
+    {
+        self.stack.pop(count);
+        self.place += 1 + skip;
+    }
+
+    /// Goes on with the body of an `if` where the newest value is not empty, and with its other part else.
+    #[tactic(auto, using(crate::proofs::StackLemmas::tops))]
+    pub(crate) fn branch(&mut self, kept: bool, skip: usize)
+        ghost run: { Told }
+        requires found { 1 ≤ length (cells_of self.old.stack) }
+        requires body { self.old.place + 1 < 2 ^ 64 }
+        requires other { truth (slot 0 (cells_of self.old.stack)) ≡ false → self.old.place + 1 + skip < 2 ^ 64 }
+        ensures { done run.plan run.template (code.unless kept skip) (state_of run self.old)
+            ≡ goes (state_of run self.new) }
+    {
+        self.place += 1;
+        if !self.stack.holds() {
+            self.place += skip;
+        }
+        if !kept {
+            self.stack.pop(1);
+        }
+    }
+
+    /// Where the newest value is not empty it becomes dot, and the dot from outside is saved; else goes on with the
+    /// other part.
+    pub(crate) fn open_with(&mut self, kept: bool, skip: usize) -> Result<(), AllocError>
+        ghost run: { Told }
+        requires found { 1 ≤ length (cells_of self.old.stack) }
+        requires within { length (cells_of self.old.stack) ≤ size_of self.old.stack }
+        requires room { RoomIf kept (length (cells_of self.old.stack)) (size_of self.old.stack) }
+        requires body { self.old.place + 1 < 2 ^ 64 }
+        requires other { truth (slot 0 (cells_of self.old.stack)) ≡ false → self.old.place + 1 + skip < 2 ^ 64 }
+        ensures { OnOk result (done run.plan run.template (code.enter_with kept skip) (state_of run self.old)
+            ≡ goes (state_of run self.new)) }
+    {
+        let Cell { val, num } = self.stack.take();
+        self.place += 1;
+        if !val.truth() {
+            self.place += skip;
+            if kept {
+                self.stack.push(val, num);
+            }
+            return Ok(());
+        }
+        let val = val.into_shared(self.alloc)?;
+        if kept {
+            self.stack.push(val.share()?, num);
+        }
+        let outer = mem::replace(&mut self.dot, val);
+        self.stack.push(outer, 0);
+        Ok(())
+    }
+
+    /// Ends the body of a `with`: takes dot back from the cell below so many, and forgets the variables of the header.
+    #[tactic(auto, using(crate::proofs::StackLemmas::tops))]
+    pub(crate) fn close_with(&mut self, count: usize, variables: usize, skip: usize)
+        ghost run: { Told }
+        requires place { self.old.place + 1 + skip < 2 ^ 64 }
+        requires found { count + 1 + variables ≤ length (cells_of self.old.stack) }
+        ensures { done run.plan run.template (code.end_with count variables skip) (state_of run self.old)
+            ≡ goes (state_of run self.new) }
+    {
+        self.stack.pop(count);
+        let outer = self.stack.take().val;
+        self.look_at(outer);
+        self.stack.pop(variables);
+        self.place += 1 + skip;
+    }
+}

@@ -1,0 +1,204 @@
+//! The stack of a run, in cells that are lent to it.
+ghost use Rattle.std.specs.Prelude.{◌≡◌, ◌+◌, ◌-◌, ◌<◌, ◌≤◌, ◌∷◌, [], drop, get_or, length, option_map, take, IfOk, slice_set, true, ◌^◌};
+ghost use Rattle.tmpl_values.specs.Elements.{item_at};
+ghost use Rattle.tmpl_values.specs.View.{element_of, val_of};
+ghost use Rattle.tmpl_values.specs.Truth.{truth};
+ghost use Rattle.tmpl_machine.specs.Cell.{cell};
+ghost use Rattle.tmpl_machine.specs.Machine.{has_more};
+ghost use Rattle.tmpl_machine.specs.Held.{cell_at, cell_of};
+
+use std::alloc::AllocError;
+use tmpl_run::element_count;
+use tmpl_values::{Cell, Val};
+
+/// The cells below `top` are live, the newest last.
+#[derive(Drop)]
+pub(crate) struct Stack<'s, 'a> {
+    pub(crate) cells: &'s mut [Cell<'a>],
+    pub(crate) top: usize,
+    ghost within: { top ≤ length cells.now },
+}
+
+impl<'s, 'a> Stack<'s, 'a> {
+    ghost use Rattle.tmpl_machine.specs.Cell.{slot, slot_cell};
+    ghost use Rattle.tmpl_machine.specs.View.{cells_of, size_of};
+
+    /// No cell is live.
+    #[tactic(auto, unfolding(crate::specs::View::cells_of))]
+    pub(crate) fn new(cells: &'s mut [Cell<'a>]) -> Stack<'s, 'a>
+        ensures cells { cells_of result ≡ [] }
+        ensures size { size_of result ≡ length cells.old }
+    {
+        Stack { cells, top: 0 }
+    }
+
+    /// Puts a cell.
+    #[tactic(auto, using(crate::proofs::StackLemmas::stacks), unfolding(crate::specs::View::cells_of))]
+    pub(crate) fn push(&mut self, val: Val<'a>, num: u64)
+        requires { length (cells_of self.old) < size_of self.old }
+        ensures cells { cells_of self.new ≡ cell (val_of val.entry) num ∷ cells_of self.old }
+        ensures count { length (cells_of self.new) ≡ length (cells_of self.old) + 1 }
+        ensures size { size_of self.new ≡ size_of self.old }
+    {
+        self.cells[self.top] = Cell { val, num };
+        self.top += 1;
+    }
+
+    /// Takes the newest cell.
+    #[tactic(auto, using(crate::proofs::StackLemmas::stacks), unfolding(crate::specs::View::cells_of))]
+    pub(crate) fn take(&mut self) -> Cell<'a>
+        requires { 1 ≤ length (cells_of self.old) }
+        ensures cells { cells_of self.old ≡ cell_of result ∷ cells_of self.new }
+        ensures count { length (cells_of self.old) ≡ length (cells_of self.new) + 1 }
+        ensures size { size_of self.new ≡ size_of self.old }
+    {
+        self.top -= 1;
+        take_at(self.cells, self.top)
+    }
+
+    /// Forgets so many cells.
+    #[tactic(auto, using(crate::proofs::StackLemmas::stacks), unfolding(crate::specs::View::cells_of))]
+    pub(crate) fn pop(&mut self, count: usize)
+        requires { count ≤ length (cells_of self.old) }
+        ensures cells { cells_of self.new ≡ drop count (cells_of self.old) }
+        ensures count { length (cells_of self.old) ≡ length (cells_of self.new) + count }
+        ensures size { size_of self.new ≡ size_of self.old }
+    {
+        let old = self.top;
+        self.top -= count;
+        clear(self.cells, self.top, old);
+    }
+
+    /// The value of a slot once more.
+    #[tactic(auto, using(crate::proofs::StackLemmas::stacks), unfolding(crate::specs::View::cells_of))]
+    pub(crate) fn share(&mut self, index: usize) -> Result<Val<'a>, AllocError>
+        requires { index < length (cells_of self.old) }
+        ensures cells { cells_of self.new ≡ cells_of self.old }
+        ensures size { size_of self.new ≡ size_of self.old }
+        ensures shared { IfOk result (λ v. val_of v ≡ slot index (cells_of self.old)) }
+    {
+        share_at(self.cells, self.top - 1 - index)
+    }
+
+    /// Whether the newest value is not empty.
+    #[tactic(auto, using(crate::proofs::StackLemmas::stacks), unfolding(crate::specs::View::cells_of))]
+    pub(crate) fn holds(&mut self) -> bool
+        requires { 1 ≤ length (cells_of self.old) }
+        ensures cells { cells_of self.new ≡ cells_of self.old }
+        ensures size { size_of self.new ≡ size_of self.old }
+        ensures holds { result ≡ truth (slot 0 (cells_of self.old)) }
+    {
+        holds_at(self.cells, self.top - 1)
+    }
+
+    /// Changes the value of a slot.
+    #[tactic(auto, using(crate::proofs::StackLemmas::stacks), unfolding(crate::specs::View::cells_of))]
+    pub(crate) fn set(&mut self, index: usize, val: Val<'a>)
+        requires { index < length (cells_of self.old) }
+        ensures cells { cells_of self.new ≡ slice_set (cells_of self.old) index (cell (val_of val.entry) 0) }
+        ensures count { length (cells_of self.new) ≡ length (cells_of self.old) }
+        ensures size { size_of self.new ≡ size_of self.old }
+    {
+        let at = self.top - 1 - index;
+        self.cells[at] = Cell { val, num: 0 };
+    }
+
+    /// The element that a range visits, behind its index or key: the cells of the range are the newest two.
+    #[tactic(auto, using(crate::proofs::StackLemmas::stacks), unfolding(crate::specs::View::cells_of))]
+    pub(crate) fn element(&mut self) -> Option<(Val<'a>, Val<'a>)>
+        requires { 2 ≤ length (cells_of self.old) }
+        ensures cells { cells_of self.new ≡ cells_of self.old }
+        ensures size { size_of self.new ≡ size_of self.old }
+        ensures element { option_map element_of result
+            ≡ item_at (slot_cell 1 (cells_of self.old)).num (slot_cell 1 (cells_of self.old)).val }
+    {
+        element_at(self.cells, self.top - 2)
+    }
+
+    /// Whether a range, whose cells are the newest two, has an element behind the one that it visits.
+    #[tactic(auto, using(crate::proofs::StackLemmas::stacks), unfolding(crate::specs::View::cells_of))]
+    pub(crate) fn has_more(&mut self) -> bool
+        requires { 2 ≤ length (cells_of self.old) }
+        ensures cells { cells_of self.new ≡ cells_of self.old }
+        ensures size { size_of self.new ≡ size_of self.old }
+        ensures more { result ≡ has_more (slot_cell 1 (cells_of self.old)) }
+        ensures fits { result ≡ true → (slot_cell 1 (cells_of self.old)).num + 1 < 2 ^ 64 }
+    {
+        has_more_at(self.cells, self.top - 2)
+    }
+}
+
+/// The value of a cell once more.
+#[tactic(auto, using(crate::proofs::StackLemmas::cells))]
+fn share_at<'a>(cells: &mut [Cell<'a>], at: usize) -> Result<Val<'a>, AllocError>
+    requires { at < length cells.old }
+    ensures same { cells.new ≡ cells.old }
+    ensures shared { IfOk result (λ v. val_of v ≡ (cell_at cells.old at).val) }
+{
+    cells[at].val.share()
+}
+
+/// Whether the value of a cell is not empty.
+#[tactic(auto, using(crate::proofs::StackLemmas::cells))]
+fn holds_at(cells: &mut [Cell<'_>], at: usize) -> bool
+    requires { at < length cells.old }
+    ensures same { cells.new ≡ cells.old }
+    ensures holds { result ≡ truth (cell_at cells.old at).val }
+{
+    cells[at].val.truth()
+}
+
+/// The element at the place that a cell counts, of its value.
+#[tactic(auto, using(crate::proofs::StackLemmas::cells))]
+fn element_at<'a>(cells: &mut [Cell<'a>], at: usize) -> Option<(Val<'a>, Val<'a>)>
+    requires { at < length cells.old }
+    ensures same { cells.new ≡ cells.old }
+    ensures element { option_map element_of result ≡ item_at (cell_at cells.old at).num (cell_at cells.old at).val }
+{
+    let whole = &cells[..];
+    let cell = &whole[at];
+    cell.val.item(cell.num)
+}
+
+/// Whether there is an element behind the place that a cell counts, of its value.
+#[tactic(auto, using(crate::proofs::StackLemmas::cells))]
+fn has_more_at(cells: &mut [Cell<'_>], at: usize) -> bool
+    requires { at < length cells.old }
+    ensures same { cells.new ≡ cells.old }
+    ensures more { result ≡ has_more (cell_at cells.old at) }
+    ensures fits { result ≡ true → (cell_at cells.old at).num + 1 < 2 ^ 64 }
+{
+    let whole = &cells[..];
+    let cell = &whole[at];
+    match element_count(&cell.val) {
+        Some(count) => cell.num < count.saturating_sub(1),
+        None => false,
+    }
+}
+
+/// Takes a cell, and leaves nothing.
+fn take_at<'a>(cells: &mut [Cell<'a>], at: usize) -> Cell<'a>
+    requires { at < length cells.old }
+    ensures took { result ≡ get_or cells.old at result }
+    ensures left { take at cells.new ≡ take at cells.old }
+    ensures size { length cells.new ≡ length cells.old }
+{
+    std::mem::replace(
+        &mut cells[at],
+        Cell {
+            val: Val::Nothing,
+            num: 0,
+        },
+    )
+}
+
+/// Leaves nothing in the cells from a place to before another.
+fn clear(cells: &mut [Cell<'_>], from: usize, to: usize)
+    requires { to ≤ length cells.old }
+    ensures left { take from cells.new ≡ take from cells.old }
+    ensures size { length cells.new ≡ length cells.old }
+{
+    for i in from..to {
+        cells[i].val = Val::Nothing;
+    }
+}
