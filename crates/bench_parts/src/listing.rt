@@ -104,7 +104,7 @@ fn words(instruction: &Instruction<'_>) -> &'static str {
         Instruction::Turn(_) => "turn",
         Instruction::Next { .. } => "next",
         Instruction::Leave { .. } => "leave",
-        Instruction::Deepen => "deepen",
+        Instruction::Deepen(_) => "deepen",
         Instruction::Invoke(_) => "invoke",
         Instruction::Return(_) => "return",
     }
@@ -159,7 +159,8 @@ fn variables(instruction: &Instruction<'_>) -> Option<u64> {
 
 fn line(instruction: &Instruction<'_>) -> Option<u64> {
     match instruction {
-        Instruction::Spend(line) | Instruction::Next { line, .. } => Some(*line),
+        Instruction::Spend(line) | Instruction::Deepen(line) | Instruction::Next { line, .. } =>
+            Some(*line),
         _ => None,
     }
 }
