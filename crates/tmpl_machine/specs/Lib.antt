@@ -4,6 +4,7 @@ pub mod Held
 pub mod Laws
 pub mod Machine
 pub mod Machines
+pub mod Plain
 pub mod Ready
 pub mod State
 pub mod Step

@@ -7,6 +7,7 @@ mod laws;
 mod machine;
 mod range;
 mod stack;
+mod stop;
 mod variable;
 
 pub use laws::{comes_to_meaning, each_turn_lessens, one_end, only_adds, stays_within};
