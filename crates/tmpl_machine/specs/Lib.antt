@@ -1,3 +1,4 @@
+pub mod Came
 pub mod Cell
 pub mod Ends
 pub mod Held
@@ -6,6 +7,7 @@ pub mod Machine
 pub mod Machines
 pub mod Plain
 pub mod Ready
+pub mod Run
 pub mod State
 pub mod Step
 pub mod Turned

@@ -23,8 +23,8 @@ Spared (Ok a) Holds = Holds
 Spared (Err e) Holds = ⊥
 
 -- .. by an instruction that may stop for another reason
-abbrev pub SparedOr : Result (Unit {0}) Stop → Type 0 → Type 0
-SparedOr (Ok u) Holds = Holds
+abbrev pub SparedOr : {A : Type 0} → Result A Stop → Type 0 → Type 0
+SparedOr (Ok a) Holds = Holds
 SparedOr (Err (stop.Fault kind)) Holds = Unit {0}
 SparedOr (Err stop.WriteFailed) Holds = Unit {0}
 SparedOr (Err stop.OutOfMemory) Holds = ⊥

@@ -1,11 +1,17 @@
 -- What a turn of a machine in memory is.
-use Rattle.std.specs.Prelude.{◌≡◌, Result, Ok, Err}
+use Rattle.std.specs.Prelude.{◌≡◌, Bool, List, ℕ, [], ◌++◌, None, Result, Ok, Err}
+use Rattle.tmpl_values.specs.Text.{text_of}
+use Rattle.tmpl_run.specs.declared.sink.SinkFault.{SinkFault}
 use Rattle.tmpl_run.specs.View.{cause_of}
 use Rattle.tmpl_run.specs.declared.fault.RunFaultKind.{RunFaultKind}
+use Rattle.tmpl_code.specs.Instruction as code
 use Rattle.tmpl_code.specs.Instruction.{Instruction, Operation, act}
+use Rattle.tmpl_machine.specs.Cell.{slot}
 use Rattle.tmpl_machine.specs.State.{State}
 use Rattle.tmpl_machine.specs.Step.{made_by}
-use Rattle.tmpl_machine.specs.Machine.{done, failed, goes}
+use Rattle.tmpl_machine.specs.Machine.{done, ended, failed, goes, ran_so}
+use Rattle.tmpl_machine.specs.declared.flow.Flow.{Flow}
+use Rattle.tmpl_machine.specs.declared.flow.Flow.TheVariants as flow
 use Rattle.tmpl_machine.specs.Machines.{Told}
 use Rattle.tmpl_machine.specs.declared.stop.Stop.{Stop}
 use Rattle.tmpl_machine.specs.declared.stop.Stop.TheVariants as stop
@@ -27,3 +33,39 @@ TurnedOr told i s t (Err stop.OutOfMemory) = Unit {0}
 -- what is told behind a step of a pipeline
 abbrev pub behind : Operation → Told → Told
 behind o told = record told { made_text = made_by o told.made_text }
+
+-- ---- any instruction
+
+-- what it puts out in a state
+abbrev pub added : Instruction → State → List ℕ
+added (code.put bytes) s = bytes
+added code.show s = text_of (slot 0 s.cells)
+added i s = []
+
+-- what is told behind it
+abbrev pub told_behind : Instruction → State → Told → Told
+told_behind (code.put bytes) s told = record told { text = told.text ++ bytes }
+told_behind code.show s told = record told { text = told.text ++ text_of (slot 0 s.cells) }
+told_behind (code.act o) s told = behind o told
+told_behind i s told = told
+
+-- the mark "makes text" behind it
+abbrev pub mark_behind : Instruction → Bool → Bool
+mark_behind (code.act o) made = made_by o made
+mark_behind i made = made
+
+-- it was carried out, and the run goes on or is over, or it stops; where a put failed it was carried out up to that
+abbrev pub Executed : Told → Instruction → State → State → Result Flow Stop → Type 0
+Executed told i s t (Ok flow.On) = done told.plan told.template i s ≡ goes t
+Executed told i s t (Ok flow.Over) = done told.plan told.template i s ≡ ended (ran_so s None)
+Executed told i s t (Err (stop.Fault kind)) =
+    done told.plan told.template i s ≡ failed told.template t.line (cause_of kind) (record s { made_text = t.made_text })
+Executed told i s t (Err stop.WriteFailed) = done told.plan told.template i s ≡ goes t
+Executed told i s t (Err stop.OutOfMemory) = Unit {0}
+
+-- whether a put failed
+abbrev pub put_by : {A : Type 0} → Result A Stop → Result (Unit {0}) SinkFault
+put_by (Ok a) = Ok tt
+put_by (Err (stop.Fault kind)) = Ok tt
+put_by (Err stop.WriteFailed) = Err (record {})
+put_by (Err stop.OutOfMemory) = Ok tt

@@ -15,22 +15,20 @@ use std::mem;
 use tmpl_values::Cell;
 
 impl<'m, 'a> Machine<'m, 'a> {
-    /// Takes a step at this line, if one is left.
-    pub(crate) fn spend(&mut self, line: u64) -> bool
+    /// Takes a step at this line.
+    pub(crate) fn spend(&mut self, limit: u64, line: u64) -> Result<(), RunFaultKind<'a>>
         ghost run: { Told }
+        requires limit { run.plan.rules.step_limit ≡ limit }
         requires place { self.old.place + 1 < 2 ^ 64 }
-        ensures step { done run.plan run.template (code.spend line) (state_of run self.old)
-            ≡ (if result then goes (state_of run self.new)
-            else failed run.template line (steps_spent run.plan.rules.step_limit) (state_of run self.old)) }
-        ensures line { self.new.line ≡ line }
+        ensures { Turned run (code.spend line) (state_of run self.old) (state_of run self.new) result }
     {
         self.line = line;
         if self.left == 0 {
-            return false;
+            return Err(RunFaultKind::StepsSpent(limit));
         }
         self.left -= 1;
         self.place += 1;
-        true
+        Ok(())
     }
 
     /// Forgets so many cells and goes to where a jump ends.

@@ -3,11 +3,17 @@
 #![tactic(auto)]
 
 mod control;
+mod execute;
+mod fault;
+mod flow;
 mod laws;
 mod machine;
 mod range;
+mod run;
 mod stack;
 mod stop;
 mod variable;
 
+pub use fault::RunError;
 pub use laws::{comes_to_meaning, each_turn_lessens, one_end, only_adds, stays_within};
+pub use run::run;

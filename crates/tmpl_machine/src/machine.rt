@@ -16,7 +16,7 @@ pub(crate) struct Machine<'m, 'a> {
     /// The number of the template that runs.
     pub(crate) template: usize,
     /// How many templates are inside one another, the first one counted.
-    pub(crate) depth: u32,
+    pub(crate) depth: u64,
     /// That of the next instruction.
     pub(crate) place: usize,
 }

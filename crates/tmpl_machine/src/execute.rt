@@ -1,0 +1,77 @@
+//! One instruction, whichever it is.
+ghost use Rattle.std.specs.Prelude.{◌≡◌, ◌+◌, ◌-◌, ◌<◌, ◌≤◌, ◌^◌, false, length};
+ghost use Rattle.tmpl_run.specs.Sink.{IsPut};
+ghost use Rattle.tmpl_code.specs.View.{instruction_of};
+ghost use Rattle.tmpl_machine.specs.Machine.{done};
+ghost use Rattle.tmpl_machine.specs.Machines.{Told, state_of};
+ghost use Rattle.tmpl_machine.specs.Output.{Grows, given_of};
+ghost use Rattle.tmpl_machine.specs.Plain.{IsPlain, SparedOr};
+ghost use Rattle.tmpl_machine.specs.Ready.{Has, Lands};
+ghost use Rattle.tmpl_machine.specs.Run.{plan_of};
+ghost use Rattle.tmpl_machine.specs.Turned.{Executed, added, mark_behind, put_by, told_behind};
+ghost use Rattle.tmpl_machine.specs.View.{cells_of, size_of};
+
+use crate::flow::Flow;
+use crate::machine::Machine;
+use crate::output::Output;
+use crate::stop::Stop;
+use tmpl_code::{Instruction, Program};
+use tmpl_run::{Options, Sink};
+
+impl<'m, 'a> Machine<'m, 'a> {
+    /// Carries out an instruction.
+    pub(crate) fn execute<S: Sink>(
+        &mut self,
+        program: &'a Program<'a>,
+        options: &Options,
+        instruction: Instruction<'a>,
+        output: &mut Output<'_, S>,
+    ) -> Result<Flow, Stop<'a>>
+        ghost run: { Told }
+        requires plan { run.plan ≡ plan_of options.now program.now }
+        requires place { self.old.place + 1 < 2 ^ 64 }
+        requires depth { self.old.depth + 1 < 2 ^ 64 }
+        requires within { length (cells_of self.old.stack) ≤ size_of self.old.stack }
+        requires ready { Has (instruction_of instruction) (length (cells_of self.old.stack)) (size_of self.old.stack) }
+        requires lands { Lands (done run.plan run.template (instruction_of instruction) (state_of run self.old)) }
+        requires countable { (given_of output.old).failures < 2 ^ 64 - 1 }
+        ensures step { let i = instruction_of instruction in let s = state_of run self.old in
+            Executed run i s (state_of (told_behind i s run) self.new) result }
+        ensures given { IsPut (put_by result) (given_of output.old) (given_of output.new)
+            (added (instruction_of instruction) (state_of run self.old)) }
+        ensures taken { Grows (S.so_far output.old.sink.now) (S.so_far output.new.sink.now) }
+        ensures plain { mark_behind (instruction_of instruction) run.made_text ≡ false
+            → IsPlain self.old → SparedOr result (IsPlain self.new) }
+        ensures size { size_of self.new.stack ≡ size_of self.old.stack }
+    {
+        match instruction {
+            Instruction::Spend(line) => self.spend(options.steps, line)?,
+            Instruction::Text(bytes) => self.put_bytes(bytes, output)?,
+            Instruction::Operate(operation) => self.operate(options.missing_key, operation)?,
+            Instruction::Show => self.show(output)?,
+            Instruction::Hold { key } => self.hold(key)?,
+            Instruction::Set(slot) => self.set(slot)?,
+            Instruction::SetDot(slot) => self.set_dot(slot)?,
+            Instruction::Unless { kept, skip } => self.branch(kept, skip),
+            Instruction::With { kept, skip } => self.open_with(kept, skip)?,
+            Instruction::EndWith {
+                count,
+                variables,
+                skip,
+            } => self.close_with(count, variables, skip),
+            Instruction::Drop { count, skip } => self.forget(count, skip),
+            Instruction::Enter { key, skip } => self.open_range(options.steps, key, skip)?,
+            Instruction::Turn(count) => self.turn(count)?,
+            Instruction::Next { count, skip, line } => {
+                self.next(options.steps, count, skip, line)?
+            }
+            Instruction::Leave { count, skip } => self.leave(count, skip),
+            Instruction::Deepen(line) => self.deepen(options.steps, options.depth, line)?,
+            Instruction::Invoke(number) => {
+                self.invoke(options.steps, number, program.starts[number])?
+            }
+            Instruction::Return(count) => return Ok(self.return_from(count)),
+        }
+        Ok(Flow::On)
+    }
+}

@@ -1,0 +1,157 @@
+//! The run of a program, from the start of a template to its end.
+ghost use Rattle.std.specs.Prelude.{◌≡◌, ◌+◌, ◌-◌, ◌*◌, ◌<◌, ◌≤◌, ◌^◌, IfSome, Some, [], false, length, option_map, slice_get};
+ghost use Rattle.tmpl_values.specs.View.{is_made, val_of, value_of};
+ghost use Rattle.tmpl_syntax.specs.View.{set_view};
+ghost use Rattle.tmpl_run.specs.Meaning.{Ran, ran, starting_dot};
+ghost use Rattle.tmpl_run.specs.Sink.{sunk};
+ghost use Rattle.tmpl_run.specs.View.{fault_seen, cause_of};
+ghost use Rattle.tmpl_code.specs.Program.{IsLinked};
+ghost use Rattle.tmpl_code.specs.Room.{room};
+ghost use Rattle.tmpl_machine.specs.Came.{Came};
+ghost use Rattle.tmpl_machine.specs.Ends.{Ends};
+ghost use Rattle.tmpl_machine.specs.Machine.{fault_at};
+ghost use Rattle.tmpl_machine.specs.Machines.{Told, state_of};
+ghost use Rattle.tmpl_machine.specs.Output.{Grows, given_of};
+ghost use Rattle.tmpl_machine.specs.Plain.{IsPlain};
+ghost use Rattle.tmpl_machine.specs.Run.{IsRun, plan_of};
+ghost use Rattle.tmpl_machine.specs.State.{starting};
+ghost use Rattle.tmpl_machine.specs.View.{cells_of, size_of};
+
+use crate::fault::RunError;
+use crate::flow::Flow;
+use crate::machine::Machine;
+use crate::output::Output;
+use crate::stack::Stack;
+use crate::stop::Stop;
+use std::alloc::Global;
+use tmpl_code::{Entry, Program};
+use tmpl_run::{Options, RunFault, RunFaultKind, Sink, without_null};
+use tmpl_values::{Cell, Data, Val};
+
+/// The dot that a run starts with: the data, of which null is nothing; nothing where there is no data.
+fn starting_dot<'a>(data: Option<&'a Data>) -> Val<'a>
+    ensures value { val_of result ≡ starting_dot (option_map (λ d. value_of d.now) data.entry) }
+    ensures borrowed { is_made result ≡ false }
+{
+    match data {
+        Some(data) => without_null(Val::of(data)),
+        None => Val::Nothing,
+    }
+}
+
+impl<'m, 'a> Machine<'m, 'a> {
+    /// Before the first instruction of a template, which is at this place.
+    fn start(
+        alloc: Global,
+        cells: &'m mut [Cell<'a>],
+        steps: u64,
+        entry: Entry,
+        place: usize,
+        data: Option<&'a Data>,
+    ) -> Machine<'m, 'a>
+        ghost run: { Told }
+        requires limit { run.plan.rules.step_limit ≡ steps }
+        requires text { run.text ≡ [] }
+        requires mark { run.made_text ≡ false }
+        requires room { 3 ≤ length cells.old }
+        ensures state { state_of run result
+            ≡ starting run.plan entry.number place (starting_dot (option_map (λ d. value_of d.now) data.entry)) }
+        ensures plain { IsPlain result }
+        ensures size { size_of result.stack ≡ length cells.old }
+    {
+        let mut stack = Stack::new(cells);
+        stack.push(Val::Nothing, 0);
+        stack.push(Val::Nothing, 0);
+        stack.push(starting_dot(data), 0);
+        Machine {
+            alloc,
+            stack,
+            dot: starting_dot(data),
+            left: steps,
+            line: 0,
+            template: entry.number,
+            depth: 1,
+            place,
+        }
+    }
+
+    /// Carries out instructions until the run is over or stops.
+    fn turns<S: Sink>(
+        &mut self,
+        program: &'a Program<'a>,
+        options: &Options,
+        output: &mut Output<'_, S>,
+    ) -> Result<(), Stop<'a>>
+        ghost run: { Told }
+        ghost end: { Ran }
+        requires plan { run.plan ≡ plan_of options.now program.now }
+        requires text { run.text ≡ [] }
+        requires ends { Ends run.plan (size_of self.old.stack) (state_of run self.old) end }
+        requires within { length (cells_of self.old.stack) ≤ size_of self.old.stack }
+        requires plain { IsPlain self.old }
+        requires depth { self.old.depth + self.old.left < 2 ^ 64 - 1 }
+        requires countable { (given_of output.old).failures < 2 ^ 64 - 1 }
+        ensures came { Came run.plan end (given_of output.old) (given_of output.new) (state_of run self.new) result }
+        ensures taken { Grows (S.so_far output.old.sink.now) (S.so_far output.new.sink.now) }
+    {
+        loop {
+            let instruction = program.instructions[self.place];
+            match self.execute(program, options, instruction, output)? {
+                Flow::On => {}
+                Flow::Over => return Ok(()),
+            }
+        }
+    }
+
+    /// The fault of the template that runs, at the line of the last step.
+    fn fault(&self, program: &'a Program<'a>, kind: RunFaultKind<'a>) -> RunFault<'a>
+        requires { self.now.template < length (set_view program.now.set.now) }
+        ensures { Some (fault_seen result)
+            ≡ option_map (λ t. fault_at t self.now.line (cause_of kind)) (slice_get (set_view program.now.set.now) self.now.template) }
+    {
+        let (template, tree) = program.set.template(self.template);
+        RunFault {
+            file: tree.file.as_slice(),
+            line: self.line,
+            template,
+            kind,
+        }
+    }
+}
+
+/// Runs a template of a program over data, by these options, and puts its text out.
+///
+/// The cells are all that the run keeps values in, and as many as [`Program::room`] says are enough. What is put out
+/// waits in the piece, of any size, until that is full; it is put out whole where the run ends or stops at a fault of
+/// the template. Memory is taken by the functions that make a text, and for what they made, and by nothing else.
+pub fn run<'a, S: Sink>(
+    alloc: Global,
+    program: &'a Program<'a>,
+    entry: Entry,
+    data: Option<&'a Data>,
+    options: &Options,
+    cells: &mut [Cell<'a>],
+    piece: &mut [u8],
+    out: &mut S,
+) -> Result<(), RunError<'a>>
+    requires linked { IsLinked program.now }
+    requires entry { entry.number < length (set_view program.now.set.now) }
+    requires room { room options.now.depth (set_view program.now.set.now) ≤ length cells.old }
+    requires countable { (S.so_far out.old).failures < 2 ^ 64 - 1 }
+    ensures { let ts = set_view program.now.set.now in IfSome (slice_get ts entry.number) (λ t.
+        IsRun (ran (plan_of options.now program.now).rules ts t.0 t.1 (option_map (λ d. value_of d.now) data.entry))
+        (sunk (S.so_far out.old) (S.so_far out.new)) result) }
+{
+    let place = program.starts[entry.number];
+    let mut machine = Machine::start(alloc, cells, options.steps, entry, place, data);
+    let mut output = Output::new(out, piece);
+    match machine.turns(program, options, &mut output) {
+        Ok(()) => Ok(output.flush()?),
+        Err(Stop::Fault(kind)) => {
+            output.flush()?;
+            Err(RunError::Fault(machine.fault(program, kind)))
+        }
+        Err(Stop::WriteFailed) => Err(RunError::WriteFailed),
+        Err(Stop::OutOfMemory) => Err(RunError::OutOfMemory),
+    }
+}
