@@ -83,7 +83,7 @@ more-left v h = by (elements_in (elements v.val)) v.num (grind (arith, nat_tests
     by (x ∷ y ∷ es) zero h = (y, es, refl)
     by (x ∷ y ∷ es) (suc i) h = by (y ∷ es) i (omega arith)
 
-none-left : (v : Cell) → has_more v ≡ false → drop 1 (left_in v) ≡ []
+pub none-left : (v : Cell) → has_more v ≡ false → drop 1 (left_in v) ≡ []
 none-left v h = by (elements_in (elements v.val)) v.num (grind (arith, nat_tests))
   where
     by : (es : List Element) (i : ℕ) → length es - 1 ≤ i → drop 1 (drop i es) ≡ []

@@ -1,17 +1,18 @@
 //! Steps, `if` and `with`.
 ghost use Rattle.std.specs.Prelude.{◌≡◌, ◌+◌, ◌<◌, ◌≤◌, ◌^◌, false, length, if◌then◌else◌, OnOk};
 ghost use Rattle.tmpl_values.specs.Truth.{truth};
-ghost use Rattle.tmpl_run.specs.Fault.{steps_spent};
 ghost use Rattle.tmpl_code.specs.Instruction as code;
 ghost use Rattle.tmpl_machine.specs.Cell.{slot};
-ghost use Rattle.tmpl_machine.specs.Machine.{done, failed, goes};
+ghost use Rattle.tmpl_machine.specs.Machine.{done, goes};
 ghost use Rattle.tmpl_machine.specs.Machines.{Told, state_of};
 ghost use Rattle.tmpl_machine.specs.Ready.{RoomIf};
+ghost use Rattle.tmpl_machine.specs.Turned.{Turned};
 ghost use Rattle.tmpl_machine.specs.View.{cells_of, size_of};
 
 use crate::machine::Machine;
 use std::alloc::AllocError;
 use std::mem;
+use tmpl_run::RunFaultKind;
 use tmpl_values::Cell;
 
 impl<'m, 'a> Machine<'m, 'a> {

@@ -34,10 +34,10 @@ impl<'m, 'a> Machine<'m, 'a> {
         requires within { length (cells_of self.old.stack) ≤ size_of self.old.stack }
         requires ready { Has (instruction_of instruction) (length (cells_of self.old.stack)) (size_of self.old.stack) }
         requires lands { Lands (done run.plan run.template (instruction_of instruction) (state_of run self.old)) }
-        requires countable { (given_of output.old).failures < 2 ^ 64 - 1 }
+        requires countable { (given_of S.so_far output.old).failures < 2 ^ 64 - 1 }
         ensures step { let i = instruction_of instruction in let s = state_of run self.old in
             Executed run i s (state_of (told_behind i s run) self.new) result }
-        ensures given { IsPut (put_by result) (given_of output.old) (given_of output.new)
+        ensures given { IsPut (put_by result) (given_of S.so_far output.old) (given_of S.so_far output.new)
             (added (instruction_of instruction) (state_of run self.old)) }
         ensures taken { Grows (S.so_far output.old.sink.now) (S.so_far output.new.sink.now) }
         ensures plain { mark_behind (instruction_of instruction) run.made_text ≡ false
@@ -70,7 +70,11 @@ impl<'m, 'a> Machine<'m, 'a> {
             Instruction::Invoke(number) => {
                 self.invoke(options.steps, number, program.starts[number])?
             }
-            Instruction::Return(count) => return Ok(self.return_from(count)),
+            Instruction::Return(count) => {
+                if self.return_from(count) {
+                    return Ok(Flow::Over);
+                }
+            }
         }
         Ok(Flow::On)
     }

@@ -2,18 +2,22 @@
 //! of its templates.
 #![tactic(auto)]
 
+mod call;
 mod control;
 mod execute;
 mod fault;
 mod flow;
 mod laws;
 mod machine;
+mod operation;
+mod output;
+mod put;
 mod range;
-mod run;
+mod runner;
 mod stack;
 mod stop;
 mod variable;
 
 pub use fault::RunError;
 pub use laws::{comes_to_meaning, each_turn_lessens, one_end, only_adds, stays_within};
-pub use run::run;
+pub use runner::run;

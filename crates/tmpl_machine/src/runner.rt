@@ -30,7 +30,7 @@ use tmpl_values::{Cell, Data, Val};
 
 /// The dot that a run starts with: the data, of which null is nothing; nothing where there is no data.
 fn starting_dot<'a>(data: Option<&'a Data>) -> Val<'a>
-    ensures value { val_of result ≡ starting_dot (option_map (λ d. value_of d.now) data.entry) }
+    ensures value { val_of result ≡ starting_dot (option_map (λ d. value_of d.now) «data».entry) }
     ensures borrowed { is_made result ≡ false }
 {
     match data {
@@ -55,7 +55,7 @@ impl<'m, 'a> Machine<'m, 'a> {
         requires mark { run.made_text ≡ false }
         requires room { 3 ≤ length cells.old }
         ensures state { state_of run result
-            ≡ starting run.plan entry.number place (starting_dot (option_map (λ d. value_of d.now) data.entry)) }
+            ≡ starting run.plan entry.number place (starting_dot (option_map (λ d. value_of d.now) «data».entry)) }
         ensures plain { IsPlain result }
         ensures size { size_of result.stack ≡ length cells.old }
     {
@@ -82,16 +82,15 @@ impl<'m, 'a> Machine<'m, 'a> {
         options: &Options,
         output: &mut Output<'_, S>,
     ) -> Result<(), Stop<'a>>
-        ghost run: { Told }
-        ghost end: { Ran }
-        requires plan { run.plan ≡ plan_of options.now program.now }
-        requires text { run.text ≡ [] }
-        requires ends { Ends run.plan (size_of self.old.stack) (state_of run self.old) end }
+        ghost run: { Told × Ran }
+        requires plan { run.0.plan ≡ plan_of options.now program.now }
+        requires text { run.0.text ≡ [] }
+        requires ends { Ends run.0.plan (size_of self.old.stack) (state_of run.0 self.old) run.1 }
         requires within { length (cells_of self.old.stack) ≤ size_of self.old.stack }
         requires plain { IsPlain self.old }
         requires depth { self.old.depth + self.old.left < 2 ^ 64 - 1 }
-        requires countable { (given_of output.old).failures < 2 ^ 64 - 1 }
-        ensures came { Came run.plan end (given_of output.old) (given_of output.new) (state_of run self.new) result }
+        requires countable { (given_of S.so_far output.old).failures < 2 ^ 64 - 1 }
+        ensures came { Came run.0.plan run.1 (given_of S.so_far output.old) (given_of S.so_far output.new) (state_of run.0 self.new) result }
         ensures taken { Grows (S.so_far output.old.sink.now) (S.so_far output.new.sink.now) }
     {
         loop {
@@ -139,7 +138,7 @@ pub fn run<'a, S: Sink>(
     requires room { room options.now.depth (set_view program.now.set.now) ≤ length cells.old }
     requires countable { (S.so_far out.old).failures < 2 ^ 64 - 1 }
     ensures { let ts = set_view program.now.set.now in IfSome (slice_get ts entry.number) (λ t.
-        IsRun (ran (plan_of options.now program.now).rules ts t.0 t.1 (option_map (λ d. value_of d.now) data.entry))
+        IsRun (ran (plan_of options.now program.now).rules ts t.0 t.1 (option_map (λ d. value_of d.now) «data».entry))
         (sunk (S.so_far out.old) (S.so_far out.new)) result) }
 {
     let place = program.starts[entry.number];
