@@ -15,3 +15,4 @@ pub mod RoomLemmas
 pub mod LoopLemmas
 pub mod StackLemmas
 pub mod TurnLemmas
+pub mod PlainLemmas
