@@ -1,5 +1,5 @@
 -- Live cells of which none holds a made text.
-use Rattle.std.proofs.Common.{arith, ◌≡◌, ◌∙◌, ◌+◌, ◌-◌, ◌<◌, ◌≤◌, ℕ, zero, suc, Bool, true, false, List, [], ◌∷◌, length, take, set, get_or, refl, ap, sym, subst, Result, Ok, Err, IfOk, IsOkAnd}
+use Rattle.std.proofs.Common.{arith, ◌≡◌, ◌∙◌, ◌+◌, ◌-◌, ◌<◌, ◌≤◌, ℕ, zero, suc, true, false, List, [], ◌∷◌, length, take, set, get_or, refl, ap, sym, subst, Result, Ok, Err, IfOk, IsOkAnd}
 use Rattle.std.proofs.Math.Numerals.{add-one}
 use Rattle.std.specs.declared.alloc.AllocError.{AllocError}
 use Rattle.tmpl_values.specs.View.{IsShared, is_made}
