@@ -16,3 +16,4 @@ pub mod LoopLemmas
 pub mod StackLemmas
 pub mod TurnLemmas
 pub mod ReadyLemmas
+pub mod PlainLemmas
