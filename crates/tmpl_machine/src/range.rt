@@ -102,6 +102,7 @@ impl<'m, 'a> Machine<'m, 'a> {
         } }
         ensures plain { is_made key.entry ≡ false → is_made element.entry ≡ false
             → IsPlain self.old → IsPlain self.new }
+        ensures size { size_of self.new.stack ≡ size_of self.old.stack }
     {
         match count {
             0 => {}
