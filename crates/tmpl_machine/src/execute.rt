@@ -35,12 +35,12 @@ impl<'m, 'a> Machine<'m, 'a> {
         requires ready { Has (instruction_of instruction) (length (cells_of self.old.stack)) (size_of self.old.stack) }
         requires lands { Lands (done run.plan run.template (instruction_of instruction) (state_of run self.old)) }
         requires countable { (given_of S.so_far output.old).failures < 2 ^ 64 - 1 }
-        ensures step { let i = instruction_of instruction in let s = state_of run self.old in
+        ensures step { let i = instruction_of instruction.entry in let s = state_of run self.old in
             Executed run i s (state_of (told_behind i s run) self.new) result }
         ensures given { IsPut (put_by result) (given_of S.so_far output.old) (given_of S.so_far output.new)
-            (added (instruction_of instruction) (state_of run self.old)) }
+            (added (instruction_of instruction.entry) (state_of run self.old)) }
         ensures taken { Grows (S.so_far output.old.sink.now) (S.so_far output.new.sink.now) }
-        ensures plain { mark_behind (instruction_of instruction) run.made_text ≡ false
+        ensures plain { mark_behind (instruction_of instruction.entry) run.made_text ≡ false
             → IsPlain self.old → SparedOr result (IsPlain self.new) }
         ensures size { size_of self.new.stack ≡ size_of self.old.stack }
     {
