@@ -15,3 +15,6 @@ pub mod RoomLemmas
 pub mod LoopLemmas
 pub mod StackLemmas
 pub mod TurnLemmas
+pub mod OperationLemmas
+pub mod CallingLemmas
+pub mod ArgumentLemmas

@@ -2,9 +2,11 @@
 //! of its templates.
 #![tactic(auto)]
 
+mod call;
 mod control;
 mod laws;
 mod machine;
+mod operation;
 mod range;
 mod stack;
 mod stop;
