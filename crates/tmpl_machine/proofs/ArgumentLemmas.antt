@@ -1,5 +1,5 @@
 -- The cells that a call takes, as its arguments.
-use Rattle.std.proofs.Common.{arith, ◌≡◌, ◌∙◌, ◌+◌, ◌-◌, ◌<◌, ◌≤◌, ◌++◌, ℕ, zero, suc, Bool, true, false, List, [], ◌∷◌, length, drop, take, map, reverse, refl, ap, sym, subst, Result, Err}
+use Rattle.std.proofs.Common.{arith, ◌≡◌, ◌∙◌, ◌+◌, ◌-◌, ◌<◌, ◌≤◌, ◌++◌, ◌||◌, ℕ, zero, suc, Bool, true, false, List, [], ◌∷◌, length, drop, take, map, reverse, refl, ap, sym, subst, Result, Err}
 use Rattle.std.proofs.lemmas.List.{drop_at, length-drop, length-map, length-reverse, length-take-le, map-append, reverse-append, reverse-reverse, take-map, take_at}
 use Rattle.std.proofs.lemmas.Simd.{map-map}
 use Rattle.std.specs.List.{drop-map}
@@ -17,7 +17,6 @@ use Rattle.tmpl_funcs.specs.declared.fault.CallError.TheVariants as error
 use Rattle.tmpl_code.specs.Code.{piped_count}
 use Rattle.tmpl_machine.specs.Cell.{Cell, values_in}
 use Rattle.tmpl_machine.specs.Held.{cell_of, cells_in}
-use Rattle.tmpl_machine.proofs.StackLemmas.{live-drop, live-same}
 
 module _ {A B : Type 0} (f : A → B) where
   map-reverse : (l : List A) → map f (reverse l) ≡ reverse (map f l)
@@ -77,11 +76,6 @@ table-is f r count top p below n from cs is e m h call =
     ∙ ap (λ k. values_in (reverse (take count (cells_in top cs)) ++ take k (drop count (cells_in top cs)))) is in
     subst (λ vs. IsCall f vs r) values call
 
--- what lies below is kept
-pub under-is : (taken top : ℕ) (old new : List held.Cell) → taken ≤ top → top ≤ length old → top ≤ length new → take (top - taken) new ≡ take (top - taken) old
-    → drop taken (cells_in top new) ≡ drop taken (cells_in top old)
-under-is taken top old new h g f e = sym (live-drop taken top new h f) ∙ live-same (top - taken) new old e ∙ live-drop taken top old h g
-
 -- ---- made texts
 
 borrowed-take : (n : ℕ) (l : List held.Cell) → AreBorrowed l → AreBorrowed (take n l)
@@ -113,3 +107,7 @@ borrowed-turned from n top below l e h =
 -- only a function that makes a text wants memory
 pub refusal-is : (f : Func) (vs : List Value) → IsCall f vs (Err error.OutOfMemory) → makes_text f ≡ false → ⊥
 refusal-is f vs call none = let made : makes_text f ≡ true = call.0 in cc
+
+pub either-not : (made makes : Bool) → (made || makes) ≡ false → makes ≡ false
+either-not true makes h = cc
+either-not false makes h = h

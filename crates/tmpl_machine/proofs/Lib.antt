@@ -18,3 +18,4 @@ pub mod TurnLemmas
 pub mod OperationLemmas
 pub mod CallingLemmas
 pub mod ArgumentLemmas
+pub mod PlainLemmas

@@ -28,7 +28,7 @@ live-taken top old new c some within is left =
     ap (λ n. cells_in n old) one ∙ live-more (top - 1) old c (omega arith) ∙ ap (λ (d : held.Cell). cell_of d ∷ cells_in (top - 1) old) (sym is) ∙ ap (λ l. cell_of c ∷ l) (sym (live-same (top - 1) new old left))
 
 -- the oldest so many are those that are left when the others are forgotten
-pub live-drop : (count top : ℕ) (cs : List held.Cell) → count ≤ top → top ≤ length cs → cells_in (top - count) cs ≡ drop count (cells_in top cs)
+live-drop : (count top : ℕ) (cs : List held.Cell) → count ≤ top → top ≤ length cs → cells_in (top - count) cs ≡ drop count (cells_in top cs)
 live-drop zero top cs h g = let same : top - 0 ≡ top = omega arith in ap (λ n. cells_in n cs) same
 live-drop (suc k) zero cs h g = absurd (omega arith)
 live-drop (suc k) (suc top) [] h g = absurd (omega arith)

@@ -3,6 +3,7 @@ ghost use Rattle.std.specs.Prelude.{◌≡◌, ◌+◌, ◌<◌, ◌≤◌, ◌^
 ghost use Rattle.tmpl_code.specs.Instruction as code;
 ghost use Rattle.tmpl_machine.specs.Machine.{done, ended, goes, ran_so};
 ghost use Rattle.tmpl_machine.specs.Machines.{Told, state_of};
+ghost use Rattle.tmpl_machine.specs.Plain.{IsPlain, SparedOr};
 ghost use Rattle.tmpl_machine.specs.Turned.{Turned, TurnedOr};
 ghost use Rattle.tmpl_machine.specs.View.{cells_of, size_of};
 
@@ -25,7 +26,8 @@ impl<'m, 'a> Machine<'m, 'a> {
         requires steps { run.plan.rules.step_limit ≡ step_limit }
         requires depths { run.plan.rules.depth_limit ≡ depth_limit }
         requires place { self.old.place + 1 < 2 ^ 64 }
-        ensures { Turned run (code.deepen line) (state_of run self.old) (state_of run self.new) result }
+        ensures step { Turned run (code.deepen line) (state_of run self.old) (state_of run self.new) result }
+        ensures plain { IsPlain self.old → IsPlain self.new }
     {
         self.line = line;
         if self.left == 0 {
@@ -54,6 +56,7 @@ impl<'m, 'a> Machine<'m, 'a> {
         requires depth { self.old.depth + 1 < 2 ^ 32 }
         requires place { self.old.place + 1 < 2 ^ 64 }
         ensures step { TurnedOr run (code.invoke number) (state_of run self.old) (state_of run self.new) result }
+        ensures plain { IsPlain self.old → SparedOr result (IsPlain self.new) }
     {
         if self.left == 0 {
             return Err(Stop::Fault(RunFaultKind::StepsSpent(step_limit)));
@@ -76,8 +79,9 @@ impl<'m, 'a> Machine<'m, 'a> {
     pub(crate) fn return_from(&mut self, count: usize) -> bool
         ghost run: { Told }
         requires found { 1 < self.old.depth → count + 3 ≤ length (cells_of self.old.stack) }
-        ensures { done run.plan run.template (code.return_from count) (state_of run self.old)
+        ensures step { done run.plan run.template (code.return_from count) (state_of run self.old)
             ≡ (if result then ended (ran_so (state_of run self.old) None) else goes (state_of run self.new)) }
+        ensures plain { IsPlain self.old → IsPlain self.new }
     {
         if self.depth <= 1 {
             return true;

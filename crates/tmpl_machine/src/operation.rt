@@ -1,7 +1,7 @@
 //! Steps of pipelines.
-ghost use Rattle.std.specs.Prelude.{◌≡◌, ◌+◌, ◌-◌, ◌<◌, ◌≤◌, ◌∷◌, ◌^◌, length, true};
-ghost use Rattle.tmpl_values.specs.View.{val_of};
-ghost use Rattle.tmpl_funcs.specs.Func.{is_called};
+ghost use Rattle.std.specs.Prelude.{◌≡◌, ◌+◌, ◌-◌, ◌<◌, ◌≤◌, ◌∷◌, ◌^◌, false, length, true};
+ghost use Rattle.tmpl_values.specs.View.{is_made, val_of};
+ghost use Rattle.tmpl_funcs.specs.Func.{is_called, makes_text};
 ghost use Rattle.tmpl_run.specs.Pipeline.{decides};
 ghost use Rattle.tmpl_run.specs.View.{cause_of};
 ghost use Rattle.tmpl_code.specs.Code.{piped_count};
@@ -10,6 +10,7 @@ ghost use Rattle.tmpl_code.specs.View.{operation_of, refusal_of};
 ghost use Rattle.tmpl_machine.specs.Cell.{fresh, slot};
 ghost use Rattle.tmpl_machine.specs.Machine.{done, goes};
 ghost use Rattle.tmpl_machine.specs.Machines.{Told, state_of};
+ghost use Rattle.tmpl_machine.specs.Plain.{IsPlain, SparedOr};
 ghost use Rattle.tmpl_machine.specs.Ready.{Fits};
 ghost use Rattle.tmpl_machine.specs.State.{State};
 ghost use Rattle.tmpl_machine.specs.Step as pipe;
@@ -53,6 +54,8 @@ impl<'m, 'a> Machine<'m, 'a> {
             → t.place < 2 ^ 64 }
         ensures step { TurnedOr run (act (operation_of operation.entry)) (state_of run self.old)
             (state_of (behind (operation_of operation.entry) run) self.new) result }
+        ensures plain { pipe.made_by (operation_of operation.entry) run.made_text ≡ false → IsPlain self.old
+            → SparedOr result (IsPlain self.new) }
     {
         match operation {
             Operation::Nothing => {
@@ -93,10 +96,11 @@ impl<'m, 'a> Machine<'m, 'a> {
         ghost run: { Told }
         requires room { length (cells_of self.old.stack) < size_of self.old.stack }
         requires place { self.old.place + 1 < 2 ^ 64 }
-        ensures { state_of run self.new ≡ record (state_of run self.old) {
+        ensures step { state_of run self.new ≡ record (state_of run self.old) {
           cells = fresh (val_of val.entry) ∷ cells_of self.old.stack;
           place = self.old.place + 1;
         } }
+        ensures plain { is_made val.entry ≡ false → IsPlain self.old → IsPlain self.new }
     {
         self.stack.push(val, 0);
         self.place += 1;
@@ -109,6 +113,7 @@ impl<'m, 'a> Machine<'m, 'a> {
         requires place { self.old.place + 1 < 2 ^ 64 }
         ensures step { TurnedOr run (act push_dot) (state_of run self.old) (state_of (behind push_dot run) self.new)
             result }
+        ensures plain { IsPlain self.old → SparedOr result (IsPlain self.new) }
     {
         let val = self.dot.share()?;
         self.give(val);
@@ -124,6 +129,7 @@ impl<'m, 'a> Machine<'m, 'a> {
         requires place { self.old.place + 1 < 2 ^ 64 }
         ensures step { TurnedOr run (act (push_fields names.now)) (state_of run self.old)
             (state_of (behind (push_fields names.now) run) self.new) result }
+        ensures plain { IsPlain self.old → SparedOr result (IsPlain self.new) }
     {
         let dot = self.dot.share()?;
         let val = missing_key.chain(dot, names)?;
@@ -139,6 +145,7 @@ impl<'m, 'a> Machine<'m, 'a> {
         requires place { self.old.place + 1 < 2 ^ 64 }
         ensures step { TurnedOr run (act (push_slot slot)) (state_of run self.old)
             (state_of (behind (push_slot slot) run) self.new) result }
+        ensures plain { IsPlain self.old → SparedOr result (IsPlain self.new) }
     {
         let val = self.stack.share(slot)?;
         self.give(val);
@@ -155,6 +162,7 @@ impl<'m, 'a> Machine<'m, 'a> {
         requires place { self.old.place + 1 < 2 ^ 64 }
         ensures step { TurnedOr run (act (chained names.now)) (state_of run self.old)
             (state_of (behind (chained names.now) run) self.new) result }
+        ensures plain { IsPlain self.old → SparedOr result (IsPlain self.new) }
     {
         let whole = self.stack.take().val;
         let val = missing_key.chain(whole, names)?;
@@ -172,6 +180,7 @@ impl<'m, 'a> Machine<'m, 'a> {
         requires place { self.old.place + 1 < 2 ^ 64 }
         ensures step { TurnedOr run (act (call_with func count piped)) (state_of run self.old)
             (state_of (behind (call_with func count piped) run) self.new) result }
+        ensures plain { makes_text func ≡ false → IsPlain self.old → SparedOr result (IsPlain self.new) }
     {
         let alloc = self.alloc;
         match self.stack.call(alloc, func, count, piped) {
@@ -193,8 +202,9 @@ impl<'m, 'a> Machine<'m, 'a> {
         requires within { length (cells_of self.old.stack) ≤ size_of self.old.stack }
         requires place { self.old.place + 1 < 2 ^ 64 }
         requires over { decides is_or (slot 0 (cells_of self.old.stack)) ≡ true → self.old.place + 1 + skip < 2 ^ 64 }
-        ensures { done run.plan run.template (act (decide is_or piped skip)) (state_of run self.old)
+        ensures step { done run.plan run.template (act (decide is_or piped skip)) (state_of run self.old)
             ≡ goes (state_of run self.new) }
+        ensures plain { IsPlain self.old → IsPlain self.new }
     {
         let val = self.stack.take().val;
         self.place += 1;
@@ -213,7 +223,8 @@ impl<'m, 'a> Machine<'m, 'a> {
         requires found { 1 ≤ length (cells_of self.old.stack) }
         requires within { length (cells_of self.old.stack) ≤ size_of self.old.stack }
         requires place { self.old.place + 1 < 2 ^ 64 }
-        ensures { done run.plan run.template (act settle) (state_of run self.old) ≡ goes (state_of run self.new) }
+        ensures step { done run.plan run.template (act settle) (state_of run self.old) ≡ goes (state_of run self.new) }
+        ensures plain { IsPlain self.old → IsPlain self.new }
     {
         let val = self.stack.take().val;
         self.give(without_null(val));

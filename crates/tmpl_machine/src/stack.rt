@@ -1,16 +1,17 @@
 //! The stack of a run, in cells that are lent to it.
 ghost use Rattle.std.specs.Prelude.{◌≡◌, ◌+◌, ◌-◌, ◌<◌, ◌≤◌, ◌∷◌, ◌++◌, [], drop, get_or, length, option_map, reverse};
-ghost use Rattle.std.specs.Prelude.{take, IfOk, slice_set, true, ◌^◌};
+ghost use Rattle.std.specs.Prelude.{take, false, true, ◌^◌, slice_set, IfOk, IfSome, IsOkAnd};
 ghost use Rattle.tmpl_values.specs.Elements.{item_at};
-ghost use Rattle.tmpl_values.specs.View.{element_of, val_of};
+ghost use Rattle.tmpl_values.specs.View.{element_of, is_made, val_of};
 ghost use Rattle.tmpl_values.specs.Truth.{truth};
+ghost use Rattle.tmpl_funcs.specs.Answer.{AreBorrowed, IsBorrowed};
 ghost use Rattle.tmpl_funcs.specs.Dispatch.{IsCall};
-ghost use Rattle.tmpl_funcs.specs.Func.{is_called};
+ghost use Rattle.tmpl_funcs.specs.Func.{is_called, makes_text};
 ghost use Rattle.tmpl_funcs.specs.View.{values_of};
 ghost use Rattle.tmpl_code.specs.Code.{piped_count};
 ghost use Rattle.tmpl_machine.specs.Cell.{cell};
 ghost use Rattle.tmpl_machine.specs.Machine.{has_more};
-ghost use Rattle.tmpl_machine.specs.Held.{cell_at, cell_of};
+ghost use Rattle.tmpl_machine.specs.Held.{cell_at, cell_of, made_at};
 
 use std::alloc::{AllocError, Global};
 use tmpl_funcs::{CallError, Func, call};
@@ -27,6 +28,7 @@ pub(crate) struct Stack<'s, 'a> {
 
 impl<'s, 'a> Stack<'s, 'a> {
     ghost use Rattle.tmpl_machine.specs.Cell.{slot, slot_cell, values_in};
+    ghost use Rattle.tmpl_machine.specs.Plain.{IsPlainStack, Spared};
     ghost use Rattle.tmpl_machine.specs.View.{cells_of, size_of};
 
     /// No cell is live.
@@ -34,6 +36,7 @@ impl<'s, 'a> Stack<'s, 'a> {
     pub(crate) fn new(cells: &'s mut [Cell<'a>]) -> Stack<'s, 'a>
         ensures cells { cells_of result ≡ [] }
         ensures size { size_of result ≡ length cells.old }
+        ensures plain { IsPlainStack result }
     {
         Stack { cells, top: 0 }
     }
@@ -45,6 +48,7 @@ impl<'s, 'a> Stack<'s, 'a> {
         ensures cells { cells_of self.new ≡ cell (val_of val.entry) num ∷ cells_of self.old }
         ensures count { length (cells_of self.new) ≡ length (cells_of self.old) + 1 }
         ensures size { size_of self.new ≡ size_of self.old }
+        ensures plain { is_made val.entry ≡ false → IsPlainStack self.old → IsPlainStack self.new }
     {
         self.cells[self.top] = Cell { val, num };
         self.top += 1;
@@ -57,6 +61,7 @@ impl<'s, 'a> Stack<'s, 'a> {
         ensures cells { cells_of self.old ≡ cell_of result ∷ cells_of self.new }
         ensures count { length (cells_of self.old) ≡ length (cells_of self.new) + 1 }
         ensures size { size_of self.new ≡ size_of self.old }
+        ensures plain { IsPlainStack self.old → (is_made result.val ≡ false) × IsPlainStack self.new }
     {
         self.top -= 1;
         take_at(self.cells, self.top)
@@ -69,6 +74,7 @@ impl<'s, 'a> Stack<'s, 'a> {
         ensures cells { cells_of self.new ≡ drop count (cells_of self.old) }
         ensures count { length (cells_of self.old) ≡ length (cells_of self.new) + count }
         ensures size { size_of self.new ≡ size_of self.old }
+        ensures plain { IsPlainStack self.old → IsPlainStack self.new }
     {
         let old = self.top;
         self.top -= count;
@@ -82,6 +88,8 @@ impl<'s, 'a> Stack<'s, 'a> {
         ensures cells { cells_of self.new ≡ cells_of self.old }
         ensures size { size_of self.new ≡ size_of self.old }
         ensures shared { IfOk result (λ v. val_of v ≡ slot index (cells_of self.old)) }
+        ensures plain { IsPlainStack self.old → Spared result (IsPlainStack self.new) }
+        ensures borrowed { IsPlainStack self.old → IfOk result (λ v. is_made v ≡ false) }
     {
         share_at(self.cells, self.top - 1 - index)
     }
@@ -93,6 +101,7 @@ impl<'s, 'a> Stack<'s, 'a> {
         ensures cells { cells_of self.new ≡ cells_of self.old }
         ensures size { size_of self.new ≡ size_of self.old }
         ensures holds { result ≡ truth (slot 0 (cells_of self.old)) }
+        ensures plain { IsPlainStack self.old → IsPlainStack self.new }
     {
         holds_at(self.cells, self.top - 1)
     }
@@ -104,6 +113,7 @@ impl<'s, 'a> Stack<'s, 'a> {
         ensures cells { cells_of self.new ≡ slice_set (cells_of self.old) index (cell (val_of val.entry) 0) }
         ensures count { length (cells_of self.new) ≡ length (cells_of self.old) }
         ensures size { size_of self.new ≡ size_of self.old }
+        ensures plain { is_made val.entry ≡ false → IsPlainStack self.old → IsPlainStack self.new }
     {
         let at = self.top - 1 - index;
         self.cells[at] = Cell { val, num: 0 };
@@ -117,6 +127,8 @@ impl<'s, 'a> Stack<'s, 'a> {
         ensures size { size_of self.new ≡ size_of self.old }
         ensures element { option_map element_of result
             ≡ item_at (slot_cell 1 (cells_of self.old)).num (slot_cell 1 (cells_of self.old)).val }
+        ensures plain { IsPlainStack self.old → IsPlainStack self.new }
+        ensures borrowed { IfSome result (λ p. (is_made p.0 ≡ false) × (is_made p.1 ≡ false)) }
     {
         element_at(self.cells, self.top - 2)
     }
@@ -129,6 +141,7 @@ impl<'s, 'a> Stack<'s, 'a> {
         ensures size { size_of self.new ≡ size_of self.old }
         ensures more { result ≡ has_more (slot_cell 1 (cells_of self.old)) }
         ensures fits { result ≡ true → (slot_cell 1 (cells_of self.old)).num + 1 < 2 ^ 64 }
+        ensures plain { IsPlainStack self.old → IsPlainStack self.new }
     {
         has_more_at(self.cells, self.top - 2)
     }
@@ -150,11 +163,13 @@ impl<'s, 'a> Stack<'s, 'a> {
         ensures cells { cells_of self.new ≡ drop (count + piped_count piped) (cells_of self.old) }
         ensures count { length (cells_of self.old) ≡ length (cells_of self.new) + (count + piped_count piped) }
         ensures size { size_of self.new ≡ size_of self.old }
+        ensures plain { makes_text func ≡ false → IsPlainStack self.old → IsBorrowed result × IsPlainStack self.new }
     {
         let below = piped_count(piped);
         let to = self.top;
-        let result = call_between(self.cells, to - (count + below), to, below, alloc, func);
-        self.pop(count + below);
+        self.top -= count + below;
+        let result = call_between(self.cells, self.top, to, below, alloc, func);
+        clear(self.cells, self.top, to);
         result
     }
 }
@@ -180,6 +195,7 @@ fn call_between<'a>(
     requires within { to ≤ length cells.old }
     ensures table { let arguments = take (to - from) (drop from cells.old) in
         IsCall func (values_of (drop below arguments ++ take below arguments)) result }
+    ensures borrowed { makes_text func ≡ false → AreBorrowed (take to cells.old) → IsBorrowed result }
     ensures left { take from cells.new ≡ take from cells.old }
     ensures size { length cells.new ≡ length cells.old }
 {
@@ -194,6 +210,7 @@ fn share_at<'a>(cells: &mut [Cell<'a>], at: usize) -> Result<Val<'a>, AllocError
     requires { at < length cells.old }
     ensures same { cells.new ≡ cells.old }
     ensures shared { IfOk result (λ v. val_of v ≡ (cell_at cells.old at).val) }
+    ensures borrowed { made_at cells.old at ≡ false → IsOkAnd result (λ v. is_made v ≡ false) }
 {
     cells[at].val.share()
 }
@@ -214,6 +231,7 @@ fn element_at<'a>(cells: &mut [Cell<'a>], at: usize) -> Option<(Val<'a>, Val<'a>
     requires { at < length cells.old }
     ensures same { cells.new ≡ cells.old }
     ensures element { option_map element_of result ≡ item_at (cell_at cells.old at).num (cell_at cells.old at).val }
+    ensures borrowed { IfSome result (λ p. (is_made p.0 ≡ false) × (is_made p.1 ≡ false)) }
 {
     let whole = &cells[..];
     let cell = &whole[at];
