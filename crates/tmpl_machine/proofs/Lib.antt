@@ -16,4 +16,7 @@ pub mod LoopLemmas
 pub mod StackLemmas
 pub mod TurnLemmas
 pub mod ReadyLemmas
+pub mod OperationLemmas
+pub mod CallingLemmas
+pub mod ArgumentLemmas
 pub mod PlainLemmas

@@ -1,14 +1,20 @@
 //! The stack of a run, in cells that are lent to it.
-ghost use Rattle.std.specs.Prelude.{◌≡◌, ◌+◌, ◌-◌, ◌<◌, ◌≤◌, ◌∷◌, [], drop, get_or, length, option_map, take};
-ghost use Rattle.std.specs.Prelude.{false, true, ◌^◌, slice_set, IfOk, IfSome, IsOkAnd};
+ghost use Rattle.std.specs.Prelude.{◌≡◌, ◌+◌, ◌-◌, ◌<◌, ◌≤◌, ◌∷◌, ◌++◌, [], drop, get_or, length, option_map, reverse};
+ghost use Rattle.std.specs.Prelude.{take, false, true, ◌^◌, slice_set, IfOk, IfSome, IsOkAnd};
 ghost use Rattle.tmpl_values.specs.Elements.{item_at};
 ghost use Rattle.tmpl_values.specs.View.{element_of, is_made, val_of};
 ghost use Rattle.tmpl_values.specs.Truth.{truth};
+ghost use Rattle.tmpl_funcs.specs.Answer.{AreBorrowed, IsBorrowed};
+ghost use Rattle.tmpl_funcs.specs.Dispatch.{IsCall};
+ghost use Rattle.tmpl_funcs.specs.Func.{is_called, makes_text};
+ghost use Rattle.tmpl_funcs.specs.View.{values_of};
+ghost use Rattle.tmpl_code.specs.Code.{piped_count};
 ghost use Rattle.tmpl_machine.specs.Cell.{cell};
 ghost use Rattle.tmpl_machine.specs.Machine.{has_more};
 ghost use Rattle.tmpl_machine.specs.Held.{cell_at, cell_of, made_at};
 
-use std::alloc::AllocError;
+use std::alloc::{AllocError, Global};
+use tmpl_funcs::{CallError, Func, call};
 use tmpl_run::element_count;
 use tmpl_values::{Cell, Val};
 
@@ -21,7 +27,7 @@ pub(crate) struct Stack<'s, 'a> {
 }
 
 impl<'s, 'a> Stack<'s, 'a> {
-    ghost use Rattle.tmpl_machine.specs.Cell.{slot, slot_cell};
+    ghost use Rattle.tmpl_machine.specs.Cell.{slot, slot_cell, values_in};
     ghost use Rattle.tmpl_machine.specs.Plain.{IsPlainStack, Spared};
     ghost use Rattle.tmpl_machine.specs.View.{cells_of, size_of};
 
@@ -139,6 +145,63 @@ impl<'s, 'a> Stack<'s, 'a> {
     {
         has_more_at(self.cells, self.top - 2)
     }
+
+    /// What a function gives for the newest so many values, the oldest of them first, and for a piped one behind them,
+    /// if it lies below. Forgets them all.
+    #[tactic(auto, using(crate::proofs::StackLemmas::stacks), unfolding(crate::specs::View::cells_of))]
+    pub(crate) fn call(
+        &mut self,
+        alloc: Global,
+        func: Func,
+        count: usize,
+        piped: bool,
+    ) -> Result<Val<'a>, CallError>
+        requires called { is_called func ≡ true }
+        requires found { count + piped_count piped ≤ length (cells_of self.old) }
+        ensures table { IsCall func (values_in (reverse (take count (cells_of self.old))
+            ++ take (piped_count piped) (drop count (cells_of self.old)))) result }
+        ensures cells { cells_of self.new ≡ drop (count + piped_count piped) (cells_of self.old) }
+        ensures count { length (cells_of self.old) ≡ length (cells_of self.new) + (count + piped_count piped) }
+        ensures size { size_of self.new ≡ size_of self.old }
+        ensures plain { makes_text func ≡ false → IsPlainStack self.old → IsBorrowed result × IsPlainStack self.new }
+    {
+        let below = piped_count(piped);
+        let to = self.top;
+        self.top -= count + below;
+        let result = call_between(self.cells, self.top, to, below, alloc, func);
+        clear(self.cells, self.top, to);
+        result
+    }
+}
+
+/// How many cells a piped value takes.
+pub(crate) fn piped_count(piped: bool) -> usize
+    ensures { result ≡ piped_count piped }
+{
+    usize::from(piped)
+}
+
+/// What a function gives for the values from a place to before another, the lowest so many of them behind the others.
+fn call_between<'a>(
+    cells: &mut [Cell<'a>],
+    from: usize,
+    to: usize,
+    below: usize,
+    alloc: Global,
+    func: Func,
+) -> Result<Val<'a>, CallError>
+    requires called { is_called func ≡ true }
+    requires found { from + below ≤ to }
+    requires within { to ≤ length cells.old }
+    ensures table { let arguments = take (to - from) (drop from cells.old) in
+        IsCall func (values_of (drop below arguments ++ take below arguments)) result }
+    ensures borrowed { makes_text func ≡ false → AreBorrowed (take to cells.old) → IsBorrowed result }
+    ensures left { take from cells.new ≡ take from cells.old }
+    ensures size { length cells.new ≡ length cells.old }
+{
+    let arguments = &mut cells[from..to];
+    arguments.rotate_left(below);
+    call(alloc, func, arguments)
 }
 
 /// The value of a cell once more.

@@ -1,0 +1,232 @@
+//! Steps of pipelines.
+ghost use Rattle.std.specs.Prelude.{◌≡◌, ◌+◌, ◌-◌, ◌<◌, ◌≤◌, ◌∷◌, ◌^◌, false, length, true};
+ghost use Rattle.tmpl_values.specs.View.{is_made, val_of};
+ghost use Rattle.tmpl_funcs.specs.Func.{is_called, makes_text};
+ghost use Rattle.tmpl_run.specs.Pipeline.{decides};
+ghost use Rattle.tmpl_run.specs.View.{cause_of};
+ghost use Rattle.tmpl_code.specs.Code.{piped_count};
+ghost use Rattle.tmpl_code.specs.Instruction.{act, call_with, chained, decide, push_dot, push_fields, push_slot, settle};
+ghost use Rattle.tmpl_code.specs.View.{operation_of, refusal_of};
+ghost use Rattle.tmpl_machine.specs.Cell.{fresh, slot};
+ghost use Rattle.tmpl_machine.specs.Machine.{done, goes};
+ghost use Rattle.tmpl_machine.specs.Machines.{Told, state_of};
+ghost use Rattle.tmpl_machine.specs.Plain.{IsPlain, SparedOr};
+ghost use Rattle.tmpl_machine.specs.Ready.{Fits};
+ghost use Rattle.tmpl_machine.specs.State.{State};
+ghost use Rattle.tmpl_machine.specs.Step as pipe;
+ghost use Rattle.tmpl_machine.specs.Turned.{TurnedOr, behind};
+ghost use Rattle.tmpl_machine.specs.View.{cells_of, size_of};
+
+use crate::machine::Machine;
+use crate::stack::piped_count;
+use crate::stop::Stop;
+use tmpl_code::{Operation, Refusal};
+use tmpl_funcs::{CallError, CallFault, Func};
+use tmpl_run::{MissingKey, RunFaultKind, decides, without_null};
+use tmpl_values::{Bytes, Val};
+
+/// Why a run stops at what the form of a command or of a call of a template refuses.
+fn refused(why: Refusal<'_>) -> RunFaultKind<'_>
+    ensures { cause_of result ≡ pipe.cause_of (refusal_of why.entry) }
+{
+    match why {
+        Refusal::NotAFunction => RunFaultKind::NotAFunction,
+        Refusal::NilCommand => RunFaultKind::NilCommand,
+        Refusal::WrongCount(func) => RunFaultKind::Call(func, CallFault::WrongCount),
+        Refusal::NoTemplate(name) => RunFaultKind::NoTemplate(name.as_slice()),
+    }
+}
+
+impl<'m, 'a> Machine<'m, 'a> {
+    /// One step of a pipeline.
+    pub(crate) fn operate(
+        &mut self,
+        missing_key: MissingKey,
+        operation: Operation<'a>,
+    ) -> Result<(), Stop<'a>>
+        ghost run: { Told }
+        requires mode { run.plan.rules.missing_key ≡ missing_key }
+        requires fits { Fits (operation_of operation) (length (cells_of self.old.stack)) (size_of self.old.stack) }
+        requires within { length (cells_of self.old.stack) ≤ size_of self.old.stack }
+        requires place { self.old.place + 1 < 2 ^ 64 }
+        requires next { (t : State)
+            → done run.plan run.template (act (operation_of operation)) (state_of run self.old) ≡ goes t
+            → t.place < 2 ^ 64 }
+        ensures step { TurnedOr run (act (operation_of operation.entry)) (state_of run self.old)
+            (state_of (behind (operation_of operation.entry) run) self.new) result }
+        ensures plain { pipe.made_by (operation_of operation.entry) run.made_text ≡ false → IsPlain self.old
+            → SparedOr result (IsPlain self.new) }
+    {
+        match operation {
+            Operation::Nothing => {
+                self.give(Val::Nothing);
+                Ok(())
+            }
+            Operation::Bool(truth) => {
+                self.give(Val::Bool(truth));
+                Ok(())
+            }
+            Operation::Number(number) => {
+                self.give(Val::Num(number));
+                Ok(())
+            }
+            Operation::Text(text) => {
+                self.give(Val::Text(text));
+                Ok(())
+            }
+            Operation::Dot => self.push_dot(),
+            Operation::Fields(names) => self.push_fields(missing_key, names),
+            Operation::Slot(slot) => self.push_slot(slot),
+            Operation::Chain(names) => self.chain(missing_key, names),
+            Operation::Call { func, count, piped } => self.call(func, count, piped),
+            Operation::Decide { is_or, piped, skip } => {
+                self.decide(is_or, piped, skip);
+                Ok(())
+            }
+            Operation::Settle => {
+                self.settle();
+                Ok(())
+            }
+            Operation::Refuse(why) => Err(Stop::Fault(refused(why))),
+        }
+    }
+
+    /// Puts a value, and goes to the next instruction.
+    fn give(&mut self, val: Val<'a>)
+        ghost run: { Told }
+        requires room { length (cells_of self.old.stack) < size_of self.old.stack }
+        requires place { self.old.place + 1 < 2 ^ 64 }
+        ensures step { state_of run self.new ≡ record (state_of run self.old) {
+          cells = fresh (val_of val.entry) ∷ cells_of self.old.stack;
+          place = self.old.place + 1;
+        } }
+        ensures plain { is_made val.entry ≡ false → IsPlain self.old → IsPlain self.new }
+    {
+        self.stack.push(val, 0);
+        self.place += 1;
+    }
+
+    /// Puts dot.
+    fn push_dot(&mut self) -> Result<(), Stop<'a>>
+        ghost run: { Told }
+        requires room { length (cells_of self.old.stack) < size_of self.old.stack }
+        requires place { self.old.place + 1 < 2 ^ 64 }
+        ensures step { TurnedOr run (act push_dot) (state_of run self.old) (state_of (behind push_dot run) self.new)
+            result }
+        ensures plain { IsPlain self.old → SparedOr result (IsPlain self.new) }
+    {
+        let val = self.dot.share()?;
+        self.give(val);
+        Ok(())
+    }
+
+    /// Puts the field of the field of .. of dot, by these names.
+    #[tactic(auto, using(crate::proofs::OperationLemmas::operations))]
+    fn push_fields(&mut self, missing_key: MissingKey, names: &'a [Bytes]) -> Result<(), Stop<'a>>
+        ghost run: { Told }
+        requires mode { run.plan.rules.missing_key ≡ missing_key }
+        requires room { length (cells_of self.old.stack) < size_of self.old.stack }
+        requires place { self.old.place + 1 < 2 ^ 64 }
+        ensures step { TurnedOr run (act (push_fields names.now)) (state_of run self.old)
+            (state_of (behind (push_fields names.now) run) self.new) result }
+        ensures plain { IsPlain self.old → SparedOr result (IsPlain self.new) }
+    {
+        let dot = self.dot.share()?;
+        let val = missing_key.chain(dot, names)?;
+        self.give(val);
+        Ok(())
+    }
+
+    /// Puts the value of a slot once more.
+    fn push_slot(&mut self, slot: usize) -> Result<(), Stop<'a>>
+        ghost run: { Told }
+        requires found { slot < length (cells_of self.old.stack) }
+        requires room { length (cells_of self.old.stack) < size_of self.old.stack }
+        requires place { self.old.place + 1 < 2 ^ 64 }
+        ensures step { TurnedOr run (act (push_slot slot)) (state_of run self.old)
+            (state_of (behind (push_slot slot) run) self.new) result }
+        ensures plain { IsPlain self.old → SparedOr result (IsPlain self.new) }
+    {
+        let val = self.stack.share(slot)?;
+        self.give(val);
+        Ok(())
+    }
+
+    /// Takes the newest value for its field of a field of .., by these names.
+    #[tactic(auto, using(crate::proofs::OperationLemmas::operations))]
+    fn chain(&mut self, missing_key: MissingKey, names: &'a [Bytes]) -> Result<(), Stop<'a>>
+        ghost run: { Told }
+        requires mode { run.plan.rules.missing_key ≡ missing_key }
+        requires found { 1 ≤ length (cells_of self.old.stack) }
+        requires within { length (cells_of self.old.stack) ≤ size_of self.old.stack }
+        requires place { self.old.place + 1 < 2 ^ 64 }
+        ensures step { TurnedOr run (act (chained names.now)) (state_of run self.old)
+            (state_of (behind (chained names.now) run) self.new) result }
+        ensures plain { IsPlain self.old → SparedOr result (IsPlain self.new) }
+    {
+        let whole = self.stack.take().val;
+        let val = missing_key.chain(whole, names)?;
+        self.give(val);
+        Ok(())
+    }
+
+    /// Calls a function over the newest so many values, and a piped one, if it lies below them.
+    #[tactic(auto, using(crate::proofs::OperationLemmas::operations))]
+    fn call(&mut self, func: Func, count: usize, piped: bool) -> Result<(), Stop<'a>>
+        ghost run: { Told }
+        requires called { is_called func ≡ true }
+        requires found { count + piped_count piped ≤ length (cells_of self.old.stack) }
+        requires room { length (cells_of self.old.stack) - (count + piped_count piped) < size_of self.old.stack }
+        requires place { self.old.place + 1 < 2 ^ 64 }
+        ensures step { TurnedOr run (act (call_with func count piped)) (state_of run self.old)
+            (state_of (behind (call_with func count piped) run) self.new) result }
+        ensures plain { makes_text func ≡ false → IsPlain self.old → SparedOr result (IsPlain self.new) }
+    {
+        let alloc = self.alloc;
+        match self.stack.call(alloc, func, count, piped) {
+            Ok(val) => {
+                self.give(val);
+                Ok(())
+            }
+            Err(CallError::Fault(fault)) => Err(Stop::Fault(RunFaultKind::Call(func, fault))),
+            Err(CallError::OutOfMemory) => Err(Stop::OutOfMemory),
+        }
+    }
+
+    /// A value that decides an `or`, or else an `and`, stays, and so many instructions are passed over; a piped one
+    /// below it goes. Another goes.
+    #[tactic(auto, using(crate::proofs::OperationLemmas::operations))]
+    fn decide(&mut self, is_or: bool, piped: bool, skip: usize)
+        ghost run: { Told }
+        requires found { 1 + piped_count piped ≤ length (cells_of self.old.stack) }
+        requires within { length (cells_of self.old.stack) ≤ size_of self.old.stack }
+        requires place { self.old.place + 1 < 2 ^ 64 }
+        requires over { decides is_or (slot 0 (cells_of self.old.stack)) ≡ true → self.old.place + 1 + skip < 2 ^ 64 }
+        ensures step { done run.plan run.template (act (decide is_or piped skip)) (state_of run self.old)
+            ≡ goes (state_of run self.new) }
+        ensures plain { IsPlain self.old → IsPlain self.new }
+    {
+        let val = self.stack.take().val;
+        self.place += 1;
+        if !decides(is_or, &val) {
+            return;
+        }
+        self.place += skip;
+        self.stack.pop(piped_count(piped));
+        self.stack.push(val, 0);
+    }
+
+    /// A null on top becomes nothing.
+    #[tactic(auto, using(crate::proofs::OperationLemmas::operations))]
+    fn settle(&mut self)
+        ghost run: { Told }
+        requires found { 1 ≤ length (cells_of self.old.stack) }
+        requires within { length (cells_of self.old.stack) ≤ size_of self.old.stack }
+        requires place { self.old.place + 1 < 2 ^ 64 }
+        ensures step { done run.plan run.template (act settle) (state_of run self.old) ≡ goes (state_of run self.new) }
+        ensures plain { IsPlain self.old → IsPlain self.new }
+    {
+        let val = self.stack.take().val;
+        self.give(without_null(val));
+    }
+}
