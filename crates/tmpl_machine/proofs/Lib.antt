@@ -15,3 +15,5 @@ pub mod RoomLemmas
 pub mod LoopLemmas
 pub mod StackLemmas
 pub mod TurnLemmas
+pub mod PieceLemmas
+pub mod OutputLemmas

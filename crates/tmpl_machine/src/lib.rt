@@ -5,6 +5,8 @@
 mod control;
 mod laws;
 mod machine;
+mod output;
+mod piece;
 mod range;
 mod stack;
 mod stop;
