@@ -17,3 +17,4 @@ pub mod StackLemmas
 pub mod TurnLemmas
 pub mod PieceLemmas
 pub mod OutputLemmas
+pub mod PlainLemmas

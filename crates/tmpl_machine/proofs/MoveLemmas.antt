@@ -1,4 +1,4 @@
--- What each instruction lessens, and what it leaves of the text.
+-- What each instruction lessens, what it leaves of the text, and how it tells that a function which makes a text was called.
 use Rattle.std.proofs.lemmas.Bool.Decides.{nat_tests}
 use Rattle.std.proofs.Common.{arith, ◌≢◌, inl, inr, ◌<◌, ◌≤◌, ◌-◌, ◌≡◌, ◌∙◌, ◌+◌, ◌++◌, nat_eq, nat_lt, ℕ, zero, suc, Bool, true, false, List, [], ◌∷◌, drop, refl, ap, sym, subst, Option, Some, None, append-nil, append_assoc}
 use Rattle.std.specs.Prelude.{slice_get}
@@ -12,10 +12,10 @@ use Rattle.tmpl_code.specs.Instruction as code
 use Rattle.tmpl_code.specs.Instruction.{Instruction}
 use Rattle.tmpl_machine.specs.Cell.{Cell, cell, fresh}
 use Rattle.tmpl_machine.specs.State.{Plan, State}
-use Rattle.tmpl_machine.specs.Step.{Went, halted, lacks, on, step}
+use Rattle.tmpl_machine.specs.Step.{Went, halted, lacks, made_by, on, step}
 use Rattle.tmpl_machine.specs.Machine.{Turn, again, branch, deepened, done, done_in, elements_for, ended, frame, goes, invoked, left_in, next_of, onto, opened, paid_if, piped, returned_if, ring, stuck, top, turned, with_dot}
 use Rattle.tmpl_machine.specs.Ends.{Comes, Ends, Leads}
-use Rattle.tmpl_machine.specs.Laws.{Begins, Lessens}
+use Rattle.tmpl_machine.specs.Laws.{Begins, Lessens, mark_behind}
 
 begins-same : (a : List ℕ) → Begins a a
 begins-same a = ([], sym (append-nil a))
@@ -171,3 +171,158 @@ leads-one plan room size (suc n) (suc m) s f g a b = by (next_of plan s) (λ t. 
 
 pub one-end : (plan : Plan) (room size : ℕ) (s : State) (f g : Ran) → Ends plan room s f → Ends plan size s g → f ≡ g
 one-end plan room size s f g a b = leads-one plan room size a.0 b.0 s f g a.1 b.1
+
+-- ---- whether a function that makes a text was called
+
+abbrev pub Marks : Bool → Turn → Type 0
+Marks b (goes t) = t.made_text ≡ b
+Marks b (ended r) = r.made_text ≡ b
+Marks b stuck = Unit {0}
+
+top-marks : (b : Bool) (cs : List Cell) (go : Cell → List Cell → Turn) → ((c : Cell) (cs : List Cell) → Marks b (go c cs)) → Marks b (top cs go)
+top-marks b [] go h = tt
+top-marks b (c ∷ cs) go h = h c cs
+
+ring-marks : (b : Bool) (cs : List Cell) (go : Cell → Cell → List Cell → Turn) → ((c d : Cell) (cs : List Cell) → Marks b (go c d cs)) → Marks b (ring cs go)
+ring-marks b [] go h = tt
+ring-marks b (c ∷ []) go h = tt
+ring-marks b (c ∷ d ∷ cs) go h = h c d cs
+
+frame-marks : (b : Bool) (cs : List Cell) (go : Cell → Cell → List Cell → Turn) → ((c d : Cell) (cs : List Cell) → Marks b (go c d cs)) → Marks b (frame cs go)
+frame-marks b [] go h = tt
+frame-marks b (c ∷ []) go h = tt
+frame-marks b (c ∷ d ∷ []) go h = tt
+frame-marks b (c ∷ d ∷ e ∷ cs) go h = h d e cs
+
+module _ (plan : Plan) (me : Template) (s : State) where
+  paid-marks : (b : Bool) (line : ℕ) (go : State → Turn) → Marks s.made_text (go (record s { left = s.left - 1; line = line })) → Marks s.made_text (paid_if b plan me line s go)
+  paid-marks true line go h = refl
+  paid-marks false line go h = h
+
+  piped-marks : (o : code.Operation) (w : Went) → Marks (made_by o s.made_text) (piped me o w s)
+  piped-marks o (on skip cs) = refl
+  piped-marks o (halted cause) = refl
+  piped-marks o lacks = tt
+
+  branch-marks : (t kept : Bool) (skip : ℕ) (c : Cell) (cs : List Cell) → Marks s.made_text (branch t kept skip c cs s)
+  branch-marks true kept skip c cs = refl
+  branch-marks false kept skip c cs = refl
+
+  with-marks : (t kept : Bool) (skip : ℕ) (c : Cell) (cs : List Cell) → Marks s.made_text (with_dot t kept skip c cs s)
+  with-marks true kept skip c cs = refl
+  with-marks false kept skip c cs = refl
+
+  opened-marks : (skip : ℕ) (c : Cell) (cs : List Cell) (o : Option (List Element)) → Marks s.made_text (opened plan me skip c cs o s)
+  opened-marks skip c cs None = refl
+  opened-marks skip c cs (Some []) = refl
+  opened-marks skip c cs (Some (e ∷ es)) = paid-marks (nat_eq s.left 0) s.line _ refl
+
+  turned-marks : (n : ℕ) (es : List Element) → Marks s.made_text (turned n es s)
+  turned-marks n [] = tt
+  turned-marks n (e ∷ es) = refl
+
+  again-marks : (skip line : ℕ) (d v : Cell) (cs : List Cell) (es : List Element) → Marks s.made_text (again plan me skip line d v cs es s)
+  again-marks skip line d v cs [] = refl
+  again-marks skip line d v cs (e ∷ es) = paid-marks (nat_eq s.left 0) line _ refl
+
+  deepened-marks : (b c : Bool) (line : ℕ) → Marks s.made_text (deepened b c plan me line s)
+  deepened-marks true c line = refl
+  deepened-marks false true line = refl
+  deepened-marks false false line = refl
+
+  invoked-marks : (number : ℕ) (o : Option ℕ) (c : Cell) (cs : List Cell) → Marks s.made_text (invoked plan me number o c cs s)
+  invoked-marks number None c cs = tt
+  invoked-marks number (Some start) c cs = paid-marks (nat_eq s.left 0) s.line _ refl
+
+  returned-marks : (b : Bool) (cs : List Cell) → Marks s.made_text (returned_if b cs s)
+  returned-marks false cs = refl
+  returned-marks true cs = frame-marks s.made_text cs _ (λ back saved cs. refl)
+
+  marks : (i : Instruction) → Marks (mark_behind i s.made_text) (done plan me i s)
+  marks (code.spend line) = paid-marks (nat_eq s.left 0) line _ refl
+  marks (code.put bytes) = refl
+  marks (code.act o) = piped-marks o (step (record { missing_key = plan.rules.missing_key; dot = s.dot; env = [] }) o s.cells)
+  marks code.show = top-marks s.made_text s.cells _ (λ c cs. refl)
+  marks (code.hold key) = top-marks s.made_text s.cells _ (λ c cs. refl)
+  marks (code.set slot) = top-marks s.made_text s.cells _ (λ c cs. refl)
+  marks (code.set_dot slot) = refl
+  marks (code.unless kept skip) = top-marks s.made_text s.cells _ (λ c cs. branch-marks (truth c.val) kept skip c cs)
+  marks (code.enter_with kept skip) = top-marks s.made_text s.cells _ (λ c cs. with-marks (truth c.val) kept skip c cs)
+  marks (code.end_with n variables skip) = top-marks s.made_text (drop n s.cells) _ (λ c cs. refl)
+  marks (code.cut n skip) = refl
+  marks (code.enter key skip) = top-marks s.made_text s.cells _ (λ c cs. opened-marks skip c cs (elements_for key c.val))
+  marks (code.turn n) = ring-marks s.made_text s.cells _ (λ d v cs. turned-marks n (left_in v))
+  marks (code.next n skip line) = ring-marks s.made_text (drop n s.cells) _ (λ d v cs. again-marks skip line d v cs (drop 1 (left_in v)))
+  marks (code.leave n skip) = ring-marks s.made_text (drop n s.cells) _ (λ d v cs. refl)
+  marks (code.deepen line) = deepened-marks (nat_eq s.left 0) (nat_lt s.depth plan.rules.depth_limit) line
+  marks (code.invoke number) = top-marks s.made_text s.cells _ (λ c cs. invoked-marks number (slice_get plan.starts number) c cs)
+  marks (code.return_from n) = returned-marks (nat_lt 1 s.depth) (drop n s.cells)
+
+made-on : (o : code.Operation) → made_by o true ≡ true
+made-on code.push_nothing = refl
+made-on (code.push_bool b) = refl
+made-on (code.push_number n) = refl
+made-on (code.push_text bytes) = refl
+made-on code.push_dot = refl
+made-on (code.push_fields names) = refl
+made-on (code.push_slot k) = refl
+made-on (code.chained names) = refl
+made-on (code.call_with f n piped) = refl
+made-on (code.decide is_or piped skip) = refl
+made-on code.settle = refl
+made-on (code.refuse why) = refl
+
+mark-on : (i : Instruction) → mark_behind i true ≡ true
+mark-on (code.spend line) = refl
+mark-on (code.put bytes) = refl
+mark-on (code.act o) = made-on o
+mark-on code.show = refl
+mark-on (code.hold key) = refl
+mark-on (code.set slot) = refl
+mark-on (code.set_dot slot) = refl
+mark-on (code.unless kept skip) = refl
+mark-on (code.enter_with kept skip) = refl
+mark-on (code.end_with n variables skip) = refl
+mark-on (code.cut n skip) = refl
+mark-on (code.enter key skip) = refl
+mark-on (code.turn n) = refl
+mark-on (code.next n skip line) = refl
+mark-on (code.leave n skip) = refl
+mark-on (code.deepen line) = refl
+mark-on (code.invoke number) = refl
+mark-on (code.return_from n) = refl
+
+next-marks : (plan : Plan) (s : State) (i : Instruction) → slice_get plan.code s.place ≡ Some i → Marks (mark_behind i s.made_text) (next_of plan s)
+next-marks plan s i is = subst (λ (o : Option Instruction). Marks (mark_behind i s.made_text) (done_in plan (slice_get plan.templates s.template) o s)) (sym is) (by (slice_get plan.templates s.template))
+  where
+    by : (t : Option Template) → Marks (mark_behind i s.made_text) (done_in plan t (Some i) s)
+    by None = tt
+    by (Some t) = marks plan t s i
+
+next-marked : (plan : Plan) (s : State) → s.made_text ≡ true → Marks true (next_of plan s)
+next-marked plan s e = by (slice_get plan.templates s.template) (slice_get plan.code s.place)
+  where
+    by : (t : Option Template) (i : Option Instruction) → Marks true (done_in plan t i s)
+    by None i = tt
+    by (Some t) None = tt
+    by (Some t) (Some i) = subst (λ b. Marks b (done plan t i s)) (ap (mark_behind i) e ∙ mark-on i) (marks plan t s i)
+
+comes-marked : (After : State → Type 0) (f : Ran) → ((t : State) → After t → t.made_text ≡ true → f.made_text ≡ true) → (t : Turn) → Marks true t → Comes After t f → f.made_text ≡ true
+comes-marked After f ih (goes t) m h = ih t h m
+comes-marked After f ih (ended r) m h = subst (λ (x : Ran). x.made_text ≡ true) h m
+comes-marked After f ih stuck m h = absurd h
+
+leads-marked : (plan : Plan) (room n : ℕ) (s : State) (f : Ran) → Leads plan room n s f → s.made_text ≡ true → f.made_text ≡ true
+leads-marked plan room zero s f h e = absurd h
+leads-marked plan room (suc n) s f h e = comes-marked (λ t. Leads plan room n t f) f (λ t. leads-marked plan room n t f) (next_of plan s) (next-marked plan s e) h.1
+
+pub mark-stays : (plan : Plan) (room : ℕ) (s : State) (f : Ran) → Ends plan room s f → s.made_text ≡ true → f.made_text ≡ true
+mark-stays plan room s f h e = leads-marked plan room h.0 s f h.1 e
+
+-- an instruction that calls one is told at the end
+pub mark_next : (plan : Plan) (size : ℕ) (s : State) (end : Ran) (i : Instruction) → Ends plan size s end → slice_get plan.code s.place ≡ Some i → mark_behind i s.made_text ≡ true → end.made_text ≡ true
+mark_next plan size s end i ends is marked = by ends.0 ends.1
+  where
+    by : (n : ℕ) → Leads plan size n s end → end.made_text ≡ true
+    by zero h = absurd h
+    by (suc n) h = comes-marked (λ t. Leads plan size n t end) end (λ t. leads-marked plan size n t end) (next_of plan s) (subst (λ b. Marks b (next_of plan s)) marked (next-marks plan s i is)) h.1

@@ -1,5 +1,5 @@
--- Whether a value of a run owns its text. One that does not is taken once more without memory, so a run in which none does
--- wants none.
+-- Whether a value of a run owns its text. One that does not is taken once more without memory, so a run in which none
+-- does wants none.
 use Rattle.std.specs.Prelude.{◌≡◌, false, take, Result, Ok, Err}
 use Rattle.std.specs.declared.alloc.AllocError.{AllocError}
 use Rattle.tmpl_values.specs.View.{is_made}

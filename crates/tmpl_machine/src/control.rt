@@ -6,6 +6,7 @@ ghost use Rattle.tmpl_code.specs.Instruction as code;
 ghost use Rattle.tmpl_machine.specs.Cell.{slot};
 ghost use Rattle.tmpl_machine.specs.Machine.{done, failed, goes};
 ghost use Rattle.tmpl_machine.specs.Machines.{Told, state_of};
+ghost use Rattle.tmpl_machine.specs.Plain.{IsPlain, Spared};
 ghost use Rattle.tmpl_machine.specs.Ready.{RoomIf};
 ghost use Rattle.tmpl_machine.specs.View.{cells_of, size_of};
 
@@ -23,6 +24,7 @@ impl<'m, 'a> Machine<'m, 'a> {
             ≡ (if result then goes (state_of run self.new)
             else failed run.template line (steps_spent run.plan.rules.step_limit) (state_of run self.old)) }
         ensures line { self.new.line ≡ line }
+        ensures plain { IsPlain self.old → IsPlain self.new }
     {
         self.line = line;
         if self.left == 0 {
@@ -38,8 +40,9 @@ impl<'m, 'a> Machine<'m, 'a> {
         ghost run: { Told }
         requires place { self.old.place + 1 + skip < 2 ^ 64 }
         requires found { count ≤ length (cells_of self.old.stack) }
-        ensures { done run.plan run.template (code.cut count skip) (state_of run self.old)
+        ensures step { done run.plan run.template (code.cut count skip) (state_of run self.old)
             ≡ goes (state_of run self.new) }
+        ensures plain { IsPlain self.old → IsPlain self.new }
     {
         self.stack.pop(count);
         self.place += 1 + skip;
@@ -52,8 +55,9 @@ impl<'m, 'a> Machine<'m, 'a> {
         requires found { 1 ≤ length (cells_of self.old.stack) }
         requires body { self.old.place + 1 < 2 ^ 64 }
         requires other { truth (slot 0 (cells_of self.old.stack)) ≡ false → self.old.place + 1 + skip < 2 ^ 64 }
-        ensures { done run.plan run.template (code.unless kept skip) (state_of run self.old)
+        ensures step { done run.plan run.template (code.unless kept skip) (state_of run self.old)
             ≡ goes (state_of run self.new) }
+        ensures plain { IsPlain self.old → IsPlain self.new }
     {
         self.place += 1;
         if !self.stack.holds() {
@@ -73,8 +77,9 @@ impl<'m, 'a> Machine<'m, 'a> {
         requires room { RoomIf kept (length (cells_of self.old.stack)) (size_of self.old.stack) }
         requires body { self.old.place + 1 < 2 ^ 64 }
         requires other { truth (slot 0 (cells_of self.old.stack)) ≡ false → self.old.place + 1 + skip < 2 ^ 64 }
-        ensures { OnOk result (done run.plan run.template (code.enter_with kept skip) (state_of run self.old)
+        ensures step { OnOk result (done run.plan run.template (code.enter_with kept skip) (state_of run self.old)
             ≡ goes (state_of run self.new)) }
+        ensures plain { IsPlain self.old → Spared result (IsPlain self.new) }
     {
         let Cell { val, num } = self.stack.take();
         self.place += 1;
@@ -100,8 +105,9 @@ impl<'m, 'a> Machine<'m, 'a> {
         ghost run: { Told }
         requires place { self.old.place + 1 + skip < 2 ^ 64 }
         requires found { count + 1 + variables ≤ length (cells_of self.old.stack) }
-        ensures { done run.plan run.template (code.end_with count variables skip) (state_of run self.old)
+        ensures step { done run.plan run.template (code.end_with count variables skip) (state_of run self.old)
             ≡ goes (state_of run self.new) }
+        ensures plain { IsPlain self.old → IsPlain self.new }
     {
         self.stack.pop(count);
         let outer = self.stack.take().val;

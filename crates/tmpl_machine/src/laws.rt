@@ -1,5 +1,5 @@
 //! Laws of the machine that the definitions describe.
-ghost use Rattle.tmpl_machine.specs.Laws.{ComesToMeaning, EachTurnLessens, HasOneEnd, OnlyAdds, StaysWithin};
+ghost use Rattle.tmpl_machine.specs.Laws.{ComesToMeaning, EachTurnLessens, HasOneEnd, MarkStays, OnlyAdds, StaysWithin};
 
 /// The law that the code of a set comes to the meaning of each of its templates, on a stack of the set's room.
 pub fn comes_to_meaning()
@@ -19,6 +19,11 @@ pub fn one_end()
 /// The law that a run only adds to what it has put out.
 pub fn only_adds()
     ensures { OnlyAdds }
+{}
+
+/// The law that a run which has called a function that makes a text is told to have called one, at its end.
+pub fn mark_stays()
+    ensures { MarkStays }
 {}
 
 /// The law that a run ends: each turn takes a step, or closes a template, or goes forward in the code.

@@ -12,4 +12,4 @@ mod stack;
 mod stop;
 mod variable;
 
-pub use laws::{comes_to_meaning, each_turn_lessens, one_end, only_adds, stays_within};
+pub use laws::{comes_to_meaning, each_turn_lessens, mark_stays, one_end, only_adds, stays_within};

@@ -1,11 +1,13 @@
 //! Ranges.
-ghost use Rattle.std.specs.Prelude.{◌≡◌, ◌+◌, ◌-◌, ◌<◌, ◌≤◌, ◌^◌, [], drop, false, length, option_map, Some, None, OnOk};
+ghost use Rattle.std.specs.Prelude.{◌≡◌, ◌+◌, ◌-◌, ◌<◌, ◌≤◌, ◌^◌, [], drop, false, length, option_map, OnOk};
+ghost use Rattle.std.specs.Prelude.{Some, None};
 ghost use Rattle.tmpl_values.specs.Elements.{item_at};
-ghost use Rattle.tmpl_values.specs.View.{val_of};
+ghost use Rattle.tmpl_values.specs.View.{is_made, val_of};
 ghost use Rattle.tmpl_code.specs.Instruction as code;
 ghost use Rattle.tmpl_machine.specs.Cell.{cell, slot, slot_cell};
 ghost use Rattle.tmpl_machine.specs.Machine.{done, elements_for, goes, has_more, variables_on};
 ghost use Rattle.tmpl_machine.specs.Machines.{Told, state_of};
+ghost use Rattle.tmpl_machine.specs.Plain.{IsPlain, Spared};
 ghost use Rattle.tmpl_machine.specs.Turned.{Turned};
 ghost use Rattle.tmpl_machine.specs.View.{cells_of, size_of};
 
@@ -43,7 +45,8 @@ impl<'m, 'a> Machine<'m, 'a> {
         requires body { self.old.place + 1 < 2 ^ 64 }
         requires other { elements_for key (slot 0 (cells_of self.old.stack)) ≡ Some []
             → self.old.place + 1 + skip < 2 ^ 64 }
-        ensures { Turned run (code.enter key skip) (state_of run self.old) (state_of run self.new) result }
+        ensures step { Turned run (code.enter key skip) (state_of run self.old) (state_of run self.new) result }
+        ensures plain { IsPlain self.old → IsPlain self.new }
     {
         let val = self.stack.take().val;
         match visited_count(key, &val) {
@@ -75,8 +78,9 @@ impl<'m, 'a> Machine<'m, 'a> {
             (slot_cell 1 (cells_of self.old.stack)).val ≡ None → ⊥ }
         requires room { length (cells_of self.old.stack) + count ≤ size_of self.old.stack }
         requires place { self.old.place + 1 < 2 ^ 64 }
-        ensures { OnOk result (done run.plan run.template (code.turn count) (state_of run self.old)
+        ensures step { OnOk result (done run.plan run.template (code.turn count) (state_of run self.old)
             ≡ goes (state_of run self.new)) }
+        ensures plain { IsPlain self.old → Spared result (IsPlain self.new) }
     {
         let Some((key, element)) = self.stack.element() else {
             unreachable!()
@@ -91,9 +95,11 @@ impl<'m, 'a> Machine<'m, 'a> {
     fn declare(&mut self, count: usize, key: Val<'a>, element: Val<'a>)
         ghost run: { Told }
         requires { length (cells_of self.old.stack) + count ≤ size_of self.old.stack }
-        ensures { state_of run self.new ≡ record (state_of run self.old) {
+        ensures step { state_of run self.new ≡ record (state_of run self.old) {
           cells = variables_on count (val_of key.entry, val_of element.entry) (cells_of self.old.stack);
         } }
+        ensures plain { is_made key.entry ≡ false → is_made element.entry ≡ false
+            → IsPlain self.old → IsPlain self.new }
     {
         match count {
             0 => {}
@@ -120,7 +126,8 @@ impl<'m, 'a> Machine<'m, 'a> {
         requires within { length (cells_of self.old.stack) ≤ size_of self.old.stack }
         requires behind { has_more (slot_cell 1 (drop count (cells_of self.old.stack))) ≡ false
             → self.old.place + 1 + skip < 2 ^ 64 }
-        ensures { Turned run (code.next count skip line) (state_of run self.old) (state_of run self.new) result }
+        ensures step { Turned run (code.next count skip line) (state_of run self.old) (state_of run self.new) result }
+        ensures plain { IsPlain self.old → IsPlain self.new }
     {
         self.stack.pop(count);
         if !self.stack.has_more() {
@@ -152,8 +159,9 @@ impl<'m, 'a> Machine<'m, 'a> {
         ghost run: { Told }
         requires found { count + 2 ≤ length (cells_of self.old.stack) }
         requires place { self.old.place + 1 + skip < 2 ^ 64 }
-        ensures { done run.plan run.template (code.leave count skip) (state_of run self.old)
+        ensures step { done run.plan run.template (code.leave count skip) (state_of run self.old)
             ≡ goes (state_of run self.new) }
+        ensures plain { IsPlain self.old → IsPlain self.new }
     {
         self.stack.pop(count);
         let outer = self.stack.take().val;

@@ -1,11 +1,12 @@
 //! The stack of a run, in cells that are lent to it.
-ghost use Rattle.std.specs.Prelude.{◌≡◌, ◌+◌, ◌-◌, ◌<◌, ◌≤◌, ◌∷◌, [], drop, get_or, length, option_map, take, IfOk, slice_set, true, ◌^◌};
+ghost use Rattle.std.specs.Prelude.{◌≡◌, ◌+◌, ◌-◌, ◌<◌, ◌≤◌, ◌∷◌, [], drop, get_or, length, option_map, take};
+ghost use Rattle.std.specs.Prelude.{false, true, ◌^◌, slice_set, IfOk, IfSome, IsOkAnd};
 ghost use Rattle.tmpl_values.specs.Elements.{item_at};
-ghost use Rattle.tmpl_values.specs.View.{element_of, val_of};
+ghost use Rattle.tmpl_values.specs.View.{element_of, is_made, val_of};
 ghost use Rattle.tmpl_values.specs.Truth.{truth};
 ghost use Rattle.tmpl_machine.specs.Cell.{cell};
 ghost use Rattle.tmpl_machine.specs.Machine.{has_more};
-ghost use Rattle.tmpl_machine.specs.Held.{cell_at, cell_of};
+ghost use Rattle.tmpl_machine.specs.Held.{cell_at, cell_of, made_at};
 
 use std::alloc::AllocError;
 use tmpl_run::element_count;
@@ -21,6 +22,7 @@ pub(crate) struct Stack<'s, 'a> {
 
 impl<'s, 'a> Stack<'s, 'a> {
     ghost use Rattle.tmpl_machine.specs.Cell.{slot, slot_cell};
+    ghost use Rattle.tmpl_machine.specs.Plain.{IsPlainStack, Spared};
     ghost use Rattle.tmpl_machine.specs.View.{cells_of, size_of};
 
     /// No cell is live.
@@ -28,6 +30,7 @@ impl<'s, 'a> Stack<'s, 'a> {
     pub(crate) fn new(cells: &'s mut [Cell<'a>]) -> Stack<'s, 'a>
         ensures cells { cells_of result ≡ [] }
         ensures size { size_of result ≡ length cells.old }
+        ensures plain { IsPlainStack result }
     {
         Stack { cells, top: 0 }
     }
@@ -39,6 +42,7 @@ impl<'s, 'a> Stack<'s, 'a> {
         ensures cells { cells_of self.new ≡ cell (val_of val.entry) num ∷ cells_of self.old }
         ensures count { length (cells_of self.new) ≡ length (cells_of self.old) + 1 }
         ensures size { size_of self.new ≡ size_of self.old }
+        ensures plain { is_made val.entry ≡ false → IsPlainStack self.old → IsPlainStack self.new }
     {
         self.cells[self.top] = Cell { val, num };
         self.top += 1;
@@ -51,6 +55,7 @@ impl<'s, 'a> Stack<'s, 'a> {
         ensures cells { cells_of self.old ≡ cell_of result ∷ cells_of self.new }
         ensures count { length (cells_of self.old) ≡ length (cells_of self.new) + 1 }
         ensures size { size_of self.new ≡ size_of self.old }
+        ensures plain { IsPlainStack self.old → (is_made result.val ≡ false) × IsPlainStack self.new }
     {
         self.top -= 1;
         take_at(self.cells, self.top)
@@ -63,6 +68,7 @@ impl<'s, 'a> Stack<'s, 'a> {
         ensures cells { cells_of self.new ≡ drop count (cells_of self.old) }
         ensures count { length (cells_of self.old) ≡ length (cells_of self.new) + count }
         ensures size { size_of self.new ≡ size_of self.old }
+        ensures plain { IsPlainStack self.old → IsPlainStack self.new }
     {
         let old = self.top;
         self.top -= count;
@@ -76,6 +82,8 @@ impl<'s, 'a> Stack<'s, 'a> {
         ensures cells { cells_of self.new ≡ cells_of self.old }
         ensures size { size_of self.new ≡ size_of self.old }
         ensures shared { IfOk result (λ v. val_of v ≡ slot index (cells_of self.old)) }
+        ensures plain { IsPlainStack self.old → Spared result (IsPlainStack self.new) }
+        ensures borrowed { IsPlainStack self.old → IfOk result (λ v. is_made v ≡ false) }
     {
         share_at(self.cells, self.top - 1 - index)
     }
@@ -87,6 +95,7 @@ impl<'s, 'a> Stack<'s, 'a> {
         ensures cells { cells_of self.new ≡ cells_of self.old }
         ensures size { size_of self.new ≡ size_of self.old }
         ensures holds { result ≡ truth (slot 0 (cells_of self.old)) }
+        ensures plain { IsPlainStack self.old → IsPlainStack self.new }
     {
         holds_at(self.cells, self.top - 1)
     }
@@ -98,6 +107,7 @@ impl<'s, 'a> Stack<'s, 'a> {
         ensures cells { cells_of self.new ≡ slice_set (cells_of self.old) index (cell (val_of val.entry) 0) }
         ensures count { length (cells_of self.new) ≡ length (cells_of self.old) }
         ensures size { size_of self.new ≡ size_of self.old }
+        ensures plain { is_made val.entry ≡ false → IsPlainStack self.old → IsPlainStack self.new }
     {
         let at = self.top - 1 - index;
         self.cells[at] = Cell { val, num: 0 };
@@ -111,6 +121,8 @@ impl<'s, 'a> Stack<'s, 'a> {
         ensures size { size_of self.new ≡ size_of self.old }
         ensures element { option_map element_of result
             ≡ item_at (slot_cell 1 (cells_of self.old)).num (slot_cell 1 (cells_of self.old)).val }
+        ensures plain { IsPlainStack self.old → IsPlainStack self.new }
+        ensures borrowed { IfSome result (λ p. (is_made p.0 ≡ false) × (is_made p.1 ≡ false)) }
     {
         element_at(self.cells, self.top - 2)
     }
@@ -123,6 +135,7 @@ impl<'s, 'a> Stack<'s, 'a> {
         ensures size { size_of self.new ≡ size_of self.old }
         ensures more { result ≡ has_more (slot_cell 1 (cells_of self.old)) }
         ensures fits { result ≡ true → (slot_cell 1 (cells_of self.old)).num + 1 < 2 ^ 64 }
+        ensures plain { IsPlainStack self.old → IsPlainStack self.new }
     {
         has_more_at(self.cells, self.top - 2)
     }
@@ -134,6 +147,7 @@ fn share_at<'a>(cells: &mut [Cell<'a>], at: usize) -> Result<Val<'a>, AllocError
     requires { at < length cells.old }
     ensures same { cells.new ≡ cells.old }
     ensures shared { IfOk result (λ v. val_of v ≡ (cell_at cells.old at).val) }
+    ensures borrowed { made_at cells.old at ≡ false → IsOkAnd result (λ v. is_made v ≡ false) }
 {
     cells[at].val.share()
 }
@@ -154,6 +168,7 @@ fn element_at<'a>(cells: &mut [Cell<'a>], at: usize) -> Option<(Val<'a>, Val<'a>
     requires { at < length cells.old }
     ensures same { cells.new ≡ cells.old }
     ensures element { option_map element_of result ≡ item_at (cell_at cells.old at).num (cell_at cells.old at).val }
+    ensures borrowed { IfSome result (λ p. (is_made p.0 ≡ false) × (is_made p.1 ≡ false)) }
 {
     let whole = &cells[..];
     let cell = &whole[at];

@@ -3,6 +3,7 @@ ghost use Rattle.std.specs.Prelude.{◌≡◌, ◌+◌, ◌<◌, ◌≤◌, ◌^
 ghost use Rattle.tmpl_code.specs.Instruction as code;
 ghost use Rattle.tmpl_machine.specs.Machine.{done, goes};
 ghost use Rattle.tmpl_machine.specs.Machines.{Told, state_of};
+ghost use Rattle.tmpl_machine.specs.Plain.{IsPlain, Spared};
 ghost use Rattle.tmpl_machine.specs.Ready.{RoomIf};
 ghost use Rattle.tmpl_machine.specs.View.{cells_of, size_of};
 
@@ -18,8 +19,9 @@ impl<'m, 'a> Machine<'m, 'a> {
         requires within { length (cells_of self.old.stack) ≤ size_of self.old.stack }
         requires room { RoomIf key (length (cells_of self.old.stack)) (size_of self.old.stack) }
         requires place { self.old.place + 1 < 2 ^ 64 }
-        ensures { OnOk result (done run.plan run.template (code.hold key) (state_of run self.old)
+        ensures step { OnOk result (done run.plan run.template (code.hold key) (state_of run self.old)
             ≡ goes (state_of run self.new)) }
+        ensures plain { IsPlain self.old → Spared result (IsPlain self.new) }
     {
         let Cell { val, num } = self.stack.take();
         let val = val.into_shared(self.alloc)?;
@@ -37,8 +39,9 @@ impl<'m, 'a> Machine<'m, 'a> {
         requires found { slot + 1 < length (cells_of self.old.stack) }
         requires within { length (cells_of self.old.stack) ≤ size_of self.old.stack }
         requires place { self.old.place + 1 < 2 ^ 64 }
-        ensures { OnOk result (done run.plan run.template (code.set slot) (state_of run self.old)
+        ensures step { OnOk result (done run.plan run.template (code.set slot) (state_of run self.old)
             ≡ goes (state_of run self.new)) }
+        ensures plain { IsPlain self.old → Spared result (IsPlain self.new) }
     {
         let Cell { val, num } = self.stack.take();
         let val = val.into_shared(self.alloc)?;
@@ -53,8 +56,9 @@ impl<'m, 'a> Machine<'m, 'a> {
         ghost run: { Told }
         requires found { slot < length (cells_of self.old.stack) }
         requires place { self.old.place + 1 < 2 ^ 64 }
-        ensures { OnOk result (done run.plan run.template (code.set_dot slot) (state_of run self.old)
+        ensures step { OnOk result (done run.plan run.template (code.set_dot slot) (state_of run self.old)
             ≡ goes (state_of run self.new)) }
+        ensures plain { IsPlain self.old → Spared result (IsPlain self.new) }
     {
         self.stack.set(slot, self.dot.share()?);
         self.place += 1;

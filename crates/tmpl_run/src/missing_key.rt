@@ -1,7 +1,8 @@
 //! Fields, and what a field comes to for which a map has no entry.
-ghost use Rattle.std.specs.Prelude.{◌≡◌};
+ghost use Rattle.std.specs.Prelude.{◌≡◌, false};
 ghost use Rattle.tmpl_values.specs.Field.{field_at};
-ghost use Rattle.tmpl_values.specs.View.{val_of};
+ghost use Rattle.tmpl_values.specs.View.{is_made, val_of};
+ghost use Rattle.tmpl_funcs.specs.Answer.{IsBorrowed};
 ghost use Rattle.tmpl_run.specs.Pipeline.{absent_entry, chain, field_of_nothing, field_value};
 ghost use Rattle.tmpl_run.specs.View.{value_seen};
 
@@ -25,7 +26,8 @@ pub enum MissingKey {
 impl MissingKey {
     /// The field of the field of .. of a value, by these names.
     pub fn chain<'a>(self, value: Val<'a>, names: &'a [Bytes]) -> Result<Val<'a>, RunFaultKind<'a>>
-        ensures { value_seen result ≡ chain self names.now (val_of value.entry) }
+        ensures value { value_seen result ≡ chain self names.now (val_of value.entry) }
+        ensures borrowed { is_made value.entry ≡ false → IsBorrowed result }
     {
         let mut value = value;
         for name in names {
@@ -36,7 +38,8 @@ impl MissingKey {
 
     /// The field of this name.
     pub fn field<'a>(self, value: &Val<'a>, name: &'a [u8]) -> Result<Val<'a>, RunFaultKind<'a>>
-        ensures { value_seen result ≡ field_value self name.now (field_at name.now (val_of value.now)) }
+        ensures value { value_seen result ≡ field_value self name.now (field_at name.now (val_of value.now)) }
+        ensures borrowed { IsBorrowed result }
     {
         match value.field(name) {
             Field::Found(found) => Ok(found),
@@ -48,7 +51,8 @@ impl MissingKey {
 
     /// What a map comes to that has no entry of this name.
     fn absent_entry(self, name: &[u8]) -> Result<Val<'_>, RunFaultKind<'_>>
-        ensures { value_seen result ≡ absent_entry self name.now }
+        ensures value { value_seen result ≡ absent_entry self name.now }
+        ensures borrowed { IsBorrowed result }
     {
         match self {
             MissingKey::Default | MissingKey::Invalid => Ok(Val::Nothing),
@@ -59,7 +63,8 @@ impl MissingKey {
 
     /// What nothing comes to, which has no entries.
     fn field_of_nothing(self, name: &[u8]) -> Result<Val<'_>, RunFaultKind<'_>>
-        ensures { value_seen result ≡ field_of_nothing self name.now }
+        ensures value { value_seen result ≡ field_of_nothing self name.now }
+        ensures borrowed { IsBorrowed result }
     {
         match self {
             MissingKey::Default | MissingKey::Invalid | MissingKey::Zero => Ok(Val::Nothing),

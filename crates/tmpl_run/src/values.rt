@@ -1,7 +1,7 @@
 //! What a run asks of values.
-ghost use Rattle.std.specs.Prelude.{◌≡◌, length, option_map};
+ghost use Rattle.std.specs.Prelude.{◌≡◌, false, length, option_map};
 ghost use Rattle.tmpl_values.specs.Elements.{elements, pairs};
-ghost use Rattle.tmpl_values.specs.View.{val_of};
+ghost use Rattle.tmpl_values.specs.View.{is_made, val_of};
 ghost use Rattle.tmpl_run.specs.Pipeline.{decides, without_null};
 
 use tmpl_values::{Val, count_below};
@@ -15,7 +15,8 @@ pub fn decides(is_or: bool, value: &Val<'_>) -> bool
 
 /// The value itself; nothing where it is null.
 pub fn without_null(value: Val<'_>) -> Val<'_>
-    ensures { val_of result ≡ without_null (val_of value.entry) }
+    ensures value { val_of result ≡ without_null (val_of value.entry) }
+    ensures borrowed { is_made value.entry ≡ false → is_made result ≡ false }
 {
     match value {
         Val::Null => Val::Nothing,

@@ -1,8 +1,10 @@
-use Rattle.std.proofs.Common.{◌≡◌, drop}
-use Rattle.tmpl_values.specs.View.{val_of}
+use Rattle.std.proofs.Common.{◌≡◌, drop, false}
+use Rattle.tmpl_values.specs.View.{is_made, val_of}
 use Rattle.tmpl_run.specs.Pipeline.{chain}
 use Rattle.tmpl_run.proofs.missing_key.MissingKey.chain.Given as goal
 
 abbrev pub invariant-loop-name : goal.invariant-loop-name
-invariant-loop-name l =
-    chain l.self l.names (val_of l.initial.value) ≡ chain l.self (drop l.name-index l.names) (val_of l.value)
+invariant-loop-name l = record {
+  value : chain l.self l.names (val_of l.initial.value) ≡ chain l.self (drop l.name-index l.names) (val_of l.value);
+  borrowed : is_made l.initial.value ≡ false → is_made l.value ≡ false;
+}
