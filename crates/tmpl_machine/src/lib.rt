@@ -7,6 +7,7 @@ mod laws;
 mod machine;
 mod output;
 mod piece;
+mod put;
 mod range;
 mod stack;
 mod stop;
