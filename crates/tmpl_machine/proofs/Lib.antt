@@ -19,4 +19,6 @@ pub mod ReadyLemmas
 pub mod OperationLemmas
 pub mod CallingLemmas
 pub mod ArgumentLemmas
+pub mod PieceLemmas
+pub mod OutputLemmas
 pub mod PlainLemmas

@@ -5,6 +5,7 @@ pub mod Held
 pub mod Laws
 pub mod Machine
 pub mod Machines
+pub mod Output
 pub mod Plain
 pub mod Ready
 pub mod Run

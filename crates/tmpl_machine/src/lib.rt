@@ -11,6 +11,7 @@ mod laws;
 mod machine;
 mod operation;
 mod output;
+mod piece;
 mod put;
 mod range;
 mod runner;

@@ -1,0 +1,57 @@
+//! Instructions that put out bytes.
+ghost use Rattle.std.specs.Prelude.{◌≡◌, ◌+◌, ◌-◌, ◌<◌, ◌≤◌, ◌^◌, ◌++◌, length};
+ghost use Rattle.tmpl_values.specs.Text.{text_of};
+ghost use Rattle.tmpl_run.specs.Sink.{IsPut};
+ghost use Rattle.tmpl_code.specs.Instruction as code;
+ghost use Rattle.tmpl_machine.specs.Cell.{slot};
+ghost use Rattle.tmpl_machine.specs.Machine.{done, goes};
+ghost use Rattle.tmpl_machine.specs.Machines.{Told, state_of};
+ghost use Rattle.tmpl_machine.specs.Output.{Grows, given_of};
+ghost use Rattle.tmpl_machine.specs.Plain.{IsPlain};
+ghost use Rattle.tmpl_machine.specs.View.{cells_of};
+
+use crate::machine::Machine;
+use crate::output::Output;
+use tmpl_run::{Sink, SinkFault};
+
+impl<'m, 'a> Machine<'m, 'a> {
+    /// Puts out bytes.
+    pub(crate) fn put_bytes<S: Sink>(
+        &mut self,
+        bytes: &[u8],
+        output: &mut Output<'_, S>,
+    ) -> Result<(), SinkFault>
+        ghost run: { Told }
+        requires place { self.old.place + 1 < 2 ^ 64 }
+        requires failures { (S.so_far output.old.sink.now).failures < 2 ^ 64 - 1 }
+        ensures step { done run.plan run.template (code.put bytes.now) (state_of run self.old)
+            ≡ goes (state_of (record run { text = run.text ++ bytes.now }) self.new) }
+        ensures given { IsPut result (given_of S.so_far output.old) (given_of S.so_far output.new) bytes.now }
+        ensures taken { Grows (S.so_far output.old.sink.now) (S.so_far output.new.sink.now) }
+        ensures plain { IsPlain self.old → IsPlain self.new }
+    {
+        self.place += 1;
+        output.put(bytes)
+    }
+
+    /// Takes the newest value, and puts out its text.
+    #[tactic(auto, using(crate::proofs::StackLemmas::tops))]
+    pub(crate) fn show<S: Sink>(&mut self, output: &mut Output<'_, S>) -> Result<(), SinkFault>
+        ghost run: { Told }
+        requires place { self.old.place + 1 < 2 ^ 64 }
+        requires found { 1 ≤ length (cells_of self.old.stack) }
+        requires failures { (S.so_far output.old.sink.now).failures < 2 ^ 64 - 1 }
+        ensures step { done run.plan run.template code.show (state_of run self.old)
+            ≡ goes (state_of (record run {
+              text = run.text ++ text_of (slot 0 (cells_of self.old.stack));
+            }) self.new) }
+        ensures given { IsPut result (given_of S.so_far output.old) (given_of S.so_far output.new)
+            (text_of (slot 0 (cells_of self.old.stack))) }
+        ensures taken { Grows (S.so_far output.old.sink.now) (S.so_far output.new.sink.now) }
+        ensures plain { IsPlain self.old → IsPlain self.new }
+    {
+        let value = self.stack.take().val;
+        self.place += 1;
+        output.show(&value)
+    }
+}
