@@ -1,5 +1,6 @@
 -- What an instruction asks for, from that it does not get stuck and goes to a place that can be counted.
-use Rattle.std.proofs.Common.{arith, ◌≡◌, ◌∙◌, ◌+◌, ◌^◌, ◌<◌, ◌≤◌, ℕ, zero, suc, Bool, true, false, List, [], ◌∷◌, length, drop, refl, ap, sym, subst, Option, Some, None, length-drop}
+use Rattle.std.proofs.lemmas.Bool.Decides.{nat_tests}
+use Rattle.std.proofs.Common.{arith, nat_lt, ◌≡◌, ◌∙◌, ◌+◌, ◌-◌, ◌^◌, ◌<◌, ◌≤◌, ℕ, zero, suc, Bool, true, false, List, [], ◌∷◌, length, drop, refl, ap, sym, subst, Option, Some, None, length-drop}
 use Rattle.std.specs.Prelude.{slice_get}
 use Rattle.tmpl_values.specs.Elements.{Element, element_at, elements, item_at}
 use Rattle.tmpl_values.specs.Truth.{truth}
@@ -7,7 +8,7 @@ use Rattle.tmpl_syntax.specs.Set.{Template}
 use Rattle.tmpl_code.specs.Instruction as code
 use Rattle.tmpl_machine.specs.Cell.{Cell, slot, slot_cell}
 use Rattle.tmpl_machine.specs.State.{Plan, State}
-use Rattle.tmpl_machine.specs.Machine.{Turn, again, branch, done, elements_for, elements_in, has_more, left_in, opened, ring, top, turned, with_dot}
+use Rattle.tmpl_machine.specs.Machine.{Turn, again, branch, done, elements_for, elements_in, frame, has_more, invoked, left_in, opened, returned_if, ring, top, turned, with_dot}
 use Rattle.tmpl_machine.specs.Ready.{Lands}
 use Rattle.tmpl_machine.proofs.TurnLemmas.{none-left}
 
@@ -92,3 +93,34 @@ module _ (plan : Plan) (t : Template) (s : State) where
 
   pub leave-jumps : (n skip : ℕ) → Lands (done plan t (code.leave n skip) s) → s.place + 1 + skip < 2 ^ 64
   leave-jumps n skip h = ring-lands (Jumps skip) (drop n s.cells) _ (λ d v cs l. l) h
+
+  pub turn-found : (n : ℕ) → Lands (done plan t (code.turn n) s) → 2 ≤ length s.cells
+  turn-found n h = ring-found s.cells (λ d v cs. turned n (left_in v) s) h
+
+  pub next-found : (n skip line : ℕ) → Lands (done plan t (code.next n skip line) s) → n + 2 ≤ length s.cells
+  next-found n skip line h = below-found n s.cells (λ d v cs. again plan t skip line d v cs (drop 1 (left_in v)) s) h
+
+  pub leave-found : (n skip : ℕ) → Lands (done plan t (code.leave n skip) s) → n + 2 ≤ length s.cells
+  leave-found n skip h = below-found n s.cells _ h
+
+  pub invoke-found : (number : ℕ) → Lands (done plan t (code.invoke number) s) → 1 ≤ length s.cells
+  invoke-found number h = top-found s.cells (λ c cs. invoked plan t number (slice_get plan.starts number) c cs s) h
+
+  abbrev Starts : ℕ → Type 0
+  Starts number = (start : ℕ) × (slice_get plan.starts number ≡ Some start)
+
+  pub invoke-start : (number : ℕ) → Lands (done plan t (code.invoke number) s) → (start : ℕ) × (slice_get plan.starts number ≡ Some start)
+  invoke-start number h = top-lands (Starts number) s.cells _ (λ c cs l. by (slice_get plan.starts number) c cs refl l) h
+    where
+      by : (o : Option ℕ) (c : Cell) (cs : List Cell) → slice_get plan.starts number ≡ o → Lands (invoked plan t number o c cs s) → Starts number
+      by None c cs e h = absurd h
+      by (Some start) c cs e h = (start, e)
+
+  pub return-found : (n : ℕ) → Lands (done plan t (code.return_from n) s) → 1 < s.depth → n + 3 ≤ length s.cells
+  return-found n h deep = by (drop n s.cells) (let left = length-drop n s.cells in left) (subst (λ b. Lands (returned_if b (drop n s.cells) s)) (let inside : nat_lt 1 s.depth ≡ true = grind (arith, nat_tests) in inside) h)
+    where
+      by : (cs : List Cell) → length cs ≡ length s.cells - n → Lands (returned_if true cs s) → n + 3 ≤ length s.cells
+      by [] e h = absurd h
+      by (c ∷ []) e h = absurd h
+      by (c ∷ d ∷ []) e h = absurd h
+      by (c ∷ d ∷ f ∷ cs) e h = omega arith

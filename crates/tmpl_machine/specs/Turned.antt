@@ -49,11 +49,6 @@ told_behind code.show s told = record told { text = told.text ++ text_of (slot 0
 told_behind (code.act o) s told = behind o told
 told_behind i s told = told
 
--- the mark "makes text" behind it
-abbrev pub mark_behind : Instruction → Bool → Bool
-mark_behind (code.act o) made = made_by o made
-mark_behind i made = made
-
 -- it was carried out, and the run goes on or is over, or it stops; where a put failed it was carried out up to that
 abbrev pub Executed : Told → Instruction → State → State → Result Flow Stop → Type 0
 Executed told i s t (Ok flow.On) = done told.plan told.template i s ≡ goes t

@@ -28,12 +28,13 @@ impl<'m, 'a> Machine<'m, 'a> {
         requires place { self.old.place + 1 < 2 ^ 64 }
         ensures step { Turned run (code.deepen line) (state_of run self.old) (state_of run self.new) result }
         ensures plain { IsPlain self.old → IsPlain self.new }
+        ensures size { size_of self.new.stack ≡ size_of self.old.stack }
     {
         self.line = line;
         if self.left == 0 {
             return Err(RunFaultKind::StepsSpent(step_limit));
         }
-        if self.depth >= depth_limit {
+        if self.depth >= depth_limit as u64 {
             return Err(RunFaultKind::CallsTooDeep(depth_limit));
         }
         self.place += 1;
@@ -53,10 +54,11 @@ impl<'m, 'a> Machine<'m, 'a> {
         requires starts { slice_get run.plan.starts number ≡ Some start }
         requires found { 1 ≤ length (cells_of self.old.stack) }
         requires room { length (cells_of self.old.stack) + 2 ≤ size_of self.old.stack }
-        requires depth { self.old.depth + 1 < 2 ^ 32 }
+        requires depth { self.old.depth + 1 < 2 ^ 64 }
         requires place { self.old.place + 1 < 2 ^ 64 }
         ensures step { TurnedOr run (code.invoke number) (state_of run self.old) (state_of run self.new) result }
         ensures plain { IsPlain self.old → SparedOr result (IsPlain self.new) }
+        ensures size { size_of self.new.stack ≡ size_of self.old.stack }
     {
         if self.left == 0 {
             return Err(Stop::Fault(RunFaultKind::StepsSpent(step_limit)));
@@ -82,6 +84,7 @@ impl<'m, 'a> Machine<'m, 'a> {
         ensures step { done run.plan run.template (code.return_from count) (state_of run self.old)
             ≡ (if result then ended (ran_so (state_of run self.old) None) else goes (state_of run self.new)) }
         ensures plain { IsPlain self.old → IsPlain self.new }
+        ensures size { size_of self.new.stack ≡ size_of self.old.stack }
     {
         if self.depth <= 1 {
             return true;

@@ -2,13 +2,14 @@
 ghost use Rattle.std.specs.Prelude.{◌≡◌, ◌+◌, ◌-◌, ◌<◌, ◌≤◌, ◌^◌, false, length};
 ghost use Rattle.tmpl_run.specs.Sink.{IsPut};
 ghost use Rattle.tmpl_code.specs.View.{instruction_of};
+ghost use Rattle.tmpl_machine.specs.Laws.{mark_behind};
 ghost use Rattle.tmpl_machine.specs.Machine.{done};
 ghost use Rattle.tmpl_machine.specs.Machines.{Told, state_of};
 ghost use Rattle.tmpl_machine.specs.Output.{Grows, given_of};
 ghost use Rattle.tmpl_machine.specs.Plain.{IsPlain, SparedOr};
 ghost use Rattle.tmpl_machine.specs.Ready.{Has, Lands};
 ghost use Rattle.tmpl_machine.specs.Run.{plan_of};
-ghost use Rattle.tmpl_machine.specs.Turned.{Executed, added, mark_behind, put_by, told_behind};
+ghost use Rattle.tmpl_machine.specs.Turned.{Executed, added, put_by, told_behind};
 ghost use Rattle.tmpl_machine.specs.View.{cells_of, size_of};
 
 use crate::flow::Flow;
@@ -20,6 +21,7 @@ use tmpl_run::{Options, Sink};
 
 impl<'m, 'a> Machine<'m, 'a> {
     /// Carries out an instruction.
+    #[tactic(none)]
     pub(crate) fn execute<S: Sink>(
         &mut self,
         program: &'a Program<'a>,
@@ -34,7 +36,7 @@ impl<'m, 'a> Machine<'m, 'a> {
         requires within { length (cells_of self.old.stack) ≤ size_of self.old.stack }
         requires ready { Has (instruction_of instruction) (length (cells_of self.old.stack)) (size_of self.old.stack) }
         requires lands { Lands (done run.plan run.template (instruction_of instruction) (state_of run self.old)) }
-        requires countable { (given_of S.so_far output.old).failures < 2 ^ 64 - 1 }
+        requires countable { (S.so_far output.old.sink.now).failures < 2 ^ 64 - 1 }
         ensures step { let i = instruction_of instruction.entry in let s = state_of run self.old in
             Executed run i s (state_of (told_behind i s run) self.new) result }
         ensures given { IsPut (put_by result) (given_of S.so_far output.old) (given_of S.so_far output.new)

@@ -56,6 +56,7 @@ impl<'m, 'a> Machine<'m, 'a> {
             (state_of (behind (operation_of operation.entry) run) self.new) result }
         ensures plain { pipe.made_by (operation_of operation.entry) run.made_text ≡ false → IsPlain self.old
             → SparedOr result (IsPlain self.new) }
+        ensures size { size_of self.new.stack ≡ size_of self.old.stack }
     {
         match operation {
             Operation::Nothing => {
@@ -101,6 +102,7 @@ impl<'m, 'a> Machine<'m, 'a> {
           place = self.old.place + 1;
         } }
         ensures plain { is_made val.entry ≡ false → IsPlain self.old → IsPlain self.new }
+        ensures size { size_of self.new.stack ≡ size_of self.old.stack }
     {
         self.stack.push(val, 0);
         self.place += 1;
@@ -114,6 +116,7 @@ impl<'m, 'a> Machine<'m, 'a> {
         ensures step { TurnedOr run (act push_dot) (state_of run self.old) (state_of (behind push_dot run) self.new)
             result }
         ensures plain { IsPlain self.old → SparedOr result (IsPlain self.new) }
+        ensures size { size_of self.new.stack ≡ size_of self.old.stack }
     {
         let val = self.dot.share()?;
         self.give(val);
@@ -130,6 +133,7 @@ impl<'m, 'a> Machine<'m, 'a> {
         ensures step { TurnedOr run (act (push_fields names.now)) (state_of run self.old)
             (state_of (behind (push_fields names.now) run) self.new) result }
         ensures plain { IsPlain self.old → SparedOr result (IsPlain self.new) }
+        ensures size { size_of self.new.stack ≡ size_of self.old.stack }
     {
         let dot = self.dot.share()?;
         let val = missing_key.chain(dot, names)?;
@@ -146,6 +150,7 @@ impl<'m, 'a> Machine<'m, 'a> {
         ensures step { TurnedOr run (act (push_slot slot)) (state_of run self.old)
             (state_of (behind (push_slot slot) run) self.new) result }
         ensures plain { IsPlain self.old → SparedOr result (IsPlain self.new) }
+        ensures size { size_of self.new.stack ≡ size_of self.old.stack }
     {
         let val = self.stack.share(slot)?;
         self.give(val);
@@ -163,6 +168,7 @@ impl<'m, 'a> Machine<'m, 'a> {
         ensures step { TurnedOr run (act (chained names.now)) (state_of run self.old)
             (state_of (behind (chained names.now) run) self.new) result }
         ensures plain { IsPlain self.old → SparedOr result (IsPlain self.new) }
+        ensures size { size_of self.new.stack ≡ size_of self.old.stack }
     {
         let whole = self.stack.take().val;
         let val = missing_key.chain(whole, names)?;
@@ -181,6 +187,7 @@ impl<'m, 'a> Machine<'m, 'a> {
         ensures step { TurnedOr run (act (call_with func count piped)) (state_of run self.old)
             (state_of (behind (call_with func count piped) run) self.new) result }
         ensures plain { makes_text func ≡ false → IsPlain self.old → SparedOr result (IsPlain self.new) }
+        ensures size { size_of self.new.stack ≡ size_of self.old.stack }
     {
         let alloc = self.alloc;
         match self.stack.call(alloc, func, count, piped) {
@@ -205,6 +212,7 @@ impl<'m, 'a> Machine<'m, 'a> {
         ensures step { done run.plan run.template (act (decide is_or piped skip)) (state_of run self.old)
             ≡ goes (state_of run self.new) }
         ensures plain { IsPlain self.old → IsPlain self.new }
+        ensures size { size_of self.new.stack ≡ size_of self.old.stack }
     {
         let val = self.stack.take().val;
         self.place += 1;
@@ -225,6 +233,7 @@ impl<'m, 'a> Machine<'m, 'a> {
         requires place { self.old.place + 1 < 2 ^ 64 }
         ensures step { done run.plan run.template (act settle) (state_of run self.old) ≡ goes (state_of run self.new) }
         ensures plain { IsPlain self.old → IsPlain self.new }
+        ensures size { size_of self.new.stack ≡ size_of self.old.stack }
     {
         let val = self.stack.take().val;
         self.give(without_null(val));

@@ -8,7 +8,7 @@ ghost use Rattle.tmpl_machine.specs.Machine.{done, goes};
 ghost use Rattle.tmpl_machine.specs.Machines.{Told, state_of};
 ghost use Rattle.tmpl_machine.specs.Output.{Grows, given_of};
 ghost use Rattle.tmpl_machine.specs.Plain.{IsPlain};
-ghost use Rattle.tmpl_machine.specs.View.{cells_of};
+ghost use Rattle.tmpl_machine.specs.View.{cells_of, size_of};
 
 use crate::machine::Machine;
 use crate::output::Output;
@@ -29,6 +29,7 @@ impl<'m, 'a> Machine<'m, 'a> {
         ensures given { IsPut result (given_of S.so_far output.old) (given_of S.so_far output.new) bytes.now }
         ensures taken { Grows (S.so_far output.old.sink.now) (S.so_far output.new.sink.now) }
         ensures plain { IsPlain self.old → IsPlain self.new }
+        ensures size { size_of self.new.stack ≡ size_of self.old.stack }
     {
         self.place += 1;
         output.put(bytes)
@@ -49,6 +50,7 @@ impl<'m, 'a> Machine<'m, 'a> {
             (text_of (slot 0 (cells_of self.old.stack))) }
         ensures taken { Grows (S.so_far output.old.sink.now) (S.so_far output.new.sink.now) }
         ensures plain { IsPlain self.old → IsPlain self.new }
+        ensures size { size_of self.new.stack ≡ size_of self.old.stack }
     {
         let value = self.stack.take().val;
         self.place += 1;

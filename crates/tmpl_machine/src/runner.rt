@@ -89,7 +89,7 @@ impl<'m, 'a> Machine<'m, 'a> {
         requires within { length (cells_of self.old.stack) ≤ size_of self.old.stack }
         requires plain { IsPlain self.old }
         requires depth { self.old.depth + self.old.left < 2 ^ 64 - 1 }
-        requires countable { (given_of S.so_far output.old).failures < 2 ^ 64 - 1 }
+        requires countable { (S.so_far output.old.sink.now).failures < 2 ^ 64 - 1 }
         ensures came { Came run.0.plan run.1 (given_of S.so_far output.old) (given_of S.so_far output.new) (state_of run.0 self.new) result }
         ensures taken { Grows (S.so_far output.old.sink.now) (S.so_far output.new.sink.now) }
     {
