@@ -122,8 +122,8 @@ def members(size):
     yield b"]"
 
 
-def timed(part, file, *more):
-    """Seconds that the program of parts says a part took, and peak KiB. Each time is that of a new process."""
+def answered(part, file, *more):
+    """The number that the program of parts puts out for a part, and peak KiB of its process."""
     read, write = os.pipe()
     actions = [(os.POSIX_SPAWN_DUP2, write, 1), (os.POSIX_SPAWN_CLOSE, read)]
     child = os.posix_spawn(PARTS, [PARTS, part, file, *more], os.environ, file_actions=actions)
@@ -133,7 +133,13 @@ def timed(part, file, *more):
     _, status, usage = os.wait4(child, 0)
     if status:
         sys.exit(f"{PARTS} did not end well: wait status {status:#x}")
-    return told / 1e9, usage.ru_maxrss
+    return told, usage.ru_maxrss
+
+
+def timed(part, file, *more):
+    """Seconds that the program of parts says a part took, and peak KiB. Each time is that of a new process."""
+    nanoseconds, peak = answered(part, file, *more)
+    return nanoseconds / 1e9, peak
 
 
 def bench_cut(folder):
@@ -168,6 +174,28 @@ def bench_parsing(folder):
             points.append((size, ours[0]))
             speed = size / 1e6 / max(ours[0] - bare[0], 1e-9)
             print(f"  {size:7} bytes: tmpl {milliseconds(ours[0])} in {ours[1] // 1024:.0f} MiB, without the file {milliseconds(bare[0])}: {speed:.0f} MB/s")
+        judge_linear(points)
+
+
+def bench_compiling(folder):
+    """The compiling of a set to flat code, beside the parsing of the same file, and how many bytes the code takes."""
+    for name, piece in (
+        ("small actions", SMALL_ACTIONS),
+        ("actions of one field", b"{{.a}}\n"),
+        ("actions of dot alone", b"{{.}}"),
+    ):
+        print(f"The compiling of {name}")
+        points = []
+        for size in (10_000, 1_000_000, 4_000_000):
+            file = write(f"{folder}/compiled", [piece * (size // len(piece))])
+            rounds = [(timed("parse", file), timed("compile", file)) for _ in range(11)]
+            parsed, compiled = ([statistics.median(which) for which in zip(*column)] for column in zip(*rounds))
+            code = answered("code", file)[0] / os.path.getsize(file)
+            points.append((size, compiled[0]))
+            print(f"  {size:7} bytes: compiled in {milliseconds(compiled[0])} in {compiled[1] // 1024:.0f} MiB, parsed in {milliseconds(parsed[0])}, {code:.1f} bytes of code a byte")
+            if size == 1_000_000:
+                judge("compiling to parsing", compiled[0] / parsed[0], 0.25)
+                judge("the code to its template, in bytes", code, 40)
         judge_linear(points)
 
 
@@ -340,6 +368,7 @@ def main():
         bench_text(folder)
         bench_cut(folder)
         bench_parsing(folder)
+        bench_compiling(folder)
         bench_printing(folder)
         bench_actions(folder)
         bench_memory(folder)
