@@ -6,7 +6,10 @@ use Rattle.tmpl_values.specs.Put.{Puts, Took, appended}
 use Rattle.tmpl_values.specs.Text.{text_of}
 use Rattle.tmpl_values.specs.Value.{Value, nothing, null, boolean, number, string, sequence, mapping}
 use Rattle.tmpl_run.specs.Sink.{IsPut, Told, as_puts, with_bytes}
-use Rattle.tmpl_machine.specs.Output.{Grows}
+use Rattle.tmpl_values.proofs.PutLemmas.{IsPut-nil}
+use Rattle.tmpl_run.specs.declared.sink.SinkFault.{SinkFault}
+use Rattle.tmpl_machine.specs.Output.{Grows, given_of}
+use Rattle.tmpl_machine.specs.declared.output.Output.{Output}
 
 appended-nil : (known : Option (List ℕ)) → known ≡ appended known []
 appended-nil None = refl
@@ -69,3 +72,11 @@ text_of_bytes (number n) bytes h = cc
 text_of_bytes (string s) bytes h = let same : bytes ≡ s = cc in sym same
 text_of_bytes (sequence vs) bytes h = cc
 text_of_bytes (mapping es) bytes h = cc
+
+-- nothing is put
+module _ {S : Type 0} (so_far : S → Told) (old new : Output S) (same : new ≡ old) where
+  pub quiet : IsPut {F = SinkFault} (Ok tt) (given_of so_far old) (given_of so_far new) []
+  quiet = subst (λ (o : Output S). IsPut {F = SinkFault} (Ok tt) (given_of so_far old) (given_of so_far o) []) (sym same) (IsPut-nil (given_of so_far old))
+
+  pub quiet-grows : Grows (so_far old.sink.now) (so_far new.sink.now)
+  quiet-grows = subst (λ (o : Output S). Grows (so_far old.sink.now) (so_far o.sink.now)) (sym same) (grows-same (so_far old.sink.now))

@@ -21,7 +21,6 @@ use tmpl_run::{Options, Sink};
 
 impl<'m, 'a> Machine<'m, 'a> {
     /// Carries out an instruction.
-    #[tactic(none)]
     pub(crate) fn execute<S: Sink>(
         &mut self,
         program: &'a Program<'a>,
@@ -70,7 +69,7 @@ impl<'m, 'a> Machine<'m, 'a> {
             Instruction::Leave { count, skip } => self.leave(count, skip),
             Instruction::Deepen(line) => self.deepen(options.steps, options.depth, line)?,
             Instruction::Invoke(number) => {
-                self.invoke(options.steps, number, program.starts[number])?
+                self.invoke(options.steps, number, program.starts.as_slice()[number])?
             }
             Instruction::Return(count) => {
                 if self.return_from(count) {
