@@ -2,7 +2,7 @@
 use Rattle.std.specs.Prelude.{◌≡◌, Result, Ok, Err}
 use Rattle.tmpl_run.specs.View.{cause_of}
 use Rattle.tmpl_run.specs.declared.fault.RunFaultKind.{RunFaultKind}
-use Rattle.tmpl_code.specs.Instruction.{Instruction, Operation, act}
+use Rattle.tmpl_code.specs.Instruction.{Instruction, Operation}
 use Rattle.tmpl_machine.specs.State.{State}
 use Rattle.tmpl_machine.specs.Step.{made_by}
 use Rattle.tmpl_machine.specs.Machine.{done, failed, goes}
