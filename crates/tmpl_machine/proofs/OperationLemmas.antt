@@ -1,5 +1,5 @@
 -- What a step of a pipeline does, by what is found.
-use Rattle.std.proofs.Common.{arith, ◌≡◌, ◌∙◌, ◌+◌, ◌-◌, ◌<◌, ◌≤◌, ◌||◌, ◌++◌, ◌^◌, ℕ, zero, suc, Bool, true, false, List, [], ◌∷◌, length, drop, take, map, reverse, refl, ap, sym, subst, Result, Ok, Err, add-zero, append-nil}
+use Rattle.std.proofs.Common.{arith, ◌≡◌, ◌∙◌, ◌+◌, ◌<◌, ◌≤◌, ◌||◌, ◌++◌, ◌^◌, ℕ, Bool, true, false, List, [], ◌∷◌, length, drop, take, reverse, refl, ap, sym, Result, Ok, Err, add-zero, append-nil}
 use Rattle.std.proofs.lemmas.List.{length-drop, map-append}
 use Rattle.std.proofs.Math.Seq.{drop-drop}
 use Rattle.tmpl_values.specs.Value.{Value}

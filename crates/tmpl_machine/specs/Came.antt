@@ -1,5 +1,5 @@
 -- What the loop of a run comes to, before what waits is put out.
-use Rattle.std.specs.Prelude.{◌≡◌, ◌+◌, ◌×◌, true, ℕ, List, None, Some, Result, Ok, Err, slice_get}
+use Rattle.std.specs.Prelude.{◌≡◌, true, ℕ, List, None, Some, Result, Ok, Err, slice_get}
 use Rattle.tmpl_syntax.specs.Set.{Template}
 use Rattle.tmpl_run.specs.Meaning.{Ran}
 use Rattle.tmpl_run.specs.Sink.{IsPut, Puts}

@@ -4,9 +4,13 @@ use Rattle.tmpl_values.specs.Text.{text_of}
 use Rattle.tmpl_run.specs.declared.sink.SinkFault.{SinkFault}
 use Rattle.tmpl_run.specs.View.{cause_of}
 use Rattle.tmpl_run.specs.declared.fault.RunFaultKind.{RunFaultKind}
+<<<<<<< HEAD
 use Rattle.tmpl_code.specs.Instruction as code
 use Rattle.tmpl_code.specs.Instruction.{Instruction, Operation, act}
 use Rattle.tmpl_machine.specs.Cell.{slot}
+=======
+use Rattle.tmpl_code.specs.Instruction.{Instruction, Operation}
+>>>>>>> ops
 use Rattle.tmpl_machine.specs.State.{State}
 use Rattle.tmpl_machine.specs.Step.{made_by}
 use Rattle.tmpl_machine.specs.Machine.{done, ended, failed, goes, ran_so}

@@ -106,7 +106,7 @@ impl<'m, 'a> Machine<'m, 'a> {
     fn fault(&self, program: &'a Program<'a>, kind: RunFaultKind<'a>) -> RunFault<'a>
         requires { self.now.template < length (set_view program.now.set.now) }
         ensures { Some (fault_seen result)
-            ≡ option_map (λ t. fault_at t self.now.line (cause_of kind)) (slice_get (set_view program.now.set.now) self.now.template) }
+            ≡ option_map (λ t. fault_at t self.now.line (cause_of kind.entry)) (slice_get (set_view program.now.set.now) self.now.template) }
     {
         let (template, tree) = program.set.template(self.template);
         RunFault {

@@ -1,4 +1,4 @@
-use Rattle.std.proofs.Common.{arith, ◌≡◌, ◌∙◌, ◌+◌, ◌-◌}
+use Rattle.std.proofs.Common.{arith, ◌∙◌, ◌+◌, ◌-◌}
 use Rattle.tmpl_machine.specs.Plain.{IsPlainStack}
 use Rattle.tmpl_machine.specs.View.{cells_of}
 use Rattle.tmpl_machine.proofs.ArgumentLemmas.{table-is}
