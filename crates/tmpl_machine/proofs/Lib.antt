@@ -22,3 +22,5 @@ pub mod ArgumentLemmas
 pub mod PieceLemmas
 pub mod OutputLemmas
 pub mod PlainLemmas
+pub mod PastLemmas
+pub mod GoingLemmas

@@ -1,24 +1,32 @@
 -- What the loop of a run comes to, before what waits is put out.
-use Rattle.std.specs.Prelude.{◌≡◌, true, ℕ, List, None, Some, Result, Ok, Err, slice_get}
-use Rattle.tmpl_syntax.specs.Set.{Template}
+use Rattle.std.specs.Prelude.{◌≡◌, true, ℕ, List, Option, None, Some, option_map, Result, Ok, Err}
 use Rattle.tmpl_run.specs.Meaning.{Ran}
 use Rattle.tmpl_run.specs.Sink.{IsPut, Puts}
-use Rattle.tmpl_run.specs.View.{cause_of}
+use Rattle.tmpl_syntax.specs.Set.{Template}
+use Rattle.tmpl_run.specs.View.{cause_of, fault_seen}
 use Rattle.tmpl_run.specs.declared.sink.SinkFault.{SinkFault}
 use Rattle.tmpl_machine.specs.Laws.{Begins}
 use Rattle.tmpl_machine.specs.Machine.{fault_at}
-use Rattle.tmpl_machine.specs.State.{Plan, State}
 use Rattle.tmpl_machine.specs.declared.stop.Stop.{Stop}
 use Rattle.tmpl_machine.specs.declared.stop.Stop.TheVariants as stop
+use Rattle.tmpl_machine.specs.declared.fault.RunError.{RunError}
+use Rattle.tmpl_machine.specs.declared.fault.RunError.TheVariants as error
 
--- the whole text of the end was given, and there is no fault, or one of the template that runs; or a put failed; or
--- memory was refused, where text is made, and a beginning was given
-abbrev pub Came : Plan → Ran → Puts → Puts → State → Result (Unit {0}) Stop → Type 0
-Came plan end before after s (Ok u) = IsPut {F = SinkFault} (Ok tt) before after end.text × (end.fault ≡ None)
-Came plan end before after s (Err (stop.Fault kind)) =
-    IsPut {F = SinkFault} (Ok tt) before after end.text
-    × ((t : Template) × (slice_get plan.templates s.template ≡ Some t)
-    × (end.fault ≡ Some (fault_at t s.line (cause_of kind))))
-Came plan end before after s (Err stop.WriteFailed) = IsPut {F = SinkFault} (Err (record {})) before after end.text
-Came plan end before after s (Err stop.OutOfMemory) =
-    (text : List ℕ) × Begins text end.text × IsPut {F = SinkFault} (Ok tt) before after text × (end.made_text ≡ true)
+-- a stop in a template at a line
+abbrev pub IsStopped : Option Template → ℕ → Stop → RunError → Type 0
+IsStopped t line (stop.Fault kind) (error.Fault fault) =
+    Some (fault_seen fault) ≡ option_map (λ t. fault_at t line (cause_of kind)) t
+IsStopped t line (stop.Fault kind) error.WriteFailed = ⊥
+IsStopped t line (stop.Fault kind) error.OutOfMemory = ⊥
+IsStopped t line stop.WriteFailed e = e ≡ error.WriteFailed
+IsStopped t line stop.OutOfMemory e = e ≡ error.OutOfMemory
+
+-- the whole text of the end was given, and there is no fault, or this one; or a put failed; or memory was refused, where
+-- text is made, and a beginning was given
+abbrev pub Came : Ran → Puts → Puts → Result (Unit {0}) RunError → Type 0
+Came end before now (Ok u) = IsPut {F = SinkFault} (Ok tt) before now end.text × (end.fault ≡ None)
+Came end before now (Err (error.Fault fault)) =
+    IsPut {F = SinkFault} (Ok tt) before now end.text × (end.fault ≡ Some (fault_seen fault))
+Came end before now (Err error.WriteFailed) = IsPut {F = SinkFault} (Err (record {})) before now end.text
+Came end before now (Err error.OutOfMemory) =
+    (text : List ℕ) × Begins text end.text × IsPut {F = SinkFault} (Ok tt) before now text × (end.made_text ≡ true)

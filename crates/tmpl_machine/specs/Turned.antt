@@ -4,13 +4,9 @@ use Rattle.tmpl_values.specs.Text.{text_of}
 use Rattle.tmpl_run.specs.declared.sink.SinkFault.{SinkFault}
 use Rattle.tmpl_run.specs.View.{cause_of}
 use Rattle.tmpl_run.specs.declared.fault.RunFaultKind.{RunFaultKind}
-<<<<<<< HEAD
 use Rattle.tmpl_code.specs.Instruction as code
-use Rattle.tmpl_code.specs.Instruction.{Instruction, Operation, act}
-use Rattle.tmpl_machine.specs.Cell.{slot}
-=======
 use Rattle.tmpl_code.specs.Instruction.{Instruction, Operation}
->>>>>>> ops
+use Rattle.tmpl_machine.specs.Cell.{slot}
 use Rattle.tmpl_machine.specs.State.{State}
 use Rattle.tmpl_machine.specs.Step.{made_by}
 use Rattle.tmpl_machine.specs.Machine.{done, ended, failed, goes, ran_so}
@@ -60,7 +56,7 @@ Executed told i s t (Ok flow.Over) = done told.plan told.template i s ≡ ended 
 Executed told i s t (Err (stop.Fault kind)) =
     done told.plan told.template i s ≡ failed told.template t.line (cause_of kind) (record s { made_text = t.made_text })
 Executed told i s t (Err stop.WriteFailed) = done told.plan told.template i s ≡ goes t
-Executed told i s t (Err stop.OutOfMemory) = Unit {0}
+Executed told i s t (Err stop.OutOfMemory) = added i s ≡ []
 
 -- whether a put failed
 abbrev pub put_by : {A : Type 0} → Result A Stop → Result (Unit {0}) SinkFault

@@ -4,10 +4,9 @@ ghost use Rattle.tmpl_values.specs.View.{is_made, val_of, value_of};
 ghost use Rattle.tmpl_syntax.specs.View.{set_view};
 ghost use Rattle.tmpl_run.specs.Meaning.{Ran, ran, starting_dot};
 ghost use Rattle.tmpl_run.specs.Sink.{sunk};
-ghost use Rattle.tmpl_run.specs.View.{fault_seen, cause_of};
 ghost use Rattle.tmpl_code.specs.Program.{IsLinked};
 ghost use Rattle.tmpl_code.specs.Room.{room};
-ghost use Rattle.tmpl_machine.specs.Came.{Came};
+ghost use Rattle.tmpl_machine.specs.Came.{Came, IsStopped};
 ghost use Rattle.tmpl_machine.specs.Ends.{Ends};
 ghost use Rattle.tmpl_machine.specs.Machine.{fault_at};
 ghost use Rattle.tmpl_machine.specs.Machines.{Told, state_of};
@@ -25,7 +24,7 @@ use crate::stack::Stack;
 use crate::stop::Stop;
 use std::alloc::Global;
 use tmpl_code::{Entry, Program};
-use tmpl_run::{Options, RunFault, RunFaultKind, Sink, without_null};
+use tmpl_run::{Options, RunFault, Sink, without_null};
 use tmpl_values::{Cell, Data, Val};
 
 /// The dot that a run starts with: the data, of which null is nothing; nothing where there is no data.
@@ -81,40 +80,53 @@ impl<'m, 'a> Machine<'m, 'a> {
         program: &'a Program<'a>,
         options: &Options,
         output: &mut Output<'_, S>,
-    ) -> Result<(), Stop<'a>>
+    ) -> Result<(), RunError<'a>>
         ghost run: { Told × Ran }
         requires plan { run.0.plan ≡ plan_of options.now program.now }
         requires text { run.0.text ≡ [] }
+        requires mark { run.0.made_text ≡ false }
         requires ends { Ends run.0.plan (size_of self.old.stack) (state_of run.0 self.old) run.1 }
         requires within { length (cells_of self.old.stack) ≤ size_of self.old.stack }
         requires plain { IsPlain self.old }
         requires depth { self.old.depth + self.old.left < 2 ^ 64 - 1 }
         requires countable { (S.so_far output.old.sink.now).failures < 2 ^ 64 - 1 }
-        ensures came { Came run.0.plan run.1 (given_of S.so_far output.old) (given_of S.so_far output.new) (state_of run.0 self.new) result }
+        ensures came { Came run.1 (given_of S.so_far output.old) (given_of S.so_far output.new) result }
         ensures taken { Grows (S.so_far output.old.sink.now) (S.so_far output.new.sink.now) }
     {
         loop {
-            let instruction = program.instructions[self.place];
-            match self.execute(program, options, instruction, output)? {
-                Flow::On => {}
-                Flow::Over => return Ok(()),
+            let number = self.template;
+            let instruction = program.instructions.as_slice()[self.place];
+            match self.execute(program, options, instruction, output) {
+                Ok(Flow::On) => {}
+                Ok(Flow::Over) => return Ok(()),
+                Err(stop) => return Err(stopped(program, number, self.line, stop)),
             }
         }
     }
+}
 
-    /// The fault of the template that runs, at the line of the last step.
-    fn fault(&self, program: &'a Program<'a>, kind: RunFaultKind<'a>) -> RunFault<'a>
-        requires { self.now.template < length (set_view program.now.set.now) }
-        ensures { Some (fault_seen result)
-            ≡ option_map (λ t. fault_at t self.now.line (cause_of kind.entry)) (slice_get (set_view program.now.set.now) self.now.template) }
-    {
-        let (template, tree) = program.set.template(self.template);
-        RunFault {
-            file: tree.file.as_slice(),
-            line: self.line,
-            template,
-            kind,
+/// Why a run ends that stops in the template of this number, at this line.
+fn stopped<'a>(
+    program: &'a Program<'a>,
+    number: usize,
+    line: u64,
+    stop: Stop<'a>,
+) -> RunError<'a>
+    requires { number < length (set_view program.now.set.now) }
+    ensures { IsStopped (slice_get (set_view program.now.set.now) number) line stop.entry result }
+{
+    match stop {
+        Stop::Fault(kind) => {
+            let (template, tree) = program.set.template(number);
+            RunError::Fault(RunFault {
+                file: tree.file.as_slice(),
+                line,
+                template,
+                kind,
+            })
         }
+        Stop::WriteFailed => RunError::WriteFailed,
+        Stop::OutOfMemory => RunError::OutOfMemory,
     }
 }
 
@@ -146,11 +158,10 @@ pub fn run<'a, S: Sink>(
     let mut output = Output::new(out, piece);
     match machine.turns(program, options, &mut output) {
         Ok(()) => Ok(output.flush()?),
-        Err(Stop::Fault(kind)) => {
+        Err(RunError::Fault(fault)) => {
             output.flush()?;
-            Err(RunError::Fault(machine.fault(program, kind)))
+            Err(RunError::Fault(fault))
         }
-        Err(Stop::WriteFailed) => Err(RunError::WriteFailed),
-        Err(Stop::OutOfMemory) => Err(RunError::OutOfMemory),
+        Err(error) => Err(error),
     }
 }

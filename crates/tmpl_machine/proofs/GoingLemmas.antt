@@ -1,0 +1,184 @@
+-- What the loop of a run keeps, and to what it comes.
+use Rattle.std.proofs.Common.{arith, inl, inr, ◌≡◌, ◌∙◌, ◌+◌, ◌||◌, ◌++◌, ◌^◌, ◌<◌, ◌≤◌, ℕ, suc, Bool, true, false, List, [], ◌∷◌, length, get_or, refl, ap, sym, subst, Option, Some, None, Result, Ok, Err, append-nil}
+use Rattle.std.specs.Prelude.{slice_get}
+use Rattle.tmpl_values.specs.Put.{Puts, IsPut}
+use Rattle.tmpl_values.proofs.PutLemmas.{IsPut-along, IsPut-append, IsPut-stop}
+use Rattle.tmpl_syntax.specs.Set.{Template}
+use Rattle.tmpl_run.specs.Fault.{Fault}
+use Rattle.tmpl_run.specs.Meaning.{Ran}
+use Rattle.tmpl_run.specs.declared.sink.SinkFault.{SinkFault}
+use Rattle.tmpl_code.specs.Instruction as code
+use Rattle.tmpl_code.specs.Instruction.{Instruction}
+use Rattle.tmpl_machine.specs.Cell.{Cell}
+use Rattle.tmpl_machine.specs.State.{Plan, State}
+use Rattle.tmpl_machine.specs.Machine.{Turn, done, ended, goes, stuck, top}
+use Rattle.tmpl_machine.specs.Machines.{Told}
+use Rattle.tmpl_machine.specs.declared.machine.Machine.{Machine}
+use Rattle.tmpl_machine.specs.Ready.{Has, Lands}
+use Rattle.tmpl_machine.specs.Ends.{Ends}
+use Rattle.tmpl_machine.specs.Laws.{Begins, Lessens, mark_behind}
+use Rattle.tmpl_machine.specs.Turned.{added, behind, told_behind}
+use Rattle.tmpl_machine.proofs.LoopLemmas.{ends-so, falls, finds, goes-on, is-next, ready, within-code, work}
+use Rattle.tmpl_machine.proofs.MoveLemmas.{each-lessens, mark-stays, mark_next, next-depth, text-begins}
+use Rattle.tmpl_machine.proofs.RoomLemmas.{next-within}
+use Rattle.tmpl_machine.proofs.PastLemmas.{after_past, done-past, past-again, with_past}
+
+-- what is told of a run that has put nothing out yet, in the template that a machine runs
+abbrev pub told_at : Told → Machine → Told
+told_at run m = record {
+  plan = run.plan;
+  template = get_or run.plan.templates m.template run.template;
+  text = [];
+  made_text = false;
+}
+
+-- ---- what an instruction adds
+
+pub text-behind : (i : Instruction) (s : State) (told : Told) → told.text ≡ [] → (told_behind i s told).text ≡ added i s
+text-behind (code.put bytes) s told e = ap (λ l. l ++ bytes) e
+text-behind code.show s told e = ap (λ l. l ++ added code.show s) e
+text-behind (code.spend line) s told e = e
+text-behind (code.act o) s told e = e
+text-behind (code.hold key) s told e = e
+text-behind (code.set slot) s told e = e
+text-behind (code.set_dot slot) s told e = e
+text-behind (code.unless kept skip) s told e = e
+text-behind (code.enter_with kept skip) s told e = e
+text-behind (code.end_with n variables skip) s told e = e
+text-behind (code.cut n skip) s told e = e
+text-behind (code.enter key skip) s told e = e
+text-behind (code.turn n) s told e = e
+text-behind (code.next n skip line) s told e = e
+text-behind (code.leave n skip) s told e = e
+text-behind (code.deepen line) s told e = e
+text-behind (code.invoke number) s told e = e
+text-behind (code.return_from n) s told e = e
+
+pub mark-behind-told : (i : Instruction) (s : State) (told : Told) → (told_behind i s told).made_text ≡ mark_behind i told.made_text
+mark-behind-told (code.put bytes) s told = refl
+mark-behind-told code.show s told = refl
+mark-behind-told (code.spend line) s told = refl
+mark-behind-told (code.act o) s told = refl
+mark-behind-told (code.hold key) s told = refl
+mark-behind-told (code.set slot) s told = refl
+mark-behind-told (code.set_dot slot) s told = refl
+mark-behind-told (code.unless kept skip) s told = refl
+mark-behind-told (code.enter_with kept skip) s told = refl
+mark-behind-told (code.end_with n variables skip) s told = refl
+mark-behind-told (code.cut n skip) s told = refl
+mark-behind-told (code.enter key skip) s told = refl
+mark-behind-told (code.turn n) s told = refl
+mark-behind-told (code.next n skip line) s told = refl
+mark-behind-told (code.leave n skip) s told = refl
+mark-behind-told (code.deepen line) s told = refl
+mark-behind-told (code.invoke number) s told = refl
+mark-behind-told (code.return_from n) s told = refl
+
+-- what ends a run puts nothing out
+pub ended-quiet : (plan : Plan) (t : Template) (i : Instruction) (s : State) (r : Ran) → done plan t i s ≡ ended r → added i s ≡ []
+ended-quiet plan t (code.put bytes) s r e = cc
+ended-quiet plan t code.show s r e = by s.cells e
+  where
+    by : (cs : List Cell) → top cs (λ c cs. goes (record s { cells = cs; text = s.text ++ added code.show (record s { cells = c ∷ cs }); place = s.place + 1 })) ≡ ended r → added code.show s ≡ []
+    by [] e = cc
+    by (c ∷ cs) e = cc
+ended-quiet plan t (code.spend line) s r e = refl
+ended-quiet plan t (code.act o) s r e = refl
+ended-quiet plan t (code.hold key) s r e = refl
+ended-quiet plan t (code.set slot) s r e = refl
+ended-quiet plan t (code.set_dot slot) s r e = refl
+ended-quiet plan t (code.unless kept skip) s r e = refl
+ended-quiet plan t (code.enter_with kept skip) s r e = refl
+ended-quiet plan t (code.end_with n variables skip) s r e = refl
+ended-quiet plan t (code.cut n skip) s r e = refl
+ended-quiet plan t (code.enter key skip) s r e = refl
+ended-quiet plan t (code.turn n) s r e = refl
+ended-quiet plan t (code.next n skip line) s r e = refl
+ended-quiet plan t (code.leave n skip) s r e = refl
+ended-quiet plan t (code.deepen line) s r e = refl
+ended-quiet plan t (code.invoke number) s r e = refl
+ended-quiet plan t (code.return_from n) s r e = refl
+
+-- ---- one turn
+
+module _ (plan : Plan) (size : ℕ) (end : Ran) (x : List ℕ) (m : Bool) (s : State) (i : Instruction) (t : Template) (here : slice_get plan.code s.place ≡ Some i) (runs : slice_get plan.templates s.template ≡ Some t) (h : Ends plan size (with_past x m s) end) where
+  abbrev past : State
+  past = with_past x m s
+
+  shifted : (u : Turn) → done plan t i s ≡ u → done plan t i past ≡ after_past x m u
+  shifted u e = done-past x m plan t i s ∙ ap (after_past x m) e
+
+  pub has : Has i (length s.cells) size
+  has = ready plan size end i t past here runs h
+
+  pub next-ends : (u : State) → done plan t i s ≡ goes u → Ends plan size (with_past x m u) end
+  next-ends u e = goes-on plan size end i t past here runs h (with_past x m u) (shifted (goes u) e)
+
+  pub lands : length plan.code < 2 ^ 64 → Lands (done plan t i s)
+  lands fits = by (done plan t i s) refl
+    where
+      by : (u : Turn) → done plan t i s ≡ u → Lands u
+      by (goes v) e = let within = within-code plan size end (with_past x m v) (next-ends v e) in omega arith
+      by (ended r) e = tt
+      by stuck e = finds plan size end i t past here runs h (shifted stuck e)
+
+  pub over : (r : Ran) → done plan t i s ≡ ended r → record r { text = x ++ r.text; made_text = m || r.made_text } ≡ end
+  over r e = ends-so plan size end i t past here runs h (record r { text = x ++ r.text; made_text = m || r.made_text }) (shifted (ended r) e)
+
+  pub less : (u : State) → done plan t i s ≡ goes u → work (length plan.code) u < work (length plan.code) s
+  less u e = falls plan size end i t past here runs h (with_past x m u) (shifted (goes u) e)
+
+  pub within : (u : State) → done plan t i s ≡ goes u → length s.cells ≤ size → length u.cells ≤ size
+  within u e fits = next-within size plan past (with_past x m u) end h fits (is-next plan size end i t past here runs h ∙ shifted (goes u) e)
+
+  pub no-deeper : (u : State) → done plan t i s ≡ goes u → u.depth + u.left ≤ s.depth + s.left
+  no-deeper u e = by (each-lessens plan past (with_past x m u) (is-next plan size end i t past here runs h ∙ shifted (goes u) e))
+    where
+      deep : u.depth ≤ suc s.depth
+      deep = next-depth plan past (with_past x m u) (is-next plan size end i t past here runs h ∙ shifted (goes u) e)
+
+      by : Lessens past (with_past x m u) → u.depth + u.left ≤ s.depth + s.left
+      by (inl less) = let d = deep in omega arith
+      by (inr (left, inl less)) = omega arith
+      by (inr (left, inr (depth, place))) = omega arith
+
+  -- the run goes on, with what was put out and the mark told apart again
+  pub keeps : (u : State) → done plan t i s ≡ goes u → Ends plan size (with_past (x ++ u.text) (m || u.made_text) (record u { text = []; made_text = false })) end
+  keeps u e = subst (λ v. Ends plan size v end) (past-again x u.text m u.made_text u) (next-ends u e)
+
+  -- memory is refused only where the end bears the mark
+  pub marked : {P : Type 0} → s.made_text ≡ false → (m ≡ false → P) → (mark_behind i false ≡ false → P → ⊥) → end.made_text ≡ true
+  marked fresh plain never = by m refl
+    where
+      by : (b : Bool) → m ≡ b → end.made_text ≡ true
+      by true e = mark-stays plan size past end h (ap (λ b. b || s.made_text) e)
+      by false e = by-mark (mark_behind i false) refl
+        where
+          by-mark : (c : Bool) → mark_behind i false ≡ c → end.made_text ≡ true
+          by-mark true f = mark_next plan size past end i h here (ap (λ b. mark_behind i (b || s.made_text)) e ∙ ap (mark_behind i) fresh ∙ f)
+          by-mark false f = absurd (never f (plain e))
+
+  module _ (before now next : Puts) (empty : s.text ≡ []) (given : IsPut {F = SinkFault} (Ok tt) before now x) where
+    both : IsPut {F = SinkFault} (Ok tt) now next (added i s) → IsPut {F = SinkFault} (Ok tt) before next (x ++ added i s)
+    both more = IsPut-append given more
+
+    -- the run is over, or stops at a fault
+    pub came-over : (r : Ran) → done plan t i s ≡ ended r → r.text ≡ s.text → IsPut {F = SinkFault} (Ok tt) now next (added i s) → IsPut {F = SinkFault} (Ok tt) before next end.text
+    came-over r e same more = IsPut-along (both more) (ap (λ l. x ++ l) (ended-quiet plan t i s r e ∙ sym empty ∙ sym same) ∙ ap (λ (q : Ran). q.text) (over r e))
+
+    pub fault-over : (r : Ran) → done plan t i s ≡ ended r → end.fault ≡ r.fault
+    fault-over r e = sym (ap (λ (q : Ran). q.fault) (over r e))
+
+    -- a put fails
+    pub came-cut : (u : State) → done plan t i s ≡ goes u → u.text ≡ added i s → IsPut {F = SinkFault} (Err (record {})) now next (added i s) → IsPut {F = SinkFault} (Err (record {})) before next end.text
+    came-cut u e same more =
+        let begins = text-begins plan size (with_past x m u) end (next-ends u e) in
+        IsPut-along (IsPut-stop begins.0 tt (IsPut-append given more)) (ap (λ l. (x ++ l) ++ begins.0) (sym same) ∙ sym begins.1)
+
+    -- memory is refused
+    pub came-refused : added i s ≡ [] → IsPut {F = SinkFault} (Ok tt) now next (added i s) → (text : List ℕ) × Begins text end.text × IsPut {F = SinkFault} (Ok tt) before next text
+    came-refused quiet more = (
+      x ++ s.text,
+      text-begins plan size past end h,
+      IsPut-along (both more) (ap (λ l. x ++ l) (quiet ∙ sym empty)),
+    )
