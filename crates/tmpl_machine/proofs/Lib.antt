@@ -22,3 +22,4 @@ pub mod ArgumentLemmas
 pub mod PieceLemmas
 pub mod OutputLemmas
 pub mod PlainLemmas
+pub mod PastLemmas
