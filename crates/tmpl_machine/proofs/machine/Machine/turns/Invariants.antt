@@ -13,3 +13,19 @@ use Rattle.tmpl_machine.proofs.machine.Machine.turns.Given as goal
 
 abbrev pub ghost-execute : goal.ghost-execute
 ghost-execute g a = told_at g.run.0 a.self.now
+
+abbrev pub invariant-loop-stop : goal.invariant-loop-stop
+invariant-loop-stop g l = record {
+  size : size_of l.self.stack ≡ size_of l.initial.self.stack;
+  within : length (cells_of l.self.stack) ≤ size_of l.self.stack;
+  depth : l.self.depth + l.self.left < 2 ^ 64 - 1;
+  taken : Grows (g.S.Sink.so_far l.initial.output.sink.now) (g.S.Sink.so_far l.output.sink.now);
+  text : List ℕ;
+  made : Bool;
+  given : IsPut {F = SinkFault} (Ok tt) (given_of g.S.Sink.so_far l.initial.output) (given_of g.S.Sink.so_far l.output) text;
+  ends : Ends g.run.0.plan (size_of l.self.stack) (with_past text made (state_of (told_at g.run.0 l.self) l.self)) g.run.1;
+  plain : made ≡ false → IsPlain l.self;
+}
+
+abbrev pub decreases-loop-stop : goal.decreases-loop-stop
+decreases-loop-stop g l = work (length g.run.0.plan.code) (state_of g.run.0 l.self)
