@@ -1,6 +1,7 @@
 -- What the loop of a run keeps, and to what it comes.
 use Rattle.std.proofs.Common.{arith, inl, inr, ◌≡◌, ◌∙◌, ◌+◌, ◌||◌, ◌++◌, ◌^◌, ◌<◌, ◌≤◌, ℕ, suc, Bool, true, false, List, [], ◌∷◌, length, get_or, refl, ap, sym, subst, Option, Some, None, Result, Ok, Err, append-nil}
-use Rattle.std.specs.Prelude.{slice_get}
+use Rattle.std.specs.Prelude.{option_map, slice_get}
+use Rattle.std.proofs.lemmas.Option.{get_or_from_slice_get, slice_get-get_or, slice_get-map}
 use Rattle.tmpl_values.specs.Put.{Puts, IsPut}
 use Rattle.tmpl_values.proofs.PutLemmas.{IsPut-along, IsPut-append, IsPut-stop}
 use Rattle.tmpl_syntax.specs.Set.{Template}
@@ -11,13 +12,23 @@ use Rattle.tmpl_code.specs.Instruction as code
 use Rattle.tmpl_code.specs.Instruction.{Instruction}
 use Rattle.tmpl_machine.specs.Cell.{Cell}
 use Rattle.tmpl_machine.specs.State.{Plan, State}
-use Rattle.tmpl_machine.specs.Machine.{Turn, done, ended, goes, stuck, top}
+use Rattle.tmpl_machine.specs.Machine.{Turn, done, ended, failed, fault_at, goes, ran_so, stuck, top}
 use Rattle.tmpl_machine.specs.Machines.{Told}
 use Rattle.tmpl_machine.specs.declared.machine.Machine.{Machine}
 use Rattle.tmpl_machine.specs.Ready.{Has, Lands}
 use Rattle.tmpl_machine.specs.Ends.{Ends}
 use Rattle.tmpl_machine.specs.Laws.{Begins, Lessens, mark_behind}
-use Rattle.tmpl_machine.specs.Turned.{added, behind, told_behind}
+use Rattle.tmpl_run.specs.View.{cause_of}
+use Rattle.tmpl_machine.specs.Came.{Came, IsStopped}
+use Rattle.tmpl_machine.specs.Plain.{SparedOr}
+use Rattle.tmpl_machine.specs.Turned.{Executed, added, put_by, told_behind}
+use Rattle.tmpl_machine.specs.declared.flow.Flow.{Flow}
+use Rattle.tmpl_machine.specs.declared.fault.RunError.{RunError}
+use Rattle.tmpl_machine.specs.declared.fault.RunError.TheVariants as error
+use Rattle.tmpl_machine.specs.declared.stop.Stop.{Stop}
+use Rattle.tmpl_machine.specs.declared.stop.Stop.TheVariants as stop
+use Rattle.tmpl_code.specs.View.{instruction_of, instructions_of}
+use Rattle.tmpl_code.specs.declared.instruction.Instruction as held
 use Rattle.tmpl_machine.proofs.LoopLemmas.{ends-so, falls, finds, goes-on, is-next, ready, within-code, work}
 use Rattle.tmpl_machine.proofs.MoveLemmas.{each-lessens, mark-stays, mark_next, next-depth, text-begins}
 use Rattle.tmpl_machine.proofs.RoomLemmas.{next-within}
@@ -31,6 +42,17 @@ told_at run m = record {
   text = [];
   made_text = false;
 }
+
+-- the instruction at a place, and the template of a number
+pub code-at : (items : List held.Instruction) (place : ℕ) (i d : held.Instruction) → place < length items → i ≡ get_or items place d → slice_get (instructions_of items) place ≡ Some (instruction_of i)
+code-at items place i d h is = slice_get-map instruction_of items place ∙ ap (option_map instruction_of) (slice_get-get_or items place d h ∙ ap Some (sym is))
+
+pub runs-at : (ts : List Template) (n : ℕ) (d : Template) → (t : Template) × (slice_get ts n ≡ Some t) → slice_get ts n ≡ Some (get_or ts n d)
+runs-at ts n d found = found.1 ∙ ap Some (sym (get_or_from_slice_get ts n found.0 d found.1))
+
+pub neither : (a b : Bool) → (a || b) ≡ false → (a ≡ false) × (b ≡ false)
+neither false b e = (refl, e)
+neither true b e = cc
 
 -- ---- what an instruction adds
 
@@ -173,12 +195,28 @@ module _ (plan : Plan) (size : ℕ) (end : Ran) (x : List ℕ) (m : Bool) (s : S
     pub came-cut : (u : State) → done plan t i s ≡ goes u → u.text ≡ added i s → IsPut {F = SinkFault} (Err (record {})) now next (added i s) → IsPut {F = SinkFault} (Err (record {})) before next end.text
     came-cut u e same more =
         let begins = text-begins plan size (with_past x m u) end (next-ends u e) in
-        IsPut-along (IsPut-stop begins.0 tt (IsPut-append given more)) (ap (λ l. (x ++ l) ++ begins.0) (sym same) ∙ sym begins.1)
+        IsPut-along (IsPut-stop {r = Err (record {})} begins.0 refl (IsPut-append given more)) (ap (λ l. (x ++ l) ++ begins.0) (sym same) ∙ sym begins.1)
 
     -- memory is refused
     pub came-refused : added i s ≡ [] → IsPut {F = SinkFault} (Ok tt) now next (added i s) → (text : List ℕ) × Begins text end.text × IsPut {F = SinkFault} (Ok tt) before next text
-    came-refused quiet more = (
-      x ++ s.text,
-      text-begins plan size past end h,
-      IsPut-along (both more) (ap (λ l. x ++ l) (quiet ∙ sym empty)),
-    )
+    came-refused quiet more = (x ++ s.text, text-begins plan size past end h, IsPut-along (both more) (ap (λ l. x ++ l) (quiet ∙ sym empty)))
+
+    -- a stop
+    module _ (u : State) (P Q : Type 0) (fresh : s.made_text ≡ false) (plain : m ≡ false → P) (told : u.text ≡ added i s) where
+      pub came-stopped : (r : Told) → r.plan ≡ plan → r.template ≡ t → (stop : Stop) (e : RunError) → Executed r i s u (Err stop) → IsPut (put_by {A = Flow} (Err stop)) now next (added i s)
+          → (mark_behind i false ≡ false → P → SparedOr {A = Flow} (Err stop) Q) → IsStopped (slice_get plan.templates s.template) u.line stop e → Came end before next (Err e)
+      came-stopped r same-plan same-template (stop.Fault kind) (error.Fault fault) step more spared is = (
+        came-over (ran_so (record s { made_text = u.made_text }) (Some (fault_at t u.line (cause_of kind)))) step' refl more,
+        fault-over (ran_so (record s { made_text = u.made_text }) (Some (fault_at t u.line (cause_of kind)))) step' ∙ sym (is ∙ ap (option_map (λ t. fault_at t u.line (cause_of kind))) runs),
+      )
+        where
+          step' : done plan t i s ≡ failed t u.line (cause_of kind) (record s { made_text = u.made_text })
+          step' = subst (λ p. done p t i s ≡ failed t u.line (cause_of kind) (record s { made_text = u.made_text })) same-plan (subst (λ y. done r.plan y i s ≡ failed y u.line (cause_of kind) (record s { made_text = u.made_text })) same-template step)
+      came-stopped r same-plan same-template (stop.Fault kind) error.WriteFailed step more spared is = absurd is
+      came-stopped r same-plan same-template (stop.Fault kind) error.OutOfMemory step more spared is = absurd is
+      came-stopped r same-plan same-template stop.WriteFailed e step more spared is =
+          subst (λ f. Came end before next (Err f)) (sym is)
+          (came-cut u (subst (λ p. done p t i s ≡ goes u) same-plan (subst (λ y. done r.plan y i s ≡ goes u) same-template step)) told more)
+      came-stopped r same-plan same-template stop.OutOfMemory e step more spared is =
+          let refused = came-refused step more in
+          subst (λ f. Came end before next (Err f)) (sym is) (refused.0, refused.1, refused.2, marked {P = P} fresh plain spared)
