@@ -24,3 +24,4 @@ pub mod OutputLemmas
 pub mod PlainLemmas
 pub mod PastLemmas
 pub mod GoingLemmas
+pub mod StartLemmas

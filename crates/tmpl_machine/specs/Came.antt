@@ -1,16 +1,27 @@
 -- What the loop of a run comes to, before what waits is put out.
-use Rattle.std.specs.Prelude.{◌≡◌, true, ℕ, List, Option, None, Some, option_map, Result, Ok, Err}
+use Rattle.std.specs.Prelude.{◌≡◌, true, false, ℕ, List, [], Option, None, Some, option_map, Result, Ok, Err}
 use Rattle.tmpl_run.specs.Meaning.{Ran}
 use Rattle.tmpl_run.specs.Sink.{IsPut, Puts}
 use Rattle.tmpl_syntax.specs.Set.{Template}
+use Rattle.tmpl_syntax.specs.Tree.{none}
 use Rattle.tmpl_run.specs.View.{cause_of, fault_seen}
 use Rattle.tmpl_run.specs.declared.sink.SinkFault.{SinkFault}
 use Rattle.tmpl_machine.specs.Laws.{Begins}
 use Rattle.tmpl_machine.specs.Machine.{fault_at}
+use Rattle.tmpl_machine.specs.Machines.{Told}
+use Rattle.tmpl_machine.specs.State.{Plan}
 use Rattle.tmpl_machine.specs.declared.stop.Stop.{Stop}
 use Rattle.tmpl_machine.specs.declared.stop.Stop.TheVariants as stop
 use Rattle.tmpl_machine.specs.declared.fault.RunError.{RunError}
 use Rattle.tmpl_machine.specs.declared.fault.RunError.TheVariants as error
+
+-- a template that stands for none
+abbrev pub no_template : Template
+no_template = ([], record { file = []; nodes = none })
+
+-- what is told of a run by this plan that has put nothing out yet
+abbrev pub nothing_told : Plan → Told
+nothing_told plan = record { plan = plan; template = no_template; text = []; made_text = false }
 
 -- a stop in a template at a line
 abbrev pub IsStopped : Option Template → ℕ → Stop → RunError → Type 0

@@ -1,14 +1,13 @@
 //! The run of a program, from the start of a template to its end.
-ghost use Rattle.std.specs.Prelude.{◌≡◌, ◌+◌, ◌-◌, ◌*◌, ◌<◌, ◌≤◌, ◌^◌, IfSome, Some, [], false, length, option_map, slice_get};
+ghost use Rattle.std.specs.Prelude.{◌≡◌, ◌+◌, ◌-◌, ◌*◌, ◌<◌, ◌≤◌, ◌^◌, IfSome, [], false, get_or, length, option_map, slice_get};
 ghost use Rattle.tmpl_values.specs.View.{is_made, val_of, value_of};
 ghost use Rattle.tmpl_syntax.specs.View.{set_view};
 ghost use Rattle.tmpl_run.specs.Meaning.{Ran, ran, starting_dot};
 ghost use Rattle.tmpl_run.specs.Sink.{sunk};
 ghost use Rattle.tmpl_code.specs.Program.{IsLinked};
 ghost use Rattle.tmpl_code.specs.Room.{room};
-ghost use Rattle.tmpl_machine.specs.Came.{Came, IsStopped};
+ghost use Rattle.tmpl_machine.specs.Came.{Came, IsStopped, nothing_told};
 ghost use Rattle.tmpl_machine.specs.Ends.{Ends};
-ghost use Rattle.tmpl_machine.specs.Machine.{fault_at};
 ghost use Rattle.tmpl_machine.specs.Machines.{Told, state_of};
 ghost use Rattle.tmpl_machine.specs.Output.{Grows, given_of};
 ghost use Rattle.tmpl_machine.specs.Plain.{IsPlain};
@@ -39,22 +38,20 @@ fn starting_dot<'a>(data: Option<&'a Data>) -> Val<'a>
 }
 
 impl<'m, 'a> Machine<'m, 'a> {
-    /// Before the first instruction of a template, which is at this place.
+    /// Before the first instruction of a template.
     fn start(
         alloc: Global,
-        cells: &'m mut [Cell<'a>],
-        steps: u64,
+        program: &Program<'a>,
         entry: Entry,
-        place: usize,
         data: Option<&'a Data>,
+        options: &Options,
+        cells: &'m mut [Cell<'a>],
     ) -> Machine<'m, 'a>
-        ghost run: { Told }
-        requires limit { run.plan.rules.step_limit ≡ steps }
-        requires text { run.text ≡ [] }
-        requires mark { run.made_text ≡ false }
+        requires entry { entry.number < length program.now.starts.items }
         requires room { 3 ≤ length cells.old }
-        ensures state { state_of run result
-            ≡ starting run.plan entry.number place (starting_dot (option_map (λ d. value_of d.now) «data».entry)) }
+        ensures state { let plan = plan_of options.now program.now in state_of (nothing_told plan) result
+            ≡ starting plan entry.number (get_or plan.starts entry.number 0)
+            (starting_dot (option_map (λ d. value_of d.now) «data».entry)) }
         ensures plain { IsPlain result }
         ensures size { size_of result.stack ≡ length cells.old }
     {
@@ -66,11 +63,11 @@ impl<'m, 'a> Machine<'m, 'a> {
             alloc,
             stack,
             dot: starting_dot(data),
-            left: steps,
+            left: options.steps,
             line: 0,
             template: entry.number,
             depth: 1,
-            place,
+            place: program.starts.as_slice()[entry.number],
         }
     }
 
@@ -153,8 +150,7 @@ pub fn run<'a, S: Sink>(
         IsRun (ran (plan_of options.now program.now).rules ts t.0 t.1 (option_map (λ d. value_of d.now) «data».entry))
         (sunk (S.so_far out.old) (S.so_far out.new)) result) }
 {
-    let place = program.starts[entry.number];
-    let mut machine = Machine::start(alloc, cells, options.steps, entry, place, data);
+    let mut machine = Machine::start(alloc, program, entry, data, options, cells);
     let mut output = Output::new(out, piece);
     match machine.turns(program, options, &mut output) {
         Ok(()) => Ok(output.flush()?),
