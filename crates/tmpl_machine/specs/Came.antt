@@ -1,5 +1,5 @@
 -- What the loop of a run comes to, before what waits is put out.
-use Rattle.std.specs.Prelude.{◌≡◌, true, false, ℕ, List, [], Option, None, Some, option_map, Result, Ok, Err}
+use Rattle.std.specs.Prelude.{◌≡◌, ◌⊎◌, true, false, ℕ, List, [], Option, None, Some, option_map, Result, Ok, Err}
 use Rattle.tmpl_run.specs.Meaning.{Ran}
 use Rattle.tmpl_run.specs.Sink.{IsPut, Puts}
 use Rattle.tmpl_syntax.specs.Set.{Template}
@@ -41,3 +41,16 @@ Came end before now (Err (error.Fault fault)) =
 Came end before now (Err error.WriteFailed) = IsPut {F = SinkFault} (Err (record {})) before now end.text
 Came end before now (Err error.OutOfMemory) =
     (text : List ℕ) × Begins text end.text × IsPut {F = SinkFault} (Ok tt) before now text × (end.made_text ≡ true)
+
+-- what waited was given to the sink, or a put failed
+abbrev pub Flushed : Result (Unit {0}) RunError → Result (Unit {0}) RunError → Puts → Puts → List ℕ → Type 0
+Flushed was r old new rest =
+    ((r ≡ was) × IsPut {F = SinkFault} (Ok tt) old new [] × (rest ≡ []))
+    ⊎ ((r ≡ Err error.WriteFailed) × IsPut {F = SinkFault} (Err (record {})) old new [])
+
+-- .. where a run came to its end or to a fault; else nothing more is put
+abbrev pub Closed : Result (Unit {0}) RunError → Result (Unit {0}) RunError → Puts → Puts → List ℕ → Type 0
+Closed (Ok u) r old new rest = Flushed (Ok u) r old new rest
+Closed (Err (error.Fault fault)) r old new rest = Flushed (Err (error.Fault fault)) r old new rest
+Closed (Err error.WriteFailed) r old new rest = (r ≡ Err error.WriteFailed) × (new ≡ old)
+Closed (Err error.OutOfMemory) r old new rest = (r ≡ Err error.OutOfMemory) × (new ≡ old)

@@ -1,15 +1,15 @@
 //! The run of a program, from the start of a template to its end.
-ghost use Rattle.std.specs.Prelude.{◌≡◌, ◌+◌, ◌-◌, ◌*◌, ◌<◌, ◌≤◌, ◌^◌, IfSome, [], false, get_or, length, option_map, slice_get};
+ghost use Rattle.std.specs.Prelude.{◌≡◌, Err, ◌+◌, ◌-◌, ◌*◌, ◌<◌, ◌≤◌, ◌^◌, IfSome, [], false, get_or, length, option_map, slice_get};
 ghost use Rattle.tmpl_values.specs.View.{is_made, val_of, value_of};
 ghost use Rattle.tmpl_syntax.specs.View.{set_view};
 ghost use Rattle.tmpl_run.specs.Meaning.{Ran, ran, starting_dot};
 ghost use Rattle.tmpl_run.specs.Sink.{sunk};
 ghost use Rattle.tmpl_code.specs.Program.{IsLinked};
 ghost use Rattle.tmpl_code.specs.Room.{room};
-ghost use Rattle.tmpl_machine.specs.Came.{Came, IsStopped, nothing_told};
+ghost use Rattle.tmpl_machine.specs.Came.{Came, Closed, IsStopped, nothing_told};
 ghost use Rattle.tmpl_machine.specs.Ends.{Ends};
 ghost use Rattle.tmpl_machine.specs.Machines.{Told, state_of};
-ghost use Rattle.tmpl_machine.specs.Output.{Grows, given_of};
+ghost use Rattle.tmpl_machine.specs.Output.{Grows, given_of, waiting_of};
 ghost use Rattle.tmpl_machine.specs.Plain.{IsPlain};
 ghost use Rattle.tmpl_machine.specs.Run.{IsRun, plan_of};
 ghost use Rattle.tmpl_machine.specs.State.{starting};
@@ -152,7 +152,21 @@ pub fn run<'a, S: Sink>(
 {
     let mut machine = Machine::start(alloc, program, entry, data, options, cells);
     let mut output = Output::new(out, piece);
-    match machine.turns(program, options, &mut output) {
+    let end = machine.turns(program, options, &mut output);
+    close(&mut output, end)
+}
+
+/// Gives the sink what waits, where a run came to its end or to a fault.
+fn close<'a, S: Sink>(
+    output: &mut Output<'_, S>,
+    end: Result<(), RunError<'a>>,
+) -> Result<(), RunError<'a>>
+    requires { (end ≡ Err RunError.WriteFailed → ⊥) → (S.so_far output.old.sink.now).failures < 2 ^ 64 - 1 }
+    ensures closed { Closed end.entry result (given_of S.so_far output.old) (given_of S.so_far output.new)
+        (waiting_of output.new) }
+    ensures taken { Grows (S.so_far output.old.sink.now) (S.so_far output.new.sink.now) }
+{
+    match end {
         Ok(()) => Ok(output.flush()?),
         Err(RunError::Fault(fault)) => {
             output.flush()?;
