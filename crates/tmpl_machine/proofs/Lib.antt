@@ -25,3 +25,4 @@ pub mod PlainLemmas
 pub mod PastLemmas
 pub mod GoingLemmas
 pub mod StartLemmas
+pub mod RunLemmas
