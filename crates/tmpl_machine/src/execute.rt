@@ -26,7 +26,7 @@ impl<'m, 'a> Machine<'m, 'a> {
         program: &'a Program<'a>,
         options: &Options,
         instruction: Instruction<'a>,
-        output: &mut Output<'_, S>,
+        output: &mut Output<'_, '_, S>,
     ) -> Result<Flow, Stop<'a>>
         ghost run: { Told }
         requires plan { run.plan ≡ plan_of options.now program.now }

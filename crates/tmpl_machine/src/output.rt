@@ -12,16 +12,16 @@ use tmpl_values::{Put, Val, put_text};
 
 /// What a run puts out: what its sink took, and behind it what waits.
 #[derive(Drop)]
-pub(crate) struct Output<'m, S> {
-    sink: &'m mut S,
-    piece: Piece<'m>,
+pub(crate) struct Output<'s, 'p, S> {
+    pub(crate) sink: &'s mut S,
+    pub(crate) piece: Piece<'p>,
 }
 
-impl<'m, S: Sink> Output<'m, S> {
+impl<'s, 'p, S: Sink> Output<'s, 'p, S> {
     ghost use Rattle.tmpl_machine.specs.Output.{Grows, given_of, waiting_of};
 
     /// Puts to the sink, by way of this memory. Nothing waits yet.
-    pub(crate) fn new(sink: &'m mut S, bytes: &'m mut [u8]) -> Output<'m, S>
+    pub(crate) fn new(sink: &'s mut S, bytes: &'p mut [u8]) -> Output<'s, 'p, S>
         ensures through { result.sink.ghost_name ≡ sink.entry.ghost_name }
         ensures same { result.sink.now ≡ sink.old }
         ensures rest { waiting_of result ≡ [] }

@@ -19,7 +19,7 @@ impl<'m, 'a> Machine<'m, 'a> {
     pub(crate) fn put_bytes<S: Sink>(
         &mut self,
         bytes: &[u8],
-        output: &mut Output<'_, S>,
+        output: &mut Output<'_, '_, S>,
     ) -> Result<(), SinkFault>
         ghost run: { Told }
         requires place { self.old.place + 1 < 2 ^ 64 }
@@ -37,7 +37,7 @@ impl<'m, 'a> Machine<'m, 'a> {
 
     /// Takes the newest value, and puts out its text.
     #[tactic(auto, using(crate::proofs::StackLemmas::tops))]
-    pub(crate) fn show<S: Sink>(&mut self, output: &mut Output<'_, S>) -> Result<(), SinkFault>
+    pub(crate) fn show<S: Sink>(&mut self, output: &mut Output<'_, '_, S>) -> Result<(), SinkFault>
         ghost run: { Told }
         requires place { self.old.place + 1 < 2 ^ 64 }
         requires found { 1 ≤ length (cells_of self.old.stack) }

@@ -19,6 +19,7 @@ use crate::fault::RunError;
 use crate::flow::Flow;
 use crate::machine::Machine;
 use crate::output::Output;
+use crate::piece::Piece;
 use crate::stack::Stack;
 use crate::stop::Stop;
 use std::alloc::Global;
@@ -76,7 +77,7 @@ impl<'m, 'a> Machine<'m, 'a> {
         &mut self,
         program: &'a Program<'a>,
         options: &Options,
-        output: &mut Output<'_, S>,
+        output: &mut Output<'_, '_, S>,
     ) -> Result<(), RunError<'a>>
         ghost run: { Told × Ran }
         requires plan { run.0.plan ≡ plan_of options.now program.now }
@@ -88,6 +89,7 @@ impl<'m, 'a> Machine<'m, 'a> {
         requires depth { self.old.depth + self.old.left < 2 ^ 64 - 1 }
         requires countable { (S.so_far output.old.sink.now).failures < 2 ^ 64 - 1 }
         ensures came { Came run.1 (given_of S.so_far output.old) (given_of S.so_far output.new) result }
+        ensures through { output.new.sink.ghost_name ≡ output.old.sink.ghost_name }
         ensures taken { Grows (S.so_far output.old.sink.now) (S.so_far output.new.sink.now) }
     {
         loop {
@@ -151,19 +153,24 @@ pub fn run<'a, S: Sink>(
         (sunk (S.so_far out.old) (S.so_far out.new)) result) }
 {
     let mut machine = Machine::start(alloc, program, entry, data, options, cells);
-    let mut output = Output::new(out, piece);
+    let mut output = Output {
+        sink: out,
+        piece: Piece::new(piece),
+    };
     let end = machine.turns(program, options, &mut output);
+    drop(machine);
     close(&mut output, end)
 }
 
 /// Gives the sink what waits, where a run came to its end or to a fault.
 fn close<'a, S: Sink>(
-    output: &mut Output<'_, S>,
+    output: &mut Output<'_, '_, S>,
     end: Result<(), RunError<'a>>,
 ) -> Result<(), RunError<'a>>
     requires { (end ≡ Err RunError.WriteFailed → ⊥) → (S.so_far output.old.sink.now).failures < 2 ^ 64 - 1 }
     ensures closed { Closed end.entry result (given_of S.so_far output.old) (given_of S.so_far output.new)
         (waiting_of output.new) }
+    ensures through { output.new.sink.ghost_name ≡ output.old.sink.ghost_name }
     ensures taken { Grows (S.so_far output.old.sink.now) (S.so_far output.new.sink.now) }
 {
     match end {
