@@ -9,7 +9,7 @@ use Rattle.tmpl_run.specs.Sink.{IsPut, Told, as_puts, with_bytes}
 use Rattle.tmpl_values.proofs.PutLemmas.{IsPut-nil}
 use Rattle.tmpl_run.specs.declared.sink.SinkFault.{SinkFault}
 use Rattle.tmpl_machine.specs.Output.{Grows, given_of}
-use Rattle.tmpl_machine.specs.declared.output.Output.{Output}
+use Rattle.tmpl_machine.specs.declared.piece.Piece.{Piece}
 
 appended-nil : (known : Option (List ℕ)) → known ≡ appended known []
 appended-nil None = refl
@@ -74,9 +74,10 @@ text_of_bytes (sequence vs) bytes h = cc
 text_of_bytes (mapping es) bytes h = cc
 
 -- nothing is put
-module _ {S : Type 0} (so_far : S → Told) (old new : Output S) (same : new ≡ old) where
-  pub quiet : IsPut {F = SinkFault} (Ok tt) (given_of so_far old) (given_of so_far new) []
-  quiet = subst (λ (o : Output S). IsPut {F = SinkFault} (Ok tt) (given_of so_far old) (given_of so_far o) []) (sym same) (IsPut-nil (given_of so_far old))
+module _ {S : Type 0} (so_far : S → Told) (old new : S) (p q : Piece) (same : new ≡ old) (kept : q ≡ p) where
+  pub quiet : IsPut {F = SinkFault} (Ok tt) (given_of (so_far old) p) (given_of (so_far new) q) []
+  quiet = subst (λ o. IsPut {F = SinkFault} (Ok tt) (given_of (so_far old) p) (given_of (so_far o) q) []) (sym same)
+      (subst (λ (o : Piece). IsPut {F = SinkFault} (Ok tt) (given_of (so_far old) p) (given_of (so_far old) o) []) (sym kept) (IsPut-nil (given_of (so_far old) p)))
 
-  pub quiet-grows : Grows (so_far old.sink.now) (so_far new.sink.now)
-  quiet-grows = subst (λ (o : Output S). Grows (so_far old.sink.now) (so_far o.sink.now)) (sym same) (grows-same (so_far old.sink.now))
+  pub quiet-grows : Grows (so_far old) (so_far new)
+  quiet-grows = subst (λ o. Grows (so_far old) (so_far o)) (sym same) (grows-same (so_far old))

@@ -14,7 +14,7 @@ ghost use Rattle.tmpl_machine.specs.View.{cells_of, size_of};
 
 use crate::flow::Flow;
 use crate::machine::Machine;
-use crate::output::Output;
+use crate::piece::Piece;
 use crate::stop::Stop;
 use tmpl_code::{Instruction, Program};
 use tmpl_run::{Options, Sink};
@@ -26,7 +26,8 @@ impl<'m, 'a> Machine<'m, 'a> {
         program: &'a Program<'a>,
         options: &Options,
         instruction: Instruction<'a>,
-        output: &mut Output<'_, '_, S>,
+        piece: &mut Piece<'_>,
+        sink: &mut S,
     ) -> Result<Flow, Stop<'a>>
         ghost run: { Told }
         requires plan { run.plan ≡ plan_of options.now program.now }
@@ -35,21 +36,21 @@ impl<'m, 'a> Machine<'m, 'a> {
         requires within { length (cells_of self.old.stack) ≤ size_of self.old.stack }
         requires ready { Has (instruction_of instruction) (length (cells_of self.old.stack)) (size_of self.old.stack) }
         requires lands { Lands (done run.plan run.template (instruction_of instruction) (state_of run self.old)) }
-        requires countable { (S.so_far output.old.sink.now).failures < 2 ^ 64 - 1 }
+        requires countable { (S.so_far sink.old).failures < 2 ^ 64 - 1 }
         ensures step { let i = instruction_of instruction.entry in let s = state_of run self.old in
             Executed run i s (state_of (told_behind i s run) self.new) result }
-        ensures given { IsPut (put_by result) (given_of S.so_far output.old) (given_of S.so_far output.new)
+        ensures given { IsPut (put_by result) (given_of (S.so_far sink.old) piece.old) (given_of (S.so_far sink.new) piece.new)
             (added (instruction_of instruction.entry) (state_of run self.old)) }
-        ensures taken { Grows (S.so_far output.old.sink.now) (S.so_far output.new.sink.now) }
+        ensures taken { Grows (S.so_far sink.old) (S.so_far sink.new) }
         ensures plain { mark_behind (instruction_of instruction.entry) run.made_text ≡ false
             → IsPlain self.old → SparedOr result (IsPlain self.new) }
         ensures size { size_of self.new.stack ≡ size_of self.old.stack }
     {
         match instruction {
             Instruction::Spend(line) => self.spend(options.steps, line)?,
-            Instruction::Text(bytes) => self.put_bytes(bytes, output)?,
+            Instruction::Text(bytes) => self.put_bytes(bytes, piece, sink)?,
             Instruction::Operate(operation) => self.operate(options.missing_key, operation)?,
-            Instruction::Show => self.show(output)?,
+            Instruction::Show => self.show(piece, sink)?,
             Instruction::Hold { key } => self.hold(key)?,
             Instruction::Set(slot) => self.set(slot)?,
             Instruction::SetDot(slot) => self.set_dot(slot)?,

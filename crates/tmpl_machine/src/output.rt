@@ -10,103 +10,84 @@ use itoa::Buffer;
 use tmpl_run::{Sink, SinkFault, put_all};
 use tmpl_values::{Put, Val, put_text};
 
-/// What a run puts out: what its sink took, and behind it what waits.
-#[derive(Drop)]
-pub(crate) struct Output<'s, 'p, S> {
-    pub(crate) sink: &'s mut S,
-    pub(crate) piece: Piece<'p>,
-}
-
-impl<'s, 'p, S: Sink> Output<'s, 'p, S> {
-    ghost use Rattle.tmpl_machine.specs.Output.{Grows, given_of, waiting_of};
-
-    /// Puts to the sink, by way of this memory. Nothing waits yet.
-    pub(crate) fn new(sink: &'s mut S, bytes: &'p mut [u8]) -> Output<'s, 'p, S>
-        ensures through { result.sink.ghost_name ≡ sink.entry.ghost_name }
-        ensures same { result.sink.now ≡ sink.old }
-        ensures rest { waiting_of result ≡ [] }
-    {
-        Output {
-            sink,
-            piece: Piece::new(bytes),
-        }
-    }
+impl Piece<'_> {
+    ghost use Rattle.tmpl_machine.specs.Output.{Grows, given_of, waiting};
 
     /// Gives the sink what waits. Where it fails, what it did not take still waits.
-    pub(crate) fn flush(&mut self) -> Result<(), SinkFault>
-        requires { (S.so_far self.old.sink.now).failures < 2 ^ 64 - 1 }
-        ensures given { IsPut result (given_of S.so_far self.old) (given_of S.so_far self.new) [] }
-        ensures taken { Grows (S.so_far self.old.sink.now) (S.so_far self.new.sink.now) }
-        ensures rest { OnOk result (waiting_of self.new ≡ []) }
+    pub(crate) fn flush<S: Sink>(&mut self, sink: &mut S) -> Result<(), SinkFault>
+        requires { (S.so_far sink.old).failures < 2 ^ 64 - 1 }
+        ensures given { IsPut result (given_of (S.so_far sink.old) self.old) (given_of (S.so_far sink.new) self.new) [] }
+        ensures taken { Grows (S.so_far sink.old) (S.so_far sink.new) }
+        ensures rest { OnOk result (waiting self.new ≡ []) }
     {
-        while !self.piece.is_empty() {
-            let count = self.sink.put(self.piece.waiting())?;
-            self.piece.pass(count);
+        while !self.is_empty() {
+            let count = sink.put(self.waiting())?;
+            self.pass(count);
         }
-        self.piece.clear();
+        self.clear();
         Ok(())
     }
 
     /// Puts bytes. Where they do not fit behind what waits, that goes first; those that do not fit at all do not wait.
-    pub(crate) fn put(&mut self, bytes: &[u8]) -> Result<(), SinkFault>
-        requires { (S.so_far self.old.sink.now).failures < 2 ^ 64 - 1 }
-        ensures given { IsPut result (given_of S.so_far self.old) (given_of S.so_far self.new) bytes.now }
-        ensures taken { Grows (S.so_far self.old.sink.now) (S.so_far self.new.sink.now) }
+    pub(crate) fn put<S: Sink>(&mut self, sink: &mut S, bytes: &[u8]) -> Result<(), SinkFault>
+        requires { (S.so_far sink.old).failures < 2 ^ 64 - 1 }
+        ensures given { IsPut result (given_of (S.so_far sink.old) self.old) (given_of (S.so_far sink.new) self.new) bytes.now }
+        ensures taken { Grows (S.so_far sink.old) (S.so_far sink.new) }
     {
-        if bytes.len() > self.piece.room() {
-            self.flush()?;
-            if bytes.len() > self.piece.room() {
-                return put_all(self.sink, bytes);
+        if bytes.len() > self.room() {
+            self.flush(sink)?;
+            if bytes.len() > self.room() {
+                return put_all(sink, bytes);
             }
         }
-        self.piece.keep(bytes);
+        self.keep(bytes);
         Ok(())
     }
 
     /// Puts the text that a value has as an action.
     #[tactic(auto, using(crate::proofs::OutputLemmas::text_of_bytes))]
-    pub(crate) fn show(&mut self, value: &Val<'_>) -> Result<(), SinkFault>
-        requires { (S.so_far self.old.sink.now).failures < 2 ^ 64 - 1 }
-        ensures given { IsPut result (given_of S.so_far self.old) (given_of S.so_far self.new)
+    pub(crate) fn show<S: Sink>(&mut self, sink: &mut S, value: &Val<'_>) -> Result<(), SinkFault>
+        requires { (S.so_far sink.old).failures < 2 ^ 64 - 1 }
+        ensures given { IsPut result (given_of (S.so_far sink.old) self.old) (given_of (S.so_far sink.new) self.new)
             (text_of (val_of value.now)) }
-        ensures taken { Grows (S.so_far self.old.sink.now) (S.so_far self.new.sink.now) }
+        ensures taken { Grows (S.so_far sink.old) (S.so_far sink.new) }
     {
         if let Some(text) = value.bytes() {
-            return self.put(text);
+            return self.put(sink, text);
         }
         match value {
-            Val::Nothing | Val::Null => self.put(b"<no value>"),
-            Val::Bool(true) => self.put(b"true"),
-            Val::Bool(false) => self.put(b"false"),
-            Val::Num(number) => self.put_number(*number),
+            Val::Nothing | Val::Null => self.put(sink, b"<no value>"),
+            Val::Bool(true) => self.put(sink, b"true"),
+            Val::Bool(false) => self.put(sink, b"false"),
+            Val::Num(number) => self.put_number(sink, *number),
             Val::Text(_) | Val::Made(_) => unreachable!(),
-            Val::List(_) | Val::Map(_) => self.put_nested(value),
+            Val::List(_) | Val::Map(_) => self.put_nested(sink, value),
         }
     }
 
     /// Puts a number in base 10.
-    fn put_number(&mut self, number: i64) -> Result<(), SinkFault>
-        requires { (S.so_far self.old.sink.now).failures < 2 ^ 64 - 1 }
-        ensures given { IsPut result (given_of S.so_far self.old) (given_of S.so_far self.new)
+    fn put_number<S: Sink>(&mut self, sink: &mut S, number: i64) -> Result<(), SinkFault>
+        requires { (S.so_far sink.old).failures < 2 ^ 64 - 1 }
+        ensures given { IsPut result (given_of (S.so_far sink.old) self.old) (given_of (S.so_far sink.new) self.new)
             (signed_decimal number) }
-        ensures taken { Grows (S.so_far self.old.sink.now) (S.so_far self.new.sink.now) }
+        ensures taken { Grows (S.so_far sink.old) (S.so_far sink.new) }
     {
         let mut buffer = Buffer::new();
-        self.put(buffer.format(number).as_bytes())
+        self.put(sink, buffer.format(number).as_bytes())
     }
 
     /// Puts the text of a value, by parts where it does not fit behind what waits.
-    fn put_nested(&mut self, value: &Val<'_>) -> Result<(), SinkFault>
-        requires { (S.so_far self.old.sink.now).failures < 2 ^ 64 - 1 }
-        ensures given { IsPut result (given_of S.so_far self.old) (given_of S.so_far self.new)
+    fn put_nested<S: Sink>(&mut self, sink: &mut S, value: &Val<'_>) -> Result<(), SinkFault>
+        requires { (S.so_far sink.old).failures < 2 ^ 64 - 1 }
+        ensures given { IsPut result (given_of (S.so_far sink.old) self.old) (given_of (S.so_far sink.new) self.new)
             (text_of (val_of value.now)) }
-        ensures taken { Grows (S.so_far self.old.sink.now) (S.so_far self.new.sink.now) }
+        ensures taken { Grows (S.so_far sink.old) (S.so_far sink.new) }
     {
-        if self.piece.keep_text(value) {
+        if self.keep_text(value) {
             return Ok(());
         }
-        self.flush()?;
-        put_whole_text(self.sink, value)
+        self.flush(sink)?;
+        put_whole_text(sink, value)
     }
 }
 

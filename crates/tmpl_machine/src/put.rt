@@ -11,7 +11,7 @@ ghost use Rattle.tmpl_machine.specs.Plain.{IsPlain};
 ghost use Rattle.tmpl_machine.specs.View.{cells_of, size_of};
 
 use crate::machine::Machine;
-use crate::output::Output;
+use crate::piece::Piece;
 use tmpl_run::{Sink, SinkFault};
 
 impl<'m, 'a> Machine<'m, 'a> {
@@ -19,41 +19,42 @@ impl<'m, 'a> Machine<'m, 'a> {
     pub(crate) fn put_bytes<S: Sink>(
         &mut self,
         bytes: &[u8],
-        output: &mut Output<'_, '_, S>,
+        piece: &mut Piece<'_>,
+        sink: &mut S,
     ) -> Result<(), SinkFault>
         ghost run: { Told }
         requires place { self.old.place + 1 < 2 ^ 64 }
-        requires failures { (S.so_far output.old.sink.now).failures < 2 ^ 64 - 1 }
+        requires failures { (S.so_far sink.old).failures < 2 ^ 64 - 1 }
         ensures step { done run.plan run.template (code.put bytes.now) (state_of run self.old)
             ≡ goes (state_of (record run { text = run.text ++ bytes.now }) self.new) }
-        ensures given { IsPut result (given_of S.so_far output.old) (given_of S.so_far output.new) bytes.now }
-        ensures taken { Grows (S.so_far output.old.sink.now) (S.so_far output.new.sink.now) }
+        ensures given { IsPut result (given_of (S.so_far sink.old) piece.old) (given_of (S.so_far sink.new) piece.new) bytes.now }
+        ensures taken { Grows (S.so_far sink.old) (S.so_far sink.new) }
         ensures plain { IsPlain self.old → IsPlain self.new }
         ensures size { size_of self.new.stack ≡ size_of self.old.stack }
     {
         self.place += 1;
-        output.put(bytes)
+        piece.put(sink, bytes)
     }
 
     /// Takes the newest value, and puts out its text.
     #[tactic(auto, using(crate::proofs::StackLemmas::tops))]
-    pub(crate) fn show<S: Sink>(&mut self, output: &mut Output<'_, '_, S>) -> Result<(), SinkFault>
+    pub(crate) fn show<S: Sink>(&mut self, piece: &mut Piece<'_>, sink: &mut S) -> Result<(), SinkFault>
         ghost run: { Told }
         requires place { self.old.place + 1 < 2 ^ 64 }
         requires found { 1 ≤ length (cells_of self.old.stack) }
-        requires failures { (S.so_far output.old.sink.now).failures < 2 ^ 64 - 1 }
+        requires failures { (S.so_far sink.old).failures < 2 ^ 64 - 1 }
         ensures step { done run.plan run.template code.show (state_of run self.old)
             ≡ goes (state_of (record run {
               text = run.text ++ text_of (slot 0 (cells_of self.old.stack));
             }) self.new) }
-        ensures given { IsPut result (given_of S.so_far output.old) (given_of S.so_far output.new)
+        ensures given { IsPut result (given_of (S.so_far sink.old) piece.old) (given_of (S.so_far sink.new) piece.new)
             (text_of (slot 0 (cells_of self.old.stack))) }
-        ensures taken { Grows (S.so_far output.old.sink.now) (S.so_far output.new.sink.now) }
+        ensures taken { Grows (S.so_far sink.old) (S.so_far sink.new) }
         ensures plain { IsPlain self.old → IsPlain self.new }
         ensures size { size_of self.new.stack ≡ size_of self.old.stack }
     {
         let value = self.stack.take().val;
         self.place += 1;
-        output.show(&value)
+        piece.show(sink, &value)
     }
 }

@@ -9,7 +9,7 @@ ghost use Rattle.tmpl_code.specs.Room.{room};
 ghost use Rattle.tmpl_machine.specs.Came.{Came, Closed, IsStopped, nothing_told};
 ghost use Rattle.tmpl_machine.specs.Ends.{Ends};
 ghost use Rattle.tmpl_machine.specs.Machines.{Told, state_of};
-ghost use Rattle.tmpl_machine.specs.Output.{Grows, given_of, waiting_of};
+ghost use Rattle.tmpl_machine.specs.Output.{Grows, given_of, waiting};
 ghost use Rattle.tmpl_machine.specs.Plain.{IsPlain};
 ghost use Rattle.tmpl_machine.specs.Run.{IsRun, plan_of};
 ghost use Rattle.tmpl_machine.specs.State.{starting};
@@ -18,7 +18,6 @@ ghost use Rattle.tmpl_machine.specs.View.{cells_of, size_of};
 use crate::fault::RunError;
 use crate::flow::Flow;
 use crate::machine::Machine;
-use crate::output::Output;
 use crate::piece::Piece;
 use crate::stack::Stack;
 use crate::stop::Stop;
@@ -77,7 +76,8 @@ impl<'m, 'a> Machine<'m, 'a> {
         &mut self,
         program: &'a Program<'a>,
         options: &Options,
-        output: &mut Output<'_, '_, S>,
+        piece: &mut Piece<'_>,
+        sink: &mut S,
     ) -> Result<(), RunError<'a>>
         ghost run: { Told × Ran }
         requires plan { run.0.plan ≡ plan_of options.now program.now }
@@ -87,15 +87,14 @@ impl<'m, 'a> Machine<'m, 'a> {
         requires within { length (cells_of self.old.stack) ≤ size_of self.old.stack }
         requires plain { IsPlain self.old }
         requires depth { self.old.depth + self.old.left < 2 ^ 64 - 1 }
-        requires countable { (S.so_far output.old.sink.now).failures < 2 ^ 64 - 1 }
-        ensures came { Came run.1 (given_of S.so_far output.old) (given_of S.so_far output.new) result }
-        ensures through { output.new.sink.ghost_name ≡ output.old.sink.ghost_name }
-        ensures taken { Grows (S.so_far output.old.sink.now) (S.so_far output.new.sink.now) }
+        requires countable { (S.so_far sink.old).failures < 2 ^ 64 - 1 }
+        ensures came { Came run.1 (given_of (S.so_far sink.old) piece.old) (given_of (S.so_far sink.new) piece.new) result }
+        ensures taken { Grows (S.so_far sink.old) (S.so_far sink.new) }
     {
         loop {
             let number = self.template;
             let instruction = program.instructions.as_slice()[self.place];
-            match self.execute(program, options, instruction, output) {
+            match self.execute(program, options, instruction, piece, sink) {
                 Ok(Flow::On) => {}
                 Ok(Flow::Over) => return Ok(()),
                 Err(stop) => return Err(stopped(program, number, self.line, stop)),
@@ -153,30 +152,26 @@ pub fn run<'a, S: Sink>(
         (sunk (S.so_far out.old) (S.so_far out.new)) result) }
 {
     let mut machine = Machine::start(alloc, program, entry, data, options, cells);
-    let mut output = Output {
-        sink: out,
-        piece: Piece::new(piece),
-    };
-    let end = machine.turns(program, options, &mut output);
-    drop(machine);
-    close(&mut output, end)
+    let mut piece = Piece::new(piece);
+    let end = machine.turns(program, options, &mut piece, out);
+    close(&mut piece, out, end)
 }
 
 /// Gives the sink what waits, where a run came to its end or to a fault.
 fn close<'a, S: Sink>(
-    output: &mut Output<'_, '_, S>,
+    piece: &mut Piece<'_>,
+    sink: &mut S,
     end: Result<(), RunError<'a>>,
 ) -> Result<(), RunError<'a>>
-    requires { (end ≡ Err RunError.WriteFailed → ⊥) → (S.so_far output.old.sink.now).failures < 2 ^ 64 - 1 }
-    ensures closed { Closed end.entry result (given_of S.so_far output.old) (given_of S.so_far output.new)
-        (waiting_of output.new) }
-    ensures through { output.new.sink.ghost_name ≡ output.old.sink.ghost_name }
-    ensures taken { Grows (S.so_far output.old.sink.now) (S.so_far output.new.sink.now) }
+    requires { (end ≡ Err RunError.WriteFailed → ⊥) → (S.so_far sink.old).failures < 2 ^ 64 - 1 }
+    ensures closed { Closed end.entry result (given_of (S.so_far sink.old) piece.old) (given_of (S.so_far sink.new) piece.new)
+        (waiting piece.new) }
+    ensures taken { Grows (S.so_far sink.old) (S.so_far sink.new) }
 {
     match end {
-        Ok(()) => Ok(output.flush()?),
+        Ok(()) => Ok(piece.flush(sink)?),
         Err(RunError::Fault(fault)) => {
-            output.flush()?;
+            piece.flush(sink)?;
             Err(RunError::Fault(fault))
         }
         Err(error) => Err(error),

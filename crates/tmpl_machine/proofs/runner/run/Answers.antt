@@ -29,7 +29,48 @@ start-machine-requires-clause-room g c =
     start.three (plan_of c.args.options.now c.args.program.now) (length c.args.cells.now) c.args.entry.number c.requires.linked c.requires.entry c.args.options.now.depth_in_range.0 c.requires.room
 
 pub turns-end-requires : goal.turns-end-requires
-turns-end-requires g c = ?
+turns-end-requires g c =
+    let plan : Plan = plan_of c.args.options.now c.args.program.now in
+    let m = c.start-machine.result in
+    let s : State = state_of (nothing_told plan) m in
+    let size = length c.args.cells.now in
+    let state = c.start-machine.ensures.state in
+    let three = start.three plan size c.args.entry.number c.requires.linked c.requires.entry c.args.options.now.depth_in_range.0 c.requires.room in
+    let count : length (cells_of m.stack) ≡ 3 = ap (λ (t : State). length t.cells) state in
+    let deep : m.depth ≡ 1 = ap (λ (t : State). t.depth) state in
+    let left : m.left ≡ c.args.options.now.steps = ap (λ (t : State). t.left) state in
+    let most = c.args.options.now.steps_in_range.1 in
+    let sized = c.start-machine.ensures.size in
+    λ κs h. (h, (refl, (refl, (refl, (
+      start.starts-so plan size c.args.entry.number c.requires.linked c.requires.entry c.args.options.now.depth_in_range.0 c.requires.room (size_of m.stack)
+        (starting_dot (option_map (λ d. value_of d.now) c.args.data)) s sized state,
+      (omega (arith, count, three, sized), (c.start-machine.ensures.plain, (
+        omega (arith, deep, left, most),
+        subst (λ o. (g.S.Sink.so_far o).failures < 18446744073709551615) (sym c.new-output.ensures.same) c.requires.countable,
+      ))),
+    )))))
 
 pub returns : goal.returns
-returns g c = (let o1 = c.out-1.given in ?)
+returns g c =
+    let plan : Plan = plan_of c.args.options.now c.args.program.now in
+    let m = c.start-machine.result in
+    let s : State = state_of (nothing_told plan) m in
+    let end : Ran = ran_from plan s in
+    let first = c.new-output.result in
+    let last = c.close.new.output in
+    let mid : Puts = given_of g.S.Sink.so_far c.turns-end.new.output in
+    let before = g.S.Sink.so_far c.args.out.now in
+    let same = c.new-output.ensures.same in
+    let name = first.sink.ghost_name in
+    let came : Came end (behind before [] name) mid c.turns-end.result =
+        subst (λ o. Came end (behind (g.S.Sink.so_far o) [] name) mid c.turns-end.result) same
+        (subst (λ l. Came end (behind (g.S.Sink.so_far first.sink.now) l name) mid c.turns-end.result) c.new-output.ensures.rest c.turns-end.ensures.came) in
+    let grows : Grows before (g.S.Sink.so_far last.sink.now) =
+        grows-on before (g.S.Sink.so_far c.turns-end.new.output.sink.now) (g.S.Sink.so_far last.sink.now)
+        (subst (λ o. Grows (g.S.Sink.so_far o) (g.S.Sink.so_far c.turns-end.new.output.sink.now)) same c.turns-end.ensures.taken) c.close.ensures.taken in
+    let kept : last.sink.ghost_name ≡ name = same-through end (behind before [] name) mid (given_of g.S.Sink.so_far last) c.turns-end.result c.close.result (waiting_of last) came c.close.ensures.closed in
+    let out = c.out-1.given.1 (sym (kept ∙ c.new-output.ensures.through)) in
+    start.meant-so plan (length c.args.cells.now) c.args.entry.number c.requires.linked c.requires.entry
+      (λ (r : Ran). IsRun r (sunk before (g.S.Sink.so_far c.out-1.given.0)) c.close.result) (option_map (λ d. value_of d.now) c.args.data) s c.start-machine.ensures.state
+      (subst (λ o. IsRun end (sunk before (g.S.Sink.so_far o)) c.close.result) (sym out)
+        (comes-to end before (g.S.Sink.so_far last.sink.now) (waiting_of last) name grows last.sink.ghost_name c.turns-end.result c.close.result mid came c.close.ensures.closed))

@@ -34,10 +34,10 @@ loop-stop-init g c =
       size = refl;
       within = c.requires.1.1.1.1.1.0;
       depth = c.requires.1.1.1.1.1.1.1.0;
-      taken = grows-same (g.S.Sink.so_far c.args.output.now.sink.now);
+      taken = grows-same (g.S.Sink.so_far c.args.sink.now);
       text = [];
       made = false;
-      given = IsPut-nil (given_of g.S.Sink.so_far c.args.output.now);
+      given = IsPut-nil (given_of (g.S.Sink.so_far c.args.sink.now) c.args.piece.now);
       ends = subst (λ b. Ends g.run.0.plan size (record s { text = []; made_text = b }) g.run.1) c.requires.1.1.1.0
           (subst (λ (l : List ℕ). Ends g.run.0.plan size (record s { text = l }) g.run.1) c.requires.1.1.0 c.requires.1.1.1.1.0);
       plain = λ e. c.requires.1.1.1.1.1.1.0;
@@ -140,7 +140,7 @@ loop-stop-preserved g c =
       size = size-same ∙ inv.size;
       within = subst (λ n. length (cells_of c.execute.new.self.stack) ≤ n) (sym size-same) (going.within plan size end inv.text inv.made s i told.template here runs inv.ends u step inv.within);
       depth = omega (arith, no-deeper, deep);
-      taken = grows-on (g.S.Sink.so_far c.args.output.now.sink.now) (g.S.Sink.so_far c.loop-stop.output.sink.now) (g.S.Sink.so_far c.execute.new.output.sink.now) inv.taken c.in-Ok-On.ensures.taken;
+      taken = grows-on (g.S.Sink.so_far c.args.sink.now) (g.S.Sink.so_far c.loop-stop.sink) (g.S.Sink.so_far c.execute.new.sink) inv.taken c.in-Ok-On.ensures.taken;
       text = inv.text ++ u.text;
       made = inv.made || u.made_text;
       given = IsPut-along (IsPut-append inv.given c.in-Ok-On.ensures.given) (ap (λ l. inv.text ++ l) (sym (going.text-behind i s told refl)));
@@ -165,9 +165,9 @@ returns-in-Ok-Over-clause-came g c =
     let here = ap (λ (p : Plan). slice_get p.code m.place) c.requires.1.0 ∙ ap (λ l. slice_get (instructions_of l) m.place) (sym c.as_slice.ensures.value)
         ∙ going.code-at c.as_slice.result.now m.place c.index-as_slice-self.result c.index-as_slice-self.result (omega (arith, long, inside)) c.index-as_slice-self.is in
     let runs = going.runs-at plan.templates m.template g.run.0.template (some-template plan size end past inv.ends) in
-    let now = given_of g.S.Sink.so_far c.loop-stop.output in
-    let next = given_of g.S.Sink.so_far c.execute.new.output in
-    let before = given_of g.S.Sink.so_far c.args.output.now in
+    let now = given_of (g.S.Sink.so_far c.loop-stop.sink) c.loop-stop.piece in
+    let next = given_of (g.S.Sink.so_far c.execute.new.sink) c.execute.new.piece in
+    let before = given_of (g.S.Sink.so_far c.args.sink.now) c.args.piece.now in
     let u : State = state_of (told_behind i s told) c.execute.new.self in
     let step = subst (λ f. Executed told i s u (Ok f)) c.in-Ok-Over.field-0-is c.in-Ok-Over.ensures.step in
     (
@@ -176,7 +176,7 @@ returns-in-Ok-Over-clause-came g c =
     )
 
 pub returns-in-Ok-Over-clause-taken : goal.returns-in-Ok-Over-clause-taken
-returns-in-Ok-Over-clause-taken g c = grows-on (g.S.Sink.so_far c.args.output.now.sink.now) (g.S.Sink.so_far c.loop-stop.output.sink.now) (g.S.Sink.so_far c.execute.new.output.sink.now) c.loop-stop.invariant.taken c.in-Ok-Over.ensures.taken
+returns-in-Ok-Over-clause-taken g c = grows-on (g.S.Sink.so_far c.args.sink.now) (g.S.Sink.so_far c.loop-stop.sink) (g.S.Sink.so_far c.execute.new.sink) c.loop-stop.invariant.taken c.in-Ok-Over.ensures.taken
 
 pub stopped-requires : goal.stopped-requires
 stopped-requires g c =
@@ -213,12 +213,12 @@ returns-in-Err-clause-came g c =
         ∙ going.code-at c.as_slice.result.now m.place c.index-as_slice-self.result c.index-as_slice-self.result (omega (arith, long, inside)) c.index-as_slice-self.is in
     let runs = going.runs-at plan.templates m.template g.run.0.template (some-template plan size end past inv.ends) in
     let u : State = state_of (told_behind i s told) c.execute.new.self in
-    let now = given_of g.S.Sink.so_far c.loop-stop.output in
-    let next = given_of g.S.Sink.so_far c.execute.new.output in
-    let before = given_of g.S.Sink.so_far c.args.output.now in
+    let now = given_of (g.S.Sink.so_far c.loop-stop.sink) c.loop-stop.piece in
+    let next = given_of (g.S.Sink.so_far c.execute.new.sink) c.execute.new.piece in
+    let before = given_of (g.S.Sink.so_far c.args.sink.now) c.args.piece.now in
     going.came-stopped plan size end inv.text inv.made s i told.template here runs inv.ends before now next refl inv.given u (IsPlain m) (IsPlain c.execute.new.self) refl inv.plain (going.text-behind i s told refl)
       told refl refl c.in-Err.stop c.stopped.result c.in-Err.ensures.step c.in-Err.ensures.given c.in-Err.ensures.plain
       (subst (λ (p : Plan). IsStopped (slice_get p.templates m.template) u.line c.in-Err.stop c.stopped.result) (sym c.requires.1.0) c.stopped.ensures)
 
 pub returns-in-Err-clause-taken : goal.returns-in-Err-clause-taken
-returns-in-Err-clause-taken g c = grows-on (g.S.Sink.so_far c.args.output.now.sink.now) (g.S.Sink.so_far c.loop-stop.output.sink.now) (g.S.Sink.so_far c.execute.new.output.sink.now) c.loop-stop.invariant.taken c.in-Err.ensures.taken
+returns-in-Err-clause-taken g c = grows-on (g.S.Sink.so_far c.args.sink.now) (g.S.Sink.so_far c.loop-stop.sink) (g.S.Sink.so_far c.execute.new.sink) c.loop-stop.invariant.taken c.in-Err.ensures.taken

@@ -19,10 +19,10 @@ invariant-loop-stop g l = record {
   size : size_of l.self.stack ≡ size_of l.initial.self.stack;
   within : length (cells_of l.self.stack) ≤ size_of l.self.stack;
   depth : l.self.depth + l.self.left < 2 ^ 64 - 1;
-  taken : Grows (g.S.Sink.so_far l.initial.output.sink.now) (g.S.Sink.so_far l.output.sink.now);
+  taken : Grows (g.S.Sink.so_far l.initial.sink) (g.S.Sink.so_far l.sink);
   text : List ℕ;
   made : Bool;
-  given : IsPut {F = SinkFault} (Ok tt) (given_of g.S.Sink.so_far l.initial.output) (given_of g.S.Sink.so_far l.output) text;
+  given : IsPut {F = SinkFault} (Ok tt) (given_of (g.S.Sink.so_far l.initial.sink) l.initial.piece) (given_of (g.S.Sink.so_far l.sink) l.piece) text;
   ends : Ends g.run.0.plan (size_of l.self.stack) (with_past text made (state_of (told_at g.run.0 l.self) l.self)) g.run.1;
   plain : made ≡ false → IsPlain l.self;
 }
