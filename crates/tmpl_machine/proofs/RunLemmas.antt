@@ -14,26 +14,6 @@ use Rattle.tmpl_machine.specs.declared.fault.RunError.{RunError}
 use Rattle.tmpl_machine.specs.declared.fault.RunError.TheVariants as error
 use Rattle.tmpl_machine.proofs.OutputLemmas.{behind}
 
--- the same reference is put through
-came-through : (end : Ran) (before now : Puts) (r : Result (Unit {0}) RunError) → Came end before now r → now.through ≡ before.through
-came-through end before now (Ok u) c = c.0.through
-came-through end before now (Err (error.Fault fault)) c = c.0.through
-came-through end before now (Err error.WriteFailed) c = c.through
-came-through end before now (Err error.OutOfMemory) c = c.2.through
-
-flushed-through : (was r : Result (Unit {0}) RunError) (old new : Puts) (rest : List ℕ) → Flushed was r old new rest → new.through ≡ old.through
-flushed-through was r old new rest (inl f) = f.1.through
-flushed-through was r old new rest (inr f) = f.1.through
-
-closed-through : (e r : Result (Unit {0}) RunError) (old new : Puts) (rest : List ℕ) → Closed e r old new rest → new.through ≡ old.through
-closed-through (Ok u) r old new rest c = flushed-through (Ok u) r old new rest c
-closed-through (Err (error.Fault fault)) r old new rest c = flushed-through (Err (error.Fault fault)) r old new rest c
-closed-through (Err error.WriteFailed) r old new rest c = ap (λ (p : Puts). p.through) c.1
-closed-through (Err error.OutOfMemory) r old new rest c = ap (λ (p : Puts). p.through) c.1
-
-pub same-through : (end : Ran) (before mid now : Puts) (e r : Result (Unit {0}) RunError) (rest : List ℕ) → Came end before mid e → Closed e r mid now rest → now.through ≡ before.through
-same-through end before mid now e r rest came closed = closed-through e r mid now rest closed ∙ came-through end before mid e came
-
 known-nil : (known : Option (List ℕ)) → appended known [] ≡ known
 known-nil None = refl
 known-nil (Some l) = ap Some (append-nil l)

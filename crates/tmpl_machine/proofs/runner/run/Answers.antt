@@ -11,12 +11,12 @@ use Rattle.tmpl_run.specs.Sink.{sunk}
 use Rattle.tmpl_machine.specs.Came.{Came, no_template, nothing_told}
 use Rattle.tmpl_machine.specs.Ends.{Ends}
 use Rattle.tmpl_machine.specs.Machines.{state_of}
-use Rattle.tmpl_machine.specs.Output.{Grows, given_of, waiting_of}
+use Rattle.tmpl_machine.specs.Output.{Grows, given_of, waiting}
 use Rattle.tmpl_machine.specs.Run.{IsRun, plan_of}
 use Rattle.tmpl_machine.specs.State.{Plan, State, starting}
 use Rattle.tmpl_machine.specs.View.{cells_of, size_of}
 use Rattle.tmpl_machine.proofs.OutputLemmas.{behind, grows-on}
-use Rattle.tmpl_machine.proofs.RunLemmas.{comes-to, same-through}
+use Rattle.tmpl_machine.proofs.RunLemmas.{comes-to}
 use Rattle.tmpl_machine.proofs.StartLemmas as start
 use Rattle.tmpl_machine.proofs.StartLemmas.{ran_from}
 use Rattle.tmpl_machine.proofs.runner.run.Goals as goal
@@ -46,7 +46,7 @@ turns-end-requires g c =
         (starting_dot (option_map (λ d. value_of d.now) c.args.data)) s sized state,
       (omega (arith, count, three, sized), (c.start-machine.ensures.plain, (
         omega (arith, deep, left, most),
-        subst (λ o. (g.S.Sink.so_far o).failures < 18446744073709551615) (sym c.new-output.ensures.same) c.requires.countable,
+        c.requires.countable,
       ))),
     )))))
 
@@ -56,21 +56,14 @@ returns g c =
     let m = c.start-machine.result in
     let s : State = state_of (nothing_told plan) m in
     let end : Ran = ran_from plan s in
-    let first = c.new-output.result in
-    let last = c.close.new.output in
-    let mid : Puts = given_of g.S.Sink.so_far c.turns-end.new.output in
+    let last = c.close.new.piece in
     let before = g.S.Sink.so_far c.args.out.now in
-    let same = c.new-output.ensures.same in
-    let name = first.sink.ghost_name in
-    let came : Came end (behind before [] name) mid c.turns-end.result =
-        subst (λ o. Came end (behind (g.S.Sink.so_far o) [] name) mid c.turns-end.result) same
-        (subst (λ l. Came end (behind (g.S.Sink.so_far first.sink.now) l name) mid c.turns-end.result) c.new-output.ensures.rest c.turns-end.ensures.came) in
-    let grows : Grows before (g.S.Sink.so_far last.sink.now) =
-        grows-on before (g.S.Sink.so_far c.turns-end.new.output.sink.now) (g.S.Sink.so_far last.sink.now)
-        (subst (λ o. Grows (g.S.Sink.so_far o) (g.S.Sink.so_far c.turns-end.new.output.sink.now)) same c.turns-end.ensures.taken) c.close.ensures.taken in
-    let kept : last.sink.ghost_name ≡ name = same-through end (behind before [] name) mid (given_of g.S.Sink.so_far last) c.turns-end.result c.close.result (waiting_of last) came c.close.ensures.closed in
-    let out = c.out-1.given.1 (sym (kept ∙ c.new-output.ensures.through)) in
+    let middle = g.S.Sink.so_far c.turns-end.new.sink in
+    let after = g.S.Sink.so_far c.close.new.sink in
+    let mid : Puts = given_of middle c.turns-end.new.piece in
+    let came : Came end (behind before [] 0) mid c.turns-end.result =
+        subst (λ l. Came end (behind before l 0) mid c.turns-end.result) c.new-piece.ensures c.turns-end.ensures.came in
+    let grows : Grows before after = grows-on before middle after c.turns-end.ensures.taken c.close.ensures.taken in
     start.meant-so plan (length c.args.cells.now) c.args.entry.number c.requires.linked c.requires.entry
-      (λ (r : Ran). IsRun r (sunk before (g.S.Sink.so_far c.out-1.given.0)) c.close.result) (option_map (λ d. value_of d.now) c.args.data) s c.start-machine.ensures.state
-      (subst (λ o. IsRun end (sunk before (g.S.Sink.so_far o)) c.close.result) (sym out)
-        (comes-to end before (g.S.Sink.so_far last.sink.now) (waiting_of last) name grows last.sink.ghost_name c.turns-end.result c.close.result mid came c.close.ensures.closed))
+      (λ (r : Ran). IsRun r (sunk before after) c.close.result) (option_map (λ d. value_of d.now) c.args.data) s c.start-machine.ensures.state
+      (comes-to end before after (waiting last) 0 grows 0 c.turns-end.result c.close.result mid came c.close.ensures.closed)
