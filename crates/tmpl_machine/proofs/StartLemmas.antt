@@ -40,7 +40,7 @@ module _ (plan : Plan) (size number : ℕ) (linked : Starts plan.templates plan.
         let need = need-most plan.templates number me is-me in
         let one : plan.rules.depth_limit ≡ suc (plan.rules.depth_limit - 1) = omega arith in
         let more : plan.rules.depth_limit * largest_need plan.templates ≡ (plan.rules.depth_limit - 1) * largest_need plan.templates + largest_need plan.templates =
-            ap (λ n. n * largest_need plan.templates) one ∙ suc-mul (plan.rules.depth_limit - 1) (largest_need plan.templates) in
+        ap (λ n. n * largest_need plan.templates) one ∙ suc-mul (plan.rules.depth_limit - 1) (largest_need plan.templates) in
         omega (arith, need, more, fits)
 
     pub leads : (v : Value) → Ends plan size (starting plan number (get_or plan.starts number 0) v) (ran_with plan.rules plan.templates (get_or plan.templates number no_template).0 (get_or plan.templates number no_template).1 v)

@@ -32,8 +32,8 @@ IsStopped t line (stop.Fault kind) error.OutOfMemory = ⊥
 IsStopped t line stop.WriteFailed e = e ≡ error.WriteFailed
 IsStopped t line stop.OutOfMemory e = e ≡ error.OutOfMemory
 
--- the whole text of the end was given, and there is no fault, or this one; or a put failed; or memory was refused, where
--- text is made, and a beginning was given
+-- the whole text of the end was given, and there is no fault, or this one; or a put failed; or memory was refused,
+-- where text is made, and a beginning was given
 abbrev pub Came : Ran → Puts → Puts → Result (Unit {0}) RunError → Type 0
 Came end before now (Ok u) = IsPut {F = SinkFault} (Ok tt) before now end.text × (end.fault ≡ None)
 Came end before now (Err (error.Fault fault)) =

@@ -26,7 +26,8 @@ Turned told i s t (Err kind) =
 abbrev pub TurnedOr : Told → Instruction → State → State → Result (Unit {0}) Stop → Type 0
 TurnedOr told i s t (Ok u) = done told.plan told.template i s ≡ goes t
 TurnedOr told i s t (Err (stop.Fault kind)) =
-    done told.plan told.template i s ≡ failed told.template t.line (cause_of kind) (record s { made_text = t.made_text })
+    done told.plan told.template i s
+    ≡ failed told.template t.line (cause_of kind) (record s { made_text = t.made_text })
 TurnedOr told i s t (Err stop.WriteFailed) = ⊥
 TurnedOr told i s t (Err stop.OutOfMemory) = Unit {0}
 
@@ -54,7 +55,8 @@ abbrev pub Executed : Told → Instruction → State → State → Result Flow S
 Executed told i s t (Ok flow.On) = done told.plan told.template i s ≡ goes t
 Executed told i s t (Ok flow.Over) = done told.plan told.template i s ≡ ended (ran_so s None)
 Executed told i s t (Err (stop.Fault kind)) =
-    done told.plan told.template i s ≡ failed told.template t.line (cause_of kind) (record s { made_text = t.made_text })
+    done told.plan told.template i s
+    ≡ failed told.template t.line (cause_of kind) (record s { made_text = t.made_text })
 Executed told i s t (Err stop.WriteFailed) = done told.plan told.template i s ≡ goes t
 Executed told i s t (Err stop.OutOfMemory) = added i s ≡ []
 

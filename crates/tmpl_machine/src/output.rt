@@ -16,7 +16,8 @@ impl Piece<'_> {
     /// Gives the sink what waits. Where it fails, what it did not take still waits.
     pub(crate) fn flush<S: Sink>(&mut self, sink: &mut S) -> Result<(), SinkFault>
         requires { (S.so_far sink.old).failures < 2 ^ 64 - 1 }
-        ensures given { IsPut result (given_of (S.so_far sink.old) self.old) (given_of (S.so_far sink.new) self.new) [] }
+        ensures given { IsPut result (given_of (S.so_far sink.old) self.old)
+            (given_of (S.so_far sink.new) self.new) [] }
         ensures taken { Grows (S.so_far sink.old) (S.so_far sink.new) }
         ensures rest { OnOk result (waiting self.new ≡ []) }
     {
@@ -31,7 +32,8 @@ impl Piece<'_> {
     /// Puts bytes. Where they do not fit behind what waits, that goes first; those that do not fit at all do not wait.
     pub(crate) fn put<S: Sink>(&mut self, sink: &mut S, bytes: &[u8]) -> Result<(), SinkFault>
         requires { (S.so_far sink.old).failures < 2 ^ 64 - 1 }
-        ensures given { IsPut result (given_of (S.so_far sink.old) self.old) (given_of (S.so_far sink.new) self.new) bytes.now }
+        ensures given { IsPut result (given_of (S.so_far sink.old) self.old)
+            (given_of (S.so_far sink.new) self.new) bytes.now }
         ensures taken { Grows (S.so_far sink.old) (S.so_far sink.new) }
     {
         if bytes.len() > self.room() {

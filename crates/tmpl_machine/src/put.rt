@@ -27,7 +27,8 @@ impl<'m, 'a> Machine<'m, 'a> {
         requires failures { (S.so_far sink.old).failures < 2 ^ 64 - 1 }
         ensures step { done run.plan run.template (code.put bytes.now) (state_of run self.old)
             ≡ goes (state_of (record run { text = run.text ++ bytes.now }) self.new) }
-        ensures given { IsPut result (given_of (S.so_far sink.old) piece.old) (given_of (S.so_far sink.new) piece.new) bytes.now }
+        ensures given { IsPut result (given_of (S.so_far sink.old) piece.old)
+            (given_of (S.so_far sink.new) piece.new) bytes.now }
         ensures taken { Grows (S.so_far sink.old) (S.so_far sink.new) }
         ensures plain { IsPlain self.old → IsPlain self.new }
         ensures size { size_of self.new.stack ≡ size_of self.old.stack }
@@ -38,7 +39,11 @@ impl<'m, 'a> Machine<'m, 'a> {
 
     /// Takes the newest value, and puts out its text.
     #[tactic(auto, using(crate::proofs::StackLemmas::tops))]
-    pub(crate) fn show<S: Sink>(&mut self, piece: &mut Piece<'_>, sink: &mut S) -> Result<(), SinkFault>
+    pub(crate) fn show<S: Sink>(
+        &mut self,
+        piece: &mut Piece<'_>,
+        sink: &mut S,
+    ) -> Result<(), SinkFault>
         ghost run: { Told }
         requires place { self.old.place + 1 < 2 ^ 64 }
         requires found { 1 ≤ length (cells_of self.old.stack) }

@@ -1,5 +1,6 @@
 //! The run of a program, from the start of a template to its end.
-ghost use Rattle.std.specs.Prelude.{◌≡◌, Err, ◌+◌, ◌-◌, ◌*◌, ◌<◌, ◌≤◌, ◌^◌, IfSome, [], false, get_or, length, option_map, slice_get};
+ghost use Rattle.std.specs.Prelude.{◌≡◌, Err, ◌+◌, ◌-◌, ◌<◌, ◌≤◌, ◌^◌, IfSome, [], false, get_or, length};
+ghost use Rattle.std.specs.Prelude.{option_map, slice_get};
 ghost use Rattle.tmpl_values.specs.View.{is_made, val_of, value_of};
 ghost use Rattle.tmpl_syntax.specs.View.{set_view};
 ghost use Rattle.tmpl_run.specs.Meaning.{Ran, ran, starting_dot};
@@ -88,7 +89,8 @@ impl<'m, 'a> Machine<'m, 'a> {
         requires plain { IsPlain self.old }
         requires depth { self.old.depth + self.old.left < 2 ^ 64 - 1 }
         requires countable { (S.so_far sink.old).failures < 2 ^ 64 - 1 }
-        ensures came { Came run.1 (given_of (S.so_far sink.old) piece.old) (given_of (S.so_far sink.new) piece.new) result }
+        ensures came { Came run.1 (given_of (S.so_far sink.old) piece.old)
+            (given_of (S.so_far sink.new) piece.new) result }
         ensures taken { Grows (S.so_far sink.old) (S.so_far sink.new) }
     {
         loop {
@@ -104,12 +106,7 @@ impl<'m, 'a> Machine<'m, 'a> {
 }
 
 /// Why a run ends that stops in the template of this number, at this line.
-fn stopped<'a>(
-    program: &'a Program<'a>,
-    number: usize,
-    line: u64,
-    stop: Stop<'a>,
-) -> RunError<'a>
+fn stopped<'a>(program: &'a Program<'a>, number: usize, line: u64, stop: Stop<'a>) -> RunError<'a>
     requires { number < length (set_view program.now.set.now) }
     ensures { IsStopped (slice_get (set_view program.now.set.now) number) line stop.entry result }
 {
@@ -164,8 +161,8 @@ fn close<'a, S: Sink>(
     end: Result<(), RunError<'a>>,
 ) -> Result<(), RunError<'a>>
     requires { (end ≡ Err RunError.WriteFailed → ⊥) → (S.so_far sink.old).failures < 2 ^ 64 - 1 }
-    ensures closed { Closed end.entry result (given_of (S.so_far sink.old) piece.old) (given_of (S.so_far sink.new) piece.new)
-        (waiting piece.new) }
+    ensures closed { Closed end.entry result (given_of (S.so_far sink.old) piece.old)
+        (given_of (S.so_far sink.new) piece.new) (waiting piece.new) }
     ensures taken { Grows (S.so_far sink.old) (S.so_far sink.new) }
 {
     match end {

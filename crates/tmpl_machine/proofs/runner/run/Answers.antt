@@ -41,14 +41,32 @@ turns-end-requires g c =
     let left : m.left ≡ c.args.options.now.steps = ap (λ (t : State). t.left) state in
     let most = c.args.options.now.steps_in_range.1 in
     let sized = c.start-machine.ensures.size in
-    λ κs h. (h, (refl, (refl, (refl, (
-      start.starts-so plan size c.args.entry.number c.requires.linked c.requires.entry c.args.options.now.depth_in_range.0 c.requires.room (size_of m.stack)
-        (starting_dot (option_map (λ d. value_of d.now) c.args.data)) s sized state,
-      (omega (arith, count, three, sized), (c.start-machine.ensures.plain, (
-        omega (arith, deep, left, most),
-        c.requires.countable,
-      ))),
-    )))))
+    λ κs h. (
+      h,
+      (
+        refl,
+        (
+          refl,
+          (
+            refl,
+            (
+              start.starts-so plan size c.args.entry.number c.requires.linked c.requires.entry c.args.options.now.depth_in_range.0 c.requires.room (size_of m.stack)
+                  (starting_dot (option_map (λ d. value_of d.now) c.args.data)) s sized state,
+              (
+                omega (arith, count, three, sized),
+                (
+                  c.start-machine.ensures.plain,
+                  (
+                    omega (arith, deep, left, most),
+                    c.requires.countable,
+                  ),
+                ),
+              ),
+            ),
+          ),
+        ),
+      ),
+    )
 
 pub returns : goal.returns
 returns g c =
@@ -62,8 +80,8 @@ returns g c =
     let after = g.S.Sink.so_far c.close.new.sink in
     let mid : Puts = given_of middle c.turns-end.new.piece in
     let came : Came end (behind before [] 0) mid c.turns-end.result =
-        subst (λ l. Came end (behind before l 0) mid c.turns-end.result) c.new-piece.ensures c.turns-end.ensures.came in
+    subst (λ l. Came end (behind before l 0) mid c.turns-end.result) c.new-piece.ensures c.turns-end.ensures.came in
     let grows : Grows before after = grows-on before middle after c.turns-end.ensures.taken c.close.ensures.taken in
     start.meant-so plan (length c.args.cells.now) c.args.entry.number c.requires.linked c.requires.entry
-      (λ (r : Ran). IsRun r (sunk before after) c.close.result) (option_map (λ d. value_of d.now) c.args.data) s c.start-machine.ensures.state
-      (comes-to end before after (waiting last) 0 grows 0 c.turns-end.result c.close.result mid came c.close.ensures.closed)
+    (λ (r : Ran). IsRun r (sunk before after) c.close.result) (option_map (λ d. value_of d.now) c.args.data) s c.start-machine.ensures.state
+    (comes-to end before after (waiting last) 0 grows 0 c.turns-end.result c.close.result mid came c.close.ensures.closed)

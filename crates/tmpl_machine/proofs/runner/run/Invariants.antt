@@ -8,8 +8,7 @@ use Rattle.tmpl_machine.proofs.runner.run.Given as goal
 
 abbrev pub ghost-turns : goal.ghost-turns
 ghost-turns g a =
-    let ts = set_view a.program.now.set.now in
-    (
+    let ts = set_view a.program.now.set.now in (
       nothing_told (plan_of a.options.now a.program.now),
       ran_with (rules_of a.options.now) ts (get_or ts a.self.now.template no_template).0 (get_or ts a.self.now.template no_template).1 (val_of a.self.now.dot),
     )

@@ -36,8 +36,7 @@ next-requires g c =
 pub leave-requires : goal.leave-requires
 leave-requires g c =
     let s : State = state_of g.run c.args.self.now in
-    let lands = subst (λ i. Lands (done g.run.plan g.run.template (instruction_of i) s)) c.in-Leave.is c.requires.1.1.1.1.1.1.0 in
-    (
+    let lands = subst (λ i. Lands (done g.run.plan g.run.template (instruction_of i) s)) c.in-Leave.is c.requires.1.1.1.1.1.1.0 in (
       ready.leave-found g.run.plan g.run.template s c.in-Leave.count c.in-Leave.skip lands,
       ready.leave-jumps g.run.plan g.run.template s c.in-Leave.count c.in-Leave.skip lands,
     )
@@ -74,29 +73,29 @@ returns-clause-given g c =
     let now = given_of (g.S.Sink.so_far c.args.sink.now) c.args.piece.now in
     let next = given_of (g.S.Sink.so_far c.match-instruction.sink) c.match-instruction.piece in
     elim c.match-instruction.branch [
-      in-Spend+in_ok-spend-in-Spend w ↦ subst (λ i. IsPut {F = SinkFault} (Ok tt) now next (added (instruction_of i) s)) (sym w.in-Spend.is) (quiet g.S.Sink.so_far c.args.sink.now c.match-instruction.sink c.args.piece.now c.match-instruction.piece w.sink-is w.piece-is)
-    | in-Text+in_ok-put_bytes-in-Text w ↦ subst (λ i. IsPut {F = SinkFault} (Ok tt) now next (added (instruction_of i) s)) (sym w.in-Text.is) (subst (λ o. IsPut {F = SinkFault} (Ok tt) now (given_of (g.S.Sink.so_far o) c.match-instruction.piece) w.in-Text.bytes.now) (sym w.sink-is) (subst (λ p. IsPut {F = SinkFault} (Ok tt) now (given_of (g.S.Sink.so_far w.put_bytes.new.sink) p) w.in-Text.bytes.now) (sym w.piece-is) w.in_ok-put_bytes-in-Text.ensures.given))
-    | in-Operate+in_ok-operate-in-Operate w ↦ subst (λ i. IsPut {F = SinkFault} (Ok tt) now next (added (instruction_of i) s)) (sym w.in-Operate.is) (quiet g.S.Sink.so_far c.args.sink.now c.match-instruction.sink c.args.piece.now c.match-instruction.piece w.sink-is w.piece-is)
-    | in-Show+in_ok-show-in-Show w ↦ subst (λ i. IsPut {F = SinkFault} (Ok tt) now next (added (instruction_of i) s)) (sym w.in-Show.is) (subst (λ o. IsPut {F = SinkFault} (Ok tt) now (given_of (g.S.Sink.so_far o) c.match-instruction.piece) (text_of (slot 0 s.cells))) (sym w.sink-is) (subst (λ p. IsPut {F = SinkFault} (Ok tt) now (given_of (g.S.Sink.so_far w.show.new.sink) p) (text_of (slot 0 s.cells))) (sym w.piece-is) w.in_ok-show-in-Show.ensures.given))
-    | in-Hold+in_ok-hold-in-Hold w ↦ subst (λ i. IsPut {F = SinkFault} (Ok tt) now next (added (instruction_of i) s)) (sym w.in-Hold.is) (quiet g.S.Sink.so_far c.args.sink.now c.match-instruction.sink c.args.piece.now c.match-instruction.piece w.sink-is w.piece-is)
-    | in-Set+in_ok-set-in-Set w ↦ subst (λ i. IsPut {F = SinkFault} (Ok tt) now next (added (instruction_of i) s)) (sym w.in-Set.is) (quiet g.S.Sink.so_far c.args.sink.now c.match-instruction.sink c.args.piece.now c.match-instruction.piece w.sink-is w.piece-is)
-    | in-SetDot+in_ok-set_dot-in-SetDot w ↦ subst (λ i. IsPut {F = SinkFault} (Ok tt) now next (added (instruction_of i) s)) (sym w.in-SetDot.is) (quiet g.S.Sink.so_far c.args.sink.now c.match-instruction.sink c.args.piece.now c.match-instruction.piece w.sink-is w.piece-is)
-    | in-Unless w ↦ subst (λ i. IsPut {F = SinkFault} (Ok tt) now next (added (instruction_of i) s)) (sym w.in-Unless.is) (quiet g.S.Sink.so_far c.args.sink.now c.match-instruction.sink c.args.piece.now c.match-instruction.piece w.sink-is w.piece-is)
-    | in-With+in_ok-open_with-in-With w ↦ subst (λ i. IsPut {F = SinkFault} (Ok tt) now next (added (instruction_of i) s)) (sym w.in-With.is) (quiet g.S.Sink.so_far c.args.sink.now c.match-instruction.sink c.args.piece.now c.match-instruction.piece w.sink-is w.piece-is)
-    | in-EndWith w ↦ subst (λ i. IsPut {F = SinkFault} (Ok tt) now next (added (instruction_of i) s)) (sym w.in-EndWith.is) (quiet g.S.Sink.so_far c.args.sink.now c.match-instruction.sink c.args.piece.now c.match-instruction.piece w.sink-is w.piece-is)
-    | in-Drop w ↦ subst (λ i. IsPut {F = SinkFault} (Ok tt) now next (added (instruction_of i) s)) (sym w.in-Drop.is) (quiet g.S.Sink.so_far c.args.sink.now c.match-instruction.sink c.args.piece.now c.match-instruction.piece w.sink-is w.piece-is)
-    | in-Enter+in_ok-open_range-in-Enter w ↦ subst (λ i. IsPut {F = SinkFault} (Ok tt) now next (added (instruction_of i) s)) (sym w.in-Enter.is) (quiet g.S.Sink.so_far c.args.sink.now c.match-instruction.sink c.args.piece.now c.match-instruction.piece w.sink-is w.piece-is)
-    | in-Turn+in_ok-turn-in-Turn w ↦ subst (λ i. IsPut {F = SinkFault} (Ok tt) now next (added (instruction_of i) s)) (sym w.in-Turn.is) (quiet g.S.Sink.so_far c.args.sink.now c.match-instruction.sink c.args.piece.now c.match-instruction.piece w.sink-is w.piece-is)
-    | in-Next+in_ok-next-in-Next w ↦ subst (λ i. IsPut {F = SinkFault} (Ok tt) now next (added (instruction_of i) s)) (sym w.in-Next.is) (quiet g.S.Sink.so_far c.args.sink.now c.match-instruction.sink c.args.piece.now c.match-instruction.piece w.sink-is w.piece-is)
-    | in-Leave w ↦ subst (λ i. IsPut {F = SinkFault} (Ok tt) now next (added (instruction_of i) s)) (sym w.in-Leave.is) (quiet g.S.Sink.so_far c.args.sink.now c.match-instruction.sink c.args.piece.now c.match-instruction.piece w.sink-is w.piece-is)
-    | in-Deepen+in_ok-deepen-in-Deepen w ↦ subst (λ i. IsPut {F = SinkFault} (Ok tt) now next (added (instruction_of i) s)) (sym w.in-Deepen.is) (quiet g.S.Sink.so_far c.args.sink.now c.match-instruction.sink c.args.piece.now c.match-instruction.piece w.sink-is w.piece-is)
-    | in-Invoke+in_ok-invoke-in-Invoke w ↦ subst (λ i. IsPut {F = SinkFault} (Ok tt) now next (added (instruction_of i) s)) (sym w.in-Invoke.is) (quiet g.S.Sink.so_far c.args.sink.now c.match-instruction.sink c.args.piece.now c.match-instruction.piece w.sink-is w.piece-is)
-    | in-Return+else-return_from w ↦ subst (λ i. IsPut {F = SinkFault} (Ok tt) now next (added (instruction_of i) s)) (sym w.in-Return.is) (quiet g.S.Sink.so_far c.args.sink.now c.match-instruction.sink c.args.piece.now c.match-instruction.piece w.sink-is w.piece-is)
+      | in-Spend+in_ok-spend-in-Spend w ↦ subst (λ i. IsPut {F = SinkFault} (Ok tt) now next (added (instruction_of i) s)) (sym w.in-Spend.is) (quiet g.S.Sink.so_far c.args.sink.now c.match-instruction.sink c.args.piece.now c.match-instruction.piece w.sink-is w.piece-is)
+      | in-Text+in_ok-put_bytes-in-Text w ↦ subst (λ i. IsPut {F = SinkFault} (Ok tt) now next (added (instruction_of i) s)) (sym w.in-Text.is) (subst (λ o. IsPut {F = SinkFault} (Ok tt) now (given_of (g.S.Sink.so_far o) c.match-instruction.piece) w.in-Text.bytes.now) (sym w.sink-is) (subst (λ p. IsPut {F = SinkFault} (Ok tt) now (given_of (g.S.Sink.so_far w.put_bytes.new.sink) p) w.in-Text.bytes.now) (sym w.piece-is) w.in_ok-put_bytes-in-Text.ensures.given))
+      | in-Operate+in_ok-operate-in-Operate w ↦ subst (λ i. IsPut {F = SinkFault} (Ok tt) now next (added (instruction_of i) s)) (sym w.in-Operate.is) (quiet g.S.Sink.so_far c.args.sink.now c.match-instruction.sink c.args.piece.now c.match-instruction.piece w.sink-is w.piece-is)
+      | in-Show+in_ok-show-in-Show w ↦ subst (λ i. IsPut {F = SinkFault} (Ok tt) now next (added (instruction_of i) s)) (sym w.in-Show.is) (subst (λ o. IsPut {F = SinkFault} (Ok tt) now (given_of (g.S.Sink.so_far o) c.match-instruction.piece) (text_of (slot 0 s.cells))) (sym w.sink-is) (subst (λ p. IsPut {F = SinkFault} (Ok tt) now (given_of (g.S.Sink.so_far w.show.new.sink) p) (text_of (slot 0 s.cells))) (sym w.piece-is) w.in_ok-show-in-Show.ensures.given))
+      | in-Hold+in_ok-hold-in-Hold w ↦ subst (λ i. IsPut {F = SinkFault} (Ok tt) now next (added (instruction_of i) s)) (sym w.in-Hold.is) (quiet g.S.Sink.so_far c.args.sink.now c.match-instruction.sink c.args.piece.now c.match-instruction.piece w.sink-is w.piece-is)
+      | in-Set+in_ok-set-in-Set w ↦ subst (λ i. IsPut {F = SinkFault} (Ok tt) now next (added (instruction_of i) s)) (sym w.in-Set.is) (quiet g.S.Sink.so_far c.args.sink.now c.match-instruction.sink c.args.piece.now c.match-instruction.piece w.sink-is w.piece-is)
+      | in-SetDot+in_ok-set_dot-in-SetDot w ↦ subst (λ i. IsPut {F = SinkFault} (Ok tt) now next (added (instruction_of i) s)) (sym w.in-SetDot.is) (quiet g.S.Sink.so_far c.args.sink.now c.match-instruction.sink c.args.piece.now c.match-instruction.piece w.sink-is w.piece-is)
+      | in-Unless w ↦ subst (λ i. IsPut {F = SinkFault} (Ok tt) now next (added (instruction_of i) s)) (sym w.in-Unless.is) (quiet g.S.Sink.so_far c.args.sink.now c.match-instruction.sink c.args.piece.now c.match-instruction.piece w.sink-is w.piece-is)
+      | in-With+in_ok-open_with-in-With w ↦ subst (λ i. IsPut {F = SinkFault} (Ok tt) now next (added (instruction_of i) s)) (sym w.in-With.is) (quiet g.S.Sink.so_far c.args.sink.now c.match-instruction.sink c.args.piece.now c.match-instruction.piece w.sink-is w.piece-is)
+      | in-EndWith w ↦ subst (λ i. IsPut {F = SinkFault} (Ok tt) now next (added (instruction_of i) s)) (sym w.in-EndWith.is) (quiet g.S.Sink.so_far c.args.sink.now c.match-instruction.sink c.args.piece.now c.match-instruction.piece w.sink-is w.piece-is)
+      | in-Drop w ↦ subst (λ i. IsPut {F = SinkFault} (Ok tt) now next (added (instruction_of i) s)) (sym w.in-Drop.is) (quiet g.S.Sink.so_far c.args.sink.now c.match-instruction.sink c.args.piece.now c.match-instruction.piece w.sink-is w.piece-is)
+      | in-Enter+in_ok-open_range-in-Enter w ↦ subst (λ i. IsPut {F = SinkFault} (Ok tt) now next (added (instruction_of i) s)) (sym w.in-Enter.is) (quiet g.S.Sink.so_far c.args.sink.now c.match-instruction.sink c.args.piece.now c.match-instruction.piece w.sink-is w.piece-is)
+      | in-Turn+in_ok-turn-in-Turn w ↦ subst (λ i. IsPut {F = SinkFault} (Ok tt) now next (added (instruction_of i) s)) (sym w.in-Turn.is) (quiet g.S.Sink.so_far c.args.sink.now c.match-instruction.sink c.args.piece.now c.match-instruction.piece w.sink-is w.piece-is)
+      | in-Next+in_ok-next-in-Next w ↦ subst (λ i. IsPut {F = SinkFault} (Ok tt) now next (added (instruction_of i) s)) (sym w.in-Next.is) (quiet g.S.Sink.so_far c.args.sink.now c.match-instruction.sink c.args.piece.now c.match-instruction.piece w.sink-is w.piece-is)
+      | in-Leave w ↦ subst (λ i. IsPut {F = SinkFault} (Ok tt) now next (added (instruction_of i) s)) (sym w.in-Leave.is) (quiet g.S.Sink.so_far c.args.sink.now c.match-instruction.sink c.args.piece.now c.match-instruction.piece w.sink-is w.piece-is)
+      | in-Deepen+in_ok-deepen-in-Deepen w ↦ subst (λ i. IsPut {F = SinkFault} (Ok tt) now next (added (instruction_of i) s)) (sym w.in-Deepen.is) (quiet g.S.Sink.so_far c.args.sink.now c.match-instruction.sink c.args.piece.now c.match-instruction.piece w.sink-is w.piece-is)
+      | in-Invoke+in_ok-invoke-in-Invoke w ↦ subst (λ i. IsPut {F = SinkFault} (Ok tt) now next (added (instruction_of i) s)) (sym w.in-Invoke.is) (quiet g.S.Sink.so_far c.args.sink.now c.match-instruction.sink c.args.piece.now c.match-instruction.piece w.sink-is w.piece-is)
+      | in-Return+else-return_from w ↦ subst (λ i. IsPut {F = SinkFault} (Ok tt) now next (added (instruction_of i) s)) (sym w.in-Return.is) (quiet g.S.Sink.so_far c.args.sink.now c.match-instruction.sink c.args.piece.now c.match-instruction.piece w.sink-is w.piece-is)
     ]
 
 pub returns-clause-taken : goal.returns-clause-taken
 returns-clause-taken g c = elim c.match-instruction.branch [
-    in-Spend+in_ok-spend-in-Spend w ↦ quiet-grows g.S.Sink.so_far c.args.sink.now c.match-instruction.sink c.args.piece.now c.match-instruction.piece w.sink-is w.piece-is
+  | in-Spend+in_ok-spend-in-Spend w ↦ quiet-grows g.S.Sink.so_far c.args.sink.now c.match-instruction.sink c.args.piece.now c.match-instruction.piece w.sink-is w.piece-is
   | in-Text+in_ok-put_bytes-in-Text w ↦ subst (λ o. Grows (g.S.Sink.so_far c.args.sink.now) (g.S.Sink.so_far o)) (sym w.sink-is) w.in_ok-put_bytes-in-Text.ensures.taken
   | in-Operate+in_ok-operate-in-Operate w ↦ quiet-grows g.S.Sink.so_far c.args.sink.now c.match-instruction.sink c.args.piece.now c.match-instruction.piece w.sink-is w.piece-is
   | in-Show+in_ok-show-in-Show w ↦ subst (λ o. Grows (g.S.Sink.so_far c.args.sink.now) (g.S.Sink.so_far o)) (sym w.sink-is) w.in_ok-show-in-Show.ensures.taken
@@ -114,4 +113,4 @@ returns-clause-taken g c = elim c.match-instruction.branch [
   | in-Deepen+in_ok-deepen-in-Deepen w ↦ quiet-grows g.S.Sink.so_far c.args.sink.now c.match-instruction.sink c.args.piece.now c.match-instruction.piece w.sink-is w.piece-is
   | in-Invoke+in_ok-invoke-in-Invoke w ↦ quiet-grows g.S.Sink.so_far c.args.sink.now c.match-instruction.sink c.args.piece.now c.match-instruction.piece w.sink-is w.piece-is
   | in-Return+else-return_from w ↦ quiet-grows g.S.Sink.so_far c.args.sink.now c.match-instruction.sink c.args.piece.now c.match-instruction.piece w.sink-is w.piece-is
-  ]
+]

@@ -85,16 +85,31 @@ execute-requires g c =
     let inside = within-code plan size end past inv.ends in
     let i : Instruction = instruction_of c.index-as_slice-self.result in
     let here = ap (λ (p : Plan). slice_get p.code m.place) c.requires.1.0 ∙ ap (λ l. slice_get (instructions_of l) m.place) (sym c.as_slice.ensures.value)
-        ∙ going.code-at c.as_slice.result.now m.place c.index-as_slice-self.result c.index-as_slice-self.result (omega (arith, long, inside)) c.index-as_slice-self.is in
+    ∙ going.code-at c.as_slice.result.now m.place c.index-as_slice-self.result c.index-as_slice-self.result (omega (arith, long, inside)) c.index-as_slice-self.is in
     let runs = going.runs-at plan.templates m.template g.run.0.template (some-template plan size end past inv.ends) in
     let count = inv.given.count in
     let fits = c.as_slice.type_inv.0 in
     let deep = inv.depth in
     let few = c.requires.1.1.1.1.1.1.1.1 in
-    λ κs h. (h, (c.requires.1.0, (omega (arith, long, inside, fits), (omega (arith, deep), (inv.within, (
-      going.has plan size end inv.text inv.made s i told.template here runs inv.ends,
-      (going.lands plan size end inv.text inv.made s i told.template here runs inv.ends (omega (arith, long, fits)), omega (arith, count, few)),
-    ))))))
+    λ κs h. (
+      h,
+      (
+        c.requires.1.0,
+        (
+          omega (arith, long, inside, fits),
+          (
+            omega (arith, deep),
+            (
+              inv.within,
+              (
+                going.has plan size end inv.text inv.made s i told.template here runs inv.ends,
+                (going.lands plan size end inv.text inv.made s i told.template here runs inv.ends (omega (arith, long, fits)), omega (arith, count, few)),
+              ),
+            ),
+          ),
+        ),
+      ),
+    )
 
 pub loop-stop-smaller : goal.loop-stop-smaller
 loop-stop-smaller g c =
@@ -110,7 +125,7 @@ loop-stop-smaller g c =
     let inside = within-code plan size end past inv.ends in
     let i : Instruction = instruction_of c.index-as_slice-self.result in
     let here = ap (λ (p : Plan). slice_get p.code m.place) c.requires.1.0 ∙ ap (λ l. slice_get (instructions_of l) m.place) (sym c.as_slice.ensures.value)
-        ∙ going.code-at c.as_slice.result.now m.place c.index-as_slice-self.result c.index-as_slice-self.result (omega (arith, long, inside)) c.index-as_slice-self.is in
+    ∙ going.code-at c.as_slice.result.now m.place c.index-as_slice-self.result c.index-as_slice-self.result (omega (arith, long, inside)) c.index-as_slice-self.is in
     let runs = going.runs-at plan.templates m.template g.run.0.template (some-template plan size end past inv.ends) in
     let u : State = state_of (told_behind i s told) c.execute.new.self in
     going.less plan size end inv.text inv.made s i told.template here runs inv.ends u (subst (λ f. Executed told i s u (Ok f)) c.in-Ok-On.field-0-is c.in-Ok-On.ensures.step)
@@ -129,7 +144,7 @@ loop-stop-preserved g c =
     let inside = within-code plan size end past inv.ends in
     let i : Instruction = instruction_of c.index-as_slice-self.result in
     let here = ap (λ (p : Plan). slice_get p.code m.place) c.requires.1.0 ∙ ap (λ l. slice_get (instructions_of l) m.place) (sym c.as_slice.ensures.value)
-        ∙ going.code-at c.as_slice.result.now m.place c.index-as_slice-self.result c.index-as_slice-self.result (omega (arith, long, inside)) c.index-as_slice-self.is in
+    ∙ going.code-at c.as_slice.result.now m.place c.index-as_slice-self.result c.index-as_slice-self.result (omega (arith, long, inside)) c.index-as_slice-self.is in
     let runs = going.runs-at plan.templates m.template g.run.0.template (some-template plan size end past inv.ends) in
     let u : State = state_of (told_behind i s told) c.execute.new.self in
     let step = subst (λ f. Executed told i s u (Ok f)) c.in-Ok-On.field-0-is c.in-Ok-On.ensures.step in
@@ -163,14 +178,13 @@ returns-in-Ok-Over-clause-came g c =
     let inside = within-code plan size end past inv.ends in
     let i : Instruction = instruction_of c.index-as_slice-self.result in
     let here = ap (λ (p : Plan). slice_get p.code m.place) c.requires.1.0 ∙ ap (λ l. slice_get (instructions_of l) m.place) (sym c.as_slice.ensures.value)
-        ∙ going.code-at c.as_slice.result.now m.place c.index-as_slice-self.result c.index-as_slice-self.result (omega (arith, long, inside)) c.index-as_slice-self.is in
+    ∙ going.code-at c.as_slice.result.now m.place c.index-as_slice-self.result c.index-as_slice-self.result (omega (arith, long, inside)) c.index-as_slice-self.is in
     let runs = going.runs-at plan.templates m.template g.run.0.template (some-template plan size end past inv.ends) in
     let now = given_of (g.S.Sink.so_far c.loop-stop.sink) c.loop-stop.piece in
     let next = given_of (g.S.Sink.so_far c.execute.new.sink) c.execute.new.piece in
     let before = given_of (g.S.Sink.so_far c.args.sink.now) c.args.piece.now in
     let u : State = state_of (told_behind i s told) c.execute.new.self in
-    let step = subst (λ f. Executed told i s u (Ok f)) c.in-Ok-Over.field-0-is c.in-Ok-Over.ensures.step in
-    (
+    let step = subst (λ f. Executed told i s u (Ok f)) c.in-Ok-Over.field-0-is c.in-Ok-Over.ensures.step in (
       going.came-over plan size end inv.text inv.made s i told.template here runs inv.ends before now next refl inv.given (ran_so s None) step refl c.in-Ok-Over.ensures.given,
       going.fault-over plan size end inv.text inv.made s i told.template here runs inv.ends before now next refl inv.given (ran_so s None) step,
     )
@@ -192,7 +206,7 @@ stopped-requires g c =
     let inside = within-code plan size end past inv.ends in
     let i : Instruction = instruction_of c.index-as_slice-self.result in
     let here = ap (λ (p : Plan). slice_get p.code m.place) c.requires.1.0 ∙ ap (λ l. slice_get (instructions_of l) m.place) (sym c.as_slice.ensures.value)
-        ∙ going.code-at c.as_slice.result.now m.place c.index-as_slice-self.result c.index-as_slice-self.result (omega (arith, long, inside)) c.index-as_slice-self.is in
+    ∙ going.code-at c.as_slice.result.now m.place c.index-as_slice-self.result c.index-as_slice-self.result (omega (arith, long, inside)) c.index-as_slice-self.is in
     let runs = going.runs-at plan.templates m.template g.run.0.template (some-template plan size end past inv.ends) in
     slice_get_within _ m.template told.template (ap (λ (p : Plan). slice_get p.templates m.template) (sym c.requires.1.0) ∙ runs)
 
@@ -210,15 +224,15 @@ returns-in-Err-clause-came g c =
     let inside = within-code plan size end past inv.ends in
     let i : Instruction = instruction_of c.index-as_slice-self.result in
     let here = ap (λ (p : Plan). slice_get p.code m.place) c.requires.1.0 ∙ ap (λ l. slice_get (instructions_of l) m.place) (sym c.as_slice.ensures.value)
-        ∙ going.code-at c.as_slice.result.now m.place c.index-as_slice-self.result c.index-as_slice-self.result (omega (arith, long, inside)) c.index-as_slice-self.is in
+    ∙ going.code-at c.as_slice.result.now m.place c.index-as_slice-self.result c.index-as_slice-self.result (omega (arith, long, inside)) c.index-as_slice-self.is in
     let runs = going.runs-at plan.templates m.template g.run.0.template (some-template plan size end past inv.ends) in
     let u : State = state_of (told_behind i s told) c.execute.new.self in
     let now = given_of (g.S.Sink.so_far c.loop-stop.sink) c.loop-stop.piece in
     let next = given_of (g.S.Sink.so_far c.execute.new.sink) c.execute.new.piece in
     let before = given_of (g.S.Sink.so_far c.args.sink.now) c.args.piece.now in
     going.came-stopped plan size end inv.text inv.made s i told.template here runs inv.ends before now next refl inv.given u (IsPlain m) (IsPlain c.execute.new.self) refl inv.plain (going.text-behind i s told refl)
-      told refl refl c.in-Err.stop c.stopped.result c.in-Err.ensures.step c.in-Err.ensures.given c.in-Err.ensures.plain
-      (subst (λ (p : Plan). IsStopped (slice_get p.templates m.template) u.line c.in-Err.stop c.stopped.result) (sym c.requires.1.0) c.stopped.ensures)
+    told refl refl c.in-Err.stop c.stopped.result c.in-Err.ensures.step c.in-Err.ensures.given c.in-Err.ensures.plain
+    (subst (λ (p : Plan). IsStopped (slice_get p.templates m.template) u.line c.in-Err.stop c.stopped.result) (sym c.requires.1.0) c.stopped.ensures)
 
 pub returns-in-Err-clause-taken : goal.returns-in-Err-clause-taken
 returns-in-Err-clause-taken g c = grows-on (g.S.Sink.so_far c.args.sink.now) (g.S.Sink.so_far c.loop-stop.sink) (g.S.Sink.so_far c.execute.new.sink) c.loop-stop.invariant.taken c.in-Err.ensures.taken
