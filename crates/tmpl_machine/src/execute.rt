@@ -40,7 +40,8 @@ impl<'m, 'a> Machine<'m, 'a> {
         ensures step { let i = instruction_of instruction.entry in let s = state_of run self.old in
             Executed run i s (state_of (told_behind i s run) self.new) result }
         ensures given { IsPut (put_by result) (given_of (S.so_far sink.old) piece.old)
-            (given_of (S.so_far sink.new) piece.new) (added (instruction_of instruction.entry) (state_of run self.old)) }
+            (given_of (S.so_far sink.new) piece.new)
+            (added (instruction_of instruction.entry) (state_of run self.old)) }
         ensures taken { Grows (S.so_far sink.old) (S.so_far sink.new) }
         ensures plain { mark_behind (instruction_of instruction.entry) run.made_text ≡ false
             → IsPlain self.old → SparedOr result (IsPlain self.new) }
