@@ -15,7 +15,7 @@ use Rattle.tmpl_code.specs.Instruction.{Refusal, not_a_function, nil_command, wr
 use Rattle.tmpl_code.specs.Code.{piped_count}
 use Rattle.tmpl_machine.specs.Cell.{Cell, fresh, slot, values_in}
 
--- goes on behind so many more steps over these cells, or stops, or does not slot_named a cell that it takes
+-- goes on behind so many more steps over these cells, or stops, or does not find a cell that it takes
 pub data Went : Type 0 where
   on : ℕ → List Cell → Went
   halted : Cause → Went
