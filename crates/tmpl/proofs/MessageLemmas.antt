@@ -5,7 +5,7 @@ use Rattle.tmpl_values.proofs.PutLemmas.{IsPut-nil}
 use Rattle.tmpl_run.specs.Sink.{IsPut, Told, Sunk, Whole, as_puts, sunk}
 use Rattle.tmpl_run.specs.declared.sink.SinkFault.{SinkFault}
 use Rattle.tmpl_run.proofs.PutLemmas.{counts_once, whole_or_cut}
-use Rattle.tmpl.specs.Outcome.{Answer, Begun, Once, Outcome, Says, memory_line}
+use Rattle.tmpl.specs.Outcome.{Answer, BegunIf, Once, Outcome, Says, memory_line}
 use Rattle.tmpl.specs.Part.{Piece, joined, line, piece_text}
 use Rattle.tmpl.specs.Source.{Bytes}
 use Rattle.tmpl.specs.View.{piece_of, pieces_of}
@@ -42,7 +42,7 @@ pub ruleset said = (put_once, put_says)
 pub nothing_put : (t : Told) → Whole [] (sunk t t)
 nothing_put t = IsPut-nil (as_puts t)
 
-begun_nothing : (made : Bool) (text : Bytes) (t : Told) → Begun made text (sunk t t)
+begun_nothing : (made : Bool) (text : Bytes) (t : Told) → BegunIf made text (sunk t t)
 begun_nothing true text t = (refl, ([], text, refl, (nothing_put t).bytes))
 begun_nothing false text t = (refl, refl)
 

@@ -5,14 +5,13 @@ use Rattle.tmpl_values.specs.Json.{Flaw, data_of}
 use Rattle.tmpl_syntax.specs.Tree.{Tree}
 use Rattle.tmpl_syntax.specs.Set.{Template, tree_named}
 use Rattle.tmpl_syntax.specs.computed.Parse.{Refusal, parsed}
-use Rattle.tmpl_syntax.specs.Print.Printed.{printed_set}
 use Rattle.tmpl_run.specs.Meaning.{Fault, ran}
 use Rattle.tmpl.specs.Help.{asks_help}
 use Rattle.tmpl.specs.Words.{Wanted, wanted}
 use Rattle.tmpl.specs.Source.{Bytes, Files}
-use Rattle.tmpl.specs.Outcome.{Answer, Begun}
-use Rattle.tmpl.specs.Laws.{AskFor, GivesHelp, GoOn, Prints, RefusesWords, Runs, StopsAtData, StopsAtFile, StopsAtName, TellsFailedWrite, TellsRefusedMemory}
-use Rattle.tmpl.specs.Tool.{Failing, asked_name, data_found, end_of, failing_file, fails_data, loaded, no_read, only_text, or_data_refused, or_not_found, or_refused, or_refused_words, or_stop, or_unnamed, read_in, rules_of, run_of, run_status, tool_answer, unless_help, unless_printed}
+use Rattle.tmpl.specs.Outcome.{Answer, BegunIf}
+use Rattle.tmpl.specs.Laws.{AskFor, GivesHelp, Prints, RefusesWords, Runs, StopsAtData, StopsAtFile, StopsAtName, TellsFailedWrite, TellsRefusedMemory}
+use Rattle.tmpl.specs.Tool.{Failing, asked_name, data_found, end_of, failing_file, fails_data, loaded, no_read, or_data_refused, or_not_found, or_refused, or_refused_words, or_stop, or_unnamed, read_in, run_of, run_status, tool_answer, unless_help, unless_printed}
 use Rattle.tmpl.specs.computed.Load.{after_print, after_set, after_words, rendered}
 
 pub gives_help : GivesHelp
@@ -42,9 +41,9 @@ module _ (words : List Bytes) (files : Files) (w : Wanted) (asks : AskFor words 
       with_data r is = with_print false is_run ∙ ap (λ r. end_of (or_stop r (rendered w set))) is
 
       with_name : (input : Option Value) → data_found files false w.data_file ≡ Ok input → (o : Option Tree) → tree_named (asked_name w) set ≡ o
-          → tool_answer words files no_read ≡ end_of (or_stop (or_unnamed (asked_name w) o) (λ tree. Ok (run_of w.options set (asked_name w) input tree)))
+          → tool_answer words files no_read ≡ end_of (or_stop (or_unnamed (asked_name w) o) (λ tree. Ok (run_of w.rules set (asked_name w) input tree)))
       with_name input found o is =
-          with_data (Ok input) found ∙ ap (λ o. end_of (or_stop (or_unnamed (asked_name w) o) (λ tree. Ok (run_of w.options set (asked_name w) input tree)))) is
+          with_data (Ok input) found ∙ ap (λ o. end_of (or_stop (or_unnamed (asked_name w) o) (λ tree. Ok (run_of w.rules set (asked_name w) input tree)))) is
 
 -- the files before a file, and that file
 loaded_part : (files : Files) (set : List Template) (before : List Bytes) (rest : List Bytes)
@@ -83,7 +82,7 @@ tells_failed_write a out err code (inl exact) rose = absurd (rose (exact.0.count
 tells_failed_write a out err code (inr (inl cut)) rose = (cut.0.count, cut.0, cut.1, cut.2)
 tells_failed_write a out err code (inr (inr refused)) rose = absurd (rose (untouched a.made_text refused.0))
   where
-    untouched : (made : Bool) → Begun made a.text out → out.after.failures ≡ out.before.failures
+    untouched : (made : Bool) → BegunIf made a.text out → out.after.failures ≡ out.before.failures
     untouched true h = h.0
     untouched false h = h.0
 
@@ -173,8 +172,8 @@ run-other (Some f) = other-1
 
 rendered-other : (w : Wanted) (set : List Template) (input : Option Value) → IsOther (rendered w set input)
 rendered-other w set input =
-    or_stop-other (or_unnamed (asked_name w) (tree_named (asked_name w) set)) (λ tree. Ok (run_of w.options set (asked_name w) input tree))
-    (name-stops (asked_name w) (tree_named (asked_name w) set)) (λ tree. run-other (ran (rules_of w.options) set (asked_name w) tree input).fault)
+    or_stop-other (or_unnamed (asked_name w) (tree_named (asked_name w) set)) (λ tree. Ok (run_of w.rules set (asked_name w) input tree))
+    (name-stops (asked_name w) (tree_named (asked_name w) set)) (λ tree. run-other (ran w.rules set (asked_name w) tree input).fault)
 
 answer-other : (words : List Bytes) (files : Files) (failing : Failing) → (tool_answer words files failing).status ≢ 7
 answer-other words files failing =

@@ -93,7 +93,7 @@ module _ (err : Sunk) (code : ℕ) where
   pub has_no_template : (w : Wanted) (set : List Template) (input : Option Value) (t : Told) → tree_named (asked_name w) set ≡ None → code ≡ 4
       → Says (unnamed_answer (asked_name w)).line err → Outcome (end_of (rendered w set input)) (sunk t t) err code
   has_no_template w set input t none status says =
-      outcome_as _ _ _ (ap (λ o. end_of (or_stop (or_unnamed (asked_name w) o) (λ tree. Ok (run_of w.options set (asked_name w) input tree)))) none) (inl (nothing_put t, status, says))
+      outcome_as _ _ _ (ap (λ o. end_of (or_stop (or_unnamed (asked_name w) o) (λ tree. Ok (run_of w.rules set (asked_name w) input tree)))) none) (inl (nothing_put t, status, says))
 
 -- words that are accepted come to nothing by themselves
 pub goes_on : (words : List Bytes) (w : Wanted) → wanted words ≡ Some w → asks_help words ≡ false → words_alone words ≡ None

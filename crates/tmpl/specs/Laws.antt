@@ -8,7 +8,7 @@ use Rattle.tmpl_run.specs.Sink.{Cut, Sunk}
 use Rattle.tmpl.specs.Help.{asks_help}
 use Rattle.tmpl.specs.Words.{Wanted, wanted}
 use Rattle.tmpl.specs.Source.{Bytes, Files}
-use Rattle.tmpl.specs.Outcome.{Answer, Begun, Outcome, Says, memory_line, write_line}
+use Rattle.tmpl.specs.Outcome.{Answer, BegunIf, Outcome, Says, memory_line, write_line}
 use Rattle.tmpl.specs.Tool.{Failing, asked_name, data_found, loaded, no_read, only_text, read_in, run_of, tool_answer}
 use Rattle.tmpl.specs.Tool.{unnamed_answer, usage, words_answer}
 
@@ -62,7 +62,7 @@ abbrev pub Runs : Type 0
 Runs = (words : List Bytes) (files : Files) (w : Wanted) (set : List Template) → GoOn words files w set
     → (input : Option Value) → data_found files false w.data_file ≡ Ok input
     → (tree : Tree) → tree_named (asked_name w) set ≡ Some tree
-    → tool_answer words files no_read ≡ run_of w.options set (asked_name w) input tree
+    → tool_answer words files no_read ≡ run_of w.rules set (asked_name w) input tree
 
 -- where the output fails, it took a beginning of the text, and the status is 6 with its line, whatever else went wrong
 abbrev pub TellsFailedWrite : Type 0
@@ -74,4 +74,4 @@ TellsFailedWrite = (a : Answer) (out err : Sunk) (code : ℕ) → Outcome a out 
 abbrev pub TellsRefusedMemory : Type 0
 TellsRefusedMemory = (words : List Bytes) (files : Files) (failing : Failing) (out err : Sunk) (code : ℕ)
     → Outcome (tool_answer words files failing) out err code → code ≡ 7
-    → let a = tool_answer words files failing in Begun a.made_text a.text out × Says memory_line err
+    → let a = tool_answer words files failing in BegunIf a.made_text a.text out × Says memory_line err

@@ -1,7 +1,6 @@
 -- What is observed of the two sinks and the status, where the command comes to an end.
 use Rattle.std.specs.Prelude.{◌≡◌, ◌≢◌, ◌+◌, ◌⊎◌, ℕ, Bool, true, false, [], ◌∷◌, codes}
-use Rattle.tmpl_values.specs.Put.{Begins}
-use Rattle.tmpl_run.specs.Sink.{Cut, Sunk, Untouched, Whole}
+use Rattle.tmpl_run.specs.Sink.{Begun, Cut, Sunk, Untouched, Whole}
 use Rattle.tmpl.specs.Source.{Bytes}
 use Rattle.tmpl.specs.Part.{line, plain}
 
@@ -36,21 +35,17 @@ abbrev pub Unwritten : Answer → Sunk → Sunk → ℕ → Type 0
 Unwritten a out err code = Cut a.text out × (code ≡ 6) × Says write_line err
 
 -- the sink did not fail, and took a beginning of the text; nothing where no text is made
-abbrev pub Begun : Bool → Bytes → Sunk → Type 0
-Begun true text s = (s.after.failures ≡ s.before.failures) × Begins s.before.bytes s.after.bytes text
-Begun false text s = Untouched s
+abbrev pub BegunIf : Bool → Bytes → Sunk → Type 0
+BegunIf true text s = Begun text s
+BegunIf false text s = Untouched s
 
 -- memory was refused: a beginning of the text, and nothing unless the command comes to a run that makes text
 abbrev pub Refused : Answer → Sunk → Sunk → ℕ → Type 0
-Refused a out err code = Begun a.made_text a.text out × (code ≡ 7) × Says memory_line err
+Refused a out err code = BegunIf a.made_text a.text out × (code ≡ 7) × Says memory_line err
 
 -- one of the three
 abbrev pub Outcome : Answer → Sunk → Sunk → ℕ → Type 0
 Outcome a out err code = Exact a out err code ⊎ (Unwritten a out err code ⊎ Refused a out err code)
-
--- where the status is that of refused memory, nothing was put out at all
-abbrev pub Spared : Sunk → ℕ → Type 0
-Spared out code = code ≡ 7 → Untouched out
 
 -- the status is 6 exactly where the output failed, and it failed once at most
 abbrev pub Counted : ℕ → ℕ → ℕ → Type 0

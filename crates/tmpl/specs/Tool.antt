@@ -17,7 +17,7 @@ use Rattle.tmpl_funcs.specs.Func.{name_of}
 use Rattle.tmpl_funcs.specs.declared.fault.CallFault.{CallFault}
 use Rattle.tmpl_funcs.specs.declared.fault.CallFault.TheVariants as call
 use Rattle.tmpl.specs.Help.{asks_help}
-use Rattle.tmpl.specs.Words.{Wanted, WantedOptions, wanted}
+use Rattle.tmpl.specs.Words.{Wanted, wanted}
 use Rattle.tmpl.specs.Source.{Bytes, Files}
 use Rattle.tmpl.specs.Part.{Piece, line, number, plain, quoted}
 use Rattle.tmpl.specs.Outcome.{Answer, Outcome}
@@ -226,13 +226,9 @@ abbrev pub or_unnamed : Bytes → Option Tree → Result Tree Answer
 or_unnamed name None = Err (unnamed_answer name)
 or_unnamed name (Some tree) = Ok tree
 
-abbrev pub rules_of : WantedOptions → Rules
-rules_of options =
-    record { missing_key = options.missing_key; step_limit = options.steps; depth_limit = options.depth }
-
 -- the run of a tree of this set under this name
-abbrev pub run_of : WantedOptions → List Template → Bytes → Option Value → Tree → Answer
-run_of options set name input tree = run_answer (ran (rules_of options) set name tree input)
+abbrev pub run_of : Rules → List Template → Bytes → Option Value → Tree → Answer
+run_of rules set name input tree = run_answer (ran rules set name tree input)
 
 -- what the command comes to: help, the words, each FILE, the printed set, the data, the name, and the run
 abbrev pub tool_answer : List Bytes → Files → Failing → Answer
@@ -243,7 +239,7 @@ tool_answer words files failing = end_of
     or_stop (unless_printed w.print set) (λ v.
     or_stop (data_found files (fails_data failing) w.data_file) (λ input.
     or_stop (or_unnamed (asked_name w) (tree_named (asked_name w) set)) (λ tree.
-    Ok (run_of w.options set (asked_name w) input tree))))))))
+    Ok (run_of w.rules set (asked_name w) input tree))))))))
 
 -- what words come to that read no file: those that ask for help, and those that are refused
 abbrev pub words_alone : List Bytes → Option Answer

@@ -11,6 +11,7 @@ use Rattle.clap.specs.Lexer.{usize_max}
 use Rattle.clap.specs.ValueTests.{is_unsigned_in}
 use Rattle.clap.specs.declared.builder.ArgAction.TheVariants.{Set, SetTrue}
 use Rattle.clap.specs.declared.builder.ValueParser.TheVariants as vp
+use Rattle.tmpl_run.specs.Meaning.{Rules}
 use Rattle.tmpl_run.specs.declared.missing_key.MissingKey.{MissingKey}
 use Rattle.tmpl_run.specs.declared.missing_key.MissingKey.TheVariants.{Default, Invalid, Zero, Error}
 
@@ -92,26 +93,21 @@ abbrev pub is_set : Option Text → Bool
 is_set None = false
 is_set (Some text) = bytes_eq text (codes "true")
 
--- how a template is to be run, as words ask for it
-pub record WantedOptions : Type 0 where
-  pub missing_key : MissingKey
-  pub depth : ℕ
-  pub steps : ℕ
-
 -- what words that are accepted ask for
 pub record Wanted : Type 0 where
   pub data_file : Option Text
   pub name : Option Text
-  pub options : WantedOptions
+  pub rules : Rules
   -- the set is to be printed, and nothing run
   pub print : Bool
   pub files : List Text
 
-abbrev pub options_wanted : List Row → WantedOptions
-options_wanted rows = record {
+-- the rules of a run that they ask for
+abbrev pub rules_wanted : List Row → Rules
+rules_wanted rows = record {
   missing_key = mode_of (first_of (codes "missingkey") rows);
-  depth = number_in 1000 1 100000 (first_of (codes "depth") rows);
-  steps = number_in 1000000000 1 4611686018427387904 (first_of (codes "steps") rows);
+  step_limit = number_in 1000000000 1 4611686018427387904 (first_of (codes "steps") rows);
+  depth_limit = number_in 1000 1 100000 (first_of (codes "depth") rows);
 }
 
 -- what clap's matches ask for
@@ -119,7 +115,7 @@ abbrev pub wanted_in : List Row → Wanted
 wanted_in rows = record {
   data_file = first_of (codes "data") rows;
   name = first_of (codes "name") rows;
-  options = options_wanted rows;
+  rules = rules_wanted rows;
   print = is_set (first_of (codes "print") rows);
   files = unwrap_or (all_of (codes "file") rows) [];
 }

@@ -1,4 +1,3 @@
 -- What is computed in another way than it is defined, or stands between a definition and the code.
-pub mod Evaluator
 pub mod Load
 pub mod Words

@@ -4,7 +4,7 @@ ghost use Rattle.tmpl_values.specs.View.{value_of};
 ghost use Rattle.tmpl_syntax.specs.View.{set_view};
 ghost use Rattle.tmpl_syntax.specs.Print.Printed.{printed_set};
 ghost use Rattle.tmpl_run.specs.Sink.{sunk};
-ghost use Rattle.tmpl.specs.Outcome.{Counted, Once, Outcome, Spared};
+ghost use Rattle.tmpl.specs.Outcome.{Counted, Once, Outcome};
 ghost use Rattle.tmpl.specs.Tool.{end_of, only_text};
 ghost use Rattle.tmpl.specs.View.{seen};
 ghost use Rattle.tmpl.specs.computed.Load.{finished};
@@ -24,7 +24,6 @@ fn print<O: Sink, E: Sink>(alloc: Global, set: &Set, out: &mut O, err: &mut E) -
     requires err { (E.so_far err.old).failures < 2 ^ 64 - 1 }
     ensures counts { Counted (O.so_far out.old).failures (O.so_far out.new).failures result.code }
     ensures cuts { Once (E.so_far err.old).failures (E.so_far err.new).failures }
-    ensures spared { Spared (sunk (O.so_far out.old) (O.so_far out.new)) result.code }
     ensures outcome { Outcome (only_text (printed_set (set_view set.now)))
         (sunk (O.so_far out.old) (O.so_far out.new))
         (sunk (E.so_far err.old) (E.so_far err.new))
@@ -49,7 +48,6 @@ pub(crate) fn answer<O: Sink, E: Sink>(
     requires err { (E.so_far err.old).failures < 2 ^ 64 - 1 }
     ensures counts { Counted (O.so_far out.old).failures (O.so_far out.new).failures result.code }
     ensures cuts { Once (E.so_far err.old).failures (E.so_far err.new).failures }
-    ensures spared { Spared (sunk (O.so_far out.old) (O.so_far out.new)) result.code }
     ensures outcome { Outcome (end_of (finished (seen request.now) (set_view set.now)
         (option_map (λ d. value_of d.now) «data».entry)))
         (sunk (O.so_far out.old) (O.so_far out.new))

@@ -7,7 +7,6 @@ ghost use Rattle.tmpl_run.specs.Sink.{sunk};
 ghost use Rattle.tmpl.specs.Adapter.{SaysFlush, flushed};
 
 mod answer;
-mod evaluator;
 mod files;
 mod laws;
 mod messages;

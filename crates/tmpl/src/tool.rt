@@ -2,7 +2,7 @@
 ghost use Rattle.std.specs.Prelude.{◌≡◌, ◌<◌, ◌^◌, ◌-◌, IfSome, map};
 ghost use Rattle.std.specs.String.{string_bytes};
 ghost use Rattle.tmpl_run.specs.Sink.{sunk};
-ghost use Rattle.tmpl.specs.Outcome.{Counted, Once, Outcome, Spared};
+ghost use Rattle.tmpl.specs.Outcome.{Counted, Once, Outcome};
 ghost use Rattle.tmpl.specs.Tool.{Follows, tool_answer, words_alone};
 
 use crate::answer::answer;
@@ -26,7 +26,8 @@ static USAGE: &[u8] =
 ///
 /// What is put out, the line on the error sink and the status are one function of the words and of what the
 /// files hold. Where a write fails the output is a beginning of that text, and the status 6. Where memory is
-/// refused nothing is put out, and the status is 7. Words that ask for help or are refused read no file.
+/// refused it is a beginning too, and nothing where no text is made, and the status 7. Words that ask for help
+/// or are refused read no file.
 pub fn tool<S: Source, O: Sink, E: Sink>(
     alloc: Global,
     words: &[String],
@@ -40,7 +41,6 @@ pub fn tool<S: Source, O: Sink, E: Sink>(
     ensures reads { Once (S.failures source.old) (S.failures source.new) }
     ensures counts { Counted (O.so_far out.old).failures (O.so_far out.new).failures result.code }
     ensures cuts { Once (E.so_far err.old).failures (E.so_far err.new).failures }
-    ensures spared { Spared (sunk (O.so_far out.old) (O.so_far out.new)) result.code }
     ensures unasked { IfSome (words_alone (map (λ word. string_bytes word) words.now)) (λ a.
         (source.new ≡ source.old) × Outcome a
         (sunk (O.so_far out.old) (O.so_far out.new))

@@ -2,8 +2,9 @@
 ghost use Rattle.std.specs.Prelude.{◌≡◌, ◌≢◌, ◌≤◌, ◌<◌, ◌^◌, codes, option_map, map, unwrap_or, [], Some, IfOk, IfErr};
 ghost use Rattle.clap.specs.Words.{all_of, first_of, one_of, found_of, rows_of, kind_of};
 ghost use Rattle.tmpl.specs.computed.Words.{Answers, Parses};
-ghost use Rattle.tmpl.specs.Words.{is_set, mode_named, mode_of, number_in, options_wanted, wanted, wanted_in};
-ghost use Rattle.tmpl.specs.View.{options_seen, seen};
+ghost use Rattle.tmpl.specs.Words.{is_set, mode_named, mode_of, number_in, rules_wanted, wanted, wanted_in};
+ghost use Rattle.tmpl_run.specs.View.{rules_of};
+ghost use Rattle.tmpl.specs.View.{seen};
 ghost use Rattle.std.specs.String.{string_bytes};
 
 mod command;
@@ -135,7 +136,7 @@ fn request_in<'a>(alloc: Global, matches: &ArgMatches<'a>) -> Result<Request<'a>
 
 /// How the template is to be run.
 fn options_in(matches: &ArgMatches<'_>) -> Options
-    ensures { options_seen result ≡ options_wanted (rows_of (found_of matches.now)) }
+    ensures { rules_of result ≡ rules_wanted (rows_of (found_of matches.now)) }
 {
     Options {
         missing_key: mode_of(matches),

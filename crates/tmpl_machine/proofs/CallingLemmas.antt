@@ -1,6 +1,6 @@
 -- What the instructions of a call do, by what is found.
 use Rattle.std.proofs.lemmas.Bool.Decides.{nat_tests}
-use Rattle.std.proofs.Common.{arith, ◌≡◌, ◌≢◌, ◌∙◌, ◌+◌, ◌-◌, ◌<◌, ◌≤◌, nat_eq, nat_lt, ℕ, zero, suc, Bool, true, false, List, [], ◌∷◌, length, drop, refl, ap, sym, Option, Some, None}
+use Rattle.std.proofs.Common.{arith, ◌≡◌, ◌≢◌, ◌∙◌, ◌+◌, ◌-◌, ◌<◌, ◌≤◌, nat_eq, nat_lt, ℕ, suc, Bool, true, false, List, [], ◌∷◌, length, drop, refl, ap, Some, None}
 use Rattle.std.specs.Prelude.{slice_get}
 use Rattle.tmpl_values.specs.Value.{nothing}
 use Rattle.tmpl_syntax.specs.Set.{Template}
@@ -9,7 +9,6 @@ use Rattle.tmpl_code.specs.Instruction as code
 use Rattle.tmpl_machine.specs.Cell.{Cell, cell, fresh}
 use Rattle.tmpl_machine.specs.State.{Plan, State}
 use Rattle.tmpl_machine.specs.Machine.{Turn, deepened, done, ended, failed, frame, goes, invoked, paid_if, ran_so, returned_if, top}
-use Rattle.tmpl_machine.proofs.StackLemmas.{top-is}
 
 module _ (plan : Plan) (t : Template) (s : State) where
   -- ---- before a call

@@ -6,18 +6,10 @@ use Rattle.tmpl_values.specs.Put.{Puts, Took, appended}
 use Rattle.tmpl_values.specs.Text.{text_of}
 use Rattle.tmpl_values.specs.Value.{Value, nothing, null, boolean, number, string, sequence, mapping}
 use Rattle.tmpl_run.specs.Sink.{IsPut, Told, as_puts, with_bytes}
-use Rattle.tmpl_values.proofs.PutLemmas.{IsPut-nil}
+use Rattle.tmpl_values.proofs.PutLemmas.{IsPut-nil, appended-append, appended-nil}
 use Rattle.tmpl_run.specs.declared.sink.SinkFault.{SinkFault}
 use Rattle.tmpl_machine.specs.Output.{Grows, given_of}
 use Rattle.tmpl_machine.specs.declared.piece.Piece.{Piece}
-
-appended-nil : (known : Option (List ℕ)) → known ≡ appended known []
-appended-nil None = refl
-appended-nil (Some t) = ap Some (sym (append-nil t))
-
-appended-append : (known : Option (List ℕ)) (a b : List ℕ) → appended (appended known a) b ≡ appended known (a ++ b)
-appended-append None a b = refl
-appended-append (Some t) a b = ap Some (append_assoc t a b)
 
 pub grows-same : (a : Told) → Grows a a
 grows-same a = ([], appended-nil a.bytes)

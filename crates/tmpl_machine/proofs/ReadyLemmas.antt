@@ -1,6 +1,6 @@
 -- What an instruction asks for, from that it does not get stuck and goes to a place that can be counted.
 use Rattle.std.proofs.lemmas.Bool.Decides.{nat_tests}
-use Rattle.std.proofs.Common.{arith, nat_lt, ◌≡◌, ◌∙◌, ◌+◌, ◌-◌, ◌^◌, ◌<◌, ◌≤◌, ℕ, zero, suc, Bool, true, false, List, [], ◌∷◌, length, drop, refl, ap, sym, subst, Option, Some, None, length-drop}
+use Rattle.std.proofs.Common.{arith, nat_lt, ◌≡◌, ◌+◌, ◌-◌, ◌^◌, ◌<◌, ◌≤◌, ℕ, zero, suc, Bool, true, false, List, [], ◌∷◌, length, drop, refl, subst, Option, Some, None, length-drop}
 use Rattle.std.specs.Prelude.{slice_get}
 use Rattle.tmpl_values.specs.Elements.{Element, element_at, elements, item_at}
 use Rattle.tmpl_values.specs.Truth.{truth}
@@ -8,7 +8,7 @@ use Rattle.tmpl_syntax.specs.Set.{Template}
 use Rattle.tmpl_code.specs.Instruction as code
 use Rattle.tmpl_machine.specs.Cell.{Cell, slot, slot_cell}
 use Rattle.tmpl_machine.specs.State.{Plan, State}
-use Rattle.tmpl_machine.specs.Machine.{Turn, again, branch, done, elements_for, elements_in, frame, has_more, invoked, left_in, opened, returned_if, ring, top, turned, with_dot}
+use Rattle.tmpl_machine.specs.Machine.{Turn, again, branch, done, elements_for, elements_in, has_more, invoked, left_in, opened, returned_if, ring, top, turned, with_dot}
 use Rattle.tmpl_machine.specs.Ready.{Lands}
 use Rattle.tmpl_machine.proofs.TurnLemmas.{none-left}
 

@@ -1,22 +1,17 @@
 -- What a run comes to, by what the loop came to and what its output then gave.
-use Rattle.std.proofs.Common.{arith, inl, inr, ◌≡◌, ◌∙◌, ◌⊎◌, ◌+◌, ◌++◌, add-zero, ℕ, Bool, true, List, [], ◌∷◌, refl, ap, sym, subst, Option, Some, None, Result, Ok, Err, append-nil, append_assoc}
+use Rattle.std.proofs.Common.{inl, inr, ◌≡◌, ◌∙◌, ◌++◌, add-zero, ℕ, List, [], refl, ap, sym, subst, Option, Some, None, Result, Ok, Err, append-nil, append_assoc}
 use Rattle.std.proofs.lemmas.List.{append_cancel_left}
 use Rattle.tmpl_values.specs.Put.{Begins, IsPut, Puts, appended}
-use Rattle.tmpl_values.proofs.PutLemmas.{IsPut-along, IsPut-append}
+use Rattle.tmpl_values.proofs.PutLemmas.{IsPut-along, IsPut-append, appended-nil}
 use Rattle.tmpl_run.specs.Meaning.{Ran}
-use Rattle.tmpl_run.specs.Sink.{Cut, Told, Whole, as_puts, sunk}
+use Rattle.tmpl_run.specs.Sink.{Cut, Told, Whole, sunk}
 use Rattle.tmpl_run.specs.declared.sink.SinkFault.{SinkFault}
 use Rattle.tmpl_machine.specs.Came.{Came, Closed, Flushed}
-use Rattle.tmpl_machine.specs.Laws as laws
 use Rattle.tmpl_machine.specs.Output.{Grows}
 use Rattle.tmpl_machine.specs.Run.{IsRun}
 use Rattle.tmpl_machine.specs.declared.fault.RunError.{RunError}
 use Rattle.tmpl_machine.specs.declared.fault.RunError.TheVariants as error
 use Rattle.tmpl_machine.proofs.OutputLemmas.{behind}
-
-known-nil : (known : Option (List ℕ)) → appended known [] ≡ known
-known-nil None = refl
-known-nil (Some l) = ap Some (append-nil l)
 
 -- what was taken is what was there and more; with what waits it is what was there and the front of the text
 begun-by : (known : Option (List ℕ)) (more rest front behind text : List ℕ) → appended (appended known more) rest ≡ appended (appended known []) front → text ≡ front ++ behind → Begins known (appended known more) text
@@ -41,7 +36,7 @@ module _ (end : Ran) (before after : Told) (rest : List ℕ) (name : ℕ) (grows
   whole : (n : ℕ) → rest ≡ [] → IsPut {F = SinkFault} (Ok tt) (behind before [] name) (behind after rest n) end.text → Whole end.text (sunk before after)
   whole n none h = record {
     count = h.count;
-    bytes = sym (known-nil after.bytes) ∙ ap (λ l. appended after.bytes l) (sym none) ∙ h.bytes ∙ ap (λ k. appended k end.text) (known-nil before.bytes);
+    bytes = appended-nil after.bytes ∙ ap (λ l. appended after.bytes l) (sym none) ∙ h.bytes ∙ ap (λ k. appended k end.text) (sym (appended-nil before.bytes));
     through = refl;
   }
 

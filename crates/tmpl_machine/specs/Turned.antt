@@ -1,5 +1,5 @@
 -- What a turn of a machine in memory is.
-use Rattle.std.specs.Prelude.{◌≡◌, Bool, List, ℕ, [], ◌++◌, None, Result, Ok, Err}
+use Rattle.std.specs.Prelude.{◌≡◌, List, ℕ, [], ◌++◌, None, Result, Ok, Err}
 use Rattle.tmpl_values.specs.Text.{text_of}
 use Rattle.tmpl_run.specs.declared.sink.SinkFault.{SinkFault}
 use Rattle.tmpl_run.specs.View.{cause_of}

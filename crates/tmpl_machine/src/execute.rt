@@ -23,7 +23,7 @@ impl<'m, 'a> Machine<'m, 'a> {
     /// Carries out an instruction.
     pub(crate) fn execute<S: Sink>(
         &mut self,
-        program: &'a Program<'a>,
+        program: &Program<'a>,
         options: &Options,
         instruction: Instruction<'a>,
         piece: &mut Piece<'_>,

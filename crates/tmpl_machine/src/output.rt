@@ -7,8 +7,8 @@ ghost use Rattle.tmpl_run.specs.Sink.{IsPut, as_puts};
 
 use crate::piece::Piece;
 use itoa::Buffer;
-use tmpl_run::{Sink, SinkFault, put_all};
-use tmpl_values::{Put, Val, put_text};
+use tmpl_run::{Sink, SinkFault, WholePuts, put_all};
+use tmpl_values::{Val, put_text};
 
 impl Piece<'_> {
     ghost use Rattle.tmpl_machine.specs.Output.{Grows, given_of, waiting};
@@ -90,26 +90,6 @@ impl Piece<'_> {
         }
         self.flush(sink)?;
         put_whole_text(sink, value)
-    }
-}
-
-/// A sink as something that takes whole texts.
-#[derive(Drop)]
-struct WholePuts<'a, S> {
-    sink: &'a mut S,
-}
-
-impl<'a, S: Sink> Put for WholePuts<'a, S> {
-    type Fault = SinkFault;
-
-    ghost so_far = { λ p. record {
-      bytes = (S.so_far p.sink.now).bytes;
-      failures = (S.so_far p.sink.now).failures;
-      through = p.sink.ghost_name;
-    } };
-
-    fn put(&mut self, bytes: &[u8]) -> Result<(), SinkFault> {
-        put_all(self.sink, bytes)
     }
 }
 

@@ -1,6 +1,7 @@
 -- What a sink has taken, where it tells that, and how often it has failed. How a text is put is said by `IsPut` of
 -- tmpl_values, for sinks as for anything else that takes bytes.
 use Rattle.std.specs.Prelude.{◌≡◌, ◌+◌, ℕ, List, Option, Ok, Err}
+use Rattle.tmpl_values.specs.Put.{Begins}
 pub use Rattle.tmpl_values.specs.Put.{Puts, IsPut, appended}
 use Rattle.tmpl_run.specs.declared.sink.SinkFault.{SinkFault}
 
@@ -35,6 +36,10 @@ Whole text s = IsPut {F = SinkFault} (Ok tt) s.before s.after text
 -- the sink failed once, and took a beginning of the text
 abbrev pub Cut : List ℕ → Sunk → Type 0
 Cut text s = IsPut {F = SinkFault} (Err (record {})) s.before s.after text
+
+-- the sink did not fail, and took a beginning of the text
+abbrev pub Begun : List ℕ → Sunk → Type 0
+Begun text s = (s.after.failures ≡ s.before.failures) × Begins s.before.bytes s.after.bytes text
 
 -- the sink was not touched, as far as it tells
 abbrev pub Untouched : Sunk → Type 0

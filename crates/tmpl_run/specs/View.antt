@@ -1,13 +1,19 @@
--- What the program's values stand for: a fault of a run, and a value or why there is none.
+-- What the program's values stand for: the rules of a run, its fault, and a value or why there is none.
 use Rattle.std.specs.Prelude.{Result, Ok, Err}
 use Rattle.tmpl_values.specs.Value.{Value}
 use Rattle.tmpl_values.specs.View.{val_of}
 use Rattle.tmpl_values.specs.declared.value.Val.{Val}
 use Rattle.tmpl_run.specs.Fault.{Cause, steps_spent, not_a_function, nil_command, lacks_field, lacks_entry}
 use Rattle.tmpl_run.specs.Fault.{not_a_range, call_failed, no_template, calls_too_deep, Fault}
+use Rattle.tmpl_run.specs.Meaning.{Rules}
 use Rattle.tmpl_run.specs.declared.fault.RunFaultKind.{RunFaultKind}
 use Rattle.tmpl_run.specs.declared.fault.RunFaultKind.TheVariants as kind
 use Rattle.tmpl_run.specs.declared.fault.RunFault.{RunFault}
+use Rattle.tmpl_run.specs.declared.options.Options.{Options}
+
+abbrev pub rules_of : Options → Rules
+rules_of options =
+    record { missing_key = options.missing_key; step_limit = options.steps; depth_limit = options.depth }
 
 abbrev pub cause_of : RunFaultKind → Cause
 cause_of (kind.StepsSpent limit) = steps_spent limit

@@ -14,5 +14,5 @@ pub use fault::{RunFault, RunFaultKind};
 pub use laws::joins_by_table;
 pub use missing_key::MissingKey;
 pub use options::Options;
-pub use sink::{Sink, SinkFault, put_all};
+pub use sink::{Sink, SinkFault, WholePuts, put_all};
 pub use values::{decides, element_count, pair_count, without_null};

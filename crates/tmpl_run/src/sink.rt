@@ -2,6 +2,8 @@
 ghost use Rattle.std.specs.Prelude.{◌≡◌, ◌-◌, ◌^◌, ◌<◌, ◌≤◌, length, take, IfOk, OnErr};
 ghost use Rattle.tmpl_run.specs.Sink.{IsPut, Told, as_puts, with_bytes, with_failure};
 
+use tmpl_values::Put;
+
 /// A put that failed.
 #[derive(Clone, Copy, Debug, PartialEq, Eq)]
 pub struct SinkFault;
@@ -31,4 +33,25 @@ pub fn put_all<S: Sink>(sink: &mut S, text: &[u8]) -> Result<(), SinkFault>
         taken += sink.put(&text[taken..])?;
     }
     Ok(())
+}
+
+/// A sink as something that takes whole texts.
+#[derive(Drop)]
+pub struct WholePuts<'a, S> {
+    /// What takes their bytes.
+    pub sink: &'a mut S,
+}
+
+impl<'a, S: Sink> Put for WholePuts<'a, S> {
+    type Fault = SinkFault;
+
+    ghost so_far = { λ p. record {
+      bytes = (S.so_far p.sink.now).bytes;
+      failures = (S.so_far p.sink.now).failures;
+      through = p.sink.ghost_name;
+    } };
+
+    fn put(&mut self, bytes: &[u8]) -> Result<(), SinkFault> {
+        put_all(self.sink, bytes)
+    }
 }

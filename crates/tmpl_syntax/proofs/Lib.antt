@@ -14,6 +14,7 @@ pub mod JudgeLemmas
 pub mod KeptLemmas
 pub mod LanguageExamples
 pub mod LargerLemmas
+pub mod NamedLemmas
 pub mod NeedExamples
 pub mod NeedLemmas
 pub mod OneSpellingLemmas

@@ -3,11 +3,12 @@ use Rattle.std.proofs.Common.{◌≡◌, ◌∙◌, ℕ, List, [], ◌++◌, Opt
 use Rattle.std.specs.Result.{IsErr}
 use Rattle.tmpl_values.specs.Put.{Puts, appended, IsPut, Took}
 
-appended-append : (old : Option (List ℕ)) (a b : List ℕ) → appended (appended old a) b ≡ appended old (a ++ b)
+-- bytes that may not be told, and others behind them
+pub appended-append : (old : Option (List ℕ)) (a b : List ℕ) → appended (appended old a) b ≡ appended old (a ++ b)
 appended-append None a b = refl
 appended-append (Some t) a b = ap Some (append_assoc t a b)
 
-appended-nil : (old : Option (List ℕ)) → old ≡ appended old []
+pub appended-nil : (old : Option (List ℕ)) → old ≡ appended old []
 appended-nil None = refl
 appended-nil (Some t) = ap Some (sym (append-nil t))
 

@@ -29,7 +29,7 @@ use Rattle.tmpl.specs.declared.stop.Stop.TheVariants as stop
 -- the name looked up, and the run
 abbrev pub rendered : Wanted → List Template → Option Value → Result Answer Answer
 rendered w set input = or_stop (or_unnamed (asked_name w) (tree_named (asked_name w) set))
-    (λ tree. Ok (run_of w.options set (asked_name w) input tree))
+    (λ tree. Ok (run_of w.rules set (asked_name w) input tree))
 
 -- the set printed, or the name looked up and the run
 abbrev pub finished : Wanted → List Template → Option Value → Result Answer Answer

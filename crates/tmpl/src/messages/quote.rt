@@ -3,28 +3,8 @@ ghost use Rattle.std.specs.Prelude.{◌-◌, ◌^◌, ◌<◌};
 ghost use Rattle.tmpl_values.specs.Quote.{quote};
 ghost use Rattle.tmpl_run.specs.Sink.{IsPut, as_puts};
 
-use tmpl_run::{Sink, SinkFault, put_all};
-use tmpl_values::{Put, put_quoted};
-
-/// A sink as something that takes whole texts.
-#[derive(Drop)]
-struct WholePuts<'a, S> {
-    sink: &'a mut S,
-}
-
-impl<'a, S: Sink> Put for WholePuts<'a, S> {
-    type Fault = SinkFault;
-
-    ghost so_far = { λ p. record {
-      bytes = (S.so_far p.sink.now).bytes;
-      failures = (S.so_far p.sink.now).failures;
-      through = p.sink.ghost_name;
-    } };
-
-    fn put(&mut self, bytes: &[u8]) -> Result<(), SinkFault> {
-        put_all(self.sink, bytes)
-    }
-}
+use tmpl_run::{Sink, SinkFault, WholePuts};
+use tmpl_values::put_quoted;
 
 /// Puts the quote of a name.
 pub(crate) fn put_quote<S: Sink>(sink: &mut S, name: &[u8]) -> Result<(), SinkFault>

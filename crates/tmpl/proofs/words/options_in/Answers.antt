@@ -3,6 +3,6 @@ use Rattle.tmpl.proofs.words.options_in.Goals as goal
 pub returns : goal.returns
 returns c = λ i. record {
   missing_key = c.mode_of.ensures i;
-  depth = c.depth_of.ensures.value i;
-  steps = c.steps_of.ensures.value i;
+  step_limit = c.steps_of.ensures.value i;
+  depth_limit = c.depth_of.ensures.value i;
 }

@@ -10,7 +10,7 @@ returns c =
     λ i. record {
       data_file = data_file i;
       name = name i;
-      options = c.options_in.ensures i;
+      rules = c.options_in.ensures i;
       print = c.print_of.ensures i;
       files = c.in_ok-files_of.ensures i;
     }

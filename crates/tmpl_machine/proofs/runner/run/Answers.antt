@@ -1,19 +1,14 @@
-use Rattle.std.proofs.Common.{arith, ◌≡◌, ◌∙◌, ◌+◌, ◌<◌, ◌≤◌, ap, sym, subst, refl, length, get_or, ℕ, List, [], Some}
-use Rattle.std.specs.Prelude.{IfSome, option_map, slice_get}
-use Rattle.std.proofs.lemmas.Option.{slice_get-get_or}
+use Rattle.std.proofs.Common.{arith, ◌≡◌, ap, subst, refl, length, []}
+use Rattle.std.specs.Prelude.{option_map}
 use Rattle.tmpl_values.specs.Put.{Puts}
-use Rattle.tmpl_values.specs.Value.{Value}
-use Rattle.tmpl_values.specs.View.{val_of, value_of}
-use Rattle.tmpl_syntax.specs.Set.{Template}
-use Rattle.tmpl_syntax.specs.View.{set_view}
+use Rattle.tmpl_values.specs.View.{value_of}
 use Rattle.tmpl_run.specs.Meaning.{Ran, starting_dot}
 use Rattle.tmpl_run.specs.Sink.{sunk}
-use Rattle.tmpl_machine.specs.Came.{Came, no_template, nothing_told}
-use Rattle.tmpl_machine.specs.Ends.{Ends}
+use Rattle.tmpl_machine.specs.Came.{Came, nothing_told}
 use Rattle.tmpl_machine.specs.Machines.{state_of}
 use Rattle.tmpl_machine.specs.Output.{Grows, given_of, waiting}
 use Rattle.tmpl_machine.specs.Run.{IsRun, plan_of}
-use Rattle.tmpl_machine.specs.State.{Plan, State, starting}
+use Rattle.tmpl_machine.specs.State.{Plan, State}
 use Rattle.tmpl_machine.specs.View.{cells_of, size_of}
 use Rattle.tmpl_machine.proofs.OutputLemmas.{behind, grows-on}
 use Rattle.tmpl_machine.proofs.RunLemmas.{comes-to}

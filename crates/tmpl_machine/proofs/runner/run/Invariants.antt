@@ -3,7 +3,8 @@ use Rattle.tmpl_values.specs.View.{val_of}
 use Rattle.tmpl_run.specs.Meaning.{ran_with}
 use Rattle.tmpl_syntax.specs.View.{set_view}
 use Rattle.tmpl_machine.specs.Came.{no_template, nothing_told}
-use Rattle.tmpl_machine.specs.Run.{plan_of, rules_of}
+use Rattle.tmpl_run.specs.View.{rules_of}
+use Rattle.tmpl_machine.specs.Run.{plan_of}
 use Rattle.tmpl_machine.proofs.runner.run.Given as goal
 
 abbrev pub ghost-turns : goal.ghost-turns

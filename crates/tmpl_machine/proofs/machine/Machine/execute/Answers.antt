@@ -1,8 +1,6 @@
-use Rattle.std.proofs.Common.{arith, Ok, ◌≡◌, ◌∙◌, ap, subst, sym, refl, length, Some, ◌<◌, ◌≤◌}
+use Rattle.std.proofs.Common.{Ok, ◌∙◌, ap, subst, sym, length}
 use Rattle.std.specs.Prelude.{slice_get}
 use Rattle.std.proofs.lemmas.Option.{slice_get-get_or, slice_get_within}
-use Rattle.tmpl_run.specs.Meaning.{Rules}
-use Rattle.tmpl_code.specs.Instruction.{Instruction}
 use Rattle.tmpl_code.specs.View.{instruction_of}
 use Rattle.tmpl_run.specs.Sink.{IsPut}
 use Rattle.tmpl_run.specs.declared.sink.SinkFault.{SinkFault}
@@ -14,7 +12,7 @@ use Rattle.tmpl_machine.specs.Machines.{state_of}
 use Rattle.tmpl_machine.specs.Ready.{Has, Lands}
 use Rattle.tmpl_machine.specs.State.{Plan, State}
 use Rattle.tmpl_machine.specs.Turned.{added}
-use Rattle.tmpl_machine.specs.View.{cells_of, size_of}
+use Rattle.tmpl_machine.specs.View.{size_of}
 use Rattle.tmpl_machine.proofs.OutputLemmas.{quiet, quiet-grows}
 use Rattle.tmpl_machine.proofs.ReadyLemmas as ready
 use Rattle.tmpl_machine.proofs.machine.Machine.execute.Goals as goal

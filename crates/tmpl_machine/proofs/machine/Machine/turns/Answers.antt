@@ -1,20 +1,16 @@
-use Rattle.std.proofs.Common.{arith, ◌≡◌, ◌∙◌, ◌+◌, ◌-◌, ◌^◌, ◌<◌, ◌≤◌, ◌||◌, ◌++◌, ap, sym, refl, subst, ℕ, Bool, false, true, List, [], length, get_or, Ok, Some, None}
+use Rattle.std.proofs.Common.{arith, ◌∙◌, ◌≤◌, ◌||◌, ◌++◌, ap, sym, refl, subst, ℕ, false, List, [], length, Ok, None}
 use Rattle.std.specs.Prelude.{slice_get}
 use Rattle.std.proofs.lemmas.List.{length-map}
 use Rattle.std.proofs.lemmas.Option.{slice_get_within}
 use Rattle.tmpl_values.proofs.PutLemmas.{IsPut-along, IsPut-append, IsPut-nil}
-use Rattle.tmpl_run.specs.Sink.{IsPut}
-use Rattle.tmpl_run.specs.declared.sink.SinkFault.{SinkFault}
-use Rattle.tmpl_syntax.specs.Set.{Template}
 use Rattle.tmpl_code.specs.Instruction.{Instruction}
 use Rattle.tmpl_code.specs.View.{instruction_of, instructions_of}
 use Rattle.tmpl_run.specs.Meaning.{Ran}
 use Rattle.tmpl_machine.specs.Came.{IsStopped}
 use Rattle.tmpl_machine.specs.Ends.{Ends}
-use Rattle.tmpl_machine.specs.Laws.{mark_behind}
 use Rattle.tmpl_machine.specs.Machine.{ran_so}
 use Rattle.tmpl_machine.specs.Machines.{Told, state_of}
-use Rattle.tmpl_machine.specs.Output.{Grows, given_of}
+use Rattle.tmpl_machine.specs.Output.{given_of}
 use Rattle.tmpl_machine.specs.Plain.{IsPlain}
 use Rattle.tmpl_machine.specs.State.{Plan, State}
 use Rattle.tmpl_machine.specs.Turned.{Executed, told_behind}
