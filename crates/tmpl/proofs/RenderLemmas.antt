@@ -1,5 +1,5 @@
 -- The run of a template of a set.
-use Rattle.std.proofs.Common.{◌≡◌, ◌∙◌, ◌<◌, ℕ, List, [], length, get_or, Option, Some, None, Ok, IfSome, ap, subst, sym}
+use Rattle.std.proofs.Common.{◌≡◌, ◌∙◌, ◌<◌, ℕ, List, [], length, get_or, Option, Some, None, Ok, IfSome, ap, refl, subst, sym}
 use Rattle.std.specs.Prelude.{slice_get}
 use Rattle.std.proofs.lemmas.Option.{slice_get-get_or}
 use Rattle.tmpl_values.specs.Value.{Value}
@@ -24,9 +24,9 @@ of_template P C ts n within then h = then (get_or ts n none) (subst (λ o. IfSom
     none = ([], record { file = []; nodes = tree.none })
 
 -- .. and so does what follows from it
-pub if_template : (P Q : Template → Type 0) (o : Option Template) → ((t : Template) → P t → Q t) → IfSome o P → IfSome o Q
+pub if_template : (P Q : Template → Type 0) (o : Option Template) → ((t : Template) → o ≡ Some t → P t → Q t) → IfSome o P → IfSome o Q
 if_template P Q None then h = tt
-if_template P Q (Some t) then h = then t h
+if_template P Q (Some t) then h = then t refl h
 
 -- a template of the set has the name that is asked for
 module _ (w : Wanted) (set : List Template) (input : Option Value) where

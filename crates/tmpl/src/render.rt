@@ -5,6 +5,7 @@ ghost use Rattle.tmpl_syntax.specs.View.{set_view};
 ghost use Rattle.tmpl_run.specs.Meaning.{Ran, ran};
 ghost use Rattle.tmpl_run.specs.Sink.{Sunk, sunk};
 ghost use Rattle.tmpl_run.specs.View.{rules_of};
+ghost use Rattle.tmpl_code.specs.Calls.{deepest};
 ghost use Rattle.tmpl_code.specs.Program.{IsLinked};
 ghost use Rattle.tmpl_machine.specs.Run.{IsRun};
 ghost use Rattle.tmpl.specs.Outcome.{Counted, Once, Outcome};
@@ -73,6 +74,18 @@ fn tell_end<E: Sink>(end: Result<(), RunError<'_>>, err: &mut E) -> Status
     }
 }
 
+/// These options with no greater depth than that to which calls of the program can go, so that its stack is no larger.
+fn fitted(options: &Options, program: &Program<'_>) -> Options
+    ensures { let rules = rules_of options.now in
+        rules_of result ≡ record rules { depth_limit = deepest rules.depth_limit (set_view program.now.set.now) } }
+{
+    Options {
+        missing_key: options.missing_key,
+        depth: program.deepest(options.depth),
+        steps: options.steps,
+    }
+}
+
 /// Runs the template of this number over a stack and a piece that are taken before, and says how it ended.
 fn run_program<'a, O: Sink, E: Sink>(
     alloc: Global,
@@ -99,6 +112,7 @@ fn run_program<'a, O: Sink, E: Sink>(
         status.code)) }
     ensures untouched { OnErr result ((out.new ≡ out.old) × (err.new ≡ err.old)) }
 {
+    let options = fitted(options, program);
     let mut cells = empty_cells(alloc, program.room(options.depth))?;
     let mut piece = [0; PIECE_SIZE];
     let end = run(
@@ -106,7 +120,7 @@ fn run_program<'a, O: Sink, E: Sink>(
         program,
         Entry { number },
         data,
-        options,
+        &options,
         cells.as_mut_slice(),
         piece.as_mut_slice(),
         out,

@@ -1,3 +1,4 @@
+pub mod Calls
 pub mod Code
 pub mod Instruction
 pub mod Layout

@@ -6,6 +6,7 @@ ghost use Rattle.tmpl_code.specs.Layout.{first_layout};
 ghost use Rattle.tmpl_code.specs.Program.{IsLinked};
 ghost use Rattle.tmpl_code.specs.computed.Held.{code_of, layout_of, places};
 
+use crate::calls::nodes_call;
 use crate::code::Code;
 use crate::instruction::Instruction;
 use crate::makes_text::nodes_make_text;
@@ -25,6 +26,7 @@ pub fn compile(alloc: Global, set: &Set) -> Result<Program<'_>, AllocError>
     let mut lengths = Vec::new(alloc);
     let mut most = 0;
     let mut makes_text = false;
+    let mut calls = false;
     let mut i = set.len();
     while i > 0 {
         i -= 1;
@@ -34,6 +36,7 @@ pub fn compile(alloc: Global, set: &Set) -> Result<Program<'_>, AllocError>
         lengths.push(code.len())?;
         most = larger(need(nodes)?, most);
         makes_text = nodes_make_text(nodes) | makes_text;
+        calls = nodes_call(nodes) | calls;
     }
     lengths.reverse();
     to_places(lengths.as_mut_slice(), code.len());
@@ -43,6 +46,7 @@ pub fn compile(alloc: Global, set: &Set) -> Result<Program<'_>, AllocError>
         starts: lengths,
         need: most as u32,
         makes_text,
+        calls,
     })
 }
 

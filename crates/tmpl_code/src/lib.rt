@@ -2,6 +2,7 @@
 #![tactic(auto)]
 
 mod binding;
+mod calls;
 mod code;
 mod compiler;
 mod instruction;

@@ -2,6 +2,7 @@
 ghost use Rattle.std.specs.Prelude.{◌≡◌, option_map};
 ghost use Rattle.tmpl_syntax.specs.Set.{number_of};
 ghost use Rattle.tmpl_syntax.specs.View.{set_view};
+ghost use Rattle.tmpl_code.specs.Calls.{deepest, set_calls};
 ghost use Rattle.tmpl_code.specs.MakesText.{set_makes_text};
 ghost use Rattle.tmpl_code.specs.Room.{largest_need, room};
 
@@ -18,8 +19,10 @@ pub struct Program<'s> {
     /// How many cells the template needs that needs most.
     pub(crate) need: u32,
     pub(crate) makes_text: bool,
+    pub(crate) calls: bool,
     ghost needs: { need ≡ largest_need (set_view set.now) },
     ghost makes: { makes_text ≡ set_makes_text (set_view set.now) },
+    ghost calling: { calls ≡ set_calls (set_view set.now) },
 }
 
 /// A template of a program, by its number.
@@ -37,6 +40,13 @@ impl<'s> Program<'s> {
             Some(number) => Some(Entry { number }),
             None => None,
         }
+    }
+
+    /// How many templates can be inside one another in a run, where so many may: one, where none calls one.
+    pub fn deepest(&self, limit: u32) -> u32
+        ensures { result ≡ deepest limit (set_view self.now.set.now) }
+    {
+        if self.calls { limit } else { 1 }
     }
 
     /// How many cells a stack must have for every run, where so many templates may be inside one another.

@@ -5,6 +5,7 @@ use Rattle.tmpl_syntax.specs.Need.{need, need_of_nodes}
 use Rattle.tmpl_syntax.specs.Set.{Template}
 use Rattle.tmpl_syntax.specs.Tree.{Nodes}
 use Rattle.tmpl_syntax.specs.View.{nodes_in, set_view, tree_of}
+use Rattle.tmpl_code.specs.Calls.{nodes_call, set_calls}
 use Rattle.tmpl_code.specs.Code.{Code, Starts, TreeAt}
 use Rattle.tmpl_code.specs.MakesText.{nodes_make_text, set_makes_text}
 use Rattle.tmpl_code.specs.Room.{largest_need}
@@ -28,6 +29,7 @@ loop-i-preserved c =
     let needs : c.in_ok-need.field-0 ≡ need t.1 = c.in_ok-need.ensures ∙ ap (λ (ns : Nodes). 3 + need_of_nodes ns) nodes in
     let most : l.most ≡ largest_need (drop (suc i) ts) = l.invariant.most ∙ ap (λ n. largest_need (drop n ts)) next in
     let makes : l.makes_text ≡ set_makes_text (drop (suc i) ts) = l.invariant.makes ∙ ap (λ n. set_makes_text (drop n ts)) next in
+    let calling : l.calls ≡ set_calls (drop (suc i) ts) = l.invariant.calling ∙ ap (λ n. set_calls (drop n ts)) next in
     let within : length ts ≡ length ts = λ j. length ts in
     let bound = c.template.ensures.kept.need in
     let above = c.larger-most.ensures in
@@ -37,6 +39,7 @@ loop-i-preserved c =
       most = above ∙ (λ j. max (needs j) (most j)) ∙ ap largest_need here;
       bounded = omega (arith, above, needs, bound);
       makes = (λ j. (c.nodes_make_text.ensures ∙ ap nodes_make_text nodes) j || makes j) ∙ ap set_makes_text here;
+      calling = (λ j. (c.nodes_call.ensures ∙ ap nodes_call nodes) j || calling j) ∙ ap set_calls here;
     }
 
 pub returns-clause-linked : goal.returns-clause-linked

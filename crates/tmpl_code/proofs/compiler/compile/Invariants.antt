@@ -1,6 +1,7 @@
 use Rattle.std.proofs.Common.{◌≡◌, ◌≤◌, drop, length, reverse}
 use Rattle.tmpl_syntax.specs.Need.{most_need}
 use Rattle.tmpl_syntax.specs.View.{set_view}
+use Rattle.tmpl_code.specs.Calls.{set_calls}
 use Rattle.tmpl_code.specs.MakesText.{set_makes_text}
 use Rattle.tmpl_code.specs.Room.{largest_need}
 use Rattle.tmpl_code.specs.computed.Held.{LastStarts, code_of}
@@ -15,6 +16,7 @@ invariant-loop-i l =
       most : l.most ≡ largest_need (drop l.i ts);
       bounded : l.most ≤ most_need;
       makes : l.makes_text ≡ set_makes_text (drop l.i ts);
+      calling : l.calls ≡ set_calls (drop l.i ts);
     }
 
 abbrev pub decreases-loop-i : goal.decreases-loop-i
