@@ -118,6 +118,8 @@ def allocations(shim, folder, it):
     while high - low > 1:
         middle = (low + high) // 2
         low, high = (middle, high) if is_made(middle) else (low, middle)
+    if not low:
+        raise RuntimeError("no allocation was refused, which would show nothing")
     return low
 
 
@@ -169,18 +171,26 @@ def judge_row(row):
     return row.name, len(PIECES), []
 
 
-def judge_memory(shim, row):
-    """Whether a run of a row takes memory though no function of its set makes a text. Counts the rows of which none does."""
-    files, more = asked(row)
-    name = f"{row.name}, memory"
+def makes_text(row):
+    """Whether a function of the row's set makes a text, as the program of parts says."""
+    files, _ = asked(row)
     with tempfile.TemporaryDirectory() as folder:
         row.lay(folder)
-        if parts(folder, ["room", "1", *files])[1].split()[1:] != [b"false"]:
-            return name, 0, []
+        status, out, _ = parts(folder, ["room", "1", *files])
+    if status or out.split()[1:] not in ([b"true"], [b"false"]):
+        raise ValueError(f"{row.name}: no room is told: {out!r}")
+    return out.split()[1] == b"true"
+
+
+def judge_memory(shim, row):
+    """Whether a run of a row takes memory though no function of its set makes a text."""
+    files, more = asked(row)
+    with tempfile.TemporaryDirectory() as folder:
+        row.lay(folder)
         none, one = (["run", *words(files, times=times, **more)] for times in (0, 1))
         count = allocations(shim, folder, none)
         _, is_taken = sweep.refusing(count + 1, shim, lambda *how: parts(folder, one, None, *how))
-    return name, 1, ["    takes memory, and makes no text"] * is_taken
+    return f"{row.name}, memory", 1, ["    takes memory, and makes no text"] * is_taken
 
 
 # by hand
@@ -258,13 +268,14 @@ def main():
     with tempfile.TemporaryDirectory() as folder, ThreadPoolExecutor(len(os.sched_getaffinity(0))) as pool:
         shim = f"{folder}/shim.so"
         sweep.build_shim("fail_alloc.c", shim)
+        textless = [row for row, makes in zip(plain, pool.map(makes_text, plain)) if not makes]
         done = [pool.submit(judge_row, row) for row in rows]
-        done += [pool.submit(judge_memory, shim, row) for row in plain]
+        done += [pool.submit(judge_memory, shim, row) for row in textless]
         done += [pool.submit(judge_room, *row) for row in ROOMS]
         done += [pool.submit(judge_sink, *row) for row in SINKS]
         done += [pool.submit(judge, shim, *row) for judge in (judge_count, judge_refused) for row in ALLOCATIONS]
         passed, failed, runs = harness.tally(it.result() for it in done)
-    print(f"{len(rows)} rows come to a run; {runs} runs were judged")
+    print(f"{len(rows)} rows come to a run, and {len(textless)} of the small ones make no text; {runs} runs were judged")
     return harness.closing(passed, failed)
 
 

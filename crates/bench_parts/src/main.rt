@@ -12,8 +12,8 @@
 //! piece of so many bytes, to a sink that takes so many bytes a put and so many in all until it fails, `once` or
 //! `always`, over so many cells more than there have to be, and so many times. MODE to NAME are as the options of
 //! `tmpl`, with `-` for no name; DATA is a file, or `-` for none. The text goes to standard output, and how each run
-//! ended is a line of standard error. `fixed` does the same over arrays: a stack of 64 cells, and at most 4,096 bytes of
-//! text.
+//! ended is a line of standard error. `fixed` does the same over arrays: a stack of 64 cells, and at most 4,096 bytes
+//! of text.
 #![tactic(auto)]
 
 mod calls;
