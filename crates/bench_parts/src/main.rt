@@ -1,19 +1,32 @@
-//! Does one part of what `tmpl` does, so that it can be timed.
+//! Does one part of what `tmpl` does, so that it can be timed, or looked at.
 //!
 //! Words: the part, and a file. A JSON file: `read` into `serde_json`'s own tree, `data` into data. A template: `cut`
 //! into pieces. Each puts out how many nanoseconds it took, and so do calls: `call`, a JSON file with a list of
 //! arguments, the name of the function, and how many. `text`: a JSON file into data, whose text is put out. A
 //! template: `parse` into a set, `compile` the set; `code` puts out how many bytes its code takes, and `list` puts out
 //! the code.
+//!
+//! `room DEPTH FILE..` puts out how many cells the set of the files needs at this depth, and whether it makes text.
+//!
+//! `run PIECE MOST LEFT FAILS SPARE TIMES MODE DEPTH STEPS NAME DATA FILE..` runs a template of the files, with a
+//! piece of so many bytes, to a sink that takes so many bytes a put and so many in all until it fails, `once` or
+//! `always`, over so many cells more than there have to be, and so many times. MODE to NAME are as the options of
+//! `tmpl`, with `-` for no name; DATA is a file, or `-` for none. The text goes to standard output, and how each run
+//! ended is a line of standard error. `fixed` does the same over arrays: a stack of 64 cells, and at most 4,096 bytes
+//! of text.
 #![tactic(auto)]
 
 mod calls;
+mod ending;
+mod limited;
 mod listing;
+mod running;
 
 ghost use Rattle.std.specs.Prelude.{◌≡◌, None};
 
 use crate::calls::call_often;
 use crate::listing::put_listing;
+use crate::running::{put_room, run_words};
 use std::alloc::Global;
 use std::io::{self, BufWriter, Write};
 use std::process::ExitCode;
@@ -165,31 +178,36 @@ fn list(alloc: Global, file: &str, bytes: &[u8], writer: impl Write + Drop) -> i
     Ok(true)
 }
 
-fn main(rt: HostRuntime) -> io::Result<ExitCode> {
+/// Does a part of the work with one file.
+fn with_file(rt: &HostRuntime, part: &str, file: &str, more: &[String]) -> io::Result<bool> {
     let alloc = rt.alloc();
-    let words: Vec<String> = env::args(&rt)?.collect(alloc)?;
-    let (part, file, more) = match words.as_slice() {
-        [_, part, file, more @ ..] => (part, file, more),
-        _ => return Ok(ExitCode::from(2)),
-    };
-    let bytes = fs::read(&rt, file.as_str())?;
+    let bytes = fs::read(rt, file)?;
     let bytes = bytes.as_slice();
-    let done = match (part.as_str(), more) {
-        ("read", []) => read(&rt, alloc, bytes)?,
-        ("data", []) => convert(&rt, alloc, bytes)?,
-        ("text", []) => put(alloc, bytes, BufWriter::new(alloc, rt.stdout())?),
-        ("parse", []) => parse(&rt, alloc, file.as_str(), bytes)?,
-        ("compile", []) => compile_set(&rt, alloc, file.as_str(), bytes, true)?,
-        ("code", []) => compile_set(&rt, alloc, file.as_str(), bytes, false)?,
-        ("list", []) => list(
-            alloc,
-            file.as_str(),
-            bytes,
-            BufWriter::new(alloc, rt.stdout())?,
-        )?,
-        ("cut", []) => cut_up(&rt, alloc, bytes)?,
-        ("call", [name, count]) => call_over(&rt, alloc, bytes, name.as_str(), count.as_str())?,
-        _ => false,
+    match (part, more) {
+        ("read", []) => read(rt, alloc, bytes),
+        ("data", []) => convert(rt, alloc, bytes),
+        ("text", []) => Ok(put(alloc, bytes, BufWriter::new(alloc, rt.stdout())?)),
+        ("parse", []) => parse(rt, alloc, file, bytes),
+        ("compile", []) => compile_set(rt, alloc, file, bytes, true),
+        ("code", []) => compile_set(rt, alloc, file, bytes, false),
+        ("list", []) => list(alloc, file, bytes, BufWriter::new(alloc, rt.stdout())?),
+        ("cut", []) => cut_up(rt, alloc, bytes),
+        ("call", [name, count]) => call_over(rt, alloc, bytes, name.as_str(), count.as_str()),
+        _ => Ok(false),
+    }
+}
+
+fn main(rt: HostRuntime) -> io::Result<ExitCode> {
+    let words: Vec<String> = env::args(&rt)?.collect(rt.alloc())?;
+    let [_, part, rest @ ..] = words.as_slice() else {
+        return Ok(ExitCode::from(2));
+    };
+    let done = match (part.as_str(), rest) {
+        ("run", _) => run_words(&rt, rest, false)?,
+        ("fixed", _) => run_words(&rt, rest, true)?,
+        ("room", [depth, files @ ..]) => put_room(&rt, depth.as_str(), files)?,
+        (part, [file, more @ ..]) => with_file(&rt, part, file.as_str(), more)?,
+        _ => return Ok(ExitCode::from(2)),
     };
     if done {
         Ok(ExitCode::SUCCESS)

@@ -1,0 +1,283 @@
+"""Runs compiled templates by the program of parts, which lends the function `run` a stack and a piece, and compares the text
+and how each run ended. First every row that comes to a run, over exactly the cells of its room and with pieces of some sizes,
+and whether it takes memory where no function makes a text. Then templates by hand: rooms; sinks that take little a put, and
+that fail, where no put may follow the failed one; how many allocations a run makes, and each of them refused, over arrays."""
+import os
+import sys
+import tempfile
+from concurrent.futures import ThreadPoolExecutor
+from itertools import product
+from subprocess import DEVNULL, PIPE, run
+
+import harness
+import sweep
+
+PARTS = f"{harness.TOP}/crates/bench_parts/out/bench_parts"
+PIECES = (1, 2, 4, 4096)
+ALL = 2**64 - 1  # as many bytes as there are
+DONE = b"done\n"
+NOT_RUN = (b"", b"Error: Kind(OutOfMemory)\n")  # what the program of parts says where memory is refused before a run
+
+# the depth, the template files, the cells that runs of their set need, and whether a function makes a text. A template needs
+# three cells of its own and those that it has at most at once: one for each value of a pipeline, each variable and each dot
+# that is kept, and two for each range
+ROOMS = [
+    (1, [], 0, False),
+    (100000, [], 0, False),
+    (1, ["x"], 3, False),
+    (7, ["x"], 21, False),
+    (1, [""], 3, False),
+    (1, ["{{.}}"], 4, False),
+    (1, ["{{and 0 (index .a 9)}}"], 6, False),
+    (1000, ["{{range $i, $e := .}}{{if eq $e 3}}{{break}}{{end}}{{$i}}={{$e}};{{else}}none{{end}}"], 9000, False),
+    (1, ["{{with .a}}A{{.}}{{else with .b}}B{{.}}{{else}}C{{.c}}{{end}}"], 5, False),
+    (2, ["x", "{{.}}"], 8, False),
+    (1, ['{{define "n"}}{{print 1 2 3}}{{end}}x'], 6, True),
+    (1, ["{{println}}"], 4, True),
+    (1, ['{{and 0 (printf "%d" 1)}}'], 6, True),
+    (1, ["{{html 1}}"], 4, True),
+    (1, ["{{urlquery 1}}"], 4, True),
+    (1, ["{{len 1}}{{not 1}}{{slice 1}}{{index 1}}{{eq 1 1}}{{or 1 1}}"], 5, False),
+]
+
+# a template, its data, its text, and how it ends where no put fails
+SINKS = [
+    ("abcdefgh", None, "abcdefgh", "done"),
+    ("{{range 4}}{{.}},{{end}}", None, "0,1,2,3,", "done"),
+    ("{{.}}", '{"a": "x", "b": [1, null]}', "map[a:x b:[1 <nil>]]", "done"),
+    ('{{print "ab" 1 "cd"}}{{len .}}', "[1, 2]", "ab1cd2", "done"),
+    ("abc{{.a}}\n{{.a.b}}d", '{"a": "x"}', "abcx\n", 'fault m:2: in "m": no field "b" here'),
+    ("", None, "", "done"),
+]
+
+# a template, its text, how many allocations a run makes, and how many of them count owners: there is one for each text that
+# is made and is not empty, and one that counts owners for each of these that is kept in a variable or as dot
+ALLOCATIONS = [
+    ("x", "x", 0, 0),
+    ("{{.}}{{$x := 1}}{{$x = 2}}{{$x}}", "<no value>2", 0, 0),
+    ("{{range $i, $e := .}}{{$e}}{{else}}none{{end}}", "none", 0, 0),
+    ("{{range 3}}{{range .}}{{.}}{{end}}{{else}}n{{end}}", "001", 0, 0),
+    ('{{with "a"}}{{.}}{{slice . 0 1}}{{end}}{{eq 1 2}}{{index "abc" 1}}{{len "abc"}}', "aafalse983", 0, 0),
+    ('{{define "t"}}{{if .}}{{.}}{{template "u" 0}}{{end}}{{end}}{{define "u"}}u{{end}}{{template "t" 1}}', "1u", 0, 0),
+    ('{{or 1 (print "a")}}{{and 0 (html "<")}}', "10", 0, 0),
+    ("{{print}}", "", 0, 0),
+    ('{{print "a" 1}}', "a1", 1, 0),
+    ("{{println}}", "\n", 1, 0),
+    ('{{printf "%d%%" 7}}', "7%", 1, 0),
+    ('{{html "<"}}', "&lt;", 1, 0),
+    ('{{urlquery "a b"}}', "a+b", 1, 0),
+    ('{{len (print "abc")}}{{slice (print "abc") 1 2}}', "3b", 2, 0),
+    ('{{print (print "a") (printf "%d" 1)}}', "a1", 3, 0),
+    ("{{range 5}}{{print .}}{{end}}", "01234", 5, 0),
+    ('{{define "t"}}{{println .}}{{end}}{{template "t" 1}}{{template "t" 2}}', "1\n2\n", 2, 0),
+    ('{{if print "a"}}x{{end}}{{print "b" | len}}', "x1", 2, 0),
+    ('{{$x := print "a"}}{{$x}}{{$x}}{{$y := $x}}{{$y}}', "aaa", 2, 1),
+    ('{{$x := 1}}{{$x = print "b"}}{{$x = html "c"}}{{$x}}', "c", 4, 2),
+    ('{{with print "a"}}{{.}}{{.}}{{end}}', "aa", 2, 1),
+    ('{{define "t"}}{{.}}{{end}}{{template "t" (print "a")}}', "a", 2, 1),
+]
+
+
+def words(files, piece=4096, most=ALL, left=ALL, fails="always", spare=0, times=1, mode="default", depth=1000, steps=10**9, name="-", data="-"):
+    """What the program of parts reads behind `run` and `fixed`."""
+    return [*map(str, (piece, most, left)), fails, str(spare), str(times), mode, str(depth), str(steps), name, data, *files]
+
+
+def parts(folder, it, stdin=None, more=None, keep=()):
+    """The status, output and errors of a run of the program of parts."""
+    taken = {"stdin": DEVNULL} if stdin is None else {"input": stdin}
+    environment = {**os.environ, **(more or {})}
+    ran = run([PARTS, *it], cwd=folder, env=environment, pass_fds=keep, stdout=PIPE, stderr=PIPE, timeout=harness.SECONDS, **taken)
+    return ran.returncode, ran.stdout, ran.stderr
+
+
+def differences(got, wanted):
+    """What is not as wanted, under what was looked at."""
+    names = ("status", "output", "ending")
+    pairs = zip(names, got, wanted)
+    return [f"    {name}: {harness.short(is_)}\n    wanted: {harness.short(want)}" for name, is_, want in pairs if is_ != want]
+
+
+def lay(folder, template, data=None):
+    """Writes a template file of the name m, and data of the name d."""
+    for name, what in (("m", template), ("d", data or "")):
+        with open(f"{folder}/{name}", "w", newline="", encoding="utf-8") as file:
+            file.write(what)
+
+
+def allocations(shim, folder, it):
+    """How many allocations a process makes: the greatest number whose allocation can be refused."""
+
+    def is_made(number):
+        return sweep.refusing(number, shim, lambda more, keep: parts(folder, it, None, more, keep))[1]
+
+    high = 64
+    while is_made(high):
+        high *= 2
+    low = high // 2 if high > 64 else 0
+    while high - low > 1:
+        middle = (low + high) // 2
+        low, high = (middle, high) if is_made(middle) else (low, middle)
+    if not low:
+        raise RuntimeError("no allocation was refused, which would show nothing")
+    return low
+
+
+# rows
+
+
+def is_run(row):
+    """Whether the row comes to a run of a template."""
+    options = row.words[: row.words.index(b"--")] if b"--" in row.words else row.words
+    return row.status in (0, 1) and not {b"--print", b"-h", b"--help"} & set(options)
+
+
+def asked(row):
+    """What a row asks of the function: its files, and what is not as it is by itself."""
+    options, files, data = harness.parted(row.words)
+    more, rest = {} if data is None else {"data": data}, iter(options)
+    for option in rest:
+        key, sign, value = option.partition(b"=")
+        value = value if sign else next(rest)
+        if key in (b"--depth", b"--steps"):
+            more[key[2:].decode()] = int(value)
+        elif key in (b"--missingkey", b"--name"):
+            more[key[2:].decode().replace("missingkey", "mode")] = value
+    if b"-" in more.values():
+        raise ValueError(f"{row.name}: a name that stands for none")
+    return files, more
+
+
+def ending(row, got):
+    """How the run of a row must end. Where the row does not see the errors, any fault will do."""
+    if row.status == 0:
+        return DONE
+    if row.stderr != "pipe":
+        return got if got.startswith(b"fault ") else b"a fault"
+    return b"fault " + row.err[len(b"tmpl: ") :]
+
+
+def judge_row(row):
+    """Runs a row with each size of a piece, over exactly its room."""
+    files, more = asked(row)
+    with tempfile.TemporaryDirectory() as folder:
+        row.lay(folder)
+        for piece in PIECES:
+            row.lay_pipes(folder)
+            got = parts(folder, ["run", *words(files, piece=piece, **more)], row.stdin)
+            wrong = differences(got, (0, row.out, ending(row, got[2])))
+            if wrong:
+                return row.name, 1, [f"    with a piece of {piece}", *wrong]
+    return row.name, len(PIECES), []
+
+
+def makes_text(row):
+    """Whether a function of the row's set makes a text, as the program of parts says."""
+    files, _ = asked(row)
+    with tempfile.TemporaryDirectory() as folder:
+        row.lay(folder)
+        status, out, _ = parts(folder, ["room", "1", *files])
+    if status or out.split()[1:] not in ([b"true"], [b"false"]):
+        raise ValueError(f"{row.name}: no room is told: {out!r}")
+    return out.split()[1] == b"true"
+
+
+def judge_memory(shim, row):
+    """Whether a run of a row takes memory though no function of its set makes a text."""
+    files, more = asked(row)
+    with tempfile.TemporaryDirectory() as folder:
+        row.lay(folder)
+        none, one = (["run", *words(files, times=times, **more)] for times in (0, 1))
+        count = allocations(shim, folder, none)
+        _, is_taken = sweep.refusing(count + 1, shim, lambda *how: parts(folder, one, None, *how))
+    return f"{row.name}, memory", 1, ["    takes memory, and makes no text"] * is_taken
+
+
+# by hand
+
+
+def judge_room(depth, templates, room, makes_text):
+    """Compares the room of a set, and whether it makes text."""
+    with tempfile.TemporaryDirectory() as folder:
+        files = [f"{folder}/{number}" for number in range(len(templates))]
+        for file, template in zip(files, templates):
+            with open(file, "w", newline="", encoding="utf-8") as it:
+                it.write(template)
+        got = parts(folder, ["room", str(depth), *files])
+    wanted = (0, f"{room} {str(makes_text).lower()}\n".encode(), b"")
+    return f"the room of {templates} at depth {depth}", 1, differences(got, wanted)
+
+
+def judge_sink(template, data, text, end):
+    """Runs a template with pieces of each small size, to sinks that take so many bytes a put and so many in all, and fail
+    for good or once. They take a beginning, and no put follows a failed one, which would be told behind the ending."""
+    cases = list(product((0, 1, 2, 3, 4, 5, 4096), (1, 3, ALL), range(len(text) + 2), ("always", "once")))
+    with tempfile.TemporaryDirectory() as folder:
+        lay(folder, template, data)
+        for piece, most, left, fails in cases:
+            it = words(["m"], piece=piece, most=most, left=left, fails=fails, depth=1, data="d" if data else "-")
+            wanted = (0, text[:left].encode(), f"{end if left >= len(text) else 'write failed'}\n".encode())
+            wrong = differences(parts(folder, ["run", *it]), wanted)
+            if wrong:
+                how = f"    with a piece of {piece}, {most} bytes a put at most, and {left} until it fails {fails}"
+                return f"sinks of {template!r}", 1, [how, *wrong]
+    return f"sinks of {template!r}", len(cases), []
+
+
+def judge_count(shim, template, text, count, _):
+    """Counts the allocations of a run: the difference between two runs of one process and none."""
+    with tempfile.TemporaryDirectory() as folder:
+        lay(folder, template)
+        none, two = (["run", *words(["m"], times=times, depth=3)] for times in (0, 2))
+        wrong = differences(parts(folder, two), (0, 2 * text.encode(), 2 * DONE))
+        taken = (allocations(shim, folder, two) - allocations(shim, folder, none)) / 2
+    if taken != count:
+        wrong.append(f"    takes {taken:g} allocations, {count} wanted")
+    return f"the memory of {template!r}", 1, wrong
+
+
+def judge_refused(shim, template, text, count, kept):
+    """Refuses each allocation of a process that runs a template over arrays. Nothing is run, where it comes before; or the run
+    is as ever, or memory is told to be out and a beginning of the text was taken. The last comes of the owners at least, and
+    at most of all allocations of the run: a text whose room is refused may still grow as it needs."""
+    told = []
+
+    def wrong(got, refused):
+        status, out, errors = got
+        if refused and (status, out) == (1, b"") and errors in NOT_RUN:
+            return []
+        if refused and (status, errors) == (0, b"out of memory\n") and text.encode().startswith(out):
+            told.append(out)
+            return []
+        return differences(got, (0, text.encode(), DONE))
+
+    with tempfile.TemporaryDirectory() as folder:
+        lay(folder, template)
+        it = ["fixed", *words(["m"], piece=2, depth=3)]
+        runs, said = sweep.sweep(shim, lambda *how: parts(folder, it, None, *how), wrong)
+    if not said and not kept <= len(told) <= count:
+        said = [f"    memory was told to be out {len(told)} times, {kept} to {count} wanted"]
+    return f"refused memory of {template!r}", runs, said
+
+
+def main():
+    if not os.access(PARTS, os.X_OK):
+        sys.exit("there is no program of parts: the gate builds it")
+    rows = [row for row in harness.read_rows() if is_run(row)]
+    plain = [row for row in rows if row.is_again() and row.stdin is None and row.size() <= sweep.SMALL]
+    with tempfile.TemporaryDirectory() as folder, ThreadPoolExecutor(len(os.sched_getaffinity(0))) as pool:
+        shim = f"{folder}/shim.so"
+        sweep.build_shim("fail_alloc.c", shim)
+        textless = [row for row, makes in zip(plain, pool.map(makes_text, plain)) if not makes]
+        done = [pool.submit(judge_row, row) for row in rows]
+        done += [pool.submit(judge_memory, shim, row) for row in textless]
+        done += [pool.submit(judge_room, *row) for row in ROOMS]
+        done += [pool.submit(judge_sink, *row) for row in SINKS]
+        done += [pool.submit(judge, shim, *row) for judge in (judge_count, judge_refused) for row in ALLOCATIONS]
+        passed, failed, runs = harness.tally(it.result() for it in done)
+    print(f"{len(rows)} rows come to a run, and {len(textless)} of the small ones make no text; {runs} runs were judged")
+    return harness.closing(passed, failed)
+
+
+if __name__ == "__main__":
+    sys.exit(main())
