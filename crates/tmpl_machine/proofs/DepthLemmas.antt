@@ -96,4 +96,4 @@ depth_alike rules ts number t input at = by (set_calls ts) refl
     by false is =
         ap (λ b. ran (record rules { depth_limit = if b then rules.depth_limit else 1 }) ts t.0 t.1 input) is
         ∙ (λ i. ran_of (meanings-same (setting_of rules (calls_within rules ts (rules.depth_limit - 1)) t.0 t.1) 1 (calls_within (record rules { depth_limit = 1 }) ts 0)
-            t.1.nodes (calls-none ts number t is at) (starting_dot input) (started rules.step_limit (starting_dot input)) i))
+        t.1.nodes (calls-none ts number t is at) (starting_dot input) (started rules.step_limit (starting_dot input)) i))

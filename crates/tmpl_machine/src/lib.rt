@@ -20,5 +20,7 @@ mod stop;
 mod variable;
 
 pub use fault::RunError;
-pub use laws::{comes_to_meaning, depth_alike, each_turn_lessens, mark_stays, one_end, only_adds, stays_within};
+pub use laws::{
+    comes_to_meaning, depth_alike, each_turn_lessens, mark_stays, one_end, only_adds, stays_within,
+};
 pub use runner::run;
