@@ -28,7 +28,7 @@ LISTS = {"numbers": "number", "texts": "text", "tree": "map"}
 WHOLES = [*LISTS, "map"]
 MADE = ["number", "text", "truth"]  # kinds of which there are constants
 NUMBERS = [0, 1, -1, 2, 3, 7, 42, 255, -255, 2**31, 2**63 - 1, -(2**63)]
-WORDS = ["", "a", "Ada", 'x<y & "z"', "é→", "two words", "tab\t", "'q'", "0", "~_.-/", "line\nbreak", "\0\x7f"]
+WORDS = ["", "a", "Ada", 'x<y & "z"', "é→", "naïveté", "two words", "tab\t", "'q'", "0", "~_.-/", "line\nbreak", "\0\x7f"]
 TEXTS = [" ", "\n", "a", "text ", " \n\t", "{ ", "}", "é", "<b>", "\r\n", "b\nc\n", "-", "{{/* c */}}", "{{- /* }} */ -}}"]
 VARIABLES = ["x", "y", "é1"]
 TEMPLATES = ["a", "b", "c", 'é"\n', ""]
@@ -42,7 +42,7 @@ SHAPES = {
     "text": [
         *[(name, ["some"] * count) for name in ("print", "println", "html", "urlquery") for count in range(4)],
         *[("slice", ["text", *bounds]) for bounds in ([], ["small"], ["zero", "small"])],
-        *[("printf", None)] * 6,
+        *[("printf", None)] * 12,
         ("index", ["texts", "small"]),
     ],
     "truth": [
@@ -54,16 +54,16 @@ SHAPES = {
     "any": [],
 }
 
-ODD = 0.02  # the odds of an operand or a call that is likely to be a fault
+ODDS = [0, 0, 0.01, 0.04]  # the odds of an operand or a call that is likely to be a fault; one of them for a case
 # What is put somewhere into a file, to have it refused.
 FLAWS = [
     *["{{.x", "{{.x}", '{{"b}}', "{{.n-}}", "{{/* c */ }}", "{{.n ! 1}}", "{{'a}}", "{{`a"],
-    *["{{}}", "{{nofun 1}}", "{{.n | 1}}", "{{08}}", "{{if}}", "{{$ := .}}", "{{..}}", '{{"\\q"}}', "{{(.n}}", "{{range $x = .}}"],
+    *["{{}}", "{{nofun 1}}", "{{.n | 1}}", "{{08}}", "{{if}}", "{{$ := .}}", "{{..}}", '{{"\\q"}}', "{{(.n}}"],
     *["{{end}}", "{{else}}", "{{break}}", "{{continue}}", '{{define "q"}}{{end}}', "{{else if .}}", "{{else with .}}"],
     *["{{%s.%s}}" % ("(" * 101, ")" * 101), "{{if .}}" * 501 + "{{end}}" * 501, "{{$q}}", "{{$q = 1}}"],
     *["{{if .}}", '{{block "a" .}}', '{{define "a"}}', "{{range .l}}", '{{define "a"}}1{{end}}\n{{define "a"}}2{{end}}'],
 ]
-BAD_DATA = ["", "{", "[1,]", '{"n":1.5}', '"\\ud800"', "-0", "1e999", "[9223372036854775808]", "[" * 128 + "]" * 128, "nul", '{"n":1e3}']
+BAD_DATA = ["", "{", "[1,]", '{"n":1.5}', '"\\ud800"', "-0", "1e999", "[9223372036854775808]", "[" * 128 + "]" * 128, "nul"]
 ODD_FORMS = ["%", "%z", "%5%", "%.3d", "%#x", "%*d", "%12345d", "%+v", "%05s", "%-+d", "%.12345s", "%[1]d"]
 
 
@@ -74,14 +74,15 @@ class Drawing:
     def __init__(self, seed):
         self.random = random.Random(seed)
         self.dots = {name: self.random.choice(["map", "map", *KINDS]) for name in TEMPLATES}
-        self.root = "map" if self.random.random() < 0.9 else self.random.choice([*KINDS, "any"])
+        self.root = "map" if self.random.random() < 0.95 else self.random.choice([*KINDS, "any"])
         # how often a key is there, and a null in the place of a value
-        self.full, self.null = self.random.choice([(0.7, 0.05), (0.95, 0.02), (1, 0)])
+        self.full, self.null = self.random.choice([(0.8, 0.05), (0.95, 0.02), (1, 0), (1, 0)])
+        self.odd = self.random.choice(ODDS)
         # of the template that is drawn: the kinds of its dots, its variables by scopes, and how many ranges are open around
         self.start = self.dot = self.root
         self.scopes, self.ranges = [], 0
-        # the names that the file which is drawn defines
-        self.defined = set()
+        # which of TEMPLATES it is, and the names that the file defines
+        self.level, self.defined = -1, set()
 
     def often(self, odds):
         return self.random.random() < odds
@@ -99,12 +100,11 @@ class Drawing:
         if kind in MADE:
             return {"number": self.number, "text": lambda: r.choice(WORDS), "truth": lambda: self.often(0.5)}[kind]()
         if kind == "any":
-            return self.value(r.choice([*KINDS, "null"]), depth)
+            return self.value(r.choice([*KINDS, "null"] if depth > 0 else MADE), depth)
         if kind in LISTS:
-            least = 0 if self.often(0.1) else 1
+            least = 0 if self.often(0.05) else 2
             return self.some(self.value, least, 4, LISTS[kind], depth - 1) if depth > 0 or LISTS[kind] in MADE else []
-        kinds = FIELDS if depth > 0 else [*MADE, "numbers", "texts", "null"]
-        keys = [(key, its) for its in kinds for key in FIELDS[its] if self.often(self.full)]
+        keys = [(key, its) for its in FIELDS for key in FIELDS[its] if depth >= 0 and self.often(self.full)]
         r.shuffle(keys)
         return None if kind == "null" else {key: self.value(its, depth - 1) for key, its in keys}
 
@@ -143,10 +143,11 @@ class Drawing:
 
     def operand(self, kind, depth):
         r = self.random
-        if self.often(ODD):
+        if self.often(self.odd):
             return r.choice(["nil", ".q", ".z", ".z.n", "$.q.n", ".w", "len", "print", self.operand(r.choice(KINDS), 0)])
-        if kind in ("small", "zero"):
-            return r.choice("000112") if kind == "small" and self.often(0.9) else "0" if kind == "zero" else self.operand("number", depth)
+        if kind == "zero" or kind == "small" and self.often(0.9):
+            return "0" if kind == "zero" else r.choice("00001")
+        kind = "number" if kind == "small" else kind
         if kind in ("some", "whole"):
             kind = r.choice(self.there(KINDS if kind == "some" else WHOLES) or MADE)
         ways, choice = self.paths(kind), r.random()
@@ -179,8 +180,9 @@ class Drawing:
         if name == "index" and self.often(0.2) and self.there(["map"]):
             key = r.choice([key for keys in FIELDS.values() for key in keys])
             words = [self.operand("map", depth), f'"{key}"']
-        if self.often(ODD):
-            name, words = r.choice(reading.FUNCTIONS).decode(), [self.operand("some", 0) for _ in range(r.choice([0, 0, 1, 2, 3, 4]))]
+        if self.often(self.odd):
+            name = r.choice([name, r.choice(reading.FUNCTIONS).decode()])
+            words = self.some(self.operand, *[r.choice([len(words), 0, 0, 1, 2, 3, 4])] * 2, "some", 0)
         return [name, *words]
 
     def formatted(self, depth):
@@ -192,22 +194,22 @@ class Drawing:
     def form(self):
         """A form, and the kind that it takes."""
         r = self.random
-        if self.often(ODD):
+        if self.often(self.odd):
             return r.choice(ODD_FORMS), r.choice(MADE)
-        verb, width = r.choice("vdobxXsqxXct"), r.choice(["", "", "1", "5", "12"])
+        verb, width = r.choice("vdobxXssssqqxXct"), r.choice(["", "1", "5", "12"])
         kinds = {"v": KINDS, "s": ["text"], "q": ["text"], "t": ["truth"], "x": ["number", "text"], "X": ["number", "text"]}
         kind = r.choice(self.there(kinds.get(verb, ["number"])))
         is_number = kind == "number" and verb in "dobxX"
         flags = "".join(r.choices("-+0 ", k=r.randrange(4))) if is_number else r.choice(["", "-"])
         if kind not in MADE:
             flags = width = ""
-        point = r.choice(["", "", ".", ".0", ".2", ".4"]) if verb == "s" else ""
+        point = r.choice(["", ".", ".0", ".2", ".4"]) if verb == "s" else ""
         return f"%{flags}{width}{point}{verb}", kind
 
     def pipeline(self, kind, depth):
         r = self.random
-        if self.often(ODD / 3):
-            return r.choice([f".n {self.constant('number')}", "1 | $", "nil", "true 1", f"{self.operand(kind, 0)} | .t", '"a" nil', "(nil)"])
+        if self.often(self.odd / 3):
+            return r.choice(["$ 1", "1 | $", "nil", "true 1", f"{self.operand(kind, 0)} | .t", '"a" nil', "(nil)"])
         if not (depth > 0 and self.often(0.6)):
             return self.operand(kind, depth)
         name, *words = self.call(kind, depth - 1)
@@ -224,10 +226,10 @@ class Drawing:
         odds, space = self.random.random(), self.random.choice(["", "", "", "", " ", "\n"])
         return ("{{- " if odds < 0.1 else "{{") + space + said + space + (" -}}" if 0.05 < odds < 0.15 else "}}")
 
-    def nodes(self, depth, declared=()):
+    def nodes(self, depth, declared=(), most=3):
         """Nodes in a scope of their own, with what the header of their control declares."""
         self.scopes.append(list(declared))
-        drawn = "".join(self.some(self.node, 1, 3, depth))
+        drawn = "".join(self.some(self.node, 1, most, depth))
         self.scopes.pop()
         return drawn
 
@@ -260,7 +262,7 @@ class Drawing:
         """A declaration, or an assignment, of which no text grows with the steps of a run."""
         kind = self.random.choice(self.there())
         known = [name for name, its in self.variables().items() if its == kind]
-        if not known or self.often(0.4):
+        if not known or self.often(0.5):
             name, said = self.random.choice(VARIABLES), self.pipeline(kind, 1)
             self.scopes[-1].append((name, kind))
             return self.action(f"${name} := {said}")
@@ -322,11 +324,11 @@ class Drawing:
 
     def range_(self, depth):
         r = self.random
-        kind = r.choice(KINDS if self.often(ODD) else self.there([*WHOLES, *WHOLES, "number"]))
+        kind = r.choice(KINDS if self.often(self.odd) else self.there([*WHOLES, *WHOLES, "number"]))
         element, key = LISTS.get(kind, "number" if kind == "number" else "any"), "number" if kind in LISTS else "text"
         one, two = r.choice(VARIABLES), r.choice(VARIABLES)
         ways = [("", []), (f"${one} := ", [(one, element)]), (f"${one}, ${two} := ", [(one, key), (two, element)])]
-        variables, declared = r.choice(ways[: 2 if kind == "number" and not self.often(ODD) else 3])
+        variables, declared = r.choice(ways[: 2 if kind == "number" and not self.often(self.odd) else 3])
         said = str(r.randrange(5)) if kind == "number" and self.often(0.4) else self.pipeline(kind, 1)
         self.ranges += 1
         drawn = self.action(f"range {variables}{said}") + self.within(element, depth - 1, declared)
@@ -337,20 +339,24 @@ class Drawing:
 
     # ---- templates and files
 
-    def body(self, dot, depth):
+    def body(self, name, dot, depth):
         """The body of a template: with its own variables, and in no range."""
-        kept = self.start, self.dot, self.scopes, self.ranges
+        kept = self.start, self.dot, self.scopes, self.ranges, self.level
         self.start, self.dot, self.scopes, self.ranges = dot, dot, [], 0
-        drawn = self.nodes(depth)
-        self.start, self.dot, self.scopes, self.ranges = kept
+        self.level = TEMPLATES.index(name) if name in TEMPLATES else -1
+        drawn = self.nodes(depth, most=4 if self.level >= 0 else 9)
+        self.start, self.dot, self.scopes, self.ranges, self.level = kept
         return drawn
 
     def name(self):
-        return self.random.choice(["none", "m", "n"] if self.often(0.04) else TEMPLATES)
+        """The name of a later template, mostly, so that not each run goes on until its depth or its steps end it."""
+        if self.often(0.02 + self.odd):
+            return self.random.choice(["none", "m", "n", *TEMPLATES])
+        return self.random.choice(TEMPLATES[self.level + 1 :] or TEMPLATES)
 
     def handed(self, name):
         """What a template is called with; no text that grows from call to call."""
-        if self.often(0.1):
+        if self.often(0.03):
             return ""
         kind = self.dots.get(name, self.root)
         return " " + (self.kept() if kind in ("text", "any") else self.pipeline(kind, 1))
@@ -361,28 +367,30 @@ class Drawing:
     def called(self, depth):
         """A call, or a block of a name that the file does not define yet, mostly."""
         name = self.name()
-        if depth > 0 and self.often(0.3) and (name not in self.defined or self.often(ODD)):
+        if depth > 0 and self.often(0.3) and (name not in self.defined or self.often(self.odd)):
             self.defined.add(name)
             header = f"block {self.quoted(name)}{self.handed(name) or ' .'}"
-            return self.action(header) + self.body(self.dots.get(name, self.root), depth - 1) + self.action("end")
+            return self.action(header) + self.body(name, self.dots.get(name, self.root), depth - 1) + self.action("end")
         return self.action(f"template {self.quoted(name)}{self.handed(name)}")
 
     def recursion(self, _):
-        """Calls along the data, or again and again."""
+        """Calls along the data, or now and then again and again."""
+        if self.dot != "map" and self.often(0.8):
+            return self.text(0)
         names = [name for name, dot in self.dots.items() if dot == self.dot]
         if not names:
             return self.text(0)
         called = self.action(f"template {self.quoted(self.random.choice(names))} .")
-        return self.action("range .c") + called + self.action("end") if self.dot == "map" and self.often(0.7) else called
+        return self.action("range .c") + called + self.action("end") if self.dot == "map" and self.often(0.9) else called
 
     def definition(self, name):
         self.defined.add(name)
-        return self.action(f"define {self.quoted(name)}") + self.body(self.dots.get(name, self.root), 3) + self.action("end")
+        return self.action(f"define {self.quoted(name)}") + self.body(name, self.dots[name], 3) + self.action("end")
 
     def file(self, name, odds):
         """The text of a file of this base name, which defines each name that is not there with these odds."""
         self.defined = {name}
-        parts = [self.body(self.root, 4)] if self.often(0.9) else [" \n"]
+        parts = [self.body(None, self.root, 4)] if self.often(0.95) else [" \n"]
         parts += [self.definition(it) for it in TEMPLATES if it not in self.defined and self.often(odds)]
         self.random.shuffle(parts)
         drawn = "".join(part + self.random.choice(["", "", "\n"]) for part in parts)
@@ -414,9 +422,9 @@ class Drawing:
         return told, [part.encode() for word in words for part in ([word] if isinstance(word, str) else word)]
 
     def data(self):
-        if self.often(0.05):
-            return None
         if self.often(0.03):
+            return None
+        if self.often(0.02):
             return self.random.choice(BAD_DATA).encode()
         return json.dumps(self.value(self.root, 3), ensure_ascii=self.often(0.5)).encode()
 
@@ -457,8 +465,10 @@ TELLS = {
         *[meaning.NO_RANGE, meaning.NO_FUNCTION, meaning.NIL_COMMAND],
         *[name + b": " + why for name, reasons in CALLS.items() for why in reasons],
     ],
-    4: [b"no template ", *(it.encode() for it in (reading.UNREADABLE, reading.NOT_AN_ACTION, reading.OUT_OF_PLACE)),
-        *(it.encode() for it in (reading.TOO_DEEP, reading.UNDECLARED, reading.OPEN, reading.SECOND))],
+    4: [
+        *[b"no template ", reading.UNREADABLE.encode(), reading.NOT_AN_ACTION.encode(), reading.OUT_OF_PLACE.encode()],
+        *(it.encode() for it in (reading.TOO_DEEP, reading.UNDECLARED, reading.OPEN, reading.SECOND)),
+    ],
     5: [reading.NOT_JSON.encode(), reading.NOT_WHOLE.encode()],
 }
 PLACE = re.compile(rb'tmpl: (?:d: |[^:]*:[0-9]+: (?:in "(?:[^"\\]|\\.)*": )?)?')
@@ -478,9 +488,14 @@ def check(seed):
     kind = ending(got[0], got[2])
     if got == wanted:
         return kind, []
-    shown = [f"    {name}: {harness.short(it) if isinstance(it, bytes) else it}" for name, it in zip("status output errors".split() * 2, (*got, *wanted))]
     drawn = [f"    {path!r}: {what!r}" for path, what in [*case.files, *([case.data] if case.data else [])]]
-    return kind, [f"FAILED seed {seed}, with the words {case.words}", *drawn, "  got", *shown[:3], "  wanted", *shown[3:]]
+    return kind, [f"FAILED seed {seed}, with the words {case.words}", *drawn, *shown("got", got), *shown("wanted", wanted)]
+
+
+def shown(name, came):
+    """What came of a run, as a person can read it."""
+    status, out, err = came
+    return [f"    {name}: status {status}, output {harness.short(out)}", f"      errors {harness.short(err)}"]
 
 
 # ---- rows
@@ -558,7 +573,8 @@ def main(count=COUNT, first=0):
     wrong = [*told[1:], *lacking(came, count)]
     print(*wrong, sep="\n", end="\n" * bool(wrong))
     passed = told[0] - len(told[1:]) + count - failed
-    print(f"{told[0]} rows were told, {came[0, b'']} draws were done, {sum(came.values()) - came[0, b'']} came to a fault or a refusal")
+    done, faulted = came[0, b""], sum(number for (status, _), number in came.items() if status == 1)
+    print(f"{told[0]} rows were told; {done} draws were done, {faulted} faulted and {count - done - faulted} were refused")
     return harness.closing(passed, failed + len(wrong))
 
 

@@ -71,8 +71,8 @@ def end_at(data, at):
 
 
 def pieces(data):
-    """The line of each text, to its first byte that is kept, and its bytes; the line of each action and its tokens, or None for an
-    unreadable one, which is the last."""
+    """Each text, with the line of its first byte that is kept and its bytes, and each action, with its line and its tokens, or
+    None for an unreadable one, which is the last."""
     at, line, trims = 0, 1, False
     while True:
         start = data.find(b"{{", at)
