@@ -47,6 +47,7 @@ SHAPES = {
     ],
     "truth": [
         *[("not", ["some"]), ("ne", ["same"] * 2), *[("eq", ["same"] * count) for count in (2, 3, 4)]],
+        ("eq", ["same", "same", "some"]),
         *[(name, [kind] * 2) for name in ("lt", "le", "gt", "ge") for kind in ("number", "text")],
     ],
     "map": [("index", ["tree", "small"])],
@@ -76,7 +77,7 @@ class Drawing:
         self.dots = {name: self.random.choice(["map", "map", *KINDS]) for name in TEMPLATES}
         self.root = "map" if self.random.random() < 0.95 else self.random.choice([*KINDS, "any"])
         # how often a key is there, and a null in the place of a value
-        self.full, self.null = self.random.choice([(0.8, 0.05), (0.95, 0.02), (1, 0), (1, 0)])
+        self.full, self.null = self.random.choice([(0.85, 0.04), (1, 0.02), (1, 0), (1, 0)])
         self.odd = self.random.choice(ODDS)
         # of the template that is drawn: the kinds of its dots, its variables by scopes, and how many ranges are open around
         self.start = self.dot = self.root
@@ -127,7 +128,8 @@ class Drawing:
 
     def there(self, kinds=KINDS):
         """Those of these kinds of which there is something to name."""
-        return [kind for kind in kinds if kind in MADE or self.paths(kind)]
+        seen = {self.dot, self.start, *self.variables().values()}
+        return [kind for kind in kinds if kind in MADE or kind in seen or "map" in seen]
 
     def constant(self, kind):
         r = self.random
@@ -167,7 +169,7 @@ class Drawing:
         name, kinds = r.choice([*SHAPES[kind], (r.choice(["and", "or"]), [kind] * r.randint(1, 3))])
         if kinds is None:
             return name, None
-        if any(it in WHOLES and not self.paths(it) for it in kinds):
+        if any(it in WHOLES and not self.there([it]) for it in kinds):
             name, kinds = OTHERWISE.get(kind, (name, kinds))
         same = r.choice(MADE)
         return name, [same if it == "same" else it for it in kinds]
@@ -344,7 +346,7 @@ class Drawing:
         kept = self.start, self.dot, self.scopes, self.ranges, self.level
         self.start, self.dot, self.scopes, self.ranges = dot, dot, [], 0
         self.level = TEMPLATES.index(name) if name in TEMPLATES else -1
-        drawn = self.nodes(depth, most=4 if self.level >= 0 else 9)
+        drawn = self.nodes(depth, most=3 if self.level >= 0 else 8)
         self.start, self.dot, self.scopes, self.ranges, self.level = kept
         return drawn
 

@@ -42,15 +42,15 @@ def action_at(data, at):
     at += 4 if data[at + 2 : at + 3] == b"-" and data[at + 3 : at + 4] in WHITES else 2
     if data.startswith(b"/*", at):
         end = data.find(b"*/", at + 2)
-        if end < 0:
+        ends = end_at(data, end + 2) if end >= 0 else None
+        if not ends:
             raise Refused(UNREADABLE)
-        return (None, *end_at(data, end + 2))
+        return (None, *ends)
     tokens, space = [], False
     while True:
-        try:
-            return (tokens, *end_at(data, at))
-        except Refused:
-            pass
+        ends = end_at(data, at)
+        if ends:
+            return (tokens, *ends)
         if data[at : at + 1] in WHITES:
             at, space = at + 1, True
             continue
@@ -62,12 +62,12 @@ def action_at(data, at):
 
 
 def end_at(data, at):
-    """Whether the end of an action that stands there trims, and where it ends."""
+    """Whether the end of an action that stands there trims, and where it ends; None where there is no end."""
     if data.startswith(b"}}", at):
         return False, at + 2
     if data[at : at + 1] in WHITES and data.startswith(b"-}}", at + 1):
         return True, at + 4
-    raise Refused(UNREADABLE)
+    return None
 
 
 def pieces(data):
