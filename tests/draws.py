@@ -184,7 +184,8 @@ class Drawing:
             words = [self.operand("map", depth), f'"{key}"']
         if self.often(self.odd):
             name = r.choice([name, r.choice(reading.FUNCTIONS).decode()])
-            words = self.some(self.operand, *[r.choice([len(words), 0, 0, 1, 2, 3, 4])] * 2, "some", 0)
+            count = r.choice([len(words), 0, 0, 1, 2, 3, 4])
+            words = self.some(self.operand, count, count, "some", 0)
         return [name, *words]
 
     def formatted(self, depth):
