@@ -1,6 +1,7 @@
 """A small reading of template files by the rules of docs/LANGUAGE.md told directly: where and why a file is refused, if it is,
-and what is printed of a set of files. And one of data: the text of the value, or why it is refused. It shares no code with
-the program, and is slow and plain: it is there to be compared with."""
+the templates of a set as trees, and what is printed of them. And one of data: the value and its text, or why it is refused. It
+shares no code with the program, and is slow and plain: it is there to be compared with."""
+import collections
 import json
 import re
 import unicodedata
@@ -18,12 +19,14 @@ NUMBER = re.compile(rb"([+-]?)(?:(0[xX])((?:_?[0-9a-fA-F])+)|(0[oO]|0)((?:_?[0-7
 ESCAPE = rb"\\(?:([abfnrtv\\%s])|([0-7]{3})|x([0-9a-fA-F]{2})|u([0-9a-fA-F]{4})|U([0-9a-fA-F]{8}))"
 LETTERS = dict(zip(b"abfnrtv", b"\a\b\f\n\r\t\v"))
 FUNCTIONS = b"and or not len index slice print println printf html urlquery eq ne lt le gt ge".split()
+WORDS = {b"true": True, b"false": False, b"nil": None}
 KEYWORDS = b"if with range else end break continue define template block".split()
 CONTROLS = (b"if", b"with", b"range")
-LEVELS, PARENTHESES = 500, 100
+LEVELS, PARENTHESES, LONGEST = 500, 100, 16777216
 UNREADABLE, NOT_AN_ACTION, OUT_OF_PLACE = "unclosed or unreadable action", "action not understood", "out of place"
 TOO_DEEP, UNDECLARED = "nested too deeply", "undeclared variable"
 OPEN, SECOND = "file ends inside a control", "second definition"
+TOO_LONG = f"file longer than {LONGEST} bytes"
 
 
 class Refused(Exception):
@@ -39,15 +42,15 @@ def action_at(data, at):
     at += 4 if data[at + 2 : at + 3] == b"-" and data[at + 3 : at + 4] in WHITES else 2
     if data.startswith(b"/*", at):
         end = data.find(b"*/", at + 2)
-        if end < 0:
+        ends = end_at(data, end + 2) if end >= 0 else None
+        if not ends:
             raise Refused(UNREADABLE)
-        return (None, *end_at(data, end + 2))
+        return (None, *ends)
     tokens, space = [], False
     while True:
-        try:
-            return (tokens, *end_at(data, at))
-        except Refused:
-            pass
+        ends = end_at(data, at)
+        if ends:
+            return (tokens, *ends)
         if data[at : at + 1] in WHITES:
             at, space = at + 1, True
             continue
@@ -59,28 +62,30 @@ def action_at(data, at):
 
 
 def end_at(data, at):
-    """Whether the end of an action that stands there trims, and where it ends."""
+    """Whether the end of an action that stands there trims, and where it ends; None where there is no end."""
     if data.startswith(b"}}", at):
         return False, at + 2
     if data[at : at + 1] in WHITES and data.startswith(b"-}}", at + 1):
         return True, at + 4
-    raise Refused(UNREADABLE)
+    return None
 
 
 def pieces(data):
-    """Texts, as bytes, and actions, as their line and tokens, or the line and None for an unreadable one, which is the last."""
-    at, trims = 0, False
+    """Each text, with the line of its first byte that is kept and its bytes, and each action, with its line and its tokens, or
+    None for an unreadable one, which is the last."""
+    at, line, trims = 0, 1, False
     while True:
         start = data.find(b"{{", at)
-        text = data[at:] if start < 0 else data[at:start]
-        text = text.lstrip(WHITE) if trims else text
+        whole = data[at:] if start < 0 else data[at:start]
+        text = whole.lstrip(WHITE) if trims else whole
+        cut = len(whole) - len(text)
         if start >= 0 and data[start + 2 : start + 3] == b"-" and data[start + 3 : start + 4] in WHITES:
             text = text.rstrip(WHITE)
         if text:
-            yield text
+            yield line + whole.count(b"\n", 0, cut), text
         if start < 0:
             return
-        line = 1 + data.count(b"\n", 0, start)
+        line += whole.count(b"\n")
         try:
             tokens, trims, at = action_at(data, start)
         except Refused:
@@ -88,6 +93,7 @@ def pieces(data):
             return
         if tokens is not None:
             yield line, tokens
+        line += data.count(b"\n", start, at)
 
 
 # ---- constants
@@ -179,18 +185,53 @@ def quote(data):
     return b'"%s"' % b"".join(map(quoted_rune, runes(data)))
 
 
+# ---- trees
+
+# A pipeline is a tuple of commands, a command one of operands, and an operand one of these three. The value None is `nil`.
+Constant = collections.namedtuple("Constant", "value")
+Function = collections.namedtuple("Function", "name")
+# The base is `.`, a variable with its `$`, or a pipeline in parentheses; there may be no fields.
+Chain = collections.namedtuple("Chain", "base fields")
+
+# What a template says, in order: a text, an action, or an `else` or `end` without one.
+Said = collections.namedtuple("Said", "kind line said action")
+# A text or an action of the tree, with its bytes or its Action, and what stands in the parts of a control.
+Node = collections.namedtuple("Node", "kind line is_ body other")
+
+
+def said_operand(it):
+    """How an operand is printed."""
+    if isinstance(it, Function):
+        return it.name
+    if isinstance(it, Constant):
+        if it.value is None or isinstance(it.value, bool):
+            return {None: b"nil", True: b"true", False: b"false"}[it.value]
+        return quote(it.value) if isinstance(it.value, bytes) else b"%d" % it.value
+    base = b"(%s)" % said_pipeline(it.base) if isinstance(it.base, tuple) else it.base
+    fields = b"".join(b"." + field for field in it.fields)
+    return fields if fields and base == b"." else base + fields
+
+
+def said_pipeline(commands):
+    """How a pipeline is printed."""
+    return b" | ".join(b" ".join(map(said_operand, command)) for command in commands)
+
+
 # ---- the grammar of an action
 
 
 class Action:
-    """What an action is, by the grammar: its kind, the name of a template in it, the variables that it declares and those that it
-    looks up, whether it has parentheses that are too deep, and how it is printed."""
+    """What an action is, by the grammar: its kind, the name of a template in it, the variables in front of a sign, the sign, and
+    the pipeline; the variables that it declares and those that it looks up, whether it has parentheses that are too deep, and
+    how it is printed."""
 
     def __init__(self, tokens):
         self.tokens, self.at, self.depth = tokens, 0, 0
-        self.name, self.declared, self.used, self.is_too_deep = None, [], [], False
+        self.name, self.variables, self.sign, self.pipeline = None, [], None, None
+        self.used, self.is_too_deep = [], False
         self.kind, self.said = self.read()
         self.need(self.at == len(tokens))
+        self.declared = self.variables if self.sign == b":=" else []
 
     def need(self, holds):
         if not holds:
@@ -228,78 +269,80 @@ class Action:
         self.need(self.peek()[0] in ("string", "raw"))
         self.name = text(*self.take()[:2])
         said = (b"define " if kind == b"define" else b"template ") + quote(self.name)
-        has_more = kind == b"block" or kind == b"template" and self.at < len(self.tokens)
-        return said + b" " + self.pipeline() if has_more else said
+        if kind == b"block" or kind == b"template" and self.at < len(self.tokens):
+            self.pipeline = self.commands()
+            said += b" " + said_pipeline(self.pipeline)
+        return said
 
     def bound(self, is_range=False):
         """A pipeline, perhaps behind variables and a sign."""
         kinds, signs = zip(*(self.peek(it) for it in range(4)))
         if kinds[0] == "variable" and signs[1] in (b":=", b"="):
             self.need(signs[0] != b"$" and not (is_range and signs[1] == b"="))
+            self.variables, self.sign = [signs[0][1:]], signs[1]
             self.at += 2
-            said = self.pipeline()
-            (self.declared if signs[1] == b":=" else self.used).append(signs[0][1:])
-            return b"%s %s %s" % (signs[0], signs[1], said)
-        if kinds[0] == kinds[2] == "variable" and signs[1] == b"," and signs[3] == b":=":
+        elif kinds[0] == kinds[2] == "variable" and signs[1] == b"," and signs[3] == b":=":
             self.need(is_range and b"$" not in (signs[0], signs[2]))
+            self.variables, self.sign = [signs[0][1:], signs[2][1:]], signs[3]
             self.at += 4
-            said = self.pipeline()
-            self.declared += [signs[0][1:], signs[2][1:]]
-            return b"%s, %s := %s" % (signs[0], signs[2], said)
-        return self.pipeline()
+        self.pipeline = self.commands()
+        self.used += self.variables if self.sign == b"=" else []
+        names = b", ".join(b"$" + name for name in self.variables)
+        return (b"%s %s " % (names, self.sign) if names else b"") + said_pipeline(self.pipeline)
 
-    def pipeline(self):
-        said = [self.command()]
+    def commands(self):
+        """A pipeline."""
+        read = [self.command()]
         while self.takes(b"|"):
             kind, spelled = self.peek()
             self.need(kind not in ("number", "string", "raw", "char", "dot") and spelled not in (b"true", b"false", b"nil"))
-            said.append(self.command())
-        return b" | ".join(said)
+            read.append(self.command())
+        return tuple(read)
 
     def command(self):
-        said = [self.operand()]
+        read = [self.operand()]
         while self.at < len(self.tokens) and self.peek() not in [("sign", b"|"), ("sign", b")")]:
             self.need(self.tokens[self.at][2])
-            said.append(self.operand())
-        return b" ".join(said)
+            read.append(self.operand())
+        return tuple(read)
 
     def operand(self):
         self.need(self.at < len(self.tokens))
         kind, spelled, _ = self.take()
         if kind == "number":
-            return b"%d" % number(spelled)
+            return Constant(number(spelled))
         if kind in ("string", "raw"):
-            return quote(text(kind, spelled))
+            return Constant(text(kind, spelled))
         if kind == "char":
-            return b"%d" % character(spelled)
+            return Constant(character(spelled))
         if kind == "word":
-            self.need(spelled in (b"true", b"false", b"nil", *FUNCTIONS))
-            return spelled
+            self.need(spelled in (*WORDS, *FUNCTIONS))
+            return Constant(WORDS[spelled]) if spelled in WORDS else Function(spelled)
         if kind == "field":
             self.need(not spelled[1:2].isdigit())
-            return spelled + self.chain()
+            return Chain(b".", (spelled[1:], *self.fields()))
         if kind == "variable":
             self.used += [spelled[1:]] * (spelled != b"$")
-            return spelled + self.chain()
+            return Chain(spelled, self.fields())
         if kind == "sign":
             self.need(spelled == b"(")
-            return self.group()
-        return spelled
+            return Chain(self.group(), self.fields())
+        return Chain(b".", ())
 
     def group(self):
         self.depth += 1
         self.is_too_deep |= self.depth > PARENTHESES
-        said = self.pipeline()
+        read = self.commands()
         self.need(self.takes(b")"))
         self.depth -= 1
-        return b"(%s)%s" % (said, self.chain())
+        return read
 
-    def chain(self):
-        said = b""
+    def fields(self):
+        read = []
         while self.peek()[0] == "field" and not self.tokens[self.at][2]:
-            said += self.take()[1]
-            self.need(not said[said.rindex(b".") + 1 :][:1].isdigit())
-        return said
+            read.append(self.take()[1][1:])
+            self.need(not read[-1][:1].isdigit())
+        return tuple(read)
 
 
 # ---- a file
@@ -314,19 +357,35 @@ class Frame:
 
 
 class Body:
-    """What a template says: its texts as bytes, and its actions as they are printed, each in a list of its own."""
+    """What a template says, and the place of its file in a set."""
 
     def __init__(self, name, line):
-        self.name, self.line, self.says = name, line, []
+        self.name, self.line, self.says, self.place = name, line, [], None
 
     def is_blank(self):
-        return all(isinstance(it, bytes) and not it.strip(WHITE) for it in self.says)
+        return all(it.kind == b"text" and not it.said.strip(WHITE) for it in self.says)
 
-    def end(self, ends):
+    def end(self, line, ends):
         """The end of a control and its else branches, with no else part where that is empty."""
-        if self.says[-1] == [b"else"]:
+        if self.says[-1].kind == b"else":
             self.says.pop()
-        self.says += [[b"end"]] * ends
+        self.says += [Said(b"end", line, b"end", None)] * ends
+
+    def tree(self):
+        """Its nodes. An `else if` or `else with` is the control that is the whole else part."""
+        nodes, outer = [], []
+        for it in self.says:
+            if it.kind == b"else":
+                nodes = outer[-1][-1].other
+            elif it.kind == b"end":
+                nodes = outer.pop()
+            else:
+                kind = it.kind.split()[-1]
+                nodes.append(Node(kind, it.line, it.action or it.said, [], []))
+                if kind in CONTROLS:
+                    outer.append(nodes)
+                    nodes = nodes[-1].body
+        return nodes
 
 
 class Reading:
@@ -340,8 +399,8 @@ class Reading:
     def top(self):
         return self.frames[-1] if self.frames else None
 
-    def text(self, it):
-        self.body.says.append(it)
+    def text(self, line, it):
+        self.body.says.append(Said(b"text", line, it, None))
 
     def is_in_range(self):
         for it in reversed(self.frames):
@@ -384,13 +443,13 @@ class Reading:
         if it.kind == b"end":
             frame = self.frames.pop()
             if frame.kind in CONTROLS:
-                self.body.end(frame.levels)
+                self.body.end(line, frame.levels)
             self.names, self.body = frame.outer, frame.body
             return
         if it.kind.startswith(b"else"):
-            self.body.says.append([b"else"])
+            self.body.says.append(Said(b"else", line, b"else", None))
         if it.kind not in (b"else", b"define"):
-            self.body.says.append([it.said])
+            self.body.says.append(Said(it.kind, line, it.said, it))
         self.names = self.opened(line, it, self.names | set(it.declared))
 
     def opened(self, line, it, names):
@@ -424,15 +483,17 @@ class Reading:
 def read(name, data):
     """The templates of a file of this base name, read alone, in the order of their headers, its own as the last; or the line at
     which the file is refused, and why."""
+    if len(data) > LONGEST:
+        return None, (1, TOO_LONG)
     reading = Reading(name)
-    for it in pieces(data):
+    for line, it in pieces(data):
         if isinstance(it, bytes):
-            reading.text(it)
+            reading.text(line, it)
             continue
         try:
-            reading.action(*it)
+            reading.action(line, it)
         except Refused as why:
-            return None, (it[0], str(why))
+            return None, (line, str(why))
     if reading.frames:
         return None, (1 + data.count(b"\n"), OPEN)
     line = reading.second()
@@ -444,22 +505,33 @@ def refusal(name, data):
     return read(name, data)[1]
 
 
-# ---- the printed set
+# ---- a set of files
 
 
-def printed(files):
-    """What is printed of the set of files, each with its base name; or of the first that is refused its place, line and reason."""
+def read_set(files):
+    """The bodies of the set of files, each with its base name, by their names and in order; or of the first that is refused its
+    place, line and reason."""
     bodies = {}
     for place, (name, data) in enumerate(files):
         added, refused = read(name, data)
         if refused:
             return None, (place, *refused)
         for body in added:
+            body.place = place
             if body.name not in bodies or not body.is_blank():
                 bodies[body.name] = body
+    return bodies, None
+
+
+def printed(files):
+    """What is printed of the set of files, or of the first that is refused its place, line and reason."""
+    bodies, refused = read_set(files)
+    if refused:
+        return None, refused
     says = []
     for name, body in bodies.items():
-        says += [[b"define " + quote(name)], *body.says, [b"end"], b"\n"]
+        ends = Said(b"end", 0, b"end", None), Said(b"text", 0, b"\n", None)
+        says += [Said(b"define", 0, b"define " + quote(name), None), *body.says, *ends]
     return joined(says), None
 
 
@@ -468,11 +540,11 @@ def joined(says):
     before, out = b"", []
     for it in says:
         opening = b" {{- " if before.endswith(b"{") else b"{{"
-        if isinstance(it, bytes):
-            out += [opening + b"/**/}}"] * bool(before) + [it]
-            before = it
+        if it.kind == b"text":
+            out += [opening + b"/**/}}"] * bool(before) + [it.said]
+            before = it.said
         else:
-            out.append(opening + it[0] + b"}}")
+            out.append(opening + it.said + b"}}")
             before = b""
     return b"".join(out)
 
