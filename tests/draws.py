@@ -17,6 +17,7 @@ import reading
 
 COUNT = 20000
 LARGE = 1 << 17  # bytes up to which a row is told
+DEEP = 10000  # and calls inside one another, each of which takes some of Python's own
 
 # The keys of a map of the data by the kind of what stands there; any key may be missing. A `tree` is a list of such maps.
 FIELDS = {
@@ -515,7 +516,7 @@ def options_of(words):
 
 
 def told_of_row(row):
-    """What meaning.py tells of a row that comes to a refusal or to a run; nothing of others, and of large ones."""
+    """What meaning.py tells of a row that comes to a refusal or to a run; nothing of others, and of large and deep ones."""
     words = {*row.words}
     asks = {b"--print", b"-h", b"--help"} & words
     is_plain = row.stdout == row.stderr == "pipe" and row.is_again() and row.stdin is None
@@ -527,7 +528,8 @@ def told_of_row(row):
     if not paths or any(what is None for _, what in given):
         return None
     files, data = given[: len(paths)], given[len(paths) :]
-    return meaning.outcome(files, data[0] if data else None, options_of(options))
+    asked = options_of(options)
+    return meaning.outcome(files, data[0] if data else None, asked) if asked.depth <= DEEP else None
 
 
 def check_rows(wrong):
