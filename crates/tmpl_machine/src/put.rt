@@ -58,8 +58,9 @@ impl<'m, 'a> Machine<'m, 'a> {
         ensures plain { IsPlain self.old → IsPlain self.new }
         ensures size { size_of self.new.stack ≡ size_of self.old.stack }
     {
-        let value = self.stack.take().val;
         self.place += 1;
-        piece.show(sink, &value)
+        let put = self.stack.show(piece, sink);
+        self.stack.pop(1);
+        put
     }
 }

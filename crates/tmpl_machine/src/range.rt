@@ -88,30 +88,37 @@ impl<'m, 'a> Machine<'m, 'a> {
             unreachable!()
         };
         self.place += 1;
-        self.declare(count, key, element.share()?);
+        self.declare(count, key, &element)?;
         self.look_at(element);
         Ok(())
     }
 
     /// Puts the values of so many variables, the element above its index or key.
-    fn declare(&mut self, count: usize, key: Val<'a>, element: Val<'a>)
+    fn declare(
+        &mut self,
+        count: usize,
+        key: Val<'a>,
+        element: &Val<'a>,
+    ) -> Result<(), AllocError>
         ghost run: { Told }
         requires { length (cells_of self.old.stack) + count ≤ size_of self.old.stack }
-        ensures step { state_of run self.new ≡ record (state_of run self.old) {
-          cells = variables_on count (val_of key.entry, val_of element.entry) (cells_of self.old.stack);
-        } }
-        ensures plain { is_made key.entry ≡ false → is_made element.entry ≡ false
-            → IsPlain self.old → IsPlain self.new }
+        ensures step { OnOk result (state_of run self.new ≡ record (state_of run self.old) {
+          cells = variables_on count (val_of key.entry, val_of element.now) (cells_of self.old.stack);
+        }) }
+        ensures plain { is_made key.entry ≡ false → is_made element.now ≡ false
+            → IsPlain self.old → Spared result (IsPlain self.new) }
         ensures size { size_of self.new.stack ≡ size_of self.old.stack }
     {
         match count {
             0 => {}
-            1 => self.stack.push(element, 0),
+            1 => self.stack.push(element.share()?, 0),
             _ => {
+                let element = element.share()?;
                 self.stack.push(key, 0);
                 self.stack.push(element, 0);
             }
         }
+        Ok(())
     }
 
     /// Goes to the next element, which takes a step at this line; where there is none ends the range.

@@ -3,19 +3,23 @@ ghost use Rattle.std.specs.Prelude.{◌≡◌, ◌+◌, ◌-◌, ◌<◌, ◌≤
 ghost use Rattle.std.specs.Prelude.{take, false, true, ◌^◌, slice_set, IfOk, IfSome, IsOkAnd};
 ghost use Rattle.tmpl_values.specs.Elements.{item_at};
 ghost use Rattle.tmpl_values.specs.View.{element_of, is_made, val_of};
+ghost use Rattle.tmpl_values.specs.Text.{text_of};
 ghost use Rattle.tmpl_values.specs.Truth.{truth};
 ghost use Rattle.tmpl_funcs.specs.Answer.{AreBorrowed, IsBorrowed};
 ghost use Rattle.tmpl_funcs.specs.Dispatch.{IsCall};
 ghost use Rattle.tmpl_funcs.specs.Func.{is_called, makes_text};
 ghost use Rattle.tmpl_funcs.specs.View.{values_of};
+ghost use Rattle.tmpl_run.specs.Sink.{IsPut};
 ghost use Rattle.tmpl_code.specs.Code.{piped_count};
 ghost use Rattle.tmpl_machine.specs.Cell.{cell};
 ghost use Rattle.tmpl_machine.specs.Machine.{has_more};
 ghost use Rattle.tmpl_machine.specs.Held.{cell_at, cell_of, made_at};
+ghost use Rattle.tmpl_machine.specs.Output.{Grows, given_of};
 
+use crate::piece::Piece;
 use std::alloc::{AllocError, Global};
 use tmpl_funcs::{CallError, Func, call};
-use tmpl_run::element_count;
+use tmpl_run::{Sink, SinkFault, element_count};
 use tmpl_values::{Cell, Val};
 
 /// The cells below `top` are live, the newest last.
@@ -104,6 +108,21 @@ impl<'s, 'a> Stack<'s, 'a> {
         ensures plain { IsPlainStack self.old → IsPlainStack self.new }
     {
         holds_at(self.cells, self.top - 1)
+    }
+
+    /// Puts out the text of the newest value.
+    #[tactic(auto, using(crate::proofs::StackLemmas::stacks), unfolding(crate::specs::View::cells_of))]
+    pub(crate) fn show<S: Sink>(&mut self, piece: &mut Piece<'_>, sink: &mut S) -> Result<(), SinkFault>
+        requires found { 1 ≤ length (cells_of self.old) }
+        requires countable { (S.so_far sink.old).failures < 2 ^ 64 - 1 }
+        ensures cells { cells_of self.new ≡ cells_of self.old }
+        ensures size { size_of self.new ≡ size_of self.old }
+        ensures given { IsPut result (given_of (S.so_far sink.old) piece.old) (given_of (S.so_far sink.new) piece.new)
+            (text_of (slot 0 (cells_of self.old))) }
+        ensures taken { Grows (S.so_far sink.old) (S.so_far sink.new) }
+        ensures plain { IsPlainStack self.old → IsPlainStack self.new }
+    {
+        show_at(self.cells, self.top - 1, piece, sink)
     }
 
     /// Changes the value of a slot.
@@ -213,6 +232,25 @@ fn share_at<'a>(cells: &mut [Cell<'a>], at: usize) -> Result<Val<'a>, AllocError
     ensures borrowed { made_at cells.old at ≡ false → IsOkAnd result (λ v. is_made v ≡ false) }
 {
     cells[at].val.share()
+}
+
+/// Puts out the text of the value of a cell.
+#[tactic(auto, using(crate::proofs::StackLemmas::cells))]
+fn show_at<S: Sink>(
+    cells: &mut [Cell<'_>],
+    at: usize,
+    piece: &mut Piece<'_>,
+    sink: &mut S,
+) -> Result<(), SinkFault>
+    requires within { at < length cells.old }
+    requires countable { (S.so_far sink.old).failures < 2 ^ 64 - 1 }
+    ensures same { cells.new ≡ cells.old }
+    ensures given { IsPut result (given_of (S.so_far sink.old) piece.old) (given_of (S.so_far sink.new) piece.new)
+        (text_of (cell_at cells.old at).val) }
+    ensures taken { Grows (S.so_far sink.old) (S.so_far sink.new) }
+{
+    let whole = &cells[..];
+    piece.show(sink, &whole[at].val)
 }
 
 /// Whether the value of a cell is not empty.

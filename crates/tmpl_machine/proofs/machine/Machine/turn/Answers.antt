@@ -5,7 +5,6 @@ use Rattle.tmpl_machine.specs.Cell.{Cell}
 use Rattle.tmpl_machine.specs.State.{State}
 use Rattle.tmpl_machine.specs.Machine.{goes, variables_on}
 use Rattle.tmpl_machine.specs.Machines.{state_of}
-use Rattle.tmpl_machine.specs.View.{cells_of}
 use Rattle.tmpl_machine.proofs.TurnLemmas.{turn-is}
 use Rattle.tmpl_machine.proofs.machine.Machine.turn.Goals as goal
 
@@ -15,5 +14,5 @@ returns-clause-step g c =
     let element = val_of c.in-Some.element in
     let behind : Value → List Cell → State = λ v cs. record s { cells = variables_on c.args.count (val_of c.in-Some.key, v) cs; dot = element; place = s.place + 1 } in
     turn-is g.run.plan g.run.template c.args.count s (val_of c.in-Some.key, element) c.requires.0 c.in-Some.ensures.element
-    ∙ ap goes (sym (ap (state_of g.run) c.look_at.ensures ∙ ap (λ (t : State). record t { dot = element }) c.declare.ensures.step
-    ∙ ap (λ (v : Value). behind v (cells_of c.element.new.self)) c.in_ok-share.ensures.same.0 ∙ ap (λ cs. behind element cs) c.element.ensures.cells))
+    ∙ ap goes (sym (ap (state_of g.run) c.look_at.ensures ∙ ap (λ (t : State). record t { dot = element }) c.in_ok-declare.ensures.step
+    ∙ ap (λ cs. behind element cs) c.element.ensures.cells))
