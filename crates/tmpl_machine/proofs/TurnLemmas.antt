@@ -1,7 +1,7 @@
 -- What an instruction does, by what is found.
 use Rattle.std.proofs.lemmas.Bool.Decides.{nat_tests}
 use Rattle.std.proofs.Common.{arith, ◌≡◌, ◌≢◌, ◌∙◌, ◌+◌, ◌-◌, ◌≤◌, ◌<◌, nat_eq, ℕ, zero, suc, Bool, true, false, List, [], ◌∷◌, length, drop, refl, ap, sym, Option, Some, None}
-use Rattle.std.specs.Prelude.{option_map, slice_get}
+use Rattle.std.specs.Prelude.{option_map, slice_get, slice_set}
 use Rattle.tmpl_values.specs.Value.{nothing}
 use Rattle.tmpl_values.specs.Elements.{Element, element_at, elements, item_at}
 use Rattle.tmpl_syntax.specs.Set.{Template}
@@ -95,6 +95,12 @@ none-left v h = by (elements_in (elements v.val)) v.num (grind (arith, nat_tests
     by (x ∷ y ∷ es) zero h = absurd (omega arith)
     by (x ∷ y ∷ es) (suc i) h = by (y ∷ es) i (omega arith)
 
+-- the second cell counts something else
+recounted : (cs : List Cell) (k : ℕ) → 2 ≤ length cs → slice_set cs 1 (cell (slot 1 cs) k) ≡ slot_cell 0 cs ∷ cell (slot_cell 1 cs).val k ∷ drop 2 cs
+recounted [] k h = absurd (omega arith)
+recounted (c ∷ []) k h = absurd (omega arith)
+recounted (c ∷ d ∷ cs) k h = refl
+
 module _ (plan : Plan) (t : Template) (n skip line : ℕ) (s : State) (some : 2 ≤ length (drop n s.cells)) where
   abbrev v : Cell
   v = slot_cell 1 (drop n s.cells)
@@ -113,9 +119,10 @@ module _ (plan : Plan) (t : Template) (n skip line : ℕ) (s : State) (some : 2 
       turn-by (more.0 ∷ more.1) more.2 ∙ ap (λ b. paid_if b plan t line s (λ u. onto (d ∷ cell v.val (suc v.num) ∷ drop 2 (drop n s.cells)) d.num u)) (let z : nat_eq s.left 0 ≡ true = grind (arith, nat_tests) in z)
 
   pub next-more : has_more (slot_cell 1 (drop n s.cells)) ≡ true → s.left ≢ 0
-      → done plan t (code.next n skip line) s ≡ goes (record s { cells = slot_cell 0 (drop n s.cells) ∷ cell (slot_cell 1 (drop n s.cells)).val ((slot_cell 1 (drop n s.cells)).num + 1) ∷ drop 2 (drop n s.cells); left = s.left - 1; line = line; place = (slot_cell 0 (drop n s.cells)).num })
+      → done plan t (code.next n skip line) s ≡ goes (record s { cells = slice_set (drop n s.cells) 1 (cell (slot 1 (drop n s.cells)) ((slot_cell 1 (drop n s.cells)).num + 1)); left = s.left - 1; line = line; place = (slot_cell 0 (drop n s.cells)).num })
   next-more h left = let more = more-left v h in let one : suc v.num ≡ v.num + 1 = omega arith in
       turn-by (more.0 ∷ more.1) more.2 ∙ ap (λ b. paid_if b plan t line s (λ u. onto (d ∷ cell v.val (suc v.num) ∷ drop 2 (drop n s.cells)) d.num u)) (let z : nat_eq s.left 0 ≡ false = grind (arith, nat_tests) in z)
       ∙ ap (λ k. goes (record s { cells = d ∷ cell v.val k ∷ drop 2 (drop n s.cells); left = s.left - 1; line = line; place = d.num })) one
+      ∙ ap (λ (cs : List Cell). goes (record s { cells = cs; left = s.left - 1; line = line; place = d.num })) (sym (recounted (drop n s.cells) (v.num + 1) some))
 
 pub ruleset nexts = (next-over, next-spent, next-more)

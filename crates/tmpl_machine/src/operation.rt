@@ -236,7 +236,7 @@ impl<'m, 'a> Machine<'m, 'a> {
         ensures plain { IsPlain self.old → IsPlain self.new }
         ensures size { size_of self.new.stack ≡ size_of self.old.stack }
     {
-        let val = self.stack.take().val;
-        self.give(without_null(val));
+        self.stack.settle();
+        self.place += 1;
     }
 }

@@ -15,7 +15,7 @@ use crate::machine::Machine;
 use std::alloc::AllocError;
 use std::mem;
 use tmpl_run::{RunFaultKind, element_count, pair_count};
-use tmpl_values::{Cell, Val};
+use tmpl_values::Val;
 
 /// How many elements a range visits of the value, by whether it wants their index or key; none where it may not be
 /// ranged over so.
@@ -94,12 +94,7 @@ impl<'m, 'a> Machine<'m, 'a> {
     }
 
     /// Puts the values of so many variables, the element above its index or key.
-    fn declare(
-        &mut self,
-        count: usize,
-        key: Val<'a>,
-        element: &Val<'a>,
-    ) -> Result<(), AllocError>
+    fn declare(&mut self, count: usize, key: Val<'a>, element: &Val<'a>) -> Result<(), AllocError>
         ghost run: { Told }
         requires { length (cells_of self.old.stack) + count ≤ size_of self.old.stack }
         ensures step { OnOk result (state_of run self.new ≡ record (state_of run self.old) {
@@ -153,14 +148,9 @@ impl<'m, 'a> Machine<'m, 'a> {
             return Err(RunFaultKind::StepsSpent(limit));
         }
         self.left -= 1;
-        let Cell {
-            val: outer,
-            num: back,
-        } = self.stack.take();
-        let Cell { val, num } = self.stack.take();
-        self.place = back as usize;
-        self.stack.push(val, num + 1);
-        self.stack.push(outer, back);
+        self.place = self.stack.counted(0) as usize;
+        let number = self.stack.counted(1);
+        self.stack.recount(1, number + 1);
         Ok(())
     }
 

@@ -1,7 +1,8 @@
 //! The stack of a run, in cells that are lent to it.
 ghost use Rattle.std.specs.Prelude.{◌≡◌, ◌+◌, ◌-◌, ◌<◌, ◌≤◌, ◌∷◌, ◌++◌, [], drop, get_or, length, option_map, reverse};
-ghost use Rattle.std.specs.Prelude.{take, false, true, ◌^◌, slice_set, IfOk, IfSome, IsOkAnd};
+ghost use Rattle.std.specs.Prelude.{take, false, true, ◌^◌, slice_set, if◌then◌else◌, IfOk, IfSome, IsOkAnd};
 ghost use Rattle.tmpl_values.specs.Elements.{item_at};
+ghost use Rattle.tmpl_values.specs.Value.{nothing};
 ghost use Rattle.tmpl_values.specs.View.{element_of, is_made, val_of};
 ghost use Rattle.tmpl_values.specs.Text.{text_of};
 ghost use Rattle.tmpl_values.specs.Truth.{truth};
@@ -9,6 +10,7 @@ ghost use Rattle.tmpl_funcs.specs.Answer.{AreBorrowed, IsBorrowed};
 ghost use Rattle.tmpl_funcs.specs.Dispatch.{IsCall};
 ghost use Rattle.tmpl_funcs.specs.Func.{is_called, makes_text};
 ghost use Rattle.tmpl_funcs.specs.View.{values_of};
+ghost use Rattle.tmpl_run.specs.Pipeline.{without_null};
 ghost use Rattle.tmpl_run.specs.Sink.{IsPut};
 ghost use Rattle.tmpl_code.specs.Code.{piped_count};
 ghost use Rattle.tmpl_machine.specs.Cell.{cell};
@@ -112,7 +114,11 @@ impl<'s, 'a> Stack<'s, 'a> {
 
     /// Puts out the text of the newest value.
     #[tactic(auto, using(crate::proofs::StackLemmas::stacks), unfolding(crate::specs::View::cells_of))]
-    pub(crate) fn show<S: Sink>(&mut self, piece: &mut Piece<'_>, sink: &mut S) -> Result<(), SinkFault>
+    pub(crate) fn show<S: Sink>(
+        &mut self,
+        piece: &mut Piece<'_>,
+        sink: &mut S,
+    ) -> Result<(), SinkFault>
         requires found { 1 ≤ length (cells_of self.old) }
         requires countable { (S.so_far sink.old).failures < 2 ^ 64 - 1 }
         ensures cells { cells_of self.new ≡ cells_of self.old }
@@ -123,6 +129,60 @@ impl<'s, 'a> Stack<'s, 'a> {
         ensures plain { IsPlainStack self.old → IsPlainStack self.new }
     {
         show_at(self.cells, self.top - 1, piece, sink)
+    }
+
+    /// Whether the newest value is a null.
+    #[tactic(auto, using(crate::proofs::StackLemmas::stacks), unfolding(crate::specs::View::cells_of))]
+    pub(crate) fn has_null(&mut self) -> bool
+        requires { 1 ≤ length (cells_of self.old) }
+        ensures cells { cells_of self.new ≡ cells_of self.old }
+        ensures size { size_of self.new ≡ size_of self.old }
+        ensures null { without_null (slot 0 (cells_of self.old))
+            ≡ (if result then nothing else slot 0 (cells_of self.old)) }
+        ensures plain { IsPlainStack self.old → IsPlainStack self.new }
+    {
+        has_null_at(self.cells, self.top - 1)
+    }
+
+    /// What a cell counts.
+    #[tactic(auto, using(crate::proofs::StackLemmas::stacks), unfolding(crate::specs::View::cells_of))]
+    pub(crate) fn counted(&mut self, index: usize) -> u64
+        requires { index < length (cells_of self.old) }
+        ensures cells { cells_of self.new ≡ cells_of self.old }
+        ensures size { size_of self.new ≡ size_of self.old }
+        ensures counted { result ≡ (slot_cell index (cells_of self.old)).num }
+        ensures plain { IsPlainStack self.old → IsPlainStack self.new }
+    {
+        counted_at(self.cells, self.top - 1 - index)
+    }
+
+    /// Changes what a cell counts.
+    #[tactic(auto, using(crate::proofs::StackLemmas::stacks, crate::proofs::StackLemmas::cells), unfolding(crate::specs::View::cells_of))]
+    pub(crate) fn recount(&mut self, index: usize, num: u64)
+        requires { index < length (cells_of self.old) }
+        ensures cells { cells_of self.new
+            ≡ slice_set (cells_of self.old) index (cell (slot index (cells_of self.old)) num) }
+        ensures count { length (cells_of self.new) ≡ length (cells_of self.old) }
+        ensures size { size_of self.new ≡ size_of self.old }
+        ensures plain { IsPlainStack self.old → IsPlainStack self.new }
+    {
+        let at = self.top - 1 - index;
+        self.cells[at].num = num;
+    }
+
+    /// Makes a null on top nothing, and has the newest cell count nothing.
+    pub(crate) fn settle(&mut self)
+        requires { 1 ≤ length (cells_of self.old) }
+        ensures cells { cells_of self.new
+            ≡ slice_set (cells_of self.old) 0 (cell (without_null (slot 0 (cells_of self.old))) 0) }
+        ensures size { size_of self.new ≡ size_of self.old }
+        ensures plain { IsPlainStack self.old → IsPlainStack self.new }
+    {
+        if self.has_null() {
+            self.set(0, Val::Nothing);
+        } else {
+            self.recount(0, 0);
+        }
     }
 
     /// Changes the value of a slot.
@@ -251,6 +311,36 @@ fn show_at<S: Sink>(
 {
     let whole = &cells[..];
     piece.show(sink, &whole[at].val)
+}
+
+/// Whether the value of a cell is a null.
+#[tactic(auto, using(crate::proofs::StackLemmas::cells))]
+fn has_null_at(cells: &mut [Cell<'_>], at: usize) -> bool
+    requires { at < length cells.old }
+    ensures same { cells.new ≡ cells.old }
+    ensures null { without_null (cell_at cells.old at).val
+        ≡ (if result then nothing else (cell_at cells.old at).val) }
+{
+    is_null(&cells[at].val)
+}
+
+fn is_null(value: &Val<'_>) -> bool
+    ensures { without_null (val_of value.now) ≡ (if result then nothing else val_of value.now) }
+{
+    match value {
+        Val::Null => true,
+        _ => false,
+    }
+}
+
+/// What a cell counts.
+#[tactic(auto, using(crate::proofs::StackLemmas::cells))]
+fn counted_at(cells: &mut [Cell<'_>], at: usize) -> u64
+    requires { at < length cells.old }
+    ensures same { cells.new ≡ cells.old }
+    ensures counted { result ≡ (cell_at cells.old at).num }
+{
+    cells[at].num
 }
 
 /// Whether the value of a cell is not empty.
