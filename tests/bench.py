@@ -334,29 +334,54 @@ def go_renderer(folder):
     return program
 
 
-def bench_go(folder):
-    """Whole renders beside a program over Go's own text/template, where Go is there."""
-    go = go_renderer(folder)
-    if not go:
-        print("Go is not there to compare with")
-        return
-    print("Whole renders beside Go's text/template, to /dev/null")
+def tree(levels):
+    """A tree with two branches at each level, as data."""
+    return {"n": levels, "l": tree(levels - 1), "r": tree(levels - 1)} if levels else None
+
+
+def renders(folder):
+    """Whole renders: what each is, its template and its data, and how much of Go's time it may take, if that is set."""
     data = write(f"{folder}/user", [b'{"user":{"name":"Ada"},"n":7}'])
     numbers = write(f"{folder}/numbers", [b"[7", b",7" * 99_999, b"]"])
-    for name, pieces, held in (
-        ("examples/hello", [b"Hello, {{.user.name}}!\n"], data),
-        ("2 MiB of short actions", [b"{{.user.name}} has {{ .n }}.\n" * (2 * MIB // 29)], data),
-        ("a range over 100,000 elements with an if inside", [b"{{range .}}{{if .}}{{.}},{{end}}{{end}}"], numbers),
-        ("10,000 calls of printf and len", [b'{{printf "%5d" (len "ab")}}\n' * 10_000], data),
-        ("a range of printf, 100,000 times", [b'{{range $i, $e := .}}{{printf "%5d %-10d|" $i $e}}{{end}}'], numbers),
-        ("10 MB of JSON put as text", [b"{{.}}"], write(f"{folder}/members", members(10_000_000))),
-        ("10,000 definitions and a call of each", definitions(10_000), data),
-        ("18 levels of two calls each", doubling(18), data),
-        ("16 MiB of text", [LINE * (16 * MIB // len(LINE))], data),
-    ):
+    million = write(f"{folder}/million", [json.dumps([*range(1_000_000)]).encode()])
+    rows = [{"id": it, "name": f"<name> & {it}", "ok": it % 2 == 0} for it in range(30_000)]
+    table, many = (write(f"{folder}/rows{it}", [json.dumps(rows[:it]).encode()]) for it in (20_000, 30_000))
+    members_file = write(f"{folder}/members", members(10_000_000))
+    recursion = b'{{define "t"}}{{if .}}{{.n}}{{template "t" .l}}{{template "t" .r}}{{end}}{{end}}{{template "t" .}}'
+    cells = b"<tr><td>{{.id}}</td><td>{{.name}}</td><td>{{if .ok}}yes{{else}}no{{end}}</td></tr>\n"
+    return (
+        ("examples/hello", [b"Hello, {{.user.name}}!\n"], data, None),
+        ("2 MiB of short actions", [b"{{.user.name}} has {{ .n }}.\n" * (2 * MIB // 29)], data, None),
+        ("a range over 100,000 elements with an if inside", [b"{{range .}}{{if .}}{{.}},{{end}}{{end}}"], numbers, None),
+        ("a range over 1,000,000 elements", [b"{{range .}}{{.}}\n{{end}}"], million, 0.4),
+        ("a table of 20,000 rows", [b"{{range .}}", cells, b"{{end}}"], table, 0.4),
+        ("10,000 calls of printf and len", [b'{{printf "%5d" (len "ab")}}\n' * 10_000], data, None),
+        ("a range of printf, 100,000 times", [b'{{range $i, $e := .}}{{printf "%5d %-10d|" $i $e}}{{end}}'], numbers, None),
+        ("printf over 30,000 rows", [b'{{range .}}{{printf "%5d %s" .id .name}}\n{{end}}'], many, 0.4),
+        ("html and urlquery over 30,000 rows", [b"{{range .}}{{html .name}} {{urlquery .name}}\n{{end}}"], many, 0.4),
+        ("a tree of 16,383 nodes by recursion", [recursion], write(f"{folder}/tree", [json.dumps(tree(14)).encode()]), 0.4),
+        ("10 MB of JSON put as text", [b"{{.}}"], members_file, None),
+        ("10 MB of JSON and a small template", [b"{{len .}}\n"], members_file, 0.7),
+        ("10,000 definitions and a call of each", definitions(10_000), data, None),
+        ("18 levels of two calls each", doubling(18), data, None),
+        ("10 MB of text", [LINE * (10_000_000 // len(LINE))], data, 0.4),
+        ("16 MiB of text", [LINE * (16 * MIB // len(LINE))], data, None),
+    )
+
+
+def bench_renders(folder):
+    """Whole renders, beside a program over Go's own text/template where Go is there."""
+    go = go_renderer(folder)
+    print("Whole renders, to /dev/null" + ("" if go else "; Go is not there to compare with"))
+    for name, pieces, held, most in renders(folder):
         file = write(f"{folder}/template", pieces)
-        ours, theirs = medians(11, [harness.PROGRAM, "--data", held, file], [go, "render", file, held])
-        print(f"  {name}: tmpl {milliseconds(ours[0])} in {ours[1] // 1024:.0f} MiB, Go {milliseconds(theirs[0])} in {theirs[1] // 1024:.0f} MiB: {theirs[0] / ours[0]:.1f} times as fast")
+        ours, *theirs = medians(11, [harness.PROGRAM, "--data", held, file], *([[go, "render", file, held]] if go else []))
+        print(f"  {name}: tmpl {milliseconds(ours[0])} in {ours[1] // 1024:.0f} MiB", end="")
+        for seconds, peak in theirs:
+            print(f", Go {milliseconds(seconds)} in {peak // 1024:.0f} MiB: {seconds / ours[0]:.1f} times as fast", end="")
+        print()
+        if most and theirs:
+            judge("tmpl to Go", ours[0] / theirs[0][0], most)
 
 
 def main():
@@ -378,7 +403,7 @@ def main():
         bench_calls(folder)
         bench_parts(folder)
         bench_reading(folder)
-        bench_go(folder)
+        bench_renders(folder)
 
 
 if __name__ == "__main__":
