@@ -7,6 +7,7 @@ pub mod SlotLemmas
 pub mod WayLemmas
 pub mod HeaderLemmas
 pub mod StepLemmas
+pub mod NestedLemmas
 pub mod NodeLemmas
 pub mod RangeLemmas
 pub mod CallLemmas

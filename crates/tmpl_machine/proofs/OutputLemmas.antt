@@ -1,14 +1,15 @@
 -- What a sink took, and the texts of values.
 use Rattle.std.proofs.Common.{◌≡◌, ◌∙◌, ℕ, List, [], ◌++◌, take, drop, add-zero, Option, Some, None, Result, Ok, Err, refl, sym, subst, ap, append_assoc, append-nil}
+use Rattle.std.specs.Result.{IsErr}
 use Rattle.std.proofs.lemmas.List.{take-append-drop}
 use Rattle.tmpl_values.specs.Item.{bytes_of}
 use Rattle.tmpl_values.specs.Put.{Puts, Took, appended}
 use Rattle.tmpl_values.specs.Text.{text_of}
 use Rattle.tmpl_values.specs.Value.{Value, nothing, null, boolean, number, string, sequence, mapping}
 use Rattle.tmpl_run.specs.Sink.{IsPut, Told, as_puts, with_bytes}
-use Rattle.tmpl_values.proofs.PutLemmas.{IsPut-nil, appended-append, appended-nil}
+use Rattle.tmpl_values.proofs.PutLemmas.{IsPut-append, IsPut-nil, IsPut-stop, appended-append, appended-nil}
 use Rattle.tmpl_run.specs.declared.sink.SinkFault.{SinkFault}
-use Rattle.tmpl_machine.specs.Output.{Grows, given_of}
+use Rattle.tmpl_machine.specs.Output.{Grows, Passes, given_of}
 use Rattle.tmpl_machine.specs.declared.piece.Piece.{Piece}
 
 pub grows-same : (a : Told) → Grows a a
@@ -73,3 +74,17 @@ module _ {S : Type 0} (so_far : S → Told) (old new : S) (p q : Piece) (same : 
 
   pub quiet-grows : Grows (so_far old) (so_far new)
   quiet-grows = subst (λ o. Grows (so_far old) (so_far o)) (sym same) (grows-same (so_far old))
+
+-- ---- texts through a piece
+
+pub passes-none : (a : Told) (p : Piece) → Passes (Ok tt) a p a p []
+passes-none a p = record { given = IsPut-nil (given_of a p); taken = grows-same a }
+
+pub passes-append : {r : Result (Unit {0}) SinkFault} {a b c : Told} {p q w : Piece} {s t : List ℕ} → Passes (Ok tt) a p b q s → Passes r b q c w t → Passes r a p c w (s ++ t)
+passes-append {r} {a} {b} {c} first second = record { given = IsPut-append first.given second.given; taken = grows-on a b c first.taken second.taken }
+
+pub passes-stop : {r : Result (Unit {0}) SinkFault} {a b : Told} {p q : Piece} {s : List ℕ} {e : SinkFault} (t : List ℕ) → IsErr r → Passes (Err e) a p b q s → Passes r a p b q (s ++ t)
+passes-stop t err h = record { given = IsPut-stop t err h.given; taken = h.taken }
+
+pub passes-along : {r : Result (Unit {0}) SinkFault} {a b : Told} {p q : Piece} {s t : List ℕ} → Passes r a p b q s → s ≡ t → Passes r a p b q t
+passes-along {r} {a} {b} {p} {q} h e = subst (Passes r a p b q) e h

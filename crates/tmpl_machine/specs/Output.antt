@@ -1,8 +1,9 @@
 -- What a run puts out, through a piece of memory in which bytes wait for the sink.
-use Rattle.std.specs.Prelude.{◌≡◌, ℕ, List}
+use Rattle.std.specs.Prelude.{◌≡◌, ℕ, true, false, Bool, List, [], Result, Ok, Err}
 use Rattle.std.specs.List.{between}
 use Rattle.tmpl_values.specs.Put.{Puts, appended}
-use Rattle.tmpl_run.specs.Sink.{Told}
+use Rattle.tmpl_run.specs.Sink.{IsPut, Told}
+use Rattle.tmpl_run.specs.declared.sink.SinkFault.{SinkFault}
 use Rattle.tmpl_machine.specs.declared.piece.Piece.{Piece}
 
 -- the bytes that wait in a piece, the oldest first
@@ -17,3 +18,14 @@ given_of told p =
 -- what a sink had taken before begins what it has taken now
 abbrev pub Grows : Told → Told → Type 0
 Grows before now = (more : List ℕ) × (now.bytes ≡ appended before.bytes more)
+
+-- a text was given through a piece, or a put failed and a beginning was; what the sink had taken begins what it took
+pub record Passes (r : Result (Unit {0}) SinkFault) (before : Told) (p : Piece) (after : Told) (q : Piece) (text : List ℕ) : Type 0 where
+  pub given : IsPut r (given_of before p) (given_of after q) text
+  pub taken : Grows before after
+
+-- .. it was given, or nothing was
+abbrev pub Kept : Result Bool SinkFault → Told → Piece → Told → Piece → List ℕ → Type 0
+Kept (Ok true) before p after q text = Passes (Ok tt) before p after q text
+Kept (Ok false) before p after q text = Passes (Ok tt) before p after q []
+Kept (Err e) before p after q text = Passes (Err e) before p after q []

@@ -9,6 +9,7 @@ mod fault;
 mod flow;
 mod laws;
 mod machine;
+mod nested;
 mod operation;
 mod output;
 mod piece;
