@@ -21,6 +21,7 @@ use tmpl_run::{Options, Sink};
 
 impl<'m, 'a> Machine<'m, 'a> {
     /// Carries out an instruction.
+    #[inline(always)]
     pub(crate) fn execute<S: Sink>(
         &mut self,
         program: &Program<'a>,
