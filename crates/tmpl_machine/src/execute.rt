@@ -20,7 +20,8 @@ use tmpl_code::{Instruction, Program};
 use tmpl_run::{Options, Sink};
 
 impl<'m, 'a> Machine<'m, 'a> {
-    /// Carries out an instruction.
+    /// Carries out an instruction. It stands inline in the loop that calls it, which spares its answer the way over
+    /// memory.
     #[inline(always)]
     pub(crate) fn execute<S: Sink>(
         &mut self,
