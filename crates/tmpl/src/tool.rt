@@ -15,6 +15,7 @@ use crate::words::help::asks_help;
 use crate::words::request::Refused;
 use crate::words::request_of;
 use std::alloc::Global;
+use std::mem;
 use tmpl_run::Sink;
 
 /// What `--help` puts out.
@@ -58,7 +59,12 @@ pub fn tool<S: Source, O: Sink, E: Sink>(
     }
     match request_of(alloc, words) {
         Ok(request) => match read_inputs(alloc, &request, source) {
-            Ok(inputs) => answer(alloc, &request, &inputs.set, inputs.data.as_ref(), out, err),
+            Ok(inputs) => {
+                let status = answer(alloc, &request, &inputs.set, inputs.data.as_ref(), out, err);
+                // The process ends here, which gives all memory back at once; to free each value takes longer.
+                mem::forget(inputs);
+                status
+            }
             Err(stop) => refuse(err, &stop),
         },
         Err(Refused::Words) => words_refused(err),

@@ -1,5 +1,5 @@
 -- Which tree bytes are, from what a reader knows of them.
-use Rattle.std.proofs.Common.{◌≡◌, ℕ, List, Bool, true, false, Option, Some, None, refl, IsUtf8}
+use Rattle.std.proofs.Common.{◌≡◌, ℕ, List, Bool, true, false, Option, None, refl, IsUtf8}
 use Rattle.std.specs.Str.{is_utf8}
 use Rattle.std.specs.Bool.{if◌then◌else◌}
 use Rattle.std.proofs.lemmas.Str.{is_utf8-from_IsUtf8, IsUtf8-from_is_utf8}
@@ -7,8 +7,8 @@ use Rattle.serde_json.specs.Data as json
 use Rattle.serde_json.specs.Read.{read}
 use Rattle.tmpl_values.specs.Json.{tree_of}
 
-pub tree_of-some : (bs : List ℕ) (d : json.Data) → IsUtf8 bs → read bs ≡ Some d → tree_of bs ≡ Some d
-tree_of-some bs d u r = rw (is_utf8-from_IsUtf8 bs u) r
+pub tree_of-text : (bs : List ℕ) → IsUtf8 bs → tree_of bs ≡ read bs
+tree_of-text bs u = rw (is_utf8-from_IsUtf8 bs u)
 
 if-none : (bs : List ℕ) (b : Bool) (o : Option json.Data) → (b ≡ true → o ≡ None) → (if b then o else None) ≡ None
 if-none bs true o h = h refl

@@ -5,8 +5,8 @@ use Rattle.std.specs.Str.{is_utf8}
 use Rattle.serde_json.specs.Data as json
 use Rattle.serde_json.specs.Find.{as_i64}
 use Rattle.serde_json.specs.Read.{read}
-use Rattle.tmpl_values.specs.declared.json.DataFault.{DataFault}
-use Rattle.tmpl_values.specs.declared.json.DataFault.TheVariants.{NotJson, NotWhole, OutOfMemory}
+use Rattle.tmpl_values.specs.declared.from_json.DataFault.{DataFault}
+use Rattle.tmpl_values.specs.declared.from_json.DataFault.TheVariants.{NotJson, NotWhole, OutOfMemory}
 use Rattle.tmpl_values.specs.declared.data.Data.{Data}
 use Rattle.tmpl_values.specs.row.View.{value_of}
 use Rattle.tmpl_values.specs.Value.{Value, null, boolean, number, string, sequence, mapping, Items, no_item, item}

@@ -1,4 +1,6 @@
 pub mod Codes
 pub mod Falls
+pub mod Members
+pub mod Read
 pub mod Rune
 pub mod Weight

@@ -22,12 +22,12 @@ returns-in-Ok-read_inputs-clause-told g c =
     let same : option_map (λ d. value_of d.now) c.as_ref.result ≡ data_value inputs.data = search rules in
     if_told _ (g.S.Source.contents c.args.source.now) (λ files told.
     let reads = of_told _ _ files told c.in-Ok-read_inputs.ensures.reads in
-    accepted _ c.answer.result.code _ _ _ w files words c.in-Ok.ensures helps
+    accepted _ c.answer-status.result.code _ _ _ w files words c.in-Ok.ensures helps
     (inl (
       c.in-Ok-read_inputs.ensures.counts,
-      outcome_as _ c.answer.result.code _ _ _
+      outcome_as _ c.answer-status.result.code _ _ _
           (ap end_of (reads ∙ ap (finished w (set_view inputs.set)) (sym same)))
-          c.answer.ensures.outcome,
+          c.answer-status.ensures.outcome,
     )))
 
 pub returns-in-Ok-clause-told : goal.returns-in-Ok-clause-told
