@@ -1,6 +1,6 @@
 pub mod BackwardLemmas
+pub mod CostLemmas
 pub mod HeldLemmas
-pub mod NeedLemmas
 pub mod NodeLemmas
 pub mod NodeTailLemmas
 pub mod OperandLemmas

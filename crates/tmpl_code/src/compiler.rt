@@ -6,14 +6,12 @@ ghost use Rattle.tmpl_code.specs.Layout.{first_layout};
 ghost use Rattle.tmpl_code.specs.Program.{IsLinked};
 ghost use Rattle.tmpl_code.specs.computed.Held.{code_of, layout_of, places};
 
-use crate::calls::nodes_call;
 use crate::code::Code;
 use crate::instruction::Instruction;
-use crate::makes_text::nodes_make_text;
-use crate::need::{larger, need};
 use crate::node::{declared_in, put_nodes};
 use crate::program::Program;
 use crate::scope::Scope;
+use crate::survey::{Survey, survey_template};
 use std::alloc::{AllocError, Global};
 use tmpl_syntax::{Node, Set};
 
@@ -24,9 +22,7 @@ pub fn compile(alloc: Global, set: &Set) -> Result<Program<'_>, AllocError>
 {
     let mut code = Code::new(alloc);
     let mut lengths = Vec::new(alloc);
-    let mut most = 0;
-    let mut makes_text = false;
-    let mut calls = false;
+    let mut survey = Survey::nothing();
     let mut i = set.len();
     while i > 0 {
         i -= 1;
@@ -34,9 +30,7 @@ pub fn compile(alloc: Global, set: &Set) -> Result<Program<'_>, AllocError>
         let nodes = tree.nodes.as_slice();
         put_tree(alloc, &mut code, set, nodes)?;
         lengths.push(code.len())?;
-        most = larger(need(nodes)?, most);
-        makes_text = nodes_make_text(nodes) | makes_text;
-        calls = nodes_call(nodes) | calls;
+        survey = survey_template(nodes)?.with(survey);
     }
     lengths.reverse();
     to_places(lengths.as_mut_slice(), code.len());
@@ -44,9 +38,9 @@ pub fn compile(alloc: Global, set: &Set) -> Result<Program<'_>, AllocError>
         set,
         instructions: code.into_instructions(),
         starts: lengths,
-        need: most as u32,
-        makes_text,
-        calls,
+        need: survey.need as u32,
+        makes_text: survey.makes_text,
+        calls: survey.calls,
     })
 }
 

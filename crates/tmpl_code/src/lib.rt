@@ -2,16 +2,15 @@
 #![tactic(auto)]
 
 mod binding;
-mod calls;
 mod code;
 mod compiler;
+mod cost;
 mod instruction;
-mod makes_text;
-mod need;
 mod node;
 mod pipeline;
 mod program;
 mod scope;
+mod survey;
 
 pub use compiler::compile;
 pub use instruction::{Instruction, Operation, Refusal};

@@ -26,20 +26,23 @@ loop-i-preserved c =
     let here : t ∷ drop (suc i) ts ≡ drop i ts = sym (from-number ts i t c.template.ensures.value) in
     let starts = subst (λ n. LastStarts ts (drop n ts) (reverse l.lengths.items) old) next l.invariant.starts in
     let lies = subst (λ (ns : Nodes). TreeAt ts ns new old) nodes c.in_ok-put_tree.ensures in
-    let needs : c.in_ok-need.field-0 ≡ need t.1 = c.in_ok-need.ensures ∙ ap (λ (ns : Nodes). 3 + need_of_nodes ns) nodes in
-    let most : l.most ≡ largest_need (drop (suc i) ts) = l.invariant.most ∙ ap (λ n. largest_need (drop n ts)) next in
-    let makes : l.makes_text ≡ set_makes_text (drop (suc i) ts) = l.invariant.makes ∙ ap (λ n. set_makes_text (drop n ts)) next in
-    let calling : l.calls ≡ set_calls (drop (suc i) ts) = l.invariant.calling ∙ ap (λ n. set_calls (drop n ts)) next in
+    let found = c.in_ok-survey_template in
+    let needs : found.field-0.need ≡ need t.1 = found.ensures.need ∙ ap (λ (ns : Nodes). 3 + need_of_nodes ns) nodes in
+    let makes : found.field-0.makes_text ≡ nodes_make_text t.1.nodes = found.ensures.text ∙ ap nodes_make_text nodes in
+    let calling : found.field-0.calls ≡ nodes_call t.1.nodes = found.ensures.calls ∙ ap nodes_call nodes in
+    let most : l.survey.need ≡ largest_need (drop (suc i) ts) = l.invariant.most ∙ ap (λ n. largest_need (drop n ts)) next in
+    let made : l.survey.makes_text ≡ set_makes_text (drop (suc i) ts) = l.invariant.makes ∙ ap (λ n. set_makes_text (drop n ts)) next in
+    let called : l.survey.calls ≡ set_calls (drop (suc i) ts) = l.invariant.calling ∙ ap (λ n. set_calls (drop n ts)) next in
     let within : length ts ≡ length ts = λ j. length ts in
     let bound = c.template.ensures.kept.need in
-    let above = c.larger-most.ensures in
+    let joined = c.with-survey.ensures in
     record {
       within = omega arith;
       starts = starts_more ts i t l.lengths.items c.push.new.self.items c.len.result old new c.template.ensures.value c.in_ok-push.ensures.items c.len.ensures lies starts;
-      most = above ∙ (λ j. max (needs j) (most j)) ∙ ap largest_need here;
-      bounded = omega (arith, above, needs, bound);
-      makes = (λ j. (c.nodes_make_text.ensures ∙ ap nodes_make_text nodes) j || makes j) ∙ ap set_makes_text here;
-      calling = (λ j. (c.nodes_call.ensures ∙ ap nodes_call nodes) j || calling j) ∙ ap set_calls here;
+      most = joined.need ∙ (λ j. max (needs j) (most j)) ∙ ap largest_need here;
+      bounded = omega (arith, joined.need, needs, bound);
+      makes = joined.text ∙ (λ j. makes j || made j) ∙ ap set_makes_text here;
+      calling = joined.calls ∙ (λ j. calling j || called j) ∙ ap set_calls here;
     }
 
 pub returns-clause-linked : goal.returns-clause-linked

@@ -13,10 +13,10 @@ invariant-loop-i l =
     record {
       within : l.i ≤ length ts;
       starts : LastStarts ts (drop l.i ts) (reverse l.lengths.items) (code_of l.code);
-      most : l.most ≡ largest_need (drop l.i ts);
-      bounded : l.most ≤ most_need;
-      makes : l.makes_text ≡ set_makes_text (drop l.i ts);
-      calling : l.calls ≡ set_calls (drop l.i ts);
+      most : l.survey.need ≡ largest_need (drop l.i ts);
+      bounded : l.survey.need ≤ most_need;
+      makes : l.survey.makes_text ≡ set_makes_text (drop l.i ts);
+      calling : l.survey.calls ≡ set_calls (drop l.i ts);
     }
 
 abbrev pub decreases-loop-i : goal.decreases-loop-i

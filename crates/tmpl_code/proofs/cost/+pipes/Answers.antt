@@ -2,15 +2,15 @@ use Rattle.std.proofs.Common.{◌-◌, ap, arith}
 use Rattle.tmpl_grammar.specs.View.{operands_in}
 use Rattle.tmpl_grammar.specs.declared.tree.Command as held_command
 use Rattle.tmpl_code.proofs.OperandLemmas.{item-weight, item-weights, weights}
-use Rattle.tmpl_code.proofs.need.+pipes.Goals as goal
+use Rattle.tmpl_code.proofs.cost.+pipes.Goals as goal
 
-pub need_of_arguments-need_of_operand-requires : goal.need_of_arguments-need_of_operand-requires
-need_of_arguments-need_of_operand-requires t c =
+pub cost_of_arguments-cost_of_operand-requires : goal.cost_of_arguments-cost_of_operand-requires
+cost_of_arguments-cost_of_operand-requires t c =
     let below = item-weight c.args.operands.now (c.loop-i.i - 1) c.index-operands-i.result (omega arith) c.index-operands-i.is in
     (omega (arith, below), tt)
 
-pub need_of_piped-need_of_command-requires : goal.need_of_piped-need_of_command-requires
-need_of_piped-need_of_command-requires t c =
+pub cost_of_piped-cost_of_command-requires : goal.cost_of_piped-cost_of_command-requires
+cost_of_piped-cost_of_command-requires t c =
     let below = item-weights c.args.commands.now (c.loop-i.i - 1) c.index-commands-i.result (omega arith) c.index-commands-i.is in
     let same = ap (λ os. weights (operands_in os)) c.as_slice.ensures.value in
     let item = ap (λ (x : held_command.Command). weights (operands_in x.operands.items)) c.index-commands-i.is in

@@ -1,0 +1,155 @@
+//! What templates need and do, told in one walk over their nodes.
+ghost use Rattle.std.specs.Prelude.{◌≡◌, ◌+◌, ◌||◌, false, IfOk, max};
+ghost use Rattle.tmpl_code.specs.Calls as calling;
+ghost use Rattle.tmpl_code.specs.MakesText as texts;
+ghost use Rattle.tmpl_syntax.specs.Need as needs;
+ghost use Rattle.tmpl_syntax.specs.View.{control_of, node_of, nodes_in};
+
+use crate::binding::declared_count;
+use crate::cost::{Cost, cost_of_given, cost_of_pipeline, larger};
+use crate::node::left_behind;
+use crate::pipeline::sum;
+use std::alloc::AllocError;
+use tmpl_grammar::Control;
+use tmpl_syntax::{ControlNode, Node, NodeKind};
+
+/// What a node, or several, need and do.
+#[derive(Clone, Copy)]
+pub(crate) struct Survey {
+    /// How many cells of a stack they need.
+    pub need: usize,
+    /// Whether they name a function that makes a text.
+    pub makes_text: bool,
+    /// Whether they call a template.
+    pub calls: bool,
+}
+
+impl Survey {
+    /// The survey of no node.
+    pub(crate) fn nothing() -> Survey
+        ensures need { result.need ≡ 0 }
+        ensures text { result.makes_text ≡ false }
+        ensures calls { result.calls ≡ false }
+    {
+        Survey {
+            need: 0,
+            makes_text: false,
+            calls: false,
+        }
+    }
+
+    /// The survey of both, whose cells are not held at one time.
+    pub(crate) fn with(self, other: Survey) -> Survey
+        ensures need { result.need ≡ max self.need other.need }
+        ensures text { result.makes_text ≡ (self.makes_text || other.makes_text) }
+        ensures calls { result.calls ≡ (self.calls || other.calls) }
+    {
+        Survey {
+            need: larger(self.need, other.need),
+            makes_text: self.makes_text | other.makes_text,
+            calls: self.calls | other.calls,
+        }
+    }
+
+    /// The survey of the same above so many cells that are held.
+    fn above(self, held: usize) -> Result<Survey, AllocError>
+        ensures need { IfOk result (λ s. s.need ≡ held + self.need) }
+        ensures text { IfOk result (λ s. s.makes_text ≡ self.makes_text) }
+        ensures calls { IfOk result (λ s. s.calls ≡ self.calls) }
+    {
+        Ok(Survey {
+            need: sum(held, self.need)?,
+            ..self
+        })
+    }
+
+    /// The survey of a pipeline that costs so much, and of a call of a template where there is one.
+    fn of_cost(cost: Cost, calls: bool) -> Survey
+        ensures need { result.need ≡ cost.need }
+        ensures text { result.makes_text ≡ cost.makes_text }
+        ensures calls { result.calls ≡ calls }
+    {
+        Survey {
+            need: cost.need,
+            makes_text: cost.makes_text,
+            calls,
+        }
+    }
+}
+
+/// The survey of a template of these nodes, with three cells of its own.
+pub(crate) fn survey_template(nodes: &[Node]) -> Result<Survey, AllocError>
+    ensures need { IfOk result (λ s. s.need ≡ 3 + needs.need_of_nodes (nodes_in nodes.now)) }
+    ensures text { IfOk result (λ s. s.makes_text ≡ texts.nodes_make_text (nodes_in nodes.now)) }
+    ensures calls { IfOk result (λ s. s.calls ≡ calling.nodes_call (nodes_in nodes.now)) }
+{
+    survey_nodes(nodes)?.above(3)
+}
+
+/// The survey of nodes, each above the variables that those before it leave.
+#[cycle(nodes)]
+fn survey_nodes(nodes: &[Node]) -> Result<Survey, AllocError>
+    ensures need { IfOk result (λ s. s.need ≡ needs.need_of_nodes (nodes_in nodes.now)) }
+    ensures text { IfOk result (λ s. s.makes_text ≡ texts.nodes_make_text (nodes_in nodes.now)) }
+    ensures calls { IfOk result (λ s. s.calls ≡ calling.nodes_call (nodes_in nodes.now)) }
+{
+    let mut survey = Survey::nothing();
+    let mut i = nodes.len();
+    while i > 0 {
+        i -= 1;
+        let node = &nodes[i];
+        survey = survey_node(node)?.with(survey.above(left_behind(node))?);
+    }
+    Ok(survey)
+}
+
+#[cycle(nodes)]
+#[tactic(auto, using(tmpl_syntax::proofs::ViewLemmas::controls))]
+fn survey_node(node: &Node) -> Result<Survey, AllocError>
+    ensures need { IfOk result (λ s. s.need ≡ needs.need_of_node (node_of node.now).what) }
+    ensures text { IfOk result (λ s. s.makes_text ≡ texts.node_makes_text (node_of node.now).what) }
+    ensures calls { IfOk result (λ s. s.calls ≡ calling.node_calls (node_of node.now).what) }
+{
+    match &node.what {
+        NodeKind::Text(_) | NodeKind::Break | NodeKind::Continue => Ok(Survey::nothing()),
+        NodeKind::Action(header) => Ok(Survey::of_cost(cost_of_pipeline(&header.pipeline)?, false)),
+        NodeKind::Control(control) => survey_control(control),
+        NodeKind::Template(_, given) => Ok(Survey::of_cost(cost_of_given(given)?, true)),
+    }
+}
+
+#[cycle(nodes)]
+#[tactic(auto, using(tmpl_syntax::proofs::ViewLemmas::controls))]
+fn survey_control(node: &ControlNode) -> Result<Survey, AllocError>
+    ensures need { IfOk result (λ s. s.need ≡ needs.need_of_node (control_of node.now)) }
+    ensures text { IfOk result (λ s. s.makes_text ≡ texts.node_makes_text (control_of node.now)) }
+    ensures calls { IfOk result (λ s. s.calls ≡ calling.node_calls (control_of node.now)) }
+{
+    let header = cost_of_pipeline(&node.header.pipeline)?;
+    let declared = declared_count(&node.header.binding);
+    let body = survey_nodes(node.body.as_slice())?;
+    let other = survey_nodes(node.other.as_slice())?;
+    let parts = need_of_parts(node.control, declared, body.need, other.need)?;
+    Ok(Survey {
+        need: larger(header.need, parts),
+        makes_text: header.makes_text | (body.makes_text | other.makes_text),
+        calls: body.calls | other.calls,
+    })
+}
+
+/// What the parts of a control need whose header declares so many variables.
+fn need_of_parts(
+    control: Control,
+    declared: usize,
+    body: usize,
+    other: usize,
+) -> Result<usize, AllocError>
+    ensures { IfOk result (λ n. n ≡ needs.need_of_parts control declared body other) }
+{
+    let in_body = sum(declared, body)?;
+    match control {
+        Control::If => Ok(larger(in_body, sum(declared, other)?)),
+        Control::With => Ok(larger(sum(1, in_body)?, sum(declared, other)?)),
+        Control::Range => Ok(larger(sum(2, in_body)?, other)),
+    }
+}
