@@ -15,7 +15,7 @@ use json::{Invalid, Reader, Scratch, Token};
 use std::alloc::{AllocError, AllocFailed, Global};
 use thiserror::Error;
 
-/// Lists and maps may stand in so many others, and one more.
+/// So many lists and maps may be inside one another.
 const DEPTH: usize = 127;
 
 /// Why bytes are no data.
@@ -152,7 +152,8 @@ fn copied(alloc: Global, text: &str) -> Result<Bytes, AllocError>
 #[cycle(read)]
 #[inline(never)]
 fn read_list(alloc: Global, reader: &mut Reader<'_>, depth: usize) -> Result<Option<Row>, ReadFault>
-    ensures ok { IfOk result (λ row. converted items_in (items (value depth) (length reader.old) reader.old)
+    ensures ok { IfOk result (λ row.
+        converted items_in (items (value depth) (length reader.old) reader.old)
         ≡ Some (row, reader.new)) }
     ensures err { result ≡ Err ReadFault.NotJson
         → converted items_in (items (value depth) (length reader.old) reader.old) ≡ None }
@@ -177,7 +178,8 @@ fn read_map(
     reader: &mut Reader<'_>,
     depth: usize,
 ) -> Result<Option<Table>, ReadFault>
-    ensures ok { IfOk result (λ table. converted (entries_in no_members) (members (value depth) (length reader.old) reader.old)
+    ensures ok { IfOk result (λ table.
+        converted (entries_in no_members) (members (value depth) (length reader.old) reader.old)
         ≡ Some (table, reader.new)) }
     ensures err { result ≡ Err ReadFault.NotJson
         → converted (entries_in no_members) (members (value depth) (length reader.old) reader.old) ≡ None }
