@@ -11,6 +11,7 @@ pub mod QuoteLemmas
 pub mod ReadLemmas
 pub mod RestLemmas
 pub mod RisingLemmas
+pub mod RowLemmas
 pub mod RuneLemmas
 pub mod TreeLemmas
 pub mod TruthLemmas

@@ -189,7 +189,7 @@ fn read_map(
     'members: while let Some(key) = reader.next_key()? {
         let key = String::from_str(alloc, key)?;
         let member = read(alloc, reader, depth)?;
-        found.put(key, member)?;
+        found.put(alloc, key, member)?;
     }
     Ok(found.into_table(alloc)?)
 }

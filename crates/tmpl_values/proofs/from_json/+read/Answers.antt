@@ -143,7 +143,7 @@ read_list-returns-clause-ok t c =
     l.invariant.2 ∙ ap (parse_map (so_far l.whole l.found.items)) over ∙ all_read l.whole l.found.items r ∙ ap (λ vs. Some (vs, r)) seen
 
 pub read_map-members-init : goal.read_map-members-init
-read_map-members-init t c = (length c.args.reader.now, no_members, omega arith, refl, sym c.new-found.ensures, omega arith)
+read_map-members-init t c = (length c.args.reader.now, no_members, omega arith, refl, sym c.new-found.ensures.none, c.new-found.ensures.rising, omega arith)
 
 pub read_map-returns-in_err-key-clause-err : goal.read_map-returns-in_err-key-clause-err
 read_map-returns-in_err-key-clause-err t c refused =
@@ -172,8 +172,9 @@ read_map-members-preserved t c =
       put k turn.0 l.invariant.1,
       omega (arith, l.invariant.2),
       l.invariant.3 ∙ turn.2,
-      tree_members-put k turn.0 l.invariant.1 ∙ ap₂ (put_member k) turn.1 l.invariant.4 ∙ ap (λ name. put_member name (option_map value_of c.in_ok-member.member) (held l.found)) (sym copied) ∙ sym c.in_ok-put.ensures,
-      omega (arith, l.invariant.5),
+      tree_members-put k turn.0 l.invariant.1 ∙ ap₂ (put_member k) turn.1 l.invariant.4 ∙ ap (λ name. put_member name (option_map value_of c.in_ok-member.member) (held l.found)) (sym copied) ∙ sym c.in_ok-put.ensures.put,
+      c.in_ok-put.ensures.rising,
+      omega (arith, l.invariant.6),
     )
 
 pub read_map-returns-clause-ok : goal.read_map-returns-clause-ok

@@ -2,7 +2,7 @@ use Rattle.std.proofs.Common.{◌≡◌, ℕ, ◌+◌, ◌*◌, ◌≤◌, lengt
 use Rattle.json.specs.Json.{items, members, value, parse_map}
 use Rattle.serde_json.specs.Data.{Members, no_members}
 use Rattle.serde_json.specs.Read.{converted}
-use Rattle.tmpl_values.specs.computed.Members.{held}
+use Rattle.tmpl_values.specs.computed.Members.{held, IsRising}
 use Rattle.tmpl_values.specs.computed.Read.{items_in, entries_in}
 use Rattle.tmpl_values.proofs.MemberLemmas.{tree_members}
 use Rattle.tmpl_values.proofs.ReadLemmas.{so_far}
@@ -32,7 +32,7 @@ abbrev pub invariant-read_map-members : goal.invariant-read_map-members
 invariant-read_map-members l =
     (n : ℕ) × (old : Members) × (length l.reader ≤ n)
     × (converted (entries_in no_members) (members (value l.depth) (length l.initial.reader) l.initial.reader) ≡ converted (entries_in old) (members (value l.depth) n l.reader))
-    × (tree_members old ≡ held l.found)
+    × (tree_members old ≡ held l.found) × IsRising l.found
     × (length l.reader ≤ length l.initial.reader)
 
 abbrev pub decreases-read_map-members : goal.decreases-read_map-members

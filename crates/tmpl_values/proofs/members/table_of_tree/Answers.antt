@@ -1,7 +1,7 @@
 use Rattle.std.proofs.Common.{◌∙◌, ap, sym, [], ◌++◌, ◌∷◌, Some}
 use Rattle.tmpl_values.proofs.RestLemmas.{all_entries-step, all_entries-end}
 use Rattle.tmpl_values.proofs.RisingLemmas.{AreRising-sorted}
-use Rattle.tmpl_values.proofs.members.Members.into_table.Goals as goal
+use Rattle.tmpl_values.proofs.members.table_of_tree.Goals as goal
 
 pub loop-key-preserved : goal.loop-key-preserved
 loop-key-preserved c =
@@ -12,8 +12,8 @@ loop-key-preserved c =
 
 pub new-requires-2 : goal.new-requires-2
 new-requires-2 c =
-    AreRising-sorted c.args.self.entries.entries _ c.len.ensures.ordered
-    (all_entries-end _ _ _ c.loop-key.invariant c.in-None.ensures.steps.0)
+    AreRising-sorted c.args.tree.entries _ c.len.ensures.ordered (all_entries-end _ _ _ c.loop-key.invariant c.in-None.ensures.steps.0)
 
 pub returns : goal.returns
-returns c = ap Some c.new-2.ensures ∙ sym (all_entries-end _ _ _ c.loop-key.invariant c.in-None.ensures.steps.0)
+returns c =
+    ap Some c.new-2.ensures ∙ sym (all_entries-end _ _ _ c.loop-key.invariant c.in-None.ensures.steps.0)
