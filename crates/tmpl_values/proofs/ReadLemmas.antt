@@ -2,11 +2,11 @@
 use Rattle.std.proofs.Common.{◌≡◌, ℕ, zero, suc, ◌-◌, ◌<◌, ◌≤◌, List, [], ◌∷◌, ◌++◌, length, Bor, Bool, true, false, if◌then◌else◌, Option, Some, None, Err, option_map, option_and_then, refl, ap, ◌∙◌}
 use Rattle.json.specs.Token.{Token}
 use Rattle.json.specs.Json as json
-use Rattle.json.specs.Json.{Parse, parse_map, after_end_array, read_key, items_step, items, members, value_with, if_last}
+use Rattle.json.specs.Json.{Parse, parse_map, after_end_array, read_key, items_step, items, members, value, value_with, if_last}
 use Rattle.json.specs.Reads.{token_of}
 use Rattle.json.specs.declared.token.Token.{Token as Held}
 use Rattle.json.specs.declared.token.Token.TheVariants as token
-use Rattle.json.proofs.Grammar.{items_end, items_more, members_end, members_no_key, members_more}
+use Rattle.json.proofs.Grammar.{items_end, items_more, value-begin_array, value-begin_object, members_end, members_no_key, members_more}
 use Rattle.serde_json.specs.Data as tree
 use Rattle.serde_json.specs.Find.{as_i64}
 use Rattle.serde_json.specs.Read.{of_json, of_items, of_members, converted}
@@ -73,9 +73,14 @@ array_tree : (o : Option tree.Items) → option_map tree_value (option_map tree.
 array_tree None = refl
 array_tree (Some ds) = refl
 
-pub converted-array : (o : Option (json.Items × List Token)) → converted value_in (parse_map json.array o) ≡ parse_map (option_map sequence) (converted items_in o)
+converted-array : (o : Option (json.Items × List Token)) → converted value_in (parse_map json.array o) ≡ parse_map (option_map sequence) (converted items_in o)
 converted-array None = refl
 converted-array (Some p) = ap (option_map (λ b. (b, p.1))) (array_tree (of_items p.0)) ∙ twice (option_map sequence) p.1 (items_in p.0)
+
+-- a list is what its items are
+pub list_read : (depth : ℕ) (ts r : List Token) → ts ≡ Token.begin_array ∷ r → 0 < depth
+    → converted value_in (value depth ts) ≡ parse_map (option_map sequence) (converted items_in (items (value (depth - 1)) (length r) r))
+list_read depth ts r is some = ap (converted value_in) (ap (value depth) is ∙ value-begin_array depth r some) ∙ converted-array (items (value (depth - 1)) (length r) r)
 
 -- an item before others: none where it is none, or they are
 abbrev pub one : Option Value → Option Items → Option Items
@@ -151,9 +156,14 @@ object_tree : (o : Option tree.Members) → option_map tree_value (option_map tr
 object_tree None = refl
 object_tree (Some ms) = refl
 
-pub converted-object : (o : Option (json.Members × List Token)) → converted value_in (parse_map json.object o) ≡ parse_map (option_map mapping) (converted (entries_in tree.no_members) o)
+converted-object : (o : Option (json.Members × List Token)) → converted value_in (parse_map json.object o) ≡ parse_map (option_map mapping) (converted (entries_in tree.no_members) o)
 converted-object None = refl
 converted-object (Some p) = ap (option_map (λ b. (b, p.1))) (object_tree (of_members p.0 tree.no_members)) ∙ twice (option_map mapping) p.1 (entries_in tree.no_members p.0)
+
+-- a map is what its members are
+pub map_read : (depth : ℕ) (ts r : List Token) → ts ≡ Token.begin_object ∷ r → 0 < depth
+    → converted value_in (value depth ts) ≡ parse_map (option_map mapping) (converted (entries_in tree.no_members) (members (value (depth - 1)) (length r) r))
+map_read depth ts r is some = ap (converted value_in) (ap (value depth) is ∙ value-begin_object depth r some) ∙ converted-object (members (value (depth - 1)) (length r) r)
 
 with_member : (k : List ℕ) (j : json.Json) (d : tree.Data) (old : tree.Members) → of_json j ≡ Some d → (o : Option (json.Members × List Token))
     → converted (entries_in old) (parse_map (json.member k j) o) ≡ converted (entries_in (tree.put k d old)) o

@@ -1,6 +1,7 @@
 -- The members of a JSON object while it is read.
 use Rattle.std.specs.Prelude.{ℕ, suc, Result, Ok, Err, List, [], ◌∷◌, map, Option, Some, option_map, option_and_then, String, string_bytes}
 use Rattle.std.specs.Ordering.{nat_cmp, match_ordering}
+use Rattle.std.specs.BTreeMap.{insert_entry}
 use Rattle.std.specs.Cmp.Lexicographic.{slice_cmp}
 use Rattle.std.specs.List.Sorted.{IsStrictlySortedBy}
 use Rattle.std.specs.Map.{keys_of}
@@ -18,8 +19,7 @@ Member = List ℕ × Option Value
 
 -- the members, with v at k
 abbrev pub put : List ℕ → Option Value → List Member → List Member
-put k v [] = (k, v) ∷ []
-put k v (m ∷ ms) = match_ordering (slice_cmp nat_cmp k m.0) ((k, v) ∷ m ∷ ms) ((m.0, v) ∷ ms) (m ∷ put k v ms)
+put k v ms = insert_entry (slice_cmp nat_cmp) ms k v
 
 -- the entries that they are: none where one has no value
 abbrev pub all_entries : List Member → Option Entries

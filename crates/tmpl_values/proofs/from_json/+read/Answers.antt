@@ -1,7 +1,7 @@
 use Rattle.std.proofs.Common.{◌≡◌, ◌-◌, ◌<◌, true, [], ◌∷◌, length, if◌then◌else◌, Some, None, option_map, string_bytes, refl, sym, ap, ap₂, ◌∙◌, arith, rules}
-use Rattle.json.specs.Json.{parse_map, after_end_array, read_key, items, members, value}
+use Rattle.json.specs.Json.{parse_map, after_end_array, read_key, items, value}
 use Rattle.json.specs.Reads.{token_of}
-use Rattle.json.proofs.Grammar.{value_is, value-begin_array, value-begin_object, read_key-shorter}
+use Rattle.json.proofs.Grammar.{value_is, read_key-shorter}
 use Rattle.serde_json.specs.Data.{no_members, put}
 use Rattle.serde_json.specs.Read.{converted, number_of}
 use Rattle.tmpl_values.specs.Value.{number, sequence, mapping}
@@ -10,7 +10,7 @@ use Rattle.tmpl_values.specs.computed.Members.{all_entries, held}
 use Rattle.tmpl_values.specs.computed.Members.{put as put_member}
 use Rattle.tmpl_values.specs.computed.Read.{value_in, items_in}
 use Rattle.tmpl_values.proofs.MemberLemmas.{tree_members-put, all_entries-tree_members}
-use Rattle.tmpl_values.proofs.ReadLemmas.{no_value, number_tree, converted-array, converted-object, item_read, item_refused, items_over, member_read, member_refused, key_refused, members_over, so_far, none_so_far, one_more, one_missing, all_read}
+use Rattle.tmpl_values.proofs.ReadLemmas.{no_value, number_tree, list_read, map_read, item_read, item_refused, items_over, member_read, member_refused, key_refused, members_over, so_far, none_so_far, one_more, one_missing, all_read}
 use Rattle.tmpl_values.proofs.from_json.+read.Goals as goal
 use Rattle.tmpl_values.proofs.from_json.+read.Goals.{read-in_default-token-via-in-BeginArray+else-depth-gt0, read-in_default-token-via-in-BeginObject+else-depth-gt0-2, read-in_default-token-via-in_default-token}
 
@@ -20,26 +20,26 @@ read-returns-in_default-clause-err t c refused = ap (converted value_in) (ap (va
 pub read-returns-in_err-read_list-in-BeginArray-clause-err : goal.read-returns-in_err-read_list-in-BeginArray-clause-err
 read-returns-in_err-read_list-in-BeginArray-clause-err t c refused =
     let is = c.in-Some.ensures.value ∙ ap (λ k. token_of k ∷ c.next.new.self) c.in-BeginArray.is in
-    let opened = ap (converted value_in) (ap (value c.args.depth) is ∙ value-begin_array c.args.depth c.next.new.self (omega arith)) ∙ converted-array (items (value (c.args.depth - 1)) (length c.next.new.self) c.next.new.self) in
+    let opened = list_read c.args.depth c.args.reader.now c.next.new.self is (omega arith) in
     opened ∙ ap (parse_map (option_map sequence)) (c.read_list.ensures.err (grind arith))
 
 pub read-returns-in_ok-read_list-in-BeginArray-clause-ok : goal.read-returns-in_ok-read_list-in-BeginArray-clause-ok
 read-returns-in_ok-read_list-in-BeginArray-clause-ok t c =
     let is = c.in-Some.ensures.value ∙ ap (λ k. token_of k ∷ c.next.new.self) c.in-BeginArray.is in
-    let opened = ap (converted value_in) (ap (value c.args.depth) is ∙ value-begin_array c.args.depth c.next.new.self (omega arith)) ∙ converted-array (items (value (c.args.depth - 1)) (length c.next.new.self) c.next.new.self) in
+    let opened = list_read c.args.depth c.args.reader.now c.next.new.self is (omega arith) in
     let seen : option_map sequence c.in_ok-read_list-in-BeginArray.field-0 ≡ option_map value_of c.map-in-BeginArray.result = grind arith in
     opened ∙ ap (parse_map (option_map sequence)) c.in_ok-read_list-in-BeginArray.ensures.ok ∙ ap (λ d. Some (d, c.read_list.new.reader)) seen
 
 pub read-returns-in_err-read_map-in-BeginObject-clause-err : goal.read-returns-in_err-read_map-in-BeginObject-clause-err
 read-returns-in_err-read_map-in-BeginObject-clause-err t c refused =
     let is = c.in-Some.ensures.value ∙ ap (λ k. token_of k ∷ c.next.new.self) c.in-BeginObject.is in
-    let opened = ap (converted value_in) (ap (value c.args.depth) is ∙ value-begin_object c.args.depth c.next.new.self (omega arith)) ∙ converted-object (members (value (c.args.depth - 1)) (length c.next.new.self) c.next.new.self) in
+    let opened = map_read c.args.depth c.args.reader.now c.next.new.self is (omega arith) in
     opened ∙ ap (parse_map (option_map mapping)) (c.read_map.ensures.err (grind arith))
 
 pub read-returns-in_ok-read_map-in-BeginObject-clause-ok : goal.read-returns-in_ok-read_map-in-BeginObject-clause-ok
 read-returns-in_ok-read_map-in-BeginObject-clause-ok t c =
     let is = c.in-Some.ensures.value ∙ ap (λ k. token_of k ∷ c.next.new.self) c.in-BeginObject.is in
-    let opened = ap (converted value_in) (ap (value c.args.depth) is ∙ value-begin_object c.args.depth c.next.new.self (omega arith)) ∙ converted-object (members (value (c.args.depth - 1)) (length c.next.new.self) c.next.new.self) in
+    let opened = map_read c.args.depth c.args.reader.now c.next.new.self is (omega arith) in
     let seen : option_map mapping c.in_ok-read_map-in-BeginObject.field-0 ≡ option_map value_of c.map-in-BeginObject.result = search rules in
     opened ∙ ap (parse_map (option_map mapping)) c.in_ok-read_map-in-BeginObject.ensures.ok ∙ ap (λ d. Some (d, c.read_map.new.reader)) seen
 
