@@ -7,7 +7,7 @@ use tmpl_funcs::Func;
 use tmpl_values::Bytes;
 
 /// Puts out the name of each template and then its instructions.
-pub(crate) fn put_listing(writer: &mut impl Write, program: &Program<'_>) -> io::Result<()> {
+pub(crate) fn put_listing(writer: &mut impl Write, program: &Program<'_, '_>) -> io::Result<()> {
     let mut names = program.set.names();
     for (place, instruction) in program.instructions.iter().enumerate() {
         if program.starts.contains(&place) {

@@ -105,12 +105,12 @@ fn request_in(words: &[String]) -> Option<Request<'_>> {
 fn load(
     rt: &(impl Files + AllocGlobal),
     alloc: Global,
-    set: &mut Set,
+    set: &mut Set<'static>,
     files: &[String],
 ) -> io::Result<bool> {
     for file in files {
         let bytes = fs::read(rt, file.as_str())?;
-        if parse_file(alloc, set, file.as_str(), bytes.as_slice()).is_err() {
+        if parse_file(alloc, set, file.as_str(), bytes.leak()).is_err() {
             return Ok(false);
         }
     }
@@ -169,7 +169,7 @@ pub(crate) fn run_words(rt: &HostRuntime, words: &[String], in_arrays: bool) -> 
 /// Runs the template of the set that is asked for, if there is one.
 fn run_asked(
     rt: &HostRuntime,
-    set: &Set,
+    set: &Set<'_>,
     data: Option<&Data>,
     request: &Request<'_>,
     in_arrays: bool,
@@ -187,7 +187,7 @@ fn run_asked(
 /// Compiles the set, and runs its template of this number.
 fn run_template<'a>(
     rt: &HostRuntime,
-    set: &'a Set,
+    set: &'a Set<'_>,
     number: usize,
     data: Option<&'a Data>,
     request: &Request<'_>,
@@ -202,7 +202,7 @@ fn run_template<'a>(
 /// Runs a template of the program.
 fn run_program<'a>(
     rt: &HostRuntime,
-    program: &Program<'a>,
+    program: &Program<'a, '_>,
     entry: Entry,
     data: Option<&'a Data>,
     request: &Request<'_>,
@@ -221,7 +221,7 @@ fn run_program<'a>(
 /// Runs over as many cells as the room and those beyond it.
 fn run_in_vecs<'a>(
     rt: &HostRuntime,
-    program: &Program<'a>,
+    program: &Program<'a, '_>,
     entry: Entry,
     data: Option<&'a Data>,
     request: &Request<'_>,
@@ -249,7 +249,7 @@ fn run_in_vecs<'a>(
 /// Runs over arrays, to a sink that keeps its bytes in one, which is then put out. So it takes no memory of its own.
 fn run_in_arrays<'a>(
     rt: &HostRuntime,
-    program: &Program<'a>,
+    program: &Program<'a, '_>,
     entry: Entry,
     data: Option<&'a Data>,
     request: &Request<'_>,
@@ -312,7 +312,7 @@ fn blank_bytes(alloc: Global, count: usize) -> Result<Vec<u8>, AllocError> {
 /// Runs as often as the words say, over cells that are as the run before left them, and says how each run ended.
 fn run_often<'a, W: Write, E: Write>(
     alloc: Global,
-    program: &Program<'a>,
+    program: &Program<'a, '_>,
     entry: Entry,
     data: Option<&'a Data>,
     request: &Request<'_>,

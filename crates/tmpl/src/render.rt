@@ -75,7 +75,7 @@ fn tell_end<E: Sink>(end: Result<(), RunError<'_>>, err: &mut E) -> Status
 }
 
 /// These options with no greater depth than that to which calls of the program can go, so that its stack is no larger.
-fn fitted(options: &Options, program: &Program<'_>) -> Options
+fn fitted(options: &Options, program: &Program<'_, '_>) -> Options
     ensures { let rules = rules_of options.now in
         rules_of result ≡ record rules { depth_limit = deepest rules.depth_limit (set_view program.now.set.now) } }
 {
@@ -90,7 +90,7 @@ fn fitted(options: &Options, program: &Program<'_>) -> Options
 fn run_program<'a, O: Sink, E: Sink>(
     alloc: Global,
     options: &Options,
-    program: &Program<'a>,
+    program: &Program<'a, '_>,
     number: usize,
     data: Option<&'a Data>,
     out: &mut O,
@@ -132,7 +132,7 @@ fn run_program<'a, O: Sink, E: Sink>(
 fn run_template<'a, O: Sink, E: Sink>(
     alloc: Global,
     options: &Options,
-    set: &'a Set,
+    set: &'a Set<'_>,
     number: usize,
     data: Option<&'a Data>,
     out: &mut O,
@@ -174,7 +174,7 @@ fn asked_name<'a>(request: &Request<'a>) -> &'a [u8]
 pub(crate) fn render<O: Sink, E: Sink>(
     alloc: Global,
     request: &Request<'_>,
-    set: &Set,
+    set: &Set<'_>,
     data: Option<&Data>,
     out: &mut O,
     err: &mut E,

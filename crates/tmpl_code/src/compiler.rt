@@ -16,7 +16,7 @@ use std::alloc::{AllocError, Global};
 use tmpl_syntax::{Node, Set};
 
 /// The code of the templates of a set.
-pub fn compile(alloc: Global, set: &Set) -> Result<Program<'_>, AllocError>
+pub fn compile<'s, 'b>(alloc: Global, set: &'s Set<'b>) -> Result<Program<'s, 'b>, AllocError>
     ensures linked { IfOk result (λ p. IsLinked p) }
     ensures set { IfOk result (λ p. set_view p.set.now ≡ set_view set.now) }
 {
@@ -45,11 +45,11 @@ pub fn compile(alloc: Global, set: &Set) -> Result<Program<'_>, AllocError>
 }
 
 /// Puts the code of a template before that of the others.
-fn put_tree<'s>(
+fn put_tree<'s, 'b>(
     alloc: Global,
     code: &mut Code<'s>,
-    set: &'s Set,
-    nodes: &'s [Node],
+    set: &Set<'_>,
+    nodes: &'s [Node<'b>],
 ) -> Result<(), AllocError>
     ensures { OnOk result (spec.TreeAt (set_view set.now) (nodes_in nodes.now) (code_of code.new) (code_of code.old)) }
 {

@@ -31,7 +31,7 @@ pub(crate) struct Around {
 }
 
 /// How many variables the nodes leave.
-pub(crate) fn declared_in(nodes: &[Node]) -> Result<usize, AllocError>
+pub(crate) fn declared_in(nodes: &[Node<'_>]) -> Result<usize, AllocError>
     ensures { IfOk result (λ n. n ≡ declared_in (nodes_in nodes.now)) }
 {
     let mut count = 0;
@@ -44,7 +44,7 @@ pub(crate) fn declared_in(nodes: &[Node]) -> Result<usize, AllocError>
 }
 
 /// How many variables a node leaves.
-pub(crate) fn left_behind(node: &Node) -> usize
+pub(crate) fn left_behind(node: &Node<'_>) -> usize
     ensures { result ≡ left_behind (node_of node.now).what }
 {
     match &node.what {
@@ -58,7 +58,7 @@ pub(crate) fn left_behind(node: &Node) -> usize
 }
 
 /// The variables that a node leaves come into scope.
-fn grow<'s>(scope: &mut Scope<'s>, node: &'s Node) -> Result<(), AllocError>
+fn grow<'s, 'b>(scope: &mut Scope<'s>, node: &'s Node<'b>) -> Result<(), AllocError>
     ensures { OnOk result (layout_of scope.new ≡ grown (node_of node.now).what (layout_of scope.old)) }
 {
     match &node.what {
@@ -72,7 +72,7 @@ fn grow<'s>(scope: &mut Scope<'s>, node: &'s Node) -> Result<(), AllocError>
 }
 
 /// They go out of scope.
-fn shrink(scope: &mut Scope<'_>, node: &Node)
+fn shrink(scope: &mut Scope<'_>, node: &Node<'_>)
     ensures { layout_of scope.new ≡ shrunk (node_of node.now).what (layout_of scope.old) }
 {
     match &node.what {
@@ -86,7 +86,7 @@ fn shrink(scope: &mut Scope<'_>, node: &Node)
 }
 
 /// The variables that the nodes leave come into scope.
-fn grow_all<'s>(scope: &mut Scope<'s>, nodes: &'s [Node]) -> Result<(), AllocError>
+fn grow_all<'s, 'b>(scope: &mut Scope<'s>, nodes: &'s [Node<'b>]) -> Result<(), AllocError>
     ensures { OnOk result (layout_of scope.new ≡ all_grown (nodes_in nodes.now) (layout_of scope.old)) }
 {
     for node in nodes {
@@ -172,12 +172,12 @@ fn put_given<'s>(
 
 /// Puts nodes, each of which costs a step.
 #[cycle(nodes)]
-pub(crate) fn put_nodes<'s>(
+pub(crate) fn put_nodes<'s, 'b>(
     code: &mut Code<'s>,
     scope: &mut Scope<'s>,
-    set: &'s Set,
+    set: &Set<'_>,
     exit: Option<Around>,
-    nodes: &'s [Node],
+    nodes: &'s [Node<'b>],
 ) -> Result<(), AllocError>
     requires { IsOpen exit (code_of code.old) (layout_of scope.old) }
     ensures code { OnOk result (spec.NodesAt (set_view set.now) (nodes_in nodes.now) (layout_of scope.old)
@@ -197,7 +197,7 @@ pub(crate) fn put_nodes<'s>(
 }
 
 /// What takes the step of a node, or, for a call of a template that is there, looks whether one is left.
-fn first_instruction<'s>(set: &Set, node: &Node) -> Instruction<'s>
+fn first_instruction<'s>(set: &Set<'_>, node: &Node<'_>) -> Instruction<'s>
     ensures { instruction_of result ≡ spec.step_of (set_view set.now) (node_of node.now).line (node_of node.now).what }
 {
     match &node.what {
@@ -215,12 +215,12 @@ fn first_instruction<'s>(set: &Set, node: &Node) -> Instruction<'s>
 /// Puts a node whose step is taken.
 #[cycle(nodes)]
 #[tactic(auto, using(tmpl_syntax::proofs::ViewLemmas::controls))]
-fn put_node<'s>(
+fn put_node<'s, 'b>(
     code: &mut Code<'s>,
     scope: &mut Scope<'s>,
-    set: &'s Set,
+    set: &Set<'_>,
     exit: Option<Around>,
-    node: &'s Node,
+    node: &'s Node<'b>,
 ) -> Result<(), AllocError>
     requires { IsOpen exit (code_of code.old) (layout_of scope.old) }
     ensures code { OnOk result (spec.NodeAt (set_view set.now) (node_of node.now).line (node_of node.now).what
@@ -228,7 +228,7 @@ fn put_node<'s>(
     ensures scope { OnOk result (layout_of scope.new ≡ layout_of scope.old) }
 {
     match &node.what {
-        NodeKind::Text(bytes) => code.push(Instruction::Text(bytes.as_slice())),
+        NodeKind::Text(bytes) => code.push(Instruction::Text(bytes)),
         NodeKind::Action(header) => {
             put_shown(code, &header.binding)?;
             put_header(code, scope, header)
@@ -245,13 +245,13 @@ fn put_node<'s>(
 /// Puts a control.
 #[cycle(nodes)]
 #[tactic(auto, using(tmpl_syntax::proofs::ViewLemmas::controls))]
-fn put_control<'s>(
+fn put_control<'s, 'b>(
     code: &mut Code<'s>,
     scope: &mut Scope<'s>,
-    set: &'s Set,
+    set: &Set<'_>,
     exit: Option<Around>,
     line: u64,
-    node: &'s ControlNode,
+    node: &'s ControlNode<'b>,
 ) -> Result<(), AllocError>
     requires { IsOpen exit (code_of code.old) (layout_of scope.old) }
     ensures code { OnOk result (spec.NodeAt (set_view set.now) line (control_of node.now)
@@ -279,14 +279,14 @@ fn put_control<'s>(
 
 /// Puts the parts of an `if`.
 #[cycle(nodes)]
-fn put_if<'s>(
+fn put_if<'s, 'b>(
     code: &mut Code<'s>,
     scope: &mut Scope<'s>,
-    set: &'s Set,
+    set: &Set<'_>,
     exit: Option<Around>,
     binding: &'s Binding,
-    body: &'s [Node],
-    other: &'s [Node],
+    body: &'s [Node<'b>],
+    other: &'s [Node<'b>],
 ) -> Result<(), AllocError>
     requires { IsOpen exit (code_of code.old) (layout_of scope.old) }
     ensures code { OnOk result (spec.IfAt (binding_of binding.now)
@@ -319,13 +319,13 @@ fn put_if<'s>(
 /// Puts a part behind a header.
 #[cycle(nodes)]
 #[tactic(auto, using(crate::proofs::NodeLemmas::offs))]
-fn put_part<'s>(
+fn put_part<'s, 'b>(
     code: &mut Code<'s>,
     scope: &mut Scope<'s>,
-    set: &'s Set,
+    set: &Set<'_>,
     exit: Option<Around>,
     binding: &'s Binding,
-    nodes: &'s [Node],
+    nodes: &'s [Node<'b>],
 ) -> Result<(), AllocError>
     requires { IsOpen exit (code_of code.old) (layout_of scope.old) }
     ensures code { OnOk result (spec.NodesAt (set_view set.now) (nodes_in nodes.now)
@@ -341,14 +341,14 @@ fn put_part<'s>(
 
 /// Puts the parts of a `with`.
 #[cycle(nodes)]
-fn put_with<'s>(
+fn put_with<'s, 'b>(
     code: &mut Code<'s>,
     scope: &mut Scope<'s>,
-    set: &'s Set,
+    set: &Set<'_>,
     exit: Option<Around>,
     binding: &'s Binding,
-    body: &'s [Node],
-    other: &'s [Node],
+    body: &'s [Node<'b>],
+    other: &'s [Node<'b>],
 ) -> Result<(), AllocError>
     requires { IsOpen exit (code_of code.old) (layout_of scope.old) }
     ensures code { OnOk result (spec.WithAt (binding_of binding.now)
@@ -381,13 +381,13 @@ fn put_with<'s>(
 /// Puts a part behind a header and a saved dot.
 #[cycle(nodes)]
 #[tactic(auto, using(crate::proofs::NodeLemmas::offs))]
-fn put_dotted_part<'s>(
+fn put_dotted_part<'s, 'b>(
     code: &mut Code<'s>,
     scope: &mut Scope<'s>,
-    set: &'s Set,
+    set: &Set<'_>,
     exit: Option<Around>,
     binding: &'s Binding,
-    nodes: &'s [Node],
+    nodes: &'s [Node<'b>],
 ) -> Result<(), AllocError>
     requires { IsOpen exit (code_of code.old) (layout_of scope.old) }
     ensures code { OnOk result (spec.NodesAt (set_view set.now) (nodes_in nodes.now)
@@ -405,15 +405,15 @@ fn put_dotted_part<'s>(
 
 /// Puts the parts of a range.
 #[cycle(nodes)]
-fn put_range<'s>(
+fn put_range<'s, 'b>(
     code: &mut Code<'s>,
     scope: &mut Scope<'s>,
-    set: &'s Set,
+    set: &Set<'_>,
     exit: Option<Around>,
     line: u64,
     binding: &'s Binding,
-    body: &'s [Node],
-    other: &'s [Node],
+    body: &'s [Node<'b>],
+    other: &'s [Node<'b>],
 ) -> Result<(), AllocError>
     requires { IsOpen exit (code_of code.old) (layout_of scope.old) }
     ensures code { OnOk result (spec.RangeAt line (binding_of binding.now)
@@ -457,13 +457,13 @@ fn put_range<'s>(
 /// Puts the body of a range, and before it what binds the variables.
 #[cycle(nodes)]
 #[tactic(auto, using(crate::proofs::NodeLemmas::offs))]
-fn put_turns<'s>(
+fn put_turns<'s, 'b>(
     code: &mut Code<'s>,
     scope: &mut Scope<'s>,
-    set: &'s Set,
+    set: &Set<'_>,
     around: Around,
     binding: &'s Binding,
-    body: &'s [Node],
+    body: &'s [Node<'b>],
 ) -> Result<(), AllocError>
     requires after { around.after ≤ length (code_of code.old) }
     requires below { around.below ≡ length (layout_of scope.old) }

@@ -25,7 +25,7 @@ impl<'m, 'a> Machine<'m, 'a> {
     #[inline(always)]
     pub(crate) fn execute<S: Sink>(
         &mut self,
-        program: &Program<'a>,
+        program: &Program<'a, '_>,
         options: &Options,
         instruction: Instruction<'a>,
         piece: &mut Piece<'_>,

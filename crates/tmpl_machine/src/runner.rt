@@ -42,7 +42,7 @@ impl<'m, 'a> Machine<'m, 'a> {
     /// Before the first instruction of a template.
     fn start(
         alloc: Global,
-        program: &Program<'a>,
+        program: &Program<'a, '_>,
         entry: Entry,
         data: Option<&'a Data>,
         options: &Options,
@@ -75,7 +75,7 @@ impl<'m, 'a> Machine<'m, 'a> {
     /// Carries out instructions until the run is over or stops.
     fn turns<S: Sink>(
         &mut self,
-        program: &Program<'a>,
+        program: &Program<'a, '_>,
         options: &Options,
         piece: &mut Piece<'_>,
         sink: &mut S,
@@ -106,7 +106,7 @@ impl<'m, 'a> Machine<'m, 'a> {
 }
 
 /// Why a run ends that stops in the template of this number, at this line.
-fn stopped<'a>(program: &Program<'a>, number: usize, line: u64, stop: Stop<'a>) -> RunError<'a>
+fn stopped<'a>(program: &Program<'a, '_>, number: usize, line: u64, stop: Stop<'a>) -> RunError<'a>
     requires { number < length (set_view program.now.set.now) }
     ensures { IsStopped (slice_get (set_view program.now.set.now) number) line stop.entry result }
 {
@@ -132,7 +132,7 @@ fn stopped<'a>(program: &Program<'a>, number: usize, line: u64, stop: Stop<'a>) 
 /// the template. Memory is taken by the functions that make a text, and for what they made, and by nothing else.
 pub fn run<'a, S: Sink>(
     alloc: Global,
-    program: &Program<'a>,
+    program: &Program<'a, '_>,
     entry: Entry,
     data: Option<&'a Data>,
     options: &Options,

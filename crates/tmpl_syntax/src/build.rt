@@ -16,31 +16,31 @@ use tmpl_values::Bytes;
 
 /// What is known of a part from a place on.
 #[derive(Drop)]
-pub(crate) struct Level {
+pub(crate) struct Level<'b> {
     /// Its nodes, the last one first.
-    pub(crate) nodes: Vec<Node>,
+    pub(crate) nodes: Vec<Node<'b>>,
     /// Those of the else part behind it.
-    pub(crate) other: Vec<Node>,
+    pub(crate) other: Vec<Node<'b>>,
 }
 
 /// The part in which a place stands, and those around it.
 #[derive(Drop)]
-pub(crate) struct Parts {
-    pub(crate) inner: Level,
+pub(crate) struct Parts<'b> {
+    pub(crate) inner: Level<'b>,
     /// The nearest last.
-    pub(crate) around: Vec<Level>,
+    pub(crate) around: Vec<Level<'b>>,
     /// The templates that are defined from the place on, the last one first.
-    pub(crate) definitions: Vec<Definition>,
+    pub(crate) definitions: Vec<Definition<'b>>,
 }
 
 /// The templates that a file's items define, each of which stands where it may, in the order of their headers; the
 /// file's own, of this name, is the last. They are built from the last item to the first, so that an else part is
 /// there before the control to which it belongs.
-pub(crate) fn build(
+pub(crate) fn build<'b>(
     alloc: Global,
-    items: Vec<Item<'_>>,
+    items: Vec<Item<'b>>,
     name: Bytes,
-) -> Result<Vec<Definition>, AllocError>
+) -> Result<Vec<Definition<'b>>, AllocError>
     ensures { IfOk result (λ v. map definition_of v.items
         ≡ all_from name (map item_of items.entry.items)) }
 {
@@ -59,7 +59,7 @@ pub(crate) fn build(
 }
 
 /// The parts from the first of these items on.
-fn parts_before(alloc: Global, items: Vec<Item<'_>>) -> Result<Parts, AllocError>
+fn parts_before<'b>(alloc: Global, items: Vec<Item<'b>>) -> Result<Parts<'b>, AllocError>
     ensures { IfOk result (λ p. parts_of p ≡ spec.parts_before (map item_of items.entry.items) spec.no_parts) }
 {
     let mut items = items;
@@ -74,9 +74,9 @@ fn parts_before(alloc: Global, items: Vec<Item<'_>>) -> Result<Parts, AllocError
     Ok(parts)
 }
 
-impl Level {
+impl<'b> Level<'b> {
     /// No nodes.
-    fn new(alloc: Global) -> Level
+    fn new(alloc: Global) -> Level<'b>
         ensures { level_of result ≡ spec.no_level }
     {
         Level {
@@ -87,8 +87,8 @@ impl Level {
 }
 
 /// The nodes of a part, of which the last one came first.
-fn in_order(nodes: Vec<Node>) -> Vec<Node>
-    ensures { result.items ≡ reverse nodes.items }
+fn in_order<'b>(nodes: Vec<Node<'b>>) -> Vec<Node<'b>>
+    ensures { result.items ≡ reverse nodes.entry.items }
 {
     let mut nodes = nodes;
     nodes.reverse();
@@ -96,24 +96,21 @@ fn in_order(nodes: Vec<Node>) -> Vec<Node>
 }
 
 /// The parts from an item on, by those behind it.
-fn put(alloc: Global, parts: Parts, item: Item<'_>) -> Result<Parts, AllocError>
-    ensures { IfOk result (λ p. parts_of p ≡ spec.parts_with (item_of item.entry) (parts_of parts)) }
+fn put<'b>(alloc: Global, parts: Parts<'b>, item: Item<'b>) -> Result<Parts<'b>, AllocError>
+    ensures { IfOk result (λ p. parts_of p ≡ spec.parts_with (item_of item.entry) (parts_of parts.entry)) }
 {
     let Item { line, what } = item;
     match what {
-        ItemKind::Text(bytes) => {
-            let bytes = Bytes::new(bytes.to_vec(alloc)?);
-            put_node(parts, line, NodeKind::Text(bytes))
-        }
+        ItemKind::Text(bytes) => put_node(parts, line, NodeKind::Text(bytes)),
         ItemKind::Unreadable | ItemKind::Unread | ItemKind::TooDeep(_) => Ok(parts),
         ItemKind::Action(action) => put_action(alloc, parts, line, action),
     }
 }
 
 /// The parts from an action on, by those behind it.
-fn put_action(alloc: Global, parts: Parts, line: u64, action: Action) -> Result<Parts, AllocError>
+fn put_action<'b>(alloc: Global, parts: Parts<'b>, line: u64, action: Action) -> Result<Parts<'b>, AllocError>
     ensures { IfOk result (λ p. parts_of p
-        ≡ spec.parts_with (item line (action_item (action_of action))) (parts_of parts)) }
+        ≡ spec.parts_with (item line (action_item (action_of action))) (parts_of parts.entry)) }
 {
     match action {
         Action::Pipeline(header) => put_node(parts, line, NodeKind::Action(header)),
@@ -130,8 +127,8 @@ fn put_action(alloc: Global, parts: Parts, line: u64, action: Action) -> Result<
 }
 
 /// Puts a definition before the others: its body is the innermost part.
-fn put_definition(alloc: Global, parts: Parts, line: u64, name: Bytes) -> Result<Parts, AllocError>
-    ensures { IfOk result (λ p. parts_of p ≡ spec.definition_before line name (parts_of parts)) }
+fn put_definition<'b>(alloc: Global, parts: Parts<'b>, line: u64, name: Bytes) -> Result<Parts<'b>, AllocError>
+    ensures { IfOk result (λ p. parts_of p ≡ spec.definition_before line name (parts_of parts.entry)) }
 {
     let Parts {
         inner,
@@ -152,15 +149,15 @@ fn put_definition(alloc: Global, parts: Parts, line: u64, name: Bytes) -> Result
 }
 
 /// Puts a definition, and a call of it before the nodes of the part around.
-fn put_block(
+fn put_block<'b>(
     alloc: Global,
-    parts: Parts,
+    parts: Parts<'b>,
     line: u64,
     name: Bytes,
     pipeline: Pipeline,
-) -> Result<Parts, AllocError>
+) -> Result<Parts<'b>, AllocError>
     ensures { IfOk result (λ p. parts_of p
-        ≡ spec.parts_with (item line (action_item (block_action name (pipeline_of pipeline)))) (parts_of parts)) }
+        ≡ spec.parts_with (item line (action_item (block_action name (pipeline_of pipeline)))) (parts_of parts.entry)) }
 {
     let called = Bytes::new(name.as_slice().to_vec(alloc)?);
     let parts = put_definition(alloc, parts, line, name)?;
@@ -168,8 +165,8 @@ fn put_block(
 }
 
 /// Puts a node before those of the innermost part.
-fn put_node(parts: Parts, line: u64, what: NodeKind) -> Result<Parts, AllocError>
-    ensures { IfOk result (λ p. parts_of p ≡ spec.put_before line (kind_of what) (parts_of parts)) }
+fn put_node<'b>(parts: Parts<'b>, line: u64, what: NodeKind<'b>) -> Result<Parts<'b>, AllocError>
+    ensures { IfOk result (λ p. parts_of p ≡ spec.put_before line (kind_of what.entry) (parts_of parts.entry)) }
 {
     let mut parts = parts;
     parts.inner.nodes.push(Node { line, what })?;
@@ -177,15 +174,15 @@ fn put_node(parts: Parts, line: u64, what: NodeKind) -> Result<Parts, AllocError
 }
 
 /// Puts a control before those of the part around: its body is the innermost part, behind which its else part stands.
-fn put_control(
+fn put_control<'b>(
     alloc: Global,
-    parts: Parts,
+    parts: Parts<'b>,
     line: u64,
     control: Control,
     header: Header,
-) -> Result<Parts, AllocError>
+) -> Result<Parts<'b>, AllocError>
     ensures { IfOk result (λ p. parts_of p
-        ≡ spec.control_before line control (header_of header) (parts_of parts)) }
+        ≡ spec.control_before line control (header_of header) (parts_of parts.entry)) }
 {
     let Parts {
         inner,
@@ -203,14 +200,14 @@ fn put_control(
 }
 
 /// A control whose body, and the else part behind it, are these.
-fn control_kind(
+fn control_kind<'b>(
     alloc: Global,
     control: Control,
     header: Header,
-    parts: Level,
-) -> Result<NodeKind, AllocError>
+    parts: Level<'b>,
+) -> Result<NodeKind<'b>, AllocError>
     ensures { IfOk result (λ k. kind_of k
-        ≡ control_node control (header_of header) (level_of parts).nodes (level_of parts).other) }
+        ≡ control_node control (header_of header) (level_of parts.entry).nodes (level_of parts.entry).other) }
 {
     let node = ControlNode {
         control,
@@ -222,7 +219,7 @@ fn control_kind(
 }
 
 /// Takes the nearest part around, or one of no nodes where there is none.
-fn outer(alloc: Global, around: &mut Vec<Level>) -> Level
+fn outer<'b>(alloc: Global, around: &mut Vec<Level<'b>>) -> Level<'b>
     ensures first { level_of result ≡ spec.first_of (map level_of (reverse around.old.items)) }
     ensures rest { map level_of (reverse around.new.items) ≡ spec.rest_of (map level_of (reverse around.old.items)) }
 {
@@ -233,8 +230,8 @@ fn outer(alloc: Global, around: &mut Vec<Level>) -> Level
 }
 
 /// Begins a part before an else part.
-fn begin_else(alloc: Global, parts: Parts) -> Parts
-    ensures { parts_of result ≡ spec.else_before (parts_of parts) }
+fn begin_else<'b>(alloc: Global, parts: Parts<'b>) -> Parts<'b>
+    ensures { parts_of result ≡ spec.else_before (parts_of parts.entry) }
 {
     let Parts {
         inner,
@@ -253,14 +250,14 @@ fn begin_else(alloc: Global, parts: Parts) -> Parts
 }
 
 /// Begins a part before an else part that is a control of its own.
-fn begin_branch(
+fn begin_branch<'b>(
     alloc: Global,
-    parts: Parts,
+    parts: Parts<'b>,
     line: u64,
     branch: Branch,
     header: Header,
-) -> Result<Parts, AllocError>
-    ensures { IfOk result (λ p. parts_of p ≡ spec.branch_before line branch (header_of header) (parts_of parts)) }
+) -> Result<Parts<'b>, AllocError>
+    ensures { IfOk result (λ p. parts_of p ≡ spec.branch_before line branch (header_of header) (parts_of parts.entry)) }
 {
     let what = control_kind(alloc, branch.control(), header, parts.inner)?;
     Ok(Parts {
@@ -274,8 +271,8 @@ fn begin_branch(
 }
 
 /// Begins a part before an `end`.
-fn end(alloc: Global, parts: Parts) -> Result<Parts, AllocError>
-    ensures { IfOk result (λ p. parts_of p ≡ spec.end_before (parts_of parts)) }
+fn end<'b>(alloc: Global, parts: Parts<'b>) -> Result<Parts<'b>, AllocError>
+    ensures { IfOk result (λ p. parts_of p ≡ spec.end_before (parts_of parts.entry)) }
 {
     let mut around = parts.around;
     around.push(parts.inner)?;

@@ -26,7 +26,7 @@ const MOST_BYTES: usize = 16_777_216;
 /// headers, and then its own, what stands outside these, whose name is the part of the path after the last `/`, as
 /// Go's `ParseFiles` has it. A new name goes last. A name that is there keeps its place and gets the new body, unless
 /// that is blank, nothing but white space (Go's `Template.Parse`); that a blank body replaces no blank one either is
-/// our own rule. All of the file's templates are added, or none.
+/// our own rule. All of the file's templates are added, or none. Their texts are not copied: the set borrows the bytes.
 ///
 /// # Errors
 ///
@@ -39,11 +39,11 @@ const MOST_BYTES: usize = 16_777_216;
 /// After an error the set is as it was.
 ///
 /// `else with` is there since Go 1.23. A file that is accepted without it makes the same set with it.
-pub fn parse_file<'f>(
+pub fn parse_file<'b, 'f>(
     alloc: Global,
-    set: &mut Set,
+    set: &mut Set<'b>,
     file: &'f str,
-    bytes: &[u8],
+    bytes: &'b [u8],
 ) -> Result<(), ParseFault<'f>>
     ensures reading { IsReading (set_view set.old) file.entry bytes.now (set_view set.new) result }
     ensures value { IsParse (set_view set.old) file.entry bytes.now (set_view set.new) result }
@@ -60,7 +60,12 @@ pub fn parse_file<'f>(
 }
 
 /// Adds a file's templates to the set.
-fn add_file(alloc: Global, set: &mut Set, file: &str, bytes: &[u8]) -> Result<(), Refusal>
+fn add_file<'b>(
+    alloc: Global,
+    set: &mut Set<'b>,
+    file: &str,
+    bytes: &'b [u8],
+) -> Result<(), Refusal>
     ensures { IsAdded (set_view set.old) file.now bytes.now (set_view set.new) result }
 {
     if bytes.len() > MOST_BYTES {
@@ -79,7 +84,7 @@ fn add_file(alloc: Global, set: &mut Set, file: &str, bytes: &[u8]) -> Result<()
 }
 
 /// Refuses the first definition that has an earlier one of its name, neither being blank.
-fn refuse_second(alloc: Global, definitions: &[Definition]) -> Result<(), Refusal>
+fn refuse_second(alloc: Global, definitions: &[Definition<'_>]) -> Result<(), Refusal>
     ensures { IsOnce (map definition_of definitions.now) result }
 {
     let mut names = KnownNames::new(alloc);
@@ -100,26 +105,26 @@ fn refuse_second(alloc: Global, definitions: &[Definition]) -> Result<(), Refusa
 }
 
 /// The definitions as templates in this file.
-fn templates_of(
+fn templates_of<'b>(
     alloc: Global,
     file: &str,
-    definitions: Vec<Definition>,
-) -> Result<Vec<(Vec<u8>, Tree)>, AllocError>
+    definitions: Vec<Definition<'b>>,
+) -> Result<Vec<(Vec<u8>, Tree<'b>)>, AllocError>
     ensures { IfOk result (λ v. map template_of v.items
-        ≡ map (λ d. template_in file.now (definition_of d)) definitions.items) }
+        ≡ map (λ d. template_in file.now (definition_of d)) definitions.entry.items) }
 {
     let path = Rc::new(alloc, Bytes::new(copy_of(alloc, file.as_bytes())?))?;
     templates_at(alloc, &path, definitions)
 }
 
 /// The definitions as templates in the file of this path, which they share.
-fn templates_at(
+fn templates_at<'b>(
     alloc: Global,
     path: &Rc<Bytes>,
-    definitions: Vec<Definition>,
-) -> Result<Vec<(Vec<u8>, Tree)>, AllocError>
+    definitions: Vec<Definition<'b>>,
+) -> Result<Vec<(Vec<u8>, Tree<'b>)>, AllocError>
     ensures { IfOk result (λ v. map template_of v.items
-        ≡ map (λ d. template_in path.now.value (definition_of d)) definitions.items) }
+        ≡ map (λ d. template_in path.now.value (definition_of d)) definitions.entry.items) }
 {
     let mut templates = Vec::with_capacity(alloc, definitions.len())?;
     for definition in definitions {
@@ -129,8 +134,11 @@ fn templates_at(
 }
 
 /// The definition as a template in the file of this path.
-fn template(path: &Rc<Bytes>, definition: Definition) -> Result<(Vec<u8>, Tree), AllocError>
-    ensures { IfOk result (λ t. template_of t ≡ template_in path.now.value (definition_of definition)) }
+fn template<'b>(
+    path: &Rc<Bytes>,
+    definition: Definition<'b>,
+) -> Result<(Vec<u8>, Tree<'b>), AllocError>
+    ensures { IfOk result (λ t. template_of t ≡ template_in path.now.value (definition_of definition.entry)) }
 {
     let Definition { name, nodes, .. } = definition;
     let file = Rc::clone(path)?;

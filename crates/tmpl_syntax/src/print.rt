@@ -35,7 +35,7 @@ pub(crate) struct Page {
 /// A set as one template file: each template as a definition with a newline behind it, in the order of the set.
 ///
 /// Read as a file, it makes the same templates in the same order, apart from files and lines.
-pub fn print_set(alloc: Global, set: &Set) -> Result<Vec<u8>, AllocError>
+pub fn print_set(alloc: Global, set: &Set<'_>) -> Result<Vec<u8>, AllocError>
     ensures printed { IfOk result (λ v. v.items ≡ printed_set (set_view set.now)) }
     ensures read_back { IfOk result (λ v. SetBack v.items (set_view set.now)) }
 {
@@ -47,7 +47,7 @@ pub fn print_set(alloc: Global, set: &Set) -> Result<Vec<u8>, AllocError>
 }
 
 /// The body of a template as a template file.
-pub fn print_tree(alloc: Global, tree: &Tree) -> Result<Vec<u8>, AllocError>
+pub fn print_tree(alloc: Global, tree: &Tree<'_>) -> Result<Vec<u8>, AllocError>
     ensures { IfOk result (λ v. v.items ≡ printed (tree_of tree.now).nodes) }
 {
     let mut page = Page::new(alloc);
@@ -68,7 +68,7 @@ impl Page {
     }
 
     /// Adds a template as a definition, and a newline.
-    fn template(&mut self, name: &[u8], tree: &Tree) -> Result<(), AllocError>
+    fn template(&mut self, name: &[u8], tree: &Tree<'_>) -> Result<(), AllocError>
         ensures { OnOk result (page_of self.new
             ≡ page_with (page_of self.old) (template_said (name.now, tree_of tree.now))) }
     {
@@ -80,7 +80,7 @@ impl Page {
 
     /// Adds nodes.
     #[cycle(print)]
-    fn nodes(&mut self, nodes: &[Node]) -> Result<(), AllocError>
+    fn nodes(&mut self, nodes: &[Node<'_>]) -> Result<(), AllocError>
         ensures { OnOk result (page_of self.new ≡ page_with (page_of self.old) (nodes_said (nodes_in nodes.now))) }
     {
         for node in nodes {
@@ -91,11 +91,11 @@ impl Page {
 
     /// Adds one node.
     #[cycle(print)]
-    fn node(&mut self, node: &Node) -> Result<(), AllocError>
+    fn node(&mut self, node: &Node<'_>) -> Result<(), AllocError>
         ensures { OnOk result (page_of self.new ≡ page_with (page_of self.old) (node_said (node_of node.now).what)) }
     {
         match &node.what {
-            NodeKind::Text(bytes) => self.text(bytes.as_slice()),
+            NodeKind::Text(bytes) => self.text(bytes),
             NodeKind::Action(header) => self.action(PrintedAction::Pipeline(header)),
             NodeKind::Control(control) => self.control(control),
             NodeKind::Break => self.action(PrintedAction::Break),
@@ -109,7 +109,7 @@ impl Page {
 
     /// Adds a control with its parts.
     #[cycle(print)]
-    fn control(&mut self, control: &ControlNode) -> Result<(), AllocError>
+    fn control(&mut self, control: &ControlNode<'_>) -> Result<(), AllocError>
         ensures { OnOk result (page_of self.new ≡ page_with (page_of self.old) (node_said (control_of control.now))) }
     {
         self.action(PrintedAction::Open(control.control, &control.header))?;
@@ -120,7 +120,7 @@ impl Page {
 
     /// Adds an else part, where it has nodes.
     #[cycle(print)]
-    fn else_part(&mut self, nodes: &[Node]) -> Result<(), AllocError>
+    fn else_part(&mut self, nodes: &[Node<'_>]) -> Result<(), AllocError>
         ensures { OnOk result (page_of self.new
             ≡ page_with (page_of self.old) (else_said (nodes_in nodes.now) (nodes_said (nodes_in nodes.now)))) }
     {

@@ -17,18 +17,18 @@ use std::marker::Model;
 /// Templates by their names, in the order in which the names were first defined (our own rule; Go
 /// keeps no order). A name is bytes that need not be UTF-8.
 #[derive(Drop)]
-pub struct Set {
-    pub(crate) templates: IndexMap<Vec<u8>, Tree>,
+pub struct Set<'b> {
+    pub(crate) templates: IndexMap<Vec<u8>, Tree<'b>>,
 }
 
 /// The names of a set, in its order.
 #[derive(Drop)]
-pub struct Names<'s> {
-    keys: Keys<'s, Vec<u8>, Tree>,
+pub struct Names<'s, 'b> {
+    keys: Keys<'s, Vec<u8>, Tree<'b>>,
 }
 
-impl Model for Set {
-    ghost use Rattle.std.specs.Prelude.{ℕ, List, Vec};
+impl<'b> Model for Set<'b> {
+    ghost use Rattle.std.specs.Prelude.{ℕ, List, [], Vec};
     ghost use Rattle.std.specs.declared.alloc.Global.{Global};
     ghost use Rattle.tmpl_syntax.specs.declared.tree.Tree.{Tree};
 
@@ -36,8 +36,10 @@ impl Model for Set {
 
     ghost use Rattle.std.specs.Coded.{codes};
     ghost use Rattle.tmpl_syntax.specs.contracts.tree.Tree as held;
+    ghost use mir.Syntax.{static};
 
-    ghost coded = { Prim.hlevel (codes, held.the_row.coded) };
+    // a tree has the same code whatever its lifetime is
+    ghost coded = { Prim.hlevel (codes, (held.the_row (record { mir = static; lft = [] })).coded) };
 
     ghost use Rattle.tmpl_syntax.specs.View.{set_view};
     ghost use Rattle.tmpl_syntax.specs.Kept.{AreKept};
@@ -47,9 +49,9 @@ impl Model for Set {
     ghost invariant = { λ s. AreKept (set_view s.templates.entries) };
 }
 
-impl Set {
+impl<'b> Set<'b> {
     /// A set of no templates.
-    pub fn new(alloc: Global) -> Set
+    pub fn new(alloc: Global) -> Set<'b>
         ensures { set_view result ≡ [] }
     {
         Set {
@@ -58,7 +60,7 @@ impl Set {
     }
 
     /// The tree of the template of this name, if there is one.
-    pub fn get(&self, name: &[u8]) -> Option<&Tree>
+    pub fn get(&self, name: &[u8]) -> Option<&Tree<'b>>
         ensures value { option_map (λ t. tree_of t.now) result ≡ tree_named name.now (set_view self.now) }
         ensures kept { IfSome result (λ t. IsKept (tree_of t.now)) }
     {
@@ -80,7 +82,7 @@ impl Set {
     }
 
     /// The name and the tree of the template of this number.
-    pub fn template(&self, number: usize) -> (&[u8], &Tree)
+    pub fn template(&self, number: usize) -> (&[u8], &Tree<'b>)
         requires { number < length (set_view self.now) }
         ensures value { slice_get (set_view self.now) number ≡ Some (result.0.now, tree_of result.1.now) }
         ensures kept { IsKept (tree_of result.1.now) }
@@ -93,10 +95,10 @@ impl Set {
 
     /// Adds templates, one by one: a new name goes last, and a name that is there keeps its place and gets
     /// the new body, unless that is blank. All of them are added, or the set is as it was.
-    pub(crate) fn define_all(&mut self, templates: Vec<(Vec<u8>, Tree)>) -> Result<(), AllocError>
+    pub(crate) fn define_all(&mut self, templates: Vec<(Vec<u8>, Tree<'b>)>) -> Result<(), AllocError>
         requires { AreKept (map template_of templates.items) }
         ensures ok { OnOk result (set_view self.new
-            ≡ defined_each (set_view self.old) (map template_of templates.items)) }
+            ≡ defined_each (set_view self.old) (map template_of templates.entry.items)) }
         ensures err { OnErr result (set_view self.new ≡ set_view self.old) }
     {
         // there is room for each before the first is added
@@ -106,7 +108,7 @@ impl Set {
     }
 
     /// The names, in the order in which they were first defined.
-    pub fn names(&self) -> Names<'_>
+    pub fn names(&self) -> Names<'_, 'b>
         ensures { names_left result ≡ map (λ t. t.0) (set_view self.now) }
     {
         Names {
@@ -115,7 +117,7 @@ impl Set {
     }
 }
 
-impl<'s> Iterator for Names<'s> {
+impl<'s, 'b> Iterator for Names<'s, 'b> {
     type Item = &'s [u8];
 
     ghost next_gives = { YieldsFirstRef names_left };
@@ -131,9 +133,9 @@ impl<'s> Iterator for Names<'s> {
 }
 
 /// Adds templates, one by one, for each of which there is room.
-fn define_each(set: &mut IndexMap<Vec<u8>, Tree>, templates: Vec<(Vec<u8>, Tree)>)
+fn define_each<'b>(set: &mut IndexMap<Vec<u8>, Tree<'b>>, templates: Vec<(Vec<u8>, Tree<'b>)>)
     requires { length templates.items ≤ spare set.old }
-    ensures { set_view set.new.entries ≡ defined_each (set_view set.old.entries) (map template_of templates.items) }
+    ensures { set_view set.new.entries ≡ defined_each (set_view set.old.entries) (map template_of templates.entry.items) }
 {
     for (name, tree) in templates {
         define(set, name, tree);
@@ -141,9 +143,9 @@ fn define_each(set: &mut IndexMap<Vec<u8>, Tree>, templates: Vec<(Vec<u8>, Tree)
 }
 
 /// Adds a template, for which there is room.
-fn define(set: &mut IndexMap<Vec<u8>, Tree>, name: Vec<u8>, tree: Tree)
+fn define<'b>(set: &mut IndexMap<Vec<u8>, Tree<'b>>, name: Vec<u8>, tree: Tree<'b>)
     requires { 0 < spare set.old }
-    ensures defined { set_view set.new.entries ≡ defined (set_view set.old.entries) name.items (tree_of tree) }
+    ensures defined { set_view set.new.entries ≡ defined (set_view set.old.entries) name.items (tree_of tree.entry) }
     ensures room { spare set.old ≤ spare set.new + 1 }
 {
     if !keeps(set, name.as_slice(), &tree) {
@@ -153,7 +155,7 @@ fn define(set: &mut IndexMap<Vec<u8>, Tree>, name: Vec<u8>, tree: Tree)
 }
 
 /// Whether a definition leaves the set as it is: a blank one of a name that is there.
-fn keeps(set: &IndexMap<Vec<u8>, Tree>, name: &[u8], tree: &Tree) -> bool
+fn keeps(set: &IndexMap<Vec<u8>, Tree<'_>>, name: &[u8], tree: &Tree<'_>) -> bool
     ensures { result ≡ (is_blank (tree_of tree.now).nodes && is_some (tree_named name.now (set_view set.now.entries))) }
 {
     is_blank(tree.nodes.as_slice()) && set.contains_key(name)

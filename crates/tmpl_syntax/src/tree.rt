@@ -7,20 +7,20 @@ use tmpl_values::Bytes;
 /// its `{{`, a text's that of its first byte.
 #[cycle(node)]
 #[derive(Drop)]
-pub struct Node {
+pub struct Node<'b> {
     pub line: u64,
-    pub what: NodeKind,
+    pub what: NodeKind<'b>,
 }
 
 /// What a node is.
 #[cycle(node)]
 #[derive(Drop)]
-pub enum NodeKind {
+pub enum NodeKind<'b> {
     /// Bytes that are put out as they are.
-    Text(Bytes),
+    Text(&'b [u8]),
     /// An action that puts out the text of its value, or binds a variable to it.
     Action(Header),
-    Control(Box<ControlNode>),
+    Control(Box<ControlNode<'b>>),
     /// Ends the innermost range whose body this stands in.
     Break,
     /// Goes to the next element of that range.
@@ -36,26 +36,26 @@ pub enum NodeKind {
 /// as its dot. A `range`: the body once for each element, or the other part where there is none.
 #[cycle(node)]
 #[derive(Drop)]
-pub struct ControlNode {
+pub struct ControlNode<'b> {
     pub control: Control,
     pub header: Header,
-    pub body: Vec<Node>,
-    pub other: Vec<Node>,
+    pub body: Vec<Node<'b>>,
+    pub other: Vec<Node<'b>>,
 }
 
-/// The body of a template, and the file that it stands in.
+/// The body of a template, and the file that it stands in, in whose bytes its texts lie.
 #[derive(Drop)]
-pub struct Tree {
+pub struct Tree<'b> {
     /// The path of the file as it was given, which all templates of a file share.
     pub file: Rc<Bytes>,
-    pub nodes: Vec<Node>,
+    pub nodes: Vec<Node<'b>>,
 }
 
 /// A template that a file defines.
 #[derive(Drop)]
-pub(crate) struct Definition {
+pub(crate) struct Definition<'b> {
     /// That of its header, or 1 for the file's own template.
     pub(crate) line: u64,
     pub(crate) name: Bytes,
-    pub(crate) nodes: Vec<Node>,
+    pub(crate) nodes: Vec<Node<'b>>,
 }

@@ -14,19 +14,19 @@ use tmpl_values::Data;
 
 /// What the command needs of the files.
 #[derive(Drop)]
-pub(crate) struct Inputs {
+pub(crate) struct Inputs<'b> {
     /// The templates of all the files.
-    pub set: Set,
+    pub set: Set<'b>,
     /// The data; none where the words name no file of it, or nothing is to be run.
     pub data: Option<Data>,
 }
 
 /// Reads the templates, and then the data of a run. A read that fails is the last one.
-pub(crate) fn read_inputs<'a, S: Source>(
+pub(crate) fn read_inputs<'a, 'b, S: Source>(
     alloc: Global,
     request: &Request<'a>,
     source: &mut S,
-) -> Result<Inputs, Stop<'a>>
+) -> Result<Inputs<'b>, Stop<'a>>
     requires { S.failures source.old < 2 ^ 64 - 1 }
     ensures counts { Counts (S.failures source.old) (S.failures source.new) result }
     ensures reads { IfSome (S.contents source.old) (λ files. ReadsInputs files (seen request.now) result) }

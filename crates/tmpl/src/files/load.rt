@@ -9,9 +9,9 @@ use std::alloc::Global;
 use tmpl_syntax::{ParseFault, ParseKind, Set, parse_file};
 
 /// Adds the templates of the files to the set.
-pub(crate) fn load_files<'a, S: Source>(
+pub(crate) fn load_files<'a, 'b, S: Source>(
     alloc: Global,
-    set: &mut Set,
+    set: &mut Set<'b>,
     source: &mut S,
     names: &[&'a str],
 ) -> Result<(), Stop<'a>>
@@ -28,9 +28,9 @@ pub(crate) fn load_files<'a, S: Source>(
 }
 
 /// Adds the templates of one file.
-fn load_file<'a, S: Source>(
+fn load_file<'a, 'b, S: Source>(
     alloc: Global,
-    set: &mut Set,
+    set: &mut Set<'b>,
     source: &mut S,
     name: &'a str,
 ) -> Result<(), Stop<'a>>
@@ -41,7 +41,8 @@ fn load_file<'a, S: Source>(
         LoadsFile files (set_view set.old) name.entry.now (set_view set.new) result) }
 {
     match source.read(alloc, name) {
-        Ok(bytes) => add_file(alloc, set, name, bytes.as_slice()),
+        // The set borrows its texts from the bytes, which stay until the process ends.
+        Ok(bytes) => add_file(alloc, set, name, bytes.leak()),
         Err(SourceFault::NotFound) => Err(Stop::NotFound(name)),
         Err(SourceFault::Failed) => Err(Stop::Failed(name)),
         Err(SourceFault::OutOfMemory) => Err(Stop::OutOfMemory),
@@ -49,7 +50,12 @@ fn load_file<'a, S: Source>(
 }
 
 /// Adds the template of a file of these bytes.
-fn add_file<'a>(alloc: Global, set: &mut Set, name: &'a str, bytes: &[u8]) -> Result<(), Stop<'a>>
+fn add_file<'a, 'b>(
+    alloc: Global,
+    set: &mut Set<'b>,
+    name: &'a str,
+    bytes: &'b [u8],
+) -> Result<(), Stop<'a>>
     ensures { Adds (set_view set.old) name.entry.now bytes.now (set_view set.new) result }
 {
     match parse_file(alloc, set, name, bytes) {
