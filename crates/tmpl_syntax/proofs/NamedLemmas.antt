@@ -1,6 +1,6 @@
 -- Templates of a set, by name and by number.
 use Rattle.std.proofs.lemmas.Bool.Decides.{nat_tests}
-use Rattle.std.proofs.Common.{arith, ◌≡◌, ◌∙◌, ◌≤◌, ◌<◌, nat_lt, ℕ, Bool, true, false, cond, List, [], length, get_or, refl, ap, Option, Some, None}
+use Rattle.std.proofs.Common.{arith, ◌≡◌, ◌∙◌, ◌≤◌, ◌<◌, nat_lt, ℕ, Bool, true, false, cond, List, [], length, get_or, refl, ap, Some, None}
 use Rattle.std.specs.Prelude.{slice_get, option_map}
 use Rattle.std.specs.List.{position_or_len}
 use Rattle.std.proofs.lemmas.List.Folds.{find_at}

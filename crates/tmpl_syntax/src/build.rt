@@ -108,7 +108,12 @@ fn put<'b>(alloc: Global, parts: Parts<'b>, item: Item<'b>) -> Result<Parts<'b>,
 }
 
 /// The parts from an action on, by those behind it.
-fn put_action<'b>(alloc: Global, parts: Parts<'b>, line: u64, action: Action) -> Result<Parts<'b>, AllocError>
+fn put_action<'b>(
+    alloc: Global,
+    parts: Parts<'b>,
+    line: u64,
+    action: Action,
+) -> Result<Parts<'b>, AllocError>
     ensures { IfOk result (λ p. parts_of p
         ≡ spec.parts_with (item line (action_item (action_of action))) (parts_of parts.entry)) }
 {
@@ -127,7 +132,12 @@ fn put_action<'b>(alloc: Global, parts: Parts<'b>, line: u64, action: Action) ->
 }
 
 /// Puts a definition before the others: its body is the innermost part.
-fn put_definition<'b>(alloc: Global, parts: Parts<'b>, line: u64, name: Bytes) -> Result<Parts<'b>, AllocError>
+fn put_definition<'b>(
+    alloc: Global,
+    parts: Parts<'b>,
+    line: u64,
+    name: Bytes,
+) -> Result<Parts<'b>, AllocError>
     ensures { IfOk result (λ p. parts_of p ≡ spec.definition_before line name (parts_of parts.entry)) }
 {
     let Parts {

@@ -15,7 +15,7 @@ use std::alloc::{AllocError, Global};
 use std::marker::Model;
 
 /// Templates by their names, in the order in which the names were first defined (our own rule; Go
-/// keeps no order). A name is bytes that need not be UTF-8.
+/// keeps no order). A name is bytes that need not be UTF-8. The texts of the trees lie in the bytes of their files.
 #[derive(Drop)]
 pub struct Set<'b> {
     pub(crate) templates: IndexMap<Vec<u8>, Tree<'b>>,
@@ -95,7 +95,10 @@ impl<'b> Set<'b> {
 
     /// Adds templates, one by one: a new name goes last, and a name that is there keeps its place and gets
     /// the new body, unless that is blank. All of them are added, or the set is as it was.
-    pub(crate) fn define_all(&mut self, templates: Vec<(Vec<u8>, Tree<'b>)>) -> Result<(), AllocError>
+    pub(crate) fn define_all(
+        &mut self,
+        templates: Vec<(Vec<u8>, Tree<'b>)>,
+    ) -> Result<(), AllocError>
         requires { AreKept (map template_of templates.items) }
         ensures ok { OnOk result (set_view self.new
             ≡ defined_each (set_view self.old) (map template_of templates.entry.items)) }

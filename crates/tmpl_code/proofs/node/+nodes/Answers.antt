@@ -4,11 +4,9 @@ use Rattle.tmpl_syntax.specs.View.{node_of, nodes_in, set_view}
 use Rattle.tmpl_code.specs.computed.Held.{TurnsAt, all_grown, code_of, exit_seen, layout_of}
 use Rattle.tmpl_code.specs.Layout.{Layout, bound_on, declared_in}
 use Rattle.tmpl_code.specs.Code.{Exit, NodeAt, NodesAt, TurnAt}
-use Rattle.tmpl_syntax.specs.Tree.{Node}
 use Rattle.tmpl_code.proofs.NodeLemmas.{all_grown-longer, grows, nodes_more, shrinks, item-weight}
 use Rattle.tmpl_code.proofs.NodeTailLemmas.{behind, both, turned, nodes_ends, exit_on, open_on, on_ok, if_at, with_at, range_at}
 use Rattle.tmpl_code.proofs.TailLemmas.{ends_both, ends_one, longer}
-use Rattle.tmpl_syntax.proofs.ViewLemmas.{node_of-fields}
 use Rattle.tmpl_code.specs.declared.node.Around as held_around
 use Rattle.tmpl_code.proofs.node.+nodes.Goals as goal
 

@@ -3,7 +3,6 @@ use Rattle.std.proofs.lemmas.List.{length-map}
 use Rattle.std.proofs.lemmas.Option.{slice_get-map}
 use Rattle.tmpl_syntax.specs.View.{tree_of, template_of, set_view}
 use Rattle.tmpl_syntax.specs.Kept.{AreKept}
-use Rattle.tmpl_syntax.specs.Set.{Template}
 use Rattle.tmpl_syntax.proofs.SetLemmas.{Entry}
 use Rattle.tmpl_syntax.proofs.KeptLemmas.{at-kept}
 use Rattle.tmpl_syntax.proofs.set.Set.template.Goals as goal
