@@ -81,13 +81,17 @@ module _ (ns : List held.Node) (i j : ℕ) (n : held.Node) (lay now : Layout) (h
   pub shrinks : shrunk (node_of n).what now ≡ all_grown (nodes_in (take j ns)) lay
   shrinks = ap (shrunk (node_of n).what) grows ∙ shrunk-grown (node_of n).what (all_grown (nodes_in (take j ns)) lay)
 
+-- the nodes from one on
+pub nodes_from : (ns : List held.Node) (i j : ℕ) (n : held.Node) → j < length ns → i ≡ j + 1 → n ≡ get_or ns j n
+    → nodes_in (n ∷ drop i ns) ≡ nodes_in (drop j ns)
+nodes_from ns i j n h next is =
+    ap (λ k. nodes_in (n ∷ drop k ns)) next ∙ ap (λ (m : held.Node). nodes_in (m ∷ drop (j + 1) ns)) is ∙ sym (at_drop_more nodes_in ns j n h)
+
 -- one node more
 pub nodes_more : (ts : List Template) (ns : List held.Node) (i j : ℕ) (n : held.Node) (x : Exit) (before after : Layout) (new start mid old : Code)
     → j < length ns → i ≡ j + 1 → n ≡ get_or ns j n → after ≡ grown (node_of n).what before → new ≡ step_of ts (node_of n).line (node_of n).what ∷ start
     → NodeAt ts (node_of n).line (node_of n).what before x start mid → NodesAt ts (nodes_in (drop i ns)) after x mid old
     → NodesAt ts (nodes_in (drop j ns)) before x new old
 nodes_more ts ns i j n x before after new start mid old h next is grew step one rest =
-    let here : nodes_in (drop j ns) ≡ nodes_in (n ∷ drop (j + 1) ns) = at_drop_more nodes_in ns j n h ∙ ap (λ (m : held.Node). nodes_in (m ∷ drop (j + 1) ns)) (sym is) in
-    let more = subst (λ k. NodesAt ts (nodes_in (drop k ns)) after x mid old) next rest in
-    subst (λ (y : Nodes). NodesAt ts y before x new old) (sym here)
-    (start, mid, step, one, subst (λ (l : Layout). NodesAt ts (nodes_in (drop (j + 1) ns)) l x mid old) grew more)
+    subst (λ (y : Nodes). NodesAt ts y before x new old) (nodes_from ns i j n h next is)
+    (start, mid, step, one, subst (λ (l : Layout). NodesAt ts (nodes_in (drop i ns)) l x mid old) grew rest)

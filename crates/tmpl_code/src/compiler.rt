@@ -1,17 +1,20 @@
 //! Sets to programs.
-ghost use Rattle.std.specs.Prelude.{◌≡◌, IfOk, OnOk, reverse};
+ghost use Rattle.std.specs.Prelude.{◌≡◌, ◌+◌, IfOk, None, OnOk, reverse};
+ghost use Rattle.tmpl_syntax.specs.Need.{need_of_nodes};
 ghost use Rattle.tmpl_syntax.specs.View.{nodes_in, set_view};
+ghost use Rattle.tmpl_code.specs.Calls.{nodes_call};
 ghost use Rattle.tmpl_code.specs.Code as spec;
 ghost use Rattle.tmpl_code.specs.Layout.{first_layout};
+ghost use Rattle.tmpl_code.specs.MakesText.{nodes_make_text};
 ghost use Rattle.tmpl_code.specs.Program.{IsLinked};
 ghost use Rattle.tmpl_code.specs.computed.Held.{code_of, layout_of, places};
 
 use crate::code::Code;
 use crate::instruction::Instruction;
-use crate::node::{declared_in, put_nodes};
+use crate::node::{declared_in, first_instruction, grow_all, left_behind, put_node, shrink};
 use crate::program::Program;
 use crate::scope::Scope;
-use crate::survey::{Survey, survey_template};
+use crate::survey::{Survey, survey_node};
 use std::alloc::{AllocError, Global};
 use tmpl_syntax::{Node, Set};
 
@@ -28,9 +31,8 @@ pub fn compile<'s, 'b>(alloc: Global, set: &'s Set<'b>) -> Result<Program<'s, 'b
         i -= 1;
         let (_, tree) = set.template(i);
         let nodes = tree.nodes.as_slice();
-        put_tree(alloc, &mut code, set, nodes)?;
+        survey = put_tree(alloc, &mut code, set, nodes)?.with(survey);
         lengths.push(code.len())?;
-        survey = survey_template(nodes)?.with(survey);
     }
     lengths.reverse();
     to_places(lengths.as_mut_slice(), code.len());
@@ -44,18 +46,51 @@ pub fn compile<'s, 'b>(alloc: Global, set: &'s Set<'b>) -> Result<Program<'s, 'b
     })
 }
 
-/// Puts the code of a template before that of the others.
+/// Puts the code of a template before that of the others, and tells what the template needs, with three cells of its
+/// own, and does.
 fn put_tree<'s, 'b>(
     alloc: Global,
     code: &mut Code<'s>,
     set: &Set<'_>,
     nodes: &'s [Node<'b>],
-) -> Result<(), AllocError>
-    ensures { OnOk result (spec.TreeAt (set_view set.now) (nodes_in nodes.now) (code_of code.new) (code_of code.old)) }
+) -> Result<Survey, AllocError>
+    ensures code { OnOk result
+        (spec.TreeAt (set_view set.now) (nodes_in nodes.now) (code_of code.new) (code_of code.old)) }
+    ensures need { IfOk result (λ s. s.need ≡ 3 + need_of_nodes (nodes_in nodes.now)) }
+    ensures text { IfOk result (λ s. s.makes_text ≡ nodes_make_text (nodes_in nodes.now)) }
+    ensures calls { IfOk result (λ s. s.calls ≡ nodes_call (nodes_in nodes.now)) }
 {
     let mut scope = first_scope(alloc)?;
     code.push(Instruction::Return(declared_in(nodes)?))?;
-    put_nodes(code, &mut scope, set, None, nodes)
+    put_surveyed(code, &mut scope, set, nodes)?.above(3)
+}
+
+/// Puts the nodes of a template, and tells what they need and do. Each is surveyed as soon as it is put, while its part of
+/// the tree is at hand.
+fn put_surveyed<'s, 'b>(
+    code: &mut Code<'s>,
+    scope: &mut Scope<'s>,
+    set: &Set<'_>,
+    nodes: &'s [Node<'b>],
+) -> Result<Survey, AllocError>
+    ensures code { OnOk result (spec.NodesAt (set_view set.now) (nodes_in nodes.now) (layout_of scope.old) None
+        (code_of code.new) (code_of code.old)) }
+    ensures need { IfOk result (λ s. s.need ≡ need_of_nodes (nodes_in nodes.now)) }
+    ensures text { IfOk result (λ s. s.makes_text ≡ nodes_make_text (nodes_in nodes.now)) }
+    ensures calls { IfOk result (λ s. s.calls ≡ nodes_call (nodes_in nodes.now)) }
+{
+    grow_all(scope, nodes)?;
+    let mut survey = Survey::nothing();
+    let mut i = nodes.len();
+    while i > 0 {
+        i -= 1;
+        let node = &nodes[i];
+        shrink(scope, node);
+        put_node(code, scope, set, None, node)?;
+        code.push(first_instruction(set, node))?;
+        survey = survey_node(node)?.with(survey.above(left_behind(node))?);
+    }
+    Ok(survey)
 }
 
 /// The cells of a template at its start.

@@ -72,7 +72,7 @@ fn grow<'s, 'b>(scope: &mut Scope<'s>, node: &'s Node<'b>) -> Result<(), AllocEr
 }
 
 /// They go out of scope.
-fn shrink(scope: &mut Scope<'_>, node: &Node<'_>)
+pub(crate) fn shrink(scope: &mut Scope<'_>, node: &Node<'_>)
     ensures { layout_of scope.new ≡ shrunk (node_of node.now).what (layout_of scope.old) }
 {
     match &node.what {
@@ -86,7 +86,10 @@ fn shrink(scope: &mut Scope<'_>, node: &Node<'_>)
 }
 
 /// The variables that the nodes leave come into scope.
-fn grow_all<'s, 'b>(scope: &mut Scope<'s>, nodes: &'s [Node<'b>]) -> Result<(), AllocError>
+pub(crate) fn grow_all<'s, 'b>(
+    scope: &mut Scope<'s>,
+    nodes: &'s [Node<'b>],
+) -> Result<(), AllocError>
     ensures { OnOk result (layout_of scope.new ≡ all_grown (nodes_in nodes.now) (layout_of scope.old)) }
 {
     for node in nodes {
@@ -197,7 +200,7 @@ pub(crate) fn put_nodes<'s, 'b>(
 }
 
 /// What takes the step of a node, or, for a call of a template that is there, looks whether one is left.
-fn first_instruction<'s>(set: &Set<'_>, node: &Node<'_>) -> Instruction<'s>
+pub(crate) fn first_instruction<'s>(set: &Set<'_>, node: &Node<'_>) -> Instruction<'s>
     ensures { instruction_of result ≡ spec.step_of (set_view set.now) (node_of node.now).line (node_of node.now).what }
 {
     match &node.what {
@@ -215,7 +218,7 @@ fn first_instruction<'s>(set: &Set<'_>, node: &Node<'_>) -> Instruction<'s>
 /// Puts a node whose step is taken.
 #[cycle(nodes)]
 #[tactic(auto, using(tmpl_syntax::proofs::ViewLemmas::controls))]
-fn put_node<'s, 'b>(
+pub(crate) fn put_node<'s, 'b>(
     code: &mut Code<'s>,
     scope: &mut Scope<'s>,
     set: &Set<'_>,

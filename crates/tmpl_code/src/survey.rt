@@ -52,7 +52,7 @@ impl Survey {
     }
 
     /// The survey of the same above so many cells that are held.
-    fn above(self, held: usize) -> Result<Survey, AllocError>
+    pub(crate) fn above(self, held: usize) -> Result<Survey, AllocError>
         ensures need { IfOk result (λ s. s.need ≡ held + self.need) }
         ensures text { IfOk result (λ s. s.makes_text ≡ self.makes_text) }
         ensures calls { IfOk result (λ s. s.calls ≡ self.calls) }
@@ -77,15 +77,6 @@ impl Survey {
     }
 }
 
-/// The survey of a template of these nodes, with three cells of its own.
-pub(crate) fn survey_template(nodes: &[Node<'_>]) -> Result<Survey, AllocError>
-    ensures need { IfOk result (λ s. s.need ≡ 3 + needs.need_of_nodes (nodes_in nodes.now)) }
-    ensures text { IfOk result (λ s. s.makes_text ≡ texts.nodes_make_text (nodes_in nodes.now)) }
-    ensures calls { IfOk result (λ s. s.calls ≡ calling.nodes_call (nodes_in nodes.now)) }
-{
-    survey_nodes(nodes)?.above(3)
-}
-
 /// The survey of nodes, each above the variables that those before it leave.
 #[cycle(nodes)]
 fn survey_nodes(nodes: &[Node<'_>]) -> Result<Survey, AllocError>
@@ -105,7 +96,7 @@ fn survey_nodes(nodes: &[Node<'_>]) -> Result<Survey, AllocError>
 
 #[cycle(nodes)]
 #[tactic(auto, using(tmpl_syntax::proofs::ViewLemmas::controls))]
-fn survey_node(node: &Node<'_>) -> Result<Survey, AllocError>
+pub(crate) fn survey_node(node: &Node<'_>) -> Result<Survey, AllocError>
     ensures need { IfOk result (λ s. s.need ≡ needs.need_of_node (node_of node.now).what) }
     ensures text { IfOk result (λ s. s.makes_text ≡ texts.node_makes_text (node_of node.now).what) }
     ensures calls { IfOk result (λ s. s.calls ≡ calling.node_calls (node_of node.now).what) }
