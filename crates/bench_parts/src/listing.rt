@@ -45,8 +45,8 @@ fn put_instruction(
 fn put_operands(writer: &mut impl Write, operation: &Operation<'_>) -> io::Result<()> {
     match operation {
         Operation::Number(number) => write!(writer, " {number}"),
-        Operation::Text(bytes) => put_text(writer, bytes),
-        Operation::Fields(names) | Operation::Chain(names) => put_fields(writer, names),
+        Operation::Text(bytes) => put_text(writer, bytes.as_slice()),
+        Operation::Fields(names) | Operation::Chain(names) => put_fields(writer, names.as_slice()),
         Operation::Call { func, .. } => put_func(writer, *func),
         Operation::Refuse(Refusal::WrongCount(func)) => put_func(writer, *func),
         Operation::Refuse(Refusal::NoTemplate(name)) => put_text(writer, name.as_slice()),
@@ -159,8 +159,8 @@ fn variables(instruction: &Instruction<'_>) -> Option<u64> {
 
 fn line(instruction: &Instruction<'_>) -> Option<u64> {
     match instruction {
-        Instruction::Spend(line) | Instruction::Deepen(line) | Instruction::Next { line, .. } =>
-            Some(*line),
+        Instruction::Spend(line) | Instruction::Deepen(line) => Some(*line),
+        Instruction::Next { line, .. } => Some(*line as u64),
         _ => None,
     }
 }
@@ -175,7 +175,7 @@ fn skip(instruction: &Instruction<'_>) -> Option<usize> {
         | Instruction::Enter { skip, .. }
         | Instruction::Next { skip, .. }
         | Instruction::Leave { skip, .. }
-        | Instruction::Operate(Operation::Decide { skip, .. }) => Some(*skip),
+        | Instruction::Operate(Operation::Decide { skip, .. }) => Some(*skip as usize),
         _ => None,
     }
 }

@@ -24,9 +24,9 @@ operation_of (o.Bool b) = push_bool b
 operation_of (o.Number n) = push_number n
 operation_of (o.Text bytes) = push_text bytes.now
 operation_of o.Dot = push_dot
-operation_of (o.Fields names) = push_fields names.now
+operation_of (o.Fields names) = push_fields names.now.items
 operation_of (o.Slot slot) = push_slot slot
-operation_of (o.Chain names) = chained names.now
+operation_of (o.Chain names) = chained names.now.items
 operation_of (o.Call f count piped) = call_with f count piped
 operation_of (o.Decide is_or piped skip) = decide is_or piped skip
 operation_of o.Settle = settle
@@ -34,7 +34,7 @@ operation_of (o.Refuse why) = refuse (refusal_of why)
 
 abbrev pub instruction_of : held_instruction.Instruction → Instruction
 instruction_of (i.Spend line) = spend line
-instruction_of (i.Text bytes) = put bytes.now
+instruction_of (i.Text bytes) = put bytes.now.now
 instruction_of (i.Operate op) = act (operation_of op)
 instruction_of i.Show = show
 instruction_of (i.Hold key) = hold key

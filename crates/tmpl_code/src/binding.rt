@@ -8,7 +8,7 @@ ghost use Rattle.tmpl_code.specs.computed.Held.{bound_off, code_of, layout_of};
 
 use crate::code::Code;
 use crate::instruction::Instruction;
-use crate::pipeline::put_pipeline;
+use crate::pipeline::{put_pipeline, short};
 use crate::scope::Scope;
 use std::alloc::AllocError;
 use tmpl_grammar::{Binding, Header};
@@ -43,7 +43,7 @@ fn put_set(code: &mut Code<'_>, slot: Option<usize>) -> Result<(), AllocError>
     ensures { OnOk result (spec.SetAt slot (code_of code.new) (code_of code.old)) }
 {
     match slot {
-        Some(slot) => code.push(Instruction::Set(slot)),
+        Some(slot) => code.push(Instruction::Set(short(slot)?)),
         None => Ok(()),
     }
 }
@@ -71,14 +71,14 @@ pub(crate) fn put_turn(
     if let Binding::Assign(name) = binding {
         put_set_dot(code, scope.slot(name.as_slice()))?;
     }
-    code.push(Instruction::Turn(declared_count(binding)))
+    code.push(Instruction::Turn(short(declared_count(binding))?))
 }
 
 fn put_set_dot(code: &mut Code<'_>, slot: Option<usize>) -> Result<(), AllocError>
     ensures { OnOk result (spec.SetDotAt slot (code_of code.new) (code_of code.old)) }
 {
     match slot {
-        Some(slot) => code.push(Instruction::SetDot(slot)),
+        Some(slot) => code.push(Instruction::SetDot(short(slot)?)),
         None => Ok(()),
     }
 }

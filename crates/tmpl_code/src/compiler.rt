@@ -12,6 +12,7 @@ ghost use Rattle.tmpl_code.specs.computed.Held.{code_of, layout_of, places};
 use crate::code::Code;
 use crate::instruction::Instruction;
 use crate::node::{declared_in, first_instruction, grow_all, left_behind, put_node, shrink};
+use crate::pipeline::short;
 use crate::program::Program;
 use crate::scope::Scope;
 use crate::survey::{Survey, survey_node};
@@ -61,7 +62,7 @@ fn put_tree<'s, 'b>(
     ensures calls { IfOk result (λ s. s.calls ≡ nodes_call (nodes_in nodes.now)) }
 {
     let mut scope = first_scope(alloc)?;
-    code.push(Instruction::Return(declared_in(nodes)?))?;
+    code.push(Instruction::Return(short(declared_in(nodes)?)?))?;
     put_surveyed(code, &mut scope, set, nodes)?.above(3)
 }
 

@@ -25,20 +25,20 @@ pub enum Operation<'s> {
     /// Puts a whole number on the stack.
     Number(i64),
     /// Puts a text of the template on the stack.
-    Text(&'s [u8]),
+    Text(&'s Bytes),
     /// Puts dot on the stack.
     Dot,
     /// Puts a field of a field of .. of dot on the stack, or stops where there is none.
-    Fields(&'s [Bytes]),
+    Fields(&'s Vec<Bytes>),
     /// Puts the value of a slot on the stack.
-    Slot(usize),
+    Slot(u32),
     /// Takes the newest value for its field of a field of .., or stops where there is none.
-    Chain(&'s [Bytes]),
+    Chain(&'s Vec<Bytes>),
     /// Takes so many of the newest values, and the piped one if it lies below them, for what the function gives for
     /// them; the piped one is the last argument.
     Call {
         func: Func,
-        count: usize,
+        count: u32,
         piped: bool,
     },
     /// Where the newest value decides an `or`, or else an `and`, passes over so many instructions and forgets the piped
@@ -46,7 +46,7 @@ pub enum Operation<'s> {
     Decide {
         is_or: bool,
         piped: bool,
-        skip: usize,
+        skip: u32,
     },
     /// Makes a null on top nothing.
     Settle,
@@ -55,13 +55,14 @@ pub enum Operation<'s> {
 }
 
 /// An instruction. What is passed over counts from the next instruction on, slots and counts of cells from the newest
-/// cell on. A variable that a header declares stays below what its node puts on the stack.
+/// cell on. A variable that a header declares stays below what its node puts on the stack. Counts have 32 bits, and what
+/// is borrowed is one pointer wide, so that an instruction takes 16 bytes.
 #[derive(Clone, Copy)]
 pub enum Instruction<'s> {
     /// Takes a step at this line, which the faults from here on bear, or stops where none is left.
     Spend(u64),
     /// Puts out a text of the template.
-    Text(&'s [u8]),
+    Text(&'s &'s [u8]),
     /// A step of a pipeline.
     Operate(Operation<'s>),
     /// Takes the newest value and puts out its text.
@@ -71,61 +72,61 @@ pub enum Instruction<'s> {
         key: bool,
     },
     /// Copies the newest value to the slot, which counts from below it.
-    Set(usize),
+    Set(u32),
     /// Copies dot to the slot.
-    SetDot(usize),
+    SetDot(u32),
     /// Passes over so many instructions where the newest value is empty; forgets the value unless it is a variable.
     Unless {
         kept: bool,
-        skip: usize,
+        skip: u32,
     },
     /// Where the newest value is not empty it becomes dot, and the dot from outside is saved in its cell, or in a new
     /// one where it is a variable. Where it is empty passes over so many, and forgets it unless it is a variable.
     With {
         kept: bool,
-        skip: usize,
+        skip: u32,
     },
     /// Forgets so many cells, takes dot back from the next one, forgets the variables of the header, and passes over so
     /// many instructions.
     EndWith {
-        count: usize,
-        variables: usize,
-        skip: usize,
+        count: u32,
+        variables: u32,
+        skip: u32,
     },
     /// Forgets so many cells and passes over so many instructions.
     Drop {
-        count: usize,
-        skip: usize,
+        count: u32,
+        skip: u32,
     },
     /// Opens a range over the newest value and takes a step: saves dot, and the place of the next instruction, in a new
     /// cell. Passes over so many instructions, and forgets the value, where it has no element; stops where it is no
     /// range, or has no index or key where one is wanted.
     Enter {
         key: bool,
-        skip: usize,
+        skip: u32,
     },
     /// The element that is visited becomes dot, and the values of so many variables: of none, or of one, or of one
     /// above one for its index or key.
-    Turn(usize),
+    Turn(u32),
     /// Forgets so many cells and goes to the place that the range saved, for its next element, which takes a step at
     /// this line; where there is none forgets the range, takes dot back and passes over so many instructions.
     Next {
-        count: usize,
-        skip: usize,
-        line: u64,
+        count: u32,
+        skip: u32,
+        line: u32,
     },
     /// Forgets so many cells and the range below them, takes dot back and passes over so many instructions.
     Leave {
-        count: usize,
-        skip: usize,
+        count: u32,
+        skip: u32,
     },
     /// Stops at this line, which the faults from here on bear, where no step is left, or where as many templates are inside
     /// one another as there may be.
     Deepen(u64),
     /// Takes a step, saves dot and the place of the next instruction, and runs the template of this number with the newest
     /// value as dot and `$`.
-    Invoke(usize),
+    Invoke(u32),
     /// Forgets so many cells and the three of the template below them, takes dot back and goes to where the caller goes
     /// on; ends the run where there is none.
-    Return(usize),
+    Return(u32),
 }

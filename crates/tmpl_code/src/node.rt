@@ -13,7 +13,7 @@ use crate::binding::{
 };
 use crate::code::Code;
 use crate::instruction::{Instruction, Operation, Refusal};
-use crate::pipeline::{put_pipeline, sum};
+use crate::pipeline::{put_pipeline, short, sum};
 use crate::scope::Scope;
 use std::alloc::AllocError;
 use tmpl_grammar::{Binding, Control, Header, Pipeline};
@@ -25,7 +25,7 @@ use tmpl_values::Bytes;
 pub(crate) struct Around {
     /// How many instructions lie behind it.
     pub(crate) after: usize,
-    pub(crate) line: u64,
+    pub(crate) line: u32,
     /// How many cells lie below its own.
     pub(crate) below: usize,
 }
@@ -106,11 +106,11 @@ fn put_break(code: &mut Code<'_>, scope: &Scope<'_>, exit: Option<Around>) -> Re
 {
     match exit {
         Some(around) => {
-            let count = scope.len() - around.below - 2;
-            let skip = code.len() - around.after;
+            let count = short(scope.len() - around.below - 2)?;
+            let skip = short(code.len() - around.after)?;
             code.push(Instruction::Leave { count, skip })
         }
-        None => code.push(Instruction::Return(scope.len().saturating_sub(3))),
+        None => code.push(Instruction::Return(short(scope.len().saturating_sub(3))?)),
     }
 }
 
@@ -126,15 +126,15 @@ fn put_continue(
 {
     match exit {
         Some(around) => {
-            let count = scope.len() - around.below - 2;
-            let skip = code.len() - around.after;
+            let count = short(scope.len() - around.below - 2)?;
+            let skip = short(code.len() - around.after)?;
             code.push(Instruction::Next {
                 count,
                 skip,
                 line: around.line,
             })
         }
-        None => code.push(Instruction::Return(scope.len().saturating_sub(3))),
+        None => code.push(Instruction::Return(short(scope.len().saturating_sub(3))?)),
     }
 }
 
@@ -151,7 +151,7 @@ fn put_template<'s>(
 {
     match number {
         Some(number) => {
-            code.push(Instruction::Invoke(number))?;
+            code.push(Instruction::Invoke(short(number)?))?;
             put_given(code, scope, given)
         }
         None => code.operate(Operation::Refuse(Refusal::NoTemplate(name))),
@@ -274,7 +274,7 @@ fn put_control<'s, 'b>(
             put_header(code, scope, &node.header)
         }
         Control::Range => {
-            put_range(code, scope, set, exit, line, binding, body, other)?;
+            put_range(code, scope, set, exit, short(line as usize)?, binding, body, other)?;
             put_pipeline(code, scope, &node.header.pipeline)
         }
     }
@@ -302,20 +302,20 @@ fn put_if<'s, 'b>(
     ensures scope { OnOk result (layout_of scope.new ≡ layout_of scope.old) }
 {
     let end = code.len();
-    let count = sum(declared_count(binding), declared_in(other)?)?;
+    let count = short(sum(declared_count(binding), declared_in(other)?)?)?;
     code.push(Instruction::Drop { count, skip: 0 })?;
     put_part(code, scope, set, exit, binding, other)?;
     let second = code.len();
-    let count = sum(declared_count(binding), declared_in(body)?)?;
+    let count = short(sum(declared_count(binding), declared_in(body)?)?)?;
     code.push(Instruction::Drop {
         count,
-        skip: second - end,
+        skip: short(second - end)?,
     })?;
     put_part(code, scope, set, exit, binding, body)?;
     let first = code.len();
     code.push(Instruction::Unless {
         kept: declares(binding),
-        skip: first - second,
+        skip: short(first - second)?,
     })
 }
 
@@ -364,20 +364,20 @@ fn put_with<'s, 'b>(
     ensures scope { OnOk result (layout_of scope.new ≡ layout_of scope.old) }
 {
     let end = code.len();
-    let count = sum(declared_count(binding), declared_in(other)?)?;
+    let count = short(sum(declared_count(binding), declared_in(other)?)?)?;
     code.push(Instruction::Drop { count, skip: 0 })?;
     put_part(code, scope, set, exit, binding, other)?;
     let second = code.len();
     code.push(Instruction::EndWith {
-        count: declared_in(body)?,
-        variables: declared_count(binding),
-        skip: second - end,
+        count: short(declared_in(body)?)?,
+        variables: short(declared_count(binding))?,
+        skip: short(second - end)?,
     })?;
     put_dotted_part(code, scope, set, exit, binding, body)?;
     let first = code.len();
     code.push(Instruction::With {
         kept: declares(binding),
-        skip: first - second,
+        skip: short(first - second)?,
     })
 }
 
@@ -413,7 +413,7 @@ fn put_range<'s, 'b>(
     scope: &mut Scope<'s>,
     set: &Set<'_>,
     exit: Option<Around>,
-    line: u64,
+    line: u32,
     binding: &'s Binding,
     body: &'s [Node<'b>],
     other: &'s [Node<'b>],
@@ -431,14 +431,14 @@ fn put_range<'s, 'b>(
 {
     let after = code.len();
     code.push(Instruction::Drop {
-        count: declared_in(other)?,
+        count: short(declared_in(other)?)?,
         skip: 0,
     })?;
     put_nodes(code, scope, set, exit, other)?;
     let second = code.len();
     code.push(Instruction::Next {
-        count: sum(declared_count(binding), declared_in(body)?)?,
-        skip: second - after,
+        count: short(sum(declared_count(binding), declared_in(body)?)?)?,
+        skip: short(second - after)?,
         line,
     })?;
     let below = scope.len();
@@ -450,7 +450,7 @@ fn put_range<'s, 'b>(
         binding,
         body,
     )?;
-    let skip = code.len() - second;
+    let skip = short(code.len() - second)?;
     code.push(Instruction::Enter {
         key: declares_key(binding),
         skip,

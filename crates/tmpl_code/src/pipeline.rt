@@ -25,6 +25,13 @@ pub(crate) fn sum(a: usize, b: usize) -> Result<usize, AllocError>
     }
 }
 
+/// The number in 32 bits; the code that counts so far would take 64 GiB.
+pub(crate) fn short(n: usize) -> Result<u32, AllocError>
+    ensures { IfOk result (λ m. m ≡ n) }
+{
+    u32::try_from(n).ok().ok_or(AllocError)
+}
+
 /// Puts a pipeline.
 pub(crate) fn put_pipeline<'s>(
     code: &mut Code<'s>,
@@ -172,7 +179,7 @@ fn put_call<'s>(
         Func::And => put_junction(code, scope, above, false, piped, operands),
         Func::Or => put_junction(code, scope, above, true, piped, operands),
         _ => {
-            let count = operand_count(operands);
+            let count = short(operand_count(operands))?;
             code.operate(Operation::Call { func, count, piped })?;
             put_operands(code, scope, above, operands)
         }
@@ -237,7 +244,7 @@ fn put_decide(
     if last {
         return Ok(());
     }
-    let skip = code.len() - end;
+    let skip = short(code.len() - end)?;
     code.operate(Operation::Decide { is_or, piped, skip })
 }
 
@@ -255,28 +262,28 @@ fn put_operand<'s>(
 {
     match operand {
         Operand::Dot => code.operate(Operation::Dot),
-        Operand::Fields(names) => code.operate(Operation::Fields(names.as_slice())),
+        Operand::Fields(names) => code.operate(Operation::Fields(names)),
         Operand::Variable { name, fields } => {
-            put_chain(code, fields.as_slice())?;
+            put_chain(code, fields)?;
             put_variable(code, scope.slot(name.as_slice()), above)
         }
         Operand::Bool(held) => code.operate(Operation::Bool(*held)),
         Operand::Number(number) => code.operate(Operation::Number(*number)),
-        Operand::Text(bytes) => code.operate(Operation::Text(bytes.as_slice())),
+        Operand::Text(bytes) => code.operate(Operation::Text(bytes)),
         Operand::Nil => code.operate(Operation::Nothing),
         Operand::Function(func) => put_bare(code, *func),
         Operand::Group { commands, fields } => {
-            put_chain(code, fields.as_slice())?;
+            put_chain(code, fields)?;
             put_commands(code, scope, above, commands.as_slice())
         }
     }
 }
 
 /// Puts a chain of fields behind a value, if there is one.
-fn put_chain<'s>(code: &mut Code<'s>, names: &'s [Bytes]) -> Result<(), AllocError>
-    ensures { OnOk result (code_of code.new ≡ spec.chain_before names.now (code_of code.old)) }
+fn put_chain<'s>(code: &mut Code<'s>, names: &'s Vec<Bytes>) -> Result<(), AllocError>
+    ensures { OnOk result (code_of code.new ≡ spec.chain_before names.now.items (code_of code.old)) }
 {
-    match names {
+    match names.as_slice() {
         [] => Ok(()),
         [_, ..] => code.operate(Operation::Chain(names)),
     }
@@ -287,7 +294,7 @@ fn put_variable(code: &mut Code<'_>, slot: Option<usize>, above: usize) -> Resul
     ensures { OnOk result (spec.VariableAt slot above (code_of code.new) (code_of code.old)) }
 {
     match slot {
-        Some(slot) => code.operate(Operation::Slot(sum(above, slot)?)),
+        Some(slot) => code.operate(Operation::Slot(short(sum(above, slot)?)?)),
         None => code.operate(Operation::Nothing),
     }
 }

@@ -51,32 +51,33 @@ impl<'m, 'a> Machine<'m, 'a> {
     {
         match instruction {
             Instruction::Spend(line) => self.spend(options.steps, line)?,
-            Instruction::Text(bytes) => self.put_bytes(bytes, piece, sink)?,
+            Instruction::Text(bytes) => self.put_bytes(*bytes, piece, sink)?,
             Instruction::Operate(operation) => self.operate(options.missing_key, operation)?,
             Instruction::Show => self.show(piece, sink)?,
             Instruction::Hold { key } => self.hold(key)?,
-            Instruction::Set(slot) => self.set(slot)?,
-            Instruction::SetDot(slot) => self.set_dot(slot)?,
-            Instruction::Unless { kept, skip } => self.branch(kept, skip),
-            Instruction::With { kept, skip } => self.open_with(kept, skip)?,
+            Instruction::Set(slot) => self.set(slot as usize)?,
+            Instruction::SetDot(slot) => self.set_dot(slot as usize)?,
+            Instruction::Unless { kept, skip } => self.branch(kept, skip as usize),
+            Instruction::With { kept, skip } => self.open_with(kept, skip as usize)?,
             Instruction::EndWith {
                 count,
                 variables,
                 skip,
-            } => self.close_with(count, variables, skip),
-            Instruction::Drop { count, skip } => self.forget(count, skip),
-            Instruction::Enter { key, skip } => self.open_range(options.steps, key, skip)?,
-            Instruction::Turn(count) => self.turn(count)?,
+            } => self.close_with(count as usize, variables as usize, skip as usize),
+            Instruction::Drop { count, skip } => self.forget(count as usize, skip as usize),
+            Instruction::Enter { key, skip } => self.open_range(options.steps, key, skip as usize)?,
+            Instruction::Turn(count) => self.turn(count as usize)?,
             Instruction::Next { count, skip, line } => {
-                self.next(options.steps, count, skip, line)?
+                self.next(options.steps, count as usize, skip as usize, line as u64)?
             }
-            Instruction::Leave { count, skip } => self.leave(count, skip),
+            Instruction::Leave { count, skip } => self.leave(count as usize, skip as usize),
             Instruction::Deepen(line) => self.deepen(options.steps, options.depth, line)?,
             Instruction::Invoke(number) => {
+                let number = number as usize;
                 self.invoke(options.steps, number, program.starts.as_slice()[number])?
             }
             Instruction::Return(count) => {
-                if self.return_from(count) {
+                if self.return_from(count as usize) {
                     return Ok(Flow::Over);
                 }
             }

@@ -73,16 +73,16 @@ impl<'m, 'a> Machine<'m, 'a> {
                 Ok(())
             }
             Operation::Text(text) => {
-                self.give(Val::Text(text));
+                self.give(Val::Text(text.as_slice()));
                 Ok(())
             }
             Operation::Dot => self.push_dot(),
-            Operation::Fields(names) => self.push_fields(missing_key, names),
-            Operation::Slot(slot) => self.push_slot(slot),
-            Operation::Chain(names) => self.chain(missing_key, names),
-            Operation::Call { func, count, piped } => self.call(func, count, piped),
+            Operation::Fields(names) => self.push_fields(missing_key, names.as_slice()),
+            Operation::Slot(slot) => self.push_slot(slot as usize),
+            Operation::Chain(names) => self.chain(missing_key, names.as_slice()),
+            Operation::Call { func, count, piped } => self.call(func, count as usize, piped),
             Operation::Decide { is_or, piped, skip } => {
-                self.decide(is_or, piped, skip);
+                self.decide(is_or, piped, skip as usize);
                 Ok(())
             }
             Operation::Settle => {
