@@ -1,5 +1,6 @@
 //! Nodes to code, each from its last part to its first.
 ghost use Rattle.std.specs.Prelude.{◌≡◌, ◌+◌, ◌≤◌, ◌∷◌, IfOk, OnOk, Some, None, length, option_map};
+ghost use Rattle.tmpl_grammar.specs.Need.{declared_count};
 ghost use Rattle.tmpl_grammar.specs.View.{binding_of, pipeline_of};
 ghost use Rattle.tmpl_syntax.specs.Need.{left_behind};
 ghost use Rattle.tmpl_syntax.specs.View.{control_of, node_of, nodes_in, set_view};
@@ -41,6 +42,13 @@ pub(crate) fn declared_in(nodes: &[Node<'_>]) -> Result<usize, AllocError>
         count = sum(left_behind(&nodes[i]), count)?;
     }
     Ok(count)
+}
+
+/// How many variables a header and the nodes leave.
+fn declared_by(binding: &Binding, nodes: &[Node<'_>]) -> Result<u32, AllocError>
+    ensures { IfOk result (λ n. n ≡ declared_count (binding_of binding.now) + declared_in (nodes_in nodes.now)) }
+{
+    short(sum(declared_count(binding), declared_in(nodes)?)?)
 }
 
 /// How many variables a node leaves.
@@ -302,11 +310,11 @@ fn put_if<'s, 'b>(
     ensures scope { OnOk result (layout_of scope.new ≡ layout_of scope.old) }
 {
     let end = code.len();
-    let count = short(sum(declared_count(binding), declared_in(other)?)?)?;
+    let count = declared_by(binding, other)?;
     code.push(Instruction::Drop { count, skip: 0 })?;
     put_part(code, scope, set, exit, binding, other)?;
     let second = code.len();
-    let count = short(sum(declared_count(binding), declared_in(body)?)?)?;
+    let count = declared_by(binding, body)?;
     code.push(Instruction::Drop {
         count,
         skip: short(second - end)?,
@@ -364,7 +372,7 @@ fn put_with<'s, 'b>(
     ensures scope { OnOk result (layout_of scope.new ≡ layout_of scope.old) }
 {
     let end = code.len();
-    let count = short(sum(declared_count(binding), declared_in(other)?)?)?;
+    let count = declared_by(binding, other)?;
     code.push(Instruction::Drop { count, skip: 0 })?;
     put_part(code, scope, set, exit, binding, other)?;
     let second = code.len();
@@ -437,7 +445,7 @@ fn put_range<'s, 'b>(
     put_nodes(code, scope, set, exit, other)?;
     let second = code.len();
     code.push(Instruction::Next {
-        count: short(sum(declared_count(binding), declared_in(body)?)?)?,
+        count: declared_by(binding, body)?,
         skip: short(second - after)?,
         line,
     })?;

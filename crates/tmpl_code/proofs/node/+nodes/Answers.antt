@@ -59,8 +59,7 @@ put_if-returns-clause-code t c =
     on_ok _ _ _ (λ is. if_at (NodesAt ts (nodes_in a.body.now) (bound_on b lay) (exit_seen a.exit old)) (NodesAt ts (nodes_in a.other.now) (bound_on b lay) (exit_seen a.exit old))
     (code_of c.put_part-2.new.code) (code_of c.put_part.new.code) old (code_of c.push-3.new.self) _ _ (omega arith) (omega arith) q.over p.over
     b (declared_in (nodes_in a.body.now)) (declared_in (nodes_in a.other.now)) _ _ _ c.declares.ensures
-    (c.in_ok-count-2.ensures ∙ (λ j. c.declared_count-2.ensures j + c.in_ok-declared_in-2.ensures j))
-    (c.in_ok-count.ensures ∙ (λ j. c.declared_count.ensures j + c.in_ok-declared_in.ensures j))
+    c.in_ok-count-2.ensures c.in_ok-count.ensures
     q.lies p.lies is) c.push-3.ensures
 
 pub put_with-overflow_sub-second : goal.put_with-overflow_sub-second
@@ -110,10 +109,9 @@ put_with-returns-clause-code t c =
     let body = subst (λ (l : Layout). NodesAt ts (nodes_in a.body.now) (None ∷ bound_on b l) (exit_seen a.exit (code_of c.push-2.new.self)) (code_of c.put_dotted_part.new.code) (code_of c.push-2.new.self)) c.in_ok-put_part.ensures.scope c.in_ok-put_dotted_part.ensures.code in
     let q = both ts a.exit (nodes_in a.body.now) (None ∷ bound_on b lay) lay _ old (code_of c.put_part.new.code) (code_of c.push-2.new.self) (code_of c.put_dotted_part.new.code) c.requires p.ends c.in_ok-push-2.ensures body in
     on_ok _ _ _ (λ is. with_at (NodesAt ts (nodes_in a.body.now) (None ∷ bound_on b lay) (exit_seen a.exit old)) (NodesAt ts (nodes_in a.other.now) (bound_on b lay) (exit_seen a.exit old))
-    (code_of c.put_dotted_part.new.code) (code_of c.put_part.new.code) old (code_of c.push-3.new.self) _ _ (omega arith) (omega arith) q.over p.over
-    b (declared_in (nodes_in a.body.now)) (declared_in (nodes_in a.other.now)) _ _ _ _ c.declares.ensures c.declared_count-2.ensures
-    c.in_ok-declared_in-2.ensures
-    (c.in_ok-count.ensures ∙ (λ j. c.declared_count.ensures j + c.in_ok-declared_in.ensures j))
+    (code_of c.put_dotted_part.new.code) (code_of c.put_part.new.code) old (code_of c.push-3.new.self) _ _ (omega arith) (omega (arith, c.in_ok-short-3.ensures)) q.over p.over
+    b (declared_in (nodes_in a.body.now)) (declared_in (nodes_in a.other.now)) _ _ _ _ c.declares.ensures (c.in_ok-short-2.ensures ∙ c.declared_count.ensures)
+    (c.in_ok-short.ensures ∙ c.in_ok-declared_in.ensures) c.in_ok-count.ensures
     q.lies p.lies is) c.push-3.ensures
 
 pub put_nodes-put_node-requires : goal.put_nodes-put_node-requires
@@ -178,8 +176,8 @@ put_range-put_turns-requires t c =
     let one = longer _ _ (ends_one _ _ _ c.in_ok-push-2.ensures) in
     (omega arith, (omega (arith, more, one), c.len-below.ensures))
 
-pub put_range-overflow_sub-skip : goal.put_range-overflow_sub-skip
-put_range-overflow_sub-skip t c =
+pub put_range-overflow_sub-len : goal.put_range-overflow_sub-len
+put_range-overflow_sub-len t c =
     let a = c.args in
     let ts = set_view a.set.now in
     let lay = layout_of a.scope.now in
@@ -211,5 +209,5 @@ put_range-returns-clause-code t c =
     on_ok _ _ _ (λ is. range_at (NodesAt ts (nodes_in a.body.now) (bound_on b (None ∷ None ∷ lay)) (Some (record { out = old; line = a.line; below = length lay }))) (NodesAt ts (nodes_in a.other.now) lay (exit_seen a.exit old))
     (code_of c.put_turns.new.code) (code_of c.put_nodes.new.code) old (code_of c.push-3.new.self) _ _ (omega arith) (omega arith) q.over p.over
     a.line b (declared_in (nodes_in a.body.now)) (declared_in (nodes_in a.other.now)) _ _ _ (TurnAt b (None ∷ None ∷ lay)) q.first c.declares_key.ensures
-    (c.in_ok-sum.ensures ∙ (λ j. c.declared_count.ensures j + c.in_ok-declared_in-2.ensures j)) c.in_ok-declared_in.ensures
+    c.in_ok-declared_by.ensures (c.in_ok-short.ensures ∙ c.in_ok-declared_in.ensures)
     q.turn q.lies p.lies is) c.push-3.ensures
