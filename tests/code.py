@@ -120,6 +120,27 @@ ROWS = [
         12 drop 1 -> 13
         13 return 0""",
     ),
+    # where nothing is to be forgotten or passed over, nothing ends a part
+    (
+        "{{if .a}}x{{end}}{{if .b}}y{{else}}z{{end}}",
+        """template "m"
+        0 spend line 1
+        1 push .a
+        2 settle
+        3 unless -> 6
+        4 spend line 1
+        5 put "x"
+        6 spend line 1
+        7 push .b
+        8 settle
+        9 unless -> 13
+        10 spend line 1
+        11 put "y"
+        12 drop 0 -> 15
+        13 spend line 1
+        14 put "z"
+        15 return 0""",
+    ),
     # a break out of a `with` forgets the dot that it saved, and goes behind the range and its else part
     (
         "{{range .}}\n{{with .k}}{{break}}{{end}}{{else}}none{{end}}",
@@ -127,7 +148,7 @@ ROWS = [
         0 spend line 1
         1 push dot
         2 settle
-        3 enter -> 16
+        3 enter -> 15
         4 turn 0
         5 spend line 1
         6 put "\n"
@@ -136,14 +157,12 @@ ROWS = [
         9 settle
         10 with -> 14
         11 spend line 2
-        12 leave 1 -> 19
-        13 end with 0 0 -> 15
-        14 drop 0 -> 15
-        15 next 0 line 1 -> 19
-        16 spend line 2
-        17 put "none"
-        18 drop 0 -> 19
-        19 return 0""",
+        12 leave 1 -> 17
+        13 end with 0 0 -> 14
+        14 next 0 line 1 -> 17
+        15 spend line 2
+        16 put "none"
+        17 return 0""",
     ),
     (
         "{{range $i, $e := .a}}{{with $x := $e}}{{continue}}{{end}}{{end}}",
@@ -159,12 +178,11 @@ ROWS = [
         8 hold
         9 with kept -> 13
         10 spend line 1
-        11 next 4 line 1 -> 16
+        11 next 4 line 1 -> 15
         12 end with 0 1 -> 14
         13 drop 1 -> 14
-        14 next 2 line 1 -> 16
-        15 drop 0 -> 16
-        16 return 0""",
+        14 next 2 line 1 -> 15
+        15 return 0""",
     ),
     # a call of a template looks for the name first, then for a step and at the depth, then at what it hands on; it takes
     # its step where the template begins

@@ -2,7 +2,7 @@
 -- instructions from a place on, and `rest` is what stands behind the code of the tree; so nothing hangs on where it
 -- stands. Each case says what that of the tree's meaning says, and each tree has code: a variable that is not in scope
 -- is nothing, and a break out of no range ends the template.
-use Rattle.std.specs.Prelude.{◌≡◌, ℕ, suc, ◌+◌, ◌-◌, Bool, true, false, List, [], ◌∷◌, length, drop, Option, Some, None}
+use Rattle.std.specs.Prelude.{◌≡◌, ℕ, zero, suc, ◌+◌, ◌-◌, Bool, true, false, List, [], ◌∷◌, length, drop, Option, Some, None}
 use Rattle.tmpl_funcs.specs.Func.{takes}
 use Rattle.tmpl_funcs.specs.declared.func.Func.{Func}
 use Rattle.tmpl_funcs.specs.declared.func.Func.TheVariants.{And, Or}
@@ -251,13 +251,22 @@ step_of ts line (template_node name given) = step_of_call line (number_of name t
 
 -- ---- controls
 
+-- what ends a part: so many cells are forgotten, and so many instructions passed over; where that is none, nothing is there
+abbrev pub EndAt : ℕ → ℕ → Part
+EndAt zero zero code rest = code ≡ rest
+EndAt zero (suc to) code rest = code ≡ cut 0 (suc to) ∷ rest
+EndAt (suc count) to code rest = code ≡ cut (suc count) to ∷ rest
+
+abbrev pub Ended : ℕ → ℕ → Part → Part
+Ended count to P code rest = (end : Code) × P code end × EndAt count to end rest
+
 -- the parts of an `if`, which leave so many variables each, behind its header
 abbrev pub IfAt : Binding → ℕ → ℕ → Part → Part → Part
 IfAt b in_body in_other Body Other code rest =
     (first : Code) × (second : Code) × (skip : ℕ) × (to : ℕ)
     × (code ≡ unless (declares b) skip ∷ first)
-    × Body first (cut (declared_count b + in_body) to ∷ second)
-    × Other second (cut (declared_count b + in_other) 0 ∷ rest)
+    × Ended (declared_count b + in_body) to Body first second
+    × Ended (declared_count b + in_other) 0 Other second rest
     × (drop skip first ≡ second) × (drop to second ≡ rest)
 
 -- those of a `with`
@@ -266,7 +275,7 @@ WithAt b in_body in_other Body Other code rest =
     (first : Code) × (second : Code) × (skip : ℕ) × (to : ℕ)
     × (code ≡ enter_with (declares b) skip ∷ first)
     × Body first (end_with in_body (declared_count b) to ∷ second)
-    × Other second (cut (declared_count b + in_other) 0 ∷ rest)
+    × Ended (declared_count b + in_other) 0 Other second rest
     × (drop skip first ≡ second) × (drop to second ≡ rest)
 
 -- those of a range of this line, behind its pipeline
@@ -276,7 +285,7 @@ RangeAt line b in_body in_other Turn Body Other code rest =
     × (code ≡ enter (declares_key b) skip ∷ start)
     × Turn start first
     × Body first (next (declared_count b + in_body) to line ∷ second)
-    × Other second (cut in_other 0 ∷ rest)
+    × Ended in_other 0 Other second rest
     × (drop skip start ≡ second) × (drop to second ≡ rest)
 
 -- nodes, by the layout before them and the range around

@@ -288,6 +288,17 @@ fn put_control<'s, 'b>(
     }
 }
 
+/// Puts what ends a part: so many cells are forgotten, and so many instructions passed over.
+#[tactic(auto, using(crate::proofs::NodeTailLemmas::end_at))]
+fn put_end(code: &mut Code<'_>, count: u32, skip: u32) -> Result<(), AllocError>
+    ensures { OnOk result (spec.EndAt count skip (code_of code.new) (code_of code.old)) }
+{
+    match (count, skip) {
+        (0, 0) => Ok(()),
+        _ => code.push(Instruction::Drop { count, skip }),
+    }
+}
+
 /// Puts the parts of an `if`.
 #[cycle(nodes)]
 fn put_if<'s, 'b>(
@@ -310,15 +321,10 @@ fn put_if<'s, 'b>(
     ensures scope { OnOk result (layout_of scope.new ≡ layout_of scope.old) }
 {
     let end = code.len();
-    let count = declared_by(binding, other)?;
-    code.push(Instruction::Drop { count, skip: 0 })?;
+    put_end(code, declared_by(binding, other)?, 0)?;
     put_part(code, scope, set, exit, binding, other)?;
     let second = code.len();
-    let count = declared_by(binding, body)?;
-    code.push(Instruction::Drop {
-        count,
-        skip: short(second - end)?,
-    })?;
+    put_end(code, declared_by(binding, body)?, short(second - end)?)?;
     put_part(code, scope, set, exit, binding, body)?;
     let first = code.len();
     code.push(Instruction::Unless {
@@ -372,8 +378,7 @@ fn put_with<'s, 'b>(
     ensures scope { OnOk result (layout_of scope.new ≡ layout_of scope.old) }
 {
     let end = code.len();
-    let count = declared_by(binding, other)?;
-    code.push(Instruction::Drop { count, skip: 0 })?;
+    put_end(code, declared_by(binding, other)?, 0)?;
     put_part(code, scope, set, exit, binding, other)?;
     let second = code.len();
     code.push(Instruction::EndWith {
@@ -438,10 +443,7 @@ fn put_range<'s, 'b>(
     ensures scope { OnOk result (layout_of scope.new ≡ layout_of scope.old) }
 {
     let after = code.len();
-    code.push(Instruction::Drop {
-        count: short(declared_in(other)?)?,
-        skip: 0,
-    })?;
+    put_end(code, short(declared_in(other)?)?, 0)?;
     put_nodes(code, scope, set, exit, other)?;
     let second = code.len();
     code.push(Instruction::Next {

@@ -16,7 +16,7 @@ use Rattle.tmpl_run.specs.Meaning as meaning
 use Rattle.tmpl_run.specs.Meaning.{Calls, End, Next, Ran, Run, Setting, alone, choosing, meanings, oldest, one_of, setting_of, shown, stepped, with_bound}
 use Rattle.tmpl_code.specs.Instruction as code
 use Rattle.tmpl_code.specs.Layout.{Layout, bound_on, declared_in, declares, grown}
-use Rattle.tmpl_code.specs.Code.{Code, NodeAt, NodesAt, ShownAt, step_of}
+use Rattle.tmpl_code.specs.Code.{Code, Ended, NodeAt, NodesAt, ShownAt, step_of}
 use Rattle.tmpl_machine.specs.Cell.{Cell, fresh}
 use Rattle.tmpl_machine.specs.State.{Plan, State}
 use Rattle.tmpl_machine.specs.Machine.{branch, goes, kept_on, top, with_dot}
@@ -148,17 +148,17 @@ module _ (plan : Plan) (room : ℕ) (f : Ran) (who : Who) (me : Template) (is-me
 
   -- nodes that are a part of a control, behind its header
   pub part-leads : (ns : Nodes) → NodesLead ns → (b : Binding) (g : Option Ring) (lay : Layout) (fr : Frame) (first more rest : Code) (to : ℕ) (d : Value) (r : Run) (t : State)
-      → NodesAt plan.templates ns (bound_on b lay) (exit_of g) first (code.cut (declared_count b + declared_in ns) to ∷ more) → drop to more ≡ rest → Inside home g lay fr → length fr + (declared_count b + need_of_nodes ns) + spare ≤ room
+      → Ended (declared_count b + declared_in ns) to (NodesAt plan.templates ns (bound_on b lay) (exit_of g)) first more → drop to more ≡ rest → Inside home g lay fr → length fr + (declared_count b + need_of_nodes ns) + spare ≤ room
       → Stands plan who first (bound_on b lay) (bound_in b fr) t → t.dot ≡ d → run_of (bound_on b lay) t ≡ r
       → After (λ r. Onward rest lay fr d (cut_to (named lay) r)) g (meanings set ns d r) → Leading t
   part-leads ns ih b g lay fr first more rest to d r t l far inside fits st dot run k =
-      ih g (bound_on b lay) (bound_in b fr) first (code.cut (declared_count b + declared_in ns) to ∷ more) t l st (inside-bound home g b lay fr inside) (let long = length-bound b fr in omega arith)
+      ih g (bound_on b lay) (bound_in b fr) first l.0 t l.1 st (inside-bound home g b lay fr inside) (let long = length-bound b fr in omega arith)
       (subst (λ e. After goal g (meanings set ns e (run_of (bound_on b lay) t))) (sym dot) (subst (λ r. After goal g (meanings set ns d r)) (sym run)
       (ways.then-map plan room f who me is-me home (λ r. Onward rest lay fr d (cut_to (named lay) r)) goal g (meanings set ns d r).0 (meanings set ns d r).1
-      (λ r k u su du ru. ways.closes plan room f who me is-me home (declared_count b + declared_in ns) to more rest (all_grown ns (bound_on b lay)) lay fr (all_grown_in ns (bound_in b fr)) d r u su (over-bound b ns lay) (frame-bound b ns fr) far (du ∙ dot) ru k) k)))
+      (λ r k u su du ru. ways.closes plan room f who me is-me home (declared_count b + declared_in ns) to l.0 more rest (all_grown ns (bound_on b lay)) lay fr (all_grown_in ns (bound_in b fr)) d r u l.2 su (over-bound b ns lay) (frame-bound b ns fr) far (du ∙ dot) ru k) k)))
     where
       goal : Run → Type 0
-      goal = Onward (code.cut (declared_count b + declared_in ns) to ∷ more) (all_grown ns (bound_on b lay)) (all_grown_in ns (bound_in b fr)) t.dot
+      goal = Onward l.0 (all_grown ns (bound_on b lay)) (all_grown_in ns (bound_in b fr)) t.dot
 
   -- ---- `if`
 

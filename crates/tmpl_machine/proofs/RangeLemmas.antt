@@ -17,7 +17,7 @@ use Rattle.tmpl_run.specs.Meaning as meaning
 use Rattle.tmpl_run.specs.Meaning.{Calls, End, Next, Ran, Run, Setting, after_turn, assigned, bound, meanings, oldest, on_turn, over, ranging, scope, scoped, setting_of, spend_if, turns, visited, with_bound}
 use Rattle.tmpl_code.specs.Instruction as code
 use Rattle.tmpl_code.specs.Layout.{Layout, bound_on, declared_in, declares_key, slot_named}
-use Rattle.tmpl_code.specs.Code.{Code, NodesAt, SetDotAt, TurnAt}
+use Rattle.tmpl_code.specs.Code.{Code, Ended, NodesAt, SetDotAt, TurnAt}
 use Rattle.tmpl_machine.specs.Cell.{Cell, cell, fresh}
 use Rattle.tmpl_machine.specs.State.{Plan, State}
 use Rattle.tmpl_machine.specs.Machine.{again, elements_for, elements_in, fault_at, goes, left_in, onto, opened, paid_if, ran_so, ring, turned, variables_on}
@@ -353,7 +353,7 @@ module _ (plan : Plan) (room : ℕ) (f : Ran) (who : Who) (me : Template) (is-me
           → (o : Option (List Element)) → elements_for (declares_key h.binding) v ≡ o → After B g (over set line h.binding (λ v. meanings set body v) (meanings set other s.dot) o (run_at lay m s)) → Comes Leading (opened plan me l.2.3 (fresh v) s.cells o (valued v m place s)) f
       by v m place at None e k = ap (λ n. ran_so (valued v m place s) (Some (fault_at me n not_a_range))) same-line ∙ k
       by v m place at (Some []) e k =
-          nodes.part-leads plan room f who me is-me home calls spare pipes other ih-other unbound g lay fr l.2.2 rest rest 0 s.dot (run_at lay m s) _ (subst (λ n. NodesAt plan.templates other lay (exit_of g) l.2.2 (code.cut n 0 ∷ rest)) zero-more l.2.8) refl inside (omega arith)
+          nodes.part-leads plan room f who me is-me home calls spare pipes other ih-other unbound g lay fr l.2.2 rest rest 0 s.dot (run_at lay m s) _ (subst (λ n. Ended n 0 (NodesAt plan.templates other lay (exit_of g)) l.2.2 rest) zero-more l.2.8) refl inside (omega arith)
           (record { at = ahead plan.code l.2.0 place l.2.3 (code.enter (declares_key h.binding) l.2.3) at ∙ l.2.9; runs = st.runs; frame = st.frame; deep = st.deep }) refl refl k
         where
           zero-more : declared_in other ≡ 0 + declared_in other

@@ -10,7 +10,7 @@ use Rattle.tmpl_run.specs.Meaning.{Calls, End, Next, Ran, Run, Setting, oldest, 
 use Rattle.tmpl_code.specs.Instruction as code
 use Rattle.tmpl_code.specs.Instruction.{Instruction}
 use Rattle.tmpl_code.specs.Layout.{Layout, first_layout}
-use Rattle.tmpl_code.specs.Code.{Around, Code, Exit}
+use Rattle.tmpl_code.specs.Code.{Around, Code, EndAt, Exit}
 use Rattle.tmpl_machine.specs.Cell.{Cell, cell}
 use Rattle.tmpl_machine.specs.State.{Plan, State}
 use Rattle.tmpl_machine.specs.Machine.{Turn, done, done_in, ended, goes, next_of, onto, paid_if, stuck}
@@ -197,11 +197,22 @@ module _ (plan : Plan) (room : ℕ) (f : Ran) (who : Who) (me : Template) (is-me
       by true k = k
       by false k = more (ahead-one plan.code is s.place (code.spend line) at) k
 
-  -- so many cells are forgotten
-  pub closes : (n skip : ℕ) (more rest : Code) (big lay : Layout) (fr gr : Frame) (d : Value) (r : Run) (s : State) → Stands plan who (code.cut n skip ∷ more) big gr s → Over n big lay → drop n gr ≡ fr
-      → drop skip more ≡ rest → s.dot ≡ d → run_of big s ≡ r → Onward rest lay fr d (cut_to (named lay) r) → Ends plan room s f
-  closes n skip more rest big lay fr gr d r s st over under far same is k = takes s (code.cut n skip) more st.runs st.at (omega (arith, over.size, st.deep))
-      (k (record s { cells = drop n s.cells; place = s.place + 1 + skip })
-      (record { at = ahead plan.code more s.place skip (code.cut n skip) st.at ∙ far; runs = st.runs; frame = frame-drop n big lay s.cells over st.deep ∙ ap (drop n) st.frame ∙ under; deep = (let size = over.size in let d = st.deep in let l = length-drop n s.cells in omega arith) })
+  -- so many cells are forgotten, and a part goes on at this place
+  closed : (n place : ℕ) (end rest : Code) (big lay : Layout) (fr gr : Frame) (d : Value) (r : Run) (s : State) → drop place plan.code ≡ rest → Stands plan who end big gr s → Over n big lay → drop n gr ≡ fr
+      → s.dot ≡ d → run_of big s ≡ r → Onward rest lay fr d (cut_to (named lay) r) → Ends plan room (record s { cells = drop n s.cells; place = place }) f
+  closed n place end rest big lay fr gr d r s at st over under same is k = k (record s { cells = drop n s.cells; place = place })
+      (record { at = at; runs = st.runs; frame = frame-drop n big lay s.cells over st.deep ∙ ap (drop n) st.frame ∙ under; deep = (let size = over.size in let d = st.deep in let l = length-drop n s.cells in omega arith) })
       same
-      (ap (λ (v : Environment). record (run_of big s) { env = v }) (sym (cut-drop n big lay s.cells over st.deep)) ∙ ap (cut_to (named lay)) is))
+      (ap (λ (v : Environment). record (run_of big s) { env = v }) (sym (cut-drop n big lay s.cells over st.deep)) ∙ ap (cut_to (named lay)) is)
+
+  forgets : (n skip : ℕ) (end more rest : Code) (big lay : Layout) (fr gr : Frame) (d : Value) (r : Run) (s : State) → end ≡ code.cut n skip ∷ more → Stands plan who end big gr s → Over n big lay → drop n gr ≡ fr
+      → drop skip more ≡ rest → s.dot ≡ d → run_of big s ≡ r → Onward rest lay fr d (cut_to (named lay) r) → Ends plan room s f
+  forgets n skip end more rest big lay fr gr d r s e st over under far same is k = takes s (code.cut n skip) more st.runs (st.at ∙ e) (omega (arith, over.size, st.deep))
+      (closed n (s.place + 1 + skip) end rest big lay fr gr d r s (ahead plan.code more s.place skip (code.cut n skip) (st.at ∙ e) ∙ far) st over under same is k)
+
+  -- the end of a part
+  pub closes : (n skip : ℕ) (end more rest : Code) (big lay : Layout) (fr gr : Frame) (d : Value) (r : Run) (s : State) → EndAt n skip end more → Stands plan who end big gr s → Over n big lay → drop n gr ≡ fr
+      → drop skip more ≡ rest → s.dot ≡ d → run_of big s ≡ r → Onward rest lay fr d (cut_to (named lay) r) → Ends plan room s f
+  closes zero zero end more rest big lay fr gr d r s e st over under far same is k = closed 0 s.place end rest big lay fr gr d r s (st.at ∙ e ∙ far) st over under same is k
+  closes zero (suc skip) end more rest big lay fr gr d r s e st over under far same is k = forgets 0 (suc skip) end more rest big lay fr gr d r s e st over under far same is k
+  closes (suc n) skip end more rest big lay fr gr d r s e st over under far same is k = forgets (suc n) skip end more rest big lay fr gr d r s e st over under far same is k

@@ -72,7 +72,7 @@ returns-clause-given g c =
     let next = given_of (g.S.Sink.so_far c.match-instruction.sink) c.match-instruction.piece in
     elim c.match-instruction.branch [
       | in-Spend+in_ok-spend-in-Spend w ↦ subst (λ i. IsPut {F = SinkFault} (Ok tt) now next (added (instruction_of i) s)) (sym w.in-Spend.is) (quiet g.S.Sink.so_far c.args.sink.now c.match-instruction.sink c.args.piece.now c.match-instruction.piece w.sink-is w.piece-is)
-      | in-Text+in_ok-put_bytes-in-Text w ↦ subst (λ i. IsPut {F = SinkFault} (Ok tt) now next (added (instruction_of i) s)) (sym w.in-Text.is) (subst (λ o. IsPut {F = SinkFault} (Ok tt) now (given_of (g.S.Sink.so_far o) c.match-instruction.piece) w.in-Text.bytes.now) (sym w.sink-is) (subst (λ p. IsPut {F = SinkFault} (Ok tt) now (given_of (g.S.Sink.so_far w.put_bytes.new.sink) p) w.in-Text.bytes.now) (sym w.piece-is) w.in_ok-put_bytes-in-Text.ensures.given))
+      | in-Text+in_ok-put_bytes-in-Text w ↦ subst (λ i. IsPut {F = SinkFault} (Ok tt) now next (added (instruction_of i) s)) (sym w.in-Text.is) (subst (λ o. IsPut {F = SinkFault} (Ok tt) now (given_of (g.S.Sink.so_far o) c.match-instruction.piece) w.in-Text.bytes.now.now) (sym w.sink-is) (subst (λ p. IsPut {F = SinkFault} (Ok tt) now (given_of (g.S.Sink.so_far w.put_bytes.new.sink) p) w.in-Text.bytes.now.now) (sym w.piece-is) w.in_ok-put_bytes-in-Text.ensures.given))
       | in-Operate+in_ok-operate-in-Operate w ↦ subst (λ i. IsPut {F = SinkFault} (Ok tt) now next (added (instruction_of i) s)) (sym w.in-Operate.is) (quiet g.S.Sink.so_far c.args.sink.now c.match-instruction.sink c.args.piece.now c.match-instruction.piece w.sink-is w.piece-is)
       | in-Show+in_ok-show-in-Show w ↦ subst (λ i. IsPut {F = SinkFault} (Ok tt) now next (added (instruction_of i) s)) (sym w.in-Show.is) (subst (λ o. IsPut {F = SinkFault} (Ok tt) now (given_of (g.S.Sink.so_far o) c.match-instruction.piece) (text_of (slot 0 s.cells))) (sym w.sink-is) (subst (λ p. IsPut {F = SinkFault} (Ok tt) now (given_of (g.S.Sink.so_far w.show.new.sink) p) (text_of (slot 0 s.cells))) (sym w.piece-is) w.in_ok-show-in-Show.ensures.given))
       | in-Hold+in_ok-hold-in-Hold w ↦ subst (λ i. IsPut {F = SinkFault} (Ok tt) now next (added (instruction_of i) s)) (sym w.in-Hold.is) (quiet g.S.Sink.so_far c.args.sink.now c.match-instruction.sink c.args.piece.now c.match-instruction.piece w.sink-is w.piece-is)
