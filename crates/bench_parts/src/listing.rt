@@ -2,7 +2,7 @@
 //! place where it ends.
 use std::io::{self, Write};
 use std::str;
-use tmpl_code::{Instruction, Operation, Program, Refusal};
+use tmpl_code::{Instruction, Program, Refusal};
 use tmpl_funcs::Func;
 use tmpl_values::Bytes;
 
@@ -28,11 +28,7 @@ fn put_instruction(
     instruction: &Instruction<'_>,
 ) -> io::Result<()> {
     writer.write_all(words(instruction).as_bytes())?;
-    match instruction {
-        Instruction::Text(bytes) => put_text(writer, bytes)?,
-        Instruction::Operate(operation) => put_operands(writer, operation)?,
-        _ => {}
-    }
+    put_operands(writer, instruction)?;
     put_number(writer, " ", count(instruction))?;
     put_number(writer, " ", variables(instruction))?;
     put_number(writer, " line ", line(instruction))?;
@@ -41,15 +37,20 @@ fn put_instruction(
     writer.write_all(b"\n")
 }
 
-/// Puts out what a step of a pipeline is done with.
-fn put_operands(writer: &mut impl Write, operation: &Operation<'_>) -> io::Result<()> {
-    match operation {
-        Operation::Number(number) => write!(writer, " {number}"),
-        Operation::Text(bytes) => put_text(writer, bytes.as_slice()),
-        Operation::Fields(names) | Operation::Chain(names) => put_fields(writer, names.as_slice()),
-        Operation::Call { func, .. } => put_func(writer, *func),
-        Operation::Refuse(Refusal::WrongCount(func)) => put_func(writer, *func),
-        Operation::Refuse(Refusal::NoTemplate(name)) => put_text(writer, name.as_slice()),
+/// Puts out what an instruction is done with.
+fn put_operands(writer: &mut impl Write, instruction: &Instruction<'_>) -> io::Result<()> {
+    match instruction {
+        Instruction::Put(bytes) => put_text(writer, bytes),
+        Instruction::PushNumber(number) => write!(writer, " {number}"),
+        Instruction::PushText(bytes) | Instruction::RefuseTemplate(bytes) => {
+            put_text(writer, bytes.as_slice())
+        }
+        Instruction::PushFields(names) | Instruction::Chain(names) => {
+            put_fields(writer, names.as_slice())
+        }
+        Instruction::Call { func, .. } | Instruction::Refuse(Refusal::WrongCount(func)) => {
+            put_func(writer, *func)
+        }
         _ => Ok(()),
     }
 }
@@ -90,8 +91,24 @@ fn either(first: bool, one: &'static str, other: &'static str) -> &'static str {
 fn words(instruction: &Instruction<'_>) -> &'static str {
     match instruction {
         Instruction::Spend(_) => "spend",
-        Instruction::Text(_) => "put",
-        Instruction::Operate(operation) => operation_words(operation),
+        Instruction::Put(_) => "put",
+        Instruction::PushNothing => "push nothing",
+        Instruction::PushBool(held) => either(*held, "push true", "push false"),
+        Instruction::PushNumber(_) | Instruction::PushText(_) | Instruction::PushFields(_) => "push",
+        Instruction::PushDot => "push dot",
+        Instruction::PushSlot(_) => "push slot",
+        Instruction::Chain(_) => "chain",
+        Instruction::Call { piped, .. } => either(*piped, "call piped", "call"),
+        Instruction::Decide { is_or, piped, .. } => either(
+            *is_or,
+            either(*piped, "or piped", "or"),
+            either(*piped, "and piped", "and"),
+        ),
+        Instruction::Settle => "settle",
+        Instruction::Refuse(Refusal::NotAFunction) => "refuse what is no function",
+        Instruction::Refuse(Refusal::NilCommand) => "refuse nil",
+        Instruction::Refuse(Refusal::WrongCount(_)) => "refuse the count of",
+        Instruction::RefuseTemplate(_) => "refuse template",
         Instruction::Show => "show",
         Instruction::Hold { key } => either(*key, "hold key", "hold"),
         Instruction::Set(_) => "set",
@@ -110,28 +127,6 @@ fn words(instruction: &Instruction<'_>) -> &'static str {
     }
 }
 
-fn operation_words(operation: &Operation<'_>) -> &'static str {
-    match operation {
-        Operation::Nothing => "push nothing",
-        Operation::Bool(held) => either(*held, "push true", "push false"),
-        Operation::Number(_) | Operation::Text(_) | Operation::Fields(_) => "push",
-        Operation::Dot => "push dot",
-        Operation::Slot(_) => "push slot",
-        Operation::Chain(_) => "chain",
-        Operation::Call { piped, .. } => either(*piped, "call piped", "call"),
-        Operation::Decide { is_or, piped, .. } => either(
-            *is_or,
-            either(*piped, "or piped", "or"),
-            either(*piped, "and piped", "and"),
-        ),
-        Operation::Settle => "settle",
-        Operation::Refuse(Refusal::NotAFunction) => "refuse what is no function",
-        Operation::Refuse(Refusal::NilCommand) => "refuse nil",
-        Operation::Refuse(Refusal::WrongCount(_)) => "refuse the count of",
-        Operation::Refuse(Refusal::NoTemplate(_)) => "refuse template",
-    }
-}
-
 /// The slot, the number of cells or arguments, or the number of the template.
 fn count(instruction: &Instruction<'_>) -> Option<u64> {
     match instruction {
@@ -144,8 +139,8 @@ fn count(instruction: &Instruction<'_>) -> Option<u64> {
         | Instruction::Drop { count, .. }
         | Instruction::Next { count, .. }
         | Instruction::Leave { count, .. }
-        | Instruction::Operate(Operation::Slot(count))
-        | Instruction::Operate(Operation::Call { count, .. }) => Some(*count as u64),
+        | Instruction::PushSlot(count)
+        | Instruction::Call { count, .. } => Some(*count as u64),
         _ => None,
     }
 }
@@ -175,7 +170,7 @@ fn skip(instruction: &Instruction<'_>) -> Option<usize> {
         | Instruction::Enter { skip, .. }
         | Instruction::Next { skip, .. }
         | Instruction::Leave { skip, .. }
-        | Instruction::Operate(Operation::Decide { skip, .. }) => Some(*skip as usize),
+        | Instruction::Decide { skip, .. } => Some(*skip as usize),
         _ => None,
     }
 }

@@ -1,11 +1,10 @@
 //! The code so far. It is put from the last instruction to the first, so what stands behind an instruction is known
 //! when it is put, and no jump is ever written back.
 ghost use Rattle.std.specs.Prelude.{◌≡◌, ◌∷◌, [], OnOk, length};
-ghost use Rattle.tmpl_code.specs.Instruction.{act};
-ghost use Rattle.tmpl_code.specs.View.{instruction_of, instructions_of, operation_of};
+ghost use Rattle.tmpl_code.specs.View.{instruction_of, instructions_of};
 ghost use Rattle.tmpl_code.specs.computed.Held.{code_of};
 
-use crate::instruction::{Instruction, Operation};
+use crate::instruction::Instruction;
 use std::alloc::{AllocError, Global};
 
 /// Instructions, the first one last.
@@ -40,13 +39,6 @@ impl<'s> Code<'s> {
     {
         self.instructions.push(instruction)?;
         Ok(())
-    }
-
-    /// Puts a step of a pipeline before the others.
-    pub(crate) fn operate(&mut self, operation: Operation<'s>) -> Result<(), AllocError>
-        ensures { OnOk result (code_of self.new ≡ act (operation_of operation.entry) ∷ code_of self.old) }
-    {
-        self.push(Instruction::Operate(operation))
     }
 
     /// The instructions, the first one first.

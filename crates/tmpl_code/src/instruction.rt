@@ -2,36 +2,40 @@
 use tmpl_funcs::Func;
 use tmpl_values::Bytes;
 
-/// What the form of a command or of a call of a template alone refuses. It is put where the run would get to it.
+/// What the form of a command alone refuses. It is put where the run would get to it.
 #[derive(Clone, Copy)]
-pub enum Refusal<'s> {
+pub enum Refusal {
     /// An argument or a piped value for what is no function.
     NotAFunction,
     /// `nil` as a whole command.
     NilCommand,
     /// A function that does not take so many arguments.
     WrongCount(Func),
-    /// A call of a template, of this name, that is not there.
-    NoTemplate(&'s Bytes),
 }
 
-/// A step of a pipeline. Slots count from the newest cell on, and what is passed over from the next instruction on.
+/// An instruction. What is passed over counts from the next instruction on, slots and counts of cells from the newest
+/// cell on. A variable that a header declares stays below what its node puts on the stack. Counts have 32 bits, and what
+/// is borrowed is one pointer wide, so that an instruction takes 16 bytes.
 #[derive(Clone, Copy)]
-pub enum Operation<'s> {
+pub enum Instruction<'s> {
+    /// Takes a step at this line, which the faults from here on bear, or stops where none is left.
+    Spend(u64),
+    /// Puts out a text of the template.
+    Put(&'s &'s [u8]),
     /// Puts nothing on the stack.
-    Nothing,
+    PushNothing,
     /// Puts a truth value on the stack.
-    Bool(bool),
+    PushBool(bool),
     /// Puts a whole number on the stack.
-    Number(i64),
+    PushNumber(i64),
     /// Puts a text of the template on the stack.
-    Text(&'s Bytes),
+    PushText(&'s Bytes),
     /// Puts dot on the stack.
-    Dot,
+    PushDot,
     /// Puts a field of a field of .. of dot on the stack, or stops where there is none.
-    Fields(&'s Vec<Bytes>),
+    PushFields(&'s Vec<Bytes>),
     /// Puts the value of a slot on the stack.
-    Slot(u32),
+    PushSlot(u32),
     /// Takes the newest value for its field of a field of .., or stops where there is none.
     Chain(&'s Vec<Bytes>),
     /// Takes so many of the newest values, and the piped one if it lies below them, for what the function gives for
@@ -50,21 +54,10 @@ pub enum Operation<'s> {
     },
     /// Makes a null on top nothing.
     Settle,
-    /// Stops.
-    Refuse(Refusal<'s>),
-}
-
-/// An instruction. What is passed over counts from the next instruction on, slots and counts of cells from the newest
-/// cell on. A variable that a header declares stays below what its node puts on the stack. Counts have 32 bits, and what
-/// is borrowed is one pointer wide, so that an instruction takes 16 bytes.
-#[derive(Clone, Copy)]
-pub enum Instruction<'s> {
-    /// Takes a step at this line, which the faults from here on bear, or stops where none is left.
-    Spend(u64),
-    /// Puts out a text of the template.
-    Text(&'s &'s [u8]),
-    /// A step of a pipeline.
-    Operate(Operation<'s>),
+    /// Stops, as the form of a command is refused.
+    Refuse(Refusal),
+    /// Stops, as there is no template of this name to call.
+    RefuseTemplate(&'s Bytes),
     /// Takes the newest value and puts out its text.
     Show,
     /// The newest value becomes a variable; where an index or key is declared too, nothing becomes one below it.

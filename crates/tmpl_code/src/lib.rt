@@ -13,5 +13,5 @@ mod scope;
 mod survey;
 
 pub use compiler::compile;
-pub use instruction::{Instruction, Operation, Refusal};
+pub use instruction::{Instruction, Refusal};
 pub use program::{Entry, Program};

@@ -13,7 +13,7 @@ use crate::binding::{
     close, declared_count, declares, declares_key, open, put_header, put_shown, put_turn,
 };
 use crate::code::Code;
-use crate::instruction::{Instruction, Operation, Refusal};
+use crate::instruction::Instruction;
 use crate::pipeline::{put_pipeline, short, sum};
 use crate::scope::Scope;
 use std::alloc::AllocError;
@@ -162,7 +162,7 @@ fn put_template<'s>(
             code.push(Instruction::Invoke(short(number)?))?;
             put_given(code, scope, given)
         }
-        None => code.operate(Operation::Refuse(Refusal::NoTemplate(name))),
+        None => code.push(Instruction::RefuseTemplate(name)),
     }
 }
 
@@ -177,7 +177,7 @@ fn put_given<'s>(
 {
     match given {
         Some(pipeline) => put_pipeline(code, scope, pipeline),
-        None => code.operate(Operation::Nothing),
+        None => code.push(Instruction::PushNothing),
     }
 }
 
@@ -239,7 +239,7 @@ pub(crate) fn put_node<'s, 'b>(
     ensures scope { OnOk result (layout_of scope.new ≡ layout_of scope.old) }
 {
     match &node.what {
-        NodeKind::Text(bytes) => code.push(Instruction::Text(bytes)),
+        NodeKind::Text(bytes) => code.push(Instruction::Put(bytes)),
         NodeKind::Action(header) => {
             put_shown(code, &header.binding)?;
             put_header(code, scope, header)

@@ -8,7 +8,7 @@ ghost use Rattle.tmpl_code.specs.Layout.{slot_named};
 ghost use Rattle.tmpl_code.specs.computed.Held.{code_of, decided, layout_of};
 
 use crate::code::Code;
-use crate::instruction::{Operation, Refusal};
+use crate::instruction::{Instruction, Refusal};
 use crate::scope::Scope;
 use std::alloc::AllocError;
 use tmpl_funcs::Func;
@@ -58,10 +58,10 @@ fn put_commands<'s>(
     match commands {
         [first, rest @ ..] => {
             put_piped(code, scope, above, rest)?;
-            code.operate(Operation::Settle)?;
+            code.push(Instruction::Settle)?;
             put_command(code, scope, above, false, first.operands.as_slice())
         }
-        [] => code.operate(Operation::Nothing),
+        [] => code.push(Instruction::PushNothing),
     }
 }
 
@@ -80,7 +80,7 @@ fn put_piped<'s>(
     let mut i = commands.len();
     while i > 0 {
         i -= 1;
-        code.operate(Operation::Settle)?;
+        code.push(Instruction::Settle)?;
         put_command(code, scope, below, true, commands[i].operands.as_slice())?;
     }
     Ok(())
@@ -102,9 +102,9 @@ fn put_command<'s>(
         [first, rest @ ..] => match first {
             Operand::Function(func) => put_call(code, scope, above, piped, *func, rest),
             _ if is_last(rest, piped) => put_alone(code, scope, above, first),
-            _ => code.operate(Operation::Refuse(Refusal::NotAFunction)),
+            _ => code.push(Instruction::Refuse(Refusal::NotAFunction)),
         },
-        [] => code.operate(Operation::Refuse(Refusal::NotAFunction)),
+        [] => code.push(Instruction::Refuse(Refusal::NotAFunction)),
     }
 }
 
@@ -131,7 +131,7 @@ fn put_alone<'s>(
         (spec.OperandAt (operand_of operand.now) above (layout_of scope.now)) (code_of code.new) (code_of code.old)) }
 {
     match operand {
-        Operand::Nil => code.operate(Operation::Refuse(Refusal::NilCommand)),
+        Operand::Nil => code.push(Instruction::Refuse(Refusal::NilCommand)),
         _ => put_operand(code, scope, above, operand),
     }
 }
@@ -173,14 +173,14 @@ fn put_call<'s>(
         (code_of code.new) (code_of code.old)) }
 {
     if !func.takes(argument_count(operands, piped)) {
-        return code.operate(Operation::Refuse(Refusal::WrongCount(func)));
+        return code.push(Instruction::Refuse(Refusal::WrongCount(func)));
     }
     match func {
         Func::And => put_junction(code, scope, above, false, piped, operands),
         Func::Or => put_junction(code, scope, above, true, piped, operands),
         _ => {
             let count = short(operand_count(operands))?;
-            code.operate(Operation::Call { func, count, piped })?;
+            code.push(Instruction::Call { func, count, piped })?;
             put_operands(code, scope, above, operands)
         }
     }
@@ -245,7 +245,7 @@ fn put_decide(
         return Ok(());
     }
     let skip = short(code.len() - end)?;
-    code.operate(Operation::Decide { is_or, piped, skip })
+    code.push(Instruction::Decide { is_or, piped, skip })
 }
 
 /// Puts an operand, above so many values.
@@ -261,16 +261,16 @@ fn put_operand<'s>(
         (code_of code.new) (code_of code.old)) }
 {
     match operand {
-        Operand::Dot => code.operate(Operation::Dot),
-        Operand::Fields(names) => code.operate(Operation::Fields(names)),
+        Operand::Dot => code.push(Instruction::PushDot),
+        Operand::Fields(names) => code.push(Instruction::PushFields(names)),
         Operand::Variable { name, fields } => {
             put_chain(code, fields)?;
             put_variable(code, scope.slot(name.as_slice()), above)
         }
-        Operand::Bool(held) => code.operate(Operation::Bool(*held)),
-        Operand::Number(number) => code.operate(Operation::Number(*number)),
-        Operand::Text(bytes) => code.operate(Operation::Text(bytes)),
-        Operand::Nil => code.operate(Operation::Nothing),
+        Operand::Bool(held) => code.push(Instruction::PushBool(*held)),
+        Operand::Number(number) => code.push(Instruction::PushNumber(*number)),
+        Operand::Text(bytes) => code.push(Instruction::PushText(bytes)),
+        Operand::Nil => code.push(Instruction::PushNothing),
         Operand::Function(func) => put_bare(code, *func),
         Operand::Group { commands, fields } => {
             put_chain(code, fields)?;
@@ -285,7 +285,7 @@ fn put_chain<'s>(code: &mut Code<'s>, names: &'s Vec<Bytes>) -> Result<(), Alloc
 {
     match names.as_slice() {
         [] => Ok(()),
-        [_, ..] => code.operate(Operation::Chain(names)),
+        [_, ..] => code.push(Instruction::Chain(names)),
     }
 }
 
@@ -294,8 +294,8 @@ fn put_variable(code: &mut Code<'_>, slot: Option<usize>, above: usize) -> Resul
     ensures { OnOk result (spec.VariableAt slot above (code_of code.new) (code_of code.old)) }
 {
     match slot {
-        Some(slot) => code.operate(Operation::Slot(short(sum(above, slot)?)?)),
-        None => code.operate(Operation::Nothing),
+        Some(slot) => code.push(Instruction::PushSlot(short(sum(above, slot)?)?)),
+        None => code.push(Instruction::PushNothing),
     }
 }
 
@@ -304,12 +304,12 @@ fn put_bare(code: &mut Code<'_>, func: Func) -> Result<(), AllocError>
     ensures { OnOk result (spec.BareAt (takes func 0) func (code_of code.new) (code_of code.old)) }
 {
     if func.takes(0) {
-        code.operate(Operation::Call {
+        code.push(Instruction::Call {
             func,
             count: 0,
             piped: false,
         })
     } else {
-        code.operate(Operation::Refuse(Refusal::WrongCount(func)))
+        code.push(Instruction::Refuse(Refusal::WrongCount(func)))
     }
 }

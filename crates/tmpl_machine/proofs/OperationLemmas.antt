@@ -1,5 +1,5 @@
 -- What a step of a pipeline does, by what is found.
-use Rattle.std.proofs.Common.{arith, ◌≡◌, ◌∙◌, ◌+◌, ◌<◌, ◌≤◌, ◌||◌, ◌++◌, ◌^◌, ℕ, Bool, true, false, List, [], ◌∷◌, length, drop, take, reverse, refl, ap, sym, Result, Ok, Err, add-zero, append-nil}
+use Rattle.std.proofs.Common.{arith, ◌≡◌, ◌∙◌, ◌+◌, ◌<◌, ◌≤◌, ◌||◌, ◌++◌, ◌^◌, ℕ, Bool, true, false, List, [], ◌∷◌, length, drop, take, reverse, refl, ap, sym, Result, Ok, Err, add-zero, append-nil, subst}
 use Rattle.std.proofs.lemmas.List.{length-drop, map-append}
 use Rattle.std.proofs.Math.Seq.{drop-drop}
 use Rattle.tmpl_values.specs.Value.{Value}
@@ -16,6 +16,7 @@ use Rattle.tmpl_machine.specs.Cell.{Cell, fresh, slot, values_in}
 use Rattle.tmpl_machine.specs.State.{Plan, State}
 use Rattle.tmpl_machine.specs.Step.{Went, called_on, decided_by, made_by, newest, on, pushed, step}
 use Rattle.tmpl_machine.specs.Machine.{done, failed, goes, piped}
+use Rattle.tmpl_machine.specs.Ready.{Lands}
 
 -- a call over the cells that it takes
 called-is : (f : Func) (n : ℕ) (p : Bool) (cs : List Cell) → n + piped_count p ≤ length cs
@@ -93,12 +94,12 @@ module _ (plan : Plan) (t : Template) (s : State) where
 
   -- where it decides, the place of the next state tells how far it may pass over
   pub decides-over : (is_or p : Bool) (skip : ℕ) → 1 ≤ length s.cells
-      → ((u : State) → done plan t (act (decide is_or p skip)) s ≡ goes u → u.place < 2 ^ 64)
+      → Lands (done plan t (act (decide is_or p skip)) s)
       → decides is_or (slot 0 s.cells) ≡ true → s.place + 1 + skip < 2 ^ 64
-  decides-over is_or p skip some next e = by s.cells refl
+  decides-over is_or p skip some lands e = by s.cells refl
     where
       by : (l : List Cell) → s.cells ≡ l → s.place + 1 + skip < 2 ^ 64
       by [] is = let none : length s.cells ≡ 0 = ap length is in absurd (omega arith)
-      by (c ∷ cs) is = next (record s { cells = fresh c.val ∷ drop (piped_count p) cs; place = s.place + 1 + skip }) (decide-stays c cs is is_or p skip (ap (decides is_or) (sym (ap (slot 0) is)) ∙ e))
+      by (c ∷ cs) is = subst Lands (decide-stays c cs is is_or p skip (ap (decides is_or) (sym (ap (slot 0) is)) ∙ e)) lands
 
 pub ruleset operations = (call-gives, call-fails, fields-give, fields-fail, chain-gives, chain-fails, settles, decide-stays, decide-leaves, slot-first)

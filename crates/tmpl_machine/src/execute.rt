@@ -14,10 +14,12 @@ ghost use Rattle.tmpl_machine.specs.View.{cells_of, size_of};
 
 use crate::flow::Flow;
 use crate::machine::Machine;
+use crate::operation::refused;
 use crate::piece::Piece;
 use crate::stop::Stop;
 use tmpl_code::{Instruction, Program};
-use tmpl_run::{Options, Sink};
+use tmpl_run::{Options, RunFaultKind, Sink};
+use tmpl_values::Val;
 
 impl<'m, 'a> Machine<'m, 'a> {
     /// Carries out an instruction. It stands inline in the loop that calls it, which spares its answer the way over
@@ -51,8 +53,24 @@ impl<'m, 'a> Machine<'m, 'a> {
     {
         match instruction {
             Instruction::Spend(line) => self.spend(options.steps, line)?,
-            Instruction::Text(bytes) => self.put_bytes(*bytes, piece, sink)?,
-            Instruction::Operate(operation) => self.operate(options.missing_key, operation)?,
+            Instruction::Put(bytes) => self.put_bytes(*bytes, piece, sink)?,
+            Instruction::PushNothing => self.give(Val::Nothing),
+            Instruction::PushBool(truth) => self.give(Val::Bool(truth)),
+            Instruction::PushNumber(number) => self.give(Val::Num(number)),
+            Instruction::PushText(text) => self.give(Val::Text(text.as_slice())),
+            Instruction::PushDot => self.push_dot()?,
+            Instruction::PushFields(names) => {
+                self.push_fields(options.missing_key, names.as_slice())?
+            }
+            Instruction::PushSlot(slot) => self.push_slot(slot as usize)?,
+            Instruction::Chain(names) => self.chain(options.missing_key, names.as_slice())?,
+            Instruction::Call { func, count, piped } => self.call(func, count as usize, piped)?,
+            Instruction::Decide { is_or, piped, skip } => self.decide(is_or, piped, skip as usize),
+            Instruction::Settle => self.settle(),
+            Instruction::Refuse(why) => return Err(Stop::Fault(refused(why))),
+            Instruction::RefuseTemplate(name) => {
+                return Err(Stop::Fault(RunFaultKind::NoTemplate(name.as_slice())));
+            }
             Instruction::Show => self.show(piece, sink)?,
             Instruction::Hold { key } => self.hold(key)?,
             Instruction::Set(slot) => self.set(slot as usize)?,

@@ -7,7 +7,7 @@ ghost use Rattle.tmpl_run.specs.View.{cause_of};
 ghost use Rattle.tmpl_code.specs.Code.{piped_count};
 ghost use Rattle.tmpl_code.specs.Instruction.{act, call_with, chained, decide, push_dot, push_fields, push_slot};
 ghost use Rattle.tmpl_code.specs.Instruction.{settle};
-ghost use Rattle.tmpl_code.specs.View.{operation_of, refusal_of};
+ghost use Rattle.tmpl_code.specs.View.{refusal_of};
 ghost use Rattle.tmpl_machine.specs.Cell.{fresh, slot};
 ghost use Rattle.tmpl_machine.specs.Machine.{done, goes};
 ghost use Rattle.tmpl_machine.specs.Machines.{Told, state_of};
@@ -21,80 +21,25 @@ ghost use Rattle.tmpl_machine.specs.View.{cells_of, size_of};
 use crate::machine::Machine;
 use crate::stack::piped_count;
 use crate::stop::Stop;
-use tmpl_code::{Operation, Refusal};
+use tmpl_code::Refusal;
 use tmpl_funcs::{CallError, CallFault, Func};
 use tmpl_run::{MissingKey, RunFaultKind, decides, without_null};
 use tmpl_values::{Bytes, Val};
 
-/// Why a run stops at what the form of a command or of a call of a template refuses.
-fn refused(why: Refusal<'_>) -> RunFaultKind<'_>
-    ensures { cause_of result ≡ pipe.cause_of (refusal_of why.entry) }
+/// Why a run stops at what the form of a command refuses.
+pub(crate) fn refused<'a>(why: Refusal) -> RunFaultKind<'a>
+    ensures { cause_of result ≡ pipe.cause_of (refusal_of why) }
 {
     match why {
         Refusal::NotAFunction => RunFaultKind::NotAFunction,
         Refusal::NilCommand => RunFaultKind::NilCommand,
         Refusal::WrongCount(func) => RunFaultKind::Call(func, CallFault::WrongCount),
-        Refusal::NoTemplate(name) => RunFaultKind::NoTemplate(name.as_slice()),
     }
 }
 
 impl<'m, 'a> Machine<'m, 'a> {
-    /// One step of a pipeline.
-    pub(crate) fn operate(
-        &mut self,
-        missing_key: MissingKey,
-        operation: Operation<'a>,
-    ) -> Result<(), Stop<'a>>
-        ghost run: { Told }
-        requires mode { run.plan.rules.missing_key ≡ missing_key }
-        requires fits { Fits (operation_of operation) (length (cells_of self.old.stack)) (size_of self.old.stack) }
-        requires within { length (cells_of self.old.stack) ≤ size_of self.old.stack }
-        requires place { self.old.place + 1 < 2 ^ 64 }
-        requires next { (t : State)
-            → done run.plan run.template (act (operation_of operation)) (state_of run self.old) ≡ goes t
-            → t.place < 2 ^ 64 }
-        ensures step { TurnedOr run (act (operation_of operation.entry)) (state_of run self.old)
-            (state_of (behind (operation_of operation.entry) run) self.new) result }
-        ensures plain { pipe.made_by (operation_of operation.entry) run.made_text ≡ false → IsPlain self.old
-            → SparedOr result (IsPlain self.new) }
-        ensures size { size_of self.new.stack ≡ size_of self.old.stack }
-    {
-        match operation {
-            Operation::Nothing => {
-                self.give(Val::Nothing);
-                Ok(())
-            }
-            Operation::Bool(truth) => {
-                self.give(Val::Bool(truth));
-                Ok(())
-            }
-            Operation::Number(number) => {
-                self.give(Val::Num(number));
-                Ok(())
-            }
-            Operation::Text(text) => {
-                self.give(Val::Text(text.as_slice()));
-                Ok(())
-            }
-            Operation::Dot => self.push_dot(),
-            Operation::Fields(names) => self.push_fields(missing_key, names.as_slice()),
-            Operation::Slot(slot) => self.push_slot(slot as usize),
-            Operation::Chain(names) => self.chain(missing_key, names.as_slice()),
-            Operation::Call { func, count, piped } => self.call(func, count as usize, piped),
-            Operation::Decide { is_or, piped, skip } => {
-                self.decide(is_or, piped, skip as usize);
-                Ok(())
-            }
-            Operation::Settle => {
-                self.settle();
-                Ok(())
-            }
-            Operation::Refuse(why) => Err(Stop::Fault(refused(why))),
-        }
-    }
-
     /// Puts a value, and goes to the next instruction.
-    fn give(&mut self, val: Val<'a>)
+    pub(crate) fn give(&mut self, val: Val<'a>)
         ghost run: { Told }
         requires room { length (cells_of self.old.stack) < size_of self.old.stack }
         requires place { self.old.place + 1 < 2 ^ 64 }
@@ -110,7 +55,7 @@ impl<'m, 'a> Machine<'m, 'a> {
     }
 
     /// Puts dot.
-    fn push_dot(&mut self) -> Result<(), Stop<'a>>
+    pub(crate) fn push_dot(&mut self) -> Result<(), Stop<'a>>
         ghost run: { Told }
         requires room { length (cells_of self.old.stack) < size_of self.old.stack }
         requires place { self.old.place + 1 < 2 ^ 64 }
@@ -126,7 +71,7 @@ impl<'m, 'a> Machine<'m, 'a> {
 
     /// Puts the field of the field of .. of dot, by these names.
     #[tactic(auto, using(crate::proofs::OperationLemmas::operations))]
-    fn push_fields(&mut self, missing_key: MissingKey, names: &'a [Bytes]) -> Result<(), Stop<'a>>
+    pub(crate) fn push_fields(&mut self, missing_key: MissingKey, names: &'a [Bytes]) -> Result<(), Stop<'a>>
         ghost run: { Told }
         requires mode { run.plan.rules.missing_key ≡ missing_key }
         requires room { length (cells_of self.old.stack) < size_of self.old.stack }
@@ -143,7 +88,7 @@ impl<'m, 'a> Machine<'m, 'a> {
     }
 
     /// Puts the value of a slot once more.
-    fn push_slot(&mut self, slot: usize) -> Result<(), Stop<'a>>
+    pub(crate) fn push_slot(&mut self, slot: usize) -> Result<(), Stop<'a>>
         ghost run: { Told }
         requires found { slot < length (cells_of self.old.stack) }
         requires room { length (cells_of self.old.stack) < size_of self.old.stack }
@@ -160,7 +105,7 @@ impl<'m, 'a> Machine<'m, 'a> {
 
     /// Takes the newest value for its field of a field of .., by these names.
     #[tactic(auto, using(crate::proofs::OperationLemmas::operations))]
-    fn chain(&mut self, missing_key: MissingKey, names: &'a [Bytes]) -> Result<(), Stop<'a>>
+    pub(crate) fn chain(&mut self, missing_key: MissingKey, names: &'a [Bytes]) -> Result<(), Stop<'a>>
         ghost run: { Told }
         requires mode { run.plan.rules.missing_key ≡ missing_key }
         requires found { 1 ≤ length (cells_of self.old.stack) }
@@ -179,7 +124,7 @@ impl<'m, 'a> Machine<'m, 'a> {
 
     /// Calls a function over the newest so many values, and a piped one, if it lies below them.
     #[tactic(auto, using(crate::proofs::OperationLemmas::operations))]
-    fn call(&mut self, func: Func, count: usize, piped: bool) -> Result<(), Stop<'a>>
+    pub(crate) fn call(&mut self, func: Func, count: usize, piped: bool) -> Result<(), Stop<'a>>
         ghost run: { Told }
         requires called { is_called func ≡ true }
         requires found { count + piped_count piped ≤ length (cells_of self.old.stack) }
@@ -204,7 +149,7 @@ impl<'m, 'a> Machine<'m, 'a> {
     /// A value that decides an `or`, or else an `and`, stays, and so many instructions are passed over; a piped one
     /// below it goes. Another goes.
     #[tactic(auto, using(crate::proofs::OperationLemmas::operations))]
-    fn decide(&mut self, is_or: bool, piped: bool, skip: usize)
+    pub(crate) fn decide(&mut self, is_or: bool, piped: bool, skip: usize)
         ghost run: { Told }
         requires found { 1 + piped_count piped ≤ length (cells_of self.old.stack) }
         requires within { length (cells_of self.old.stack) ≤ size_of self.old.stack }
@@ -227,7 +172,7 @@ impl<'m, 'a> Machine<'m, 'a> {
 
     /// A null on top becomes nothing.
     #[tactic(auto, using(crate::proofs::OperationLemmas::operations))]
-    fn settle(&mut self)
+    pub(crate) fn settle(&mut self)
         ghost run: { Told }
         requires found { 1 ≤ length (cells_of self.old.stack) }
         requires within { length (cells_of self.old.stack) ≤ size_of self.old.stack }

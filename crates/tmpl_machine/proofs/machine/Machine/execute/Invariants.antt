@@ -6,9 +6,6 @@ ghost-spend g a = g.run
 abbrev pub ghost-put_bytes : goal.ghost-put_bytes
 ghost-put_bytes g a = g.run
 
-abbrev pub ghost-operate : goal.ghost-operate
-ghost-operate g a = g.run
-
 abbrev pub ghost-show : goal.ghost-show
 ghost-show g a = g.run
 
@@ -53,3 +50,27 @@ ghost-invoke g a = g.run
 
 abbrev pub ghost-return_from : goal.ghost-return_from
 ghost-return_from g a = g.run
+
+abbrev pub ghost-give : goal.ghost-give
+ghost-give g a = g.run
+
+abbrev pub ghost-push_dot : goal.ghost-push_dot
+ghost-push_dot g a = g.run
+
+abbrev pub ghost-push_fields : goal.ghost-push_fields
+ghost-push_fields g a = g.run
+
+abbrev pub ghost-push_slot : goal.ghost-push_slot
+ghost-push_slot g a = g.run
+
+abbrev pub ghost-chain : goal.ghost-chain
+ghost-chain g a = g.run
+
+abbrev pub ghost-call : goal.ghost-call
+ghost-call g a = g.run
+
+abbrev pub ghost-decide : goal.ghost-decide
+ghost-decide g a = g.run
+
+abbrev pub ghost-settle : goal.ghost-settle
+ghost-settle g a = g.run
