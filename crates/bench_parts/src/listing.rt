@@ -94,7 +94,8 @@ fn words(instruction: &Instruction<'_>) -> &'static str {
         Instruction::Put(_) => "put",
         Instruction::PushNothing => "push nothing",
         Instruction::PushBool(held) => either(*held, "push true", "push false"),
-        Instruction::PushNumber(_) | Instruction::PushText(_) | Instruction::PushFields(_) => "push",
+        Instruction::PushNumber(_) | Instruction::PushText(_) | Instruction::PushFields(_) =>
+            "push",
         Instruction::PushDot => "push dot",
         Instruction::PushSlot(_) => "push slot",
         Instruction::Chain(_) => "chain",

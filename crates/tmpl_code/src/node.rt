@@ -282,7 +282,8 @@ fn put_control<'s, 'b>(
             put_header(code, scope, &node.header)
         }
         Control::Range => {
-            put_range(code, scope, set, exit, short(line as usize)?, binding, body, other)?;
+            let line = short(line as usize)?;
+            put_range(code, scope, set, exit, line, binding, body, other)?;
             put_pipeline(code, scope, &node.header.pipeline)
         }
     }

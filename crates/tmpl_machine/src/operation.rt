@@ -71,7 +71,11 @@ impl<'m, 'a> Machine<'m, 'a> {
 
     /// Puts the field of the field of .. of dot, by these names.
     #[tactic(auto, using(crate::proofs::OperationLemmas::operations))]
-    pub(crate) fn push_fields(&mut self, missing_key: MissingKey, names: &'a [Bytes]) -> Result<(), Stop<'a>>
+    pub(crate) fn push_fields(
+        &mut self,
+        missing_key: MissingKey,
+        names: &'a [Bytes],
+    ) -> Result<(), Stop<'a>>
         ghost run: { Told }
         requires mode { run.plan.rules.missing_key ≡ missing_key }
         requires room { length (cells_of self.old.stack) < size_of self.old.stack }
@@ -105,7 +109,11 @@ impl<'m, 'a> Machine<'m, 'a> {
 
     /// Takes the newest value for its field of a field of .., by these names.
     #[tactic(auto, using(crate::proofs::OperationLemmas::operations))]
-    pub(crate) fn chain(&mut self, missing_key: MissingKey, names: &'a [Bytes]) -> Result<(), Stop<'a>>
+    pub(crate) fn chain(
+        &mut self,
+        missing_key: MissingKey,
+        names: &'a [Bytes],
+    ) -> Result<(), Stop<'a>>
         ghost run: { Told }
         requires mode { run.plan.rules.missing_key ≡ missing_key }
         requires found { 1 ≤ length (cells_of self.old.stack) }
