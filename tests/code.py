@@ -1,6 +1,6 @@
 """Lists the code of small templates by the program that does one part of what `tmpl` does, and compares it with lists
 written by hand, also with each allocation refused in turn. The proofs say which code is that of a tree; these lists show
-that what they say was meant. A jump is listed by the place where it ends."""
+that what they say was meant. A jump is listed by the place where it ends. How many bytes code takes no proof says."""
 import os
 import subprocess
 import sys
@@ -260,13 +260,24 @@ def judge(shim, folder, template, code):
     return (template, *sweep.sweep(shim, lambda *how: listed(folder, template, *how), wrong))
 
 
+def judge_size(folder, template, code):
+    """Whether each instruction of the code takes 16 bytes."""
+    wanted = 16 * sum(not line.strip().startswith("template") for line in code.splitlines())
+    with open(f"{folder}/m", "w", newline="", encoding="utf-8") as file:
+        file.write(template)
+    told = subprocess.run([PARTS, "code", "m"], cwd=folder, stdout=subprocess.PIPE, timeout=harness.SECONDS).stdout.decode()
+    wrong = [] if told == f"{wanted}\n" else [f"    the code takes {told.strip()} bytes, and not {wanted}"]
+    return f"{template}, its size", 0, wrong
+
+
 def main():
     if not os.access(PARTS, os.X_OK):
         sys.exit("there is no program of parts: the gate builds it")
     with tempfile.TemporaryDirectory() as folder:
         shim = f"{folder}/shim.so"
         sweep.build_shim("fail_alloc.c", shim)
-        passed, failed, runs = harness.tally(judge(shim, folder, *row) for row in ROWS)
+        judged = [judge(shim, folder, *row) for row in ROWS] + [judge_size(folder, *row) for row in ROWS]
+        passed, failed, runs = harness.tally(judged)
     print(f"{runs} allocations were refused, one in each run")
     return harness.closing(passed, failed)
 
