@@ -19,7 +19,8 @@ use crate::survey::{Survey, survey_node};
 use std::alloc::{AllocError, Global};
 use tmpl_syntax::{Node, Set};
 
-/// The code of the templates of a set.
+/// The code of the templates of a set. An error is want of memory; code that counts beyond 32 bits, which would take
+/// 64 GiB, is answered so too.
 pub fn compile<'s, 'b>(alloc: Global, set: &'s Set<'b>) -> Result<Program<'s, 'b>, AllocError>
     ensures linked { IfOk result (λ p. IsLinked p) }
     ensures set { IfOk result (λ p. set_view p.set.now ≡ set_view set.now) }
