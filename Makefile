@@ -3,7 +3,7 @@ PREFIX ?= /usr/local
 export PREFIX DESTDIR CRATE
 
 PROGRAM = crates/tmpl/out/tmpl
-PARTS = crates/bench_parts/out/bench_parts
+PROBE = crates/tmpl_probe/out/tmpl_probe
 # what proofs and programs are made of, with the folders, so that a file which is gone counts too
 SOURCES = crates.txt HANDLES $(shell find $(wildcard crates/*/src crates/*/specs crates/*/proofs))
 HELLO = ../../examples/hello
@@ -21,7 +21,7 @@ demo:
 
 # the gate: every proof from nothing, then the tests over the program that it left, as each of the two compilers built it
 test:
-	python3 tests/gate.py "rt ci" "python3 tests/edits.py --apply" "python3 tests/run.py" \
+	python3 tests/gate.py "rt ci" "python3 tests/edits.py --apply" "python3 tests/believed.py" "python3 tests/run.py" \
 		"env TMPL=$(PROGRAM).by-rattle python3 tests/run.py" "python3 tests/places.py" "python3 tests/tables.py" \
 		"python3 tests/fronts.py" "python3 tests/print.py" "python3 tests/draws.py" "python3 tests/calls.py" \
 		"python3 tests/code.py" "python3 tests/pieces.py" "python3 tests/writes.py" "python3 tests/sweep.py"
@@ -36,7 +36,7 @@ edits:
 	python3 tests/edits.py $${CRATE:+"$$CRATE"}
 
 # times the program beside others
-bench: $(PROGRAM) $(PARTS)
+bench: $(PROGRAM) $(PROBE)
 	python3 tests/bench.py
 
 # renders random templates by the program and by Go's own text/template; it needs Go
@@ -53,8 +53,8 @@ $(PROGRAM): $(SOURCES)
 	cd crates/tmpl && rt run -- --help > /dev/null
 	@touch $@
 
-$(PARTS): $(SOURCES)
-	cd crates/bench_parts && rt run -- text data/numbers.json > /dev/null
+$(PROBE): $(SOURCES)
+	cd crates/tmpl_probe && rt run -- text data/numbers.json > /dev/null
 	@touch $@
 
 .PHONY: build demo test check edits bench compare install uninstall

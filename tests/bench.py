@@ -15,7 +15,7 @@ from go import compare
 
 MIB = 1 << 20
 LINE = b"All the world's a stage, and all the men and women merely players.\n"
-PARTS = calls.PARTS
+PROBE = calls.PROBE
 SMALL_ACTIONS = b"{{if .a}}{{$x := .b}}{{$x}}{{else}}{{range .c}}{{.}}{{end}}{{end}}\n"
 LOAD = "import json, sys; json.load(open(sys.argv[1], 'rb'))"
 
@@ -123,21 +123,21 @@ def members(size):
 
 
 def answered(part, file, *more):
-    """The number that the program of parts puts out for a part, and peak KiB of its process."""
+    """The number that the probe puts out for a part, and peak KiB of its process."""
     read, write = os.pipe()
     actions = [(os.POSIX_SPAWN_DUP2, write, 1), (os.POSIX_SPAWN_CLOSE, read)]
-    child = os.posix_spawn(PARTS, [PARTS, part, file, *more], os.environ, file_actions=actions)
+    child = os.posix_spawn(PROBE, [PROBE, part, file, *more], os.environ, file_actions=actions)
     os.close(write)
     with os.fdopen(read) as it:
         told = int(it.read())
     _, status, usage = os.wait4(child, 0)
     if status:
-        sys.exit(f"{PARTS} did not end well: wait status {status:#x}")
+        sys.exit(f"{PROBE} did not end well: wait status {status:#x}")
     return told, usage.ru_maxrss
 
 
 def timed(part, file, *more):
-    """Seconds that the program of parts says a part took, and peak KiB. Each time is that of a new process."""
+    """Seconds that the probe says a part took, and peak KiB. Each time is that of a new process."""
     nanoseconds, peak = answered(part, file, *more)
     return nanoseconds / 1e9, peak
 
@@ -305,14 +305,14 @@ def bench_reading(folder):
     rounds = [(timed("read", file), timed("data", file)) for _ in range(21)]
     read, data = ([statistics.median(which) for which in zip(*column)] for column in zip(*rounds))
     least_read, least_data = (min(told[0] for told in column) for column in zip(*rounds))
-    text, python = medians(7, [PARTS, "text", file], [sys.executable, "-c", LOAD, file])
+    text, python = medians(7, [PROBE, "text", file], [sys.executable, "-c", LOAD, file])
     print(f"  serde_json's read {milliseconds(read[0])} in {read[1] // 1024:.0f} MiB, from_json {milliseconds(data[0])} in {data[1] // 1024:.0f} MiB")
     print(f"  a process that puts its text {milliseconds(text[0])} in {text[1] // 1024:.0f} MiB, one of python3's json.load {milliseconds(python[0])} in {python[1] // 1024:.0f} MiB")
     print(f"  by the least of each: {least_data / least_read:.2f} times")
     judge("data to serde_json's tree", data[0] / read[0], 1)
 
 
-def bench_parts(folder):
+def tmpl_probe(folder):
     print("Data put as text, to /dev/null")
     file = write(f"{folder}/dot", [b"{{.}}"])
     points = []
@@ -401,7 +401,7 @@ def main():
         bench_call_template(folder)
         bench_templates(folder)
         bench_calls(folder)
-        bench_parts(folder)
+        tmpl_probe(folder)
         bench_reading(folder)
         bench_renders(folder)
 

@@ -12,7 +12,7 @@ import tempfile
 import harness
 import sweep
 
-PARTS = f"{harness.TOP}/crates/bench_parts/out/bench_parts"
+PROBE = f"{harness.TOP}/crates/tmpl_probe/out/tmpl_probe"
 FEWER, MORE = 100, 300  # calls
 LONG = "a <b> & c/d=\"e\" " * 60
 NESTED = {"b": [1, None, "x<y"], "a": {"k": "v" * 50, "": True}}
@@ -111,7 +111,7 @@ def a_call(shim, folder, function, arguments):
     file = f"{folder}/arguments"
     with open(file, "w", encoding="utf-8") as it:
         json.dump(arguments, it)
-    calls = [[PARTS, "call", file, function, str(count)] for count in (FEWER, MORE)]
+    calls = [[PROBE, "call", file, function, str(count)] for count in (FEWER, MORE)]
     if any(once(words, {}, ()).returncode for words in calls):
         return None
     fewer, more = (allocations(shim, words) for words in calls)
@@ -161,8 +161,8 @@ def judge_caller(shim, folder, calls, most):
 
 
 def main():
-    if not os.access(PARTS, os.X_OK):
-        sys.exit("there is no program of parts: the gate builds it")
+    if not os.access(PROBE, os.X_OK):
+        sys.exit("there is no probe: the gate builds it")
     with tempfile.TemporaryDirectory() as folder:
         shim = f"{folder}/shim.so"
         sweep.build_shim("fail_alloc.c", shim)

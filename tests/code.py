@@ -1,4 +1,4 @@
-"""Lists the code of small templates by the program that does one part of what `tmpl` does, and compares it with lists
+"""Lists the code of small templates by the probe, and compares it with lists
 written by hand, also with each allocation refused in turn. The proofs say which code is that of a tree; these lists show
 that what they say was meant. A jump is listed by the place where it ends. How many bytes code takes no proof says."""
 import os
@@ -9,7 +9,7 @@ import tempfile
 import harness
 import sweep
 
-PARTS = f"{harness.TOP}/crates/bench_parts/out/bench_parts"
+PROBE = f"{harness.TOP}/crates/tmpl_probe/out/tmpl_probe"
 
 # a template file of the name m, and the code of what it defines
 ROWS = [
@@ -237,7 +237,7 @@ def listed(folder, template, more, keep):
     with open(f"{folder}/m", "w", newline="", encoding="utf-8") as file:
         file.write(template)
     ran = subprocess.run(
-        [PARTS, "list", "m"],
+        [PROBE, "list", "m"],
         cwd=folder,
         env={**os.environ, **more},
         pass_fds=keep,
@@ -265,14 +265,14 @@ def judge_size(folder, template, code):
     wanted = 16 * sum(not line.strip().startswith("template") for line in code.splitlines())
     with open(f"{folder}/m", "w", newline="", encoding="utf-8") as file:
         file.write(template)
-    told = subprocess.run([PARTS, "code", "m"], cwd=folder, stdout=subprocess.PIPE, timeout=harness.SECONDS).stdout.decode()
+    told = subprocess.run([PROBE, "code", "m"], cwd=folder, stdout=subprocess.PIPE, timeout=harness.SECONDS).stdout.decode()
     wrong = [] if told == f"{wanted}\n" else [f"    the code takes {told.strip()} bytes, and not {wanted}"]
     return f"{template}, its size", 0, wrong
 
 
 def main():
-    if not os.access(PARTS, os.X_OK):
-        sys.exit("there is no program of parts: the gate builds it")
+    if not os.access(PROBE, os.X_OK):
+        sys.exit("there is no probe: the gate builds it")
     with tempfile.TemporaryDirectory() as folder:
         shim = f"{folder}/shim.so"
         sweep.build_shim("fail_alloc.c", shim)

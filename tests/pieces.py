@@ -1,4 +1,4 @@
-"""Runs compiled templates by the program of parts, which lends the function `run` a stack and a piece, and compares the text
+"""Runs compiled templates by the probe, which lends the function `run` a stack and a piece, and compares the text
 and how each run ended. First every row that comes to a run, over exactly the cells of its room and with pieces of some sizes,
 and whether it takes memory where no function makes a text. Then templates by hand: rooms; sinks that take little a put, and
 that fail, where no put may follow the failed one; how many allocations a run makes, and each of them refused, over arrays."""
@@ -12,11 +12,12 @@ from subprocess import DEVNULL, PIPE, run
 import harness
 import sweep
 
-PARTS = f"{harness.TOP}/crates/bench_parts/out/bench_parts"
+PROBE = f"{harness.TOP}/crates/tmpl_probe/out/tmpl_probe"
 PIECES = (1, 2, 4, 4096)
 ALL = 2**64 - 1  # as many bytes as there are
-DONE = b"done\n"
-NOT_RUN = (b"", b"Error: Kind(OutOfMemory)\n")  # what the program of parts says where memory is refused before a run
+DONE = b"status 0\n"
+OUT_OF_MEMORY = b"tmpl: out of memory\nstatus 7\n"
+NOT_RUN = (b"", b"Error: Kind(OutOfMemory)\n")  # what the probe says where memory is refused before a run
 
 # the depth, the template files, the cells that runs of their set need, and whether a function makes a text. A template needs
 # three cells of its own and those that it has at most at once: one for each value of a pipeline, each variable and each dot
@@ -42,12 +43,12 @@ ROOMS = [
 
 # a template, its data, its text, and how it ends where no put fails
 SINKS = [
-    ("abcdefgh", None, "abcdefgh", "done"),
-    ("{{range 4}}{{.}},{{end}}", None, "0,1,2,3,", "done"),
-    ("{{.}}", '{"a": "x", "b": [1, null]}', "map[a:x b:[1 <nil>]]", "done"),
-    ('{{print "ab" 1 "cd"}}{{len .}}', "[1, 2]", "ab1cd2", "done"),
-    ("abc{{.a}}\n{{.a.b}}d", '{"a": "x"}', "abcx\n", 'fault m:2: in "m": no field "b" here'),
-    ("", None, "", "done"),
+    ("abcdefgh", None, "abcdefgh", "status 0\n"),
+    ("{{range 4}}{{.}},{{end}}", None, "0,1,2,3,", "status 0\n"),
+    ("{{.}}", '{"a": "x", "b": [1, null]}', "map[a:x b:[1 <nil>]]", "status 0\n"),
+    ('{{print "ab" 1 "cd"}}{{len .}}', "[1, 2]", "ab1cd2", "status 0\n"),
+    ("abc{{.a}}\n{{.a.b}}d", '{"a": "x"}', "abcx\n", 'tmpl: m:2: in "m": no field "b" here\nstatus 1\n'),
+    ("", None, "", "status 0\n"),
 ]
 
 # a template, its text, how many allocations a run makes, and how many of them count owners: there is one for each text that
@@ -78,16 +79,16 @@ ALLOCATIONS = [
 ]
 
 
-def words(files, piece=4096, most=ALL, left=ALL, fails="always", spare=0, times=1, mode="default", depth=1000, steps=10**9, name="-", data="-"):
-    """What the program of parts reads behind `run` and `fixed`."""
-    return [*map(str, (piece, most, left)), fails, str(spare), str(times), mode, str(depth), str(steps), name, data, *files]
+def words(asked, piece=4096, most=ALL, left=ALL, fails="always", spare=0, times=1):
+    """What the probe reads behind `run` and `fixed`: what is lent, and the words of a command."""
+    return [*map(str, (piece, most, left)), fails, str(spare), str(times), "tmpl", *asked]
 
 
-def parts(folder, it, stdin=None, more=None, keep=()):
-    """The status, output and errors of a run of the program of parts."""
+def probe(folder, it, stdin=None, more=None, keep=()):
+    """The status, output and errors of a run of the probe."""
     taken = {"stdin": DEVNULL} if stdin is None else {"input": stdin}
     environment = {**os.environ, **(more or {})}
-    ran = run([PARTS, *it], cwd=folder, env=environment, pass_fds=keep, stdout=PIPE, stderr=PIPE, timeout=harness.SECONDS, **taken)
+    ran = run([PROBE, *it], cwd=folder, env=environment, pass_fds=keep, stdout=PIPE, stderr=PIPE, timeout=harness.SECONDS, **taken)
     return ran.returncode, ran.stdout, ran.stderr
 
 
@@ -109,7 +110,7 @@ def allocations(shim, folder, it):
     """How many allocations a process makes: the greatest number whose allocation can be refused."""
 
     def is_made(number):
-        return sweep.refusing(number, shim, lambda more, keep: parts(folder, it, None, more, keep))[1]
+        return sweep.refusing(number, shim, lambda more, keep: probe(folder, it, None, more, keep))[1]
 
     high = 64
     while is_made(high):
@@ -132,39 +133,21 @@ def is_run(row):
     return row.status in (0, 1) and not {b"--print", b"-h", b"--help"} & set(options)
 
 
-def asked(row):
-    """What a row asks of the function: its files, and what is not as it is by itself."""
-    options, files, data = harness.parted(row.words)
-    more, rest = {} if data is None else {"data": data}, iter(options)
-    for option in rest:
-        key, sign, value = option.partition(b"=")
-        value = value if sign else next(rest)
-        if key in (b"--depth", b"--steps"):
-            more[key[2:].decode()] = int(value)
-        elif key in (b"--missingkey", b"--name"):
-            more[key[2:].decode().replace("missingkey", "mode")] = value
-    if b"-" in more.values():
-        raise ValueError(f"{row.name}: a name that stands for none")
-    return files, more
-
-
 def ending(row, got):
-    """How the run of a row must end. Where the row does not see the errors, any fault will do."""
-    if row.status == 0:
-        return DONE
-    if row.stderr != "pipe":
-        return got if got.startswith(b"fault ") else b"a fault"
-    return b"fault " + row.err[len(b"tmpl: ") :]
+    """How the run of a row must end. Where the row does not see the errors, any line will do."""
+    status = b"status %d\n" % row.status
+    if row.stderr != "pipe" and got.endswith(status):
+        return got
+    return row.err + status
 
 
 def judge_row(row):
     """Runs a row with each size of a piece, over exactly its room."""
-    files, more = asked(row)
     with tempfile.TemporaryDirectory() as folder:
         row.lay(folder)
         for piece in PIECES:
             row.lay_pipes(folder)
-            got = parts(folder, ["run", *words(files, piece=piece, **more)], row.stdin)
+            got = probe(folder, ["run", *words(row.words, piece=piece)], row.stdin)
             wrong = differences(got, (0, row.out, ending(row, got[2])))
             if wrong:
                 return row.name, 1, [f"    with a piece of {piece}", *wrong]
@@ -172,11 +155,10 @@ def judge_row(row):
 
 
 def makes_text(row):
-    """Whether a function of the row's set makes a text, as the program of parts says."""
-    files, _ = asked(row)
+    """Whether a function of the row's set makes a text, as the probe says."""
     with tempfile.TemporaryDirectory() as folder:
         row.lay(folder)
-        status, out, _ = parts(folder, ["room", "1", *files])
+        status, out, _ = probe(folder, ["room", "1", "tmpl", *row.words])
     if status or out.split()[1:] not in ([b"true"], [b"false"]):
         raise ValueError(f"{row.name}: no room is told: {out!r}")
     return out.split()[1] == b"true"
@@ -184,12 +166,11 @@ def makes_text(row):
 
 def judge_memory(shim, row):
     """Whether a run of a row takes memory though no function of its set makes a text."""
-    files, more = asked(row)
     with tempfile.TemporaryDirectory() as folder:
         row.lay(folder)
-        none, one = (["run", *words(files, times=times, **more)] for times in (0, 1))
+        none, one = (["run", *words(row.words, times=times)] for times in (0, 1))
         count = allocations(shim, folder, none)
-        _, is_taken = sweep.refusing(count + 1, shim, lambda *how: parts(folder, one, None, *how))
+        _, is_taken = sweep.refusing(count + 1, shim, lambda *how: probe(folder, one, None, *how))
     return f"{row.name}, memory", 1, ["    takes memory, and makes no text"] * is_taken
 
 
@@ -203,7 +184,7 @@ def judge_room(depth, templates, room, makes_text):
         for file, template in zip(files, templates):
             with open(file, "w", newline="", encoding="utf-8") as it:
                 it.write(template)
-        got = parts(folder, ["room", str(depth), *files])
+        got = probe(folder, ["room", str(depth), *(["tmpl", *files] if files else [])])
     wanted = (0, f"{room} {str(makes_text).lower()}\n".encode(), b"")
     return f"the room of {templates} at depth {depth}", 1, differences(got, wanted)
 
@@ -214,10 +195,11 @@ def judge_sink(template, data, text, end):
     cases = list(product((0, 1, 2, 3, 4, 5, 4096), (1, 3, ALL), range(len(text) + 2), ("always", "once")))
     with tempfile.TemporaryDirectory() as folder:
         lay(folder, template, data)
+        asked = ["--depth", "1", *(["--data", "d"] if data else []), "m"]
         for piece, most, left, fails in cases:
-            it = words(["m"], piece=piece, most=most, left=left, fails=fails, depth=1, data="d" if data else "-")
-            wanted = (0, text[:left].encode(), f"{end if left >= len(text) else 'write failed'}\n".encode())
-            wrong = differences(parts(folder, ["run", *it]), wanted)
+            it = words(asked, piece=piece, most=most, left=left, fails=fails)
+            wanted = (0, text[:left].encode(), (end if left >= len(text) else "tmpl: write failed\nstatus 6\n").encode())
+            wrong = differences(probe(folder, ["run", *it]), wanted)
             if wrong:
                 how = f"    with a piece of {piece}, {most} bytes a put at most, and {left} until it fails {fails}"
                 return f"sinks of {template!r}", 1, [how, *wrong]
@@ -228,8 +210,8 @@ def judge_count(shim, template, text, count, _):
     """Counts the allocations of a run: the difference between two runs of one process and none."""
     with tempfile.TemporaryDirectory() as folder:
         lay(folder, template)
-        none, two = (["run", *words(["m"], times=times, depth=3)] for times in (0, 2))
-        wrong = differences(parts(folder, two), (0, 2 * text.encode(), 2 * DONE))
+        none, two = (["run", *words(["--depth", "3", "m"], times=times)] for times in (0, 2))
+        wrong = differences(probe(folder, two), (0, 2 * text.encode(), 2 * DONE))
         taken = (allocations(shim, folder, two) - allocations(shim, folder, none)) / 2
     if taken != count:
         wrong.append(f"    takes {taken:g} allocations, {count} wanted")
@@ -246,23 +228,23 @@ def judge_refused(shim, template, text, count, kept):
         status, out, errors = got
         if refused and (status, out) == (1, b"") and errors in NOT_RUN:
             return []
-        if refused and (status, errors) == (0, b"out of memory\n") and text.encode().startswith(out):
+        if refused and (status, errors) == (0, OUT_OF_MEMORY) and text.encode().startswith(out):
             told.append(out)
             return []
         return differences(got, (0, text.encode(), DONE))
 
     with tempfile.TemporaryDirectory() as folder:
         lay(folder, template)
-        it = ["fixed", *words(["m"], piece=2, depth=3)]
-        runs, said = sweep.sweep(shim, lambda *how: parts(folder, it, None, *how), wrong)
+        it = ["fixed", *words(["--depth", "3", "m"], piece=2)]
+        runs, said = sweep.sweep(shim, lambda *how: probe(folder, it, None, *how), wrong)
     if not said and not kept <= len(told) <= count:
         said = [f"    memory was told to be out {len(told)} times, {kept} to {count} wanted"]
     return f"refused memory of {template!r}", runs, said
 
 
 def main():
-    if not os.access(PARTS, os.X_OK):
-        sys.exit("there is no program of parts: the gate builds it")
+    if not os.access(PROBE, os.X_OK):
+        sys.exit("there is no probe: the gate builds it")
     rows = [row for row in harness.read_rows() if is_run(row)]
     plain = [row for row in rows if row.is_again() and row.stdin is None and row.size() <= sweep.SMALL]
     with tempfile.TemporaryDirectory() as folder, ThreadPoolExecutor(len(os.sched_getaffinity(0))) as pool:

@@ -5,11 +5,11 @@ use Rattle.std.specs.IoError.{error_kind}
 use Rattle.std.specs.declared.io.Error.{Error}
 use Rattle.std.specs.declared.io.ErrorKind.{ErrorKind}
 use Rattle.std.specs.declared.io.ErrorKind.TheVariants as io
-use Rattle.tmpl_run.specs.Sink.{Sunk, Untouched}
-use Rattle.tmpl_run.specs.declared.sink.SinkFault.{SinkFault}
-use Rattle.tmpl.specs.Outcome.{Says, write_line}
-use Rattle.tmpl.specs.declared.files.source.SourceFault.{SourceFault}
-use Rattle.tmpl.specs.declared.files.source.SourceFault.TheVariants as fault
+use Rattle.tmpl_meaning.specs.Sink.{Sunk, Untouched}
+use Rattle.tmpl_meaning.specs.declared.sink.SinkFault.{SinkFault}
+use Rattle.tmpl_tool.specs.Outcome.{Says, write_line}
+use Rattle.tmpl_tool.specs.declared.files.source.SourceFault.{SourceFault}
+use Rattle.tmpl_tool.specs.declared.files.source.SourceFault.TheVariants as fault
 
 -- a file is missing exactly where the system says that there is none of the name
 abbrev pub source_fault : ErrorKind → SourceFault

@@ -1,10 +1,1 @@
 pub mod Adapter
-pub mod computed
-pub mod Help
-pub mod Laws
-pub mod Outcome
-pub mod Part
-pub mod Source
-pub mod Tool
-pub mod View
-pub mod Words

@@ -3,26 +3,17 @@
 
 ghost use Rattle.std.specs.Prelude.{◌≡◌, ◌<◌, ◌-◌, ◌^◌};
 ghost use Rattle.std.specs.Process.{exit_status};
-ghost use Rattle.tmpl_run.specs.Sink.{sunk};
+ghost use Rattle.tmpl_meaning.specs.Sink.{sunk};
 ghost use Rattle.tmpl.specs.Adapter.{SaysFlush, flushed};
 
-mod answer;
-mod files;
-mod laws;
-mod messages;
-mod render;
-mod status;
-mod stop;
-mod tool;
-mod words;
+mod adapters;
 
-use crate::files::adapters::{FileSource, WriterSink};
-use crate::messages::lines::{out_of_memory, words_refused, write_failed};
-use crate::status::Status;
+use crate::adapters::{FileSource, WriterSink};
 use std::env;
 use std::io::ErrorKind;
 use std::process::ExitCode;
 use tmpl_run::{Sink, SinkFault};
+use tmpl_tool::{Status, out_of_memory, tool, words_refused, write_failed};
 
 /// Runs the command over the file system and the standard streams.
 fn main(rt: HostRuntime) -> ExitCode {
@@ -40,7 +31,7 @@ fn main(rt: HostRuntime) -> ExitCode {
         }
         Err(_) => return exit(words_refused(&mut err)),
     };
-    let status = tool::tool(alloc, words.as_slice(), &mut source, &mut out, &mut err);
+    let status = tool(alloc, words.as_slice(), &mut source, &mut out, &mut err);
     exit(after_flush(out.flush(), status, &mut err))
 }
 

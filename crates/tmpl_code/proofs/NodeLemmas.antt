@@ -14,12 +14,8 @@ use Rattle.tmpl_code.specs.computed.Held.{bound_off, shrunk, all_grown}
 -- how much there is to put
 abbrev mutual
   pub node_weight : NodeKind → ℕ
-  node_weight (text bytes) = 0
-  node_weight (action h) = 0
   node_weight (control_node c h body other) = suc (nodes_weight body + nodes_weight other)
-  node_weight break_node = 0
-  node_weight continue_node = 0
-  node_weight (template_node name given) = 0
+  node_weight _ = 0
 
   pub nodes_weight : Nodes → ℕ
   nodes_weight tree.none = 0
@@ -35,17 +31,11 @@ item-weight ns i n h is = subst (λ (m : held.Node). node_weight (node_of m).wha
 
 pub bound_off-on : (b : Binding) (lay : Layout) → bound_off b (bound_on b lay) ≡ lay
 bound_off-on unbound lay = refl
-bound_off-on (declare x) lay = refl
-bound_off-on (assign x) lay = refl
-bound_off-on (declare_pair k x) lay = refl
+bound_off-on _ lay = refl
 
 pub shrunk-grown : (n : NodeKind) (lay : Layout) → shrunk n (grown n lay) ≡ lay
-shrunk-grown (text bytes) lay = refl
 shrunk-grown (action h) lay = bound_off-on h.binding lay
-shrunk-grown (control_node c h body other) lay = refl
-shrunk-grown break_node lay = refl
-shrunk-grown continue_node lay = refl
-shrunk-grown (template_node name given) lay = refl
+shrunk-grown _ lay = refl
 
 -- the nodes up to a place, and one more
 pub grown-next : (ns : List held.Node) (i : ℕ) (n : held.Node) (lay : Layout) → i < length ns → n ≡ get_or ns i n
@@ -58,9 +48,7 @@ grown-next (m ∷ ns) (suc i) n lay h is =
 
 pub bound-longer : (b : Binding) (lay : Layout) → length lay ≤ length (bound_on b lay)
 bound-longer unbound lay = omega arith
-bound-longer (declare x) lay = omega arith
-bound-longer (assign x) lay = omega arith
-bound-longer (declare_pair k x) lay = omega arith
+bound-longer _ lay = omega arith
 
 pub ruleset offs = (bound_off-on, bound-longer)
 

@@ -23,15 +23,8 @@ pub ruleset counts = (operand_count-of, last-of, more-last)
 -- how much there is to put
 abbrev mutual
   pub weight : Operand → ℕ
-  weight dot = 0
-  weight (fields names) = 0
-  weight (variable name names) = 0
-  weight (bool_constant b) = 0
-  weight (number_constant n) = 0
-  weight (text_constant bytes) = 0
-  weight nil = 0
-  weight (function f) = 0
   weight (group commands names) = suc (all_weight commands)
+  weight _ = 0
 
   pub weights : Operands → ℕ
   weights no_operand = 0

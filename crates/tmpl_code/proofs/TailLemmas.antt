@@ -59,15 +59,8 @@ PartEnds P = (code rest : Code) → P code rest → Ends rest code
 
 first_ends : (b : Bool) (o : Operand) (Value : Part) → PartEnds Value → PartEnds (FirstAt b o Value)
 first_ends true nil Value h code rest l = ends_one _ code rest l
-first_ends true dot Value h code rest l = h code rest l
-first_ends true (fields names) Value h code rest l = h code rest l
-first_ends true (variable x names) Value h code rest l = h code rest l
-first_ends true (bool_constant b) Value h code rest l = h code rest l
-first_ends true (number_constant n) Value h code rest l = h code rest l
-first_ends true (text_constant bytes) Value h code rest l = h code rest l
-first_ends true (function f) Value h code rest l = h code rest l
-first_ends true (group cs names) Value h code rest l = h code rest l
 first_ends false o Value h code rest l = ends_one _ code rest l
+first_ends true _ Value h code rest l = h code rest l
 
 counted_ends : (b : Bool) (f : Func) (Call : Part) → PartEnds Call → PartEnds (CountedAt b f Call)
 counted_ends true f Call h code rest l = h code rest l

@@ -1,18 +1,14 @@
 -- Whether a template calls one, and how many can be inside one another.
 use Rattle.std.specs.Prelude.{ℕ, Bool, true, false, ◌||◌, List, [], ◌∷◌, if◌then◌else◌}
 use Rattle.tmpl_syntax.specs.Tree as tree
-use Rattle.tmpl_syntax.specs.Tree.{NodeKind, text, action, control_node, break_node, continue_node, template_node}
-use Rattle.tmpl_syntax.specs.Tree.{Nodes}
+use Rattle.tmpl_syntax.specs.Tree.{NodeKind, control_node, template_node, Nodes}
 use Rattle.tmpl_syntax.specs.Set.{Template}
 
 abbrev mutual
   pub node_calls : NodeKind → Bool
-  node_calls (text bytes) = false
-  node_calls (action h) = false
   node_calls (control_node c h body other) = nodes_call body || nodes_call other
-  node_calls break_node = false
-  node_calls continue_node = false
   node_calls (template_node name given) = true
+  node_calls n = false
 
   pub nodes_call : Nodes → Bool
   nodes_call tree.none = false

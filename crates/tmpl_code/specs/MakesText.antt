@@ -1,25 +1,17 @@
 -- Whether a template names a function that makes a text, and so takes memory when it is called.
 use Rattle.std.specs.Prelude.{Bool, false, ◌||◌, List, [], ◌∷◌, Option, Some, None}
 use Rattle.tmpl_funcs.specs.Func.{makes_text}
-use Rattle.tmpl_grammar.specs.Tree.{Operand, dot, fields, variable, bool_constant, number_constant}
-use Rattle.tmpl_grammar.specs.Tree.{text_constant, nil, function, group, Operands, no_operand, operand}
-use Rattle.tmpl_grammar.specs.Tree.{Commands, no_command, command, Pipeline, pipeline}
+use Rattle.tmpl_grammar.specs.Tree.{Operand, function, group, Operands, no_operand, operand, Commands, no_command}
+use Rattle.tmpl_grammar.specs.Tree.{command, Pipeline, pipeline}
 use Rattle.tmpl_syntax.specs.Tree as tree
-use Rattle.tmpl_syntax.specs.Tree.{NodeKind, text, action, control_node, break_node, continue_node, template_node}
-use Rattle.tmpl_syntax.specs.Tree.{Nodes}
+use Rattle.tmpl_syntax.specs.Tree.{NodeKind, action, control_node, template_node, Nodes}
 use Rattle.tmpl_syntax.specs.Set.{Template}
 
 abbrev mutual
   pub operand_makes_text : Operand → Bool
-  operand_makes_text dot = false
-  operand_makes_text (fields names) = false
-  operand_makes_text (variable name names) = false
-  operand_makes_text (bool_constant b) = false
-  operand_makes_text (number_constant n) = false
-  operand_makes_text (text_constant bytes) = false
-  operand_makes_text nil = false
   operand_makes_text (function f) = makes_text f
   operand_makes_text (group commands names) = commands_make_text commands
+  operand_makes_text o = false
 
   pub operands_make_text : Operands → Bool
   operands_make_text no_operand = false
@@ -38,13 +30,11 @@ given_makes_text (Some p) = pipeline_makes_text p
 
 abbrev mutual
   pub node_makes_text : NodeKind → Bool
-  node_makes_text (text bytes) = false
   node_makes_text (action h) = pipeline_makes_text h.pipeline
   node_makes_text (control_node c h body other) =
       pipeline_makes_text h.pipeline || (nodes_make_text body || nodes_make_text other)
-  node_makes_text break_node = false
-  node_makes_text continue_node = false
   node_makes_text (template_node name given) = given_makes_text given
+  node_makes_text n = false
 
   pub nodes_make_text : Nodes → Bool
   nodes_make_text tree.none = false

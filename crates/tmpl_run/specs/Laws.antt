@@ -1,22 +1,74 @@
--- The law that `and` and `or` are those of the function table.
-use Rattle.std.specs.Prelude.{◌≡◌, Bool, true, false, List, length, Option, Ok}
-use Rattle.tmpl_values.specs.Value.{Value, nothing}
-use Rattle.tmpl_funcs.specs.Dispatch.{called}
-use Rattle.tmpl_funcs.specs.Func.{takes}
-use Rattle.tmpl_funcs.specs.declared.func.Func.{Func}
-use Rattle.tmpl_funcs.specs.declared.func.Func.TheVariants.{And, Or}
-use Rattle.tmpl_grammar.specs.Tree.{Operands}
-use Rattle.tmpl_run.specs.Pipeline.{Place, junction, operand_values, or_call_failed, piped_after}
+-- Laws of the machine.
+use Rattle.std.specs.Prelude.{◌≡◌, ◌<◌, ◌≤◌, ◌⊎◌, ℕ, Bool, true, List, ◌++◌, length, Option, Some, slice_get}
+use Rattle.tmpl_values.specs.Value.{Value}
+use Rattle.tmpl_syntax.specs.Set.{Template}
+use Rattle.tmpl_meaning.specs.Meaning.{Ran, Rules, ran, starting_dot}
+use Rattle.tmpl_code.specs.Calls.{deepest}
+use Rattle.tmpl_code.specs.Code.{Starts}
+use Rattle.tmpl_code.specs.Instruction.{Instruction, act}
+use Rattle.tmpl_code.specs.Room.{room}
+use Rattle.tmpl_run.specs.State.{Plan, State, starting}
+use Rattle.tmpl_run.specs.Step.{made_by}
+use Rattle.tmpl_run.specs.Machine.{goes, next_of}
+use Rattle.tmpl_run.specs.Ends.{Ends}
 
--- `or`, or else `and`
-abbrev pub joining : Bool → Func
-joining true = Or
-joining false = And
+-- the code is that of the templates
+abbrev pub IsLinked : Plan → Type 0
+IsLinked plan = Starts plan.templates plan.templates plan.starts plan.code
 
--- where all the operands of an `and` or an `or` have values, it gives what the function table says of these
-abbrev pub JoinsByTable : Type 0
-JoinsByTable = (is_or : Bool) (s : Place) (os : Operands) (piped : Option Value) (vs : List Value)
-    → (operand_values s os).results ≡ Ok vs
-    → takes (joining is_or) (length (piped_after vs piped)) ≡ true
-    → (junction is_or s nothing os piped).result
-    ≡ or_call_failed (joining is_or) (called (joining is_or) (piped_after vs piped))
+-- over a stack of as many cells as the room of the set says, a run that starts at a template comes to just the text,
+-- the fault and the mark that the template means: each turn is ready, and none gets stuck
+abbrev pub ComesToMeaning : Type 0
+ComesToMeaning =
+    (plan : Plan) (size : ℕ) → IsLinked plan → 1 ≤ plan.rules.depth_limit
+    → room plan.rules.depth_limit plan.templates ≤ size
+    → (number start : ℕ) (t : Template) (input : Option Value)
+    → slice_get plan.templates number ≡ Some t → slice_get plan.starts number ≡ Some start
+    → Ends plan size (starting plan number start (starting_dot input)) (ran plan.rules plan.templates t.0 t.1 input)
+
+-- how deep calls may be makes no difference beyond how deep they can be
+abbrev pub DepthAlike : Type 0
+DepthAlike =
+    (rules : Rules) (ts : List Template) (number : ℕ) (t : Template) (input : Option Value)
+    → slice_get ts number ≡ Some t
+    → ran (record rules { depth_limit = deepest rules.depth_limit ts }) ts t.0 t.1 input
+    ≡ ran rules ts t.0 t.1 input
+
+-- of a state that comes to an end there are never more cells than that
+abbrev pub StaysWithin : Type 0
+StaysWithin =
+    (plan : Plan) (size : ℕ) (s t : State) (end : Ran) → Ends plan size s end → length s.cells ≤ size
+    → next_of plan s ≡ goes t → length t.cells ≤ size
+
+-- a state has one end at most, whatever the size of the stack
+abbrev pub HasOneEnd : Type 0
+HasOneEnd = (plan : Plan) (m n : ℕ) (s : State) (f g : Ran) → Ends plan m s f → Ends plan n s g → f ≡ g
+
+-- the steps left are lessened, or they stay and how many templates are inside one another is lessened, or both stay and
+-- the place goes forward in the code
+abbrev pub Lessens : State → State → Type 0
+Lessens s t =
+    (t.left < s.left)
+    ⊎ ((t.left ≡ s.left) × ((t.depth < s.depth) ⊎ ((t.depth ≡ s.depth) × (s.place < t.place))))
+
+-- so does each turn
+abbrev pub EachTurnLessens : Type 0
+EachTurnLessens = (plan : Plan) (s t : State) → next_of plan s ≡ goes t → Lessens s t
+
+-- a text begins another
+abbrev pub Begins : List ℕ → List ℕ → Type 0
+Begins a b = (more : List ℕ) × (b ≡ a ++ more)
+
+-- what was put out so far begins the text of the end
+abbrev pub OnlyAdds : Type 0
+OnlyAdds = (plan : Plan) (size : ℕ) (s : State) (end : Ran) → Ends plan size s end → Begins s.text end.text
+
+-- whether a function that makes a text was called with all its arguments, behind an instruction
+abbrev pub mark_behind : Instruction → Bool → Bool
+mark_behind (act o) made = made_by o made
+mark_behind i made = made
+
+-- where one was called so far, the end says so
+abbrev pub MarkStays : Type 0
+MarkStays =
+    (plan : Plan) (size : ℕ) (s : State) (end : Ran) → Ends plan size s end → s.made_text ≡ true → end.made_text ≡ true

@@ -1,7 +1,9 @@
+pub mod Cell
 pub mod computed
-pub mod Fault
+pub mod Ends
 pub mod Laws
-pub mod Meaning
-pub mod Pipeline
-pub mod Sink
-pub mod View
+pub mod Machine
+pub mod Ready
+pub mod Run
+pub mod State
+pub mod Step

@@ -1,2 +1,9 @@
--- What is computed in another way than it is defined, or stands between a definition and the code.
-pub mod Call
+-- What a run holds, and what its private contracts say of it.
+pub mod Came
+pub mod Held
+pub mod Machines
+pub mod Output
+pub mod Plain
+pub mod Plan
+pub mod Turned
+pub mod View

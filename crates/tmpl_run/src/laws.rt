@@ -1,7 +1,38 @@
-//! The law of `and` and `or`.
-ghost use Rattle.tmpl_run.specs.Laws.{JoinsByTable};
+//! Laws of the machine that the definitions describe.
+ghost use Rattle.tmpl_run.specs.Laws.{ComesToMeaning, DepthAlike, EachTurnLessens, HasOneEnd};
+ghost use Rattle.tmpl_run.specs.Laws.{MarkStays, OnlyAdds, StaysWithin};
 
-/// The law that an `and` or an `or` all of whose operands have values gives what the function table says of these.
-pub fn joins_by_table()
-    ensures { JoinsByTable }
+/// The law that the code of a set comes to the meaning of each of its templates, on a stack of the set's room.
+pub fn comes_to_meaning()
+    ensures { ComesToMeaning }
+{}
+
+/// The law that a run comes to the same whatever depth is allowed beyond that to which the set's calls can go.
+pub fn depth_alike()
+    ensures { DepthAlike }
+{}
+
+/// The law that a run keeps within the cells of its stack.
+pub fn stays_within()
+    ensures { StaysWithin }
+{}
+
+/// The law that a state of the machine has one end at most.
+pub fn one_end()
+    ensures { HasOneEnd }
+{}
+
+/// The law that a run only adds to what it has put out.
+pub fn only_adds()
+    ensures { OnlyAdds }
+{}
+
+/// The law that a run which has called a function that makes a text is told to have called one, at its end.
+pub fn mark_stays()
+    ensures { MarkStays }
+{}
+
+/// The law that a run ends: each turn takes a step, or closes a template, or goes forward in the code.
+pub fn each_turn_lessens()
+    ensures { EachTurnLessens }
 {}

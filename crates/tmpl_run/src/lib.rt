@@ -1,18 +1,30 @@
-//! The run of a template: where its text goes, how it may be told to run, how it may fail, and what it asks of values.
-//!
-//! What a run puts out is the meaning of its template, which `specs/Meaning.antt` defines.
+//! Runs of flat code: `run`, what one instruction does, and the law that the code of a set comes to the meaning of its
+//! templates.
 #![tactic(auto)]
 
+mod call;
+mod control;
+mod execute;
 mod fault;
+mod flow;
+mod halt;
 mod laws;
-mod missing_key;
-mod options;
-mod sink;
-mod values;
+mod machine;
+mod nested;
+mod operation;
+mod output;
+mod piece;
+mod put;
+mod range;
+mod runner;
+mod stack;
+mod variable;
 
-pub use fault::{RunFault, RunFaultKind};
-pub use laws::joins_by_table;
-pub use missing_key::MissingKey;
-pub use options::Options;
-pub use sink::{Sink, SinkFault, WholePuts, put_all};
-pub use values::{decides, element_count, pair_count, without_null};
+pub use fault::RunError;
+pub use laws::{
+    comes_to_meaning, depth_alike, each_turn_lessens, mark_stays, one_end, only_adds, stays_within,
+};
+pub use runner::run;
+pub use tmpl_meaning::{
+    MissingKey, Options, RunFault, RunFaultKind, Sink, SinkFault, WholePuts, put_all,
+};

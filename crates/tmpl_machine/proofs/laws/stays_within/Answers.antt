@@ -1,5 +1,0 @@
-use Rattle.tmpl_machine.proofs.RoomLemmas.{next-within}
-use Rattle.tmpl_machine.proofs.laws.stays_within.Goals as goal
-
-pub returns : goal.returns
-returns c = λ plan size s t end ends within next. next-within size plan s t end ends within next

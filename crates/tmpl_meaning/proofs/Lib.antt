@@ -1,0 +1,5 @@
+pub mod CountLemmas
+pub mod Examples
+pub mod JoinLemmas
+pub mod PutLemmas
+pub mod ToldLemmas

@@ -1,0 +1,7 @@
+pub mod computed
+pub mod Fault
+pub mod Laws
+pub mod Meaning
+pub mod Pipeline
+pub mod Sink
+pub mod View

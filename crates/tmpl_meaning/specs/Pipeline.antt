@@ -1,0 +1,204 @@
+-- The value of a pipeline ("Arguments", "Pipelines", "Variables" and "Functions" in the documentation of Go's
+-- text/template). What nothing, null and the modes for missing keys do is our own rule, also where Go differs.
+use Rattle.std.specs.Prelude.{ℕ, suc, ◌+◌, Bool, true, false, not, ◌||◌, List, [], ◌∷◌, ◌++◌, Option, Some}
+use Rattle.std.specs.Prelude.{None, Result, Ok, Err, if◌then◌else◌}
+use Rattle.std.specs.Str.{bytes_eq}
+use Rattle.tmpl_values.specs.Value.{Value, nothing, null, boolean, number, string, sequence, mapping}
+use Rattle.tmpl_values.specs.Truth.{truth}
+use Rattle.tmpl_values.specs.Field.{FieldValue, found, missing, of_nothing, no_field, field_at}
+use Rattle.tmpl_funcs.specs.Dispatch.{called}
+use Rattle.tmpl_funcs.specs.Func.{makes_text, takes}
+use Rattle.tmpl_funcs.specs.declared.func.Func.{Func}
+use Rattle.tmpl_funcs.specs.declared.func.Func.TheVariants.{And, Or}
+use Rattle.tmpl_funcs.specs.declared.fault.CallFault.{CallFault}
+use Rattle.tmpl_funcs.specs.declared.fault.CallFault.TheVariants.{WrongCount}
+use Rattle.tmpl_grammar.specs.Tree.{Operand, dot, fields, variable, bool_constant, number_constant}
+use Rattle.tmpl_grammar.specs.Tree.{text_constant, nil, function, group, Operands, no_operand, operand}
+use Rattle.tmpl_grammar.specs.Tree.{Commands, no_command, command, Pipeline, pipeline}
+use Rattle.tmpl_meaning.specs.Fault.{Cause, not_a_function, nil_command, lacks_field, lacks_entry, call_failed}
+use Rattle.tmpl_meaning.specs.declared.missing_key.MissingKey.{MissingKey}
+use Rattle.tmpl_meaning.specs.declared.missing_key.MissingKey.TheVariants.{Zero, Error}
+
+-- ---- variables
+
+-- the variables in scope, the newest first; that of the empty name, written `$`, is the dot at the start
+abbrev pub Environment : Type 0
+Environment = List (List ℕ × Value)
+
+-- the value of the newest variable of a name; a template that is accepted names none that is not there
+abbrev pub lookup : List ℕ → Environment → Value
+lookup name [] = nothing
+lookup name (v ∷ env) = if bytes_eq v.0 name then v.1 else lookup name env
+
+-- ---- fields
+
+-- what a map comes to that has no entry of this name
+abbrev pub absent_entry : MissingKey → List ℕ → Result Value Cause
+absent_entry Zero name = Ok null
+absent_entry Error name = Err (lacks_entry name)
+absent_entry missing_key name = Ok nothing
+
+-- what nothing comes to, which has no entries
+abbrev pub field_of_nothing : MissingKey → List ℕ → Result Value Cause
+field_of_nothing Error name = Err (lacks_entry name)
+field_of_nothing missing_key name = Ok nothing
+
+-- a field, by what its value has under the name
+abbrev pub field_value : MissingKey → List ℕ → FieldValue → Result Value Cause
+field_value missing_key name (found v) = Ok v
+field_value missing_key name missing = absent_entry missing_key name
+field_value missing_key name of_nothing = field_of_nothing missing_key name
+field_value missing_key name no_field = Err (lacks_field name)
+
+-- goes on with a value, or stops
+abbrev pub value_then : Result Value Cause → (Value → Result Value Cause) → Result Value Cause
+value_then (Ok v) next = next v
+value_then (Err cause) next = Err cause
+
+-- the field of the field of .. of a value
+abbrev pub chain : MissingKey → List (List ℕ) → Value → Result Value Cause
+chain missing_key [] v = Ok v
+chain missing_key (name ∷ names) v =
+    value_then (field_value missing_key name (field_at name v)) (chain missing_key names)
+
+-- a null that a command gives is nothing
+abbrev pub without_null : Value → Value
+without_null null = nothing
+without_null v = v
+
+-- ---- what evaluating gives
+
+-- something or why there is none, and whether a function that makes a text was called with all its arguments
+pub record Given (T : Type 0) : Type 0 where
+  pub result : Result T Cause
+  pub made_text : Bool
+
+abbrev pub given : {T : Type 0} → Result T Cause → Given T
+given r = record { result = r; made_text = false }
+
+-- goes on with what is given, or stops
+abbrev pub go_on : {T U : Type 0} → Result T Cause → Bool → (T → Given U) → Given U
+go_on (Ok t) made_text next = record { result = (next t).result; made_text = made_text || (next t).made_text }
+go_on (Err cause) made_text next = record { result = Err cause; made_text = made_text }
+
+abbrev pub given_then : {T U : Type 0} → Given T → (T → Given U) → Given U
+given_then g next = go_on g.result g.made_text next
+
+-- ---- calls
+
+abbrev pub piped_after : List Value → Option Value → List Value
+piped_after vs None = vs
+piped_after vs (Some v) = vs ++ v ∷ []
+
+abbrev pub or_call_failed : Func → Result Value CallFault → Result Value Cause
+or_call_failed f (Ok v) = Ok v
+or_call_failed f (Err fault) = Err (call_failed f fault)
+
+-- a function over these values
+abbrev pub applied : Func → List Value → Given Value
+applied f vs = record { result = or_call_failed f (called f vs); made_text = makes_text f }
+
+-- by the function: `and` and `or` evaluate their operands themselves
+abbrev pub by_function : Func → Given Value → Given Value → Given Value → Given Value
+by_function And all both either = both
+by_function Or all both either = either
+by_function f all both either = all
+
+abbrev pub counted : Func → Bool → Given Value → Given Value
+counted f true g = g
+counted f false g = given (Err (call_failed f WrongCount))
+
+abbrev pub piped_count : Option Value → ℕ
+piped_count None = 0
+piped_count (Some v) = 1
+
+abbrev pub operand_count : Operands → ℕ
+operand_count no_operand = 0
+operand_count (operand o os) = suc (operand_count os)
+
+-- whether a value decides an `or`, as the first that is not empty, or an `and`, as the first that is
+abbrev pub decides : Bool → Value → Bool
+decides true v = truth v
+decides false v = not (truth v)
+
+abbrev pub decided : Bool → Value → Given Value → Given Value
+decided true v rest = given (Ok v)
+decided false v rest = rest
+
+-- ---- commands
+
+abbrev pub or_nil : Operand → Given Value → Given Value
+or_nil nil g = given (Err nil_command)
+or_nil o g = g
+
+abbrev pub stands_alone : Operands → Option Value → Bool
+stands_alone no_operand None = true
+stands_alone os piped = false
+
+abbrev pub alone : Bool → Operand → Given Value → Given Value
+alone true o g = or_nil o g
+alone false o g = given (Err not_a_function)
+
+-- a command by its first operand: a call where that is a function, else the operand, which stands alone
+abbrev pub commanded : Operand → Operands → Option Value → Given Value → (Func → Given Value) → Given Value
+commanded (function f) os piped g call = call f
+commanded o os piped g call = alone (stands_alone os piped) o g
+
+-- where a pipeline stands: the mode for missing keys, dot and the variables
+pub record Place : Type 0 where
+  pub missing_key : MissingKey
+  pub dot : Value
+  pub env : Environment
+
+-- a function as an argument: a call without arguments
+abbrev pub bare_call : Func → Given Value
+bare_call f = counted f (takes f 0) (applied f [])
+
+abbrev pub argument_count : Operands → Option Value → ℕ
+argument_count os piped = operand_count os + piped_count piped
+
+abbrev mutual
+  -- as an argument: null stays null, `nil` is nothing, and a function is a call without arguments
+  pub operand_value : Place → Operand → Given Value
+  operand_value s dot = given (Ok s.dot)
+  operand_value s (fields names) = given (chain s.missing_key names s.dot)
+  operand_value s (variable name names) = given (chain s.missing_key names (lookup name s.env))
+  operand_value s (bool_constant b) = given (Ok (boolean b))
+  operand_value s (number_constant n) = given (Ok (number n))
+  operand_value s (text_constant bytes) = given (Ok (string bytes))
+  operand_value s nil = given (Ok nothing)
+  operand_value s (function f) = bare_call f
+  operand_value s (group commands names) =
+      given_then (commands_value s commands None) (λ v. given (chain s.missing_key names v))
+
+  -- the operands from left to right, up to the first that has no value
+  pub operand_values : Place → Operands → Given (List Value)
+  operand_values s no_operand = given (Ok [])
+  operand_values s (operand o os) =
+      given_then (operand_value s o) (λ v. given_then (operand_values s os) (λ vs. given (Ok (v ∷ vs))))
+
+  -- the first of the operands and the piped value that decides, else the last of them; no operand after it is evaluated
+  pub junction : Bool → Place → Value → Operands → Option Value → Given Value
+  junction stop s last no_operand None = given (Ok last)
+  junction stop s last no_operand (Some v) = given (Ok v)
+  junction stop s last (operand o os) piped = given_then (operand_value s o)
+      (λ v. decided (decides stop v) v (junction stop s v os piped))
+
+  -- a command, to which a value may be piped; the number of arguments is looked at first
+  pub command_value : Place → Operands → Option Value → Given Value
+  command_value s no_operand piped = given (Err not_a_function)
+  command_value s (operand o os) piped = commanded o os piped (operand_value s o)
+      (λ f. counted f (takes f (argument_count os piped))
+      (by_function f (given_then (operand_values s os) (λ vs. applied f (piped_after vs piped)))
+      (junction false s nothing os piped) (junction true s nothing os piped)))
+
+  -- the commands from left to right: each gives its value to the next as its last argument
+  pub commands_value : Place → Commands → Option Value → Given Value
+  commands_value s no_command None = given (Ok nothing)
+  commands_value s no_command (Some v) = given (Ok v)
+  commands_value s (command os cs) piped =
+      given_then (command_value s os piped) (λ v. commands_value s cs (Some (without_null v)))
+
+-- the value of a pipeline
+abbrev pub pipeline_value : Place → Pipeline → Given Value
+pipeline_value s (pipeline commands) = commands_value s commands None

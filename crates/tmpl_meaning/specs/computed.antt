@@ -1,0 +1,2 @@
+-- What is computed in another way than it is defined, or stands between a definition and the code.
+pub mod Call

@@ -1,0 +1,257 @@
+//! Runs of compiled templates, over a stack and a piece that are lent in the sizes that the words say, to a sink that
+//! takes as much as the words say. Words, files and the line of a fault are those of the command.
+ghost use Rattle.std.specs.Prelude.{◌<◌, length};
+ghost use Rattle.tmpl_syntax.specs.View.{set_view};
+ghost use Rattle.tmpl_code.specs.Program.{IsLinked};
+
+use crate::disk::Disk;
+use crate::limited::{LimitedSink, Limits};
+use std::alloc::{AllocError, Global};
+use std::array;
+use std::io::{self, Write};
+use tmpl_code::{Entry, Program, compile};
+use tmpl_run::run;
+use tmpl_syntax::Set;
+use tmpl_tool::{Inputs, Request, Status, asked_name, read_inputs, request_of, tell_end};
+use tmpl_values::{Cell, Data, Val};
+
+/// The cells of a stack that is an array.
+const CELLS: usize = 64;
+
+/// The bytes of a piece, and of a sink, that are arrays.
+const BYTES: usize = 4096;
+
+/// What is lent to the runs, and how many there are.
+#[derive(Clone, Copy, Debug)]
+struct Loan {
+    /// The bytes of the piece.
+    piece: usize,
+    limits: Limits,
+    /// The cells of the stack beyond the room.
+    spare: usize,
+    /// How many runs.
+    times: u64,
+}
+
+/// What six words say of the loan, if they are numbers where there have to be some.
+fn loan_in(words: &[String; 6]) -> Option<Loan> {
+    let [piece, most, left, fails, spare, times] = words;
+    Some(Loan {
+        piece: piece.as_str().parse::<usize>().ok()?,
+        limits: Limits {
+            most: most.as_str().parse::<usize>().ok()?,
+            left: left.as_str().parse::<usize>().ok()?,
+            once: fails.as_str() == "once",
+        },
+        spare: spare.as_str().parse::<usize>().ok()?,
+        times: times.as_str().parse::<u64>().ok()?,
+    })
+}
+
+/// What the words of a command ask for and the files that they name hold, if they are taken and accepted.
+fn load<'a>(rt: &HostRuntime, words: &'a [String]) -> Option<(Request<'a>, Inputs<'static>)> {
+    let alloc = rt.alloc();
+    let request = request_of(alloc, words).ok()?;
+    let inputs = read_inputs(alloc, &request, &mut Disk::new(rt)).ok()?;
+    Some((request, inputs))
+}
+
+/// Puts out the room at this depth of the set that the words of a command name, and whether it makes text. Of no words
+/// the set is empty.
+pub(crate) fn put_room(rt: &HostRuntime, depth: &str, words: &[String]) -> io::Result<bool> {
+    let Ok(depth) = depth.parse::<u32>() else {
+        return Ok(false);
+    };
+    if words.is_empty() {
+        return put_room_of(rt, depth, &Set::new(rt.alloc()));
+    }
+    match load(rt, words) {
+        Some((_, inputs)) => put_room_of(rt, depth, &inputs.set),
+        None => Ok(false),
+    }
+}
+
+fn put_room_of(rt: &HostRuntime, depth: u32, set: &Set<'_>) -> io::Result<bool> {
+    let Ok(program) = compile(rt.alloc(), set) else {
+        return Ok(false);
+    };
+    let room = program.room(depth);
+    let makes_text = program.makes_text();
+    println!(rt; "{room} {makes_text}")?;
+    Ok(true)
+}
+
+/// Runs a template as often as the words say, over a stack and a piece that are lent as the words say, or that are
+/// arrays.
+pub(crate) fn run_words(rt: &HostRuntime, words: &[String], in_arrays: bool) -> io::Result<bool> {
+    let Some((lent, asked)) = words.split_first_chunk::<6>() else {
+        return Ok(false);
+    };
+    let (Some(loan), Some((request, inputs))) = (loan_in(lent), load(rt, asked)) else {
+        return Ok(false);
+    };
+    match inputs.set.number(asked_name(&request)) {
+        Some(number) => run_template(rt, &inputs, number, &request, loan, in_arrays),
+        None => Ok(false),
+    }
+}
+
+/// Compiles the set, and runs its template of this number.
+fn run_template(
+    rt: &HostRuntime,
+    inputs: &Inputs<'_>,
+    number: usize,
+    request: &Request<'_>,
+    loan: Loan,
+    in_arrays: bool,
+) -> io::Result<bool>
+    requires { number < length (set_view inputs.now.set) }
+{
+    let program = compile(rt.alloc(), &inputs.set)?;
+    let data = inputs.data.as_ref();
+    let entry = Entry { number };
+    if in_arrays {
+        run_in_arrays(rt, &program, entry, data, request, loan)
+    } else {
+        run_in_vecs(rt, &program, entry, data, request, loan)
+    }
+}
+
+/// Runs over as many cells as the room and those beyond it.
+fn run_in_vecs<'a>(
+    rt: &HostRuntime,
+    program: &Program<'a, '_>,
+    entry: Entry,
+    data: Option<&'a Data>,
+    request: &Request<'_>,
+    loan: Loan,
+) -> io::Result<bool>
+    requires linked { IsLinked program.now }
+    requires entry { entry.number < length (set_view program.now.set.now) }
+{
+    let alloc = rt.alloc();
+    let room = program.room(request.options.depth);
+    let mut cells = blank_cells(alloc, (room as usize).saturating_add(loan.spare))?;
+    let mut piece = blank_bytes(alloc, loan.piece)?;
+    run_often(
+        alloc,
+        program,
+        entry,
+        data,
+        request,
+        loan,
+        cells.as_mut_slice(),
+        piece.as_mut_slice(),
+        &mut rt.stdout(),
+        &mut rt.stderr(),
+    )
+}
+
+/// Runs over arrays, to a sink that keeps its bytes in one, which is then put out. So it takes no memory of its own.
+fn run_in_arrays<'a>(
+    rt: &HostRuntime,
+    program: &Program<'a, '_>,
+    entry: Entry,
+    data: Option<&'a Data>,
+    request: &Request<'_>,
+    loan: Loan,
+) -> io::Result<bool>
+    requires linked { IsLinked program.now }
+    requires entry { entry.number < length (set_view program.now.set.now) }
+{
+    let (name, _) = program.set.template(entry.number);
+    let mut cells = filled_array(name);
+    let mut piece = [0; BYTES];
+    let mut kept = [0; BYTES];
+    let mut rest = kept.as_mut_slice();
+    let done = run_often(
+        rt.alloc(),
+        program,
+        entry,
+        data,
+        request,
+        loan,
+        cells.as_mut_slice(),
+        &mut piece[..loan.piece.min(BYTES)],
+        &mut rest,
+        &mut rt.stderr(),
+    )?;
+    let taken = BYTES.saturating_sub(rest.len());
+    rt.stdout().write_all(&kept[..taken])?;
+    Ok(done)
+}
+
+/// Cells that hold a text each, since a run does not look at what they held before.
+fn filled_array<'a>(text: &'a [u8]) -> [Cell<'a>; CELLS] {
+    array::from_fn(|_| Cell {
+        val: Val::Text(text),
+        num: 0,
+    })
+}
+
+fn blank_cells<'a>(alloc: Global, count: usize) -> Result<Vec<Cell<'a>>, AllocError> {
+    let mut cells = Vec::new(alloc);
+    for _ in 0..count {
+        cells.push(Cell {
+            val: Val::Nothing,
+            num: 0,
+        })?;
+    }
+    Ok(cells)
+}
+
+fn blank_bytes(alloc: Global, count: usize) -> Result<Vec<u8>, AllocError> {
+    let mut bytes = Vec::new(alloc);
+    for _ in 0..count {
+        bytes.push(0)?;
+    }
+    Ok(bytes)
+}
+
+/// Runs as often as the words say, over cells that are as the run before left them. Behind each run stands the line of
+/// the command, if it has one, its status, and how many puts there were behind one that failed, if there were some.
+fn run_often<'a, W: Write, E: Write>(
+    alloc: Global,
+    program: &Program<'a, '_>,
+    entry: Entry,
+    data: Option<&'a Data>,
+    request: &Request<'_>,
+    loan: Loan,
+    cells: &mut [Cell<'a>],
+    piece: &mut [u8],
+    out: &mut W,
+    err: &mut E,
+) -> io::Result<bool>
+    requires linked { IsLinked program.now }
+    requires entry { entry.number < length (set_view program.now.set.now) }
+{
+    for _ in 0..loan.times {
+        if (cells.len() as u64) < program.room(request.options.depth) {
+            return Ok(false);
+        }
+        let mut sink = LimitedSink::new(&mut *out, loan.limits);
+        let options = &request.options;
+        let end = run(
+            alloc,
+            program,
+            entry,
+            data,
+            options,
+            &mut *cells,
+            &mut *piece,
+            &mut sink,
+        );
+        let status = tell_end(end, &mut LimitedSink::new(&mut *err, Limits::NONE));
+        put_status(err, status, sink.behind())?;
+    }
+    Ok(true)
+}
+
+fn put_status<W: Write>(writer: &mut W, status: Status, behind: u64) -> io::Result<()> {
+    let code = status.code;
+    write!(writer, "status {code}")?;
+    if behind > 0 {
+        write!(writer, ", and {behind} puts behind the failed one")?;
+    }
+    writer.write_all(b"\n")
+}

@@ -1,0 +1,113 @@
+-- The cells that a call takes, as its arguments.
+use Rattle.std.proofs.Common.{arith, ◌≡◌, ◌∙◌, ◌+◌, ◌≤◌, ◌++◌, ◌||◌, ℕ, zero, suc, Bool, true, false, List, [], ◌∷◌, length, drop, take, map, reverse, refl, ap, sym, subst, Result, Err}
+use Rattle.std.proofs.lemmas.List.{drop_at, length-drop, length-map, length-reverse, length-take-le, map-append, reverse-append, reverse-reverse, take-map, take_at}
+use Rattle.std.proofs.lemmas.Simd.{map-map}
+use Rattle.std.specs.List.{drop-map}
+use Rattle.std.proofs.Math.Seq.{take-add}
+use Rattle.tmpl_values.specs.declared.value.Cell as held
+use Rattle.tmpl_values.specs.declared.value.Val.{Val}
+use Rattle.tmpl_values.specs.Value.{Value}
+use Rattle.tmpl_funcs.specs.Answer.{AreBorrowed}
+use Rattle.tmpl_funcs.specs.Dispatch.{IsCall}
+use Rattle.tmpl_funcs.specs.Func.{makes_text}
+use Rattle.tmpl_funcs.specs.View.{values_of}
+use Rattle.tmpl_funcs.specs.declared.func.Func.{Func}
+use Rattle.tmpl_funcs.specs.declared.fault.CallError.{CallError}
+use Rattle.tmpl_funcs.specs.declared.fault.CallError.TheVariants as error
+use Rattle.tmpl_code.specs.Code.{piped_count}
+use Rattle.tmpl_run.specs.Cell.{Cell, values_in}
+use Rattle.tmpl_run.specs.computed.Held.{cell_of, cells_in}
+
+module _ {A B : Type 0} (f : A → B) where
+  map-reverse : (l : List A) → map f (reverse l) ≡ reverse (map f l)
+  map-reverse [] = refl
+  map-reverse (x ∷ l) =
+      ap (map f) (reverse-append (x ∷ []) l) ∙ map-append f (reverse l) (x ∷ [])
+      ∙ ap (λ m. m ++ f x ∷ []) (map-reverse l) ∙ sym (reverse-append (f x ∷ []) (map f l))
+
+  -- a part of what is held, from the oldest on, in its order
+  part-is : (k top from : ℕ) (cs : List A) → from + k ≡ top → top ≤ length cs
+      → map f (take k (drop from cs)) ≡ reverse (take k (map f (reverse (take top cs))))
+  part-is k top from cs e h =
+      let part = take k (drop from cs) in
+      let long : length (reverse part) ≡ k = length-reverse part ∙ length-take-le k (drop from cs) (omega (arith, length-drop from cs)) in
+      let split : take top cs ≡ take from cs ++ part = ap (λ n. take n cs) (sym e) ∙ take-add from k cs in
+      let turned : take k (reverse (take top cs)) ≡ reverse part = ap (λ l. take k (reverse l)) split ∙ ap (take k) (reverse-append (take from cs) part) ∙ take_at (reverse part) (reverse (take from cs)) k long in
+      sym (ap reverse (take-map f k (reverse (take top cs)) ∙ ap (map f) turned) ∙ sym (map-reverse (reverse part)) ∙ ap (map f) (reverse-reverse part))
+
+  one-turned : (l : List B) → length l ≤ 1 → reverse l ≡ l
+  one-turned [] h = refl
+  one-turned (x ∷ []) h = refl
+  one-turned (x ∷ y ∷ l) h = absurd (omega arith)
+
+  -- .. and of such a part, the lowest one, if that is asked for, behind the others
+  turned-is : (count below top from : ℕ) (cs : List A) → from + (count + below) ≡ top → top ≤ length cs → below ≤ 1
+      → map f (drop below (take (count + below) (drop from cs)) ++ take below (take (count + below) (drop from cs)))
+      ≡ reverse (take count (map f (reverse (take top cs)))) ++ take below (drop count (map f (reverse (take top cs))))
+  turned-is count below top from cs e h one =
+      let live = map f (reverse (take top cs)) in
+      let part = take (count + below) (drop from cs) in
+      let under = take below (drop count live) in
+      let above = reverse (take count live) in
+      let all : length live ≡ top = length-map (reverse (take top cs)) f ∙ length-reverse (take top cs) ∙ length-take-le top cs h in
+      let long : length under ≡ below = length-take-le below (drop count live) (omega (arith, length-drop count live)) in
+      let order : map f part ≡ under ++ above = part-is (count + below) top from cs e h ∙ ap reverse (take-add count below live) ∙ reverse-append (take count live) under ∙ ap (λ l. l ++ above) (one-turned under (omega arith)) in
+      map-append f (drop below part) (take below part)
+      ∙ ap (λ l. l ++ map f (take below part)) (sym (drop-map f below part)) ∙ ap (λ l. drop below (map f part) ++ l) (sym (take-map f below part))
+      ∙ ap (λ l. drop below l ++ take below l) order
+      ∙ ap (λ l. l ++ take below (under ++ above)) (drop_at under above below long) ∙ ap (λ l. above ++ l) (take_at under above below long)
+
+one-piped : (p : Bool) → piped_count p ≤ 1
+one-piped true = omega arith
+one-piped false = omega arith
+
+-- the values of a call, by where they are held
+pub table-is : (f : Func) (r : Result Val CallError) (count top : ℕ) (p : Bool) (below n from : ℕ) (cs : List held.Cell)
+    → below ≡ piped_count p → from + n ≡ top → n ≡ count + below → top ≤ length cs
+    → IsCall f (values_of (drop below (take n (drop from cs)) ++ take below (take n (drop from cs)))) r
+    → IsCall f (values_in (reverse (take count (cells_in top cs)) ++ take (piped_count p) (drop count (cells_in top cs)))) r
+table-is f r count top p below n from cs is e m h call =
+    let one = one-piped p in
+    let whole : from + (count + below) ≡ top = omega arith in
+    let values : values_of (drop below (take n (drop from cs)) ++ take below (take n (drop from cs))) ≡ values_in (reverse (take count (cells_in top cs)) ++ take (piped_count p) (drop count (cells_in top cs)))
+    = ap (λ k. values_of (drop below (take k (drop from cs)) ++ take below (take k (drop from cs)))) m
+    ∙ sym (map-map (λ (c : Cell). c.val) cell_of (drop below (take (count + below) (drop from cs)) ++ take below (take (count + below) (drop from cs))))
+    ∙ ap values_in (turned-is cell_of count below top from cs whole h (omega arith))
+    ∙ ap (λ k. values_in (reverse (take count (cells_in top cs)) ++ take k (drop count (cells_in top cs)))) is in
+    subst (λ vs. IsCall f vs r) values call
+
+-- ---- made texts
+
+borrowed-take : (n : ℕ) (l : List held.Cell) → AreBorrowed l → AreBorrowed (take n l)
+borrowed-take zero l h = tt
+borrowed-take (suc n) [] h = tt
+borrowed-take (suc n) (c ∷ l) h = (h.0, borrowed-take n l h.1)
+
+borrowed-drop : (n : ℕ) (l : List held.Cell) → AreBorrowed l → AreBorrowed (drop n l)
+borrowed-drop zero l h = h
+borrowed-drop (suc n) [] h = tt
+borrowed-drop (suc n) (c ∷ l) h = borrowed-drop n l h.1
+
+borrowed-append : (k l : List held.Cell) → AreBorrowed k → AreBorrowed l → AreBorrowed (k ++ l)
+borrowed-append [] l g h = h
+borrowed-append (c ∷ k) l g h = (g.0, borrowed-append k l g.1 h)
+
+borrowed-part : (from n : ℕ) (l : List held.Cell) → AreBorrowed (take (from + n) l) → AreBorrowed (take n (drop from l))
+borrowed-part zero n l h = let none : 0 + n ≡ n = omega arith in subst (λ k. AreBorrowed (take k l)) none h
+borrowed-part (suc from) zero [] h = tt
+borrowed-part (suc from) (suc n) [] h = tt
+borrowed-part (suc from) n (c ∷ l) h = let one : suc from + n ≡ suc (from + n) = omega arith in borrowed-part from n l (subst (λ k. AreBorrowed (take k (c ∷ l))) one h).1
+
+-- the arguments of a call
+pub borrowed-turned : (from n top below : ℕ) (l : List held.Cell) → from + n ≡ top → AreBorrowed (take top l) → AreBorrowed (drop below (take n (drop from l)) ++ take below (take n (drop from l)))
+borrowed-turned from n top below l e h =
+    let part = borrowed-part from n l (subst (λ k. AreBorrowed (take k l)) (sym e) h) in
+    borrowed-append (drop below (take n (drop from l))) (take below (take n (drop from l))) (borrowed-drop below (take n (drop from l)) part) (borrowed-take below (take n (drop from l)) part)
+
+-- only a function that makes a text wants memory
+pub refusal-is : (f : Func) (vs : List Value) → IsCall f vs (Err error.OutOfMemory) → makes_text f ≡ false → ⊥
+refusal-is f vs call none = let made : makes_text f ≡ true = call.0 in cc
+
+pub either-not : (made makes : Bool) → (made || makes) ≡ false → makes ≡ false
+either-not true makes h = cc
+either-not false makes h = h

@@ -1,0 +1,235 @@
+-- The code of calls of templates.
+use Rattle.std.proofs.lemmas.Bool.Decides.{nat_tests}
+use Rattle.std.proofs.Common.{arith, ◌≡◌, ◌∙◌, ◌+◌, ◌-◌, ◌*◌, ◌≤◌, ◌<◌, nat_eq, nat_lt, ℕ, zero, suc, Bool, true, false, List, [], ◌∷◌, length, drop, refl, ap, sym, subst, Option, Some, None, Err}
+use Rattle.std.specs.Prelude.{slice_get}
+use Rattle.std.proofs.Math.Nat.{suc-mul}
+use Rattle.tmpl_values.specs.Value.{Value, nothing}
+use Rattle.tmpl_grammar.specs.Tree.{Pipeline}
+use Rattle.tmpl_grammar.specs.Need.{need_of_given}
+use Rattle.tmpl_syntax.specs.Tree as tree
+use Rattle.tmpl_syntax.specs.Need.{need, need_of_nodes}
+use Rattle.tmpl_syntax.specs.Set.{Template, number_of, tree_named}
+use Rattle.tmpl_syntax.proofs.NamedLemmas.{Named, numbered, unnumbered}
+use Rattle.tmpl_meaning.specs.Fault as fault
+use Rattle.tmpl_meaning.specs.Meaning as meaning
+use Rattle.tmpl_meaning.specs.Meaning.{Calls, End, Next, Ran, Rules, Run, Setting, apart, called, calls_within, handing, left_by, meanings, setting_of, spend_if, uncalled, with_value}
+use Rattle.tmpl_code.specs.Instruction as code
+use Rattle.tmpl_code.specs.Layout.{Layout, first_layout}
+use Rattle.tmpl_code.specs.Room.{largest_need}
+use Rattle.tmpl_code.specs.Code.{CallAt, Code, GivenAt, Starts, TreeAt, step_of_call}
+use Rattle.tmpl_run.specs.Cell.{Cell, cell, fresh}
+use Rattle.tmpl_run.specs.State.{Plan, State}
+use Rattle.tmpl_run.specs.Machine.{Turn, deepened, frame, goes, invoked, paid_if, returned_if}
+use Rattle.tmpl_run.specs.Ends.{Comes, Ends}
+use Rattle.tmpl_run.proofs.HeaderLemmas.{Pipelines, run_at, value-leads, valued, with_left}
+use Rattle.tmpl_run.proofs.NodeLemmas as nodes
+use Rattle.tmpl_run.proofs.PlaceLemmas.{ahead, ahead-one}
+use Rattle.tmpl_run.proofs.SlotLemmas.{Frame, below, below-same, env_of, frame_of, length-frame, run_of}
+use Rattle.tmpl_run.proofs.WayLemmas as ways
+use Rattle.tmpl_run.proofs.WayLemmas.{Ring, Stands, Who, who_of}
+
+-- what names call
+calls-none : (rules : Rules) (ts : List Template) (n : ℕ) (name : List ℕ) → tree_named name ts ≡ None → calls_within rules ts n name ≡ Err (fault.no_template name)
+calls-none rules ts zero name e = ap (uncalled rules name) e
+calls-none rules ts (suc n) name e = ap (called rules (calls_within rules ts n) name) e
+
+-- the code of each template lies where it starts
+pub record Started (all : List Template) (t : Template) (places : List ℕ) (code : Code) (k : ℕ) : Type 0 where
+  pub place : ℕ
+  pub at : slice_get places k ≡ Some place
+  pub rest : Code
+  pub laid : TreeAt all t.1.nodes (drop place code) rest
+
+pub starts-at : (all ts : List Template) (places : List ℕ) (code : Code) (k : ℕ) (t : Template) → Starts all ts places code → slice_get ts k ≡ Some t → Started all t places code k
+starts-at all [] [] code k t l e = cc
+starts-at all [] (p ∷ places) code k t l e = absurd l
+starts-at all (u ∷ ts) [] code k t l e = absurd l
+starts-at all (u ∷ ts) (p ∷ places) code zero t l e = let same : u ≡ t = cc in record { place = p; at = refl; rest = l.0.0; laid = subst (λ (v : Template). TreeAt all v.1.nodes (drop p code) l.0.0) same l.0.1 }
+starts-at all (u ∷ ts) (p ∷ places) code (suc k) t l e = let more = starts-at all ts places code k t l.1 e in record { place = more.place; at = more.at; rest = more.rest; laid = more.laid }
+
+pub need-most : (ts : List Template) (k : ℕ) (t : Template) → slice_get ts k ≡ Some t → need t.1 ≤ largest_need ts
+need-most [] k t e = cc
+need-most (u ∷ ts) zero t e = let same : u ≡ t = cc in let m : need u.1 ≡ need t.1 = ap (λ (v : Template). need v.1) same in omega arith
+need-most (u ∷ ts) (suc k) t e = let more = need-most ts k t e in omega arith
+
+-- ---- calls
+
+-- the three cells of a template that is called
+abbrev called_frame : Cell → Cell → List Cell → Frame
+called_frame back saved cs = None ∷ Some back ∷ Some saved ∷ below cs
+
+framed : (ds : List Cell) (back saved : Cell) (cs : List Cell) → frame_of first_layout ds ≡ called_frame back saved cs → (c : Cell) × (ds ≡ c ∷ back ∷ saved ∷ cs)
+framed [] back saved cs e = cc
+framed (c ∷ []) back saved cs e = let no : [] ≡ Some back ∷ Some saved ∷ below cs = ap (drop 1) e in cc
+framed (c ∷ b ∷ []) back saved cs e = let no : [] ≡ Some saved ∷ below cs = ap (drop 2) e in cc
+framed (c ∷ b ∷ d ∷ ds) back saved cs e =
+    let first : Some b ∷ Some d ∷ below ds ≡ Some back ∷ Some saved ∷ below cs = ap (drop 1) e in
+    let second : Some d ∷ below ds ≡ Some saved ∷ below cs = ap (drop 1) first in
+    let same : b ≡ back = cc in
+    let same-too : d ≡ saved = cc in
+    (c, ap (λ x. c ∷ x ∷ d ∷ ds) same ∙ ap (λ x. c ∷ back ∷ x ∷ ds) same-too ∙ ap (λ l. c ∷ back ∷ saved ∷ l) (below-same ds cs (ap (drop 1) second)))
+
+-- a template from its start, inside which so many calls may still be made
+abbrev pub TemplateLeads : Plan → ℕ → Ran → ℕ → Type 0
+TemplateLeads plan room f n = (who : Who) (me : Template) (is-me : slice_get plan.templates who.number ≡ Some me) → 1 ≤ who.depth → who.depth + n ≡ plan.rules.depth_limit
+    → (home : Frame) (s : State) → who_of s ≡ who → slice_get plan.starts who.number ≡ Some s.place → frame_of first_layout s.cells ≡ home → 3 ≤ length s.cells
+    → length home + need_of_nodes me.1.nodes + n * largest_need plan.templates ≤ room
+    → ways.After plan room f who me is-me home (ways.Leaves plan room f who me is-me home) None (meanings (setting_of plan.rules (calls_within plan.rules plan.templates n) me.0 me.1) me.1.nodes s.dot (run_of first_layout s))
+    → Ends plan room s f
+
+-- what is known of the templates that may be called
+abbrev pub Deeper : Plan → ℕ → Ran → ℕ → Type 0
+Deeper plan room f zero = Unit {0}
+Deeper plan room f (suc n) = TemplateLeads plan room f n
+
+module _ (plan : Plan) (room : ℕ) (f : Ran) (who : Who) (me : Template) (is-me : slice_get plan.templates who.number ≡ Some me) (home : Frame) (pipes : Pipelines plan room f who me) (first : 1 ≤ who.depth) (linked : Starts plan.templates plan.templates plan.starts plan.code) where
+  abbrev Onward : Code → Layout → Frame → Value → Run → Type 0
+  Onward = ways.Onward plan room f who me is-me home
+
+  abbrev After : (Run → Type 0) → Option Ring → Run × End → Type 0
+  After = ways.After plan room f who me is-me home
+
+  abbrev Leading : State → Type 0
+  Leading s = Ends plan room s f
+
+  abbrev calls_of : ℕ → Calls
+  calls_of n = calls_within plan.rules plan.templates n
+
+  abbrev set_of : ℕ → Setting
+  set_of n = setting_of plan.rules (calls_of n) me.0 me.1
+
+  abbrev spare_of : ℕ → ℕ
+  spare_of n = n * largest_need plan.templates
+
+  -- a template that is called goes back to its caller
+  goes-back : (A : Run → Type 0) (g : Option Ring) (lay : Layout) (fr : Frame) (rest : Code) (s : State) (number : ℕ) (t : Template) (is-t : slice_get plan.templates number ≡ Some t) (v : Value) (place : ℕ)
+      → Stands plan who rest lay fr (record s { place = place + 1 })
+      → (x : Run × End) → After (Onward rest lay fr s.dot) g (meaning.returned (env_of lay s.cells) x)
+      → ways.After plan room f (record { number = number; depth = suc s.depth }) t is-t (called_frame (cell nothing (place + 1)) (cell s.dot s.template) s.cells)
+      (ways.Leaves plan room f (record { number = number; depth = suc s.depth }) t is-t (called_frame (cell nothing (place + 1)) (cell s.dot s.template) s.cells)) None x
+  goes-back A g lay fr rest s number t is-t v place st x k = by x.1 k
+    where
+      callee : Who
+      callee = record { number = number; depth = suc s.depth }
+
+      floor : Frame
+      floor = called_frame (cell nothing (place + 1)) (cell s.dot s.template) s.cells
+
+      back : Onward rest lay fr s.dot (record x.0 { env = env_of lay s.cells }) → ways.Leaves plan room f callee t is-t floor x.0
+      back h u ret same =
+          ways.takes plan room f callee t is-t floor u (code.return_from ret.n) ret.more ret.runs ret.at tt
+          (subst (λ b. Comes Leading (returned_if b (drop ret.n u.cells) u) f) (sym inner)
+          (subst (λ cs. Comes Leading (frame cs (λ back saved cs. goes (record u { cells = cs; dot = saved.val; template = saved.num; depth = u.depth - 1; place = back.num }))) f) (sym cells.1)
+          (h (record u { cells = s.cells; dot = s.dot; template = s.template; depth = u.depth - 1; place = place + 1 })
+          (record { at = st.at; runs = ap (λ n. let w : Who = record { number = s.template; depth = n } in w) (let d = deep in let same : u.depth - 1 ≡ s.depth = omega arith in same) ∙ st.runs; frame = st.frame; deep = st.deep })
+          refl (ap (λ (r : Run). record r { env = env_of lay s.cells }) same))))
+        where
+          deep : u.depth ≡ suc s.depth
+          deep = ap (λ (w : Who). w.depth) ret.runs
+
+          inner : nat_lt 1 u.depth ≡ true
+          inner = let d = deep in let one = first in let same : s.depth ≡ who.depth = ap (λ (w : Who). w.depth) st.runs in let other : 2 ≤ u.depth = omega arith in grind (arith, nat_tests)
+
+          cells : (c : Cell) × (drop ret.n u.cells ≡ c ∷ cell nothing (place + 1) ∷ cell s.dot s.template ∷ s.cells)
+          cells = framed (drop ret.n u.cells) (cell nothing (place + 1)) (cell s.dot s.template) s.cells ret.frame
+
+      by : (e : End) → ways.Then plan room f who me is-me home (Onward rest lay fr s.dot) g (record x.0 { env = env_of lay s.cells }) (left_by e) → ways.Then plan room f callee t is-t floor (ways.Leaves plan room f callee t is-t floor) None x.0 e
+      by meaning.done k = back k
+      by meaning.broke k = back k
+      by meaning.continued k = back k
+      by (meaning.faulted w) k = k
+
+  -- the call itself, with its value on the stack
+  invokes : (m : ℕ) → TemplateLeads plan room f m → who.depth + suc m ≡ plan.rules.depth_limit → (g : Option Ring) (lay : Layout) (fr : Frame) (rest : Code) (s : State) (name : List ℕ) (number : ℕ) (named : Named name plan.templates number) (v : Value) (made : Bool) (place : ℕ)
+      → nat_eq s.left 0 ≡ false → Stands plan who rest lay fr (record s { place = place + 1 }) → drop place plan.code ≡ code.invoke number ∷ rest → length fr + spare_of (suc m) ≤ room
+      → After (Onward rest lay fr s.dot) g (apart v (meanings (setting_of plan.rules (calls_of m) name named.t.1) named.t.1.nodes v) (with_left (s.left - 1) (run_at lay made s)))
+      → Leading (valued v made place s)
+  invokes m callee depth g lay fr rest s name number named v made place some st at fits k =
+      ways.takes plan room f who me is-me home (valued v made place s) (code.invoke number) rest st.runs at
+      (let a = long in let b = most in let c = more in omega arith)
+      (subst (λ o. Comes Leading (invoked plan me number o (fresh v) s.cells (valued v made place s)) f) (sym start.at)
+      (subst (λ b. Comes Leading (paid_if b plan me s.line (valued v made place s) enters) f) (sym some)
+      (callee (record { number = number; depth = suc s.depth }) named.t named.at (omega arith) (let same : s.depth ≡ who.depth = ap (λ (w : Who). w.depth) st.runs in omega arith)
+      (called_frame (cell nothing (place + 1)) (cell s.dot s.template) s.cells) inside refl start.at refl (omega arith) (let a = long in let b = most in let c = more in let d = length-called in omega arith)
+      (goes-back (Onward rest lay fr s.dot) g lay fr rest (record s { made_text = made }) number named.t named.at v place (record { at = st.at; runs = st.runs; frame = st.frame; deep = st.deep }) (meanings (setting_of plan.rules (calls_of m) named.t.0 named.t.1) named.t.1.nodes v (run_of first_layout inside))
+      (subst (λ (n : List ℕ). After (Onward rest lay fr s.dot) g (apart v (meanings (setting_of plan.rules (calls_of m) n named.t.1) named.t.1.nodes v) (with_left (s.left - 1) (run_at lay made s)))) named.same k)))))
+    where
+      start : Started plan.templates named.t plan.starts plan.code number
+      start = starts-at plan.templates plan.templates plan.starts plan.code number named.t linked named.at
+
+      enters : State → Turn
+      enters t = goes (record t { cells = fresh v ∷ cell nothing (t.place + 1) ∷ cell t.dot t.template ∷ s.cells; dot = v; template = number; depth = suc t.depth; place = start.place })
+
+      inside : State
+      inside = record s { cells = fresh v ∷ cell nothing (place + 1) ∷ cell s.dot s.template ∷ s.cells; dot = v; left = s.left - 1; made_text = made; template = number; depth = suc s.depth; place = start.place }
+
+      long : length fr ≡ length s.cells
+      long = sym (ap length st.frame) ∙ length-frame lay s.cells st.deep
+
+      most : need named.t.1 ≤ largest_need plan.templates
+      most = need-most plan.templates number named.t named.at
+
+      more : spare_of (suc m) ≡ spare_of m + largest_need plan.templates
+      more = suc-mul m (largest_need plan.templates)
+
+      length-called : length (called_frame (cell nothing (place + 1)) (cell s.dot s.template) s.cells) ≡ 3 + length s.cells
+      length-called = let same = length-frame [] s.cells (omega arith) in omega arith
+
+  pub call-leads : (n : ℕ) → Deeper plan room f n → who.depth + n ≡ plan.rules.depth_limit → (line : ℕ) (name : List ℕ) (given : Option Pipeline) → nodes.StepLeads plan room f who me is-me home (calls_of n) (spare_of n) pipes line (tree.template_node name given)
+  call-leads n deeper depth line name given g lay fr here start rest s l at-node st inside fits more-fits k = by (number_of name plan.templates) refl l at-node
+    where
+      A : Run → Type 0
+      A = Onward rest lay fr s.dot
+
+      by : (o : Option ℕ) → number_of name plan.templates ≡ o → here ≡ step_of_call line o ∷ start → CallAt name o given lay start rest → Leading s
+      by None e l at-node =
+          ways.spends plan room f who me is-me home (calls_of n) A g lay line start s (meaning.calling (set_of n) line name given s.dot) st.runs (st.at ∙ l) k
+          (λ at k. ways.takes plan room f who me is-me home (ways.step_taken line s) (code.act (code.refuse (code.no_template name))) rest st.runs (at ∙ at-node) tt
+          (subst (λ c. After A g (with_value (set_of n) line c (handing (set_of n) line given s.dot) (run_of lay (ways.step_taken line s)))) (calls-none plan.rules plan.templates n name (unnumbered name plan.templates e)) k))
+      by (Some number) e l at-node =
+          ways.takes plan room f who me is-me home s (code.deepen line) start st.runs (st.at ∙ l) tt (pays (nat_eq s.left 0) refl k)
+        where
+          named : Named name plan.templates number
+          named = numbered name plan.templates number e
+
+          same-depth : s.depth ≡ who.depth
+          same-depth = ap (λ (w : Who). w.depth) st.runs
+
+          next : State
+          next = record s { line = line; place = s.place + 1 }
+
+          there : drop (s.place + 1) plan.code ≡ start
+          there = ahead-one plan.code start s.place (code.deepen line) (st.at ∙ l)
+
+          enters : (n : ℕ) → Deeper plan room f n → who.depth + n ≡ plan.rules.depth_limit → length fr + need_of_given given + spare_of n ≤ room → nat_eq s.left 0 ≡ false
+              → After A g (with_value (set_of n) line (calls_of n name) (handing (set_of n) line given s.dot) (with_left (s.left - 1) (run_of lay s))) → Comes Leading (deepened false (nat_lt s.depth plan.rules.depth_limit) plan me line s) f
+          enters zero deeper depth fits some k =
+              subst (λ b. Comes Leading (deepened false b plan me line s) f) (sym closed)
+              (subst (λ c. After A g (with_value (set_of zero) line c (handing (set_of zero) line given s.dot) (with_left (s.left - 1) (run_of lay s)))) (ap (uncalled plan.rules name) named.tree) k)
+            where
+              closed : nat_lt s.depth plan.rules.depth_limit ≡ false
+              closed = let same = same-depth in let under : plan.rules.depth_limit ≤ s.depth = omega arith in grind (arith, nat_tests)
+          enters (suc m) deeper depth fits some k =
+              subst (λ b. Comes Leading (deepened false b plan me line s) f) (sym is-open)
+              (hands given at-node fits (subst (λ c. After A g (with_value (set_of (suc m)) line c (handing (set_of (suc m)) line given s.dot) (with_left (s.left - 1) (run_of lay s)))) (ap (called plan.rules (calls_of m) name) named.tree) k))
+            where
+              is-open : nat_lt s.depth plan.rules.depth_limit ≡ true
+              is-open = let same = same-depth in let over : s.depth < plan.rules.depth_limit = omega arith in grind (arith, nat_tests)
+
+              body : Value → Next
+              body v = apart v (meanings (setting_of plan.rules (calls_of m) name named.t.1) named.t.1.nodes v)
+
+              gets : (v : Value) (made : Bool) (place : ℕ) → drop place plan.code ≡ code.invoke number ∷ rest → After A g (body v (with_left (s.left - 1) (run_at lay made s))) → Leading (valued v made place next)
+              gets v made place at k = invokes m deeper depth g lay fr rest next name number named v made place some (record { at = ahead-one plan.code rest place (code.invoke number) at; runs = st.runs; frame = st.frame; deep = st.deep }) at (omega arith) k
+
+              hands : (given : Option Pipeline) → GivenAt given lay start (code.invoke number ∷ rest) → length fr + need_of_given given + spare_of (suc m) ≤ room → After A g (handing (set_of (suc m)) line given s.dot body (with_left (s.left - 1) (run_of lay s))) → Leading next
+              hands None l fits k =
+                  ways.takes plan room f who me is-me home next (code.act code.push_nothing) (code.invoke number ∷ rest) st.runs (there ∙ l) (let long = sym (ap length st.frame) ∙ length-frame lay s.cells st.deep in omega arith)
+                  (gets nothing s.made_text (s.place + 1 + 1 + 0) (ahead plan.code (code.invoke number ∷ rest) (s.place + 1) 0 (code.act code.push_nothing) (there ∙ l)) k)
+              hands (Some p) l fits k =
+                  value-leads plan room f who me is-me home (calls_of (suc m)) pipes A g line (s.left - 1) p lay fr start (code.invoke number ∷ rest) next body l (record { at = there; runs = st.runs; frame = st.frame; deep = st.deep }) refl refl (omega arith) k
+                  (λ v made place at k. gets v made place at k)
+
+          pays : (b : Bool) → nat_eq s.left 0 ≡ b → After A g (spend_if b (set_of n) line (meaning.calling (set_of n) line name given s.dot) (run_of lay s)) → Comes Leading (deepened b (nat_lt s.depth plan.rules.depth_limit) plan me line s) f
+          pays true is k = k
+          pays false is k = enters n deeper depth fits is k

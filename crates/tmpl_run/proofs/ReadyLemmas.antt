@@ -1,0 +1,126 @@
+-- What an instruction asks for, from that it does not get stuck and goes to a place that can be counted.
+use Rattle.std.proofs.lemmas.Bool.Decides.{nat_tests}
+use Rattle.std.proofs.Common.{arith, nat_lt, ◌≡◌, ◌+◌, ◌-◌, ◌^◌, ◌<◌, ◌≤◌, ℕ, zero, suc, Bool, true, false, List, [], ◌∷◌, length, drop, refl, subst, Option, Some, None, length-drop}
+use Rattle.std.specs.Prelude.{slice_get}
+use Rattle.tmpl_values.specs.Elements.{Element, element_at, elements, item_at}
+use Rattle.tmpl_values.specs.Truth.{truth}
+use Rattle.tmpl_syntax.specs.Set.{Template}
+use Rattle.tmpl_code.specs.Instruction as code
+use Rattle.tmpl_run.specs.Cell.{Cell, slot, slot_cell}
+use Rattle.tmpl_run.specs.State.{Plan, State}
+use Rattle.tmpl_run.specs.Machine.{Turn, again, branch, done, elements_for, elements_in, has_more, invoked, left_in, opened, returned_if, ring, top, turned, with_dot}
+use Rattle.tmpl_run.specs.Ready.{Lands}
+use Rattle.tmpl_run.proofs.TurnLemmas.{none-left}
+
+pub top-found : (cs : List Cell) (go : Cell → List Cell → Turn) → Lands (top cs go) → 1 ≤ length cs
+top-found [] go h = absurd h
+top-found (c ∷ cs) go h = omega arith
+
+pub ring-found : (cs : List Cell) (go : Cell → Cell → List Cell → Turn) → Lands (ring cs go) → 2 ≤ length cs
+ring-found [] go h = absurd h
+ring-found (c ∷ []) go h = absurd h
+ring-found (c ∷ d ∷ cs) go h = omega arith
+
+pub below-found : (n : ℕ) (cs : List Cell) (go : Cell → Cell → List Cell → Turn) → Lands (ring (drop n cs) go) → n + 2 ≤ length cs
+below-found n cs go h = let two = ring-found (drop n cs) go h in let left = length-drop n cs in omega arith
+
+top-lands : (A : Type 0) (cs : List Cell) (go : Cell → List Cell → Turn) → ((c : Cell) (cs : List Cell) → Lands (go c cs) → A) → Lands (top cs go) → A
+top-lands A [] go f h = absurd h
+top-lands A (c ∷ cs) go f h = f c cs h
+
+ring-lands : (A : Type 0) (cs : List Cell) (go : Cell → Cell → List Cell → Turn) → ((c d : Cell) (cs : List Cell) → Lands (go c d cs) → A) → Lands (ring cs go) → A
+ring-lands A [] go f h = absurd h
+ring-lands A (c ∷ []) go f h = absurd h
+ring-lands A (c ∷ d ∷ cs) go f h = f c d cs h
+
+module _ (plan : Plan) (t : Template) (s : State) where
+  -- the place to which an instruction jumps
+  abbrev Jumps : ℕ → Type 0
+  Jumps skip = s.place + 1 + skip < 2 ^ 64
+
+  pub cut-jumps : (n skip : ℕ) → Lands (done plan t (code.cut n skip) s) → s.place + 1 + skip < 2 ^ 64
+  cut-jumps n skip h = h
+
+  pub unless-jumps : (kept : Bool) (skip : ℕ) → Lands (done plan t (code.unless kept skip) s) → truth (slot 0 s.cells) ≡ false → s.place + 1 + skip < 2 ^ 64
+  unless-jumps kept skip h e = by s.cells h e
+    where
+      by : (cs : List Cell) → Lands (top cs (λ c cs. branch (truth c.val) kept skip c cs s)) → truth (slot 0 cs) ≡ false → Jumps skip
+      by [] h e = absurd h
+      by (c ∷ cs) h e = subst (λ b. Lands (branch b kept skip c cs s)) e h
+
+  pub with-jumps : (kept : Bool) (skip : ℕ) → Lands (done plan t (code.enter_with kept skip) s) → truth (slot 0 s.cells) ≡ false → s.place + 1 + skip < 2 ^ 64
+  with-jumps kept skip h e = by s.cells h e
+    where
+      by : (cs : List Cell) → Lands (top cs (λ c cs. with_dot (truth c.val) kept skip c cs s)) → truth (slot 0 cs) ≡ false → Jumps skip
+      by [] h e = absurd h
+      by (c ∷ cs) h e = subst (λ b. Lands (with_dot b kept skip c cs s)) e h
+
+  pub end-with-jumps : (n variables skip : ℕ) → Lands (done plan t (code.end_with n variables skip) s) → s.place + 1 + skip < 2 ^ 64
+  end-with-jumps n variables skip h = top-lands (Jumps skip) (drop n s.cells) _ (λ c cs l. l) h
+
+  pub enter-jumps : (key : Bool) (skip : ℕ) → Lands (done plan t (code.enter key skip) s) → elements_for key (slot 0 s.cells) ≡ Some [] → s.place + 1 + skip < 2 ^ 64
+  enter-jumps key skip h e = by s.cells h e
+    where
+      by : (cs : List Cell) → Lands (top cs (λ c cs. opened plan t skip c cs (elements_for key c.val) s)) → elements_for key (slot 0 cs) ≡ Some [] → Jumps skip
+      by [] h e = absurd h
+      by (c ∷ cs) h e = subst (λ o. Lands (opened plan t skip c cs o s)) e h
+
+  none-here : (es : List Element) (i : ℕ) → slice_get es i ≡ None → drop i es ≡ []
+  none-here [] zero h = refl
+  none-here [] (suc i) h = refl
+  none-here (x ∷ es) zero h = cc
+  none-here (x ∷ es) (suc i) h = none-here es i h
+
+  none-at : (o : Option (List Element)) (i : ℕ) → element_at i o ≡ None → drop i (elements_in o) ≡ []
+  none-at None i h = none-here [] i refl
+  none-at (Some es) i h = none-here es i h
+
+  pub turn-element : (n : ℕ) → Lands (done plan t (code.turn n) s) → item_at (slot_cell 1 s.cells).num (slot_cell 1 s.cells).val ≡ None → ⊥
+  turn-element n h e = by s.cells h e
+    where
+      by : (cs : List Cell) → Lands (ring cs (λ d v cs. turned n (left_in v) s)) → item_at (slot_cell 1 cs).num (slot_cell 1 cs).val ≡ None → ⊥
+      by [] h e = absurd h
+      by (c ∷ []) h e = absurd h
+      by (c ∷ v ∷ cs) h e = subst (λ es. Lands (turned n es s)) (none-at (elements v.val) v.num e) h
+
+  pub next-jumps : (n skip line : ℕ) → Lands (done plan t (code.next n skip line) s) → has_more (slot_cell 1 (drop n s.cells)) ≡ false → s.place + 1 + skip < 2 ^ 64
+  next-jumps n skip line h e = by (drop n s.cells) h e
+    where
+      by : (cs : List Cell) → Lands (ring cs (λ d v cs. again plan t skip line d v cs (drop 1 (left_in v)) s)) → has_more (slot_cell 1 cs) ≡ false → Jumps skip
+      by [] h e = absurd h
+      by (c ∷ []) h e = absurd h
+      by (c ∷ v ∷ cs) h e = subst (λ es. Lands (again plan t skip line c v cs es s)) (none-left v e) h
+
+  pub leave-jumps : (n skip : ℕ) → Lands (done plan t (code.leave n skip) s) → s.place + 1 + skip < 2 ^ 64
+  leave-jumps n skip h = ring-lands (Jumps skip) (drop n s.cells) _ (λ d v cs l. l) h
+
+  pub turn-found : (n : ℕ) → Lands (done plan t (code.turn n) s) → 2 ≤ length s.cells
+  turn-found n h = ring-found s.cells (λ d v cs. turned n (left_in v) s) h
+
+  pub next-found : (n skip line : ℕ) → Lands (done plan t (code.next n skip line) s) → n + 2 ≤ length s.cells
+  next-found n skip line h = below-found n s.cells (λ d v cs. again plan t skip line d v cs (drop 1 (left_in v)) s) h
+
+  pub leave-found : (n skip : ℕ) → Lands (done plan t (code.leave n skip) s) → n + 2 ≤ length s.cells
+  leave-found n skip h = below-found n s.cells _ h
+
+  pub invoke-found : (number : ℕ) → Lands (done plan t (code.invoke number) s) → 1 ≤ length s.cells
+  invoke-found number h = top-found s.cells (λ c cs. invoked plan t number (slice_get plan.starts number) c cs s) h
+
+  abbrev Starts : ℕ → Type 0
+  Starts number = (start : ℕ) × (slice_get plan.starts number ≡ Some start)
+
+  pub invoke-start : (number : ℕ) → Lands (done plan t (code.invoke number) s) → (start : ℕ) × (slice_get plan.starts number ≡ Some start)
+  invoke-start number h = top-lands (Starts number) s.cells _ (λ c cs l. by (slice_get plan.starts number) c cs refl l) h
+    where
+      by : (o : Option ℕ) (c : Cell) (cs : List Cell) → slice_get plan.starts number ≡ o → Lands (invoked plan t number o c cs s) → Starts number
+      by None c cs e h = absurd h
+      by (Some start) c cs e h = (start, e)
+
+  pub return-found : (n : ℕ) → Lands (done plan t (code.return_from n) s) → 1 < s.depth → n + 3 ≤ length s.cells
+  return-found n h deep = by (drop n s.cells) (let left = length-drop n s.cells in left) (subst (λ b. Lands (returned_if b (drop n s.cells) s)) (let inside : nat_lt 1 s.depth ≡ true = grind (arith, nat_tests) in inside) h)
+    where
+      by : (cs : List Cell) → length cs ≡ length s.cells - n → Lands (returned_if true cs s) → n + 3 ≤ length s.cells
+      by [] e h = absurd h
+      by (c ∷ []) e h = absurd h
+      by (c ∷ d ∷ []) e h = absurd h
+      by (c ∷ d ∷ f ∷ cs) e h = omega arith

@@ -1,0 +1,191 @@
+-- The cells stay within the room that there is for them.
+use Rattle.std.proofs.Common.{arith, ◌≡◌, ◌+◌, ◌-◌, ◌≤◌, ◌<◌, nat_eq, nat_lt, ℕ, zero, suc, Bool, true, false, List, [], ◌∷◌, ◌++◌, length, take, drop, reverse, refl, subst, Option, Some, None, Result, Ok, Err, length-drop}
+use Rattle.std.specs.Prelude.{slice_get}
+use Rattle.std.proofs.lemmas.List.{length-set}
+use Rattle.tmpl_values.specs.Value.{Value, nothing}
+use Rattle.tmpl_values.specs.Elements.{Element}
+use Rattle.tmpl_values.specs.Truth.{truth}
+use Rattle.tmpl_funcs.specs.Dispatch.{called}
+use Rattle.tmpl_funcs.specs.declared.func.Func.{Func}
+use Rattle.tmpl_syntax.specs.Set.{Template}
+use Rattle.tmpl_meaning.specs.Fault.{Cause}
+use Rattle.tmpl_meaning.specs.Pipeline.{Place, chain, decides, or_call_failed}
+use Rattle.tmpl_meaning.specs.Meaning.{Ran}
+use Rattle.tmpl_code.specs.Code.{piped_count}
+use Rattle.tmpl_code.specs.Instruction as code
+use Rattle.tmpl_code.specs.Instruction.{Instruction, Operation}
+use Rattle.tmpl_run.specs.Cell.{Cell, cell, fresh, values_in}
+use Rattle.tmpl_run.specs.State.{Plan, State}
+use Rattle.tmpl_run.specs.Step.{Went, called_on, decided_by, halted, lacks, on, pushed, step}
+use Rattle.tmpl_run.specs.Machine.{Turn, again, branch, deepened, done, done_in, elements_for, ended, frame, goes, held, invoked, kept_on, left_in, next_of, onto, opened, paid_if, piped, returned_if, ring, stuck, top, turned, with_dot}
+use Rattle.tmpl_run.specs.Ready.{Fits, Has, RoomIf}
+use Rattle.tmpl_run.specs.Ends.{Ends, IsReady, Leads}
+
+module _ (size : ℕ) where
+  abbrev WentWithin : Went → Type 0
+  WentWithin (on skip cs) = length cs ≤ size
+  WentWithin (halted cause) = Unit {0}
+  WentWithin lacks = Unit {0}
+
+  pushed-within : (r : Result Value Cause) (cs : List Cell) → length cs < size → WentWithin (pushed r cs)
+  pushed-within (Ok v) cs h = omega arith
+  pushed-within (Err cause) cs h = tt
+
+  called-within : (f : Func) (args : List Value) (p : Bool) (cs : List Cell) (n : ℕ) → length cs ≡ n + piped_count p → n < size → WentWithin (called_on f args p cs)
+  called-within f args false cs n e h = pushed-within (or_call_failed f (called f args)) cs (omega arith)
+  called-within f args true [] n e h = tt
+  called-within f args true (c ∷ cs) n e h = pushed-within (or_call_failed f (called f (args ++ c.val ∷ []))) cs (omega arith)
+
+  step-within : (o : Operation) (s : Place) (cs : List Cell) → Fits o (length cs) size → length cs ≤ size → WentWithin (step s o cs)
+  step-within code.push_nothing s cs fits h = omega arith
+  step-within (code.push_bool x) s cs fits h = omega arith
+  step-within (code.push_number n) s cs fits h = omega arith
+  step-within (code.push_text bytes) s cs fits h = omega arith
+  step-within code.push_dot s cs fits h = omega arith
+  step-within (code.push_fields names) s cs fits h = pushed-within (chain s.missing_key names s.dot) cs fits
+  step-within (code.push_slot k) s cs fits h = let room = fits.1 in omega arith
+  step-within (code.chained names) s [] fits h = tt
+  step-within (code.chained names) s (c ∷ cs) fits h = pushed-within (chain s.missing_key names c.val) cs (omega arith)
+  step-within (code.call_with f n p) s cs fits h =
+      let within = fits.1 in
+      let room = fits.2 in
+      let left = length-drop n cs in
+      called-within f (values_in (reverse (take n cs))) p (drop n cs) (length cs - (n + piped_count p)) (omega arith) (omega arith)
+  step-within (code.decide is_or p skip) s [] fits h = tt
+  step-within (code.decide is_or p skip) s (c ∷ cs) fits h = by (decides is_or c.val)
+    where
+      by : (t : Bool) → WentWithin (decided_by t skip p c.val cs)
+      by true = let left = length-drop (piped_count p) cs in omega arith
+      by false = omega arith
+  step-within code.settle s [] fits h = tt
+  step-within code.settle s (c ∷ cs) fits h = h
+  step-within (code.refuse why) s cs fits h = tt
+
+  abbrev Within : Turn → Type 0
+  Within (goes t) = length t.cells ≤ size
+  Within (ended r) = Unit {0}
+  Within stuck = Unit {0}
+
+  top-within : (cs : List Cell) (go : Cell → List Cell → Turn) → ((c : Cell) (ds : List Cell) → length cs ≡ suc (length ds) → Within (go c ds)) → Within (top cs go)
+  top-within [] go h = tt
+  top-within (c ∷ cs) go h = h c cs refl
+
+  ring-within : (cs : List Cell) (go : Cell → Cell → List Cell → Turn) → ((c d : Cell) (ds : List Cell) → length cs ≡ suc (suc (length ds)) → Within (go c d ds)) → Within (ring cs go)
+  ring-within [] go h = tt
+  ring-within (c ∷ []) go h = tt
+  ring-within (c ∷ d ∷ cs) go h = h c d cs refl
+
+  frame-within : (cs : List Cell) (go : Cell → Cell → List Cell → Turn) → ((c d : Cell) (ds : List Cell) → length ds ≤ length cs → Within (go c d ds)) → Within (frame cs go)
+  frame-within [] go h = tt
+  frame-within (c ∷ []) go h = tt
+  frame-within (c ∷ d ∷ []) go h = tt
+  frame-within (c ∷ d ∷ e ∷ cs) go h = h d e cs (omega arith)
+
+  module _ (plan : Plan) (me : Template) (s : State) (within : length s.cells ≤ size) where
+    paid-within : (line : ℕ) (cs : State → List Cell) (place : State → ℕ) → ((t : State) → length (cs t) ≤ size) → Within (paid_if (nat_eq s.left 0) plan me line s (λ s. onto (cs s) (place s) s))
+    paid-within line cs place h = by (nat_eq s.left 0)
+      where
+        by : (b : Bool) → Within (paid_if b plan me line s (λ s. onto (cs s) (place s) s))
+        by true = tt
+        by false = h (record s { left = s.left - 1; line = line })
+
+    piped-within : (o : Operation) (w : Went) → WentWithin w → Within (piped me o w s)
+    piped-within o (on skip cs) h = h
+    piped-within o (halted cause) h = tt
+    piped-within o lacks h = tt
+
+    held-within : (key : Bool) (c : Cell) (cs : List Cell) → length s.cells ≡ suc (length cs) → RoomIf key (length s.cells) size → length (held key c cs) ≤ size
+    held-within false c cs e h = omega arith
+    held-within true c cs e h = omega arith
+
+    kept-within : (kept : Bool) (c : Cell) (cs : List Cell) → length s.cells ≡ suc (length cs) → length (kept_on kept c cs) ≤ size
+    kept-within true c cs e = omega arith
+    kept-within false c cs e = omega arith
+
+    branch-within : (t kept : Bool) (skip : ℕ) (c : Cell) (cs : List Cell) → length s.cells ≡ suc (length cs) → Within (branch t kept skip c cs s)
+    branch-within true kept skip c cs e = kept-within kept c cs e
+    branch-within false kept skip c cs e = kept-within kept c cs e
+
+    with-within : (t kept : Bool) (skip : ℕ) (c : Cell) (cs : List Cell) → length s.cells ≡ suc (length cs) → RoomIf kept (length s.cells) size → Within (with_dot t kept skip c cs s)
+    with-within true true skip c cs e h = omega arith
+    with-within true false skip c cs e h = omega arith
+    with-within false kept skip c cs e h = kept-within kept c cs e
+
+    opened-within : (skip : ℕ) (c : Cell) (cs : List Cell) (o : Option (List Element)) → length s.cells ≡ suc (length cs) → length s.cells < size → Within (opened plan me skip c cs o s)
+    opened-within skip c cs None e h = tt
+    opened-within skip c cs (Some []) e h = omega arith
+    opened-within skip c cs (Some (x ∷ xs)) e h = by (nat_eq s.left 0)
+      where
+        opens : State → Turn
+        opens t = goes (record t { cells = cell t.dot (t.place + 1) ∷ fresh c.val ∷ cs; dot = nothing; place = t.place + 1 })
+
+        by : (b : Bool) → Within (paid_if b plan me s.line s opens)
+        by true = tt
+        by false = omega arith
+
+    turned-within : (n : ℕ) (es : List Element) → length s.cells + n ≤ size → Within (turned n es s)
+    turned-within n [] h = tt
+    turned-within zero (e ∷ es) h = within
+    turned-within (suc zero) (e ∷ es) h = omega arith
+    turned-within (suc (suc n)) (e ∷ es) h = omega arith
+
+    again-within : (skip line : ℕ) (d v : Cell) (cs : List Cell) (es : List Element) → suc (suc (length cs)) ≤ size → Within (again plan me skip line d v cs es s)
+    again-within skip line d v cs [] h = omega arith
+    again-within skip line d v cs (e ∷ es) h = paid-within line (λ s. d ∷ cell v.val (suc v.num) ∷ cs) (λ s. d.num) (λ t. h)
+
+    deepened-within : (b c : Bool) (line : ℕ) → Within (deepened b c plan me line s)
+    deepened-within true c line = tt
+    deepened-within false true line = within
+    deepened-within false false line = tt
+
+    invoked-within : (number : ℕ) (o : Option ℕ) (c : Cell) (cs : List Cell) → length s.cells ≡ suc (length cs) → length s.cells + 2 ≤ size → Within (invoked plan me number o c cs s)
+    invoked-within number None c cs e h = tt
+    invoked-within number (Some start) c cs e h = by (nat_eq s.left 0)
+      where
+        enters : State → Turn
+        enters t = goes (record t { cells = fresh c.val ∷ cell nothing (t.place + 1) ∷ cell t.dot t.template ∷ cs; dot = c.val; template = number; depth = suc t.depth; place = start })
+
+        by : (b : Bool) → Within (paid_if b plan me s.line s enters)
+        by true = tt
+        by false = omega arith
+
+    returned-within : (b : Bool) (cs : List Cell) → length cs ≤ size → Within (returned_if b cs s)
+    returned-within false cs h = tt
+    returned-within true cs h = frame-within cs _ (λ back saved ds e. omega arith)
+
+    done-within : (i : Instruction) → Has i (length s.cells) size → Within (done plan me i s)
+    done-within (code.spend line) h = by (nat_eq s.left 0)
+      where
+        by : (b : Bool) → Within (paid_if b plan me line s (λ s. onto s.cells (s.place + 1) s))
+        by true = tt
+        by false = within
+    done-within (code.put bytes) h = within
+    done-within (code.act o) h = piped-within o (step (record { missing_key = plan.rules.missing_key; dot = s.dot; env = [] }) o s.cells) (step-within o (record { missing_key = plan.rules.missing_key; dot = s.dot; env = [] }) s.cells h within)
+    done-within code.show h = top-within s.cells _ (λ c cs e. omega arith)
+    done-within (code.hold key) h = top-within s.cells _ (λ c cs e. held-within key c cs e h)
+    done-within (code.set slot) h = top-within s.cells _ (λ c cs e. omega (arith, length-set cs slot (fresh c.val)))
+    done-within (code.set_dot slot) h = omega (arith, length-set s.cells slot (fresh s.dot))
+    done-within (code.unless kept skip) h = top-within s.cells _ (λ c cs e. branch-within (truth c.val) kept skip c cs e)
+    done-within (code.enter_with kept skip) h = top-within s.cells _ (λ c cs e. with-within (truth c.val) kept skip c cs e h)
+    done-within (code.end_with n variables skip) h = top-within (drop n s.cells) _ (λ c cs e. (let a = length-drop n s.cells in let b = length-drop variables cs in omega arith))
+    done-within (code.cut n skip) h = let a = length-drop n s.cells in omega arith
+    done-within (code.enter key skip) h = top-within s.cells _ (λ c cs e. opened-within skip c cs (elements_for key c.val) e h)
+    done-within (code.turn n) h = ring-within s.cells _ (λ d v cs e. turned-within n (left_in v) h)
+    done-within (code.next n skip line) h = ring-within (drop n s.cells) _ (λ d v cs e. again-within skip line d v cs (drop 1 (left_in v)) (let a = length-drop n s.cells in omega arith))
+    done-within (code.leave n skip) h = ring-within (drop n s.cells) _ (λ d v cs e. (let a = length-drop n s.cells in omega arith))
+    done-within (code.deepen line) h = deepened-within (nat_eq s.left 0) (nat_lt s.depth plan.rules.depth_limit) line
+    done-within (code.invoke number) h = top-within s.cells _ (λ c cs e. invoked-within number (slice_get plan.starts number) c cs e h)
+    done-within (code.return_from n) h = returned-within (nat_lt 1 s.depth) (drop n s.cells) (let a = length-drop n s.cells in omega arith)
+
+  -- a state that comes to an end has its cells within the room, and so have those that follow
+  pub next-within : (plan : Plan) (s t : State) (f : Ran) → Ends plan size s f → length s.cells ≤ size → next_of plan s ≡ goes t → length t.cells ≤ size
+  next-within plan s t f h within e = subst Within e (by (slice_get plan.templates s.template) (slice_get plan.code s.place) (ready h.0 h.1))
+    where
+      ready : (n : ℕ) → Leads plan size n s f → IsReady size (slice_get plan.code s.place) s
+      ready zero l = absurd l
+      ready (suc n) l = l.0
+
+      by : (t : Option Template) (i : Option Instruction) → IsReady size i s → Within (done_in plan t i s)
+      by None i r = tt
+      by (Some t) None r = absurd r
+      by (Some t) (Some i) r = done-within plan t s within i r

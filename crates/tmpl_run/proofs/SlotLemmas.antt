@@ -1,0 +1,270 @@
+-- The slots of a layout are the variables; the cells besides them stay.
+use Rattle.std.proofs.Common.{arith, ◌≡◌, ◌∙◌, ◌+◌, ◌-◌, ◌≤◌, ℕ, zero, suc, Bool, true, false, List, [], ◌∷◌, length, drop, set, refl, ap, sym, Option, Some, None, drop-drop}
+use Rattle.std.specs.Prelude.{option_map, if◌then◌else◌}
+use Rattle.std.specs.Str.{bytes_eq}
+use Rattle.tmpl_values.specs.Value.{Value, nothing}
+use Rattle.tmpl_meaning.specs.Pipeline.{Environment, lookup}
+use Rattle.tmpl_meaning.specs.Meaning.{Run, assigned, oldest}
+use Rattle.tmpl_grammar.specs.Tree.{Binding, unbound, declare, assign, declare_pair}
+use Rattle.tmpl_grammar.specs.Need.{declared_count}
+use Rattle.tmpl_syntax.specs.Tree as tree
+use Rattle.tmpl_syntax.specs.Tree.{NodeKind, text, action, control_node, break_node, continue_node, template_node, Nodes}
+use Rattle.tmpl_syntax.specs.Need.{left_behind}
+use Rattle.tmpl_code.specs.Layout.{Layout, bound_on, declared_in, found_at, grown, slot_named}
+use Rattle.tmpl_run.specs.Cell.{Cell, fresh, slot}
+use Rattle.tmpl_run.specs.State.{State}
+use Rattle.tmpl_run.proofs.PipelineLemmas.{Slots}
+
+-- the variables that the cells hold
+abbrev pub env_of : Layout → List Cell → Environment
+env_of [] cs = []
+env_of (p ∷ ps) [] = []
+env_of (None ∷ ps) (c ∷ cs) = env_of ps cs
+env_of (Some x ∷ ps) (c ∷ cs) = (x, c.val) ∷ env_of ps cs
+
+-- the cells apart from the values of the variables
+abbrev pub Frame : Type 0
+Frame = List (Option Cell)
+
+abbrev pub below : List Cell → Frame
+below [] = []
+below (c ∷ cs) = Some c ∷ below cs
+
+abbrev pub frame_of : Layout → List Cell → Frame
+frame_of [] cs = below cs
+frame_of (p ∷ ps) [] = []
+frame_of (None ∷ ps) (c ∷ cs) = Some c ∷ frame_of ps cs
+frame_of (Some x ∷ ps) (c ∷ cs) = None ∷ frame_of ps cs
+
+-- how many variables there are
+abbrev pub named : Layout → ℕ
+named [] = 0
+named (None ∷ ps) = named ps
+named (Some x ∷ ps) = suc (named ps)
+
+-- behind what binds variables, behind a node, and behind nodes
+abbrev pub bound_in : Binding → Frame → Frame
+bound_in unbound fr = fr
+bound_in (declare x) fr = None ∷ fr
+bound_in (assign x) fr = fr
+bound_in (declare_pair k x) fr = None ∷ None ∷ fr
+
+abbrev pub grown_in : NodeKind → Frame → Frame
+grown_in (action h) fr = bound_in h.binding fr
+grown_in _ fr = fr
+
+abbrev pub all_grown_in : Nodes → Frame → Frame
+all_grown_in tree.none fr = fr
+all_grown_in (tree.then line n ns) fr = all_grown_in ns (grown_in n fr)
+
+abbrev pub all_grown : Nodes → Layout → Layout
+all_grown tree.none lay = lay
+all_grown (tree.then line n ns) lay = all_grown ns (grown n lay)
+
+-- the run that a machine stands for
+abbrev pub run_of : Layout → State → Run
+run_of lay s = record { env = env_of lay s.cells; text = s.text; left = s.left; made_text = s.made_text }
+
+-- the cell of a slot has the value of the variable
+looked_up : (x : List ℕ) (lay : Layout) (cs : List Cell) (k : ℕ) → slot_named x lay ≡ Some k → length lay ≤ length cs → slot k cs ≡ lookup x (env_of lay cs)
+looked_up x [] cs k e h = cc
+looked_up x (p ∷ ps) [] k e h = absurd (omega arith)
+looked_up x (None ∷ ps) (c ∷ cs) k e h = by (slot_named x ps) (λ j g. looked_up x ps cs j g (omega arith)) e
+  where
+    by : (f : Option ℕ) → ((j : ℕ) → f ≡ Some j → slot j cs ≡ lookup x (env_of ps cs)) → option_map (λ j. suc j) f ≡ Some k → slot k (c ∷ cs) ≡ lookup x (env_of ps cs)
+    by None ih e = cc
+    by (Some j) ih e = let same : k ≡ suc j = cc in ap (λ n. slot n (c ∷ cs)) same ∙ ih j refl
+looked_up x (Some y ∷ ps) (c ∷ cs) k e h = by (bytes_eq y x) (slot_named x ps) (λ j g. looked_up x ps cs j g (omega arith)) e
+  where
+    by : (b : Bool) (f : Option ℕ) → ((j : ℕ) → f ≡ Some j → slot j cs ≡ lookup x (env_of ps cs)) → found_at b f ≡ Some k → slot k (c ∷ cs) ≡ if b then c.val else lookup x (env_of ps cs)
+    by true f ih e = let same : k ≡ 0 = cc in ap (λ n. slot n (c ∷ cs)) same
+    by false None ih e = cc
+    by false (Some j) ih e = let same : k ≡ suc j = cc in ap (λ n. slot n (c ∷ cs)) same ∙ ih j refl
+
+looked_none : (x : List ℕ) (lay : Layout) (cs : List Cell) → slot_named x lay ≡ None → lookup x (env_of lay cs) ≡ nothing
+looked_none x [] cs e = refl
+looked_none x (p ∷ ps) [] e = refl
+looked_none x (None ∷ ps) (c ∷ cs) e = by (slot_named x ps) (λ g. looked_none x ps cs g) e
+  where
+    by : (f : Option ℕ) → (f ≡ None → lookup x (env_of ps cs) ≡ nothing) → option_map (λ j. suc j) f ≡ None → lookup x (env_of ps cs) ≡ nothing
+    by None ih e = ih refl
+    by (Some j) ih e = cc
+looked_none x (Some y ∷ ps) (c ∷ cs) e = by (bytes_eq y x) (slot_named x ps) (λ g. looked_none x ps cs g) e
+  where
+    by : (b : Bool) (f : Option ℕ) → (f ≡ None → lookup x (env_of ps cs) ≡ nothing) → found_at b f ≡ None → (if b then c.val else lookup x (env_of ps cs)) ≡ nothing
+    by true f ih e = cc
+    by false None ih e = ih refl
+    by false (Some j) ih e = cc
+
+pub slots-are : (lay : Layout) (cs : List Cell) → length lay ≤ length cs → Slots 0 lay cs (env_of lay cs)
+slots-are lay cs h = record {
+  found = λ x k e. (let same : 0 + k ≡ k = omega arith in ap (λ n. slot n cs) same ∙ looked_up x lay cs k e h);
+  none = λ x e. looked_none x lay cs e;
+}
+
+-- a write to the slot is the assignment
+pub stored : (x : List ℕ) (lay : Layout) (cs : List Cell) (k : ℕ) (v : Value) → slot_named x lay ≡ Some k → length lay ≤ length cs → env_of lay (set cs k (fresh v)) ≡ assigned x v (env_of lay cs)
+stored x [] cs k v e h = cc
+stored x (p ∷ ps) [] k v e h = absurd (omega arith)
+stored x (None ∷ ps) (c ∷ cs) k v e h = by (slot_named x ps) (λ j g. stored x ps cs j v g (omega arith)) e
+  where
+    by : (f : Option ℕ) → ((j : ℕ) → f ≡ Some j → env_of ps (set cs j (fresh v)) ≡ assigned x v (env_of ps cs)) → option_map (λ j. suc j) f ≡ Some k → env_of (None ∷ ps) (set (c ∷ cs) k (fresh v)) ≡ assigned x v (env_of ps cs)
+    by None ih e = cc
+    by (Some j) ih e = let same : k ≡ suc j = cc in ap (λ n. env_of (None ∷ ps) (set (c ∷ cs) n (fresh v))) same ∙ ih j refl
+stored x (Some y ∷ ps) (c ∷ cs) k v e h = by (bytes_eq y x) (slot_named x ps) (λ j g. stored x ps cs j v g (omega arith)) e
+  where
+    by : (b : Bool) (f : Option ℕ) → ((j : ℕ) → f ≡ Some j → env_of ps (set cs j (fresh v)) ≡ assigned x v (env_of ps cs)) → found_at b f ≡ Some k
+        → env_of (Some y ∷ ps) (set (c ∷ cs) k (fresh v)) ≡ if b then (y, v) ∷ env_of ps cs else (y, c.val) ∷ assigned x v (env_of ps cs)
+    by true f ih e = let same : k ≡ 0 = cc in ap (λ n. env_of (Some y ∷ ps) (set (c ∷ cs) n (fresh v))) same
+    by false None ih e = cc
+    by false (Some j) ih e = let same : k ≡ suc j = cc in ap (λ n. env_of (Some y ∷ ps) (set (c ∷ cs) n (fresh v))) same ∙ ap (λ t. (y, c.val) ∷ t) (ih j refl)
+
+pub stored-none : (x : List ℕ) (lay : Layout) (cs : List Cell) (v : Value) → slot_named x lay ≡ None → assigned x v (env_of lay cs) ≡ env_of lay cs
+stored-none x [] cs v e = refl
+stored-none x (p ∷ ps) [] v e = refl
+stored-none x (None ∷ ps) (c ∷ cs) v e = by (slot_named x ps) (λ g. stored-none x ps cs v g) e
+  where
+    by : (f : Option ℕ) → (f ≡ None → assigned x v (env_of ps cs) ≡ env_of ps cs) → option_map (λ j. suc j) f ≡ None → assigned x v (env_of ps cs) ≡ env_of ps cs
+    by None ih e = ih refl
+    by (Some j) ih e = cc
+stored-none x (Some y ∷ ps) (c ∷ cs) v e = by (bytes_eq y x) (slot_named x ps) (λ g. stored-none x ps cs v g) e
+  where
+    by : (b : Bool) (f : Option ℕ) → (f ≡ None → assigned x v (env_of ps cs) ≡ env_of ps cs) → found_at b f ≡ None
+        → (let r : Environment = if b then (y, v) ∷ env_of ps cs else (y, c.val) ∷ assigned x v (env_of ps cs) in r) ≡ (y, c.val) ∷ env_of ps cs
+    by true f ih e = cc
+    by false None ih e = ap (λ t. (y, c.val) ∷ t) (ih refl)
+    by false (Some j) ih e = cc
+
+-- which leaves the other cells
+pub frame-set : (x : List ℕ) (lay : Layout) (cs : List Cell) (k : ℕ) (d : Cell) → slot_named x lay ≡ Some k → length lay ≤ length cs → frame_of lay (set cs k d) ≡ frame_of lay cs
+frame-set x [] cs k d e h = cc
+frame-set x (p ∷ ps) [] k d e h = absurd (omega arith)
+frame-set x (None ∷ ps) (c ∷ cs) k d e h = by (slot_named x ps) (λ j g. frame-set x ps cs j d g (omega arith)) e
+  where
+    by : (f : Option ℕ) → ((j : ℕ) → f ≡ Some j → frame_of ps (set cs j d) ≡ frame_of ps cs) → option_map (λ j. suc j) f ≡ Some k → frame_of (None ∷ ps) (set (c ∷ cs) k d) ≡ Some c ∷ frame_of ps cs
+    by None ih e = cc
+    by (Some j) ih e = let same : k ≡ suc j = cc in ap (λ n. frame_of (None ∷ ps) (set (c ∷ cs) n d)) same ∙ ap (λ t. Some c ∷ t) (ih j refl)
+frame-set x (Some y ∷ ps) (c ∷ cs) k d e h = by (bytes_eq y x) (slot_named x ps) (λ j g. frame-set x ps cs j d g (omega arith)) e
+  where
+    by : (b : Bool) (f : Option ℕ) → ((j : ℕ) → f ≡ Some j → frame_of ps (set cs j d) ≡ frame_of ps cs) → found_at b f ≡ Some k → frame_of (Some y ∷ ps) (set (c ∷ cs) k d) ≡ None ∷ frame_of ps cs
+    by true f ih e = let same : k ≡ 0 = cc in ap (λ n. frame_of (Some y ∷ ps) (set (c ∷ cs) n d)) same
+    by false None ih e = cc
+    by false (Some j) ih e = let same : k ≡ suc j = cc in ap (λ n. frame_of (Some y ∷ ps) (set (c ∷ cs) n d)) same ∙ ap (λ t. None ∷ t) (ih j refl)
+
+length-below : (cs : List Cell) → length (below cs) ≡ length cs
+length-below [] = refl
+length-below (c ∷ cs) = ap suc (length-below cs)
+
+pub length-frame : (lay : Layout) (cs : List Cell) → length lay ≤ length cs → length (frame_of lay cs) ≡ length cs
+length-frame [] cs h = length-below cs
+length-frame (p ∷ ps) [] h = absurd (omega arith)
+length-frame (None ∷ ps) (c ∷ cs) h = ap suc (length-frame ps cs (omega arith))
+length-frame (Some x ∷ ps) (c ∷ cs) h = ap suc (length-frame ps cs (omega arith))
+
+pub length-env : (lay : Layout) (cs : List Cell) → length lay ≤ length cs → length (env_of lay cs) ≡ named lay
+length-env [] cs h = refl
+length-env (p ∷ ps) [] h = absurd (omega arith)
+length-env (None ∷ ps) (c ∷ cs) h = length-env ps cs (omega arith)
+length-env (Some x ∷ ps) (c ∷ cs) h = ap suc (length-env ps cs (omega arith))
+
+-- the newest so many cells are those of a layout above another
+pub record Over (n : ℕ) (big lay : Layout) : Type 0 where
+  pub rest : drop n big ≡ lay
+  pub size : n + length lay ≡ length big
+
+pub named-less : (n : ℕ) (big lay : Layout) → Over n big lay → named lay ≤ named big
+named-less zero big lay o = let same : named big ≡ named lay = ap named o.rest in omega arith
+named-less (suc n) [] lay o = let size = o.size in absurd (omega arith)
+named-less (suc n) (None ∷ big) lay o = let size = o.size in named-less n big lay (record { rest = o.rest; size = omega arith })
+named-less (suc n) (Some x ∷ big) lay o = let size = o.size in let less = named-less n big lay (record { rest = o.rest; size = omega arith }) in omega arith
+
+-- to drop the newer cells is to cut the environment
+pub cut-drop : (n : ℕ) (big lay : Layout) (cs : List Cell) → Over n big lay → length big ≤ length cs → oldest (named lay) (env_of big cs) ≡ env_of lay (drop n cs)
+cut-drop zero big lay cs o h =
+    let e : length (env_of big cs) - named lay ≡ 0 = (let long = length-env big cs h in let same : named big ≡ named lay = ap named o.rest in omega arith) in
+    ap (λ n. drop n (env_of big cs)) e ∙ ap (λ l. env_of l cs) o.rest
+cut-drop (suc n) [] lay cs o h = let size = o.size in absurd (omega arith)
+cut-drop (suc n) (p ∷ big) lay [] o h = absurd (omega arith)
+cut-drop (suc n) (None ∷ big) lay (c ∷ cs) o h = let size = o.size in cut-drop n big lay cs (record { rest = o.rest; size = omega arith }) (omega arith)
+cut-drop (suc n) (Some x ∷ big) lay (c ∷ cs) o h =
+    let size = o.size in
+    let less : Over n big lay = record { rest = o.rest; size = omega arith } in
+    let one : suc (length (env_of big cs)) - named lay ≡ suc (length (env_of big cs) - named lay) = (let long = length-env big cs (omega arith) in let few = named-less n big lay less in omega arith) in
+    ap (λ n. drop n ((x, c.val) ∷ env_of big cs)) one ∙ cut-drop n big lay cs less (omega arith)
+
+pub frame-drop : (n : ℕ) (big lay : Layout) (cs : List Cell) → Over n big lay → length big ≤ length cs → frame_of lay (drop n cs) ≡ drop n (frame_of big cs)
+frame-drop zero big lay cs o h = ap (λ l. frame_of l cs) (sym o.rest)
+frame-drop (suc n) [] lay cs o h = let size = o.size in absurd (omega arith)
+frame-drop (suc n) (p ∷ big) lay [] o h = absurd (omega arith)
+frame-drop (suc n) (None ∷ big) lay (c ∷ cs) o h = let size = o.size in frame-drop n big lay cs (record { rest = o.rest; size = omega arith }) (omega arith)
+frame-drop (suc n) (Some x ∷ big) lay (c ∷ cs) o h = let size = o.size in frame-drop n big lay cs (record { rest = o.rest; size = omega arith }) (omega arith)
+
+-- all of a layout, and one above another that is above a third
+pub over-none : (lay : Layout) → Over 0 lay lay
+over-none lay = record { rest = refl; size = omega arith }
+
+pub over-all : (n m : ℕ) (big mid lay : Layout) → Over n big mid → Over m mid lay → Over (m + n) big lay
+over-all n m big mid lay o p =
+    let a = o.size in
+    let b = p.size in
+    let sum : n + m ≡ m + n = omega arith in
+    record { rest = sym (drop-drop m n big ∙ ap (λ k. drop k big) sum) ∙ ap (drop m) o.rest ∙ p.rest; size = omega arith }
+
+pub frame-all : (n m : ℕ) (gr mid fr : Frame) → drop n gr ≡ mid → drop m mid ≡ fr → drop (m + n) gr ≡ fr
+frame-all n m gr mid fr a b =
+    let sum : n + m ≡ m + n = omega arith in
+    sym (drop-drop m n gr ∙ ap (λ k. drop k gr) sum) ∙ ap (drop m) a ∙ b
+
+-- what is bound
+pub over-binding : (b : Binding) (lay : Layout) → Over (declared_count b) (bound_on b lay) lay
+over-binding unbound lay = over-none lay
+over-binding (declare x) lay = record { rest = refl; size = omega arith }
+over-binding (assign x) lay = over-none lay
+over-binding (declare_pair k x) lay = record { rest = refl; size = omega arith }
+
+pub frame-binding : (b : Binding) (fr : Frame) → drop (declared_count b) (bound_in b fr) ≡ fr
+frame-binding unbound fr = refl
+frame-binding _ fr = refl
+
+-- what a node leaves
+over-node : (n : NodeKind) (lay : Layout) → Over (left_behind n) (grown n lay) lay
+over-node (action h) lay = over-binding h.binding lay
+over-node _ lay = over-none lay
+
+frame-node : (n : NodeKind) (fr : Frame) → drop (left_behind n) (grown_in n fr) ≡ fr
+frame-node (action h) fr = frame-binding h.binding fr
+frame-node _ fr = refl
+
+pub over-grown : (ns : Nodes) (lay : Layout) → Over (declared_in ns) (all_grown ns lay) lay
+over-grown tree.none lay = over-none lay
+over-grown (tree.then line n ns) lay = over-all (declared_in ns) (left_behind n) (all_grown ns (grown n lay)) (grown n lay) lay (over-grown ns (grown n lay)) (over-node n lay)
+
+pub frame-grown : (ns : Nodes) (fr : Frame) → drop (declared_in ns) (all_grown_in ns fr) ≡ fr
+frame-grown tree.none fr = refl
+frame-grown (tree.then line n ns) fr = frame-all (declared_in ns) (left_behind n) (all_grown_in ns (grown_in n fr)) (grown_in n fr) fr (frame-grown ns (grown_in n fr)) (frame-node n fr)
+
+-- .. and nodes above what a header binds
+pub over-bound : (b : Binding) (ns : Nodes) (lay : Layout) → Over (declared_count b + declared_in ns) (all_grown ns (bound_on b lay)) lay
+over-bound b ns lay = over-all (declared_in ns) (declared_count b) (all_grown ns (bound_on b lay)) (bound_on b lay) lay (over-grown ns (bound_on b lay)) (over-binding b lay)
+
+pub frame-bound : (b : Binding) (ns : Nodes) (fr : Frame) → drop (declared_count b + declared_in ns) (all_grown_in ns (bound_in b fr)) ≡ fr
+frame-bound b ns fr = frame-all (declared_in ns) (declared_count b) (all_grown_in ns (bound_in b fr)) (bound_in b fr) fr (frame-grown ns (bound_in b fr)) (frame-binding b fr)
+
+-- what lies under the variables: a cell that a control saves
+pub record First (lay : Layout) (cs : List Cell) (c : Cell) (fr : Frame) : Type 0 where
+  pub rest : List Cell
+  pub cells : cs ≡ c ∷ rest
+  pub frame : frame_of lay rest ≡ fr
+  pub deep : length lay ≤ length rest
+  pub env : env_of (None ∷ lay) cs ≡ env_of lay rest
+
+pub first-saved : (lay : Layout) (cs : List Cell) (c : Cell) (fr : Frame) → frame_of (None ∷ lay) cs ≡ Some c ∷ fr → suc (length lay) ≤ length cs → First lay cs c fr
+first-saved lay [] c fr e h = absurd (omega arith)
+first-saved lay (d ∷ cs) c fr e h = let same : d ≡ c = cc in record { rest = cs; cells = ap (λ x. x ∷ cs) same; frame = ap (drop 1) e; deep = omega arith; env = refl }
+
+-- the cells of a frame of no variables are known
+pub below-same : (cs ds : List Cell) → below cs ≡ below ds → cs ≡ ds
+below-same [] [] e = refl
+below-same [] (d ∷ ds) e = cc
+below-same (c ∷ cs) [] e = cc
+below-same (c ∷ cs) (d ∷ ds) e = let same : c ≡ d = cc in ap (λ x. x ∷ cs) same ∙ ap (λ l. d ∷ l) (below-same cs ds (ap (drop 1) e))

@@ -1,0 +1,128 @@
+-- What an instruction does, by what is found.
+use Rattle.std.proofs.lemmas.Bool.Decides.{nat_tests}
+use Rattle.std.proofs.Common.{arith, ◌≡◌, ◌≢◌, ◌∙◌, ◌+◌, ◌-◌, ◌≤◌, ◌<◌, nat_eq, ℕ, zero, suc, Bool, true, false, List, [], ◌∷◌, length, drop, refl, ap, sym, Option, Some, None}
+use Rattle.std.specs.Prelude.{option_map, slice_get, slice_set}
+use Rattle.tmpl_values.specs.Value.{nothing}
+use Rattle.tmpl_values.specs.Elements.{Element, element_at, elements, item_at}
+use Rattle.tmpl_syntax.specs.Set.{Template}
+use Rattle.tmpl_meaning.specs.Fault.{not_a_range, steps_spent}
+use Rattle.tmpl_code.specs.Instruction as code
+use Rattle.tmpl_run.specs.Cell.{Cell, cell, fresh, slot, slot_cell}
+use Rattle.tmpl_run.specs.State.{Plan, State}
+use Rattle.tmpl_run.specs.Machine.{again, done, elements_for, elements_in, failed, goes, has_more, left_in, onto, opened, paid_if, top, turned, variables_on}
+use Rattle.tmpl_run.proofs.StackLemmas.{ring-is}
+
+-- ---- ranges
+
+no-elements : (o : Option (List Element)) → None ≡ option_map length o → o ≡ None
+no-elements None e = refl
+no-elements (Some es) e = cc
+
+none-element : (o : Option (List Element)) → Some 0 ≡ option_map length o → o ≡ Some []
+none-element None e = cc
+none-element (Some []) e = refl
+none-element (Some (x ∷ xs)) e = let same : 0 ≡ suc (length xs) = cc in absurd (omega arith)
+
+module _ (plan : Plan) (t : Template) (key : Bool) (skip : ℕ) (s : State) (c : Cell) (cs : List Cell) (is : s.cells ≡ c ∷ cs) where
+  pub enter-not : None ≡ option_map length (elements_for key c.val) → done plan t (code.enter key skip) s ≡ failed t s.line not_a_range s
+  enter-not e = ap (λ l. top l (λ c cs. opened plan t skip c cs (elements_for key c.val) s)) is ∙ ap (λ o. opened plan t skip c cs o s) (no-elements (elements_for key c.val) e)
+
+  pub enter-none : Some 0 ≡ option_map length (elements_for key c.val) → done plan t (code.enter key skip) s ≡ onto cs (s.place + 1 + skip) s
+  enter-none e = ap (λ l. top l (λ c cs. opened plan t skip c cs (elements_for key c.val) s)) is ∙ ap (λ o. opened plan t skip c cs o s) (none-element (elements_for key c.val) e)
+
+  -- .. so there is none
+  pub enter-other : Some 0 ≡ option_map length (elements_for key c.val) → elements_for key (slot 0 s.cells) ≡ Some []
+  enter-other e = ap (λ l. elements_for key (slot 0 l)) is ∙ none-element (elements_for key c.val) e
+
+  pub enter-spent : (n : ℕ) → Some n ≡ option_map length (elements_for key c.val) → n ≢ 0 → s.left ≡ 0 → done plan t (code.enter key skip) s ≡ failed t s.line (steps_spent plan.rules.step_limit) s
+  enter-spent n e some left = ap (λ l. top l (λ c cs. opened plan t skip c cs (elements_for key c.val) s)) is ∙ by (elements_for key c.val) e
+    where
+      by : (o : Option (List Element)) → Some n ≡ option_map length o → opened plan t skip c cs o s ≡ failed t s.line (steps_spent plan.rules.step_limit) s
+      by None e = cc
+      by (Some []) e = let same : n ≡ 0 = cc in absurd (some same)
+      by (Some (x ∷ xs)) e = ap (λ b. paid_if b plan t s.line s (λ s. goes (record s { cells = cell s.dot (s.place + 1) ∷ fresh c.val ∷ cs; dot = nothing; place = s.place + 1 }))) (let z : nat_eq s.left 0 ≡ true = grind (arith, nat_tests) in z)
+
+  pub enter-some : (n : ℕ) → Some n ≡ option_map length (elements_for key c.val) → n ≢ 0 → s.left ≢ 0
+      → done plan t (code.enter key skip) s ≡ goes (record s { cells = cell s.dot (s.place + 1) ∷ fresh c.val ∷ cs; dot = nothing; left = s.left - 1; place = s.place + 1 })
+  enter-some n e some left = ap (λ l. top l (λ c cs. opened plan t skip c cs (elements_for key c.val) s)) is ∙ by (elements_for key c.val) e
+    where
+      by : (o : Option (List Element)) → Some n ≡ option_map length o → opened plan t skip c cs o s ≡ goes (record s { cells = cell s.dot (s.place + 1) ∷ fresh c.val ∷ cs; dot = nothing; left = s.left - 1; place = s.place + 1 })
+      by None e = cc
+      by (Some []) e = let same : n ≡ 0 = cc in absurd (some same)
+      by (Some (x ∷ xs)) e = ap (λ b. paid_if b plan t s.line s (λ s. goes (record s { cells = cell s.dot (s.place + 1) ∷ fresh c.val ∷ cs; dot = nothing; place = s.place + 1 }))) (let z : nat_eq s.left 0 ≡ false = grind (arith, nat_tests) in z)
+
+pub ruleset opens = (enter-not, enter-none, enter-other, enter-spent, enter-some)
+
+-- the elements from a place on
+got : (es : List Element) (i : ℕ) (e : Element) → slice_get es i ≡ Some e → drop i es ≡ e ∷ drop (suc i) es
+got [] i e h = cc
+got (x ∷ es) zero e h = let same : x ≡ e = cc in ap (λ y. y ∷ es) same
+got (x ∷ es) (suc i) e h = got es i e h
+
+left-at : (v : Cell) (e : Element) → Some e ≡ item_at v.num v.val → left_in v ≡ e ∷ drop (suc v.num) (elements_in (elements v.val))
+left-at v e h = by (elements v.val) h
+  where
+    by : (o : Option (List Element)) → Some e ≡ element_at v.num o → drop v.num (elements_in o) ≡ e ∷ drop (suc v.num) (elements_in o)
+    by None h = cc
+    by (Some es) h = got es v.num e (sym h)
+
+-- a turn over the cells of a range
+module _ (plan : Plan) (t : Template) (n : ℕ) (s : State) (e : Element) (some : 2 ≤ length s.cells) (is : Some e ≡ item_at (slot_cell 1 s.cells).num (slot_cell 1 s.cells).val) where
+  pub turn-is : done plan t (code.turn n) s ≡ goes (record s { cells = variables_on n e s.cells; dot = e.1; place = s.place + 1 })
+  turn-is = ring-is s.cells (λ d v cs. turned n (left_in v) s) some ∙ ap (λ l. turned n l s) (left-at (slot_cell 1 s.cells) e is)
+
+pub ruleset turns = turn-is
+
+-- behind a turn
+more-left : (v : Cell) → has_more v ≡ true → (e : Element) × (es : List Element) × (drop 1 (left_in v) ≡ e ∷ es)
+more-left v h = by (elements_in (elements v.val)) v.num (grind (arith, nat_tests))
+  where
+    by : (es : List Element) (i : ℕ) → i < length es - 1 → (e : Element) × (more : List Element) × (drop 1 (drop i es) ≡ e ∷ more)
+    by [] i h = absurd (omega arith)
+    by (x ∷ []) i h = absurd (omega arith)
+    by (x ∷ y ∷ es) zero h = (y, es, refl)
+    by (x ∷ y ∷ es) (suc i) h = by (y ∷ es) i (omega arith)
+
+pub none-left : (v : Cell) → has_more v ≡ false → drop 1 (left_in v) ≡ []
+none-left v h = by (elements_in (elements v.val)) v.num (grind (arith, nat_tests))
+  where
+    by : (es : List Element) (i : ℕ) → length es - 1 ≤ i → drop 1 (drop i es) ≡ []
+    by [] zero h = refl
+    by [] (suc i) h = refl
+    by (x ∷ []) zero h = refl
+    by (x ∷ []) (suc zero) h = refl
+    by (x ∷ []) (suc (suc i)) h = refl
+    by (x ∷ y ∷ es) zero h = absurd (omega arith)
+    by (x ∷ y ∷ es) (suc i) h = by (y ∷ es) i (omega arith)
+
+-- the second cell counts something else
+recounted : (cs : List Cell) (k : ℕ) → 2 ≤ length cs → slice_set cs 1 (cell (slot 1 cs) k) ≡ slot_cell 0 cs ∷ cell (slot_cell 1 cs).val k ∷ drop 2 cs
+recounted [] k h = absurd (omega arith)
+recounted (c ∷ []) k h = absurd (omega arith)
+recounted (c ∷ d ∷ cs) k h = refl
+
+module _ (plan : Plan) (t : Template) (n skip line : ℕ) (s : State) (some : 2 ≤ length (drop n s.cells)) where
+  abbrev v : Cell
+  v = slot_cell 1 (drop n s.cells)
+
+  abbrev d : Cell
+  d = slot_cell 0 (drop n s.cells)
+
+  turn-by : (es : List Element) → drop 1 (left_in v) ≡ es → done plan t (code.next n skip line) s ≡ again plan t skip line d v (drop 2 (drop n s.cells)) es s
+  turn-by es e = ring-is (drop n s.cells) (λ d v cs. again plan t skip line d v cs (drop 1 (left_in v)) s) some ∙ ap (λ l. again plan t skip line d v (drop 2 (drop n s.cells)) l s) e
+
+  pub next-over : has_more (slot_cell 1 (drop n s.cells)) ≡ false → done plan t (code.next n skip line) s ≡ goes (record s { cells = drop 2 (drop n s.cells); dot = (slot_cell 0 (drop n s.cells)).val; place = s.place + 1 + skip })
+  next-over h = turn-by [] (none-left v h)
+
+  pub next-spent : has_more (slot_cell 1 (drop n s.cells)) ≡ true → s.left ≡ 0 → done plan t (code.next n skip line) s ≡ failed t line (steps_spent plan.rules.step_limit) s
+  next-spent h left = let more = more-left v h in
+      turn-by (more.0 ∷ more.1) more.2 ∙ ap (λ b. paid_if b plan t line s (λ u. onto (d ∷ cell v.val (suc v.num) ∷ drop 2 (drop n s.cells)) d.num u)) (let z : nat_eq s.left 0 ≡ true = grind (arith, nat_tests) in z)
+
+  pub next-more : has_more (slot_cell 1 (drop n s.cells)) ≡ true → s.left ≢ 0
+      → done plan t (code.next n skip line) s ≡ goes (record s { cells = slice_set (drop n s.cells) 1 (cell (slot 1 (drop n s.cells)) ((slot_cell 1 (drop n s.cells)).num + 1)); left = s.left - 1; line = line; place = (slot_cell 0 (drop n s.cells)).num })
+  next-more h left = let more = more-left v h in let one : suc v.num ≡ v.num + 1 = omega arith in
+      turn-by (more.0 ∷ more.1) more.2 ∙ ap (λ b. paid_if b plan t line s (λ u. onto (d ∷ cell v.val (suc v.num) ∷ drop 2 (drop n s.cells)) d.num u)) (let z : nat_eq s.left 0 ≡ false = grind (arith, nat_tests) in z)
+      ∙ ap (λ k. goes (record s { cells = d ∷ cell v.val k ∷ drop 2 (drop n s.cells); left = s.left - 1; line = line; place = d.num })) one
+      ∙ ap (λ (cs : List Cell). goes (record s { cells = cs; left = s.left - 1; line = line; place = d.num })) (sym (recounted (drop n s.cells) (v.num + 1) some))
+
+pub ruleset nexts = (next-over, next-spent, next-more)

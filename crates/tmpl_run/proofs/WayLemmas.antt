@@ -1,0 +1,216 @@
+-- How an end is come to from a place, by what the meaning goes on with: it is a function, which says where the run goes on.
+use Rattle.std.proofs.Common.{arith, ◌≡◌, ◌∙◌, ◌+◌, ◌-◌, ◌≤◌, nat_eq, ℕ, zero, suc, Bool, true, false, List, [], ◌∷◌, length, drop, refl, ap, sym, subst, Option, Some, None, drop-drop, length-drop}
+use Rattle.std.specs.Prelude.{slice_get}
+use Rattle.tmpl_values.specs.Value.{Value}
+use Rattle.tmpl_syntax.specs.Set.{Template}
+use Rattle.tmpl_meaning.specs.Fault.{Fault}
+use Rattle.tmpl_meaning.specs.Pipeline.{Environment}
+use Rattle.tmpl_meaning.specs.Meaning as meaning
+use Rattle.tmpl_meaning.specs.Meaning.{Calls, End, Next, Ran, Run, Setting, oldest, on_end, scoped, setting_of, spend_if}
+use Rattle.tmpl_code.specs.Instruction as code
+use Rattle.tmpl_code.specs.Instruction.{Instruction}
+use Rattle.tmpl_code.specs.Layout.{Layout, first_layout}
+use Rattle.tmpl_code.specs.Code.{Around, Code, EndAt, Exit}
+use Rattle.tmpl_run.specs.Cell.{Cell, cell}
+use Rattle.tmpl_run.specs.State.{Plan, State}
+use Rattle.tmpl_run.specs.Machine.{Turn, done, done_in, ended, goes, next_of, onto, paid_if, stuck}
+use Rattle.tmpl_run.specs.Ready.{Has}
+use Rattle.tmpl_run.specs.Ends.{Comes, Ends, IsReady, Leads}
+use Rattle.tmpl_run.proofs.PlaceLemmas.{ahead, ahead-one, here}
+use Rattle.tmpl_run.proofs.SlotLemmas.{Frame, Over, cut-drop, frame-drop, frame_of, named, named-less, run_of}
+
+-- the run as it is seen
+abbrev pub seen : Run → Option Fault → Ran
+seen r w = record { text = r.text; fault = w; made_text = r.made_text }
+
+-- the template that runs, by its number, and how many are inside one another
+pub record Who : Type 0 where
+  pub number : ℕ
+  pub depth : ℕ
+
+abbrev pub who_of : State → Who
+who_of s = record { number = s.template; depth = s.depth }
+
+-- a machine at a place, whose cells are of this layout and frame
+pub record Stands (plan : Plan) (who : Who) (code : Code) (lay : Layout) (fr : Frame) (s : State) : Type 0 where
+  pub at : drop s.place plan.code ≡ code
+  pub runs : who_of s ≡ who
+  pub frame : frame_of lay s.cells ≡ fr
+  pub deep : length lay ≤ length s.cells
+
+-- the turn of a range around: what lies outside of it, what its cells hold, and where it goes
+pub record Ring : Type 0 where
+  pub lay : Layout
+  pub frame : Frame
+  pub dot : Value
+  pub place : ℕ
+  pub value : Value
+  pub index : ℕ
+  pub around : Around
+
+abbrev pub exit_of : Option Ring → Exit
+exit_of None = None
+exit_of (Some g) = Some g.around
+
+-- the cells of the range lie under so many
+pub record Within (g : Ring) (lay : Layout) (fr : Frame) : Type 0 where
+  pub n : ℕ
+  pub over : Over n lay (None ∷ None ∷ g.lay)
+  pub cells : drop n fr ≡ Some (cell g.dot g.place) ∷ Some (cell g.value g.index) ∷ g.frame
+  pub depth : g.around.below ≡ length g.lay
+
+-- .. or those of the template
+pub record Rooted (home : Frame) (lay : Layout) (fr : Frame) : Type 0 where
+  pub n : ℕ
+  pub over : Over n lay first_layout
+  pub cells : drop n fr ≡ home
+
+abbrev pub Inside : Frame → Option Ring → Layout → Frame → Type 0
+Inside home None lay fr = Rooted home lay fr
+Inside home (Some g) lay fr = Within g lay fr
+
+abbrev pub cut_to : ℕ → Run → Run
+cut_to n r = record r { env = oldest n r.env }
+
+-- apart from the variables
+abbrev pub bare : Run → Run
+bare r = record r { env = [] }
+
+abbrev pub step_taken : ℕ → State → State
+step_taken line s = record s { left = s.left - 1; line = line; place = s.place + 1 }
+
+pub cut-twice : (m n : ℕ) (r : Run) → m ≤ n → cut_to m (cut_to n r) ≡ cut_to m r
+cut-twice m n r h = ap (λ (v : Environment). record r { env = v }) (oldest-twice r.env)
+  where
+    oldest-twice : (env : Environment) → oldest m (oldest n env) ≡ oldest m env
+    oldest-twice env =
+        let long = short env (length env - n) in
+        let sum : (length env - n) + (length (oldest n env) - m) ≡ length env - m = omega arith in
+        drop-drop (length (oldest n env) - m) (length env - n) env ∙ ap (λ k. drop k env) sum
+      where
+        short : (env : Environment) (k : ℕ) → length (drop k env) ≡ length env - k
+        short env zero = let same : length env ≡ length env - 0 = omega arith in same
+        short [] (suc k) = let same : 0 ≡ 0 - suc k = omega arith in same
+        short (v ∷ env) (suc k) = let same : length env - k ≡ suc (length env) - suc k = omega arith in short env k ∙ same
+
+-- one instruction, by where it goes
+pub taken : (plan : Plan) (room : ℕ) (f : Ran) (me : Template) (s : State) (i : Instruction) → slice_get plan.templates s.template ≡ Some me → slice_get plan.code s.place ≡ Some i
+    → Has i (length s.cells) room → Comes (λ t. Ends plan room t f) (done plan me i s) f → Ends plan room s f
+taken plan room f me s i is-me there ready more = by (done plan me i s) refl more
+  where
+    able : IsReady room (slice_get plan.code s.place) s
+    able = subst (λ o. IsReady room o s) (sym there) ready
+
+    next : next_of plan s ≡ done plan me i s
+    next = ap (λ o. done_in plan o (slice_get plan.code s.place) s) is-me ∙ ap (λ o. done_in plan (Some me) o s) there
+
+    by : (t : Turn) → done plan me i s ≡ t → Comes (λ t. Ends plan room t f) t f → Ends plan room s f
+    by (goes t) e h = (suc h.0, (able, subst (λ x. Comes (λ t. Leads plan room h.0 t f) x f) (sym (next ∙ e)) h.1))
+    by (ended r) e h = (1, (able, subst (λ x. Comes (λ t. Leads plan room 0 t f) x f) (sym (next ∙ e)) h))
+    by stuck e h = absurd h
+
+module _ (plan : Plan) (room : ℕ) (f : Ran) (who : Who) (me : Template) (is-me : slice_get plan.templates who.number ≡ Some me) (home : Frame) where
+  pub takes : (s : State) (i : Instruction) (is : Code) → who_of s ≡ who → drop s.place plan.code ≡ i ∷ is → Has i (length s.cells) room → Comes (λ t. Ends plan room t f) (done plan me i s) f → Ends plan room s f
+  takes s i is same at ready more = taken plan room f me s i (ap (λ (w : Who). slice_get plan.templates w.number) same ∙ is-me) (here plan.code is s.place i at) ready more
+
+  -- where a part that is done goes on
+  abbrev pub Onward : Code → Layout → Frame → Value → Run → Type 0
+  Onward rest lay fr d r = (t : State) → Stands plan who rest lay fr t → t.dot ≡ d → run_of lay t ≡ r → Ends plan room t f
+
+  -- the end of a turn: at an instruction that goes to the next
+  pub record Turning (g : Ring) (r : Run) (t : State) : Type 0 where
+    pub n : ℕ
+    pub skip : ℕ
+    pub more : Code
+    pub cs : List Cell
+    pub at : drop t.place plan.code ≡ code.next n skip g.around.line ∷ more
+    pub runs : who_of t ≡ who
+    pub far : drop skip more ≡ g.around.out
+    pub cells : drop n t.cells ≡ cell g.dot g.place ∷ cell g.value g.index ∷ cs
+    pub frame : frame_of g.lay cs ≡ g.frame
+    pub deep : length g.lay ≤ length cs
+    pub run : run_of g.lay (record t { cells = cs }) ≡ r
+
+  -- the end of the template: at an instruction that returns
+  pub record Returning (t : State) : Type 0 where
+    pub n : ℕ
+    pub more : Code
+    pub at : drop t.place plan.code ≡ code.return_from n ∷ more
+    pub runs : who_of t ≡ who
+    pub frame : frame_of first_layout (drop n t.cells) ≡ home
+    pub deep : n + 3 ≤ length t.cells
+
+  abbrev pub Leaves : Run → Type 0
+  Leaves r = (t : State) → Returning t → run_of [] t ≡ bare r → Ends plan room t f
+
+  abbrev pub Broke : Option Ring → Run → Type 0
+  Broke None r = Leaves r
+  Broke (Some g) r = Onward g.around.out g.lay g.frame g.dot (cut_to (named g.lay) r)
+
+  abbrev pub Continues : Option Ring → Run → Type 0
+  Continues None r = Leaves r
+  Continues (Some g) r = (t : State) → Turning g (cut_to (named g.lay) r) t → Ends plan room t f
+
+  abbrev pub Then : (Run → Type 0) → Option Ring → Run → End → Type 0
+  Then Done g r meaning.done = Done r
+  Then Done g r meaning.broke = Broke g r
+  Then Done g r meaning.continued = Continues g r
+  Then Done g r (meaning.faulted w) = seen r (Some w) ≡ f
+
+  -- the meaning leads to this end, where what follows it does
+  abbrev pub After : (Run → Type 0) → Option Ring → Run × End → Type 0
+  After Done g x = Then Done g x.0 x.1
+
+  pub then-map : (A B : Run → Type 0) (g : Option Ring) (r : Run) (e : End) → ((r : Run) → A r → B r) → Then A g r e → Then B g r e
+  then-map A B g r meaning.done h k = h r k
+  then-map A B g r meaning.broke h k = k
+  then-map A B g r meaning.continued h k = k
+  then-map A B g r (meaning.faulted w) h k = k
+
+  pub then-on : (A : Run → Type 0) (g : Option Ring) (r : Run) (e : End) (go : Next) → After A g (on_end e r go) → Then (λ r. After A g (go r)) g r e
+  then-on A g r meaning.done go k = k
+  then-on A g r _ go k = k
+
+  within-less : (g : Ring) (lay : Layout) (fr : Frame) → Within g lay fr → named g.lay ≤ named lay
+  within-less g lay fr w = named-less w.n lay (None ∷ None ∷ g.lay) w.over
+
+  -- out of a scope
+  pub unscope : (A : Run → Type 0) (g : Option Ring) (lay : Layout) (fr : Frame) (n : ℕ) (x : Run × End) → n ≡ named lay → Inside home g lay fr → After A g (scoped n x) → After (λ r. A (cut_to (named lay) r)) g x
+  unscope A g lay fr n x e inside k = by g x.1 inside (subst (λ m. After A g (scoped m x)) e k)
+    where
+      by : (g : Option Ring) (w : End) → Inside home g lay fr → Then A g (cut_to (named lay) x.0) w → Then (λ r. A (cut_to (named lay) r)) g x.0 w
+      by g meaning.done inside k = k
+      by None meaning.broke inside k = k
+      by (Some g) meaning.broke inside k = subst (λ r. Onward g.around.out g.lay g.frame g.dot r) (cut-twice (named g.lay) (named lay) x.0 (within-less g lay fr inside)) k
+      by None meaning.continued inside k = k
+      by (Some g) meaning.continued inside k = subst (λ r. (t : State) → Turning g r t → Ends plan room t f) (cut-twice (named g.lay) (named lay) x.0 (within-less g lay fr inside)) k
+      by g (meaning.faulted w) inside k = k
+
+  -- the step of a node
+  pub spends : (calls : Calls) (A : Run → Type 0) (g : Option Ring) (lay : Layout) (line : ℕ) (is : Code) (s : State) (go : Next) → who_of s ≡ who → drop s.place plan.code ≡ code.spend line ∷ is
+      → After A g (meaning.spend (setting_of plan.rules calls me.0 me.1) line go (run_of lay s)) → (drop (s.place + 1) plan.code ≡ is → After A g (go (run_of lay (step_taken line s))) → Ends plan room (step_taken line s) f) → Ends plan room s f
+  spends calls A g lay line is s go same at k more = takes s (code.spend line) is same at tt (by (nat_eq s.left 0) k)
+    where
+      by : (b : Bool) → After A g (spend_if b (setting_of plan.rules calls me.0 me.1) line go (run_of lay s)) → Comes (λ t. Ends plan room t f) (paid_if b plan me line s (λ s. onto s.cells (s.place + 1) s)) f
+      by true k = k
+      by false k = more (ahead-one plan.code is s.place (code.spend line) at) k
+
+  -- so many cells are forgotten, and a part goes on at this place
+  closed : (n place : ℕ) (end rest : Code) (big lay : Layout) (fr gr : Frame) (d : Value) (r : Run) (s : State) → drop place plan.code ≡ rest → Stands plan who end big gr s → Over n big lay → drop n gr ≡ fr
+      → s.dot ≡ d → run_of big s ≡ r → Onward rest lay fr d (cut_to (named lay) r) → Ends plan room (record s { cells = drop n s.cells; place = place }) f
+  closed n place end rest big lay fr gr d r s at st over under same is k = k (record s { cells = drop n s.cells; place = place })
+      (record { at = at; runs = st.runs; frame = frame-drop n big lay s.cells over st.deep ∙ ap (drop n) st.frame ∙ under; deep = (let size = over.size in let d = st.deep in let l = length-drop n s.cells in omega arith) })
+      same
+      (ap (λ (v : Environment). record (run_of big s) { env = v }) (sym (cut-drop n big lay s.cells over st.deep)) ∙ ap (cut_to (named lay)) is)
+
+  forgets : (n skip : ℕ) (end more rest : Code) (big lay : Layout) (fr gr : Frame) (d : Value) (r : Run) (s : State) → end ≡ code.cut n skip ∷ more → Stands plan who end big gr s → Over n big lay → drop n gr ≡ fr
+      → drop skip more ≡ rest → s.dot ≡ d → run_of big s ≡ r → Onward rest lay fr d (cut_to (named lay) r) → Ends plan room s f
+  forgets n skip end more rest big lay fr gr d r s e st over under far same is k = takes s (code.cut n skip) more st.runs (st.at ∙ e) (omega (arith, over.size, st.deep))
+      (closed n (s.place + 1 + skip) end rest big lay fr gr d r s (ahead plan.code more s.place skip (code.cut n skip) (st.at ∙ e) ∙ far) st over under same is k)
+
+  -- the end of a part
+  pub closes : (n skip : ℕ) (end more rest : Code) (big lay : Layout) (fr gr : Frame) (d : Value) (r : Run) (s : State) → EndAt n skip end more → Stands plan who end big gr s → Over n big lay → drop n gr ≡ fr
+      → drop skip more ≡ rest → s.dot ≡ d → run_of big s ≡ r → Onward rest lay fr d (cut_to (named lay) r) → Ends plan room s f
+  closes zero zero end more rest big lay fr gr d r s e st over under far same is k = closed 0 s.place end rest big lay fr gr d r s (st.at ∙ e ∙ far) st over under same is k
+  closes zero (suc skip) end more rest big lay fr gr d r s e st over under far same is k = forgets 0 (suc skip) end more rest big lay fr gr d r s e st over under far same is k
+  closes (suc n) skip end more rest big lay fr gr d r s e st over under far same is k = forgets (suc n) skip end more rest big lay fr gr d r s e st over under far same is k

@@ -1,0 +1,5 @@
+use Rattle.tmpl_run.proofs.MoveLemmas.{each-lessens}
+use Rattle.tmpl_run.proofs.laws.each_turn_lessens.Goals as goal
+
+pub returns : goal.returns
+returns c = each-lessens

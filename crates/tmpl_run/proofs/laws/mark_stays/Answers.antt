@@ -1,0 +1,5 @@
+use Rattle.tmpl_run.proofs.MoveLemmas.{mark-stays}
+use Rattle.tmpl_run.proofs.laws.mark_stays.Goals as goal
+
+pub returns : goal.returns
+returns c = mark-stays

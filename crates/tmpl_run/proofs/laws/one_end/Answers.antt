@@ -1,0 +1,5 @@
+use Rattle.tmpl_run.proofs.MoveLemmas.{one-end}
+use Rattle.tmpl_run.proofs.laws.one_end.Goals as goal
+
+pub returns : goal.returns
+returns c = one-end

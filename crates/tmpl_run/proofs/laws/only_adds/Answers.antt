@@ -1,0 +1,5 @@
+use Rattle.tmpl_run.proofs.MoveLemmas.{text-begins}
+use Rattle.tmpl_run.proofs.laws.only_adds.Goals as goal
+
+pub returns : goal.returns
+returns c = text-begins

@@ -1,0 +1,5 @@
+use Rattle.tmpl_run.proofs.RoomLemmas.{next-within}
+use Rattle.tmpl_run.proofs.laws.stays_within.Goals as goal
+
+pub returns : goal.returns
+returns c = λ plan size s t end ends within next. next-within size plan s t end ends within next

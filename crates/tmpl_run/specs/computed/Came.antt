@@ -1,0 +1,56 @@
+-- What the loop of a run comes to, before what waits is put out.
+use Rattle.std.specs.Prelude.{◌≡◌, ◌⊎◌, true, false, ℕ, List, [], Option, None, Some, option_map, Result, Ok, Err}
+use Rattle.tmpl_meaning.specs.Meaning.{Ran}
+use Rattle.tmpl_meaning.specs.Sink.{IsPut, Puts}
+use Rattle.tmpl_syntax.specs.Set.{Template}
+use Rattle.tmpl_syntax.specs.Tree.{none}
+use Rattle.tmpl_meaning.specs.View.{cause_of, fault_seen}
+use Rattle.tmpl_meaning.specs.declared.sink.SinkFault.{SinkFault}
+use Rattle.tmpl_run.specs.Laws.{Begins}
+use Rattle.tmpl_run.specs.Machine.{fault_at}
+use Rattle.tmpl_run.specs.computed.Machines.{Told}
+use Rattle.tmpl_run.specs.State.{Plan}
+use Rattle.tmpl_run.specs.declared.halt.Halt.{Halt}
+use Rattle.tmpl_run.specs.declared.halt.Halt.TheVariants as stop
+use Rattle.tmpl_run.specs.declared.fault.RunError.{RunError}
+use Rattle.tmpl_run.specs.declared.fault.RunError.TheVariants as error
+
+-- a template that stands for none
+abbrev pub no_template : Template
+no_template = ([], record { file = []; nodes = none })
+
+-- what is told of a run by this plan that has put nothing out yet
+abbrev pub nothing_told : Plan → Told
+nothing_told plan = record { plan = plan; template = no_template; text = []; made_text = false }
+
+-- a stop in a template at a line
+abbrev pub IsStopped : Option Template → ℕ → Halt → RunError → Type 0
+IsStopped t line (stop.Fault kind) (error.Fault fault) =
+    Some (fault_seen fault) ≡ option_map (λ t. fault_at t line (cause_of kind)) t
+IsStopped t line (stop.Fault kind) error.WriteFailed = ⊥
+IsStopped t line (stop.Fault kind) error.OutOfMemory = ⊥
+IsStopped t line stop.WriteFailed e = e ≡ error.WriteFailed
+IsStopped t line stop.OutOfMemory e = e ≡ error.OutOfMemory
+
+-- the whole text of the end was given, and there is no fault, or this one; or a put failed; or memory was refused,
+-- where text is made, and a beginning was given
+abbrev pub Came : Ran → Puts → Puts → Result (Unit {0}) RunError → Type 0
+Came end before now (Ok u) = IsPut {F = SinkFault} (Ok tt) before now end.text × (end.fault ≡ None)
+Came end before now (Err (error.Fault fault)) =
+    IsPut {F = SinkFault} (Ok tt) before now end.text × (end.fault ≡ Some (fault_seen fault))
+Came end before now (Err error.WriteFailed) = IsPut {F = SinkFault} (Err (record {})) before now end.text
+Came end before now (Err error.OutOfMemory) =
+    (text : List ℕ) × Begins text end.text × IsPut {F = SinkFault} (Ok tt) before now text × (end.made_text ≡ true)
+
+-- what waited was given to the sink, or a put failed
+abbrev pub Flushed : Result (Unit {0}) RunError → Result (Unit {0}) RunError → Puts → Puts → List ℕ → Type 0
+Flushed was r old new rest =
+    ((r ≡ was) × IsPut {F = SinkFault} (Ok tt) old new [] × (rest ≡ []))
+    ⊎ ((r ≡ Err error.WriteFailed) × IsPut {F = SinkFault} (Err (record {})) old new [])
+
+-- .. where a run came to its end or to a fault; else nothing more is put
+abbrev pub Closed : Result (Unit {0}) RunError → Result (Unit {0}) RunError → Puts → Puts → List ℕ → Type 0
+Closed (Ok u) r old new rest = Flushed (Ok u) r old new rest
+Closed (Err (error.Fault fault)) r old new rest = Flushed (Err (error.Fault fault)) r old new rest
+Closed (Err error.WriteFailed) r old new rest = (r ≡ Err error.WriteFailed) × (new ≡ old)
+Closed (Err error.OutOfMemory) r old new rest = (r ≡ Err error.OutOfMemory) × (new ≡ old)

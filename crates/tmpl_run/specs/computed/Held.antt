@@ -1,0 +1,25 @@
+-- What cells stand for, apart from how they are held.
+use Rattle.std.specs.Prelude.{ℕ, zero, suc, Bool, false, List, [], ◌∷◌, map, reverse, take}
+use Rattle.tmpl_values.specs.Value.{nothing}
+use Rattle.tmpl_values.specs.View.{val_of, is_made}
+use Rattle.tmpl_values.specs.declared.value.Cell as held
+use Rattle.tmpl_run.specs.Cell.{Cell, fresh}
+
+abbrev pub cell_of : held.Cell → Cell
+cell_of c = record { val = val_of c.val; num = c.num }
+
+-- the oldest so many of these, the newest first
+abbrev pub cells_in : ℕ → List held.Cell → List Cell
+cells_in top cells = map cell_of (reverse (take top cells))
+
+-- the cell at a place
+abbrev pub cell_at : List held.Cell → ℕ → Cell
+cell_at [] i = fresh nothing
+cell_at (c ∷ cs) zero = cell_of c
+cell_at (c ∷ cs) (suc i) = cell_at cs i
+
+-- whether that holds a made text
+abbrev pub made_at : List held.Cell → ℕ → Bool
+made_at [] i = false
+made_at (c ∷ cs) zero = is_made c.val
+made_at (c ∷ cs) (suc i) = made_at cs i

@@ -1,0 +1,30 @@
+-- Whether a value of a run owns its text. One that does not is taken once more without memory, so a run in which none
+-- does wants none.
+use Rattle.std.specs.Prelude.{◌≡◌, false, take, Result, Ok, Err}
+use Rattle.std.specs.declared.alloc.AllocError.{AllocError}
+use Rattle.tmpl_values.specs.View.{is_made}
+use Rattle.tmpl_funcs.specs.Answer.{AreBorrowed}
+use Rattle.tmpl_run.specs.declared.machine.Machine.{Machine}
+use Rattle.tmpl_run.specs.declared.stack.Stack.{Stack}
+use Rattle.tmpl_run.specs.declared.halt.Halt.{Halt}
+use Rattle.tmpl_run.specs.declared.halt.Halt.TheVariants as stop
+
+-- no live cell holds a made text
+unfoldable pub IsPlainStack : Stack → Type 0
+IsPlainStack s = AreBorrowed (take s.top s.cells.now)
+
+-- .. and dot is none
+abbrev pub IsPlain : Machine → Type 0
+IsPlain m = IsPlainStack m.stack × (is_made m.dot ≡ false)
+
+-- no memory was refused, and this holds
+abbrev pub Spared : {A : Type 0} → Result A AllocError → Type 0 → Type 0
+Spared (Ok a) Holds = Holds
+Spared (Err e) Holds = ⊥
+
+-- .. by an instruction that may stop for another reason
+abbrev pub SparedOr : {A : Type 0} → Result A Halt → Type 0 → Type 0
+SparedOr (Ok a) Holds = Holds
+SparedOr (Err (stop.Fault kind)) Holds = Unit {0}
+SparedOr (Err stop.WriteFailed) Holds = Unit {0}
+SparedOr (Err stop.OutOfMemory) Holds = ⊥

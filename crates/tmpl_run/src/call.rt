@@ -1,0 +1,102 @@
+//! Calls of templates.
+ghost use Rattle.std.specs.Prelude.{◌≡◌, ◌+◌, ◌<◌, ◌≤◌, ◌^◌, None, Some, if◌then◌else◌, length, slice_get};
+ghost use Rattle.tmpl_code.specs.Instruction as code;
+ghost use Rattle.tmpl_run.specs.Machine.{done, ended, goes, ran_so};
+ghost use Rattle.tmpl_run.specs.computed.Machines.{Told, state_of};
+ghost use Rattle.tmpl_run.specs.computed.Plain.{IsPlain, SparedOr};
+ghost use Rattle.tmpl_run.specs.computed.Turned.{Turned, TurnedOr};
+ghost use Rattle.tmpl_run.specs.computed.View.{cells_of, size_of};
+
+use crate::halt::Halt;
+use crate::machine::Machine;
+use std::mem;
+use tmpl_meaning::RunFaultKind;
+use tmpl_values::{Cell, Val};
+
+impl<'m, 'a> Machine<'m, 'a> {
+    /// Looks, before a call at this line, whether a step is left and one more template may be inside the others.
+    #[tactic(auto, using(crate::proofs::CallingLemmas::deepens))]
+    pub(crate) fn deepen(
+        &mut self,
+        step_limit: u64,
+        depth_limit: u32,
+        line: u64,
+    ) -> Result<(), RunFaultKind<'a>>
+        ghost run: { Told }
+        requires steps { run.plan.rules.step_limit ≡ step_limit }
+        requires depths { run.plan.rules.depth_limit ≡ depth_limit }
+        requires place { self.old.place + 1 < 2 ^ 64 }
+        ensures step { Turned run (code.deepen line) (state_of run self.old) (state_of run self.new) result }
+        ensures plain { IsPlain self.old → IsPlain self.new }
+        ensures size { size_of self.new.stack ≡ size_of self.old.stack }
+    {
+        self.line = line;
+        if self.left == 0 {
+            return Err(RunFaultKind::StepsSpent(step_limit));
+        }
+        if self.depth >= depth_limit as u64 {
+            return Err(RunFaultKind::CallsTooDeep(depth_limit));
+        }
+        self.place += 1;
+        Ok(())
+    }
+
+    /// Takes a step and runs the template of this number, whose code starts here, over the newest value.
+    #[tactic(auto, using(crate::proofs::CallingLemmas::invokes))]
+    pub(crate) fn invoke(
+        &mut self,
+        step_limit: u64,
+        number: usize,
+        start: usize,
+    ) -> Result<(), Halt<'a>>
+        ghost run: { Told }
+        requires steps { run.plan.rules.step_limit ≡ step_limit }
+        requires starts { slice_get run.plan.starts number ≡ Some start }
+        requires found { 1 ≤ length (cells_of self.old.stack) }
+        requires room { length (cells_of self.old.stack) + 2 ≤ size_of self.old.stack }
+        requires depth { self.old.depth + 1 < 2 ^ 64 }
+        requires place { self.old.place + 1 < 2 ^ 64 }
+        ensures step { TurnedOr run (code.invoke number) (state_of run self.old) (state_of run self.new) result }
+        ensures plain { IsPlain self.old → SparedOr result (IsPlain self.new) }
+        ensures size { size_of self.new.stack ≡ size_of self.old.stack }
+    {
+        if self.left == 0 {
+            return Err(Halt::Fault(RunFaultKind::StepsSpent(step_limit)));
+        }
+        self.left -= 1;
+        let val = self.stack.take().val.into_shared(self.alloc)?;
+        let outer = mem::replace(&mut self.dot, val.share()?);
+        self.stack.push(outer, self.template as u64);
+        self.stack.push(Val::Nothing, self.place as u64 + 1);
+        self.stack.push(val, 0);
+        self.template = number;
+        self.depth += 1;
+        self.place = start;
+        Ok(())
+    }
+
+    /// Ends a template: forgets so many cells and its own, and goes on where its caller does. Whether the run is over,
+    /// as there is no caller.
+    #[tactic(auto, using(crate::proofs::CallingLemmas::returns))]
+    pub(crate) fn return_from(&mut self, count: usize) -> bool
+        ghost run: { Told }
+        requires found { 1 < self.old.depth → count + 3 ≤ length (cells_of self.old.stack) }
+        ensures step { done run.plan run.template (code.return_from count) (state_of run self.old)
+            ≡ (if result then ended (ran_so (state_of run self.old) None) else goes (state_of run self.new)) }
+        ensures plain { IsPlain self.old → IsPlain self.new }
+        ensures size { size_of self.new.stack ≡ size_of self.old.stack }
+    {
+        if self.depth <= 1 {
+            return true;
+        }
+        self.stack.pop(count);
+        self.stack.pop(1);
+        let back = self.stack.take().num;
+        let Cell { val, num } = self.stack.take();
+        self.replace_dot(val);
+        self.template = num as usize;
+        self.depth -= 1;
+        self.place = back as usize;
+        false
+    }
+}

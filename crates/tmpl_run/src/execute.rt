@@ -1,0 +1,105 @@
+//! One instruction, whichever it is.
+ghost use Rattle.std.specs.Prelude.{◌≡◌, ◌+◌, ◌-◌, ◌<◌, ◌≤◌, ◌^◌, false, length};
+ghost use Rattle.tmpl_meaning.specs.Sink.{IsPut};
+ghost use Rattle.tmpl_code.specs.View.{instruction_of};
+ghost use Rattle.tmpl_run.specs.Laws.{mark_behind};
+ghost use Rattle.tmpl_run.specs.Machine.{done};
+ghost use Rattle.tmpl_run.specs.computed.Machines.{Told, state_of};
+ghost use Rattle.tmpl_run.specs.computed.Output.{Grows, given_of};
+ghost use Rattle.tmpl_run.specs.computed.Plain.{IsPlain, SparedOr};
+ghost use Rattle.tmpl_run.specs.Ready.{Has, Lands};
+ghost use Rattle.tmpl_run.specs.computed.Plan.{plan_of};
+ghost use Rattle.tmpl_run.specs.computed.Turned.{Executed, added, put_by, told_behind};
+ghost use Rattle.tmpl_run.specs.computed.View.{cells_of, size_of};
+
+use crate::flow::Flow;
+use crate::halt::Halt;
+use crate::machine::Machine;
+use crate::operation::fault_for;
+use crate::piece::Piece;
+use tmpl_code::{Instruction, Program};
+use tmpl_meaning::{Options, RunFaultKind, Sink};
+use tmpl_values::Val;
+
+impl<'m, 'a> Machine<'m, 'a> {
+    /// Carries out an instruction. It stands inline in the loop that calls it, which spares its answer the way over
+    /// memory.
+    #[inline(always)]
+    pub(crate) fn execute<S: Sink>(
+        &mut self,
+        program: &Program<'a, '_>,
+        options: &Options,
+        instruction: Instruction<'a>,
+        piece: &mut Piece<'_>,
+        sink: &mut S,
+    ) -> Result<Flow, Halt<'a>>
+        ghost run: { Told }
+        requires plan { run.plan ≡ plan_of options.now program.now }
+        requires place { self.old.place + 1 < 2 ^ 64 }
+        requires depth { self.old.depth + 1 < 2 ^ 64 }
+        requires within { length (cells_of self.old.stack) ≤ size_of self.old.stack }
+        requires ready { Has (instruction_of instruction) (length (cells_of self.old.stack)) (size_of self.old.stack) }
+        requires lands { Lands (done run.plan run.template (instruction_of instruction) (state_of run self.old)) }
+        requires countable { (S.so_far sink.old).failures < 2 ^ 64 - 1 }
+        ensures step { let i = instruction_of instruction.entry in let s = state_of run self.old in
+            Executed run i s (state_of (told_behind i s run) self.new) result }
+        ensures given { IsPut (put_by result) (given_of (S.so_far sink.old) piece.old)
+            (given_of (S.so_far sink.new) piece.new)
+            (added (instruction_of instruction.entry) (state_of run self.old)) }
+        ensures taken { Grows (S.so_far sink.old) (S.so_far sink.new) }
+        ensures plain { mark_behind (instruction_of instruction.entry) run.made_text ≡ false
+            → IsPlain self.old → SparedOr result (IsPlain self.new) }
+        ensures size { size_of self.new.stack ≡ size_of self.old.stack }
+    {
+        match instruction {
+            Instruction::Spend(line) => self.spend(options.steps, line)?,
+            Instruction::Put(bytes) => self.put_bytes(*bytes, piece, sink)?,
+            Instruction::PushNothing => self.give(Val::Nothing),
+            Instruction::PushBool(truth) => self.give(Val::Bool(truth)),
+            Instruction::PushNumber(number) => self.give(Val::Num(number)),
+            Instruction::PushText(text) => self.give(Val::Text(text.as_slice())),
+            Instruction::PushDot => self.push_dot()?,
+            Instruction::PushFields(names) => {
+                self.push_fields(options.missing_key, names.as_slice())?
+            }
+            Instruction::PushSlot(slot) => self.push_slot(slot as usize)?,
+            Instruction::Chain(names) => self.chain(options.missing_key, names.as_slice())?,
+            Instruction::Call { func, count, piped } => self.call(func, count as usize, piped)?,
+            Instruction::Decide { is_or, piped, skip } => self.decide(is_or, piped, skip as usize),
+            Instruction::Settle => self.settle(),
+            Instruction::Refuse(why) => return Err(Halt::Fault(fault_for(why))),
+            Instruction::RefuseTemplate(name) => {
+                return Err(Halt::Fault(RunFaultKind::NoTemplate(name.as_slice())));
+            }
+            Instruction::Show => self.show(piece, sink)?,
+            Instruction::Hold { key } => self.hold(key)?,
+            Instruction::Set(slot) => self.set(slot as usize)?,
+            Instruction::SetDot(slot) => self.set_dot(slot as usize)?,
+            Instruction::Unless { kept, skip } => self.branch(kept, skip as usize),
+            Instruction::With { kept, skip } => self.open_with(kept, skip as usize)?,
+            Instruction::EndWith {
+                count,
+                variables,
+                skip,
+            } => self.close_with(count as usize, variables as usize, skip as usize),
+            Instruction::Drop { count, skip } => self.forget(count as usize, skip as usize),
+            Instruction::Enter { key, skip } => self.open_range(options.steps, key, skip as usize)?,
+            Instruction::Turn(count) => self.turn(count as usize)?,
+            Instruction::Next { count, skip, line } => {
+                self.next(options.steps, count as usize, skip as usize, line as u64)?
+            }
+            Instruction::Leave { count, skip } => self.leave(count as usize, skip as usize),
+            Instruction::Deepen(line) => self.deepen(options.steps, options.depth, line)?,
+            Instruction::Invoke(number) => {
+                let number = number as usize;
+                self.invoke(options.steps, number, program.starts.as_slice()[number])?
+            }
+            Instruction::Return(count) => {
+                if self.return_from(count as usize) {
+                    return Ok(Flow::Over);
+                }
+            }
+        }
+        Ok(Flow::On)
+    }
+}

@@ -1,0 +1,195 @@
+//! Steps of pipelines.
+ghost use Rattle.std.specs.Prelude.{◌≡◌, ◌+◌, ◌-◌, ◌<◌, ◌≤◌, ◌∷◌, ◌^◌, false, length, true};
+ghost use Rattle.tmpl_values.specs.View.{is_made, val_of};
+ghost use Rattle.tmpl_funcs.specs.Func.{is_called, makes_text};
+ghost use Rattle.tmpl_meaning.specs.Pipeline.{decides};
+ghost use Rattle.tmpl_meaning.specs.View.{cause_of};
+ghost use Rattle.tmpl_code.specs.Code.{piped_count};
+ghost use Rattle.tmpl_code.specs.Instruction.{act, call_with, chained, decide, push_dot, push_fields, push_slot};
+ghost use Rattle.tmpl_code.specs.Instruction.{settle};
+ghost use Rattle.tmpl_code.specs.View.{refusal_of};
+ghost use Rattle.tmpl_run.specs.Cell.{fresh, slot};
+ghost use Rattle.tmpl_run.specs.Machine.{done, goes};
+ghost use Rattle.tmpl_run.specs.computed.Machines.{Told, state_of};
+ghost use Rattle.tmpl_run.specs.computed.Plain.{IsPlain, SparedOr};
+ghost use Rattle.tmpl_run.specs.Ready.{Fits};
+ghost use Rattle.tmpl_run.specs.State.{State};
+ghost use Rattle.tmpl_run.specs.Step as pipe;
+ghost use Rattle.tmpl_run.specs.computed.Turned.{TurnedOr, behind};
+ghost use Rattle.tmpl_run.specs.computed.View.{cells_of, size_of};
+
+use crate::halt::Halt;
+use crate::machine::Machine;
+use crate::stack::piped_count;
+use tmpl_code::Refusal;
+use tmpl_funcs::{CallError, CallFault, Func};
+use tmpl_meaning::{MissingKey, RunFaultKind, decides, without_null};
+use tmpl_values::{Bytes, Val};
+
+/// Why a run stops at what the form of a command refuses.
+pub(crate) fn fault_for<'a>(why: Refusal) -> RunFaultKind<'a>
+    ensures { cause_of result ≡ pipe.cause_of (refusal_of why) }
+{
+    match why {
+        Refusal::NotAFunction => RunFaultKind::NotAFunction,
+        Refusal::NilCommand => RunFaultKind::NilCommand,
+        Refusal::WrongCount(func) => RunFaultKind::Call(func, CallFault::WrongCount),
+    }
+}
+
+impl<'m, 'a> Machine<'m, 'a> {
+    /// Puts a value, and goes to the next instruction.
+    pub(crate) fn give(&mut self, val: Val<'a>)
+        ghost run: { Told }
+        requires room { length (cells_of self.old.stack) < size_of self.old.stack }
+        requires place { self.old.place + 1 < 2 ^ 64 }
+        ensures step { state_of run self.new ≡ record (state_of run self.old) {
+          cells = fresh (val_of val.entry) ∷ cells_of self.old.stack;
+          place = self.old.place + 1;
+        } }
+        ensures plain { is_made val.entry ≡ false → IsPlain self.old → IsPlain self.new }
+        ensures size { size_of self.new.stack ≡ size_of self.old.stack }
+    {
+        self.stack.push(val, 0);
+        self.place += 1;
+    }
+
+    /// Puts dot.
+    pub(crate) fn push_dot(&mut self) -> Result<(), Halt<'a>>
+        ghost run: { Told }
+        requires room { length (cells_of self.old.stack) < size_of self.old.stack }
+        requires place { self.old.place + 1 < 2 ^ 64 }
+        ensures step { TurnedOr run (act push_dot) (state_of run self.old) (state_of (behind push_dot run) self.new)
+            result }
+        ensures plain { IsPlain self.old → SparedOr result (IsPlain self.new) }
+        ensures size { size_of self.new.stack ≡ size_of self.old.stack }
+    {
+        let val = self.dot.share()?;
+        self.give(val);
+        Ok(())
+    }
+
+    /// Puts the field of the field of .. of dot, by these names.
+    #[tactic(auto, using(crate::proofs::OperationLemmas::operations))]
+    pub(crate) fn push_fields(
+        &mut self,
+        missing_key: MissingKey,
+        names: &'a [Bytes],
+    ) -> Result<(), Halt<'a>>
+        ghost run: { Told }
+        requires mode { run.plan.rules.missing_key ≡ missing_key }
+        requires room { length (cells_of self.old.stack) < size_of self.old.stack }
+        requires place { self.old.place + 1 < 2 ^ 64 }
+        ensures step { TurnedOr run (act (push_fields names.now)) (state_of run self.old)
+            (state_of (behind (push_fields names.now) run) self.new) result }
+        ensures plain { IsPlain self.old → SparedOr result (IsPlain self.new) }
+        ensures size { size_of self.new.stack ≡ size_of self.old.stack }
+    {
+        let dot = self.dot.share()?;
+        let val = missing_key.chain(dot, names)?;
+        self.give(val);
+        Ok(())
+    }
+
+    /// Puts the value of a slot once more.
+    pub(crate) fn push_slot(&mut self, slot: usize) -> Result<(), Halt<'a>>
+        ghost run: { Told }
+        requires found { slot < length (cells_of self.old.stack) }
+        requires room { length (cells_of self.old.stack) < size_of self.old.stack }
+        requires place { self.old.place + 1 < 2 ^ 64 }
+        ensures step { TurnedOr run (act (push_slot slot)) (state_of run self.old)
+            (state_of (behind (push_slot slot) run) self.new) result }
+        ensures plain { IsPlain self.old → SparedOr result (IsPlain self.new) }
+        ensures size { size_of self.new.stack ≡ size_of self.old.stack }
+    {
+        let val = self.stack.share(slot)?;
+        self.give(val);
+        Ok(())
+    }
+
+    /// Takes the newest value for its field of a field of .., by these names.
+    #[tactic(auto, using(crate::proofs::OperationLemmas::operations))]
+    pub(crate) fn chain(
+        &mut self,
+        missing_key: MissingKey,
+        names: &'a [Bytes],
+    ) -> Result<(), Halt<'a>>
+        ghost run: { Told }
+        requires mode { run.plan.rules.missing_key ≡ missing_key }
+        requires found { 1 ≤ length (cells_of self.old.stack) }
+        requires within { length (cells_of self.old.stack) ≤ size_of self.old.stack }
+        requires place { self.old.place + 1 < 2 ^ 64 }
+        ensures step { TurnedOr run (act (chained names.now)) (state_of run self.old)
+            (state_of (behind (chained names.now) run) self.new) result }
+        ensures plain { IsPlain self.old → SparedOr result (IsPlain self.new) }
+        ensures size { size_of self.new.stack ≡ size_of self.old.stack }
+    {
+        let whole = self.stack.take().val;
+        let val = missing_key.chain(whole, names)?;
+        self.give(val);
+        Ok(())
+    }
+
+    /// Calls a function over the newest so many values, and a piped one, if it lies below them.
+    #[tactic(auto, using(crate::proofs::OperationLemmas::operations))]
+    pub(crate) fn call(&mut self, func: Func, count: usize, piped: bool) -> Result<(), Halt<'a>>
+        ghost run: { Told }
+        requires called { is_called func ≡ true }
+        requires found { count + piped_count piped ≤ length (cells_of self.old.stack) }
+        requires room { length (cells_of self.old.stack) - (count + piped_count piped) < size_of self.old.stack }
+        requires place { self.old.place + 1 < 2 ^ 64 }
+        ensures step { TurnedOr run (act (call_with func count piped)) (state_of run self.old)
+            (state_of (behind (call_with func count piped) run) self.new) result }
+        ensures plain { makes_text func ≡ false → IsPlain self.old → SparedOr result (IsPlain self.new) }
+        ensures size { size_of self.new.stack ≡ size_of self.old.stack }
+    {
+        let alloc = self.alloc;
+        match self.stack.call(alloc, func, count, piped) {
+            Ok(val) => {
+                self.give(val);
+                Ok(())
+            }
+            Err(CallError::Fault(fault)) => Err(Halt::Fault(RunFaultKind::Call(func, fault))),
+            Err(CallError::OutOfMemory) => Err(Halt::OutOfMemory),
+        }
+    }
+
+    /// A value that decides an `or`, or else an `and`, stays, and so many instructions are passed over; a piped one
+    /// below it goes. Another goes.
+    #[tactic(auto, using(crate::proofs::OperationLemmas::operations))]
+    pub(crate) fn decide(&mut self, is_or: bool, piped: bool, skip: usize)
+        ghost run: { Told }
+        requires found { 1 + piped_count piped ≤ length (cells_of self.old.stack) }
+        requires within { length (cells_of self.old.stack) ≤ size_of self.old.stack }
+        requires place { self.old.place + 1 < 2 ^ 64 }
+        requires over { decides is_or (slot 0 (cells_of self.old.stack)) ≡ true → self.old.place + 1 + skip < 2 ^ 64 }
+        ensures step { done run.plan run.template (act (decide is_or piped skip)) (state_of run self.old)
+            ≡ goes (state_of run self.new) }
+        ensures plain { IsPlain self.old → IsPlain self.new }
+        ensures size { size_of self.new.stack ≡ size_of self.old.stack }
+    {
+        let val = self.stack.take().val;
+        self.place += 1;
+        if !decides(is_or, &val) {
+            return;
+        }
+        self.place += skip;
+        self.stack.pop(piped_count(piped));
+        self.stack.push(val, 0);
+    }
+
+    /// A null on top becomes nothing.
+    #[tactic(auto, using(crate::proofs::OperationLemmas::operations))]
+    pub(crate) fn settle(&mut self)
+        ghost run: { Told }
+        requires found { 1 ≤ length (cells_of self.old.stack) }
+        requires within { length (cells_of self.old.stack) ≤ size_of self.old.stack }
+        requires place { self.old.place + 1 < 2 ^ 64 }
+        ensures step { done run.plan run.template (act settle) (state_of run self.old) ≡ goes (state_of run self.new) }
+        ensures plain { IsPlain self.old → IsPlain self.new }
+        ensures size { size_of self.new.stack ≡ size_of self.old.stack }
+    {
+        self.stack.settle();
+        self.place += 1;
+    }
+}

@@ -1,0 +1,159 @@
+//! Memory in which bytes wait for a sink.
+ghost use Rattle.std.specs.Prelude.{◌≡◌, ◌+◌, ◌-◌, ◌<◌, ◌≤◌, ◌++◌, [], drop, false, length, take, true};
+ghost use Rattle.std.specs.Prelude.{Some, None, MatchOption};
+ghost use Rattle.tmpl_values.specs.Text.{text_of};
+ghost use Rattle.tmpl_values.specs.View.{val_of};
+
+use tmpl_values::{Put, Val, put_text};
+
+/// Memory in which bytes wait for a sink, so that it is given many at once.
+#[derive(Drop)]
+pub(crate) struct Piece<'m> {
+    bytes: &'m mut [u8],
+    /// Those before it were given.
+    start: usize,
+    /// Those from it on are free.
+    end: usize,
+    ghost order: { start ≤ end },
+    ghost within: { end ≤ length bytes.now },
+}
+
+impl<'m> Piece<'m> {
+    ghost use Rattle.tmpl_run.specs.computed.Output.{waiting};
+
+    /// Nothing waits.
+    pub(crate) fn new(bytes: &'m mut [u8]) -> Piece<'m>
+        ensures { waiting result ≡ [] }
+    {
+        Piece {
+            bytes,
+            start: 0,
+            end: 0,
+        }
+    }
+
+    /// Whether nothing waits.
+    pub(crate) fn is_empty(&self) -> bool
+        ensures none { result ≡ true → waiting self.now ≡ [] }
+        ensures some { result ≡ false → 0 < length (waiting self.now) }
+    {
+        self.start == self.end
+    }
+
+    /// How many bytes fit behind what waits.
+    pub(crate) fn room(&self) -> usize
+        ensures { result ≡ length self.now.bytes.now - self.now.end }
+    {
+        self.bytes.len() - self.end
+    }
+
+    /// What waits.
+    pub(crate) fn waiting(&self) -> &[u8]
+        ensures { result.now ≡ waiting self.now }
+    {
+        &self.bytes[self.start..self.end]
+    }
+
+    /// The bytes wait behind those that do.
+    pub(crate) fn keep(&mut self, bytes: &[u8])
+        requires { length bytes.now ≤ length self.old.bytes.now - self.old.end }
+        ensures { waiting self.new ≡ waiting self.old ++ bytes.now }
+    {
+        let end = self.end;
+        copy_behind(self.bytes, end, bytes);
+        self.end += bytes.len();
+    }
+
+    /// The text of a value waits behind what does, or it does not fit, and what waits is the same.
+    pub(crate) fn keep_text(&mut self, value: &Val<'_>) -> bool
+        ensures kept { result ≡ true → waiting self.new ≡ waiting self.old ++ text_of (val_of value.now) }
+        ensures same { result ≡ false → waiting self.new ≡ waiting self.old }
+    {
+        let end = self.end;
+        let Some(behind) = copy_text(self.bytes, end, value) else {
+            return false;
+        };
+        self.end = behind;
+        true
+    }
+
+    /// So many of the bytes that waited were given.
+    #[tactic(auto, using(crate::proofs::PieceLemmas::passed))]
+    pub(crate) fn pass(&mut self, count: usize)
+        requires { count ≤ length (waiting self.old) }
+        ensures { waiting self.new ≡ drop count (waiting self.old) }
+    {
+        self.start += count;
+    }
+
+    /// Nothing waits any more, and all the memory is free.
+    pub(crate) fn clear(&mut self)
+        ensures { waiting self.new ≡ [] }
+    {
+        self.start = 0;
+        self.end = 0;
+    }
+}
+
+/// Copies the bytes to behind those before `end`.
+fn copy_behind(all: &mut [u8], end: usize, bytes: &[u8])
+    requires { end + length bytes.now ≤ length all.old }
+    ensures copied { take (end + length bytes.now) all.new ≡ take end all.old ++ bytes.now }
+    ensures size { length all.new ≡ length all.old }
+{
+    let behind = end + bytes.len();
+    all[end..behind].copy_from_slice(bytes);
+}
+
+/// Copies the text of a value to behind the bytes before `end`, and says where it ends, if it fits.
+fn copy_text(all: &mut [u8], end: usize, value: &Val<'_>) -> Option<usize>
+    requires { end ≤ length all.old }
+    ensures copied { MatchOption result (take end all.new ≡ take end all.old)
+        (λ behind. take behind all.new ≡ take end all.old ++ text_of (val_of value.now)) }
+    ensures order { MatchOption result (end ≤ length all.new) (λ behind. end ≤ behind) }
+    ensures within { MatchOption result (end ≤ length all.new) (λ behind. behind ≤ length all.new) }
+{
+    let mut free = Free {
+        bytes: all,
+        end,
+        failures: 0,
+    };
+    match put_text(value, &mut free) {
+        Ok(()) => Some(free.end),
+        Err(Full) => None,
+    }
+}
+
+/// A text does not fit.
+#[derive(Clone, Copy)]
+struct Full;
+
+/// Memory that takes texts behind the bytes before `end`, until one does not fit.
+#[derive(Drop)]
+struct Free<'r> {
+    bytes: &'r mut [u8],
+    end: usize,
+    failures: u64,
+    ghost within: { end ≤ length bytes.now },
+}
+
+impl Put for Free<'_> {
+    type Fault = Full;
+
+    ghost so_far = { λ p. record {
+      bytes = Some (take p.end p.bytes.now);
+      failures = p.failures;
+      through = p.bytes.ghost_name;
+    } };
+
+    fn put(&mut self, bytes: &[u8]) -> Result<(), Full> {
+        let end = self.end;
+        if bytes.len() > self.bytes.len() - end {
+            self.failures += 1;
+            return Err(Full);
+        }
+        copy_behind(self.bytes, end, bytes);
+        self.end += bytes.len();
+        Ok(())
+    }
+}

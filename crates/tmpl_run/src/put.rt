@@ -1,0 +1,66 @@
+//! Instructions that put out bytes.
+ghost use Rattle.std.specs.Prelude.{◌≡◌, ◌+◌, ◌-◌, ◌<◌, ◌≤◌, ◌^◌, ◌++◌, length};
+ghost use Rattle.tmpl_values.specs.Text.{text_of};
+ghost use Rattle.tmpl_meaning.specs.Sink.{IsPut};
+ghost use Rattle.tmpl_code.specs.Instruction as code;
+ghost use Rattle.tmpl_run.specs.Cell.{slot};
+ghost use Rattle.tmpl_run.specs.Machine.{done, goes};
+ghost use Rattle.tmpl_run.specs.computed.Machines.{Told, state_of};
+ghost use Rattle.tmpl_run.specs.computed.Output.{Grows, given_of};
+ghost use Rattle.tmpl_run.specs.computed.Plain.{IsPlain};
+ghost use Rattle.tmpl_run.specs.computed.View.{cells_of, size_of};
+
+use crate::machine::Machine;
+use crate::piece::Piece;
+use tmpl_meaning::{Sink, SinkFault};
+
+impl<'m, 'a> Machine<'m, 'a> {
+    /// Puts out bytes.
+    pub(crate) fn put_bytes<S: Sink>(
+        &mut self,
+        bytes: &[u8],
+        piece: &mut Piece<'_>,
+        sink: &mut S,
+    ) -> Result<(), SinkFault>
+        ghost run: { Told }
+        requires place { self.old.place + 1 < 2 ^ 64 }
+        requires failures { (S.so_far sink.old).failures < 2 ^ 64 - 1 }
+        ensures step { done run.plan run.template (code.put bytes.now) (state_of run self.old)
+            ≡ goes (state_of (record run { text = run.text ++ bytes.now }) self.new) }
+        ensures given { IsPut result (given_of (S.so_far sink.old) piece.old)
+            (given_of (S.so_far sink.new) piece.new) bytes.now }
+        ensures taken { Grows (S.so_far sink.old) (S.so_far sink.new) }
+        ensures plain { IsPlain self.old → IsPlain self.new }
+        ensures size { size_of self.new.stack ≡ size_of self.old.stack }
+    {
+        self.place += 1;
+        piece.put(sink, bytes)
+    }
+
+    /// Takes the newest value, and puts out its text.
+    #[tactic(auto, using(crate::proofs::StackLemmas::tops))]
+    pub(crate) fn show<S: Sink>(
+        &mut self,
+        piece: &mut Piece<'_>,
+        sink: &mut S,
+    ) -> Result<(), SinkFault>
+        ghost run: { Told }
+        requires place { self.old.place + 1 < 2 ^ 64 }
+        requires found { 1 ≤ length (cells_of self.old.stack) }
+        requires failures { (S.so_far sink.old).failures < 2 ^ 64 - 1 }
+        ensures step { done run.plan run.template code.show (state_of run self.old)
+            ≡ goes (state_of (record run {
+              text = run.text ++ text_of (slot 0 (cells_of self.old.stack));
+            }) self.new) }
+        ensures given { IsPut result (given_of (S.so_far sink.old) piece.old) (given_of (S.so_far sink.new) piece.new)
+            (text_of (slot 0 (cells_of self.old.stack))) }
+        ensures taken { Grows (S.so_far sink.old) (S.so_far sink.new) }
+        ensures plain { IsPlain self.old → IsPlain self.new }
+        ensures size { size_of self.new.stack ≡ size_of self.old.stack }
+    {
+        self.place += 1;
+        let put = self.stack.show(piece, sink);
+        self.stack.pop(1);
+        put
+    }
+}

@@ -1,0 +1,174 @@
+//! Ranges.
+ghost use Rattle.std.specs.Prelude.{◌≡◌, ◌+◌, ◌-◌, ◌<◌, ◌≤◌, ◌^◌, [], drop, false, length, option_map, OnOk};
+ghost use Rattle.std.specs.Prelude.{Some, None};
+ghost use Rattle.tmpl_values.specs.Elements.{item_at};
+ghost use Rattle.tmpl_values.specs.View.{is_made, val_of};
+ghost use Rattle.tmpl_code.specs.Instruction as code;
+ghost use Rattle.tmpl_run.specs.Cell.{cell, slot, slot_cell};
+ghost use Rattle.tmpl_run.specs.Machine.{done, elements_for, goes, has_more, variables_on};
+ghost use Rattle.tmpl_run.specs.computed.Machines.{Told, state_of};
+ghost use Rattle.tmpl_run.specs.computed.Plain.{IsPlain, Spared};
+ghost use Rattle.tmpl_run.specs.computed.Turned.{Turned};
+ghost use Rattle.tmpl_run.specs.computed.View.{cells_of, size_of};
+
+use crate::machine::Machine;
+use std::alloc::AllocError;
+use std::mem;
+use tmpl_meaning::{RunFaultKind, element_count, pair_count};
+use tmpl_values::Val;
+
+/// How many elements a range visits of the value, by whether it wants their index or key; none where it may not be
+/// ranged over so.
+fn visited_count(key: bool, value: &Val<'_>) -> Option<u64>
+    ensures { result ≡ option_map length (elements_for key (val_of value.now)) }
+{
+    if key {
+        pair_count(value)
+    } else {
+        element_count(value)
+    }
+}
+
+impl<'m, 'a> Machine<'m, 'a> {
+    /// Opens a range over the newest value and takes a step, or goes on with its other part where it has no element.
+    #[tactic(auto, using(crate::proofs::TurnLemmas::opens))]
+    pub(crate) fn open_range(
+        &mut self,
+        limit: u64,
+        key: bool,
+        skip: usize,
+    ) -> Result<(), RunFaultKind<'a>>
+        ghost run: { Told }
+        requires limit { run.plan.rules.step_limit ≡ limit }
+        requires found { 1 ≤ length (cells_of self.old.stack) }
+        requires room { length (cells_of self.old.stack) < size_of self.old.stack }
+        requires body { self.old.place + 1 < 2 ^ 64 }
+        requires other { elements_for key (slot 0 (cells_of self.old.stack)) ≡ Some []
+            → self.old.place + 1 + skip < 2 ^ 64 }
+        ensures step { Turned run (code.enter key skip) (state_of run self.old) (state_of run self.new) result }
+        ensures plain { IsPlain self.old → IsPlain self.new }
+        ensures size { size_of self.new.stack ≡ size_of self.old.stack }
+    {
+        let val = self.stack.take().val;
+        match visited_count(key, &val) {
+            None => Err(RunFaultKind::NotARange),
+            Some(0) => {
+                self.place += 1 + skip;
+                Ok(())
+            }
+            Some(_) => {
+                if self.left == 0 {
+                    return Err(RunFaultKind::StepsSpent(limit));
+                }
+                self.left -= 1;
+                self.place += 1;
+                self.stack.push(val, 0);
+                let outer = mem::replace(&mut self.dot, Val::Nothing);
+                self.stack.push(outer, self.place as u64);
+                Ok(())
+            }
+        }
+    }
+
+    /// The element that the range visits becomes dot, and the values of so many variables.
+    #[tactic(auto, using(crate::proofs::TurnLemmas::turns))]
+    pub(crate) fn turn(&mut self, count: usize) -> Result<(), AllocError>
+        ghost run: { Told }
+        requires found { 2 ≤ length (cells_of self.old.stack) }
+        requires element { item_at (slot_cell 1 (cells_of self.old.stack)).num
+            (slot_cell 1 (cells_of self.old.stack)).val ≡ None → ⊥ }
+        requires room { length (cells_of self.old.stack) + count ≤ size_of self.old.stack }
+        requires place { self.old.place + 1 < 2 ^ 64 }
+        ensures step { OnOk result (done run.plan run.template (code.turn count) (state_of run self.old)
+            ≡ goes (state_of run self.new)) }
+        ensures plain { IsPlain self.old → Spared result (IsPlain self.new) }
+        ensures size { size_of self.new.stack ≡ size_of self.old.stack }
+    {
+        let Some((key, element)) = self.stack.element() else {
+            unreachable!()
+        };
+        self.place += 1;
+        self.declare(count, key, &element)?;
+        self.replace_dot(element);
+        Ok(())
+    }
+
+    /// Puts the values of so many variables, the element above its index or key.
+    fn declare(&mut self, count: usize, key: Val<'a>, element: &Val<'a>) -> Result<(), AllocError>
+        ghost run: { Told }
+        requires { length (cells_of self.old.stack) + count ≤ size_of self.old.stack }
+        ensures step { OnOk result (state_of run self.new ≡ record (state_of run self.old) {
+          cells = variables_on count (val_of key.entry, val_of element.now) (cells_of self.old.stack);
+        }) }
+        ensures plain { is_made key.entry ≡ false → is_made element.now ≡ false
+            → IsPlain self.old → Spared result (IsPlain self.new) }
+        ensures size { size_of self.new.stack ≡ size_of self.old.stack }
+    {
+        match count {
+            0 => {}
+            1 => self.stack.push(element.share()?, 0),
+            _ => {
+                let element = element.share()?;
+                self.stack.push(key, 0);
+                self.stack.push(element, 0);
+            }
+        }
+        Ok(())
+    }
+
+    /// Goes to the next element, which takes a step at this line; where there is none ends the range.
+    #[tactic(auto, using(crate::proofs::TurnLemmas::nexts))]
+    pub(crate) fn next(
+        &mut self,
+        limit: u64,
+        count: usize,
+        skip: usize,
+        line: u64,
+    ) -> Result<(), RunFaultKind<'a>>
+        ghost run: { Told }
+        requires limit { run.plan.rules.step_limit ≡ limit }
+        requires found { count + 2 ≤ length (cells_of self.old.stack) }
+        requires within { length (cells_of self.old.stack) ≤ size_of self.old.stack }
+        requires behind { has_more (slot_cell 1 (drop count (cells_of self.old.stack))) ≡ false
+            → self.old.place + 1 + skip < 2 ^ 64 }
+        ensures step { Turned run (code.next count skip line) (state_of run self.old) (state_of run self.new) result }
+        ensures plain { IsPlain self.old → IsPlain self.new }
+        ensures size { size_of self.new.stack ≡ size_of self.old.stack }
+    {
+        self.stack.pop(count);
+        if !self.stack.has_more() {
+            let outer = self.stack.take().val;
+            self.stack.pop(1);
+            self.replace_dot(outer);
+            self.place += 1 + skip;
+            return Ok(());
+        }
+        self.line = line;
+        if self.left == 0 {
+            return Err(RunFaultKind::StepsSpent(limit));
+        }
+        self.left -= 1;
+        self.place = self.stack.counted(0) as usize;
+        let number = self.stack.counted(1);
+        self.stack.recount(1, number + 1);
+        Ok(())
+    }
+
+    /// Ends the range: forgets so many cells and its own, and takes dot back.
+    #[tactic(auto, using(crate::proofs::StackLemmas::tops))]
+    pub(crate) fn leave(&mut self, count: usize, skip: usize)
+        ghost run: { Told }
+        requires found { count + 2 ≤ length (cells_of self.old.stack) }
+        requires place { self.old.place + 1 + skip < 2 ^ 64 }
+        ensures step { done run.plan run.template (code.leave count skip) (state_of run self.old)
+            ≡ goes (state_of run self.new) }
+        ensures plain { IsPlain self.old → IsPlain self.new }
+        ensures size { size_of self.new.stack ≡ size_of self.old.stack }
+    {
+        self.stack.pop(count);
+        let outer = self.stack.take().val;
+        self.stack.pop(1);
+        self.replace_dot(outer);
+        self.place += 1 + skip;
+    }
+}

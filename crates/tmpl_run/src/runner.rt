@@ -1,0 +1,183 @@
+//! The run of a program, from the start of a template to its end.
+ghost use Rattle.std.specs.Prelude.{◌≡◌, Err, ◌+◌, ◌-◌, ◌<◌, ◌≤◌, ◌^◌, IfSome, [], false, get_or, length};
+ghost use Rattle.std.specs.Prelude.{option_map, slice_get};
+ghost use Rattle.tmpl_values.specs.View.{is_made, val_of, value_of};
+ghost use Rattle.tmpl_syntax.specs.View.{set_view};
+ghost use Rattle.tmpl_meaning.specs.Meaning.{Ran, ran, starting_dot};
+ghost use Rattle.tmpl_meaning.specs.Sink.{sunk};
+ghost use Rattle.tmpl_meaning.specs.View.{rules_of};
+ghost use Rattle.tmpl_code.specs.Program.{IsLinked};
+ghost use Rattle.tmpl_code.specs.Room.{room};
+ghost use Rattle.tmpl_run.specs.computed.Came.{Came, Closed, IsStopped, nothing_told};
+ghost use Rattle.tmpl_run.specs.Ends.{Ends};
+ghost use Rattle.tmpl_run.specs.computed.Machines.{Told, state_of};
+ghost use Rattle.tmpl_run.specs.computed.Output.{Grows, given_of, waiting};
+ghost use Rattle.tmpl_run.specs.computed.Plain.{IsPlain};
+ghost use Rattle.tmpl_run.specs.Run.{IsRun};
+ghost use Rattle.tmpl_run.specs.computed.Plan.{plan_of};
+ghost use Rattle.tmpl_run.specs.State.{starting};
+ghost use Rattle.tmpl_run.specs.computed.View.{cells_of, size_of};
+
+use crate::fault::RunError;
+use crate::flow::Flow;
+use crate::halt::Halt;
+use crate::machine::Machine;
+use crate::piece::Piece;
+use crate::stack::Stack;
+use std::alloc::Global;
+use tmpl_code::{Entry, Program};
+use tmpl_meaning::{Options, RunFault, Sink, without_null};
+use tmpl_values::{Cell, Data, Val};
+
+/// The dot that a run starts with: the data, of which null is nothing; nothing where there is no data.
+fn starting_dot<'a>(data: Option<&'a Data>) -> Val<'a>
+    ensures value { val_of result ≡ starting_dot (option_map (λ d. value_of d.now) «data».entry) }
+    ensures borrowed { is_made result ≡ false }
+{
+    match data {
+        Some(data) => without_null(Val::of(data)),
+        None => Val::Nothing,
+    }
+}
+
+impl<'m, 'a> Machine<'m, 'a> {
+    /// Before the first instruction of a template.
+    fn start(
+        alloc: Global,
+        program: &Program<'a, '_>,
+        entry: Entry,
+        data: Option<&'a Data>,
+        options: &Options,
+        cells: &'m mut [Cell<'a>],
+    ) -> Machine<'m, 'a>
+        requires entry { entry.number < length program.now.starts.items }
+        requires room { 3 ≤ length cells.old }
+        ensures state { let plan = plan_of options.now program.now in state_of (nothing_told plan) result
+            ≡ starting plan entry.number (get_or plan.starts entry.number 0)
+            (starting_dot (option_map (λ d. value_of d.now) «data».entry)) }
+        ensures plain { IsPlain result }
+        ensures size { size_of result.stack ≡ length cells.old }
+    {
+        let mut stack = Stack::new(cells);
+        stack.push(Val::Nothing, 0);
+        stack.push(Val::Nothing, 0);
+        stack.push(starting_dot(data), 0);
+        Machine {
+            alloc,
+            stack,
+            dot: starting_dot(data),
+            left: options.steps,
+            line: 0,
+            template: entry.number,
+            depth: 1,
+            place: program.starts.as_slice()[entry.number],
+        }
+    }
+
+    /// Carries out instructions until the run is over or stops.
+    fn turns<S: Sink>(
+        &mut self,
+        program: &Program<'a, '_>,
+        options: &Options,
+        piece: &mut Piece<'_>,
+        sink: &mut S,
+    ) -> Result<(), RunError<'a>>
+        ghost run: { Told × Ran }
+        requires plan { run.0.plan ≡ plan_of options.now program.now }
+        requires text { run.0.text ≡ [] }
+        requires mark { run.0.made_text ≡ false }
+        requires ends { Ends run.0.plan (size_of self.old.stack) (state_of run.0 self.old) run.1 }
+        requires within { length (cells_of self.old.stack) ≤ size_of self.old.stack }
+        requires plain { IsPlain self.old }
+        requires depth { self.old.depth + self.old.left < 2 ^ 64 - 1 }
+        requires countable { (S.so_far sink.old).failures < 2 ^ 64 - 1 }
+        ensures came { Came run.1 (given_of (S.so_far sink.old) piece.old)
+            (given_of (S.so_far sink.new) piece.new) result }
+        ensures taken { Grows (S.so_far sink.old) (S.so_far sink.new) }
+    {
+        loop {
+            let number = self.template;
+            let instruction = program.instructions.as_slice()[self.place];
+            match self.execute(program, options, instruction, piece, sink) {
+                Ok(Flow::On) => {}
+                Ok(Flow::Over) => return Ok(()),
+                Err(stop) => return Err(error_for(program, number, self.line, stop)),
+            }
+        }
+    }
+}
+
+/// Why a run ends that stops in the template of this number, at this line.
+fn error_for<'a>(
+    program: &Program<'a, '_>,
+    number: usize,
+    line: u64,
+    stop: Halt<'a>,
+) -> RunError<'a>
+    requires { number < length (set_view program.now.set.now) }
+    ensures { IsStopped (slice_get (set_view program.now.set.now) number) line stop.entry result }
+{
+    match stop {
+        Halt::Fault(kind) => {
+            let (template, tree) = program.set.template(number);
+            RunError::Fault(RunFault {
+                file: tree.file.as_slice(),
+                line,
+                template,
+                kind,
+            })
+        }
+        Halt::WriteFailed => RunError::WriteFailed,
+        Halt::OutOfMemory => RunError::OutOfMemory,
+    }
+}
+
+/// Runs a template of a program over data, by these options, and puts its text out.
+///
+/// The cells are all that the run keeps values in, and as many as [`Program::room`] says are enough. What is put out
+/// waits in the piece, of any size, until that is full; it is put out whole where the run ends or stops at a fault of
+/// the template. Memory is taken by the functions that make a text, and for what they made, and by nothing else.
+pub fn run<'a, S: Sink>(
+    alloc: Global,
+    program: &Program<'a, '_>,
+    entry: Entry,
+    data: Option<&'a Data>,
+    options: &Options,
+    cells: &mut [Cell<'a>],
+    piece: &mut [u8],
+    out: &mut S,
+) -> Result<(), RunError<'a>>
+    requires linked { IsLinked program.now }
+    requires entry { entry.number < length (set_view program.now.set.now) }
+    requires room { room options.now.depth (set_view program.now.set.now) ≤ length cells.old }
+    requires countable { (S.so_far out.old).failures < 2 ^ 64 - 1 }
+    ensures { let ts = set_view program.now.set.now in IfSome (slice_get ts entry.number) (λ t.
+        IsRun (ran (rules_of options.now) ts t.0 t.1 (option_map (λ d. value_of d.now) «data».entry))
+        (sunk (S.so_far out.old) (S.so_far out.new)) result) }
+{
+    let mut machine = Machine::start(alloc, program, entry, data, options, cells);
+    let mut piece = Piece::new(piece);
+    let end = machine.turns(program, options, &mut piece, out);
+    close(&mut piece, out, end)
+}
+
+/// Gives the sink what waits, where a run came to its end or to a fault.
+fn close<'a, S: Sink>(
+    piece: &mut Piece<'_>,
+    sink: &mut S,
+    end: Result<(), RunError<'a>>,
+) -> Result<(), RunError<'a>>
+    requires { (end ≡ Err RunError.WriteFailed → ⊥) → (S.so_far sink.old).failures < 2 ^ 64 - 1 }
+    ensures closed { Closed end.entry result (given_of (S.so_far sink.old) piece.old)
+        (given_of (S.so_far sink.new) piece.new) (waiting piece.new) }
+    ensures taken { Grows (S.so_far sink.old) (S.so_far sink.new) }
+{
+    match end {
+        Ok(()) => Ok(piece.flush(sink)?),
+        Err(RunError::Fault(fault)) => {
+            piece.flush(sink)?;
+            Err(RunError::Fault(fault))
+        }
+        Err(error) => Err(error),
+    }
+}

@@ -1,0 +1,410 @@
+//! The stack of a run, in cells that are lent to it.
+ghost use Rattle.std.specs.Prelude.{◌≡◌, ◌+◌, ◌-◌, ◌<◌, ◌≤◌, ◌∷◌, ◌++◌, [], drop, get_or, length, option_map, reverse};
+ghost use Rattle.std.specs.Prelude.{take, false, true, ◌^◌, slice_set, if◌then◌else◌, IfOk, IfSome, IsOkAnd};
+ghost use Rattle.tmpl_values.specs.Elements.{item_at};
+ghost use Rattle.tmpl_values.specs.Value.{nothing};
+ghost use Rattle.tmpl_values.specs.View.{element_of, is_made, val_of};
+ghost use Rattle.tmpl_values.specs.Text.{text_of};
+ghost use Rattle.tmpl_values.specs.Truth.{truth};
+ghost use Rattle.tmpl_funcs.specs.Answer.{AreBorrowed, IsBorrowed};
+ghost use Rattle.tmpl_funcs.specs.Dispatch.{IsCall};
+ghost use Rattle.tmpl_funcs.specs.Func.{is_called, makes_text};
+ghost use Rattle.tmpl_funcs.specs.View.{values_of};
+ghost use Rattle.tmpl_meaning.specs.Pipeline.{without_null};
+ghost use Rattle.tmpl_meaning.specs.Sink.{IsPut};
+ghost use Rattle.tmpl_code.specs.Code.{piped_count};
+ghost use Rattle.tmpl_run.specs.Cell.{cell};
+ghost use Rattle.tmpl_run.specs.Machine.{has_more};
+ghost use Rattle.tmpl_run.specs.computed.Held.{cell_at, cell_of, made_at};
+ghost use Rattle.tmpl_run.specs.computed.Output.{Grows, given_of};
+
+use crate::piece::Piece;
+use std::alloc::{AllocError, Global};
+use tmpl_funcs::{CallError, Func, call};
+use tmpl_meaning::{Sink, SinkFault, element_count};
+use tmpl_values::{Cell, Val};
+
+/// The cells below `top` are live, the newest last.
+#[derive(Drop)]
+pub(crate) struct Stack<'s, 'a> {
+    pub(crate) cells: &'s mut [Cell<'a>],
+    pub(crate) top: usize,
+    ghost within: { top ≤ length cells.now },
+}
+
+impl<'s, 'a> Stack<'s, 'a> {
+    ghost use Rattle.tmpl_run.specs.Cell.{slot, slot_cell, values_in};
+    ghost use Rattle.tmpl_run.specs.computed.Plain.{IsPlainStack, Spared};
+    ghost use Rattle.tmpl_run.specs.computed.View.{cells_of, size_of};
+
+    /// No cell is live.
+    #[tactic(auto, unfolding(crate::specs::computed::View::cells_of))]
+    pub(crate) fn new(cells: &'s mut [Cell<'a>]) -> Stack<'s, 'a>
+        ensures cells { cells_of result ≡ [] }
+        ensures size { size_of result ≡ length cells.old }
+        ensures plain { IsPlainStack result }
+    {
+        Stack { cells, top: 0 }
+    }
+
+    /// Puts a cell.
+    #[tactic(auto, using(crate::proofs::StackLemmas::stacks), unfolding(crate::specs::computed::View::cells_of))]
+    pub(crate) fn push(&mut self, val: Val<'a>, num: u64)
+        requires { length (cells_of self.old) < size_of self.old }
+        ensures cells { cells_of self.new ≡ cell (val_of val.entry) num ∷ cells_of self.old }
+        ensures count { length (cells_of self.new) ≡ length (cells_of self.old) + 1 }
+        ensures size { size_of self.new ≡ size_of self.old }
+        ensures plain { is_made val.entry ≡ false → IsPlainStack self.old → IsPlainStack self.new }
+    {
+        self.cells[self.top] = Cell { val, num };
+        self.top += 1;
+    }
+
+    /// Takes the newest cell.
+    #[tactic(auto, using(crate::proofs::StackLemmas::stacks), unfolding(crate::specs::computed::View::cells_of))]
+    pub(crate) fn take(&mut self) -> Cell<'a>
+        requires { 1 ≤ length (cells_of self.old) }
+        ensures cells { cells_of self.old ≡ cell_of result ∷ cells_of self.new }
+        ensures count { length (cells_of self.old) ≡ length (cells_of self.new) + 1 }
+        ensures size { size_of self.new ≡ size_of self.old }
+        ensures plain { IsPlainStack self.old → (is_made result.val ≡ false) × IsPlainStack self.new }
+    {
+        self.top -= 1;
+        take_at(self.cells, self.top)
+    }
+
+    /// Forgets so many cells.
+    #[tactic(auto, using(crate::proofs::StackLemmas::stacks), unfolding(crate::specs::computed::View::cells_of))]
+    pub(crate) fn pop(&mut self, count: usize)
+        requires { count ≤ length (cells_of self.old) }
+        ensures cells { cells_of self.new ≡ drop count (cells_of self.old) }
+        ensures count { length (cells_of self.old) ≡ length (cells_of self.new) + count }
+        ensures size { size_of self.new ≡ size_of self.old }
+        ensures plain { IsPlainStack self.old → IsPlainStack self.new }
+    {
+        let old = self.top;
+        self.top -= count;
+        clear(self.cells, self.top, old);
+    }
+
+    /// The value of a slot once more.
+    #[tactic(auto, using(crate::proofs::StackLemmas::stacks), unfolding(crate::specs::computed::View::cells_of))]
+    pub(crate) fn share(&mut self, index: usize) -> Result<Val<'a>, AllocError>
+        requires { index < length (cells_of self.old) }
+        ensures cells { cells_of self.new ≡ cells_of self.old }
+        ensures size { size_of self.new ≡ size_of self.old }
+        ensures shared { IfOk result (λ v. val_of v ≡ slot index (cells_of self.old)) }
+        ensures plain { IsPlainStack self.old → Spared result (IsPlainStack self.new) }
+        ensures borrowed { IsPlainStack self.old → IfOk result (λ v. is_made v ≡ false) }
+    {
+        share_at(self.cells, self.top - 1 - index)
+    }
+
+    /// Whether the newest value is not empty.
+    #[tactic(auto, using(crate::proofs::StackLemmas::stacks), unfolding(crate::specs::computed::View::cells_of))]
+    pub(crate) fn holds(&mut self) -> bool
+        requires { 1 ≤ length (cells_of self.old) }
+        ensures cells { cells_of self.new ≡ cells_of self.old }
+        ensures size { size_of self.new ≡ size_of self.old }
+        ensures holds { result ≡ truth (slot 0 (cells_of self.old)) }
+        ensures plain { IsPlainStack self.old → IsPlainStack self.new }
+    {
+        holds_at(self.cells, self.top - 1)
+    }
+
+    /// Puts out the text of the newest value.
+    #[tactic(auto, using(crate::proofs::StackLemmas::stacks), unfolding(crate::specs::computed::View::cells_of))]
+    pub(crate) fn show<S: Sink>(
+        &mut self,
+        piece: &mut Piece<'_>,
+        sink: &mut S,
+    ) -> Result<(), SinkFault>
+        requires found { 1 ≤ length (cells_of self.old) }
+        requires countable { (S.so_far sink.old).failures < 2 ^ 64 - 1 }
+        ensures cells { cells_of self.new ≡ cells_of self.old }
+        ensures size { size_of self.new ≡ size_of self.old }
+        ensures given { IsPut result (given_of (S.so_far sink.old) piece.old) (given_of (S.so_far sink.new) piece.new)
+            (text_of (slot 0 (cells_of self.old))) }
+        ensures taken { Grows (S.so_far sink.old) (S.so_far sink.new) }
+        ensures plain { IsPlainStack self.old → IsPlainStack self.new }
+    {
+        show_at(self.cells, self.top - 1, piece, sink)
+    }
+
+    /// Whether the newest value is a null.
+    #[tactic(auto, using(crate::proofs::StackLemmas::stacks), unfolding(crate::specs::computed::View::cells_of))]
+    pub(crate) fn has_null(&mut self) -> bool
+        requires { 1 ≤ length (cells_of self.old) }
+        ensures cells { cells_of self.new ≡ cells_of self.old }
+        ensures size { size_of self.new ≡ size_of self.old }
+        ensures null { without_null (slot 0 (cells_of self.old))
+            ≡ (if result then nothing else slot 0 (cells_of self.old)) }
+        ensures plain { IsPlainStack self.old → IsPlainStack self.new }
+    {
+        has_null_at(self.cells, self.top - 1)
+    }
+
+    /// What a cell counts.
+    #[tactic(auto, using(crate::proofs::StackLemmas::stacks), unfolding(crate::specs::computed::View::cells_of))]
+    pub(crate) fn counted(&mut self, index: usize) -> u64
+        requires { index < length (cells_of self.old) }
+        ensures cells { cells_of self.new ≡ cells_of self.old }
+        ensures size { size_of self.new ≡ size_of self.old }
+        ensures counted { result ≡ (slot_cell index (cells_of self.old)).num }
+        ensures plain { IsPlainStack self.old → IsPlainStack self.new }
+    {
+        counted_at(self.cells, self.top - 1 - index)
+    }
+
+    /// Changes what a cell counts.
+    #[tactic(auto, using(crate::proofs::StackLemmas::stacks, crate::proofs::StackLemmas::cells), unfolding(crate::specs::computed::View::cells_of))]
+    pub(crate) fn recount(&mut self, index: usize, num: u64)
+        requires { index < length (cells_of self.old) }
+        ensures cells { cells_of self.new
+            ≡ slice_set (cells_of self.old) index (cell (slot index (cells_of self.old)) num) }
+        ensures count { length (cells_of self.new) ≡ length (cells_of self.old) }
+        ensures size { size_of self.new ≡ size_of self.old }
+        ensures plain { IsPlainStack self.old → IsPlainStack self.new }
+    {
+        let at = self.top - 1 - index;
+        self.cells[at].num = num;
+    }
+
+    /// Makes a null on top nothing, and has the newest cell count nothing.
+    pub(crate) fn settle(&mut self)
+        requires { 1 ≤ length (cells_of self.old) }
+        ensures cells { cells_of self.new
+            ≡ slice_set (cells_of self.old) 0 (cell (without_null (slot 0 (cells_of self.old))) 0) }
+        ensures size { size_of self.new ≡ size_of self.old }
+        ensures plain { IsPlainStack self.old → IsPlainStack self.new }
+    {
+        if self.has_null() {
+            self.set(0, Val::Nothing);
+        } else {
+            self.recount(0, 0);
+        }
+    }
+
+    /// Changes the value of a slot.
+    #[tactic(auto, using(crate::proofs::StackLemmas::stacks), unfolding(crate::specs::computed::View::cells_of))]
+    pub(crate) fn set(&mut self, index: usize, val: Val<'a>)
+        requires { index < length (cells_of self.old) }
+        ensures cells { cells_of self.new ≡ slice_set (cells_of self.old) index (cell (val_of val.entry) 0) }
+        ensures count { length (cells_of self.new) ≡ length (cells_of self.old) }
+        ensures size { size_of self.new ≡ size_of self.old }
+        ensures plain { is_made val.entry ≡ false → IsPlainStack self.old → IsPlainStack self.new }
+    {
+        let at = self.top - 1 - index;
+        self.cells[at] = Cell { val, num: 0 };
+    }
+
+    /// The element that a range visits, behind its index or key: the cells of the range are the newest two.
+    #[tactic(auto, using(crate::proofs::StackLemmas::stacks), unfolding(crate::specs::computed::View::cells_of))]
+    pub(crate) fn element(&mut self) -> Option<(Val<'a>, Val<'a>)>
+        requires { 2 ≤ length (cells_of self.old) }
+        ensures cells { cells_of self.new ≡ cells_of self.old }
+        ensures size { size_of self.new ≡ size_of self.old }
+        ensures element { option_map element_of result
+            ≡ item_at (slot_cell 1 (cells_of self.old)).num (slot_cell 1 (cells_of self.old)).val }
+        ensures plain { IsPlainStack self.old → IsPlainStack self.new }
+        ensures borrowed { IfSome result (λ p. (is_made p.0 ≡ false) × (is_made p.1 ≡ false)) }
+    {
+        element_at(self.cells, self.top - 2)
+    }
+
+    /// Whether a range, whose cells are the newest two, has an element behind the one that it visits.
+    #[tactic(auto, using(crate::proofs::StackLemmas::stacks), unfolding(crate::specs::computed::View::cells_of))]
+    pub(crate) fn has_more(&mut self) -> bool
+        requires { 2 ≤ length (cells_of self.old) }
+        ensures cells { cells_of self.new ≡ cells_of self.old }
+        ensures size { size_of self.new ≡ size_of self.old }
+        ensures more { result ≡ has_more (slot_cell 1 (cells_of self.old)) }
+        ensures fits { result ≡ true → (slot_cell 1 (cells_of self.old)).num + 1 < 2 ^ 64 }
+        ensures plain { IsPlainStack self.old → IsPlainStack self.new }
+    {
+        has_more_at(self.cells, self.top - 2)
+    }
+
+    /// What a function gives for the newest so many values, the oldest of them first, and for a piped one behind them,
+    /// if it lies below. Forgets them all.
+    #[tactic(auto, using(crate::proofs::StackLemmas::stacks), unfolding(crate::specs::computed::View::cells_of))]
+    pub(crate) fn call(
+        &mut self,
+        alloc: Global,
+        func: Func,
+        count: usize,
+        piped: bool,
+    ) -> Result<Val<'a>, CallError>
+        requires called { is_called func ≡ true }
+        requires found { count + piped_count piped ≤ length (cells_of self.old) }
+        ensures table { IsCall func (values_in (reverse (take count (cells_of self.old))
+            ++ take (piped_count piped) (drop count (cells_of self.old)))) result }
+        ensures cells { cells_of self.new ≡ drop (count + piped_count piped) (cells_of self.old) }
+        ensures count { length (cells_of self.old) ≡ length (cells_of self.new) + (count + piped_count piped) }
+        ensures size { size_of self.new ≡ size_of self.old }
+        ensures plain { makes_text func ≡ false → IsPlainStack self.old → IsBorrowed result × IsPlainStack self.new }
+    {
+        let below = piped_count(piped);
+        let to = self.top;
+        self.top -= count + below;
+        let result = call_between(self.cells, self.top, to, below, alloc, func);
+        clear(self.cells, self.top, to);
+        result
+    }
+}
+
+/// How many cells a piped value takes.
+pub(crate) fn piped_count(piped: bool) -> usize
+    ensures { result ≡ piped_count piped }
+{
+    usize::from(piped)
+}
+
+/// What a function gives for the values from a place to before another, the lowest so many of them behind the others.
+fn call_between<'a>(
+    cells: &mut [Cell<'a>],
+    from: usize,
+    to: usize,
+    below: usize,
+    alloc: Global,
+    func: Func,
+) -> Result<Val<'a>, CallError>
+    requires called { is_called func ≡ true }
+    requires found { from + below ≤ to }
+    requires within { to ≤ length cells.old }
+    ensures table { let arguments = take (to - from) (drop from cells.old) in
+        IsCall func (values_of (drop below arguments ++ take below arguments)) result }
+    ensures borrowed { makes_text func ≡ false → AreBorrowed (take to cells.old) → IsBorrowed result }
+    ensures left { take from cells.new ≡ take from cells.old }
+    ensures size { length cells.new ≡ length cells.old }
+{
+    let arguments = &mut cells[from..to];
+    arguments.rotate_left(below);
+    call(alloc, func, arguments)
+}
+
+/// The value of a cell once more.
+#[tactic(auto, using(crate::proofs::StackLemmas::cells))]
+fn share_at<'a>(cells: &mut [Cell<'a>], at: usize) -> Result<Val<'a>, AllocError>
+    requires { at < length cells.old }
+    ensures same { cells.new ≡ cells.old }
+    ensures shared { IfOk result (λ v. val_of v ≡ (cell_at cells.old at).val) }
+    ensures borrowed { made_at cells.old at ≡ false → IsOkAnd result (λ v. is_made v ≡ false) }
+{
+    cells[at].val.share()
+}
+
+/// Puts out the text of the value of a cell.
+#[tactic(auto, using(crate::proofs::StackLemmas::cells))]
+fn show_at<S: Sink>(
+    cells: &mut [Cell<'_>],
+    at: usize,
+    piece: &mut Piece<'_>,
+    sink: &mut S,
+) -> Result<(), SinkFault>
+    requires within { at < length cells.old }
+    requires countable { (S.so_far sink.old).failures < 2 ^ 64 - 1 }
+    ensures same { cells.new ≡ cells.old }
+    ensures given { IsPut result (given_of (S.so_far sink.old) piece.old) (given_of (S.so_far sink.new) piece.new)
+        (text_of (cell_at cells.old at).val) }
+    ensures taken { Grows (S.so_far sink.old) (S.so_far sink.new) }
+{
+    let whole = &cells[..];
+    piece.show(sink, &whole[at].val)
+}
+
+/// Whether the value of a cell is a null.
+#[tactic(auto, using(crate::proofs::StackLemmas::cells))]
+fn has_null_at(cells: &mut [Cell<'_>], at: usize) -> bool
+    requires { at < length cells.old }
+    ensures same { cells.new ≡ cells.old }
+    ensures null { without_null (cell_at cells.old at).val
+        ≡ (if result then nothing else (cell_at cells.old at).val) }
+{
+    is_null(&cells[at].val)
+}
+
+fn is_null(value: &Val<'_>) -> bool
+    ensures { without_null (val_of value.now) ≡ (if result then nothing else val_of value.now) }
+{
+    match value {
+        Val::Null => true,
+        _ => false,
+    }
+}
+
+/// What a cell counts.
+#[tactic(auto, using(crate::proofs::StackLemmas::cells))]
+fn counted_at(cells: &mut [Cell<'_>], at: usize) -> u64
+    requires { at < length cells.old }
+    ensures same { cells.new ≡ cells.old }
+    ensures counted { result ≡ (cell_at cells.old at).num }
+{
+    cells[at].num
+}
+
+/// Whether the value of a cell is not empty.
+#[tactic(auto, using(crate::proofs::StackLemmas::cells))]
+fn holds_at(cells: &mut [Cell<'_>], at: usize) -> bool
+    requires { at < length cells.old }
+    ensures same { cells.new ≡ cells.old }
+    ensures holds { result ≡ truth (cell_at cells.old at).val }
+{
+    cells[at].val.truth()
+}
+
+/// The element at the place that a cell counts, of its value.
+#[tactic(auto, using(crate::proofs::StackLemmas::cells))]
+fn element_at<'a>(cells: &mut [Cell<'a>], at: usize) -> Option<(Val<'a>, Val<'a>)>
+    requires { at < length cells.old }
+    ensures same { cells.new ≡ cells.old }
+    ensures element { option_map element_of result ≡ item_at (cell_at cells.old at).num (cell_at cells.old at).val }
+    ensures borrowed { IfSome result (λ p. (is_made p.0 ≡ false) × (is_made p.1 ≡ false)) }
+{
+    let whole = &cells[..];
+    let cell = &whole[at];
+    cell.val.item(cell.num)
+}
+
+/// Whether there is an element behind the place that a cell counts, of its value.
+#[tactic(auto, using(crate::proofs::StackLemmas::cells))]
+fn has_more_at(cells: &mut [Cell<'_>], at: usize) -> bool
+    requires { at < length cells.old }
+    ensures same { cells.new ≡ cells.old }
+    ensures more { result ≡ has_more (cell_at cells.old at) }
+    ensures fits { result ≡ true → (cell_at cells.old at).num + 1 < 2 ^ 64 }
+{
+    let whole = &cells[..];
+    let cell = &whole[at];
+    match element_count(&cell.val) {
+        Some(count) => cell.num < count.saturating_sub(1),
+        None => false,
+    }
+}
+
+/// Takes a cell, and leaves nothing.
+fn take_at<'a>(cells: &mut [Cell<'a>], at: usize) -> Cell<'a>
+    requires { at < length cells.old }
+    ensures took { result ≡ get_or cells.old at result }
+    ensures left { take at cells.new ≡ take at cells.old }
+    ensures size { length cells.new ≡ length cells.old }
+{
+    std::mem::replace(
+        &mut cells[at],
+        Cell {
+            val: Val::Nothing,
+            num: 0,
+        },
+    )
+}
+
+/// Leaves nothing in the cells from a place to before another.
+fn clear(cells: &mut [Cell<'_>], from: usize, to: usize)
+    requires { to ≤ length cells.old }
+    ensures left { take from cells.new ≡ take from cells.old }
+    ensures size { length cells.new ≡ length cells.old }
+{
+    for i in from..to {
+        cells[i].val = Val::Nothing;
+    }
+}

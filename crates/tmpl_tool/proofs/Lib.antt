@@ -1,0 +1,9 @@
+pub mod CommandLemmas
+pub mod LoadLemmas
+pub mod MessageLemmas
+pub mod NumberLemmas
+pub mod ParseLemmas
+pub mod ModeNameLemmas
+pub mod RenderLemmas
+pub mod StageLemmas
+pub mod StopLemmas

@@ -1,0 +1,51 @@
+-- Lines and their pieces, and what is put of them.
+use Rattle.std.proofs.Common.{◌≡◌, ◌∙◌, ◌++◌, ◌+◌, ◌<◌, ℕ, Bool, true, false, List, [], ◌∷◌, Result, refl, ap, sym, drop, get_or, length, append_assoc, codes, inr}
+use Rattle.std.proofs.lemmas.List.{at_drop_more}
+use Rattle.tmpl_values.proofs.PutLemmas.{IsPut-nil}
+use Rattle.tmpl_meaning.specs.Sink.{IsPut, Told, Sunk, Whole, as_puts, sunk}
+use Rattle.tmpl_meaning.specs.declared.sink.SinkFault.{SinkFault}
+use Rattle.tmpl_meaning.proofs.PutLemmas.{counts_once, whole_or_cut}
+use Rattle.tmpl_tool.specs.Outcome.{Answer, BegunIf, Once, Outcome, Says, memory_line}
+use Rattle.tmpl_tool.specs.Part.{Piece, joined, line, piece_text}
+use Rattle.tmpl_tool.specs.Source.{Bytes}
+use Rattle.tmpl_tool.specs.View.{piece_of, pieces_of}
+use Rattle.tmpl_tool.specs.declared.messages.part.Part.{Part}
+
+-- pieces after pieces
+pub joined-append : (ps qs : List Piece) → joined (ps ++ qs) ≡ joined ps ++ joined qs
+joined-append [] qs = refl
+joined-append (p ∷ ps) qs =
+    ap (λ (t : Bytes). piece_text p ++ t) (joined-append ps qs) ∙ sym (append_assoc (piece_text p) (joined ps) (joined qs))
+
+-- one more of the parts
+pub parts-more : (parts : List Part) (i : ℕ) (d : Part) → i < length parts
+    → joined (pieces_of (drop i parts)) ≡ piece_text (piece_of (get_or parts i d)) ++ joined (pieces_of (drop (i + 1) parts))
+parts-more parts i d lt = at_drop_more (λ (ps : List Part). joined (pieces_of ps)) parts i d lt
+
+-- a line in two parts
+pub line-parted : (ps qs : List Piece) → codes "tmpl: " ++ (joined ps ++ (joined qs ++ 10 ∷ [])) ≡ line (ps ++ qs)
+line-parted ps qs =
+    ap (λ (t : Bytes). codes "tmpl: " ++ t)
+    (sym (append_assoc (joined ps) (joined qs) (10 ∷ [])) ∙ ap (λ (t : Bytes). t ++ 10 ∷ []) (sym (joined-append ps qs)))
+
+-- what was put is said
+module _ (before after : Told) (text : Bytes) (r : Result (Unit {0}) SinkFault) (put : IsPut r (as_puts before) (as_puts after) text) where
+  pub put_once : Once before.failures after.failures
+  put_once = counts_once r (as_puts before) (as_puts after) text put
+
+  pub put_says : Says text (sunk before after)
+  put_says = whole_or_cut r (sunk before after) text put
+
+pub ruleset said = (put_once, put_says)
+
+-- nothing is put
+pub nothing_put : (t : Told) → Whole [] (sunk t t)
+nothing_put t = IsPut-nil (as_puts t)
+
+begun_nothing : (made : Bool) (text : Bytes) (t : Told) → BegunIf made text (sunk t t)
+begun_nothing true text t = (refl, ([], text, refl, (nothing_put t).bytes))
+begun_nothing false text t = (refl, refl)
+
+-- memory was refused, and nothing was put
+pub nothing_out : (e : Answer) (t : Told) (err : Sunk) (code : ℕ) → code ≡ 7 → Says memory_line err → Outcome e (sunk t t) err code
+nothing_out e t err code is says = inr (inr (begun_nothing e.made_text e.text t, is, says))

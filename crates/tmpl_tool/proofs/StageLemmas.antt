@@ -1,0 +1,129 @@
+-- For the laws of the command: what it comes to, stage by stage, and that it never comes to the status of refused memory.
+use Rattle.std.proofs.Common.{◌≡◌, ◌≢◌, ◌∙◌, ◌++◌, ◌+◌, add-zero, arith, ℕ, suc, Bool, true, false, List, [], ◌∷◌, length, Option, Some, None, Result, Ok, Err, ap, refl, sym, inl, inr}
+use Rattle.std.specs.Option.{ok_or, option_map_or}
+use Rattle.tmpl_values.specs.Value.{Value}
+use Rattle.tmpl_syntax.specs.Tree.{Tree}
+use Rattle.tmpl_syntax.specs.Set.{Template, tree_named}
+use Rattle.tmpl_meaning.specs.Meaning.{Fault, Ran, ran}
+use Rattle.tmpl_tool.specs.Words.{Wanted, wanted}
+use Rattle.tmpl_tool.specs.Source.{Bytes, Files}
+use Rattle.tmpl_tool.specs.Outcome.{BegunIf}
+use Rattle.tmpl_tool.specs.Laws.{GivesHelp, Prints, RefusesWords, Runs, StopsAtData, StopsAtDataRead, StopsAtFile, StopsAtName, StopsAtRead, TellsFailedWrite, TellsRefusedMemory}
+use Rattle.tmpl_tool.specs.Tool as tool
+use Rattle.tmpl_tool.specs.Tool.{Failing, Parse, Stop, answer_of, asked_by, asked_name, data_found, loaded, or_stop, stop_if, tool_answer, with_file}
+use Rattle.tmpl_tool.specs.computed.Load.{after_print, after_set, after_words, rendered}
+
+module _ (parse : Parse) (words : List Bytes) (files : Files) (fails : Failing) where
+  pub with_words : (r : Result Wanted Stop) → asked_by words ≡ r
+      → tool_answer parse words files fails ≡ answer_of (or_stop r (λ w. after_words parse files w fails))
+  with_words r is = ap (λ r. answer_of (or_stop r (λ w. after_words parse files w fails))) is
+
+  module _ (w : Wanted) (asks : asked_by words ≡ Ok w) where
+    with_files : (r : Result (List Template) Stop) → loaded parse files fails 0 [] w.files ≡ r
+        → tool_answer parse words files fails ≡ answer_of (or_stop r (after_set files fails w))
+    with_files r is = with_words (Ok w) asks ∙ ap (λ r. answer_of (or_stop r (after_set files fails w))) is
+
+    module _ (set : List Template) (loads : loaded parse files fails 0 [] w.files ≡ Ok set) where
+      with_print : (p : Bool) → w.print ≡ p
+          → tool_answer parse words files fails ≡ answer_of (or_stop (stop_if p (tool.printed set)) (λ u. after_print files fails w set))
+      with_print p is = with_files (Ok set) loads ∙ ap (λ p. answer_of (or_stop (stop_if p (tool.printed set)) (λ u. after_print files fails w set))) is
+
+      module _ (is_run : w.print ≡ false) where
+        with_data : (r : Result (Option Value) Stop) → data_found files (fails (length w.files)) w.data_file ≡ r
+            → tool_answer parse words files fails ≡ answer_of (or_stop r (rendered w set))
+        with_data r is = with_print false is_run ∙ ap (λ r. answer_of (or_stop r (rendered w set))) is
+
+        with_name : (input : Option Value) → data_found files (fails (length w.files)) w.data_file ≡ Ok input
+            → (o : Option Tree) → tree_named (asked_name w) set ≡ o
+            → tool_answer parse words files fails
+            ≡ answer_of (or_stop (ok_or o (tool.unnamed (asked_name w))) (λ tree. Ok (ran w.rules set (asked_name w) tree input)))
+        with_name input found o is =
+            with_data (Ok input) found
+            ∙ ap (λ o. answer_of (or_stop (ok_or o (tool.unnamed (asked_name w))) (λ tree. Ok (ran w.rules set (asked_name w) tree input)))) is
+
+pub gives_help : GivesHelp
+gives_help parse words files fails helps =
+    with_words parse words files fails (Err tool.help) (ap (λ b. or_stop (stop_if b tool.help) (λ u. ok_or (wanted words) tool.bad_words)) helps)
+
+pub refuses_words : RefusesWords
+refuses_words parse words files fails helps none =
+    with_words parse words files fails (Err tool.bad_words)
+    (ap (λ b. or_stop (stop_if b tool.help) (λ u. ok_or (wanted words) tool.bad_words)) helps ∙ ap (λ o. ok_or o tool.bad_words) none)
+
+-- the files before a file, and those from it on
+loaded_part : (parse : Parse) (files : Files) (fails : Failing) (k : ℕ) (set : List Template) (before rest : List Bytes)
+    → loaded parse files fails k set (before ++ rest)
+    ≡ or_stop (loaded parse files fails k set before) (λ s. loaded parse files fails (k + length before) s rest)
+loaded_part parse files fails k set [] rest = ap (λ n. loaded parse files fails n set rest) (sym (add-zero k))
+loaded_part parse files fails k set (n ∷ before) rest =
+    parted (with_file parse files (fails k) set n)
+  where
+    moved : suc k + length before ≡ k + suc (length before)
+    moved = omega arith
+
+    parted : (r : Result (List Template) Stop)
+        → or_stop r (λ s. loaded parse files fails (suc k) s (before ++ rest))
+        ≡ or_stop (or_stop r (λ s. loaded parse files fails (suc k) s before)) (λ s. loaded parse files fails (k + suc (length before)) s rest)
+    parted (Ok s) =
+        loaded_part parse files fails (suc k) s before rest
+        ∙ ap (λ n. or_stop (loaded parse files fails (suc k) s before) (λ t. loaded parse files fails n t rest)) moved
+    parted (Err stop) = refl
+
+pub stops_at_file : StopsAtFile
+stops_at_file parse words files fails w asks before name behind is set loads stop refuses =
+    with_files parse words files fails w asks (Err stop)
+    (ap (loaded parse files fails 0 []) is ∙ loaded_part parse files fails 0 [] before (name ∷ behind)
+    ∙ ap (λ r. or_stop r (λ s. loaded parse files fails (0 + length before) s (name ∷ behind))) loads
+    ∙ ap (λ n. or_stop (with_file parse files (fails n) set name) (λ s. loaded parse files fails (suc n) s behind)) (omega arith)
+    ∙ ap (λ r. or_stop r (λ s. loaded parse files fails (suc (length before)) s behind)) refuses)
+
+pub stops_at_read : StopsAtRead
+stops_at_read parse files set name = refl
+
+pub prints : Prints
+prints parse words files fails w set loads is = with_print parse words files fails w loads.0 set loads.1 true is
+
+pub stops_at_data : StopsAtData
+stops_at_data parse words files fails w set goes stop is = with_data parse words files fails w goes.0.0 set goes.0.1 goes.1 (Err stop) is
+
+pub stops_at_data_read : StopsAtDataRead
+stops_at_data_read files name = refl
+
+pub stops_at_name : StopsAtName
+stops_at_name parse words files fails w set goes input found none = with_name parse words files fails w goes.0.0 set goes.0.1 goes.1 input found None none
+
+pub runs : Runs
+runs parse words files fails w set goes input found tree is = with_name parse words files fails w goes.0.0 set goes.0.1 goes.1 input found (Some tree) is
+
+-- ---- the ends
+
+pub tells_failed_write : TellsFailedWrite
+tells_failed_write a out err code (inl exact) rose = absurd (rose (exact.0.count ∙ add-zero out.before.failures))
+tells_failed_write a out err code (inr (inl cut)) rose = (cut.0.count, cut.0, cut.1, cut.2)
+tells_failed_write a out err code (inr (inr refused)) rose = absurd (rose (untouched a.made_text refused.0))
+  where
+    untouched : (made : Bool) → BegunIf made a.text out → out.after.failures ≡ out.before.failures
+    untouched true h = h.0
+    untouched false h = h.0
+
+-- no answer has the status of refused memory
+fault-other : (o : Option Fault) → option_map_or (λ (f : Fault). 1) o 0 ≢ 7
+fault-other None e = omega (arith, e)
+fault-other (Some f) e = omega (arith, e)
+
+stop-other : (s : Stop) → (tool.stop_answer s).status ≢ 7
+stop-other tool.help e = omega (arith, e)
+stop-other _ e = omega (arith, e)
+
+answer-other : (r : Result Ran Stop) → (answer_of r).status ≢ 7
+answer-other (Ok r) = fault-other r.fault
+answer-other (Err s) = stop-other s
+
+pub tells_refused_memory : TellsRefusedMemory
+tells_refused_memory parse words files fails out err code (inl exact) is =
+    absurd (answer-other (or_stop (asked_by words) (λ w. after_words parse files w fails)) (sym exact.1 ∙ is))
+tells_refused_memory parse words files fails out err code (inr (inl cut)) is = absurd (six (sym cut.1 ∙ is))
+  where
+    six : ◌≢◌ {A = ℕ} 6 7
+    six e = omega (arith, e)
+tells_refused_memory parse words files fails out err code (inr (inr refused)) is = (refused.0, refused.2)

@@ -1,0 +1,148 @@
+-- For `tool` and `read_inputs`: the program stops, or goes on, as the definition does.
+use Rattle.std.proofs.Common.{◌≡◌, ◌∙◌, ◌+◌, ◌<◌, ℕ, Bool, true, false, List, [], length, Option, Some, None, Result, Ok, Err, ap, refl, sym, subst, inl, inr, zero-add}
+use Rattle.std.specs.Prelude.{nat_eq, option_map, if◌then◌else◌}
+use Rattle.std.specs.Option.{ok_or}
+use Rattle.std.specs.Result.{result_map_both}
+use Rattle.tmpl_values.specs.Value.{Value}
+use Rattle.tmpl_values.specs.Json.{not_json, not_whole}
+use Rattle.tmpl_syntax.specs.Fault.{Reason, reason_of}
+use Rattle.tmpl_syntax.specs.Set.{Template, tree_named}
+use Rattle.tmpl_syntax.specs.computed.Parse.{parsed}
+use Rattle.tmpl_syntax.specs.declared.fault.ParseFault.{ParseFault}
+use Rattle.tmpl_meaning.specs.Meaning.{ran}
+use Rattle.tmpl_meaning.specs.Sink.{Told, Sunk, Whole, sunk}
+use Rattle.tmpl_tool.specs.Words.{Wanted, wanted}
+use Rattle.tmpl_tool.specs.Help.{asks_help}
+use Rattle.tmpl_tool.specs.Source.{Bytes, Files}
+use Rattle.tmpl_tool.specs.Outcome.{Answer, Outcome, Says}
+use Rattle.tmpl_tool.specs.Tool as tool
+use Rattle.tmpl_tool.specs.Tool.{Failing, Follows, Parse, Stop, answer_of, asked_by, asked_name, data_found, loaded, no_read, or_stop, stop_answer, stop_if, tool_answer}
+use Rattle.tmpl_tool.specs.Inputs.{Counts, StopsAt, data_wanted, inputs_of, refusal_seen, stop_seen}
+use Rattle.tmpl_tool.specs.computed.Load.{after_set, after_words, finished, rendered, said_of}
+use Rattle.tmpl_tool.specs.declared.stop.Stop as held
+use Rattle.tmpl_tool.specs.declared.stop.Stop.TheVariants as stop
+use Rattle.tmpl_tool.proofs.LoadLemmas.{all_succeed, nat_eq-add, other-above}
+use Rattle.tmpl_tool.proofs.MessageLemmas.{nothing_out, nothing_put}
+use Rattle.tmpl_tool.proofs.StageLemmas.{with_words}
+
+-- the data behind a set
+abbrev with_data : List Template → Result (Option Value) Stop → Result (List Template × Option Value) Stop
+with_data set r = result_map_both (λ input. (set, input)) (λ s. s) r
+
+module _ (files : Files) (w : Wanted) where
+  -- a template file stops the program
+  pub load_stops : (s : Option Stop) → StopsAt (λ fails. loaded parsed files fails 0 [] w.files) s → StopsAt (inputs_of parsed files w) s
+  load_stops None h = tt
+  load_stops (Some (tool.unread n)) (k, h) =
+      (k, ap (λ r. or_stop r (λ set. with_data set (data_found files (nat_eq k (length w.files)) (data_wanted w)))) h)
+  load_stops (Some s) h = ap (λ r. or_stop r (λ set. with_data set (data_found files false (data_wanted w)))) h
+
+  module _ (set : List Template) (loads : loaded parsed files no_read 0 [] w.files ≡ Ok set) where
+    -- the templates are read, and the data is next
+    data_next : (fails : Failing) → loaded parsed files fails 0 [] w.files ≡ Ok set → (o : Option Bytes) → data_wanted w ≡ o
+        → inputs_of parsed files w fails ≡ with_data set (data_found files (fails (length w.files)) o)
+    data_next fails all o is =
+        ap (λ r. or_stop r (λ set. with_data set (data_found files (fails (length w.files)) (data_wanted w)))) all
+        ∙ ap (λ o. with_data set (data_found files (fails (length w.files)) o)) is
+
+    -- the set is to be printed, whatever the data is
+    pub printed_next : w.print ≡ true → inputs_of parsed files w no_read ≡ Ok (set, None)
+    printed_next is = data_next no_read loads None (ap (λ p. if p then None else w.data_file) is)
+
+    module _ (runs : w.print ≡ false) where
+      wanted_data : data_wanted w ≡ w.data_file
+      wanted_data = ap (λ p. if p then None else w.data_file) runs
+
+      -- the data stops the program
+      pub data_stops : (s : Option Stop) → StopsAt (λ fails. data_found files (fails 0) w.data_file) s → StopsAt (inputs_of parsed files w) s
+      data_stops None h = tt
+      data_stops (Some (tool.unread n)) (k, h) =
+          let size = length w.files in
+          let fails : Failing = nat_eq (k + size) in (
+            k + size,
+            data_next fails (all_succeed files fails 0 [] w.files (λ j lt. other-above (0 + j) k size (subst (λ i. i < size) (sym (zero-add j)) lt)) ∙ loads) w.data_file wanted_data
+                ∙ ap (λ b. with_data set (data_found files b w.data_file)) (nat_eq-add k size) ∙ ap (with_data set) h,
+          )
+      data_stops (Some s) h = data_next no_read loads w.data_file wanted_data ∙ ap (with_data set) h
+
+      -- nothing stops it
+      pub all_read : (input : Option Value) → data_found files false w.data_file ≡ Ok input → inputs_of parsed files w no_read ≡ Ok (set, input)
+      all_read input found = data_next no_read loads w.data_file wanted_data ∙ ap (with_data set) found
+
+module _ (parse : Parse) (files : Files) (w : Wanted) where
+  -- behind the inputs stands what is done with them
+  behind : (b p : Bool) (set : List Template) (d : Option Bytes)
+      → or_stop (stop_if p (tool.printed set)) (λ u. or_stop (data_found files b d) (rendered w set))
+      ≡ or_stop (with_data set (data_found files b (if p then None else d))) (λ i. or_stop (stop_if p (tool.printed i.0)) (λ u. rendered w i.0 i.1))
+  behind b true set d = refl
+  behind b false set d = found (data_found files b d)
+    where
+      found : (r : Result (Option Value) Stop) → or_stop r (rendered w set) ≡ or_stop (with_data set r) (λ i. rendered w i.0 i.1)
+      found (Ok input) = refl
+      found (Err s) = refl
+
+  pub after_inputs : (fails : Failing) → after_words parse files w fails ≡ or_stop (inputs_of parse files w fails) (λ i. finished w i.0 i.1)
+  after_inputs fails = from (loaded parse files fails 0 [] w.files)
+    where
+      from : (r : Result (List Template) Stop)
+          → or_stop r (after_set files fails w)
+          ≡ or_stop (or_stop r (λ set. with_data set (data_found files (fails (length w.files)) (data_wanted w)))) (λ i. finished w i.0 i.1)
+      from (Ok set) = behind (fails (length w.files)) w.print set w.data_file
+      from (Err s) = refl
+
+  -- a stop at the inputs is the command's
+  pub stops_after : (s : Option Stop) → StopsAt (inputs_of parse files w) s → StopsAt (after_words parse files w) s
+  stops_after None h = tt
+  stops_after (Some (tool.unread n)) (k, h) = (k, after_inputs (nat_eq k) ∙ ap (λ r. or_stop r (λ i. finished w i.0 i.1)) h)
+  stops_after (Some s) h = after_inputs no_read ∙ ap (λ r. or_stop r (λ i. finished w i.0 i.1)) h
+
+module _ (err : Sunk) (code : ℕ) where
+  -- an outcome of what comes to the same
+  pub outcome_as : (out : Sunk) (a b : Answer) → a ≡ b → Outcome b out err code → Outcome a out err code
+  outcome_as out a b is o = subst (λ (x : Answer). Outcome x out err code) (sym is) o
+
+  module _ (parse : Parse) (t : Told) (was is : ℕ) (w : Wanted) (files : Files) where
+    stops_at : (s : Stop) → is ≡ was → after_words parse files w no_read ≡ Err s → code ≡ (stop_answer s).status → Says (stop_answer s).line err
+        → (stop_answer s).text ≡ [] → Follows (λ fails. answer_of (after_words parse files w fails)) was is (sunk t t) err code
+    stops_at s counts h status says empty =
+        inl (counts, outcome_as _ _ _ (ap answer_of h) (inl (subst (λ x. Whole x (sunk t t)) (sym empty) (nothing_put t), status, says)))
+
+    refusal : (f : ParseFault) (why : Option Reason) (o : Option Stop) → o ≡ option_map (λ r. tool.refused f.file.now (f.line, r)) why → is ≡ was
+        → StopsAt (after_words parse files w) o → code ≡ (said_of o).status → Says (said_of o).line err
+        → Follows (λ fails. answer_of (after_words parse files w fails)) was is (sunk t t) err code
+    refusal f None o e counts h status says = refused_memory (subst (λ o. code ≡ (said_of o).status) e status) (subst (λ o. Says (said_of o).line err) e says)
+      where
+        refused_memory : code ≡ 7 → Says (said_of None).line err → Follows (λ fails. answer_of (after_words parse files w fails)) was is (sunk t t) err code
+        refused_memory status says = inl (counts, nothing_out (answer_of (after_words parse files w no_read)) t err code status says)
+    refusal f (Some r) o e counts h status says =
+        stops_at (tool.refused f.file.now (f.line, r)) counts (subst (λ o. StopsAt (after_words parse files w) o) e h) (subst (λ o. code ≡ (said_of o).status) e status)
+        (subst (λ o. Says (said_of o).line err) e says) refl
+
+    -- the program stops, and says why
+    pub stops : (s : held.Stop) → Counts {T = ℕ} was is (Err s) → StopsAt (after_words parse files w) (stop_seen s) → code ≡ (said_of (stop_seen s)).status
+        → Says (said_of (stop_seen s)).line err → Follows (λ fails. answer_of (after_words parse files w fails)) was is (sunk t t) err code
+    stops (stop.NotFound m) counts h status says = stops_at (tool.not_found m.now) counts h status says refl
+    stops (stop.Failed m) counts (k, h) status says =
+        inr (counts, (k, ap (λ r. (answer_of r).unread) h, outcome_as _ _ _ (ap answer_of h) (inl (nothing_put t, status, says))))
+    stops (stop.Template f) counts h status says = refusal f (reason_of f.kind) (refusal_seen f) refl counts h status says
+    stops (stop.NotJson m) counts h status says = stops_at (tool.flawed m.now not_json) counts h status says refl
+    stops (stop.NotWhole m) counts h status says = stops_at (tool.flawed m.now not_whole) counts h status says refl
+    stops stop.OutOfMemory counts h status says = inl (counts, nothing_out (answer_of (after_words parse files w no_read)) t err code status says)
+
+  module _ (parse : Parse) (out : Sunk) (was is : ℕ) (w : Wanted) (files : Files) where
+    -- the words are accepted, and the program goes on
+    pub accepted : (words : List Bytes) → asked_by words ≡ Ok w → Follows (λ fails. answer_of (after_words parse files w fails)) was is out err code
+        → Follows (tool_answer parse words files) was is out err code
+    accepted words asked h =
+        subst (λ (answers : Failing → Answer). Follows answers was is out err code) (λ i fails. sym (with_words parse words files fails (Ok w) asked) i) h
+
+  -- no template has the name
+  pub has_no_template : (w : Wanted) (set : List Template) (input : Option Value) (t : Told) → tree_named (asked_name w) set ≡ None → code ≡ 4
+      → Says (stop_answer (tool.unnamed (asked_name w))).line err → Outcome (answer_of (rendered w set input)) (sunk t t) err code
+  has_no_template w set input t none status says =
+      outcome_as _ _ _ (ap (λ o. answer_of (or_stop (ok_or o (tool.unnamed (asked_name w))) (λ tree. Ok (ran w.rules set (asked_name w) tree input)))) none) (inl (nothing_put t, status, says))
+
+-- words that are taken
+pub asks : (words : List Bytes) (w : Wanted) → wanted words ≡ Some w → asks_help words ≡ false → asked_by words ≡ Ok w
+asks words w asked helps =
+    ap (λ b. or_stop (stop_if b tool.help) (λ u. ok_or (wanted words) tool.bad_words)) helps ∙ ap (λ o. ok_or o tool.bad_words) asked

@@ -1,0 +1,62 @@
+-- What the command needs of the files, and what is answered of it.
+use Rattle.std.specs.Prelude.{◌≡◌, ◌×◌, ◌+◌, ℕ, nat_eq, List, [], Option, Some, None, Result, Ok, Err, length}
+use Rattle.std.specs.Prelude.{option_map, if◌then◌else◌}
+use Rattle.std.specs.Result.{result_map_both}
+use Rattle.tmpl_values.specs.Json.{not_json, not_whole}
+use Rattle.tmpl_values.specs.Value.{Value}
+use Rattle.tmpl_values.specs.View.{value_of}
+use Rattle.tmpl_syntax.specs.Set.{Template}
+use Rattle.tmpl_syntax.specs.View.{set_view}
+use Rattle.tmpl_syntax.specs.Fault.{reason_of}
+use Rattle.tmpl_syntax.specs.declared.fault.ParseFault.{ParseFault}
+use Rattle.tmpl_tool.specs.Source.{Bytes, Files}
+use Rattle.tmpl_tool.specs.Tool.{Failing, Parse, Stop, data_found, flawed, loaded, no_read, not_found, or_stop}
+use Rattle.tmpl_tool.specs.Tool.{refused, unread}
+use Rattle.tmpl_tool.specs.Words.{Wanted}
+use Rattle.tmpl_tool.specs.declared.files.inputs.Inputs.{Inputs}
+use Rattle.tmpl_tool.specs.declared.stop.Stop as held
+use Rattle.tmpl_tool.specs.declared.stop.Stop.TheVariants as stop
+
+-- the file of the data, where something is to be run
+abbrev pub data_wanted : Wanted → Option Bytes
+data_wanted w = if w.print then None else w.data_file
+
+-- the set of all FILEs, and then the data of a run
+abbrev pub inputs_of : Parse → Files → Wanted → Failing → Result (List Template × Option Value) Stop
+inputs_of parse files w fails = or_stop (loaded parse files fails 0 [] w.files) (λ set.
+    result_map_both (λ input. (set, input)) (λ s. s) (data_found files (fails (length w.files)) (data_wanted w)))
+
+-- ---- what is held
+
+abbrev pub inputs_seen : Inputs → List Template × Option Value
+inputs_seen inputs = (set_view inputs.set, option_map value_of inputs.data)
+
+-- the refusal of a template file; one for want of memory is none
+abbrev pub refusal_seen : ParseFault → Option Stop
+refusal_seen f = option_map (λ why. refused f.file.now (f.line, why)) (reason_of f.kind)
+
+abbrev pub stop_seen : held.Stop → Option Stop
+stop_seen (stop.NotFound name) = Some (not_found name.now)
+stop_seen (stop.Failed name) = Some (unread name.now)
+stop_seen (stop.Template f) = refusal_seen f
+stop_seen (stop.NotJson name) = Some (flawed name.now not_json)
+stop_seen (stop.NotWhole name) = Some (flawed name.now not_whole)
+stop_seen stop.OutOfMemory = None
+
+-- ---- what is answered
+
+-- a stage stops so: where just one read fails, if the stop is at that, and else where none does
+abbrev pub StopsAt : {T : Type 0} → (Failing → Result T Stop) → Option Stop → Type 0
+StopsAt stage None = Unit {0}
+StopsAt stage (Some (unread name)) = (k : ℕ) × (stage (nat_eq k) ≡ Err (unread name))
+StopsAt stage (Some s) = stage no_read ≡ Err s
+
+-- the answer is what a stage comes to, or it is a stop of the stage, or memory was refused
+abbrev pub ComesOf : {T U : Type 0} → (Failing → Result U Stop) → (T → U) → Result T held.Stop → Type 0
+ComesOf stage seen (Ok t) = stage no_read ≡ Ok (seen t)
+ComesOf stage seen (Err s) = StopsAt stage (stop_seen s)
+
+-- the count of failures rose exactly where a read failed
+abbrev pub Counts : {T : Type 0} → ℕ → ℕ → Result T held.Stop → Type 0
+Counts was is (Err (stop.Failed name)) = is ≡ was + 1
+Counts was is r = is ≡ was

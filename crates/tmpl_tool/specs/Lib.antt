@@ -1,0 +1,11 @@
+pub mod computed
+pub mod Help
+pub mod Inputs
+pub mod Laws
+pub mod Outcome
+pub mod Part
+pub mod Request
+pub mod Source
+pub mod Tool
+pub mod View
+pub mod Words

@@ -1,0 +1,56 @@
+-- What is observed of the two sinks and the status, where the command comes to an end.
+use Rattle.std.specs.Prelude.{◌≡◌, ◌≢◌, ◌+◌, ◌⊎◌, ℕ, Bool, true, false, [], ◌∷◌, codes}
+use Rattle.tmpl_meaning.specs.Sink.{Begun, Cut, Sunk, Untouched, Whole}
+use Rattle.tmpl_tool.specs.Source.{Bytes}
+use Rattle.tmpl_tool.specs.Part.{line, plain}
+
+-- what the command comes to
+pub record Answer : Type 0 where
+  -- what is put out
+  pub text : Bytes
+  -- what is said on the error sink, nothing where all went well
+  pub line : Bytes
+  pub status : ℕ
+  -- it stopped at a read that failed
+  pub unread : Bool
+  -- it came to a run that makes text: one that calls a function which makes one, with all its arguments
+  pub made_text : Bool
+
+-- the whole of a line, or a beginning of it where the sink failed
+abbrev pub Says : Bytes → Sunk → Type 0
+Says text s = Whole text s ⊎ Cut text s
+
+abbrev pub write_line : Bytes
+write_line = line (plain (codes "write failed") ∷ [])
+
+abbrev pub memory_line : Bytes
+memory_line = line (plain (codes "out of memory") ∷ [])
+
+-- the output did not fail: the whole text, the status and the line
+abbrev pub Exact : Answer → Sunk → Sunk → ℕ → Type 0
+Exact a out err code = Whole a.text out × (code ≡ a.status) × Says a.line err
+
+-- the output failed, once: a beginning of the text
+abbrev pub Unwritten : Answer → Sunk → Sunk → ℕ → Type 0
+Unwritten a out err code = Cut a.text out × (code ≡ 6) × Says write_line err
+
+-- the sink did not fail, and took a beginning of the text; nothing where no text is made
+abbrev pub BegunIf : Bool → Bytes → Sunk → Type 0
+BegunIf true text s = Begun text s
+BegunIf false text s = Untouched s
+
+-- memory was refused: a beginning of the text, and nothing unless the command comes to a run that makes text
+abbrev pub Refused : Answer → Sunk → Sunk → ℕ → Type 0
+Refused a out err code = BegunIf a.made_text a.text out × (code ≡ 7) × Says memory_line err
+
+-- one of the three
+abbrev pub Outcome : Answer → Sunk → Sunk → ℕ → Type 0
+Outcome a out err code = Exact a out err code ⊎ (Unwritten a out err code ⊎ Refused a out err code)
+
+-- the status is 6 exactly where the output failed, and it failed once at most
+abbrev pub Counted : ℕ → ℕ → ℕ → Type 0
+Counted was is code = ((is ≡ was) × (code ≢ 6)) ⊎ ((is ≡ was + 1) × (code ≡ 6))
+
+-- a count of failures that rose by one at most
+abbrev pub Once : ℕ → ℕ → Type 0
+Once was is = (is ≡ was) ⊎ (is ≡ was + 1)

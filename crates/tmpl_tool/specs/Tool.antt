@@ -1,0 +1,214 @@
+-- The command as one function of the words and of the contents of files.
+use Rattle.std.specs.Prelude.{◌≡◌, ◌⊎◌, ◌+◌, ℕ, suc, nat_eq, Bool, true, false, List, [], ◌∷◌, ◌++◌, length, Option}
+use Rattle.std.specs.Prelude.{Some, None, Result, Ok, Err, codes, unwrap_or}
+use Rattle.std.specs.Option.{ok_or, option_map_or}
+use Rattle.std.specs.Result.{result_err, result_map_both}
+use Rattle.tmpl_values.specs.Value.{Value}
+use Rattle.tmpl_values.specs.Json.{Flaw, not_json, not_whole, data_of}
+use Rattle.tmpl_syntax.specs.Fault as reason
+use Rattle.tmpl_syntax.specs.Fault.{Reason}
+use Rattle.tmpl_syntax.specs.Language.{every_branch}
+use Rattle.tmpl_syntax.specs.Set.{Template, tree_named}
+use Rattle.tmpl_syntax.specs.Parse.{IsAccepted, IsRefusedBy, base_name}
+use Rattle.tmpl_syntax.specs.Print.Printed.{printed_set}
+use Rattle.tmpl_meaning.specs.Sink.{Sunk}
+use Rattle.tmpl_meaning.specs.Meaning.{Cause, steps_spent, not_a_function, nil_command, lacks_field, lacks_entry}
+use Rattle.tmpl_meaning.specs.Meaning.{not_a_range, call_failed, no_template, calls_too_deep, Fault, Ran, ran}
+use Rattle.tmpl_funcs.specs.Func.{name_of}
+use Rattle.tmpl_funcs.specs.declared.fault.CallFault.{CallFault}
+use Rattle.tmpl_funcs.specs.declared.fault.CallFault.TheVariants as call
+use Rattle.tmpl_tool.specs.Help.{asks_help}
+use Rattle.tmpl_tool.specs.Words.{Wanted, wanted}
+use Rattle.tmpl_tool.specs.Source.{Bytes, Files}
+use Rattle.tmpl_tool.specs.Part.{Piece, line, number, plain, quoted}
+use Rattle.tmpl_tool.specs.Outcome.{Answer, Outcome}
+
+-- ---- template files
+
+-- the set with the templates of a file of this path and these bytes, or the line and the reason of its refusal
+abbrev pub Parse : Type 0
+Parse = List Template → Bytes → Bytes → Result (List Template) (ℕ × Reason)
+
+-- it accepts and refuses files by the rules; there is just one that does, which is a law
+pub record IsParse (parse : Parse) : Type 0 where
+  pub accepts : (old : List Template) (file bytes : Bytes) (new : List Template)
+      → IsAccepted every_branch old file bytes new → parse old file bytes ≡ Ok new
+  pub refuses : (old : List Template) (file bytes : Bytes) (at : ℕ) (why : Reason)
+      → IsRefusedBy every_branch file bytes at why → parse old file bytes ≡ Err (at, why)
+
+-- ---- why nothing is run
+
+pub data Stop : Type 0 where
+  -- help is asked for
+  help : Stop
+  -- the words are refused
+  bad_words : Stop
+  -- there is no file of this name, or the read of it failed
+  not_found : Bytes → Stop
+  unread : Bytes → Stop
+  -- a template file is refused at this line, or the data are
+  refused : Bytes → ℕ × Reason → Stop
+  flawed : Bytes → Flaw → Stop
+  -- the set is to be printed
+  printed : List Template → Stop
+  -- there is no template of this name
+  unnamed : Bytes → Stop
+
+abbrev pub reason_text : Reason → Bytes
+reason_text reason.unreadable = codes "unclosed or unreadable action"
+reason_text reason.not_an_action = codes "action not understood"
+reason_text reason.out_of_place = codes "out of place"
+reason_text reason.undeclared_variable = codes "undeclared variable"
+reason_text reason.open_at_end = codes "file ends inside a control"
+reason_text reason.nested_too_deeply = codes "nested too deeply"
+reason_text reason.too_long = codes "file longer than 16777216 bytes"
+reason_text reason.second_definition = codes "second definition"
+
+abbrev pub flaw_text : Flaw → Bytes
+flaw_text not_json = codes ": not JSON"
+flaw_text not_whole = codes ": number not whole or out of range"
+
+abbrev pub usage : Bytes
+usage = codes "usage: tmpl [--data FILE] [--missingkey default|invalid|zero|error] [--name NAME] "
+    ++ codes "[--depth N] [--steps N] [--print] FILE...\n"
+
+-- a text is put out, and nothing went wrong
+abbrev pub only_text : Bytes → Answer
+only_text text = record { text = text; line = []; status = 0; unread = false; made_text = false }
+
+-- nothing is put out, and a line is said
+abbrev pub only_line : ℕ → List Piece → Answer
+only_line status pieces =
+    record { text = []; line = line pieces; status = status; unread = false; made_text = false }
+
+abbrev pub stop_answer : Stop → Answer
+stop_answer help = only_text usage
+stop_answer (printed set) = only_text (printed_set set)
+stop_answer bad_words = only_line 2 (plain (codes "arguments refused; see tmpl --help") ∷ [])
+stop_answer (not_found file) = only_line 3 (plain file ∷ plain (codes ": no such file") ∷ [])
+stop_answer (unread file) =
+    record (only_line 3 (plain file ∷ plain (codes ": read failed") ∷ [])) { unread = true }
+stop_answer (refused file r) =
+    only_line 4 (plain file ∷ plain (codes ":") ∷ number r.0 ∷ plain (codes ": ") ∷ plain (reason_text r.1) ∷ [])
+stop_answer (unnamed name) = only_line 4 (plain (codes "no template ") ∷ quoted name ∷ [])
+stop_answer (flawed file flaw) = only_line 5 (plain file ∷ plain (flaw_text flaw) ∷ [])
+
+-- ---- a run
+
+abbrev pub call_text : CallFault → Bytes
+call_text call.WrongCount = codes "wrong number of arguments"
+call_text call.WrongKind = codes "wrong kind of argument"
+call_text call.OutOfRange = codes "out of range"
+call_text call.NotComparable = codes "can't be compared"
+call_text call.FormatRefused = codes "format refused"
+
+abbrev pub cause_pieces : Cause → List Piece
+cause_pieces (steps_spent limit) =
+    plain (codes "more than ") ∷ number limit ∷ plain (codes " steps") ∷ []
+cause_pieces (lacks_field name) =
+    plain (codes "no field ") ∷ quoted name ∷ plain (codes " here") ∷ []
+cause_pieces (lacks_entry name) = plain (codes "no entry for key ") ∷ quoted name ∷ []
+cause_pieces not_a_range = plain (codes "can't range over this value") ∷ []
+cause_pieces not_a_function = plain (codes "not a function") ∷ []
+cause_pieces nil_command = plain (codes "nil is not a command") ∷ []
+cause_pieces (no_template name) = plain (codes "no template ") ∷ quoted name ∷ []
+cause_pieces (calls_too_deep limit) = plain (codes "calls deeper than ") ∷ number limit ∷ []
+cause_pieces (call_failed f fault) = plain (name_of f) ∷ plain (codes ": ") ∷ plain (call_text fault) ∷ []
+
+-- a line that says where a run stopped, and why
+abbrev pub fault_line : Fault → Bytes
+fault_line f = line (plain f.file ∷ plain (codes ":") ∷ number f.line ∷ plain (codes ": in ")
+    ∷ quoted f.template ∷ plain (codes ": ") ∷ cause_pieces f.cause)
+
+-- the whole text, or that before the fault
+abbrev pub run_answer : Ran → Answer
+run_answer r = record {
+  text = r.text;
+  line = option_map_or fault_line r.fault [];
+  status = option_map_or (λ f. 1) r.fault 0;
+  unread = false;
+  made_text = r.made_text;
+}
+
+abbrev pub answer_of : Result Ran Stop → Answer
+answer_of (Ok r) = run_answer r
+answer_of (Err s) = stop_answer s
+
+-- ---- stages
+
+-- goes on with what a stage gives, or stops where it does
+abbrev pub or_stop : {T U : Type 0} → Result T Stop → (T → Result U Stop) → Result U Stop
+or_stop (Ok t) next = next t
+or_stop (Err s) next = Err s
+
+-- stops where that is so
+abbrev pub stop_if : Bool → Stop → Result (Unit {0}) Stop
+stop_if true s = Err s
+stop_if false s = Ok tt
+
+-- what words ask for
+abbrev pub asked_by : List Bytes → Result Wanted Stop
+asked_by words = or_stop (stop_if (asks_help words) help) (λ u. ok_or (wanted words) bad_words)
+
+-- which reads fail, by how many go before them
+abbrev pub Failing : Type 0
+Failing = ℕ → Bool
+
+abbrev pub no_read : Failing
+no_read k = false
+
+-- the bytes of a file, if the read of it does not fail
+abbrev pub read : Files → Bool → Bytes → Result Bytes Stop
+read files true name = Err (unread name)
+read files false name = ok_or (files name) (not_found name)
+
+-- the set with the templates of one more FILE
+abbrev pub with_file : Parse → Files → Bool → List Template → Bytes → Result (List Template) Stop
+with_file parse files fails set name =
+    or_stop (read files fails name) (λ bytes. result_map_both (λ s. s) (refused name) (parse set name bytes))
+
+-- each FILE in turn, read and then parsed, behind so many
+abbrev pub loaded : Parse → Files → Failing → ℕ → List Template → List Bytes → Result (List Template) Stop
+loaded parse files fails k set [] = Ok set
+loaded parse files fails k set (name ∷ names) =
+    or_stop (with_file parse files (fails k) set name) (λ s. loaded parse files fails (suc k) s names)
+
+-- the data, read and parsed, if the words name a file of it
+abbrev pub data_found : Files → Bool → Option Bytes → Result (Option Value) Stop
+data_found files fails None = Ok None
+data_found files fails (Some name) =
+    or_stop (read files fails name) (λ bytes. result_map_both Some (flawed name) (data_of bytes))
+
+-- the name of the first FILE's own template
+abbrev pub first_name : List Bytes → Bytes
+first_name [] = []
+first_name (name ∷ names) = base_name name
+
+-- the name of the template that words ask for
+abbrev pub asked_name : Wanted → Bytes
+asked_name w = unwrap_or w.name (first_name w.files)
+
+-- ---- the command
+
+-- what it comes to: the words, each FILE, the printed set or else the data, the name, and the run
+abbrev pub tool_answer : Parse → List Bytes → Files → Failing → Answer
+tool_answer parse words files fails = answer_of
+    (or_stop (asked_by words) (λ w.
+    or_stop (loaded parse files fails 0 [] w.files) (λ set.
+    or_stop (stop_if w.print (printed set)) (λ u.
+    or_stop (data_found files (fails (length w.files)) w.data_file) (λ input.
+    or_stop (ok_or (tree_named (asked_name w) set) (unnamed (asked_name w))) (λ tree.
+    Ok (ran w.rules set (asked_name w) tree input)))))))
+
+-- why words are not followed that read no file: those that ask for help, and those that are refused
+abbrev pub words_alone : List Bytes → Option Stop
+words_alone words = result_err (asked_by words)
+
+-- ---- what is observed
+
+-- no read failed, or one did, at which the command stops
+abbrev pub Follows : (Failing → Answer) → ℕ → ℕ → Sunk → Sunk → ℕ → Type 0
+Follows answers was is out err code =
+    ((is ≡ was) × Outcome (answers no_read) out err code)
+    ⊎ ((is ≡ was + 1)
+    × ((k : ℕ) × ((answers (nat_eq k)).unread ≡ true) × Outcome (answers (nat_eq k)) out err code))

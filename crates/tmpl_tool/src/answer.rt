@@ -1,0 +1,62 @@
+//! What is put out of the templates: the printed set, or the text of a run.
+ghost use Rattle.std.specs.Prelude.{◌≡◌, ◌<◌, ◌^◌, ◌-◌, option_map};
+ghost use Rattle.tmpl_values.specs.View.{value_of};
+ghost use Rattle.tmpl_syntax.specs.View.{set_view};
+ghost use Rattle.tmpl_syntax.specs.Print.Printed.{printed_set};
+ghost use Rattle.tmpl_meaning.specs.Sink.{sunk};
+ghost use Rattle.tmpl_tool.specs.Outcome.{Counted, Once, Outcome};
+ghost use Rattle.tmpl_tool.specs.Tool.{answer_of, only_text};
+ghost use Rattle.tmpl_tool.specs.View.{seen};
+ghost use Rattle.tmpl_tool.specs.computed.Load.{finished};
+
+use crate::messages::lines::out_of_memory;
+use crate::render::{put_out, render};
+use crate::status::Status;
+use crate::words::request::Request;
+use std::alloc::Global;
+use tmpl_run::Sink;
+use tmpl_syntax::{Set, print_set};
+use tmpl_values::Data;
+
+/// Puts the printed set out.
+fn print<O: Sink, E: Sink>(alloc: Global, set: &Set<'_>, out: &mut O, err: &mut E) -> Status
+    requires out { (O.so_far out.old).failures < 2 ^ 64 - 1 }
+    requires err { (E.so_far err.old).failures < 2 ^ 64 - 1 }
+    ensures counts { Counted (O.so_far out.old).failures (O.so_far out.new).failures result.code }
+    ensures cuts { Once (E.so_far err.old).failures (E.so_far err.new).failures }
+    ensures outcome { Outcome (only_text (printed_set (set_view set.now)))
+        (sunk (O.so_far out.old) (O.so_far out.new))
+        (sunk (E.so_far err.old) (E.so_far err.new))
+        result.code }
+{
+    match print_set(alloc, set) {
+        Ok(text) => put_out(text.as_slice(), out, err),
+        Err(_) => out_of_memory(err),
+    }
+}
+
+/// Prints the set where the words ask for that, and else runs the template that they ask for.
+pub(crate) fn answer<O: Sink, E: Sink>(
+    alloc: Global,
+    request: &Request<'_>,
+    set: &Set<'_>,
+    data: Option<&Data>,
+    out: &mut O,
+    err: &mut E,
+) -> Status
+    requires out { (O.so_far out.old).failures < 2 ^ 64 - 1 }
+    requires err { (E.so_far err.old).failures < 2 ^ 64 - 1 }
+    ensures counts { Counted (O.so_far out.old).failures (O.so_far out.new).failures result.code }
+    ensures cuts { Once (E.so_far err.old).failures (E.so_far err.new).failures }
+    ensures outcome { Outcome (answer_of (finished (seen request.now) (set_view set.now)
+        (option_map (λ d. value_of d.now) «data».entry)))
+        (sunk (O.so_far out.old) (O.so_far out.new))
+        (sunk (E.so_far err.old) (E.so_far err.new))
+        result.code }
+{
+    if request.print {
+        print(alloc, set, out, err)
+    } else {
+        render(alloc, request, set, data, out, err)
+    }
+}

@@ -1,0 +1,73 @@
+//! The command over a source and two sinks.
+ghost use Rattle.std.specs.Prelude.{◌≡◌, ◌<◌, ◌^◌, ◌-◌, IfSome, map};
+ghost use Rattle.std.specs.String.{string_bytes};
+ghost use Rattle.tmpl_meaning.specs.Sink.{sunk};
+ghost use Rattle.tmpl_tool.specs.Outcome.{Counted, Once, Outcome};
+ghost use Rattle.tmpl_tool.specs.Tool.{Follows, IsParse, Parse, stop_answer, tool_answer, words_alone};
+
+use crate::answer::answer;
+use crate::files::inputs::read_inputs;
+use crate::files::source::Source;
+use crate::messages::lines::{out_of_memory, refuse, words_refused};
+use crate::render::put_out;
+use crate::status::Status;
+use crate::words::help::asks_help;
+use crate::words::request::Refused;
+use crate::words::request_of;
+use std::alloc::Global;
+use std::mem;
+use tmpl_run::Sink;
+
+/// What `--help` puts out.
+static USAGE: &[u8] =
+    b"usage: tmpl [--data FILE] [--missingkey default|invalid|zero|error] [--name NAME] \
+    [--depth N] [--steps N] [--print] FILE...\n";
+
+/// The command `tmpl` over a source of files, an output and an error sink.
+///
+/// What is put out, the line on the error sink and the status are one function of the words and of what the
+/// files hold. Where a write fails the output is a beginning of that text, and the status 6. Where memory is
+/// refused it is a beginning too, and nothing where no text is made, and the status 7. Words that ask for help
+/// or are refused read no file.
+pub fn tool<S: Source, O: Sink, E: Sink>(
+    alloc: Global,
+    words: &[String],
+    source: &mut S,
+    out: &mut O,
+    err: &mut E,
+) -> Status
+    requires source { S.failures source.old < 2 ^ 64 - 1 }
+    requires out { (O.so_far out.old).failures < 2 ^ 64 - 1 }
+    requires err { (E.so_far err.old).failures < 2 ^ 64 - 1 }
+    ensures reads { Once (S.failures source.old) (S.failures source.new) }
+    ensures counts { Counted (O.so_far out.old).failures (O.so_far out.new).failures result.code }
+    ensures cuts { Once (E.so_far err.old).failures (E.so_far err.new).failures }
+    ensures unasked { IfSome (words_alone (map (λ word. string_bytes word) words.now)) (λ stop.
+        (source.new ≡ source.old) × Outcome (stop_answer stop)
+        (sunk (O.so_far out.old) (O.so_far out.new))
+        (sunk (E.so_far err.old) (E.so_far err.new))
+        result.code) }
+    ensures told { (parse : Parse) → IsParse parse → IfSome (S.contents source.old) (λ files.
+        Follows (tool_answer parse (map (λ word. string_bytes word) words.now) files)
+        (S.failures source.old) (S.failures source.new)
+        (sunk (O.so_far out.old) (O.so_far out.new))
+        (sunk (E.so_far err.old) (E.so_far err.new))
+        result.code) }
+{
+    if asks_help(words) {
+        return put_out(USAGE, out, err);
+    }
+    match request_of(alloc, words) {
+        Ok(request) => match read_inputs(alloc, &request, source) {
+            Ok(inputs) => {
+                let status = answer(alloc, &request, &inputs.set, inputs.data.as_ref(), out, err);
+                // The process ends here, which gives all memory back at once; to free each value takes longer.
+                mem::forget(inputs);
+                status
+            }
+            Err(stop) => refuse(err, &stop),
+        },
+        Err(Refused::Words) => words_refused(err),
+        Err(Refused::OutOfMemory) => out_of_memory(err),
+    }
+}

@@ -1,0 +1,43 @@
+//! What the command needs of the files: the templates, and the data of a run.
+ghost use Rattle.std.specs.Prelude.{◌-◌, ◌^◌, ◌<◌, IfSome};
+ghost use Rattle.tmpl_tool.specs.View.{seen};
+ghost use Rattle.tmpl_tool.specs.Inputs.{ComesOf, Counts, inputs_of, inputs_seen};
+ghost use Rattle.tmpl_tool.specs.Tool.{IsParse, Parse};
+
+use crate::files::data_file::read_data;
+use crate::files::load::load_files;
+use crate::files::source::Source;
+use crate::stop::Stop;
+use crate::words::request::Request;
+use std::alloc::Global;
+use tmpl_syntax::Set;
+use tmpl_values::Data;
+
+/// What the command needs of the files.
+#[derive(Drop)]
+pub struct Inputs<'b> {
+    /// The templates of all the files.
+    pub set: Set<'b>,
+    /// The data; none where the words name no file of it, or nothing is to be run.
+    pub data: Option<Data>,
+}
+
+/// Reads the templates, and then the data of a run. A read that fails is the last one.
+pub fn read_inputs<'a, 'b, S: Source>(
+    alloc: Global,
+    request: &Request<'a>,
+    source: &mut S,
+) -> Result<Inputs<'b>, Stop<'a>>
+    requires { S.failures source.old < 2 ^ 64 - 1 }
+    ensures counts { Counts (S.failures source.old) (S.failures source.new) result }
+    ensures reads { (parse : Parse) → IsParse parse → IfSome (S.contents source.old) (λ files.
+        ComesOf (inputs_of parse files (seen request.now)) inputs_seen result) }
+{
+    let mut set = Set::new(alloc);
+    load_files(alloc, &mut set, source, request.files.as_slice())?;
+    if request.print {
+        return Ok(Inputs { set, data: None });
+    }
+    let data = read_data(alloc, source, request.data_file)?;
+    Ok(Inputs { set, data })
+}

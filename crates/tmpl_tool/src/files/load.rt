@@ -1,0 +1,72 @@
+//! Each FILE in turn, read and then parsed.
+ghost use Rattle.std.specs.Prelude.{◌≡◌, ◌<◌, ◌^◌, ◌-◌, IfSome, map};
+ghost use Rattle.std.specs.Result.{result_map_both};
+ghost use Rattle.tmpl_syntax.specs.View.{set_view};
+ghost use Rattle.tmpl_syntax.specs.computed.Parse.{parsed};
+ghost use Rattle.tmpl_tool.specs.Tool.{loaded, refused, with_file};
+ghost use Rattle.tmpl_tool.specs.Inputs.{ComesOf, Counts};
+
+use crate::files::source::{Source, SourceFault};
+use crate::stop::Stop;
+use std::alloc::Global;
+use tmpl_syntax::{Set, parse_file};
+
+/// Adds the templates of the files to the set.
+pub(crate) fn load_files<'a, 'b, S: Source>(
+    alloc: Global,
+    set: &mut Set<'b>,
+    source: &mut S,
+    names: &[&'a str],
+) -> Result<(), Stop<'a>>
+    requires { S.failures source.old < 2 ^ 64 - 1 }
+    ensures contents { S.contents source.new ≡ S.contents source.old }
+    ensures counts { Counts (S.failures source.old) (S.failures source.new) result }
+    ensures loads { IfSome (S.contents source.old) (λ files.
+        ComesOf
+        (λ fails. loaded parsed files fails 0 (set_view set.old) (map (λ s. s.now) names.now))
+        (λ u. set_view set.new) result) }
+{
+    for name in names {
+        load_file(alloc, set, source, *name)?;
+    }
+    Ok(())
+}
+
+/// Adds the templates of one file.
+fn load_file<'a, 'b, S: Source>(
+    alloc: Global,
+    set: &mut Set<'b>,
+    source: &mut S,
+    name: &'a str,
+) -> Result<(), Stop<'a>>
+    requires { S.failures source.old < 2 ^ 64 - 1 }
+    ensures contents { S.contents source.new ≡ S.contents source.old }
+    ensures counts { Counts (S.failures source.old) (S.failures source.new) result }
+    ensures loads { IfSome (S.contents source.old) (λ files.
+        ComesOf
+        (λ fails. with_file parsed files (fails 0) (set_view set.old) name.entry.now) (λ u. set_view set.new) result) }
+{
+    match source.read(alloc, name) {
+        // The set borrows its texts from the bytes, which stay until the process ends.
+        Ok(bytes) => add_file(alloc, set, name, bytes.leak()),
+        Err(SourceFault::NotFound) => Err(Stop::NotFound(name)),
+        Err(SourceFault::Failed) => Err(Stop::Failed(name)),
+        Err(SourceFault::OutOfMemory) => Err(Stop::OutOfMemory),
+    }
+}
+
+/// Adds the template of a file of these bytes.
+fn add_file<'a, 'b>(
+    alloc: Global,
+    set: &mut Set<'b>,
+    name: &'a str,
+    bytes: &'b [u8],
+) -> Result<(), Stop<'a>>
+    ensures { ComesOf (λ fails. result_map_both (λ s. s) (refused name.entry.now)
+        (parsed (set_view set.old) name.entry.now bytes.now)) (λ u. set_view set.new) result }
+{
+    match parse_file(alloc, set, name, bytes) {
+        Ok(()) => Ok(()),
+        Err(fault) => Err(Stop::Template(fault)),
+    }
+}

@@ -1,0 +1,34 @@
+//! Where files come from.
+ghost use Rattle.std.specs.Prelude.{◌≡◌, ◌+◌, ◌-◌, ◌^◌, ◌<◌, ℕ, List, Option};
+
+use std::alloc::Global;
+use thiserror::Error;
+
+/// Why a file could not be read.
+#[derive(Clone, Copy, Debug, PartialEq, Eq, Error)]
+pub enum SourceFault {
+    /// There is no such file.
+    #[error("no such file")]
+    NotFound,
+    /// It is there, and could not be read.
+    #[error("read failed")]
+    Failed,
+    /// Memory was refused.
+    #[error("out of memory")]
+    OutOfMemory,
+}
+
+/// Files by their names. What they hold may be untold; the number of failed reads is always told.
+pub trait Source {
+    ghost use Rattle.tmpl_tool.specs.Source.{IsRead};
+
+    ghost contents: { Self → Option (List ℕ → Option (List ℕ)) };
+
+    ghost failures: { Self → ℕ };
+
+    /// The bytes of the file of this name. A read leaves the files as they are.
+    fn read(&mut self, alloc: Global, name: &str) -> Result<Vec<u8>, SourceFault>
+        requires { failures self.old < 2 ^ 64 - 1 }
+        ensures contents { contents self.new ≡ contents self.old }
+        ensures read { IsRead (contents self.old) name.now (failures self.old) (failures self.new) result };
+}

@@ -1,0 +1,29 @@
+//! The laws of the command: what parses its files, its stages, and its ends.
+ghost use Rattle.tmpl_tool.specs.Laws.{GivesHelp, HasOneParse, HasParse, Prints, RefusesWords, Runs, StopsAtData};
+ghost use Rattle.tmpl_tool.specs.Laws.{StopsAtDataRead, StopsAtFile, StopsAtName, StopsAtRead};
+ghost use Rattle.tmpl_tool.specs.Laws.{TellsFailedWrite, TellsRefusedMemory};
+
+/// The law that just one function accepts and refuses each file by the rules.
+pub fn one_parse()
+    ensures some { HasParse }
+    ensures one { HasOneParse }
+{}
+
+/// The laws of the stages: help, the words, the FILEs in turn, the printed set, the data, the name, and the run.
+pub fn stages()
+    ensures help { GivesHelp }
+    ensures words { RefusesWords }
+    ensures files { StopsAtFile }
+    ensures read { StopsAtRead }
+    ensures print { Prints }
+    ensures input { StopsAtData }
+    ensures data_read { StopsAtDataRead }
+    ensures name { StopsAtName }
+    ensures run { Runs }
+{}
+
+/// The laws of the ends that are not the function's: a write that failed, and refused memory.
+pub fn ends()
+    ensures write { TellsFailedWrite }
+    ensures memory { TellsRefusedMemory }
+{}

@@ -1,0 +1,24 @@
+//! The command `tmpl` over any source of files and any two sinks: what its words ask for, the files, the run, and the
+//! lines and statuses with which it ends.
+#![tactic(auto)]
+
+mod answer;
+mod command;
+mod files;
+mod laws;
+mod messages;
+mod render;
+mod status;
+mod stop;
+mod words;
+
+pub use command::tool;
+pub use files::inputs::{Inputs, read_inputs};
+pub use files::source::{Source, SourceFault};
+pub use laws::{ends, one_parse, stages};
+pub use messages::lines::{out_of_memory, words_refused, write_failed};
+pub use render::{asked_name, tell_end};
+pub use status::Status;
+pub use stop::Stop;
+pub use words::request::{Refused, Request};
+pub use words::request_of;

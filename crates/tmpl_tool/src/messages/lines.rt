@@ -1,0 +1,251 @@
+//! What the program says where it does not end well.
+ghost use Rattle.std.specs.Prelude.{◌≡◌, ◌≢◌, ◌<◌, ◌^◌, ◌-◌, ◌∷◌, [], option_map};
+ghost use Rattle.tmpl_meaning.specs.Sink.{IsPut, as_puts, sunk};
+ghost use Rattle.tmpl_meaning.specs.View.{cause_of, fault_seen};
+ghost use Rattle.tmpl_tool.specs.Outcome.{Once, Says, memory_line, write_line};
+ghost use Rattle.tmpl_tool.specs.Part.{joined, line, plain};
+ghost use Rattle.tmpl_tool.specs.Tool.{call_text, cause_pieces, fault_line};
+ghost use Rattle.tmpl_tool.specs.Tool.{bad_words, reason_text, stop_answer, unnamed};
+ghost use Rattle.tmpl_tool.specs.View.{pieces_of};
+ghost use Rattle.tmpl_tool.specs.Inputs.{refusal_seen, stop_seen};
+ghost use Rattle.tmpl_tool.specs.computed.Load.{said_of};
+ghost use Rattle.tmpl_syntax.specs.Fault.{reason_of};
+
+use crate::messages::part::{Part, put_line, put_parts};
+use crate::status::Status;
+use crate::stop::Stop;
+use tmpl_funcs::CallFault;
+use tmpl_run::{RunFault, RunFaultKind, Sink, SinkFault, put_all};
+use tmpl_syntax::{ParseFault, ParseKind};
+
+/// Says a line of these parts. A sink that fails cuts it.
+#[tactic(auto, using(crate::proofs::MessageLemmas::said))]
+fn say<E: Sink>(err: &mut E, parts: &[Part<'_>])
+    requires { (E.so_far err.old).failures < 2 ^ 64 - 1 }
+    ensures cuts { Once (E.so_far err.old).failures (E.so_far err.new).failures }
+    ensures line { Says (line (pieces_of parts.now))
+        (sunk (E.so_far err.old) (E.so_far err.new)) }
+{
+    let _ = put_line(err, parts);
+}
+
+/// Says that the words were refused.
+pub fn words_refused<E: Sink>(err: &mut E) -> Status
+    requires { (E.so_far err.old).failures < 2 ^ 64 - 1 }
+    ensures code { result.code ≡ 2 }
+    ensures cuts { Once (E.so_far err.old).failures (E.so_far err.new).failures }
+    ensures line { Says (stop_answer bad_words).line
+        (sunk (E.so_far err.old) (E.so_far err.new)) }
+{
+    let parts = [Part::Text("arguments refused; see tmpl --help")];
+    say(err, parts.as_slice());
+    Status { code: 2 }
+}
+
+/// Says that a write failed.
+pub fn write_failed<E: Sink>(err: &mut E) -> Status
+    requires { (E.so_far err.old).failures < 2 ^ 64 - 1 }
+    ensures code { result.code ≡ 6 }
+    ensures cuts { Once (E.so_far err.old).failures (E.so_far err.new).failures }
+    ensures line { Says write_line
+        (sunk (E.so_far err.old) (E.so_far err.new)) }
+{
+    let parts = [Part::Text("write failed")];
+    say(err, parts.as_slice());
+    Status { code: 6 }
+}
+
+/// Says that memory was refused.
+pub fn out_of_memory<E: Sink>(err: &mut E) -> Status
+    requires { (E.so_far err.old).failures < 2 ^ 64 - 1 }
+    ensures code { result.code ≡ 7 }
+    ensures cuts { Once (E.so_far err.old).failures (E.so_far err.new).failures }
+    ensures line { Says memory_line
+        (sunk (E.so_far err.old) (E.so_far err.new)) }
+{
+    let parts = [Part::Text("out of memory")];
+    say(err, parts.as_slice());
+    Status { code: 7 }
+}
+
+/// Says that there is no template of this name.
+pub(crate) fn template_missing<E: Sink>(err: &mut E, name: &[u8]) -> Status
+    requires { (E.so_far err.old).failures < 2 ^ 64 - 1 }
+    ensures code { result.code ≡ 4 }
+    ensures cuts { Once (E.so_far err.old).failures (E.so_far err.new).failures }
+    ensures line { Says (stop_answer (unnamed name.now)).line
+        (sunk (E.so_far err.old) (E.so_far err.new)) }
+{
+    let parts = [Part::Text("no template "), Part::Quoted(name)];
+    say(err, parts.as_slice());
+    Status { code: 4 }
+}
+
+/// Why a template file was refused, in words; none where memory was refused.
+fn reason_text(kind: ParseKind) -> Option<&'static str>
+    ensures { option_map (λ text. text.now) result ≡ option_map reason_text (reason_of kind) }
+{
+    match kind {
+        ParseKind::Unreadable => Some("unclosed or unreadable action"),
+        ParseKind::NotAnAction => Some("action not understood"),
+        ParseKind::OutOfPlace => Some("out of place"),
+        ParseKind::UndeclaredVariable => Some("undeclared variable"),
+        ParseKind::OpenAtEnd => Some("file ends inside a control"),
+        ParseKind::NestedTooDeeply => Some("nested too deeply"),
+        ParseKind::TooLong => Some("file longer than 16777216 bytes"),
+        ParseKind::SecondDefinition => Some("second definition"),
+        ParseKind::OutOfMemory => None,
+    }
+}
+
+/// Says why a template file was refused.
+fn refuse_template<E: Sink>(err: &mut E, fault: &ParseFault<'_>) -> Status
+    requires { (E.so_far err.old).failures < 2 ^ 64 - 1 }
+    ensures code { result.code ≡ (said_of (refusal_seen fault.now)).status }
+    ensures unlike { result.code ≢ 6 }
+    ensures cuts { Once (E.so_far err.old).failures (E.so_far err.new).failures }
+    ensures line { Says (said_of (refusal_seen fault.now)).line
+        (sunk (E.so_far err.old) (E.so_far err.new)) }
+{
+    let Some(text) = reason_text(fault.kind) else {
+        return out_of_memory(err);
+    };
+    let parts = [
+        Part::Text(fault.file),
+        Part::Text(":"),
+        Part::Number(fault.line),
+        Part::Text(": "),
+        Part::Text(text),
+    ];
+    say(err, parts.as_slice());
+    Status { code: 4 }
+}
+
+/// Says why a file, of which the name comes first, stops the program, and gives this status.
+fn refuse_file<E: Sink>(err: &mut E, name: &str, why: &str, code: u8) -> Status
+    requires { (E.so_far err.old).failures < 2 ^ 64 - 1 }
+    ensures code { result.code ≡ code }
+    ensures cuts { Once (E.so_far err.old).failures (E.so_far err.new).failures }
+    ensures line { Says (line (plain name.now ∷ plain why.now ∷ []))
+        (sunk (E.so_far err.old) (E.so_far err.new)) }
+{
+    let parts = [Part::Text(name), Part::Text(why)];
+    say(err, parts.as_slice());
+    Status { code }
+}
+
+/// Says why the program stops.
+pub(crate) fn refuse<E: Sink>(err: &mut E, stop: &Stop<'_>) -> Status
+    requires { (E.so_far err.old).failures < 2 ^ 64 - 1 }
+    ensures code { result.code ≡ (said_of (stop_seen stop.now)).status }
+    ensures unlike { result.code ≢ 6 }
+    ensures cuts { Once (E.so_far err.old).failures (E.so_far err.new).failures }
+    ensures line { Says (said_of (stop_seen stop.now)).line
+        (sunk (E.so_far err.old) (E.so_far err.new)) }
+{
+    match *stop {
+        Stop::NotFound(name) => refuse_file(err, name, ": no such file", 3),
+        Stop::Failed(name) => refuse_file(err, name, ": read failed", 3),
+        Stop::Template(fault) => refuse_template(err, &fault),
+        Stop::NotJson(name) => refuse_file(err, name, ": not JSON", 5),
+        Stop::NotWhole(name) => { refuse_file(err, name, ": number not whole or out of range", 5) }
+        Stop::OutOfMemory => out_of_memory(err),
+    }
+}
+
+/// Why a function refused its arguments, in words.
+fn call_text(fault: CallFault) -> &'static str
+    ensures { result.now ≡ call_text fault }
+{
+    match fault {
+        CallFault::WrongCount => "wrong number of arguments",
+        CallFault::WrongKind => "wrong kind of argument",
+        CallFault::OutOfRange => "out of range",
+        CallFault::NotComparable => "can't be compared",
+        CallFault::FormatRefused => "format refused",
+    }
+}
+
+/// Says where and why a run failed.
+#[tactic(auto, using(crate::proofs::MessageLemmas::said))]
+pub(crate) fn run_failed<E: Sink>(err: &mut E, fault: &RunFault<'_>) -> Status
+    requires { (E.so_far err.old).failures < 2 ^ 64 - 1 }
+    ensures code { result.code ≡ 1 }
+    ensures cuts { Once (E.so_far err.old).failures (E.so_far err.new).failures }
+    ensures line { Says (fault_line (fault_seen fault.now))
+        (sunk (E.so_far err.old) (E.so_far err.new)) }
+{
+    let _ = put_fault(err, fault);
+    Status { code: 1 }
+}
+
+/// Puts the line of a fault: where it is, and the reason.
+fn put_fault<E: Sink>(err: &mut E, fault: &RunFault<'_>) -> Result<(), SinkFault>
+    requires { (E.so_far err.old).failures < 2 ^ 64 - 1 }
+    ensures { IsPut result (as_puts (E.so_far err.old))
+        (as_puts (E.so_far err.new)) (fault_line (fault_seen fault.now)) }
+{
+    let position = [
+        Part::Bytes(fault.file),
+        Part::Text(":"),
+        Part::Number(fault.line),
+        Part::Text(": in "),
+        Part::Quoted(fault.template),
+        Part::Text(": "),
+    ];
+    put_all(err, b"tmpl: ")?;
+    put_parts(err, position.as_slice())?;
+    put_reason(err, fault.kind)?;
+    put_all(err, b"\n")
+}
+
+/// Puts why a run failed.
+fn put_reason<E: Sink>(err: &mut E, kind: RunFaultKind<'_>) -> Result<(), SinkFault>
+    requires { (E.so_far err.old).failures < 2 ^ 64 - 1 }
+    ensures { IsPut result (as_puts (E.so_far err.old))
+        (as_puts (E.so_far err.new)) (joined (cause_pieces (cause_of kind.entry))) }
+{
+    match kind {
+        RunFaultKind::StepsSpent(limit) => {
+            let parts = [
+                Part::Text("more than "),
+                Part::Number(limit),
+                Part::Text(" steps"),
+            ];
+            put_parts(err, parts.as_slice())
+        }
+        RunFaultKind::NoField(name) => {
+            let parts = [
+                Part::Text("no field "),
+                Part::Quoted(name),
+                Part::Text(" here"),
+            ];
+            put_parts(err, parts.as_slice())
+        }
+        RunFaultKind::NoEntry(name) => {
+            let parts = [Part::Text("no entry for key "), Part::Quoted(name)];
+            put_parts(err, parts.as_slice())
+        }
+        RunFaultKind::NoTemplate(name) => {
+            let parts = [Part::Text("no template "), Part::Quoted(name)];
+            put_parts(err, parts.as_slice())
+        }
+        RunFaultKind::CallsTooDeep(limit) => {
+            let parts = [Part::Text("calls deeper than "), Part::Number(limit as u64)];
+            put_parts(err, parts.as_slice())
+        }
+        RunFaultKind::NotARange => {
+            put_parts(err, [Part::Text("can't range over this value")].as_slice())
+        }
+        RunFaultKind::NotAFunction => put_parts(err, [Part::Text("not a function")].as_slice()),
+        RunFaultKind::NilCommand => put_parts(err, [Part::Text("nil is not a command")].as_slice()),
+        RunFaultKind::Call(func, fault) => {
+            let parts = [
+                Part::Text(func.name()),
+                Part::Text(": "),
+                Part::Text(call_text(fault)),
+            ];
+            put_parts(err, parts.as_slice())
+        }
+    }
+}

@@ -1,0 +1,165 @@
+"""Looks at the definitions that a reader has to believe: those that the contract of `tool` comes to by the names that it and they
+import. Believed specs, all outside `computed/`, may import nothing from `proofs/`, and nothing from `computed/` but in files of the
+name Laws. Then counts the lines that are believed, without blank lines, comments and imports, by crate. They may not be more than
+stand in MOST: a crate that needs more has to say so here."""
+import re
+import sys
+from pathlib import Path
+
+import harness
+
+CRATES = Path(harness.TOP) / "crates"
+# what the contract of `tool` stands on: it, and the traits of what it is given
+ROOTS = (("tmpl_tool", "src/command.rt", "pub fn tool"), ("tmpl_tool", "src/files/source.rt", "pub trait Source"), ("tmpl_meaning", "src/sink.rt", "pub trait Sink"))
+# the lines of each crate that are believed, at most
+MOST = {}
+
+WORD = r"[^\s(){}.,;]+"
+BEGINS = re.compile(r"(abbrev|unfoldable|pub|data|record|mutual|module)\b|\S+ :( |$)")
+MIXFIX = "◌"
+
+
+def plain_lines(path):
+    """The lines of a file without comments and blank lines."""
+    lines = path.read_text(encoding="utf-8").splitlines()
+    return [line for line in lines if line.strip() and not line.lstrip().startswith("--")]
+
+
+def module_of(path):
+    """The crate of a spec, and its module below `specs`."""
+    parts = path.relative_to(CRATES).with_suffix("").parts
+    return parts[0], ".".join(parts[2:])
+
+
+class Spec:
+    """A file of definitions: what it imports, and its blocks, each with the names that it defines."""
+
+    def __init__(self, path):
+        self.path = path
+        self.crate, self.module = module_of(path)
+        self.imports, self.aliases, self.blocks, self.names = {}, {}, [], {}
+        self.used = []
+        for line in plain_lines(path):
+            if line.startswith(("use ", "pub use ")):
+                self.take_import(line)
+            elif line.startswith("pub mod ") or line.startswith("mod "):
+                continue
+            elif BEGINS.match(line):
+                self.blocks.append([line])
+            else:
+                self.blocks[-1].append(line)
+        for number, block in enumerate(self.blocks):
+            for name in names_of(block):
+                self.names[name] = number
+
+    def take_import(self, line):
+        whole = re.match(r"(?:pub )?use (?:Rattle\.)?([\w.]+?)(?:\.\{(.*)\}| as (\S+))?$", line.strip())
+        if not whole:
+            raise ValueError(f"{self.path}: {line}")
+        path, names, alias = whole.groups()
+        self.used.append(path)
+        target = re.match(r"(tmpl\w*)\.specs\.(.*)", path)
+        if not target or ".declared." in f".{target[2]}.":
+            return
+        if alias:
+            self.aliases[alias] = target.groups()
+        for name in (names or "").split(","):
+            old, _, new = name.strip().partition(" as ")
+            self.imports[new or old] = (*target.groups(), old)
+
+
+def names_of(block):
+    """The names that a block defines: one, those of its constructors, or those of a group."""
+    words = block[0].split()
+    kinds = [word for word in words if word not in ("abbrev", "unfoldable", "pub")]
+    if kinds[0] in ("data", "record"):
+        fields = (re.match(r"\s+(?:pub )?(\S+) :", line) for line in block[1:])
+        return [kinds[1]] + [field[1] for field in fields if field and kinds[0] == "data"]
+    if kinds[0] == "mutual":
+        return [found[1] for line in block[1:] if (found := re.match(r"\s+pub (?:data |record )?(\S+)", line))]
+    return [kinds[0]]
+
+
+def read_specs():
+    specs = [Spec(path) for path in sorted(CRATES.glob("*/specs/**/*.antt"))]
+    return {(spec.crate, spec.module): spec for spec in specs}
+
+
+def wrong_imports(spec):
+    """What a believed spec may not import."""
+    parts = spec.module.split(".")
+    if parts[0] == "computed":
+        return []
+    own = [path for path in spec.used if path.startswith("tmpl")]
+    proofs = [path for path in own if ".proofs." in path]
+    computed = [path for path in own if ".specs.computed" in path and "Laws" not in parts]
+    return [f"{spec.path.relative_to(harness.TOP)} imports {path}" for path in proofs + computed]
+
+
+def references(spec, text):
+    """The definitions, of this file or an imported one, that a text names."""
+    words = set(re.findall(WORD, text))
+    found = {(spec.crate, spec.module, name) for name in words & spec.names.keys()}
+    found |= {spec.imports[name] for name in words & spec.imports.keys()}
+    for alias, target in spec.aliases.items():
+        found |= {(*target, name) for name in re.findall(rf"(?<![\w.]){re.escape(alias)}\.({WORD})", text)}
+    for name, target in spec.imports.items():
+        if MIXFIX in name and all(part in words for part in name.split(MIXFIX) if part):
+            found.add(target)
+    return found
+
+
+def roots(crate, file, item):
+    """The definitions that the clauses of an item of the code name."""
+    lines = (CRATES / crate / file).read_text(encoding="utf-8").splitlines()
+    start = next(number for number, line in enumerate(lines) if line.startswith(item))
+    end = next((number for number in range(start + 1, len(lines)) if lines[number] in ("{", "}")), len(lines))
+    text = "\n".join(lines[start:end])
+    found = set()
+    for line in lines:
+        ghost = re.match(r"\s*ghost use Rattle\.(tmpl\w*)\.specs\.([\w.]+)\.\{(.*)\};", line)
+        if ghost and "declared" not in ghost[2]:
+            names = [name.strip() for name in ghost[3].split(",")]
+            found |= {(ghost[1], ghost[2], name) for name in names if re.search(rf"(?<![\w]){re.escape(name)}(?![\w])", text)}
+    if not found:
+        raise ValueError(f"{file}: no definition is named by {item}")
+    return found
+
+
+def believed(specs):
+    """The blocks that the roots come to."""
+    todo = [name for root in ROOTS for name in roots(*root)]
+    blocks = set()
+    while todo:
+        crate, module, name = todo.pop()
+        spec = specs[crate, module]
+        if name not in spec.names:
+            continue  # a name of the library that the file hands on
+        number = spec.names[name]
+        if (crate, module, number) not in blocks:
+            blocks.add((crate, module, number))
+            todo += references(spec, "\n".join(spec.blocks[number]))
+    return blocks
+
+
+def main():
+    specs = read_specs()
+    wrong = [line for spec in specs.values() for line in wrong_imports(spec)]
+    blocks = believed(specs)
+    lines = {}
+    for crate, module, number in blocks:
+        lines[crate] = lines.get(crate, 0) + len(specs[crate, module].blocks[number])
+        if "computed" in module.split("."):
+            wrong.append(f"{crate}: {module} is believed, by {specs[crate, module].blocks[number][0]}")
+    for crate, count in sorted(lines.items()):
+        print(f"{crate}: {count} lines are believed")
+        if count > MOST.get(crate, 0):
+            wrong.append(f"{crate}: {count} lines are believed, at most {MOST.get(crate, 0)} may be")
+    print(f"{sum(lines.values())} lines of {len(blocks)} definitions are believed")
+    for line in wrong:
+        print(f"FAILED {line}")
+    return harness.closing(len(specs) - len(wrong), len(wrong)) if wrong else harness.closing(len(specs), 0)
+
+
+if __name__ == "__main__":
+    sys.exit(main())
