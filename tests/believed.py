@@ -1,7 +1,7 @@
 """Looks at the definitions that a reader has to believe: those that the contract of `tool` comes to by the names that it and they
-import. Believed specs, all outside `computed/`, may import nothing from `proofs/`, and nothing from `computed/` but in files of the
-name Laws. Then counts the lines that are believed, without blank lines, comments and imports, by crate. They may not be more than
-stand in MOST: a crate that needs more has to say so here."""
+import. Specs outside `computed/` may import nothing from `proofs/`, and nothing from `computed/` but in files of the name Laws.
+docs/BELIEVED.md has to name the files of what is believed, and no others. Then the lines of it are counted, without blank lines,
+comments and imports, by crate. They may not be more than stand in MOST: a crate that needs more has to say so here."""
 import re
 import sys
 from pathlib import Path
@@ -9,6 +9,7 @@ from pathlib import Path
 import harness
 
 CRATES = Path(harness.TOP) / "crates"
+PAGE = Path(harness.TOP) / "docs" / "BELIEVED.md"
 # what the contract of `tool` stands on: it, and the traits of what it is given
 ROOTS = (("tmpl_tool", "src/command.rt", "pub fn tool"), ("tmpl_tool", "src/files/source.rt", "pub trait Source"), ("tmpl_meaning", "src/sink.rt", "pub trait Sink"))
 # the lines of each crate that are believed, at most
@@ -142,10 +143,23 @@ def believed(specs):
     return blocks
 
 
+def wrong_page(files):
+    """What the page of believed files lacks, or names too much."""
+    named, crate = [], None
+    for line in PAGE.read_text(encoding="utf-8").splitlines():
+        if head := re.match(r"## .*`(tmpl\w*)`", line):
+            crate = head[1]
+        elif row := re.match(r"- `([\w/]+)`: ", line):
+            named.append((crate, row[1].replace("/", ".")))
+    lacks = [f"docs/BELIEVED.md lacks {module} of {crate}" for crate, module in sorted(files - set(named))]
+    return lacks + [f"docs/BELIEVED.md names {module} of {crate}" for crate, module in named if (crate, module) not in files]
+
+
 def main():
     specs = read_specs()
     wrong = [line for spec in specs.values() for line in wrong_imports(spec)]
     blocks = believed(specs)
+    wrong += wrong_page({(crate, module) for crate, module, _ in blocks})
     lines = {}
     for crate, module, number in blocks:
         lines[crate] = lines.get(crate, 0) + len(specs[crate, module].blocks[number])
@@ -158,7 +172,7 @@ def main():
     print(f"{sum(lines.values())} lines of {len(blocks)} definitions are believed")
     for line in wrong:
         print(f"FAILED {line}")
-    return harness.closing(len(specs) - len(wrong), len(wrong)) if wrong else harness.closing(len(specs), 0)
+    return harness.closing(max(0, len(specs) - len(wrong)), len(wrong))
 
 
 if __name__ == "__main__":

@@ -1,4 +1,4 @@
--- One operand or command more, from the last to the first.
+-- For `put_operands` and `put_commands`, which go from the last to the first: what the relation says of one more in front.
 use Rattle.std.proofs.Common.{arith, ◌≡◌, ◌∙◌, ◌+◌, ◌-◌, ◌<◌, ◌≤◌, ℕ, zero, suc, Bool, true, false, List, [], ◌∷◌, length, drop, get_or, refl, ap, sym, subst}
 use Rattle.std.proofs.lemmas.List.{at_drop_more}
 use Rattle.tmpl_grammar.specs.Tree.{Operands, no_operand, operand}

@@ -1,4 +1,4 @@
--- What arguments need, from one to the next.
+-- For `cost_of_arguments`: what arguments need, from one to the next, which the loop adds up.
 use Rattle.std.proofs.Common.{◌≡◌, ℕ, refl}
 use Rattle.tmpl_grammar.specs.Tree.{no_operand}
 use Rattle.tmpl_grammar.specs.Need.{need_of_arguments}

@@ -1,4 +1,4 @@
--- What the compiler holds.
+-- For all that put code: what the compiler holds stands for the code and the layout that the relation speaks of.
 use Rattle.std.proofs.Common.{◌≡◌, ◌∙◌, List, [], ◌∷◌, ◌++◌, length, map, reverse, ap}
 use Rattle.std.proofs.lemmas.List.{length-map, length-reverse, reverse-append}
 use Rattle.tmpl_code.specs.View.{instruction_of}

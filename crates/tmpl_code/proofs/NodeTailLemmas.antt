@@ -1,4 +1,4 @@
--- The code of nodes ends with what stands behind it, so a range around is where it was.
+-- For `put_range`: the code of nodes ends with what stands behind it, so a jump out of the range still leads behind it.
 use Rattle.std.proofs.Common.{arith, ◌≡◌, ◌∙◌, ◌+◌, ◌-◌, ◌≤◌, ℕ, zero, suc, Bool, false, List, [], ◌∷◌, ◌++◌, length, drop, refl, ap, subst, Option, Some, None, Result, Ok, Err, OnOk, length-append}
 use Rattle.tmpl_grammar.specs.Need.{declared_count}
 use Rattle.tmpl_grammar.specs.Tree.{Pipeline, pipeline, Binding, unbound, declare, assign, declare_pair, Header}

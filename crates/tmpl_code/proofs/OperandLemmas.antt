@@ -1,4 +1,4 @@
--- Operands, one level at a time.
+-- For `put_operand` and `cost_of_operand`: the weight of operands one level at a time, by which their recursion ends.
 use Rattle.std.proofs.Common.{arith, ◌≡◌, ◌+◌, ◌<◌, ◌≤◌, ℕ, zero, suc, Bool, true, false, not, List, [], ◌∷◌, length, get_or, refl, ap, sym, subst}
 use Rattle.tmpl_grammar.specs.Tree.{Operand, dot, fields, variable, bool_constant, number_constant, text_constant, nil, function, group, Operands, no_operand, operand, Commands, no_command, command}
 use Rattle.tmpl_grammar.specs.View.{operand_of, operands_in, command_of, commands_in}

@@ -1,4 +1,4 @@
--- One template more.
+-- For `compile`, which puts the last template first: what the relation says of one template more in front.
 use Rattle.std.proofs.Common.{arith, ◌≡◌, ◌∙◌, ◌-◌, ℕ, zero, suc, List, [], ◌∷◌, ◌++◌, length, drop, reverse, Some, None, slice_get, ap, sym, subst}
 use Rattle.std.proofs.lemmas.List.{reverse-append}
 use Rattle.tmpl_syntax.specs.Tree.{Nodes}

@@ -1,4 +1,4 @@
--- The room of some templates, computed.
+-- Not needed by any proof: the room of some templates is computed, so that a reader sees what the definition says.
 use Rattle.std.proofs.Common.{◌≡◌, ℕ, List, [], ◌∷◌, refl, codes, pos}
 use Rattle.tmpl_funcs.specs.declared.func.Func.TheVariants.{And, Eq, Index, Len, Printf}
 use Rattle.tmpl_grammar.specs.Tree.{Operand, dot, fields, variable, number_constant, text_constant, function, group, Operands, operands_from, commands_from, pipeline, Binding, unbound, declare_pair, Header}

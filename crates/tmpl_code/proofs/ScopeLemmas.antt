@@ -1,4 +1,4 @@
--- The cells of a scope, one more or one less.
+-- For `Scope`: its cells with one more or one less, and the newest place of a name, which its map and its links keep.
 use Rattle.std.proofs.Common.{arith, ◌≡◌, ◌∙◌, ◌-◌, ◌<◌, ℕ, suc, Bool, true, false, cond, List, [], ◌∷◌, ◌++◌, length, map, reverse, drop, refl, ap, sym, Option, Some, None, Bor}
 use Rattle.std.specs.Option.{unwrap_or, option_map, is_some}
 use Rattle.std.specs.Str.{bytes_eq}

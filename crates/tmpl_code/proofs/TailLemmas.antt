@@ -1,4 +1,4 @@
--- Code ends with what stands behind it.
+-- For `put_junction`: code of operands ends with what stands behind it, so a jump over them is as long as what was put.
 use Rattle.std.proofs.Common.{arith, ◌≡◌, ◌∙◌, ◌+◌, ◌-◌, ◌≤◌, ℕ, suc, Bool, true, false, List, [], ◌∷◌, ◌++◌, length, drop, refl, ap, sym, Option, Some, None, append_assoc, length-append}
 use Rattle.std.proofs.Math.Seq.{drop-append_seam}
 use Rattle.tmpl_funcs.specs.Func.{takes}

@@ -242,12 +242,8 @@ step_of_call line None = spend line
 step_of_call line (Some number) = deepen line
 
 abbrev pub step_of : List Template → ℕ → NodeKind → Instruction
-step_of ts line (text bytes) = spend line
-step_of ts line (action h) = spend line
-step_of ts line (control_node c h body other) = spend line
-step_of ts line break_node = spend line
-step_of ts line continue_node = spend line
 step_of ts line (template_node name given) = step_of_call line (number_of name ts)
+step_of ts line n = spend line
 
 -- ---- controls
 

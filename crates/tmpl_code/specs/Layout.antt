@@ -40,19 +40,13 @@ declares (declare_pair key name) = true
 
 -- .. and one for an index or key
 abbrev pub declares_key : Binding → Bool
-declares_key unbound = false
-declares_key (declare name) = false
-declares_key (assign name) = false
 declares_key (declare_pair key name) = true
+declares_key b = false
 
 -- behind a node, which leaves the variables that an action declares
 abbrev pub grown : NodeKind → Layout → Layout
-grown (text bytes) cells = cells
 grown (action h) cells = bound_on h.binding cells
-grown (control_node c h body other) cells = cells
-grown break_node cells = cells
-grown continue_node cells = cells
-grown (template_node name given) cells = cells
+grown n cells = cells
 
 -- how many variables nodes leave
 abbrev pub declared_in : Nodes → ℕ

@@ -289,7 +289,8 @@ fn put_control<'s, 'b>(
     }
 }
 
-/// Puts what ends a part: so many cells are forgotten, and so many instructions passed over.
+/// Puts what ends a part: it forgets so many cells and passes over so many instructions. Where there is none of
+/// either, nothing ends it.
 #[tactic(auto, using(crate::proofs::NodeTailLemmas::end_at))]
 fn put_end(code: &mut Code<'_>, count: u32, skip: u32) -> Result<(), AllocError>
     ensures { OnOk result (spec.EndAt count skip (code_of code.new) (code_of code.old)) }

@@ -1,4 +1,4 @@
--- How many elements a list and a map have.
+-- For `element_count` and `pair_count`: how many elements a list and a map have, as the value's size tells.
 use Rattle.std.proofs.Common.{◌≡◌, length, Some}
 use Rattle.std.specs.Option.{option_map}
 use Rattle.tmpl_values.specs.Value.{Items, Entries, sequence, mapping}

@@ -1,14 +1,17 @@
--- What the meaning says of some templates.
+-- Not needed by any proof: what the meaning says of some templates is computed, so that a reader sees what was meant.
 use Rattle.std.proofs.Common.{◌≡◌, ℕ, true, false, List, [], ◌∷◌, ◌++◌, Some, None, Ok, Err, refl, codes}
 use Rattle.std.specs.Prelude.{pos, negsuc}
 use Rattle.tmpl_values.specs.Text.{text_of}
 use Rattle.tmpl_values.specs.Value.{Value, nothing, null, boolean, number, string, sequence, mapping, no_item, item, no_entry, entry}
 use Rattle.tmpl_funcs.specs.declared.func.Func.TheVariants.{And, Or, Not, Len, Index, Print, Println, Printf, Html, Urlquery}
 use Rattle.tmpl_funcs.specs.declared.fault.CallFault.TheVariants.{WrongCount, WrongKind}
-use Rattle.tmpl_grammar.specs.Tree.{Operand, dot, fields, variable, number_constant, text_constant, nil, function, group, Operands, no_operand, operand, no_command, command, Pipeline, pipeline, Binding, unbound, declare, assign, declare_pair}
+use Rattle.tmpl_grammar.specs.Tree.{Operand, dot, fields, variable, number_constant, text_constant, nil, function, group, Operands}
+use Rattle.tmpl_grammar.specs.Tree.{no_operand, operand, no_command, command, Pipeline, pipeline, Binding, unbound, declare, assign}
+use Rattle.tmpl_grammar.specs.Tree.{declare_pair}
 use Rattle.tmpl_grammar.specs.declared.tree.Control.TheVariants as control
 use Rattle.tmpl_syntax.specs.Tree.{NodeKind, Nodes, Tree, none, then, text, action, control_node, break_node, continue_node, template_node}
-use Rattle.tmpl_meaning.specs.Meaning.{Ran, Cause, Rules, ran_with, steps_spent, not_a_function, nil_command, lacks_field, lacks_entry, not_a_range, call_failed, no_template, calls_too_deep}
+use Rattle.tmpl_meaning.specs.Meaning.{Ran, Cause, Rules, ran_with, steps_spent, not_a_function, nil_command, lacks_field, lacks_entry}
+use Rattle.tmpl_meaning.specs.Meaning.{not_a_range, call_failed, no_template, calls_too_deep}
 use Rattle.tmpl_syntax.specs.Set.{Template}
 use Rattle.tmpl_meaning.specs.Pipeline.{Given, Place, pipeline_value}
 use Rattle.tmpl_meaning.specs.declared.missing_key.MissingKey.TheVariants.{Default, Invalid, Zero, Error}
@@ -94,13 +97,15 @@ not-a-range : run 9 (then 7 (range_dot unbound (then 1 (text (codes "x")) none) 
 not-a-range = refl
 
 -- {{range .}}{{.}}{{else}}y{{end}} over the numbers below one
-numbers-below : run 9 (then 1 (range_dot unbound (then 1 (put dot) none) (then 1 (text (codes "y")) none)) none) (one 3) ≡ puts ((text_of (one 0) ++ text_of (one 1)) ++ text_of (one 2))
+numbers-below : run 9 (then 1 (range_dot unbound (then 1 (put dot) none) (then 1 (text (codes "y")) none)) none) (one 3)
+    ≡ puts ((text_of (one 0) ++ text_of (one 1)) ++ text_of (one 2))
 numbers-below = refl
 
 numbers-below-zero : run 9 (then 1 (range_dot unbound (then 1 (put dot) none) (then 1 (text (codes "y")) none)) none) (one 0) ≡ puts (codes "y")
 numbers-below-zero = refl
 
-numbers-below-minus-one : run 9 (then 1 (range_dot unbound (then 1 (put dot) none) (then 1 (text (codes "y")) none)) none) (number (negsuc 0)) ≡ puts (codes "y")
+numbers-below-minus-one : run 9 (then 1 (range_dot unbound (then 1 (put dot) none) (then 1 (text (codes "y")) none)) none) (number (negsuc 0))
+    ≡ puts (codes "y")
 numbers-below-minus-one = refl
 
 -- {{range $x := .}}{{$x}}{{end}}: the one variable is the number
@@ -108,13 +113,16 @@ variable-of-numbers : run 9 (then 1 (range_dot (declare x) (then 1 (put (variabl
 variable-of-numbers = refl
 
 -- {{range $a, $b := .}}x{{else}}y{{end}} over a number, also over one that has nothing below it
-pairs-of-a-number : run 9 (then 7 (range_dot (declare_pair a b) (then 1 (text (codes "x")) none) (then 1 (text (codes "y")) none)) none) (one 2) ≡ stops [] 7 not_a_range
+pairs-of-a-number : run 9 (then 7 (range_dot (declare_pair a b) (then 1 (text (codes "x")) none) (then 1 (text (codes "y")) none)) none) (one 2)
+    ≡ stops [] 7 not_a_range
 pairs-of-a-number = refl
 
-pairs-of-zero : run 9 (then 7 (range_dot (declare_pair a b) (then 1 (text (codes "x")) none) (then 1 (text (codes "y")) none)) none) (one 0) ≡ stops [] 7 not_a_range
+pairs-of-zero : run 9 (then 7 (range_dot (declare_pair a b) (then 1 (text (codes "x")) none) (then 1 (text (codes "y")) none)) none) (one 0)
+    ≡ stops [] 7 not_a_range
 pairs-of-zero = refl
 
-pairs-of-minus-one : run 9 (then 7 (range_dot (declare_pair a b) (then 1 (text (codes "x")) none) (then 1 (text (codes "y")) none)) none) (number (negsuc 0)) ≡ stops [] 7 not_a_range
+pairs-of-minus-one : run 9 (then 7 (range_dot (declare_pair a b) (then 1 (text (codes "x")) none) (then 1 (text (codes "y")) none)) none) (number (negsuc 0))
+    ≡ stops [] 7 not_a_range
 pairs-of-minus-one = refl
 
 -- each number costs a step
@@ -130,7 +138,8 @@ break-keeps-assignments : run 20 (then 1 (set (declare x) dot) (then 1 (range_do
 break-keeps-assignments = refl
 
 -- {{range .}}{{with .}}{{break}}{{end}}{{end}}{{.}}: a break leaves dot as it was
-break-keeps-dot : run 20 (then 1 (range_dot unbound (then 1 (with dot (then 1 break_node none) none) none) none) (then 1 (put dot) none)) three ≡ puts (codes "[1 2 3]")
+break-keeps-dot : run 20 (then 1 (range_dot unbound (then 1 (with dot (then 1 break_node none) none) none) none) (then 1 (put dot) none)) three
+    ≡ puts (codes "[1 2 3]")
 break-keeps-dot = refl
 
 -- {{range .}}{{range .}}{{else}}{{break}}{{end}}z{{end}}: in the else part of an inner range it ends the outer one
@@ -175,11 +184,13 @@ null-in-a-chain : pipeline_value (here (mapping (entry a null no_entry))) (only 
 null-in-a-chain = refl
 
 -- . | not: a piped value is the last argument
-piped : pipeline_value (here nothing) (pipeline (command (operand dot no_operand) (command (operand (function Not) no_operand) no_command))) ≡ gives (boolean true)
+piped : pipeline_value (here nothing) (pipeline (command (operand dot no_operand) (command (operand (function Not) no_operand) no_command)))
+    ≡ gives (boolean true)
 piped = refl
 
 -- len .a.b .a: the number of arguments is looked at before any of them
-count-comes-first : pipeline_value (here (one 1)) (call (operand (function Len) (operand (fields (a ∷ b ∷ [])) (operand (fields (a ∷ [])) no_operand)))) ≡ refuses (call_failed Len WrongCount)
+count-comes-first : pipeline_value (here (one 1)) (call (operand (function Len) (operand (fields (a ∷ b ∷ [])) (operand (fields (a ∷ [])) no_operand))))
+    ≡ refuses (call_failed Len WrongCount)
 count-comes-first = refl
 
 -- len .
@@ -223,11 +234,13 @@ printf-without-a-format : runs (then 1 (calls (operand (function Printf) no_oper
 printf-without-a-format = refl
 
 -- {{printf .}} of nothing: it was called with all its arguments
-printf-of-a-wrong-kind : runs (then 1 (calls (operand (function Printf) (operand dot no_operand))) none) nothing ≡ stops_made [] 1 (call_failed Printf WrongKind)
+printf-of-a-wrong-kind : runs (then 1 (calls (operand (function Printf) (operand dot no_operand))) none) nothing
+    ≡ stops_made [] 1 (call_failed Printf WrongKind)
 printf-of-a-wrong-kind = refl
 
 -- {{print .a.b}}: an operand without a value, so no call
-print-of-a-fault : runs (then 1 (calls (operand (function Print) (operand (fields (a ∷ b ∷ [])) no_operand))) none) (mapping (entry a null no_entry)) ≡ stops [] 1 (lacks_field b)
+print-of-a-fault : runs (then 1 (calls (operand (function Print) (operand (fields (a ∷ b ∷ [])) no_operand))) none) (mapping (entry a null no_entry))
+    ≡ stops [] 1 (lacks_field b)
 print-of-a-fault = refl
 
 -- {{and "" (print "a")}}: the call behind the deciding operand is none
@@ -317,7 +330,8 @@ a-call-of-none-first : run_with 9 9 [] (then 3 (template_node a (Some (only nil)
 a-call-of-none-first = refl
 
 -- {{define "a"}}{{$}}{{.}}{{end}}{{template "a"}}: without a pipeline a template has nothing, whatever the caller's dot
-a-call-without-a-pipeline : run_with 9 9 (beside a (then 1 (put (variable [] [])) (then 1 (put dot) none)) ∷ []) (bare_call a none) three ≡ puts (codes "<no value><no value>")
+a-call-without-a-pipeline : run_with 9 9 (beside a (then 1 (put (variable [] [])) (then 1 (put dot) none)) ∷ []) (bare_call a none) three
+    ≡ puts (codes "<no value><no value>")
 a-call-without-a-pipeline = refl
 
 -- .. and with one, its value, as dot and as `$`; behind it the caller has its own dot and variables again
@@ -325,7 +339,8 @@ a-call-with-a-pipeline : run_with 9 9 (beside a (then 1 (put (variable [] [])) (
 a-call-with-a-pipeline = refl
 
 -- {{define "a"}}x{{template "a"}}{{end}}{{template "a"}} with depth 3: each inside the other, up to three
-calls-too-deep : run_with 9 3 (beside a (then 1 (text (codes "x")) (bare_call a none)) ∷ []) (bare_call a none) nothing ≡ stops_in (codes "xx") (codes "g") a 1 (calls_too_deep 3)
+calls-too-deep : run_with 9 3 (beside a (then 1 (text (codes "x")) (bare_call a none)) ∷ []) (bare_call a none) nothing
+    ≡ stops_in (codes "xx") (codes "g") a 1 (calls_too_deep 3)
 calls-too-deep = refl
 
 -- calls beside each other are no deeper
@@ -337,12 +352,14 @@ no-call-at-all : run_with 9 1 (beside a none ∷ []) (then 2 (template_node a (S
 no-call-at-all = refl
 
 -- a fault in a template is told there
-a-fault-of-the-callee : run_with 9 9 (beside a (then 7 (put nil) none) ∷ []) (then 1 (text b) (bare_call a none)) nothing ≡ stops_in b (codes "g") a 7 nil_command
+a-fault-of-the-callee : run_with 9 9 (beside a (then 7 (put nil) none) ∷ []) (then 1 (text b) (bare_call a none)) nothing
+    ≡ stops_in b (codes "g") a 7 nil_command
 a-fault-of-the-callee = refl
 
 -- steps are counted across calls, and a call is one
 steps-across-calls : run_with 4 9 (beside a (then 5 (text (codes "x")) none) ∷ []) (bare_call a (bare_call a none)) nothing ≡ puts (codes "xx")
 steps-across-calls = refl
 
-a-step-too-few : run_with 3 9 (beside a (then 5 (text (codes "x")) none) ∷ []) (bare_call a (bare_call a none)) nothing ≡ stops_in (codes "x") (codes "g") a 5 (steps_spent 3)
+a-step-too-few : run_with 3 9 (beside a (then 5 (text (codes "x")) none) ∷ []) (bare_call a (bare_call a none)) nothing
+    ≡ stops_in (codes "x") (codes "g") a 5 (steps_spent 3)
 a-step-too-few = refl

@@ -1,4 +1,4 @@
--- `and` and `or` over operands that all have values.
+-- For the law `joins_by_table`: `and` and `or` over operands that all have values give what the table says.
 use Rattle.std.proofs.Common.{◌≡◌, ◌∙◌, Bool, true, false, not, List, [], ◌∷◌, length, Option, Some, None, Result, Ok, Err, refl, ap, sym, if◌then◌else◌}
 use Rattle.tmpl_values.specs.Value.{Value, nothing}
 use Rattle.tmpl_values.specs.Truth.{truth}
@@ -7,7 +7,8 @@ use Rattle.tmpl_funcs.specs.Func.{takes}
 use Rattle.tmpl_grammar.specs.Tree.{Operands, no_operand, operand}
 use Rattle.tmpl_meaning.specs.Fault.{Cause}
 use Rattle.tmpl_meaning.specs.Laws.{JoinsByTable, joining}
-use Rattle.tmpl_meaning.specs.Pipeline.{Given, Place, decided, decides, given, given_then, go_on, junction, operand_value, operand_values, or_call_failed, piped_after}
+use Rattle.tmpl_meaning.specs.Pipeline.{Given, Place, decided, decides, given, given_then, go_on, junction, operand_value, operand_values}
+use Rattle.tmpl_meaning.specs.Pipeline.{or_call_failed, piped_after}
 
 -- of a value and those behind it the first that decides, else the last
 abbrev deciding : Bool → Value → List Value → Value

@@ -1,4 +1,4 @@
--- Texts that are put to a sink.
+-- For `put_all`, and for all above that put to a sink: texts one after the other, and that a put fails once.
 use Rattle.std.proofs.Common.{◌≡◌, ◌∙◌, ◌+◌, ℕ, List, Result, Ok, Err, add-zero, inl, inr, ◌⊎◌}
 use Rattle.tmpl_meaning.specs.Sink.{Cut, IsPut, Puts, Sunk, Whole}
 use Rattle.tmpl_meaning.specs.declared.sink.SinkFault.{SinkFault}

@@ -1,13 +1,17 @@
--- A pipeline finds its cells, and needs no more of them than its need.
-use Rattle.std.proofs.Common.{arith, ◌≡◌, ◌+◌, ◌-◌, ◌≤◌, ◌<◌, ℕ, zero, suc, Bool, true, false, List, [], ◌∷◌, length, drop, refl, ap, sym, subst, Option, Some, None}
+-- For the law `comes_to_meaning`: the code of a pipeline finds its cells, and needs no more of them than its need, so that no step gets stuck.
+use Rattle.std.proofs.Common.{arith, ◌≡◌, ◌+◌, ◌-◌, ◌≤◌, ◌<◌, ℕ, zero, suc, Bool, true, false, List, [], ◌∷◌, length, drop, refl, ap, sym}
+use Rattle.std.proofs.Common.{subst, Option, Some, None}
 use Rattle.tmpl_funcs.specs.Func.{is_called, takes}
 use Rattle.tmpl_funcs.specs.declared.func.Func.{Func}
 use Rattle.tmpl_funcs.specs.declared.func.Func.TheVariants.{And, Or}
-use Rattle.tmpl_grammar.specs.Tree.{Operand, dot, fields, variable, bool_constant, number_constant, text_constant, nil, function, group, Operands, no_operand, operand, Commands, no_command, command, Pipeline, pipeline}
+use Rattle.tmpl_grammar.specs.Tree.{Operand, dot, fields, variable, bool_constant, number_constant, text_constant, nil, function, group}
+use Rattle.tmpl_grammar.specs.Tree.{Operands, no_operand, operand, Commands, no_command, command, Pipeline, pipeline}
 use Rattle.tmpl_grammar.specs.Need.{need_of_operand, need_of_arguments, need_of_command, need_of_commands, need_of_pipeline}
-use Rattle.tmpl_code.specs.Instruction.{Operation, push_nothing, push_bool, push_number, push_text, push_dot, push_fields, push_slot, chained, call_with, decide, settle, refuse, act}
+use Rattle.tmpl_code.specs.Instruction.{Operation, push_nothing, push_bool, push_number, push_text, push_dot, push_fields, push_slot}
+use Rattle.tmpl_code.specs.Instruction.{chained, call_with, decide, settle, refuse, act}
 use Rattle.tmpl_code.specs.Layout.{Layout, slot_named, found_at, is_named}
-use Rattle.tmpl_code.specs.Code.{Code, Part, chain_before, OperandAt, OperandsAt, JunctionAt, CommandAt, CommandsAt, PipelineAt, DecideAt, VariableAt, BareAt, FirstAt, CountedAt, CallBy, is_last, operand_count, piped_count}
+use Rattle.tmpl_code.specs.Code.{Code, Part, chain_before, OperandAt, OperandsAt, JunctionAt, CommandAt, CommandsAt, PipelineAt, DecideAt}
+use Rattle.tmpl_code.specs.Code.{VariableAt, BareAt, FirstAt, CountedAt, CallBy, is_last, operand_count, piped_count}
 use Rattle.tmpl_run.specs.Ready.{Fits}
 use Rattle.tmpl_run.proofs.ExecLemmas.{op_in}
 use Rattle.tmpl_run.proofs.PipelineLemmas.{some-both}
@@ -45,7 +49,8 @@ last-alone no_operand false e = refl
 last-alone no_operand true e = cc
 last-alone (operand o os) piped e = cc
 
-called-by : (f : Func) (All Both Either : Part) (code rest : Code) (G : Type 0) → (is_called f ≡ true → All code rest → G) → (f ≡ And → Both code rest → G) → (f ≡ Or → Either code rest → G) → CallBy f All Both Either code rest → G
+called-by : (f : Func) (All Both Either : Part) (code rest : Code) (G : Type 0) → (is_called f ≡ true → All code rest → G) → (f ≡ And → Both code rest → G)
+    → (f ≡ Or → Either code rest → G) → CallBy f All Both Either code rest → G
 called-by And All Both Either code rest G a b c l = b refl l
 called-by Or All Both Either code rest G a b c l = c refl l
 called-by _ All Both Either code rest G a b c l = a refl l
@@ -80,16 +85,20 @@ module _ (most last : ℕ) where
   chained-able [] rest m h = h
   chained-able (name ∷ names) rest m h = (omega arith, h)
 
-  bare-able : (t : Bool) (f : Func) (m : ℕ) (code rest : Code) → takes f 0 ≡ t → m < most → BareAt t f code rest → Able most last rest 0 (suc m) → Able most last code 0 m
-  bare-able true f m code rest e room l h = let none : m ≡ m - 0 = omega arith in able-is code _ m l ((bare-called f e, omega arith, omega arith), able-at rest (suc m) (suc (m - 0)) (ap suc none) h)
+  bare-able : (t : Bool) (f : Func) (m : ℕ) (code rest : Code) → takes f 0 ≡ t → m < most → BareAt t f code rest → Able most last rest 0 (suc m)
+      → Able most last code 0 m
+  bare-able true f m code rest e room l h =
+      let none : m ≡ m - 0 = omega arith in able-is code _ m l ((bare-called f e, omega arith, omega arith), able-at rest (suc m) (suc (m - 0)) (ap suc none) h)
   bare-able false f m code rest e room l h = able-is code _ m l (tt, tt)
 
-  first-able : (t : Bool) (o : Operand) (m : ℕ) (code rest : Code) (Value-at : Part) → (t ≡ true → Value-at code rest → Able most last code 0 m) → FirstAt t o Value-at code rest → Able most last code 0 m
+  first-able : (t : Bool) (o : Operand) (m : ℕ) (code rest : Code) (Value-at : Part) → (t ≡ true → Value-at code rest → Able most last code 0 m)
+      → FirstAt t o Value-at code rest → Able most last code 0 m
   first-able false o m code rest Value-at h l = able-is code _ m l (tt, tt)
   first-able true nil m code rest Value-at h l = able-is code _ m l (tt, tt)
   first-able true _ m code rest Value-at h l = h refl l
 
-  counted-able : (t : Bool) (f : Func) (m : ℕ) (code rest : Code) (Call : Part) → (t ≡ true → Call code rest → Able most last code 0 m) → CountedAt t f Call code rest → Able most last code 0 m
+  counted-able : (t : Bool) (f : Func) (m : ℕ) (code rest : Code) (Call : Part) → (t ≡ true → Call code rest → Able most last code 0 m)
+      → CountedAt t f Call code rest → Able most last code 0 m
   counted-able true f m code rest Call h l = h refl l
   counted-able false f m code rest Call h l = able-is code _ m l (tt, tt)
 
@@ -133,7 +142,8 @@ module _ (most last : ℕ) where
         → OperandAt o n lay code rest → Able most last rest 0 (suc m) → Able most last code 0 m
     operand-able dot n lay code rest m within room l h = able-is code _ m l (omega arith, h)
     operand-able (fields names) n lay code rest m within room l h = able-is code _ m l (omega arith, h)
-    operand-able (variable x names) n lay code rest m within room l h = variable-able (slot_named x lay) x lay n m code (chain_before names rest) refl within (omega arith) l (chained-able names rest m h)
+    operand-able (variable x names) n lay code rest m within room l h =
+        variable-able (slot_named x lay) x lay n m code (chain_before names rest) refl within (omega arith) l (chained-able names rest m h)
     operand-able (bool_constant b) n lay code rest m within room l h = able-is code _ m l (omega arith, h)
     operand-able (number_constant k) n lay code rest m within room l h = able-is code _ m l (omega arith, h)
     operand-able (text_constant bytes) n lay code rest m within room l h = able-is code _ m l (omega arith, h)
@@ -143,7 +153,8 @@ module _ (most last : ℕ) where
         able-at code (m + 0) m (omega arith) (commands-able cs false n lay code (chain_before names rest) m within room l (chained-able names rest m h))
 
     -- above so many operands and a piped value of the call
-    pub operands-able : (os : Operands) (above n : ℕ) (lay : Layout) (code rest : Code) (m base : ℕ) → n + length lay ≤ m → m ≡ base + above → base + need_of_arguments above os ≤ most
+    pub operands-able : (os : Operands) (above n : ℕ) (lay : Layout) (code rest : Code) (m base : ℕ) → n + length lay ≤ m → m ≡ base + above
+        → base + need_of_arguments above os ≤ most
         → OperandsAt os n lay code rest → Able most last rest 0 (m + operand_count os) → Able most last code 0 m
     operands-able no_operand above n lay code rest m base within is room l h = able-is code rest m l (able-at rest (m + 0) m (omega arith) h)
     operands-able (operand o os) above n lay code rest m base within is room l h =
@@ -151,18 +162,21 @@ module _ (most last : ℕ) where
         (operands-able os (suc above) (suc n) lay l.0 rest (suc m) base (omega arith) (omega arith) (omega arith) l.2
         (able-at rest (m + suc (operand_count os)) (suc m + operand_count os) (omega arith) h))
 
-    pub junction-able : (os : Operands) (above : ℕ) (stop piped : Bool) (n : ℕ) (lay : Layout) (code rest : Code) (m base : ℕ) → n + length lay ≤ m → m ≡ base + piped_count piped
+    pub junction-able : (os : Operands) (above : ℕ) (stop piped : Bool) (n : ℕ) (lay : Layout) (code rest : Code) (m base : ℕ) → n + length lay ≤ m
+        → m ≡ base + piped_count piped
         → piped_count piped ≤ above → base + need_of_arguments above os ≤ most → 1 ≤ operand_count os + piped_count piped
         → JunctionAt stop os piped n lay code rest → Able most last rest 0 (suc base) → Able most last code 0 m
     junction-able no_operand above stop false n lay code rest m base within is past room some l h = absurd (omega arith)
-    junction-able no_operand above stop true n lay code rest m base within is past room some l h = able-is code rest m l (able-at rest (suc base) m (omega arith) h)
+    junction-able no_operand above stop true n lay code rest m base within is past room some l h =
+        able-is code rest m l (able-at rest (suc base) m (omega arith) h)
     junction-able (operand o os) above stop piped n lay code rest m base within is past room some l h =
         operand-able o n lay code l.0 m within (omega arith) l.1
         (decide-able os piped stop n lay l.0 rest m (omega arith) l.2
         (λ some more k. junction-able os (suc above) stop piped n lay more rest m base within is (omega arith) (omega arith) some k h)
         (able-at rest (suc base) (suc (m - piped_count piped)) (omega arith) h))
 
-    pub command-able : (os : Operands) (piped : Bool) (n : ℕ) (lay : Layout) (code rest : Code) (m base : ℕ) → n + length lay ≤ m → m ≡ base + piped_count piped → base + need_of_command (piped_count piped) os ≤ most
+    pub command-able : (os : Operands) (piped : Bool) (n : ℕ) (lay : Layout) (code rest : Code) (m base : ℕ) → n + length lay ≤ m
+        → m ≡ base + piped_count piped → base + need_of_command (piped_count piped) os ≤ most
         → CommandAt os piped n lay code rest → Able most last rest 0 (suc base) → Able most last code 0 m
     command-able no_operand piped n lay code rest m base within is room l h = able-is code _ m l (tt, tt)
     command-able (operand (function f) os) piped n lay code rest m base within is room l h =
@@ -179,16 +193,19 @@ module _ (most last : ℕ) where
         first-able (is_last os piped) o m code rest (OperandAt o n lay)
         (λ t k. (let none = last-alone os piped t in operand-able o n lay code rest m within (omega arith) k (able-at rest (suc base) (suc m) (omega arith) h))) l
 
-    pub commands-able : (cs : Commands) (piped : Bool) (n : ℕ) (lay : Layout) (code rest : Code) (base : ℕ) → n + length lay ≤ base → base + need_of_commands (piped_count piped) cs ≤ most
+    pub commands-able : (cs : Commands) (piped : Bool) (n : ℕ) (lay : Layout) (code rest : Code) (base : ℕ) → n + length lay ≤ base
+        → base + need_of_commands (piped_count piped) cs ≤ most
         → CommandsAt cs piped n lay code rest → Able most last rest 0 (suc base) → Able most last code 0 (base + piped_count piped)
-    commands-able no_command false n lay code rest base within room l h = able-is code _ (base + 0) l (omega arith, able-at rest (suc base) (suc (base + 0)) (omega arith) h)
+    commands-able no_command false n lay code rest base within room l h =
+        able-is code _ (base + 0) l (omega arith, able-at rest (suc base) (suc (base + 0)) (omega arith) h)
     commands-able no_command true n lay code rest base within room l h = able-is code rest (base + 1) l (able-at rest (suc base) (base + 1) (omega arith) h)
     commands-able (command os cs) piped n lay code rest base within room l h =
         command-able os piped (n + piped_count piped) lay code (act settle ∷ l.0) (base + piped_count piped) base (omega arith) refl (omega arith) l.1
         (omega arith, able-at l.0 (base + 1) (suc base) (omega arith) (commands-able cs true n lay l.0 rest base within (omega arith) l.2 h))
 
 -- with a frame of this layout, a pipeline finds its cells and has room where its room is left
-pub pipeline-able : (most : ℕ) (p : Pipeline) (lay : Layout) (code rest : Code) (size : ℕ) → length lay ≤ size → size + need_of_pipeline p ≤ most → PipelineAt p lay code rest
+pub pipeline-able : (most : ℕ) (p : Pipeline) (lay : Layout) (code rest : Code) (size : ℕ) → length lay ≤ size → size + need_of_pipeline p ≤ most
+    → PipelineAt p lay code rest
     → Able most (suc size) rest 0 (suc size) → Able most (suc size) code 0 size
 pipeline-able most (pipeline cs) lay code rest size within room l h =
     able-at most (suc size) code (size + 0) size (omega arith) (commands-able most (suc size) cs false 0 lay code rest size (omega arith) room l h)

@@ -1,6 +1,8 @@
--- The cells that a call takes, as its arguments.
-use Rattle.std.proofs.Common.{arith, ◌≡◌, ◌∙◌, ◌+◌, ◌≤◌, ◌++◌, ◌||◌, ℕ, zero, suc, Bool, true, false, List, [], ◌∷◌, length, drop, take, map, reverse, refl, ap, sym, subst, Result, Err}
-use Rattle.std.proofs.lemmas.List.{drop_at, length-drop, length-map, length-reverse, length-take-le, map-append, reverse-append, reverse-reverse, take-map, take_at}
+-- For `Stack::call`: the cells that a call takes are the values of its arguments, and those below stay.
+use Rattle.std.proofs.Common.{arith, ◌≡◌, ◌∙◌, ◌+◌, ◌≤◌, ◌++◌, ◌||◌, ℕ, zero, suc, Bool, true, false, List, [], ◌∷◌, length, drop, take}
+use Rattle.std.proofs.Common.{map, reverse, refl, ap, sym, subst, Result, Err}
+use Rattle.std.proofs.lemmas.List.{drop_at, length-drop, length-map, length-reverse, length-take-le, map-append, reverse-append}
+use Rattle.std.proofs.lemmas.List.{reverse-reverse, take-map, take_at}
 use Rattle.std.proofs.lemmas.Simd.{map-map}
 use Rattle.std.specs.List.{drop-map}
 use Rattle.std.proofs.Math.Seq.{take-add}
@@ -32,7 +34,8 @@ module _ {A B : Type 0} (f : A → B) where
       let part = take k (drop from cs) in
       let long : length (reverse part) ≡ k = length-reverse part ∙ length-take-le k (drop from cs) (omega (arith, length-drop from cs)) in
       let split : take top cs ≡ take from cs ++ part = ap (λ n. take n cs) (sym e) ∙ take-add from k cs in
-      let turned : take k (reverse (take top cs)) ≡ reverse part = ap (λ l. take k (reverse l)) split ∙ ap (take k) (reverse-append (take from cs) part) ∙ take_at (reverse part) (reverse (take from cs)) k long in
+      let turned : take k (reverse (take top cs)) ≡ reverse part = ap (λ l. take k (reverse l)) split ∙ ap (take k) (reverse-append (take from cs) part)
+      ∙ take_at (reverse part) (reverse (take from cs)) k long in
       sym (ap reverse (take-map f k (reverse (take top cs)) ∙ ap (map f) turned) ∙ sym (map-reverse (reverse part)) ∙ ap (map f) (reverse-reverse part))
 
   one-turned : (l : List B) → length l ≤ 1 → reverse l ≡ l
@@ -51,7 +54,8 @@ module _ {A B : Type 0} (f : A → B) where
       let above = reverse (take count live) in
       let all : length live ≡ top = length-map (reverse (take top cs)) f ∙ length-reverse (take top cs) ∙ length-take-le top cs h in
       let long : length under ≡ below = length-take-le below (drop count live) (omega (arith, length-drop count live)) in
-      let order : map f part ≡ under ++ above = part-is (count + below) top from cs e h ∙ ap reverse (take-add count below live) ∙ reverse-append (take count live) under ∙ ap (λ l. l ++ above) (one-turned under (omega arith)) in
+      let order : map f part ≡ under ++ above = part-is (count + below) top from cs e h ∙ ap reverse (take-add count below live)
+      ∙ reverse-append (take count live) under ∙ ap (λ l. l ++ above) (one-turned under (omega arith)) in
       map-append f (drop below part) (take below part)
       ∙ ap (λ l. l ++ map f (take below part)) (sym (drop-map f below part)) ∙ ap (λ l. drop below (map f part) ++ l) (sym (take-map f below part))
       ∙ ap (λ l. drop below l ++ take below l) order
@@ -96,10 +100,12 @@ borrowed-part : (from n : ℕ) (l : List held.Cell) → AreBorrowed (take (from 
 borrowed-part zero n l h = let none : 0 + n ≡ n = omega arith in subst (λ k. AreBorrowed (take k l)) none h
 borrowed-part (suc from) zero [] h = tt
 borrowed-part (suc from) (suc n) [] h = tt
-borrowed-part (suc from) n (c ∷ l) h = let one : suc from + n ≡ suc (from + n) = omega arith in borrowed-part from n l (subst (λ k. AreBorrowed (take k (c ∷ l))) one h).1
+borrowed-part (suc from) n (c ∷ l) h =
+    let one : suc from + n ≡ suc (from + n) = omega arith in borrowed-part from n l (subst (λ k. AreBorrowed (take k (c ∷ l))) one h).1
 
 -- the arguments of a call
-pub borrowed-turned : (from n top below : ℕ) (l : List held.Cell) → from + n ≡ top → AreBorrowed (take top l) → AreBorrowed (drop below (take n (drop from l)) ++ take below (take n (drop from l)))
+pub borrowed-turned : (from n top below : ℕ) (l : List held.Cell) → from + n ≡ top → AreBorrowed (take top l)
+    → AreBorrowed (drop below (take n (drop from l)) ++ take below (take n (drop from l)))
 borrowed-turned from n top below l e h =
     let part = borrowed-part from n l (subst (λ k. AreBorrowed (take k l)) (sym e) h) in
     borrowed-append (drop below (take n (drop from l))) (take below (take n (drop from l))) (borrowed-drop below (take n (drop from l)) part) (borrowed-take below (take n (drop from l)) part)

@@ -1,6 +1,7 @@
--- The code of calls of templates.
+-- For the law `comes_to_meaning`: the code of a call of a template comes to what the call means, frames included.
 use Rattle.std.proofs.lemmas.Bool.Decides.{nat_tests}
-use Rattle.std.proofs.Common.{arith, ◌≡◌, ◌∙◌, ◌+◌, ◌-◌, ◌*◌, ◌≤◌, ◌<◌, nat_eq, nat_lt, ℕ, zero, suc, Bool, true, false, List, [], ◌∷◌, length, drop, refl, ap, sym, subst, Option, Some, None, Err}
+use Rattle.std.proofs.Common.{arith, ◌≡◌, ◌∙◌, ◌+◌, ◌-◌, ◌*◌, ◌≤◌, ◌<◌, nat_eq, nat_lt, ℕ, zero, suc, Bool, true, false, List, [], ◌∷◌}
+use Rattle.std.proofs.Common.{length, drop, refl, ap, sym, subst, Option, Some, None, Err}
 use Rattle.std.specs.Prelude.{slice_get}
 use Rattle.std.proofs.Math.Nat.{suc-mul}
 use Rattle.tmpl_values.specs.Value.{Value, nothing}
@@ -12,7 +13,8 @@ use Rattle.tmpl_syntax.specs.Set.{Template, number_of, tree_named}
 use Rattle.tmpl_syntax.proofs.NamedLemmas.{Named, numbered, unnumbered}
 use Rattle.tmpl_meaning.specs.Fault as fault
 use Rattle.tmpl_meaning.specs.Meaning as meaning
-use Rattle.tmpl_meaning.specs.Meaning.{Calls, End, Next, Ran, Rules, Run, Setting, apart, called, calls_within, handing, left_by, meanings, setting_of, spend_if, uncalled, with_value}
+use Rattle.tmpl_meaning.specs.Meaning.{Calls, End, Next, Ran, Rules, Run, Setting, apart, called, calls_within, handing, left_by, meanings}
+use Rattle.tmpl_meaning.specs.Meaning.{setting_of, spend_if, uncalled, with_value}
 use Rattle.tmpl_code.specs.Instruction as code
 use Rattle.tmpl_code.specs.Layout.{Layout, first_layout}
 use Rattle.tmpl_code.specs.Room.{largest_need}
@@ -29,7 +31,8 @@ use Rattle.tmpl_run.proofs.WayLemmas as ways
 use Rattle.tmpl_run.proofs.WayLemmas.{Ring, Stands, Who, who_of}
 
 -- what names call
-calls-none : (rules : Rules) (ts : List Template) (n : ℕ) (name : List ℕ) → tree_named name ts ≡ None → calls_within rules ts n name ≡ Err (fault.no_template name)
+calls-none : (rules : Rules) (ts : List Template) (n : ℕ) (name : List ℕ) → tree_named name ts ≡ None
+    → calls_within rules ts n name ≡ Err (fault.no_template name)
 calls-none rules ts zero name e = ap (uncalled rules name) e
 calls-none rules ts (suc n) name e = ap (called rules (calls_within rules ts n) name) e
 
@@ -40,12 +43,15 @@ pub record Started (all : List Template) (t : Template) (places : List ℕ) (cod
   pub rest : Code
   pub laid : TreeAt all t.1.nodes (drop place code) rest
 
-pub starts-at : (all ts : List Template) (places : List ℕ) (code : Code) (k : ℕ) (t : Template) → Starts all ts places code → slice_get ts k ≡ Some t → Started all t places code k
+pub starts-at : (all ts : List Template) (places : List ℕ) (code : Code) (k : ℕ) (t : Template) → Starts all ts places code → slice_get ts k ≡ Some t
+    → Started all t places code k
 starts-at all [] [] code k t l e = cc
 starts-at all [] (p ∷ places) code k t l e = absurd l
 starts-at all (u ∷ ts) [] code k t l e = absurd l
-starts-at all (u ∷ ts) (p ∷ places) code zero t l e = let same : u ≡ t = cc in record { place = p; at = refl; rest = l.0.0; laid = subst (λ (v : Template). TreeAt all v.1.nodes (drop p code) l.0.0) same l.0.1 }
-starts-at all (u ∷ ts) (p ∷ places) code (suc k) t l e = let more = starts-at all ts places code k t l.1 e in record { place = more.place; at = more.at; rest = more.rest; laid = more.laid }
+starts-at all (u ∷ ts) (p ∷ places) code zero t l e =
+    let same : u ≡ t = cc in record { place = p; at = refl; rest = l.0.0; laid = subst (λ (v : Template). TreeAt all v.1.nodes (drop p code) l.0.0) same l.0.1 }
+starts-at all (u ∷ ts) (p ∷ places) code (suc k) t l e =
+    let more = starts-at all ts places code k t l.1 e in record { place = more.place; at = more.at; rest = more.rest; laid = more.laid }
 
 pub need-most : (ts : List Template) (k : ℕ) (t : Template) → slice_get ts k ≡ Some t → need t.1 ≤ largest_need ts
 need-most [] k t e = cc
@@ -58,7 +64,8 @@ need-most (u ∷ ts) (suc k) t e = let more = need-most ts k t e in omega arith
 abbrev called_frame : Cell → Cell → List Cell → Frame
 called_frame back saved cs = None ∷ Some back ∷ Some saved ∷ below cs
 
-framed : (ds : List Cell) (back saved : Cell) (cs : List Cell) → frame_of first_layout ds ≡ called_frame back saved cs → (c : Cell) × (ds ≡ c ∷ back ∷ saved ∷ cs)
+framed : (ds : List Cell) (back saved : Cell) (cs : List Cell) → frame_of first_layout ds ≡ called_frame back saved cs
+    → (c : Cell) × (ds ≡ c ∷ back ∷ saved ∷ cs)
 framed [] back saved cs e = cc
 framed (c ∷ []) back saved cs e = let no : [] ≡ Some back ∷ Some saved ∷ below cs = ap (drop 1) e in cc
 framed (c ∷ b ∷ []) back saved cs e = let no : [] ≡ Some saved ∷ below cs = ap (drop 2) e in cc
@@ -71,7 +78,8 @@ framed (c ∷ b ∷ d ∷ ds) back saved cs e =
 
 -- a template from its start, inside which so many calls may still be made
 abbrev pub TemplateLeads : Plan → ℕ → Ran → ℕ → Type 0
-TemplateLeads plan room f n = (who : Who) (me : Template) (is-me : slice_get plan.templates who.number ≡ Some me) → 1 ≤ who.depth → who.depth + n ≡ plan.rules.depth_limit
+TemplateLeads plan room f n =
+    (who : Who) (me : Template) (is-me : slice_get plan.templates who.number ≡ Some me) → 1 ≤ who.depth → who.depth + n ≡ plan.rules.depth_limit
     → (home : Frame) (s : State) → who_of s ≡ who → slice_get plan.starts who.number ≡ Some s.place → frame_of first_layout s.cells ≡ home → 3 ≤ length s.cells
     → length home + need_of_nodes me.1.nodes + n * largest_need plan.templates ≤ room
     → ways.After plan room f who me is-me home (ways.Leaves plan room f who me is-me home) None (meanings (setting_of plan.rules (calls_within plan.rules plan.templates n) me.0 me.1) me.1.nodes s.dot (run_of first_layout s))
@@ -133,7 +141,8 @@ module _ (plan : Plan) (room : ℕ) (f : Ran) (who : Who) (me : Template) (is-me
           cells : (c : Cell) × (drop ret.n u.cells ≡ c ∷ cell nothing (place + 1) ∷ cell s.dot s.template ∷ s.cells)
           cells = framed (drop ret.n u.cells) (cell nothing (place + 1)) (cell s.dot s.template) s.cells ret.frame
 
-      by : (e : End) → ways.Then plan room f who me is-me home (Onward rest lay fr s.dot) g (record x.0 { env = env_of lay s.cells }) (left_by e) → ways.Then plan room f callee t is-t floor (ways.Leaves plan room f callee t is-t floor) None x.0 e
+      by : (e : End) → ways.Then plan room f who me is-me home (Onward rest lay fr s.dot) g (record x.0 { env = env_of lay s.cells }) (left_by e)
+          → ways.Then plan room f callee t is-t floor (ways.Leaves plan room f callee t is-t floor) None x.0 e
       by meaning.done k = back k
       by meaning.broke k = back k
       by meaning.continued k = back k
@@ -141,7 +150,8 @@ module _ (plan : Plan) (room : ℕ) (f : Ran) (who : Who) (me : Template) (is-me
 
   -- the call itself, with its value on the stack
   invokes : (m : ℕ) → TemplateLeads plan room f m → who.depth + suc m ≡ plan.rules.depth_limit → (g : Option Ring) (lay : Layout) (fr : Frame) (rest : Code) (s : State) (name : List ℕ) (number : ℕ) (named : Named name plan.templates number) (v : Value) (made : Bool) (place : ℕ)
-      → nat_eq s.left 0 ≡ false → Stands plan who rest lay fr (record s { place = place + 1 }) → drop place plan.code ≡ code.invoke number ∷ rest → length fr + spare_of (suc m) ≤ room
+      → nat_eq s.left 0 ≡ false → Stands plan who rest lay fr (record s { place = place + 1 }) → drop place plan.code ≡ code.invoke number ∷ rest
+      → length fr + spare_of (suc m) ≤ room
       → After (Onward rest lay fr s.dot) g (apart v (meanings (setting_of plan.rules (calls_of m) name named.t.1) named.t.1.nodes v) (with_left (s.left - 1) (run_at lay made s)))
       → Leading (valued v made place s)
   invokes m callee depth g lay fr rest s name number named v made place some st at fits k =
@@ -175,7 +185,8 @@ module _ (plan : Plan) (room : ℕ) (f : Ran) (who : Who) (me : Template) (is-me
       length-called : length (called_frame (cell nothing (place + 1)) (cell s.dot s.template) s.cells) ≡ 3 + length s.cells
       length-called = let same = length-frame [] s.cells (omega arith) in omega arith
 
-  pub call-leads : (n : ℕ) → Deeper plan room f n → who.depth + n ≡ plan.rules.depth_limit → (line : ℕ) (name : List ℕ) (given : Option Pipeline) → nodes.StepLeads plan room f who me is-me home (calls_of n) (spare_of n) pipes line (tree.template_node name given)
+  pub call-leads : (n : ℕ) → Deeper plan room f n → who.depth + n ≡ plan.rules.depth_limit → (line : ℕ) (name : List ℕ) (given : Option Pipeline)
+      → nodes.StepLeads plan room f who me is-me home (calls_of n) (spare_of n) pipes line (tree.template_node name given)
   call-leads n deeper depth line name given g lay fr here start rest s l at-node st inside fits more-fits k = by (number_of name plan.templates) refl l at-node
     where
       A : Run → Type 0
@@ -201,8 +212,10 @@ module _ (plan : Plan) (room : ℕ) (f : Ran) (who : Who) (me : Template) (is-me
           there : drop (s.place + 1) plan.code ≡ start
           there = ahead-one plan.code start s.place (code.deepen line) (st.at ∙ l)
 
-          enters : (n : ℕ) → Deeper plan room f n → who.depth + n ≡ plan.rules.depth_limit → length fr + need_of_given given + spare_of n ≤ room → nat_eq s.left 0 ≡ false
-              → After A g (with_value (set_of n) line (calls_of n name) (handing (set_of n) line given s.dot) (with_left (s.left - 1) (run_of lay s))) → Comes Leading (deepened false (nat_lt s.depth plan.rules.depth_limit) plan me line s) f
+          enters : (n : ℕ) → Deeper plan room f n → who.depth + n ≡ plan.rules.depth_limit → length fr + need_of_given given + spare_of n ≤ room
+              → nat_eq s.left 0 ≡ false
+              → After A g (with_value (set_of n) line (calls_of n name) (handing (set_of n) line given s.dot) (with_left (s.left - 1) (run_of lay s)))
+              → Comes Leading (deepened false (nat_lt s.depth plan.rules.depth_limit) plan me line s) f
           enters zero deeper depth fits some k =
               subst (λ b. Comes Leading (deepened false b plan me line s) f) (sym closed)
               (subst (λ c. After A g (with_value (set_of zero) line c (handing (set_of zero) line given s.dot) (with_left (s.left - 1) (run_of lay s)))) (ap (uncalled plan.rules name) named.tree) k)
@@ -219,10 +232,13 @@ module _ (plan : Plan) (room : ℕ) (f : Ran) (who : Who) (me : Template) (is-me
               body : Value → Next
               body v = apart v (meanings (setting_of plan.rules (calls_of m) name named.t.1) named.t.1.nodes v)
 
-              gets : (v : Value) (made : Bool) (place : ℕ) → drop place plan.code ≡ code.invoke number ∷ rest → After A g (body v (with_left (s.left - 1) (run_at lay made s))) → Leading (valued v made place next)
+              gets : (v : Value) (made : Bool) (place : ℕ) → drop place plan.code ≡ code.invoke number ∷ rest
+                  → After A g (body v (with_left (s.left - 1) (run_at lay made s))) → Leading (valued v made place next)
               gets v made place at k = invokes m deeper depth g lay fr rest next name number named v made place some (record { at = ahead-one plan.code rest place (code.invoke number) at; runs = st.runs; frame = st.frame; deep = st.deep }) at (omega arith) k
 
-              hands : (given : Option Pipeline) → GivenAt given lay start (code.invoke number ∷ rest) → length fr + need_of_given given + spare_of (suc m) ≤ room → After A g (handing (set_of (suc m)) line given s.dot body (with_left (s.left - 1) (run_of lay s))) → Leading next
+              hands : (given : Option Pipeline) → GivenAt given lay start (code.invoke number ∷ rest)
+                  → length fr + need_of_given given + spare_of (suc m) ≤ room
+                  → After A g (handing (set_of (suc m)) line given s.dot body (with_left (s.left - 1) (run_of lay s))) → Leading next
               hands None l fits k =
                   ways.takes plan room f who me is-me home next (code.act code.push_nothing) (code.invoke number ∷ rest) st.runs (there ∙ l) (let long = sym (ap length st.frame) ∙ length-frame lay s.cells st.deep in omega arith)
                   (gets nothing s.made_text (s.place + 1 + 1 + 0) (ahead plan.code (code.invoke number ∷ rest) (s.place + 1) 0 (code.act code.push_nothing) (there ∙ l)) k)
@@ -230,6 +246,7 @@ module _ (plan : Plan) (room : ℕ) (f : Ran) (who : Who) (me : Template) (is-me
                   value-leads plan room f who me is-me home (calls_of (suc m)) pipes A g line (s.left - 1) p lay fr start (code.invoke number ∷ rest) next body l (record { at = there; runs = st.runs; frame = st.frame; deep = st.deep }) refl refl (omega arith) k
                   (λ v made place at k. gets v made place at k)
 
-          pays : (b : Bool) → nat_eq s.left 0 ≡ b → After A g (spend_if b (set_of n) line (meaning.calling (set_of n) line name given s.dot) (run_of lay s)) → Comes Leading (deepened b (nat_lt s.depth plan.rules.depth_limit) plan me line s) f
+          pays : (b : Bool) → nat_eq s.left 0 ≡ b → After A g (spend_if b (set_of n) line (meaning.calling (set_of n) line name given s.dot) (run_of lay s))
+              → Comes Leading (deepened b (nat_lt s.depth plan.rules.depth_limit) plan me line s) f
           pays true is k = k
           pays false is k = enters n deeper depth fits is k

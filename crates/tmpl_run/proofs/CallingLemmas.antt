@@ -1,6 +1,7 @@
--- What the instructions of a call do, by what is found.
+-- For `deepen`, `invoke` and `return_from`: what these instructions do, by what is found on the stack.
 use Rattle.std.proofs.lemmas.Bool.Decides.{nat_tests}
-use Rattle.std.proofs.Common.{arith, ◌≡◌, ◌≢◌, ◌∙◌, ◌+◌, ◌-◌, ◌<◌, ◌≤◌, nat_eq, nat_lt, ℕ, suc, Bool, true, false, List, [], ◌∷◌, length, drop, refl, ap, Some, None}
+use Rattle.std.proofs.Common.{arith, ◌≡◌, ◌≢◌, ◌∙◌, ◌+◌, ◌-◌, ◌<◌, ◌≤◌, nat_eq, nat_lt, ℕ, suc, Bool, true, false, List, [], ◌∷◌, length}
+use Rattle.std.proofs.Common.{drop, refl, ap, Some, None}
 use Rattle.std.specs.Prelude.{slice_get}
 use Rattle.tmpl_values.specs.Value.{nothing}
 use Rattle.tmpl_syntax.specs.Set.{Template}
@@ -13,21 +14,27 @@ use Rattle.tmpl_run.specs.Machine.{Turn, deepened, done, ended, failed, frame, g
 module _ (plan : Plan) (t : Template) (s : State) where
   -- ---- before a call
   pub deepen-spent : (line : ℕ) → s.left ≡ 0 → done plan t (code.deepen line) s ≡ failed t line (steps_spent plan.rules.step_limit) s
-  deepen-spent line e = ap (λ b. deepened b (nat_lt s.depth plan.rules.depth_limit) plan t line s) (let z : nat_eq s.left 0 ≡ true = grind (arith, nat_tests) in z)
+  deepen-spent line e =
+      ap (λ b. deepened b (nat_lt s.depth plan.rules.depth_limit) plan t line s) (let z : nat_eq s.left 0 ≡ true = grind (arith, nat_tests) in z)
 
   deepen-by : (line : ℕ) (b : Bool) → s.left ≢ 0 → nat_lt s.depth plan.rules.depth_limit ≡ b → done plan t (code.deepen line) s ≡ deepened false b plan t line s
-  deepen-by line b some e = ap (λ z. deepened z (nat_lt s.depth plan.rules.depth_limit) plan t line s) (let z : nat_eq s.left 0 ≡ false = grind (arith, nat_tests) in z)
+  deepen-by line b some e =
+      ap (λ z. deepened z (nat_lt s.depth plan.rules.depth_limit) plan t line s) (let z : nat_eq s.left 0 ≡ false = grind (arith, nat_tests) in z)
       ∙ ap (λ d. deepened false d plan t line s) e
 
-  pub deepen-deep : (line : ℕ) → s.left ≢ 0 → plan.rules.depth_limit ≤ s.depth → done plan t (code.deepen line) s ≡ failed t line (calls_too_deep plan.rules.depth_limit) s
+  pub deepen-deep : (line : ℕ) → s.left ≢ 0 → plan.rules.depth_limit ≤ s.depth
+      → done plan t (code.deepen line) s ≡ failed t line (calls_too_deep plan.rules.depth_limit) s
   deepen-deep line some h = deepen-by line false some (grind (arith, nat_tests))
 
-  pub deepen-goes : (line : ℕ) → s.left ≢ 0 → s.depth < plan.rules.depth_limit → done plan t (code.deepen line) s ≡ goes (record s { line = line; place = s.place + 1 })
+  pub deepen-goes : (line : ℕ) → s.left ≢ 0 → s.depth < plan.rules.depth_limit
+      → done plan t (code.deepen line) s ≡ goes (record s { line = line; place = s.place + 1 })
   deepen-goes line some h = deepen-by line true some (grind (arith, nat_tests))
 
   -- ---- a call
   module _ (number start : ℕ) (starts : slice_get plan.starts number ≡ Some start) where
-    invoke-by : (c : Cell) (cs : List Cell) (b : Bool) → top s.cells (λ c cs. invoked plan t number (slice_get plan.starts number) c cs s) ≡ invoked plan t number (slice_get plan.starts number) c cs s → nat_eq s.left 0 ≡ b
+    invoke-by : (c : Cell) (cs : List Cell) (b : Bool)
+        → top s.cells (λ c cs. invoked plan t number (slice_get plan.starts number) c cs s) ≡ invoked plan t number (slice_get plan.starts number) c cs s
+        → nat_eq s.left 0 ≡ b
         → done plan t (code.invoke number) s ≡ paid_if b plan t s.line s (λ s. goes (record s { cells = fresh c.val ∷ cell nothing (s.place + 1) ∷ cell s.dot s.template ∷ cs; dot = c.val; template = number; depth = suc s.depth; place = start }))
     invoke-by c cs b is e = is ∙ ap (λ o. invoked plan t number o c cs s) starts
         ∙ ap (λ d. paid_if d plan t s.line s (λ s. goes (record s { cells = fresh c.val ∷ cell nothing (s.place + 1) ∷ cell s.dot s.template ∷ cs; dot = c.val; template = number; depth = suc s.depth; place = start }))) e
@@ -50,7 +57,8 @@ module _ (plan : Plan) (t : Template) (s : State) where
   pub return-ends : (n : ℕ) → s.depth ≤ 1 → done plan t (code.return_from n) s ≡ ended (ran_so s None)
   return-ends n h = ap (λ b. returned_if b (drop n s.cells) s) (let z : nat_lt 1 s.depth ≡ false = grind (arith, nat_tests) in z)
 
-  framed : (ds : List Cell) (back saved : Cell) (cs : List Cell) (go : Cell → Cell → List Cell → Turn) → drop 1 ds ≡ back ∷ saved ∷ cs → frame ds go ≡ go back saved cs
+  framed : (ds : List Cell) (back saved : Cell) (cs : List Cell) (go : Cell → Cell → List Cell → Turn) → drop 1 ds ≡ back ∷ saved ∷ cs
+      → frame ds go ≡ go back saved cs
   framed [] back saved cs go e = cc
   framed (c ∷ ds) back saved cs go e = ap (λ l. frame (c ∷ l) go) e
 

@@ -1,5 +1,6 @@
--- Templates that call none mean the same whatever calls would come to.
-use Rattle.std.proofs.Common.{◌≡◌, ◌∙◌, ◌||◌, ◌-◌, if◌then◌else◌, ℕ, zero, suc, Bool, true, false, nat_eq, List, [], ◌∷◌, length, refl, ap, subst, Option, Some, None, Result, Ok, Err}
+-- For the law `depth_alike`: templates that call none mean the same whatever calls would come to.
+use Rattle.std.proofs.Common.{◌≡◌, ◌∙◌, ◌||◌, ◌-◌, if◌then◌else◌, ℕ, zero, suc, Bool, true, false, nat_eq, List, [], ◌∷◌, length, refl, ap}
+use Rattle.std.proofs.Common.{subst, Option, Some, None, Result, Ok, Err}
 use Rattle.std.specs.Prelude.{slice_get}
 use Rattle.tmpl_values.specs.Value.{Value}
 use Rattle.tmpl_values.specs.Elements.{Element}
@@ -11,7 +12,9 @@ use Rattle.tmpl_syntax.specs.Tree as tree
 use Rattle.tmpl_syntax.specs.Tree.{NodeKind, Nodes, Tree, text, action, control_node, break_node, continue_node, template_node}
 use Rattle.tmpl_syntax.specs.Set.{Template}
 use Rattle.tmpl_meaning.specs.Pipeline.{pipeline_value}
-use Rattle.tmpl_meaning.specs.Meaning.{Calls, Cause, Next, Run, Setting, after, after_turn, alone, calls_within, choosing, controlled, meanings, one_of, over, ran, ran_of, ranging, scope, scoped, setting_of, shown, spend, spend_if, started, starting_dot, stepped, turn, turns, visited, with_bound, with_pipeline, with_value}
+use Rattle.tmpl_meaning.specs.Meaning.{Calls, Cause, Next, Run, Setting, after, after_turn, alone, calls_within, choosing, controlled}
+use Rattle.tmpl_meaning.specs.Meaning.{meanings, one_of, over, ran, ran_of, ranging, scope, scoped, setting_of, shown, spend, spend_if}
+use Rattle.tmpl_meaning.specs.Meaning.{started, starting_dot, stepped, turn, turns, visited, with_bound, with_pipeline, with_value}
 use Rattle.tmpl_code.specs.Calls.{deepest, node_calls, nodes_call, set_calls}
 use Rattle.tmpl_run.specs.Laws.{DepthAlike}
 
@@ -45,20 +48,24 @@ module _ (s : Setting) (depth : ℕ) (calls : Calls) where
   turns-same line b body [] r = refl
   turns-same line b body (e ∷ es) r = λ i. after_turn (turn-same line b body e r i) (λ t. turns-same line b body es t i)
 
-  over-same : (line : ℕ) (b : Binding) (body : Value → Next) (els : Next) (o : Option (List Element)) (r : Run) → over other line b body els o r ≡ over s line b body els o r
+  over-same : (line : ℕ) (b : Binding) (body : Value → Next) (els : Next) (o : Option (List Element)) (r : Run)
+      → over other line b body els o r ≡ over s line b body els o r
   over-same line b body els None r = refl
   over-same line b body els (Some []) r = refl
   over-same line b body els (Some (e ∷ es)) r = turns-same line b body (e ∷ es) r
 
-  choosing-same : (line : ℕ) (h : Header) (d : Value) (body : Value → Next) (els : Next) (r : Run) → choosing other line h d body els r ≡ choosing s line h d body els r
+  choosing-same : (line : ℕ) (h : Header) (d : Value) (body : Value → Next) (els : Next) (r : Run)
+      → choosing other line h d body els r ≡ choosing s line h d body els r
   choosing-same line h d body els r = pipeline-same line h.pipeline d (λ v r. one_of (truth v) (body v) els (with_bound h.binding (alone v) r)) r
 
-  ranging-same : (line : ℕ) (h : Header) (d : Value) (body : Value → Next) (els : Next) (r : Run) → ranging other line h d body els r ≡ ranging s line h d body els r
+  ranging-same : (line : ℕ) (h : Header) (d : Value) (body : Value → Next) (els : Next) (r : Run)
+      → ranging other line h d body els r ≡ ranging s line h d body els r
   ranging-same line h d body els r =
       pipeline-same line h.pipeline d (λ v. over other line h.binding body els (visited h.binding v)) r
       ∙ (λ i. with_pipeline s line h.pipeline d (λ v t. over-same line h.binding body els (visited h.binding v) t i) r)
 
-  controlled-same : (line : ℕ) (c : Control) (h : Header) (d : Value) (body : Value → Next) (els : Next) (r : Run) → controlled other line c h d body els r ≡ controlled s line c h d body els r
+  controlled-same : (line : ℕ) (c : Control) (h : Header) (d : Value) (body : Value → Next) (els : Next) (r : Run)
+      → controlled other line c h d body els r ≡ controlled s line c h d body els r
   controlled-same line control.If h d body els r = choosing-same line h d (λ v. body d) els r
   controlled-same line control.With h d body els r = choosing-same line h d body els r
   controlled-same line control.Range h d body els r = ranging-same line h d body els r
@@ -85,7 +92,8 @@ module _ (s : Setting) (depth : ℕ) (calls : Calls) where
 -- a template of a set in which none calls one
 calls-none : (ts : List Template) (number : ℕ) (t : Template) → set_calls ts ≡ false → slice_get ts number ≡ Some t → nodes_call t.1.nodes ≡ false
 calls-none [] number t none at = cc
-calls-none (u ∷ ts) zero t none at = let same : u ≡ t = cc in subst (λ (x : Template). nodes_call x.1.nodes ≡ false) same (neither (nodes_call u.1.nodes) (set_calls ts) none).0
+calls-none (u ∷ ts) zero t none at =
+    let same : u ≡ t = cc in subst (λ (x : Template). nodes_call x.1.nodes ≡ false) same (neither (nodes_call u.1.nodes) (set_calls ts) none).0
 calls-none (u ∷ ts) (suc n) t none at = calls-none ts n t (neither (nodes_call u.1.nodes) (set_calls ts) none).1 at
 
 pub depth_alike : DepthAlike

@@ -1,4 +1,4 @@
--- The steps of a pipeline one behind the other, up to what is none.
+-- For the law `comes_to_meaning`: the steps of a pipeline one behind the other, up to what is none, as one function of code and cells.
 use Rattle.std.specs.Prelude.{ℕ, zero, suc, Bool, List, [], ◌∷◌, Option, Some, None}
 use Rattle.tmpl_meaning.specs.Fault.{Cause}
 use Rattle.tmpl_meaning.specs.Pipeline.{Place}

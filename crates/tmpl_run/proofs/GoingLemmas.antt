@@ -1,5 +1,6 @@
--- What the loop of a run keeps, and to what it comes.
-use Rattle.std.proofs.Common.{arith, inl, inr, ◌≡◌, ◌∙◌, ◌+◌, ◌||◌, ◌++◌, ◌^◌, ◌<◌, ◌≤◌, ℕ, suc, Bool, true, false, List, [], ◌∷◌, length, get_or, refl, ap, sym, subst, Some, Ok, Err}
+-- For `turns`: what the loop of a run keeps from turn to turn, and what it comes to where it ends.
+use Rattle.std.proofs.Common.{arith, inl, inr, ◌≡◌, ◌∙◌, ◌+◌, ◌||◌, ◌++◌, ◌^◌, ◌<◌, ◌≤◌, ℕ, suc, Bool, true, false, List, [], ◌∷◌, length}
+use Rattle.std.proofs.Common.{get_or, refl, ap, sym, subst, Some, Ok, Err}
 use Rattle.std.specs.Prelude.{option_map, slice_get}
 use Rattle.std.proofs.lemmas.Option.{get_or_from_slice_get, slice_get-get_or, slice_get-map}
 use Rattle.tmpl_values.specs.Put.{Puts, IsPut}
@@ -43,7 +44,8 @@ told_at run m = record {
 }
 
 -- the instruction at a place, and the template of a number
-pub code-at : (items : List held.Instruction) (place : ℕ) (i d : held.Instruction) → place < length items → i ≡ get_or items place d → slice_get (instructions_of items) place ≡ Some (instruction_of i)
+pub code-at : (items : List held.Instruction) (place : ℕ) (i d : held.Instruction) → place < length items → i ≡ get_or items place d
+    → slice_get (instructions_of items) place ≡ Some (instruction_of i)
 code-at items place i d h is = slice_get-map instruction_of items place ∙ ap (option_map instruction_of) (slice_get-get_or items place d h ∙ ap Some (sym is))
 
 pub runs-at : (ts : List Template) (n : ℕ) (d : Template) → (t : Template) × (slice_get ts n ≡ Some t) → slice_get ts n ≡ Some (get_or ts n d)
@@ -118,7 +120,8 @@ module _ (plan : Plan) (size : ℕ) (end : Ran) (x : List ℕ) (m : Bool) (s : S
       by (inr (left, inr (depth, place))) = omega arith
 
   -- the run goes on, with what was put out and the mark told apart again
-  pub keeps : (u : State) → done plan t i s ≡ goes u → Ends plan size (with_past (x ++ u.text) (m || u.made_text) (record u { text = []; made_text = false })) end
+  pub keeps : (u : State) → done plan t i s ≡ goes u
+      → Ends plan size (with_past (x ++ u.text) (m || u.made_text) (record u { text = []; made_text = false })) end
   keeps u e = subst (λ v. Ends plan size v end) (past-again x u.text m u.made_text u) (next-ends u e)
 
   -- memory is refused only where the end bears the mark
@@ -138,29 +141,36 @@ module _ (plan : Plan) (size : ℕ) (end : Ran) (x : List ℕ) (m : Bool) (s : S
     both more = IsPut-append given more
 
     -- the run is over, or stops at a fault
-    pub came-over : (r : Ran) → done plan t i s ≡ ended r → r.text ≡ s.text → IsPut {F = SinkFault} (Ok tt) now next (added i s) → IsPut {F = SinkFault} (Ok tt) before next end.text
-    came-over r e same more = IsPut-along (both more) (ap (λ l. x ++ l) (ended-quiet plan t i s r e ∙ sym empty ∙ sym same) ∙ ap (λ (q : Ran). q.text) (over r e))
+    pub came-over : (r : Ran) → done plan t i s ≡ ended r → r.text ≡ s.text → IsPut {F = SinkFault} (Ok tt) now next (added i s)
+        → IsPut {F = SinkFault} (Ok tt) before next end.text
+    came-over r e same more =
+        IsPut-along (both more) (ap (λ l. x ++ l) (ended-quiet plan t i s r e ∙ sym empty ∙ sym same) ∙ ap (λ (q : Ran). q.text) (over r e))
 
     pub fault-over : (r : Ran) → done plan t i s ≡ ended r → end.fault ≡ r.fault
     fault-over r e = sym (ap (λ (q : Ran). q.fault) (over r e))
 
     -- a put fails
-    pub came-cut : (u : State) → done plan t i s ≡ goes u → u.text ≡ added i s → IsPut {F = SinkFault} (Err (record {})) now next (added i s) → IsPut {F = SinkFault} (Err (record {})) before next end.text
+    pub came-cut : (u : State) → done plan t i s ≡ goes u → u.text ≡ added i s → IsPut {F = SinkFault} (Err (record {})) now next (added i s)
+        → IsPut {F = SinkFault} (Err (record {})) before next end.text
     came-cut u e same more =
         let begins = text-begins plan size (with_past x m u) end (next-ends u e) in
         IsPut-along (IsPut-stop {r = Err (record {})} begins.0 refl (IsPut-append given more)) (ap (λ l. (x ++ l) ++ begins.0) (sym same) ∙ sym begins.1)
 
     -- memory is refused
-    pub came-refused : added i s ≡ [] → IsPut {F = SinkFault} (Ok tt) now next (added i s) → (text : List ℕ) × Begins text end.text × IsPut {F = SinkFault} (Ok tt) before next text
+    pub came-refused : added i s ≡ [] → IsPut {F = SinkFault} (Ok tt) now next (added i s)
+        → (text : List ℕ) × Begins text end.text × IsPut {F = SinkFault} (Ok tt) before next text
     came-refused quiet more = (x ++ s.text, text-begins plan size past end h, IsPut-along (both more) (ap (λ l. x ++ l) (quiet ∙ sym empty)))
 
     -- a stop
     module _ (u : State) (P Q : Type 0) (fresh : s.made_text ≡ false) (plain : m ≡ false → P) (told : u.text ≡ added i s) where
-      pub came-stopped : (r : Told) → r.plan ≡ plan → r.template ≡ t → (stop : Halt) (e : RunError) → Executed r i s u (Err stop) → IsPut (put_by {A = Flow} (Err stop)) now next (added i s)
-          → (mark_behind i false ≡ false → P → SparedOr {A = Flow} (Err stop) Q) → IsStopped (slice_get plan.templates s.template) u.line stop e → Came end before next (Err e)
+      pub came-stopped : (r : Told) → r.plan ≡ plan → r.template ≡ t → (stop : Halt) (e : RunError) → Executed r i s u (Err stop)
+          → IsPut (put_by {A = Flow} (Err stop)) now next (added i s)
+          → (mark_behind i false ≡ false → P → SparedOr {A = Flow} (Err stop) Q) → IsStopped (slice_get plan.templates s.template) u.line stop e
+          → Came end before next (Err e)
       came-stopped r same-plan same-template (stop.Fault kind) (error.Fault fault) step more spared is = (
         came-over (ran_so (record s { made_text = u.made_text }) (Some (fault_at t u.line (cause_of kind)))) step' refl more,
-        fault-over (ran_so (record s { made_text = u.made_text }) (Some (fault_at t u.line (cause_of kind)))) step' ∙ sym (is ∙ ap (option_map (λ t. fault_at t u.line (cause_of kind))) runs),
+        fault-over (ran_so (record s { made_text = u.made_text }) (Some (fault_at t u.line (cause_of kind)))) step'
+            ∙ sym (is ∙ ap (option_map (λ t. fault_at t u.line (cause_of kind))) runs),
       )
         where
           step' : done plan t i s ≡ failed t u.line (cause_of kind) (record s { made_text = u.made_text })

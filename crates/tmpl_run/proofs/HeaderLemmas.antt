@@ -1,5 +1,6 @@
--- The pipeline of a header, and what is bound to its value.
-use Rattle.std.proofs.Common.{arith, ◌≡◌, ◌∙◌, ◌+◌, ◌≤◌, ◌||◌, ℕ, Bool, true, false, List, [], ◌∷◌, length, drop, refl, ap, sym, subst, Option, Some, None, Result, Ok, Err}
+-- For the law `comes_to_meaning`: the pipeline of a header and what is bound to its value, which actions and controls share.
+use Rattle.std.proofs.Common.{arith, ◌≡◌, ◌∙◌, ◌+◌, ◌≤◌, ◌||◌, ℕ, Bool, true, false, List, [], ◌∷◌, length, drop, refl, ap, sym, subst}
+use Rattle.std.proofs.Common.{Option, Some, None, Result, Ok, Err}
 use Rattle.std.specs.Prelude.{slice_get, slice_set}
 use Rattle.std.proofs.lemmas.List.{length-set}
 use Rattle.tmpl_values.specs.Value.{Value, nothing}
@@ -49,7 +50,8 @@ given_in plan lay s p = pipeline_value (record { missing_key = plan.rules.missin
 -- what pipelines do
 abbrev pub Pipelines : Plan → ℕ → Ran → Who → Template → Type 0
 Pipelines plan room f who me =
-    (p : Pipeline) (lay : Layout) (start rest : Code) (s : State) → who_of s ≡ who → PipelineAt p lay start rest → drop s.place plan.code ≡ start → length lay ≤ length s.cells → length s.cells + need_of_pipeline p ≤ room → Plain rest
+    (p : Pipeline) (lay : Layout) (start rest : Code) (s : State) → who_of s ≡ who → PipelineAt p lay start rest → drop s.place plan.code ≡ start
+    → length lay ≤ length s.cells → length s.cells + need_of_pipeline p ≤ room → Plain rest
     → Gives plan me (λ t. Ends plan room t f) f rest s (given_in plan lay s p).result (s.made_text || (given_in plan lay s p).made_text) → Ends plan room s f
 
 -- what a binding does to the variables that are there
@@ -82,7 +84,8 @@ plain-is a b e p = subst Plain (sym e) p
 
 module _ (plan : Plan) (room : ℕ) (f : Ran) (who : Who) (me : Template) (is-me : slice_get plan.templates who.number ≡ Some me) (home : Frame) (calls : Calls) (pipes : Pipelines plan room f who me) where
   -- with a value on the stack goes on behind what binds it
-  set-leads : (x : List ℕ) (o : Option ℕ) (lay : Layout) (fr : Frame) (v : Value) (mid rest : Code) (s : State) (m : Bool) (place : ℕ) → who_of s ≡ who → slot_named x lay ≡ o → SetAt o mid rest → drop place plan.code ≡ mid
+  set-leads : (x : List ℕ) (o : Option ℕ) (lay : Layout) (fr : Frame) (v : Value) (mid rest : Code) (s : State) (m : Bool) (place : ℕ) → who_of s ≡ who
+      → slot_named x lay ≡ o → SetAt o mid rest → drop place plan.code ≡ mid
       → frame_of lay s.cells ≡ fr → length lay ≤ length s.cells
       → ((cs : List Cell) (place : ℕ) → drop place plan.code ≡ rest → frame_of lay cs ≡ fr → length lay ≤ length cs → env_of lay cs ≡ assigned x v (env_of lay s.cells) → Ends plan room (record s { cells = fresh v ∷ cs; made_text = m; place = place }) f)
       → Ends plan room (record s { cells = fresh v ∷ s.cells; made_text = m; place = place }) f
@@ -91,7 +94,8 @@ module _ (plan : Plan) (room : ℕ) (f : Ran) (who : Who) (me : Template) (is-me
       ways.takes plan room f who me is-me home (record s { cells = fresh v ∷ s.cells; made_text = m; place = place }) (code.set k) rest same (at ∙ l) (let below = found-within x lay k e in omega arith)
       (more (slice_set s.cells k (fresh v)) (place + 1) (ahead-one plan.code rest place (code.set k) (at ∙ l)) (frame-set x lay s.cells k (fresh v) e deep ∙ frame) (omega (arith, length-set s.cells k (fresh v))) (stored x lay s.cells k v e deep))
 
-  bind-leads : (b : Binding) (lay : Layout) (fr : Frame) (v : Value) (mid rest : Code) (s : State) (m : Bool) (place : ℕ) → who_of s ≡ who → BindAt b lay mid rest → drop place plan.code ≡ mid
+  bind-leads : (b : Binding) (lay : Layout) (fr : Frame) (v : Value) (mid rest : Code) (s : State) (m : Bool) (place : ℕ) → who_of s ≡ who
+      → BindAt b lay mid rest → drop place plan.code ≡ mid
       → frame_of lay s.cells ≡ fr → length lay ≤ length s.cells → length s.cells + declared_count b ≤ room
       → ((cs : List Cell) (place : ℕ) → drop place plan.code ≡ rest → frame_of lay cs ≡ fr → length lay ≤ length cs → env_of lay cs ≡ written b v (env_of lay s.cells) → Ends plan room (headed b v cs m place s) f)
       → Ends plan room (valued v m place s) f
@@ -99,7 +103,8 @@ module _ (plan : Plan) (room : ℕ) (f : Ran) (who : Who) (me : Template) (is-me
   bind-leads (declare x) lay fr v mid rest s m place same l at frame deep fits more =
       ways.takes plan room f who me is-me home (valued v m place s) (code.hold false) rest same (at ∙ l) tt
       (more s.cells (place + 1) (ahead-one plan.code rest place (code.hold false) (at ∙ l)) frame deep refl)
-  bind-leads (assign x) lay fr v mid rest s m place same l at frame deep fits more = set-leads x (slot_named x lay) lay fr v mid rest s m place same refl l at frame deep more
+  bind-leads (assign x) lay fr v mid rest s m place same l at frame deep fits more =
+      set-leads x (slot_named x lay) lay fr v mid rest s m place same refl l at frame deep more
   bind-leads (declare_pair k x) lay fr v mid rest s m place same l at frame deep fits more =
       ways.takes plan room f who me is-me home (valued v m place s) (code.hold true) rest same (at ∙ l) (omega arith)
       (more s.cells (place + 1) (ahead-one plan.code rest place (code.hold true) (at ∙ l)) frame deep refl)
@@ -124,13 +129,16 @@ module _ (plan : Plan) (room : ℕ) (f : Ran) (who : Who) (me : Template) (is-me
       pipes p lay start mid s st.runs l st.at st.deep (let long = length-frame lay s.cells st.deep in let same = ap length st.frame in omega arith) plain
       (by (given_in plan lay s p).result (s.made_text || (given_in plan lay s p).made_text) k)
     where
-      by : (r : Result Value Cause) (m : Bool) → ways.After plan room f who me is-me home A g (with_value (setting_of plan.rules calls me.0 me.1) line r go (with_left left (run_at lay m s))) → Gives plan me (λ t. Ends plan room t f) f mid s r m
+      by : (r : Result Value Cause) (m : Bool)
+          → ways.After plan room f who me is-me home A g (with_value (setting_of plan.rules calls me.0 me.1) line r go (with_left left (run_at lay m s)))
+          → Gives plan me (λ t. Ends plan room t f) f mid s r m
       by (Ok v) m k = λ place at. more v m place at k
       by (Err cause) m k = ap (λ n. ran_so (record s { made_text = m }) (Some (fault_at me n cause))) same-line ∙ k
 
   -- a header
   pub header-leads : (A : Run → Type 0) (g : Option Ring) (line : ℕ) (h : Header) (lay : Layout) (fr : Frame) (start mid : Code) (s : State) (go : Value → Next)
-      → HeaderAt h lay start mid → Stands plan who start lay fr s → s.line ≡ line → PlainFor h.binding mid → length fr + need_of_pipeline h.pipeline ≤ room → length fr + declared_count h.binding ≤ room
+      → HeaderAt h lay start mid → Stands plan who start lay fr s → s.line ≡ line → PlainFor h.binding mid → length fr + need_of_pipeline h.pipeline ≤ room
+      → length fr + declared_count h.binding ≤ room
       → ways.After plan room f who me is-me home A g (with_pipeline (setting_of plan.rules calls me.0 me.1) line h.pipeline s.dot go (run_of lay s))
       → ((v : Value) (cs : List Cell) (m : Bool) (place : ℕ) → drop place plan.code ≡ mid → frame_of lay cs ≡ fr → length lay ≤ length cs → env_of lay cs ≡ written h.binding v (env_of lay s.cells)
       → ways.After plan room f who me is-me home A g (go v (run_at lay m s)) → Ends plan room (headed h.binding v cs m place s) f)
@@ -142,19 +150,23 @@ module _ (plan : Plan) (room : ℕ) (f : Ran) (who : Who) (me : Template) (is-me
 
 -- what a control keeps of its header
 pub bound-env : (b : Binding) (lay : Layout) (v : Value) (cs : List Cell) (s : State) (m : Bool) → env_of lay cs ≡ written b v (env_of lay s.cells)
-    → record { env = env_of (bound_on b lay) (kept_on (declares b) (fresh v) (under b cs)); text = s.text; left = s.left; made_text = m } ≡ with_bound b (alone v) (run_at lay m s)
+    → record { env = env_of (bound_on b lay) (kept_on (declares b) (fresh v) (under b cs)); text = s.text; left = s.left; made_text = m }
+    ≡ with_bound b (alone v) (run_at lay m s)
 bound-env unbound lay v cs s m e = ap (λ (w : Environment). let r : Run = record { env = w; text = s.text; left = s.left; made_text = m } in r) e
 bound-env (declare x) lay v cs s m e = ap (λ (w : Environment). let r : Run = record { env = (x, v) ∷ w; text = s.text; left = s.left; made_text = m } in r) e
 bound-env (assign x) lay v cs s m e = ap (λ (w : Environment). let r : Run = record { env = w; text = s.text; left = s.left; made_text = m } in r) e
-bound-env (declare_pair k x) lay v cs s m e = ap (λ (w : Environment). let r : Run = record { env = (x, v) ∷ (k, nothing) ∷ w; text = s.text; left = s.left; made_text = m } in r) e
+bound-env (declare_pair k x) lay v cs s m e =
+    ap (λ (w : Environment). let r : Run = record { env = (x, v) ∷ (k, nothing) ∷ w; text = s.text; left = s.left; made_text = m } in r) e
 
-pub bound-frame : (b : Binding) (lay : Layout) (fr : Frame) (v : Value) (cs : List Cell) → frame_of lay cs ≡ fr → frame_of (bound_on b lay) (kept_on (declares b) (fresh v) (under b cs)) ≡ bound_in b fr
+pub bound-frame : (b : Binding) (lay : Layout) (fr : Frame) (v : Value) (cs : List Cell) → frame_of lay cs ≡ fr
+    → frame_of (bound_on b lay) (kept_on (declares b) (fresh v) (under b cs)) ≡ bound_in b fr
 bound-frame unbound lay fr v cs e = e
 bound-frame (declare x) lay fr v cs e = ap (λ l. None ∷ l) e
 bound-frame (assign x) lay fr v cs e = e
 bound-frame (declare_pair k x) lay fr v cs e = ap (λ l. None ∷ None ∷ l) e
 
-pub bound-deep : (b : Binding) (lay : Layout) (v : Value) (cs : List Cell) → length lay ≤ length cs → length (bound_on b lay) ≤ length (kept_on (declares b) (fresh v) (under b cs))
+pub bound-deep : (b : Binding) (lay : Layout) (v : Value) (cs : List Cell) → length lay ≤ length cs
+    → length (bound_on b lay) ≤ length (kept_on (declares b) (fresh v) (under b cs))
 bound-deep unbound lay v cs h = h
 bound-deep (declare x) lay v cs h = omega arith
 bound-deep (assign x) lay v cs h = h

@@ -9,6 +9,7 @@ pub mod HeaderLemmas
 pub mod StepLemmas
 pub mod NestedLemmas
 pub mod NodeLemmas
+pub mod QuietLemmas
 pub mod RangeLemmas
 pub mod CallLemmas
 pub mod TreeLemmas

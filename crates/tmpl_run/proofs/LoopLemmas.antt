@@ -1,4 +1,4 @@
--- What a loop that holds "it comes to this end" knows of the next instruction.
+-- For `turns`: what a state that comes to an end says of its next instruction, which the loop keeps as its invariant.
 use Rattle.std.proofs.Common.{arith, ◌≡◌, ◌∙◌, inl, inr, ◌+◌, ◌-◌, ◌*◌, ◌<◌, ◌≤◌, ℕ, zero, suc, length, refl, ap, subst, Option, Some, None}
 use Rattle.std.specs.Prelude.{slice_get}
 use Rattle.std.proofs.lemmas.Option.{slice_get_within}
@@ -44,7 +44,8 @@ module _ (plan : Plan) (room : ℕ) (f : Ran) where
   pub some-template : (s : State) → Ends plan room s f → (t : Template) × (slice_get plan.templates s.template ≡ Some t)
   some-template s h = by (slice_get plan.templates s.template) refl (now s h).1
     where
-      by : (o : Option Template) → slice_get plan.templates s.template ≡ o → Comes (λ t. Ends plan room t f) (done_in plan o (slice_get plan.code s.place) s) f → (t : Template) × (slice_get plan.templates s.template ≡ Some t)
+      by : (o : Option Template) → slice_get plan.templates s.template ≡ o
+          → Comes (λ t. Ends plan room t f) (done_in plan o (slice_get plan.code s.place) s) f → (t : Template) × (slice_get plan.templates s.template ≡ Some t)
       by None e c = absurd c
       by (Some t) e c = (t, e)
 

@@ -1,6 +1,7 @@
--- What each instruction lessens, what it leaves of the text, and how it tells that a function which makes a text was called.
+-- For the laws `each_turn_lessens`, `only_adds`, `mark_stays` and `one_end`: what each instruction does to steps, depth, place, text and mark.
 use Rattle.std.proofs.lemmas.Bool.Decides.{nat_tests}
-use Rattle.std.proofs.Common.{arith, ◌≢◌, inl, inr, ◌<◌, ◌≤◌, ◌-◌, ◌≡◌, ◌∙◌, ◌+◌, ◌++◌, nat_eq, nat_lt, ℕ, zero, suc, Bool, true, false, List, [], ◌∷◌, drop, refl, ap, sym, subst, Option, Some, None, append-nil, append_assoc}
+use Rattle.std.proofs.Common.{arith, ◌≢◌, inl, inr, ◌<◌, ◌≤◌, ◌-◌, ◌≡◌, ◌∙◌, ◌+◌, ◌++◌, nat_eq, nat_lt, ℕ, zero, suc, Bool, true, false}
+use Rattle.std.proofs.Common.{List, [], ◌∷◌, drop, refl, ap, sym, subst, Option, Some, None, append-nil, append_assoc}
 use Rattle.std.specs.Prelude.{slice_get}
 use Rattle.tmpl_values.specs.Value.{nothing}
 use Rattle.tmpl_values.specs.Elements.{Element}
@@ -13,7 +14,8 @@ use Rattle.tmpl_code.specs.Instruction.{Instruction}
 use Rattle.tmpl_run.specs.Cell.{Cell, cell, fresh}
 use Rattle.tmpl_run.specs.State.{Plan, State}
 use Rattle.tmpl_run.specs.Step.{Went, halted, lacks, made_by, on, step}
-use Rattle.tmpl_run.specs.Machine.{Turn, again, branch, deepened, done, done_in, elements_for, ended, frame, goes, invoked, left_in, next_of, onto, opened, paid_if, piped, returned_if, ring, stuck, top, turned, with_dot}
+use Rattle.tmpl_run.specs.Machine.{Turn, again, branch, deepened, done, done_in, elements_for, ended, frame, goes, invoked, left_in}
+use Rattle.tmpl_run.specs.Machine.{next_of, onto, opened, paid_if, piped, returned_if, ring, stuck, top, turned, with_dot}
 use Rattle.tmpl_run.specs.Ends.{Comes, Ends, Leads}
 use Rattle.tmpl_run.specs.Laws.{Begins, Lessens, mark_behind}
 
@@ -109,7 +111,8 @@ module _ (plan : Plan) (me : Template) (s : State) where
 
   returned-moves : (b : Bool) (cs : List Cell) → nat_lt 1 s.depth ≡ b → Moves s (returned_if b cs s)
   returned-moves false cs e = same
-  returned-moves true cs e = frame-moves s cs _ (λ back saved cs. (inr (refl, inl (let deep : 1 < s.depth = grind (arith, nat_tests) in omega arith)), same, omega arith))
+  returned-moves true cs e =
+      frame-moves s cs _ (λ back saved cs. (inr (refl, inl (let deep : 1 < s.depth = grind (arith, nat_tests) in omega arith)), same, omega arith))
 
   moves : (i : Instruction) → Moves s (done plan me i s)
   moves (code.spend line) = paid-moves line (λ s. s.cells) (λ s. s.place + 1)
@@ -164,7 +167,8 @@ leads-one plan room size zero m s f g a b = absurd a
 leads-one plan room size (suc n) zero s f g a b = absurd b
 leads-one plan room size (suc n) (suc m) s f g a b = by (next_of plan s) (λ t. leads-one plan room size n m t f g) a.1 b.1
   where
-    by : (t : Turn) → ((t : State) → Leads plan room n t f → Leads plan size m t g → f ≡ g) → Comes (λ t. Leads plan room n t f) t f → Comes (λ t. Leads plan size m t g) t g → f ≡ g
+    by : (t : Turn) → ((t : State) → Leads plan room n t f → Leads plan size m t g → f ≡ g) → Comes (λ t. Leads plan room n t f) t f
+        → Comes (λ t. Leads plan size m t g) t g → f ≡ g
     by (goes t) ih a b = ih t a b
     by (ended r) ih a b = sym a ∙ b
     by stuck ih a b = absurd a
@@ -195,7 +199,8 @@ frame-marks b (c ∷ d ∷ []) go h = tt
 frame-marks b (c ∷ d ∷ e ∷ cs) go h = h d e cs
 
 module _ (plan : Plan) (me : Template) (s : State) where
-  paid-marks : (b : Bool) (line : ℕ) (go : State → Turn) → Marks s.made_text (go (record s { left = s.left - 1; line = line })) → Marks s.made_text (paid_if b plan me line s go)
+  paid-marks : (b : Bool) (line : ℕ) (go : State → Turn) → Marks s.made_text (go (record s { left = s.left - 1; line = line }))
+      → Marks s.made_text (paid_if b plan me line s go)
   paid-marks true line go h = refl
   paid-marks false line go h = h
 
@@ -281,20 +286,23 @@ next-marked plan s e = by (slice_get plan.templates s.template) (slice_get plan.
     by (Some t) None = tt
     by (Some t) (Some i) = subst (λ b. Marks b (done plan t i s)) (ap (mark_behind i) e ∙ mark-on i) (marks plan t s i)
 
-comes-marked : (After : State → Type 0) (f : Ran) → ((t : State) → After t → t.made_text ≡ true → f.made_text ≡ true) → (t : Turn) → Marks true t → Comes After t f → f.made_text ≡ true
+comes-marked : (After : State → Type 0) (f : Ran) → ((t : State) → After t → t.made_text ≡ true → f.made_text ≡ true) → (t : Turn) → Marks true t
+    → Comes After t f → f.made_text ≡ true
 comes-marked After f ih (goes t) m h = ih t h m
 comes-marked After f ih (ended r) m h = subst (λ (x : Ran). x.made_text ≡ true) h m
 comes-marked After f ih stuck m h = absurd h
 
 leads-marked : (plan : Plan) (room n : ℕ) (s : State) (f : Ran) → Leads plan room n s f → s.made_text ≡ true → f.made_text ≡ true
 leads-marked plan room zero s f h e = absurd h
-leads-marked plan room (suc n) s f h e = comes-marked (λ t. Leads plan room n t f) f (λ t. leads-marked plan room n t f) (next_of plan s) (next-marked plan s e) h.1
+leads-marked plan room (suc n) s f h e =
+    comes-marked (λ t. Leads plan room n t f) f (λ t. leads-marked plan room n t f) (next_of plan s) (next-marked plan s e) h.1
 
 pub mark-stays : (plan : Plan) (room : ℕ) (s : State) (f : Ran) → Ends plan room s f → s.made_text ≡ true → f.made_text ≡ true
 mark-stays plan room s f h e = leads-marked plan room h.0 s f h.1 e
 
 -- an instruction that calls one is told at the end
-pub mark_next : (plan : Plan) (size : ℕ) (s : State) (end : Ran) (i : Instruction) → Ends plan size s end → slice_get plan.code s.place ≡ Some i → mark_behind i s.made_text ≡ true → end.made_text ≡ true
+pub mark_next : (plan : Plan) (size : ℕ) (s : State) (end : Ran) (i : Instruction) → Ends plan size s end → slice_get plan.code s.place ≡ Some i
+    → mark_behind i s.made_text ≡ true → end.made_text ≡ true
 mark_next plan size s end i ends is marked = by ends.0 ends.1
   where
     by : (n : ℕ) → Leads plan size n s end → end.made_text ≡ true

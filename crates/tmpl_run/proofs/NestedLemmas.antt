@@ -1,4 +1,4 @@
--- How much stands in the items of a list and in the entries of a map.
+-- For `Piece::put_items` and `put_entries`: how much stands in a list or a map, by which their recursion ends.
 use Rattle.std.proofs.Common.{arith, ◌≡◌, ◌<◌, ◌≤◌, ℕ, zero, suc, List, [], ◌∷◌, length, get_or, subst, sym}
 use Rattle.tmpl_values.specs.View.{entries_of, items_of, value_of}
 use Rattle.tmpl_values.specs.computed.Weight.{entries_weight, items_weight, weight}
@@ -15,7 +15,9 @@ item-weight ds i d h is = subst (λ (x : Data). weight (value_of x) ≤ items_we
 entry-at : (es : List (List ℕ × Data)) (i : ℕ) (e : List ℕ × Data) → i < length es → weight (value_of (get_or es i e).1) ≤ entries_weight (entries_of es)
 entry-at [] i e h = absurd (omega arith)
 entry-at (x ∷ es) zero e h = omega arith
-entry-at (x ∷ es) (suc i) e h = let below : weight (value_of (get_or es i e).1) ≤ entries_weight (entries_of es) = entry-at es i e (omega arith) in omega (arith, below)
+entry-at (x ∷ es) (suc i) e h =
+    let below : weight (value_of (get_or es i e).1) ≤ entries_weight (entries_of es) = entry-at es i e (omega arith) in omega (arith, below)
 
-pub entry-weight : (es : List (List ℕ × Data)) (i : ℕ) (e : List ℕ × Data) → i < length es → e ≡ get_or es i e → weight (value_of e.1) ≤ entries_weight (entries_of es)
+pub entry-weight : (es : List (List ℕ × Data)) (i : ℕ) (e : List ℕ × Data) → i < length es → e ≡ get_or es i e
+    → weight (value_of e.1) ≤ entries_weight (entries_of es)
 entry-weight es i e h is = subst (λ (x : List ℕ × Data). weight (value_of x.1) ≤ entries_weight (entries_of es)) (sym is) (entry-at es i e h)

@@ -1,5 +1,6 @@
--- The code of nodes: what is to be shown of it, actions, `if` and `with`.
-use Rattle.std.proofs.Common.{arith, ◌≡◌, ◌∙◌, ◌+◌, ◌≤◌, ◌++◌, ℕ, suc, Bool, true, false, List, ◌∷◌, length, drop, refl, ap, sym, subst, Option, Some, None, length-drop}
+-- For the law `comes_to_meaning`: what is to be shown of the code of a node, and that of actions, `if` and `with`.
+use Rattle.std.proofs.Common.{arith, ◌≡◌, ◌∙◌, ◌+◌, ◌≤◌, ◌++◌, ℕ, suc, Bool, true, false, List, ◌∷◌, length, drop, refl, ap, sym, subst}
+use Rattle.std.proofs.Common.{Option, Some, None, length-drop}
 use Rattle.std.specs.Prelude.{slice_get}
 use Rattle.tmpl_values.specs.Value.{Value}
 use Rattle.tmpl_values.specs.Text.{text_of}
@@ -24,22 +25,29 @@ use Rattle.tmpl_run.specs.Ready.{RoomIf}
 use Rattle.tmpl_run.specs.Ends.{Comes, Ends}
 use Rattle.tmpl_run.proofs.HeaderLemmas.{Pipelines, Plain, PlainFor, bound-deep, bound-env, bound-frame, header-leads, headed, run_at, under, written}
 use Rattle.tmpl_run.proofs.PlaceLemmas.{ahead, ahead-one}
-use Rattle.tmpl_run.proofs.SlotLemmas.{First, Frame, Over, all_grown, all_grown_in, bound_in, cut-drop, env_of, first-saved, frame-binding, frame-bound, frame-drop, frame-grown, frame_of, grown_in, length-env, length-frame, named, over-binding, over-bound, over-grown, run_of}
+use Rattle.tmpl_run.proofs.SlotLemmas.{First, Frame, Over, all_grown, all_grown_in, bound_in, cut-drop, env_of, first-saved, frame-binding}
+use Rattle.tmpl_run.proofs.SlotLemmas.{frame-bound, frame-drop, frame-grown, frame_of, grown_in, length-env, length-frame, named}
+use Rattle.tmpl_run.proofs.SlotLemmas.{over-binding, over-bound, over-grown, run_of}
 use Rattle.tmpl_run.proofs.WayLemmas as ways
 use Rattle.tmpl_run.proofs.WayLemmas.{Inside, Ring, Stands, Who, cut_to, exit_of}
 
 -- a cell more above those of the range around
-pub inside-more : (home : Frame) (g : Option Ring) (lay : Layout) (fr : Frame) (p : Option (List ℕ)) (c : Option Cell) → Inside home g lay fr → Inside home g (p ∷ lay) (c ∷ fr)
-inside-more home None lay fr p c h = record { n = suc h.n; over = record { rest = h.over.rest; size = (let size = h.over.size in omega arith) }; cells = h.cells }
-inside-more home (Some g) lay fr p c h = record { n = suc h.n; over = record { rest = h.over.rest; size = (let size = h.over.size in omega arith) }; cells = h.cells; depth = h.depth }
+pub inside-more : (home : Frame) (g : Option Ring) (lay : Layout) (fr : Frame) (p : Option (List ℕ)) (c : Option Cell) → Inside home g lay fr
+    → Inside home g (p ∷ lay) (c ∷ fr)
+inside-more home None lay fr p c h =
+    record { n = suc h.n; over = record { rest = h.over.rest; size = (let size = h.over.size in omega arith) }; cells = h.cells }
+inside-more home (Some g) lay fr p c h =
+    record { n = suc h.n; over = record { rest = h.over.rest; size = (let size = h.over.size in omega arith) }; cells = h.cells; depth = h.depth }
 
-pub inside-bound : (home : Frame) (g : Option Ring) (b : Binding) (lay : Layout) (fr : Frame) → Inside home g lay fr → Inside home g (bound_on b lay) (bound_in b fr)
+pub inside-bound : (home : Frame) (g : Option Ring) (b : Binding) (lay : Layout) (fr : Frame) → Inside home g lay fr
+    → Inside home g (bound_on b lay) (bound_in b fr)
 inside-bound home g unbound lay fr h = h
 inside-bound home g (declare x) lay fr h = inside-more home g lay fr (Some x) None h
 inside-bound home g (assign x) lay fr h = h
 inside-bound home g (declare_pair k x) lay fr h = inside-more home g (Some k ∷ lay) (None ∷ fr) (Some x) None (inside-more home g lay fr (Some k) None h)
 
-pub inside-grown : (home : Frame) (g : Option Ring) (n : NodeKind) (lay : Layout) (fr : Frame) → Inside home g lay fr → Inside home g (grown n lay) (grown_in n fr)
+pub inside-grown : (home : Frame) (g : Option Ring) (n : NodeKind) (lay : Layout) (fr : Frame) → Inside home g lay fr
+    → Inside home g (grown n lay) (grown_in n fr)
 inside-grown home g (tree.action a) lay fr h = inside-bound home g a.binding lay fr h
 inside-grown home g _ lay fr h = h
 
@@ -65,7 +73,8 @@ plain-for (assign x) mid h = h
 plain-for (declare_pair k x) mid h = tt
 
 -- the value of a header, and the variables under it
-length-under : (b : Binding) (cs : List Cell) (room n : ℕ) → length cs + (1 + declared_count b + n) ≤ room → RoomIf (declares b) (suc (length (under b cs))) room
+length-under : (b : Binding) (cs : List Cell) (room n : ℕ) → length cs + (1 + declared_count b + n) ≤ room
+    → RoomIf (declares b) (suc (length (under b cs))) room
 length-under unbound cs room n h = tt
 length-under (declare x) cs room n h = omega arith
 length-under (assign x) cs room n h = tt
@@ -90,18 +99,24 @@ module _ (plan : Plan) (room : ℕ) (f : Ran) (who : Who) (me : Template) (is-me
 
   -- what is to be shown of nodes, and of a node whose step is taken; so many cells are left for calls
   abbrev pub NodesLead : Nodes → Type 0
-  NodesLead ns = (g : Option Ring) (lay : Layout) (fr : Frame) (here rest : Code) (s : State) → NodesAt plan.templates ns lay (exit_of g) here rest → Stands plan who here lay fr s → Inside home g lay fr
+  NodesLead ns =
+      (g : Option Ring) (lay : Layout) (fr : Frame) (here rest : Code) (s : State) → NodesAt plan.templates ns lay (exit_of g) here rest
+      → Stands plan who here lay fr s → Inside home g lay fr
       → length fr + need_of_nodes ns + spare ≤ room
       → After (Onward rest (all_grown ns lay) (all_grown_in ns fr) s.dot) g (meanings set ns s.dot (run_of lay s)) → Leading s
 
   abbrev pub NodeLeads : ℕ → NodeKind → Type 0
-  NodeLeads line n = (g : Option Ring) (lay : Layout) (fr : Frame) (here rest : Code) (s : State) → NodeAt plan.templates line n lay (exit_of g) here rest → Stands plan who here lay fr s → s.line ≡ line → Inside home g lay fr
+  NodeLeads line n =
+      (g : Option Ring) (lay : Layout) (fr : Frame) (here rest : Code) (s : State) → NodeAt plan.templates line n lay (exit_of g) here rest
+      → Stands plan who here lay fr s → s.line ≡ line → Inside home g lay fr
       → length fr + need_of_node n + spare ≤ room → length fr + left_behind n ≤ room
       → After (Onward rest (grown n lay) (grown_in n fr) s.dot) g (stepped set line n s.dot (run_of lay s)) → Leading s
 
   -- .. and of one whose step is to be taken
   abbrev pub StepLeads : ℕ → NodeKind → Type 0
-  StepLeads line n = (g : Option Ring) (lay : Layout) (fr : Frame) (here start rest : Code) (s : State) → here ≡ step_of plan.templates line n ∷ start → NodeAt plan.templates line n lay (exit_of g) start rest → Stands plan who here lay fr s → Inside home g lay fr
+  StepLeads line n =
+      (g : Option Ring) (lay : Layout) (fr : Frame) (here start rest : Code) (s : State) → here ≡ step_of plan.templates line n ∷ start
+      → NodeAt plan.templates line n lay (exit_of g) start rest → Stands plan who here lay fr s → Inside home g lay fr
       → length fr + need_of_node n + spare ≤ room → length fr + left_behind n ≤ room
       → After (Onward rest (grown n lay) (grown_in n fr) s.dot) g (meaning.spend set line (stepped set line n s.dot) (run_of lay s)) → Leading s
 
@@ -112,7 +127,8 @@ module _ (plan : Plan) (room : ℕ) (f : Ran) (who : Who) (me : Template) (is-me
 
   -- ---- actions
 
-  acted : (b : Binding) (g : Option Ring) (lay : Layout) (fr : Frame) (mid rest : Code) (s : State) (v : Value) (cs : List Cell) (m : Bool) (place : ℕ) → ways.who_of s ≡ who → ShownAt b mid rest
+  acted : (b : Binding) (g : Option Ring) (lay : Layout) (fr : Frame) (mid rest : Code) (s : State) (v : Value) (cs : List Cell) (m : Bool) (place : ℕ)
+      → ways.who_of s ≡ who → ShownAt b mid rest
       → drop place plan.code ≡ mid → frame_of lay cs ≡ fr → length lay ≤ length cs → env_of lay cs ≡ written b v (env_of lay s.cells)
       → After (Onward rest (bound_on b lay) (bound_in b fr) s.dot) g (shown b v (run_at lay m s)) → Leading (headed b v cs m place s)
   acted unbound g lay fr mid rest s v cs m place same l at frame deep env k =
@@ -135,8 +151,10 @@ module _ (plan : Plan) (room : ℕ) (f : Ran) (who : Who) (me : Template) (is-me
   -- ---- parts of controls
 
   -- nodes that are a part of a control, behind its header
-  pub part-leads : (ns : Nodes) → NodesLead ns → (b : Binding) (g : Option Ring) (lay : Layout) (fr : Frame) (first more rest : Code) (to : ℕ) (d : Value) (r : Run) (t : State)
-      → Ended (declared_count b + declared_in ns) to (NodesAt plan.templates ns (bound_on b lay) (exit_of g)) first more → drop to more ≡ rest → Inside home g lay fr → length fr + (declared_count b + need_of_nodes ns) + spare ≤ room
+  pub part-leads : (ns : Nodes) → NodesLead ns
+      → (b : Binding) (g : Option Ring) (lay : Layout) (fr : Frame) (first more rest : Code) (to : ℕ) (d : Value) (r : Run) (t : State)
+      → Ended (declared_count b + declared_in ns) to (NodesAt plan.templates ns (bound_on b lay) (exit_of g)) first more → drop to more ≡ rest
+      → Inside home g lay fr → length fr + (declared_count b + need_of_nodes ns) + spare ≤ room
       → Stands plan who first (bound_on b lay) (bound_in b fr) t → t.dot ≡ d → run_of (bound_on b lay) t ≡ r
       → After (λ r. Onward rest lay fr d (cut_to (named lay) r)) g (meanings set ns d r) → Leading t
   part-leads ns ih b g lay fr first more rest to d r t l far inside fits st dot run k =
@@ -167,8 +185,10 @@ module _ (plan : Plan) (room : ℕ) (f : Ran) (who : Who) (me : Template) (is-me
       go : Value → Next
       go v r = one_of (truth v) (meanings set body s.dot) (meanings set other s.dot) (with_bound h.binding (alone v) r)
 
-      by : (v : Value) (cs : List Cell) (m : Bool) (place : ℕ) → drop place plan.code ≡ code.unless (declares h.binding) l.2.2 ∷ l.2.0 → frame_of lay cs ≡ fr → length lay ≤ length cs → env_of lay cs ≡ written h.binding v (env_of lay s.cells)
-          → (c : Bool) → After B g (one_of c (meanings set body s.dot) (meanings set other s.dot) (with_bound h.binding (alone v) (run_at lay m s))) → Comes Leading (branch c (declares h.binding) l.2.2 (fresh v) (under h.binding cs) (headed h.binding v cs m place s)) f
+      by : (v : Value) (cs : List Cell) (m : Bool) (place : ℕ) → drop place plan.code ≡ code.unless (declares h.binding) l.2.2 ∷ l.2.0 → frame_of lay cs ≡ fr
+          → length lay ≤ length cs → env_of lay cs ≡ written h.binding v (env_of lay s.cells)
+          → (c : Bool) → After B g (one_of c (meanings set body s.dot) (meanings set other s.dot) (with_bound h.binding (alone v) (run_at lay m s)))
+          → Comes Leading (branch c (declares h.binding) l.2.2 (fresh v) (under h.binding cs) (headed h.binding v cs m place s)) f
       by v cs m place at frame deep env true k =
           part-leads body ih-body h.binding g lay fr l.2.0 l.2.1 rest l.2.3 s.dot (with_bound h.binding (alone v) (run_at lay m s)) _ l.2.5 l.2.8 inside (omega arith)
           (record { at = ahead-one plan.code l.2.0 place (code.unless (declares h.binding) l.2.2) at; runs = st.runs; frame = bound-frame h.binding lay fr v cs frame; deep = bound-deep h.binding lay v cs deep }) refl (bound-env h.binding lay v cs s m env) k
@@ -179,8 +199,10 @@ module _ (plan : Plan) (room : ℕ) (f : Ran) (who : Who) (me : Template) (is-me
   -- ---- `with`
 
   -- the end of its body
-  with-closes : (b : Binding) (n to : ℕ) (more rest : Code) (big lay : Layout) (fr gr : Frame) (d : Value) (r : Run) (u : State) → Stands plan who (code.end_with n (declared_count b) to ∷ more) big gr u
-      → Over n big (None ∷ bound_on b lay) → drop n gr ≡ Some (fresh d) ∷ bound_in b fr → drop to more ≡ rest → run_of big u ≡ r → Onward rest lay fr d (cut_to (named lay) r) → Leading u
+  with-closes : (b : Binding) (n to : ℕ) (more rest : Code) (big lay : Layout) (fr gr : Frame) (d : Value) (r : Run) (u : State)
+      → Stands plan who (code.end_with n (declared_count b) to ∷ more) big gr u
+      → Over n big (None ∷ bound_on b lay) → drop n gr ≡ Some (fresh d) ∷ bound_in b fr → drop to more ≡ rest → run_of big u ≡ r
+      → Onward rest lay fr d (cut_to (named lay) r) → Leading u
   with-closes b n to more rest big lay fr gr d r u st over underneath far is k =
       ways.takes plan room f who me is-me home u (code.end_with n (declared_count b) to) more st.runs st.at (let size = over.size in let deep = st.deep in let less = (over-binding b lay).size in omega arith)
       (subst (λ cs. Comes Leading (top cs (λ c cs. goes (record u { cells = drop (declared_count b) cs; dot = c.val; place = u.place + 1 + to }))) f) (sym one.cells)
@@ -193,9 +215,12 @@ module _ (plan : Plan) (room : ℕ) (f : Ran) (who : Who) (me : Template) (is-me
           (let size = over.size in let deep = st.deep in let long = length-drop n u.cells in omega arith)
 
       env : env_of lay (drop (declared_count b) one.rest) ≡ oldest (named lay) (oldest (named (bound_on b lay)) (env_of big u.cells))
-      env = sym (cut-drop (declared_count b) (bound_on b lay) lay one.rest (over-binding b lay) one.deep) ∙ ap (oldest (named lay)) (sym one.env ∙ sym (cut-drop n big (None ∷ bound_on b lay) u.cells over st.deep))
+      env =
+          sym (cut-drop (declared_count b) (bound_on b lay) lay one.rest (over-binding b lay) one.deep)
+          ∙ ap (oldest (named lay)) (sym one.env ∙ sym (cut-drop n big (None ∷ bound_on b lay) u.cells over st.deep))
 
-  pub with-leads : (line : ℕ) (h : Header) (body other : Nodes) → NodesLead body → NodesLead other → NodeLeads line (tree.control_node control.With h body other)
+  pub with-leads : (line : ℕ) (h : Header) (body other : Nodes) → NodesLead body → NodesLead other
+      → NodeLeads line (tree.control_node control.With h body other)
   with-leads line h body other ih-body ih-other g lay fr here rest s l st same-line inside fits more-fits k =
       header-leads plan room f who me is-me home calls pipes B g line h lay fr here l.0 s go
       l.1 st same-line (plain-for h.binding l.0 (subst Plain (sym l.2.4) refl)) (omega arith) (omega arith)
@@ -213,8 +238,10 @@ module _ (plan : Plan) (room : ℕ) (f : Ran) (who : Who) (me : Template) (is-me
       go : Value → Next
       go v r = one_of (truth v) (meanings set body v) (meanings set other s.dot) (with_bound h.binding (alone v) r)
 
-      by : (v : Value) (cs : List Cell) (m : Bool) (place : ℕ) → drop place plan.code ≡ code.enter_with (declares h.binding) l.2.2 ∷ l.2.0 → frame_of lay cs ≡ fr → length lay ≤ length cs → env_of lay cs ≡ written h.binding v (env_of lay s.cells)
-          → (c : Bool) → After B g (one_of c (meanings set body v) (meanings set other s.dot) (with_bound h.binding (alone v) (run_at lay m s))) → Comes Leading (with_dot c (declares h.binding) l.2.2 (fresh v) (under h.binding cs) (headed h.binding v cs m place s)) f
+      by : (v : Value) (cs : List Cell) (m : Bool) (place : ℕ) → drop place plan.code ≡ code.enter_with (declares h.binding) l.2.2 ∷ l.2.0
+          → frame_of lay cs ≡ fr → length lay ≤ length cs → env_of lay cs ≡ written h.binding v (env_of lay s.cells)
+          → (c : Bool) → After B g (one_of c (meanings set body v) (meanings set other s.dot) (with_bound h.binding (alone v) (run_at lay m s)))
+          → Comes Leading (with_dot c (declares h.binding) l.2.2 (fresh v) (under h.binding cs) (headed h.binding v cs m place s)) f
       by v cs m place at frame deep env true k =
           ih-body g (None ∷ bound_on h.binding lay) (Some (fresh s.dot) ∷ bound_in h.binding fr) l.2.0 (code.end_with (declared_in body) (declared_count h.binding) l.2.3 ∷ l.2.1) t l.2.5
           (record { at = ahead-one plan.code l.2.0 place (code.enter_with (declares h.binding) l.2.2) at; runs = st.runs; frame = ap (λ x. Some (fresh s.dot) ∷ x) (bound-frame h.binding lay fr v cs frame); deep = (let h = bound-deep h.binding lay v cs deep in omega arith) })

@@ -1,5 +1,6 @@
--- What a step of a pipeline does, by what is found.
-use Rattle.std.proofs.Common.{arith, ◌≡◌, ◌∙◌, ◌+◌, ◌<◌, ◌≤◌, ◌||◌, ◌++◌, ◌^◌, ℕ, Bool, true, false, List, [], ◌∷◌, length, drop, take, reverse, refl, ap, sym, Result, Ok, Err, add-zero, append-nil, subst}
+-- For the functions that carry out a step of a pipeline: what the step does, by what is found on the stack.
+use Rattle.std.proofs.Common.{arith, ◌≡◌, ◌∙◌, ◌+◌, ◌<◌, ◌≤◌, ◌||◌, ◌++◌, ◌^◌, ℕ, Bool, true, false, List, [], ◌∷◌, length, drop, take}
+use Rattle.std.proofs.Common.{reverse, refl, ap, sym, Result, Ok, Err, add-zero, append-nil, subst}
 use Rattle.std.proofs.lemmas.List.{length-drop, map-append}
 use Rattle.std.proofs.Math.Seq.{drop-drop}
 use Rattle.tmpl_values.specs.Value.{Value}
@@ -36,17 +37,21 @@ called-is f n true cs h = by (drop n cs) refl
 
 module _ (plan : Plan) (t : Template) (s : State) where
   -- a value is put
-  puts : (o : Operation) (v : Value) (cs : List Cell) → step (record { missing_key = plan.rules.missing_key; dot = s.dot; env = [] }) o s.cells ≡ on 0 (fresh v ∷ cs)
+  puts : (o : Operation) (v : Value) (cs : List Cell)
+      → step (record { missing_key = plan.rules.missing_key; dot = s.dot; env = [] }) o s.cells ≡ on 0 (fresh v ∷ cs)
       → done plan t (act o) s ≡ goes (record s { cells = fresh v ∷ cs; made_text = made_by o s.made_text; place = s.place + 1 })
-  puts o v cs e = ap (λ w. piped t o w s) e ∙ ap (λ k. goes (record s { cells = fresh v ∷ cs; made_text = made_by o s.made_text; place = k })) (add-zero (s.place + 1))
+  puts o v cs e =
+      ap (λ w. piped t o w s) e ∙ ap (λ k. goes (record s { cells = fresh v ∷ cs; made_text = made_by o s.made_text; place = k })) (add-zero (s.place + 1))
 
   module _ (f : Func) (n : ℕ) (p : Bool) (fits : n + piped_count p ≤ length s.cells) where
     call-by : (r : Result Value CallFault) → called f (values_in (reverse (take n s.cells) ++ take (piped_count p) (drop n s.cells))) ≡ r
         → done plan t (act (call_with f n p)) s ≡ piped t (call_with f n p) (pushed (or_call_failed f r) (drop (n + piped_count p) s.cells)) s
-    call-by r e = ap (λ w. piped t (call_with f n p) w s) (called-is f n p s.cells fits ∙ ap (λ q. pushed (or_call_failed f q) (drop (n + piped_count p) s.cells)) e)
+    call-by r e =
+        ap (λ w. piped t (call_with f n p) w s) (called-is f n p s.cells fits ∙ ap (λ q. pushed (or_call_failed f q) (drop (n + piped_count p) s.cells)) e)
 
     pub call-gives : (v : Value) → called f (values_in (reverse (take n s.cells) ++ take (piped_count p) (drop n s.cells))) ≡ Ok v
-        → done plan t (act (call_with f n p)) s ≡ goes (record s { cells = fresh v ∷ drop (n + piped_count p) s.cells; made_text = s.made_text || makes_text f; place = s.place + 1 })
+        → done plan t (act (call_with f n p)) s
+        ≡ goes (record s { cells = fresh v ∷ drop (n + piped_count p) s.cells; made_text = s.made_text || makes_text f; place = s.place + 1 })
     call-gives v e = call-by (Ok v) e ∙ ap (λ k. goes (record s { cells = fresh v ∷ drop (n + piped_count p) s.cells; made_text = s.made_text || makes_text f; place = k })) (add-zero (s.place + 1))
 
     pub call-fails : (fault : CallFault) → called f (values_in (reverse (take n s.cells) ++ take (piped_count p) (drop n s.cells))) ≡ Err fault
@@ -69,17 +74,22 @@ module _ (plan : Plan) (t : Template) (s : State) where
 
     pub chain-gives : (names : List (List ℕ)) (v : Value) → Ok v ≡ chain plan.rules.missing_key names c.val
         → done plan t (act (chained names)) s ≡ goes (record s { cells = fresh v ∷ cs; place = s.place + 1 })
-    chain-gives names v e = puts (chained names) v cs (ap (λ l. newest l (λ v cs. pushed (chain plan.rules.missing_key names v) cs)) is ∙ ap (λ r. pushed r cs) (sym e))
+    chain-gives names v e =
+        puts (chained names) v cs (ap (λ l. newest l (λ v cs. pushed (chain plan.rules.missing_key names v) cs)) is ∙ ap (λ r. pushed r cs) (sym e))
 
     pub chain-fails : (names : List (List ℕ)) (cause : Cause) → Err cause ≡ chain plan.rules.missing_key names c.val
         → done plan t (act (chained names)) s ≡ failed t s.line cause s
-    chain-fails names cause e = over (chained names) (λ v cs. pushed (chain plan.rules.missing_key names v) cs) ∙ ap (λ r. piped t (chained names) (pushed r cs) s) (sym e)
+    chain-fails names cause e =
+        over (chained names) (λ v cs. pushed (chain plan.rules.missing_key names v) cs) ∙ ap (λ r. piped t (chained names) (pushed r cs) s) (sym e)
 
     pub settles : done plan t (act settle) s ≡ goes (record s { cells = fresh (without_null c.val) ∷ cs; place = s.place + 1 })
     settles = puts settle (without_null c.val) cs (ap (λ l. newest l (λ v cs. on 0 (fresh (without_null v) ∷ cs))) is)
 
-    decide-by : (is_or p : Bool) (skip : ℕ) (b : Bool) → decides is_or c.val ≡ b → done plan t (act (decide is_or p skip)) s ≡ piped t (decide is_or p skip) (decided_by b skip p c.val cs) s
-    decide-by is_or p skip b e = over (decide is_or p skip) (λ v cs. decided_by (decides is_or v) skip p v cs) ∙ ap (λ d. piped t (decide is_or p skip) (decided_by d skip p c.val cs) s) e
+    decide-by : (is_or p : Bool) (skip : ℕ) (b : Bool) → decides is_or c.val ≡ b
+        → done plan t (act (decide is_or p skip)) s ≡ piped t (decide is_or p skip) (decided_by b skip p c.val cs) s
+    decide-by is_or p skip b e =
+        over (decide is_or p skip) (λ v cs. decided_by (decides is_or v) skip p v cs)
+        ∙ ap (λ d. piped t (decide is_or p skip) (decided_by d skip p c.val cs) s) e
 
     pub decide-stays : (is_or p : Bool) (skip : ℕ) → decides is_or c.val ≡ true
         → done plan t (act (decide is_or p skip)) s ≡ goes (record s { cells = fresh c.val ∷ drop (piped_count p) cs; place = s.place + 1 + skip })

@@ -1,5 +1,6 @@
--- What a sink took, and the texts of values.
-use Rattle.std.proofs.Common.{◌≡◌, ◌∙◌, ℕ, List, [], ◌++◌, take, drop, add-zero, Option, Some, None, Result, Ok, Err, refl, sym, subst, ap, append_assoc, append-nil}
+-- For all that put to a piece: what a sink took and what waits, put together, and the texts of values in parts.
+use Rattle.std.proofs.Common.{◌≡◌, ◌∙◌, ℕ, List, [], ◌++◌, take, drop, add-zero, Option, Some, None, Result, Ok, Err, refl, sym, subst, ap}
+use Rattle.std.proofs.Common.{append_assoc, append-nil}
 use Rattle.std.specs.Result.{IsErr}
 use Rattle.std.proofs.lemmas.List.{take-append-drop}
 use Rattle.tmpl_values.specs.Item.{bytes_of}
@@ -30,21 +31,27 @@ grows-put (Err e) a b text h = (h.bytes.0, h.bytes.3)
 abbrev pub behind : Told → List ℕ → ℕ → Puts
 behind t waiting name = record { bytes = appended t.bytes waiting; failures = t.failures; through = name }
 
-part-given : (known : Option (List ℕ)) (rest : List ℕ) (count : ℕ) → appended (appended known (take count rest)) (drop count rest) ≡ appended (appended known rest) []
+part-given : (known : Option (List ℕ)) (rest : List ℕ) (count : ℕ)
+    → appended (appended known (take count rest)) (drop count rest) ≡ appended (appended known rest) []
 part-given None rest count = refl
-part-given (Some t) rest count = ap Some (append_assoc t (take count rest) (drop count rest) ∙ ap (λ l. t ++ l) (take-append-drop count rest) ∙ sym (append-nil (t ++ rest)))
+part-given (Some t) rest count =
+    ap Some (append_assoc t (take count rest) (drop count rest) ∙ ap (λ l. t ++ l) (take-append-drop count rest) ∙ sym (append-nil (t ++ rest)))
 
 -- the sink takes some of what waits, and the others wait
-pub given-on : {F : Type 0} (a b : Told) (rest shown next : List ℕ) (count name : ℕ) → b ≡ with_bytes (take count shown) a → shown ≡ rest → next ≡ drop count rest
+pub given-on : {F : Type 0} (a b : Told) (rest shown next : List ℕ) (count name : ℕ) → b ≡ with_bytes (take count shown) a → shown ≡ rest
+    → next ≡ drop count rest
     → IsPut {F = F} (Ok tt) (behind a rest name) (behind b next name) []
 given-on a b rest shown next count name e same left = record {
   count = ap (λ (t : Told). t.failures) e ∙ sym (add-zero a.failures);
-  bytes = ap (λ (t : Told). appended t.bytes next) e ∙ ap (λ l. appended (appended a.bytes (take count l)) next) same ∙ ap (λ l. appended (appended a.bytes (take count rest)) l) left ∙ part-given a.bytes rest count;
+  bytes =
+      ap (λ (t : Told). appended t.bytes next) e ∙ ap (λ l. appended (appended a.bytes (take count l)) next) same
+      ∙ ap (λ l. appended (appended a.bytes (take count rest)) l) left ∙ part-given a.bytes rest count;
   through = refl;
 }
 
 -- a put to a sink behind which nothing waits
-pub put-behind-none : {F : Type 0} (r : Result (Unit {0}) F) (a b : Told) (text waiting : List ℕ) (name : ℕ) → waiting ≡ [] → IsPut r (as_puts a) (as_puts b) text
+pub put-behind-none : {F : Type 0} (r : Result (Unit {0}) F) (a b : Told) (text waiting : List ℕ) (name : ℕ) → waiting ≡ []
+    → IsPut r (as_puts a) (as_puts b) text
     → IsPut r (behind a waiting name) (behind b waiting name) text
 put-behind-none r a b text waiting name e h = subst (λ l. IsPut r (behind a l name) (behind b l name) text) (sym e) (record {
   count = h.count;
@@ -52,7 +59,8 @@ put-behind-none r a b text waiting name e h = subst (λ l. IsPut r (behind a l n
   through = refl;
 })
 
-pub put-along-waiting : {F : Type 0} (r : Result (Unit {0}) F) (t : Told) (old waiting : List ℕ) (name : ℕ) (new : Puts) (text : List ℕ) → old ≡ waiting → IsPut r (behind t old name) new text
+pub put-along-waiting : {F : Type 0} (r : Result (Unit {0}) F) (t : Told) (old waiting : List ℕ) (name : ℕ) (new : Puts) (text : List ℕ) → old ≡ waiting
+    → IsPut r (behind t old name) new text
     → IsPut r (behind t waiting name) new text
 put-along-waiting r t old waiting name new text e h = subst (λ l. IsPut r (behind t l name) new text) e h
 
@@ -75,10 +83,12 @@ module _ {S : Type 0} (so_far : S → Told) (old new : S) (p q : Piece) (same : 
 pub passes-none : (a : Told) (p : Piece) → Passes (Ok tt) a p a p []
 passes-none a p = record { given = IsPut-nil (given_of a p); taken = grows-same a }
 
-pub passes-append : {r : Result (Unit {0}) SinkFault} {a b c : Told} {p q w : Piece} {s t : List ℕ} → Passes (Ok tt) a p b q s → Passes r b q c w t → Passes r a p c w (s ++ t)
+pub passes-append : {r : Result (Unit {0}) SinkFault} {a b c : Told} {p q w : Piece} {s t : List ℕ} → Passes (Ok tt) a p b q s → Passes r b q c w t
+    → Passes r a p c w (s ++ t)
 passes-append {r} {a} {b} {c} first second = record { given = IsPut-append first.given second.given; taken = grows-on a b c first.taken second.taken }
 
-pub passes-stop : {r : Result (Unit {0}) SinkFault} {a b : Told} {p q : Piece} {s : List ℕ} {e : SinkFault} (t : List ℕ) → IsErr r → Passes (Err e) a p b q s → Passes r a p b q (s ++ t)
+pub passes-stop : {r : Result (Unit {0}) SinkFault} {a b : Told} {p q : Piece} {s : List ℕ} {e : SinkFault} (t : List ℕ) → IsErr r → Passes (Err e) a p b q s
+    → Passes r a p b q (s ++ t)
 passes-stop t err h = record { given = IsPut-stop t err h.given; taken = h.taken }
 
 pub passes-along : {r : Result (Unit {0}) SinkFault} {a b : Told} {p q : Piece} {s t : List ℕ} → Passes r a p b q s → s ≡ t → Passes r a p b q t

@@ -1,5 +1,6 @@
--- What a run had put out before changes nothing of what it does, and stands before what it puts out.
-use Rattle.std.proofs.Common.{◌≡◌, ◌∙◌, ◌+◌, ◌-◌, ◌||◌, ◌++◌, nat_eq, nat_lt, ℕ, Bool, true, false, List, [], ◌∷◌, drop, refl, ap, sym, Option, Some, None, append-nil, append_assoc}
+-- For `turns`, which forgets what it has put out: what a run had put out before changes nothing of what it does.
+use Rattle.std.proofs.Common.{◌≡◌, ◌∙◌, ◌+◌, ◌-◌, ◌||◌, ◌++◌, nat_eq, nat_lt, ℕ, Bool, true, false, List, [], ◌∷◌, drop, refl, ap, sym}
+use Rattle.std.proofs.Common.{Option, Some, None, append-nil, append_assoc}
 use Rattle.std.proofs.Math.Bool.{or-false, or_assoc}
 use Rattle.std.specs.Prelude.{slice_get}
 use Rattle.tmpl_values.specs.Elements.{Element}
@@ -11,7 +12,8 @@ use Rattle.tmpl_code.specs.Instruction.{Instruction}
 use Rattle.tmpl_run.specs.Cell.{Cell}
 use Rattle.tmpl_run.specs.State.{Plan, State}
 use Rattle.tmpl_run.specs.Step.{Went, halted, lacks, made_by, on, step}
-use Rattle.tmpl_run.specs.Machine.{Turn, again, branch, deepened, done, elements_for, ended, fault_at, frame, goes, invoked, left_in, opened, paid_if, piped, returned_if, ring, stuck, top, turned, with_dot}
+use Rattle.tmpl_run.specs.Machine.{Turn, again, branch, deepened, done, elements_for, ended, fault_at, frame, goes, invoked, left_in}
+use Rattle.tmpl_run.specs.Machine.{opened, paid_if, piped, returned_if, ring, stuck, top, turned, with_dot}
 
 -- a state of a run that had put out a text before, and had or had not called a function that makes one
 abbrev pub with_past : List ℕ → Bool → State → State
@@ -30,16 +32,19 @@ made-past _ m b = refl
 module _ (x : List ℕ) (m : Bool) where
   -- ---- cells, which are the same with a past
 
-  top-past : (cs : List Cell) (f g : Cell → List Cell → Turn) → ((c : Cell) (cs : List Cell) → f c cs ≡ after_past x m (g c cs)) → top cs f ≡ after_past x m (top cs g)
+  top-past : (cs : List Cell) (f g : Cell → List Cell → Turn) → ((c : Cell) (cs : List Cell) → f c cs ≡ after_past x m (g c cs))
+      → top cs f ≡ after_past x m (top cs g)
   top-past [] f g h = refl
   top-past (c ∷ cs) f g h = h c cs
 
-  ring-past : (cs : List Cell) (f g : Cell → Cell → List Cell → Turn) → ((c d : Cell) (cs : List Cell) → f c d cs ≡ after_past x m (g c d cs)) → ring cs f ≡ after_past x m (ring cs g)
+  ring-past : (cs : List Cell) (f g : Cell → Cell → List Cell → Turn) → ((c d : Cell) (cs : List Cell) → f c d cs ≡ after_past x m (g c d cs))
+      → ring cs f ≡ after_past x m (ring cs g)
   ring-past [] f g h = refl
   ring-past (c ∷ []) f g h = refl
   ring-past (c ∷ d ∷ cs) f g h = h c d cs
 
-  frame-past : (cs : List Cell) (f g : Cell → Cell → List Cell → Turn) → ((c d : Cell) (cs : List Cell) → f c d cs ≡ after_past x m (g c d cs)) → frame cs f ≡ after_past x m (frame cs g)
+  frame-past : (cs : List Cell) (f g : Cell → Cell → List Cell → Turn) → ((c d : Cell) (cs : List Cell) → f c d cs ≡ after_past x m (g c d cs))
+      → frame cs f ≡ after_past x m (frame cs g)
   frame-past [] f g h = refl
   frame-past (c ∷ []) f g h = refl
   frame-past (c ∷ d ∷ []) f g h = refl
@@ -49,13 +54,16 @@ module _ (x : List ℕ) (m : Bool) where
     abbrev late : State
     late = with_past x m s
 
-    paid-past : (b : Bool) (line : ℕ) (go : State → Turn) → ((t : State) → go (with_past x m t) ≡ after_past x m (go t)) → paid_if b plan me line late go ≡ after_past x m (paid_if b plan me line s go)
+    paid-past : (b : Bool) (line : ℕ) (go : State → Turn) → ((t : State) → go (with_past x m t) ≡ after_past x m (go t))
+        → paid_if b plan me line late go ≡ after_past x m (paid_if b plan me line s go)
     paid-past true line go h = refl
     paid-past false line go h = h (record s { left = s.left - 1; line = line })
 
     piped-past : (o : code.Operation) (w : Went) → piped me o w late ≡ after_past x m (piped me o w s)
-    piped-past o (on skip cs) = ap (λ b. goes (record s { cells = cs; text = x ++ s.text; made_text = b; place = s.place + 1 + skip })) (made-past o m s.made_text)
-    piped-past o (halted cause) = ap (λ b. ended (record { text = x ++ s.text; fault = Some (fault_at me s.line cause); made_text = b })) (made-past o m s.made_text)
+    piped-past o (on skip cs) =
+        ap (λ b. goes (record s { cells = cs; text = x ++ s.text; made_text = b; place = s.place + 1 + skip })) (made-past o m s.made_text)
+    piped-past o (halted cause) =
+        ap (λ b. ended (record { text = x ++ s.text; fault = Some (fault_at me s.line cause); made_text = b })) (made-past o m s.made_text)
     piped-past o lacks = refl
 
     branch-past : (t kept : Bool) (skip : ℕ) (c : Cell) (cs : List Cell) → branch t kept skip c cs late ≡ after_past x m (branch t kept skip c cs s)
@@ -66,7 +74,8 @@ module _ (x : List ℕ) (m : Bool) where
     with-past true kept skip c cs = refl
     with-past false kept skip c cs = refl
 
-    opened-past : (skip : ℕ) (c : Cell) (cs : List Cell) (o : Option (List Element)) → opened plan me skip c cs o late ≡ after_past x m (opened plan me skip c cs o s)
+    opened-past : (skip : ℕ) (c : Cell) (cs : List Cell) (o : Option (List Element))
+        → opened plan me skip c cs o late ≡ after_past x m (opened plan me skip c cs o s)
     opened-past skip c cs None = refl
     opened-past skip c cs (Some []) = refl
     opened-past skip c cs (Some (e ∷ es)) = paid-past (nat_eq s.left 0) s.line _ (λ t. refl)
@@ -75,7 +84,8 @@ module _ (x : List ℕ) (m : Bool) where
     turned-past n [] = refl
     turned-past n (e ∷ es) = refl
 
-    again-past : (skip line : ℕ) (d v : Cell) (cs : List Cell) (es : List Element) → again plan me skip line d v cs es late ≡ after_past x m (again plan me skip line d v cs es s)
+    again-past : (skip line : ℕ) (d v : Cell) (cs : List Cell) (es : List Element)
+        → again plan me skip line d v cs es late ≡ after_past x m (again plan me skip line d v cs es s)
     again-past skip line d v cs [] = refl
     again-past skip line d v cs (e ∷ es) = paid-past (nat_eq s.left 0) line _ (λ t. refl)
 
@@ -84,7 +94,8 @@ module _ (x : List ℕ) (m : Bool) where
     deepened-past false true line = refl
     deepened-past false false line = refl
 
-    invoked-past : (number : ℕ) (o : Option ℕ) (c : Cell) (cs : List Cell) → invoked plan me number o c cs late ≡ after_past x m (invoked plan me number o c cs s)
+    invoked-past : (number : ℕ) (o : Option ℕ) (c : Cell) (cs : List Cell)
+        → invoked plan me number o c cs late ≡ after_past x m (invoked plan me number o c cs s)
     invoked-past number None c cs = refl
     invoked-past number (Some start) c cs = paid-past (nat_eq s.left 0) s.line _ (λ t. refl)
 
@@ -94,9 +105,11 @@ module _ (x : List ℕ) (m : Bool) where
 
     -- ---- what is put out, behind the past
 
-    put-past : (bytes : List ℕ) (cs : List Cell) → goes (record s { cells = cs; text = x ++ s.text ++ bytes; made_text = m || s.made_text; place = s.place + 1 })
+    put-past : (bytes : List ℕ) (cs : List Cell)
+        → goes (record s { cells = cs; text = x ++ s.text ++ bytes; made_text = m || s.made_text; place = s.place + 1 })
         ≡ goes (record s { cells = cs; text = x ++ (s.text ++ bytes); made_text = m || s.made_text; place = s.place + 1 })
-    put-past bytes cs = ap (λ (l : List ℕ). goes (record s { cells = cs; text = l; made_text = m || s.made_text; place = s.place + 1 })) (append_assoc x s.text bytes)
+    put-past bytes cs =
+        ap (λ (l : List ℕ). goes (record s { cells = cs; text = l; made_text = m || s.made_text; place = s.place + 1 })) (append_assoc x s.text bytes)
 
     past : (i : Instruction) → done plan me i late ≡ after_past x m (done plan me i s)
     past (code.spend line) = paid-past (nat_eq s.left 0) line _ (λ t. refl)
@@ -119,11 +132,13 @@ module _ (x : List ℕ) (m : Bool) where
     past (code.return_from n) = returned-past (nat_lt 1 s.depth) (drop n s.cells)
 
 -- an instruction does with a past what it does with none
-pub done-past : (x : List ℕ) (m : Bool) (plan : Plan) (t : Template) (i : Instruction) (s : State) → done plan t i (with_past x m s) ≡ after_past x m (done plan t i s)
+pub done-past : (x : List ℕ) (m : Bool) (plan : Plan) (t : Template) (i : Instruction) (s : State)
+    → done plan t i (with_past x m s) ≡ after_past x m (done plan t i s)
 done-past x m plan t i s = past x m plan t s i
 
 -- what was put out since may be counted to the past
-pub past-again : (x a : List ℕ) (m b : Bool) (s : State) → with_past x m (record s { text = a; made_text = b }) ≡ with_past (x ++ a) (m || b) (record s { text = []; made_text = false })
+pub past-again : (x a : List ℕ) (m b : Bool) (s : State)
+    → with_past x m (record s { text = a; made_text = b }) ≡ with_past (x ++ a) (m || b) (record s { text = []; made_text = false })
 past-again x a m b s =
     ap (λ (l : List ℕ). record s { text = l; made_text = m || b }) (sym (append-nil (x ++ a)))
     ∙ ap (λ c. record s { text = x ++ a ++ []; made_text = c }) (sym (or-false (m || b)))

@@ -1,5 +1,6 @@
--- The code of a pipeline gives its value.
-use Rattle.std.proofs.Common.{arith, ◌≡◌, ◌∙◌, ◌+◌, ◌≤◌, ◌||◌, ◌++◌, ℕ, zero, suc, Bool, true, false, List, [], ◌∷◌, length, map, take, drop, reverse, refl, ap, sym, subst, Option, Some, None, Result, Ok, Err, is_some, append_assoc}
+-- For the law `comes_to_meaning`: the code of a pipeline gives the value of the pipeline, or stops as it does.
+use Rattle.std.proofs.Common.{arith, ◌≡◌, ◌∙◌, ◌+◌, ◌≤◌, ◌||◌, ◌++◌, ℕ, zero, suc, Bool, true, false, List, [], ◌∷◌, length, map, take}
+use Rattle.std.proofs.Common.{drop, reverse, refl, ap, sym, subst, Option, Some, None, Result, Ok, Err, is_some, append_assoc}
 use Rattle.std.proofs.lemmas.List.{length-map, reverse-append, reverse-reverse, length-reverse}
 use Rattle.std.proofs.Math.Seq.{drop-append_seam}
 use Rattle.tmpl_values.specs.Value.{Value, nothing, boolean, number, string}
@@ -7,13 +8,17 @@ use Rattle.tmpl_funcs.specs.Dispatch.{called}
 use Rattle.tmpl_funcs.specs.Func.{makes_text, takes}
 use Rattle.tmpl_funcs.specs.declared.func.Func.{Func}
 use Rattle.tmpl_funcs.specs.declared.func.Func.TheVariants.{And, Or}
-use Rattle.tmpl_grammar.specs.Tree.{Operand, dot, fields, variable, bool_constant, number_constant, text_constant, nil, function, group, Operands, no_operand, operand, Commands, no_command, command, Pipeline, pipeline}
+use Rattle.tmpl_grammar.specs.Tree.{Operand, dot, fields, variable, bool_constant, number_constant, text_constant, nil, function, group}
+use Rattle.tmpl_grammar.specs.Tree.{Operands, no_operand, operand, Commands, no_command, command, Pipeline, pipeline}
 use Rattle.tmpl_meaning.specs.Fault.{Cause}
 use Rattle.tmpl_meaning.specs.Pipeline as meaning
-use Rattle.tmpl_meaning.specs.Pipeline.{Environment, Given, Place, chain, decides, decided, given, given_then, go_on, junction, lookup, operand_value, operand_values, command_value, commands_value, piped_after, or_call_failed, without_null}
+use Rattle.tmpl_meaning.specs.Pipeline.{Environment, Given, Place, chain, decides, decided, given, given_then, go_on, junction, lookup}
+use Rattle.tmpl_meaning.specs.Pipeline.{operand_value, operand_values, command_value, commands_value, piped_after, or_call_failed}
+use Rattle.tmpl_meaning.specs.Pipeline.{without_null}
 use Rattle.tmpl_code.specs.Instruction.{act, call_with, chained, decide, settle}
 use Rattle.tmpl_code.specs.Layout.{Layout, slot_named}
-use Rattle.tmpl_code.specs.Code.{Code, Part, chain_before, OperandAt, OperandsAt, JunctionAt, CommandAt, CommandsAt, PipelineAt, DecideAt, CallBy, CountedAt, FirstAt, VariableAt, BareAt, is_last, operand_count, piped_count}
+use Rattle.tmpl_code.specs.Code.{Code, Part, chain_before, OperandAt, OperandsAt, JunctionAt, CommandAt, CommandsAt, PipelineAt, DecideAt}
+use Rattle.tmpl_code.specs.Code.{CallBy, CountedAt, FirstAt, VariableAt, BareAt, is_last, operand_count, piped_count}
 use Rattle.tmpl_run.specs.Cell.{Cell, fresh, slot, values_in}
 use Rattle.tmpl_run.specs.Step.{on, halted, lacks, pushed, decided_by, called_on}
 use Rattle.tmpl_run.proofs.ExecLemmas.{Reached, stops, lost, exec}
@@ -46,13 +51,15 @@ follow-then {T} g made next go = by g.result
     by (Ok v) = ap (λ b. follow_by (next v).result b go) (sym (or-assoc made g.made_text (next v).made_text))
     by (Err cause) = refl
 
-follow-same : {T : Type 0} (r : Result T Cause) (made : Bool) (f g : T → Bool → Reached) → ((v : T) (b : Bool) → f v b ≡ g v b) → follow_by r made f ≡ follow_by r made g
+follow-same : {T : Type 0} (r : Result T Cause) (made : Bool) (f g : T → Bool → Reached) → ((v : T) (b : Bool) → f v b ≡ g v b)
+    → follow_by r made f ≡ follow_by r made g
 follow-same (Ok v) made f g h = h v made
 follow-same (Err cause) made f g h = refl
 
 -- a value is put on the stack
 exec-pushed : (s : Place) (r : Result Value Cause) (rest : Code) (vs : List Cell) (made : Bool)
-    → (let e : Reached = elim (pushed r vs) [ on skip ws ↦ exec s skip rest ws made | halted cause ↦ stops cause made | lacks ↦ lost ] in e) ≡ follow (given r) made (λ v b. exec s 0 rest (fresh v ∷ vs) b)
+    → (let e : Reached = elim (pushed r vs) [ on skip ws ↦ exec s skip rest ws made | halted cause ↦ stops cause made | lacks ↦ lost ] in e)
+    ≡ follow (given r) made (λ v b. exec s 0 rest (fresh v ∷ vs) b)
 exec-pushed s (Ok v) rest vs made = ap (λ b. exec s 0 rest (fresh v ∷ vs) b) (sym (or-false made))
 exec-pushed s (Err cause) rest vs made = ap (stops cause) (sym (or-false made))
 
@@ -105,16 +112,22 @@ with None vs = vs
 with (Some p) vs = fresh p ∷ vs
 
 -- the short cut: what decides is passed over the other operands, and a piped value below it is forgotten
-short : (s : Place) (stop : Bool) (piped : Option Value) (skip : ℕ) (more rest : Code) (v : Value) (vs : List Cell) (made : Bool) (others : Given Value) → drop skip more ≡ rest
+short : (s : Place) (stop : Bool) (piped : Option Value) (skip : ℕ) (more rest : Code) (v : Value) (vs : List Cell) (made : Bool) (others : Given Value)
+    → drop skip more ≡ rest
     → exec s 0 more (with piped vs) made ≡ follow others made (λ v b. exec s 0 rest (fresh v ∷ vs) b)
-    → exec s 0 (act (decide stop (is_some piped) skip) ∷ more) (fresh v ∷ with piped vs) made ≡ follow (decided (decides stop v) v others) made (λ v b. exec s 0 rest (fresh v ∷ vs) b)
+    → exec s 0 (act (decide stop (is_some piped) skip) ∷ more) (fresh v ∷ with piped vs) made
+    ≡ follow (decided (decides stop v) v others) made (λ v b. exec s 0 rest (fresh v ∷ vs) b)
 short s stop piped skip more rest v vs made others far h = by (decides stop v) piped h
   where
     by : (t : Bool) (piped : Option Value) → exec s 0 more (with piped vs) made ≡ follow others made (λ v b. exec s 0 rest (fresh v ∷ vs) b)
         → (let e : Reached = elim (decided_by t skip (is_some piped) v (with piped vs)) [ on skip ws ↦ exec s skip more ws made | halted cause ↦ stops cause made | lacks ↦ lost ] in e)
         ≡ follow (decided t v others) made (λ v b. exec s 0 rest (fresh v ∷ vs) b)
-    by true None h = exec-skip s skip more (fresh v ∷ vs) made ∙ code-is s (drop skip more) rest (fresh v ∷ vs) made far ∙ ap (λ b. exec s 0 rest (fresh v ∷ vs) b) (sym (or-false made))
-    by true (Some p) h = exec-skip s skip more (fresh v ∷ vs) made ∙ code-is s (drop skip more) rest (fresh v ∷ vs) made far ∙ ap (λ b. exec s 0 rest (fresh v ∷ vs) b) (sym (or-false made))
+    by true None h =
+        exec-skip s skip more (fresh v ∷ vs) made ∙ code-is s (drop skip more) rest (fresh v ∷ vs) made far
+        ∙ ap (λ b. exec s 0 rest (fresh v ∷ vs) b) (sym (or-false made))
+    by true (Some p) h =
+        exec-skip s skip more (fresh v ∷ vs) made ∙ code-is s (drop skip more) rest (fresh v ∷ vs) made far
+        ∙ ap (λ b. exec s 0 rest (fresh v ∷ vs) b) (sym (or-false made))
     by false None h = h
     by false (Some p) h = h
 
@@ -137,14 +150,17 @@ values-count s no_operand ws e = let same : [] ≡ ws = cc in ap (λ (l : List V
 values-count s (operand o os) ws e = by (operand_value s o).result (operand_values s os).result (values-count s os) e
   where
     by : (r : Result Value Cause) (rs : Result (List Value) Cause) → ((us : List Value) → rs ≡ Ok us → length us ≡ operand_count os)
-        → (go_on r (operand_value s o).made_text (λ v. go_on rs (operand_values s os).made_text (λ vs. given (Ok (v ∷ vs))))).result ≡ Ok ws → length ws ≡ suc (operand_count os)
+        → (go_on r (operand_value s o).made_text (λ v. go_on rs (operand_values s os).made_text (λ vs. given (Ok (v ∷ vs))))).result ≡ Ok ws
+        → length ws ≡ suc (operand_count os)
     by (Ok v) (Ok us) h e = let same : v ∷ us ≡ ws = cc in ap (λ (l : List Value). length l) (sym same) ∙ ap suc (h us refl)
     by (Ok v) (Err cause) h e = cc
     by (Err cause) rs h e = cc
 
 stacked-is : (ws : List Value) (vs : List Cell) → stacked ws vs ≡ reverse (map fresh ws) ++ vs
 stacked-is [] vs = refl
-stacked-is (w ∷ ws) vs = stacked-is ws (fresh w ∷ vs) ∙ sym (append_assoc (reverse (map fresh ws)) (fresh w ∷ []) vs) ∙ ap (λ l. l ++ vs) (sym (reverse-append (fresh w ∷ []) (map fresh ws)))
+stacked-is (w ∷ ws) vs =
+    stacked-is ws (fresh w ∷ vs) ∙ sym (append_assoc (reverse (map fresh ws)) (fresh w ∷ []) vs)
+    ∙ ap (λ l. l ++ vs) (sym (reverse-append (fresh w ∷ []) (map fresh ws)))
 
 values-fresh : (ws : List Value) → values_in (map fresh ws) ≡ ws
 values-fresh [] = refl
@@ -168,7 +184,8 @@ dropped ws vs n e =
     ap (λ l. drop n l) (stacked-is ws vs) ∙ ap (λ k. drop k (reverse (map fresh ws) ++ vs)) (e ∙ as-long ws) ∙ drop-append_seam (reverse (map fresh ws)) vs
 
 call-pushed : (s : Place) (r : Result Value Cause) (rest : Code) (vs : List Cell) (made : Bool)
-    → (let e : Reached = elim (pushed r vs) [ on skip ws ↦ exec s skip rest ws made | halted cause ↦ stops cause made | lacks ↦ lost ] in e) ≡ follow_by r made (λ v b. exec s 0 rest (fresh v ∷ vs) b)
+    → (let e : Reached = elim (pushed r vs) [ on skip ws ↦ exec s skip rest ws made | halted cause ↦ stops cause made | lacks ↦ lost ] in e)
+    ≡ follow_by r made (λ v b. exec s 0 rest (fresh v ∷ vs) b)
 call-pushed s (Ok v) rest vs made = refl
 call-pushed s (Err cause) rest vs made = refl
 
@@ -183,12 +200,14 @@ arguments-same : (os : Operands) (piped : Option Value) → operand_count os + p
 arguments-same os None = ap (λ n. n + 0) (count-same os)
 arguments-same os (Some v) = ap (λ n. n + 1) (count-same os)
 
-slots-with : (n : ℕ) (lay : Layout) (piped : Option Value) (vs : List Cell) (env : Environment) → Slots n lay vs env → Slots (n + piped_count (is_some piped)) lay (with piped vs) env
+slots-with : (n : ℕ) (lay : Layout) (piped : Option Value) (vs : List Cell) (env : Environment) → Slots n lay vs env
+    → Slots (n + piped_count (is_some piped)) lay (with piped vs) env
 slots-with n lay None vs env h = let same : n ≡ n + 0 = omega arith in subst (λ m. Slots m lay vs env) same h
 slots-with n lay (Some v) vs env h = let same : suc n ≡ n + 1 = omega arith in subst (λ m. Slots m lay (fresh v ∷ vs) env) same (slots-more n lay v vs env h)
 
 -- a call of a function over the operands that were put on the stack
-applied-runs : (s : Place) (f : Func) (os : Operands) (piped : Option Value) (rest : Code) (vs : List Cell) (made : Bool) (ws : List Value) → length ws ≡ operand_count os
+applied-runs : (s : Place) (f : Func) (os : Operands) (piped : Option Value) (rest : Code) (vs : List Cell) (made : Bool) (ws : List Value)
+    → length ws ≡ operand_count os
     → exec s 0 (act (call_with f (operand_count os) (is_some piped)) ∷ rest) (stacked ws (with piped vs)) made
     ≡ follow_by (or_call_failed f (called f (piped_after ws piped))) (made || makes_text f) (λ v b. exec s 0 rest (fresh v ∷ vs) b)
 applied-runs s f os piped rest vs made ws count =
@@ -227,16 +246,19 @@ bare-runs s f false code rest vs made l = code-is s code _ vs made l ∙ refused
 decide-runs : (os : Operands) (piped : Option Value) (s : Place) (stop : Bool) (n : ℕ) (lay : Layout) (mid rest : Code) (v : Value) (vs : List Cell) (made : Bool)
     → DecideAt (is_last os (is_some piped)) stop (is_some piped) (JunctionAt stop os (is_some piped) n lay) mid rest
     → ((more : Code) → 1 ≤ operand_count os + piped_count (is_some piped) → JunctionAt stop os (is_some piped) n lay more rest → exec s 0 more (with piped vs) made ≡ follow (junction stop s v os piped) made (λ v b. exec s 0 rest (fresh v ∷ vs) b))
-    → exec s 0 mid (fresh v ∷ with piped vs) made ≡ follow (decided (decides stop v) v (junction stop s v os piped)) made (λ v b. exec s 0 rest (fresh v ∷ vs) b)
+    → exec s 0 mid (fresh v ∷ with piped vs) made
+    ≡ follow (decided (decides stop v) v (junction stop s v os piped)) made (λ v b. exec s 0 rest (fresh v ∷ vs) b)
 decide-runs no_operand None s stop n lay mid rest v vs made l h = code-is s mid rest (fresh v ∷ vs) made l ∙ by (decides stop v)
   where
     by : (t : Bool) → exec s 0 rest (fresh v ∷ vs) made ≡ follow (decided t v (given (Ok v))) made (λ v b. exec s 0 rest (fresh v ∷ vs) b)
     by true = ap (λ b. exec s 0 rest (fresh v ∷ vs) b) (sym (or-false made))
     by false = ap (λ b. exec s 0 rest (fresh v ∷ vs) b) (sym (or-false made))
 decide-runs no_operand (Some p) s stop n lay mid rest v vs made l h =
-    code-is s mid _ (fresh v ∷ fresh p ∷ vs) made l.2 ∙ short s stop (Some p) l.0 l.1 rest v vs made (junction stop s v no_operand (Some p)) l.4 (h l.1 (omega arith) l.3)
+    code-is s mid _ (fresh v ∷ fresh p ∷ vs) made l.2
+    ∙ short s stop (Some p) l.0 l.1 rest v vs made (junction stop s v no_operand (Some p)) l.4 (h l.1 (omega arith) l.3)
 decide-runs (operand o os) piped s stop n lay mid rest v vs made l h =
-    code-is s mid _ (fresh v ∷ with piped vs) made l.2 ∙ short s stop piped l.0 l.1 rest v vs made (junction stop s v (operand o os) piped) l.4 (h l.1 (omega arith) l.3)
+    code-is s mid _ (fresh v ∷ with piped vs) made l.2
+    ∙ short s stop piped l.0 l.1 rest v vs made (junction stop s v (operand o os) piped) l.4 (h l.1 (omega arith) l.3)
 
 -- `and` and `or` are not called without arguments
 pub some-both : (f g : Func) (n : ℕ) → (takes g 0 ≡ true → ⊥) → f ≡ g → takes f n ≡ true → 1 ≤ n
@@ -252,7 +274,8 @@ call-runs Or All Both Either code rest e all both either made go a b c l = c ref
 call-runs _ All Both Either code rest e all both either made go a b c l = a l
 
 counted-runs : (t : Bool) (f : Func) (s : Place) (code rest : Code) (vs : List Cell) (made : Bool) (g : Given Value) (Call : Part) (go : Value → Bool → Reached)
-    → (t ≡ true → Call code rest → exec s 0 code vs made ≡ follow g made go) → CountedAt t f Call code rest → exec s 0 code vs made ≡ follow (meaning.counted f t g) made go
+    → (t ≡ true → Call code rest → exec s 0 code vs made ≡ follow g made go) → CountedAt t f Call code rest
+    → exec s 0 code vs made ≡ follow (meaning.counted f t g) made go
 counted-runs true f s code rest vs made g Call go h l = h refl l
 counted-runs false f s code rest vs made g Call go h l = code-is s code _ vs made l ∙ refused s _ made go
 
@@ -260,15 +283,19 @@ counted-runs false f s code rest vs made g Call go h l = code-is s code _ vs mad
 first-runs : (os : Operands) (piped : Option Value) (o : Operand) (s : Place) (code rest : Code) (vs : List Cell) (made : Bool) (Value-at : Part)
     → (Value-at code rest → exec s 0 code (with piped vs) made ≡ follow (operand_value s o) made (λ v b. exec s 0 rest (fresh v ∷ with piped vs) b))
     → FirstAt (is_last os (is_some piped)) o Value-at code rest
-    → exec s 0 code (with piped vs) made ≡ follow (meaning.alone (meaning.stands_alone os piped) o (operand_value s o)) made (λ v b. exec s 0 rest (fresh v ∷ vs) b)
+    → exec s 0 code (with piped vs) made
+    ≡ follow (meaning.alone (meaning.stands_alone os piped) o (operand_value s o)) made (λ v b. exec s 0 rest (fresh v ∷ vs) b)
 first-runs no_operand None nil s code rest vs made Value-at h l = code-is s code _ vs made l ∙ refused s _ made (λ v b. exec s 0 rest (fresh v ∷ vs) b)
-first-runs no_operand (Some p) o s code rest vs made Value-at h l = code-is s code _ (fresh p ∷ vs) made l ∙ refused s _ made (λ v b. exec s 0 rest (fresh v ∷ vs) b)
-first-runs (operand x xs) piped o s code rest vs made Value-at h l = code-is s code _ (with piped vs) made l ∙ refused s _ made (λ v b. exec s 0 rest (fresh v ∷ vs) b)
+first-runs no_operand (Some p) o s code rest vs made Value-at h l =
+    code-is s code _ (fresh p ∷ vs) made l ∙ refused s _ made (λ v b. exec s 0 rest (fresh v ∷ vs) b)
+first-runs (operand x xs) piped o s code rest vs made Value-at h l =
+    code-is s code _ (with piped vs) made l ∙ refused s _ made (λ v b. exec s 0 rest (fresh v ∷ vs) b)
 first-runs no_operand None _ s code rest vs made Value-at h l = h l
 
 -- where what is piped is there, the layout is as deep as the stack
 mutual
-  pub operand-runs : (o : Operand) (s : Place) (n : ℕ) (lay : Layout) (code rest : Code) (vs : List Cell) (made : Bool) → Slots n lay vs s.env → OperandAt o n lay code rest
+  pub operand-runs : (o : Operand) (s : Place) (n : ℕ) (lay : Layout) (code rest : Code) (vs : List Cell) (made : Bool) → Slots n lay vs s.env
+      → OperandAt o n lay code rest
       → exec s 0 code vs made ≡ follow (operand_value s o) made (λ v b. exec s 0 rest (fresh v ∷ vs) b)
   operand-runs dot s n lay code rest vs made h l = code-is s code _ vs made l ∙ exec-pushed s (Ok s.dot) rest vs made
   operand-runs (fields names) s n lay code rest vs made h l = code-is s code _ vs made l ∙ exec-pushed s (chain s.missing_key names s.dot) rest vs made
@@ -280,9 +307,11 @@ mutual
   operand-runs (text_constant bytes) s n lay code rest vs made h l = code-is s code _ vs made l ∙ exec-pushed s (Ok (string bytes)) rest vs made
   operand-runs nil s n lay code rest vs made h l = code-is s code _ vs made l ∙ exec-pushed s (Ok nothing) rest vs made
   operand-runs (function f) s n lay code rest vs made h l = bare-runs s f (takes f 0) code rest vs made l
-  operand-runs (group cs names) s n lay code rest vs made h l = chained-runs s names code rest vs made (commands_value s cs None) (commands-runs cs s None n lay code (chain_before names rest) vs made h l)
+  operand-runs (group cs names) s n lay code rest vs made h l =
+      chained-runs s names code rest vs made (commands_value s cs None) (commands-runs cs s None n lay code (chain_before names rest) vs made h l)
 
-  pub operands-runs : (os : Operands) (s : Place) (n : ℕ) (lay : Layout) (code rest : Code) (vs : List Cell) (made : Bool) → Slots n lay vs s.env → OperandsAt os n lay code rest
+  pub operands-runs : (os : Operands) (s : Place) (n : ℕ) (lay : Layout) (code rest : Code) (vs : List Cell) (made : Bool) → Slots n lay vs s.env
+      → OperandsAt os n lay code rest
       → exec s 0 code vs made ≡ follow (operand_values s os) made (λ ws b. exec s 0 rest (stacked ws vs) b)
   operands-runs no_operand s n lay code rest vs made h l = code-is s code rest vs made l ∙ ap (λ b. exec s 0 rest vs b) (sym (or-false made))
   operands-runs (operand o os) s n lay code rest vs made h l =
@@ -295,7 +324,8 @@ mutual
       → Slots n lay (with piped vs) s.env → 1 ≤ operand_count os + piped_count (is_some piped) → JunctionAt stop os (is_some piped) n lay code rest
       → exec s 0 code (with piped vs) made ≡ follow (junction stop s last os piped) made (λ v b. exec s 0 rest (fresh v ∷ vs) b)
   junction-runs no_operand s stop None last n lay code rest vs made h some l = absurd (omega arith)
-  junction-runs no_operand s stop (Some p) last n lay code rest vs made h some l = code-is s code rest (fresh p ∷ vs) made l ∙ ap (λ b. exec s 0 rest (fresh p ∷ vs) b) (sym (or-false made))
+  junction-runs no_operand s stop (Some p) last n lay code rest vs made h some l =
+      code-is s code rest (fresh p ∷ vs) made l ∙ ap (λ b. exec s 0 rest (fresh p ∷ vs) b) (sym (or-false made))
   junction-runs (operand o os) s stop piped last n lay code rest vs made h some l =
       operand-runs o s n lay code l.0 (with piped vs) made h l.1
       ∙ follow-same (operand_value s o).result (made || (operand_value s o).made_text) (λ v b. exec s 0 l.0 (fresh v ∷ with piped vs) b) (λ v b. follow (decided (decides stop v) v (junction stop s v os piped)) b (λ v b. exec s 0 rest (fresh v ∷ vs) b))
@@ -305,7 +335,8 @@ mutual
   pub command-runs : (os : Operands) (s : Place) (piped : Option Value) (n : ℕ) (lay : Layout) (code rest : Code) (vs : List Cell) (made : Bool)
       → Slots n lay (with piped vs) s.env → CommandAt os (is_some piped) n lay code rest
       → exec s 0 code (with piped vs) made ≡ follow (command_value s os piped) made (λ v b. exec s 0 rest (fresh v ∷ vs) b)
-  command-runs no_operand s piped n lay code rest vs made h l = code-is s code _ (with piped vs) made l ∙ refused s _ made (λ v b. exec s 0 rest (fresh v ∷ vs) b)
+  command-runs no_operand s piped n lay code rest vs made h l =
+      code-is s code _ (with piped vs) made l ∙ refused s _ made (λ v b. exec s 0 rest (fresh v ∷ vs) b)
   command-runs (operand (function f) os) s piped n lay code rest vs made h l =
       let go : Value → Bool → Reached = λ v b. exec s 0 rest (fresh v ∷ vs) b in
       let applied : Given Value = given_then (operand_values s os) (λ vs. meaning.applied f (piped_after vs piped)) in
@@ -320,13 +351,15 @@ mutual
       (λ e k. junction-runs os s false piped nothing n lay code rest vs made h (some-both f And count (λ x. cc) e t) k)
       (λ e k. junction-runs os s true piped nothing n lay code rest vs made h (some-both f Or count (λ x. cc) e t) k) k) l
       ∙ ap (λ n. follow (meaning.counted f (takes f n) g) made go) (arguments-same os piped)
-  command-runs (operand o os) s piped n lay code rest vs made h l = first-runs os piped o s code rest vs made (OperandAt o n lay) (λ k. operand-runs o s n lay code rest (with piped vs) made h k) l
+  command-runs (operand o os) s piped n lay code rest vs made h l =
+      first-runs os piped o s code rest vs made (OperandAt o n lay) (λ k. operand-runs o s n lay code rest (with piped vs) made h k) l
 
   pub commands-runs : (cs : Commands) (s : Place) (piped : Option Value) (n : ℕ) (lay : Layout) (code rest : Code) (vs : List Cell) (made : Bool)
       → Slots n lay vs s.env → CommandsAt cs (is_some piped) n lay code rest
       → exec s 0 code (with piped vs) made ≡ follow (commands_value s cs piped) made (λ v b. exec s 0 rest (fresh v ∷ vs) b)
   commands-runs no_command s None n lay code rest vs made h l = code-is s code _ vs made l ∙ exec-pushed s (Ok nothing) rest vs made
-  commands-runs no_command s (Some p) n lay code rest vs made h l = code-is s code rest (fresh p ∷ vs) made l ∙ ap (λ b. exec s 0 rest (fresh p ∷ vs) b) (sym (or-false made))
+  commands-runs no_command s (Some p) n lay code rest vs made h l =
+      code-is s code rest (fresh p ∷ vs) made l ∙ ap (λ b. exec s 0 rest (fresh p ∷ vs) b) (sym (or-false made))
   commands-runs (command os cs) s piped n lay code rest vs made h l =
       command-runs os s piped (n + piped_count (is_some piped)) lay code (act settle ∷ l.0) vs made (slots-with n lay piped vs s.env h) l.1
       ∙ follow-same (command_value s os piped).result (made || (command_value s os piped).made_text) (λ v b. exec s 0 (act settle ∷ l.0) (fresh v ∷ vs) b) (λ v b. follow (commands_value s cs (Some (without_null v))) b (λ v b. exec s 0 rest (fresh v ∷ vs) b))
@@ -334,6 +367,7 @@ mutual
       ∙ sym (follow-then (command_value s os piped) made (λ v. commands_value s cs (Some (without_null v))) (λ v b. exec s 0 rest (fresh v ∷ vs) b))
 
 -- the code of a pipeline puts its value on the stack, or stops as the pipeline does
-pub pipeline-runs : (p : Pipeline) (s : Place) (lay : Layout) (code rest : Code) (vs : List Cell) (made : Bool) → Slots 0 lay vs s.env → PipelineAt p lay code rest
+pub pipeline-runs : (p : Pipeline) (s : Place) (lay : Layout) (code rest : Code) (vs : List Cell) (made : Bool) → Slots 0 lay vs s.env
+    → PipelineAt p lay code rest
     → exec s 0 code vs made ≡ follow (meaning.pipeline_value s p) made (λ v b. exec s 0 rest (fresh v ∷ vs) b)
 pipeline-runs (pipeline cs) s lay code rest vs made h l = commands-runs cs s None 0 lay code rest vs made h l

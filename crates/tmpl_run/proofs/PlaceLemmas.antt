@@ -1,4 +1,4 @@
--- A machine holds a place; what stands from there on is the code that the relation speaks of.
+-- For the law `comes_to_meaning`: a machine holds a place, and what stands from there on is the code that the relation speaks of.
 use Rattle.std.proofs.Common.{arith, ◌≡◌, ◌∙◌, ◌+◌, ℕ, zero, suc, [], ◌∷◌, drop, ap, Some}
 use Rattle.std.specs.Prelude.{slice_get}
 use Rattle.tmpl_code.specs.Instruction.{Instruction}

@@ -1,5 +1,6 @@
--- Live cells of which none holds a made text.
-use Rattle.std.proofs.Common.{arith, ◌≡◌, ◌∙◌, ◌+◌, ◌-◌, ◌<◌, ◌≤◌, ℕ, zero, suc, true, false, List, [], ◌∷◌, length, take, set, get_or, refl, ap, sym, subst, Result, Ok, Err, IfOk, IsOkAnd}
+-- For the clauses `plain`: live cells of which none holds a made text stay so, by which a run that makes no text is refused no memory.
+use Rattle.std.proofs.Common.{arith, ◌≡◌, ◌∙◌, ◌+◌, ◌-◌, ◌<◌, ◌≤◌, ℕ, zero, suc, true, false, List, [], ◌∷◌, length, take, set, get_or}
+use Rattle.std.proofs.Common.{refl, ap, sym, subst, Result, Ok, Err, IfOk, IsOkAnd}
 use Rattle.std.proofs.Math.Numerals.{add-one}
 use Rattle.std.specs.declared.alloc.AllocError.{AllocError}
 use Rattle.tmpl_values.specs.View.{IsShared, is_made}
@@ -32,7 +33,8 @@ made_at-is (c ∷ cs) zero d h = refl
 made_at-is (c ∷ cs) (suc i) d h = made_at-is cs i d (omega arith)
 
 -- the newest one is taken
-pub borrowed-taken : (top : ℕ) (old new : List held.Cell) (c : held.Cell) → 1 ≤ top → top ≤ length old → c ≡ get_or old (top - 1) c → take (top - 1) new ≡ take (top - 1) old
+pub borrowed-taken : (top : ℕ) (old new : List held.Cell) (c : held.Cell) → 1 ≤ top → top ≤ length old → c ≡ get_or old (top - 1) c
+    → take (top - 1) new ≡ take (top - 1) old
     → AreBorrowed (take top old) → (is_made c.val ≡ false) × AreBorrowed (take (top - 1) new)
 borrowed-taken top old new c some within is left p = (
   ap (λ (d : held.Cell). is_made d.val) is ∙ sym (made_at-is old (top - 1) c (omega arith)) ∙ borrowed-at top (top - 1) old (omega arith) p,
@@ -47,13 +49,15 @@ borrowed-set (suc n) zero (d ∷ cs) c h p = (h, p.1)
 borrowed-set (suc n) (suc i) (d ∷ cs) c h p = (p.0, borrowed-set n i cs c h p.1)
 
 -- .. behind them
-borrowed-more : (top : ℕ) (cs : List held.Cell) (c : held.Cell) → is_made c.val ≡ false → AreBorrowed (take top cs) → AreBorrowed (take (suc top) (set cs top c))
+borrowed-more : (top : ℕ) (cs : List held.Cell) (c : held.Cell) → is_made c.val ≡ false → AreBorrowed (take top cs)
+    → AreBorrowed (take (suc top) (set cs top c))
 borrowed-more zero [] c h p = tt
 borrowed-more zero (d ∷ cs) c h p = (h, tt)
 borrowed-more (suc top) [] c h p = tt
 borrowed-more (suc top) (d ∷ cs) c h p = (p.0, borrowed-more top cs c h p.1)
 
-pub borrowed-push : (top : ℕ) (cs : List held.Cell) (c : held.Cell) → is_made c.val ≡ false → AreBorrowed (take top cs) → AreBorrowed (take (top + 1) (set cs top c))
+pub borrowed-push : (top : ℕ) (cs : List held.Cell) (c : held.Cell) → is_made c.val ≡ false → AreBorrowed (take top cs)
+    → AreBorrowed (take (top + 1) (set cs top c))
 borrowed-push top cs c h p = subst (λ n. AreBorrowed (take n (set cs top c))) (sym (add-one top)) (borrowed-more top cs c h p)
 
 pub borrowed-same : (n : ℕ) (old new : List held.Cell) → new ≡ old → AreBorrowed (take n old) → AreBorrowed (take n new)

@@ -1,5 +1,6 @@
--- The code of ranges, breaks and continues.
-use Rattle.std.proofs.Common.{arith, ◌≡◌, ◌∙◌, ◌+◌, ◌-◌, ◌≤◌, nat_eq, ℕ, zero, suc, Bool, true, false, List, [], ◌∷◌, length, drop, refl, ap, sym, subst, Option, Some, None, length-drop}
+-- For the law `comes_to_meaning`: the code of ranges, breaks and continues.
+use Rattle.std.proofs.Common.{arith, ◌≡◌, ◌∙◌, ◌+◌, ◌-◌, ◌≤◌, nat_eq, ℕ, zero, suc, Bool, true, false, List, [], ◌∷◌, length, drop, refl}
+use Rattle.std.proofs.Common.{ap, sym, subst, Option, Some, None, length-drop}
 use Rattle.std.specs.Prelude.{slice_get, slice_set}
 use Rattle.std.proofs.lemmas.List.{length-set}
 use Rattle.tmpl_values.specs.Value.{Value, nothing, null, boolean, number, string, sequence, mapping}
@@ -14,7 +15,8 @@ use Rattle.tmpl_syntax.specs.Set.{Template}
 use Rattle.tmpl_meaning.specs.Fault.{not_a_range}
 use Rattle.tmpl_meaning.specs.Pipeline.{Environment}
 use Rattle.tmpl_meaning.specs.Meaning as meaning
-use Rattle.tmpl_meaning.specs.Meaning.{Calls, End, Next, Ran, Run, Setting, after_turn, assigned, bound, meanings, oldest, on_turn, over, ranging, scope, scoped, setting_of, spend_if, turns, visited, with_bound}
+use Rattle.tmpl_meaning.specs.Meaning.{Calls, End, Next, Ran, Run, Setting, after_turn, assigned, bound, meanings, oldest, on_turn, over}
+use Rattle.tmpl_meaning.specs.Meaning.{ranging, scope, scoped, setting_of, spend_if, turns, visited, with_bound}
 use Rattle.tmpl_code.specs.Instruction as code
 use Rattle.tmpl_code.specs.Layout.{Layout, bound_on, declared_in, declares_key, slot_named}
 use Rattle.tmpl_code.specs.Code.{Code, Ended, NodesAt, SetDotAt, TurnAt}
@@ -27,7 +29,9 @@ use Rattle.tmpl_run.proofs.HeaderLemmas.{Pipelines, Plain, run_at, value-leads, 
 use Rattle.tmpl_run.proofs.NodeLemmas as nodes
 use Rattle.tmpl_run.proofs.NodeLemmas.{length-bound}
 use Rattle.tmpl_run.proofs.PlaceLemmas.{ahead, ahead-one}
-use Rattle.tmpl_run.proofs.SlotLemmas.{First, Frame, all_grown, all_grown_in, bound_in, cut-drop, env_of, first-saved, frame-binding, frame-bound, frame-drop, frame-set, frame_of, length-env, length-frame, named, over-binding, over-bound, over-none, run_of, stored, stored-none}
+use Rattle.tmpl_run.proofs.SlotLemmas.{First, Frame, all_grown, all_grown_in, bound_in, cut-drop, env_of, first-saved, frame-binding}
+use Rattle.tmpl_run.proofs.SlotLemmas.{frame-bound, frame-drop, frame-set, frame_of, length-env, length-frame, named, over-binding}
+use Rattle.tmpl_run.proofs.SlotLemmas.{over-bound, over-none, run_of, stored, stored-none}
 use Rattle.tmpl_run.proofs.WayLemmas as ways
 use Rattle.tmpl_run.proofs.WayLemmas.{Inside, Ring, Rooted, Stands, Who, Within, bare, cut_to, exit_of}
 use Rattle.tmpl_code.specs.Layout.{first_layout}
@@ -102,7 +106,8 @@ module _ (plan : Plan) (room : ℕ) (f : Ran) (who : Who) (me : Template) (is-me
       two = first-saved g.lay one.rest (cell g.value g.index) g.frame one.frame one.deep
 
   -- the end of the template
-  returning : (lay : Layout) (fr : Frame) (here rest : Code) (s : State) → here ≡ code.return_from (length lay - 3) ∷ rest → Stands plan who here lay fr s → Rooted home lay fr → ways.Returning plan room f who me is-me home s
+  returning : (lay : Layout) (fr : Frame) (here rest : Code) (s : State) → here ≡ code.return_from (length lay - 3) ∷ rest → Stands plan who here lay fr s
+      → Rooted home lay fr → ways.Returning plan room f who me is-me home s
   returning lay fr here rest s l st w = record {
     n = length lay - 3;
     more = rest;
@@ -225,7 +230,8 @@ module _ (plan : Plan) (room : ℕ) (f : Ran) (who : Who) (me : Template) (is-me
         })
 
     -- what a turn binds
-    begins-turn : (e : Element) (es : List Element) (k : ℕ) (cs : List Cell) (s : State) → ways.who_of s ≡ who → drop k (elements_in (elements v)) ≡ e ∷ es → drop s.place plan.code ≡ start
+    begins-turn : (e : Element) (es : List Element) (k : ℕ) (cs : List Cell) (s : State) → ways.who_of s ≡ who → drop k (elements_in (elements v)) ≡ e ∷ es
+        → drop s.place plan.code ≡ start
         → frame_of lay cs ≡ fr → length lay ≤ length cs
         → ((ds : List Cell) (there : ℕ) → drop there plan.code ≡ first → frame_of inner ds ≡ bound_in b (outer k) → length inner ≤ length ds → env_of inner ds ≡ bound b e (env_of lay cs) → Leading (record s { cells = ds; dot = e.1; place = there }))
         → Leading (record s { cells = saved ∷ cell v k ∷ cs })
@@ -263,7 +269,8 @@ module _ (plan : Plan) (room : ℕ) (f : Ran) (who : Who) (me : Template) (is-me
             there : drop (s.place + 1) plan.code ≡ l.0
             there = ahead-one plan.code l.0 s.place (code.turn 0) (at ∙ l.1)
 
-            sets : (o : Option ℕ) → slot_named x (None ∷ None ∷ lay) ≡ o → SetDotAt o l.0 first → Leading (record s { cells = saved ∷ cell v k ∷ cs; dot = e.1; place = s.place + 1 })
+            sets : (o : Option ℕ) → slot_named x (None ∷ None ∷ lay) ≡ o → SetDotAt o l.0 first
+                → Leading (record s { cells = saved ∷ cell v k ∷ cs; dot = e.1; place = s.place + 1 })
             sets None is-slot l = more (saved ∷ cell v k ∷ cs) (s.place + 1) (there ∙ l) (ap (λ l. Some saved ∷ Some (cell v k) ∷ l) frame) (omega arith) (sym (stored-none x (None ∷ None ∷ lay) (saved ∷ cell v k ∷ cs) e.1 is-slot))
             sets (Some i) is-slot l =
                 ways.takes plan room f who me is-me home (record s { cells = saved ∷ cell v k ∷ cs; dot = e.1; place = s.place + 1 }) (code.set_dot i) first same (there ∙ l) (let below = found-within x (None ∷ None ∷ lay) i is-slot in omega arith)
@@ -272,7 +279,8 @@ module _ (plan : Plan) (room : ℕ) (f : Ran) (who : Who) (me : Template) (is-me
                 (stored x (None ∷ None ∷ lay) (saved ∷ cell v k ∷ cs) i e.1 is-slot (omega arith)))
 
     -- a turn from its first instruction on
-    turn-leads : NodesLead body → (e : Element) (es : List Element) (k : ℕ) (cs : List Cell) (s : State) → ways.who_of s ≡ who → drop k (elements_in (elements v)) ≡ e ∷ es → drop s.place plan.code ≡ start
+    turn-leads : NodesLead body → (e : Element) (es : List Element) (k : ℕ) (cs : List Cell) (s : State) → ways.who_of s ≡ who
+        → drop k (elements_in (elements v)) ≡ e ∷ es → drop s.place plan.code ≡ start
         → frame_of lay cs ≡ fr → length lay ≤ length cs
         → After B g (after_turn (scoped (length (env_of lay cs)) (part e (run_of lay (record s { cells = cs })))) (others es))
         → ((r : Run) → After B g (others es r) → (t : State) → behind k r t → Leading t)
@@ -315,7 +323,8 @@ module _ (plan : Plan) (room : ℕ) (f : Ran) (who : Who) (me : Template) (is-me
         (subst (λ l. Comes Leading (again plan me tu.skip line saved (cell v k) tu.cs l t) f) (sym (drop-one (elements_in (elements v)) k ∙ here)) h))
 
     -- behind a turn
-    next-leads : NodesLead body → (es : List Element) (k : ℕ) → drop (suc k) (elements_in (elements v)) ≡ es → (r : Run) → After B g (others es r) → (t : State) → behind k r t → Leading t
+    next-leads : NodesLead body → (es : List Element) (k : ℕ) → drop (suc k) (elements_in (elements v)) ≡ es → (r : Run) → After B g (others es r)
+        → (t : State) → behind k r t → Leading t
     next-leads ih [] k here r h t tu =
         nexts [] k here r t tu
         (leaves r (record t { cells = tu.cs; dot = d; place = t.place + 1 + tu.skip }) h (record { at = ahead plan.code tu.more t.place tu.skip (code.next tu.n tu.skip line) tu.at ∙ tu.far; runs = tu.runs; frame = tu.frame; deep = tu.deep }) refl tu.run)
@@ -323,13 +332,16 @@ module _ (plan : Plan) (room : ℕ) (f : Ran) (who : Who) (me : Template) (is-me
         nexts (e ∷ es) k here r t tu (on (λ r h t tu. next-leads ih es (suc k) (one-less (elements_in (elements v)) (suc k) e es here) r h t tu) (nat_eq t.left 0) (subst (λ r. After B g (others (e ∷ es) r)) (sym tu.run) h))
       where
         on : ((r : Run) → After B g (others es r) → (t : State) → behind (suc k) r t → Leading t)
-            → (c : Bool) → After B g (after_turn (spend_if c set line (scope (λ r. part e r)) (run_of lay (record t { cells = tu.cs }))) (others es)) → Comes Leading (paid_if c plan me line t (λ s. onto (saved ∷ cell v (suc k) ∷ tu.cs) place s)) f
+            → (c : Bool) → After B g (after_turn (spend_if c set line (scope (λ r. part e r)) (run_of lay (record t { cells = tu.cs }))) (others es))
+            → Comes Leading (paid_if c plan me line t (λ s. onto (saved ∷ cell v (suc k) ∷ tu.cs) place s)) f
         on next true h = h
-        on next false h = turn-leads ih e es (suc k) tu.cs (record t { left = t.left - 1; line = line; place = place }) tu.runs here begin tu.frame tu.deep h next
+        on next false h =
+            turn-leads ih e es (suc k) tu.cs (record t { left = t.left - 1; line = line; place = place }) tu.runs here begin tu.frame tu.deep h next
 
   -- ---- ranges
 
-  pub range-leads : (line : ℕ) (h : Header) (body other : Nodes) → NodesLead body → NodesLead other → nodes.NodeLeads plan room f who me is-me home calls spare pipes line (tree.control_node control.Range h body other)
+  pub range-leads : (line : ℕ) (h : Header) (body other : Nodes) → NodesLead body → NodesLead other
+      → nodes.NodeLeads plan room f who me is-me home calls spare pipes line (tree.control_node control.Range h body other)
   range-leads line h body other ih-body ih-other g lay fr here rest s l st same-line inside fits more-fits k =
       value-leads plan room f who me is-me home calls pipes B g line s.left h.pipeline lay fr here l.0 s go
       l.1 st same-line (subst Plain (sym l.2.5) refl) (omega arith)
@@ -348,7 +360,9 @@ module _ (plan : Plan) (room : ℕ) (f : Ran) (who : Who) (me : Template) (is-me
       go v = over set line h.binding (λ v. meanings set body v) (meanings set other s.dot) (visited h.binding v)
 
       by : (v : Value) (m : Bool) (place : ℕ) → drop place plan.code ≡ code.enter (declares_key h.binding) l.2.3 ∷ l.2.0
-          → (o : Option (List Element)) → elements_for (declares_key h.binding) v ≡ o → After B g (over set line h.binding (λ v. meanings set body v) (meanings set other s.dot) o (run_at lay m s)) → Comes Leading (opened plan me l.2.3 (fresh v) s.cells o (valued v m place s)) f
+          → (o : Option (List Element)) → elements_for (declares_key h.binding) v ≡ o
+          → After B g (over set line h.binding (λ v. meanings set body v) (meanings set other s.dot) o (run_at lay m s))
+          → Comes Leading (opened plan me l.2.3 (fresh v) s.cells o (valued v m place s)) f
       by v m place at None e k = ap (λ n. ran_so (valued v m place s) (Some (fault_at me n not_a_range))) same-line ∙ k
       by v m place at (Some []) e k =
           nodes.part-leads plan room f who me is-me home calls spare pipes other ih-other unbound g lay fr l.2.2 rest rest 0 s.dot (run_at lay m s) _ (subst (λ n. Ended n 0 (NodesAt plan.templates other lay (exit_of g)) l.2.2 rest) zero-more l.2.8) refl inside (omega arith)

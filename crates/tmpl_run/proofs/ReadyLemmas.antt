@@ -1,6 +1,7 @@
--- What an instruction asks for, from that it does not get stuck and goes to a place that can be counted.
+-- For `execute`: what an instruction asks for is there in a state that comes to an end, so it does not get stuck, and its place can be counted.
 use Rattle.std.proofs.lemmas.Bool.Decides.{nat_tests}
-use Rattle.std.proofs.Common.{arith, nat_lt, ◌≡◌, ◌+◌, ◌-◌, ◌^◌, ◌<◌, ◌≤◌, ℕ, zero, suc, Bool, true, false, List, [], ◌∷◌, length, drop, refl, subst, Option, Some, None, length-drop}
+use Rattle.std.proofs.Common.{arith, nat_lt, ◌≡◌, ◌+◌, ◌-◌, ◌^◌, ◌<◌, ◌≤◌, ℕ, zero, suc, Bool, true, false, List, [], ◌∷◌, length, drop}
+use Rattle.std.proofs.Common.{refl, subst, Option, Some, None, length-drop}
 use Rattle.std.specs.Prelude.{slice_get}
 use Rattle.tmpl_values.specs.Elements.{Element, element_at, elements, item_at}
 use Rattle.tmpl_values.specs.Truth.{truth}
@@ -8,7 +9,8 @@ use Rattle.tmpl_syntax.specs.Set.{Template}
 use Rattle.tmpl_code.specs.Instruction as code
 use Rattle.tmpl_run.specs.Cell.{Cell, slot, slot_cell}
 use Rattle.tmpl_run.specs.State.{Plan, State}
-use Rattle.tmpl_run.specs.Machine.{Turn, again, branch, done, elements_for, elements_in, has_more, invoked, left_in, opened, returned_if, ring, top, turned, with_dot}
+use Rattle.tmpl_run.specs.Machine.{Turn, again, branch, done, elements_for, elements_in, has_more, invoked, left_in, opened, returned_if}
+use Rattle.tmpl_run.specs.Machine.{ring, top, turned, with_dot}
 use Rattle.tmpl_run.specs.Ready.{Lands}
 use Rattle.tmpl_run.proofs.TurnLemmas.{none-left}
 
@@ -28,7 +30,8 @@ top-lands : (A : Type 0) (cs : List Cell) (go : Cell → List Cell → Turn) →
 top-lands A [] go f h = absurd h
 top-lands A (c ∷ cs) go f h = f c cs h
 
-ring-lands : (A : Type 0) (cs : List Cell) (go : Cell → Cell → List Cell → Turn) → ((c d : Cell) (cs : List Cell) → Lands (go c d cs) → A) → Lands (ring cs go) → A
+ring-lands : (A : Type 0) (cs : List Cell) (go : Cell → Cell → List Cell → Turn) → ((c d : Cell) (cs : List Cell) → Lands (go c d cs) → A)
+    → Lands (ring cs go) → A
 ring-lands A [] go f h = absurd h
 ring-lands A (c ∷ []) go f h = absurd h
 ring-lands A (c ∷ d ∷ cs) go f h = f c d cs h
@@ -58,7 +61,8 @@ module _ (plan : Plan) (t : Template) (s : State) where
   pub end-with-jumps : (n variables skip : ℕ) → Lands (done plan t (code.end_with n variables skip) s) → s.place + 1 + skip < 2 ^ 64
   end-with-jumps n variables skip h = top-lands (Jumps skip) (drop n s.cells) _ (λ c cs l. l) h
 
-  pub enter-jumps : (key : Bool) (skip : ℕ) → Lands (done plan t (code.enter key skip) s) → elements_for key (slot 0 s.cells) ≡ Some [] → s.place + 1 + skip < 2 ^ 64
+  pub enter-jumps : (key : Bool) (skip : ℕ) → Lands (done plan t (code.enter key skip) s) → elements_for key (slot 0 s.cells) ≡ Some []
+      → s.place + 1 + skip < 2 ^ 64
   enter-jumps key skip h e = by s.cells h e
     where
       by : (cs : List Cell) → Lands (top cs (λ c cs. opened plan t skip c cs (elements_for key c.val) s)) → elements_for key (slot 0 cs) ≡ Some [] → Jumps skip
@@ -83,7 +87,8 @@ module _ (plan : Plan) (t : Template) (s : State) where
       by (c ∷ []) h e = absurd h
       by (c ∷ v ∷ cs) h e = subst (λ es. Lands (turned n es s)) (none-at (elements v.val) v.num e) h
 
-  pub next-jumps : (n skip line : ℕ) → Lands (done plan t (code.next n skip line) s) → has_more (slot_cell 1 (drop n s.cells)) ≡ false → s.place + 1 + skip < 2 ^ 64
+  pub next-jumps : (n skip line : ℕ) → Lands (done plan t (code.next n skip line) s) → has_more (slot_cell 1 (drop n s.cells)) ≡ false
+      → s.place + 1 + skip < 2 ^ 64
   next-jumps n skip line h e = by (drop n s.cells) h e
     where
       by : (cs : List Cell) → Lands (ring cs (λ d v cs. again plan t skip line d v cs (drop 1 (left_in v)) s)) → has_more (slot_cell 1 cs) ≡ false → Jumps skip

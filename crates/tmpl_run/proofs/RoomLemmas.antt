@@ -1,5 +1,6 @@
--- The cells stay within the room that there is for them.
-use Rattle.std.proofs.Common.{arith, ◌≡◌, ◌+◌, ◌-◌, ◌≤◌, ◌<◌, nat_eq, nat_lt, ℕ, zero, suc, Bool, true, false, List, [], ◌∷◌, ◌++◌, length, take, drop, reverse, refl, subst, Option, Some, None, Result, Ok, Err, length-drop}
+-- For the law `stays_within`: the cells stay within the room that there is for them.
+use Rattle.std.proofs.Common.{arith, ◌≡◌, ◌+◌, ◌-◌, ◌≤◌, ◌<◌, nat_eq, nat_lt, ℕ, zero, suc, Bool, true, false, List, [], ◌∷◌, ◌++◌, length}
+use Rattle.std.proofs.Common.{take, drop, reverse, refl, subst, Option, Some, None, Result, Ok, Err, length-drop}
 use Rattle.std.specs.Prelude.{slice_get}
 use Rattle.std.proofs.lemmas.List.{length-set}
 use Rattle.tmpl_values.specs.Value.{Value, nothing}
@@ -17,7 +18,8 @@ use Rattle.tmpl_code.specs.Instruction.{Instruction, Operation}
 use Rattle.tmpl_run.specs.Cell.{Cell, cell, fresh, values_in}
 use Rattle.tmpl_run.specs.State.{Plan, State}
 use Rattle.tmpl_run.specs.Step.{Went, called_on, decided_by, halted, lacks, on, pushed, step}
-use Rattle.tmpl_run.specs.Machine.{Turn, again, branch, deepened, done, done_in, elements_for, ended, frame, goes, held, invoked, kept_on, left_in, next_of, onto, opened, paid_if, piped, returned_if, ring, stuck, top, turned, with_dot}
+use Rattle.tmpl_run.specs.Machine.{Turn, again, branch, deepened, done, done_in, elements_for, ended, frame, goes, held, invoked, kept_on}
+use Rattle.tmpl_run.specs.Machine.{left_in, next_of, onto, opened, paid_if, piped, returned_if, ring, stuck, top, turned, with_dot}
 use Rattle.tmpl_run.specs.Ready.{Fits, Has, RoomIf}
 use Rattle.tmpl_run.specs.Ends.{Ends, IsReady, Leads}
 
@@ -31,7 +33,8 @@ module _ (size : ℕ) where
   pushed-within (Ok v) cs h = omega arith
   pushed-within (Err cause) cs h = tt
 
-  called-within : (f : Func) (args : List Value) (p : Bool) (cs : List Cell) (n : ℕ) → length cs ≡ n + piped_count p → n < size → WentWithin (called_on f args p cs)
+  called-within : (f : Func) (args : List Value) (p : Bool) (cs : List Cell) (n : ℕ) → length cs ≡ n + piped_count p → n < size
+      → WentWithin (called_on f args p cs)
   called-within f args false cs n e h = pushed-within (or_call_failed f (called f args)) cs (omega arith)
   called-within f args true [] n e h = tt
   called-within f args true (c ∷ cs) n e h = pushed-within (or_call_failed f (called f (args ++ c.val ∷ []))) cs (omega arith)
@@ -66,23 +69,27 @@ module _ (size : ℕ) where
   Within (ended r) = Unit {0}
   Within stuck = Unit {0}
 
-  top-within : (cs : List Cell) (go : Cell → List Cell → Turn) → ((c : Cell) (ds : List Cell) → length cs ≡ suc (length ds) → Within (go c ds)) → Within (top cs go)
+  top-within : (cs : List Cell) (go : Cell → List Cell → Turn) → ((c : Cell) (ds : List Cell) → length cs ≡ suc (length ds) → Within (go c ds))
+      → Within (top cs go)
   top-within [] go h = tt
   top-within (c ∷ cs) go h = h c cs refl
 
-  ring-within : (cs : List Cell) (go : Cell → Cell → List Cell → Turn) → ((c d : Cell) (ds : List Cell) → length cs ≡ suc (suc (length ds)) → Within (go c d ds)) → Within (ring cs go)
+  ring-within : (cs : List Cell) (go : Cell → Cell → List Cell → Turn)
+      → ((c d : Cell) (ds : List Cell) → length cs ≡ suc (suc (length ds)) → Within (go c d ds)) → Within (ring cs go)
   ring-within [] go h = tt
   ring-within (c ∷ []) go h = tt
   ring-within (c ∷ d ∷ cs) go h = h c d cs refl
 
-  frame-within : (cs : List Cell) (go : Cell → Cell → List Cell → Turn) → ((c d : Cell) (ds : List Cell) → length ds ≤ length cs → Within (go c d ds)) → Within (frame cs go)
+  frame-within : (cs : List Cell) (go : Cell → Cell → List Cell → Turn) → ((c d : Cell) (ds : List Cell) → length ds ≤ length cs → Within (go c d ds))
+      → Within (frame cs go)
   frame-within [] go h = tt
   frame-within (c ∷ []) go h = tt
   frame-within (c ∷ d ∷ []) go h = tt
   frame-within (c ∷ d ∷ e ∷ cs) go h = h d e cs (omega arith)
 
   module _ (plan : Plan) (me : Template) (s : State) (within : length s.cells ≤ size) where
-    paid-within : (line : ℕ) (cs : State → List Cell) (place : State → ℕ) → ((t : State) → length (cs t) ≤ size) → Within (paid_if (nat_eq s.left 0) plan me line s (λ s. onto (cs s) (place s) s))
+    paid-within : (line : ℕ) (cs : State → List Cell) (place : State → ℕ) → ((t : State) → length (cs t) ≤ size)
+        → Within (paid_if (nat_eq s.left 0) plan me line s (λ s. onto (cs s) (place s) s))
     paid-within line cs place h = by (nat_eq s.left 0)
       where
         by : (b : Bool) → Within (paid_if b plan me line s (λ s. onto (cs s) (place s) s))
@@ -106,12 +113,14 @@ module _ (size : ℕ) where
     branch-within true kept skip c cs e = kept-within kept c cs e
     branch-within false kept skip c cs e = kept-within kept c cs e
 
-    with-within : (t kept : Bool) (skip : ℕ) (c : Cell) (cs : List Cell) → length s.cells ≡ suc (length cs) → RoomIf kept (length s.cells) size → Within (with_dot t kept skip c cs s)
+    with-within : (t kept : Bool) (skip : ℕ) (c : Cell) (cs : List Cell) → length s.cells ≡ suc (length cs) → RoomIf kept (length s.cells) size
+        → Within (with_dot t kept skip c cs s)
     with-within true true skip c cs e h = omega arith
     with-within true false skip c cs e h = omega arith
     with-within false kept skip c cs e h = kept-within kept c cs e
 
-    opened-within : (skip : ℕ) (c : Cell) (cs : List Cell) (o : Option (List Element)) → length s.cells ≡ suc (length cs) → length s.cells < size → Within (opened plan me skip c cs o s)
+    opened-within : (skip : ℕ) (c : Cell) (cs : List Cell) (o : Option (List Element)) → length s.cells ≡ suc (length cs) → length s.cells < size
+        → Within (opened plan me skip c cs o s)
     opened-within skip c cs None e h = tt
     opened-within skip c cs (Some []) e h = omega arith
     opened-within skip c cs (Some (x ∷ xs)) e h = by (nat_eq s.left 0)
@@ -129,7 +138,8 @@ module _ (size : ℕ) where
     turned-within (suc zero) (e ∷ es) h = omega arith
     turned-within (suc (suc n)) (e ∷ es) h = omega arith
 
-    again-within : (skip line : ℕ) (d v : Cell) (cs : List Cell) (es : List Element) → suc (suc (length cs)) ≤ size → Within (again plan me skip line d v cs es s)
+    again-within : (skip line : ℕ) (d v : Cell) (cs : List Cell) (es : List Element) → suc (suc (length cs)) ≤ size
+        → Within (again plan me skip line d v cs es s)
     again-within skip line d v cs [] h = omega arith
     again-within skip line d v cs (e ∷ es) h = paid-within line (λ s. d ∷ cell v.val (suc v.num) ∷ cs) (λ s. d.num) (λ t. h)
 
@@ -138,7 +148,8 @@ module _ (size : ℕ) where
     deepened-within false true line = within
     deepened-within false false line = tt
 
-    invoked-within : (number : ℕ) (o : Option ℕ) (c : Cell) (cs : List Cell) → length s.cells ≡ suc (length cs) → length s.cells + 2 ≤ size → Within (invoked plan me number o c cs s)
+    invoked-within : (number : ℕ) (o : Option ℕ) (c : Cell) (cs : List Cell) → length s.cells ≡ suc (length cs) → length s.cells + 2 ≤ size
+        → Within (invoked plan me number o c cs s)
     invoked-within number None c cs e h = tt
     invoked-within number (Some start) c cs e h = by (nat_eq s.left 0)
       where
@@ -167,11 +178,13 @@ module _ (size : ℕ) where
     done-within (code.set_dot slot) h = omega (arith, length-set s.cells slot (fresh s.dot))
     done-within (code.unless kept skip) h = top-within s.cells _ (λ c cs e. branch-within (truth c.val) kept skip c cs e)
     done-within (code.enter_with kept skip) h = top-within s.cells _ (λ c cs e. with-within (truth c.val) kept skip c cs e h)
-    done-within (code.end_with n variables skip) h = top-within (drop n s.cells) _ (λ c cs e. (let a = length-drop n s.cells in let b = length-drop variables cs in omega arith))
+    done-within (code.end_with n variables skip) h =
+        top-within (drop n s.cells) _ (λ c cs e. (let a = length-drop n s.cells in let b = length-drop variables cs in omega arith))
     done-within (code.cut n skip) h = let a = length-drop n s.cells in omega arith
     done-within (code.enter key skip) h = top-within s.cells _ (λ c cs e. opened-within skip c cs (elements_for key c.val) e h)
     done-within (code.turn n) h = ring-within s.cells _ (λ d v cs e. turned-within n (left_in v) h)
-    done-within (code.next n skip line) h = ring-within (drop n s.cells) _ (λ d v cs e. again-within skip line d v cs (drop 1 (left_in v)) (let a = length-drop n s.cells in omega arith))
+    done-within (code.next n skip line) h =
+        ring-within (drop n s.cells) _ (λ d v cs e. again-within skip line d v cs (drop 1 (left_in v)) (let a = length-drop n s.cells in omega arith))
     done-within (code.leave n skip) h = ring-within (drop n s.cells) _ (λ d v cs e. (let a = length-drop n s.cells in omega arith))
     done-within (code.deepen line) h = deepened-within (nat_eq s.left 0) (nat_lt s.depth plan.rules.depth_limit) line
     done-within (code.invoke number) h = top-within s.cells _ (λ c cs e. invoked-within number (slice_get plan.starts number) c cs e h)

@@ -1,5 +1,6 @@
--- What a run comes to, by what the loop came to and what its output then gave.
-use Rattle.std.proofs.Common.{inl, inr, ◌≡◌, ◌∙◌, ◌++◌, add-zero, ℕ, List, [], refl, ap, sym, subst, Option, Some, None, Result, Ok, Err, append-nil, append_assoc}
+-- For `run`: what it comes to, by what the loop came to and what its output then gave.
+use Rattle.std.proofs.Common.{inl, inr, ◌≡◌, ◌∙◌, ◌++◌, add-zero, ℕ, List, [], refl, ap, sym, subst, Option, Some, None, Result, Ok, Err}
+use Rattle.std.proofs.Common.{append-nil, append_assoc}
 use Rattle.std.proofs.lemmas.List.{append_cancel_left}
 use Rattle.tmpl_values.specs.Put.{Begins, IsPut, Puts, appended}
 use Rattle.tmpl_values.proofs.PutLemmas.{IsPut-along, IsPut-append, appended-nil}
@@ -14,7 +15,8 @@ use Rattle.tmpl_run.specs.declared.fault.RunError.TheVariants as error
 use Rattle.tmpl_run.proofs.OutputLemmas.{behind}
 
 -- what was taken is what was there and more; with what waits it is what was there and the front of the text
-begun-by : (known : Option (List ℕ)) (more rest front behind text : List ℕ) → appended (appended known more) rest ≡ appended (appended known []) front → text ≡ front ++ behind → Begins known (appended known more) text
+begun-by : (known : Option (List ℕ)) (more rest front behind text : List ℕ) → appended (appended known more) rest ≡ appended (appended known []) front
+    → text ≡ front ++ behind → Begins known (appended known more) text
 begun-by None more rest front behind text e is = ([], text, refl, refl)
 begun-by (Some l) more rest front behind text e is = (more, rest ++ behind, is ∙ ap (λ q. q ++ behind) (sym parts) ∙ append_assoc more rest behind, refl)
   where
@@ -29,7 +31,8 @@ module _ (end : Ran) (before after : Told) (rest : List ℕ) (name : ℕ) (grows
   last : ℕ → Puts
   last n = behind after rest n
 
-  begins : (front behind : List ℕ) → end.text ≡ front ++ behind → appended after.bytes rest ≡ appended (appended before.bytes []) front → Begins before.bytes after.bytes end.text
+  begins : (front behind : List ℕ) → end.text ≡ front ++ behind → appended after.bytes rest ≡ appended (appended before.bytes []) front
+      → Begins before.bytes after.bytes end.text
   begins front behind is e = subst (λ k. Begins before.bytes k end.text) (sym grows.1)
       (begun-by before.bytes grows.0 rest front behind end.text (ap (λ k. appended k rest) (sym grows.1) ∙ e) is)
 
@@ -43,14 +46,16 @@ module _ (end : Ran) (before after : Told) (rest : List ℕ) (name : ℕ) (grows
   cut : (n : ℕ) → IsPut {F = SinkFault} (Err (record {})) (behind before [] name) (behind after rest n) end.text → Cut end.text (sunk before after)
   cut n h = record { count = h.count; bytes = begins h.bytes.0 h.bytes.1 h.bytes.2 h.bytes.3; through = refl }
 
-  flushed : (n : ℕ) (was r : Result (Unit {0}) RunError) (mid : Puts) → IsPut {F = SinkFault} (Ok tt) (behind before [] name) mid end.text → Flushed was r mid (behind after rest n) rest
+  flushed : (n : ℕ) (was r : Result (Unit {0}) RunError) (mid : Puts) → IsPut {F = SinkFault} (Ok tt) (behind before [] name) mid end.text
+      → Flushed was r mid (behind after rest n) rest
       → (Whole end.text (sunk before after) → IsRun end (sunk before after) was) → IsRun end (sunk before after) r
   flushed n was r mid given (inl f) done =
       subst (λ x. IsRun end (sunk before after) x) (sym f.0) (done (whole n f.2 (IsPut-along (IsPut-append given f.1) (append-nil end.text))))
   flushed n was r mid given (inr f) done =
       subst (λ x. IsRun end (sunk before after) x) (sym f.0) (cut n (IsPut-along (IsPut-append given f.1) (append-nil end.text)))
 
-  pub comes-to : (n : ℕ) (e r : Result (Unit {0}) RunError) (mid : Puts) → Came end (behind before [] name) mid e → Closed e r mid (behind after rest n) rest → IsRun end (sunk before after) r
+  pub comes-to : (n : ℕ) (e r : Result (Unit {0}) RunError) (mid : Puts) → Came end (behind before [] name) mid e → Closed e r mid (behind after rest n) rest
+      → IsRun end (sunk before after) r
   comes-to n (Ok u) r mid came closed = flushed n (Ok u) r mid came.0 closed (λ w. (w, came.1))
   comes-to n (Err (error.Fault fault)) r mid came closed = flushed n (Err (error.Fault fault)) r mid came.0 closed (λ w. (w, came.1))
   comes-to n (Err error.WriteFailed) r mid came closed =

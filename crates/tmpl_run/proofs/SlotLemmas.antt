@@ -1,5 +1,6 @@
--- The slots of a layout are the variables; the cells besides them stay.
-use Rattle.std.proofs.Common.{arith, ◌≡◌, ◌∙◌, ◌+◌, ◌-◌, ◌≤◌, ℕ, zero, suc, Bool, true, false, List, [], ◌∷◌, length, drop, set, refl, ap, sym, Option, Some, None, drop-drop}
+-- For the law `comes_to_meaning`: the slots of a layout are the variables of the meaning, and a part leaves all other cells equal.
+use Rattle.std.proofs.Common.{arith, ◌≡◌, ◌∙◌, ◌+◌, ◌-◌, ◌≤◌, ℕ, zero, suc, Bool, true, false, List, [], ◌∷◌, length, drop, set, refl, ap}
+use Rattle.std.proofs.Common.{sym, Option, Some, None, drop-drop}
 use Rattle.std.specs.Prelude.{option_map, if◌then◌else◌}
 use Rattle.std.specs.Str.{bytes_eq}
 use Rattle.tmpl_values.specs.Value.{Value, nothing}
@@ -71,12 +72,14 @@ looked_up x [] cs k e h = cc
 looked_up x (p ∷ ps) [] k e h = absurd (omega arith)
 looked_up x (None ∷ ps) (c ∷ cs) k e h = by (slot_named x ps) (λ j g. looked_up x ps cs j g (omega arith)) e
   where
-    by : (f : Option ℕ) → ((j : ℕ) → f ≡ Some j → slot j cs ≡ lookup x (env_of ps cs)) → option_map (λ j. suc j) f ≡ Some k → slot k (c ∷ cs) ≡ lookup x (env_of ps cs)
+    by : (f : Option ℕ) → ((j : ℕ) → f ≡ Some j → slot j cs ≡ lookup x (env_of ps cs)) → option_map (λ j. suc j) f ≡ Some k
+        → slot k (c ∷ cs) ≡ lookup x (env_of ps cs)
     by None ih e = cc
     by (Some j) ih e = let same : k ≡ suc j = cc in ap (λ n. slot n (c ∷ cs)) same ∙ ih j refl
 looked_up x (Some y ∷ ps) (c ∷ cs) k e h = by (bytes_eq y x) (slot_named x ps) (λ j g. looked_up x ps cs j g (omega arith)) e
   where
-    by : (b : Bool) (f : Option ℕ) → ((j : ℕ) → f ≡ Some j → slot j cs ≡ lookup x (env_of ps cs)) → found_at b f ≡ Some k → slot k (c ∷ cs) ≡ if b then c.val else lookup x (env_of ps cs)
+    by : (b : Bool) (f : Option ℕ) → ((j : ℕ) → f ≡ Some j → slot j cs ≡ lookup x (env_of ps cs)) → found_at b f ≡ Some k
+        → slot k (c ∷ cs) ≡ if b then c.val else lookup x (env_of ps cs)
     by true f ih e = let same : k ≡ 0 = cc in ap (λ n. slot n (c ∷ cs)) same
     by false None ih e = cc
     by false (Some j) ih e = let same : k ≡ suc j = cc in ap (λ n. slot n (c ∷ cs)) same ∙ ih j refl
@@ -91,7 +94,8 @@ looked_none x (None ∷ ps) (c ∷ cs) e = by (slot_named x ps) (λ g. looked_no
     by (Some j) ih e = cc
 looked_none x (Some y ∷ ps) (c ∷ cs) e = by (bytes_eq y x) (slot_named x ps) (λ g. looked_none x ps cs g) e
   where
-    by : (b : Bool) (f : Option ℕ) → (f ≡ None → lookup x (env_of ps cs) ≡ nothing) → found_at b f ≡ None → (if b then c.val else lookup x (env_of ps cs)) ≡ nothing
+    by : (b : Bool) (f : Option ℕ) → (f ≡ None → lookup x (env_of ps cs) ≡ nothing) → found_at b f ≡ None
+        → (if b then c.val else lookup x (env_of ps cs)) ≡ nothing
     by true f ih e = cc
     by false None ih e = ih refl
     by false (Some j) ih e = cc
@@ -103,12 +107,14 @@ slots-are lay cs h = record {
 }
 
 -- a write to the slot is the assignment
-pub stored : (x : List ℕ) (lay : Layout) (cs : List Cell) (k : ℕ) (v : Value) → slot_named x lay ≡ Some k → length lay ≤ length cs → env_of lay (set cs k (fresh v)) ≡ assigned x v (env_of lay cs)
+pub stored : (x : List ℕ) (lay : Layout) (cs : List Cell) (k : ℕ) (v : Value) → slot_named x lay ≡ Some k → length lay ≤ length cs
+    → env_of lay (set cs k (fresh v)) ≡ assigned x v (env_of lay cs)
 stored x [] cs k v e h = cc
 stored x (p ∷ ps) [] k v e h = absurd (omega arith)
 stored x (None ∷ ps) (c ∷ cs) k v e h = by (slot_named x ps) (λ j g. stored x ps cs j v g (omega arith)) e
   where
-    by : (f : Option ℕ) → ((j : ℕ) → f ≡ Some j → env_of ps (set cs j (fresh v)) ≡ assigned x v (env_of ps cs)) → option_map (λ j. suc j) f ≡ Some k → env_of (None ∷ ps) (set (c ∷ cs) k (fresh v)) ≡ assigned x v (env_of ps cs)
+    by : (f : Option ℕ) → ((j : ℕ) → f ≡ Some j → env_of ps (set cs j (fresh v)) ≡ assigned x v (env_of ps cs)) → option_map (λ j. suc j) f ≡ Some k
+        → env_of (None ∷ ps) (set (c ∷ cs) k (fresh v)) ≡ assigned x v (env_of ps cs)
     by None ih e = cc
     by (Some j) ih e = let same : k ≡ suc j = cc in ap (λ n. env_of (None ∷ ps) (set (c ∷ cs) n (fresh v))) same ∙ ih j refl
 stored x (Some y ∷ ps) (c ∷ cs) k v e h = by (bytes_eq y x) (slot_named x ps) (λ j g. stored x ps cs j v g (omega arith)) e
@@ -124,7 +130,8 @@ stored-none x [] cs v e = refl
 stored-none x (p ∷ ps) [] v e = refl
 stored-none x (None ∷ ps) (c ∷ cs) v e = by (slot_named x ps) (λ g. stored-none x ps cs v g) e
   where
-    by : (f : Option ℕ) → (f ≡ None → assigned x v (env_of ps cs) ≡ env_of ps cs) → option_map (λ j. suc j) f ≡ None → assigned x v (env_of ps cs) ≡ env_of ps cs
+    by : (f : Option ℕ) → (f ≡ None → assigned x v (env_of ps cs) ≡ env_of ps cs) → option_map (λ j. suc j) f ≡ None
+        → assigned x v (env_of ps cs) ≡ env_of ps cs
     by None ih e = ih refl
     by (Some j) ih e = cc
 stored-none x (Some y ∷ ps) (c ∷ cs) v e = by (bytes_eq y x) (slot_named x ps) (λ g. stored-none x ps cs v g) e
@@ -136,17 +143,20 @@ stored-none x (Some y ∷ ps) (c ∷ cs) v e = by (bytes_eq y x) (slot_named x p
     by false (Some j) ih e = cc
 
 -- which leaves the other cells
-pub frame-set : (x : List ℕ) (lay : Layout) (cs : List Cell) (k : ℕ) (d : Cell) → slot_named x lay ≡ Some k → length lay ≤ length cs → frame_of lay (set cs k d) ≡ frame_of lay cs
+pub frame-set : (x : List ℕ) (lay : Layout) (cs : List Cell) (k : ℕ) (d : Cell) → slot_named x lay ≡ Some k → length lay ≤ length cs
+    → frame_of lay (set cs k d) ≡ frame_of lay cs
 frame-set x [] cs k d e h = cc
 frame-set x (p ∷ ps) [] k d e h = absurd (omega arith)
 frame-set x (None ∷ ps) (c ∷ cs) k d e h = by (slot_named x ps) (λ j g. frame-set x ps cs j d g (omega arith)) e
   where
-    by : (f : Option ℕ) → ((j : ℕ) → f ≡ Some j → frame_of ps (set cs j d) ≡ frame_of ps cs) → option_map (λ j. suc j) f ≡ Some k → frame_of (None ∷ ps) (set (c ∷ cs) k d) ≡ Some c ∷ frame_of ps cs
+    by : (f : Option ℕ) → ((j : ℕ) → f ≡ Some j → frame_of ps (set cs j d) ≡ frame_of ps cs) → option_map (λ j. suc j) f ≡ Some k
+        → frame_of (None ∷ ps) (set (c ∷ cs) k d) ≡ Some c ∷ frame_of ps cs
     by None ih e = cc
     by (Some j) ih e = let same : k ≡ suc j = cc in ap (λ n. frame_of (None ∷ ps) (set (c ∷ cs) n d)) same ∙ ap (λ t. Some c ∷ t) (ih j refl)
 frame-set x (Some y ∷ ps) (c ∷ cs) k d e h = by (bytes_eq y x) (slot_named x ps) (λ j g. frame-set x ps cs j d g (omega arith)) e
   where
-    by : (b : Bool) (f : Option ℕ) → ((j : ℕ) → f ≡ Some j → frame_of ps (set cs j d) ≡ frame_of ps cs) → found_at b f ≡ Some k → frame_of (Some y ∷ ps) (set (c ∷ cs) k d) ≡ None ∷ frame_of ps cs
+    by : (b : Bool) (f : Option ℕ) → ((j : ℕ) → f ≡ Some j → frame_of ps (set cs j d) ≡ frame_of ps cs) → found_at b f ≡ Some k
+        → frame_of (Some y ∷ ps) (set (c ∷ cs) k d) ≡ None ∷ frame_of ps cs
     by true f ih e = let same : k ≡ 0 = cc in ap (λ n. frame_of (Some y ∷ ps) (set (c ∷ cs) n d)) same
     by false None ih e = cc
     by false (Some j) ih e = let same : k ≡ suc j = cc in ap (λ n. frame_of (Some y ∷ ps) (set (c ∷ cs) n d)) same ∙ ap (λ t. None ∷ t) (ih j refl)
@@ -179,7 +189,8 @@ named-less (suc n) (None ∷ big) lay o = let size = o.size in named-less n big 
 named-less (suc n) (Some x ∷ big) lay o = let size = o.size in let less = named-less n big lay (record { rest = o.rest; size = omega arith }) in omega arith
 
 -- to drop the newer cells is to cut the environment
-pub cut-drop : (n : ℕ) (big lay : Layout) (cs : List Cell) → Over n big lay → length big ≤ length cs → oldest (named lay) (env_of big cs) ≡ env_of lay (drop n cs)
+pub cut-drop : (n : ℕ) (big lay : Layout) (cs : List Cell) → Over n big lay → length big ≤ length cs
+    → oldest (named lay) (env_of big cs) ≡ env_of lay (drop n cs)
 cut-drop zero big lay cs o h =
     let e : length (env_of big cs) - named lay ≡ 0 = (let long = length-env big cs h in let same : named big ≡ named lay = ap named o.rest in omega arith) in
     ap (λ n. drop n (env_of big cs)) e ∙ ap (λ l. env_of l cs) o.rest
@@ -237,18 +248,22 @@ frame-node _ fr = refl
 
 pub over-grown : (ns : Nodes) (lay : Layout) → Over (declared_in ns) (all_grown ns lay) lay
 over-grown tree.none lay = over-none lay
-over-grown (tree.then line n ns) lay = over-all (declared_in ns) (left_behind n) (all_grown ns (grown n lay)) (grown n lay) lay (over-grown ns (grown n lay)) (over-node n lay)
+over-grown (tree.then line n ns) lay =
+    over-all (declared_in ns) (left_behind n) (all_grown ns (grown n lay)) (grown n lay) lay (over-grown ns (grown n lay)) (over-node n lay)
 
 pub frame-grown : (ns : Nodes) (fr : Frame) → drop (declared_in ns) (all_grown_in ns fr) ≡ fr
 frame-grown tree.none fr = refl
-frame-grown (tree.then line n ns) fr = frame-all (declared_in ns) (left_behind n) (all_grown_in ns (grown_in n fr)) (grown_in n fr) fr (frame-grown ns (grown_in n fr)) (frame-node n fr)
+frame-grown (tree.then line n ns) fr =
+    frame-all (declared_in ns) (left_behind n) (all_grown_in ns (grown_in n fr)) (grown_in n fr) fr (frame-grown ns (grown_in n fr)) (frame-node n fr)
 
 -- .. and nodes above what a header binds
 pub over-bound : (b : Binding) (ns : Nodes) (lay : Layout) → Over (declared_count b + declared_in ns) (all_grown ns (bound_on b lay)) lay
-over-bound b ns lay = over-all (declared_in ns) (declared_count b) (all_grown ns (bound_on b lay)) (bound_on b lay) lay (over-grown ns (bound_on b lay)) (over-binding b lay)
+over-bound b ns lay =
+    over-all (declared_in ns) (declared_count b) (all_grown ns (bound_on b lay)) (bound_on b lay) lay (over-grown ns (bound_on b lay)) (over-binding b lay)
 
 pub frame-bound : (b : Binding) (ns : Nodes) (fr : Frame) → drop (declared_count b + declared_in ns) (all_grown_in ns (bound_in b fr)) ≡ fr
-frame-bound b ns fr = frame-all (declared_in ns) (declared_count b) (all_grown_in ns (bound_in b fr)) (bound_in b fr) fr (frame-grown ns (bound_in b fr)) (frame-binding b fr)
+frame-bound b ns fr =
+    frame-all (declared_in ns) (declared_count b) (all_grown_in ns (bound_in b fr)) (bound_in b fr) fr (frame-grown ns (bound_in b fr)) (frame-binding b fr)
 
 -- what lies under the variables: a cell that a control saves
 pub record First (lay : Layout) (cs : List Cell) (c : Cell) (fr : Frame) : Type 0 where
@@ -258,9 +273,11 @@ pub record First (lay : Layout) (cs : List Cell) (c : Cell) (fr : Frame) : Type 
   pub deep : length lay ≤ length rest
   pub env : env_of (None ∷ lay) cs ≡ env_of lay rest
 
-pub first-saved : (lay : Layout) (cs : List Cell) (c : Cell) (fr : Frame) → frame_of (None ∷ lay) cs ≡ Some c ∷ fr → suc (length lay) ≤ length cs → First lay cs c fr
+pub first-saved : (lay : Layout) (cs : List Cell) (c : Cell) (fr : Frame) → frame_of (None ∷ lay) cs ≡ Some c ∷ fr → suc (length lay) ≤ length cs
+    → First lay cs c fr
 first-saved lay [] c fr e h = absurd (omega arith)
-first-saved lay (d ∷ cs) c fr e h = let same : d ≡ c = cc in record { rest = cs; cells = ap (λ x. x ∷ cs) same; frame = ap (drop 1) e; deep = omega arith; env = refl }
+first-saved lay (d ∷ cs) c fr e h =
+    let same : d ≡ c = cc in record { rest = cs; cells = ap (λ x. x ∷ cs) same; frame = ap (drop 1) e; deep = omega arith; env = refl }
 
 -- the cells of a frame of no variables are known
 pub below-same : (cs ds : List Cell) → below cs ≡ below ds → cs ≡ ds

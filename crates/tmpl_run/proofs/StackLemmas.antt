@@ -1,4 +1,4 @@
--- A stack as a list of its live cells.
+-- For `Stack`: lent cells as the list of those that are live, the newest first.
 use Rattle.std.proofs.Common.{arith, ◌≡◌, ◌∙◌, ◌+◌, ◌-◌, ◌<◌, ◌≤◌, ℕ, zero, suc, List, [], ◌∷◌, length, drop, take, set, get_or, map, reverse, refl, ap, sym}
 use Rattle.std.proofs.lemmas.List.{length-map, length-reverse, get_or-set_other, length-set, length-take-le, reverse-append, length-drop}
 use Rattle.std.proofs.Math.Seq.{take-suc, take-suc-set}
@@ -13,19 +13,25 @@ pub live-length : (top : ℕ) (cs : List held.Cell) → top ≤ length cs → le
 live-length top cs h = length-map (reverse (take top cs)) cell_of ∙ length-reverse (take top cs) ∙ length-take-le top cs h
 
 live-more : (top : ℕ) (cs : List held.Cell) (d : held.Cell) → top < length cs → cells_in (top + 1) cs ≡ cell_of (get_or cs top d) ∷ cells_in top cs
-live-more top cs d h = ap (λ n. cells_in n cs) (add-one top) ∙ ap (λ l. map cell_of (reverse l)) (take-suc cs top d h) ∙ ap (map cell_of) (reverse-append (take top cs) (get_or cs top d ∷ []))
+live-more top cs d h =
+    ap (λ n. cells_in n cs) (add-one top) ∙ ap (λ l. map cell_of (reverse l)) (take-suc cs top d h)
+    ∙ ap (map cell_of) (reverse-append (take top cs) (get_or cs top d ∷ []))
 
 pub live-push : (top : ℕ) (cs : List held.Cell) (c : held.Cell) → top < length cs → cells_in (top + 1) (set cs top c) ≡ cell_of c ∷ cells_in top cs
-live-push top cs c h = ap (λ n. cells_in n (set cs top c)) (add-one top) ∙ ap (λ l. map cell_of (reverse l)) (take-suc-set cs top c h) ∙ ap (map cell_of) (reverse-append (take top cs) (c ∷ []))
+live-push top cs c h =
+    ap (λ n. cells_in n (set cs top c)) (add-one top) ∙ ap (λ l. map cell_of (reverse l)) (take-suc-set cs top c h)
+    ∙ ap (map cell_of) (reverse-append (take top cs) (c ∷ []))
 
 pub live-same : (top : ℕ) (new old : List held.Cell) → take top new ≡ take top old → cells_in top new ≡ cells_in top old
 live-same top new old e = ap (λ l. map cell_of (reverse l)) e
 
 -- the newest one is taken
-pub live-taken : (top : ℕ) (old new : List held.Cell) (c : held.Cell) → 1 ≤ top → top ≤ length old → c ≡ get_or old (top - 1) c → take (top - 1) new ≡ take (top - 1) old → cells_in top old ≡ cell_of c ∷ cells_in (top - 1) new
+pub live-taken : (top : ℕ) (old new : List held.Cell) (c : held.Cell) → 1 ≤ top → top ≤ length old → c ≡ get_or old (top - 1) c
+    → take (top - 1) new ≡ take (top - 1) old → cells_in top old ≡ cell_of c ∷ cells_in (top - 1) new
 live-taken top old new c some within is left =
     let one : top ≡ top - 1 + 1 = omega arith in
-    ap (λ n. cells_in n old) one ∙ live-more (top - 1) old c (omega arith) ∙ ap (λ (d : held.Cell). cell_of d ∷ cells_in (top - 1) old) (sym is) ∙ ap (λ l. cell_of c ∷ l) (sym (live-same (top - 1) new old left))
+    ap (λ n. cells_in n old) one ∙ live-more (top - 1) old c (omega arith) ∙ ap (λ (d : held.Cell). cell_of d ∷ cells_in (top - 1) old) (sym is)
+    ∙ ap (λ l. cell_of c ∷ l) (sym (live-same (top - 1) new old left))
 
 -- the oldest so many are those that are left when the others are forgotten
 live-drop : (count top : ℕ) (cs : List held.Cell) → count ≤ top → top ≤ length cs → cells_in (top - count) cs ≡ drop count (cells_in top cs)
@@ -39,7 +45,8 @@ live-drop (suc k) (suc top) (c ∷ cs) h g =
     ap (λ n. cells_in n (c ∷ cs)) less ∙ live-drop k top (c ∷ cs) (omega arith) (omega arith)
     ∙ ap (drop (suc k)) (sym (ap (λ n. cells_in n (c ∷ cs)) one ∙ live-more top (c ∷ cs) c within))
 
-pub live-popped : (count top : ℕ) (old new : List held.Cell) → count ≤ top → top ≤ length old → take (top - count) new ≡ take (top - count) old → cells_in (top - count) new ≡ drop count (cells_in top old)
+pub live-popped : (count top : ℕ) (old new : List held.Cell) → count ≤ top → top ≤ length old → take (top - count) new ≡ take (top - count) old
+    → cells_in (top - count) new ≡ drop count (cells_in top old)
 live-popped count top old new h g left = live-same (top - count) new old left ∙ live-drop count top old h g
 
 pub cell_at-is : (cs : List held.Cell) (i : ℕ) (d : held.Cell) → i < length cs → cell_at cs i ≡ cell_of (get_or cs i d)
@@ -63,7 +70,8 @@ slot-at (suc top) (suc k) (c ∷ cs) h g =
     ∙ slot-at top k (c ∷ cs) (omega arith) (omega arith) ∙ ap (cell_at (c ∷ cs)) at
 
 -- a write to it
-pub live-set : (top k : ℕ) (cs : List held.Cell) (d : held.Cell) → k < top → top ≤ length cs → cells_in top (set cs (top - 1 - k) d) ≡ set (cells_in top cs) k (cell_of d)
+pub live-set : (top k : ℕ) (cs : List held.Cell) (d : held.Cell) → k < top → top ≤ length cs
+    → cells_in top (set cs (top - 1 - k) d) ≡ set (cells_in top cs) k (cell_of d)
 live-set zero k cs d h g = absurd (omega arith)
 live-set (suc top) zero cs d h g =
     let one : suc top ≡ top + 1 = omega arith in

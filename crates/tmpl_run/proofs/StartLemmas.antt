@@ -1,4 +1,4 @@
--- The start of a run.
+-- For `run` and `Machine::start`: the state at the start comes to the meaning of its template.
 use Rattle.std.proofs.Common.{arith, ◌≡◌, ◌∙◌, ◌+◌, ◌-◌, ◌*◌, ◌<◌, ◌≤◌, ℕ, suc, length, get_or, ap, sym, subst, Option, Some}
 use Rattle.std.specs.Prelude.{IfSome, slice_get}
 use Rattle.std.proofs.Math.Nat.{suc-mul}
@@ -47,12 +47,14 @@ module _ (plan : Plan) (size number : ℕ) (linked : Starts plan.templates plan.
     leads v = run-leads plan size linked some fits number me is-me (get_or plan.starts number 0) (slice_get-get_or plan.starts number 0 has-start) v
 
     -- .. of a state that is so, over so many cells
-    pub starts-so : (held : ℕ) (v : Value) (s : State) → held ≡ size → s ≡ starting plan number (get_or plan.starts number 0) v → Ends plan held s (ran_from plan s)
+    pub starts-so : (held : ℕ) (v : Value) (s : State) → held ≡ size → s ≡ starting plan number (get_or plan.starts number 0) v
+        → Ends plan held s (ran_from plan s)
     starts-so held v s sized state =
         subst (λ n. Ends plan n s (ran_from plan s)) (sym sized) (subst (λ (t : State). Ends plan size t (ran_from plan t)) (sym state) (leads v))
 
   -- what holds of that run holds of the meaning of the template
-  pub meant-so : (Holds : Ran → Type 0) (input : Option Value) (s : State) → s ≡ starting plan number (get_or plan.starts number 0) (starting_dot input) → Holds (ran_from plan s)
+  pub meant-so : (Holds : Ran → Type 0) (input : Option Value) (s : State) → s ≡ starting plan number (get_or plan.starts number 0) (starting_dot input)
+      → Holds (ran_from plan s)
       → IfSome (slice_get plan.templates number) (λ t. Holds (ran plan.rules plan.templates t.0 t.1 input))
   meant-so Holds input s state h =
       subst (λ o. IfSome o (λ t. Holds (ran plan.rules plan.templates t.0 t.1 input))) (sym is-me) (subst Holds (ap (ran_from plan) state) h)

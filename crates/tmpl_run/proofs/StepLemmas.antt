@@ -1,5 +1,6 @@
--- The steps of a pipeline, one after the other, come to what `exec` says.
-use Rattle.std.proofs.Common.{arith, ◌≡◌, ◌∙◌, ◌+◌, ◌-◌, ◌||◌, ◌++◌, ℕ, zero, suc, Bool, true, false, List, [], ◌∷◌, length, take, drop, reverse, refl, ap, sym, subst, Option, Some, None, Result, Ok, Err, length-drop}
+-- For the law `comes_to_meaning`: the machine's steps of a pipeline, one after the other, come to what `exec` says.
+use Rattle.std.proofs.Common.{arith, ◌≡◌, ◌∙◌, ◌+◌, ◌-◌, ◌||◌, ◌++◌, ℕ, zero, suc, Bool, true, false, List, [], ◌∷◌, length, take, drop}
+use Rattle.std.proofs.Common.{reverse, refl, ap, sym, subst, Option, Some, None, Result, Ok, Err, length-drop}
 use Rattle.std.specs.Prelude.{slice_get}
 use Rattle.tmpl_values.specs.Value.{Value}
 use Rattle.tmpl_funcs.specs.Dispatch.{called}
@@ -28,7 +29,8 @@ use Rattle.tmpl_run.proofs.WayLemmas as ways
 use Rattle.tmpl_run.proofs.WayLemmas.{Who, who_of}
 
 -- a step does not read the variables by their names
-step-env : (o : Operation) (mode : MissingKey) (d : Value) (a b : Environment) (cs : List Cell) → step (record { missing_key = mode; dot = d; env = a }) o cs ≡ step (record { missing_key = mode; dot = d; env = b }) o cs
+step-env : (o : Operation) (mode : MissingKey) (d : Value) (a b : Environment) (cs : List Cell)
+    → step (record { missing_key = mode; dot = d; env = a }) o cs ≡ step (record { missing_key = mode; dot = d; env = b }) o cs
 step-env code.push_nothing mode d a b cs = refl
 step-env _ mode d a b cs = refl
 
@@ -42,12 +44,16 @@ pushed-after : (Next : ℕ → ℕ → Type 0) (r : Result Value Cause) (cs : Li
 pushed-after Next (Ok v) cs h = h
 pushed-after Next (Err cause) cs h = tt
 
-called-after : (Next : ℕ → ℕ → Type 0) (f : Func) (args : List Value) (p : Bool) (cs : List Cell) (n : ℕ) → length cs ≡ n + piped_count p → Next 0 (suc n) → Leaves Next (called_on f args p cs)
-called-after Next f args false cs n e h = pushed-after Next (or_call_failed f (called f args)) cs (subst (λ k. Next 0 (suc k)) (let same : n ≡ length cs = omega arith in same) h)
+called-after : (Next : ℕ → ℕ → Type 0) (f : Func) (args : List Value) (p : Bool) (cs : List Cell) (n : ℕ) → length cs ≡ n + piped_count p → Next 0 (suc n)
+    → Leaves Next (called_on f args p cs)
+called-after Next f args false cs n e h =
+    pushed-after Next (or_call_failed f (called f args)) cs (subst (λ k. Next 0 (suc k)) (let same : n ≡ length cs = omega arith in same) h)
 called-after Next f args true [] n e h = tt
-called-after Next f args true (c ∷ cs) n e h = pushed-after Next (or_call_failed f (called f (args ++ c.val ∷ []))) cs (subst (λ k. Next 0 (suc k)) (let same : n ≡ length cs = omega arith in same) h)
+called-after Next f args true (c ∷ cs) n e h =
+    pushed-after Next (or_call_failed f (called f (args ++ c.val ∷ []))) cs (subst (λ k. Next 0 (suc k)) (let same : n ≡ length cs = omega arith in same) h)
 
-step-after : (o : Operation) (s : Place) (cs : List Cell) (most : ℕ) (Next : ℕ → ℕ → Type 0) → Fits o (length cs) most → Follows o (length cs) Next → Leaves Next (step s o cs)
+step-after : (o : Operation) (s : Place) (cs : List Cell) (most : ℕ) (Next : ℕ → ℕ → Type 0) → Fits o (length cs) most → Follows o (length cs) Next
+    → Leaves Next (step s o cs)
 step-after code.push_nothing s cs most Next fits h = h
 step-after (code.push_bool x) s cs most Next fits h = h
 step-after (code.push_number n) s cs most Next fits h = h
@@ -89,7 +95,8 @@ module _ (plan : Plan) (room : ℕ) (f : Ran) (who : Who) (me : Template) (is-me
   none-left zero = refl
   none-left (suc k) = refl
 
-  pub steps-lead : (e : Environment) (last : ℕ) (is : Code) (k : ℕ) (s : State) → who_of s ≡ who → drop s.place plan.code ≡ drop k is → Able room last is k (length s.cells) → Arrives s (exec (spot e s) k is s.cells s.made_text) → Ends plan room s f
+  pub steps-lead : (e : Environment) (last : ℕ) (is : Code) (k : ℕ) (s : State) → who_of s ≡ who → drop s.place plan.code ≡ drop k is
+      → Able room last is k (length s.cells) → Arrives s (exec (spot e s) k is s.cells s.made_text) → Ends plan room s f
   steps-lead e last [] k s same here able h = h s.place (here ∙ none-left k)
   steps-lead e last (i ∷ is) (suc k) s same here able h = steps-lead e last is k s same here able h
   steps-lead e last (i ∷ is) zero s same here able h = by (λ k t same here able h. steps-lead e last is k t same here able h) (op_in i) refl able h
@@ -116,7 +123,8 @@ module _ (plan : Plan) (room : ℕ) (f : Ran) (who : Who) (me : Template) (is-me
 
   plain-able : (rest : Code) (n : ℕ) → Plain rest → Able room n rest 0 n
   plain-able [] n p = refl
-  plain-able (i ∷ is) n p = subst (λ w. (let A : Type 0 = elim w [ None ↦ n ≡ n | Some o ↦ Fits o n room × Follows o n (λ k m. Able room n is k m) ] in A)) (sym p) refl
+  plain-able (i ∷ is) n p =
+      subst (λ w. (let A : Type 0 = elim w [ None ↦ n ≡ n | Some o ↦ Fits o n room × Follows o n (λ k m. Able room n is k m) ] in A)) (sym p) refl
 
   plain-exec : (rest : Code) (q : Place) (cs : List Cell) (m : Bool) → Plain rest → exec q 0 rest cs m ≡ at rest cs m
   plain-exec [] q cs m p = refl
@@ -130,6 +138,7 @@ module _ (plan : Plan) (room : ℕ) (f : Ran) (who : Who) (me : Template) (is-me
       (subst (Arrives s) (sym (pipeline-runs p (spot (env_of lay s.cells) s) lay start rest s.cells s.made_text (slots-are lay s.cells deep) l))
       (by (given_in plan lay s p).result (s.made_text || (given_in plan lay s p).made_text) h))
     where
-      by : (r : Result Value Cause) (m : Bool) → Gives plan me (λ t. Ends plan room t f) f rest s r m → Arrives s (follow_by r m (λ v b. exec (spot (env_of lay s.cells) s) 0 rest (fresh v ∷ s.cells) b))
+      by : (r : Result Value Cause) (m : Bool) → Gives plan me (λ t. Ends plan room t f) f rest s r m
+          → Arrives s (follow_by r m (λ v b. exec (spot (env_of lay s.cells) s) 0 rest (fresh v ∷ s.cells) b))
       by (Ok v) m h = subst (Arrives s) (sym (plain-exec rest (spot (env_of lay s.cells) s) (fresh v ∷ s.cells) m plain)) h
       by (Err cause) m h = h

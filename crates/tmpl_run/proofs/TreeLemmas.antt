@@ -1,4 +1,4 @@
--- The code of a template comes to what the template means.
+-- For the law `comes_to_meaning`: the code of a template comes to what the template means, by induction on the depth of calls.
 use Rattle.std.proofs.Common.{arith, ◌≡◌, ◌∙◌, ◌+◌, ◌-◌, ◌*◌, ◌≤◌, nat_lt, ℕ, zero, suc, List, [], ◌∷◌, length, drop, refl, ap, sym, subst, Some, None}
 use Rattle.std.specs.Prelude.{slice_get}
 use Rattle.std.proofs.Math.Nat.{suc-mul}
@@ -45,10 +45,13 @@ module _ (plan : Plan) (room : ℕ) (f : Ran) (who : Who) (me : Template) (is-me
   abbrev set : Setting
   set = setting_of plan.rules calls me.0 me.1
 
-  control-leads : (line : ℕ) (c : Control) (h : Header) (body other : Nodes) → nodes.NodesLead plan room f who me is-me home calls spare pipes body → nodes.NodesLead plan room f who me is-me home calls spare pipes other → nodes.NodeLeads plan room f who me is-me home calls spare pipes line (tree.control_node c h body other)
+  control-leads : (line : ℕ) (c : Control) (h : Header) (body other : Nodes) → nodes.NodesLead plan room f who me is-me home calls spare pipes body
+      → nodes.NodesLead plan room f who me is-me home calls spare pipes other
+      → nodes.NodeLeads plan room f who me is-me home calls spare pipes line (tree.control_node c h body other)
   control-leads line control.If h body other ih-body ih-other = if-leads plan room f who me is-me home calls spare pipes line h body other ih-body ih-other
   control-leads line control.With h body other ih-body ih-other = with-leads plan room f who me is-me home calls spare pipes line h body other ih-body ih-other
-  control-leads line control.Range h body other ih-body ih-other = range-leads plan room f who me is-me home calls spare pipes line h body other ih-body ih-other
+  control-leads line control.Range h body other ih-body ih-other =
+      range-leads plan room f who me is-me home calls spare pipes line h body other ih-body ih-other
 
   text-leads : (line : ℕ) (bytes : List ℕ) → nodes.NodeLeads plan room f who me is-me home calls spare pipes line (tree.text bytes)
   text-leads line bytes g lay fr here rest s l st same-line inside fits more-fits k =
@@ -88,7 +91,9 @@ module _ (plan : Plan) (room : ℕ) (f : Ran) (who : Who) (me : Template) (is-me
 
   -- a whole template
   template-leads : (s : State) → who_of s ≡ who → slice_get plan.starts who.number ≡ Some s.place → frame_of first_layout s.cells ≡ home → 3 ≤ length s.cells
-      → length home + need_of_nodes me.1.nodes + spare ≤ room → ways.After plan room f who me is-me home (ways.Leaves plan room f who me is-me home) None (meanings set me.1.nodes s.dot (run_of first_layout s)) → Ends plan room s f
+      → length home + need_of_nodes me.1.nodes + spare ≤ room
+      → ways.After plan room f who me is-me home (ways.Leaves plan room f who me is-me home) None (meanings set me.1.nodes s.dot (run_of first_layout s))
+      → Ends plan room s f
   template-leads s same at-start frame deep fits k =
       nodes-lead me.1.nodes None first_layout home (drop s.place plan.code) end s (subst (λ p. NodesAt plan.templates me.1.nodes first_layout None (drop p plan.code) end) place start.laid) (record { at = refl; runs = same; frame = frame; deep = deep }) (record { n = 0; over = over-none first_layout; cells = refl }) fits
       (ways.then-map plan room f who me is-me home (ways.Leaves plan room f who me is-me home) (ways.Onward plan room f who me is-me home end (all_grown me.1.nodes first_layout) (all_grown_in me.1.nodes home) s.dot) None x.0 x.1
@@ -97,7 +102,9 @@ module _ (plan : Plan) (room : ℕ) (f : Ran) (who : Who) (me : Template) (is-me
         more = start.rest;
         at = st.at;
         runs = st.runs;
-        frame = frame-drop (declared_in me.1.nodes) (all_grown me.1.nodes first_layout) first_layout t.cells (over-grown me.1.nodes first_layout) st.deep ∙ ap (drop (declared_in me.1.nodes)) st.frame ∙ frame-grown me.1.nodes home;
+        frame =
+            frame-drop (declared_in me.1.nodes) (all_grown me.1.nodes first_layout) first_layout t.cells (over-grown me.1.nodes first_layout) st.deep
+            ∙ ap (drop (declared_in me.1.nodes)) st.frame ∙ frame-grown me.1.nodes home;
         deep = (let size = (over-grown me.1.nodes first_layout).size in let deep = st.deep in omega arith);
       }) (ap bare run)) k)
     where
@@ -142,7 +149,9 @@ module _ (plan : Plan) (room : ℕ) (linked : Starts plan.templates plan.templat
       f = ran_of x
 
       more : plan.rules.depth_limit * largest_need plan.templates ≡ (plan.rules.depth_limit - 1) * largest_need plan.templates + largest_need plan.templates
-      more = let one : plan.rules.depth_limit ≡ suc (plan.rules.depth_limit - 1) = omega arith in ap (λ n. n * largest_need plan.templates) one ∙ suc-mul (plan.rules.depth_limit - 1) (largest_need plan.templates)
+      more =
+          let one : plan.rules.depth_limit ≡ suc (plan.rules.depth_limit - 1) = omega arith in ap (λ n. n * largest_need plan.templates) one
+          ∙ suc-mul (plan.rules.depth_limit - 1) (largest_need plan.templates)
 
       leaves : seen x.0 None ≡ f → ways.Leaves plan room f who me is-me home x.0
       leaves is t ret same =

@@ -1,6 +1,7 @@
--- What an instruction does, by what is found.
+-- For the functions that carry out an instruction: what it does, by what is found on the stack.
 use Rattle.std.proofs.lemmas.Bool.Decides.{nat_tests}
-use Rattle.std.proofs.Common.{arith, ◌≡◌, ◌≢◌, ◌∙◌, ◌+◌, ◌-◌, ◌≤◌, ◌<◌, nat_eq, ℕ, zero, suc, Bool, true, false, List, [], ◌∷◌, length, drop, refl, ap, sym, Option, Some, None}
+use Rattle.std.proofs.Common.{arith, ◌≡◌, ◌≢◌, ◌∙◌, ◌+◌, ◌-◌, ◌≤◌, ◌<◌, nat_eq, ℕ, zero, suc, Bool, true, false, List, [], ◌∷◌, length}
+use Rattle.std.proofs.Common.{drop, refl, ap, sym, Option, Some, None}
 use Rattle.std.specs.Prelude.{option_map, slice_get, slice_set}
 use Rattle.tmpl_values.specs.Value.{nothing}
 use Rattle.tmpl_values.specs.Elements.{Element, element_at, elements, item_at}
@@ -25,16 +26,21 @@ none-element (Some (x ∷ xs)) e = let same : 0 ≡ suc (length xs) = cc in absu
 
 module _ (plan : Plan) (t : Template) (key : Bool) (skip : ℕ) (s : State) (c : Cell) (cs : List Cell) (is : s.cells ≡ c ∷ cs) where
   pub enter-not : None ≡ option_map length (elements_for key c.val) → done plan t (code.enter key skip) s ≡ failed t s.line not_a_range s
-  enter-not e = ap (λ l. top l (λ c cs. opened plan t skip c cs (elements_for key c.val) s)) is ∙ ap (λ o. opened plan t skip c cs o s) (no-elements (elements_for key c.val) e)
+  enter-not e =
+      ap (λ l. top l (λ c cs. opened plan t skip c cs (elements_for key c.val) s)) is
+      ∙ ap (λ o. opened plan t skip c cs o s) (no-elements (elements_for key c.val) e)
 
   pub enter-none : Some 0 ≡ option_map length (elements_for key c.val) → done plan t (code.enter key skip) s ≡ onto cs (s.place + 1 + skip) s
-  enter-none e = ap (λ l. top l (λ c cs. opened plan t skip c cs (elements_for key c.val) s)) is ∙ ap (λ o. opened plan t skip c cs o s) (none-element (elements_for key c.val) e)
+  enter-none e =
+      ap (λ l. top l (λ c cs. opened plan t skip c cs (elements_for key c.val) s)) is
+      ∙ ap (λ o. opened plan t skip c cs o s) (none-element (elements_for key c.val) e)
 
   -- .. so there is none
   pub enter-other : Some 0 ≡ option_map length (elements_for key c.val) → elements_for key (slot 0 s.cells) ≡ Some []
   enter-other e = ap (λ l. elements_for key (slot 0 l)) is ∙ none-element (elements_for key c.val) e
 
-  pub enter-spent : (n : ℕ) → Some n ≡ option_map length (elements_for key c.val) → n ≢ 0 → s.left ≡ 0 → done plan t (code.enter key skip) s ≡ failed t s.line (steps_spent plan.rules.step_limit) s
+  pub enter-spent : (n : ℕ) → Some n ≡ option_map length (elements_for key c.val) → n ≢ 0 → s.left ≡ 0
+      → done plan t (code.enter key skip) s ≡ failed t s.line (steps_spent plan.rules.step_limit) s
   enter-spent n e some left = ap (λ l. top l (λ c cs. opened plan t skip c cs (elements_for key c.val) s)) is ∙ by (elements_for key c.val) e
     where
       by : (o : Option (List Element)) → Some n ≡ option_map length o → opened plan t skip c cs o s ≡ failed t s.line (steps_spent plan.rules.step_limit) s
@@ -43,7 +49,8 @@ module _ (plan : Plan) (t : Template) (key : Bool) (skip : ℕ) (s : State) (c :
       by (Some (x ∷ xs)) e = ap (λ b. paid_if b plan t s.line s (λ s. goes (record s { cells = cell s.dot (s.place + 1) ∷ fresh c.val ∷ cs; dot = nothing; place = s.place + 1 }))) (let z : nat_eq s.left 0 ≡ true = grind (arith, nat_tests) in z)
 
   pub enter-some : (n : ℕ) → Some n ≡ option_map length (elements_for key c.val) → n ≢ 0 → s.left ≢ 0
-      → done plan t (code.enter key skip) s ≡ goes (record s { cells = cell s.dot (s.place + 1) ∷ fresh c.val ∷ cs; dot = nothing; left = s.left - 1; place = s.place + 1 })
+      → done plan t (code.enter key skip) s
+      ≡ goes (record s { cells = cell s.dot (s.place + 1) ∷ fresh c.val ∷ cs; dot = nothing; left = s.left - 1; place = s.place + 1 })
   enter-some n e some left = ap (λ l. top l (λ c cs. opened plan t skip c cs (elements_for key c.val) s)) is ∙ by (elements_for key c.val) e
     where
       by : (o : Option (List Element)) → Some n ≡ option_map length o → opened plan t skip c cs o s ≡ goes (record s { cells = cell s.dot (s.place + 1) ∷ fresh c.val ∷ cs; dot = nothing; left = s.left - 1; place = s.place + 1 })
@@ -109,12 +116,17 @@ module _ (plan : Plan) (t : Template) (n skip line : ℕ) (s : State) (some : 2 
   d = slot_cell 0 (drop n s.cells)
 
   turn-by : (es : List Element) → drop 1 (left_in v) ≡ es → done plan t (code.next n skip line) s ≡ again plan t skip line d v (drop 2 (drop n s.cells)) es s
-  turn-by es e = ring-is (drop n s.cells) (λ d v cs. again plan t skip line d v cs (drop 1 (left_in v)) s) some ∙ ap (λ l. again plan t skip line d v (drop 2 (drop n s.cells)) l s) e
+  turn-by es e =
+      ring-is (drop n s.cells) (λ d v cs. again plan t skip line d v cs (drop 1 (left_in v)) s) some
+      ∙ ap (λ l. again plan t skip line d v (drop 2 (drop n s.cells)) l s) e
 
-  pub next-over : has_more (slot_cell 1 (drop n s.cells)) ≡ false → done plan t (code.next n skip line) s ≡ goes (record s { cells = drop 2 (drop n s.cells); dot = (slot_cell 0 (drop n s.cells)).val; place = s.place + 1 + skip })
+  pub next-over : has_more (slot_cell 1 (drop n s.cells)) ≡ false
+      → done plan t (code.next n skip line) s
+      ≡ goes (record s { cells = drop 2 (drop n s.cells); dot = (slot_cell 0 (drop n s.cells)).val; place = s.place + 1 + skip })
   next-over h = turn-by [] (none-left v h)
 
-  pub next-spent : has_more (slot_cell 1 (drop n s.cells)) ≡ true → s.left ≡ 0 → done plan t (code.next n skip line) s ≡ failed t line (steps_spent plan.rules.step_limit) s
+  pub next-spent : has_more (slot_cell 1 (drop n s.cells)) ≡ true → s.left ≡ 0
+      → done plan t (code.next n skip line) s ≡ failed t line (steps_spent plan.rules.step_limit) s
   next-spent h left = let more = more-left v h in
       turn-by (more.0 ∷ more.1) more.2 ∙ ap (λ b. paid_if b plan t line s (λ u. onto (d ∷ cell v.val (suc v.num) ∷ drop 2 (drop n s.cells)) d.num u)) (let z : nat_eq s.left 0 ≡ true = grind (arith, nat_tests) in z)
 

@@ -1,5 +1,6 @@
--- How an end is come to from a place, by what the meaning goes on with: it is a function, which says where the run goes on.
-use Rattle.std.proofs.Common.{arith, ◌≡◌, ◌∙◌, ◌+◌, ◌-◌, ◌≤◌, nat_eq, ℕ, zero, suc, Bool, true, false, List, [], ◌∷◌, length, drop, refl, ap, sym, subst, Option, Some, None, drop-drop, length-drop}
+-- For the law `comes_to_meaning`: how an end is come to from a place is a function of how a part of the meaning ends, which says where the run goes on.
+use Rattle.std.proofs.Common.{arith, ◌≡◌, ◌∙◌, ◌+◌, ◌-◌, ◌≤◌, nat_eq, ℕ, zero, suc, Bool, true, false, List, [], ◌∷◌, length, drop, refl}
+use Rattle.std.proofs.Common.{ap, sym, subst, Option, Some, None, drop-drop, length-drop}
 use Rattle.std.specs.Prelude.{slice_get}
 use Rattle.tmpl_values.specs.Value.{Value}
 use Rattle.tmpl_syntax.specs.Set.{Template}
@@ -94,7 +95,8 @@ cut-twice m n r h = ap (λ (v : Environment). record r { env = v }) (oldest-twic
         short (v ∷ env) (suc k) = let same : length env - k ≡ suc (length env) - suc k = omega arith in short env k ∙ same
 
 -- one instruction, by where it goes
-pub taken : (plan : Plan) (room : ℕ) (f : Ran) (me : Template) (s : State) (i : Instruction) → slice_get plan.templates s.template ≡ Some me → slice_get plan.code s.place ≡ Some i
+pub taken : (plan : Plan) (room : ℕ) (f : Ran) (me : Template) (s : State) (i : Instruction) → slice_get plan.templates s.template ≡ Some me
+    → slice_get plan.code s.place ≡ Some i
     → Has i (length s.cells) room → Comes (λ t. Ends plan room t f) (done plan me i s) f → Ends plan room s f
 taken plan room f me s i is-me there ready more = by (done plan me i s) refl more
   where
@@ -110,8 +112,10 @@ taken plan room f me s i is-me there ready more = by (done plan me i s) refl mor
     by stuck e h = absurd h
 
 module _ (plan : Plan) (room : ℕ) (f : Ran) (who : Who) (me : Template) (is-me : slice_get plan.templates who.number ≡ Some me) (home : Frame) where
-  pub takes : (s : State) (i : Instruction) (is : Code) → who_of s ≡ who → drop s.place plan.code ≡ i ∷ is → Has i (length s.cells) room → Comes (λ t. Ends plan room t f) (done plan me i s) f → Ends plan room s f
-  takes s i is same at ready more = taken plan room f me s i (ap (λ (w : Who). slice_get plan.templates w.number) same ∙ is-me) (here plan.code is s.place i at) ready more
+  pub takes : (s : State) (i : Instruction) (is : Code) → who_of s ≡ who → drop s.place plan.code ≡ i ∷ is → Has i (length s.cells) room
+      → Comes (λ t. Ends plan room t f) (done plan me i s) f → Ends plan room s f
+  takes s i is same at ready more =
+      taken plan room f me s i (ap (λ (w : Who). slice_get plan.templates w.number) same ∙ is-me) (here plan.code is s.place i at) ready more
 
   -- where a part that is done goes on
   abbrev pub Onward : Code → Layout → Frame → Value → Run → Type 0
@@ -175,42 +179,55 @@ module _ (plan : Plan) (room : ℕ) (f : Ran) (who : Who) (me : Template) (is-me
   within-less g lay fr w = named-less w.n lay (None ∷ None ∷ g.lay) w.over
 
   -- out of a scope
-  pub unscope : (A : Run → Type 0) (g : Option Ring) (lay : Layout) (fr : Frame) (n : ℕ) (x : Run × End) → n ≡ named lay → Inside home g lay fr → After A g (scoped n x) → After (λ r. A (cut_to (named lay) r)) g x
+  pub unscope : (A : Run → Type 0) (g : Option Ring) (lay : Layout) (fr : Frame) (n : ℕ) (x : Run × End) → n ≡ named lay → Inside home g lay fr
+      → After A g (scoped n x) → After (λ r. A (cut_to (named lay) r)) g x
   unscope A g lay fr n x e inside k = by g x.1 inside (subst (λ m. After A g (scoped m x)) e k)
     where
       by : (g : Option Ring) (w : End) → Inside home g lay fr → Then A g (cut_to (named lay) x.0) w → Then (λ r. A (cut_to (named lay) r)) g x.0 w
       by g meaning.done inside k = k
       by None meaning.broke inside k = k
-      by (Some g) meaning.broke inside k = subst (λ r. Onward g.around.out g.lay g.frame g.dot r) (cut-twice (named g.lay) (named lay) x.0 (within-less g lay fr inside)) k
+      by (Some g) meaning.broke inside k =
+          subst (λ r. Onward g.around.out g.lay g.frame g.dot r) (cut-twice (named g.lay) (named lay) x.0 (within-less g lay fr inside)) k
       by None meaning.continued inside k = k
-      by (Some g) meaning.continued inside k = subst (λ r. (t : State) → Turning g r t → Ends plan room t f) (cut-twice (named g.lay) (named lay) x.0 (within-less g lay fr inside)) k
+      by (Some g) meaning.continued inside k =
+          subst (λ r. (t : State) → Turning g r t → Ends plan room t f) (cut-twice (named g.lay) (named lay) x.0 (within-less g lay fr inside)) k
       by g (meaning.faulted w) inside k = k
 
   -- the step of a node
-  pub spends : (calls : Calls) (A : Run → Type 0) (g : Option Ring) (lay : Layout) (line : ℕ) (is : Code) (s : State) (go : Next) → who_of s ≡ who → drop s.place plan.code ≡ code.spend line ∷ is
-      → After A g (meaning.spend (setting_of plan.rules calls me.0 me.1) line go (run_of lay s)) → (drop (s.place + 1) plan.code ≡ is → After A g (go (run_of lay (step_taken line s))) → Ends plan room (step_taken line s) f) → Ends plan room s f
+  pub spends : (calls : Calls) (A : Run → Type 0) (g : Option Ring) (lay : Layout) (line : ℕ) (is : Code) (s : State) (go : Next) → who_of s ≡ who
+      → drop s.place plan.code ≡ code.spend line ∷ is
+      → After A g (meaning.spend (setting_of plan.rules calls me.0 me.1) line go (run_of lay s))
+      → (drop (s.place + 1) plan.code ≡ is → After A g (go (run_of lay (step_taken line s))) → Ends plan room (step_taken line s) f) → Ends plan room s f
   spends calls A g lay line is s go same at k more = takes s (code.spend line) is same at tt (by (nat_eq s.left 0) k)
     where
-      by : (b : Bool) → After A g (spend_if b (setting_of plan.rules calls me.0 me.1) line go (run_of lay s)) → Comes (λ t. Ends plan room t f) (paid_if b plan me line s (λ s. onto s.cells (s.place + 1) s)) f
+      by : (b : Bool) → After A g (spend_if b (setting_of plan.rules calls me.0 me.1) line go (run_of lay s))
+          → Comes (λ t. Ends plan room t f) (paid_if b plan me line s (λ s. onto s.cells (s.place + 1) s)) f
       by true k = k
       by false k = more (ahead-one plan.code is s.place (code.spend line) at) k
 
   -- so many cells are forgotten, and a part goes on at this place
-  closed : (n place : ℕ) (end rest : Code) (big lay : Layout) (fr gr : Frame) (d : Value) (r : Run) (s : State) → drop place plan.code ≡ rest → Stands plan who end big gr s → Over n big lay → drop n gr ≡ fr
+  closed : (n place : ℕ) (end rest : Code) (big lay : Layout) (fr gr : Frame) (d : Value) (r : Run) (s : State) → drop place plan.code ≡ rest
+      → Stands plan who end big gr s → Over n big lay → drop n gr ≡ fr
       → s.dot ≡ d → run_of big s ≡ r → Onward rest lay fr d (cut_to (named lay) r) → Ends plan room (record s { cells = drop n s.cells; place = place }) f
   closed n place end rest big lay fr gr d r s at st over under same is k = k (record s { cells = drop n s.cells; place = place })
       (record { at = at; runs = st.runs; frame = frame-drop n big lay s.cells over st.deep ∙ ap (drop n) st.frame ∙ under; deep = (let size = over.size in let d = st.deep in let l = length-drop n s.cells in omega arith) })
       same
       (ap (λ (v : Environment). record (run_of big s) { env = v }) (sym (cut-drop n big lay s.cells over st.deep)) ∙ ap (cut_to (named lay)) is)
 
-  forgets : (n skip : ℕ) (end more rest : Code) (big lay : Layout) (fr gr : Frame) (d : Value) (r : Run) (s : State) → end ≡ code.cut n skip ∷ more → Stands plan who end big gr s → Over n big lay → drop n gr ≡ fr
+  forgets : (n skip : ℕ) (end more rest : Code) (big lay : Layout) (fr gr : Frame) (d : Value) (r : Run) (s : State) → end ≡ code.cut n skip ∷ more
+      → Stands plan who end big gr s → Over n big lay → drop n gr ≡ fr
       → drop skip more ≡ rest → s.dot ≡ d → run_of big s ≡ r → Onward rest lay fr d (cut_to (named lay) r) → Ends plan room s f
-  forgets n skip end more rest big lay fr gr d r s e st over under far same is k = takes s (code.cut n skip) more st.runs (st.at ∙ e) (omega (arith, over.size, st.deep))
+  forgets n skip end more rest big lay fr gr d r s e st over under far same is k =
+      takes s (code.cut n skip) more st.runs (st.at ∙ e) (omega (arith, over.size, st.deep))
       (closed n (s.place + 1 + skip) end rest big lay fr gr d r s (ahead plan.code more s.place skip (code.cut n skip) (st.at ∙ e) ∙ far) st over under same is k)
 
   -- the end of a part
-  pub closes : (n skip : ℕ) (end more rest : Code) (big lay : Layout) (fr gr : Frame) (d : Value) (r : Run) (s : State) → EndAt n skip end more → Stands plan who end big gr s → Over n big lay → drop n gr ≡ fr
+  pub closes : (n skip : ℕ) (end more rest : Code) (big lay : Layout) (fr gr : Frame) (d : Value) (r : Run) (s : State) → EndAt n skip end more
+      → Stands plan who end big gr s → Over n big lay → drop n gr ≡ fr
       → drop skip more ≡ rest → s.dot ≡ d → run_of big s ≡ r → Onward rest lay fr d (cut_to (named lay) r) → Ends plan room s f
-  closes zero zero end more rest big lay fr gr d r s e st over under far same is k = closed 0 s.place end rest big lay fr gr d r s (st.at ∙ e ∙ far) st over under same is k
-  closes zero (suc skip) end more rest big lay fr gr d r s e st over under far same is k = forgets 0 (suc skip) end more rest big lay fr gr d r s e st over under far same is k
-  closes (suc n) skip end more rest big lay fr gr d r s e st over under far same is k = forgets (suc n) skip end more rest big lay fr gr d r s e st over under far same is k
+  closes zero zero end more rest big lay fr gr d r s e st over under far same is k =
+      closed 0 s.place end rest big lay fr gr d r s (st.at ∙ e ∙ far) st over under same is k
+  closes zero (suc skip) end more rest big lay fr gr d r s e st over under far same is k =
+      forgets 0 (suc skip) end more rest big lay fr gr d r s e st over under far same is k
+  closes (suc n) skip end more rest big lay fr gr d r s e st over under far same is k =
+      forgets (suc n) skip end more rest big lay fr gr d r s e st over under far same is k

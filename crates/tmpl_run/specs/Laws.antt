@@ -6,6 +6,7 @@ use Rattle.tmpl_meaning.specs.Meaning.{Ran, Rules, ran, starting_dot}
 use Rattle.tmpl_code.specs.Calls.{deepest}
 use Rattle.tmpl_code.specs.Code.{Starts}
 use Rattle.tmpl_code.specs.Instruction.{Instruction, act}
+use Rattle.tmpl_code.specs.MakesText.{set_makes_text}
 use Rattle.tmpl_code.specs.Room.{room}
 use Rattle.tmpl_run.specs.State.{Plan, State, starting}
 use Rattle.tmpl_run.specs.Step.{made_by}
@@ -72,3 +73,9 @@ mark_behind i made = made
 abbrev pub MarkStays : Type 0
 MarkStays =
     (plan : Plan) (size : ℕ) (s : State) (end : Ran) → Ends plan size s end → s.made_text ≡ true → end.made_text ≡ true
+
+-- a run that makes text is of a set in which some template names a function that makes one
+abbrev pub TextIsNamed : Type 0
+TextIsNamed =
+    (rules : Rules) (ts : List Template) (number : ℕ) (t : Template) (input : Option Value)
+    → slice_get ts number ≡ Some t → (ran rules ts t.0 t.1 input).made_text ≡ true → set_makes_text ts ≡ true

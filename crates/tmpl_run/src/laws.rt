@@ -1,6 +1,6 @@
 //! Laws of the machine that the definitions describe.
 ghost use Rattle.tmpl_run.specs.Laws.{ComesToMeaning, DepthAlike, EachTurnLessens, HasOneEnd};
-ghost use Rattle.tmpl_run.specs.Laws.{MarkStays, OnlyAdds, StaysWithin};
+ghost use Rattle.tmpl_run.specs.Laws.{MarkStays, OnlyAdds, StaysWithin, TextIsNamed};
 
 /// The law that the code of a set comes to the meaning of each of its templates, on a stack of the set's room.
 pub fn comes_to_meaning()
@@ -35,4 +35,9 @@ pub fn mark_stays()
 /// The law that a run ends: each turn takes a step, or closes a template, or goes forward in the code.
 pub fn each_turn_lessens()
     ensures { EachTurnLessens }
+{}
+
+/// The law that a run which makes text is of a set that names a function which makes one.
+pub fn text_is_named()
+    ensures { TextIsNamed }
 {}

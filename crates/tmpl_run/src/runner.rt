@@ -1,11 +1,12 @@
 //! The run of a program, from the start of a template to its end.
-ghost use Rattle.std.specs.Prelude.{◌≡◌, Err, ◌+◌, ◌-◌, ◌<◌, ◌≤◌, ◌^◌, IfSome, [], false, get_or, length};
+ghost use Rattle.std.specs.Prelude.{◌≡◌, ◌≢◌, Err, ◌+◌, ◌-◌, ◌<◌, ◌≤◌, ◌^◌, IfSome, [], false, get_or, length};
 ghost use Rattle.std.specs.Prelude.{option_map, slice_get};
 ghost use Rattle.tmpl_values.specs.View.{is_made, val_of, value_of};
 ghost use Rattle.tmpl_syntax.specs.View.{set_view};
 ghost use Rattle.tmpl_meaning.specs.Meaning.{Ran, ran, starting_dot};
 ghost use Rattle.tmpl_meaning.specs.Sink.{sunk};
 ghost use Rattle.tmpl_meaning.specs.View.{rules_of};
+ghost use Rattle.tmpl_code.specs.MakesText.{set_makes_text};
 ghost use Rattle.tmpl_code.specs.Program.{IsLinked};
 ghost use Rattle.tmpl_code.specs.Room.{room};
 ghost use Rattle.tmpl_run.specs.computed.Came.{Came, Closed, IsStopped, nothing_told};
@@ -136,7 +137,8 @@ fn error_for<'a>(
 ///
 /// The cells are all that the run keeps values in, and as many as [`Program::room`] says are enough. What is put out
 /// waits in the piece, of any size, until that is full; it is put out whole where the run ends or stops at a fault of
-/// the template. Memory is taken by the functions that make a text, and for what they made, and by nothing else.
+/// the template. Memory is taken by the functions that make a text, and for what they made, and by nothing else: where
+/// [`Program::makes_text`] is false, a run does not answer want of memory.
 pub fn run<'a, S: Sink>(
     alloc: Global,
     program: &Program<'a, '_>,
@@ -151,9 +153,10 @@ pub fn run<'a, S: Sink>(
     requires entry { entry.number < length (set_view program.now.set.now) }
     requires room { room options.now.depth (set_view program.now.set.now) ≤ length cells.old }
     requires countable { (S.so_far out.old).failures < 2 ^ 64 - 1 }
-    ensures { let ts = set_view program.now.set.now in IfSome (slice_get ts entry.number) (λ t.
+    ensures runs { let ts = set_view program.now.set.now in IfSome (slice_get ts entry.number) (λ t.
         IsRun (ran (rules_of options.now) ts t.0 t.1 (option_map (λ d. value_of d.now) «data».entry))
         (sunk (S.so_far out.old) (S.so_far out.new)) result) }
+    ensures spared { set_makes_text (set_view program.now.set.now) ≡ false → result ≢ Err RunError.OutOfMemory }
 {
     let mut machine = Machine::start(alloc, program, entry, data, options, cells);
     let mut piece = Piece::new(piece);

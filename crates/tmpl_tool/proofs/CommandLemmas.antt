@@ -1,4 +1,4 @@
--- What a parse of the command says of the words.
+-- For `parse`: the command is a simple one of clap's, and a fault among several is a refusal.
 use Rattle.std.proofs.Common.{◌≡◌, ◌≢◌, true, [], ◌∷◌, refl}
 use Rattle.clap.specs.Words.{Kinds, IsAmong, is_simple, is_simple_and_free}
 use Rattle.clap.specs.declared.error.ErrorKind.{ErrorKind}

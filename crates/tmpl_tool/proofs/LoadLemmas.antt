@@ -1,5 +1,6 @@
 -- For `load_files`: the files read so far, and those that are left.
-use Rattle.std.proofs.Common.{◌≡◌, ◌∙◌, ◌+◌, ◌<◌, ℕ, zero, suc, false, List, [], ◌∷◌, length, Option, Some, None, Result, Ok, Err, add-zero, ap, arith, eq-eqb, refl, sym, zero-add}
+use Rattle.std.proofs.Common.{◌≡◌, ◌∙◌, ◌+◌, ◌<◌, ℕ, zero, suc, false, List, [], ◌∷◌, length, Option, Some, None, Result, Ok, Err, add-zero}
+use Rattle.std.proofs.Common.{ap, arith, eq-eqb, refl, sym, zero-add}
 use Rattle.std.specs.Prelude.{nat_eq}
 use Rattle.std.proofs.Math.Dec.{eqb-suc-zero}
 use Rattle.std.proofs.lemmas.Bool.{ne_eqb}
@@ -42,7 +43,8 @@ module _ (files : Files) (start : List Template) (names : List Bytes) (i : ℕ) 
       ∙ ap (λ n. loaded parsed files fails n new left) (omega arith)
 
   -- a file that stops the program
-  pub stops_there : (s : Option Stop) → StopsAt (λ fails. with_file parsed files (fails 0) set name) s → StopsAt (λ fails. loaded parsed files fails 0 start names) s
+  pub stops_there : (s : Option Stop) → StopsAt (λ fails. with_file parsed files (fails 0) set name) s
+      → StopsAt (λ fails. loaded parsed files fails 0 start names) s
   stops_there None is = tt
   stops_there (Some (tool.unread n)) (k, is) =
       (k + i, one_file (nat_eq (k + i)) (λ j lt. other-above j k i lt) (Err (tool.unread n)) (ap (λ b. with_file parsed files b set name) (nat_eq-add k i) ∙ is))

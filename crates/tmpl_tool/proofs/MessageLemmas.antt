@@ -1,5 +1,6 @@
--- Lines and their pieces, and what is put of them.
-use Rattle.std.proofs.Common.{◌≡◌, ◌∙◌, ◌++◌, ◌+◌, ◌<◌, ℕ, Bool, true, false, List, [], ◌∷◌, Result, refl, ap, sym, drop, get_or, length, append_assoc, codes, inr}
+-- For all that say a line: its pieces one after the other, and that a line is said whole or cut once.
+use Rattle.std.proofs.Common.{◌≡◌, ◌∙◌, ◌++◌, ◌+◌, ◌<◌, ℕ, Bool, true, false, List, [], ◌∷◌, Result, refl, ap, sym, drop, get_or, length}
+use Rattle.std.proofs.Common.{append_assoc, codes, inr}
 use Rattle.std.proofs.lemmas.List.{at_drop_more}
 use Rattle.tmpl_values.proofs.PutLemmas.{IsPut-nil}
 use Rattle.tmpl_meaning.specs.Sink.{IsPut, Told, Sunk, Whole, as_puts, sunk}

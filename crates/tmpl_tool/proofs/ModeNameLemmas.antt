@@ -1,5 +1,6 @@
--- Neither the fault nor the matches of the command depend on where the four words of `--missingkey` lie.
-use Rattle.std.proofs.Common.{codes, ◌≡◌, ◌∙◌, ℕ, zero, suc, Bool, true, false, cond, not, List, [], ◌∷◌, length, drop, Option, Some, None, is_some, refl, ap, sym, subst}
+-- For `parse`: neither the fault nor the matches of the command depend on where the four words of `--missingkey` lie, so that `wanted` is one function.
+use Rattle.std.proofs.Common.{codes, ◌≡◌, ◌∙◌, ℕ, zero, suc, Bool, true, false, cond, not, List, [], ◌∷◌, length, drop, Option, Some, None}
+use Rattle.std.proofs.Common.{is_some, refl, ap, sym, subst}
 use Rattle.std.specs.Prelude.{◌&&◌, ◌||◌, ◌==◌, find, fold, encode_utf8, slice_get}
 use Rattle.std.specs.List.{list_any}
 use Rattle.std.specs.Option.{option_map_or}
@@ -8,9 +9,17 @@ use Rattle.clap.specs.ValueTests.{accepts}
 use Rattle.clap.specs.Lexer.{long_of, short_of}
 use Rattle.clap.specs.Kinds.{Kinds, or_else, range_kinds, values_kinds}
 use Rattle.clap.specs.declared.error.kind.ErrorKind.TheVariants as kind
-use Rattle.clap.specs.Walk.{Held, Names, Outcome, Row, Rule, Step, Text, Waiting, Walk, after_flag, after_step, arg_by_id, attached_value, bundle_met, bundle_step, done, finished, flag_met, has_long, has_row, has_short, idle, is_multiple, is_pending, next_position, pushed, takes_several, long_met, long_or_other, next, nothing_held, option, option_met, option_word, plain, plain_word, positional, reacted, refused, rows_after, settled, settled_rows, short_met, short_or_plain, subcommand, subcommand_met, subcommand_or_other, takes_values, to_positional, trailing, used, used_by_id, value, values_or_missing, waits, walk, walk_from, walked, walked_from, with_default, word_met}
+use Rattle.clap.specs.Walk.{Held, Names, Outcome, Row, Rule, Step, Text, Waiting, Walk, after_flag, after_step, arg_by_id, attached_value}
+use Rattle.clap.specs.Walk.{bundle_met, bundle_step, done, finished, flag_met, has_long, has_row, has_short, idle, is_multiple, is_pending}
+use Rattle.clap.specs.Walk.{next_position, pushed, takes_several, long_met, long_or_other, next, nothing_held, option, option_met}
+use Rattle.clap.specs.Walk.{option_word, plain, plain_word, positional, reacted, refused, rows_after, settled, settled_rows, short_met}
+use Rattle.clap.specs.Walk.{short_or_plain, subcommand, subcommand_met, subcommand_or_other, takes_values, to_positional, trailing, used}
+use Rattle.clap.specs.Walk.{used_by_id, value, values_or_missing, waits, walk, walk_from, walked, walked_from, with_default, word_met}
 use Rattle.clap.specs.Simple.{Shape, built, entered, filled, with_index}
-use Rattle.clap.specs.Faults.{bundle_fault, bundle_step_fault, check_fault, default_fault, defaults_fault, entered_fault, fault_of, flag_word_fault, flags_fault, long_fault, option_fault, other_fault, positional_fault, react_fault, repeat_fault, given_default_fault, stray_fault, settle_fault, short_fault, step_fault, turn_fault, use_fault, walk_fault, word_fault}
+use Rattle.clap.specs.Faults.{bundle_fault, bundle_step_fault, check_fault, default_fault, defaults_fault, entered_fault, fault_of}
+use Rattle.clap.specs.Faults.{flag_word_fault, flags_fault, long_fault, option_fault, other_fault, positional_fault, react_fault}
+use Rattle.clap.specs.Faults.{repeat_fault, given_default_fault, stray_fault, settle_fault, short_fault, step_fault, turn_fault, use_fault}
+use Rattle.clap.specs.Faults.{walk_fault, word_fault}
 use Rattle.clap.specs.Words.{matches_of, same_text}
 use Rattle.clap.specs.declared.builder.ValueParser.TheVariants as vp
 use Rattle.clap.proofs.WalkLemmas.{list_any-map}
@@ -140,7 +149,8 @@ module _ (m n : Modes) where
     long_or_other_same w word (Some p) h =
         after_flag_same w word _ _ (long_met_same (found (λ a. not (is_some a.index) && has_long a p.0) refl c d cd) p.1 h)
 
-    subcommand_or_other_same : (s : Option Text) (w : Waiting) (k : ℕ) (word : Text) (h : Held) → subcommand_or_other c s w k word h ≡ subcommand_or_other d s w k word h
+    subcommand_or_other_same : (s : Option Text) (w : Waiting) (k : ℕ) (word : Text) (h : Held)
+        → subcommand_or_other c s w k word h ≡ subcommand_or_other d s w k word h
     subcommand_or_other_same (Some name) w k word h = refl
     subcommand_or_other_same None w k word h = λ i. cond (bytes_eq word (45 ∷ 45 ∷ [])) (h, trailing k) (long_or_other_same w word (long_of word) h i)
 
@@ -183,14 +193,16 @@ module _ (m n : Modes) where
 
     fold_same : (names : Names) (w : Walk) (words : List Text) → fold (walked c names) w words ≡ fold (walked d names) w words
     fold_same names w [] = refl
-    fold_same names w (word ∷ words) = ap (λ (x : Walk). fold (walked c names) x words) (walked_same names w word) ∙ fold_same names (walked d names w word) words
+    fold_same names w (word ∷ words) =
+        ap (λ (x : Walk). fold (walked c names) x words) (walked_same names w word) ∙ fold_same names (walked d names w word) words
 
     walk_same : (names : Names) (h : Held) (words : List Text) → walk c names h words ≡ walk d names h words
     walk_same names h words = fold_same names (walk_from h) words
 
   defaults_same : (c d : List Rule) → AllLike m n c d → (rows : List Row) → fold with_default rows c ≡ fold with_default rows d
   defaults_same _ _ nil rows = refl
-  defaults_same _ _ (both a b c d l rest) rows = ap (λ (x : List Row). fold with_default x c) (default_same l rows) ∙ defaults_same c d rest (with_default rows b)
+  defaults_same _ _ (both a b c d l rest) rows =
+      ap (λ (x : List Row). fold with_default x c) (default_same l rows) ∙ defaults_same c d rest (with_default rows b)
 
   module _ (c d : List Rule) (cd : AllLike m n c d) where
     finished_same : (h : Held) → finished c h ≡ finished d h
@@ -211,12 +223,14 @@ module _ (m n : Modes) where
     values_kinds_same [] = refl
     values_kinds_same (v ∷ vs) = λ i. or_else (cond (alike v i) [] (kind.InvalidValue ∷ [])) (values_kinds_same vs i)
 
-    use_fault_same : {a b : Rule} → Like m n a b → (again : Bool) (values : List Text) (rows : List Row) → use_fault again a values rows ≡ use_fault again b values rows
+    use_fault_same : {a b : Rule} → Like m n a b → (again : Bool) (values : List Text) (rows : List Row)
+        → use_fault again a values rows ≡ use_fault again b values rows
     use_fault_same (same a) again values rows = refl
     use_fault_same mode again values rows =
         ap (λ (k : Kinds). or_else (range_kinds 1 1 (length values)) (or_else (repeat_fault again (codes "missingkey") rows) k)) (go values)
       where
-        go : (vs : List Text) → values_kinds false (vp.Names m) (values_or_missing (placed m) vs) ≡ values_kinds false (vp.Names n) (values_or_missing (placed n) vs)
+        go : (vs : List Text) → values_kinds false (vp.Names m) (values_or_missing (placed m) vs)
+            ≡ values_kinds false (vp.Names n) (values_or_missing (placed n) vs)
         go [] = refl
         go (v ∷ vs) = values_kinds_same (v ∷ vs)
 
@@ -344,7 +358,8 @@ module _ (m n : Modes) where
     rest_fault_same : (w : Walk) → rest_fault m w ≡ rest_fault n w
     rest_fault_same w =
         let defaults : defaults_fault (settled (top m).rules w.held).rows (top m).rules ≡ defaults_fault (settled (top n).rules w.held).rows (top n).rules =
-        ap (λ (x : Held). defaults_fault x.rows (top m).rules) (settled_same _ _ rules_like w.held) ∙ defaults_fault_same _ _ rules_like (settled (top n).rules w.held).rows in
+        ap (λ (x : Held). defaults_fault x.rows (top m).rules) (settled_same _ _ rules_like w.held)
+        ∙ defaults_fault_same _ _ rules_like (settled (top n).rules w.held).rows in
         let given = is_some (entered (built (tool_app m)) w.stopped) in
         let checks : check_fault (top m) (finished (top m).rules w.held) given ≡ check_fault (top n) (finished (top n).rules w.held) given =
         ap (λ (rows : List Row). check_fault (top m) rows given) (finished_same _ _ rules_like w.held) in

@@ -1,4 +1,4 @@
--- A number that `parse` reads, as the text's own number.
+-- For `parsed_in`: a number that `parse` reads is the text's own number.
 use Rattle.std.proofs.Common.{◌≡◌, ◌<◌, ◌≤◌, ◌^◌, ℕ, true, false, refl, arith}
 use Rattle.std.specs.Prelude.{Err, Some}
 use Rattle.std.proofs.lemmas.Bool.{false_from_ne_true}
@@ -14,7 +14,8 @@ passes : (low high : ℕ) (t : Text) → is_unsigned_in low high t ≡ true → 
 passes low high t e = accepts-Accepts false (vp.Unsigned low high) t e
 
 pub read-in : (default low high n : ℕ) (t : Text)
-    → ((IsNumeral 10 (without_leading_plus t) × (digits_value 10 (without_leading_plus t) < 2 ^ 64)) × (n ≡ digits_value 10 (without_leading_plus t))) → low ≤ n → n ≤ high
+    → ((IsNumeral 10 (without_leading_plus t) × (digits_value 10 (without_leading_plus t) < 2 ^ 64)) × (n ≡ digits_value 10 (without_leading_plus t)))
+    → low ≤ n → n ≤ high
     → n ≡ number_in default low high (Some t)
 read-in default low high n t got least most =
     let is = got.1 in

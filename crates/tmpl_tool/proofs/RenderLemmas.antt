@@ -32,20 +32,23 @@ if_template P Q (Some t) then h = then t refl h
 
 -- a template of the set has the name that is asked for
 module _ (w : Wanted) (set : List Template) (input : Option Value) where
-  named-run : (name : Bytes) (number : ℕ) → name ≡ asked_name w → (is : Named name set number) → answer_of (rendered w set input) ≡ run_answer (ran w.rules set is.t.0 is.t.1 input)
+  named-run : (name : Bytes) (number : ℕ) → name ≡ asked_name w → (is : Named name set number)
+      → answer_of (rendered w set input) ≡ run_answer (ran w.rules set is.t.0 is.t.1 input)
   named-run name number asked is =
       ap (λ (n : Bytes). answer_of (or_stop (ok_or (tree_named n set) (tool.unnamed n)) (λ tree. Ok (ran w.rules set n tree input)))) (sym asked)
       ∙ ap (λ o. answer_of (or_stop (ok_or o (tool.unnamed name)) (λ tree. Ok (ran w.rules set name tree input)))) is.tree
       ∙ ap (λ (n : Bytes). run_answer (ran w.rules set n is.t.1 input)) is.same
 
   pub has_template : (name : Bytes) (number : ℕ) → name ≡ asked_name w → Some number ≡ number_of name set → (out err : Sunk) (code : ℕ)
-      → IfSome (slice_get set number) (λ t. Outcome (run_answer (ran w.rules set t.0 t.1 input)) out err code) → Outcome (answer_of (rendered w set input)) out err code
+      → IfSome (slice_get set number) (λ t. Outcome (run_answer (ran w.rules set t.0 t.1 input)) out err code)
+      → Outcome (answer_of (rendered w set input)) out err code
   has_template name number asked is out err code h =
       let named = numbered name set number (sym is) in
       outcome_as err code out _ _ (named-run name number asked named) (subst (λ o. IfSome o (λ t. Outcome (run_answer (ran w.rules set t.0 t.1 input)) out err code)) named.at h)
 
 -- memory was refused before anything was put out
-pub nothing_begun : (a : Answer) (out err out-then err-then last : Told) (code : ℕ) → out-then ≡ out → err-then ≡ err → code ≡ 7 → Says memory_line (sunk err-then last)
+pub nothing_begun : (a : Answer) (out err out-then err-then last : Told) (code : ℕ) → out-then ≡ out → err-then ≡ err → code ≡ 7
+    → Says memory_line (sunk err-then last)
     → Outcome a (sunk out out-then) (sunk err last) code
 nothing_begun a out err out-then err-then last code same-out same-err is says =
     subst (λ t. Outcome a (sunk out t) (sunk err last) code) (sym same-out)

@@ -1,5 +1,6 @@
 -- For the laws of the command: what it comes to, stage by stage, and that it never comes to the status of refused memory.
-use Rattle.std.proofs.Common.{◌≡◌, ◌≢◌, ◌∙◌, ◌++◌, ◌+◌, add-zero, arith, ℕ, suc, Bool, true, false, List, [], ◌∷◌, length, Option, Some, None, Result, Ok, Err, ap, refl, sym, inl, inr}
+use Rattle.std.proofs.Common.{◌≡◌, ◌≢◌, ◌∙◌, ◌++◌, ◌+◌, add-zero, arith, ℕ, suc, Bool, true, false, List, [], ◌∷◌, length, Option, Some}
+use Rattle.std.proofs.Common.{None, Result, Ok, Err, ap, refl, sym, inl, inr}
 use Rattle.std.specs.Option.{ok_or, option_map_or}
 use Rattle.tmpl_values.specs.Value.{Value}
 use Rattle.tmpl_syntax.specs.Tree.{Tree}
@@ -8,7 +9,8 @@ use Rattle.tmpl_meaning.specs.Meaning.{Fault, Ran, ran}
 use Rattle.tmpl_tool.specs.Words.{Wanted, wanted}
 use Rattle.tmpl_tool.specs.Source.{Bytes, Files}
 use Rattle.tmpl_tool.specs.Outcome.{BegunIf}
-use Rattle.tmpl_tool.specs.Laws.{GivesHelp, Prints, RefusesWords, Runs, StopsAtData, StopsAtDataRead, StopsAtFile, StopsAtName, StopsAtRead, TellsFailedWrite, TellsRefusedMemory}
+use Rattle.tmpl_tool.specs.Laws.{GivesHelp, Prints, RefusesWords, Runs, StopsAtData, StopsAtDataRead, StopsAtFile, StopsAtName, StopsAtRead}
+use Rattle.tmpl_tool.specs.Laws.{TellsFailedWrite, TellsRefusedMemory}
 use Rattle.tmpl_tool.specs.Tool as tool
 use Rattle.tmpl_tool.specs.Tool.{Failing, Parse, Stop, answer_of, asked_by, asked_name, data_found, loaded, or_stop, stop_if, tool_answer, with_file}
 use Rattle.tmpl_tool.specs.computed.Load.{after_print, after_set, after_words, rendered}

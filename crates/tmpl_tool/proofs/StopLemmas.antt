@@ -1,5 +1,6 @@
 -- For `tool` and `read_inputs`: the program stops, or goes on, as the definition does.
-use Rattle.std.proofs.Common.{◌≡◌, ◌∙◌, ◌+◌, ◌<◌, ℕ, Bool, true, false, List, [], length, Option, Some, None, Result, Ok, Err, ap, refl, sym, subst, inl, inr, zero-add}
+use Rattle.std.proofs.Common.{◌≡◌, ◌∙◌, ◌+◌, ◌<◌, ℕ, Bool, true, false, List, [], length, Option, Some, None, Result, Ok, Err, ap, refl}
+use Rattle.std.proofs.Common.{sym, subst, inl, inr, zero-add}
 use Rattle.std.specs.Prelude.{nat_eq, option_map, if◌then◌else◌}
 use Rattle.std.specs.Option.{ok_or}
 use Rattle.std.specs.Result.{result_map_both}
@@ -16,7 +17,8 @@ use Rattle.tmpl_tool.specs.Help.{asks_help}
 use Rattle.tmpl_tool.specs.Source.{Bytes, Files}
 use Rattle.tmpl_tool.specs.Outcome.{Answer, Outcome, Says}
 use Rattle.tmpl_tool.specs.Tool as tool
-use Rattle.tmpl_tool.specs.Tool.{Failing, Follows, Parse, Stop, answer_of, asked_by, asked_name, data_found, loaded, no_read, or_stop, stop_answer, stop_if, tool_answer}
+use Rattle.tmpl_tool.specs.Tool.{Failing, Follows, Parse, Stop, answer_of, asked_by, asked_name, data_found, loaded, no_read, or_stop}
+use Rattle.tmpl_tool.specs.Tool.{stop_answer, stop_if, tool_answer}
 use Rattle.tmpl_tool.specs.Inputs.{Counts, StopsAt, data_wanted, inputs_of, refusal_seen, stop_seen}
 use Rattle.tmpl_tool.specs.computed.Load.{after_set, after_words, finished, rendered, said_of}
 use Rattle.tmpl_tool.specs.declared.stop.Stop as held

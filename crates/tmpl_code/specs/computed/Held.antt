@@ -59,12 +59,8 @@ bound_off (declare_pair key name) cells = drop 1 (drop 1 cells)
 
 -- without the variables that a node leaves
 abbrev pub shrunk : NodeKind → Layout → Layout
-shrunk (text bytes) cells = cells
 shrunk (action h) cells = bound_off h.binding cells
-shrunk (control_node c h body other) cells = cells
-shrunk break_node cells = cells
-shrunk continue_node cells = cells
-shrunk (template_node name given) cells = cells
+shrunk n cells = cells
 
 -- what binds the variables of a range, and then its body
 abbrev pub TurnsAt : Part → Part → Part

@@ -41,3 +41,14 @@ loop-i-preserved c =
       text = joined.text ∙ (λ j. found.text j || (above.text ∙ l.invariant.text) j) ∙ ap nodes_make_text here;
       calls = joined.calls ∙ (λ j. found.calls j || (above.calls ∙ l.invariant.calls) j) ∙ ap nodes_call here;
     }
+
+-- the loop ends at the first node
+pub returns-clause-text : goal.returns-clause-text
+returns-clause-text c =
+    let first : c.loop-i.i ≡ 0 = omega arith in
+    c.loop-i.invariant.text ∙ ap (λ k. nodes_make_text (nodes_in (drop k c.args.nodes.now))) first
+
+pub returns-clause-calls : goal.returns-clause-calls
+returns-clause-calls c =
+    let first : c.loop-i.i ≡ 0 = omega arith in
+    c.loop-i.invariant.calls ∙ ap (λ k. nodes_call (nodes_in (drop k c.args.nodes.now))) first

@@ -3,7 +3,9 @@ use Rattle.std.specs.Prelude.{option_map}
 use Rattle.tmpl_values.specs.Put.{Puts}
 use Rattle.tmpl_values.specs.View.{value_of}
 use Rattle.tmpl_meaning.specs.Meaning.{Ran, starting_dot}
+use Rattle.tmpl_syntax.specs.View.{set_view}
 use Rattle.tmpl_meaning.specs.Sink.{sunk}
+use Rattle.tmpl_meaning.specs.View.{rules_of}
 use Rattle.tmpl_run.specs.computed.Came.{Came, nothing_told}
 use Rattle.tmpl_run.specs.computed.Machines.{state_of}
 use Rattle.tmpl_run.specs.computed.Output.{Grows, given_of, waiting}
@@ -12,13 +14,15 @@ use Rattle.tmpl_run.specs.computed.Plan.{plan_of}
 use Rattle.tmpl_run.specs.State.{Plan, State}
 use Rattle.tmpl_run.specs.computed.View.{cells_of, size_of}
 use Rattle.tmpl_run.proofs.OutputLemmas.{behind, grows-on}
+use Rattle.tmpl_run.proofs.QuietLemmas.{spared}
 use Rattle.tmpl_run.proofs.RunLemmas.{comes-to}
 use Rattle.tmpl_run.proofs.StartLemmas as start
 use Rattle.tmpl_run.proofs.StartLemmas.{ran_from}
 use Rattle.tmpl_run.proofs.runner.run.Goals as goal
 
 pub start-machine-requires-clause-entry : goal.start-machine-requires-clause-entry
-start-machine-requires-clause-entry g c = start.has-start (plan_of c.args.options.now c.args.program.now) (length c.args.cells.now) c.args.entry.number c.requires.linked c.requires.entry
+start-machine-requires-clause-entry g c =
+    start.has-start (plan_of c.args.options.now c.args.program.now) (length c.args.cells.now) c.args.entry.number c.requires.linked c.requires.entry
 
 pub start-machine-requires-clause-room : goal.start-machine-requires-clause-room
 start-machine-requires-clause-room g c =
@@ -64,8 +68,8 @@ turns-end-requires g c =
       ),
     )
 
-pub returns : goal.returns
-returns g c =
+pub returns-clause-runs : goal.returns-clause-runs
+returns-clause-runs g c =
     let plan : Plan = plan_of c.args.options.now c.args.program.now in
     let m = c.start-machine.result in
     let s : State = state_of (nothing_told plan) m in
@@ -81,3 +85,8 @@ returns g c =
     start.meant-so plan (length c.args.cells.now) c.args.entry.number c.requires.linked c.requires.entry
     (λ (r : Ran). IsRun r (sunk before after) c.close.result) (option_map (λ d. value_of d.now) c.args.data) s c.start-machine.ensures.state
     (comes-to end before after (waiting last) 0 grows 0 c.turns-end.result c.close.result mid came c.close.ensures.closed)
+
+pub returns-clause-spared : goal.returns-clause-spared
+returns-clause-spared g c =
+    spared (rules_of c.args.options.now) (set_view c.args.program.now.set.now) c.args.entry.number (option_map (λ d. value_of d.now) c.args.data)
+    (sunk (g.S.Sink.so_far c.args.out.now) (g.S.Sink.so_far c.close.new.sink)) c.close.result c.requires.entry (returns-clause-runs g c)

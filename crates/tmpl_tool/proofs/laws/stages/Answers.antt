@@ -1,4 +1,5 @@
-use Rattle.tmpl_tool.proofs.StageLemmas.{gives_help, prints, refuses_words, runs, stops_at_data, stops_at_data_read, stops_at_file, stops_at_name, stops_at_read}
+use Rattle.tmpl_tool.proofs.StageLemmas.{gives_help, prints, refuses_words, runs, stops_at_data, stops_at_data_read, stops_at_file}
+use Rattle.tmpl_tool.proofs.StageLemmas.{stops_at_name, stops_at_read}
 use Rattle.tmpl_tool.proofs.laws.stages.Goals as goal
 
 pub returns : goal.returns

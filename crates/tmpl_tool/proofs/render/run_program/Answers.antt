@@ -16,7 +16,7 @@ returns-clause-counts g c =
     let input = option_map (λ d. value_of d.now) c.args.data in
     let run : Template → Ran = λ t. ran (rules_of c.fitted-options.result) set t.0 t.1 input in
     let out : Sunk = sunk (g.O.Sink.so_far c.args.out.now) (g.O.Sink.so_far c.run-end.new.out) in
-    of_template _ _ set c.args.number c.requires.number (λ t. c.tell_end.ensures.counts (run t) out) c.run-end.ensures
+    of_template _ _ set c.args.number c.requires.number (λ t. c.tell_end.ensures.counts (run t) out) c.run-end.ensures.runs
 
 pub returns-clause-outcome : goal.returns-clause-outcome
 returns-clause-outcome g c =
@@ -27,4 +27,4 @@ returns-clause-outcome g c =
     let alike : (t : Template) → slice_get set c.args.number ≡ Some t → ran (rules_of c.fitted-options.result) set t.0 t.1 input ≡ ran rules set t.0 t.1 input =
     λ t at. ap (λ r. ran r set t.0 t.1 input) c.fitted-options.ensures ∙ depth_alike rules set c.args.number t input at in
     if_template _ _ (slice_get set c.args.number)
-    (λ t at h. c.tell_end.ensures.outcome (ran rules set t.0 t.1 input) out (subst (λ r. IsRun r out c.run-end.result) (alike t at) h)) c.run-end.ensures
+    (λ t at h. c.tell_end.ensures.outcome (ran rules set t.0 t.1 input) out (subst (λ r. IsRun r out c.run-end.result) (alike t at) h)) c.run-end.ensures.runs

@@ -23,7 +23,17 @@ use Rattle.tmpl_run.proofs.OutputLemmas.{quiet, quiet-grows}
 use Rattle.tmpl_run.proofs.OperationLemmas.{decides-over}
 use Rattle.tmpl_run.proofs.ReadyLemmas as ready
 use Rattle.tmpl_run.proofs.machine.Machine.execute.Goals as goal
-use Rattle.tmpl_run.proofs.machine.Machine.execute.Goals.{in-Spend+in_ok-spend-in-Spend, in-Put+in_ok-put_bytes-in-Put, in-PushNothing, in-PushBool, in-PushNumber, in-PushText, in-PushDot+in_ok-push_dot-in-PushDot, in-PushFields+in_ok-push_fields-in-PushFields, in-PushSlot+in_ok-push_slot-in-PushSlot, in-Chain+in_ok-chain-in-Chain, in-Call+in_ok-call-in-Call, in-Decide, in-Settle, in-Show+in_ok-show-in-Show, in-Hold+in_ok-hold-in-Hold, in-Set+in_ok-set-in-Set, in-SetDot+in_ok-set_dot-in-SetDot, in-Unless, in-With+in_ok-open_with-in-With, in-EndWith, in-Drop, in-Enter+in_ok-open_range-in-Enter, in-Turn+in_ok-turn-in-Turn, in-Next+in_ok-next-in-Next, in-Leave, in-Deepen+in_ok-deepen-in-Deepen, in-Invoke+in_ok-invoke-in-Invoke, in-Return+else-return_from}
+use Rattle.tmpl_run.proofs.machine.Machine.execute.Goals.{in-Spend+in_ok-spend-in-Spend, in-Put+in_ok-put_bytes-in-Put, in-PushNothing}
+use Rattle.tmpl_run.proofs.machine.Machine.execute.Goals.{in-PushBool, in-PushNumber, in-PushText, in-PushDot+in_ok-push_dot-in-PushDot}
+use Rattle.tmpl_run.proofs.machine.Machine.execute.Goals.{in-PushFields+in_ok-push_fields-in-PushFields}
+use Rattle.tmpl_run.proofs.machine.Machine.execute.Goals.{in-PushSlot+in_ok-push_slot-in-PushSlot, in-Chain+in_ok-chain-in-Chain}
+use Rattle.tmpl_run.proofs.machine.Machine.execute.Goals.{in-Call+in_ok-call-in-Call, in-Decide, in-Settle, in-Show+in_ok-show-in-Show}
+use Rattle.tmpl_run.proofs.machine.Machine.execute.Goals.{in-Hold+in_ok-hold-in-Hold, in-Set+in_ok-set-in-Set}
+use Rattle.tmpl_run.proofs.machine.Machine.execute.Goals.{in-SetDot+in_ok-set_dot-in-SetDot, in-Unless, in-With+in_ok-open_with-in-With}
+use Rattle.tmpl_run.proofs.machine.Machine.execute.Goals.{in-EndWith, in-Drop, in-Enter+in_ok-open_range-in-Enter}
+use Rattle.tmpl_run.proofs.machine.Machine.execute.Goals.{in-Turn+in_ok-turn-in-Turn, in-Next+in_ok-next-in-Next, in-Leave}
+use Rattle.tmpl_run.proofs.machine.Machine.execute.Goals.{in-Deepen+in_ok-deepen-in-Deepen, in-Invoke+in_ok-invoke-in-Invoke}
+use Rattle.tmpl_run.proofs.machine.Machine.execute.Goals.{in-Return+else-return_from}
 
 no-call : (made : Bool) (f : Func) → (made || makes_text f) ≡ false → makes_text f ≡ false
 no-call true f h = cc

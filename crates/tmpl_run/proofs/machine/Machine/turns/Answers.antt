@@ -49,7 +49,8 @@ bounds-as_slice-self g c =
     let told : Told = told_at g.run.0 m in
     let s : State = state_of told m in
     let past : State = with_past inv.text inv.made s in
-    let long = ap (λ (p : Plan). length p.code) c.requires.1.0 ∙ length-map c.args.program.now.instructions.items instruction_of ∙ ap length (sym c.as_slice.ensures.value) in
+    let long = ap (λ (p : Plan). length p.code) c.requires.1.0 ∙ length-map c.args.program.now.instructions.items instruction_of
+    ∙ ap length (sym c.as_slice.ensures.value) in
     let inside = within-code plan size end past inv.ends in
     omega (arith, long, inside)
 
@@ -63,7 +64,8 @@ offset_bounds-as_slice-self g c =
     let told : Told = told_at g.run.0 m in
     let s : State = state_of told m in
     let past : State = with_past inv.text inv.made s in
-    let long = ap (λ (p : Plan). length p.code) c.requires.1.0 ∙ length-map c.args.program.now.instructions.items instruction_of ∙ ap length (sym c.as_slice.ensures.value) in
+    let long = ap (λ (p : Plan). length p.code) c.requires.1.0 ∙ length-map c.args.program.now.instructions.items instruction_of
+    ∙ ap length (sym c.as_slice.ensures.value) in
     let inside = within-code plan size end past inv.ends in
     omega (arith, long, inside, c.as_slice.type_inv.0, c.as_slice.type_inv.1)
 
@@ -77,7 +79,8 @@ execute-requires g c =
     let told : Told = told_at g.run.0 m in
     let s : State = state_of told m in
     let past : State = with_past inv.text inv.made s in
-    let long = ap (λ (p : Plan). length p.code) c.requires.1.0 ∙ length-map c.args.program.now.instructions.items instruction_of ∙ ap length (sym c.as_slice.ensures.value) in
+    let long = ap (λ (p : Plan). length p.code) c.requires.1.0 ∙ length-map c.args.program.now.instructions.items instruction_of
+    ∙ ap length (sym c.as_slice.ensures.value) in
     let inside = within-code plan size end past inv.ends in
     let i : Instruction = instruction_of c.index-as_slice-self.result in
     let here = ap (λ (p : Plan). slice_get p.code m.place) c.requires.1.0 ∙ ap (λ l. slice_get (instructions_of l) m.place) (sym c.as_slice.ensures.value)
@@ -117,7 +120,8 @@ loop-stop-smaller g c =
     let told : Told = told_at g.run.0 m in
     let s : State = state_of told m in
     let past : State = with_past inv.text inv.made s in
-    let long = ap (λ (p : Plan). length p.code) c.requires.1.0 ∙ length-map c.args.program.now.instructions.items instruction_of ∙ ap length (sym c.as_slice.ensures.value) in
+    let long = ap (λ (p : Plan). length p.code) c.requires.1.0 ∙ length-map c.args.program.now.instructions.items instruction_of
+    ∙ ap length (sym c.as_slice.ensures.value) in
     let inside = within-code plan size end past inv.ends in
     let i : Instruction = instruction_of c.index-as_slice-self.result in
     let here = ap (λ (p : Plan). slice_get p.code m.place) c.requires.1.0 ∙ ap (λ l. slice_get (instructions_of l) m.place) (sym c.as_slice.ensures.value)
@@ -136,7 +140,8 @@ loop-stop-preserved g c =
     let told : Told = told_at g.run.0 m in
     let s : State = state_of told m in
     let past : State = with_past inv.text inv.made s in
-    let long = ap (λ (p : Plan). length p.code) c.requires.1.0 ∙ length-map c.args.program.now.instructions.items instruction_of ∙ ap length (sym c.as_slice.ensures.value) in
+    let long = ap (λ (p : Plan). length p.code) c.requires.1.0 ∙ length-map c.args.program.now.instructions.items instruction_of
+    ∙ ap length (sym c.as_slice.ensures.value) in
     let inside = within-code plan size end past inv.ends in
     let i : Instruction = instruction_of c.index-as_slice-self.result in
     let here = ap (λ (p : Plan). slice_get p.code m.place) c.requires.1.0 ∙ ap (λ l. slice_get (instructions_of l) m.place) (sym c.as_slice.ensures.value)
@@ -151,13 +156,15 @@ loop-stop-preserved g c =
       size = size-same ∙ inv.size;
       within = subst (λ n. length (cells_of c.execute.new.self.stack) ≤ n) (sym size-same) (going.within plan size end inv.text inv.made s i told.template here runs inv.ends u step inv.within);
       depth = omega (arith, no-deeper, deep);
-      taken = grows-on (g.S.Sink.so_far c.args.sink.now) (g.S.Sink.so_far c.loop-stop.sink) (g.S.Sink.so_far c.execute.new.sink) inv.taken c.in-Ok-On.ensures.taken;
+      taken =
+          grows-on (g.S.Sink.so_far c.args.sink.now) (g.S.Sink.so_far c.loop-stop.sink) (g.S.Sink.so_far c.execute.new.sink) inv.taken c.in-Ok-On.ensures.taken;
       text = inv.text ++ u.text;
       made = inv.made || u.made_text;
       given = IsPut-along (IsPut-append inv.given c.in-Ok-On.ensures.given) (ap (λ l. inv.text ++ l) (sym (going.text-behind i s told refl)));
       ends = subst (λ n. Ends plan n (with_past (inv.text ++ u.text) (inv.made || u.made_text) (state_of (told_at g.run.0 c.execute.new.self) c.execute.new.self)) end) (sym size-same)
           (going.keeps plan size end inv.text inv.made s i told.template here runs inv.ends u step);
-      plain = λ e. let both = going.neither inv.made u.made_text e in c.in-Ok-On.ensures.plain (sym (going.mark-behind-told i s told) ∙ both.1) (inv.plain both.0);
+      plain =
+          λ e. let both = going.neither inv.made u.made_text e in c.in-Ok-On.ensures.plain (sym (going.mark-behind-told i s told) ∙ both.1) (inv.plain both.0);
     }
 
 pub returns-in-Ok-Over-clause-came : goal.returns-in-Ok-Over-clause-came
@@ -170,7 +177,8 @@ returns-in-Ok-Over-clause-came g c =
     let told : Told = told_at g.run.0 m in
     let s : State = state_of told m in
     let past : State = with_past inv.text inv.made s in
-    let long = ap (λ (p : Plan). length p.code) c.requires.1.0 ∙ length-map c.args.program.now.instructions.items instruction_of ∙ ap length (sym c.as_slice.ensures.value) in
+    let long = ap (λ (p : Plan). length p.code) c.requires.1.0 ∙ length-map c.args.program.now.instructions.items instruction_of
+    ∙ ap length (sym c.as_slice.ensures.value) in
     let inside = within-code plan size end past inv.ends in
     let i : Instruction = instruction_of c.index-as_slice-self.result in
     let here = ap (λ (p : Plan). slice_get p.code m.place) c.requires.1.0 ∙ ap (λ l. slice_get (instructions_of l) m.place) (sym c.as_slice.ensures.value)
@@ -198,7 +206,8 @@ error_for-requires g c =
     let told : Told = told_at g.run.0 m in
     let s : State = state_of told m in
     let past : State = with_past inv.text inv.made s in
-    let long = ap (λ (p : Plan). length p.code) c.requires.1.0 ∙ length-map c.args.program.now.instructions.items instruction_of ∙ ap length (sym c.as_slice.ensures.value) in
+    let long = ap (λ (p : Plan). length p.code) c.requires.1.0 ∙ length-map c.args.program.now.instructions.items instruction_of
+    ∙ ap length (sym c.as_slice.ensures.value) in
     let inside = within-code plan size end past inv.ends in
     let i : Instruction = instruction_of c.index-as_slice-self.result in
     let here = ap (λ (p : Plan). slice_get p.code m.place) c.requires.1.0 ∙ ap (λ l. slice_get (instructions_of l) m.place) (sym c.as_slice.ensures.value)
@@ -216,7 +225,8 @@ returns-in-Err-clause-came g c =
     let told : Told = told_at g.run.0 m in
     let s : State = state_of told m in
     let past : State = with_past inv.text inv.made s in
-    let long = ap (λ (p : Plan). length p.code) c.requires.1.0 ∙ length-map c.args.program.now.instructions.items instruction_of ∙ ap length (sym c.as_slice.ensures.value) in
+    let long = ap (λ (p : Plan). length p.code) c.requires.1.0 ∙ length-map c.args.program.now.instructions.items instruction_of
+    ∙ ap length (sym c.as_slice.ensures.value) in
     let inside = within-code plan size end past inv.ends in
     let i : Instruction = instruction_of c.index-as_slice-self.result in
     let here = ap (λ (p : Plan). slice_get p.code m.place) c.requires.1.0 ∙ ap (λ l. slice_get (instructions_of l) m.place) (sym c.as_slice.ensures.value)

@@ -1,7 +1,8 @@
 use Rattle.std.proofs.Common.{◌∙◌, Ok, refl, sym, ap, subst, arith, rules}
 use Rattle.tmpl_values.specs.Text.{parted, text_of}
 use Rattle.tmpl_values.specs.View.{val_of}
-use Rattle.tmpl_values.proofs.PartedLemmas.{entry_text, entry_texts-map, item_text, item_texts-map, lead-next, parted-all, parted-at, parted-entry, parted-entry_next, parted-next}
+use Rattle.tmpl_values.proofs.PartedLemmas.{entry_text, entry_texts-map, item_text, item_texts-map, lead-next, parted-all, parted-at}
+use Rattle.tmpl_values.proofs.PartedLemmas.{parted-entry, parted-entry_next, parted-next}
 use Rattle.tmpl_run.specs.computed.Output.{Kept}
 use Rattle.tmpl_run.proofs.NestedLemmas.{entry-weight, item-weight}
 use Rattle.tmpl_run.proofs.OutputLemmas.{grows-on, passes-along, passes-append, passes-stop}
@@ -11,7 +12,8 @@ pub put_items-returns-in_err-put_part : goal.put_items-returns-in_err-put_part
 put_items-returns-in_err-put_part g t c = passes-stop _ c.from_residual.ensures.0 c.in_err-put_part.ensures
 
 pub put_items-returns-in_err-put_parted_items : goal.put_items-returns-in_err-put_parted_items
-put_items-returns-in_err-put_parted_items g t c = passes-append c.in_ok-put_part.ensures (passes-stop _ c.from_residual-in_err-put_parted_items.ensures.0 c.in_err-put_parted_items.ensures)
+put_items-returns-in_err-put_parted_items g t c =
+    passes-append c.in_ok-put_part.ensures (passes-stop _ c.from_residual-in_err-put_parted_items.ensures.0 c.in_err-put_parted_items.ensures)
 
 pub put_items-returns : goal.put_items-returns
 put_items-returns g t c = passes-append c.in_ok-put_part.ensures (passes-append c.in_ok-put_parted_items.ensures c.put_part-2.ensures)
@@ -20,7 +22,8 @@ pub put_entries-returns-in_err-put_part : goal.put_entries-returns-in_err-put_pa
 put_entries-returns-in_err-put_part g t c = passes-stop _ c.from_residual.ensures.0 c.in_err-put_part.ensures
 
 pub put_entries-returns-in_err-put_parted_entries : goal.put_entries-returns-in_err-put_parted_entries
-put_entries-returns-in_err-put_parted_entries g t c = passes-append c.in_ok-put_part.ensures (passes-stop _ c.from_residual-in_err-put_parted_entries.ensures.0 c.in_err-put_parted_entries.ensures)
+put_entries-returns-in_err-put_parted_entries g t c =
+    passes-append c.in_ok-put_part.ensures (passes-stop _ c.from_residual-in_err-put_parted_entries.ensures.0 c.in_err-put_parted_entries.ensures)
 
 pub put_entries-returns : goal.put_entries-returns
 put_entries-returns g t c = passes-append c.in_ok-put_part.ensures (passes-append c.in_ok-put_parted_entries.ensures c.put_part-2.ensures)

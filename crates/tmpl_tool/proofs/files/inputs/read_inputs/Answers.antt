@@ -14,7 +14,8 @@ use Rattle.tmpl_tool.proofs.StopLemmas.{all_read, data_stops, load_stops, printe
 use Rattle.tmpl_tool.proofs.files.inputs.read_inputs.Goals as goal
 
 pub returns-in_err-load_files-clause-reads : goal.returns-in_err-load_files-clause-reads
-returns-in_err-load_files-clause-reads g c = for_each (λ parse. IfSome (g.S.Source.contents c.args.source.now) (λ files. ComesOf (inputs_of parse files (seen c.args.request.now)) inputs_seen _)) (
+returns-in_err-load_files-clause-reads g c =
+    for_each (λ parse. IfSome (g.S.Source.contents c.args.source.now) (λ files. ComesOf (inputs_of parse files (seen c.args.request.now)) inputs_seen _)) (
     let w = seen c.args.request.now in
     let stop = c.in_err-load_files.field-0.0 in
     if_told _ (g.S.Source.contents c.args.source.now) (λ files told.
@@ -25,7 +26,8 @@ returns-in_err-load_files-clause-reads g c = for_each (λ parse. IfSome (g.S.Sou
     err_up (ComesOf (inputs_of parsed files w) inputs_seen) c.from_residual.result _ c.from_residual.ensures.1 (load_stops files w (stop_seen stop) stops_here)))
 
 pub returns-in_err-data-clause-reads : goal.returns-in_err-data-clause-reads
-returns-in_err-data-clause-reads g c = for_each (λ parse. IfSome (g.S.Source.contents c.args.source.now) (λ files. ComesOf (inputs_of parse files (seen c.args.request.now)) inputs_seen _)) (
+returns-in_err-data-clause-reads g c =
+    for_each (λ parse. IfSome (g.S.Source.contents c.args.source.now) (λ files. ComesOf (inputs_of parse files (seen c.args.request.now)) inputs_seen _)) (
     let w = seen c.args.request.now in
     let set = set_view c.load_files.new.set in
     let stop = c.in_err-data.field-0.0 in
@@ -39,7 +41,8 @@ returns-in_err-data-clause-reads g c = for_each (λ parse. IfSome (g.S.Source.co
     (data_stops files w set loads (search rules) (stop_seen stop) stops)))
 
 pub returns-clause-reads : goal.returns-clause-reads
-returns-clause-reads g c = for_each (λ parse. IfSome (g.S.Source.contents c.args.source.now) (λ files. ComesOf (inputs_of parse files (seen c.args.request.now)) inputs_seen _)) (
+returns-clause-reads g c =
+    for_each (λ parse. IfSome (g.S.Source.contents c.args.source.now) (λ files. ComesOf (inputs_of parse files (seen c.args.request.now)) inputs_seen _)) (
     let w = seen c.args.request.now in
     let set = set_view c.load_files.new.set in
     if_told _ (g.S.Source.contents c.args.source.now) (λ files told.
