@@ -159,23 +159,19 @@ one-quiet : (b : Bool) (body other : Next) → Quiet body → Quiet other → Qu
 one-quiet true body other quiet rest r e = quiet r e
 one-quiet false body other quiet rest r e = rest r e
 
-turns-quiet : (s : Setting) (line : ℕ) (b : Binding) (body : Value → Next) (es : List Element) → ((v : Value) → Quiet (body v)) → Quiet (turns s line b body es)
+turn-quiet : (end : End) (r : Run) (go : Next) → r.made_text ≡ false → Quiet go → (after_turn (r, end) go).0.made_text ≡ false
+turn-quiet broke r go e quiet = e
+turn-quiet (faulted f) r go e quiet = e
+turn-quiet _ r go e quiet = quiet r e
+
+turns-quiet : (s : Setting) (line : ℕ) (b : Binding) (body : Value → Next) (es : List Element) → ((v : Value) → Quiet (body v))
+    → Quiet (turns s line b body es)
 turns-quiet s line b body [] quiet r e = e
-turns-quiet s line b body (x ∷ es) quiet r e = by (turn s line b body x r) refl
-  where
-    turned : (turn s line b body x r).0.made_text ≡ false
-    turned = spend-quiet s line (scope (λ r. body x.1 (with_bound b x r))) (λ r e. quiet x.1 (with_bound b x r) e) r e
-
-    by : (part : Run × End) → turn s line b body x r ≡ part → (after_turn part (turns s line b body es)).0.made_text ≡ false
-    by part is = on part.1
-      where
-        so : part.0.made_text ≡ false
-        so = ap (λ p. p.0.made_text) (sym is) ∙ turned
-
-        on : (end : End) → (after_turn (part.0, end) (turns s line b body es)).0.made_text ≡ false
-        on broke = so
-        on (faulted f) = so
-        on _ = turns-quiet s line b body es quiet part.0 so
+turns-quiet s line b body (x ∷ es) quiet r e =
+    let part : Run × End = turn s line b body x r in
+    let turned : part.0.made_text ≡ false =
+    spend-quiet s line (scope (λ r. body x.1 (with_bound b x r))) (λ r e. quiet x.1 (with_bound b x r) e) r e in
+    turn-quiet part.1 part.0 (turns s line b body es) turned (turns-quiet s line b body es quiet)
 
 over-quiet : (s : Setting) (line : ℕ) (b : Binding) (body : Value → Next) (other : Next) (o : Option (List Element)) → ((v : Value) → Quiet (body v))
     → Quiet other → Quiet (over s line b body other o)
@@ -204,62 +200,71 @@ module _ (s : Setting) (calls : CallsQuietly s.calls) where
   mutual
     step-quiet : (n : NodeKind) (line : ℕ) (d : Value) → node_makes_text n ≡ false → Quiet (stepped s line n d)
     step-quiet (text bytes) line d named r e = e
-    step-quiet (action h) line d named = with_pipeline-quiet s line h.pipeline d (shown h.binding) named (λ v. shown-quiet h.binding v)
+    step-quiet (action h) line d named r e = with_pipeline-quiet s line h.pipeline d (shown h.binding) named (λ v. shown-quiet h.binding v) r e
     step-quiet (control_node c h body other) line d named r e =
         let n = neither (pipeline_makes_text h.pipeline) (nodes_make_text body || nodes_make_text other) named in
         let m = neither (nodes_make_text body) (nodes_make_text other) n.1 in
         control-quiet s line c h d (λ v. meanings s body v) (meanings s other d) n.0 (λ v. nodes-quiet body v m.0) (nodes-quiet other d m.1) r e
     step-quiet break_node line d named r e = e
     step-quiet continue_node line d named r e = e
-    step-quiet (template_node name given) line d named =
-        value-quiet s line (s.calls name) (handing s line given d) (λ body is. handing-quiet s line given d body named (calls name body is))
+    step-quiet (template_node name given) line d named r e =
+        value-quiet s line (s.calls name) (handing s line given d) (λ body is. handing-quiet s line given d body named (calls name body is)) r e
 
     nodes-quiet : (ns : Nodes) (d : Value) → nodes_make_text ns ≡ false → Quiet (meanings s ns d)
     nodes-quiet tree.none d named r e = e
     nodes-quiet (tree.then line n ns) d named r e =
         let m = neither (node_makes_text n) (nodes_make_text ns) named in
-        after-quiet (spend s line (stepped s line n d) r) (meanings s ns d) (spend-quiet s line (stepped s line n d) (step-quiet n line d m.0) r e) (nodes-quiet ns d m.1)
+        after-quiet (spend s line (stepped s line n d) r) (meanings s ns d)
+        (spend-quiet s line (stepped s line n d) (step-quiet n line d m.0) r e) (nodes-quiet ns d m.1)
 
 -- ---- templates
 
+-- the first template of a name names no function that makes a text
+found-quiet : (b : Bool) (x t : Template) (o : Option Template) → nodes_make_text x.1.nodes ≡ false → (o ≡ Some t → nodes_make_text t.1.nodes ≡ false)
+    → (if b then Some x else o) ≡ Some t → nodes_make_text t.1.nodes ≡ false
+found-quiet true x t o here below e = let same : x ≡ t = cc in ap (λ u. nodes_make_text u.1.nodes) (sym same) ∙ here
+found-quiet false x t o here below e = below e
+
+find-quiet : (name : List ℕ) (ts : List Template) (t : Template) → find (has_name name) ts ≡ Some t → set_makes_text ts ≡ false
+    → nodes_make_text t.1.nodes ≡ false
+find-quiet name [] t is named = cc
+find-quiet name (x ∷ ts) t is named =
+    let n = neither (nodes_make_text x.1.nodes) (set_makes_text ts) named in
+    found-quiet (has_name name x) x t (find (has_name name) ts) n.0 (λ e. find-quiet name ts t e n.1) is
+
 named-quiet : (name : List ℕ) (ts : List Template) (t : Tree) → tree_named name ts ≡ Some t → set_makes_text ts ≡ false → nodes_make_text t.nodes ≡ false
-named-quiet name [] t is named = cc
-named-quiet name (x ∷ ts) t is named = by (has_name name x) is
+named-quiet name ts t is named = by (find (has_name name) ts) refl is
   where
-    n : (nodes_make_text x.1.nodes ≡ false) × (set_makes_text ts ≡ false)
-    n = neither (nodes_make_text x.1.nodes) (set_makes_text ts) named
+    by : (o : Option Template) → find (has_name name) ts ≡ o → option_map (λ u. u.1) o ≡ Some t → nodes_make_text t.nodes ≡ false
+    by None found e = cc
+    by (Some x) found e = let same : x.1 ≡ t = cc in ap (λ u. nodes_make_text u.nodes) (sym same) ∙ find-quiet name ts x found named
 
-    by : (b : Bool) → option_map (λ u. u.1) (if b then Some x else find (has_name name) ts) ≡ Some t → nodes_make_text t.nodes ≡ false
-    by true e = let same : x.1 ≡ t = cc in ap (λ u. nodes_make_text u.nodes) (sym same) ∙ n.0
-    by false e = named-quiet name ts t e n.1
-
-at-quiet : (ts : List Template) (number : ℕ) (t : Template) → slice_get ts number ≡ Some t → set_makes_text ts ≡ false → nodes_make_text t.1.nodes ≡ false
-at-quiet [] number t is named = absurd (none number is)
-  where
-    none : (n : ℕ) → slice_get {T = Template} [] n ≡ Some t → ⊥
-    none zero e = cc
-    none (suc n) e = cc
+at-quiet : (ts : List Template) (number : ℕ) (t : Template) → slice_get ts number ≡ Some t → set_makes_text ts ≡ false
+    → nodes_make_text t.1.nodes ≡ false
+at-quiet [] number t is named = cc
 at-quiet (x ∷ ts) zero t is named =
     let same : x ≡ t = cc in ap (λ u. nodes_make_text u.1.nodes) (sym same) ∙ (neither (nodes_make_text x.1.nodes) (set_makes_text ts) named).0
 at-quiet (x ∷ ts) (suc n) t is named = at-quiet ts n t is (neither (nodes_make_text x.1.nodes) (set_makes_text ts) named).1
 
 module _ (rules : Rules) (ts : List Template) (named : set_makes_text ts ≡ false) where
+  -- a call of a template, by what it calls in turn
+  call-quiet : (calls : Calls) (name : List ℕ) (body : Value → Next) (o : Option Tree) → tree_named name ts ≡ o → CallsQuietly calls
+      → called rules calls name o ≡ Ok body → (v : Value) → Quiet (body v)
+  call-quiet calls name body None found quiet e v r made = cc
+  call-quiet calls name body (Some t) found quiet e v r made =
+      let s : Setting = setting_of rules calls name t in
+      let run : Value → Next = λ v. apart v (meanings s t.nodes v) in
+      let same : run ≡ body = cc in
+      ap (λ (b : Value → Next). (b v r).0.made_text) (sym same)
+      ∙ nodes-quiet s quiet t.nodes v (named-quiet name ts t found named) (record r { env = ([], v) ∷ [] }) made
+
+  none-quiet : (name : List ℕ) (body : Value → Next) (o : Option Tree) → uncalled rules name o ≡ Ok body → (v : Value) → Quiet (body v)
+  none-quiet name body None e v r made = cc
+  none-quiet name body (Some t) e v r made = cc
+
   calls-quiet : (n : ℕ) → CallsQuietly (calls_within rules ts n)
-  calls-quiet zero name body is = by (tree_named name ts) is
-    where
-      by : (o : Option Tree) → uncalled rules name o ≡ Ok body → (v : Value) → Quiet (body v)
-      by None e = cc
-      by (Some t) e = cc
-  calls-quiet (suc n) name body is = by (tree_named name ts) refl is
-    where
-      by : (o : Option Tree) → tree_named name ts ≡ o → called rules (calls_within rules ts n) name o ≡ Ok body → (v : Value) → Quiet (body v)
-      by None found e = cc
-      by (Some t) found e v r quiet =
-          let s : Setting = setting_of rules (calls_within rules ts n) name t in
-          let run : Value → Next = λ v. apart v (meanings s t.nodes v) in
-          let same : run ≡ body = cc in
-          ap (λ (b : Value → Next). (b v r).0.made_text) (sym same)
-          ∙ nodes-quiet s (calls-quiet n) t.nodes v (named-quiet name ts t found named) (record r { env = ([], v) ∷ [] }) quiet
+  calls-quiet zero name body is = none-quiet name body (tree_named name ts) is
+  calls-quiet (suc n) name body is = call-quiet (calls_within rules ts n) name body (tree_named name ts) refl (calls-quiet n) is
 
   pub run-quiet : (number : ℕ) (t : Template) (input : Option Value) → slice_get ts number ≡ Some t → (ran rules ts t.0 t.1 input).made_text ≡ false
   run-quiet number t input is =
