@@ -134,7 +134,7 @@ def read_rows():
 def read_examples():
     """The examples: each is run in its own folder, with the words of its file args, one a line."""
     rows = []
-    for name in sorted(os.listdir(f"{TOP}/examples")):
+    for name in sorted(it.name for it in os.scandir(f"{TOP}/examples") if it.is_dir()):
         files = {}
         for file in sorted(os.listdir(f"{TOP}/examples/{name}")):
             with open(f"{TOP}/examples/{name}/{file}", "rb") as it:
