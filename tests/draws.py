@@ -161,14 +161,17 @@ class Drawing:
         kind = "number" if kind == "small" else kind
         if kind in ("some", "whole"):
             kind = r.choice(self.there(KINDS if kind == "some" else WHOLES) or MADE)
-        ways, choice = self.paths(kind), r.random()
-        if kind in MADE and (choice < 0.35 or not ways):
+        choice = r.random()
+        if kind in MADE and choice < 0.35:
             return self.constant(kind)
         if depth > 0 and choice > 0.7:
             chained = self.often(0.2) and "map" in self.there(["map"])
             inner = self.pipeline("map" if chained else kind, depth - 1)
             return f"({inner})." + r.choice(FIELDS[kind]) if chained else f"({inner})"
-        return r.choice(ways) if ways else r.choice([".", "$", *self.paths("any")])
+        ways = self.paths(kind)
+        if ways:
+            return r.choice(ways)
+        return self.constant(kind) if kind in MADE else r.choice([".", "$", *self.paths("any")])
 
     # ---- calls and pipelines
 

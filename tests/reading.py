@@ -468,11 +468,11 @@ class Reading:
         if not self.may_stand(it.kind):
             raise Refused(OUT_OF_PLACE)
         opens = it.kind in (*CONTROLS, b"block", b"else if", b"else with")
-        if it.is_too_deep or sum(frame.levels for frame in self.frames) + opens > LEVELS:
+        if it.is_too_deep or opens and sum(frame.levels for frame in self.frames) >= LEVELS:
             raise Refused(TOO_DEEP)
         if it.kind in (b"else if", b"else with"):
             self.names = self.top().names
-        if set(it.used) - self.names:
+        if it.used and set(it.used) - self.names:
             raise Refused(UNDECLARED)
         self.step(line, it)
 
@@ -487,7 +487,7 @@ class Reading:
             self.body.says.append(Said(b"else", line, b"else", None))
         if it.kind not in (b"else", b"define"):
             self.body.says.append(Said(it.kind, line, None, it))
-        self.names = self.opened(line, it, self.names | set(it.declared))
+        self.names = self.opened(line, it, self.names | set(it.declared) if it.declared else self.names)
 
     def opened(self, line, it, names):
         """The names that are in scope behind an action with these, and what it opens."""
