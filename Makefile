@@ -7,12 +7,18 @@ PROBE = crates/tmpl_probe/out/tmpl_probe
 # what proofs and programs are made of, with the folders, so that a file which is gone counts too
 SOURCES = crates.txt HANDLES $(shell find $(wildcard crates/*/src crates/*/specs crates/*/proofs))
 HELLO = ../../examples/hello
+QUOTES = $(addprefix examples/quotes/,quotes.tmpl data.tmpl texts.tmpl)
+DOCUMENTS = README.md CHANGELOG.md $(wildcard docs/*.md)
+# the first line of each recipe that needs the toolchain
+NEEDS_RT = command -v rt > /dev/null || { echo "rt is missing: it is the command of the toolchain of Rattle, with which the \
+program is proved and built. Put it on the PATH, or install a package that was made where it is." >&2; false; }
 
 # proves the program and what it stands on, over what earlier runs kept in out/, and builds it
 build: $(PROGRAM)
 
 # builds the program without proofs, and renders examples/hello
 demo:
+	@$(NEEDS_RT)
 	@echo "Building without proofs, which takes a minute or two .." >&2
 	@mkdir -p crates/tmpl/out
 	@cd crates/tmpl && { rt try --data hello.tmpl=$(HELLO)/hello.tmpl --data data.json=$(HELLO)/data.json \
@@ -24,7 +30,8 @@ test:
 	python3 tests/gate.py "rt ci" "python3 tests/edits.py --apply" "python3 tests/believed.py" "python3 tests/run.py" \
 		"env TMPL=$(PROGRAM).by-rattle python3 tests/run.py" "python3 tests/places.py" "python3 tests/tables.py" \
 		"python3 tests/fronts.py" "python3 tests/print.py" "python3 tests/draws.py" "python3 tests/calls.py" \
-		"python3 tests/code.py" "python3 tests/pieces.py" "python3 tests/writes.py" "python3 tests/sweep.py"
+		"python3 tests/code.py" "python3 tests/pieces.py" "python3 tests/writes.py" "python3 tests/sweep.py" \
+		"python3 tests/made.py" "python3 tests/quotes.py" "python3 tests/documents.py"
 
 # proves one crate, CRATE=NAME, over what earlier runs kept in out/
 check:
@@ -43,13 +50,39 @@ bench: $(PROGRAM) $(PROBE)
 compare: $(PROGRAM)
 	python3 tests/go/compare.py
 
+# copies the program, man pages, completions, templates for quoting and documents to PREFIX, /usr/local if it is not set
 install: $(PROGRAM)
 	install -D -m 755 $(PROGRAM) "$$DESTDIR$$PREFIX/bin/tmpl"
+	install -D -m 644 -t "$$DESTDIR$$PREFIX/share/man/man1" man/tmpl.1
+	install -D -m 644 -t "$$DESTDIR$$PREFIX/share/man/man7" man/tmpl-language.7
+	install -D -m 644 completions/tmpl.bash "$$DESTDIR$$PREFIX/share/bash-completion/completions/tmpl"
+	install -D -m 644 -t "$$DESTDIR$$PREFIX/share/zsh/site-functions" completions/_tmpl
+	install -D -m 644 -t "$$DESTDIR$$PREFIX/share/fish/vendor_completions.d" completions/tmpl.fish
+	install -D -m 644 -t "$$DESTDIR$$PREFIX/share/tmpl/quotes" $(QUOTES)
+	install -D -m 644 -t "$$DESTDIR$$PREFIX/share/doc/tmpl" $(DOCUMENTS)
 
+# removes what `make install` copied
 uninstall:
-	rm -f "$$DESTDIR$$PREFIX/bin/tmpl"
+	cd "$$DESTDIR$$PREFIX" && rm -f bin/tmpl share/man/man1/tmpl.1 share/man/man7/tmpl-language.7 \
+		share/bash-completion/completions/tmpl share/zsh/site-functions/_tmpl share/fish/vendor_completions.d/tmpl.fish
+	rm -rf "$$DESTDIR$$PREFIX/share/tmpl" "$$DESTDIR$$PREFIX/share/doc/tmpl"
+
+# packs the program and what `make install` copies as a tar, with its SHA-256
+dist: $(PROGRAM)
+	python3 packaging/make.py tar
+
+# packs the same as a Debian package; then installs it into a root of its own, runs it and removes it
+deb: $(PROGRAM)
+	package=$$(python3 packaging/make.py deb) && echo "$$package" && packaging/try.sh "$$package"
+
+# tells what there is to make
+help:
+	@awk '/^# / { said = substr($$0, 3) } /^[a-z]+:/ && said { split($$1, name, ":"); \
+		printf "make %-10s %s\n", name[1], said } !/^#/ { said = "" }' Makefile
 
 $(PROGRAM): $(SOURCES)
+	@$(NEEDS_RT)
+	@echo "Proving the program: some 50 minutes of processor time from a fresh clone, seconds where little changed .." >&2
 	cd crates/tmpl && rt run -- --help > /dev/null
 	@touch $@
 
@@ -57,4 +90,4 @@ $(PROBE): $(SOURCES)
 	cd crates/tmpl_probe && rt run -- text data/numbers.json > /dev/null
 	@touch $@
 
-.PHONY: build demo test check edits bench compare install uninstall
+.PHONY: build demo test check edits bench compare install uninstall dist deb help

@@ -1,11 +1,8 @@
-/* Preloaded before the C library, this refuses one allocation of a program: the one whose number, from 1,
-   stands in FAIL_ALLOC. It then writes a byte to the descriptor in FAIL_FD, so that the caller knows that
-   there were that many. The headers are left out, since the toolchain of the kit has none. */
-typedef unsigned long size_t;
+/* Preloaded before the C library, this refuses an allocation of a program. FAIL_ALLOC has the number, from 1, of one; then a
+   byte is written to the descriptor in FAIL_FD, so that the caller knows that there were that many. Or FAIL_EACH has a
+   descriptor, and each is refused in turn, in a copy of the program of its own, of which that descriptor tells. */
+#include "turns.h"
 
-extern char *getenv(const char *name);
-extern long atol(const char *text);
-extern long write(int descriptor, const void *bytes, size_t count);
 extern void *__libc_malloc(size_t size);
 extern void *__libc_calloc(size_t count, size_t size);
 extern void *__libc_realloc(void *old, size_t size);
@@ -13,19 +10,31 @@ extern void *__libc_memalign(size_t alignment, size_t size);
 
 enum { no_memory = 12 };
 
-static long left = -1;
-
-static int is_refused(void) {
-    if (left < 0) {
-        char *number = getenv("FAIL_ALLOC");
-        left = number ? atol(number) : 0;
-    }
+static int is_numbered(void) {
+    static long left = -1;
+    if (left < 0)
+        left = number_in("FAIL_ALLOC");
     if (left == 0 || --left > 0)
         return 0;
     char *descriptor = getenv("FAIL_FD");
     if (descriptor)
-        write((int)atol(descriptor), "x", 1);
+        syscall(write_call, atol(descriptor), "x", 1L);
     return 1;
+}
+
+static int is_refused(void) {
+    static struct turn turn;
+    static long told = -1, number = 0;
+    static int is_copy;
+    if (told < 0)
+        told = number_in("FAIL_EACH");
+    if (!told)
+        return is_numbered();
+    /* a copy has had its refusal */
+    if (is_copy)
+        return 0;
+    is_copy = in_copy(&turn, (int)told, ++number);
+    return is_copy;
 }
 
 void *malloc(size_t size) { return is_refused() ? 0 : __libc_malloc(size); }

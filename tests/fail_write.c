@@ -1,38 +1,45 @@
 /* Preloaded before the C library, this makes writes to one descriptor, that in WRITE_TO, short and failing: each takes at
-   most WRITE_MOST bytes, and the one whose number, from 1, stands in WRITE_FAILS fails, as do all after it where
-   WRITE_FOR_GOOD is set. It fails with the error WRITE_ERROR, an input or output error where none is named, or takes no byte
-   and tells no error where that is 0. For each write that failed, and each that followed one, a byte is put to the
-   descriptor WRITE_TOLD: `f` and `b`. The headers are left out, since the toolchain of the kit has none. */
-typedef unsigned long size_t;
-typedef long ssize_t;
+   most WRITE_MOST bytes. Where WRITE_EACH has a descriptor, each of the first writes is also refused, in a copy of the
+   program for each way of refusing, of which that descriptor tells: by an error, once and from then on; by an interrupt; and
+   by taking no byte, without an error. For the write that was refused, and for each that followed it, the copy tells a byte:
+   `f` and `b`. WRITE_FIRST has how many are refused by an error. */
+#include "turns.h"
 
-extern char *getenv(const char *name);
-extern long atol(const char *text);
-extern long syscall(long number, ...);
 extern int *__errno_location(void);
 
-enum { write_call = 1, io_error = 5 };
+enum { interrupted = 4, io_error = 5, few = 3 };
 
-static long number_in(const char *name) {
-    char *text = getenv(name);
-    return text ? atol(text) : 0;
+/* how a write is refused: by this error, or by taking no byte; once, or from then on */
+struct way {
+    int error, is_for_good;
+};
+static const struct way ways[] = {{io_error, 0}, {io_error, 1}, {interrupted, 0}, {0, 0}};
+
+static ssize_t refuse(const struct way *way) {
+    if (!way->error)
+        return 0;
+    *__errno_location() = way->error;
+    return -1;
 }
 
 ssize_t write(int descriptor, const void *bytes, size_t count) {
+    static struct turn turn;
     static long puts = 0;
+    static const struct way *refused = 0; /* in a copy, how */
     if (descriptor == number_in("WRITE_TO") && count > 0) {
-        long fails = number_in("WRITE_FAILS"), most = number_in("WRITE_MOST");
-        int is_refused;
+        long told = number_in("WRITE_EACH"), first = number_in("WRITE_FIRST"), most = number_in("WRITE_MOST");
         puts++;
-        is_refused = puts == fails || (fails && puts > fails && getenv("WRITE_FOR_GOOD"));
-        if (fails && puts >= fails && getenv("WRITE_TOLD"))
-            syscall(write_call, number_in("WRITE_TOLD"), puts == fails ? "f" : "b", 1);
-        if (is_refused) {
-            int error = getenv("WRITE_ERROR") ? (int)number_in("WRITE_ERROR") : io_error;
-            if (!error)
-                return 0;
-            *__errno_location() = error;
-            return -1;
+        if (refused) {
+            syscall(write_call, turn.kept[0], "b", 1L);
+            if (refused->is_for_good)
+                return refuse(refused);
+        }
+        for (int it = 0; told && !refused && it < 4; it++) {
+            if (puts > (it < 2 ? first : few) || !in_copy(&turn, (int)told, puts * 4 + it))
+                continue;
+            refused = &ways[it];
+            syscall(write_call, turn.kept[0], "f", 1L);
+            return refuse(refused);
         }
         if (most && count > (size_t)most)
             count = (size_t)most;

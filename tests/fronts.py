@@ -2,7 +2,6 @@
 each n, up to 200 bytes. What a front comes to is told by reading.py, which shares no code with the program: a template is
 refused at a line for a reason, or accepted, and data is refused, or put out whole by `{{.}}`. Where a template is
 accepted its run must end well, or with one line of the tables of docs/COMMAND.md. TMPL=PATH names another build."""
-import multiprocessing
 import os
 import re
 import sys
@@ -11,6 +10,7 @@ import harness
 import reading
 
 LONGEST = 200  # bytes
+LEAST = {"template": 30000, "data": 6000}  # fronts
 LIMITS = [b"--steps", b"1000", b"--depth", b"20"]  # what a run may take
 QUOTED = r'"(?:[^"\\\n]|\\.)*"'
 CALL = r"wrong number of arguments|wrong kind of argument|out of range|can't be compared|format refused"
@@ -98,13 +98,13 @@ def main():
     cases += [("data", b"d", it) for it in sorted(fronts(data))]
     failed = len(check_table())
     print(*check_table(), sep="\n", end="\n" * failed)
-    with multiprocessing.Pool(len(os.sched_getaffinity(0)), start) as pool:
-        for wrong in pool.imap_unordered(check, cases, chunksize=200):
-            if wrong:
-                print(*wrong, sep="\n")
-                failed += 1
-    print(f"{sum(it[0] == 'template' for it in cases)} fronts of templates and {sum(it[0] == 'data' for it in cases)} of data were read")
-    return harness.closing(len(cases) + 1 - failed, failed)
+    for wrong in filter(None, harness.in_processes(check, cases, start, 200)):
+        print(*wrong, sep="\n")
+        failed += 1
+    passed = len(cases) + 1 - failed
+    for kind, least in LEAST.items():
+        failed += harness.too_few(f"fronts of {kind} files were read", sum(it[0] == kind for it in cases), least)
+    return harness.closing(passed, failed)
 
 
 if __name__ == "__main__":

@@ -1,9 +1,11 @@
 """What the tests share: the rows as data, one run of the program over one of them, and many runs in a row."""
+import fcntl
 import json
+import multiprocessing
 import os
 import shutil
 import signal
-import subprocess
+import struct
 import tempfile
 import threading
 
@@ -11,6 +13,9 @@ TESTS = os.path.dirname(os.path.abspath(__file__))
 TOP = os.path.dirname(TESTS)
 PROGRAM = os.path.abspath(os.environ.get("TMPL") or f"{TOP}/crates/tmpl/out/tmpl")
 SECONDS = 60  # for one run
+ENVIRONMENT = dict(os.environb)
+MEMORY = "/dev/shm" if os.access("/dev/shm", os.W_OK) else None  # where files of tests are best kept: some disks wait for each
+SET_PIPE_SIZE = 1031  # to fcntl
 
 KEYS = {"title", "program", "words", "files", "stdin", "stdout", "stderr", "out", "line", "status"}
 TAKERS = {
@@ -72,7 +77,7 @@ class Row:
         return sum(len(it or b"") for it in self.files.values()) + len(self.out)
 
     def is_plain(self):
-        """Whether a run needs nothing changed in the new process before it starts."""
+        """Whether a run needs no more than that its descriptors are opened."""
         return self.stdout != "pipe that nobody reads" and self.stderr != "closed"
 
     def is_again(self):
@@ -97,10 +102,17 @@ class Row:
             threading.Thread(target=fill, args=(path, what), daemon=True).start()
 
 
-def fill(path, what):
-    """Writes what a named pipe holds, as soon as somebody reads it."""
+def filled(what):
+    """A pipe that holds this."""
+    read, write = os.pipe()
+    threading.Thread(target=fill, args=(write, what), daemon=True).start()
+    return read
+
+
+def fill(pipe, what):
+    """Writes what a pipe holds, a named one as soon as somebody reads it."""
     try:
-        with open(path, "wb") as it:
+        with open(pipe, "wb") as it:
             it.write(what)
     except BrokenPipeError:
         pass
@@ -122,7 +134,7 @@ def read_rows():
 def read_examples():
     """The examples: each is run in its own folder, with the words of its file args, one a line."""
     rows = []
-    for name in sorted(os.listdir(f"{TOP}/examples")):
+    for name in sorted(it.name for it in os.scandir(f"{TOP}/examples") if it.is_dir()):
         files = {}
         for file in sorted(os.listdir(f"{TOP}/examples/{name}")):
             with open(f"{TOP}/examples/{name}/{file}", "rb") as it:
@@ -133,63 +145,118 @@ def read_examples():
     return rows
 
 
-def run(row, folder, environment=None, keep=()):
-    """One run of the program: its status, output and errors. A status below 0 is a signal."""
-    opened = []
+class Late(Exception):
+    """A run had not ended after SECONDS."""
+
+
+def spawned(program, words, actions, environment=ENVIRONMENT, is_signalled=True):
+    """Starts the program with these words, as a new process in the folder where this one is. It is no copy of this one, which
+    would take the longer the larger this one is. Where it is signalled a write to a pipe that nobody reads ends it, unless
+    it takes care."""
+    signals = [signal.SIGPIPE] * is_signalled  # this process, as each of Python, ignores it
+    return os.posix_spawn(PROGRAM, [program, *words], environment, file_actions=actions, setsigdef=signals)
+
+
+def ended(process, read=lambda: None):
+    """What is read, and the status of the process once it has ended. A status below 0 is a signal."""
+
+    def stop(*_):
+        raise Late
+
+    signal.signal(signal.SIGALRM, stop)
+    signal.alarm(SECONDS)
+    try:
+        got = read()
+        status = os.waitpid(process, 0)[1]
+    except Late:
+        os.kill(process, signal.SIGKILL)
+        os.waitpid(process, 0)
+        raise
+    finally:
+        signal.alarm(0)
+    return got, code_of(status)
+
+
+def code_of(status):
+    """What a process ended with: its status, or a signal below 0."""
+    return os.WEXITSTATUS(status) if os.WIFEXITED(status) else -os.WTERMSIG(status)
+
+
+def run(row, folder, more=None, keep=()):
+    """One run of the program over a row, with pipes for what it puts out, and with more in its environment and these
+    descriptors: its status, output and errors."""
+    os.chdir(folder)
+    row.lay_pipes(folder)
+    held, taken = [], []  # descriptors of the program, and the ends of pipes that are read here
+
+    def hold(descriptor):
+        held.append(descriptor)
+        return descriptor
+
+    def given():
+        return hold(os.open(os.devnull, os.O_RDONLY) if row.stdin is None else filled(row.stdin))
 
     def taker(where):
         if where == "full device":
-            opened.append(os.open("/dev/full", os.O_WRONLY))
-            return opened[-1]
-        if where == "pipe that nobody reads":
-            read, write = os.pipe()
+            return hold(os.open("/dev/full", os.O_WRONLY))
+        read, write = os.pipe()
+        fcntl.fcntl(write, SET_PIPE_SIZE, 1 << 20)
+        if where == "pipe":
+            taken.append(read)
+        else:
             os.close(read)
-            opened.append(write)
-            return write
-        return subprocess.PIPE
+        return hold(write)
 
-    def prepare():
-        # a write to a pipe that nobody reads is to fail, and not to end the program
-        signal.signal(signal.SIGPIPE, signal.SIG_IGN)
-        if row.stderr == "closed":
-            os.close(2)
-
-    row.lay_pipes(folder)
+    actions = standing(given(), taker(row.stdout), *([] if row.stderr == "closed" else [taker(row.stderr)]))
+    actions += [(os.POSIX_SPAWN_CLOSE, 2)] * (row.stderr == "closed")
+    for it in keep:
+        os.set_inheritable(it, True)
+    is_read = row.stdout != "pipe that nobody reads"
     try:
-        ran = subprocess.run(
-            [row.program, *row.words],
-            executable=PROGRAM,
-            cwd=folder,
-            env={**os.environ, **(environment or {})},
-            **({"stdin": subprocess.DEVNULL} if row.stdin is None else {"input": row.stdin}),
-            stdout=taker(row.stdout),
-            stderr=taker(row.stderr),
-            timeout=SECONDS,
-            pass_fds=keep,
-            preexec_fn=None if row.is_plain() else prepare,
-        )
+        process = spawned(row.program, row.words, actions, {**ENVIRONMENT, **(more or {})}, is_read)
     finally:
-        for it in opened:
+        for it in held:
             os.close(it)
-    return ran.returncode, ran.stdout or b"", ran.stderr or b""
+    # the errors have room in their pipe while the output is read
+    got, status = ended(process, lambda: [read_all(it) for it in taken])
+    out = got.pop(0) if row.stdout == "pipe" else b""
+    return status, out, got.pop(0) if row.stderr == "pipe" else b""
+
+
+def read_all(descriptor):
+    """What a pipe gives up to its end."""
+    with open(descriptor, "rb") as it:
+        return it.read()
 
 
 class Runner:
-    """A folder of its own, in which a process runs the program many times, at less cost than `run`."""
-
-    MOST = 1 << 26  # bytes of output and errors that are looked at
+    """A folder of its own, in which a process runs the program many times, at less cost than `run`: what it puts out goes to
+    files in memory."""
 
     def __init__(self):
-        self.held = tempfile.TemporaryDirectory()
-        self.folder = self.held.name
-        self.out, self.err = (os.memfd_create(name) for name in ("out", "err"))
+        self.held = tempfile.TemporaryDirectory(dir=MEMORY)
+        self.folder = os.fsencode(self.held.name)
+        self.null, self.full = os.open(os.devnull, os.O_RDONLY), os.open("/dev/full", os.O_WRONLY)
+        self.out, self.err, self.told = (os.memfd_create(name) for name in ("out", "err", "told"))
+        self.actions = standing(self.null, self.out, self.err)
+        os.set_inheritable(self.told, True)
 
     def lay(self, name, what):
         """Writes a file into the folder."""
-        path = os.path.join(os.fsencode(self.folder), name)
-        os.makedirs(os.path.dirname(path), exist_ok=True)
-        with open(path, "wb") as it:
-            it.write(what)
+        path = os.path.join(self.folder, name)
+        try:
+            it = os.open(path, os.O_WRONLY | os.O_CREAT | os.O_TRUNC)
+        except FileNotFoundError:
+            os.makedirs(os.path.dirname(path))
+            it = os.open(path, os.O_WRONLY | os.O_CREAT | os.O_TRUNC)
+        with open(it, "wb", buffering=0) as file:
+            while what:
+                what = what[file.write(what) :]
+
+    def lay_row(self, row):
+        """Writes the files of a row into the folder, in which there are no others then."""
+        self.empty()
+        row.lay(self.held.name)
 
     def empty(self):
         """Removes all files of the folder."""
@@ -201,19 +268,75 @@ class Runner:
 
     def run(self, words):
         """The status, output and errors of one run. A status below 0 is a signal."""
+        return self.run_by(b"tmpl", words, self.actions)
+
+    def run_by(self, program, words, actions, environment=ENVIRONMENT):
         os.chdir(self.folder)
-        for it in (self.out, self.err):
-            os.ftruncate(it, 0)
-            os.lseek(it, 0, os.SEEK_SET)
-        actions = [
-            (os.POSIX_SPAWN_OPEN, 0, os.devnull, os.O_RDONLY, 0),
-            (os.POSIX_SPAWN_DUP2, self.out, 1),
-            (os.POSIX_SPAWN_DUP2, self.err, 2),
-        ]
-        process = os.posix_spawn(PROGRAM, [b"tmpl", *words], os.environ, file_actions=actions)
-        status = os.waitpid(process, 0)[1]
-        code = os.WEXITSTATUS(status) if os.WIFEXITED(status) else -os.WTERMSIG(status)
-        return code, os.pread(self.out, self.MOST, 0), os.pread(self.err, self.MOST, 0)
+        _, status = ended(spawned(program, words, actions, environment))
+        return status, taken_from(self.out), taken_from(self.err)
+
+    def run_row(self, row, more):
+        """One run over a row that is plain and whose files were laid, with more in its environment."""
+        given = self.null if row.stdin is None else filled(row.stdin)
+        out, err = (self.full if where == "full device" else it for where, it in ((row.stdout, self.out), (row.stderr, self.err)))
+        try:
+            return self.run_by(row.program, row.words, standing(given, out, err), {**ENVIRONMENT, **more})
+        finally:
+            if given != self.null:
+                os.close(given)
+
+    def turns(self):
+        """What a shim told by `told` of copies of the program in each of which it refused something: the number, what came of
+        the copy, and what the shim told of it."""
+        held, at = memoryview(taken_from(self.told)), 0
+        while at < len(held):
+            number, status, *lengths = TURN.unpack_from(held, at)
+            at += TURN.size
+            parts = []
+            for length in lengths:
+                parts.append(bytes(held[at : at + length]))
+                at += length
+            err, out, told = parts
+            yield number, (code_of(status), out, err), told
+
+
+TURN = struct.Struct("5l")
+
+
+def standing(*descriptors):
+    """What makes these the standard descriptors of a new process."""
+    return [(os.POSIX_SPAWN_DUP2, it, place) for place, it in enumerate(descriptors)]
+
+
+def taken_from(descriptor):
+    """What a file in memory holds, which is emptied."""
+    size = os.lseek(descriptor, 0, os.SEEK_END)
+    if not size:
+        return b""
+    what = os.pread(descriptor, size, 0)
+    os.ftruncate(descriptor, 0)
+    os.lseek(descriptor, 0, os.SEEK_SET)
+    return what
+
+
+def in_processes(check, cases, start, many):
+    """What each case comes to, so many at a time to one of as many processes as there are processors. Where there is one
+    processor no other process is started."""
+    processes = len(os.sched_getaffinity(0))
+    if processes == 1:
+        start()
+        yield from map(check, cases)
+        return
+    with multiprocessing.Pool(processes, start) as pool:
+        yield from pool.imap_unordered(check, cases, chunksize=many)
+
+
+def too_few(what, count, least):
+    """Says how many cases there were, and whether they are fewer than these: then a test shows less than it says."""
+    print(f"{count} {what}")
+    if count < least:
+        print(f"FAILED fewer than {least} {what}")
+    return count < least
 
 
 VALUES = (b"--data", b"--missingkey", b"--name", b"--depth", b"--steps")  # options with a value of its own word

@@ -4,12 +4,11 @@ line of its own. Then it runs longer lists, whose lines were worked out by hand.
 actions, the longest of them of fewer kinds. TMPL=PATH names another build."""
 import itertools
 import re
-import subprocess
 import sys
-import tempfile
-from concurrent.futures import ThreadPoolExecutor
 
 import harness
+
+LEAST = 14000  # lists
 
 PLACES = {
     "if": "{{if .}}",
@@ -276,23 +275,25 @@ def check(case):
     # a template that calls itself is read alone
     words = ["--name", "null", "m", "/dev/null"] if any('"' in it for it in actions) else ["m"]
     want = (4, f"tmpl: m:{found[0]}: {found[1]}\n") if found else (0, "")
-    with tempfile.TemporaryDirectory() as folder:
-        with open(f"{folder}/m", "w") as file:
-            file.write("".join(f"{action}\n" for action in actions))
-        how = {"cwd": folder, "stdin": subprocess.DEVNULL, "capture_output": True, "text": True}
-        ran = subprocess.run([harness.PROGRAM, *words], timeout=harness.SECONDS, **how)
-    got = (ran.returncode, ran.stderr)
+    RUNNER.lay(b"m", "".join(f"{action}\n" for action in actions).encode())
+    status, _, errors = RUNNER.run(words)
+    got = status, errors.decode(errors="replace")
     return None if got == want else f"FAILED {' '.join(actions)}\n    wanted {want}\n    got {got}"
+
+
+def start():
+    global RUNNER
+    RUNNER = harness.Runner()
 
 
 def main(most):
     if not harness.is_built():
         return harness.closing(0, 1)
     cases = [*all_lists(most), *with_more(), *by_hand(DEEPER, "out of place"), *by_hand(SCOPES, "undeclared variable")]
-    with ThreadPoolExecutor() as pool:
-        wrong = [it for it in pool.map(check, cases) if it]
-    print(*wrong[:20], sep="\n")
-    return harness.closing(len(cases) - len(wrong), len(wrong))
+    wrong = [it for it in harness.in_processes(check, cases, start, 200) if it]
+    print(*wrong[:20], sep="\n", end="\n" * bool(wrong))
+    failed = len(wrong) + harness.too_few("lists of actions were run", len(cases), LEAST)
+    return harness.closing(len(cases) - len(wrong), failed)
 
 
 if __name__ == "__main__":

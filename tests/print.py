@@ -4,7 +4,6 @@ is read: under the name of the first file it must be printed as the same bytes, 
 status and output, with a line that differs in where it says that the run stopped alone. `print.py COUNT SEED` draws others.
 TMPL=PATH names another build."""
 import json
-import multiprocessing
 import os
 import re
 import sys
@@ -106,7 +105,9 @@ def start():
 
 
 def check_named(how):
-    """One row, or the random set of a seed."""
+    """One row, the random set of a seed, or the longest file."""
+    if how == LONGEST:
+        return "a file that is as long as may be", check_longest(), True
     case = of_seed(how) if isinstance(how, int) else how
     return case.name, *check(case)
 
@@ -117,17 +118,15 @@ def main(count=COUNT, first=0):
     rows = [it for it in map(of_row, harness.read_rows()) if it]
     cases = [*rows, *range(int(first), int(first) + int(count))]
     accepted = failed = 0
-    with multiprocessing.Pool(len(os.sched_getaffinity(0)), start) as pool:
-        longest = pool.apply_async(check_longest)
-        for name, wrong, is_set in pool.imap_unordered(check_named, cases, chunksize=50):
-            if wrong:
-                print(f"FAILED {name}", *wrong, sep="\n")
-            accepted, failed = accepted + is_set, failed + bool(wrong)
-        if longest.get():
-            print("FAILED a file that is as long as may be", *longest.get(), sep="\n")
-            failed += 1
-    print(f"{accepted} sets were printed and read again, {len(cases) - accepted} were refused")
-    return harness.closing(len(cases) + 1 - failed, failed)
+    for name, wrong, is_set in harness.in_processes(check_named, [LONGEST, *cases], start, 50):
+        if wrong:
+            print(f"FAILED {name}", *wrong, sep="\n")
+        accepted, failed = accepted + is_set, failed + bool(wrong)
+    passed = len(cases) + 1 - failed
+    print(f"{len(cases) + 1 - accepted} sets were refused")
+    # of the random ones more than half are accepted
+    failed += harness.too_few("sets were printed and read again", accepted, len(rows) // 2 + int(count) // 2)
+    return harness.closing(passed, failed)
 
 
 if __name__ == "__main__":

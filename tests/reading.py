@@ -2,6 +2,7 @@
 the templates of a set as trees, and what is printed of them. And one of data: the value and its text, or why it is refused. It
 shares no code with the program, and is slow and plain: it is there to be compared with."""
 import collections
+import functools
 import json
 import re
 import unicodedata
@@ -36,9 +37,26 @@ class Refused(Exception):
 # ---- pieces
 
 
+# an action that ends with its first `}}`, since it has no comment, and no brace between quotes
+PLAIN = re.compile(rb"""\{\{(?:[^{}"'`/\\]|"[^{}"'`/\\\n]*")*\}\}""")
+
+
 def action_at(data, at):
-    """The tokens of the action whose `{{` is there, None for a comment, whether it trims what is behind, and where it ends.
-    A token is its kind, its bytes, and whether space stands before it."""
+    """The tokens of the action whose `{{` is there, None for a comment, whether it trims what is behind, and where it ends."""
+    found = PLAIN.match(data, at)
+    if not found:
+        return scanned(data, at)
+    tokens, trims, end = scanned_alone(found.group())
+    return tokens, trims, at + end
+
+
+@functools.lru_cache(maxsize=1 << 14)
+def scanned_alone(action):
+    return scanned(action, 0)
+
+
+def scanned(data, at):
+    """As action_at, by going over the tokens. A token is its kind, its bytes, and whether space stands before it."""
     at += 4 if data[at + 2 : at + 3] == b"-" and data[at + 3 : at + 4] in WHITES else 2
     if data.startswith(b"/*", at):
         end = data.find(b"*/", at + 2)
@@ -50,7 +68,7 @@ def action_at(data, at):
     while True:
         ends = end_at(data, at)
         if ends:
-            return (tokens, *ends)
+            return (tuple(tokens), *ends)
         if data[at : at + 1] in WHITES:
             at, space = at + 1, True
             continue
@@ -151,6 +169,7 @@ def unescaped(inside, quote):
         inside = inside[found.end() :]
 
 
+@functools.lru_cache(maxsize=1 << 14)
 def text(kind, spelled):
     """The bytes of a string or raw string."""
     inside = spelled[1:-1]
@@ -159,6 +178,7 @@ def text(kind, spelled):
     return b"".join(them for _, them in unescaped(inside, b'"'))
 
 
+@functools.lru_cache(maxsize=1 << 14)
 def character(spelled):
     """The number of a character's code."""
     codes = [code for code, _ in unescaped(spelled[1:-1], b"'")]
@@ -181,6 +201,7 @@ def quoted_rune(rune):
     return b"\\x%02x" % code if code < 0x80 else b"\\u%04x" % code if code < 0x10000 else b"\\U%08x" % code
 
 
+@functools.lru_cache(maxsize=1 << 14)
 def quote(data):
     return b'"%s"' % b"".join(map(quoted_rune, runes(data)))
 
@@ -193,7 +214,7 @@ Function = collections.namedtuple("Function", "name")
 # The base is `.`, a variable with its `$`, or a pipeline in parentheses; there may be no fields.
 Chain = collections.namedtuple("Chain", "base fields")
 
-# What a template says, in order: a text, an action, or an `else` or `end` without one.
+# What a template says, in order: an action, or a text, an `else` or an `end` with its bytes.
 Said = collections.namedtuple("Said", "kind line said action")
 # A text or an action of the tree, with its bytes or its Action, and what stands in the parts of a control.
 Node = collections.namedtuple("Node", "kind line is_ body other")
@@ -220,25 +241,27 @@ def said_pipeline(commands):
 # ---- the grammar of an action
 
 
+NO_TOKEN = (None, None, False)  # behind the last one
+
+
 class Action:
     """What an action is, by the grammar: its kind, the name of a template in it, the variables in front of a sign, the sign, and
-    the pipeline; the variables that it declares and those that it looks up, whether it has parentheses that are too deep, and
-    how it is printed."""
+    the pipeline; the variables that it declares and those that it looks up, and whether it has parentheses that are too deep."""
 
     def __init__(self, tokens):
-        self.tokens, self.at, self.depth = tokens, 0, 0
+        self.tokens, self.at, self.depth = (*tokens, *[NO_TOKEN] * 4), 0, 0
         self.name, self.variables, self.sign, self.pipeline = None, [], None, None
         self.used, self.is_too_deep = [], False
-        self.kind, self.said = self.read()
-        self.need(self.at == len(tokens))
+        self.kind = self.read()
+        self.need(self.is_at_end())
         self.declared = self.variables if self.sign == b":=" else []
 
     def need(self, holds):
         if not holds:
             raise Refused(NOT_AN_ACTION)
 
-    def peek(self, more=0):
-        return self.tokens[self.at + more][:2] if self.at + more < len(self.tokens) else (None, None)
+    def is_at_end(self):
+        return self.tokens[self.at] is NO_TOKEN
 
     def take(self):
         self.at += 1
@@ -246,37 +269,36 @@ class Action:
 
     def takes(self, *wanted):
         """Whether the next token is one of these words and signs, which is then taken."""
-        kind, spelled = self.peek()
+        kind, spelled, _ = self.tokens[self.at]
         is_there = kind in ("sign", "word") and spelled in wanted
         self.at += is_there
         return is_there
 
     def read(self):
+        """The kind, once the rest is read."""
         if not self.takes(*KEYWORDS):
-            return b"pipeline", self.bound()
+            self.bound()
+            return b"pipeline"
         kind = self.tokens[self.at - 1][1]
         if kind == b"else" and self.takes(b"if", b"with"):
-            control = self.tokens[self.at - 1][1]
-            return b"else " + control, control + b" " + self.bound()
-        if kind in CONTROLS:
-            return kind, kind + b" " + self.bound(is_range=kind == b"range")
-        if kind in (b"define", b"template", b"block"):
-            return kind, self.named(kind)
-        return kind, kind
+            kind = b"else " + self.tokens[self.at - 1][1]
+            self.bound()
+        elif kind in CONTROLS:
+            self.bound(is_range=kind == b"range")
+        elif kind in (b"define", b"template", b"block"):
+            self.named(kind)
+        return kind
 
     def named(self, kind):
-        """The name of a template, and the pipeline behind it; a block is printed as a call."""
-        self.need(self.peek()[0] in ("string", "raw"))
+        """The name of a template, and the pipeline behind it."""
+        self.need(self.tokens[self.at][0] in ("string", "raw"))
         self.name = text(*self.take()[:2])
-        said = (b"define " if kind == b"define" else b"template ") + quote(self.name)
-        if kind == b"block" or kind == b"template" and self.at < len(self.tokens):
+        if kind == b"block" or kind == b"template" and not self.is_at_end():
             self.pipeline = self.commands()
-            said += b" " + said_pipeline(self.pipeline)
-        return said
 
     def bound(self, is_range=False):
         """A pipeline, perhaps behind variables and a sign."""
-        kinds, signs = zip(*(self.peek(it) for it in range(4)))
+        kinds, signs, _ = zip(*self.tokens[self.at : self.at + 4])
         if kinds[0] == "variable" and signs[1] in (b":=", b"="):
             self.need(signs[0] != b"$" and not (is_range and signs[1] == b"="))
             self.variables, self.sign = [signs[0][1:]], signs[1]
@@ -287,27 +309,36 @@ class Action:
             self.at += 4
         self.pipeline = self.commands()
         self.used += self.variables if self.sign == b"=" else []
+
+    @functools.cached_property
+    def said(self):
+        """How it is printed; a block as a call, and an `else if` or `else with` as the control in it."""
+        keyword = {b"pipeline": b"", b"block": b"template"}.get(self.kind, self.kind.split()[-1])
         names = b", ".join(b"$" + name for name in self.variables)
-        return (b"%s %s " % (names, self.sign) if names else b"") + said_pipeline(self.pipeline)
+        parts = [keyword, b"" if self.name is None else quote(self.name), names, self.sign or b""]
+        return b" ".join(part for part in [*parts, said_pipeline(self.pipeline or ())] if part)
 
     def commands(self):
         """A pipeline."""
         read = [self.command()]
         while self.takes(b"|"):
-            kind, spelled = self.peek()
+            kind, spelled, _ = self.tokens[self.at]
             self.need(kind not in ("number", "string", "raw", "char", "dot") and spelled not in (b"true", b"false", b"nil"))
             read.append(self.command())
         return tuple(read)
 
     def command(self):
         read = [self.operand()]
-        while self.at < len(self.tokens) and self.peek() not in [("sign", b"|"), ("sign", b")")]:
-            self.need(self.tokens[self.at][2])
+        while not self.is_at_end():
+            kind, spelled, is_apart = self.tokens[self.at]
+            if kind == "sign" and spelled in (b"|", b")"):
+                break
+            self.need(is_apart)
             read.append(self.operand())
         return tuple(read)
 
     def operand(self):
-        self.need(self.at < len(self.tokens))
+        self.need(not self.is_at_end())
         kind, spelled, _ = self.take()
         if kind == "number":
             return Constant(number(spelled))
@@ -339,10 +370,16 @@ class Action:
 
     def fields(self):
         read = []
-        while self.peek()[0] == "field" and not self.tokens[self.at][2]:
+        while self.tokens[self.at][0] == "field" and not self.tokens[self.at][2]:
             read.append(self.take()[1][1:])
             self.need(not read[-1][:1].isdigit())
         return tuple(read)
+
+
+@functools.lru_cache(maxsize=1 << 14)
+def action_of(tokens):
+    """The action that these tokens are."""
+    return Action(tokens)
 
 
 # ---- a file
@@ -427,15 +464,15 @@ class Reading:
         """Takes one action more, or raises why it is refused."""
         if tokens is None:
             raise Refused(UNREADABLE)
-        it = Action(tokens)
+        it = action_of(tokens)
         if not self.may_stand(it.kind):
             raise Refused(OUT_OF_PLACE)
         opens = it.kind in (*CONTROLS, b"block", b"else if", b"else with")
-        if it.is_too_deep or sum(frame.levels for frame in self.frames) + opens > LEVELS:
+        if it.is_too_deep or opens and sum(frame.levels for frame in self.frames) >= LEVELS:
             raise Refused(TOO_DEEP)
         if it.kind in (b"else if", b"else with"):
             self.names = self.top().names
-        if set(it.used) - self.names:
+        if it.used and set(it.used) - self.names:
             raise Refused(UNDECLARED)
         self.step(line, it)
 
@@ -449,8 +486,8 @@ class Reading:
         if it.kind.startswith(b"else"):
             self.body.says.append(Said(b"else", line, b"else", None))
         if it.kind not in (b"else", b"define"):
-            self.body.says.append(Said(it.kind, line, it.said, it))
-        self.names = self.opened(line, it, self.names | set(it.declared))
+            self.body.says.append(Said(it.kind, line, None, it))
+        self.names = self.opened(line, it, self.names | set(it.declared) if it.declared else self.names)
 
     def opened(self, line, it, names):
         """The names that are in scope behind an action with these, and what it opens."""
@@ -544,7 +581,7 @@ def joined(says):
             out += [opening + b"/**/}}"] * bool(before) + [it.said]
             before = it.said
         else:
-            out.append(opening + it.said + b"}}")
+            out.append(opening + (it.action.said if it.action else it.said) + b"}}")
             before = b""
     return b"".join(out)
 

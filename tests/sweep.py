@@ -1,16 +1,15 @@
-"""Runs the built program over each small row with its Nth allocation refused, N from 1 until none is.
-Each run must answer as the row does, or put out nothing and end with status 7 and its line.
-TMPL=PATH names another build."""
+"""Runs the built program over each small row with its Nth allocation refused, for each N that there is. Each run must answer
+as the row does, or put out nothing and end with status 7 and its line. TMPL=PATH names another build."""
 import os
 import subprocess
 import sys
 import tempfile
-from concurrent.futures import ThreadPoolExecutor
 
 import harness
 
 SMALL = 65536  # bytes in the files and the output of a row
 MOST = 100000  # allocations of one run
+LEAST = 50000  # allocations of all
 
 
 def build_shim(source, to):
@@ -38,7 +37,7 @@ def sweep(shim, once, wrong):
     for number in range(1, MOST):
         try:
             got, refused = refusing(number, shim, once)
-        except subprocess.TimeoutExpired:
+        except (subprocess.TimeoutExpired, harness.Late):
             return number, [f"    with allocation {number} refused it had not ended after {harness.SECONDS} seconds"]
         said = wrong(got, refused)
         if said:
@@ -49,27 +48,42 @@ def sweep(shim, once, wrong):
     return MOST, ["    its allocations do not end"]
 
 
-def sweep_row(shim, row):
+def sweep_row(row):
+    """How often an allocation of the row was refused, and what was wrong first. One process makes them all: the shim copies
+    it for each. What stands in a pipe is read once, so where there is one each is refused in a process of its own."""
+    RUNNER.lay_row(row)
     memory = (7, b"", b"tmpl: out of memory\n" if row.stderr == "pipe" else b"")
 
     def wrong(got, refused):
         return [] if refused and got == memory else harness.differences(row, got)
 
-    with tempfile.TemporaryDirectory() as folder:
-        row.lay(folder)
-        return (row.name, *sweep(shim, lambda *how: harness.run(row, folder, *how), wrong))
+    if row.stdin is not None:
+        return (row.name, *sweep(SHIM, lambda *how: harness.run(row, RUNNER.held.name, *how), wrong))
+    try:
+        got = RUNNER.run_row(row, {"LD_PRELOAD": SHIM, "FAIL_EACH": str(RUNNER.told)})
+    except harness.Late:
+        return row.name, 0, [f"    it had not ended after {harness.SECONDS} seconds"]
+    came = [(f"allocation {number} refused", wrong(its, True)) for number, its, _ in RUNNER.turns()]
+    said = [[f"    with {how}", *its] for how, its in [("none refused", wrong(got, False)), *came] if its]
+    # a sweep in which nothing was refused would show nothing
+    return row.name, len(came), said[0] if said else [] if came else ["    no allocation was refused"]
+
+
+def start():
+    global RUNNER
+    RUNNER = harness.Runner()
 
 
 def main():
+    global SHIM
     if not harness.is_built():
         return harness.closing(0, 1)
     rows = [it for it in harness.read_rows() if it.is_plain() and it.is_again() and it.size() <= SMALL]
-    with tempfile.TemporaryDirectory() as folder, ThreadPoolExecutor(len(os.sched_getaffinity(0))) as pool:
-        shim = f"{folder}/fail_alloc.so"
-        build_shim("fail_alloc.c", shim)
-        done = [pool.submit(sweep_row, shim, it) for it in rows]
-        passed, failed, runs = harness.tally(it.result() for it in done)
-    print(f"{runs} allocations were refused, one in each run")
+    with tempfile.TemporaryDirectory() as folder:
+        SHIM = f"{folder}/fail_alloc.so"
+        build_shim("fail_alloc.c", SHIM)
+        passed, failed, runs = harness.tally(harness.in_processes(sweep_row, rows, start, 10))
+    failed += harness.too_few("allocations were refused, one in each run", runs, LEAST)
     return harness.closing(passed, failed)
 
 

@@ -5,15 +5,13 @@ two, each byte between quotes, numbers, actions that are none, and the calls of 
 program. TMPL=PATH names another build."""
 import itertools
 import re
-import subprocess
 import sys
-import tempfile
 import unicodedata
-from concurrent.futures import ThreadPoolExecutor
 
 import functions
 import harness
 
+LEAST = 10000  # templates
 FUNCTIONS = "and eq ge gt html index le len lt ne not or print printf println slice urlquery".split()
 CONSTANTS = "true false nil".split()
 LETTERS = "abcdefghijklmnopqrstuvwxyz"
@@ -299,15 +297,15 @@ def check(case):
     out = out.encode() if isinstance(out, str) else out
     refused = (1, b"", f'tmpl: m:1: in "m": {refusal}\n') if data else (4, b"", f"tmpl: m:1: {refusal}\n")
     want = (*refused[:2], refused[2].encode()) if out is None else (0, out, b"")
-    with tempfile.TemporaryDirectory() as folder:
-        for name, content in zip("md", (source, *data)):
-            with open(f"{folder}/{name}", "wb") as file:
-                file.write(content.encode() if isinstance(content, str) else content)
-        how = {"cwd": folder, "stdin": subprocess.DEVNULL, "capture_output": True}
-        words = ["--data", "d", "m"] if data else ["m"]
-        ran = subprocess.run([harness.PROGRAM, *words], timeout=harness.SECONDS, **how)
-    got = (ran.returncode, ran.stdout, ran.stderr)
+    for name, content in zip((b"m", b"d"), (source, *data)):
+        RUNNER.lay(name, content.encode() if isinstance(content, str) else content)
+    got = RUNNER.run([b"--data", b"d", b"m"] if data else [b"m"])
     return None if got == want else f"FAILED {source!r}\n    wanted {want}\n    got {got}"
+
+
+def start():
+    global RUNNER
+    RUNNER = harness.Runner()
 
 
 def main():
@@ -315,10 +313,10 @@ def main():
         return harness.closing(0, 1)
     cases = [*escapes(), *each_byte(), *names(), *functions.cases()]
     cases += [*together(short_actions()), *together(between_quotes()), *numbers(), *refused_constants(), *refused_actions()]
-    with ThreadPoolExecutor() as pool:
-        wrong = [it for it in pool.map(check, cases) if it]
-    print(*wrong[:20], sep="\n")
-    return harness.closing(len(cases) - len(wrong), len(wrong))
+    wrong = [it for it in harness.in_processes(check, cases, start, 200) if it]
+    print(*wrong[:20], sep="\n", end="\n" * bool(wrong))
+    failed = len(wrong) + harness.too_few("templates were run", len(cases), LEAST)
+    return harness.closing(len(cases) - len(wrong), failed)
 
 
 if __name__ == "__main__":

@@ -1,0 +1,178 @@
+"""Packs the program that is built, with man pages, completions, templates for quoting and documents: `make.py tar` as a tar with its
+SHA-256, `make.py deb` as a Debian package. Both go to `packaging/out`, and are named by the commit and by the logic that the
+program is proved with. `make dist` and `make deb` call it once the program is proved. The same tree gives the same bytes."""
+import gzip
+import hashlib
+import os
+import re
+import shutil
+import subprocess
+import sys
+import tarfile
+import tempfile
+
+HERE = os.path.dirname(os.path.abspath(__file__))
+TOP = os.path.dirname(HERE)
+OUT = f"{HERE}/out"
+LIBC = "2.34"  # the oldest C library on which the program runs
+ABOUT = "renders templates in the language of Go's text/template"
+DESCRIPTION = f"""\
+Description: {ABOUT}
+ tmpl renders templates in the language of Go's text/template (Go 1.22)
+ with data from a JSON file. What it answers depends on its command line
+ and its files alone, by a written definition, and a checker proves that
+ the program follows it.
+"""
+COPYRIGHT = """\
+Format: https://www.debian.org/doc/packaging-manuals/copyright-format/1.0/
+Upstream-Name: Rilphong
+
+Files: *
+Copyright: 2026 the Rilphong maintainers
+License: none-chosen
+ No licence is chosen yet. That is for the owner to do.
+"""
+
+CHANGES = """\
+tmpl ({version}) unstable; urgency=medium
+
+  * Made of the commit that the version names; CHANGELOG.md beside this file
+    has what changed.
+
+ -- {maker}  {date}
+"""
+
+
+def told(*words):
+    return subprocess.run(words, cwd=TOP, stdout=subprocess.PIPE, check=True).stdout.decode().strip()
+
+
+def version():
+    """The date and the number of the commit, and whether the tree is not just that one."""
+    day, number = told("git", "log", "-1", "--format=%cd %h", "--date=format:%Y%m%d", "--abbrev=12").split()
+    is_changed = told("git", "status", "--porcelain", "--untracked-files=no")
+    return f"0~git{day}.{number}" + "+changed" * bool(is_changed)
+
+
+def seconds():
+    """When the commit was made: the time of each file."""
+    return int(told("git", "log", "-1", "--format=%ct"))
+
+
+def maker():
+    return told("git", "log", "-1", "--format=%an <%ae>")
+
+
+def logic():
+    """The logic that the toolchain proves with."""
+    return re.search(r"logic ([0-9a-f]+)", told("rt", "version"))[1]
+
+
+def place(folder, prefix):
+    """Installs into a folder, under a prefix, as `make install` does."""
+    subprocess.run(["make", "--no-print-directory", "-s", "install", f"DESTDIR={folder}", f"PREFIX={prefix}"], cwd=TOP, check=True)
+    program = f"{folder}{prefix}/bin/tmpl"
+    if not shutil.which("strip"):
+        sys.exit("strip is not there: install binutils")
+    subprocess.run(["strip", "--strip-all", "--remove-section=.comment", program], check=True)
+
+
+def settle(folder):
+    """Gives each file and folder the time of the commit, and plain rights."""
+    when = seconds()
+    for at, folders, files in os.walk(folder, topdown=False):
+        for it in files:
+            os.chmod(f"{at}/{it}", 0o755 if at.endswith("/bin") else 0o644)
+            os.utime(f"{at}/{it}", (when, when))
+        os.chmod(at, 0o755)
+        os.utime(at, (when, when))
+
+
+def owned_by_root(it):
+    it.uid = it.gid = 0
+    it.uname = it.gname = "root"
+    return it
+
+
+def tar():
+    """The tar, and its sum beside it."""
+    name = f"tmpl-{version().replace('0~git', '')}-{logic()}-x86_64-linux"
+    with tempfile.TemporaryDirectory() as room:
+        place(room, f"/{name}")
+        settle(f"{room}/{name}")
+        path = f"{OUT}/{name}.tar.gz"
+        with open(path, "wb") as it, gzip.GzipFile("", "wb", 9, it, seconds()) as packed:
+            with tarfile.open(fileobj=packed, mode="w", format=tarfile.GNU_FORMAT) as made:
+                for at, folders, files in os.walk(f"{room}/{name}"):
+                    folders.sort()
+                    inside = os.path.relpath(at, room)
+                    made.add(at, inside, recursive=False, filter=owned_by_root)
+                    for file in sorted(files):
+                        made.add(f"{at}/{file}", f"{inside}/{file}", filter=owned_by_root)
+    with open(path, "rb") as it:
+        total = hashlib.sha256(it.read()).hexdigest()
+    with open(f"{path}.sha256", "w", encoding="ascii") as it:
+        it.write(f"{total}  {name}.tar.gz\n")
+    return path
+
+
+def pack(path, to):
+    """Packs a file as Debian wants manuals and changes: with gzip, and neither its name nor its time."""
+    with open(path, "rb") as it, open(to, "wb") as made, gzip.GzipFile("", "wb", 9, made, 0) as packed:
+        packed.write(it.read())
+
+
+def as_debian(room):
+    """Moves what `make install` placed to where Debian has it."""
+    share = f"{room}/usr/share"
+    os.makedirs(f"{share}/zsh/vendor-completions")
+    os.rename(f"{share}/zsh/site-functions/_tmpl", f"{share}/zsh/vendor-completions/_tmpl")
+    os.rmdir(f"{share}/zsh/site-functions")
+    for page in ("man1/tmpl.1", "man7/tmpl-language.7"):
+        pack(f"{share}/man/{page}", f"{share}/man/{page}.gz")
+        os.remove(f"{share}/man/{page}")
+    with open(f"{share}/doc/tmpl/copyright", "w", encoding="utf-8") as it:
+        it.write(COPYRIGHT)
+    changes = f"{share}/doc/tmpl/changelog"
+    with open(changes, "w", encoding="utf-8") as it:
+        it.write(CHANGES.format(version=version(), maker=maker(), date=told("git", "log", "-1", "--format=%cD")))
+    pack(changes, f"{changes}.gz")
+    os.remove(changes)
+
+
+def deb():
+    """The Debian package."""
+    with tempfile.TemporaryDirectory() as room:
+        place(room, "/usr")
+        as_debian(room)
+        files = sorted(os.path.join(at, it) for at, _, its in os.walk(room) for it in its)
+        size = sum(-(-os.path.getsize(it) // 1024) for it in files)
+        os.mkdir(f"{room}/DEBIAN")
+        sums = (f"{told('md5sum', it).split()[0]}  {os.path.relpath(it, room)}\n" for it in files)
+        with open(f"{room}/DEBIAN/md5sums", "w", encoding="utf-8") as it:
+            it.writelines(sums)
+        fields = {
+            **{"Package": "tmpl", "Version": version(), "Architecture": "amd64", "Section": "text", "Priority": "optional"},
+            **{"Maintainer": maker(), "Depends": f"libc6 (>= {LIBC})"},
+            "Installed-Size": str(size),
+        }
+        with open(f"{room}/DEBIAN/control", "w", encoding="utf-8") as it:
+            it.write("".join(f"{name}: {value}\n" for name, value in fields.items()) + DESCRIPTION)
+        settle(room)
+        path = f"{OUT}/tmpl_{version()}_amd64.deb"
+        environment = {**os.environ, "SOURCE_DATE_EPOCH": str(seconds())}
+        words = ["dpkg-deb", "--root-owner-group", "-Zxz", "--build", room, path]
+        subprocess.run(words, env=environment, stdout=subprocess.DEVNULL, check=True)
+    return path
+
+
+def main(words):
+    kinds = {"tar": tar, "deb": deb}
+    if len(words) != 1 or words[0] not in kinds:
+        sys.exit("usage: make.py tar|deb")
+    os.makedirs(OUT, exist_ok=True)
+    print(kinds[words[0]]())
+
+
+if __name__ == "__main__":
+    main(sys.argv[1:])

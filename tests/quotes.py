@@ -1,0 +1,265 @@
+"""Quotes texts by the templates of examples/quotes, and has each quote read by the real reader of its format: a shell, sqlite3, and
+Python's csv, json, tomllib, html.parser and PyYAML, where they are there; for nginx and systemd by their rules, told below. What
+is read must be the text again, to the byte. The texts are hostile: quotes, newlines, each byte, random ones, ill-formed ones where the
+format takes any bytes, and one of 600 kB, in a time that grows as its length. What has no quote must be refused with its reason.
+TMPL=PATH names another build."""
+import csv
+import html.parser
+import io
+import json
+import random
+import re
+import resource
+import sqlite3
+import subprocess
+import sys
+
+import harness
+
+try:
+    import tomllib
+except ImportError:
+    tomllib = None
+try:
+    import yaml
+except ImportError:
+    yaml = None
+
+FOLDER = f"{harness.TOP}/examples/quotes"
+FILES = [b"quotes.tmpl", b"data.tmpl", b"texts.tmpl"]
+LEAST = 1500  # texts that were quoted
+LONG = 600000  # bytes
+SLOWER = 2.5  # times as slow a byte of a long text may be as of one an eighth as long
+PARTS = ["'", '"', "\\", "`", "$", "%", "\n", "\r\n", "\t", " ", "é", "→", "\U0001f600", "\u2028", "<b>", "&amp;", "//", "{{", "}}"]
+PARTS += ["${x}", "%s", "\\n", "a", "Z", "0", ",", ";", "#", "--", ":", "|", "=", "!", "\x7f", "\x85", "\ufeff", "\ufffe"]
+
+
+def texts():
+    """Texts of UTF-8 without a NUL, and with one."""
+    drawn = random.Random(1)
+    yield from ["", *PARTS, *(it * 2 for it in PARTS), "".join(map(chr, range(1, 256))), "true", "null", "1e3", "~", " a ", "-n", "*.x"]
+    for length in [*range(1, 12)] * 3 + [200]:
+        yield "".join(drawn.choices(PARTS, k=length))
+    yield from ["\0", "a\0b", "\0\0'"]
+
+
+def ill_formed():
+    drawn = random.Random(2)
+    yield from [b"\xff", b"a\x80'", b"\xc3", b"\xed\xa0\x80\"", bytes(range(1, 256))]
+    for length in range(1, 40):
+        yield bytes(drawn.choices(range(1, 256), k=length))
+
+
+# ---- readers: the bytes that a quote stands for
+
+
+def by_shell(quoted):
+    ran = subprocess.run(["sh"], input=b"printf %s " + quoted, stdout=subprocess.PIPE, check=True)
+    return ran.stdout
+
+
+def by_assignment(quoted):
+    return subprocess.run(["sh"], input=b"x=" + quoted + b'\nprintf %s "$x"', stdout=subprocess.PIPE, check=True).stdout
+
+
+def by_sqlite(quoted):
+    (told,) = sqlite3.connect(":memory:").execute(f"SELECT {quoted.decode()}").fetchone()
+    return told.encode()
+
+
+def by_csv(quoted):
+    ((_, told, _),) = csv.reader(io.StringIO(f"1,{quoted.decode('latin-1')},2\r\n", newline=""))
+    return told.encode("latin-1")
+
+
+def by_json(quoted):
+    return json.loads(quoted).encode()
+
+
+def by_toml(quoted):
+    return tomllib.loads(f"x = {quoted.decode()}\n")["x"].encode()
+
+
+def by_yaml(quoted):
+    return yaml.safe_load(f"x: {quoted.decode()}\n")["x"].encode()
+
+
+def by_html(quoted):
+    held = []
+    parser = html.parser.HTMLParser()
+    parser.handle_starttag = lambda _, attributes: held.extend(attributes)
+    parser.feed(f"<a b={quoted.decode()}>")
+    return held[0][1].encode()
+
+
+def unquoted(quoted, escape, told):
+    """What stands between double quotes, each escape as `told` has it."""
+    if not re.fullmatch(rb'"(?:[^"\\]|\\.)*"', quoted, re.DOTALL):
+        raise ValueError("no quoted word")
+    return re.sub(escape, told, quoted[1:-1], flags=re.DOTALL)
+
+
+def by_nginx(quoted):
+    """As nginx takes a parameter: a backslash escapes quotes and itself, and makes t, r and n white space. A $ is a variable."""
+    letters = {b"t": b"\t", b"r": b"\r", b"n": b"\n"}
+    if b"$" in quoted:
+        raise ValueError("a variable")
+    return unquoted(quoted, rb"\\(.)", lambda it: letters.get(it[1], it[1] if it[1] in b"\"'\\" else it[0]))
+
+
+def by_systemd(quoted):
+    """As systemd takes a word of Environment=: escapes as in C, and %% for a percent sign."""
+    told = {b"\\\\": b"\\", b'\\"': b'"', b"%%": b"%"}
+    if re.search(rb"[\n%]", quoted.replace(b"%%", b"")):
+        raise ValueError("a line or a specifier")
+    return unquoted(quoted, rb"%%|\\x([0-9a-f]{2})|\\.", lambda it: bytes.fromhex(it[1].decode()) if it[1] else told[it[0]])
+
+
+def by_command(quoted):
+    """As systemd takes a word of ExecStart=, where $$ is a dollar sign."""
+    if b"$" in quoted.replace(b"$$", b""):
+        raise ValueError("a variable")
+    return by_systemd(quoted.replace(b"$$", b"$"))
+
+
+# the reader of each quote, whether the format takes any bytes, and what it says of a NUL, if it has none
+QUOTES = {
+    "sh": (by_shell, True, "a shell has no word with a NUL"),
+    "env": (by_assignment, True, "an environment has no NUL"),
+    "sql": (by_sqlite, False, "SQL has no string with a NUL"),
+    "csv": (by_csv if sys.version_info >= (3, 11) else None, True, None),
+    "json": (by_json, False, None),
+    "to json": (by_json, False, None),
+    "toml": (by_toml if tomllib else None, False, None),
+    "yaml": (by_yaml if yaml else None, False, None),
+    "nginx": (by_nginx, True, "nginx has no parameter with a NUL"),
+    "systemd": (by_systemd, True, "systemd has no word with a NUL"),
+    "systemd command": (by_command, True, "systemd has no word with a NUL"),
+    "attribute": (by_html, False, None),
+}
+# what each other template makes of a text, and what stands before the text
+OTHERS = {
+    "upper": (lambda it: re.sub("[a-z]+", lambda found: found[0].upper(), it), ""),
+    "lower": (lambda it: re.sub("[A-Z]+", lambda found: found[0].lower(), it), ""),
+    "trim": (lambda it: it.strip(" \t\r\n"), ""),
+    "repeat": (lambda it: it * 12, "12:"),
+    "indent": (lambda it: re.sub("(?m)^(?=[^\n])", "    ", it), "4:"),
+    "replace": (lambda it: it.replace("é", "<é>"), "/é/<é>/"),
+}
+
+
+def rendered(name, text):
+    """What a template makes of a text."""
+    if isinstance(text, str):
+        RUNNER.lay(b"d", json.dumps(text).encode())
+        RUNNER.lay(b"m", f'{{{{template "{name}" .}}}}'.encode())
+        return RUNNER.run([b"--data", b"d", b"m", *FILES])
+    RUNNER.lay(b"m", b'{{template "%s" "%s"}}' % (name.encode(), b"".join(b"\\x%02x" % it for it in text)))
+    return RUNNER.run([b"m", *FILES])
+
+
+def fault(why):
+    return lambda got: got[0] == 1 and got[2].endswith(f': no template "{why}"\n'.encode())
+
+
+def is_read(name, text):
+    reader, _, _ = QUOTES[name]
+    if name == "attribute" and isinstance(text, str):
+        text = text.replace("\0", "\ufffd")
+    wanted = text.encode() if isinstance(text, str) else text
+
+    def fits(got):
+        try:
+            return (got[0], got[2]) == (0, b"") and reader(got[1]) == wanted
+        except (ValueError, KeyError, subprocess.CalledProcessError, sqlite3.Error, yaml.YAMLError if yaml else ValueError):
+            return False
+
+    return fits
+
+
+def cases():
+    """The template, the text, and whether what came of it fits."""
+    for name, (reader, takes_all, no_nul) in QUOTES.items():
+        for text in [*texts(), *(ill_formed() if takes_all else [])] * bool(reader):
+            has = lambda sign: (sign in text) if isinstance(text, str) else sign.encode() in text
+            if no_nul and has("\0") or name == "nginx" and has("$"):
+                reasons = [no_nul] * has("\0") + ["nginx has no quote for a $"] * (name == "nginx" and has("$"))
+                yield name, text, lambda got, reasons=reasons: any(fault(why)(got) for why in reasons)
+            else:
+                yield name, text, is_read(name, text)
+    for name, (makes, before) in OTHERS.items():
+        for text in texts():
+            yield name, before + text, lambda got, wanted=makes(text).encode(): got == (0, wanted, b"")
+    for wrong, why in (("4", "indent wants a number, a colon and a text"), ("/a/b", "replace wants /old/new/ and a text")):
+        yield why.partition(" ")[0], wrong, fault(why)
+
+
+def drawn(random_, depth):
+    """Data of any kind."""
+    kind = random_.randrange(7 if depth else 5)
+    if kind < 5:
+        return random_.choice([None, True, False, 0, -(2**63), 42, "", "[1 2]", "map[a:1]", "<no value>", "é'\"\\\n", "true", "5", "\0"])
+    if kind == 5:
+        return [drawn(random_, depth - 1) for _ in range(random_.randrange(4))]
+    return {random_.choice(PARTS): drawn(random_, depth - 1) for _ in range(random_.randrange(4))}
+
+
+def data_cases():
+    random_ = random.Random(3)
+    for _ in range(200):
+        data = drawn(random_, 4)
+        RUNNER.lay(b"d", json.dumps(data).encode())
+        RUNNER.lay(b"m", b'{{template "to json" .}}')
+        got = RUNNER.run([b"--data", b"d", b"m", *FILES])
+        yield f"to json {data!r}", [] if got[0] == 0 and json.loads(got[1]) == data else [f"    it comes to {got}"]
+
+
+def seconds(name, text, runs):
+    """The least processor time of so many runs, and what came of the last."""
+    least = []
+    for _ in range(runs):
+        before = resource.getrusage(resource.RUSAGE_CHILDREN)
+        got = rendered(name, text)
+        after = resource.getrusage(resource.RUSAGE_CHILDREN)
+        least.append(after.ru_utime + after.ru_stime - before.ru_utime - before.ru_stime)
+    return min(least), got
+
+
+def long_cases():
+    """Each template over a long text, whose quote is read too where its reader is quick, beside one an eighth as long."""
+    for name in [*QUOTES, *OTHERS]:
+        before = OTHERS[name][1] if name in OTHERS else ""
+        text = "it's \"é\"\\ 100%\n"
+        text *= LONG // len(text.encode())
+        time, got = seconds(name, before + text, 1)
+        short, _ = seconds(name, before + text[: len(text) // 8], 2)
+        slow = [f"    it takes {time:.2f} s, and {short:.2f} s for an eighth"] * (time > 8 * SLOWER * max(short, 0.01))
+        wrong = [f"    it comes to {got[0]}, {got[2]}"] * bool(got[0])
+        if name in QUOTES and QUOTES[name][0] and name != "yaml":
+            wrong += [] if is_read(name, text)(got) else ["    what is read is not the text"]
+        elif name in OTHERS:
+            wrong += [] if got[1] == OTHERS[name][0](text).encode() else ["    it is another text"]
+        yield f"{name} of {LONG} bytes", wrong + slow
+
+
+def main():
+    global RUNNER
+    if not harness.is_built():
+        return harness.closing(0, 1)
+    csv.field_size_limit(1 << 24)
+    RUNNER = harness.Runner()
+    for file in FILES:
+        with open(f"{FOLDER}/{file.decode()}", "rb") as it:
+            RUNNER.lay(file, it.read())
+    results = []
+    for name, text, fits in cases():
+        got = rendered(name, text)
+        results.append((f"{name} of {text!r}", 1, [] if fits(got) else [f"    it comes to {got}"]))
+    results += [(name, 1, wrong) for name, wrong in [*data_cases(), *long_cases()]]
+    passed, failed, runs = harness.tally(results)
+    failed += harness.too_few("texts were quoted", runs, LEAST)
+    return harness.closing(passed, failed)
+
+
+if __name__ == "__main__":
+    sys.exit(main())
