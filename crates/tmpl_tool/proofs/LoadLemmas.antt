@@ -50,18 +50,20 @@ module _ (files : Files) (start : List Template) (names : List Bytes) (i : ℕ) 
       (k + i, one_file (nat_eq (k + i)) (λ j lt. other-above j k i lt) (Err (tool.unread n)) (ap (λ b. with_file parsed files b set name) (nat_eq-add k i) ∙ is))
   stops_there (Some s) is = one_file no_read (λ j lt. refl) (Err s) is
 
+-- a stage behind another, where it comes to the same behind each set
+behind_same : (r : Result (List Template) Stop) (f g : List Template → Result (List Template) Stop) → ((s : List Template) → f s ≡ g s)
+    → or_stop r f ≡ or_stop r g
+behind_same (Ok s) f g same = same s
+behind_same (Err stop) f g same = refl
+
 -- where no read fails of a list of files, they come to what they come to where none fails at all
-pub all_succeed : (files : Files) (fails : Failing) (k : ℕ) (set : List Template) (names : List Bytes) → ((j : ℕ) → j < length names → fails (k + j) ≡ false)
+pub all_succeed : (files : Files) (fails : Failing) (k : ℕ) (set : List Template) (names : List Bytes)
+    → ((j : ℕ) → j < length names → fails (k + j) ≡ false)
     → loaded parsed files fails k set names ≡ loaded parsed files no_read k set names
 all_succeed files fails k set [] succeed = refl
 all_succeed files fails k set (n ∷ ns) succeed =
-    ap (λ b. or_stop (with_file parsed files b set n) (λ s. loaded parsed files fails (suc k) s ns)) (ap fails (sym (add-zero k)) ∙ succeed 0 (omega arith))
-    ∙ behind (with_file parsed files false set n)
-  where
-    moved : (j : ℕ) → suc k + j ≡ k + suc j
-    moved j = omega arith
-
-    behind : (r : Result (List Template) Stop)
-        → or_stop r (λ s. loaded parsed files fails (suc k) s ns) ≡ or_stop r (λ s. loaded parsed files no_read (suc k) s ns)
-    behind (Ok s) = all_succeed files fails (suc k) s ns (λ j lt. ap fails (moved j) ∙ succeed (suc j) (omega (arith, lt)))
-    behind (Err stop) = refl
+    let moved : (j : ℕ) → suc k + j ≡ k + suc j = λ j. omega arith in
+    ap (λ b. or_stop (with_file parsed files b set n) (λ s. loaded parsed files fails (suc k) s ns))
+    (ap fails (sym (add-zero k)) ∙ succeed 0 (omega arith))
+    ∙ behind_same (with_file parsed files false set n) (λ s. loaded parsed files fails (suc k) s ns) (λ s. loaded parsed files no_read (suc k) s ns)
+    (λ s. all_succeed files fails (suc k) s ns (λ j lt. ap fails (moved j) ∙ succeed (suc j) (omega (arith, lt))))

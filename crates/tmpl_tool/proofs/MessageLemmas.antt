@@ -1,13 +1,19 @@
 -- For all that say a line: its pieces one after the other, and that a line is said whole or cut once.
 use Rattle.std.proofs.Common.{◌≡◌, ◌∙◌, ◌++◌, ◌+◌, ◌<◌, ℕ, Bool, true, false, List, [], ◌∷◌, Result, refl, ap, sym, drop, get_or, length}
 use Rattle.std.proofs.Common.{append_assoc, codes, inr}
+use Rattle.std.proofs.Common.{Option, Some, None}
+use Rattle.std.specs.Prelude.{option_map}
 use Rattle.std.proofs.lemmas.List.{at_drop_more}
+use Rattle.tmpl_syntax.specs.Fault.{Reason}
 use Rattle.tmpl_values.proofs.PutLemmas.{IsPut-nil}
 use Rattle.tmpl_meaning.specs.Sink.{IsPut, Told, Sunk, Whole, as_puts, sunk}
 use Rattle.tmpl_meaning.specs.declared.sink.SinkFault.{SinkFault}
 use Rattle.tmpl_meaning.proofs.PutLemmas.{counts_once, whole_or_cut}
 use Rattle.tmpl_tool.specs.Outcome.{Answer, BegunIf, Once, Outcome, Says, memory_line}
-use Rattle.tmpl_tool.specs.Part.{Piece, joined, line, piece_text}
+use Rattle.tmpl_tool.specs.Part.{Piece, joined, line, number, piece_text, plain}
+use Rattle.tmpl_tool.specs.Tool as tool
+use Rattle.tmpl_tool.specs.Tool.{reason_text}
+use Rattle.tmpl_tool.specs.computed.Load.{said_of}
 use Rattle.tmpl_tool.specs.Source.{Bytes}
 use Rattle.tmpl_tool.specs.View.{piece_of, pieces_of}
 use Rattle.tmpl_tool.specs.declared.messages.part.Part.{Part}
@@ -50,3 +56,12 @@ begun_nothing false text t = (refl, refl)
 -- memory was refused, and nothing was put
 pub nothing_out : (e : Answer) (t : Told) (err : Sunk) (code : ℕ) → code ≡ 7 → Says memory_line err → Outcome e (sunk t t) err code
 nothing_out e t err code is says = inr (inr (begun_nothing e.made_text e.text t, is, says))
+
+-- a template file that is refused for a reason, which is told in words
+pub refusal-line : (file : Bytes) (at : ℕ) (why : Option Reason) (text : Bytes) → Some text ≡ option_map reason_text why
+    → (said_of (option_map (λ r. tool.refused file (at, r)) why)).line
+    ≡ line (plain file ∷ plain (codes ":") ∷ number at ∷ plain (codes ": ") ∷ plain text ∷ [])
+refusal-line file at None text is = cc
+refusal-line file at (Some r) text is =
+    let same : text ≡ reason_text r = cc in
+    ap (λ (t : Bytes). line (plain file ∷ plain (codes ":") ∷ number at ∷ plain (codes ": ") ∷ plain t ∷ [])) (sym same)

@@ -52,24 +52,23 @@ refuses_words parse words files fails helps none =
     with_words parse words files fails (Err tool.bad_words)
     (ap (λ b. or_stop (stop_if b tool.help) (λ u. ok_or (wanted words) tool.bad_words)) helps ∙ ap (λ o. ok_or o tool.bad_words) none)
 
+-- a stage behind two is the same as one behind the second
+or_stop-or_stop : (r : Result (List Template) Stop) (f g h : List Template → Result (List Template) Stop) → ((s : List Template) → f s ≡ or_stop (g s) h)
+    → or_stop r f ≡ or_stop (or_stop r g) h
+or_stop-or_stop (Ok s) f g h same = same s
+or_stop-or_stop (Err stop) f g h same = refl
+
 -- the files before a file, and those from it on
 loaded_part : (parse : Parse) (files : Files) (fails : Failing) (k : ℕ) (set : List Template) (before rest : List Bytes)
     → loaded parse files fails k set (before ++ rest)
     ≡ or_stop (loaded parse files fails k set before) (λ s. loaded parse files fails (k + length before) s rest)
 loaded_part parse files fails k set [] rest = ap (λ n. loaded parse files fails n set rest) (sym (add-zero k))
 loaded_part parse files fails k set (n ∷ before) rest =
-    parted (with_file parse files (fails k) set n)
-  where
-    moved : suc k + length before ≡ k + suc (length before)
-    moved = omega arith
-
-    parted : (r : Result (List Template) Stop)
-        → or_stop r (λ s. loaded parse files fails (suc k) s (before ++ rest))
-        ≡ or_stop (or_stop r (λ s. loaded parse files fails (suc k) s before)) (λ s. loaded parse files fails (k + suc (length before)) s rest)
-    parted (Ok s) =
-        loaded_part parse files fails (suc k) s before rest
-        ∙ ap (λ n. or_stop (loaded parse files fails (suc k) s before) (λ t. loaded parse files fails n t rest)) moved
-    parted (Err stop) = refl
+    let moved : suc k + length before ≡ k + suc (length before) = omega arith in
+    or_stop-or_stop (with_file parse files (fails k) set n) (λ s. loaded parse files fails (suc k) s (before ++ rest))
+    (λ s. loaded parse files fails (suc k) s before) (λ s. loaded parse files fails (k + suc (length before)) s rest)
+    (λ s. loaded_part parse files fails (suc k) s before rest
+    ∙ ap (λ n. or_stop (loaded parse files fails (suc k) s before) (λ t. loaded parse files fails n t rest)) moved)
 
 pub stops_at_file : StopsAtFile
 stops_at_file parse words files fails w asks before name behind is set loads stop refuses =
@@ -109,7 +108,7 @@ tells_failed_write a out err code (inr (inr refused)) rose = absurd (rose (untou
     untouched false h = h.0
 
 -- no answer has the status of refused memory
-fault-other : (o : Option Fault) → option_map_or (λ (f : Fault). 1) o 0 ≢ 7
+fault-other : (o : Option Fault) → ◌≢◌ {A = ℕ} (option_map_or (λ (f : Fault). 1) o 0) 7
 fault-other None e = omega (arith, e)
 fault-other (Some f) e = omega (arith, e)
 

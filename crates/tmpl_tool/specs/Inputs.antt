@@ -1,5 +1,5 @@
 -- What the command needs of the files, and what is answered of it.
-use Rattle.std.specs.Prelude.{◌≡◌, ◌×◌, ◌+◌, ℕ, nat_eq, List, [], Option, Some, None, Result, Ok, Err, length}
+use Rattle.std.specs.Prelude.{◌≡◌, ◌+◌, ℕ, nat_eq, List, [], Option, Some, None, Result, Ok, Err, length}
 use Rattle.std.specs.Prelude.{option_map, if◌then◌else◌}
 use Rattle.std.specs.Result.{result_map_both}
 use Rattle.tmpl_values.specs.Json.{not_json, not_whole}

@@ -1,4 +1,4 @@
-use Rattle.std.proofs.Common.{◌≡◌, ◌∙◌, ap, sym, subst, map, rules, [], List, Bor, Ok, IfSome}
+use Rattle.std.proofs.Common.{◌≡◌, ◌∙◌, ap, sym, subst, map, rules, [], List, Bor, None, Ok, IfSome}
 use Rattle.std.specs.Option.{option_map}
 use Rattle.tmpl_values.specs.View.{value_of}
 use Rattle.tmpl_syntax.specs.Set.{Template}
@@ -6,7 +6,7 @@ use Rattle.tmpl_syntax.specs.View.{set_view}
 use Rattle.tmpl_syntax.specs.computed.Parse.{parsed}
 use Rattle.tmpl_meaning.proofs.ToldLemmas.{err_up, if_told, of_told}
 use Rattle.tmpl_tool.specs.Source.{Bytes}
-use Rattle.tmpl_tool.specs.Tool.{loaded, no_read}
+use Rattle.tmpl_tool.specs.Tool.{Parse, loaded, no_read}
 use Rattle.tmpl_tool.specs.View.{seen}
 use Rattle.tmpl_tool.specs.Inputs.{ComesOf, StopsAt, inputs_of, inputs_seen, stop_seen}
 use Rattle.tmpl_tool.proofs.ParseLemmas.{for_each}
@@ -41,8 +41,21 @@ returns-in_err-data-clause-reads g c =
     (data_stops files w set loads (search rules) (stop_seen stop) stops)))
 
 pub returns-clause-reads : goal.returns-clause-reads
-returns-clause-reads g c =
-    for_each (λ parse. IfSome (g.S.Source.contents c.args.source.now) (λ files. ComesOf (inputs_of parse files (seen c.args.request.now)) inputs_seen _)) (
+returns-clause-reads g c parse is =
+    let w = seen c.args.request.now in
+    let set = set_view c.load_files.new.set in
+    let input = option_map value_of c.in_ok-data.data in
+    if_told _ (g.S.Source.contents c.args.source.now) (λ files told.
+    let loads : loaded parsed files no_read 0 [] w.files ≡ Ok set =
+    ap (λ (ns : List (Bor Bytes)). loaded parsed files no_read 0 [] (map (λ s. s.now) ns)) (sym c.as_slice.ensures.value)
+    ∙ ap (λ (old : List Template). loaded parsed files no_read 0 old (map (λ s. s.now) c.as_slice.result.now)) (sym c.new-set.ensures)
+    ∙ of_told _ _ files told c.in_ok-load_files.ensures.loads in
+    for_each (λ (p : Parse). inputs_of p files w no_read ≡ Ok (set, input))
+    (all_read files w set loads (search rules) input (of_told _ _ files (c.in_ok-load_files.ensures.contents ∙ told) c.in_ok-data.ensures.reads))
+    parse is)
+
+pub returns-then-request-clause-reads : goal.returns-then-request-clause-reads
+returns-then-request-clause-reads g c parse is =
     let w = seen c.args.request.now in
     let set = set_view c.load_files.new.set in
     if_told _ (g.S.Source.contents c.args.source.now) (λ files told.
@@ -50,4 +63,4 @@ returns-clause-reads g c =
     ap (λ (ns : List (Bor Bytes)). loaded parsed files no_read 0 [] (map (λ s. s.now) ns)) (sym c.as_slice.ensures.value)
     ∙ ap (λ (old : List Template). loaded parsed files no_read 0 old (map (λ s. s.now) c.as_slice.result.now)) (sym c.new-set.ensures)
     ∙ of_told _ _ files told c.in_ok-load_files.ensures.loads in
-    all_read files w set loads (search rules) (option_map value_of c.in_ok-data.data) (of_told _ _ files (c.in_ok-load_files.ensures.contents ∙ told) c.in_ok-data.ensures.reads)))
+    for_each (λ (p : Parse). inputs_of p files w no_read ≡ Ok (set, None)) (printed_next files w set loads (search rules)) parse is)
