@@ -52,11 +52,12 @@ def put_out(folder, said):
     """What each command puts out."""
     os.makedirs(f"{folder}/bin")
     os.symlink(harness.PROGRAM, f"{folder}/bin/tmpl")
+    os.symlink(f"{harness.TOP}/examples/quotes", f"{folder}/quotes")  # a path without spaces
     os.makedirs(f"{folder}/room")
     shutil.copy(f"{harness.TOP}/examples/hello/hello.tmpl", f"{folder}/room")  # which docs/COMMAND.md shows
     script = "\n".join(f"{it}\nstatus=$?; printf '{MARK}'; (exit $status)" for it in said)
     environment = {**os.environ, "PATH": f"{folder}/bin:{os.environ['PATH']}", "LC_ALL": "C.UTF-8", "HOME": folder}
-    environment["QUOTES"] = f"{harness.TOP}/examples/quotes"
+    environment["QUOTES"] = f"{folder}/quotes"
     how = {"cwd": f"{folder}/room", "env": environment, "stdout": subprocess.PIPE, "stderr": subprocess.STDOUT}
     ran = subprocess.run(["bash", "--norc"], input=script.encode(), timeout=harness.SECONDS, **how)
     return [it.strip("\n") for it in ran.stdout.decode(errors="replace").split(MARK)[:-1]]

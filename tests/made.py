@@ -89,7 +89,7 @@ def in_zsh(folder):
 
 
 def in_fish(folder):
-    script = f"source {harness.TOP}/completions/tmpl.fish; complete -C"
+    script = f"source '{harness.TOP}/completions/tmpl.fish'; complete -C"
     for words, wanted in offers():
         if "=" in words or words[0] == "--" and len(words) > 1:
             continue  # fish has both ways by itself
@@ -98,7 +98,8 @@ def in_fish(folder):
         yield f"fish after {words}", (0, sorted(wanted)), (status, found)
 
 
-VIM = """set nocompatible runtimepath^=%s/editors/vim
+VIM = """set nocompatible
+let &runtimepath = '%s/editors/vim,' . &runtimepath
 compiler tmpl
 cgetfile errors
 call writefile(map(getqflist(), {_, it -> bufname(it.bufnr) . ' ' . it.lnum . ' ' . it.text}), 'found')
