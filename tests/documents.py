@@ -12,7 +12,7 @@ import tempfile
 
 import harness
 
-LEAST = 60  # commands
+LEAST = 100  # commands
 MARK = "\x1e"  # between what two commands put out
 BLOCK = re.compile(r"(?:<!-- (needs|not run): ([^>]*) -->\s*)?^```console\n(.*?)^```$", re.MULTILINE | re.DOTALL)
 

@@ -10,7 +10,7 @@ from harness import build_shim
 
 SMALL = 65536  # bytes in the files and the output of a row
 MOST = 100000  # allocations of one run
-LEAST = 50000  # allocations of all
+LEAST = 100000  # allocations of all
 
 
 def refusing(number, shim, once):
