@@ -12,7 +12,7 @@ import tempfile
 
 import harness
 
-LEAST = 100  # commands
+LEAST = 80  # commands, where jq, yq and nginx are not there
 MARK = "\x1e"  # between what two commands put out
 BLOCK = re.compile(r"(?:<!-- (needs|not run): ([^>]*) -->\s*)?^```console\n(.*?)^```$", re.MULTILINE | re.DOTALL)
 

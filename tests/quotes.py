@@ -32,7 +32,7 @@ except ImportError:
 
 FOLDER = f"{harness.TOP}/examples/quotes"
 FILES = [b"quotes.tmpl", b"data.tmpl", b"texts.tmpl"]
-LEAST = 2500  # texts that were quoted
+LEAST = 2000  # texts that were quoted, where some readers are not there
 LONG = 600000  # bytes
 SLOWER = 2.5  # times as slow a byte of a long text may be as of one an eighth as long
 PARTS = ["'", '"', "\\", "`", "$", "%", "\n", "\r\n", "\t", " ", "é", "→", "\U0001f600", "\u2028", "<b>", "&amp;", "//", "{{", "}}"]
