@@ -1,8 +1,8 @@
 """Runs what the documents show: each block `console` of README.md and docs/, in order, those below one heading `##` in one folder and
 one shell. A line that begins with `$ ` is a command, one with `> ` goes on with it, and the others are what it must put out, to its
-output and its errors. A comment `<!-- needs: NAME .. -->` before a heading's first block names programs; where one is not there the
-blocks of that heading are left out, and this is told. A comment `<!-- not run: WHY -->` before a block says why it is not run. The program is `tmpl`, and
-`$QUOTES` the folder of the templates for quoting. TMPL=PATH names another build."""
+output and its errors. A comment `<!-- needs: NAME .. -->` before a block names programs; where one is not there all blocks of that
+heading are left out, and this is told. A comment `<!-- not run: WHY -->` before a block says why it is not run. The program is
+`tmpl`, and `$QUOTES` the folder of the templates for quoting. TMPL=PATH names another build."""
 import os
 import re
 import shutil
@@ -12,7 +12,7 @@ import tempfile
 
 import harness
 
-LEAST = 60  # commands
+LEAST = 80  # commands, where jq, yq and nginx are not there
 MARK = "\x1e"  # between what two commands put out
 BLOCK = re.compile(r"(?:<!-- (needs|not run): ([^>]*) -->\s*)?^```console\n(.*?)^```$", re.MULTILINE | re.DOTALL)
 
@@ -48,15 +48,23 @@ def sections(document):
             yield part.partition("\n")[0].lstrip("# "), ran, needed, sum(kind == "not run" for kind, _, _ in blocks)
 
 
+def is_there(name):
+    """Whether a program is there; of yq the one that stands on jq, since another of that name takes other words."""
+    if name != "yq" or not shutil.which(name):
+        return bool(shutil.which(name))
+    return b"mikefarah" not in subprocess.run([name, "--version"], stdout=subprocess.PIPE, check=False).stdout
+
+
 def put_out(folder, said):
     """What each command puts out."""
     os.makedirs(f"{folder}/bin")
     os.symlink(harness.PROGRAM, f"{folder}/bin/tmpl")
+    os.symlink(f"{harness.TOP}/examples/quotes", f"{folder}/quotes")  # a path without spaces
     os.makedirs(f"{folder}/room")
     shutil.copy(f"{harness.TOP}/examples/hello/hello.tmpl", f"{folder}/room")  # which docs/COMMAND.md shows
     script = "\n".join(f"{it}\nstatus=$?; printf '{MARK}'; (exit $status)" for it in said)
     environment = {**os.environ, "PATH": f"{folder}/bin:{os.environ['PATH']}", "LC_ALL": "C.UTF-8", "HOME": folder}
-    environment["QUOTES"] = f"{harness.TOP}/examples/quotes"
+    environment["QUOTES"] = f"{folder}/quotes"
     how = {"cwd": f"{folder}/room", "env": environment, "stdout": subprocess.PIPE, "stderr": subprocess.STDOUT}
     ran = subprocess.run(["bash", "--norc"], input=script.encode(), timeout=harness.SECONDS, **how)
     return [it.strip("\n") for it in ran.stdout.decode(errors="replace").split(MARK)[:-1]]
@@ -77,7 +85,7 @@ def main():
     results, left_out = [], 0
     for document in documents():
         for heading, said, needed, others in sections(document):
-            missing = [it for it in needed if not shutil.which(it)]
+            missing = [it for it in dict.fromkeys(needed) if not is_there(it)]
             left_out += others
             if missing:
                 print(f"{document}, {heading}: left out, since {' and '.join(missing)} is not there")

@@ -126,14 +126,19 @@ class Drawing:
     def variables(self):
         return {name: kind for scope in self.scopes for name, kind in scope}
 
-    def paths(self, kind):
-        """Chains that mostly come to this kind."""
+    def path(self, kind):
+        """A chain that mostly comes to this kind, or none where there is none: the dot, the start or a variable of that kind, or a
+        field of one that is a map."""
         roots = [(".", self.dot), ("$", self.start), *((f"${name}", its) for name, its in self.variables().items())]
-        roots += [("" if root == "." else root, None) for root, its in roots if its == "map"]
-        found = [root for root, its in roots if its == kind]
-        for root in [root for root, its in roots if its is None]:
-            found += [f"{root}{way}.{key}" for way in ("", "", ".m") for key in FIELDS.get(kind, ["w"])]
-        return found
+        whole = [root for root, its in roots if its == kind]
+        maps = ["" if root == "." else root for root, its in roots if its == "map"]
+        if len(whole) + len(maps) == 0:
+            return None
+        keys, ways = FIELDS.get(kind, ["w"]), ("", "", ".m")
+        at = self.random.randrange(len(whole) + len(maps) * len(ways) * len(keys))
+        if at < len(whole):
+            return whole[at]
+        return self.random.choice(maps) + self.random.choice(ways) + "." + self.random.choice(keys)
 
     def there(self, kinds=KINDS):
         """Those of these kinds of which there is something to name."""
@@ -168,10 +173,7 @@ class Drawing:
             chained = self.often(0.2) and "map" in self.there(["map"])
             inner = self.pipeline("map" if chained else kind, depth - 1)
             return f"({inner})." + r.choice(FIELDS[kind]) if chained else f"({inner})"
-        ways = self.paths(kind)
-        if ways:
-            return r.choice(ways)
-        return self.constant(kind) if kind in MADE else r.choice([".", "$", *self.paths("any")])
+        return self.path(kind) or (self.constant(kind) if kind in MADE else r.choice([".", "$", self.path("any") or "."]))
 
     # ---- calls and pipelines
 

@@ -2,10 +2,13 @@
 import fcntl
 import json
 import multiprocessing
+import multiprocessing.util
 import os
 import shutil
 import signal
+import socket
 import struct
+import subprocess
 import tempfile
 import threading
 
@@ -16,6 +19,8 @@ SECONDS = 60  # for one run
 ENVIRONMENT = dict(os.environb)
 MEMORY = "/dev/shm" if os.access("/dev/shm", os.W_OK) else None  # where files of tests are best kept: some disks wait for each
 SET_PIPE_SIZE = 1031  # to fcntl
+SERVE = None  # the shim by which one process serves many runs, once it is built
+MESSAGE = 1 << 16  # bytes of words that it takes
 
 KEYS = {"title", "program", "words", "files", "stdin", "stdout", "stderr", "out", "line", "status"}
 TAKERS = {
@@ -145,6 +150,14 @@ def read_examples():
     return rows
 
 
+def build_shim(source, to):
+    """Compiles a shim of this folder with the clang of the toolchain, which stands beside the page that `rt doc` names."""
+    page = subprocess.run(["rt", "doc"], stdout=subprocess.PIPE, check=True).stdout.decode().strip()
+    tools = f"{os.path.dirname(page)}/toolchain/bin"
+    flags = ["-O1", "-fPIC", "-shared", "-nostdlib", f"-fuse-ld={tools}/ld.lld"]
+    subprocess.run([f"{tools}/clang", *flags, f"{TESTS}/{source}", "-o", to], check=True)
+
+
 class Late(Exception):
     """A run had not ended after SECONDS."""
 
@@ -239,6 +252,7 @@ class Runner:
         self.null, self.full = os.open(os.devnull, os.O_RDONLY), os.open("/dev/full", os.O_WRONLY)
         self.out, self.err, self.told = (os.memfd_create(name) for name in ("out", "err", "told"))
         self.actions = standing(self.null, self.out, self.err)
+        self.server = None
         os.set_inheritable(self.told, True)
 
     def lay(self, name, what):
@@ -268,7 +282,31 @@ class Runner:
 
     def run(self, words):
         """The status, output and errors of one run. A status below 0 is a signal."""
-        return self.run_by(b"tmpl", words, self.actions)
+        message = b"\0".join([*words, b""])
+        if self.server is None:
+            self.server = self.serving() if SERVE else False
+        if not self.server or not words or len(message) > MESSAGE:
+            return self.run_by(b"tmpl", words, self.actions)
+        self.server.send(message)
+        (status,) = STATUS.unpack(self.server.recv(STATUS.size))
+        return code_of(status), taken_from(self.out), taken_from(self.err)
+
+    def serving(self):
+        """The socket of a process of the program that waits for words, and is copied for each run; False where it does not wait,
+        as a program that is linked otherwise."""
+        ours, theirs = socket.socketpair(socket.AF_UNIX, socket.SOCK_SEQPACKET)
+        theirs.set_inheritable(True)
+        os.chdir(self.folder)
+        environment = {**ENVIRONMENT, b"LD_PRELOAD": os.fsencode(SERVE), b"SERVE": b"%d" % theirs.fileno()}
+        process = spawned(b"tmpl", [], self.actions, environment)
+        theirs.close()
+        if ours.recv(1):
+            multiprocessing.util.Finalize(None, end_server, (ours, process), exitpriority=1)
+            return ours
+        os.waitpid(process, 0)
+        for it in (self.out, self.err):
+            taken_from(it)
+        return False
 
     def run_by(self, program, words, actions, environment=ENVIRONMENT):
         os.chdir(self.folder)
@@ -301,6 +339,13 @@ class Runner:
 
 
 TURN = struct.Struct("5l")
+STATUS = struct.Struct("i")
+
+
+def end_server(server, process):
+    """Ends a process that serves, and waits for it, so that its time is counted."""
+    server.close()
+    os.waitpid(process, 0)
 
 
 def standing(*descriptors):
@@ -322,13 +367,19 @@ def taken_from(descriptor):
 def in_processes(check, cases, start, many):
     """What each case comes to, so many at a time to one of as many processes as there are processors. Where there is one
     processor no other process is started."""
+    global SERVE
     processes = len(os.sched_getaffinity(0))
-    if processes == 1:
-        start()
-        yield from map(check, cases)
-        return
-    with multiprocessing.Pool(processes, start) as pool:
-        yield from pool.imap_unordered(check, cases, chunksize=many)
+    with tempfile.TemporaryDirectory() as folder:
+        SERVE = f"{folder}/serve.so"
+        build_shim("serve.c", SERVE)
+        if processes == 1:
+            start()
+            yield from map(check, cases)
+            return
+        with multiprocessing.get_context("fork").Pool(processes, start) as pool:
+            yield from pool.imap_unordered(check, cases, chunksize=many)
+            pool.close()
+            pool.join()
 
 
 def too_few(what, count, least):

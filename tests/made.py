@@ -2,7 +2,10 @@
 completions must be those that man/make.py and completions/make.py make; `man` must find nothing to warn of, where it is there;
 the program must put out the usage line of docs/COMMAND.md; and each shell that is there must offer the options of that line,
 the words of an option that takes one of several, and files. TMPL=PATH names another build."""
+import json
 import os
+import re
+import shlex
 import shutil
 import subprocess
 import sys
@@ -86,13 +89,49 @@ def in_zsh(folder):
 
 
 def in_fish(folder):
-    script = f"source {harness.TOP}/completions/tmpl.fish; complete -C"
+    script = f"source '{harness.TOP}/completions/tmpl.fish'; complete -C"
     for words, wanted in offers():
         if "=" in words or words[0] == "--" and len(words) > 1:
             continue  # fish has both ways by itself
         status, said = output("fish", "--no-config", "-c", f"{script} 'tmpl {' '.join(words)}'", cwd=folder)
         found = sorted(line.partition("\t")[0] for line in said.splitlines())
         yield f"fish after {words}", (0, sorted(wanted)), (status, found)
+
+
+VIM = """set nocompatible
+let &runtimepath = '%s/editors/vim,' . &runtimepath
+compiler tmpl
+cgetfile errors
+call writefile(map(getqflist(), {_, it -> bufname(it.bufnr) . ' ' . it.lnum . ' ' . it.text}), 'found')
+qall!
+"""
+
+
+def editors(folder):
+    """What they make of the line for a template that is refused."""
+    files = {"bad.tmpl": "\n{{if}}\n", "good.tmpl": "x"}
+    for name, text in files.items():
+        with open(f"{folder}/{name}", "w", encoding="utf-8") as it:
+            it.write(text)
+    os.symlink(harness.PROGRAM, f"{folder}/tmpl")
+    refused = "tmpl: bad.tmpl:2: action not understood\n"
+    with open(f"{harness.TOP}/.pre-commit-hooks.yaml", encoding="utf-8") as it:
+        entry = shlex.split(re.search(r"^  entry: (.*)$", it.read(), re.MULTILINE)[1])
+    environment = {**os.environ, "PATH": f"{folder}:{os.environ['PATH']}"}
+    for names, wanted in ((["good.tmpl"], (0, "")), (["bad.tmpl", "good.tmpl"], (1, refused))):
+        yield f"the hook over {names}", wanted, output(*entry, *names, cwd=folder, env=environment)
+    with open(f"{harness.TOP}/editors/problem-matcher.json", encoding="utf-8") as it:
+        (pattern,) = json.load(it)["problemMatcher"][0]["pattern"]
+    found = re.match(pattern["regexp"], refused.strip())
+    yield "the problem matcher", ("bad.tmpl", "2", "action not understood"), found and tuple(found[pattern[it]] for it in ("file", "line", "message"))
+    if shutil.which("vim"):
+        with open(f"{folder}/errors", "w", encoding="utf-8") as it:
+            it.write(refused + "tmpl: out of memory\n")
+        with open(f"{folder}/script", "w", encoding="utf-8") as it:
+            it.write(VIM % harness.TOP)
+        output("vim", "-e", "-s", "-u", "NONE", "-S", "script", cwd=folder)
+        with open(f"{folder}/found", encoding="utf-8") as it:
+            yield "what Vim finds", "bad.tmpl 2 action not understood\n", it.read()
 
 
 def main():
@@ -106,6 +145,7 @@ def main():
         cases = [*made(), *usage(), *pages()]
         for shell in filter(shutil.which, shells):
             cases += shells[shell](folder)
+        cases += editors(folder)
     wrong = [[f"    got {got}", f"    wanted {wanted}"] if got != wanted else [] for _, wanted, got in cases]
     passed, failed, _ = harness.tally((name, 1, its) for (name, *_), its in zip(cases, wrong))
     return harness.closing(passed, failed)

@@ -273,7 +273,7 @@ def check(case):
     """What the program says of a list of actions, and what it should say, where they differ."""
     actions, found = case
     # a template that calls itself is read alone
-    words = ["--name", "null", "m", "/dev/null"] if any('"' in it for it in actions) else ["m"]
+    words = [b"--name", b"null", b"m", b"/dev/null"] if any('"' in it for it in actions) else [b"m"]
     want = (4, f"tmpl: m:{found[0]}: {found[1]}\n") if found else (0, "")
     RUNNER.lay(b"m", "".join(f"{action}\n" for action in actions).encode())
     status, _, errors = RUNNER.run(words)

@@ -1,18 +1,23 @@
-"""Quotes texts by the templates of examples/quotes, and has each quote read by the real reader of its format: a shell, sqlite3, and
-Python's csv, json, tomllib, html.parser and PyYAML, where they are there; for nginx and systemd by their rules, told below. What
-is read must be the text again, to the byte. The texts are hostile: quotes, newlines, each byte, random ones, ill-formed ones where the
-format takes any bytes, and one of 600 kB, in a time that grows as its length. What has no quote must be refused with its reason.
-TMPL=PATH names another build."""
+"""Quotes texts by the templates of examples/quotes, and has each quote read by the real reader of its format: a shell, sqlite3,
+Python's csv, json and html.parser, and tomllib, PyYAML and nginx where they are there; for nginx and systemd also by their rules,
+told below. What is read must be the text again, to the byte. The texts are hostile: quotes, newlines, each byte, random ones,
+ill-formed ones where the format takes any bytes, and one of 600 kB, in a time that grows as its length. What has no quote must be
+refused with its reason. TMPL=PATH names another build."""
 import csv
 import html.parser
 import io
 import json
+import os
 import random
 import re
 import resource
+import shutil
+import socket
 import sqlite3
 import subprocess
 import sys
+import tempfile
+import time
 
 import harness
 
@@ -27,7 +32,7 @@ except ImportError:
 
 FOLDER = f"{harness.TOP}/examples/quotes"
 FILES = [b"quotes.tmpl", b"data.tmpl", b"texts.tmpl"]
-LEAST = 1500  # texts that were quoted
+LEAST = 2000  # texts that were quoted, where some readers are not there
 LONG = 600000  # bytes
 SLOWER = 2.5  # times as slow a byte of a long text may be as of one an eighth as long
 PARTS = ["'", '"', "\\", "`", "$", "%", "\n", "\r\n", "\t", " ", "é", "→", "\U0001f600", "\u2028", "<b>", "&amp;", "//", "{{", "}}"]
@@ -194,6 +199,40 @@ def cases():
         yield why.partition(" ")[0], wrong, fault(why)
 
 
+NGINX = b"""daemon off; master_process off; pid pid; error_log stderr crit; events {}
+http { access_log off; client_body_temp_path a; proxy_temp_path b; fastcgi_temp_path c; uwsgi_temp_path d; scgi_temp_path e;
+server { listen unix:%s/socket; %s } }
+"""
+
+
+def answered(path, number):
+    """The body that a server answers on a socket."""
+    with socket.socket(socket.AF_UNIX) as it:
+        it.connect(path)
+        it.sendall(b"GET /%d HTTP/1.0\r\n\r\n" % number)
+        return it.makefile("rb").read().partition(b"\r\n\r\n")[2]
+
+
+def nginx_cases():
+    """Texts that nginx itself reads as parameters and answers, where it is there: each at a place of its own."""
+    if not shutil.which("nginx"):
+        return
+    them = [it for it in [*texts(), *ill_formed()] if not any((sign if isinstance(it, str) else sign.encode()) in it for sign in "\0$")]
+    places = [b"location = /%d { return 200 %s; }" % (at, rendered("nginx", it)[1]) for at, it in enumerate(them)]
+    with tempfile.TemporaryDirectory() as folder:
+        with open(f"{folder}/nginx.conf", "wb") as it:
+            it.write(NGINX % (folder.encode(), b"\n".join(places)))
+        words = ["nginx", "-p", folder, "-c", f"{folder}/nginx.conf"]
+        with subprocess.Popen(words, stdin=subprocess.DEVNULL, stderr=subprocess.PIPE) as ran:
+            while ran.poll() is None and not os.path.exists(f"{folder}/socket"):
+                time.sleep(0.01)
+            for number, text in enumerate(them):
+                wanted = text.encode() if isinstance(text, str) else text
+                got = answered(f"{folder}/socket", number) if ran.poll() is None else ran.stderr.read()
+                yield f"nginx itself of {text!r}", [] if got == wanted else [f"    it answers {got}"]
+            ran.terminate()
+
+
 def drawn(random_, depth):
     """Data of any kind."""
     kind = random_.randrange(7 if depth else 5)
@@ -231,9 +270,9 @@ def long_cases():
         before = OTHERS[name][1] if name in OTHERS else ""
         text = "it's \"é\"\\ 100%\n"
         text *= LONG // len(text.encode())
-        time, got = seconds(name, before + text, 1)
+        took, got = seconds(name, before + text, 1)
         short, _ = seconds(name, before + text[: len(text) // 8], 2)
-        slow = [f"    it takes {time:.2f} s, and {short:.2f} s for an eighth"] * (time > 8 * SLOWER * max(short, 0.01))
+        slow = [f"    it takes {took:.2f} s, and {short:.2f} s for an eighth"] * (took > 8 * SLOWER * max(short, 0.01))
         wrong = [f"    it comes to {got[0]}, {got[2]}"] * bool(got[0])
         if name in QUOTES and QUOTES[name][0] and name != "yaml":
             wrong += [] if is_read(name, text)(got) else ["    what is read is not the text"]
@@ -255,7 +294,7 @@ def main():
     for name, text, fits in cases():
         got = rendered(name, text)
         results.append((f"{name} of {text!r}", 1, [] if fits(got) else [f"    it comes to {got}"]))
-    results += [(name, 1, wrong) for name, wrong in [*data_cases(), *long_cases()]]
+    results += [(name, 1, wrong) for name, wrong in [*nginx_cases(), *data_cases(), *long_cases()]]
     passed, failed, runs = harness.tally(results)
     failed += harness.too_few("texts were quoted", runs, LEAST)
     return harness.closing(passed, failed)

@@ -6,18 +6,11 @@ import sys
 import tempfile
 
 import harness
+from harness import build_shim
 
 SMALL = 65536  # bytes in the files and the output of a row
 MOST = 100000  # allocations of one run
-LEAST = 50000  # allocations of all
-
-
-def build_shim(source, to):
-    """Compiles a shim of this folder with the clang of the toolchain, which stands beside the page that `rt doc` names."""
-    page = subprocess.run(["rt", "doc"], stdout=subprocess.PIPE, check=True).stdout.decode().strip()
-    tools = f"{os.path.dirname(page)}/toolchain/bin"
-    flags = ["-O1", "-fPIC", "-shared", "-nostdlib", f"-fuse-ld={tools}/ld.lld"]
-    subprocess.run([f"{tools}/clang", *flags, f"{harness.TESTS}/{source}", "-o", to], check=True)
+LEAST = 100000  # allocations of all
 
 
 def refusing(number, shim, once):

@@ -10,7 +10,7 @@ import harness
 import sweep
 
 FEW = 64  # bytes of output or errors up to which each write of one byte is refused in turn
-LEAST = 50000  # refused writes
+LEAST = 100000  # refused writes
 WAYS = ("by an error", "by an error for good", "by an interrupt", "by taking no byte")  # as fail_write.c has them
 LINE = b"tmpl: write failed\n"
 

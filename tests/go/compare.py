@@ -7,10 +7,12 @@ somewhere in the middle; one is a heap of braces, markers, comments and quotes; 
 nearly so; and one is a heap of controls, definitions, blocks and calls. What is drawn is what both have: where a rule is narrower than Go's or our own, it is left out. Texts must be
 equal up to the fault, if there is one, and both must refuse the template, fault, or neither."""
 import base64
+import glob
 import json
 import os
 import random
 import re
+import shutil
 import subprocess
 import sys
 import tempfile
@@ -436,8 +438,25 @@ def judge(it, theirs, folder):
     return "differs", f"    ours: status {status}, {harness.short(text)}, {line.strip()}\n    Go: {told}, {harness.short(their_text)}, {theirs['Fault']}"
 
 
+def version_of(go):
+    """The version of a Go as numbers, or none where it does not run."""
+    try:
+        told = subprocess.run([go, "version"], stdout=subprocess.PIPE, stderr=subprocess.DEVNULL, check=True).stdout.decode()
+    except (OSError, subprocess.CalledProcessError):
+        return None
+    found = re.match(r"go version go(\d+)\.(\d+)(?:\.(\d+))?", told)
+    return tuple(int(it or 0) for it in found.groups()) if found else None
+
+
+def newest_go():
+    """The newest Go that is there: on the PATH, or where Debian and Go's own archive put it."""
+    there = [it for it in [shutil.which("go"), *glob.glob("/usr/lib/go-*/bin/go"), "/usr/local/go/bin/go"] if it]
+    versions = {it: version_of(it) for it in there}
+    return max((it for it in there if versions[it]), key=versions.get, default="go")
+
+
 def build(to):
-    subprocess.run(["go", "build", "-o", to, f"{HERE}/main.go"], env={**os.environ, "GO111MODULE": "off"}, check=True)
+    subprocess.run([newest_go(), "build", "-o", to, f"{HERE}/main.go"], env={**os.environ, "GO111MODULE": "off"}, check=True)
 
 
 def answers(cases):
