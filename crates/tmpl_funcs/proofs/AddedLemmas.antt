@@ -1,5 +1,7 @@
--- A piece added, and what a refusal comes to.
-use Rattle.std.proofs.Common.{◌≡◌, ◌∙◌, ℕ, zero, suc, ◌+◌, ◌-◌, ◌<◌, ◌≤◌, Bool, true, false, cond, List, [], ◌∷◌, ◌++◌, length, get_or, take, drop, Option, Some, None, option_map, Result, Ok, Err, IsErrAnd, refl, sym, ap, subst, arith, append_assoc, append-nil, length-append, length-drop}
+-- For `add_segment`, `add_form` and `add_formatted`: what was added so far, before the text of the rest, is the whole text.
+use Rattle.std.proofs.Common.{◌≡◌, ◌∙◌, ℕ, zero, suc, ◌+◌, ◌-◌, ◌<◌, ◌≤◌, Bool, true, false, cond, List, [], ◌∷◌, ◌++◌}
+use Rattle.std.proofs.Common.{length, get_or, take, drop, Option, Some, None, option_map, Result, Ok, Err, IsErrAnd}
+use Rattle.std.proofs.Common.{refl, sym, ap, subst, arith, append_assoc, append-nil, length-append, length-drop}
 use Rattle.std.specs.List.{prefix_len}
 use Rattle.std.proofs.lemmas.List.{take_all, drop-drop, nil_from_length}
 use Rattle.std.proofs.lemmas.Bool.Decides.{nat_tests}
@@ -7,12 +9,12 @@ use Rattle.tmpl_values.specs.Value.{Value}
 use Rattle.tmpl_values.specs.View.{val_of}
 use Rattle.tmpl_values.specs.declared.value.Cell.{Cell}
 use Rattle.tmpl_funcs.specs.View.{values_of}
-use Rattle.tmpl_funcs.specs.printf.Form.{Spelled, is_plain, spelled}
-use Rattle.tmpl_funcs.specs.computed.Reading.{form_at}
+use Rattle.tmpl_funcs.specs.printf.Form.{WrittenForm, is_plain, form_bytes}
+use Rattle.tmpl_funcs.specs.printf.Reading.{form_at}
 use Rattle.tmpl_funcs.specs.printf.Form.{form_of}
 use Rattle.tmpl_funcs.specs.printf.Directive.{printed}
 use Rattle.tmpl_funcs.specs.printf.Format.{both, formatted}
-use Rattle.tmpl_funcs.specs.computed.Format.{IsAdded, IsPieceAdded}
+use Rattle.tmpl_funcs.specs.computed.Format.{IsAdded, IsSegmentAdded}
 use Rattle.tmpl_funcs.specs.declared.printf.form.Form.{Form}
 use Rattle.tmpl_funcs.specs.declared.fault.CallError.{CallError}
 use Rattle.tmpl_funcs.specs.declared.fault.CallError.TheVariants as error
@@ -26,7 +28,8 @@ IsErrAnd-along P (Ok x) e h p = absurd h
 IsErrAnd-along P (Err y) e h p = subst (λ y. P (Err y)) (sym h) p
 
 -- the text that was added
-pub option_map-Some : (asked : Option (List ℕ)) (old new : List ℕ) → option_map (λ text. old ++ text) asked ≡ Some new → (text : List ℕ) × (asked ≡ Some text) × (new ≡ old ++ text)
+pub option_map-Some : (asked : Option (List ℕ)) (old new : List ℕ) → option_map (λ text. old ++ text) asked ≡ Some new
+    → (text : List ℕ) × (asked ≡ Some text) × (new ≡ old ++ text)
 option_map-Some None old new h = cc
 option_map-Some (Some text) old new h = (text, refl, cc)
 
@@ -43,25 +46,22 @@ length-values_of [] = refl
 length-values_of (c ∷ cells) = ap suc (length-values_of cells)
 
 -- a form that was refused
-pub IsPieceAdded-refused : (asked : Option (List ℕ)) (old new format : List ℕ) (vs : List Value) (e : CallError) → IsAdded asked old new (Err e) → (asked ≡ None → formatted format vs ≡ None) → IsPieceAdded format vs old new (Err e)
-IsPieceAdded-refused asked old new format vs (error.Fault fault.WrongCount) h none = h
-IsPieceAdded-refused asked old new format vs (error.Fault fault.WrongKind) h none = h
-IsPieceAdded-refused asked old new format vs (error.Fault fault.OutOfRange) h none = h
-IsPieceAdded-refused asked old new format vs (error.Fault fault.NotComparable) h none = h
-IsPieceAdded-refused asked old new format vs (error.Fault fault.FormatRefused) h none = none h
-IsPieceAdded-refused asked old new format vs error.OutOfMemory h none = tt
+pub IsSegmentAdded-refused : (asked : Option (List ℕ)) (old new format : List ℕ) (vs : List Value) (e : CallError) → IsAdded asked old new (Err e)
+    → (asked ≡ None → formatted format vs ≡ None) → IsSegmentAdded format vs old new (Err e)
+IsSegmentAdded-refused asked old new format vs (error.Fault fault.FormatRefused) h none = none h
+IsSegmentAdded-refused asked old new format vs error.OutOfMemory h none = tt
+IsSegmentAdded-refused asked old new format vs _ h none = h
 
--- a format of which a piece was refused
-pub IsAdded-refused : (format all : List ℕ) (vs ws : List Value) (front old mid new : List ℕ) (e : CallError) → formatted all ws ≡ both (Some front) (formatted format vs) → IsPieceAdded format vs mid new (Err e) → IsAdded (formatted all ws) old new (Err e)
-IsAdded-refused format all vs ws front old mid new (error.Fault fault.WrongCount) so_far h = h
-IsAdded-refused format all vs ws front old mid new (error.Fault fault.WrongKind) so_far h = h
-IsAdded-refused format all vs ws front old mid new (error.Fault fault.OutOfRange) so_far h = h
-IsAdded-refused format all vs ws front old mid new (error.Fault fault.NotComparable) so_far h = h
+-- a format of which a segment was refused
+pub IsAdded-refused : (format all : List ℕ) (vs ws : List Value) (front old mid new : List ℕ) (e : CallError)
+    → formatted all ws ≡ both (Some front) (formatted format vs) → IsSegmentAdded format vs mid new (Err e) → IsAdded (formatted all ws) old new (Err e)
 IsAdded-refused format all vs ws front old mid new (error.Fault fault.FormatRefused) so_far h = so_far ∙ ap (both (Some front)) h
 IsAdded-refused format all vs ws front old mid new error.OutOfMemory so_far h = tt
+IsAdded-refused format all vs ws front old mid new _ so_far h = h
 
-module _ (bs : List ℕ) (some : 0 < length bs) (plain : is_plain (get_or bs 0 0) ≡ true) (cells : List Cell) (x : Cell) (there : 1 ≤ length cells) (is : x ≡ get_or cells 0 x)
-    (form : Form) (rest : List ℕ) (f : Spelled) (read : form_at bs ≡ Some f) (same : form ≡ form_of f) (all : bs ≡ spelled f ++ rest) where
+module _ (bs : List ℕ) (some : 0 < length bs) (plain : is_plain (get_or bs 0 0) ≡ true) (cells : List Cell) (x : Cell) (there : 1 ≤ length cells)
+    (is : x ≡ get_or cells 0 x)
+    (form : Form) (rest : List ℕ) (f : WrittenForm) (read : form_at bs ≡ Some f) (same : form ≡ form_of f) (all : bs ≡ form_bytes f ++ rest) where
   formatted-first_form : formatted (37 ∷ bs) (values_of cells) ≡ both (printed form (val_of x.val)) (formatted rest (drop 1 (values_of cells)))
   formatted-first_form =
       ap (formatted (37 ∷ bs)) (values_of-first cells x there is) ∙
@@ -70,14 +70,15 @@ module _ (bs : List ℕ) (some : 0 < length bs) (plain : is_plain (get_or bs 0 0
 
   -- the text of a form was added
   pub formatted-form_added : (old new : List ℕ) → option_map (λ text. old ++ text) (printed form (val_of x.val)) ≡ Some new
-      → (text : List ℕ) × (new ≡ old ++ text) × (formatted (37 ∷ bs) (values_of cells) ≡ both (Some text) (formatted rest (drop 1 (values_of cells)))) × (1 ≤ length (values_of cells)) × (length rest < suc (length bs))
+      → (text : List ℕ) × (new ≡ old ++ text) × (formatted (37 ∷ bs) (values_of cells) ≡ both (Some text)
+      (formatted rest (drop 1 (values_of cells)))) × (1 ≤ length (values_of cells)) × (length rest < suc (length bs))
   formatted-form_added old new h =
       let t = option_map-Some (printed form (val_of x.val)) old new h in (
         t.0,
         t.2,
         formatted-first_form ∙ ap (λ p. both p (formatted rest (drop 1 (values_of cells)))) t.1,
         omega (arith, length-values_of cells),
-        omega (arith, ap length all, length-append (spelled f) rest),
+        omega (arith, ap length all, length-append (form_bytes f) rest),
       )
 
   -- it was refused
@@ -103,8 +104,10 @@ pub percent-take : (bs : List ℕ) (n : ℕ) → 0 < length bs → n ≡ prefix_
 percent-take bs n some is none = cons-take bs 37 (omega arith) (prefix_len-percent bs some (omega arith))
 
 -- a run was added
-pub formatted-run_added : (bs : List ℕ) (n : ℕ) (vs : List Value) (old new : List ℕ) → n ≡ prefix_len is_plain bs → 0 < n → n ≤ length bs → new ≡ old ++ take n bs
-    → (text : List ℕ) × (new ≡ old ++ text) × (formatted bs vs ≡ both (Some text) (formatted (take (length bs - n) (drop n bs)) vs)) × (0 ≤ length vs) × (length (take (length bs - n) (drop n bs)) < length bs)
+pub formatted-run_added : (bs : List ℕ) (n : ℕ) (vs : List Value) (old new : List ℕ) → n ≡ prefix_len is_plain bs → 0 < n → n ≤ length bs
+    → new ≡ old ++ take n bs
+    → (text : List ℕ) × (new ≡ old ++ text) × (formatted bs vs ≡ both (Some text) (formatted (take (length bs - n) (drop n bs)) vs)) ×
+    (0 ≤ length vs) × (length (take (length bs - n) (drop n bs)) < length bs)
 formatted-run_added bs n vs old new is some within added = (
   take n bs,
   added,
@@ -138,24 +141,28 @@ pub values_of-behind : (n : ℕ) (cells : List Cell) → values_of (take (length
 values_of-behind n cells = ap values_of (take_all (length cells - n) (drop n cells) (omega (arith, length-drop n cells))) ∙ values_of-drop n cells
 
 module _ (format rest behind : List ℕ) (cells : List Cell) (used taken : ℕ) (front text old mid new : List ℕ) where
-  -- one piece more was added
-  pub formatted-piece : mid ≡ old ++ front → formatted format (values_of cells) ≡ both (Some front) (formatted rest (drop used (values_of cells)))
+  -- one segment more was added
+  pub formatted-segment : mid ≡ old ++ front → formatted format (values_of cells) ≡ both (Some front) (formatted rest (drop used (values_of cells)))
       → new ≡ mid ++ text → formatted rest (drop used (values_of cells)) ≡ both (Some text) (formatted behind (drop taken (drop used (values_of cells))))
-      → (new ≡ old ++ (front ++ text)) × (formatted format (values_of cells) ≡ both (Some (front ++ text)) (formatted behind (drop (used + taken) (values_of cells))))
-  formatted-piece so_far all added more = (
+      → (new ≡ old ++ (front ++ text)) × (formatted format (values_of cells) ≡ both (Some (front ++ text))
+      (formatted behind (drop (used + taken) (values_of cells))))
+  formatted-segment so_far all added more = (
     added ∙ ap (λ s. s ++ text) so_far ∙ append_assoc old front text,
     all ∙ ap (both (Some front)) more ∙ both-both front text (formatted behind (drop taken (drop used (values_of cells)))) ∙
         ap (λ vs. both (Some (front ++ text)) (formatted behind vs)) (drop-drop taken used (values_of cells)),
   )
 
-module _ (format rest : List ℕ) (vs left : List Value) (front old new : List ℕ) (so_far : new ≡ old ++ front) (all : formatted format vs ≡ both (Some front) (formatted rest left)) (past : length rest ≤ 0) where
+module _ (format rest : List ℕ) (vs left : List Value) (front old new : List ℕ) (so_far : new ≡ old ++ front)
+    (all : formatted format vs ≡ both (Some front) (formatted rest left)) (past : length rest ≤ 0) where
   -- nothing is left
   pub formatted-all : length left ≤ 0 → option_map (λ text. old ++ text) (formatted format vs) ≡ Some new
   formatted-all none = go left none all
     where
-      go : (ws : List Value) → length ws ≤ 0 → formatted format vs ≡ both (Some front) (formatted rest ws) → option_map (λ text. old ++ text) (formatted format vs) ≡ Some new
+      go : (ws : List Value) → length ws ≤ 0 → formatted format vs ≡ both (Some front) (formatted rest ws)
+          → option_map (λ text. old ++ text) (formatted format vs) ≡ Some new
       go [] h is =
-          ap (option_map (λ text. old ++ text)) (is ∙ ap (λ r. both (Some front) (formatted r [])) (nil_from_length rest (omega arith)) ∙ ap (both (Some front)) formatted-nil) ∙
+          ap (option_map (λ text. old ++ text)) (is ∙ ap (λ r. both (Some front) (formatted r [])) (nil_from_length rest (omega arith))
+          ∙ ap (both (Some front)) formatted-nil) ∙
           ap (λ d. Some (old ++ d)) (append-nil front) ∙ ap Some (sym so_far)
       go (w ∷ ws) h is = absurd (omega arith)
 
@@ -165,4 +172,5 @@ module _ (format rest : List ℕ) (vs left : List Value) (front old new : List �
     where
       go : (ws : List Value) → 0 < length ws → formatted format vs ≡ both (Some front) (formatted rest ws) → formatted format vs ≡ None
       go [] h is = absurd (omega arith)
-      go (w ∷ ws) h is = is ∙ ap (λ r. both (Some front) (formatted r (w ∷ ws))) (nil_from_length rest (omega arith)) ∙ ap (both (Some front)) (formatted-over w ws)
+      go (w ∷ ws) h is = is ∙ ap (λ r. both (Some front) (formatted r (w ∷ ws))) (nil_from_length rest (omega arith))
+          ∙ ap (both (Some front)) (formatted-over w ws)

@@ -1,10 +1,10 @@
--- The definitions on telling inputs.
+-- For the reader of the function table: the definitions on telling inputs, computed.
 use Rattle.std.proofs.Common.{◌≡◌, pos, negsuc, true, [], ◌∷◌, ◌++◌, Ok, Err, codes, refl}
 use Rattle.std.specs.Fmt.{digits}
 use Rattle.percent_encoding.specs.Percent.{percent_encode_byte}
 use Rattle.tmpl_values.specs.Value.{nothing, boolean, number, string}
 use Rattle.tmpl_funcs.specs.Dispatch.{called}
-use Rattle.tmpl_funcs.specs.computed.Reading.{form_at, reading}
+use Rattle.tmpl_funcs.specs.printf.Reading.{form_at, reading}
 use Rattle.tmpl_funcs.specs.printf.Directive.{printed}
 use Rattle.tmpl_funcs.specs.printf.Format.{formatted}
 use Rattle.tmpl_funcs.specs.declared.func.Func.TheVariants as func
@@ -37,7 +37,8 @@ count_row = refl
 html_row : called func.Html (string (codes "<a href='x'>&") ∷ nothing ∷ []) ≡ Ok (string (codes "&lt;a href=&#39;x&#39;&gt;&amp;&lt;no value&gt;"))
 html_row = refl
 
-printf_row : called func.Printf (string (codes "%+06d|%-5d|% d|%05x%%%X") ∷ number (pos 42) ∷ number (pos 7) ∷ number (pos 7) ∷ number (negsuc 254) ∷ number (pos 255) ∷ []) ≡ Ok (string (codes "+00042|7    | 7|-00ff%FF"))
+printf_row : called func.Printf (string (codes "%+06d|%-5d|% d|%05x%%%X") ∷ number (pos 42) ∷ number (pos 7) ∷ number (pos 7) ∷ number
+    (negsuc 254) ∷ number (pos 255) ∷ []) ≡ Ok (string (codes "+00042|7    | 7|-00ff%FF"))
 unfolding formatted reading form_at printed digits
 printf_row = refl
 

@@ -1,5 +1,6 @@
--- A text escaped byte by byte, with a run of plain bytes waiting.
-use Rattle.std.proofs.Common.{◌≡◌, ◌∙◌, ℕ, suc, ◌+◌, ◌-◌, ◌<◌, ◌≤◌, List, [], ◌∷◌, ◌++◌, length, get_or, take, drop, slice_range, length-drop, sym, ap, append_assoc, arith}
+-- For `add_escaped`: a text is escaped byte by byte, though a run of plain bytes waits and is added at once.
+use Rattle.std.proofs.Common.{◌≡◌, ◌∙◌, ℕ, suc, ◌+◌, ◌-◌, ◌<◌, ◌≤◌, List, [], ◌∷◌, ◌++◌, length, get_or, take, drop}
+use Rattle.std.proofs.Common.{slice_range, length-drop, sym, ap, append_assoc, arith}
 use Rattle.std.specs.List.{flat_map}
 use Rattle.std.proofs.lemmas.List.{at_drop_more}
 use Rattle.std.proofs.lemmas.Grind.{common_steps}
@@ -19,7 +20,8 @@ slice_range-nil bs i = ap (λ k. take k (drop i bs)) {x = i - i} {y = 0} (omega 
 
 module _ (f : ℕ → List ℕ) (bs : List ℕ) (start i : ℕ) (front all : List ℕ) (so_far : front ++ (slice_range bs start i ++ flat_map f (drop i bs)) ≡ all) where
   -- a byte that stands for itself
-  pub flat_map-plain : start ≤ i → i < length bs → get_or bs i 0 ∷ [] ≡ f (get_or bs i 0) → front ++ (slice_range bs start (i + 1) ++ flat_map f (drop (i + 1) bs)) ≡ all
+  pub flat_map-plain : start ≤ i → i < length bs → get_or bs i 0 ∷ [] ≡ f (get_or bs i 0)
+      → front ++ (slice_range bs start (i + 1) ++ flat_map f (drop (i + 1) bs)) ≡ all
   flat_map-plain s h plain =
       let b : ℕ = get_or bs i 0 in
       ap (λ r. front ++ (r ++ flat_map f (drop (i + 1) bs))) (slice_range-suc bs start i s h) ∙
@@ -28,7 +30,8 @@ module _ (f : ℕ → List ℕ) (bs : List ℕ) (start i : ℕ) (front all : Lis
       ap (λ u. front ++ (slice_range bs start i ++ u)) (sym (at_drop_more (flat_map f) bs i 0 h)) ∙ so_far
 
   -- a byte that is replaced
-  pub flat_map-escaped : i < length bs → (text : List ℕ) → text ≡ f (get_or bs i 0) → ((front ++ slice_range bs start i) ++ text) ++ (slice_range bs (i + 1) (i + 1) ++ flat_map f (drop (i + 1) bs)) ≡ all
+  pub flat_map-escaped : i < length bs → (text : List ℕ) → text ≡ f (get_or bs i 0)
+      → ((front ++ slice_range bs start i) ++ text) ++ (slice_range bs (i + 1) (i + 1) ++ flat_map f (drop (i + 1) bs)) ≡ all
   flat_map-escaped h text is =
       let rest : List ℕ = flat_map f (drop (i + 1) bs) in
       ap (λ r. ((front ++ slice_range bs start i) ++ text) ++ (r ++ rest)) (slice_range-nil bs (i + 1)) ∙

@@ -1,11 +1,13 @@
--- The reading of a form, part by part.
-use Rattle.std.proofs.Common.{◌≡◌, ◌∙◌, ℕ, suc, ◌-◌, ◌≤◌, ◌==◌, Bool, true, false, List, [], ◌∷◌, ◌++◌, length, get_or, take, drop, Option, Some, None, option_map, if◌then◌else◌, refl, sym, ap, subst, arith, append_assoc, length-drop}
+-- For `read_form` and what it calls: a form is read part by part.
+use Rattle.std.proofs.Common.{◌≡◌, ◌∙◌, ℕ, suc, ◌-◌, ◌≤◌, ◌==◌, Bool, true, false, List, [], ◌∷◌, ◌++◌, length, get_or}
+use Rattle.std.proofs.Common.{take, drop, Option, Some, None, option_map, if◌then◌else◌, refl, sym, ap, subst, arith}
+use Rattle.std.proofs.Common.{append_assoc, length-drop}
 use Rattle.std.specs.Borrow.{Bor}
 use Rattle.std.specs.List.{prefix_len}
 use Rattle.std.proofs.lemmas.List.{take_all, take-append-drop}
 use Rattle.std.proofs.lemmas.Bool.Decides.{nat_tests}
-use Rattle.tmpl_funcs.specs.printf.Form.{Spelled, letter, pointed, spelled, is_decimal, is_flag}
-use Rattle.tmpl_funcs.specs.computed.Reading.{verb_of, form_if, form_by, form_at, width_behind, precision_behind, verb_behind}
+use Rattle.tmpl_funcs.specs.printf.Form.{WrittenForm, letter, pointed, form_bytes, is_decimal, is_flag}
+use Rattle.tmpl_funcs.specs.printf.Reading.{verb_of, form_if, form_by, form_at, width_behind, precision_behind, verb_behind}
 use Rattle.tmpl_funcs.specs.printf.Form.{form_of}
 use Rattle.tmpl_funcs.specs.computed.Reading.{IsRead}
 use Rattle.tmpl_funcs.specs.declared.printf.form.Form.{Form}
@@ -13,18 +15,21 @@ use Rattle.tmpl_funcs.specs.declared.printf.form.Verb.{Verb}
 use Rattle.tmpl_funcs.specs.declared.printf.form.Verb.TheVariants as verb
 
 -- the same reading of the same bytes
-pub IsRead-along : {asked asked' : Option Spelled} {all all' : List ℕ} (read : Option (Form × Bor (List ℕ))) → IsRead asked all read → asked ≡ asked' → all ≡ all' → IsRead asked' all' read
+pub IsRead-along : {asked asked' : Option WrittenForm} {all all' : List ℕ} (read : Option (Form × Bor (List ℕ))) → IsRead asked all read
+    → asked ≡ asked' → all ≡ all' → IsRead asked' all' read
 IsRead-along {asked} {asked'} {all} {all'} read h e w =
-    subst (λ (bs : List ℕ). IsRead asked' bs read) w (subst (λ (o : Option Spelled). IsRead o all read) e h)
+    subst (λ (bs : List ℕ). IsRead asked' bs read) w (subst (λ (o : Option WrittenForm). IsRead o all read) e h)
 
-letter-pick_by : (t : Bool) (b k : ℕ) (w v : Verb) (rest : Option Verb) → (b == k) ≡ t → letter w ≡ k → (rest ≡ Some v → letter v ≡ b) → (if t then Some w else rest) ≡ Some v → letter v ≡ b
+letter-pick_by : (t : Bool) (b k : ℕ) (w v : Verb) (rest : Option Verb) → (b == k) ≡ t → letter w ≡ k → (rest ≡ Some v → letter v ≡ b)
+    → (if t then Some w else rest) ≡ Some v → letter v ≡ b
 letter-pick_by true b k w v rest test is more h =
     let same : b ≡ k = grind (arith, nat_tests) in
     let one : w ≡ v = cc in
     sym (ap letter one) ∙ is ∙ sym same
 letter-pick_by false b k w v rest test is more h = more h
 
-letter-pick : (b k : ℕ) (w v : Verb) (rest : Option Verb) → letter w ≡ k → (rest ≡ Some v → letter v ≡ b) → (if b == k then Some w else rest) ≡ Some v → letter v ≡ b
+letter-pick : (b k : ℕ) (w v : Verb) (rest : Option Verb) → letter w ≡ k → (rest ≡ Some v → letter v ≡ b) → (if b == k then Some w else rest) ≡ Some v
+    → letter v ≡ b
 letter-pick b k w v rest is more h = letter-pick_by (b == k) b k w v rest refl is more h
 
 -- the letter of the verb of a letter
@@ -43,9 +48,9 @@ letter-verb_of b v =
 
 module _ (flags width : List ℕ) (p : Option (List ℕ)) (b : ℕ) (bs : List ℕ) (v : Verb) (form : Form) (is : letter v ≡ b) where
   form_if-made : (t : Bool) → option_map form_of (form_if t flags width p v) ≡ Some form
-      → (x : Spelled) × (form_if t flags width p v ≡ Some x) × (form ≡ form_of x) × (flags ++ (width ++ (pointed p ++ b ∷ bs)) ≡ spelled x ++ bs)
+      → (x : WrittenForm) × (form_if t flags width p v ≡ Some x) × (form ≡ form_of x) × (flags ++ (width ++ (pointed p ++ b ∷ bs)) ≡ form_bytes x ++ bs)
   form_if-made true h =
-      let x : Spelled = record { flags = flags; width = width; precision = p; verb = v } in
+      let x : WrittenForm = record { flags = flags; width = width; precision = p; verb = v } in
       let same : form_of x ≡ form = cc in (
         x,
         refl,
@@ -55,14 +60,16 @@ module _ (flags width : List ℕ) (p : Option (List ℕ)) (b : ℕ) (bs : List �
   form_if-made false h = cc
 
 -- the form whose verb stands at the front
-pub verb_behind-read : (flags width : List ℕ) (p : Option (List ℕ)) (bytes : List ℕ) (v : Verb) (form : Form) → 1 ≤ length bytes → verb_of (get_or bytes 0 0) ≡ Some v
+pub verb_behind-read : (flags width : List ℕ) (p : Option (List ℕ)) (bytes : List ℕ) (v : Verb) (form : Form) → 1 ≤ length bytes
+    → verb_of (get_or bytes 0 0) ≡ Some v
     → option_map form_of (form_by flags width p (Some v)) ≡ Some form
-    → (x : Spelled) × (verb_behind flags width p bytes ≡ Some x) × (form ≡ form_of x) × (flags ++ (width ++ (pointed p ++ bytes)) ≡ spelled x ++ take (length bytes - 1) (drop 1 bytes))
+    → (x : WrittenForm) × (verb_behind flags width p bytes ≡ Some x) × (form ≡ form_of x) ×
+    (flags ++ (width ++ (pointed p ++ bytes)) ≡ form_bytes x ++ take (length bytes - 1) (drop 1 bytes))
 verb_behind-read flags width p [] v form h e m = absurd (omega arith)
 verb_behind-read flags width p (b ∷ bs) v form h e m =
     let made = form_if-made flags width p b bs v form (letter-verb_of b v e) _ m in
     let all : take (length (b ∷ bs) - 1) bs ≡ bs = take_all (suc (length bs) - 1) bs (omega arith) in
-    (made.0, ap (form_by flags width p) e ∙ made.1, made.2, made.3 ∙ ap (λ r. spelled made.0 ++ r) (sym all))
+    (made.0, ap (form_by flags width p) e ∙ made.1, made.2, made.3 ∙ ap (λ r. form_bytes made.0 ++ r) (sym all))
 
 -- what stands behind so many bytes, as a slice has it
 pub take-tail : (bs : List ℕ) (n : ℕ) → take (length bs - n) (drop n bs) ≡ drop n bs
@@ -76,14 +83,16 @@ module _ (flags width : List ℕ) (read : Option (Form × Bor (List ℕ))) where
       let long : n ≡ prefix_len is_decimal bs = is ∙ ap (prefix_len is_decimal) same in
       IsRead-along read h
       (ap (verb_behind flags width (Some (take n rest))) end ∙
-      ap (λ k. verb_behind flags width (Some (take k rest)) (drop k rest)) long ∙ ap (λ r. verb_behind flags width (Some (take (prefix_len is_decimal bs) r)) (drop (prefix_len is_decimal bs) r)) same)
+      ap (λ k. verb_behind flags width (Some (take k rest)) (drop k rest)) long
+      ∙ ap (λ r. verb_behind flags width (Some (take (prefix_len is_decimal bs) r)) (drop (prefix_len is_decimal bs) r)) same)
       (ap (λ t. flags ++ (width ++ 46 ∷ (take n rest ++ t))) end ∙ ap (λ r. flags ++ (width ++ 46 ∷ r)) (take-append-drop n rest ∙ same))
 
   -- a precision that stands behind a point
   pub precision_behind-read : (bytes rest : List ℕ) (n : ℕ) → 1 ≤ length bytes → get_or bytes 0 0 ≡ 46
       → rest ≡ take (length bytes - 1) (drop 1 bytes)
       → n ≡ prefix_len is_decimal rest
-      → IsRead (verb_behind flags width (Some (take n rest)) (take (length rest - n) (drop n rest))) (flags ++ (width ++ ((46 ∷ take n rest) ++ take (length rest - n) (drop n rest)))) read
+      → IsRead (verb_behind flags width (Some (take n rest)) (take (length rest - n) (drop n rest)))
+      (flags ++ (width ++ ((46 ∷ take n rest) ++ take (length rest - n) (drop n rest)))) read
       → IsRead (precision_behind flags width bytes) (flags ++ (width ++ bytes)) read
   precision_behind-read [] rest n some point cut is h = absurd (omega arith)
   precision_behind-read (b ∷ bs) rest n some point cut is h =

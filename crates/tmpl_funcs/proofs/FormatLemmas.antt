@@ -1,29 +1,31 @@
--- A format read from left to right.
-use Rattle.std.proofs.Common.{◌≡◌, ◌∙◌, ℕ, zero, suc, ◌+◌, ◌-◌, ◌<◌, ◌==◌, Bool, true, false, cond, List, [], ◌∷◌, ◌++◌, length, get_or, take, drop, Option, Some, None, refl, sym, ap, subst, arith, append_assoc}
+-- For `add_form` and the lemmas of `printf`: a format is its first segment before the rest.
+use Rattle.std.proofs.Common.{◌≡◌, ◌∙◌, ℕ, zero, suc, ◌+◌, ◌-◌, ◌<◌, ◌==◌, Bool, true, false, cond, List, [], ◌∷◌, ◌++◌}
+use Rattle.std.proofs.Common.{length, get_or, take, drop, Option, Some, None, refl, sym, ap, subst, arith, append_assoc}
 use Rattle.std.specs.List.{prefix_len, take_while}
 use Rattle.std.proofs.Math.Seq.{drop-append_seam}
 use Rattle.std.proofs.lemmas.Bool.{not-true}
 use Rattle.std.proofs.lemmas.List.{length-take}
 use Rattle.std.proofs.lemmas.List.Sums.{prefix_len-le-length}
 use Rattle.tmpl_values.specs.Value.{Value}
-use Rattle.tmpl_funcs.specs.printf.Form.{Spelled, Piece, literal, percent, form, spelled, is_plain}
-use Rattle.tmpl_funcs.specs.computed.Reading.{form_at, first_piece, form_piece, rest_len, with_piece, pieces_after, reading}
+use Rattle.tmpl_funcs.specs.printf.Form.{WrittenForm, Segment, literal, percent, form, form_bytes, is_plain}
+use Rattle.tmpl_funcs.specs.printf.Reading.{form_at, first_segment, form_segment, rest_len, with_segment, segments_after, reading}
 use Rattle.tmpl_funcs.specs.printf.Form.{form_of}
 use Rattle.tmpl_funcs.specs.printf.Directive.{printed}
 use Rattle.tmpl_funcs.specs.printf.Format.{both, filled, formatted}
 
-pub pieces-skip : (n : ℕ) (bs : List ℕ) → pieces_after n bs ≡ pieces_after 0 (drop n bs)
-pieces-skip zero bs = refl
-pieces-skip (suc n) [] = refl
-pieces-skip (suc n) (b ∷ bs) = pieces-skip n bs
+pub segments-skip : (n : ℕ) (bs : List ℕ) → segments_after n bs ≡ segments_after 0 (drop n bs)
+segments-skip zero bs = refl
+segments-skip (suc n) [] = refl
+segments-skip (suc n) (b ∷ bs) = segments-skip n bs
 
--- the first piece, and those behind it
-pub reading-first : (b : ℕ) (bs : List ℕ) (p : Option Piece) → first_piece (b ∷ bs) ≡ p → reading (b ∷ bs) ≡ with_piece p (reading (drop (rest_len p) bs))
+-- the first segment, and those behind it
+pub reading-first : (b : ℕ) (bs : List ℕ) (p : Option Segment) → first_segment (b ∷ bs) ≡ p → reading (b ∷ bs) ≡ with_segment p (reading (drop (rest_len p) bs))
 unfolding reading
 reading-first b bs p is =
-    ap (λ q. with_piece q (pieces_after (rest_len q) bs)) is ∙ ap (with_piece p) (pieces-skip (rest_len p) bs)
+    ap (λ q. with_segment q (segments_after (rest_len q) bs)) is ∙ ap (with_segment p) (segments-skip (rest_len p) bs)
 
-formatted-first : (b : ℕ) (bs : List ℕ) (vs : List Value) (p : Option Piece) → first_piece (b ∷ bs) ≡ p → formatted (b ∷ bs) vs ≡ filled (with_piece p (reading (drop (rest_len p) bs))) vs
+formatted-first : (b : ℕ) (bs : List ℕ) (vs : List Value) (p : Option Segment) → first_segment (b ∷ bs) ≡ p
+    → formatted (b ∷ bs) vs ≡ filled (with_segment p (reading (drop (rest_len p) bs))) vs
 unfolding formatted
 formatted-first b bs vs p is = ap (λ ps. filled ps vs) (reading-first b bs p is)
 
@@ -35,27 +37,30 @@ pub both-both : (s t : List ℕ) (u : Option (List ℕ)) → both (Some s) (both
 both-both s t None = refl
 both-both s t (Some u) = ap Some (sym (append_assoc s t u))
 
-filled-literal : (run : List ℕ) (ps : Option (List Piece)) (vs : List Value) → filled (with_piece (Some (literal run)) ps) vs ≡ both (Some run) (filled ps vs)
+filled-literal : (run : List ℕ) (ps : Option (List Segment)) (vs : List Value)
+    → filled (with_segment (Some (literal run)) ps) vs ≡ both (Some run) (filled ps vs)
 filled-literal run None vs = refl
 filled-literal run (Some ps) vs = refl
 
-filled-percent : (ps : Option (List Piece)) (vs : List Value) → filled (with_piece (Some percent) ps) vs ≡ both (Some (37 ∷ [])) (filled ps vs)
+filled-percent : (ps : Option (List Segment)) (vs : List Value) → filled (with_segment (Some percent) ps) vs ≡ both (Some (37 ∷ [])) (filled ps vs)
 filled-percent None vs = refl
 filled-percent (Some ps) vs = refl
 
-filled-form : (f : Spelled) (ps : Option (List Piece)) (v : Value) (vs : List Value) → filled (with_piece (Some (form f)) ps) (v ∷ vs) ≡ both (printed (form_of f) v) (filled ps vs)
+filled-form : (f : WrittenForm) (ps : Option (List Segment)) (v : Value) (vs : List Value)
+    → filled (with_segment (Some (form f)) ps) (v ∷ vs) ≡ both (printed (form_of f) v) (filled ps vs)
 filled-form f None v vs = sym (both-none (printed (form_of f) v))
 filled-form f (Some ps) v vs = refl
 
-filled-form_alone : (f : Spelled) (ps : Option (List Piece)) → filled (with_piece (Some (form f)) ps) [] ≡ None
+filled-form_alone : (f : WrittenForm) (ps : Option (List Segment)) → filled (with_segment (Some (form f)) ps) [] ≡ None
 filled-form_alone f None = refl
 filled-form_alone f (Some ps) = refl
 
-pub first_piece-plain : (b : ℕ) (bs : List ℕ) → is_plain b ≡ true → first_piece (b ∷ bs) ≡ Some (literal (take_while is_plain (b ∷ bs)))
-first_piece-plain b bs h = let e : (b == 37) ≡ false = not-true (b == 37) h in rw e refl
+pub first_segment-plain : (b : ℕ) (bs : List ℕ) → is_plain b ≡ true → first_segment (b ∷ bs) ≡ Some (literal (take_while is_plain (b ∷ bs)))
+first_segment-plain b bs h = let e : (b == 37) ≡ false = not-true (b == 37) h in rw e refl
 
-pub first_piece-form : (b : ℕ) (bs : List ℕ) (f : Option Spelled) → is_plain b ≡ true → form_at (b ∷ bs) ≡ f → first_piece (37 ∷ b ∷ bs) ≡ form_piece f
-first_piece-form b bs f h is = let e : (b == 37) ≡ false = not-true (b == 37) h in rw e (ap form_piece is)
+pub first_segment-form : (b : ℕ) (bs : List ℕ) (f : Option WrittenForm) → is_plain b ≡ true → form_at (b ∷ bs) ≡ f
+    → first_segment (37 ∷ b ∷ bs) ≡ form_segment f
+first_segment-form b bs f h is = let e : (b == 37) ≡ false = not-true (b == 37) h in rw e (ap form_segment is)
 
 is_plain-first : (b : ℕ) (bs : List ℕ) (t : Bool) → is_plain b ≡ t → 0 < cond t (1 + prefix_len is_plain bs) 0 → is_plain b ≡ true
 is_plain-first b bs true is h = is
@@ -66,14 +71,15 @@ drop-behind zero b bs h = absurd (omega arith)
 drop-behind (suc n) b bs h = ap (λ k. drop k bs) {x = suc n - 1} {y = n} (omega arith)
 
 -- a run at the front
-pub formatted-run : (bs : List ℕ) (n : ℕ) (vs : List Value) → n ≡ prefix_len is_plain bs → 0 < n → formatted bs vs ≡ both (Some (take n bs)) (formatted (drop n bs) vs)
+pub formatted-run : (bs : List ℕ) (n : ℕ) (vs : List Value) → n ≡ prefix_len is_plain bs → 0 < n
+    → formatted bs vs ≡ both (Some (take n bs)) (formatted (drop n bs) vs)
 unfolding formatted
 formatted-run [] n vs is h = absurd (omega arith)
 formatted-run (b ∷ bs) n vs is h =
     let run : List ℕ = take_while is_plain (b ∷ bs) in
     let plain : is_plain b ≡ true = is_plain-first b bs (is_plain b) refl (subst (λ k. 0 < k) is h) in
     let long : length run ≡ n = omega (arith, is, length-take (prefix_len is_plain (b ∷ bs)) (b ∷ bs), prefix_len-le-length is_plain (b ∷ bs)) in
-    formatted-first b bs vs (Some (literal run)) (first_piece-plain b bs plain) ∙
+    formatted-first b bs vs (Some (literal run)) (first_segment-plain b bs plain) ∙
     filled-literal run (reading (drop (length run - 1) bs)) vs ∙
     ap (λ k. both (Some (take k (b ∷ bs))) (filled (reading (drop (length run - 1) bs)) vs)) (sym is) ∙
     ap (λ k. both (Some (take n (b ∷ bs))) (filled (reading (drop (k - 1) bs)) vs)) long ∙
@@ -89,29 +95,32 @@ pub formatted-lone : (vs : List Value) → formatted (37 ∷ []) vs ≡ None
 formatted-lone vs = formatted-first 37 [] vs None refl
 
 module _ (bs : List ℕ) (some : 0 < length bs) (plain : is_plain (get_or bs 0 0) ≡ true) where
-  first_piece-form_first : (cs : List ℕ) → 0 < length cs → is_plain (get_or cs 0 0) ≡ true → (f : Option Spelled) → form_at cs ≡ f → first_piece (37 ∷ cs) ≡ form_piece f
-  first_piece-form_first [] h p f is = absurd (omega arith)
-  first_piece-form_first (c ∷ cs) h p f is = first_piece-form c cs f p is
+  first_segment-form_first : (cs : List ℕ) → 0 < length cs → is_plain (get_or cs 0 0) ≡ true → (f : Option WrittenForm) → form_at cs ≡ f
+      → first_segment (37 ∷ cs) ≡ form_segment f
+  first_segment-form_first [] h p f is = absurd (omega arith)
+  first_segment-form_first (c ∷ cs) h p f is = first_segment-form c cs f p is
 
   -- a form at the front, and its value
-  pub formatted-form : (f : Spelled) (v : Value) (vs : List Value) (rest : List ℕ) → form_at bs ≡ Some f → bs ≡ spelled f ++ rest → formatted (37 ∷ bs) (v ∷ vs) ≡ both (printed (form_of f) v) (formatted rest vs)
+  pub formatted-form : (f : WrittenForm) (v : Value) (vs : List Value) (rest : List ℕ) → form_at bs ≡ Some f → bs ≡ form_bytes f ++ rest
+      → formatted (37 ∷ bs) (v ∷ vs) ≡ both (printed (form_of f) v) (formatted rest vs)
   unfolding formatted
   formatted-form f v vs rest is spells =
-      let n : suc (length (spelled f)) - 1 ≡ length (spelled f) = omega arith in
-      formatted-first 37 bs (v ∷ vs) (Some (form f)) (first_piece-form_first bs some plain (Some f) is) ∙
-      filled-form f (reading (drop (suc (length (spelled f)) - 1) bs)) v vs ∙
+      let n : suc (length (form_bytes f)) - 1 ≡ length (form_bytes f) = omega arith in
+      formatted-first 37 bs (v ∷ vs) (Some (form f)) (first_segment-form_first bs some plain (Some f) is) ∙
+      filled-form f (reading (drop (suc (length (form_bytes f)) - 1) bs)) v vs ∙
       ap (λ k. both (printed (form_of f) v) (filled (reading (drop k bs)) vs)) n ∙
-      ap (λ cs. both (printed (form_of f) v) (filled (reading (drop (length (spelled f)) cs)) vs)) spells ∙
-      ap (λ r. both (printed (form_of f) v) (filled (reading r) vs)) (drop-append_seam (spelled f) rest)
+      ap (λ cs. both (printed (form_of f) v) (filled (reading (drop (length (form_bytes f)) cs)) vs)) spells ∙
+      ap (λ r. both (printed (form_of f) v) (filled (reading r) vs)) (drop-append_seam (form_bytes f) rest)
 
   -- a form at the front, and no value
-  pub formatted-form_alone : (f : Spelled) → form_at bs ≡ Some f → formatted (37 ∷ bs) [] ≡ None
+  pub formatted-form_alone : (f : WrittenForm) → form_at bs ≡ Some f → formatted (37 ∷ bs) [] ≡ None
   formatted-form_alone f is =
-      formatted-first 37 bs [] (Some (form f)) (first_piece-form_first bs some plain (Some f) is) ∙ filled-form_alone f (reading (drop (suc (length (spelled f)) - 1) bs))
+      formatted-first 37 bs [] (Some (form f)) (first_segment-form_first bs some plain (Some f) is)
+      ∙ filled-form_alone f (reading (drop (suc (length (form_bytes f)) - 1) bs))
 
   -- no form at the front
   pub formatted-no_form : (vs : List Value) → form_at bs ≡ None → formatted (37 ∷ bs) vs ≡ None
-  formatted-no_form vs is = formatted-first 37 bs vs None (first_piece-form_first bs some plain None is)
+  formatted-no_form vs is = formatted-first 37 bs vs None (first_segment-form_first bs some plain None is)
 
 -- nothing is left
 pub formatted-nil : formatted [] [] ≡ Some []

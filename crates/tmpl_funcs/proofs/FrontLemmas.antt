@@ -1,10 +1,10 @@
--- The longest front whose bytes pass a test.
+-- For the law `one_format_reading`: the longest front whose bytes pass a test.
 use Rattle.std.proofs.Common.{◌≡◌, ◌∙◌, ℕ, suc, ◌+◌, Bool, true, false, cond, List, [], ◌∷◌, ◌++◌, length, take, drop, refl, ap, arith}
 use Rattle.std.specs.List.{prefix_len, take_while, list_all}
 use Rattle.std.proofs.Math.Seq.{take-append_seam, drop-append_seam}
 use Rattle.std.proofs.lemmas.Bool.{and_parts}
 use Rattle.std.proofs.lemmas.List.{take-append-drop}
-use Rattle.tmpl_funcs.specs.computed.Reading.{behind}
+use Rattle.tmpl_funcs.specs.printf.Reading.{behind}
 
 -- the first byte, if there is one, passes
 abbrev pub begins : (ℕ → Bool) → List ℕ → Bool
@@ -30,7 +30,8 @@ module _ (p : ℕ → Bool) where
   pub behind-append : (xs ys : List ℕ) → list_all p xs ≡ true → begins p ys ≡ false → behind p (xs ++ ys) ≡ ys
   behind-append xs ys all stop = ap (λ n. drop n (xs ++ ys)) (prefix_len-append xs ys all stop) ∙ drop-append_seam xs ys
 
-  list_all-by : (t : Bool) (b : ℕ) (bs : List ℕ) → p b ≡ t → list_all p (take_while p bs) ≡ true → list_all p (take (cond t (suc (prefix_len p bs)) 0) (b ∷ bs)) ≡ true
+  list_all-by : (t : Bool) (b : ℕ) (bs : List ℕ) → p b ≡ t → list_all p (take_while p bs) ≡ true
+      → list_all p (take (cond t (suc (prefix_len p bs)) 0) (b ∷ bs)) ≡ true
   list_all-by true b bs is all = rw is all
   list_all-by false b bs is all = refl
 

@@ -1,10 +1,11 @@
--- Items at the places that numbers name.
-use Rattle.std.proofs.Common.{◌≡◌, ◌∙◌, ℕ, ◌<◌, ◌≤◌, Bool, true, false, nat_lt, List, length, get_or, ℤ, pos, negsuc, Option, Some, None, Ok, Err, refl, sym, ap, subst, arith}
+-- For `list_item`: the item at the place that a number names, since the code looks at the place first.
+use Rattle.std.proofs.Common.{◌≡◌, ◌∙◌, ℕ, ◌<◌, ◌≤◌, Bool, true, false, nat_lt, List, length, get_or, ℤ, pos, negsuc}
+use Rattle.std.proofs.Common.{Option, Some, None, Ok, Err, refl, sym, ap, subst, arith}
 use Rattle.std.proofs.lemmas.Bool.Decides.{nat_tests}
 use Rattle.tmpl_values.specs.declared.data.Data.{Data}
 use Rattle.tmpl_values.specs.View.{value_of, items_of}
 use Rattle.tmpl_values.proofs.ItemLemmas.{nth_item-of, nth_item-past}
-use Rattle.tmpl_funcs.specs.Answer.{IsAnswer}
+use Rattle.tmpl_funcs.specs.computed.Answer.{IsAnswer}
 use Rattle.tmpl_funcs.specs.Index.{item_of, in_range}
 use Rattle.tmpl_funcs.specs.computed.Index.{place_among, place_if}
 use Rattle.tmpl_funcs.specs.declared.fault.CallFault.{CallFault}
@@ -27,7 +28,8 @@ place_among-Ok (Some (pos k)) n i h = go (nat_lt k n) refl h
     go false e f = cc
 
 -- the item there
-pub item_of-Ok : (ds : List Data) (p : Option ℤ) (i : ℕ) (d : Data) → Ok i ≡ place_among p (length ds) → d ≡ get_or ds i d → item_of (items_of ds) p ≡ Ok (value_of d)
+pub item_of-Ok : (ds : List Data) (p : Option ℤ) (i : ℕ) (d : Data) → Ok i ≡ place_among p (length ds) → d ≡ get_or ds i d
+    → item_of (items_of ds) p ≡ Ok (value_of d)
 item_of-Ok ds p i d h is =
     let at = place_among-Ok p (length ds) i h in
     ap (item_of (items_of ds)) at.named ∙ ap in_range (nth_item-of ds i d at.within ∙ ap (λ x. Some (value_of x)) (sym is))

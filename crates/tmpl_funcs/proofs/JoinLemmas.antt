@@ -1,4 +1,4 @@
--- Operands joined one by one.
+-- For `add_joined`, `add_parted` and `print`: operands are joined one by one.
 use Rattle.std.proofs.Common.{◌≡◌, ℕ, Bool, true, false, ◌||◌, List, [], ◌∷◌, ◌++◌, map, refl, ap}
 use Rattle.tmpl_values.specs.Value.{Value}
 use Rattle.tmpl_values.specs.Text.{inner_text, parted, spaced}

@@ -9,3 +9,4 @@ pub mod JoinLemmas
 pub mod NumberLemmas
 pub mod ReadingLemmas
 pub mod RuneLemmas
+pub mod TableLemmas

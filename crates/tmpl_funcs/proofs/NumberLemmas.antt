@@ -1,4 +1,4 @@
--- How large the number of a few digits is.
+-- For `number`, which reads a width: a number of four digits is small, so no sum wraps.
 use Rattle.std.proofs.Common.{ℕ, zero, suc, ◌+◌, ◌*◌, ◌<◌, ◌≤◌, arith}
 
 -- the most that so many bytes write, whether they are digits or not

@@ -1,12 +1,13 @@
--- Texts rune by rune.
-use Rattle.std.proofs.Common.{◌≡◌, ◌∙◌, ℕ, zero, suc, ◌-◌, ◌<◌, ◌≤◌, List, [], ◌∷◌, ◌++◌, length, take, drop, refl, sym, ap, append_assoc, append-nil, arith, length-append}
+-- For `rune_count` and `front`: a text is counted and cut rune by rune.
+use Rattle.std.proofs.Common.{◌≡◌, ◌∙◌, ℕ, zero, suc, ◌-◌, ◌<◌, ◌≤◌, List, [], ◌∷◌, ◌++◌, length, take, drop, refl, sym}
+use Rattle.std.proofs.Common.{ap, append_assoc, append-nil, arith, length-append}
 use Rattle.std.specs.List.{flat_map}
 use Rattle.std.specs.Char.{len_utf8}
 use Rattle.std.proofs.Math.Seq.{take-append_seam}
 use Rattle.std.proofs.lemmas.List.{take-append-drop}
 use Rattle.std.proofs.lemmas.Str.{len_utf8_bounds}
 use Rattle.tmpl_values.specs.Rune.{Rune, bytes_in}
-use Rattle.tmpl_values.specs.computed.Rune.{first_rune, runes, tail_len}
+use Rattle.tmpl_values.specs.Rune.{first_rune, runes, tail_len}
 use Rattle.tmpl_values.proofs.RuneLemmas.{Front, encoding, lone, front, runes-first, runes-nil}
 
 bytes_in-Front : (b : ℕ) (bs : List ℕ) (r : Rune) → Front (b ∷ bs) r → bytes_in r ≡ take (suc (tail_len r)) (b ∷ bs)
@@ -32,7 +33,8 @@ count-first bs rest h is = ap length (runes-first bs (first_rune bs) h refl) ∙
 abbrev pub first_bytes : ℕ → List ℕ → List ℕ
 first_bytes n bs = flat_map bytes_in (take n (runes bs))
 
-first_bytes-more : (n k : ℕ) (bs rest : List ℕ) → n ≡ suc k → 0 < length bs → rest ≡ drop (suc (tail_len (first_rune bs))) bs → first_bytes n bs ≡ take (suc (tail_len (first_rune bs))) bs ++ first_bytes k rest
+first_bytes-more : (n k : ℕ) (bs rest : List ℕ) → n ≡ suc k → 0 < length bs → rest ≡ drop (suc (tail_len (first_rune bs))) bs
+    → first_bytes n bs ≡ take (suc (tail_len (first_rune bs))) bs ++ first_bytes k rest
 first_bytes-more n k bs rest one h is =
     ap (λ m. first_bytes m bs) one ∙
     ap (λ rs. flat_map bytes_in (take (suc k) rs)) (runes-first bs (first_rune bs) h refl) ∙
@@ -45,7 +47,8 @@ pub record IsCutting (text : List ℕ) (count : ℕ) (rest : List ℕ) (left : �
   pub split : text ≡ taken ++ rest
   pub wanted : first_bytes count text ≡ taken ++ first_bytes left rest
 
-pub IsCutting-more : (text : List ℕ) (count : ℕ) (rest : List ℕ) (left : ℕ) (rest' : List ℕ) → IsCutting text count rest left → 0 < left → 0 < length rest → rest' ≡ drop (suc (tail_len (first_rune rest))) rest
+pub IsCutting-more : (text : List ℕ) (count : ℕ) (rest : List ℕ) (left : ℕ) (rest' : List ℕ) → IsCutting text count rest left → 0 < left
+    → 0 < length rest → rest' ≡ drop (suc (tail_len (first_rune rest))) rest
     → IsCutting text count rest' (left - 1)
 IsCutting-more text count rest left rest' so_far some there is =
     let n : ℕ = suc (tail_len (first_rune rest)) in record {
@@ -58,19 +61,22 @@ IsCutting-more text count rest left rest' so_far some there is =
           sym (append_assoc so_far.taken (take n rest) (first_bytes (left - 1) rest'));
     }
 
-cut-end : (text : List ℕ) (count : ℕ) (rest : List ℕ) (left : ℕ) (c : IsCutting text count rest left) → first_bytes left rest ≡ [] → take (length text - length rest) text ≡ first_bytes count text
+cut-end : (text : List ℕ) (count : ℕ) (rest : List ℕ) (left : ℕ) (c : IsCutting text count rest left) → first_bytes left rest ≡ []
+    → take (length text - length rest) text ≡ first_bytes count text
 cut-end text count rest left c past =
     let n : length text - length rest ≡ length c.taken = omega (arith, ap length c.split, length-append c.taken rest) in
     ap (λ k. take k text) n ∙ ap (take (length c.taken)) c.split ∙ take-append_seam c.taken rest ∙
     sym (c.wanted ∙ ap (λ t. c.taken ++ t) past ∙ append-nil c.taken)
 
-pub cut-full : (text : List ℕ) (count : ℕ) (rest : List ℕ) (left : ℕ) → IsCutting text count rest left → left ≤ 0 → take (length text - length rest) text ≡ first_bytes count text
+pub cut-full : (text : List ℕ) (count : ℕ) (rest : List ℕ) (left : ℕ) → IsCutting text count rest left → left ≤ 0
+    → take (length text - length rest) text ≡ first_bytes count text
 cut-full text count rest left c h = cut-end text count rest left c (ap (λ n. first_bytes n rest) {x = left} {y = 0} (omega arith))
 
 take-nil : (n : ℕ) → take {A = Rune} n [] ≡ []
 take-nil zero = refl
 take-nil (suc n) = refl
 
-pub cut-past : (text : List ℕ) (count : ℕ) (rest : List ℕ) (left : ℕ) → IsCutting text count rest left → length rest ≤ 0 → take (length text - length rest) text ≡ first_bytes count text
+pub cut-past : (text : List ℕ) (count : ℕ) (rest : List ℕ) (left : ℕ) → IsCutting text count rest left → length rest ≤ 0
+    → take (length text - length rest) text ≡ first_bytes count text
 cut-past text count rest left c h =
     cut-end text count rest left c (ap (λ rs. flat_map bytes_in (take left rs)) (runes-none rest h) ∙ ap (flat_map bytes_in) (take-nil left))

@@ -27,16 +27,13 @@ at_most v w = or_else (order v w) (equality v w)
 
 -- whether the first argument equals one of the others
 abbrev pub eq_of : List Value → Result Value CallFault
-eq_of [] = Err WrongCount
-eq_of (v ∷ []) = Err WrongCount
 eq_of (v ∷ w ∷ ws) = compared (equal_to_one v (w ∷ ws))
+eq_of _ = Err WrongCount
 
 -- a comparison of two arguments
 abbrev pub of_two : (Value → Value → Option Bool) → List Value → Result Value CallFault
-of_two f [] = Err WrongCount
-of_two f (v ∷ []) = Err WrongCount
 of_two f (v ∷ w ∷ []) = compared (f v w)
-of_two f (v ∷ w ∷ u ∷ vs) = Err WrongCount
+of_two f _ = Err WrongCount
 
 -- not equal
 abbrev pub unequal : Value → Value → Option Bool

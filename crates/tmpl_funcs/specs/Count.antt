@@ -8,9 +8,8 @@ use Rattle.tmpl_funcs.specs.declared.fault.CallFault.TheVariants.{WrongCount, Wr
 
 -- whether the value is empty
 abbrev pub not_of : List Value → Result Value CallFault
-not_of [] = Err WrongCount
 not_of (v ∷ []) = Ok (boolean (not (truth v)))
-not_of (v ∷ w ∷ vs) = Err WrongCount
+not_of _ = Err WrongCount
 
 -- a size as a number; what has no size is of the wrong kind
 abbrev pub sized : Option ℕ → Result Value CallFault
@@ -19,6 +18,5 @@ sized (Some n) = Ok (number (pos n))
 
 -- the bytes of a string, or the items of a sequence or a mapping
 abbrev pub len_of : List Value → Result Value CallFault
-len_of [] = Err WrongCount
 len_of (v ∷ []) = sized (size_of v)
-len_of (v ∷ w ∷ vs) = Err WrongCount
+len_of _ = Err WrongCount

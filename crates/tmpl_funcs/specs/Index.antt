@@ -1,21 +1,16 @@
 -- The item of a value at indexes ("Functions", at `index`: "the result of indexing its first
 -- argument by the following arguments. Thus `index x 1 2 3` is, in Go syntax, x[1][2][3]").
 use Rattle.std.specs.Prelude.{ℕ, ℤ, pos, negsuc, List, [], ◌∷◌, slice_get, Option, Some, None, Result, Ok, Err}
-use Rattle.tmpl_values.specs.Value.{Value, nothing, null, boolean, number, string, sequence, mapping, Items, Entries}
-use Rattle.tmpl_values.specs.Field.{FieldValue, found, missing, of_nothing, no_field, entry_at}
+use Rattle.tmpl_values.specs.Value.{Value, nothing, null, number, string, sequence, mapping, Items, Entries}
+use Rattle.tmpl_values.specs.Field.{FieldValue, found, entry_at}
 use Rattle.tmpl_values.specs.Item.{nth_item, bytes_of}
 use Rattle.tmpl_funcs.specs.declared.fault.CallFault.{CallFault}
 use Rattle.tmpl_funcs.specs.declared.fault.CallFault.TheVariants.{WrongCount, WrongKind, OutOfRange}
 
 -- the number that a value is
 abbrev pub number_of : Value → Option ℤ
-number_of nothing = None
-number_of null = None
-number_of (boolean b) = None
 number_of (number n) = Some n
-number_of (string s) = None
-number_of (sequence vs) = None
-number_of (mapping es) = None
+number_of _ = None
 
 -- a value that is there; a place with none is out of range
 abbrev pub in_range : Option Value → Result Value CallFault
@@ -42,9 +37,7 @@ item_of vs (Some (negsuc i)) = Err OutOfRange
 -- an entry that is there, else null
 abbrev pub entry_or_null : FieldValue → Value
 entry_or_null (found v) = v
-entry_or_null missing = null
-entry_or_null of_nothing = null
-entry_or_null no_field = null
+entry_or_null _ = null
 
 -- the entry of a key, which is a string
 abbrev pub entry_of : Entries → Option (List ℕ) → Result Value CallFault
@@ -53,13 +46,10 @@ entry_of es (Some k) = Ok (entry_or_null (entry_at k es))
 
 -- a value at one index
 abbrev pub indexed : Value → Value → Result Value CallFault
-indexed nothing i = Err WrongKind
-indexed null i = Err WrongKind
-indexed (boolean b) i = Err WrongKind
-indexed (number n) i = Err WrongKind
 indexed (string s) i = byte_at s (number_of i)
 indexed (sequence vs) i = item_of vs (number_of i)
 indexed (mapping es) i = entry_of es (bytes_of i)
+indexed _ i = Err WrongKind
 
 -- what follows from a value, and a fault as it is
 abbrev pub result_and_then : Result Value CallFault → (Value → Result Value CallFault)
@@ -76,11 +66,7 @@ indexed_by v (i ∷ is) = result_and_then (indexed v i) (λ w. indexed_by w is)
 abbrev pub something : Value → Result Value CallFault
 something nothing = Err WrongKind
 something null = Err WrongKind
-something (boolean b) = Ok (boolean b)
-something (number n) = Ok (number n)
-something (string s) = Ok (string s)
-something (sequence vs) = Ok (sequence vs)
-something (mapping es) = Ok (mapping es)
+something v = Ok v
 
 -- the first argument at the others
 abbrev pub index_of : List Value → Result Value CallFault

@@ -1,19 +1,14 @@
 -- Operands as one text ("Functions", at `print` and `println`, which are `fmt.Sprint` and
 -- `fmt.Sprintln`: "Spaces are added between operands when neither is a string").
 use Rattle.std.specs.Prelude.{ℕ, Bool, true, false, ◌||◌, List, [], ◌∷◌, ◌++◌, map, codes, Result, Ok}
-use Rattle.tmpl_values.specs.Value.{Value, nothing, null, boolean, number, string, sequence, mapping}
+use Rattle.tmpl_values.specs.Value.{Value, nothing, null, string}
 use Rattle.tmpl_values.specs.Text.{inner_text, parted}
 use Rattle.tmpl_funcs.specs.declared.fault.CallFault.{CallFault}
 
 -- the value is a string
 abbrev pub is_string : Value → Bool
-is_string nothing = false
-is_string null = false
-is_string (boolean b) = false
-is_string (number n) = false
 is_string (string s) = true
-is_string (sequence vs) = false
-is_string (mapping es) = false
+is_string _ = false
 
 -- a space, or nothing
 abbrev pub space_unless : Bool → List ℕ
@@ -46,8 +41,4 @@ println_of vs = Ok (string (parted (map inner_text vs) ++ codes "\n"))
 abbrev pub as_text : Value → Value
 as_text nothing = string (codes "<no value>")
 as_text null = string (codes "<no value>")
-as_text (boolean b) = boolean b
-as_text (number n) = number n
-as_text (string s) = string s
-as_text (sequence vs) = sequence vs
-as_text (mapping es) = mapping es
+as_text v = v

@@ -1,16 +1,25 @@
--- The law of formats.
-use Rattle.std.specs.Prelude.{◌≡◌, ℕ, List, Some}
-use Rattle.tmpl_funcs.specs.printf.Form.{Piece, IsReading}
-use Rattle.tmpl_funcs.specs.computed.Reading.{reading}
+-- The laws of the table of functions and of formats.
+use Rattle.std.specs.Prelude.{◌≡◌, ℕ, false, List, length, Some, Err}
+use Rattle.tmpl_values.specs.Value.{Value}
+use Rattle.tmpl_funcs.specs.Dispatch.{called}
+use Rattle.tmpl_funcs.specs.Func.{takes}
+use Rattle.tmpl_funcs.specs.declared.func.Func.{Func}
+use Rattle.tmpl_funcs.specs.declared.fault.CallFault.TheVariants.{WrongCount}
+use Rattle.tmpl_funcs.specs.printf.Form.{Segment, IsReading}
+use Rattle.tmpl_funcs.specs.printf.Reading.{reading}
+
+-- a number of arguments that a function does not take is refused before anything else
+abbrev pub CountsFirst : Type 0
+CountsFirst = (f : Func) (vs : List Value) → takes f (length vs) ≡ false → called f vs ≡ Err WrongCount
 
 -- what the function reads is a reading
 abbrev pub ReadsSoundly : List ℕ → Type 0
-ReadsSoundly format = (ps : List Piece) → reading format ≡ Some ps → IsReading format ps
+ReadsSoundly format = (ps : List Segment) → reading format ≡ Some ps → IsReading format ps
 
 -- it reads each reading
 abbrev pub ReadsAll : List ℕ → Type 0
-ReadsAll format = (ps : List Piece) → IsReading format ps → reading format ≡ Some ps
+ReadsAll format = (ps : List Segment) → IsReading format ps → reading format ≡ Some ps
 
 -- there is one reading at most
 abbrev pub HasOneReading : List ℕ → Type 0
-HasOneReading format = (ps qs : List Piece) → IsReading format ps → IsReading format qs → ps ≡ qs
+HasOneReading format = (ps qs : List Segment) → IsReading format ps → IsReading format qs → ps ≡ qs

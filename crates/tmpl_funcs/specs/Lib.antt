@@ -6,6 +6,7 @@ pub mod Escape
 pub mod Func
 pub mod Index
 pub mod Join
+pub mod Junction
 pub mod Laws
 pub mod Slice
 pub mod View

@@ -1,9 +1,9 @@
 -- A part of a string or a sequence ("Functions", at `slice`: "`slice x 1 2` is, in Go syntax,
 -- x[1:2], while `slice x` is x[:], `slice x 1` is x[1:]"). That no part goes past the length is
 -- this project's own rule.
-use Rattle.std.specs.Prelude.{ℕ, ℤ, pos, negsuc, ◌&&◌, nat_le, Bool, true, false, List, [], ◌∷◌, length, Option, Some}
+use Rattle.std.specs.Prelude.{ℕ, ℤ, pos, ◌&&◌, nat_le, Bool, true, false, List, [], ◌∷◌, length, Option, Some}
 use Rattle.std.specs.Prelude.{None, Result, Ok, Err}
-use Rattle.tmpl_values.specs.Value.{Value, nothing, null, boolean, number, string, sequence, mapping}
+use Rattle.tmpl_values.specs.Value.{Value, string, sequence}
 use Rattle.tmpl_values.specs.Item.{item_count, part_of}
 use Rattle.tmpl_funcs.specs.Index.{number_of}
 use Rattle.tmpl_funcs.specs.declared.fault.CallFault.{CallFault}
@@ -11,13 +11,9 @@ use Rattle.tmpl_funcs.specs.declared.fault.CallFault.TheVariants.{WrongCount, Wr
 
 -- how long a string or a sequence is; nothing else has parts
 abbrev pub extent : Value → Option ℕ
-extent nothing = None
-extent null = None
-extent (boolean b) = None
-extent (number n) = None
 extent (string s) = Some (length s)
 extent (sequence vs) = Some (item_count vs)
-extent (mapping es) = None
+extent _ = None
 
 -- the part, where the bounds are in order and within the length
 abbrev pub part_if : Bool → ℕ → ℕ → Value → Result Value CallFault
@@ -27,15 +23,12 @@ part_if false i j v = Err OutOfRange
 -- the part of a value of length n between two numbers
 abbrev pub part_between : Value → ℕ → ℤ → ℤ → Result Value CallFault
 part_between v n (pos i) (pos j) = part_if (nat_le i j && nat_le j n) i j v
-part_between v n (pos i) (negsuc j) = Err OutOfRange
-part_between v n (negsuc i) j = Err OutOfRange
+part_between v n _ _ = Err OutOfRange
 
 -- the part between two bounds, each of which has to be a number
 abbrev pub part_by : Value → Option ℕ → Option ℤ → Option ℤ → Result Value CallFault
-part_by v None i j = Err WrongKind
-part_by v (Some n) None j = Err WrongKind
-part_by v (Some n) (Some i) None = Err WrongKind
 part_by v (Some n) (Some i) (Some j) = part_between v n i j
+part_by v _ _ _ = Err WrongKind
 
 -- the end that stands for no bound
 abbrev pub default_end : Option ℕ → Option ℤ
@@ -44,8 +37,7 @@ default_end (Some n) = Some (pos n)
 
 -- the first argument between the others; without them it begins at 0 and ends at its end
 abbrev pub slice_of : List Value → Result Value CallFault
-slice_of [] = Err WrongCount
 slice_of (v ∷ []) = part_by v (extent v) (Some (pos 0)) (default_end (extent v))
 slice_of (v ∷ i ∷ []) = part_by v (extent v) (number_of i) (default_end (extent v))
 slice_of (v ∷ i ∷ j ∷ []) = part_by v (extent v) (number_of i) (number_of j)
-slice_of (v ∷ i ∷ j ∷ k ∷ vs) = Err WrongCount
+slice_of _ = Err WrongCount

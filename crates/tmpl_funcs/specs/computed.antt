@@ -1,3 +1,4 @@
+pub mod Answer
 pub mod Class
 pub mod Escape
 pub mod Format

@@ -75,7 +75,7 @@ pub(crate) fn joined_capacity(operands: &[Cell<'_>], escape: Option<Escape>) -> 
 }
 
 /// No bytes yet, with memory for so many where it can be had; a text for which it can't still grows by need.
-pub(crate) fn reserved(alloc: Global, capacity: usize) -> Vec<u8>
+pub(crate) fn reserve(alloc: Global, capacity: usize) -> Vec<u8>
     ensures { result.items ≡ [] }
 {
     match Vec::with_capacity(alloc, capacity) {

@@ -3,7 +3,8 @@ ghost use Rattle.std.specs.Prelude.{◌≡◌};
 ghost use Rattle.tmpl_values.specs.Compare.{equality, order, IsCompared};
 ghost use Rattle.tmpl_values.specs.View.{val_of};
 ghost use Rattle.tmpl_funcs.specs.View.{values_of};
-ghost use Rattle.tmpl_funcs.specs.Answer.{IsAnswer, IsBorrowed};
+ghost use Rattle.tmpl_funcs.specs.Answer.{IsBorrowed};
+ghost use Rattle.tmpl_funcs.specs.computed.Answer.{IsAnswer};
 ghost use Rattle.tmpl_funcs.specs.Compare.{above, at_least, at_most, eq_of, equal_to_one, of_two, unequal};
 
 use crate::fault::CallFault;

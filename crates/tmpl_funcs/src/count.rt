@@ -3,7 +3,8 @@ ghost use Rattle.std.specs.Prelude.{◌≡◌};
 ghost use Rattle.tmpl_values.specs.View.{val_of};
 ghost use Rattle.tmpl_values.specs.Item.{size_of};
 ghost use Rattle.tmpl_funcs.specs.View.{values_of};
-ghost use Rattle.tmpl_funcs.specs.Answer.{IsAnswer, IsBorrowed};
+ghost use Rattle.tmpl_funcs.specs.Answer.{IsBorrowed};
+ghost use Rattle.tmpl_funcs.specs.computed.Answer.{IsAnswer};
 ghost use Rattle.tmpl_funcs.specs.Count.{not_of, len_of, sized};
 
 use crate::fault::CallFault;

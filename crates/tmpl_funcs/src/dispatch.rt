@@ -2,9 +2,12 @@
 ghost use Rattle.std.specs.Prelude.{◌≡◌, ◌<◌, ◌∷◌, false, true, drop, length};
 ghost use Rattle.tmpl_values.specs.View.{is_made, val_of};
 ghost use Rattle.tmpl_funcs.specs.View.{values_of};
-ghost use Rattle.tmpl_funcs.specs.Answer.{AreBorrowed, IsAnswer, IsBorrowed, IsMade};
-ghost use Rattle.tmpl_funcs.specs.Func.{is_called, makes_text, takes};
-ghost use Rattle.tmpl_funcs.specs.Dispatch.{answer, IsCall};
+ghost use Rattle.tmpl_funcs.specs.Answer.{AreBorrowed, IsBorrowed};
+ghost use Rattle.tmpl_funcs.specs.computed.Answer.{IsAnswer};
+ghost use Rattle.tmpl_funcs.specs.Func.{is_called, makes_text};
+ghost use Rattle.tmpl_funcs.specs.Dispatch.{IsCall};
+ghost use Rattle.tmpl_funcs.specs.Index.{index_of};
+ghost use Rattle.tmpl_funcs.specs.Slice.{slice_of};
 
 use crate::compare::{eq, ge, gt, le, lt, ne};
 use crate::count::{len, not};
@@ -37,77 +40,48 @@ pub fn call<'a>(alloc: Global, func: Func, arguments: &mut [Cell<'a>]) -> Result
     ensures table { IsCall func (values_of arguments.old) result }
     ensures borrowed { makes_text func ≡ false → AreBorrowed arguments.old → IsBorrowed result }
 {
-    if !func.takes(arguments.len() as u64) {
-        return Err(CallError::Fault(CallFault::WrongCount));
-    }
-    if func.makes_text() {
-        return make(alloc, func, arguments);
-    }
-    match answer(func, arguments) {
-        Ok(value) => Ok(value),
-        Err(fault) => Err(CallError::Fault(fault)),
-    }
-}
-
-/// What a function that makes a text gives.
-fn make<'a>(alloc: Global, func: Func, arguments: &[Cell<'_>]) -> Result<Val<'a>, CallError>
-    requires { makes_text func ≡ true }
-    ensures { IsMade (answer func (values_of arguments.now)) result }
-{
     match func {
+        Func::And | Func::Or => unreachable!(),
+        Func::Not => Ok(not(arguments)?),
+        Func::Len => Ok(len(arguments)?),
+        Func::Index => Ok(index_first(arguments)?),
+        Func::Slice => Ok(slice_first(arguments)?),
         Func::Print => print(alloc, arguments),
         Func::Println => println(alloc, arguments),
         Func::Printf => printf(alloc, arguments),
         Func::Html => html(alloc, arguments),
         Func::Urlquery => urlquery(alloc, arguments),
-        Func::And
-        | Func::Or
-        | Func::Not
-        | Func::Len
-        | Func::Index
-        | Func::Slice
-        | Func::Eq
-        | Func::Ne
-        | Func::Lt
-        | Func::Le
-        | Func::Gt
-        | Func::Ge => unreachable!(),
+        Func::Eq => Ok(eq(arguments)?),
+        Func::Ne => Ok(ne(arguments)?),
+        Func::Lt => Ok(lt(arguments)?),
+        Func::Le => Ok(le(arguments)?),
+        Func::Gt => Ok(gt(arguments)?),
+        Func::Ge => Ok(ge(arguments)?),
     }
 }
 
-/// What any other function gives for arguments of a number that it takes.
-fn answer<'a>(func: Func, arguments: &mut [Cell<'a>]) -> Result<Val<'a>, CallFault>
-    requires called { is_called func ≡ true }
-    requires silent { makes_text func ≡ false }
-    requires takes { takes func (length arguments.old) ≡ true }
-    ensures table { IsAnswer (answer func (values_of arguments.old)) result }
+/// The first argument at the others.
+fn index_first<'a>(arguments: &mut [Cell<'a>]) -> Result<Val<'a>, CallFault>
+    ensures table { IsAnswer (index_of (values_of arguments.old)) result }
     ensures borrowed { AreBorrowed arguments.old → IsBorrowed result }
 {
-    match func {
-        Func::And
-        | Func::Or
-        | Func::Print
-        | Func::Println
-        | Func::Printf
-        | Func::Html
-        | Func::Urlquery => { unreachable!() }
-        Func::Not => not(arguments),
-        Func::Len => len(arguments),
-        Func::Index => {
-            let item = take_first(arguments);
-            index(item, behind_first(arguments))
-        }
-        Func::Slice => {
-            let value = take_first(arguments);
-            slice(value, behind_first(arguments))
-        }
-        Func::Eq => eq(arguments),
-        Func::Ne => ne(arguments),
-        Func::Lt => lt(arguments),
-        Func::Le => le(arguments),
-        Func::Gt => gt(arguments),
-        Func::Ge => ge(arguments),
+    if arguments.is_empty() {
+        return Err(CallFault::WrongCount);
     }
+    let item = take_first(arguments);
+    index(item, behind_first(arguments))
+}
+
+/// The first argument between the others.
+fn slice_first<'a>(arguments: &mut [Cell<'a>]) -> Result<Val<'a>, CallFault>
+    ensures table { IsAnswer (slice_of (values_of arguments.old)) result }
+    ensures borrowed { AreBorrowed arguments.old → IsBorrowed result }
+{
+    if arguments.is_empty() {
+        return Err(CallFault::WrongCount);
+    }
+    let value = take_first(arguments);
+    slice(value, behind_first(arguments))
 }
 
 /// Takes the first value out of the cells.

@@ -3,12 +3,12 @@ ghost use Rattle.std.specs.Prelude.{◌≡◌, ◌+◌, ◌++◌, IfSome, Ok, On
 ghost use Rattle.std.specs.List.{flat_map};
 ghost use Rattle.tmpl_values.specs.Value.{string};
 ghost use Rattle.tmpl_funcs.specs.View.{values_of};
-ghost use Rattle.tmpl_funcs.specs.Answer.{IsMade};
+ghost use Rattle.tmpl_funcs.specs.computed.Answer.{IsMade};
 ghost use Rattle.tmpl_funcs.specs.Escape.{html_byte, html_of, is_unreserved, query_byte, urlquery_of};
 ghost use Rattle.tmpl_funcs.specs.Join.{as_text, joined};
 ghost use Rattle.tmpl_funcs.specs.computed.Escape.{escaped_byte, escaped_of, or_itself};
 
-use crate::capacity::{joined_capacity, reserved};
+use crate::capacity::{joined_capacity, reserve};
 use crate::fault::CallError;
 use crate::join::{NothingText, add_joined};
 use percent_encoding::percent_encode_byte;
@@ -26,37 +26,41 @@ pub(crate) enum Escape {
 pub(crate) fn html<'a>(alloc: Global, operands: &[Cell<'_>]) -> Result<Val<'a>, CallError>
     ensures { IsMade (html_of (values_of operands.now)) result }
 {
-    escaped(alloc, operands, Escape::Html)
+    escape_operands(alloc, operands, Escape::Html)
 }
 
 /// The operands joined and escaped for the query of a URL.
 pub(crate) fn urlquery<'a>(alloc: Global, operands: &[Cell<'_>]) -> Result<Val<'a>, CallError>
     ensures { IsMade (urlquery_of (values_of operands.now)) result }
 {
-    escaped(alloc, operands, Escape::Query)
+    escape_operands(alloc, operands, Escape::Query)
 }
 
 /// The operands joined and escaped.
-fn escaped<'a>(alloc: Global, operands: &[Cell<'_>], escape: Escape) -> Result<Val<'a>, CallError>
+fn escape_operands<'a>(
+    alloc: Global,
+    operands: &[Cell<'_>],
+    escape: Escape,
+) -> Result<Val<'a>, CallError>
     ensures { IsMade (escaped_of escape (values_of operands.now)) result }
 {
     match sole_text(operands) {
-        Some(text) => escaped_text(alloc, text, escape),
-        None => escaped_join(alloc, operands, escape),
+        Some(text) => escape_text(alloc, text, escape),
+        None => escape_joined(alloc, operands, escape),
     }
 }
 
 /// The escape of a text.
-fn escaped_text<'a>(alloc: Global, text: &[u8], escape: Escape) -> Result<Val<'a>, CallError>
+fn escape_text<'a>(alloc: Global, text: &[u8], escape: Escape) -> Result<Val<'a>, CallError>
     ensures { IsMade (Ok (string (flat_map (escaped_byte escape) text.now))) result }
 {
-    let mut bytes = reserved(alloc, escape.escaped_len(text));
+    let mut bytes = reserve(alloc, escape.escaped_len(text));
     add_escaped(text, escape, &mut bytes)?;
     Ok(Val::made(bytes))
 }
 
 /// The operands joined, and behind that, in the same memory, their escape, which alone is the answer.
-fn escaped_join<'a>(
+fn escape_joined<'a>(
     alloc: Global,
     operands: &[Cell<'_>],
     escape: Escape,
@@ -67,7 +71,7 @@ fn escaped_join<'a>(
         operands,
         Some(escape),
     ));
-    let mut bytes = reserved(alloc, capacity);
+    let mut bytes = reserve(alloc, capacity);
     add_joined(operands, NothingText::NoValue, &mut bytes)?;
     let plain = bytes.len();
     add_escape_of_all(escape, &mut bytes)?;
@@ -117,7 +121,7 @@ fn add_escape_of_all(escape: Escape, bytes: &mut Vec<u8>) -> Result<(), AllocErr
 }
 
 impl Escape {
-    /// How many bytes the escape of a text has, by which memory is reserved, and the most that a text may have where
+    /// How many bytes the escape of a text has, by which memory is reserve, and the most that a text may have where
     /// they would be more.
     pub(crate) fn escaped_len(self, text: &[u8]) -> usize {
         let mut len = text.len();

@@ -39,6 +39,17 @@ impl From<CompareFault> for CallFault {
     }
 }
 
+impl From<CallFault> for CallError {
+    ghost use Rattle.std.specs.Prelude.{◌≡◌};
+    ghost use Rattle.tmpl_funcs.specs.declared.fault.CallError.{CallError};
+
+    ghost from_gives = { λ f e. e ≡ CallError.Fault f };
+
+    fn from(fault: CallFault) -> CallError {
+        CallError::Fault(fault)
+    }
+}
+
 impl From<AllocError> for CallError {
     ghost use Rattle.std.specs.Prelude.{◌≡◌};
     ghost use Rattle.tmpl_funcs.specs.declared.fault.CallError.{CallError};

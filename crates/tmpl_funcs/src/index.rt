@@ -3,7 +3,8 @@ ghost use Rattle.std.specs.Prelude.{◌≡◌, ◌∷◌, false, option_map};
 ghost use Rattle.tmpl_values.specs.Item.{bytes_of};
 ghost use Rattle.tmpl_values.specs.View.{is_made, items_of, val_of};
 ghost use Rattle.tmpl_funcs.specs.View.{values_of};
-ghost use Rattle.tmpl_funcs.specs.Answer.{IsAnswer, IsBorrowed};
+ghost use Rattle.tmpl_funcs.specs.Answer.{IsBorrowed};
+ghost use Rattle.tmpl_funcs.specs.computed.Answer.{IsAnswer};
 ghost use Rattle.tmpl_funcs.specs.computed.Index.{place_among};
 ghost use Rattle.tmpl_funcs.specs.Index.{number_of, byte_at, item_of, entry_of, indexed, indexed_by, index_of};
 

@@ -3,15 +3,14 @@ ghost use Rattle.std.specs.Prelude.{◌≡◌, ◌++◌, ◌∷◌, [], map, cod
 ghost use Rattle.tmpl_values.specs.Text.{inner_text, parted};
 ghost use Rattle.tmpl_values.specs.View.{val_of};
 ghost use Rattle.tmpl_funcs.specs.View.{values_of};
-ghost use Rattle.tmpl_funcs.specs.Answer.{IsMade};
+ghost use Rattle.tmpl_funcs.specs.computed.Answer.{IsMade};
 ghost use Rattle.tmpl_funcs.specs.Join.{is_string, joined, print_of, println_of, space_unless};
 ghost use Rattle.tmpl_funcs.specs.computed.Join.{shown};
 
-use crate::capacity::{joined_capacity, reserved};
+use crate::capacity::{joined_capacity, reserve};
 use crate::fault::CallError;
-use crate::growing::add_text;
 use std::alloc::{AllocError, Global};
-use tmpl_values::{Cell, Val};
+use tmpl_values::{Cell, Val, add_text};
 
 /// How nothing is written.
 #[derive(Clone, Copy)]
@@ -26,7 +25,7 @@ pub(crate) enum NothingText {
 pub(crate) fn print<'a>(alloc: Global, operands: &[Cell<'_>]) -> Result<Val<'a>, CallError>
     ensures { IsMade (print_of (values_of operands.now)) result }
 {
-    let mut bytes = reserved(alloc, joined_capacity(operands, None));
+    let mut bytes = reserve(alloc, joined_capacity(operands, None));
     add_joined(operands, NothingText::Nil, &mut bytes)?;
     Ok(Val::made(bytes))
 }
@@ -35,7 +34,7 @@ pub(crate) fn print<'a>(alloc: Global, operands: &[Cell<'_>]) -> Result<Val<'a>,
 pub(crate) fn println<'a>(alloc: Global, operands: &[Cell<'_>]) -> Result<Val<'a>, CallError>
     ensures { IsMade (println_of (values_of operands.now)) result }
 {
-    let mut bytes = reserved(alloc, joined_capacity(operands, None));
+    let mut bytes = reserve(alloc, joined_capacity(operands, None));
     add_parted(operands, &mut bytes)?;
     bytes.push(b'\n')?;
     Ok(Val::made(bytes))

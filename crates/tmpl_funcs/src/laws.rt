@@ -1,5 +1,11 @@
-//! The law of formats.
-ghost use Rattle.tmpl_funcs.specs.Laws.{HasOneReading, ReadsAll, ReadsSoundly};
+//! The laws of the table of functions and of formats.
+ghost use Rattle.tmpl_funcs.specs.Laws.{CountsFirst, HasOneReading, ReadsAll, ReadsSoundly};
+
+/// The law that a call with a number of arguments that the function does not take is refused for that, whatever the
+/// arguments are.
+pub fn count_first()
+    ensures { CountsFirst }
+{}
 
 /// The law that a format has one reading: the function that reads it gives a reading, and every reading is the one that
 /// it gives.

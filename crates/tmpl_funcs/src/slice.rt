@@ -2,7 +2,8 @@
 ghost use Rattle.std.specs.Prelude.{◌≡◌, ◌∷◌, false};
 ghost use Rattle.tmpl_values.specs.View.{is_made, val_of};
 ghost use Rattle.tmpl_funcs.specs.View.{values_of};
-ghost use Rattle.tmpl_funcs.specs.Answer.{IsAnswer, IsBorrowed};
+ghost use Rattle.tmpl_funcs.specs.Answer.{IsBorrowed};
+ghost use Rattle.tmpl_funcs.specs.computed.Answer.{IsAnswer};
 ghost use Rattle.tmpl_funcs.specs.Slice.{extent, part_by, slice_of, default_end};
 
 use crate::fault::CallFault;

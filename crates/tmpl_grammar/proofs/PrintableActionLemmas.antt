@@ -2,7 +2,7 @@
 use Rattle.std.proofs.Common.{◌≡◌, ◌∙◌, ℕ, ◌-◌, ◌≤◌, Bool, true, false, cond, List, [], ◌∷◌, ◌++◌, Option, Some, None, refl, sym, ap, subst, length, take, drop, if◌then◌else◌, pos, bytes_eq, codes}
 use Rattle.std.specs.Option.{option_map, option_and_then}
 use lib.IntN.{ℤ}
-use Rattle.tmpl_values.proofs.RuneLemmas.{AreBytes}
+use Rattle.tmpl_values.specs.Bytes.{AreBytes}
 use Rattle.tmpl_funcs.specs.declared.func.Func.{Func}
 use Rattle.tmpl_lex.proofs.NameLemmas.{IsNamed, OfKind}
 use Rattle.tmpl_lex.specs.Piece.{Token}

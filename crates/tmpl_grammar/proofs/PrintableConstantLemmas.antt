@@ -8,8 +8,9 @@ use Rattle.std.specs.List.{flat_map}
 use Rattle.std.specs.Char.{encode_utf8, IsScalar}
 use Rattle.std.proofs.lemmas.Bool.Decides.{nat_tests}
 use Rattle.tmpl_values.specs.Rune.{Rune}
-use Rattle.tmpl_values.specs.computed.Rune.{first_rune}
-use Rattle.tmpl_values.proofs.RuneLemmas.{AreBytes, Front, encoding, lone, front}
+use Rattle.tmpl_values.specs.Rune.{first_rune}
+use Rattle.tmpl_values.specs.Bytes.{AreBytes}
+use Rattle.tmpl_values.proofs.RuneLemmas.{Front, encoding, lone, front}
 use Rattle.tmpl_grammar.specs.Constant.Integer.{magnitude, signed, integer}
 use Rattle.tmpl_grammar.specs.Constant.Quoted.{part_text, part_code, without_returns}
 use Rattle.tmpl_grammar.specs.computed.Quoted.{Spelled, rune_part, as_byte, as_char, code, byte_named, coded, escape_by, escape, part_at, with_part, parts_after, parts, unquoted, one_code, rune_code}

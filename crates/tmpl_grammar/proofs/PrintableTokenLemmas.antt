@@ -1,6 +1,6 @@
 -- What holds of the tokens of a file: their bytes are bytes, and their names are names.
 use Rattle.std.proofs.Common.{ℕ, zero, suc, List, [], ◌∷◌, ◌++◌, take, drop}
-use Rattle.tmpl_values.proofs.RuneLemmas.{AreBytes}
+use Rattle.tmpl_values.specs.Bytes.{AreBytes}
 use Rattle.tmpl_lex.proofs.NameLemmas.{OfKind}
 use Rattle.tmpl_lex.specs.Piece.{Token}
 

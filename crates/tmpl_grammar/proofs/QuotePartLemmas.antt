@@ -6,9 +6,10 @@ use Rattle.std.proofs.lemmas.Bool.Decides.{nat_tests}
 use Rattle.std.proofs.lemmas.Str.{length-encode, len_utf8_bounds, encode_ascii}
 use lib.Utf8.{scalar_fits}
 use Rattle.tmpl_values.specs.Rune.{Rune, char, byte, bytes_in}
-use Rattle.tmpl_values.specs.computed.Rune.{runes}
+use Rattle.tmpl_values.specs.Rune.{runes}
 use Rattle.tmpl_values.specs.Quote.{letters, letter_of, hexes, spelled, spelling, inside}
-use Rattle.tmpl_values.proofs.RuneLemmas.{IsRune, AreRunes, AreBytes, are_runes, text-runes}
+use Rattle.tmpl_values.specs.Bytes.{AreBytes}
+use Rattle.tmpl_values.proofs.RuneLemmas.{IsRune, AreRunes, are_runes, text-runes}
 use Rattle.tmpl_grammar.specs.Constant.Quoted.{part_text}
 use Rattle.tmpl_grammar.specs.computed.Quoted.{as_byte, as_char, byte_named, escape_by, part_at, with_part, parts_after, parts, unquoted}
 use Rattle.tmpl_grammar.specs.declared.constant.quoted.Part.{Part}

@@ -6,7 +6,7 @@ use Rattle.std.proofs.lemmas.Bool.Decides.{nat_tests}
 use Rattle.std.proofs.lemmas.Str.{inside_one}
 use Rattle.tmpl_lex.specs.Token.{IsQuoted, no_byte, a_byte, an_escape}
 use Rattle.tmpl_values.specs.Rune.{Rune, char, byte}
-use Rattle.tmpl_values.specs.computed.Rune.{runes}
+use Rattle.tmpl_values.specs.Rune.{runes}
 use Rattle.tmpl_values.specs.Quote.{letters, letter_of, hexes, spelled, spelling, inside}
 use Rattle.tmpl_grammar.proofs.QuotePartLemmas.{letter-no-newline, unlettered}
 

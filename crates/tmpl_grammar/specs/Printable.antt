@@ -2,7 +2,7 @@
 use Rattle.std.specs.Prelude.{◌≡◌, ◌<◌, ◌≤◌, ◌^◌, ℕ, true, List, [], ◌∷◌, Option, Some, None}
 use Rattle.std.specs.List.{list_all}
 use lib.Signed.{mag}
-use Rattle.tmpl_values.proofs.RuneLemmas.{AreBytes}
+use Rattle.tmpl_values.specs.Bytes.{AreBytes}
 use Rattle.tmpl_lex.specs.Bytes.{is_name_byte}
 use Rattle.tmpl_grammar.specs.Token.{begins_name}
 use Rattle.tmpl_grammar.specs.Tree as tree

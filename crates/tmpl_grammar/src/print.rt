@@ -10,8 +10,7 @@ ghost use Rattle.tmpl_grammar.specs.computed.Print.{unless};
 use crate::keyword::Keyword;
 use crate::tree::{Binding, Command, Control, Header, Operand, Pipeline};
 use std::alloc::AllocError;
-use tmpl_funcs::{add_quote, add_text};
-use tmpl_values::{Bytes, Val};
+use tmpl_values::{Bytes, Val, add_quote, add_text};
 
 /// An action to be printed: what a tree says at one place, borrowed from it. A `block` is printed as a definition and
 /// a call, and an `else if` as an `else` and an `if`.

@@ -1,5 +1,6 @@
--- What an action has inside, from token to token.
-use Rattle.std.proofs.Common.{arith, ◌≡◌, ℕ, zero, suc, ◌-◌, ◌<◌, ◌≤◌, Bool, true, false, List, [], ◌∷◌, ◌++◌, Option, Some, None, refl, sym, ap, ◌∙◌, length, drop, append_assoc, append-nil, length-drop, map}
+-- For `read_inside`: what an action has inside, from token to token.
+use Rattle.std.proofs.Common.{arith, ◌≡◌, ℕ, zero, suc, ◌-◌, ◌<◌, ◌≤◌, Bool, true, false, List, [], ◌∷◌, ◌++◌, Option}
+use Rattle.std.proofs.Common.{Some, None, refl, sym, ap, ◌∙◌, length, drop, append_assoc, append-nil, length-drop, map}
 use Rattle.std.proofs.lemmas.List.{map-append}
 use Rattle.tmpl_lex.specs.declared.piece.Token as declared
 use Rattle.tmpl_lex.specs.Piece.{Token}
@@ -60,13 +61,15 @@ pub drop-sub_one : (n b : ℕ) (bs : List ℕ) → 0 < n → drop (n - 1) bs ≡
 drop-sub_one zero b bs h = absurd (omega arith)
 drop-sub_one (suc n) b bs h = ap (λ k. drop k bs) (omega arith)
 
-pub inside-token : (bs : List ℕ) (t : Token) → None ≡ right_delimiter bs → Some t ≡ front_token bs → inside bs ≡ with_token t (inside (drop (length t.bytes) bs))
+pub inside-token : (bs : List ℕ) (t : Token) → None ≡ right_delimiter bs → Some t ≡ front_token bs
+    → inside bs ≡ with_token t (inside (drop (length t.bytes) bs))
 unfolding inside
 inside-token [] t e f = let g : ◌≡◌ {A = Option Token} (Some t) None = f in cc
 inside-token (b ∷ bs) t e f =
     ap (λ o. inside_from o (front_token (b ∷ bs)) (λ t. inside_after (length t.bytes - 1) bs)) (sym e)
     ∙ ap (λ o. inside_from None o (λ t. inside_after (length t.bytes - 1) bs)) (sym f)
-    ∙ ap (with_token t) (inside_after-drop (length t.bytes - 1) bs ∙ ap (inside_after 0) (drop-sub_one (length t.bytes) b bs (IsWithin-front_token (b ∷ bs) t f).some))
+    ∙ ap (with_token t) (inside_after-drop (length t.bytes - 1) bs ∙ ap (inside_after 0)
+    (drop-sub_one (length t.bytes) b bs (IsWithin-front_token (b ∷ bs) t f).some))
 
 -- ---- token by token
 
@@ -86,7 +89,9 @@ behind-with_token ts t None = refl
 behind-with_token ts t (Some i) = ap (λ (us : List Token). Some (us, i.1)) (sym (append_assoc ts (t ∷ []) i.0))
 
 -- one token more was read
-pub IsReadTo-more : (all bs rest : List ℕ) (old new : List declared.Token) (t : declared.Token) → IsReadTo all (map token_of old) bs → None ≡ right_delimiter bs → Some (token_of t) ≡ front_token bs → new ≡ old ++ t ∷ [] → rest ≡ drop (length t.bytes.now) bs → IsReadTo all (map token_of new) rest
+pub IsReadTo-more : (all bs rest : List ℕ) (old new : List declared.Token) (t : declared.Token) → IsReadTo all (map token_of old) bs
+    → None ≡ right_delimiter bs → Some (token_of t) ≡ front_token bs → new ≡ old ++ t ∷ [] → rest ≡ drop (length t.bytes.now) bs
+    → IsReadTo all (map token_of new) rest
 IsReadTo-more all bs rest old new t so_far on here grown left = record {
   same =
       so_far.same
@@ -111,13 +116,16 @@ inside_after-shorter (suc n) (b ∷ bs) i e = omega (arith, inside_after-shorter
 inside_after-shorter zero (b ∷ bs) i e =
     go (λ t j f. inside_after-shorter (length t.bytes - 1) bs j f) (right_delimiter (b ∷ bs)) refl (front_token (b ∷ bs)) e
   where
-    add : (t : Token) (o : Option Inside) → ((j : Inside) → o ≡ Some j → length j.1.rest < length bs) → with_token t o ≡ Some i → length i.1.rest < length (b ∷ bs)
+    add : (t : Token) (o : Option Inside) → ((j : Inside) → o ≡ Some j → length j.1.rest < length bs) → with_token t o ≡ Some i
+        → length i.1.rest < length (b ∷ bs)
     add t None ih h = let g : ◌≡◌ {A = Option Inside} None (Some i) = h in cc
     add t (Some j) ih h =
         let same : ◌≡◌ {A = Inside} (t ∷ j.0, j.1) i = cc in
         omega (arith, ih j refl, ap (λ (k : Inside). length k.1.rest) same)
 
-    go : ((t : Token) (j : Inside) → inside_after (length t.bytes - 1) bs ≡ Some j → length j.1.rest < length bs) → (c : Option End) → right_delimiter (b ∷ bs) ≡ c → (o : Option Token) → inside_from c o (λ t. inside_after (length t.bytes - 1) bs) ≡ Some i → length i.1.rest < length (b ∷ bs)
+    go : ((t : Token) (j : Inside) → inside_after (length t.bytes - 1) bs ≡ Some j → length j.1.rest < length bs) → (c : Option End)
+        → right_delimiter (b ∷ bs) ≡ c → (o : Option Token) → inside_from c o (λ t. inside_after (length t.bytes - 1) bs) ≡ Some i
+        → length i.1.rest < length (b ∷ bs)
     go ih (Some end) at o h =
         let same : ◌≡◌ {A = Inside} ([], end) i = cc in
         omega (arith, right_delimiter-shorter (b ∷ bs) end at, ap (λ (k : Inside). length k.1.rest) same)

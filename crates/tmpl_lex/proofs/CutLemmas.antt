@@ -1,5 +1,7 @@
--- The pieces of a whole file, from action to action.
-use Rattle.std.proofs.Common.{arith, ◌≡◌, ℕ, zero, suc, ◌+◌, ◌-◌, ◌<◌, ◌≤◌, Bool, true, false, ◌&&◌, List, [], ◌∷◌, ◌++◌, Option, Some, None, refl, sym, ap, subst, ◌∙◌, length, take, drop, cond, append_assoc, append-nil, length-take, length-drop, length-append, nat_eq}
+-- For `cut` and the law `one_cut`: the pieces of a whole file, from action to action.
+use Rattle.std.proofs.Common.{arith, ◌≡◌, ℕ, zero, suc, ◌+◌, ◌-◌, ◌<◌, ◌≤◌, Bool, true, false, ◌&&◌, List, [], ◌∷◌}
+use Rattle.std.proofs.Common.{◌++◌, Option, Some, None, refl, sym, ap, subst, ◌∙◌, length, take, drop, cond}
+use Rattle.std.proofs.Common.{append_assoc, append-nil, length-take, length-drop, length-append, nat_eq}
 use Rattle.std.proofs.lemmas.Bool.{eqb-true, and_parts, both_ways, false_from_ne_true}
 use Rattle.std.proofs.lemmas.List.{take_all}
 use Rattle.std.proofs.lemmas.List.Sums.{count_by-le-length, sum_by-take-drop, sum_by-append, sum_by-cons}
@@ -22,7 +24,8 @@ use Rattle.tmpl_lex.proofs.TextLemmas.{texts-made, texts-only}
 
 -- ---- what stands behind a comment or an action is shorter than what stands behind its `{{`
 
-comment_closed-shorter : (t : Bool) (o : Option (List ℕ × List ℕ)) (n : ℕ) (e : End) → ((p : List ℕ × List ℕ) → o ≡ Some p → length p.1 ≤ n) → comment_closed t o ≡ Some e → length e.rest < n
+comment_closed-shorter : (t : Bool) (o : Option (List ℕ × List ℕ)) (n : ℕ) (e : End) → ((p : List ℕ × List ℕ) → o ≡ Some p → length p.1 ≤ n)
+    → comment_closed t o ≡ Some e → length e.rest < n
 comment_closed-shorter false o n e within h = let g : ◌≡◌ {A = Option End} None (Some e) = h in cc
 comment_closed-shorter true None n e within h = let g : ◌≡◌ {A = Option End} None (Some e) = h in cc
 comment_closed-shorter true (Some p) n e within h = omega (arith, right_delimiter-shorter p.1 e h, within p refl)
@@ -30,7 +33,8 @@ comment_closed-shorter true (Some p) n e within h = omega (arith, right_delimite
 pub comment_end-shorter : (bs : List ℕ) (e : End) → comment_end bs ≡ Some e → length e.rest < length bs
 unfolding comment_end
 comment_end-shorter bs e h =
-    comment_closed-shorter (opens_comment bs) (split_pair 42 47 (drop 2 bs)) (length bs) e (λ p at. omega (arith, split_pair-lengths 42 47 (drop 2 bs) p.0 p.1 at, length-drop 2 bs)) h
+    comment_closed-shorter (opens_comment bs) (split_pair 42 47 (drop 2 bs)) (length bs) e
+    (λ p at. omega (arith, split_pair-lengths 42 47 (drop 2 bs) p.0 p.1 at, length-drop 2 bs)) h
 
 opened-shorter : (bs : List ℕ) (e : End) → Some e ≡ ends_at (opened bs) → length e.rest < length bs
 unfolding opened
@@ -56,11 +60,13 @@ pub opened-past_left-shorter : (after : List ℕ) (e : End) → Some e ≡ ends_
 opened-past_left-shorter after e h = omega (arith, opened-shorter (past_left after) e h, past_left-within after)
 
 -- the rest behind what a `{{` begins is shorter
-pub split_open-shorter : (bs before after : List ℕ) (e : End) → Some (before, after) ≡ split_open bs → Some e ≡ ends_at (opened (past_left after)) → (length before + length after + 2 ≡ length bs) × (length e.rest < length after)
+pub split_open-shorter : (bs before after : List ℕ) (e : End) → Some (before, after) ≡ split_open bs → Some e ≡ ends_at (opened (past_left after))
+    → (length before + length after + 2 ≡ length bs) × (length e.rest < length after)
 split_open-shorter bs before after e h f = (split_pair-lengths 123 123 bs before after (sym h), opened-past_left-shorter after e f)
 
 -- a line and what follows it take no more than the bytes that there were
-pub newlines-within : (before after rest : List ℕ) → length rest < length after → newlines before + newlines (stretch after rest) ≤ length before + length after - length rest
+pub newlines-within : (before after rest : List ℕ) → length rest < length after
+    → newlines before + newlines (stretch after rest) ≤ length before + length after - length rest
 newlines-within before after rest h =
     let a = count_by-le-length (λ b. nat_eq b 10) before in
     let b = count_by-le-length (λ b. nat_eq b 10) (stretch after rest) in
@@ -69,13 +75,16 @@ newlines-within before after rest h =
 -- ---- a text, by what a right trim marker takes of it
 
 -- its newlines are those of what is taken and of what is kept
-pub newlines-split : (right : Bool) (before taken kept : List ℕ) → taken ≡ take (leading right before) before → kept ≡ without_leading right before → newlines taken + newlines kept ≡ newlines before
+pub newlines-split : (right : Bool) (before taken kept : List ℕ) → taken ≡ take (leading right before) before → kept ≡ without_leading right before
+    → newlines taken + newlines kept ≡ newlines before
 newlines-split right before taken kept e f =
     ap (λ xs. newlines xs + newlines kept) e
     ∙ ap (λ xs. newlines (take (leading right before) before) + newlines xs) f
     ∙ sum_by-take-drop (λ b. cond (nat_eq b 10) 1 0) before (leading right before)
 
-pub texts-put : (old mid : List Piece) (right left : Bool) (line count : ℕ) (before taken kept text : List ℕ) → taken ≡ take (leading right before) before → kept ≡ without_leading right before → count ≡ newlines taken → text ≡ without_trailing left kept → mid ≡ old ++ text_piece (line + count) text → mid ≡ old ++ texts right left line before
+pub texts-put : (old mid : List Piece) (right left : Bool) (line count : ℕ) (before taken kept text : List ℕ)
+    → taken ≡ take (leading right before) before → kept ≡ without_leading right before → count ≡ newlines taken → text ≡ without_trailing left kept
+    → mid ≡ old ++ text_piece (line + count) text → mid ≡ old ++ texts right left line before
 texts-put old mid right left line count before taken kept text e f n t put =
     put
     ∙ ap (λ k. old ++ text_piece (line + k) text) (n ∙ ap newlines e)
@@ -87,8 +96,10 @@ pub record IsAdded (right : Bool) (line : ℕ) (before after : List ℕ) (here :
   pub put : mid ≡ old ++ texts right (left_marked after) line before
   pub grown : new ≡ mid ++ pieces_of (line + newlines before) o
 
-pub IsAdded-step : (right : Bool) (line first second : ℕ) (before after taken kept text : List ℕ) (old mid new : List Piece) (o : Opened) → taken ≡ take (leading right before) before → kept ≡ without_leading right before
-    → first ≡ newlines taken → second ≡ newlines kept → text ≡ without_trailing (left_marked after) kept → mid ≡ old ++ text_piece (line + first) text → new ≡ mid ++ pieces_of (line + first + second) o
+pub IsAdded-step : (right : Bool) (line first second : ℕ) (before after taken kept text : List ℕ) (old mid new : List Piece) (o : Opened)
+    → taken ≡ take (leading right before) before → kept ≡ without_leading right before
+    → first ≡ newlines taken → second ≡ newlines kept → text ≡ without_trailing (left_marked after) kept → mid ≡ old ++ text_piece (line + first) text
+    → new ≡ mid ++ pieces_of (line + first + second) o
     → IsAdded right line before after (line + first + second) old mid new o
 IsAdded-step right line first second before after taken kept text old mid new o e f n m t put grown =
     let here : line + first + second ≡ line + newlines before = omega (arith, newlines-split right before taken kept e f, n, m) in record {
@@ -153,7 +164,13 @@ marked-past rest (left_marker {w = w} e) = ap (λ k. behind_marker k (45 ∷ w �
 is-marked : {left : Bool} {opening rest : List ℕ} → Opens left opening rest → IsMarked left opening rest
 is-marked (opens {rest = rest} h) =
     let bare = unmarked-bare rest h in record { marker = []; opening_is = refl; left_is = bare; past = ap (λ k. behind_marker k rest) bare }
-is-marked (opens_marked {marker = marker} {rest = rest} m) = record { marker = marker; opening_is = refl; left_is = marker-marked rest m; past = marked-past rest m }
+is-marked (opens_marked {marker = marker} {rest = rest} m) = record {
+  marker = marker;
+  opening_is = refl;
+  left_is = marker-marked rest m;
+  past =
+      marked-past rest m;
+}
 
 -- ---- lines
 
@@ -169,7 +186,8 @@ stretch-is marker body rest after e =
     let count : length after - length rest ≡ length (marker ++ body) = omega (arith, ap length whole, length-append (marker ++ body) rest) in
     ap (λ n. take n after) count ∙ ap (take (length (marker ++ body))) whole ∙ take-append_seam (marker ++ body) rest
 
-lines-is : (line : ℕ) (before marker body rest after : List ℕ) → after ≡ marker ++ (body ++ rest) → line + newlines before + newlines (stretch after rest) ≡ line + newlines (before ++ 123 ∷ 123 ∷ marker ++ body)
+lines-is : (line : ℕ) (before marker body rest after : List ℕ) → after ≡ marker ++ (body ++ rest)
+    → line + newlines before + newlines (stretch after rest) ≡ line + newlines (before ++ 123 ∷ 123 ∷ marker ++ body)
 lines-is line before marker body rest after e =
     let count = ap newlines (append_assoc before (123 ∷ 123 ∷ marker) body) ∙ newlines-append before (123 ∷ 123 ∷ (marker ++ body)) in
     let same = ap newlines (stretch-is marker body rest after e) in
@@ -180,10 +198,12 @@ lines-is line before marker body rest after e =
 pub cuts-last : (right : Bool) (line : ℕ) (bs : List ℕ) → split_open bs ≡ None → Cuts right line bs (texts right false line bs)
 cuts-last right line bs e = last (none-absent 123 123 bs e) (texts-made right false line bs)
 
-leads-before : (right : Bool) (line : ℕ) (before : List ℕ) (marker rest : List ℕ) (left : Bool) → Absent (123 ∷ 123 ∷ []) (before ++ 123 ∷ []) → Opens left (123 ∷ 123 ∷ marker) rest → Leads right line before (123 ∷ 123 ∷ marker) rest (texts right left line before)
+leads-before : (right : Bool) (line : ℕ) (before : List ℕ) (marker rest : List ℕ) (left : Bool) → Absent (123 ∷ 123 ∷ []) (before ++ 123 ∷ [])
+    → Opens left (123 ∷ 123 ∷ marker) rest → Leads right line before (123 ∷ 123 ∷ marker) rest (texts right left line before)
 leads-before right line before marker rest left first o = record { left = left; first = first; opens = o; texts = texts-made right left line before }
 
-pub cuts-unclosed : (right : Bool) (line : ℕ) (bs before after : List ℕ) → split_open bs ≡ Some (before, after) → opened (past_left after) ≡ neither → Cuts right line bs (texts right (left_marked after) line before ++ unreadable (line + newlines before) ∷ [])
+pub cuts-unclosed : (right : Bool) (line : ℕ) (bs before after : List ℕ) → split_open bs ≡ Some (before, after) → opened (past_left after) ≡ neither
+    → Cuts right line bs (texts right (left_marked after) line before ++ unreadable (line + newlines before) ∷ [])
 cuts-unclosed right line bs before after e n =
     let split = split-is 123 123 bs (before, after) e in
     let m = has-marker after in
@@ -192,8 +212,10 @@ cuts-unclosed right line bs before after e n =
     subst (λ (xs : List ℕ). Cuts right line xs (texts right (left_marked after) line before ++ unreadable (line + newlines before) ∷ [])) whole
     (unclosed (leads-before right line before m.marker (past_left after) (left_marked after) split.first m.opens) (neither-closed (past_left after) n))
 
-pub cuts-closed : (right : Bool) (line : ℕ) (bs before after : List ℕ) (o : Opened) (end : End) (ps : List Piece) → split_open bs ≡ Some (before, after) → opened (past_left after) ≡ o → ends_at o ≡ Some end
-    → Cuts end.trims (line + newlines before + newlines (stretch after end.rest)) end.rest ps → Cuts right line bs (texts right (left_marked after) line before ++ pieces_of (line + newlines before) o ++ ps)
+pub cuts-closed : (right : Bool) (line : ℕ) (bs before after : List ℕ) (o : Opened) (end : End) (ps : List Piece)
+    → split_open bs ≡ Some (before, after) → opened (past_left after) ≡ o → ends_at o ≡ Some end
+    → Cuts end.trims (line + newlines before + newlines (stretch after end.rest)) end.rest ps
+    → Cuts right line bs (texts right (left_marked after) line before ++ pieces_of (line + newlines before) o ++ ps)
 cuts-closed right line bs before after o end ps e n at cuts =
     let split = split-is 123 123 bs (before, after) e in
     let m = has-marker after in
@@ -201,9 +223,11 @@ cuts-closed right line bs before after o end ps e n at cuts =
     let opening : List ℕ = 123 ∷ 123 ∷ m.marker in
     let after_is : after ≡ m.marker ++ (c.body ++ end.rest) = m.is ∙ ap (λ l. m.marker ++ l) c.is in
     let whole : before ++ opening ++ c.body ++ end.rest ≡ bs =
-    append_assoc (before ++ opening) c.body end.rest ∙ append_assoc before opening (c.body ++ end.rest) ∙ sym (split.is ∙ ap (λ l. before ++ 123 ∷ 123 ∷ l) after_is) in
+    append_assoc (before ++ opening) c.body end.rest ∙ append_assoc before opening (c.body ++ end.rest)
+    ∙ sym (split.is ∙ ap (λ l. before ++ 123 ∷ 123 ∷ l) after_is) in
     subst (λ (xs : List ℕ). Cuts right line xs (texts right (left_marked after) line before ++ pieces_of (line + newlines before) o ++ ps)) whole
-    (closed (leads-before right line before m.marker (c.body ++ end.rest) (left_marked after) split.first (subst (Opens (left_marked after) opening) c.is m.opens)) c.closed
+    (closed (leads-before right line before m.marker (c.body ++ end.rest) (left_marked after) split.first
+    (subst (Opens (left_marked after) opening) c.is m.opens)) c.closed
     (subst (λ (n : ℕ). Cuts end.trims n end.rest ps) (lines-is line before m.marker c.body end.rest after after_is) cuts))
 
 -- ---- the pieces so far
@@ -224,7 +248,9 @@ module _ (file : List ℕ) (old mid new : List Piece) (right : Bool) (line : ℕ
       ∙ append_assoc old (texts right (left_marked after) line before) (now ++ more)
       ∙ ap (λ d. old ++ d) (sym (append_assoc (texts right (left_marked after) line before) now more))
 
-  pub Completed-more : (o : Opened) (e : End) (next : ℕ) → o ≡ opened (past_left after) → Some e ≡ ends_at o → new ≡ mid ++ pieces_of (line + newlines before) o → next ≡ line + newlines before + newlines (stretch after e.rest) → Completed file new e.trims next e.rest
+  pub Completed-more : (o : Opened) (e : End) (next : ℕ) → o ≡ opened (past_left after) → Some e ≡ ends_at o
+      → new ≡ mid ++ pieces_of (line + newlines before) o → next ≡ line + newlines before + newlines (stretch after e.rest)
+      → Completed file new e.trims next e.rest
   Completed-more o e next is at grown n = record {
     completes = λ more cuts.
         subst (λ d. Cuts false 1 file d) (sym (append-joined (pieces_of (line + newlines before) o) more grown))
@@ -232,24 +258,30 @@ module _ (file : List ℕ) (old mid new : List Piece) (right : Bool) (line : ℕ
         (cuts-closed right line bs before after o e more (sym here) (sym is) (sym at) (subst (λ (k : ℕ). Cuts e.trims k e.rest more) n cuts)));
   }
 
-  pub Completed-unclosed : (o : Opened) → o ≡ opened (past_left after) → None ≡ ends_at o → new ≡ mid ++ pieces_of (line + newlines before) o → Cuts false 1 file new
+  pub Completed-unclosed : (o : Opened) → o ≡ opened (past_left after) → None ≡ ends_at o → new ≡ mid ++ pieces_of (line + newlines before) o
+      → Cuts false 1 file new
   Completed-unclosed (comment end) is at grown = let g : ◌≡◌ {A = Option End} None (Some end) = at in cc
   Completed-unclosed (tokens ts end) is at grown = let g : ◌≡◌ {A = Option End} None (Some end) = at in cc
   Completed-unclosed neither is at grown =
       subst (λ d. Cuts false 1 file d) (sym (sym (append-nil new) ∙ append-joined (unreadable (line + newlines before) ∷ []) [] grown
       ∙ ap (λ d. old ++ d) (append-nil (texts right (left_marked after) line before ++ unreadable (line + newlines before) ∷ []))))
-      (so_far.completes (texts right (left_marked after) line before ++ unreadable (line + newlines before) ∷ []) (cuts-unclosed right line bs before after (sym here) (sym is)))
+      (so_far.completes (texts right (left_marked after) line before ++ unreadable (line + newlines before) ∷ [])
+      (cuts-unclosed right line bs before after (sym here) (sym is)))
 
-pub Completed-last : (file : List ℕ) (old new : List Piece) (right : Bool) (line : ℕ) (bs : List ℕ) → Completed file old right line bs → None ≡ split_open bs → new ≡ old ++ texts right false line bs → Cuts false 1 file new
-Completed-last file old new right line bs so_far e g = subst (λ d. Cuts false 1 file d) (sym g) (so_far.completes (texts right false line bs) (cuts-last right line bs (sym e)))
+pub Completed-last : (file : List ℕ) (old new : List Piece) (right : Bool) (line : ℕ) (bs : List ℕ) → Completed file old right line bs
+    → None ≡ split_open bs → new ≡ old ++ texts right false line bs → Cuts false 1 file new
+Completed-last file old new right line bs so_far e g = subst (λ d. Cuts false 1 file d) (sym g)
+    (so_far.completes (texts right false line bs) (cuts-last right line bs (sym e)))
 
 -- ---- one list of pieces
 
 -- the pieces of what a `{{` begins, and those behind it
 at-closed : (line : ℕ) (after : List ℕ) (o : Opened) (end : End) (further : Bool → ℕ → List ℕ → List Piece) → ends_at o ≡ Some end
     → pieces_at line after o further ≡ pieces_of line o ++ further end.trims (line + newlines (stretch after end.rest)) end.rest
-at-closed line after (comment e) end further h = let same : e ≡ end = cc in ap (λ (x : End). further x.trims (line + newlines (stretch after x.rest)) x.rest) same
-at-closed line after (tokens ts e) end further h = let same : e ≡ end = cc in ap (λ (x : End). action line ts ∷ further x.trims (line + newlines (stretch after x.rest)) x.rest) same
+at-closed line after (comment e) end further h = let same : e ≡ end =
+    cc in ap (λ (x : End). further x.trims (line + newlines (stretch after x.rest)) x.rest) same
+at-closed line after (tokens ts e) end further h = let same : e ≡ end =
+    cc in ap (λ (x : End). action line ts ∷ further x.trims (line + newlines (stretch after x.rest)) x.rest) same
 at-closed line after neither end further h = let g : ◌≡◌ {A = Option End} None (Some end) = h in cc
 
 -- bytes are cut into the pieces of `cut_within`
@@ -259,17 +291,22 @@ cut_within-Cuts zero right line bs h = absurd (omega arith)
 cut_within-Cuts (suc n) right line bs h =
     go (λ t next rest (less : length rest < length bs). cut_within-Cuts n t next rest (omega arith)) (split_open bs) refl
   where
-    tell : ((t : Bool) (next : ℕ) (rest : List ℕ) → length rest < length bs → Cuts t next rest (cut_within n t next rest)) → (before after : List ℕ) → split_open bs ≡ Some (before, after) → (o : Opened) → opened (past_left after) ≡ o → (c : Option End) → ends_at o ≡ c → Cuts right line bs (texts right (left_marked after) line before ++ pieces_at (line + newlines before) after o (cut_within n))
+    tell : ((t : Bool) (next : ℕ) (rest : List ℕ) → length rest < length bs → Cuts t next rest (cut_within n t next rest)) → (before after : List ℕ)
+        → split_open bs ≡ Some (before, after) → (o : Opened) → opened (past_left after) ≡ o → (c : Option End) → ends_at o ≡ c
+        → Cuts right line bs (texts right (left_marked after) line before ++ pieces_at (line + newlines before) after o (cut_within n))
     tell ih before after e (comment end) f None at = let g : ◌≡◌ {A = Option End} (Some end) None = at in cc
     tell ih before after e (tokens ts end) f None at = let g : ◌≡◌ {A = Option End} (Some end) None = at in cc
     tell ih before after e neither f None at = cuts-unclosed right line bs before after e f
     tell ih before after e o f (Some end) at =
         subst (λ (ps : List Piece). Cuts right line bs ps)
-        (append_assoc (texts right (left_marked after) line before) (pieces_of (line + newlines before) o) (cut_within n end.trims (line + newlines before + newlines (stretch after end.rest)) end.rest)
+        (append_assoc (texts right (left_marked after) line before) (pieces_of (line + newlines before) o)
+        (cut_within n end.trims (line + newlines before + newlines (stretch after end.rest)) end.rest)
         ∙ ap (λ ps. texts right (left_marked after) line before ++ ps) (sym (at-closed (line + newlines before) after o end (cut_within n) at)))
-        (cuts-closed right line bs before after o end _ e f at (ih end.trims (line + newlines before + newlines (stretch after end.rest)) end.rest (omega (arith, split_open-shorter bs before after end (sym e) (sym (ap ends_at f ∙ at))))))
+        (cuts-closed right line bs before after o end _ e f at (ih end.trims (line + newlines before + newlines (stretch after end.rest)) end.rest
+        (omega (arith, split_open-shorter bs before after end (sym e) (sym (ap ends_at f ∙ at))))))
 
-    go : ((t : Bool) (next : ℕ) (rest : List ℕ) → length rest < length bs → Cuts t next rest (cut_within n t next rest)) → (o : Option (List ℕ × List ℕ)) → split_open bs ≡ o → Cuts right line bs (pieces_from right line bs o (cut_within n))
+    go : ((t : Bool) (next : ℕ) (rest : List ℕ) → length rest < length bs → Cuts t next rest (cut_within n t next rest))
+        → (o : Option (List ℕ × List ℕ)) → split_open bs ≡ o → Cuts right line bs (pieces_from right line bs o (cut_within n))
     go ih None e = cuts-last right line bs e
     go ih (Some p) e = tell ih p.0 p.1 e (opened (past_left p.1)) refl (ends_at (opened (past_left p.1))) refl
 
@@ -283,7 +320,8 @@ record IsLed (right : Bool) (line : ℕ) (before opening rest : List ℕ) (piece
   past : past_left after ≡ rest
   pieces_are : pieces ≡ texts right (left_marked after) line before
 
-is-led : {right : Bool} {line : ℕ} {before opening rest : List ℕ} {pieces : List Piece} → Leads right line before opening rest pieces → IsLed right line before opening rest pieces
+is-led : {right : Bool} {line : ℕ} {before opening rest : List ℕ} {pieces : List Piece} → Leads right line before opening rest pieces
+    → IsLed right line before opening rest pieces
 is-led {right} {line} {before} {opening} {rest} {pieces} h =
     let m = is-marked h.opens in record {
       after = m.marker ++ rest;
@@ -296,7 +334,8 @@ is-led {right} {line} {before} {opening} {rest} {pieces} h =
     }
 
 -- and into no others
-pub Cuts-cut_within : (n : ℕ) (right : Bool) (line : ℕ) (bs : List ℕ) (ps : List Piece) → Cuts right line bs ps → length bs < n → ps ≡ cut_within n right line bs
+pub Cuts-cut_within : (n : ℕ) (right : Bool) (line : ℕ) (bs : List ℕ) (ps : List Piece) → Cuts right line bs ps → length bs < n
+    → ps ≡ cut_within n right line bs
 unfolding cut_within
 Cuts-cut_within zero right line bs ps cuts h = absurd (omega arith)
 Cuts-cut_within (suc n) right line bs ps (last none t) h =
@@ -307,19 +346,22 @@ Cuts-cut_within (suc n) right line _ _ (unclosed {before = before} {opening = op
     ap (λ (d : List Piece). d ++ unreadable (line + newlines before) ∷ []) led.pieces_are
     ∙ ap (λ o. texts right (left_marked led.after) line before ++ pieces_at (line + newlines before) led.after o (cut_within n)) (sym f)
     ∙ ap (λ o. pieces_from right line (before ++ opening ++ rest) o (cut_within n)) (sym (ap split_open (append_assoc before opening rest) ∙ led.opens))
-Cuts-cut_within (suc n) right line _ _ (closed {trims = trims} {before = before} {opening = opening} {body = body} {rest = rest} {texts = pieces} {here = here} {ps = ps} leads c cuts) h =
+Cuts-cut_within (suc n) right line _ _ (closed {trims = trims} {before = before} {opening = opening} {body = body} {rest = rest} {texts =
+    pieces} {here = here} {ps = ps} leads c cuts) h =
     let led = is-led leads in
     let end : End = record { trims = trims; rest = rest } in
     let o : Opened = opened (past_left led.after) in
     let is = closed-opened c in
     let bs : List ℕ = before ++ opening ++ body ++ rest in
     let at : ends_at o ≡ Some end = ap (λ l. ends_at (opened l)) led.past ∙ is.ends in
-    let split : split_open bs ≡ Some (before, led.after) = ap split_open (append_assoc (before ++ opening) body rest ∙ append_assoc before opening (body ++ rest)) ∙ led.opens in
+    let split : split_open bs ≡ Some (before, led.after) = ap split_open
+    (append_assoc (before ++ opening) body rest ∙ append_assoc before opening (body ++ rest)) ∙ led.opens in
     let here_is : here ≡ pieces_of (line + newlines before) o = sym (ap (λ l. pieces_of (line + newlines before) (opened l)) led.past ∙ is.pieces) in
     let lines : line + newlines (before ++ opening ++ body) ≡ line + newlines before + newlines (stretch led.after rest) =
     ap (λ l. line + newlines (before ++ l ++ body)) led.opening_is ∙ sym (lines-is line before led.marker body rest led.after led.after_is) in
     let next : ps ≡ cut_within n trims (line + newlines before + newlines (stretch led.after rest)) rest =
-    Cuts-cut_within n trims (line + newlines (before ++ opening ++ body)) rest ps cuts (omega (arith, split_open-shorter bs before led.after end (sym split) (sym at)))
+    Cuts-cut_within n trims (line + newlines (before ++ opening ++ body)) rest ps cuts
+    (omega (arith, split_open-shorter bs before led.after end (sym split) (sym at)))
     ∙ ap (λ k. cut_within n trims k rest) lines in
     ap (λ (d : List Piece). d ++ here ++ ps) led.pieces_are
     ∙ append_assoc (texts right (left_marked led.after) line before) here ps

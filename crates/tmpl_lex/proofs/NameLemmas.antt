@@ -1,4 +1,4 @@
--- The bytes of a field or variable behind the first are a name.
+-- For the printer of tmpl_grammar: the bytes of a field or variable behind the first are a name.
 use Rattle.std.proofs.Common.{◌≡◌, ℕ, true, List, drop}
 use Rattle.std.specs.List.{list_all}
 use Rattle.tmpl_lex.specs.declared.piece.TokenKind.{TokenKind}

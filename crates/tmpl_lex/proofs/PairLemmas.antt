@@ -1,5 +1,7 @@
--- Where two bytes first follow one another.
-use Rattle.std.proofs.Common.{arith, ◌≡◌, ◌∙◌, ℕ, zero, suc, ◌+◌, ◌≤◌, Bool, true, false, List, [], ◌∷◌, ◌++◌, Option, Some, None, refl, sym, ap, length, take, drop, nat_eq, ◌&&◌, length-drop, append_assoc, get_or, ◌<◌}
+-- For `split_pair`, which skips by `memchr`: where two bytes first follow one another.
+use Rattle.std.proofs.Common.{arith, ◌≡◌, ◌∙◌, ℕ, zero, suc, ◌+◌, ◌≤◌, Bool, true, false, List, [], ◌∷◌, ◌++◌, Option}
+use Rattle.std.proofs.Common.{Some, None, refl, sym, ap, length, take, drop, nat_eq, ◌&&◌, length-drop, append_assoc}
+use Rattle.std.proofs.Common.{get_or, ◌<◌}
 use Rattle.std.proofs.lemmas.Bool.{eqb-true, and_parts, false_from_ne_true}
 use Rattle.std.proofs.Math.Seq.{take-add}
 use lib.Seq.{drop-drop}
@@ -24,7 +26,8 @@ split_pair-lengths x y [] before after e = let g : ◌≡◌ {A = Option (List �
 split_pair-lengths x y (a ∷ []) before after e = let g : ◌≡◌ {A = Option (List ℕ × List ℕ)} None (Some (before, after)) = e in cc
 split_pair-lengths x y (a ∷ b ∷ bs) before after e = go (nat_eq a x && nat_eq b y) (split_pair x y (b ∷ bs)) (λ c d. split_pair-lengths x y (b ∷ bs) c d) e
   where
-    go : (t : Bool) (o : Option (List ℕ × List ℕ)) → ((c d : List ℕ) → o ≡ Some (c, d) → length c + length d + 2 ≡ length (b ∷ bs)) → split_here t a (b ∷ bs) o ≡ Some (before, after) → length before + length after + 2 ≡ length (a ∷ b ∷ bs)
+    go : (t : Bool) (o : Option (List ℕ × List ℕ)) → ((c d : List ℕ) → o ≡ Some (c, d) → length c + length d + 2 ≡ length (b ∷ bs))
+        → split_here t a (b ∷ bs) o ≡ Some (before, after) → length before + length after + 2 ≡ length (a ∷ b ∷ bs)
     go true o ih h =
         let first : [] ≡ before = ap (λ (q : List ℕ × List ℕ). q.0) (some_pair ([], bs) (before, after) h) in
         let same : bs ≡ after = ap (λ (q : List ℕ × List ℕ). q.1) (some_pair ([], bs) (before, after) h) in
@@ -54,7 +57,8 @@ split_here-false true c a bs o e = cc
 split_here-false false c a bs o e = refl
 
 -- the pair stands at no place before one up to which its first byte does not stand
-split_pair-passed : (x y : ℕ) (bs : List ℕ) (k : ℕ) → k ≤ length bs → Nowhere (Passes (is_byte x) bs) 0 k → split_pair x y bs ≡ behind (take k bs) (split_pair x y (drop k bs))
+split_pair-passed : (x y : ℕ) (bs : List ℕ) (k : ℕ) → k ≤ length bs → Nowhere (Passes (is_byte x) bs) 0 k
+    → split_pair x y bs ≡ behind (take k bs) (split_pair x y (drop k bs))
 split_pair-passed x y bs zero within none = sym (behind-nil (split_pair x y bs))
 split_pair-passed x y [] (suc k) within none = absurd (omega arith)
 split_pair-passed x y (a ∷ []) (suc zero) within none = refl
@@ -65,19 +69,22 @@ split_pair-passed x y (a ∷ b ∷ bs) (suc k) within none =
     ∙ with_first-behind a (take k (b ∷ bs)) (split_pair x y (drop k (b ∷ bs)))
 
 -- so it stands where it stands from there on
-pub split_from-passed : (x y : ℕ) (bs : List ℕ) (i k : ℕ) → k ≤ length (drop i bs) → Nowhere (Passes (is_byte x) (drop i bs)) 0 k → split_from x y i bs ≡ split_from x y (i + k) bs
+pub split_from-passed : (x y : ℕ) (bs : List ℕ) (i k : ℕ) → k ≤ length (drop i bs) → Nowhere (Passes (is_byte x) (drop i bs)) 0 k
+    → split_from x y i bs ≡ split_from x y (i + k) bs
 split_from-passed x y bs i k within none =
     ap (behind (take i bs)) (split_pair-passed x y (drop i bs) k within none)
     ∙ behind-behind (take i bs) (take k (drop i bs)) (split_pair x y (drop k (drop i bs)))
     ∙ (λ j. behind (sym (take-add i k bs) j) (split_pair x y (drop-drop k i bs j)))
 
 -- where the pair does not stand at a place, it stands where it stands from the next place on
-split_from-suc : (x y : ℕ) (bs : List ℕ) (i : ℕ) → suc i < length bs → (get_or bs i 0 ≡ x → get_or bs (suc i) 0 ≡ y → ⊥) → split_from x y i bs ≡ split_from x y (suc i) bs
+split_from-suc : (x y : ℕ) (bs : List ℕ) (i : ℕ) → suc i < length bs → (get_or bs i 0 ≡ x → get_or bs (suc i) 0 ≡ y → ⊥)
+    → split_from x y i bs ≡ split_from x y (suc i) bs
 split_from-suc x y [] i h differ = absurd (omega arith)
 split_from-suc x y (a ∷ []) i h differ = absurd (omega arith)
 split_from-suc x y (a ∷ b ∷ bs) zero h differ =
     behind-nil (split_pair x y (a ∷ b ∷ bs))
-    ∙ ap (λ t. split_here t a (b ∷ bs) (split_pair x y (b ∷ bs))) (false_from_ne_true (nat_eq a x && nat_eq b y) (λ e. let both = and_parts (nat_eq a x) (nat_eq b y) e in differ (eqb-true a x both.0) (eqb-true b y both.1)))
+    ∙ ap (λ t. split_here t a (b ∷ bs) (split_pair x y (b ∷ bs))) (false_from_ne_true (nat_eq a x && nat_eq b y)
+    (λ e. let both = and_parts (nat_eq a x) (nat_eq b y) e in differ (eqb-true a x both.0) (eqb-true b y both.1)))
     ∙ ap (with_first a) (sym (behind-nil (split_pair x y (b ∷ bs))))
     ∙ with_first-behind a [] (split_pair x y (b ∷ bs))
 split_from-suc x y (a ∷ b ∷ bs) (suc i) h differ =
@@ -85,7 +92,8 @@ split_from-suc x y (a ∷ b ∷ bs) (suc i) h differ =
     ∙ ap (with_first a) (split_from-suc x y (b ∷ bs) i (omega arith) differ)
     ∙ with_first-behind a (take (suc i) (b ∷ bs)) (split_pair x y (drop (suc i) (b ∷ bs)))
 
-pub split_from-next : (x y : ℕ) (bs : List ℕ) (i : ℕ) → i + 1 < length bs → (get_or bs i 0 ≡ x → get_or bs (i + 1) 0 ≡ y → ⊥) → split_from x y i bs ≡ split_from x y (i + 1) bs
+pub split_from-next : (x y : ℕ) (bs : List ℕ) (i : ℕ) → i + 1 < length bs → (get_or bs i 0 ≡ x → get_or bs (i + 1) 0 ≡ y → ⊥)
+    → split_from x y i bs ≡ split_from x y (i + 1) bs
 split_from-next x y bs i h differ =
     let one : i + 1 ≡ suc i = omega arith in
     split_from-suc x y bs i (omega arith) (λ e f. differ e (ap (λ (n : ℕ). get_or bs n 0) one ∙ f)) ∙ ap (λ (n : ℕ). split_from x y n bs) (sym one)

@@ -1,5 +1,7 @@
--- Lists told by their parts, and the pairs and runs that are computed of them.
-use Rattle.std.proofs.Common.{arith, ◌≡◌, ◌∙◌, ℕ, suc, ◌+◌, Bool, true, false, ◌&&◌, nat_eq, cond, List, [], ◌∷◌, ◌++◌, Option, Some, None, refl, sym, ap, subst, length, take, drop, get_or, append_assoc, length-append}
+-- For the laws `one_cut` and `one_token`: what is computed of a list, told by the parts that it is put together from.
+use Rattle.std.proofs.Common.{arith, ◌≡◌, ◌∙◌, ℕ, suc, ◌+◌, Bool, true, false, ◌&&◌, nat_eq, cond, List, [], ◌∷◌, ◌++◌}
+use Rattle.std.proofs.Common.{Option, Some, None, refl, sym, ap, subst, length, take, drop, get_or, append_assoc}
+use Rattle.std.proofs.Common.{length-append}
 use Rattle.std.specs.List.{prefix_len, list_all, take_while}
 use Rattle.std.proofs.lemmas.Bool.{eqb-true, and_parts, both_ways, false_from_ne_true}
 use Rattle.std.proofs.lemmas.Bool.Decides.{nat_tests}
@@ -100,7 +102,8 @@ split-is x y [] p e = let g : ◌≡◌ {A = Option (List ℕ × List ℕ)} None
 split-is x y (a ∷ []) p e = let g : ◌≡◌ {A = Option (List ℕ × List ℕ)} None (Some p) = e in cc
 split-is x y (a ∷ b ∷ bs) p e = go (nat_eq a x && nat_eq b y) refl (split_pair x y (b ∷ bs)) (λ q f. split-is x y (b ∷ bs) q f) e
   where
-    go : (t : Bool) → (nat_eq a x && nat_eq b y) ≡ t → (o : Option (List ℕ × List ℕ)) → ((q : List ℕ × List ℕ) → o ≡ Some q → IsSplit x y (b ∷ bs) q.0 q.1) → split_here t a (b ∷ bs) o ≡ Some p → IsSplit x y (a ∷ b ∷ bs) p.0 p.1
+    go : (t : Bool) → (nat_eq a x && nat_eq b y) ≡ t → (o : Option (List ℕ × List ℕ))
+        → ((q : List ℕ × List ℕ) → o ≡ Some q → IsSplit x y (b ∷ bs) q.0 q.1) → split_here t a (b ∷ bs) o ≡ Some p → IsSplit x y (a ∷ b ∷ bs) p.0 p.1
     go true t o ih h =
         let both = and_parts (nat_eq a x) (nat_eq b y) t in
         let same : ◌≡◌ {A = List ℕ × List ℕ} ([], bs) p = cc in

@@ -1,5 +1,6 @@
--- Up to a closing quote.
-use Rattle.std.proofs.Common.{arith, ◌≡◌, ◌∙◌, ℕ, zero, suc, ◌+◌, ◌<◌, Bool, false, List, [], ◌∷◌, ◌++◌, Option, Some, None, refl, ap, length, take, drop, nat_eq}
+-- For `quoted_len` and `through_len`: what stands up to a closing quote.
+use Rattle.std.proofs.Common.{arith, ◌≡◌, ◌∙◌, ℕ, zero, suc, ◌+◌, ◌<◌, Bool, false, List, [], ◌∷◌, ◌++◌, Option, Some}
+use Rattle.std.proofs.Common.{None, refl, ap, length, take, drop, nat_eq}
 use Rattle.std.proofs.lemmas.Bool.{false_from_ne_true}
 use Rattle.memchr.specs.Find.{Nowhere, Passes, is_byte}
 use Rattle.tmpl_lex.specs.computed.Quoted.{with_byte, up_to, through, quoted}
@@ -12,7 +13,8 @@ through-none q (b ∷ bs) none =
     ap (λ t. up_to t b (through q bs)) (false_from_ne_true (nat_eq b q) (none 0 (omega arith) (omega arith)))
     ∙ ap (with_byte b) (through-none q bs (λ k low high. none (suc k) (omega arith) (omega arith)))
 
-pub through-some : (q : ℕ) (bs : List ℕ) (k : ℕ) → k < length bs → Nowhere (Passes (is_byte q) bs) 0 k → Passes (is_byte q) bs k → through q bs ≡ Some (take (k + 1) bs)
+pub through-some : (q : ℕ) (bs : List ℕ) (k : ℕ) → k < length bs → Nowhere (Passes (is_byte q) bs) 0 k → Passes (is_byte q) bs k
+    → through q bs ≡ Some (take (k + 1) bs)
 through-some q [] k h none here = absurd (omega arith)
 through-some q (b ∷ bs) zero h none here = ap (λ t. up_to t b (through q bs)) here
 through-some q (b ∷ bs) (suc k) h none here =

@@ -1,5 +1,6 @@
--- Runs of bytes at the front of a list.
-use Rattle.std.proofs.Common.{arith, ◌≡◌, ◌∙◌, ℕ, zero, suc, ◌+◌, ◌-◌, Bool, true, false, cond, List, [], ◌∷◌, ◌++◌, refl, ap, subst, take, drop, not, ◌&&◌, nat_eq}
+-- For `space_len` and the lemmas of tokens: runs of bytes at the front of a list.
+use Rattle.std.proofs.Common.{arith, ◌≡◌, ◌∙◌, ℕ, zero, suc, ◌+◌, ◌-◌, Bool, true, false, cond, List, [], ◌∷◌, ◌++◌}
+use Rattle.std.proofs.Common.{refl, ap, subst, take, drop, not, ◌&&◌, nat_eq}
 use Rattle.std.proofs.lemmas.Bool.{eqb-true, and_parts, both_ways}
 use Rattle.std.specs.List.{prefix_len}
 use Rattle.std.proofs.lemmas.List.{take-append-drop}
@@ -44,7 +45,9 @@ pub space_run-plain : (bs : List ℕ) → has_dashed_delimiter (drop (prefix_len
 space_run-plain [] e = refl
 space_run-plain (b ∷ bs) e = go (space_run-plain bs) (is_space b) e
   where
-    go : (has_dashed_delimiter (drop (prefix_len is_space bs) bs) ≡ false → take (prefix_len is_space bs) bs ≡ space_run bs) → (s : Bool) → has_dashed_delimiter (drop (cond s (1 + prefix_len is_space bs) 0) (b ∷ bs)) ≡ false → take (cond s (1 + prefix_len is_space bs) 0) (b ∷ bs) ≡ kept_while (s && not (s && has_dashed_delimiter bs)) b (space_run bs)
+    go : (has_dashed_delimiter (drop (prefix_len is_space bs) bs) ≡ false → take (prefix_len is_space bs) bs ≡ space_run bs) → (s : Bool)
+        → has_dashed_delimiter (drop (cond s (1 + prefix_len is_space bs) 0) (b ∷ bs)) ≡ false
+        → take (cond s (1 + prefix_len is_space bs) 0) (b ∷ bs) ≡ kept_while (s && not (s && has_dashed_delimiter bs)) b (space_run bs)
     go ih false e = refl
     go ih true e = kept_while-plain b bs (space_run bs) (prefix_len is_space bs) (has_dashed_delimiter bs) refl (prefix_len-dash bs) ih e
 
@@ -66,7 +69,9 @@ pub space_run-marked : (bs : List ℕ) → has_dashed_delimiter (drop (prefix_le
 space_run-marked [] e = refl
 space_run-marked (b ∷ bs) e = go (space_run-marked bs) (is_space b) e
   where
-    go : (has_dashed_delimiter (drop (prefix_len is_space bs) bs) ≡ true → take (prefix_len is_space bs - 1) bs ≡ space_run bs) → (s : Bool) → has_dashed_delimiter (drop (cond s (1 + prefix_len is_space bs) 0) (b ∷ bs)) ≡ true → take (cond s (1 + prefix_len is_space bs) 0 - 1) (b ∷ bs) ≡ kept_while (s && not (s && has_dashed_delimiter bs)) b (space_run bs)
+    go : (has_dashed_delimiter (drop (prefix_len is_space bs) bs) ≡ true → take (prefix_len is_space bs - 1) bs ≡ space_run bs) → (s : Bool)
+        → has_dashed_delimiter (drop (cond s (1 + prefix_len is_space bs) 0) (b ∷ bs)) ≡ true
+        → take (cond s (1 + prefix_len is_space bs) 0 - 1) (b ∷ bs) ≡ kept_while (s && not (s && has_dashed_delimiter bs)) b (space_run bs)
     go ih false e = refl
     go ih true e = kept_while-marked b bs (space_run bs) (prefix_len is_space bs) (has_dashed_delimiter bs) refl (prefix_len-dash bs) ih e
 

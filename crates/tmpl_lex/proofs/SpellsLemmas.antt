@@ -1,5 +1,6 @@
--- What is computed behind a `{{` is what the relations say.
-use Rattle.std.proofs.Common.{◌≡◌, ◌∙◌, ℕ, zero, suc, ◌-◌, Bool, true, false, ◌&&◌, nat_eq, List, [], ◌∷◌, ◌++◌, Option, Some, None, refl, sym, ap, subst, length, drop, append_assoc, arith}
+-- For the law `one_cut`: what is computed behind a `{{` is what the relations say.
+use Rattle.std.proofs.Common.{◌≡◌, ◌∙◌, ℕ, zero, suc, ◌-◌, Bool, true, false, ◌&&◌, nat_eq, List, [], ◌∷◌, ◌++◌, Option}
+use Rattle.std.proofs.Common.{Some, None, refl, sym, ap, subst, length, drop, append_assoc, arith}
 use Rattle.std.proofs.Math.Seq.{drop-append_seam}
 use Rattle.std.proofs.lemmas.Bool.{eqb-true, and_parts, false_from_ne_true}
 use Rattle.std.proofs.lemmas.Bool.Decides.{nat_tests}
@@ -9,7 +10,9 @@ use Rattle.tmpl_lex.specs.Delimiter.{Closes, closes, closes_marked}
 use Rattle.tmpl_lex.specs.Laws.{IsFound}
 use Rattle.tmpl_lex.specs.Piece.{Token, Piece, action}
 use Rattle.tmpl_lex.specs.Token.{bytes_of, Spells}
-use Rattle.tmpl_lex.specs.computed.Action.{Inside, inside, inside_after, inside_from, with_token, Opened, comment, tokens, neither, opened, opened_by, opens_comment, comment_closed, comment_end}
+use Rattle.tmpl_lex.specs.computed.Action.{Inside, inside, inside_after, inside_from, with_token, Opened, comment}
+use Rattle.tmpl_lex.specs.computed.Action.{tokens, neither, opened, opened_by, opens_comment, comment_closed}
+use Rattle.tmpl_lex.specs.computed.Action.{comment_end}
 use Rattle.tmpl_lex.specs.computed.Bytes.{split_pair}
 use Rattle.tmpl_lex.specs.computed.Cut.{pieces_of, ends_at}
 use Rattle.tmpl_lex.specs.computed.Token.{front_token}
@@ -31,7 +34,8 @@ reads-end : (bs : List ℕ) (end : End) → right_delimiter bs ≡ Some end → 
 reads-end bs end h = let e = found-ends bs end h in record { closing = e.closing; spells = tt; closes = e.closes; is = e.is }
 
 -- a token before others
-reads-token : (bs : List ℕ) (t : Token) (ts : List Token) (end : End) → right_delimiter bs ≡ None → front_token bs ≡ Some t → Reads (drop (length t.bytes) bs) ts end → Reads bs (t ∷ ts) end
+reads-token : (bs : List ℕ) (t : Token) (ts : List Token) (end : End) → right_delimiter bs ≡ None → front_token bs ≡ Some t
+    → Reads (drop (length t.bytes) bs) ts end → Reads bs (t ∷ ts) end
 reads-token bs t ts end on at more =
     let here = stands bs t (record { no_end = on; front = at }) in
     let left : here.rest ≡ bytes_of ts ++ more.closing ++ end.rest =
@@ -50,7 +54,8 @@ inside_after-reads (suc n) (b ∷ bs) i e = inside_after-reads n bs i e
 inside_after-reads zero (b ∷ bs) i e =
     go (λ t j f. inside_after-reads (length t.bytes - 1) bs j f) (right_delimiter (b ∷ bs)) refl (front_token (b ∷ bs)) refl e
   where
-    add : (t : Token) → right_delimiter (b ∷ bs) ≡ None → front_token (b ∷ bs) ≡ Some t → (o : Option Inside) → ((j : Inside) → o ≡ Some j → Reads (drop (length t.bytes - 1) bs) j.0 j.1) → with_token t o ≡ Some i → Reads (b ∷ bs) i.0 i.1
+    add : (t : Token) → right_delimiter (b ∷ bs) ≡ None → front_token (b ∷ bs) ≡ Some t → (o : Option Inside)
+        → ((j : Inside) → o ≡ Some j → Reads (drop (length t.bytes - 1) bs) j.0 j.1) → with_token t o ≡ Some i → Reads (b ∷ bs) i.0 i.1
     add t on at None ih h = let g : ◌≡◌ {A = Option Inside} None (Some i) = h in cc
     add t on at (Some j) ih h =
         let same : ◌≡◌ {A = Inside} (t ∷ j.0, j.1) i = cc in
@@ -58,7 +63,9 @@ inside_after-reads zero (b ∷ bs) i e =
         subst (λ (k : Inside). Reads (b ∷ bs) k.0 k.1) same
         (reads-token (b ∷ bs) t j.0 j.1 on at (subst (λ (xs : List ℕ). Reads xs j.0 j.1) left (ih j refl)))
 
-    go : ((t : Token) (j : Inside) → inside_after (length t.bytes - 1) bs ≡ Some j → Reads (drop (length t.bytes - 1) bs) j.0 j.1) → (c : Option End) → right_delimiter (b ∷ bs) ≡ c → (o : Option Token) → front_token (b ∷ bs) ≡ o → inside_from c o (λ t. inside_after (length t.bytes - 1) bs) ≡ Some i → Reads (b ∷ bs) i.0 i.1
+    go : ((t : Token) (j : Inside) → inside_after (length t.bytes - 1) bs ≡ Some j → Reads (drop (length t.bytes - 1) bs) j.0 j.1) → (c : Option End)
+        → right_delimiter (b ∷ bs) ≡ c → (o : Option Token) → front_token (b ∷ bs) ≡ o
+        → inside_from c o (λ t. inside_after (length t.bytes - 1) bs) ≡ Some i → Reads (b ∷ bs) i.0 i.1
     go ih (Some end) on o at h =
         let same : ◌≡◌ {A = Inside} ([], end) i = cc in
         subst (λ (k : Inside). Reads (b ∷ bs) k.0 k.1) same (reads-end (b ∷ bs) end on)
@@ -70,7 +77,8 @@ unfolding inside
 inside-reads bs i e = inside_after-reads 0 bs i e
 
 -- and no other tokens and end
-spells-inside : (ts : List Token) (trims : Bool) (closing rest : List ℕ) → Spells ts (closing ++ rest) → Closes trims closing → inside (bytes_of ts ++ (closing ++ rest)) ≡ Some (ts, record { trims = trims; rest = rest })
+spells-inside : (ts : List Token) (trims : Bool) (closing rest : List ℕ) → Spells ts (closing ++ rest) → Closes trims closing
+    → inside (bytes_of ts ++ (closing ++ rest)) ≡ Some (ts, record { trims = trims; rest = rest })
 spells-inside [] trims closing rest h c = inside-closed (closing ++ rest) (record { trims = trims; rest = rest }) (sym (closes-found rest c))
 spells-inside (t ∷ ts) trims closing rest h c =
     let more : List ℕ = bytes_of ts ++ (closing ++ rest) in
@@ -96,7 +104,8 @@ token-uncommented (a ∷ b ∷ bs) t e = false_from_ne_true (nat_eq a 47 && nat_
     let none : ◌≡◌ {A = Option Token} None (Some t) = ap (λ k. front_token (k ∷ b ∷ bs)) (sym slash) ∙ e in
     cc)
 
-spells-uncommented : (ts : List Token) (trims : Bool) (closing rest : List ℕ) → Spells ts (closing ++ rest) → Closes trims closing → opens_comment (bytes_of ts ++ (closing ++ rest)) ≡ false
+spells-uncommented : (ts : List Token) (trims : Bool) (closing rest : List ℕ) → Spells ts (closing ++ rest) → Closes trims closing
+    → opens_comment (bytes_of ts ++ (closing ++ rest)) ≡ false
 spells-uncommented [] trims closing rest h c = end-uncommented rest c
 spells-uncommented (t ∷ ts) trims closing rest h c =
     let more : List ℕ = bytes_of ts ++ (closing ++ rest) in
@@ -126,7 +135,8 @@ comment-is : (line : ℕ) (bs : List ℕ) (end : End) → comment_end bs ≡ Som
 unfolding comment_end
 comment-is line bs end h = go (opens_comment bs) refl (split_pair 42 47 (drop 2 bs)) refl h
   where
-    go : (t : Bool) → opens_comment bs ≡ t → (o : Option (List ℕ × List ℕ)) → split_pair 42 47 (drop 2 bs) ≡ o → comment_closed t o ≡ Some end → HasClosed line bs end []
+    go : (t : Bool) → opens_comment bs ≡ t → (o : Option (List ℕ × List ℕ)) → split_pair 42 47 (drop 2 bs) ≡ o → comment_closed t o ≡ Some end
+        → HasClosed line bs end []
     go false t o s h = let g : ◌≡◌ {A = Option End} None (Some end) = h in cc
     go true t None s h = let g : ◌≡◌ {A = Option End} None (Some end) = h in cc
     go true t (Some p) s h =
@@ -141,7 +151,8 @@ comment-is line bs end h = go (opens_comment bs) refl (split_pair 42 47 (drop 2 
               ∙ sym (append_assoc (head ++ 42 ∷ 47 ∷ []) ends.closing end.rest ∙ append_assoc head (42 ∷ 47 ∷ []) (ends.closing ++ end.rest));
         }
 
-comment-end : (inside closing rest : List ℕ) (trims : Bool) → Absent (42 ∷ 47 ∷ []) (inside ++ 42 ∷ []) → Closes trims closing → comment_end (47 ∷ 42 ∷ (inside ++ 42 ∷ 47 ∷ (closing ++ rest))) ≡ Some (record { trims = trims; rest = rest })
+comment-end : (inside closing rest : List ℕ) (trims : Bool) → Absent (42 ∷ 47 ∷ []) (inside ++ 42 ∷ []) → Closes trims closing
+    → comment_end (47 ∷ 42 ∷ (inside ++ 42 ∷ 47 ∷ (closing ++ rest))) ≡ Some (record { trims = trims; rest = rest })
 unfolding comment_end
 comment-end inside closing rest trims h c = ap (comment_closed true) (absent-split 42 47 inside (closing ++ rest) h) ∙ closes-found rest c
 
@@ -149,7 +160,8 @@ pub opened-closed : (line : ℕ) (bs : List ℕ) (o : Opened) (end : End) → op
 unfolding opened
 opened-closed line bs o end e at = go (comment_end bs) refl (inside bs) refl o e at
   where
-    go : (c : Option End) → comment_end bs ≡ c → (i : Option Inside) → inside bs ≡ i → (o : Opened) → opened_by c i ≡ o → ends_at o ≡ Some end → HasClosed line bs end (pieces_of line o)
+    go : (c : Option End) → comment_end bs ≡ c → (i : Option Inside) → inside bs ≡ i → (o : Opened) → opened_by c i ≡ o → ends_at o ≡ Some end
+        → HasClosed line bs end (pieces_of line o)
     go (Some x) c i d o e at =
         let same : x ≡ end = (let g : ◌≡◌ {A = Option End} (Some x) (Some end) = ap ends_at e ∙ at in cc) in
         subst (λ (o : Opened). HasClosed line bs end (pieces_of line o)) e (comment-is line bs end (c ∙ ap (λ (x : End). Some x) same))
@@ -173,13 +185,15 @@ opened-by : (bs : List ℕ) → opened bs ≡ opened_by (comment_end bs) (inside
 unfolding opened
 opened-by bs = refl
 
-pub closed-opened : {line : ℕ} {body : List ℕ} {trims : Bool} {rest : List ℕ} {ps : List Piece} → Closed line body trims rest ps → IsOpened line (body ++ rest) (record { trims = trims; rest = rest }) ps
+pub closed-opened : {line : ℕ} {body : List ℕ} {trims : Bool} {rest : List ℕ} {ps : List Piece} → Closed line body trims rest ps
+    → IsOpened line (body ++ rest) (record { trims = trims; rest = rest }) ps
 closed-opened (a_comment {line = line} {trims = trims} inside_is {closing = closing} {rest = rest} h c) =
     let end : End = record { trims = trims; rest = rest } in
     let head : List ℕ = 47 ∷ 42 ∷ inside_is in
     let bs : List ℕ = head ++ 42 ∷ 47 ∷ [] ++ closing ++ rest in
     let e : comment_end bs ≡ Some end =
-    ap comment_end (append_assoc (head ++ 42 ∷ 47 ∷ []) closing rest ∙ append_assoc head (42 ∷ 47 ∷ []) (closing ++ rest)) ∙ comment-end inside_is closing rest trims h c in
+    ap comment_end (append_assoc (head ++ 42 ∷ 47 ∷ []) closing rest ∙ append_assoc head (42 ∷ 47 ∷ []) (closing ++ rest))
+    ∙ comment-end inside_is closing rest trims h c in
     opened-is line bs end (comment end) (opened-by bs ∙ ap (λ o. opened_by o (inside bs)) e) refl
 closed-opened (an_action {line = line} {trims = trims} {ts = ts} {closing = closing} {rest = rest} h c) =
     let end : End = record { trims = trims; rest = rest } in
@@ -187,7 +201,8 @@ closed-opened (an_action {line = line} {trims = trims} {ts = ts} {closing = clos
     let whole : List ℕ = bytes_of ts ++ closing ++ rest in
     let e : comment_end bs ≡ None = uncommented bs (spells-uncommented ts trims closing rest h c) in
     let same : opened whole ≡ tokens ts end =
-    ap opened (append_assoc (bytes_of ts) closing rest) ∙ opened-by bs ∙ ap (λ o. opened_by o (inside bs)) e ∙ ap (opened_by None) (spells-inside ts trims closing rest h c) in
+    ap opened (append_assoc (bytes_of ts) closing rest) ∙ opened-by bs ∙ ap (λ o. opened_by o (inside bs)) e
+    ∙ ap (opened_by None) (spells-inside ts trims closing rest h c) in
     opened-is line whole end (tokens ts end) same refl
 
 pub neither-closed : (bs : List ℕ) → opened bs ≡ neither → NoneClosed bs

@@ -1,5 +1,7 @@
--- The token that is computed at the front of bytes is the one that the table of tokens gives.
-use Rattle.std.proofs.Common.{arith, ◌≡◌, ◌∙◌, ℕ, Bool, true, false, ◌||◌, ◌&&◌, not, nat_eq, List, [], ◌∷◌, ◌++◌, Option, Some, None, refl, sym, ap, subst, length, drop, length-append, if◌then◌else◌, codes, ◌⊎◌, ⊎_elim}
+-- For the law `one_token`: the token that is computed at the front of bytes is the one of the table, row by row.
+use Rattle.std.proofs.Common.{arith, ◌≡◌, ◌∙◌, ℕ, Bool, true, false, ◌||◌, ◌&&◌, not, nat_eq, List, [], ◌∷◌, ◌++◌}
+use Rattle.std.proofs.Common.{Option, Some, None, refl, sym, ap, subst, length, drop, length-append, if◌then◌else◌}
+use Rattle.std.proofs.Common.{codes, ◌⊎◌, ⊎_elim}
 use Rattle.std.specs.Char.{is_ascii_digit}
 use Rattle.std.specs.List.{prefix_len, list_all, take_while}
 use Rattle.std.proofs.lemmas.Bool.{eqb-true, and_parts, both_ways, false_from_ne_true}
@@ -17,13 +19,15 @@ use Rattle.tmpl_lex.specs.Piece.{Token}
 use Rattle.tmpl_lex.specs.Token as table
 use Rattle.tmpl_lex.specs.Token.{IsToken, IsQuoted, no_byte, a_byte, an_escape, IsSign, no_sign, plus, minus, EndsSpace, at_byte, at_marker}
 use Rattle.tmpl_lex.specs.computed.Quoted.{with_byte, up_to, unless, through, quoted}
-use Rattle.tmpl_lex.specs.computed.Token.{Begun, front_of, mark_of, begun, token_from, number, signed, dotted, declare, assigned, of_kind, space_run, kept_while, name_run}
+use Rattle.tmpl_lex.specs.computed.Token.{Begun, front_of, mark_of, begun, token_from, number, signed, dotted, declare}
+use Rattle.tmpl_lex.specs.computed.Token.{assigned, of_kind, space_run, kept_while, name_run}
 use Rattle.tmpl_lex.specs.computed.Trim.{End, ended_by, has_right_delimiter, has_dashed_delimiter, right_marked, right_delimiter}
 use Rattle.tmpl_lex.proofs.PartLemmas.{same-first, same-rest, same-test, run-taken, taken-run, taken-rest}
 
 -- ---- where an action ends
 
-pub closes-found : {trims : Bool} {closing : List ℕ} (rest : List ℕ) → Closes trims closing → right_delimiter (closing ++ rest) ≡ Some (record { trims = trims; rest = rest })
+pub closes-found : {trims : Bool} {closing : List ℕ} (rest : List ℕ) → Closes trims closing
+    → right_delimiter (closing ++ rest) ≡ Some (record { trims = trims; rest = rest })
 closes-found rest closes = refl
 closes-found rest (closes_marked {w = w} h) =
     let other : nat_eq w 125 ≡ false = grind (arith, nat_tests) in
@@ -155,7 +159,8 @@ run-spaces (b ∷ bs) h = go (is_space b) refl (has_dashed_delimiter bs) refl (r
 
 -- ---- quotes
 
-quoted-found : (q : ℕ) (bs rest : List ℕ) → nat_eq 92 q ≡ false → nat_eq q 10 ≡ false → IsQuoted q bs → quoted q false (bs ++ q ∷ [] ++ rest) ≡ Some (bs ++ q ∷ [])
+quoted-found : (q : ℕ) (bs rest : List ℕ) → nat_eq 92 q ≡ false → nat_eq q 10 ≡ false → IsQuoted q bs
+    → quoted q false (bs ++ q ∷ [] ++ rest) ≡ Some (bs ++ q ∷ [])
 quoted-found q _ rest e n no_byte =
     ap (λ k. unless k (up_to (nat_eq q q && true) q (quoted q (nat_eq q 92 && true) rest))) n
     ∙ ap (λ k. up_to (k && true) q (quoted q (nat_eq q 92 && true) rest)) (same-test q)
@@ -193,7 +198,8 @@ escape-behind : (q b : ℕ) (bs : List ℕ) → b ≡ 92 → Behind q true bs �
 escape-behind q b [] e h = absurd h
 escape-behind q b (c ∷ bs) e h = subst (λ (k : ℕ). IsQuoted q (k ∷ c ∷ bs)) (sym e) (an_escape h.0 h.1)
 
-one-more : (q b : ℕ) (e s : Bool) (bs xs : List ℕ) → ((ys : List ℕ) → Behind q s ys → Behind q e (b ∷ ys)) → (o : Option (List ℕ)) → ((ys : List ℕ) → o ≡ Some ys → IsUpTo (Behind q s) q bs ys) → with_byte b o ≡ Some xs → IsUpTo (Behind q e) q (b ∷ bs) xs
+one-more : (q b : ℕ) (e s : Bool) (bs xs : List ℕ) → ((ys : List ℕ) → Behind q s ys → Behind q e (b ∷ ys)) → (o : Option (List ℕ))
+    → ((ys : List ℕ) → o ≡ Some ys → IsUpTo (Behind q s) q bs ys) → with_byte b o ≡ Some xs → IsUpTo (Behind q e) q (b ∷ bs) xs
 one-more q b e s bs xs step None ih h = let g : ◌≡◌ {A = Option (List ℕ)} None (Some xs) = h in cc
 one-more q b e s bs xs step (Some ys) ih h =
     let more = ih ys refl in
@@ -209,7 +215,9 @@ quoted-is : (q : ℕ) (e : Bool) (bs xs : List ℕ) → quoted q e bs ≡ Some x
 quoted-is q e [] xs h = let g : ◌≡◌ {A = Option (List ℕ)} None (Some xs) = h in cc
 quoted-is q false (b ∷ bs) xs h = go (nat_eq b 10) refl (nat_eq b q && true) refl (nat_eq b 92 && true) refl (λ s ys f. quoted-is q s bs ys f) h
   where
-    go : (l : Bool) → nat_eq b 10 ≡ l → (t : Bool) → (nat_eq b q && true) ≡ t → (s : Bool) → (nat_eq b 92 && true) ≡ s → ((s : Bool) (ys : List ℕ) → quoted q s bs ≡ Some ys → IsUpTo (Behind q s) q bs ys) → unless l (up_to t b (quoted q s bs)) ≡ Some xs → IsUpTo (Behind q false) q (b ∷ bs) xs
+    go : (l : Bool) → nat_eq b 10 ≡ l → (t : Bool) → (nat_eq b q && true) ≡ t → (s : Bool) → (nat_eq b 92 && true) ≡ s
+        → ((s : Bool) (ys : List ℕ) → quoted q s bs ≡ Some ys → IsUpTo (Behind q s) q bs ys) → unless l (up_to t b (quoted q s bs)) ≡ Some xs
+        → IsUpTo (Behind q false) q (b ∷ bs) xs
     go true el t et s es ih h = let g : ◌≡◌ {A = Option (List ℕ)} None (Some xs) = h in cc
     go false el true et s es ih h =
         let same : b ∷ [] ≡ xs = cc in
@@ -224,9 +232,12 @@ quoted-is q false (b ∷ bs) xs h = go (nat_eq b 10) refl (nat_eq b q && true) r
         one-more q b false false bs xs (λ ys f. a_byte el (and-true (nat_eq b 92) false es) (and-true (nat_eq b q) false et) f) (quoted q false bs) (ih false) h
     go false el false et true es ih h =
         one-more q b false true bs xs (λ ys f. escape-behind q b ys (eqb-true b 92 (and-true (nat_eq b 92) true es)) f) (quoted q true bs) (ih true) h
-quoted-is q true (b ∷ bs) xs h = go (nat_eq b 10) refl (nat_eq b q && false) (and-false (nat_eq b q)) (nat_eq b 92 && false) (and-false (nat_eq b 92)) (λ ys f. quoted-is q false bs ys f) h
+quoted-is q true (b ∷ bs) xs h = go (nat_eq b 10) refl (nat_eq b q && false) (and-false (nat_eq b q)) (nat_eq b 92 && false) (and-false (nat_eq b 92))
+    (λ ys f. quoted-is q false bs ys f) h
   where
-    go : (l : Bool) → nat_eq b 10 ≡ l → (t : Bool) → t ≡ false → (s : Bool) → s ≡ false → ((ys : List ℕ) → quoted q false bs ≡ Some ys → IsUpTo (Behind q false) q bs ys) → unless l (up_to t b (quoted q s bs)) ≡ Some xs → IsUpTo (Behind q true) q (b ∷ bs) xs
+    go : (l : Bool) → nat_eq b 10 ≡ l → (t : Bool) → t ≡ false → (s : Bool) → s ≡ false
+        → ((ys : List ℕ) → quoted q false bs ≡ Some ys → IsUpTo (Behind q false) q bs ys) → unless l (up_to t b (quoted q s bs)) ≡ Some xs
+        → IsUpTo (Behind q true) q (b ∷ bs) xs
     go true el t et s es ih h = let g : ◌≡◌ {A = Option (List ℕ)} None (Some xs) = h in cc
     go false el true et s es ih h = cc
     go false el false et true es ih h = cc
@@ -246,7 +257,8 @@ raw-is : (q : ℕ) (bs xs : List ℕ) → through q bs ≡ Some xs → IsUpTo (A
 raw-is q [] xs h = let g : ◌≡◌ {A = Option (List ℕ)} None (Some xs) = h in cc
 raw-is q (b ∷ bs) xs h = go (nat_eq b q) refl (through q bs) (λ ys f. raw-is q bs ys f) h
   where
-    go : (t : Bool) → nat_eq b q ≡ t → (o : Option (List ℕ)) → ((ys : List ℕ) → o ≡ Some ys → IsUpTo (Absent (q ∷ [])) q bs ys) → up_to t b o ≡ Some xs → IsUpTo (Absent (q ∷ [])) q (b ∷ bs) xs
+    go : (t : Bool) → nat_eq b q ≡ t → (o : Option (List ℕ)) → ((ys : List ℕ) → o ≡ Some ys → IsUpTo (Absent (q ∷ [])) q bs ys)
+        → up_to t b o ≡ Some xs → IsUpTo (Absent (q ∷ [])) q (b ∷ bs) xs
     go true e o ih h =
         let same : b ∷ [] ≡ xs = cc in record {
           inside = [];
@@ -272,7 +284,8 @@ abbrev token : TokenKind → List ℕ → Token
 token k bs = record { kind = k; bytes = bs }
 
 -- a token whose first byte tells
-by-first : (k : TokenKind) (b : ℕ) (bs rest : List ℕ) → nat_eq b 125 ≡ false → is_space b ≡ false → begun (front_of b) (bs ++ rest) ≡ Some (k, bs) → IsFound (b ∷ bs ++ rest) (token k (b ∷ bs))
+by-first : (k : TokenKind) (b : ℕ) (bs rest : List ℕ) → nat_eq b 125 ≡ false → is_space b ≡ false → begun (front_of b) (bs ++ rest) ≡ Some (k, bs)
+    → IsFound (b ∷ bs ++ rest) (token k (b ∷ bs))
 by-first k b bs rest e s h = record { no_end = no-end b (bs ++ rest) e s; front = ap (token_from b) h }
 
 front-white : (b : ℕ) → is_space b ≡ true → front_of b ≡ front.White
@@ -323,7 +336,8 @@ digits-found b bs rest d run =
 signed-is : (b : ℕ) (bs rest : List ℕ) → is_ascii_digit b ≡ true → IsRun is_number_byte bs rest → signed (b ∷ bs ++ rest) ≡ Some (kind.Number, b ∷ bs)
 signed-is b bs rest d run = ap (λ k. number k b (bs ++ rest)) d ∙ ap (λ xs. Some (kind.Number, b ∷ xs)) (run-taken is_number_byte bs rest run)
 
-number-found : {sign : List ℕ} (b : ℕ) (bs rest : List ℕ) → IsSign sign → is_ascii_digit b ≡ true → IsRun is_number_byte bs rest → IsFound (sign ++ b ∷ bs ++ rest) (token kind.Number (sign ++ b ∷ bs))
+number-found : {sign : List ℕ} (b : ℕ) (bs rest : List ℕ) → IsSign sign → is_ascii_digit b ≡ true → IsRun is_number_byte bs rest
+    → IsFound (sign ++ b ∷ bs ++ rest) (token kind.Number (sign ++ b ∷ bs))
 number-found b bs rest no_sign d run = digits-found b bs rest d run
 number-found b bs rest plus d run = by-first kind.Number 43 (b ∷ bs) rest refl refl (signed-is b bs rest d run)
 number-found b bs rest minus d run = by-first kind.Number 45 (b ∷ bs) rest refl refl (signed-is b bs rest d run)
@@ -332,12 +346,17 @@ pub found : {k : TokenKind} {bs rest : List ℕ} → IsToken k bs rest → IsFou
 found (table.space {b = b} {bs = bs} {rest = rest} h e) = space-found b bs rest h e
 found (table.word {b = b} {bs = bs} {rest = rest} d run) = word-found b bs rest d run
 found (table.number {bs = bs} {rest = rest} b s d run) = number-found b bs rest s d run
-found (table.field {b = b} {bs = bs} {rest = rest} run) = by-first kind.Field 46 (b ∷ bs) rest refl refl (ap (λ xs. Some (dotted xs)) (run-taken is_name_byte (b ∷ bs) rest run))
-found (table.dot {rest = rest} s) = by-first kind.Dot 46 [] rest refl refl (ap (λ xs. Some (dotted xs)) (run-taken is_name_byte [] rest (record { passes = refl; longest = s })))
-found (table.variable {name = name} {rest = rest} run) = by-first kind.Variable 36 name rest refl refl (ap (λ xs. Some (kind.Variable, xs)) (run-taken is_name_byte name rest run))
-found (table.string {bs = bs} {rest = rest} h) = by-first kind.String 34 (bs ++ 34 ∷ []) rest refl refl (ap (of_kind kind.String) (quoted-found 34 bs rest refl refl h))
+found (table.field {b = b} {bs = bs} {rest = rest} run) = by-first kind.Field 46 (b ∷ bs) rest refl refl
+    (ap (λ xs. Some (dotted xs)) (run-taken is_name_byte (b ∷ bs) rest run))
+found (table.dot {rest = rest} s) = by-first kind.Dot 46 [] rest refl refl
+    (ap (λ xs. Some (dotted xs)) (run-taken is_name_byte [] rest (record { passes = refl; longest = s })))
+found (table.variable {name = name} {rest = rest} run) = by-first kind.Variable 36 name rest refl refl
+    (ap (λ xs. Some (kind.Variable, xs)) (run-taken is_name_byte name rest run))
+found (table.string {bs = bs} {rest = rest} h) = by-first kind.String 34 (bs ++ 34 ∷ []) rest refl refl
+    (ap (of_kind kind.String) (quoted-found 34 bs rest refl refl h))
 found (table.raw_string {rest = rest} bs h) = by-first kind.RawString 96 (bs ++ 96 ∷ []) rest refl refl (ap (of_kind kind.RawString) (raw-found 96 bs rest h))
-found (table.character {bs = bs} {rest = rest} h) = by-first kind.Character 39 (bs ++ 39 ∷ []) rest refl refl (ap (of_kind kind.Character) (quoted-found 39 bs rest refl refl h))
+found (table.character {bs = bs} {rest = rest} h) = by-first kind.Character 39 (bs ++ 39 ∷ []) rest refl refl
+    (ap (of_kind kind.Character) (quoted-found 39 bs rest refl refl h))
 found (table.declare {rest = rest}) = by-first kind.Declare 58 (61 ∷ []) rest refl refl refl
 found (table.assign {rest = rest}) = by-first kind.Assign 61 [] rest refl refl refl
 found (table.comma {rest = rest}) = by-first kind.Comma 44 [] rest refl refl refl
@@ -422,11 +441,13 @@ dotted-stands : (b : ℕ) → b ≡ 46 → (name rest bs : List ℕ) → IsRun i
 dotted-stands b e [] rest bs run is = first-is kind.Dot b 46 bs [] rest e is (table.dot run.longest)
 dotted-stands b e (c ∷ name) rest bs run is = first-is kind.Field b 46 bs (c ∷ name) rest e is (table.field run)
 
-quote-stands : (k : TokenKind) (q : ℕ) (Form : List ℕ → Type 0) → ((xs rest : List ℕ) → Form xs → IsToken k (q ∷ (xs ++ q ∷ [])) rest) → (b : ℕ) → b ≡ q → (bs : List ℕ) (o : Option (List ℕ)) → ((xs : List ℕ) → o ≡ Some xs → IsUpTo Form q bs xs) → AtBegun b bs (of_kind k o)
+quote-stands : (k : TokenKind) (q : ℕ) (Form : List ℕ → Type 0) → ((xs rest : List ℕ) → Form xs → IsToken k (q ∷ (xs ++ q ∷ [])) rest) → (b : ℕ)
+    → b ≡ q → (bs : List ℕ) (o : Option (List ℕ)) → ((xs : List ℕ) → o ≡ Some xs → IsUpTo Form q bs xs) → AtBegun b bs (of_kind k o)
 quote-stands k q Form row b e bs None f = tt
 quote-stands k q Form row b e bs (Some xs) f =
     let u = f xs refl in
-    first-is k b q bs xs u.rest e (u.is ∙ ap (λ l. l ++ u.rest) (sym u.found)) (subst (λ (l : List ℕ). IsToken k (q ∷ l) u.rest) (sym u.found) (row u.inside u.rest u.form))
+    first-is k b q bs xs u.rest e (u.is ∙ ap (λ l. l ++ u.rest) (sym u.found))
+    (subst (λ (l : List ℕ). IsToken k (q ∷ l) u.rest) (sym u.found) (row u.inside u.rest u.form))
 
 declare-stands : (b : ℕ) → b ≡ 58 → (bs : List ℕ) → AtBegun b bs (assigned bs)
 declare-stands b e [] = tt
@@ -444,21 +465,30 @@ space-stands b bs h m =
       is = spaces.is;
     }
 
-run-stands : (k : TokenKind) (p : ℕ → Bool) (b c : ℕ) (bs : List ℕ) → b ≡ c → IsToken k (c ∷ take_while p bs) (drop (prefix_len p bs) bs) → StandsAt b bs (k, take_while p bs)
+run-stands : (k : TokenKind) (p : ℕ → Bool) (b c : ℕ) (bs : List ℕ) → b ≡ c → IsToken k (c ∷ take_while p bs) (drop (prefix_len p bs) bs)
+    → StandsAt b bs (k, take_while p bs)
 run-stands k p b c bs e h = first-is k b c bs (take_while p bs) (drop (prefix_len p bs) bs) e (sym (taken-rest p bs)) h
 
 begun-stands : (f : Front) (b : ℕ) (bs : List ℕ) → Tells f b → right_marked (b ∷ bs) ≡ false → AtBegun b bs (begun f bs)
 begun-stands front.White b bs h m = space-stands b bs h m
 begun-stands front.Letter b bs h m =
     let run = taken-run is_name_byte bs in
-    run-stands kind.Word is_name_byte b b bs refl (table.word h.0 (record { passes = ap (λ k. k && list_all is_name_byte (name_run bs)) h.1 ∙ run.passes; longest = run.longest }))
+    run-stands kind.Word is_name_byte b b bs refl (table.word h.0 (record {
+      passes = ap (λ k. k && list_all is_name_byte (name_run bs)) h.1
+          ∙ run.passes;
+      longest = run.longest;
+    }))
 begun-stands front.Digit b bs h m = run-stands kind.Number is_number_byte b b bs refl (table.number b no_sign h (taken-run is_number_byte bs))
 begun-stands front.Sign b bs h m = ⊎_elim (λ e. number-stands [] 43 plus b e bs) (λ e. number-stands [] 45 minus b e bs) h
-begun-stands front.Period b bs h m = dotted-stands b h (name_run bs) (drop (prefix_len is_name_byte bs) bs) bs (taken-run is_name_byte bs) (sym (taken-rest is_name_byte bs))
+begun-stands front.Period b bs h m = dotted-stands b h (name_run bs) (drop (prefix_len is_name_byte bs) bs) bs (taken-run is_name_byte bs)
+    (sym (taken-rest is_name_byte bs))
 begun-stands front.Dollar b bs h m = run-stands kind.Variable is_name_byte b 36 bs h (table.variable (taken-run is_name_byte bs))
-begun-stands front.DoubleQuote b bs h m = quote-stands kind.String 34 (IsQuoted 34) (λ xs rest f. table.string f) b h bs (quoted 34 false bs) (quoted-is 34 false bs)
-begun-stands front.Backquote b bs h m = quote-stands kind.RawString 96 (Absent (96 ∷ [])) (λ xs rest f. table.raw_string xs f) b h bs (through 96 bs) (raw-is 96 bs)
-begun-stands front.SingleQuote b bs h m = quote-stands kind.Character 39 (IsQuoted 39) (λ xs rest f. table.character f) b h bs (quoted 39 false bs) (quoted-is 39 false bs)
+begun-stands front.DoubleQuote b bs h m = quote-stands kind.String 34 (IsQuoted 34) (λ xs rest f. table.string f) b h bs (quoted 34 false bs)
+    (quoted-is 34 false bs)
+begun-stands front.Backquote b bs h m = quote-stands kind.RawString 96 (Absent (96 ∷ [])) (λ xs rest f. table.raw_string xs f) b h bs (through 96 bs)
+    (raw-is 96 bs)
+begun-stands front.SingleQuote b bs h m = quote-stands kind.Character 39 (IsQuoted 39) (λ xs rest f. table.character f) b h bs (quoted 39 false bs)
+    (quoted-is 39 false bs)
 begun-stands front.Colon b bs h m = declare-stands b h bs
 begun-stands front.Equals b bs h m = first-is kind.Assign b 61 bs [] bs h refl table.assign
 begun-stands front.Comma b bs h m = first-is kind.Comma b 44 bs [] bs h refl table.comma

@@ -1,5 +1,7 @@
--- What trim markers leave of a text, as it is computed and as the relation says.
-use Rattle.std.proofs.Common.{arith, ◌≡◌, ◌∙◌, ℕ, zero, suc, ◌+◌, ◌-◌, ◌≤◌, Bool, true, false, ◌&&◌, List, [], ◌∷◌, ◌++◌, refl, sym, ap, subst, length, take, drop, append_assoc, length-append, length-take, reverse}
+-- For the law `one_cut`: what trim markers leave of a text, as it is computed and as the relation says.
+use Rattle.std.proofs.Common.{arith, ◌≡◌, ◌∙◌, ℕ, zero, suc, ◌+◌, ◌-◌, ◌≤◌, Bool, true, false, ◌&&◌, List, [], ◌∷◌}
+use Rattle.std.proofs.Common.{◌++◌, refl, sym, ap, subst, length, take, drop, append_assoc, length-append, length-take}
+use Rattle.std.proofs.Common.{reverse}
 use Rattle.std.specs.List.{prefix_len, suffix_len, list_all}
 use Rattle.std.proofs.lemmas.Bool.{and_parts}
 use Rattle.std.proofs.lemmas.List.{take_all, take-append-drop, reverse-append, reverse-reverse, length-reverse}
@@ -38,7 +40,15 @@ count-end : (bs : List ℕ) → length bs - suffix_len is_space bs ≡ length (r
 count-end bs =
     let k = suffix_len is_space bs in
     let r = reverse bs in
-    omega (arith, ap length (parted-end bs), length-append (reverse (drop k r)) (reverse (take k r)), length-reverse (take k r), length-take k r, length-reverse bs, suffix_len-le-length is_space bs)
+    omega (
+      arith,
+      ap length (parted-end bs),
+      length-append (reverse (drop k r)) (reverse (take k r)),
+      length-reverse (take k r),
+      length-take k r,
+      length-reverse bs,
+      suffix_len-le-length is_space bs,
+    )
 
 -- the two sides of the place before the white space at the end
 kept-end : (bs : List ℕ) → take (length bs - suffix_len is_space bs) bs ≡ reverse (drop (suffix_len is_space bs) (reverse bs))

@@ -1,4 +1,4 @@
--- What the table of tokens says of some bytes, by its rows.
+-- For the reader of the table of tokens: what its rows say of some bytes.
 use Prim.Native.String.{String}
 use Rattle.std.proofs.Common.{◌≡◌, [], refl, codes, arith, ap, length}
 use Rattle.std.proofs.lemmas.Option.{same_Some}

@@ -1,5 +1,7 @@
--- The token at the front of the bytes.
-use Rattle.std.proofs.Common.{arith, ◌≡◌, ◌∙◌, ℕ, suc, ◌+◌, ◌-◌, ◌<◌, ◌≤◌, Bool, true, false, not, ◌&&◌, nat_eq, List, [], ◌∷◌, Option, Some, None, refl, sym, ap, subst, length, take, drop, get_or, length-append, length-drop}
+-- For `front_token`: the token at the front is made of the first bytes.
+use Rattle.std.proofs.Common.{arith, ◌≡◌, ◌∙◌, ℕ, suc, ◌+◌, ◌-◌, ◌<◌, ◌≤◌, Bool, true, false, not, ◌&&◌, nat_eq, List}
+use Rattle.std.proofs.Common.{[], ◌∷◌, Option, Some, None, refl, sym, ap, subst, length, take, drop, get_or}
+use Rattle.std.proofs.Common.{length-append, length-drop}
 use Rattle.std.specs.List.{prefix_len}
 use Rattle.std.specs.Char.{is_ascii_digit}
 use Rattle.std.proofs.lemmas.Bool.{eqb-true}
@@ -19,7 +21,8 @@ pub take-rest : (bs : List ℕ) → take (length bs - 1) (drop 1 bs) ≡ drop 1 
 take-rest bs = take_all (length bs - 1) (drop 1 bs) (omega (arith, length-drop 1 bs))
 
 -- the token that begins with the first byte
-pub front_token-cons : (bs rest : List ℕ) (kind : TokenKind) (len : ℕ) → 1 ≤ length bs → rest ≡ drop 1 bs → Some (kind, take len rest) ≡ begun (front_of (get_or bs 0 0)) rest → Some (record { kind = kind; bytes = take (len + 1) bs }) ≡ front_token bs
+pub front_token-cons : (bs rest : List ℕ) (kind : TokenKind) (len : ℕ) → 1 ≤ length bs → rest ≡ drop 1 bs
+    → Some (kind, take len rest) ≡ begun (front_of (get_or bs 0 0)) rest → Some (record { kind = kind; bytes = take (len + 1) bs }) ≡ front_token bs
 front_token-cons [] rest kind len h same e = absurd (omega arith)
 front_token-cons (b ∷ bs) rest kind len h same e =
     ap (λ (n : ℕ). Some (record { kind = kind; bytes = take n (b ∷ bs) })) (let next : len + 1 ≡ suc len = omega arith in next)
@@ -89,12 +92,8 @@ begun-front front.DoubleQuote bs = of_kind-front kind.String bs (quoted 34 false
 begun-front front.Backquote bs = of_kind-front kind.RawString bs (through 96 bs) (through-front 96 bs)
 begun-front front.SingleQuote bs = of_kind-front kind.Character bs (quoted 39 false bs) (quoted-front 39 false bs)
 begun-front front.Colon bs = assigned-front bs
-begun-front front.Equals bs = front-nil bs
-begun-front front.Comma bs = front-nil bs
-begun-front front.Bar bs = front-nil bs
-begun-front front.LeftParenthesis bs = front-nil bs
-begun-front front.RightParenthesis bs = front-nil bs
 begun-front front.Other bs = tt
+begun-front _ bs = front-nil bs
 
 -- a token has at least one byte, and stands at the front
 pub record IsAtFront (bs : List ℕ) (t : Token) : Type 0 where

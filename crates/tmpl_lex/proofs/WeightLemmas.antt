@@ -1,10 +1,10 @@
--- A file has at least two bytes for each action that it is cut into, and one for each token.
+-- For the bound of what a file needs (tmpl_syntax): at least two bytes an action, and one a token.
 use Rattle.std.proofs.Common.{arith, ◌≡◌, ◌≤◌, ℕ, ◌+◌, Bool, List, [], ◌∷◌, ◌++◌, refl, ap, length, append-nil, length-append}
 use Rattle.tmpl_lex.specs.Cut.{Closed, a_comment, an_action, Cuts, last, closed, unclosed}
 use Rattle.tmpl_lex.specs.Delimiter.{Opens, opens, opens_marked}
 use Rattle.tmpl_lex.specs.Piece.{Token, Piece, text, action, unreadable}
 use Rattle.tmpl_lex.specs.Text.{newlines, text_piece, Texts, trimmed}
-use Rattle.tmpl_lex.specs.Token.{IsToken, space, word, number, field, dot, variable, string, raw_string, character, declare, assign, comma, pipe, left_parenthesis, right_parenthesis, bytes_of, Spells}
+use Rattle.tmpl_lex.specs.Token.{IsToken, number, bytes_of, Spells}
 use Rattle.tmpl_lex.specs.declared.piece.TokenKind.{TokenKind}
 
 -- two and one for each token
@@ -21,7 +21,8 @@ text-weight : (line : ℕ) (bytes : List ℕ) (ps : List Piece) → weight (text
 text-weight line [] ps = refl
 text-weight line (b ∷ bs) ps = omega arith
 
-texts-weight : {right left : Bool} {line : ℕ} {bytes : List ℕ} {texts : List Piece} → Texts right left line bytes texts → (ps : List Piece) → weight (texts ++ ps) ≡ weight ps
+texts-weight : {right left : Bool} {line : ℕ} {bytes : List ℕ} {texts : List Piece} → Texts right left line bytes texts → (ps : List Piece)
+    → weight (texts ++ ps) ≡ weight ps
 texts-weight (trimmed {line = line} {front = front} {kept = kept} f e) ps = text-weight (line + newlines front) kept ps
 
 weight-append : (ps qs : List Piece) → weight (ps ++ qs) ≡ weight ps + weight qs
@@ -29,21 +30,8 @@ weight-append [] qs = omega arith
 weight-append (p ∷ ps) qs = omega (arith, weight-append ps qs)
 
 token-some : {k : TokenKind} {bytes rest : List ℕ} → IsToken k bytes rest → 1 ≤ length bytes
-token-some (space all ends) = omega arith
-token-some (word first run) = omega arith
 token-some (number {sign = sign} {bs = bs} b s first run) = omega (arith, length-append sign (b ∷ bs))
-token-some (field run) = omega arith
-token-some (dot stops) = omega arith
-token-some (variable run) = omega arith
-token-some (string quoted) = omega arith
-token-some (raw_string bs absent) = omega arith
-token-some (character quoted) = omega arith
-token-some declare = omega arith
-token-some assign = omega arith
-token-some comma = omega arith
-token-some pipe = omega arith
-token-some left_parenthesis = omega arith
-token-some right_parenthesis = omega arith
+token-some _ = omega arith
 
 tokens-within : (ts : List Token) (rest : List ℕ) → Spells ts rest → length ts ≤ length (bytes_of ts)
 tokens-within [] rest s = omega arith

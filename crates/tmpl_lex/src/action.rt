@@ -3,7 +3,7 @@ ghost use Rattle.std.specs.Prelude.{◌≡◌, ◌≤◌, IfOk, option_map, leng
 ghost use Rattle.tmpl_lex.specs.computed.Action as computed;
 ghost use Rattle.tmpl_lex.specs.computed.View.{end_of, inside_of, opened_of};
 
-use crate::bytes::{after, split_pair};
+use crate::bytes::{skip, split_pair};
 use crate::piece::Token;
 use crate::token::front_token;
 use crate::trim::{End, right_delimiter};
@@ -38,14 +38,14 @@ pub(crate) fn read_opened<'b>(
         return Ok(Opened::Comment(end));
     }
     match read_inside(scratch, bytes)? {
-        Some(end) => Ok(Opened::Action(moved_out(alloc, scratch)?, end)),
+        Some(end) => Ok(Opened::Action(move_out(alloc, scratch)?, end)),
         None => Ok(Opened::Neither),
     }
 }
 
 /// The tokens that were read, in a vector of just their number: a copy of a few, which leaves the
 /// scratch vector for the next action, and the scratch vector itself where they are many.
-fn moved_out<'b>(alloc: Global, scratch: &mut Vec<Token<'b>>) -> Result<Vec<Token<'b>>, AllocError>
+fn move_out<'b>(alloc: Global, scratch: &mut Vec<Token<'b>>) -> Result<Vec<Token<'b>>, AllocError>
     ensures { IfOk result (λ v. v.items ≡ scratch.old.items) }
 {
     if scratch.len() <= COPIED {
@@ -90,6 +90,6 @@ fn read_inside<'b>(
             return Ok(None);
         };
         tokens.push(token)?;
-        rest = after(rest, token.bytes.len());
+        rest = skip(rest, token.bytes.len());
     }
 }

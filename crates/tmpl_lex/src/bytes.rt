@@ -54,7 +54,7 @@ pub(crate) fn number_len(bytes: &[u8]) -> usize
 }
 
 /// The bytes after so many.
-pub(crate) fn after(bytes: &[u8], len: usize) -> &[u8]
+pub(crate) fn skip(bytes: &[u8], len: usize) -> &[u8]
     requires { len ≤ length bytes.now }
     ensures { result.now ≡ drop len bytes.now }
 {
@@ -86,7 +86,7 @@ fn find_from(bytes: &[u8], first: u8, second: u8, from: usize) -> usize
     ensures same { computed.split_from first second from bytes.now
         ≡ computed.split_from first second result bytes.now }
 {
-    match memchr(first, after(bytes, from)) {
+    match memchr(first, skip(bytes, from)) {
         Some(skipped) => from + skipped,
         None => bytes.len(),
     }

@@ -10,8 +10,8 @@ ghost use Rattle.tmpl_lex.specs.computed.View.{end_of, opened_of};
 use crate::action::{Opened, read_opened};
 use crate::bytes::split_pair;
 use crate::piece::Piece;
-use crate::text::{newlines, split_leading, without_trailing};
-use crate::trim::{End, left_marked, past_left};
+use crate::text::{newlines, split_leading, trim_end};
+use crate::trim::{End, has_left_marker, skip_left_marker};
 use std::alloc::{AllocError, Global};
 
 /// The pieces of a file in order: its texts and its actions, each with its line, counted from 1.
@@ -37,13 +37,9 @@ pub fn cut(alloc: Global, bytes: &[u8]) -> Result<Vec<Piece<'_>>, AllocError>
     while let Some((before, after)) = split_pair(rest, b'{', b'{') {
         let (taken, text) = split_leading(before, trims);
         line += newlines(taken);
-        push_text(
-            &mut pieces,
-            line,
-            without_trailing(text, left_marked(after)),
-        )?;
+        push_text(&mut pieces, line, trim_end(text, has_left_marker(after)))?;
         line += newlines(text);
-        let opened = read_opened(alloc, &mut scratch, past_left(after))?;
+        let opened = read_opened(alloc, &mut scratch, skip_left_marker(after))?;
         let Some(end) = push_opened(&mut pieces, line, opened)? else {
             return Ok(pieces);
         };

@@ -16,7 +16,7 @@ pub(crate) fn split_leading(text: &[u8], trims: bool) -> (&[u8], &[u8])
 }
 
 /// The text without the white space that a left trim marker behind it takes, if there is one.
-pub(crate) fn without_trailing(text: &[u8], trims: bool) -> &[u8]
+pub(crate) fn trim_end(text: &[u8], trims: bool) -> &[u8]
     ensures { result.now ≡ computed.without_trailing trims text.now }
 {
     let taken = if trims { white_end_len(text) } else { 0 };

@@ -4,7 +4,7 @@ ghost use Rattle.tmpl_lex.specs.View.{token_of};
 ghost use Rattle.tmpl_lex.specs.computed.Token as spec;
 ghost use Rattle.tmpl_lex.specs.computed.View.{begun_of};
 
-use crate::bytes::{after, is_name_byte, is_space, name_len, number_len, white_len};
+use crate::bytes::{is_name_byte, is_space, name_len, number_len, skip, white_len};
 use crate::piece::{Token, TokenKind};
 use crate::quoted::{quoted_len, through_len};
 use crate::trim::has_dashed_delimiter;
@@ -73,7 +73,7 @@ pub(crate) fn front_token(bytes: &[u8]) -> Option<Token<'_>>
     let [first, rest @ ..] = bytes else {
         return None;
     };
-    let (kind, len) = begun(front_of(*first), rest)?;
+    let (kind, len) = measure(front_of(*first), rest)?;
     Some(Token {
         kind,
         bytes: &bytes[..len + 1],
@@ -81,7 +81,7 @@ pub(crate) fn front_token(bytes: &[u8]) -> Option<Token<'_>>
 }
 
 /// The kind of the token that begins so, and how many of the bytes behind its first are its own.
-fn begun(front: Front, rest: &[u8]) -> Option<(TokenKind, usize)>
+fn measure(front: Front, rest: &[u8]) -> Option<(TokenKind, usize)>
     ensures value { begun_of rest.now result ≡ spec.begun front rest.now }
     ensures within { IfSome result (λ p. p.1 ≤ length rest.now) }
 {
@@ -89,13 +89,13 @@ fn begun(front: Front, rest: &[u8]) -> Option<(TokenKind, usize)>
         Front::White => Some((TokenKind::Space, space_len(rest))),
         Front::Letter => Some((TokenKind::Word, name_len(rest))),
         Front::Digit => Some((TokenKind::Number, number_len(rest))),
-        Front::Sign => signed(rest),
-        Front::Period => Some(dotted(rest)),
+        Front::Sign => measure_signed(rest),
+        Front::Period => Some(measure_dotted(rest)),
         Front::Dollar => Some((TokenKind::Variable, name_len(rest))),
         Front::DoubleQuote => of_kind(TokenKind::String, quoted_len(b'"', rest)),
         Front::Backquote => of_kind(TokenKind::RawString, through_len(b'`', rest)),
         Front::SingleQuote => of_kind(TokenKind::Character, quoted_len(b'\'', rest)),
-        Front::Colon => assigned(rest),
+        Front::Colon => measure_declare(rest),
         Front::Equals => Some((TokenKind::Assign, 0)),
         Front::Comma => Some((TokenKind::Comma, 0)),
         Front::Bar => Some((TokenKind::Pipe, 0)),
@@ -111,7 +111,7 @@ fn space_len(bytes: &[u8]) -> usize
     ensures within { result ≤ length bytes.now }
 {
     let white = white_len(bytes);
-    if has_dashed_delimiter(after(bytes, white)) {
+    if has_dashed_delimiter(skip(bytes, white)) {
         white.saturating_sub(1)
     } else {
         white
@@ -119,7 +119,7 @@ fn space_len(bytes: &[u8]) -> usize
 }
 
 /// Behind a `+` or `-`: a number, if a digit stands there.
-fn signed(rest: &[u8]) -> Option<(TokenKind, usize)>
+fn measure_signed(rest: &[u8]) -> Option<(TokenKind, usize)>
     ensures value { begun_of rest.now result ≡ spec.signed rest.now }
     ensures within { IfSome result (λ p. p.1 ≤ length rest.now) }
 {
@@ -132,7 +132,7 @@ fn signed(rest: &[u8]) -> Option<(TokenKind, usize)>
 }
 
 /// Behind a dot: a field, if a name stands there.
-fn dotted(rest: &[u8]) -> (TokenKind, usize)
+fn measure_dotted(rest: &[u8]) -> (TokenKind, usize)
     ensures value { (result.0, take result.1 rest.now) ≡ spec.dotted (spec.name_run rest.now) }
     ensures within { result.1 ≤ length rest.now }
 {
@@ -143,7 +143,7 @@ fn dotted(rest: &[u8]) -> (TokenKind, usize)
 }
 
 /// Behind a colon: the sign that declares, if `=` stands there.
-fn assigned(rest: &[u8]) -> Option<(TokenKind, usize)>
+fn measure_declare(rest: &[u8]) -> Option<(TokenKind, usize)>
     ensures value { begun_of rest.now result ≡ spec.assigned rest.now }
     ensures within { IfSome result (λ p. p.1 ≤ length rest.now) }
 {

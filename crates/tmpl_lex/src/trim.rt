@@ -13,7 +13,7 @@ pub(crate) struct End<'b> {
 }
 
 /// Whether a left trim marker stands at the front: `-` and a byte of white space.
-pub(crate) fn left_marked(bytes: &[u8]) -> bool
+pub(crate) fn has_left_marker(bytes: &[u8]) -> bool
     ensures { result ≡ spec.left_marked bytes.now }
 {
     match bytes {
@@ -23,7 +23,7 @@ pub(crate) fn left_marked(bytes: &[u8]) -> bool
 }
 
 /// The bytes behind the left trim marker, where there is one.
-pub(crate) fn past_left(bytes: &[u8]) -> &[u8]
+pub(crate) fn skip_left_marker(bytes: &[u8]) -> &[u8]
     ensures { result.now ≡ spec.past_left bytes.now }
 {
     match bytes {

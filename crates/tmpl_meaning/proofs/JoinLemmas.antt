@@ -2,7 +2,8 @@
 use Rattle.std.proofs.Common.{◌≡◌, ◌∙◌, Bool, true, false, not, List, [], ◌∷◌, length, Option, Some, None, Result, Ok, Err, refl, ap, sym, if◌then◌else◌}
 use Rattle.tmpl_values.specs.Value.{Value, nothing}
 use Rattle.tmpl_values.specs.Truth.{truth}
-use Rattle.tmpl_funcs.specs.Dispatch.{called, counted, and_of, or_of, first_empty, first_truth}
+use Rattle.tmpl_funcs.specs.Dispatch.{called}
+use Rattle.tmpl_funcs.specs.Junction.{first_empty, first_truth}
 use Rattle.tmpl_funcs.specs.Func.{takes}
 use Rattle.tmpl_grammar.specs.Tree.{Operands, no_operand, operand}
 use Rattle.tmpl_meaning.specs.Fault.{Cause}
@@ -87,8 +88,8 @@ table : (is_or : Bool) (vs : List Value) → takes (joining is_or) (length vs) �
     → Ok (among is_or nothing vs) ≡ or_call_failed (joining is_or) (called (joining is_or) vs)
 table true [] h = cc
 table false [] h = cc
-table true (v ∷ vs) h = ap (λ b. or_call_failed (joining true) (counted b (or_of (v ∷ vs)))) (sym h)
-table false (v ∷ vs) h = ap (λ b. or_call_failed (joining false) (counted b (and_of (v ∷ vs)))) (sym h)
+table true (v ∷ vs) h = refl
+table false (v ∷ vs) h = refl
 
 pub joins : JoinsByTable
 joins is_or s os piped vs h takes = joined is_or s piped os nothing vs h ∙ table is_or (piped_after vs piped) takes

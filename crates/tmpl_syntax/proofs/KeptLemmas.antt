@@ -3,7 +3,7 @@ use Rattle.std.proofs.Common.{◌≡◌, ◌≤◌, length, ℕ, zero, suc, slic
 use Rattle.std.specs.Prelude.{IfSome, find}
 use Rattle.std.specs.Option.{option_map}
 use Rattle.std.specs.Str.{bytes_eq}
-use Rattle.tmpl_values.proofs.RuneLemmas.{AreBytes}
+use Rattle.tmpl_values.specs.Bytes.{AreBytes}
 use Rattle.tmpl_syntax.specs.Tree.{Nodes, Tree, Definition}
 use Rattle.tmpl_syntax.specs.View.{tree_of}
 use Rattle.tmpl_syntax.specs.declared.tree.Tree as held

@@ -3,7 +3,7 @@ use Rattle.std.proofs.Common.{◌≡◌, pos, negsuc, ℕ, true, List, [], ◌�
 use Rattle.std.specs.Char.{encode_utf8}
 use Rattle.std.specs.Str.{chars}
 use Rattle.std.specs.Fmt.{digits}
-use Rattle.tmpl_values.specs.computed.Rune.{runes, first_rune}
+use Rattle.tmpl_values.specs.Rune.{runes, first_rune}
 use Rattle.tmpl_values.specs.Printable.{printable}
 use Rattle.tmpl_values.specs.Quote.{quote}
 use Rattle.tmpl_funcs.specs.declared.func.Func.TheVariants.{Len}

@@ -1,6 +1,6 @@
 -- What holds of the pieces of a file: texts without `{{`, and tokens whose bytes are bytes and whose names are names.
 use Rattle.std.proofs.Common.{arith, ℕ, Bool, List, [], ◌∷◌, ◌++◌, codes}
-use Rattle.tmpl_values.proofs.RuneLemmas.{AreBytes}
+use Rattle.tmpl_values.specs.Bytes.{AreBytes}
 use Rattle.tmpl_lex.specs.Bytes.{Absent}
 use Rattle.tmpl_lex.specs.Cut.{Closed, a_comment, an_action, Leads, Cuts, last, closed, unclosed}
 use Rattle.tmpl_lex.specs.Piece.{Token, Piece, text, action, unreadable}

@@ -1,6 +1,6 @@
 -- What holds of each tree of a set.
 use Rattle.std.specs.Prelude.{◌≤◌, List, [], ◌∷◌}
-use Rattle.tmpl_values.proofs.RuneLemmas.{AreBytes}
+use Rattle.tmpl_values.specs.Bytes.{AreBytes}
 use Rattle.tmpl_syntax.specs.Tree.{Tree}
 use Rattle.tmpl_syntax.specs.Set.{Template}
 use Rattle.tmpl_syntax.specs.Need.{need, most_need}

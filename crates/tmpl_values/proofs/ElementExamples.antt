@@ -1,4 +1,4 @@
--- What a range visits of some values.
+-- For the reader of `Elements`: what a range visits of some values, computed.
 use Rattle.std.proofs.Common.{◌≡◌, ℕ, true, [], ◌∷◌, Some, None, pos, negsuc, refl, codes}
 use Rattle.tmpl_values.specs.Value.{Value, boolean, number, string, sequence, mapping, no_item, item, no_entry, entry}
 use Rattle.tmpl_values.specs.Elements.{elements, pairs, item_at}

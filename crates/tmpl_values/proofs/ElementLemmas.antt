@@ -1,4 +1,4 @@
--- The elements of a range by their places.
+-- For `Val::item`, `count_below` and `element_count`: the element at a place and how many there are, by the places that the code counts.
 use Rattle.std.proofs.Common.{◌≡◌, ◌∙◌, ℕ, zero, suc, ◌+◌, ◌<◌, ◌≤◌, ℤ, pos, negsuc, List, [], ◌∷◌, get_or, length, Some, None, Option, refl, ap, sym, arith}
 use Rattle.std.specs.List.{slice_get}
 use Rattle.std.proofs.lemmas.List.FromFn.{get_or-map-range_with_len, length-map-range_with_len}
@@ -64,20 +64,10 @@ length-numbers (negsuc n) = refl
 pub ruleset numbers = (length-numbers)
 
 -- how many elements a value has that may be ranged over
-abbrev pub count : Value → Option ℕ
-count nothing = Some 0
-count null = Some 0
-count (boolean b) = None
-count (number n) = Some (count_below n)
-count (string s) = None
-count (sequence vs) = Some (item_count vs)
-count (mapping entries) = Some (entry_count entries)
+pub sequence-count : (vs : Items) → Some (item_count vs) ≡ option_map length (elements (sequence vs))
+sequence-count vs = ap Some (sym (length-indexed 0 vs))
 
-pub count-is : (v : Value) → count v ≡ option_map length (elements v)
-count-is nothing = refl
-count-is null = refl
-count-is (boolean b) = refl
-count-is (number n) = ap Some (sym (length-numbers n))
-count-is (string s) = refl
-count-is (sequence vs) = ap Some (sym (length-indexed 0 vs))
-count-is (mapping entries) = ap Some (sym (length-keyed entries))
+pub mapping-count : (es : Entries) → Some (entry_count es) ≡ option_map length (elements (mapping es))
+mapping-count es = ap Some (sym (length-keyed es))
+
+pub ruleset counts = (sequence-count, mapping-count)

@@ -1,19 +1,19 @@
--- The runes that are computed are those that the relation admits.
+-- For the law `one_list_of_runes`: the runes that are computed are those that the relation admits.
 use Rattle.std.proofs.Common.{◌≡◌, ◌∙◌, ℕ, zero, suc, ◌-◌, ◌<◌, ◌≤◌, List, [], ◌∷◌, ◌++◌, length, drop, refl, sym, ap, subst, arith, length-append}
 use Rattle.std.proofs.lemmas.List.{take-append-drop}
 use Rattle.std.proofs.lemmas.Str.{length-encode, len_utf8_bounds}
 use Rattle.std.proofs.Math.Seq.{drop-append_seam}
 use Rattle.std.specs.Char.{encode_utf8, len_utf8}
-use Rattle.tmpl_values.specs.Laws.{HasTheseRunes, HasNoOtherRunes}
-use Rattle.tmpl_values.specs.Rune.{Rune, char, byte, BeginsNoChar, HasRunes, at_end, a_char, a_byte}
-use Rattle.tmpl_values.specs.computed.Rune.{first_rune, runes, runes_after, tail_len}
+use Rattle.tmpl_values.specs.Laws.{HasTheseRunes, HasNoOtherRunes, HasRunes, at_end, a_char, a_byte}
+use Rattle.tmpl_values.specs.Rune.{Rune, char, byte, BeginsNoChar, first_rune, runes, runes_after, tail_len}
 use Rattle.tmpl_values.proofs.RuneLemmas.{Front, encoding, lone, bytes_in-Front, first_rune-encode, front, runes-first, runes-nil}
 
 -- where no character is found none begins
 pub begins-none : (bs : List ℕ) (b : ℕ) → first_rune bs ≡ byte b → BeginsNoChar bs
 begins-none bs b is c rest s e = let both : byte b ≡ char c = sym is ∙ ap first_rune e ∙ first_rune-encode c rest s in cc
 
-step : (b : ℕ) (bs : List ℕ) (r : Rune) (rs : List Rune) → first_rune (b ∷ bs) ≡ r → Front (b ∷ bs) r → HasRunes (drop (tail_len r) bs) rs → HasRunes (b ∷ bs) (r ∷ rs)
+step : (b : ℕ) (bs : List ℕ) (r : Rune) (rs : List Rune) → first_rune (b ∷ bs) ≡ r → Front (b ∷ bs) r → HasRunes (drop (tail_len r) bs) rs
+    → HasRunes (b ∷ bs) (r ∷ rs)
 step b bs _ rs is lone more = a_byte (begins-none (b ∷ bs) b is) more
 step b bs _ rs is (encoding c s e) more =
     subst (λ xs. HasRunes xs (char c ∷ rs)) (bytes_in-Front b bs (char c) (encoding c s e)).0 (a_char s more)
@@ -46,7 +46,8 @@ pub one-list : HasNoOtherRunes
 one-list _ _ at_end = sym runes-nil
 one-list _ _ (a_char {c = c} {rest = rest} {rs = rs} s more) =
     let some : 0 < length (encode_utf8 c ++ rest) = omega (arith, len_utf8_bounds c, length-encode c, length-append (encode_utf8 c) rest) in
-    ap (λ qs. char c ∷ qs) (one-list rest rs more ∙ ap runes (sym (behind-char c rest))) ∙ sym (runes-first (encode_utf8 c ++ rest) (char c) some (first_rune-encode c rest s))
+    ap (λ qs. char c ∷ qs) (one-list rest rs more ∙ ap runes (sym (behind-char c rest)))
+    ∙ sym (runes-first (encode_utf8 c ++ rest) (char c) some (first_rune-encode c rest s))
 one-list _ _ (a_byte {b = b} {rest = rest} {rs = rs} none more) =
     let first = byte-first b rest none (first_rune (b ∷ rest)) (front (b ∷ rest)) in
     ap (λ qs. byte b ∷ qs) (one-list rest rs more) ∙ sym (runes-first (b ∷ rest) (byte b) (omega arith) first)

@@ -1,4 +1,4 @@
--- Items and entries by place.
+-- For `Val::part`, `Val::size` and `index` of tmpl_funcs: items and entries by place, since the code holds them in a slice.
 use Rattle.std.proofs.Common.{◌≡◌, ◌∙◌, ℕ, zero, suc, ◌-◌, ◌<◌, ◌≤◌, List, [], ◌∷◌, length, get_or, take, drop, slice_range, Some, None, refl, ap, arith}
 use Rattle.tmpl_values.specs.declared.data.Data.{Data}
 use Rattle.tmpl_values.specs.Value.{item}

@@ -1,4 +1,4 @@
--- A key among rising keys, as a search by halves finds it.
+-- For `Table::get`: a search by halves finds a key, since the keys rise.
 use Rattle.std.proofs.Common.{◌≡◌, ◌∙◌, ℕ, zero, suc, ◌<◌, ◌≤◌, false, List, [], ◌∷◌, length, get_or, Err, refl, sym, ap, subst, arith, ◌⊎◌, inl, inr}
 use Rattle.std.specs.declared.cmp.Ordering.{Ordering}
 use Rattle.std.specs.Ordering.{nat_cmp, is_eq, ordering_index, ordering_reverse}
@@ -21,12 +21,14 @@ abbrev order : List ℕ → List ℕ → Ordering
 order = slice_cmp nat_cmp
 
 -- a key below the first is below all
-IsBelow-all : (k : List ℕ) (es : List Entry) (i : ℕ) (d : Entry) → IsBelow k (entries_of es) → AreRising (entries_of es) → i < length es → order k (get_or es i d).0 ≡ Less
+IsBelow-all : (k : List ℕ) (es : List Entry) (i : ℕ) (d : Entry) → IsBelow k (entries_of es) → AreRising (entries_of es) → i < length es
+    → order k (get_or es i d).0 ≡ Less
 IsBelow-all k [] i d b r h = absurd (omega arith)
 IsBelow-all k (e ∷ es) zero d b r h = b
 IsBelow-all k (e ∷ es) (suc i) d b r h = nat_list_cmp_total.trans k e.0 _ b (IsBelow-all e.0 es i d r.0 r.1 (omega arith))
 
-AreRising-places : (es : List Entry) (i j : ℕ) (d : Entry) → AreRising (entries_of es) → i < j → j < length es → order (get_or es i d).0 (get_or es j d).0 ≡ Less
+AreRising-places : (es : List Entry) (i j : ℕ) (d : Entry) → AreRising (entries_of es) → i < j → j < length es
+    → order (get_or es i d).0 (get_or es j d).0 ≡ Less
 AreRising-places [] i j d r l h = absurd (omega arith)
 AreRising-places (e ∷ es) i zero d r l h = absurd (omega arith)
 AreRising-places (e ∷ es) zero (suc j) d r l h = IsBelow-all e.0 es j d r.0 r.1 (omega arith)
@@ -47,7 +49,8 @@ is_eq-differs Equal h = absurd (h refl)
 is_eq-differs Greater h = refl
 
 -- a key that is nowhere
-pub entry_at-nowhere : (key : List ℕ) (es : List Entry) → ((i : ℕ) (d : Entry) → i < length es → order (get_or es i d).0 key ≡ Equal → ⊥) → entry_at key (entries_of es) ≡ missing
+pub entry_at-nowhere : (key : List ℕ) (es : List Entry) → ((i : ℕ) (d : Entry) → i < length es → order (get_or es i d).0 key ≡ Equal → ⊥)
+    → entry_at key (entries_of es) ≡ missing
 entry_at-nowhere key [] h = refl
 entry_at-nowhere key (e ∷ es) h =
     cond-false _ _ _ (sym (is_eq-slice_cmp e.0 key) ∙ is_eq-differs _ (h 0 e (omega arith))) ∙
@@ -66,7 +69,8 @@ ordering_index-below x y k Greater is h =
 ordering_index-rising : (key : List ℕ) (es : List Entry) (i j : ℕ) (d : Entry) → AreRising (entries_of es) → j < length es → (i ≡ j) ⊎ (i < j)
     → ordering_index (order (get_or es i d).0 key) ≤ ordering_index (order (get_or es j d).0 key)
 ordering_index-rising key es i j d r h (inr l) = ordering_index-below _ _ key _ refl (AreRising-places es i j d r l h)
-ordering_index-rising key es i j d r h (inl e) = subst (λ k. ordering_index (order (get_or es i d).0 key) ≤ ordering_index (order (get_or es k d).0 key)) e (omega arith)
+ordering_index-rising key es i j d r h (inl e) = subst (λ k. ordering_index (order (get_or es i d).0 key) ≤ ordering_index
+    (order (get_or es k d).0 key)) e (omega arith)
 
 IsNonDecreasingBy-order : (key : List ℕ) (es : List Entry) → AreRising (entries_of es) → IsNonDecreasingBy (λ e. ordering_index (order e.0 key)) es
 IsNonDecreasingBy-order key es r = λ i j d l h. ordering_index-rising key es i j d r h (eq-or-lt_of_le l)
@@ -81,7 +85,8 @@ below_or_not zero (suc j) = inl (omega arith)
 below_or_not (suc i) (suc j) = elim (below_or_not i j) [ inl l ↦ inl (omega arith) | inr l ↦ inr (omega arith) ]
 
 -- a key that the search does not find
-pub entry_at-not_found : (key : List ℕ) (es : List Entry) (p : ℕ) → AreRising (entries_of es) → IsBinarySearchResult (λ e. order e.0 key) es (Err p) → entry_at key (entries_of es) ≡ missing
+pub entry_at-not_found : (key : List ℕ) (es : List Entry) (p : ℕ) → AreRising (entries_of es) → IsBinarySearchResult (λ e. order e.0 key) es (Err p)
+    → entry_at key (entries_of es) ≡ missing
 entry_at-not_found key es p r search_found =
     let parts = search_found (IsNonDecreasingBy-order key es r) in
     entry_at-nowhere key es (λ i d h. Ordering-apart _ i p (λ l. parts.0 i d (omega arith) l) (λ l. parts.1 i d l h) (below_or_not i p))

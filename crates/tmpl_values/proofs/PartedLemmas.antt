@@ -1,4 +1,4 @@
--- One text more, parted by a space.
+-- For the loops of `put_parted_items` and `put_parted_entries`: one text more, parted by a space.
 use Rattle.std.proofs.Common.{◌≡◌, ◌∙◌, ℕ, suc, ◌+◌, ◌<◌, ◌≤◌, List, [], ◌∷◌, ◌++◌, length, get_or, take, drop, map, refl, sym, ap, append_assoc, append-nil}
 use Rattle.std.proofs.Math.Numerals.{add-one}
 use Rattle.std.proofs.Math.Seq.{drop-cons, take-suc}
@@ -43,7 +43,8 @@ module _ {X : Type 0} (f : X → List ℕ) (xs : List X) (i : ℕ) (x : X) (h : 
   take-next = ap (λ n. take n xs) (add-one i) ∙ take-suc xs i x h ∙ ap (λ y. take i xs ++ y ∷ []) (sym is)
 
   -- the text before x, x and the text after it are the whole
-  pub parted-at : (l : List ℕ) → l ≡ lead (map f (take i xs)) → parted (map f (take i xs)) ++ (l ++ (f x ++ spaced (map f (drop (suc i) xs)))) ≡ parted (map f xs)
+  pub parted-at : (l : List ℕ) → l ≡ lead (map f (take i xs)) → parted (map f (take i xs)) ++
+      (l ++ (f x ++ spaced (map f (drop (suc i) xs)))) ≡ parted (map f xs)
   parted-at l e =
       ap (λ u. parted (map f (take i xs)) ++ (u ++ (f x ++ spaced (map f (drop (suc i) xs))))) e ∙
       sym (parted-split (map f (take i xs)) (f x) (map f (drop (suc i) xs))) ∙
@@ -52,7 +53,8 @@ module _ {X : Type 0} (f : X → List ℕ) (xs : List X) (i : ℕ) (x : X) (h : 
   pub parted-next : (l : List ℕ) → l ≡ lead (map f (take i xs)) → parted (map f (take i xs)) ++ (l ++ f x) ≡ parted (map f (take (i + 1) xs))
   parted-next l e =
       ap (λ u. parted (map f (take i xs)) ++ (u ++ f x)) e ∙
-      sym (ap parted (ap (map f) take-next ∙ map-append f (take i xs) (x ∷ [])) ∙ parted-split (map f (take i xs)) (f x) [] ∙ ap (λ u. parted (map f (take i xs)) ++ (lead (map f (take i xs)) ++ u)) (append-nil (f x)))
+      sym (ap parted (ap (map f) take-next ∙ map-append f (take i xs) (x ∷ [])) ∙ parted-split (map f (take i xs)) (f x) []
+      ∙ ap (λ u. parted (map f (take i xs)) ++ (lead (map f (take i xs)) ++ u)) (append-nil (f x)))
 
   pub lead-next : 32 ∷ [] ≡ lead (map f (take (i + 1) xs))
   lead-next = sym (ap lead (ap (map f) take-next ∙ map-append f (take i xs) (x ∷ [])) ∙ lead-more (map f (take i xs)) (f x))
@@ -62,10 +64,12 @@ parted-all f xs i h = ap (λ ys. parted (map f ys)) (take_all i xs h)
 
 module _ (es : List (List ℕ × Data)) (i : ℕ) (x : List ℕ × Data) (h : i < length es) (is : x ≡ get_or es i x) where
   pub parted-entry : (l k : List ℕ) → l ≡ lead (map entry_text (take i es)) → k ≡ x.0
-      → parted (map entry_text (take i es)) ++ (l ++ (k ++ 58 ∷ (inner_text (value_of x.1) ++ spaced (map entry_text (drop (suc i) es))))) ≡ parted (map entry_text es)
+      → parted (map entry_text (take i es)) ++ (l ++ (k ++ 58 ∷ (inner_text (value_of x.1) ++ spaced (map entry_text (drop (suc i) es))))) ≡ parted
+      (map entry_text es)
   parted-entry l k e named =
       ap (λ y. parted (map entry_text (take i es)) ++ (l ++ (y ++ 58 ∷ (inner_text (value_of x.1) ++ spaced (map entry_text (drop (suc i) es)))))) named ∙
-      sym (ap (λ u. parted (map entry_text (take i es)) ++ (l ++ u)) (append_assoc x.0 (58 ∷ inner_text (value_of x.1)) (spaced (map entry_text (drop (suc i) es))))) ∙
+      sym (ap (λ u. parted (map entry_text (take i es)) ++ (l ++ u))
+      (append_assoc x.0 (58 ∷ inner_text (value_of x.1)) (spaced (map entry_text (drop (suc i) es))))) ∙
       parted-at entry_text es i x h is l e
 
   pub parted-entry_next : (l k : List ℕ) → l ≡ lead (map entry_text (take i es)) → k ≡ x.0

@@ -1,4 +1,4 @@
--- One put after another.
+-- For what puts several texts, as `put_quoted`: puts one after another are one put of the joined text.
 use Rattle.std.proofs.Common.{◌≡◌, ◌∙◌, ℕ, List, [], ◌++◌, Option, Some, None, Result, Ok, Err, refl, sym, ap, append_assoc, append-nil, arith, subst}
 use Rattle.std.specs.Result.{IsErr}
 use Rattle.tmpl_values.specs.Put.{Puts, appended, IsPut, Took}
@@ -12,7 +12,8 @@ pub appended-nil : (old : Option (List ℕ)) → old ≡ appended old []
 appended-nil None = refl
 appended-nil (Some t) = ap Some (sym (append-nil t))
 
-Took-append : {F : Type 0} (r : Result (Unit {0}) F) (old mid new : Option (List ℕ)) (a b : List ℕ) → mid ≡ appended old a → Took r mid new b → Took r old new (a ++ b)
+Took-append : {F : Type 0} (r : Result (Unit {0}) F) (old mid new : Option (List ℕ)) (a b : List ℕ) → mid ≡ appended old a → Took r mid new b
+    → Took r old new (a ++ b)
 Took-append (Ok u) old mid new a b first second = second ∙ ap (λ t. appended t b) first ∙ appended-append old a b
 Took-append (Err e) old mid new a b first second = (
   a ++ second.0,
@@ -26,7 +27,8 @@ pub IsPut-nil : {F : Type 0} (p : Puts) → IsPut {F = F} (Ok tt) p p []
 IsPut-nil p = record { count = omega arith; bytes = appended-nil p.bytes; through = refl }
 
 -- a text is put after another
-pub IsPut-append : {F : Type 0} {old mid new : Puts} {a b : List ℕ} {r : Result (Unit {0}) F} → IsPut {F = F} (Ok tt) old mid a → IsPut r mid new b → IsPut r old new (a ++ b)
+pub IsPut-append : {F : Type 0} {old mid new : Puts} {a b : List ℕ} {r : Result (Unit {0}) F} → IsPut {F = F} (Ok tt) old mid a → IsPut r mid new b
+    → IsPut r old new (a ++ b)
 IsPut-append {old = old} {mid = mid} {new = new} {a = a} {b = b} {r = r} first second = record {
   count = omega (arith, first.count, second.count);
   bytes = Took-append r old.bytes mid.bytes new.bytes a b first.bytes second.bytes;
@@ -34,7 +36,8 @@ IsPut-append {old = old} {mid = mid} {new = new} {a = a} {b = b} {r = r} first s
 }
 
 -- the put of the first of two texts fails
-pub IsPut-stop : {F : Type 0} {r : Result (Unit {0}) F} {old new : Puts} {a : List ℕ} {e : F} (b : List ℕ) → IsErr r → IsPut {F = F} (Err e) old new a → IsPut r old new (a ++ b)
+pub IsPut-stop : {F : Type 0} {r : Result (Unit {0}) F} {old new : Puts} {a : List ℕ} {e : F} (b : List ℕ) → IsErr r → IsPut {F = F} (Err e) old new a
+    → IsPut r old new (a ++ b)
 IsPut-stop {r = Ok u} b err h = cc
 IsPut-stop {r = Err f} {old = old} {a = a} b err h =
     let begins = h.bytes in

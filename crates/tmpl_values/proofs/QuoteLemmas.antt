@@ -1,5 +1,6 @@
--- The inside of a quote, rune by rune.
-use Rattle.std.proofs.Common.{◌≡◌, ◌∙◌, ℕ, Bool, suc, ◌<◌, List, [], ◌∷◌, ◌++◌, ◌≤◌, length, drop, take, ap, sym, arith, ◌-◌, ◌+◌, append_assoc, true, false, ◌==◌, Option, Some, None, refl}
+-- For `put_inside`, `plain_len` and `plain_char`: the inside of a quote goes on rune by rune.
+use Rattle.std.proofs.Common.{◌≡◌, ◌∙◌, ℕ, Bool, suc, ◌<◌, List, [], ◌∷◌, ◌++◌, ◌≤◌, length, drop, take, ap, sym, arith}
+use Rattle.std.proofs.Common.{◌-◌, ◌+◌, append_assoc, true, false, ◌==◌, Option, Some, None, refl}
 use Rattle.std.specs.Option.{is_some}
 use Rattle.std.specs.List.{flat_map}
 use Rattle.std.specs.Char.{len_utf8, encode_utf8}
@@ -7,11 +8,12 @@ use Rattle.std.proofs.Math.Seq.{take-add}
 use Rattle.std.proofs.lemmas.List.{drop-drop}
 use Rattle.std.proofs.lemmas.Str.{len_utf8_bounds}
 use Rattle.tmpl_values.specs.Rune.{char, byte}
-use Rattle.tmpl_values.specs.computed.Rune.{first_rune}
+use Rattle.tmpl_values.specs.Rune.{first_rune}
 use Rattle.tmpl_values.specs.Quote.{inside, spelling, letters, letter_of}
 use Rattle.tmpl_values.proofs.RuneLemmas.{runes-first, runes-nil, take-first_rune}
 
-pub inside-char : (p : ℕ → Bool) (bs : List ℕ) (c : ℕ) → 0 < length bs → first_rune bs ≡ char c → inside p bs ≡ spelling p (char c) ++ inside p (drop (len_utf8 c) bs)
+pub inside-char : (p : ℕ → Bool) (bs : List ℕ) (c : ℕ) → 0 < length bs → first_rune bs ≡ char c
+    → inside p bs ≡ spelling p (char c) ++ inside p (drop (len_utf8 c) bs)
 inside-char p bs c h is =
     let n : suc (len_utf8 c - 1) ≡ len_utf8 c = omega (arith, len_utf8_bounds c) in
     ap (flat_map (spelling p)) (runes-first bs (char c) h is) ∙ ap (λ k. spelling p (char c) ++ inside p (drop k bs)) n
@@ -30,7 +32,8 @@ inside-plain p bs c h is plain =
     inside-char p bs c h is ∙ ap (λ s. s ++ inside p (drop (len_utf8 c) bs)) (plain ∙ sym (take-first_rune bs c is))
 
 -- a plain run and a plain character behind it are a plain run
-pub inside-plain_run : (p : ℕ → Bool) (bs : List ℕ) (n m : ℕ) → inside p bs ≡ take n bs ++ inside p (drop n bs) → inside p (drop n bs) ≡ take m (drop n bs) ++ inside p (drop m (drop n bs))
+pub inside-plain_run : (p : ℕ → Bool) (bs : List ℕ) (n m : ℕ) → inside p bs ≡ take n bs ++ inside p (drop n bs)
+    → inside p (drop n bs) ≡ take m (drop n bs) ++ inside p (drop m (drop n bs))
     → inside p bs ≡ take (n + m) bs ++ inside p (drop (n + m) bs)
 inside-plain_run p bs n m run more =
     run ∙ ap (λ s. take n bs ++ s) more ∙

@@ -1,5 +1,6 @@
--- The grammar's loops, a turn at a time, under the conversion to values.
-use Rattle.std.proofs.Common.{◌≡◌, ℕ, zero, suc, ◌-◌, ◌<◌, ◌≤◌, List, [], ◌∷◌, ◌++◌, length, Bor, Bool, true, false, if◌then◌else◌, Option, Some, None, Err, option_map, option_and_then, refl, ap, ◌∙◌}
+-- For `read_list` and `read_map`: the loops of the JSON grammar, a turn at a time, under the conversion to values.
+use Rattle.std.proofs.Common.{◌≡◌, ℕ, zero, suc, ◌-◌, ◌<◌, ◌≤◌, List, [], ◌∷◌, ◌++◌, length, Bor, Bool, true, false}
+use Rattle.std.proofs.Common.{if◌then◌else◌, Option, Some, None, Err, option_map, option_and_then, refl, ap, ◌∙◌}
 use Rattle.json.specs.Token.{Token}
 use Rattle.json.specs.Json as json
 use Rattle.json.specs.Json.{Parse, parse_map, after_end_array, read_key, items_step, items, members, value, value_with, if_last}
@@ -23,12 +24,14 @@ abbrev pick : {A : Type 0} → A → Option A → A
 pick d None = d
 pick d (Some a) = a
 
-found : {A B : Type 0} (a : A) (r s : List Token) (x : Option B) (b : B) → option_map {U = B × List Token} (λ y. (y, r)) x ≡ Some (b, s) → (r ≡ s) × (x ≡ Some b)
+found : {A B : Type 0} (a : A) (r s : List Token) (x : Option B) (b : B) → option_map {U = B × List Token} (λ y. (y, r)) x ≡ Some (b, s)
+    → (r ≡ s) × (x ≡ Some b)
 found a r s None b e = absurd (cc)
 found a r s (Some y) b e = let same = ap (pick (y, r)) e in (ap (λ p. p.1) same, ap (λ p. Some p.0) same)
 
 -- what was converted was read
-converted_some : {A B : Type 0} (f : A → Option B) (o : Option (A × List Token)) (b : B) (r : List Token) → converted f o ≡ Some (b, r) → (a : A) × (o ≡ Some (a, r)) × (f a ≡ Some b)
+converted_some : {A B : Type 0} (f : A → Option B) (o : Option (A × List Token)) (b : B) (r : List Token) → converted f o ≡ Some (b, r)
+    → (a : A) × (o ≡ Some (a, r)) × (f a ≡ Some b)
 converted_some f None b r e = absurd (cc)
 converted_some f (Some p) b r e = let both = found p.0 p.1 r (f p.0) b e in (p.0, ap (λ s. Some (p.0, s)) both.0, both.1)
 
@@ -50,7 +53,8 @@ no_tree_in None e = refl
 no_tree_in (Some d) e = absurd (cc)
 
 -- no value begins with another token
-pub no_value : (a : Parse json.Items) (o : Parse json.Members) (k : Held) (ts : List Token) → (k ≡ token.Null → ⊥) → ((b : Bool) → k ≡ token.Bool b → ⊥) → ((s : Bor (List ℕ)) → k ≡ token.Number s → ⊥)
+pub no_value : (a : Parse json.Items) (o : Parse json.Members) (k : Held) (ts : List Token) → (k ≡ token.Null → ⊥)
+    → ((b : Bool) → k ≡ token.Bool b → ⊥) → ((s : Bor (List ℕ)) → k ≡ token.Number s → ⊥)
     → ((s : Bor (List ℕ)) → k ≡ token.String s → ⊥) → (k ≡ token.BeginArray → ⊥) → (k ≡ token.BeginObject → ⊥) → value_with a o (token_of k ∷ ts) ≡ None
 no_value a o token.BeginObject ts p q r s t u = absurd (u refl)
 no_value a o token.EndObject ts p q r s t u = refl
@@ -80,7 +84,8 @@ converted-array (Some p) = ap (option_map (λ b. (b, p.1))) (array_tree (of_item
 -- a list is what its items are
 pub list_read : (depth : ℕ) (ts r : List Token) → ts ≡ Token.begin_array ∷ r → 0 < depth
     → converted value_in (value depth ts) ≡ parse_map (option_map sequence) (converted items_in (items (value (depth - 1)) (length r) r))
-list_read depth ts r is some = ap (converted value_in) (ap (value depth) is ∙ value-begin_array depth r some) ∙ converted-array (items (value (depth - 1)) (length r) r)
+list_read depth ts r is some = ap (converted value_in) (ap (value depth) is ∙ value-begin_array depth r some)
+    ∙ converted-array (items (value (depth - 1)) (length r) r)
 
 -- an item before others: none where it is none, or they are
 abbrev pub one : Option Value → Option Items → Option Items
@@ -156,26 +161,31 @@ object_tree : (o : Option tree.Members) → option_map tree_value (option_map tr
 object_tree None = refl
 object_tree (Some ms) = refl
 
-converted-object : (o : Option (json.Members × List Token)) → converted value_in (parse_map json.object o) ≡ parse_map (option_map mapping) (converted (entries_in tree.no_members) o)
+converted-object : (o : Option (json.Members × List Token)) → converted value_in (parse_map json.object o) ≡ parse_map (option_map mapping)
+    (converted (entries_in tree.no_members) o)
 converted-object None = refl
-converted-object (Some p) = ap (option_map (λ b. (b, p.1))) (object_tree (of_members p.0 tree.no_members)) ∙ twice (option_map mapping) p.1 (entries_in tree.no_members p.0)
+converted-object (Some p) = ap (option_map (λ b. (b, p.1))) (object_tree (of_members p.0 tree.no_members))
+    ∙ twice (option_map mapping) p.1 (entries_in tree.no_members p.0)
 
 -- a map is what its members are
 pub map_read : (depth : ℕ) (ts r : List Token) → ts ≡ Token.begin_object ∷ r → 0 < depth
     → converted value_in (value depth ts) ≡ parse_map (option_map mapping) (converted (entries_in tree.no_members) (members (value (depth - 1)) (length r) r))
-map_read depth ts r is some = ap (converted value_in) (ap (value depth) is ∙ value-begin_object depth r some) ∙ converted-object (members (value (depth - 1)) (length r) r)
+map_read depth ts r is some = ap (converted value_in) (ap (value depth) is ∙ value-begin_object depth r some)
+    ∙ converted-object (members (value (depth - 1)) (length r) r)
 
 with_member : (k : List ℕ) (j : json.Json) (d : tree.Data) (old : tree.Members) → of_json j ≡ Some d → (o : Option (json.Members × List Token))
     → converted (entries_in old) (parse_map (json.member k j) o) ≡ converted (entries_in (tree.put k d old)) o
 with_member k j d old e None = refl
 with_member k j d old e (Some p) = rw e
 
-without_member : (k : List ℕ) (j : json.Json) (old : tree.Members) → of_json j ≡ None → (o : Option (json.Members × List Token)) → converted (entries_in old) (parse_map (json.member k j) o) ≡ None
+without_member : (k : List ℕ) (j : json.Json) (old : tree.Members) → of_json j ≡ None → (o : Option (json.Members × List Token))
+    → converted (entries_in old) (parse_map (json.member k j) o) ≡ None
 without_member k j old e None = refl
 without_member k j old e (Some p) = rw e
 
 module _ (p : Parse json.Json) (old : tree.Members) where
-  pub member_read : (n : ℕ) (k : List ℕ) (ts s r : List Token) (x : Option Value) → 0 < n → read_key ts ≡ Some (Some k, s) → converted value_in (p s) ≡ Some (x, r)
+  pub member_read : (n : ℕ) (k : List ℕ) (ts s r : List Token) (x : Option Value) → 0 < n → read_key ts ≡ Some (Some k, s)
+      → converted value_in (p s) ≡ Some (x, r)
       → (d : tree.Data) × (tree_value d ≡ x) × (converted (entries_in old) (members p n ts) ≡ converted (entries_in (tree.put k d old)) (members p (n - 1) r))
   member_read n k ts s r x some key e =
       let j = converted_some value_in (p s) x r e in
@@ -187,7 +197,8 @@ module _ (p : Parse json.Json) (old : tree.Members) where
   none_put k more None e = refl
   none_put k more (Some q) e = without_member k q.0 old (no_tree_in (of_json q.0) (refused q.1 (value_in q.0) e)) (more q.1)
 
-  pub member_refused : (n : ℕ) (k : List ℕ) (ts s : List Token) → read_key ts ≡ Some (Some k, s) → converted value_in (p s) ≡ None → converted (entries_in old) (members p n ts) ≡ None
+  pub member_refused : (n : ℕ) (k : List ℕ) (ts s : List Token) → read_key ts ≡ Some (Some k, s) → converted value_in (p s) ≡ None
+      → converted (entries_in old) (members p n ts) ≡ None
   unfolding members
   member_refused zero k ts s key e = refl
   member_refused (suc n) k ts s key e = rw key (none_put k (members p n) (p s) e)
@@ -195,7 +206,8 @@ module _ (p : Parse json.Json) (old : tree.Members) where
   pub key_refused : (n : ℕ) (ts : List Token) → read_key ts ≡ None → converted (entries_in old) (members p n ts) ≡ None
   key_refused n ts e = ap (converted (entries_in old)) (members_no_key p n ts e)
 
-  pub members_over : (n : ℕ) (ts r : List Token) → length ts ≤ n → read_key ts ≡ Some (None, r) → converted (entries_in old) (members p n ts) ≡ Some (tree_entries old, r)
+  pub members_over : (n : ℕ) (ts r : List Token) → length ts ≤ n → read_key ts ≡ Some (None, r)
+      → converted (entries_in old) (members p n ts) ≡ Some (tree_entries old, r)
   members_over n ts r enough e = ap (converted (entries_in old)) (members_end p n ts r enough e)
 
 -- ---- the whole text
@@ -209,7 +221,8 @@ whole_read o x e =
     let d = tree_in (of_json j.0) x j.2 in
     ap (λ q. if_json (whole_text q)) j.1 ∙ ap if_json d.1 ∙ ap if_whole d.2
 
-pub whole_and_more : (o : Option (json.Json × List Token)) (x : Option Value) (t : Token) (r : List Token) → converted value_in o ≡ Some (x, t ∷ r) → if_json (whole_text o) ≡ Err not_json
+pub whole_and_more : (o : Option (json.Json × List Token)) (x : Option Value) (t : Token) (r : List Token) → converted value_in o ≡ Some (x, t ∷ r)
+    → if_json (whole_text o) ≡ Err not_json
 whole_and_more o x t r e = ap (λ q. if_json (whole_text q)) (converted_some value_in o x (t ∷ r) e).1
 
 pub whole_refused : (o : Option (json.Json × List Token)) → converted value_in o ≡ None → if_json (whole_text o) ≡ Err not_json

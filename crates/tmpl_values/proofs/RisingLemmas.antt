@@ -1,4 +1,4 @@
--- The entries of an object rise, since its members are held by their keys in order.
+-- For `table_of_row` and `table_of_tree`, which make a `Table`: its keys rise, since members are held in order.
 use Rattle.std.proofs.Common.{◌≡◌, ℕ, List, [], ◌∷◌, map, Option, Some, None, option_map, String, Global, string_bytes, string_cmp, refl, sym, subst}
 use Rattle.std.specs.Option.{option_and_then}
 use Rattle.std.specs.Map.{keys_of}
@@ -17,7 +17,8 @@ entry-read k None rest out h = cc
 entry-read k (Some x) None out h = cc
 entry-read k (Some x) (Some es) out h = (x, es, refl, refl, cc)
 
-IsBelow-first : (k : String Global) (m : Held) (ms : List Held) (out : Entries) → string_cmp k m.0 ≡ Less → all_entries (map member_of (m ∷ ms)) ≡ Some out → IsBelow (string_bytes k) out
+IsBelow-first : (k : String Global) (m : Held) (ms : List Held) (out : Entries) → string_cmp k m.0 ≡ Less
+    → all_entries (map member_of (m ∷ ms)) ≡ Some out → IsBelow (string_bytes k) out
 IsBelow-first k m ms out h read =
     let r = entry-read (string_bytes m.0) (option_map value_of m.1) (all_entries (map member_of ms)) out read in
     subst (IsBelow (string_bytes k)) (sym r.4) h

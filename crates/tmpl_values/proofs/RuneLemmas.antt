@@ -1,5 +1,7 @@
--- The rune that stands at the front.
-use Rattle.std.proofs.Common.{◌≡◌, ◌∙◌, ℕ, zero, suc, ◌+◌, ◌-◌, ◌<◌, Bool, true, false, List, [], ◌∷◌, ◌++◌, length, take, refl, sym, ap, subst, arith, append-nil, append_assoc, drop, get_or, ◌≤◌, if◌then◌else◌, length-append}
+-- For `first_char` and all that goes rune by rune: which rune stands at the front, and that runes joined are the text.
+use Rattle.std.proofs.Common.{◌≡◌, ◌∙◌, ℕ, zero, suc, ◌+◌, ◌-◌, ◌<◌, Bool, true, false, List, [], ◌∷◌, ◌++◌, length}
+use Rattle.std.proofs.Common.{take, refl, sym, ap, subst, arith, append-nil, append_assoc, drop, get_or, ◌≤◌}
+use Rattle.std.proofs.Common.{if◌then◌else◌, length-append}
 use Rattle.std.specs.List.{flat_map}
 use Rattle.std.proofs.lemmas.List.{take-append-drop, length-take}
 use lib.Utf8.{scalar, scalars, next, scalar_cases}
@@ -14,17 +16,19 @@ use Rattle.std.specs.Str.{chars}
 use Rattle.std.proofs.Math.Seq.{take-append_seam}
 use Rattle.std.proofs.lemmas.Str.{chars-append, chars_past_char, chars-nil, IsUtf8-encode, length-encode, len_utf8_bounds}
 use Rattle.std.proofs.lemmas.Slice.Eq.{bytes_eq-Decides}
-use Rattle.tmpl_values.specs.Rune.{Rune, char, byte, bytes_in}
-use Rattle.tmpl_values.specs.computed.Rune.{begins_with, first_rune, runes, runes_after, tail_len}
+use Rattle.tmpl_values.specs.Bytes.{AreBytes}
+use Rattle.tmpl_values.specs.Rune.{Rune, char, byte, bytes_in, begins_with, first_rune, runes, runes_after, tail_len}
 
 chars-encode : (c : ℕ) (rest : List ℕ) → IsScalar c → chars (encode_utf8 c ++ rest) ≡ c ∷ chars rest
 chars-encode c rest s =
-    let one : chars (encode_utf8 c) ≡ c ∷ [] = chars_past_char (encode_utf8 c) [] c (IsUtf8-encode c s) (sym (append-nil (encode_utf8 c))) ∙ ap (λ l. c ∷ l) chars-nil in
+    let one : chars (encode_utf8 c) ≡ c ∷ [] = chars_past_char (encode_utf8 c) [] c (IsUtf8-encode c s) (sym (append-nil (encode_utf8 c)))
+    ∙ ap (λ l. c ∷ l) chars-nil in
     chars-append (encode_utf8 c) rest (IsUtf8-encode c s) ∙ ap (λ l. l ++ chars rest) one
 
 begins_with-encode : (c : ℕ) (rest : List ℕ) → IsScalar c → begins_with c (encode_utf8 c ++ rest) ≡ true
 begins_with-encode c rest s =
-    let front : take (len_utf8 c) (encode_utf8 c ++ rest) ≡ encode_utf8 c = ap (λ n. take n (encode_utf8 c ++ rest)) (sym (length-encode c)) ∙ take-append_seam (encode_utf8 c) rest in
+    let front : take (len_utf8 c) (encode_utf8 c ++ rest) ≡ encode_utf8 c = ap (λ n. take n (encode_utf8 c ++ rest)) (sym (length-encode c))
+    ∙ take-append_seam (encode_utf8 c) rest in
     rw (s, front) ((bytes_eq-Decides (encode_utf8 c) (encode_utf8 c)).1 refl)
 
 pub first_rune-encode : (c : ℕ) (rest : List ℕ) → IsScalar c → first_rune (encode_utf8 c ++ rest) ≡ char c
@@ -52,7 +56,8 @@ pub bytes_in-Front : (b : ℕ) (bs : List ℕ) (r : Rune) → Front (b ∷ bs) r
 bytes_in-Front b bs _ lone = (refl, omega arith)
 bytes_in-Front b bs _ (encoding c s e) =
     let n : len_utf8 c ≡ suc (len_utf8 c - 1) = omega (arith, len_utf8_bounds c) in (
-      ap (λ t. t ++ drop (len_utf8 c - 1) bs) (sym e) ∙ ap (λ k. take (len_utf8 c) (b ∷ bs) ++ drop k (b ∷ bs)) (sym n) ∙ take-append-drop (len_utf8 c) (b ∷ bs),
+      ap (λ t. t ++ drop (len_utf8 c - 1) bs) (sym e) ∙ ap (λ k. take (len_utf8 c) (b ∷ bs) ++ drop k (b ∷ bs)) (sym n)
+          ∙ take-append-drop (len_utf8 c) (b ∷ bs),
       omega (arith, length-take (len_utf8 c) (b ∷ bs), ap length e, length-encode c),
     )
 
@@ -69,11 +74,6 @@ bytes_in-runes zero (b ∷ bs) h =
 pub text-runes : (bs : List ℕ) → flat_map bytes_in (runes bs) ≡ bs
 unfolding runes
 text-runes bs = bytes_in-runes 0 bs (omega arith)
-
--- bytes are below 256
-abbrev pub AreBytes : List ℕ → Type 0
-AreBytes [] = Unit {0}
-AreBytes (b ∷ bs) = (b < 256) × AreBytes bs
 
 abbrev pub IsRune : Rune → Type 0
 IsRune (char c) = IsScalar c
@@ -117,10 +117,14 @@ runes-first (b ∷ bs) r h is =
     ap (λ r. r ∷ runes_after (tail_len r) bs) is ∙ ap (λ rs. r ∷ rs) (runes_after-drop (tail_len r) bs fits)
 
 -- whether a character stands at the front can be told from the length that the first byte names
-pub first_rune-text : (bs rest t : List ℕ) (c : ℕ) → IsScalar c → t ≡ encode_utf8 c ++ rest → (n : ℕ) → t ≡ take n bs → (first_rune bs ≡ char c) × (len_utf8 c ≤ length bs)
+pub first_rune-text : (bs rest t : List ℕ) (c : ℕ) → IsScalar c → t ≡ encode_utf8 c ++ rest → (n : ℕ) → t ≡ take n bs
+    → (first_rune bs ≡ char c) × (len_utf8 c ≤ length bs)
 first_rune-text bs rest t c s e n is =
-    let bytes_are : bs ≡ encode_utf8 c ++ (rest ++ drop n bs) = sym (take-append-drop n bs) ∙ ap (λ x. x ++ drop n bs) (sym is ∙ e) ∙ append_assoc (encode_utf8 c) rest (drop n bs) in
-    (ap first_rune bytes_are ∙ first_rune-encode c (rest ++ drop n bs) s, omega (arith, ap length bytes_are, length-append (encode_utf8 c) (rest ++ drop n bs), length-encode c))
+    let bytes_are : bs ≡ encode_utf8 c ++ (rest ++ drop n bs) = sym (take-append-drop n bs) ∙ ap (λ x. x ++ drop n bs) (sym is ∙ e)
+    ∙ append_assoc (encode_utf8 c) rest (drop n bs) in (
+      ap first_rune bytes_are ∙ first_rune-encode c (rest ++ drop n bs) s,
+      omega (arith, ap length bytes_are, length-append (encode_utf8 c) (rest ++ drop n bs), length-encode c),
+    )
 
 IsScalar-first : (t rest : List ℕ) (c : ℕ) → IsUtf8 t → t ≡ encode_utf8 c ++ rest → IsScalar c
 IsScalar-first t rest c u is =
@@ -128,13 +132,16 @@ IsScalar-first t rest c u is =
     (and_parts (scalar c) (scalars first.0) (ap scalars (sym first.1) ∙ u.1.0)).0
 
 -- what the first character of a front that is UTF-8 says
-pub first_rune-known : (bs t rest : List ℕ) (n : ℕ) (r : Option ℕ) (X : Type 0) → IsUtf8 t → t ≡ take n bs → 0 < length t → MatchOption r ((length t ≡ 0) × X) (λ c. t ≡ encode_utf8 c ++ rest)
+pub first_rune-known : (bs t rest : List ℕ) (n : ℕ) (r : Option ℕ) (X : Type 0) → IsUtf8 t → t ≡ take n bs → 0 < length t
+    → MatchOption r ((length t ≡ 0) × X) (λ c. t ≡ encode_utf8 c ++ rest)
     → MatchOption r (first_rune bs ≡ byte (get_or bs 0 0)) (λ c. (first_rune bs ≡ char c) × (len_utf8 c ≤ length bs))
 first_rune-known bs t rest n None X u is some h = absurd (omega arith)
 first_rune-known bs t rest n (Some c) X u is some h = first_rune-text bs rest t c (IsScalar-first t rest c u h) h n is
 
 continuation_len-by : (a b d : Bool) (c : ℕ) (rest : List ℕ) → c < 1114112 → nat_lt c 128 ≡ a → nat_lt c 2048 ≡ b → nat_lt c 65536 ≡ d
-    → continuation_len (get_or ((cond a (c ∷ []) (cond b ((192 + c / 64) ∷ next c ∷ []) (cond d ((224 + c / 4096) ∷ next (c / 64) ∷ next c ∷ []) ((240 + c / 262144) ∷ next (c / 4096) ∷ next (c / 64) ∷ next c ∷ [])))) ++ rest) 0 0) + 1 ≡ cond a 1 (cond b 2 (cond d 3 4))
+    → continuation_len (get_or ((cond a (c ∷ []) (cond b ((192 + c / 64) ∷ next c ∷ [])
+    (cond d ((224 + c / 4096) ∷ next (c / 64) ∷ next c ∷ []) ((240 + c / 262144) ∷ next (c / 4096) ∷ next
+    (c / 64) ∷ next c ∷ [])))) ++ rest) 0 0) + 1 ≡ cond a 1 (cond b 2 (cond d 3 4))
 continuation_len-by true b d c rest h p q r = grind (arith, nat_tests)
 continuation_len-by false true d c rest h p q r = grind (arith, nat_tests)
 continuation_len-by false false true c rest h p q r = grind (arith, nat_tests)
@@ -147,16 +154,19 @@ continuation_len-encode c rest h = continuation_len-by _ _ _ c rest h refl refl 
 IsScalar-below : (c : ℕ) → IsScalar c → c < 1114112
 IsScalar-below c s = ⊎_elim (λ h. omega arith) (λ h. h.1) (scalar_cases c s)
 
-first_rune-ill_formed_by : (bs : List ℕ) (n : ℕ) (r : Rune) → n ≡ min (continuation_len (get_or bs 0 0) + 1) (length bs) → (IsUtf8 (take n bs) → ⊥) → Front bs r → r ≡ byte (get_or bs 0 0)
+first_rune-ill_formed_by : (bs : List ℕ) (n : ℕ) (r : Rune) → n ≡ min (continuation_len (get_or bs 0 0) + 1) (length bs) → (IsUtf8 (take n bs) → ⊥)
+    → Front bs r → r ≡ byte (get_or bs 0 0)
 first_rune-ill_formed_by bs n _ e never lone = refl
 first_rune-ill_formed_by bs n _ e never (encoding c s is) =
     let bytes_are : bs ≡ encode_utf8 c ++ drop (len_utf8 c) bs = sym (take-append-drop (len_utf8 c) bs) ∙ ap (λ t. t ++ drop (len_utf8 c) bs) is in
-    let lead : continuation_len (get_or bs 0 0) + 1 ≡ len_utf8 c = ap (λ t. continuation_len (get_or t 0 0) + 1) bytes_are ∙ continuation_len-encode c (drop (len_utf8 c) bs) (IsScalar-below c s) in
+    let lead : continuation_len (get_or bs 0 0) + 1 ≡ len_utf8 c = ap (λ t. continuation_len (get_or t 0 0) + 1) bytes_are
+    ∙ continuation_len-encode c (drop (len_utf8 c) bs) (IsScalar-below c s) in
     let fits : len_utf8 c ≤ length bs = omega (arith, length-take (len_utf8 c) bs, ap length is, length-encode c) in
     let n_is : n ≡ len_utf8 c = omega arith in
     absurd (never (subst IsUtf8 (sym (ap (λ k. take k bs) n_is ∙ is)) (IsUtf8-encode c s)))
 
-pub first_rune-ill_formed : (bs : List ℕ) (n : ℕ) → n ≡ min (continuation_len (get_or bs 0 0) + 1) (length bs) → (IsUtf8 (take n bs) → ⊥) → first_rune bs ≡ byte (get_or bs 0 0)
+pub first_rune-ill_formed : (bs : List ℕ) (n : ℕ) → n ≡ min (continuation_len (get_or bs 0 0) + 1) (length bs) → (IsUtf8 (take n bs) → ⊥)
+    → first_rune bs ≡ byte (get_or bs 0 0)
 first_rune-ill_formed bs n e never = first_rune-ill_formed_by bs n (first_rune bs) e never (front bs)
 
 pub are_bytes : (bs : List ℕ) → ((i : ℕ) → Fits w8 (get_or bs i 0)) → AreBytes bs

@@ -1,4 +1,4 @@
--- Which tree bytes are, from what a reader knows of them.
+-- For `Data::from_json`: which tree bytes are, from what the reader of UTF-8 says of them.
 use Rattle.std.proofs.Common.{◌≡◌, ℕ, List, Bool, true, false, Option, None, refl, IsUtf8}
 use Rattle.std.specs.Str.{is_utf8}
 use Rattle.std.specs.Bool.{if◌then◌else◌}

@@ -1,4 +1,4 @@
--- A sequence or a mapping is empty exactly if it has no items.
+-- For `Val::truth`: a sequence or a mapping is empty exactly where the slice that holds it is.
 use Rattle.std.proofs.Common.{◌≡◌, ◌==◌, ℕ, List, [], ◌∷◌, length, refl, suc, true, arith}
 use Rattle.std.proofs.lemmas.Bool.Decides.{nat_tests}
 use Rattle.std.proofs.Common.{not}

@@ -1,4 +1,4 @@
--- The sizes by which a walk over data ends.
+-- For `put_inner`, which goes over data: the sizes that fall from a value to what it holds.
 use Rattle.std.proofs.Common.{ℕ, suc, max, ◌+◌, ◌*◌, ◌≤◌, List, [], ◌∷◌, arith}
 use denote.Param.Weighed.{most}
 use Rattle.tmpl_values.specs.computed.Weight.{weight, items_weight, entries_weight}
@@ -10,14 +10,11 @@ use Rattle.tmpl_values.specs.declared.data.Row.TheDeep.{size-Data}
 use Rattle.tmpl_values.specs.declared.data.Row.TheShapes.{weighed-Table-entries-at-2}
 
 size-data : (d : Data) → size-Data d ≤ 2 * weight (value_of d) + 1
-size-data kind.Null = omega arith
-size-data (kind.Bool b) = omega arith
-size-data (kind.Num n) = omega arith
-size-data (kind.Text s) = omega arith
 size-data (kind.List vs) =
     let g : 2 * max (items_weight vs + 1) 0 + 1 ≤ 2 * suc (items_weight vs) + 1 = omega arith in g
 size-data (kind.Map es) =
     let g : 2 * max (entries_weight es + 1) 0 + 1 ≤ 2 * suc (entries_weight es) + 1 = omega arith in g
+size-data _ = omega arith
 
 pub size-row : (ds : List Data) → most (λ d. size-Data d) ds ≤ 2 * items_weight (items_of ds) + 1
 size-row [] = omega arith

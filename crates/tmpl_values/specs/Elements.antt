@@ -3,7 +3,7 @@
 -- nothing and null have none, and that no other value may be ranged over, are our own rules.
 use Rattle.std.specs.Prelude.{ℕ, suc, ℤ, pos, negsuc, List, [], ◌∷◌, map, slice_get, Option, Some, None}
 use Rattle.std.specs.List.{range_with_len}
-use Rattle.tmpl_values.specs.Value.{Value, nothing, null, boolean, number, string, sequence, mapping, Items, no_item}
+use Rattle.tmpl_values.specs.Value.{Value, nothing, null, number, string, sequence, mapping, Items, no_item}
 use Rattle.tmpl_values.specs.Value.{item, Entries, no_entry, entry}
 
 -- an index or key, and the element
@@ -33,21 +33,15 @@ numbers_below (negsuc n) = []
 abbrev pub elements : Value → Option (List Element)
 elements nothing = Some []
 elements null = Some []
-elements (boolean b) = None
 elements (number n) = Some (numbers_below n)
-elements (string s) = None
 elements (sequence vs) = Some (indexed 0 vs)
 elements (mapping es) = Some (keyed es)
+elements _ = None
 
 -- .. if it may be ranged over with a variable for the index or key as well: a number may not
 abbrev pub pairs : Value → Option (List Element)
-pairs nothing = elements nothing
-pairs null = elements null
-pairs (boolean b) = elements (boolean b)
 pairs (number n) = None
-pairs (string s) = elements (string s)
-pairs (sequence vs) = elements (sequence vs)
-pairs (mapping es) = elements (mapping es)
+pairs v = elements v
 
 -- the element at a place among these, if there is one
 abbrev pub element_at : ℕ → Option (List Element) → Option Element

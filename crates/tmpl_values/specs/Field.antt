@@ -1,7 +1,6 @@
 -- The field of a value. What nothing and null have as fields is this project's own rule.
 use Rattle.std.specs.Prelude.{ℕ, List, bytes_eq, if◌then◌else◌}
-use Rattle.tmpl_values.specs.Value.{Value, nothing, null, boolean, number, string, sequence, mapping, Entries, no_entry}
-use Rattle.tmpl_values.specs.Value.{entry}
+use Rattle.tmpl_values.specs.Value.{Value, nothing, mapping, Entries, no_entry, entry}
 
 -- what a value has under a name: a value; no entry, though it is a mapping; nothing, as it is
 -- nothing itself; or no field, as its kind has none
@@ -19,9 +18,5 @@ entry_at name (entry k v es) = if bytes_eq k name then found v else entry_at nam
 -- the field of this name
 abbrev pub field_at : List ℕ → Value → FieldValue
 field_at name nothing = of_nothing
-field_at name null = no_field
-field_at name (boolean b) = no_field
-field_at name (number n) = no_field
-field_at name (string s) = no_field
-field_at name (sequence vs) = no_field
 field_at name (mapping es) = entry_at name es
+field_at name _ = no_field

@@ -1,7 +1,7 @@
 -- The size of a value, its items and its parts ("Functions", at `index`, `len` and `slice`).
 use Rattle.std.specs.Prelude.{◌≤◌, ◌-◌, ℕ, zero, suc, List, length, slice_range, Option, Some, None}
-use Rattle.tmpl_values.specs.Value.{Value, nothing, null, boolean, number, string, sequence, mapping, Items, no_item}
-use Rattle.tmpl_values.specs.Value.{item, Entries, no_entry, entry}
+use Rattle.tmpl_values.specs.Value.{Value, string, sequence, mapping, Items, no_item, item, Entries, no_entry}
+use Rattle.tmpl_values.specs.Value.{entry}
 
 -- the value at a place
 abbrev pub nth_item : ℕ → Items → Option Value
@@ -21,23 +21,15 @@ entry_count (entry k v es) = suc (entry_count es)
 
 -- the bytes of a string
 abbrev pub bytes_of : Value → Option (List ℕ)
-bytes_of nothing = None
-bytes_of null = None
-bytes_of (boolean b) = None
-bytes_of (number n) = None
 bytes_of (string s) = Some s
-bytes_of (sequence vs) = None
-bytes_of (mapping es) = None
+bytes_of _ = None
 
 -- how many bytes a string has, or how many items a sequence or a mapping has
 abbrev pub size_of : Value → Option ℕ
-size_of nothing = None
-size_of null = None
-size_of (boolean b) = None
-size_of (number n) = None
 size_of (string s) = Some (length s)
 size_of (sequence vs) = Some (item_count vs)
 size_of (mapping es) = Some (entry_count es)
+size_of _ = None
 
 -- the items without the first i
 abbrev pub items_from : ℕ → Items → Items
@@ -53,20 +45,12 @@ first_items (suc n) (item v vs) = item v (first_items n vs)
 
 -- the value is a string or a sequence, and has a part from i to before j
 abbrev pub HasPart : ℕ → ℕ → Value → Type 0
-HasPart i j nothing = ⊥
-HasPart i j null = ⊥
-HasPart i j (boolean b) = ⊥
-HasPart i j (number n) = ⊥
 HasPart i j (string s) = (i ≤ j) × (j ≤ length s)
 HasPart i j (sequence vs) = (i ≤ j) × (j ≤ item_count vs)
-HasPart i j (mapping es) = ⊥
+HasPart i j _ = ⊥
 
 -- the bytes or the items from i to before j, and any other value itself
 abbrev pub part_of : ℕ → ℕ → Value → Value
-part_of i j nothing = nothing
-part_of i j null = null
-part_of i j (boolean b) = boolean b
-part_of i j (number n) = number n
 part_of i j (string s) = string (slice_range s i j)
 part_of i j (sequence vs) = sequence (first_items (j - i) (items_from i vs))
-part_of i j (mapping es) = mapping es
+part_of i j v = v

@@ -1,3 +1,4 @@
+pub mod Bytes
 pub mod Compare
 pub mod Elements
 pub mod Field

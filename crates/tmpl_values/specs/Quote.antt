@@ -4,8 +4,7 @@ use Rattle.std.specs.Prelude.{ℕ, zero, suc, ◌/◌, ◌%◌, ◌||◌, ◌==�
 use Rattle.std.specs.Prelude.{if◌then◌else◌}
 use Rattle.std.specs.List.{flat_map}
 use Rattle.std.specs.Char.{encode_utf8, digit_char}
-use Rattle.tmpl_values.specs.Rune.{Rune, char, byte}
-use Rattle.tmpl_values.specs.computed.Rune.{runes}
+use Rattle.tmpl_values.specs.Rune.{Rune, char, byte, runes}
 use Rattle.tmpl_values.specs.Printable.{printable}
 
 -- the codes with a letter of their own behind a backslash: the code, and the letter

@@ -43,8 +43,4 @@ abbrev mutual
 abbrev pub text_of : Value → List ℕ
 text_of nothing = codes "<no value>"
 text_of null = codes "<no value>"
-text_of (boolean b) = inner_text (boolean b)
-text_of (number n) = inner_text (number n)
-text_of (string s) = inner_text (string s)
-text_of (sequence vs) = inner_text (sequence vs)
-text_of (mapping es) = inner_text (mapping es)
+text_of v = inner_text v

@@ -22,25 +22,13 @@ val_of (kind.Map es) = mapping es.now
 
 -- whether it is a made text, which alone takes memory to share
 abbrev pub is_made : Val → Bool
-is_made kind.Nothing = false
-is_made kind.Null = false
-is_made (kind.Bool b) = false
-is_made (kind.Num n) = false
-is_made (kind.Text s) = false
 is_made (kind.Made s) = true
-is_made (kind.List ds) = false
-is_made (kind.Map es) = false
+is_made _ = false
 
 -- whether `share` copies nothing of it: it is no made text, or one whose owners are counted
 abbrev pub is_kept : Val → Bool
-is_kept kind.Nothing = true
-is_kept kind.Null = true
-is_kept (kind.Bool b) = true
-is_kept (kind.Num n) = true
-is_kept (kind.Text s) = true
 is_kept (kind.Made s) = s.1
-is_kept (kind.List ds) = true
-is_kept (kind.Map es) = true
+is_kept _ = true
 
 -- what an answer of `Val::field` stands for
 abbrev pub field_of : Field → FieldValue
@@ -52,9 +40,7 @@ field_of answer.NoField = no_field
 -- the answer holds no made text
 abbrev pub is_borrowed : Field → Bool
 is_borrowed (answer.Found v) = not (is_made v)
-is_borrowed answer.Missing = true
-is_borrowed answer.OfNothing = true
-is_borrowed answer.NoField = true
+is_borrowed _ = true
 
 -- the same value once more, or a refusal, which a made text alone may meet
 abbrev pub IsShared : Val → Result Val AllocError → Type 0

@@ -2,5 +2,4 @@ pub mod Codes
 pub mod Falls
 pub mod Members
 pub mod Read
-pub mod Rune
 pub mod Weight

@@ -1,6 +1,7 @@
 //! Equality and order of values.
 ghost use Rattle.std.specs.Prelude.{◌≡◌};
-ghost use Rattle.tmpl_values.specs.Value.{boolean, number, string};
+ghost use Rattle.std.specs.Cmp.Lexicographic.{slice_cmp};
+ghost use Rattle.std.specs.Ordering.{is_lt, nat_cmp};
 ghost use Rattle.tmpl_values.specs.View.{val_of};
 ghost use Rattle.tmpl_values.specs.Compare.{equality, order, is_nothing, IsCompared};
 
@@ -19,19 +20,15 @@ impl<'a> Val<'a> {
     pub fn equal(&self, other: &Val<'_>) -> Result<bool, CompareFault>
         ensures { IsCompared (equality (val_of self.now) (val_of other.now)) result }
     {
-        match self {
-            Val::Nothing | Val::Null => Ok(other.is_nothing()),
-            Val::Bool(b) => other.equals_truth(*b),
-            Val::Num(n) => other.equals_number(*n),
-            Val::Text(text) => other.equals_text(text),
-            Val::Made(text) => other.equals_text(text.as_slice()),
-            Val::List(_) | Val::Map(_) => {
-                if other.is_nothing() {
-                    Ok(false)
-                } else {
-                    Err(CompareFault)
-                }
-            }
+        match (self, other) {
+            (Val::Nothing | Val::Null, _) => Ok(other.is_nothing()),
+            (_, Val::Nothing | Val::Null) => Ok(false),
+            (Val::Bool(b), Val::Bool(c)) => Ok(b == c),
+            (Val::Num(m), Val::Num(n)) => Ok(m == n),
+            _ => match (self.bytes(), other.bytes()) {
+                (Some(left), Some(right)) => Ok(left == right),
+                _ => Err(CompareFault),
+            },
         }
     }
 
@@ -40,13 +37,12 @@ impl<'a> Val<'a> {
     pub fn less(&self, other: &Val<'_>) -> Result<bool, CompareFault>
         ensures { IsCompared (order (val_of self.now) (val_of other.now)) result }
     {
-        match self {
-            Val::Num(n) => other.above_number(*n),
-            Val::Text(text) => other.above_text(text),
-            Val::Made(text) => other.above_text(text.as_slice()),
-            Val::Nothing | Val::Null | Val::Bool(_) | Val::List(_) | Val::Map(_) => {
-                Err(CompareFault)
-            }
+        match (self, other) {
+            (Val::Num(m), Val::Num(n)) => Ok(m < n),
+            _ => match (self.bytes(), other.bytes()) {
+                (Some(left), Some(right)) => Ok(is_below(left, right)),
+                _ => Err(CompareFault),
+            },
         }
     }
 
@@ -54,77 +50,14 @@ impl<'a> Val<'a> {
     fn is_nothing(&self) -> bool
         ensures { result ≡ is_nothing (val_of self.now) }
     {
-        match self {
-            Val::Nothing | Val::Null => true,
-            Val::Bool(_) | Val::Num(_) | Val::Text(_) | Val::Made(_) | Val::List(_) | Val::Map(_) =>
-                { false }
-        }
+        matches!(self, Val::Nothing | Val::Null)
     }
+}
 
-    /// Whether this truth value equals the value.
-    fn equals_truth(&self, b: bool) -> Result<bool, CompareFault>
-        ensures { IsCompared (equality (boolean b) (val_of self.now)) result }
-    {
-        match self {
-            Val::Nothing | Val::Null => Ok(false),
-            Val::Bool(c) => Ok(b == *c),
-            Val::Num(_) | Val::Text(_) | Val::Made(_) | Val::List(_) | Val::Map(_) => {
-                Err(CompareFault)
-            }
-        }
-    }
-
-    /// Whether this number equals the value.
-    fn equals_number(&self, n: i64) -> Result<bool, CompareFault>
-        ensures { IsCompared (equality (number n) (val_of self.now)) result }
-    {
-        match self {
-            Val::Nothing | Val::Null => Ok(false),
-            Val::Num(m) => Ok(n == *m),
-            Val::Bool(_) | Val::Text(_) | Val::Made(_) | Val::List(_) | Val::Map(_) => {
-                Err(CompareFault)
-            }
-        }
-    }
-
-    /// Whether this text equals the value.
-    fn equals_text(&self, bytes: &[u8]) -> Result<bool, CompareFault>
-        ensures { IsCompared (equality (string bytes.now) (val_of self.now)) result }
-    {
-        match self {
-            Val::Nothing | Val::Null => Ok(false),
-            Val::Text(text) => Ok(bytes == *text),
-            Val::Made(text) => Ok(bytes == text.as_slice()),
-            Val::Bool(_) | Val::Num(_) | Val::List(_) | Val::Map(_) => Err(CompareFault),
-        }
-    }
-
-    /// Whether the value is above this number.
-    fn above_number(&self, n: i64) -> Result<bool, CompareFault>
-        ensures { IsCompared (order (number n) (val_of self.now)) result }
-    {
-        match self {
-            Val::Num(m) => Ok(n < *m),
-            Val::Nothing
-            | Val::Null
-            | Val::Bool(_)
-            | Val::Text(_)
-            | Val::Made(_)
-            | Val::List(_)
-            | Val::Map(_) => Err(CompareFault),
-        }
-    }
-
-    /// Whether the value is above this text.
-    fn above_text(&self, bytes: &[u8]) -> Result<bool, CompareFault>
-        ensures { IsCompared (order (string bytes.now) (val_of self.now)) result }
-    {
-        match self {
-            Val::Text(text) => Ok(bytes < *text),
-            Val::Made(text) => Ok(bytes < text.as_slice()),
-            Val::Nothing | Val::Null | Val::Bool(_) | Val::Num(_) | Val::List(_) | Val::Map(_) => {
-                Err(CompareFault)
-            }
-        }
-    }
+/// Whether the left bytes are below the right ones.
+#[tactic(auto, using(crate::proofs::BytesLemmas::bytes_order))]
+fn is_below(left: &[u8], right: &[u8]) -> bool
+    ensures { result ≡ is_lt (slice_cmp nat_cmp left.now right.now) }
+{
+    left < right
 }

@@ -7,10 +7,12 @@ ghost use Rattle.tmpl_values.specs.Json.{if_json, if_whole, not_json, IsData};
 ghost use Rattle.tmpl_values.specs.computed.Read.{value_in, items_in, entries_in};
 ghost use Rattle.tmpl_values.specs.row.View.{value_of};
 
+mod number;
+
+use self::number::whole_number;
 use crate::bytes::Bytes;
 use crate::data::{Data, Row, Table};
 use crate::members::Members;
-use crate::number::whole_number;
 use json::{Invalid, Reader, Scratch, Token};
 use std::alloc::{AllocError, AllocFailed, Global};
 use thiserror::Error;
@@ -134,7 +136,7 @@ fn read(alloc: Global, reader: &mut Reader<'_>, depth: usize) -> Result<Option<D
             Some(n) => Ok(n.map(Data::Num)),
             None => Err(ReadFault::NotJson),
         },
-        Token::String(text) => Ok(Some(Data::Text(copied(alloc, text)?))),
+        Token::String(text) => Ok(Some(Data::Text(copy(alloc, text)?))),
         Token::BeginArray if depth > 0 => Ok(read_list(alloc, reader, depth - 1)?.map(Data::List)),
         Token::BeginObject if depth > 0 => Ok(read_map(alloc, reader, depth - 1)?.map(Data::Map)),
         _ => Err(ReadFault::NotJson),
@@ -142,7 +144,7 @@ fn read(alloc: Global, reader: &mut Reader<'_>, depth: usize) -> Result<Option<D
 }
 
 /// The bytes of a text.
-fn copied(alloc: Global, text: &str) -> Result<Bytes, AllocError>
+fn copy(alloc: Global, text: &str) -> Result<Bytes, AllocError>
     ensures { IfOk result (λ b. b ≡ text.now) }
 {
     Ok(Bytes::new(Vec::from_slice(alloc, text.as_bytes())?))

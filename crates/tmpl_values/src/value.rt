@@ -5,7 +5,7 @@ ghost use Rattle.tmpl_values.specs.View.{value_of, items_of, entries_of, val_of,
 ghost use Rattle.tmpl_values.specs.View.{is_borrowed, element_of, IsShared};
 ghost use Rattle.tmpl_values.specs.Truth.{truth};
 ghost use Rattle.tmpl_values.specs.Field.{field_at};
-ghost use Rattle.tmpl_values.specs.Elements.{item_at, numbers_below};
+ghost use Rattle.tmpl_values.specs.Elements.{elements, item_at, numbers_below, pairs};
 ghost use Rattle.tmpl_values.specs.Item.{bytes_of, size_of, HasPart, part_of, items_from, first_items};
 
 use crate::bytes::Bytes;
@@ -101,6 +101,31 @@ impl<'a> Val<'a> {
             Val::List(items) => list_item(items, i as usize),
             Val::Map(table) => map_item(table.as_slice(), i as usize),
             Val::Nothing | Val::Null | Val::Bool(_) | Val::Text(_) | Val::Made(_) => None,
+        }
+    }
+
+    /// How many elements a range visits of the value, the numbers below it where it is a number;
+    /// none where it may not be ranged over.
+    #[tactic(auto, using(crate::proofs::ElementLemmas::counts))]
+    pub fn element_count(&self) -> Option<u64>
+        ensures { result ≡ option_map length (elements (val_of self.now)) }
+    {
+        match self {
+            Val::Nothing | Val::Null => Some(0),
+            Val::Num(n) => Some(count_below(*n)),
+            Val::List(_) | Val::Map(_) => self.size(),
+            Val::Bool(_) | Val::Text(_) | Val::Made(_) => None,
+        }
+    }
+
+    /// How many elements a range with two variables visits of the value; none where it may not be
+    /// ranged over so, as a number may not.
+    pub fn pair_count(&self) -> Option<u64>
+        ensures { result ≡ option_map length (pairs (val_of self.now)) }
+    {
+        match self {
+            Val::Num(_) => None,
+            _ => self.element_count(),
         }
     }
 

@@ -6,29 +6,22 @@ use Rattle.tmpl_values.specs.Value.{Value}
 use Rattle.tmpl_funcs.specs.printf.Format.{both, formatted}
 use Rattle.tmpl_funcs.specs.declared.fault.CallError.{CallError}
 use Rattle.tmpl_funcs.specs.declared.fault.CallError.TheVariants as error
-use Rattle.tmpl_funcs.specs.declared.fault.CallFault.TheVariants.{WrongCount, WrongKind, OutOfRange, NotComparable}
 use Rattle.tmpl_funcs.specs.declared.fault.CallFault.TheVariants.{FormatRefused}
 
 -- a text that is there was added; or there is none, and the format was refused; or memory was
 abbrev pub IsAdded : Option (List ℕ) → List ℕ → List ℕ → Result (Unit {0}) CallError → Type 0
 IsAdded asked old new (Ok u) = option_map (λ text. old ++ text) asked ≡ Some new
-IsAdded asked old new (Err (error.Fault WrongCount)) = ⊥
-IsAdded asked old new (Err (error.Fault WrongKind)) = ⊥
-IsAdded asked old new (Err (error.Fault OutOfRange)) = ⊥
-IsAdded asked old new (Err (error.Fault NotComparable)) = ⊥
 IsAdded asked old new (Err (error.Fault FormatRefused)) = asked ≡ None
 IsAdded asked old new (Err error.OutOfMemory) = Unit {0}
+IsAdded asked old new _ = ⊥
 
--- a piece at the front was added, and what stands behind it and the values behind those that it
+-- a segment at the front was added, and what stands behind it and the values behind those that it
 -- took come to the rest; or there is no text, and the format was refused; or memory was
-abbrev pub IsPieceAdded : List ℕ → List Value → List ℕ → List ℕ
+abbrev pub IsSegmentAdded : List ℕ → List Value → List ℕ → List ℕ
     → Result (Bor (List ℕ) × ℕ) CallError → Type 0
-IsPieceAdded format vs old new (Ok left) = (text : List ℕ) × (new ≡ old ++ text)
+IsSegmentAdded format vs old new (Ok left) = (text : List ℕ) × (new ≡ old ++ text)
     × (formatted format vs ≡ both (Some text) (formatted left.0.now (drop left.1 vs)))
     × (left.1 ≤ length vs) × (length left.0.now < length format)
-IsPieceAdded format vs old new (Err (error.Fault WrongCount)) = ⊥
-IsPieceAdded format vs old new (Err (error.Fault WrongKind)) = ⊥
-IsPieceAdded format vs old new (Err (error.Fault OutOfRange)) = ⊥
-IsPieceAdded format vs old new (Err (error.Fault NotComparable)) = ⊥
-IsPieceAdded format vs old new (Err (error.Fault FormatRefused)) = formatted format vs ≡ None
-IsPieceAdded format vs old new (Err error.OutOfMemory) = Unit {0}
+IsSegmentAdded format vs old new (Err (error.Fault FormatRefused)) = formatted format vs ≡ None
+IsSegmentAdded format vs old new (Err error.OutOfMemory) = Unit {0}
+IsSegmentAdded format vs old new _ = ⊥

@@ -14,7 +14,7 @@ use Rattle.tmpl_values.specs.Text.{inner_text, truth_text}
 use Rattle.tmpl_funcs.specs.Index.{number_of}
 use Rattle.tmpl_funcs.specs.printf.Form.{has_minus_alone, is_bare}
 use Rattle.tmpl_funcs.specs.printf.Pad.{padded, laid_out}
-use Rattle.tmpl_funcs.specs.printf.Rune.{cut}
+use Rattle.tmpl_funcs.specs.printf.Rune.{truncated_to}
 use Rattle.tmpl_funcs.specs.declared.printf.form.Form.{Form}
 use Rattle.tmpl_funcs.specs.declared.printf.form.Verb.{Verb}
 use Rattle.tmpl_funcs.specs.declared.printf.form.Verb.TheVariants as verb
@@ -35,13 +35,9 @@ bare_if false text = None
 
 -- `%v`: the text that an operand of `print` has
 abbrev pub value_form : Form → Value → Option (List ℕ)
-value_form f kind.nothing = text_form f (Some (inner_text kind.nothing))
-value_form f kind.null = text_form f (Some (inner_text kind.null))
-value_form f (kind.boolean b) = text_form f (Some (inner_text (kind.boolean b)))
-value_form f (kind.number n) = text_form f (Some (inner_text (kind.number n)))
-value_form f (kind.string s) = text_form f (Some s)
 value_form f (kind.sequence vs) = bare_if (is_bare f) (inner_text (kind.sequence vs))
 value_form f (kind.mapping es) = bare_if (is_bare f) (inner_text (kind.mapping es))
+value_form f v = text_form f (Some (inner_text v))
 
 -- the sign of a number: `-`, or with the flags `+` and space what these ask for
 abbrev pub sign : Form → ℤ → List ℕ
@@ -58,13 +54,9 @@ hex_pair upper b = digit_glyph upper (b / 16) ∷ digit_glyph upper (b % 16) ∷
 
 -- `%x` and `%X`: a number in base 16, or the bytes of a text
 abbrev pub hex_form : Bool → Form → Value → Option (List ℕ)
-hex_form upper f kind.nothing = None
-hex_form upper f kind.null = None
-hex_form upper f (kind.boolean b) = None
 hex_form upper f (kind.number n) = Some (number_form 16 upper f n)
 hex_form upper f (kind.string s) = text_form f (Some (flat_map (hex_pair upper) s))
-hex_form upper f (kind.sequence vs) = None
-hex_form upper f (kind.mapping es) = None
+hex_form upper f _ = None
 
 -- the character of a code; U+FFFD where it is none
 abbrev pub char_text : ℤ → List ℕ
@@ -73,13 +65,8 @@ char_text (negsuc n) = encode_utf8 65533
 
 -- the text of a truth value
 abbrev pub truth_of : Value → Option (List ℕ)
-truth_of kind.nothing = None
-truth_of kind.null = None
 truth_of (kind.boolean b) = Some (truth_text b)
-truth_of (kind.number n) = None
-truth_of (kind.string s) = None
-truth_of (kind.sequence vs) = None
-truth_of (kind.mapping es) = None
+truth_of _ = None
 
 -- what a form of this verb prints of a value
 abbrev pub printed_by : Verb → Form → Value → Option (List ℕ)
@@ -89,7 +76,7 @@ printed_by verb.Octal f v = option_map (number_form 8 false f) (number_of v)
 printed_by verb.Binary f v = option_map (number_form 2 false f) (number_of v)
 printed_by verb.Hex f v = hex_form false f v
 printed_by verb.UpperHex f v = hex_form true f v
-printed_by verb.Text f v = text_form f (option_map (cut f.precision) (bytes_of v))
+printed_by verb.Text f v = text_form f (option_map (truncated_to f.precision) (bytes_of v))
 printed_by verb.Quoted f v = text_form f (option_map quote (bytes_of v))
 printed_by verb.Char f v = text_form f (option_map char_text (number_of v))
 printed_by verb.Truth f v = text_form f (truth_of v)

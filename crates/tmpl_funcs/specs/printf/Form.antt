@@ -11,17 +11,17 @@ use Rattle.tmpl_funcs.specs.declared.printf.form.Verb.TheVariants.{Quoted, Char,
 
 -- a form as it stands in a format: its flags, the digits of its width, of which there are none
 -- where it has no width, the digits of its precision, if it has one, and its verb
-pub record Spelled : Type 0 where
+pub record WrittenForm : Type 0 where
   pub flags : List ℕ
   pub width : List ℕ
   pub precision : Option (List ℕ)
   pub verb : Verb
 
--- a piece of a format: a run of bytes that stand for themselves, `%%`, or a form
-pub data Piece : Type 0 where
-  literal : List ℕ → Piece
-  percent : Piece
-  form : Spelled → Piece
+-- a segment of a format: a run of bytes that stand for themselves, `%%`, or a form
+pub data Segment : Type 0 where
+  literal : List ℕ → Segment
+  percent : Segment
+  form : WrittenForm → Segment
 
 -- the letter of a verb
 abbrev pub letter : Verb → ℕ
@@ -42,14 +42,14 @@ pointed None = []
 pointed (Some digits) = 46 ∷ digits
 
 -- how a form is spelled behind its `%`
-abbrev pub spelled : Spelled → List ℕ
-spelled f = f.flags ++ (f.width ++ (pointed f.precision ++ letter f.verb ∷ []))
+abbrev pub form_bytes : WrittenForm → List ℕ
+form_bytes f = f.flags ++ (f.width ++ (pointed f.precision ++ letter f.verb ∷ []))
 
--- how a piece is spelled
-abbrev pub spelling : Piece → List ℕ
-spelling (literal run) = run
-spelling percent = 37 ∷ 37 ∷ []
-spelling (form f) = 37 ∷ spelled f
+-- how a segment is spelled
+abbrev pub segment_bytes : Segment → List ℕ
+segment_bytes (literal run) = run
+segment_bytes percent = 37 ∷ 37 ∷ []
+segment_bytes (form f) = 37 ∷ form_bytes f
 
 -- the byte stands for itself
 abbrev pub is_plain : ℕ → Bool
@@ -74,16 +74,8 @@ begins_above_0 (d ∷ ds) = not (d == 48)
 
 -- the verb may have a precision
 abbrev pub takes_precision : Verb → Bool
-takes_precision Value = false
-takes_precision Decimal = false
-takes_precision Octal = false
-takes_precision Binary = false
-takes_precision Hex = false
-takes_precision UpperHex = false
 takes_precision Text = true
-takes_precision Quoted = false
-takes_precision Char = false
-takes_precision Truth = false
+takes_precision _ = false
 
 -- a precision of few digits, which may be none, before a verb that may have it; or no precision
 abbrev pub IsPrecision : Option (List ℕ) → Verb → Type 0
@@ -92,38 +84,36 @@ IsPrecision (Some digits) verb =
     (list_all is_decimal digits ≡ true) × (is_short digits ≡ true) × (takes_precision verb ≡ true)
 
 -- a form: any flags, a width of at most four digits of which the first is not 0, and a precision
-pub record IsForm (f : Spelled) : Type 0 where
+pub record IsForm (f : WrittenForm) : Type 0 where
   pub flags : list_all is_flag f.flags ≡ true
   pub width : list_all is_decimal f.width ≡ true
   pub short : is_short f.width ≡ true
   pub above : begins_above_0 f.width ≡ true
   pub precision : IsPrecision f.precision f.verb
 
--- a piece is well formed; a run has bytes, and none of them is `%`
-abbrev pub IsPiece : Piece → Type 0
-IsPiece (literal []) = ⊥
-IsPiece (literal (b ∷ bs)) = list_all is_plain (b ∷ bs) ≡ true
-IsPiece percent = Unit {0}
-IsPiece (form f) = IsForm f
+-- a segment is well formed; a run has bytes, and none of them is `%`
+abbrev pub IsSegment : Segment → Type 0
+IsSegment (literal []) = ⊥
+IsSegment (literal (b ∷ bs)) = list_all is_plain (b ∷ bs) ≡ true
+IsSegment percent = Unit {0}
+IsSegment (form f) = IsForm f
 
--- the next piece, if there is one, is no run
-abbrev pub IsNoRun : List Piece → Type 0
-IsNoRun [] = Unit {0}
+-- the next segment, if there is one, is no run
+abbrev pub IsNoRun : List Segment → Type 0
 IsNoRun (literal run ∷ ps) = ⊥
-IsNoRun (percent ∷ ps) = Unit {0}
-IsNoRun (form f ∷ ps) = Unit {0}
+IsNoRun _ = Unit {0}
 
--- the pieces are well formed, and a run goes on as far as it can
-abbrev pub ArePieces : List Piece → Type 0
-ArePieces [] = Unit {0}
-ArePieces (literal run ∷ ps) = IsPiece (literal run) × IsNoRun ps × ArePieces ps
-ArePieces (percent ∷ ps) = ArePieces ps
-ArePieces (form f ∷ ps) = IsForm f × ArePieces ps
+-- the segments are well formed, and a run goes on as far as it can
+abbrev pub AreSegments : List Segment → Type 0
+AreSegments [] = Unit {0}
+AreSegments (literal run ∷ ps) = IsSegment (literal run) × IsNoRun ps × AreSegments ps
+AreSegments (percent ∷ ps) = AreSegments ps
+AreSegments (form f ∷ ps) = IsForm f × AreSegments ps
 
--- the pieces of a format: spelled one after another they are the format
-pub record IsReading (format : List ℕ) (ps : List Piece) : Type 0 where
-  pub spells : format ≡ flat_map spelling ps
-  pub pieces : ArePieces ps
+-- the segments of a format: spelled one after another they are the format
+pub record IsReading (format : List ℕ) (ps : List Segment) : Type 0 where
+  pub spells : format ≡ flat_map segment_bytes ps
+  pub segments : AreSegments ps
 
 -- the number that decimal digits write when they follow those of n
 abbrev pub number_after : ℕ → List ℕ → ℕ
@@ -140,7 +130,7 @@ has_flag flag flags = list_any (λ b. b == flag) flags
 
 -- what a form asks for: a flag may stand more than once; no width is a width of 0, and a precision
 -- of no digits is 0
-abbrev pub form_of : Spelled → Form
+abbrev pub form_of : WrittenForm → Form
 form_of f = record {
   minus = has_flag 45 f.flags;
   plus = has_flag 43 f.flags;

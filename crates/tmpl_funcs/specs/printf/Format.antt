@@ -3,8 +3,8 @@
 use Rattle.std.specs.Prelude.{ℕ, List, [], ◌∷◌, ◌++◌, Option, Some, None, Result, Ok, Err}
 use Rattle.tmpl_values.specs.Value.{Value, string}
 use Rattle.tmpl_values.specs.Item.{bytes_of}
-use Rattle.tmpl_funcs.specs.printf.Form.{Piece, literal, percent, form}
-use Rattle.tmpl_funcs.specs.computed.Reading.{reading}
+use Rattle.tmpl_funcs.specs.printf.Form.{Segment, literal, percent, form}
+use Rattle.tmpl_funcs.specs.printf.Reading.{reading}
 use Rattle.tmpl_funcs.specs.printf.Form.{form_of}
 use Rattle.tmpl_funcs.specs.printf.Directive.{printed}
 use Rattle.tmpl_funcs.specs.declared.fault.CallFault.{CallFault}
@@ -12,21 +12,19 @@ use Rattle.tmpl_funcs.specs.declared.fault.CallFault.TheVariants.{WrongCount, Wr
 
 -- two texts that are there, one after the other
 abbrev pub both : Option (List ℕ) → Option (List ℕ) → Option (List ℕ)
-both None t = None
-both (Some s) None = None
 both (Some s) (Some t) = Some (s ++ t)
+both _ _ = None
 
--- the texts of the pieces one after another, where the forms take the arguments in order, one each
-abbrev pub texts : List Piece → List Value → Option (List ℕ)
+-- the texts of the segments one after another, where the forms take the arguments in order, one each
+abbrev pub texts : List Segment → List Value → Option (List ℕ)
 texts [] [] = Some []
-texts [] (v ∷ vs) = None
 texts (literal run ∷ ps) vs = both (Some run) (texts ps vs)
 texts (percent ∷ ps) vs = both (Some (37 ∷ [])) (texts ps vs)
-texts (form f ∷ ps) [] = None
 texts (form f ∷ ps) (v ∷ vs) = both (printed (form_of f) v) (texts ps vs)
+texts _ _ = None
 
--- the texts of pieces that are there
-abbrev pub filled : Option (List Piece) → List Value → Option (List ℕ)
+-- the texts of segments that are there
+abbrev pub filled : Option (List Segment) → List Value → Option (List ℕ)
 filled None vs = None
 filled (Some ps) vs = texts ps vs
 

@@ -3,9 +3,9 @@
 use Rattle.std.specs.Prelude.{ℕ, List, take, Option, Some, None}
 use Rattle.std.specs.List.{flat_map}
 use Rattle.tmpl_values.specs.Rune.{bytes_in}
-use Rattle.tmpl_values.specs.computed.Rune.{runes}
+use Rattle.tmpl_values.specs.Rune.{runes}
 
 -- a text cut to a precision in runes
-abbrev pub cut : Option ℕ → List ℕ → List ℕ
-cut None s = s
-cut (Some n) s = flat_map bytes_in (take n (runes s))
+abbrev pub truncated_to : Option ℕ → List ℕ → List ℕ
+truncated_to None s = s
+truncated_to (Some n) s = flat_map bytes_in (take n (runes s))

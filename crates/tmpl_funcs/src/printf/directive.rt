@@ -7,20 +7,19 @@ ghost use Rattle.tmpl_values.specs.Text.{inner_text};
 ghost use Rattle.tmpl_values.specs.View.{val_of};
 ghost use Rattle.tmpl_funcs.specs.printf.Directive.{char_text, hex_form, hex_pair, number_form, printed, sign};
 ghost use Rattle.tmpl_funcs.specs.printf.Directive.{text_form, truth_of, value_form};
-ghost use Rattle.tmpl_funcs.specs.printf.Rune.{cut};
+ghost use Rattle.tmpl_funcs.specs.printf.Rune.{truncated_to};
 ghost use Rattle.tmpl_funcs.specs.computed.Format.{IsAdded};
 
 use super::digits::write_digits;
 use super::form::{Form, Verb};
 use super::pad::{add_laid_out, add_padded, pad_from};
-use super::rune::cut;
+use super::rune::truncate;
 use crate::fault::{CallError, CallFault};
-use crate::growing::add_quote;
 use crate::index::number;
 use crate::join::{NothingText, add_operand};
 use itoa::Buffer;
 use std::alloc::AllocError;
-use tmpl_values::{Val, digit};
+use tmpl_values::{Val, add_quote, digit};
 
 /// Adds what a form prints of a value.
 #[tactic(auto, unfolding(crate::specs::printf::Directive::printed))]
@@ -90,11 +89,11 @@ fn add_text_form(form: Form, text: &[u8], bytes: &mut Vec<u8>) -> Result<(), Cal
 /// `%s`.
 fn add_string(form: Form, text: Option<&[u8]>, bytes: &mut Vec<u8>) -> Result<(), CallError>
     ensures { IsAdded
-        (text_form form (option_map (cut form.precision) (option_map (λ t. t.now) text.entry)))
+        (text_form form (option_map (truncated_to form.precision) (option_map (λ t. t.now) text.entry)))
         bytes.old.items bytes.new.items result }
 {
     match text {
-        Some(text) => add_text_form(form, cut(form.precision, text), bytes),
+        Some(text) => add_text_form(form, truncate(form.precision, text), bytes),
         None => Err(CallError::Fault(CallFault::FormatRefused)),
     }
 }

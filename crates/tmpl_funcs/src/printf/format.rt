@@ -1,22 +1,24 @@
 //! `printf`.
 ghost use Rattle.std.specs.Prelude.{◌≡◌, ◌∷◌, ◌<◌, true, length, slice_index};
 ghost use Rattle.tmpl_funcs.specs.View.{values_of};
-ghost use Rattle.tmpl_funcs.specs.Answer.{IsMade};
+ghost use Rattle.tmpl_funcs.specs.computed.Answer.{IsMade};
 ghost use Rattle.tmpl_funcs.specs.printf.Form.{is_plain};
-ghost use Rattle.tmpl_funcs.specs.printf.Format.{formatted, formatted_if, printf_of};
-ghost use Rattle.tmpl_funcs.specs.computed.Format.{IsAdded, IsPieceAdded};
+ghost use Rattle.tmpl_funcs.specs.Dispatch.{IsCall};
+ghost use Rattle.tmpl_funcs.specs.declared.func.Func.{Func};
+ghost use Rattle.tmpl_funcs.specs.printf.Format.{formatted, formatted_if};
+ghost use Rattle.tmpl_funcs.specs.computed.Format.{IsAdded, IsSegmentAdded};
 
 use super::class::Class;
 use super::directive::add_printed;
 use super::reading::read_form;
-use crate::capacity::{format_capacity, reserved};
+use crate::capacity::{format_capacity, reserve};
 use crate::fault::{CallError, CallFault};
 use std::alloc::Global;
 use tmpl_values::{Cell, Val};
 
 /// The first argument as a format of the others.
 pub(crate) fn printf<'a>(alloc: Global, arguments: &[Cell<'_>]) -> Result<Val<'a>, CallError>
-    ensures { IsMade (printf_of (values_of arguments.now)) result }
+    ensures { IsCall Func.Printf (values_of arguments.now) result }
 {
     match arguments {
         [] => Err(CallError::Fault(CallFault::WrongCount)),
@@ -35,12 +37,12 @@ fn print_formatted<'a>(
 ) -> Result<Val<'a>, CallError>
     ensures { IsMade (formatted_if (formatted format.now (values_of operands.now))) result }
 {
-    let mut bytes = reserved(alloc, format_capacity(format, operands));
+    let mut bytes = reserve(alloc, format_capacity(format, operands));
     add_formatted(format, operands, &mut bytes)?;
     Ok(Val::made(bytes))
 }
 
-/// Adds the texts of the pieces of a format, which it reads from left to right.
+/// Adds the texts of the segments of a format, which it reads from left to right.
 fn add_formatted(format: &[u8], operands: &[Cell<'_>], bytes: &mut Vec<u8>) -> Result<(), CallError>
     ensures { IsAdded (formatted format.now (values_of operands.now))
         bytes.old.items bytes.new.items result }
@@ -48,7 +50,7 @@ fn add_formatted(format: &[u8], operands: &[Cell<'_>], bytes: &mut Vec<u8>) -> R
     let mut rest = format;
     let mut used = 0;
     while rest.len() > 0 {
-        let (behind, taken) = add_piece(rest, &operands[used..], bytes)?;
+        let (behind, taken) = add_segment(rest, &operands[used..], bytes)?;
         rest = behind;
         used += taken;
     }
@@ -59,15 +61,15 @@ fn add_formatted(format: &[u8], operands: &[Cell<'_>], bytes: &mut Vec<u8>) -> R
     }
 }
 
-/// Adds the text of the piece at the front, and gives what stands behind it and how many operands
+/// Adds the text of the segment at the front, and gives what stands behind it and how many operands
 /// it took.
-fn add_piece<'f>(
+fn add_segment<'f>(
     format: &'f [u8],
     operands: &[Cell<'_>],
     bytes: &mut Vec<u8>,
 ) -> Result<(&'f [u8], usize), CallError>
     requires { 0 < length format.now }
-    ensures { IsPieceAdded format.now (values_of operands.now)
+    ensures { IsSegmentAdded format.now (values_of operands.now)
         bytes.old.items bytes.new.items result }
 {
     let run = Class::Plain.front_len(format);
@@ -93,7 +95,7 @@ fn add_form<'f>(
 ) -> Result<(&'f [u8], usize), CallError>
     requires some { 0 < length spelled.now }
     requires other { is_plain (slice_index spelled.now 0) ≡ true }
-    ensures { IsPieceAdded (37 ∷ spelled.now) (values_of operands.now)
+    ensures { IsSegmentAdded (37 ∷ spelled.now) (values_of operands.now)
         bytes.old.items bytes.new.items result }
 {
     let Some((form, behind)) = read_form(spelled) else {

@@ -1,8 +1,8 @@
 //! The reading of a form.
 ghost use Rattle.std.specs.Prelude.{◌≡◌, ◌≤◌, ◌++◌, length, option_map, Some};
 ghost use Rattle.tmpl_funcs.specs.printf.Form.{form_of, number_in};
-ghost use Rattle.tmpl_funcs.specs.computed.Reading.{form_at, form_by, precision_behind, verb_behind, verb_of};
-ghost use Rattle.tmpl_funcs.specs.computed.Reading.{width_behind};
+ghost use Rattle.tmpl_funcs.specs.printf.Reading.{form_at, form_by, precision_behind, verb_behind, verb_of};
+ghost use Rattle.tmpl_funcs.specs.printf.Reading.{width_behind};
 ghost use Rattle.tmpl_funcs.specs.printf.Form.{pointed};
 ghost use Rattle.tmpl_funcs.specs.computed.Reading.{IsRead};
 

@@ -1,7 +1,7 @@
 //! Texts counted and cut in runes.
 ghost use Rattle.std.specs.Prelude.{◌≡◌, ◌<◌, drop, length, suc};
-ghost use Rattle.tmpl_values.specs.computed.Rune.{first_rune, runes, tail_len};
-ghost use Rattle.tmpl_funcs.specs.printf.Rune.{cut};
+ghost use Rattle.tmpl_values.specs.Rune.{first_rune, runes, tail_len};
+ghost use Rattle.tmpl_funcs.specs.printf.Rune.{truncated_to};
 
 use tmpl_values::first_char;
 
@@ -19,8 +19,8 @@ pub(crate) fn rune_count(text: &[u8]) -> usize
 }
 
 /// The front of a text that has at most so many runes.
-pub(crate) fn cut(precision: Option<usize>, text: &[u8]) -> &[u8]
-    ensures { result.now ≡ cut precision text.now }
+pub(crate) fn truncate(precision: Option<usize>, text: &[u8]) -> &[u8]
+    ensures { result.now ≡ truncated_to precision text.now }
 {
     match precision {
         None => text,
@@ -30,7 +30,7 @@ pub(crate) fn cut(precision: Option<usize>, text: &[u8]) -> &[u8]
 
 /// The first so many runes of a text.
 fn front(count: usize, text: &[u8]) -> &[u8]
-    ensures { result.now ≡ cut (Some count) text.now }
+    ensures { result.now ≡ truncated_to (Some count) text.now }
 {
     let mut rest = text;
     let mut left = count;

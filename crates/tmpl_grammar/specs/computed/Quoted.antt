@@ -5,7 +5,7 @@ use Rattle.std.specs.List.{flat_map}
 use Rattle.std.specs.Char.{len_utf8}
 use lib.Utf8.{scalar}
 use Rattle.tmpl_values.specs.Rune.{Rune, char, byte}
-use Rattle.tmpl_values.specs.computed.Rune.{first_rune}
+use Rattle.tmpl_values.specs.Rune.{first_rune}
 use Rattle.tmpl_grammar.specs.Constant.Integer.{number_in}
 use Rattle.tmpl_grammar.specs.Constant.Quoted.{part_text, part_code}
 use Rattle.tmpl_grammar.specs.declared.constant.quoted.Part.{Part}

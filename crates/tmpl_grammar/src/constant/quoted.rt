@@ -2,7 +2,7 @@
 //! literals" in the specification of Go's language).
 ghost use Rattle.std.specs.Prelude.{◌≡◌, ◌≤◌, ◌<◌, ◌^◌, ◌+◌, ◌++◌, ◌∷◌};
 ghost use Rattle.std.specs.Prelude.{IfOk, IfSome, OnOk, length, option_and_then, option_map};
-ghost use Rattle.tmpl_values.specs.computed.Rune.{first_rune};
+ghost use Rattle.tmpl_values.specs.Rune.{first_rune};
 ghost use Rattle.tmpl_grammar.specs.Constant.Integer as numeral;
 ghost use Rattle.tmpl_grammar.specs.Constant.Quoted.{part_code, part_text, without_returns};
 ghost use Rattle.tmpl_grammar.specs.computed.Quoted as spec;

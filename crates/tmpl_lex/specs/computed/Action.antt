@@ -8,15 +8,13 @@ use Rattle.tmpl_lex.specs.computed.Trim.{End, right_delimiter}
 
 -- the bytes begin with `/*`
 abbrev pub opens_comment : List ℕ → Bool
-opens_comment [] = false
-opens_comment (a ∷ []) = false
 opens_comment (a ∷ b ∷ bs) = a == 47 && b == 42
+opens_comment _ = false
 
 -- the end directly behind a `*/`, by what stands before and behind that, where a comment began
 abbrev pub comment_closed : Bool → Option (List ℕ × List ℕ) → Option End
-comment_closed false p = None
-comment_closed true None = None
 comment_closed true (Some p) = right_delimiter p.1
+comment_closed _ _ = None
 
 -- the end of the comment that the bytes begin with: directly behind the first `*/` after `/*`
 unfoldable pub comment_end : List ℕ → Option End

@@ -13,9 +13,8 @@ split_here false a bs further = with_first a further
 
 -- what stands before the first place where these two bytes follow one another, and what stands after them
 abbrev pub split_pair : ℕ → ℕ → List ℕ → Option (List ℕ × List ℕ)
-split_pair x y [] = None
-split_pair x y (a ∷ []) = None
 split_pair x y (a ∷ b ∷ bs) = split_here (a == x && b == y) a (b ∷ bs) (split_pair x y (b ∷ bs))
+split_pair x y _ = None
 
 -- a place further on, with more bytes before it
 abbrev pub behind : List ℕ → Option (List ℕ × List ℕ) → Option (List ℕ × List ℕ)

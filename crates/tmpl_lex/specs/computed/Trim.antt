@@ -4,9 +4,8 @@ use Rattle.tmpl_lex.specs.Bytes.{is_space}
 
 -- a left trim marker stands directly behind the `{{`: `-` and a byte of white space
 abbrev pub left_marked : List ℕ → Bool
-left_marked [] = false
-left_marked (a ∷ []) = false
 left_marked (a ∷ b ∷ bs) = a == 45 && is_space b
+left_marked _ = false
 
 -- the bytes behind a left trim marker, where one stands there
 abbrev pub behind_marker : Bool → List ℕ → List ℕ
@@ -19,9 +18,8 @@ past_left bs = behind_marker (left_marked bs) bs
 
 -- the bytes begin with `}}`
 abbrev pub has_right_delimiter : List ℕ → Bool
-has_right_delimiter [] = false
-has_right_delimiter (a ∷ []) = false
 has_right_delimiter (a ∷ b ∷ bs) = a == 125 && b == 125
+has_right_delimiter _ = false
 
 -- the bytes begin with `-}}`
 abbrev pub has_dashed_delimiter : List ℕ → Bool

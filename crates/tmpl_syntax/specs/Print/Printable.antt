@@ -1,7 +1,7 @@
 -- What holds of each tree that is read from a file, and lets it be printed and read again.
 use Rattle.std.specs.Prelude.{List, [], ◌∷◌}
 use Rattle.tmpl_grammar.specs.Printable.{OfAction}
-use Rattle.tmpl_values.proofs.RuneLemmas.{AreBytes}
+use Rattle.tmpl_values.specs.Bytes.{AreBytes}
 use Rattle.tmpl_syntax.specs.Tree.{Nodes}
 use Rattle.tmpl_syntax.specs.Set.{Template}
 use Rattle.tmpl_syntax.specs.Print.Join.{IsText}

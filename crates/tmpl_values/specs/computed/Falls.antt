@@ -12,12 +12,9 @@ use Rattle.tmpl_values.specs.declared.data.Row.TheShapes.{weighed-Table-entries-
 
 -- of data
 deep-data : (d : Data) → deep-Data d ≤ weight (value_of d)
-deep-data kind.Null = omega arith
-deep-data (kind.Bool b) = omega arith
-deep-data (kind.Num n) = omega arith
-deep-data (kind.Text s) = omega arith
 deep-data (kind.List vs) = omega arith
 deep-data (kind.Map es) = omega arith
+deep-data _ = omega arith
 
 -- of a row
 pub deep-row : (ds : List Data) → max (most (λ d. deep-Data d) ds) 0 ≤ items_weight (items_of ds)

@@ -1,5 +1,6 @@
 -- The members of a JSON object while it is read.
-use Rattle.std.specs.Prelude.{ℕ, suc, Result, Ok, Err, List, [], ◌∷◌, map, Option, Some, option_map, option_and_then, String, string_bytes}
+use Rattle.std.specs.Prelude.{ℕ, suc, Result, Ok, Err, List, [], ◌∷◌, map, Option, Some, option_map}
+use Rattle.std.specs.Prelude.{option_and_then, String, string_bytes}
 use Rattle.std.specs.Ordering.{nat_cmp, match_ordering}
 use Rattle.std.specs.BTreeMap.{insert_entry}
 use Rattle.std.specs.Cmp.Lexicographic.{slice_cmp}

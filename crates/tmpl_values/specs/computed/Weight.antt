@@ -1,17 +1,12 @@
 -- How many values stand in a value, by which a walk over it ends.
 use Rattle.std.specs.Prelude.{ℕ, suc, ◌+◌}
-use Rattle.tmpl_values.specs.Value.{Value, nothing, null, boolean, number, string, sequence, mapping, Items, no_item}
-use Rattle.tmpl_values.specs.Value.{item, Entries, no_entry, entry}
+use Rattle.tmpl_values.specs.Value.{Value, sequence, mapping, Items, no_item, item, Entries, no_entry, entry}
 
 abbrev mutual
   pub weight : Value → ℕ
-  weight nothing = 1
-  weight null = 1
-  weight (boolean b) = 1
-  weight (number n) = 1
-  weight (string s) = 1
   weight (sequence vs) = suc (items_weight vs)
   weight (mapping es) = suc (entries_weight es)
+  weight _ = 1
 
   pub items_weight : Items → ℕ
   items_weight no_item = 0

@@ -14,7 +14,8 @@ loop-i-preserved c =
     elim c.match-of.branch [
       | in-Some+in_ok-extend_from_slice+in_ok-extend_from_slice-2 w ↦
           let bytes : c.match-of.bytes.items ≡ (l.bytes.items ++ slice_range text l.start l.i) ++ w.in-Some.escaped.now =
-          ap (λ v. v.items) w.bytes-is ∙ w.in_ok-extend_from_slice-2.ensures.items ∙ ap (λ s. s ++ w.in-Some.escaped.now) w.in_ok-extend_from_slice.ensures.items in record {
+          ap (λ v. v.items) w.bytes-is ∙ w.in_ok-extend_from_slice-2.ensures.items
+          ∙ ap (λ s. s ++ w.in-Some.escaped.now) w.in_ok-extend_from_slice.ensures.items in record {
             within = omega (arith, w.start-is);
             so_far =
                 ap (λ s. s ++ (slice_range text c.match-of.start (l.i + 1) ++ rest)) bytes ∙

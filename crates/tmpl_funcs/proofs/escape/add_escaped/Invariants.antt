@@ -6,5 +6,6 @@ use Rattle.tmpl_funcs.proofs.escape.add_escaped.Given as goal
 abbrev pub invariant-loop-i : goal.invariant-loop-i
 invariant-loop-i l = record {
   within : l.start ≤ l.i;
-  so_far : l.bytes.items ++ (slice_range l.text l.start l.i ++ flat_map (escaped_byte l.escape) (drop l.i l.text)) ≡ l.initial.bytes.items ++ flat_map (escaped_byte l.escape) l.text;
+  so_far : l.bytes.items ++ (slice_range l.text l.start l.i ++ flat_map (escaped_byte l.escape) (drop l.i l.text)) ≡ l.initial.bytes.items ++ flat_map
+      (escaped_byte l.escape) l.text;
 }

@@ -1,6 +1,6 @@
 use Rattle.std.proofs.Common.{◌∙◌, Ok, ap, sym}
 use Rattle.tmpl_values.specs.View.{items_of}
-use Rattle.tmpl_funcs.specs.Answer.{IsAnswer}
+use Rattle.tmpl_funcs.specs.computed.Answer.{IsAnswer}
 use Rattle.tmpl_funcs.specs.Index.{item_of}
 use Rattle.tmpl_funcs.proofs.AddedLemmas.{IsErrAnd-along}
 use Rattle.tmpl_funcs.proofs.IndexLemmas.{item_of-Ok, item_of-Err}

@@ -5,4 +5,5 @@ use Rattle.tmpl_funcs.proofs.join.add_joined.Given as goal
 
 abbrev pub invariant-loop-operand : goal.invariant-loop-operand
 invariant-loop-operand l =
-    l.bytes.items ++ joined_by l.after_text (operands_of l.nothing_text (drop l.operand-index l.operands)) ≡ l.initial.bytes.items ++ joined (operands_of l.nothing_text l.operands)
+    l.bytes.items ++ joined_by l.after_text (operands_of l.nothing_text (drop l.operand-index l.operands)) ≡ l.initial.bytes.items ++ joined
+    (operands_of l.nothing_text l.operands)

@@ -8,12 +8,12 @@ pub returns-in-Some : goal.returns-in-Some
 returns-in-Some c =
     inside-read c.args.bytes.now c.loop-end.rest.now (map token_of c.loop-end.tokens.items) (end_of c.in-Some.end) c.loop-end.invariant c.in-Some.ensures
 
-pub after-rest-requires : goal.after-rest-requires
-after-rest-requires c = (IsWithin-front_token c.loop-end.rest.now (token_of c.in-Some-front_token.token) c.in-Some-front_token.ensures).most
+pub skip-rest-requires : goal.skip-rest-requires
+skip-rest-requires c = (IsWithin-front_token c.loop-end.rest.now (token_of c.in-Some-front_token.token) c.in-Some-front_token.ensures).most
 
 pub loop-end-smaller : goal.loop-end-smaller
 loop-end-smaller c =
     let rest = c.loop-end.rest.now in
     let token = token_of c.in-Some-front_token.token in
     let within = IsWithin-front_token rest token c.in-Some-front_token.ensures in
-    omega (arith, within, ap length c.after-rest.ensures, length-drop (length token.bytes) rest)
+    omega (arith, within, ap length c.skip-rest.ensures, length-drop (length token.bytes) rest)

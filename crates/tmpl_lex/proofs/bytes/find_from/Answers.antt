@@ -7,13 +7,13 @@ use Rattle.tmpl_lex.proofs.bytes.find_from.Goals as goal
 pub returns-in-Some-clause-same : goal.returns-in-Some-clause-same
 returns-in-Some-clause-same c =
     let bs = c.args.bytes.now in
-    let found = subst (λ (rest : List ℕ). IsFirstByte (is_byte c.args.first) rest (Some c.in-Some.skipped)) c.after.ensures c.in-Some.ensures in
+    let found = subst (λ (rest : List ℕ). IsFirstByte (is_byte c.args.first) rest (Some c.in-Some.skipped)) c.skip.ensures c.in-Some.ensures in
     split_from-passed c.args.first c.args.second bs c.args.from c.in-Some.skipped (omega (arith, found.0.high)) found.0.before
 
 pub returns-in-None-clause-same : goal.returns-in-None-clause-same
 returns-in-None-clause-same c =
     let bs = c.args.bytes.now in
     let i = c.args.from in
-    let none = subst (λ (rest : List ℕ). IsFirstByte (is_byte c.args.first) rest None) c.after.ensures c.in-None.ensures in
+    let none = subst (λ (rest : List ℕ). IsFirstByte (is_byte c.args.first) rest None) c.skip.ensures c.in-None.ensures in
     let all : i + length (drop i bs) ≡ length bs = omega (arith, length-drop i bs, c.requires) in
     split_from-passed c.args.first c.args.second bs i (length (drop i bs)) (omega arith) none ∙ ap (λ (n : ℕ). split_from c.args.first c.args.second n bs) all

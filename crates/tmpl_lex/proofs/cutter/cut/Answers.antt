@@ -6,13 +6,15 @@ use Rattle.tmpl_lex.specs.computed.Text.{without_trailing}
 use Rattle.tmpl_lex.specs.computed.Action.{opened}
 use Rattle.tmpl_lex.specs.computed.Cut.{stretch, ends_at}
 use Rattle.tmpl_lex.specs.computed.View.{end_of, opened_of}
-use Rattle.tmpl_lex.proofs.CutLemmas.{Completed-more, Completed-unclosed, Completed-last, split_open-shorter, opened-past_left-shorter, newlines-within, newlines-split, texts-put, without_trailing-unmarked, Cuts-cut_of, IsAdded-step}
+use Rattle.tmpl_lex.proofs.CutLemmas.{Completed-more, Completed-unclosed, Completed-last, split_open-shorter}
+use Rattle.tmpl_lex.proofs.CutLemmas.{opened-past_left-shorter, newlines-within, newlines-split, texts-put}
+use Rattle.tmpl_lex.proofs.CutLemmas.{without_trailing-unmarked, Cuts-cut_of, IsAdded-step}
 use Rattle.tmpl_lex.proofs.cutter.cut.Goals as goal
 
 pub stretch-requires : goal.stretch-requires
 stretch-requires c =
     let end = end_of c.in-Some-2.end in
-    let read : opened_of c.in_ok-opened.opened ≡ opened (past_left c.in-Some.after.now) = c.in_ok-opened.ensures ∙ ap opened c.past_left.ensures in
+    let read : opened_of c.in_ok-opened.opened ≡ opened (past_left c.in-Some.after.now) = c.in_ok-opened.ensures ∙ ap opened c.skip_left_marker.ensures in
     let at : Some end ≡ ends_at (opened_of c.in_ok-opened.opened) = sym (ap (option_map end_of) c.in-Some-2.is) ∙ c.in_ok-end.ensures.end in
     let shorter = opened-past_left-shorter c.in-Some.after.now end (at ∙ ap ends_at read) in
     omega (arith, shorter)
@@ -22,10 +24,11 @@ overflow_add-line-in-Some-2 c =
     let before = c.in-Some.before.now in
     let after = c.in-Some.after.now in
     let end = end_of c.in-Some-2.end in
-    let read : opened_of c.in_ok-opened.opened ≡ opened (past_left after) = c.in_ok-opened.ensures ∙ ap opened c.past_left.ensures in
+    let read : opened_of c.in_ok-opened.opened ≡ opened (past_left after) = c.in_ok-opened.ensures ∙ ap opened c.skip_left_marker.ensures in
     let at : Some end ≡ ends_at (opened_of c.in_ok-opened.opened) = sym (ap (option_map end_of) c.in-Some-2.is) ∙ c.in_ok-end.ensures.end in
     let shorter = split_open-shorter c.loop-before.rest.now before after end c.in-Some.ensures (at ∙ ap ends_at read) in
-    let counted = newlines-split c.loop-before.trims before c.split_leading.result.0.now c.split_leading.result.1.now c.split_leading.ensures.taken c.split_leading.ensures.kept in
+    let counted = newlines-split c.loop-before.trims before c.split_leading.result.0.now c.split_leading.result.1.now c.split_leading.ensures.taken
+    c.split_leading.ensures.kept in
     let lines = newlines-within before after end.rest shorter.1 in
     let count = c.newlines-line-in-Some-2.ensures.value ∙ ap newlines c.stretch.ensures in
     omega (arith, c.loop-before.invariant.within, shorter, lines, count, counted, c.newlines-line.ensures.value, c.newlines-line-in-Some.ensures.value)
@@ -33,7 +36,7 @@ overflow_add-line-in-Some-2 c =
 pub loop-before-smaller : goal.loop-before-smaller
 loop-before-smaller c =
     let end = end_of c.in-Some-2.end in
-    let read : opened_of c.in_ok-opened.opened ≡ opened (past_left c.in-Some.after.now) = c.in_ok-opened.ensures ∙ ap opened c.past_left.ensures in
+    let read : opened_of c.in_ok-opened.opened ≡ opened (past_left c.in-Some.after.now) = c.in_ok-opened.ensures ∙ ap opened c.skip_left_marker.ensures in
     let at : Some end ≡ ends_at (opened_of c.in_ok-opened.opened) = sym (ap (option_map end_of) c.in-Some-2.is) ∙ c.in_ok-end.ensures.end in
     let shorter = split_open-shorter c.loop-before.rest.now c.in-Some.before.now c.in-Some.after.now end c.in-Some.ensures (at ∙ ap ends_at read) in
     omega (arith, shorter)
@@ -49,18 +52,22 @@ loop-before-preserved c =
     let mid = map piece_of c.push_text.new.pieces.items in
     let new = map piece_of c.push_opened.new.pieces.items in
     let o = opened_of c.in_ok-opened.opened in
-    let read : o ≡ opened (past_left after) = c.in_ok-opened.ensures ∙ ap opened c.past_left.ensures in
+    let read : o ≡ opened (past_left after) = c.in_ok-opened.ensures ∙ ap opened c.skip_left_marker.ensures in
     let at : Some end ≡ ends_at o = sym (ap (option_map end_of) c.in-Some-2.is) ∙ c.in_ok-end.ensures.end in
-    let added = IsAdded-step c.loop-before.trims c.loop-before.line c.newlines-line.result c.newlines-line-in-Some.result before after c.split_leading.result.0.now c.split_leading.result.1.now c.without_trailing.result.now
+    let added = IsAdded-step c.loop-before.trims c.loop-before.line c.newlines-line.result c.newlines-line-in-Some.result before after
+    c.split_leading.result.0.now c.split_leading.result.1.now c.trim_end.result.now
     old mid new o c.split_leading.ensures.taken c.split_leading.ensures.kept c.newlines-line.ensures.value c.newlines-line-in-Some.ensures.value
-    (c.without_trailing.ensures ∙ ap (λ t. without_trailing t c.split_leading.result.1.now) c.left_marked.ensures) c.in_ok-push_text.ensures c.in_ok-end.ensures.pieces in
-    let next : c.loop-before.line + c.newlines-line.result + c.newlines-line-in-Some.result + c.newlines-line-in-Some-2.result ≡ line + newlines (stretch after end.rest) =
+    (c.trim_end.ensures
+    ∙ ap (λ t. without_trailing t c.split_leading.result.1.now) c.has_left_marker.ensures) c.in_ok-push_text.ensures c.in_ok-end.ensures.pieces in
+    let next : c.loop-before.line + c.newlines-line.result + c.newlines-line-in-Some.result + c.newlines-line-in-Some-2.result ≡ line + newlines
+    (stretch after end.rest) =
     ap (λ n. n + c.newlines-line-in-Some-2.result) added.line_is
     ∙ ap (λ n. line + n) (c.newlines-line-in-Some-2.ensures.value ∙ ap newlines c.stretch.ensures) in
     let shorter = split_open-shorter bs before after end c.in-Some.ensures (at ∙ ap ends_at read) in
     let lines = newlines-within before after end.rest shorter.1 in
     record {
-      so_far = Completed-more c.args.bytes.now old mid new c.loop-before.trims c.loop-before.line bs before after c.loop-before.invariant.so_far c.in-Some.ensures added.put o end _ read at added.grown next;
+      so_far = Completed-more c.args.bytes.now old mid new c.loop-before.trims c.loop-before.line bs before after c.loop-before.invariant.so_far
+          c.in-Some.ensures added.put o end _ read at added.grown next;
       within = omega (arith, c.loop-before.invariant.within, shorter.0, shorter.1, lines, next);
     }
 
@@ -72,12 +79,15 @@ returns-in_default-2-clause-cuts c =
     let mid = map piece_of c.push_text.new.pieces.items in
     let new = map piece_of c.push_opened.new.pieces.items in
     let o = opened_of c.in_ok-opened.opened in
-    let read : o ≡ opened (past_left after) = c.in_ok-opened.ensures ∙ ap opened c.past_left.ensures in
+    let read : o ≡ opened (past_left after) = c.in_ok-opened.ensures ∙ ap opened c.skip_left_marker.ensures in
     let at : None ≡ ends_at o = sym (ap (option_map end_of) c.in_default-2.is) ∙ c.in_ok-end.ensures.end in
-    let added = IsAdded-step c.loop-before.trims c.loop-before.line c.newlines-line.result c.newlines-line-in-Some.result before after c.split_leading.result.0.now c.split_leading.result.1.now c.without_trailing.result.now
+    let added = IsAdded-step c.loop-before.trims c.loop-before.line c.newlines-line.result c.newlines-line-in-Some.result before after
+    c.split_leading.result.0.now c.split_leading.result.1.now c.trim_end.result.now
     old mid new o c.split_leading.ensures.taken c.split_leading.ensures.kept c.newlines-line.ensures.value c.newlines-line-in-Some.ensures.value
-    (c.without_trailing.ensures ∙ ap (λ t. without_trailing t c.split_leading.result.1.now) c.left_marked.ensures) c.in_ok-push_text.ensures c.in_ok-end.ensures.pieces in
-    Completed-unclosed c.args.bytes.now old mid new c.loop-before.trims c.loop-before.line c.loop-before.rest.now before after c.loop-before.invariant.so_far c.in-Some.ensures added.put o read at added.grown
+    (c.trim_end.ensures
+    ∙ ap (λ t. without_trailing t c.split_leading.result.1.now) c.has_left_marker.ensures) c.in_ok-push_text.ensures c.in_ok-end.ensures.pieces in
+    Completed-unclosed c.args.bytes.now old mid new c.loop-before.trims c.loop-before.line c.loop-before.rest.now before after
+    c.loop-before.invariant.so_far c.in-Some.ensures added.put o read at added.grown
 
 pub returns-in_default-2-clause-value : goal.returns-in_default-2-clause-value
 returns-in_default-2-clause-value c = Cuts-cut_of c.args.bytes.now (map piece_of c.push_opened.new.pieces.items) (returns-in_default-2-clause-cuts c)

@@ -10,9 +10,13 @@ use Rattle.tmpl_values.specs.computed.Members.{all_entries, held}
 use Rattle.tmpl_values.specs.computed.Members.{put as put_member}
 use Rattle.tmpl_values.specs.computed.Read.{value_in, items_in}
 use Rattle.tmpl_values.proofs.MemberLemmas.{tree_members-put, all_entries-tree_members}
-use Rattle.tmpl_values.proofs.ReadLemmas.{no_value, number_tree, list_read, map_read, item_read, item_refused, items_over, member_read, member_refused, key_refused, members_over, so_far, none_so_far, one_more, one_missing, all_read}
+use Rattle.tmpl_values.proofs.ReadLemmas.{no_value, number_tree, list_read, map_read, item_read, item_refused}
+use Rattle.tmpl_values.proofs.ReadLemmas.{items_over, member_read, member_refused, key_refused, members_over, so_far}
+use Rattle.tmpl_values.proofs.ReadLemmas.{none_so_far, one_more, one_missing, all_read}
 use Rattle.tmpl_values.proofs.from_json.+read.Goals as goal
-use Rattle.tmpl_values.proofs.from_json.+read.Goals.{read-in_default-token-via-in-BeginArray+else-depth-gt0, read-in_default-token-via-in-BeginObject+else-depth-gt0-2, read-in_default-token-via-in_default-token}
+use Rattle.tmpl_values.proofs.from_json.+read.Goals.{read-in_default-token-via-in-BeginArray+else-depth-gt0}
+use Rattle.tmpl_values.proofs.from_json.+read.Goals.{read-in_default-token-via-in-BeginObject+else-depth-gt0-2}
+use Rattle.tmpl_values.proofs.from_json.+read.Goals.{read-in_default-token-via-in_default-token}
 
 pub read-returns-in_default-clause-err : goal.read-returns-in_default-clause-err
 read-returns-in_default-clause-err t c refused = ap (converted value_in) (ap (value c.args.depth) c.in_default.ensures.value.0 ∙ value_is c.args.depth [])
@@ -58,18 +62,21 @@ read-returns-in-Some-whole_number-clause-ok t c =
     let is = c.in-Some.ensures.value ∙ ap (λ k. token_of k ∷ c.next.new.self) c.in-Number.is in
     let seen : option_map number c.in-Some-whole_number.n ≡ option_map value_of c.map.result = grind arith in
     ap (converted value_in) (ap (value c.args.depth) is ∙ value_is c.args.depth _)
-    ∙ ap (option_map (λ d. (d, c.next.new.self))) (number_tree (number_of c.in-Number.text.now) ∙ ap (option_map (option_map number)) (sym c.in-Some-whole_number.ensures))
+    ∙ ap (option_map (λ d. (d, c.next.new.self))) (number_tree (number_of c.in-Number.text.now)
+    ∙ ap (option_map (option_map number)) (sym c.in-Some-whole_number.ensures))
     ∙ ap (λ d. Some (d, c.next.new.self)) seen
 
 pub read-returns-in-None-clause-err : goal.read-returns-in-None-clause-err
 read-returns-in-None-clause-err t c refused =
     let is = c.in-Some.ensures.value ∙ ap (λ k. token_of k ∷ c.next.new.self) c.in-Number.is in
-    ap (converted value_in) (ap (value c.args.depth) is ∙ value_is c.args.depth _) ∙ ap (option_map (λ d. (d, c.next.new.self))) (number_tree (number_of c.in-Number.text.now) ∙ ap (option_map (option_map number)) (sym c.in-None.ensures))
+    ap (converted value_in) (ap (value c.args.depth) is ∙ value_is c.args.depth _)
+    ∙ ap (option_map (λ d. (d, c.next.new.self))) (number_tree (number_of c.in-Number.text.now)
+    ∙ ap (option_map (option_map number)) (sym c.in-None.ensures))
 
-pub read-returns-in_ok-copied-in-String-clause-ok : goal.read-returns-in_ok-copied-in-String-clause-ok
-read-returns-in_ok-copied-in-String-clause-ok t c =
+pub read-returns-in_ok-copy-in-String-clause-ok : goal.read-returns-in_ok-copy-in-String-clause-ok
+read-returns-in_ok-copy-in-String-clause-ok t c =
     let is = c.in-Some.ensures.value ∙ ap (λ k. token_of k ∷ c.next.new.self) c.in-String.is in
-    ap (converted value_in) (ap (value c.args.depth) is ∙ value_is c.args.depth _) ∙ rw c.in_ok-copied-in-String.ensures
+    ap (converted value_in) (ap (value c.args.depth) is ∙ value_is c.args.depth _) ∙ rw c.in_ok-copy-in-String.ensures
 
 pub read-returns-in_default-token-clause-err : goal.read-returns-in_default-token-clause-err
 unfolding value
@@ -84,7 +91,8 @@ read-returns-in_default-token-clause-err t c refused =
           ap (converted value_in) (ap₂ value none (first ∙ ap (λ k. token_of k ∷ c.next.new.self) w.in-BeginObject.is))
       | read-in_default-token-via-in_default-token w ↦
           let o = w.in_default-token in
-          ap (converted value_in) (ap (value c.args.depth) first ∙ value_is c.args.depth _ ∙ no_value _ _ c.in-Some.token c.next.new.self o.not-Null o.not-Bool o.not-Number o.not-String o.not-BeginArray o.not-BeginObject)
+          ap (converted value_in) (ap (value c.args.depth) first ∙ value_is c.args.depth _
+          ∙ no_value _ _ c.in-Some.token c.next.new.self o.not-Null o.not-Bool o.not-Number o.not-String o.not-BeginArray o.not-BeginObject)
     ]
 
 pub read_list-items-init : goal.read_list-items-init
@@ -108,7 +116,8 @@ read_list-items-preserved-in-Continue-branch-3 t c =
     let going : (after_end_array l.reader ≡ None) × (c.take_end_array.new.self ≡ l.reader) = grind arith in
     let d = c.in-Some.item in
     let r = c.read.new.reader in
-    let done : converted value_in (p c.take_end_array.new.self) ≡ Some (Some (value_of d), r) = c.in_ok-item.ensures.ok ∙ ap (λ x. Some (option_map value_of x, r)) c.in-Some.is in
+    let done : converted value_in (p c.take_end_array.new.self) ≡ Some (Some (value_of d), r) = c.in_ok-item.ensures.ok
+    ∙ ap (λ x. Some (option_map value_of x, r)) c.in-Some.is in
     let less : length r < length l.reader = rw (← going.1) c.in_ok-item.ensures.shorter in
     let turn = item_read p n l.reader r (Some (value_of d)) (omega (arith, l.invariant.1)) going.0 (rw (← going.1) done) in (
       n - 1,
@@ -125,7 +134,8 @@ read_list-items-preserved t c =
     let n = l.invariant.0 in
     let going : (after_end_array l.reader ≡ None) × (c.take_end_array.new.self ≡ l.reader) = grind arith in
     let r = c.read.new.reader in
-    let done : converted value_in (p c.take_end_array.new.self) ≡ Some (None, r) = c.in_ok-item.ensures.ok ∙ ap (λ x. Some (option_map value_of x, r)) c.in-None.is in
+    let done : converted value_in (p c.take_end_array.new.self) ≡ Some (None, r) = c.in_ok-item.ensures.ok
+    ∙ ap (λ x. Some (option_map value_of x, r)) c.in-None.is in
     let less : length r < length l.reader = rw (← going.1) c.in_ok-item.ensures.shorter in
     let turn = item_read p n l.reader r None (omega (arith, l.invariant.1)) going.0 (rw (← going.1) done) in (
       n - 1,
@@ -154,7 +164,8 @@ pub read_map-returns-in_err-member-clause-err : goal.read_map-returns-in_err-mem
 read_map-returns-in_err-member-clause-err t c refused =
     let l = c.members in
     let named : read_key l.reader ≡ Some (Some c.in-Some.key.now, c.next_key.new.self) = grind arith in
-    l.invariant.3 ∙ member_refused (value c.args.depth) l.invariant.1 l.invariant.0 c.in-Some.key.now l.reader c.next_key.new.self named (c.read.ensures.err (grind arith))
+    l.invariant.3 ∙ member_refused (value c.args.depth) l.invariant.1 l.invariant.0 c.in-Some.key.now l.reader c.next_key.new.self named
+    (c.read.ensures.err (grind arith))
 
 pub read_map-members-preserved : goal.read_map-members-preserved
 read_map-members-preserved t c =
@@ -166,13 +177,15 @@ read_map-members-preserved t c =
     let named : read_key l.reader ≡ Some (Some k, s) = grind arith in
     let less = read_key-shorter l.reader (Some k) s named in
     let lesser = c.in_ok-member.ensures.shorter in
-    let turn = member_read (value c.args.depth) l.invariant.1 n k l.reader s r (option_map value_of c.in_ok-member.member) (omega (arith, l.invariant.2)) named c.in_ok-member.ensures.ok in
+    let turn = member_read (value c.args.depth) l.invariant.1 n k l.reader s r (option_map value_of c.in_ok-member.member)
+    (omega (arith, l.invariant.2)) named c.in_ok-member.ensures.ok in
     let copied : string_bytes c.in_ok-key-2.key ≡ k = search rules in (
       n - 1,
       put k turn.0 l.invariant.1,
       omega (arith, l.invariant.2),
       l.invariant.3 ∙ turn.2,
-      tree_members-put k turn.0 l.invariant.1 ∙ ap₂ (put_member k) turn.1 l.invariant.4 ∙ ap (λ name. put_member name (option_map value_of c.in_ok-member.member) (held l.found)) (sym copied) ∙ sym c.in_ok-put.ensures.put,
+      tree_members-put k turn.0 l.invariant.1 ∙ ap₂ (put_member k) turn.1 l.invariant.4
+          ∙ ap (λ name. put_member name (option_map value_of c.in_ok-member.member) (held l.found)) (sym copied) ∙ sym c.in_ok-put.ensures.put,
       c.in_ok-put.ensures.rising,
       omega (arith, l.invariant.6),
     )
@@ -182,4 +195,5 @@ read_map-returns-clause-ok t c =
     let l = c.members in
     let r = c.next_key.new.self in
     let over = members_over (value c.args.depth) l.invariant.1 l.invariant.0 l.reader r l.invariant.2 (grind arith) in
-    l.invariant.3 ∙ over ∙ ap (λ es. Some (es, r)) (sym (all_entries-tree_members l.invariant.1) ∙ ap all_entries l.invariant.4 ∙ sym c.in_ok-into_table.ensures)
+    l.invariant.3 ∙ over ∙ ap (λ es. Some (es, r)) (sym (all_entries-tree_members l.invariant.1) ∙ ap all_entries l.invariant.4
+    ∙ sym c.in_ok-into_table.ensures)

@@ -21,7 +21,8 @@ decreases-read_map l = 2 * l.depth + 1
 abbrev pub invariant-read_list-items : goal.invariant-read_list-items
 invariant-read_list-items l =
     (n : ℕ) × (length l.reader ≤ n)
-    × (converted items_in (items (value l.depth) (length l.initial.reader) l.initial.reader) ≡ parse_map (so_far l.whole l.found.items) (converted items_in (items (value l.depth) n l.reader)))
+    × (converted items_in (items (value l.depth) (length l.initial.reader) l.initial.reader) ≡ parse_map (so_far l.whole l.found.items)
+    (converted items_in (items (value l.depth) n l.reader)))
     × (length l.reader ≤ length l.initial.reader)
 
 abbrev pub decreases-read_list-items : goal.decreases-read_list-items
@@ -31,7 +32,8 @@ decreases-read_list-items l = length l.reader
 abbrev pub invariant-read_map-members : goal.invariant-read_map-members
 invariant-read_map-members l =
     (n : ℕ) × (old : Members) × (length l.reader ≤ n)
-    × (converted (entries_in no_members) (members (value l.depth) (length l.initial.reader) l.initial.reader) ≡ converted (entries_in old) (members (value l.depth) n l.reader))
+    × (converted (entries_in no_members) (members (value l.depth) (length l.initial.reader) l.initial.reader) ≡ converted (entries_in old)
+    (members (value l.depth) n l.reader))
     × (tree_members old ≡ held l.found) × IsRising l.found
     × (length l.reader ≤ length l.initial.reader)
 

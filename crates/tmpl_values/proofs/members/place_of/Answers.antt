@@ -9,7 +9,11 @@ loop-place-init c = record { within = omega arith; so_far = refl }
 pub loop-place-preserved : goal.loop-place-preserved
 loop-place-preserved c =
     let l = c.loop-place in
-    record { within = omega (arith, c.loop-place-test.true); so_far = place-next c.args.key.now c.args.row.now l.place c.index-row-place.result l.invariant.so_far c.loop-place-test.true (sym c.in-Greater.ensures) }
+    record {
+      within = omega (arith, c.loop-place-test.true);
+      so_far =
+          place-next c.args.key.now c.args.row.now l.place c.index-row-place.result l.invariant.so_far c.loop-place-test.true (sym c.in-Greater.ensures);
+    }
 
 pub returns-in-Equal : goal.returns-in-Equal
 returns-in-Equal c =
@@ -24,4 +28,5 @@ returns-in-Less c =
 pub returns : goal.returns
 returns c =
     let l = c.loop-place in
-    sym (place-past c.args.key.now c.args.row.now l.place l.invariant.so_far (drop_all l.place c.args.row.now (omega (arith, c.loop-place-test.false, l.invariant.within))))
+    sym (place-past c.args.key.now c.args.row.now l.place l.invariant.so_far
+    (drop_all l.place c.args.row.now (omega (arith, c.loop-place-test.false, l.invariant.within))))

@@ -8,7 +8,8 @@ loop-key-preserved c =
     let named = c.new.ensures ∙ ap (λ v. v.items) c.into_bytes.ensures.value in
     let cut = c.in-Some.ensures.steps ∙ ap (λ v. (c.in-Some.key, v) ∷ c.next.new.self) c.in-Some-value.is in
     let grown = c.in_ok-push.ensures.items ∙ ap (λ k. c.loop-key.converted.items ++ (k, c.in-Some-value.value) ∷ []) named in
-    all_entries-step _ c.loop-key.converted.items c.push.new.self.items c.loop-key.key-iterator c.next.new.self c.in-Some.key c.in-Some-value.value c.loop-key.invariant cut grown
+    all_entries-step _ c.loop-key.converted.items c.push.new.self.items c.loop-key.key-iterator c.next.new.self c.in-Some.key c.in-Some-value.value
+    c.loop-key.invariant cut grown
 
 pub new-requires-2 : goal.new-requires-2
 new-requires-2 c =

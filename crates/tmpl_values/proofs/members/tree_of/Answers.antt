@@ -11,4 +11,5 @@ loop-key-preserved c =
     let rest = into_iter_items c.next.new.self in
     let so_far : c.args.row.items ≡ done ++ (c.in-Some.key, c.in-Some.value) ∷ rest = c.loop-key.invariant ∙ ap (λ es. done ++ es) c.in-Some.ensures.steps.0 in
     let rising = subst (λ es. IsStrictlySortedBy string_cmp (keys_of es)) so_far c.requires in
-    so_far ∙ sym (append_assoc done ((c.in-Some.key, c.in-Some.value) ∷ []) rest) ∙ ap (λ es. es ++ rest) (sym (c.in_ok-put_in_tree.ensures.put ∙ insert_entry-last c.in-Some.key c.in-Some.value done rest rising))
+    so_far ∙ sym (append_assoc done ((c.in-Some.key, c.in-Some.value) ∷ []) rest)
+    ∙ ap (λ es. es ++ rest) (sym (c.in_ok-put_in_tree.ensures.put ∙ insert_entry-last c.in-Some.key c.in-Some.value done rest rising))

@@ -9,7 +9,8 @@ use Rattle.tmpl_values.proofs.quote.put_inside.Goals as goal
 pub returns-in_err-put : goal.returns-in_err-put
 returns-in_err-put g c =
     let so_far = c.loop-rest.invariant in
-    IsPut-along (IsPut-append so_far.2 (IsPut-stop _ c.from_residual.ensures.0 c.in_err-put.ensures)) (sym (so_far.1 ∙ ap (λ t. so_far.0 ++ t) c.plain_len-plain.ensures.plain))
+    IsPut-along (IsPut-append so_far.2 (IsPut-stop _ c.from_residual.ensures.0 c.in_err-put.ensures))
+    (sym (so_far.1 ∙ ap (λ t. so_far.0 ++ t) c.plain_len-plain.ensures.plain))
 
 pub returns-in_err-put_char-in-Some : goal.returns-in_err-put_char-in-Some
 returns-in_err-put_char-in-Some g c =
@@ -41,7 +42,8 @@ loop-rest-preserved-in-Some g c =
     let past = c.after-rest-in-Some.ensures ∙ ap (λ n. drop n rest) c.len_utf8.ensures.value in
     let spelled : List ℕ = spelling printable (char c.in-Some.c) in (
       so_far.0 ++ spelled,
-      append-more _ so_far.0 _ spelled _ so_far.1 (inside-char printable rest c.in-Some.c (omega arith) c.in-Some.ensures.0 ∙ ap (λ r. spelled ++ inside printable r) (sym past)),
+      append-more _ so_far.0 _ spelled _ so_far.1 (inside-char printable rest c.in-Some.c (omega arith) c.in-Some.ensures.0
+          ∙ ap (λ r. spelled ++ inside printable r) (sym past)),
       IsPut-append so_far.2 c.in_ok-put_char-in-Some.ensures,
     )
 
@@ -52,7 +54,8 @@ loop-rest-preserved g c =
     let b : ℕ = get_or rest 0 0 in
     let spelled : List ℕ = spelling printable (byte b) in (
       so_far.0 ++ spelled,
-      append-more _ so_far.0 _ spelled _ so_far.1 (inside-byte printable rest b (omega arith) c.in-None.ensures ∙ ap (λ r. spelled ++ inside printable r) (sym c.after-rest-in-None.ensures)),
+      append-more _ so_far.0 _ spelled _ so_far.1 (inside-byte printable rest b (omega arith) c.in-None.ensures
+          ∙ ap (λ r. spelled ++ inside printable r) (sym c.after-rest-in-None.ensures)),
       IsPut-append so_far.2 c.in_ok-put_byte-in-None.ensures,
     )
 

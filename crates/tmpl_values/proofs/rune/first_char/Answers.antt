@@ -13,4 +13,5 @@ returns-in-Ok c =
 
 pub returns-in-Err : goal.returns-in-Err
 returns-in-Err c =
-    first_rune-ill_formed c.args.bytes.now c.min-n.result (c.min-n.ensures ∙ ap (λ k. min k (length c.args.bytes.now)) c.char_len.ensures) c.in-Err.ensures.cases.0
+    first_rune-ill_formed c.args.bytes.now c.min-n.result (c.min-n.ensures
+    ∙ ap (λ k. min k (length c.args.bytes.now)) c.char_len.ensures) c.in-Err.ensures.cases.0

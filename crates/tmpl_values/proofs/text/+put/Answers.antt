@@ -1,7 +1,8 @@
 use Rattle.std.proofs.Common.{◌∙◌, refl, sym, ap, rules, arith}
 use Rattle.tmpl_values.specs.Text.{parted}
 use Rattle.tmpl_values.proofs.PutLemmas.{IsPut-append, IsPut-stop, IsPut-along}
-use Rattle.tmpl_values.proofs.PartedLemmas.{item_text, entry_text, item_texts-map, entry_texts-map, parted-at, parted-next, lead-next, parted-all, parted-entry, parted-entry_next}
+use Rattle.tmpl_values.proofs.PartedLemmas.{item_text, entry_text, item_texts-map, entry_texts-map, parted-at}
+use Rattle.tmpl_values.proofs.PartedLemmas.{parted-next, lead-next, parted-all, parted-entry, parted-entry_next}
 use Rattle.tmpl_values.specs.computed.Weight.{items_weight, entries_weight}
 use Rattle.tmpl_values.proofs.WalkLemmas.{size-row, size-table}
 use Rattle.tmpl_values.proofs.text.+put.Goals as goal
@@ -10,7 +11,8 @@ pub put_items-returns-in_err-put : goal.put_items-returns-in_err-put
 put_items-returns-in_err-put g t c = IsPut-stop _ c.from_residual.ensures.0 c.in_err-put.ensures
 
 pub put_items-returns-in_err-put_parted_items : goal.put_items-returns-in_err-put_parted_items
-put_items-returns-in_err-put_parted_items g t c = IsPut-append c.in_ok-put.ensures (IsPut-stop _ c.from_residual-in_err-put_parted_items.ensures.0 c.in_err-put_parted_items.ensures)
+put_items-returns-in_err-put_parted_items g t c = IsPut-append c.in_ok-put.ensures
+    (IsPut-stop _ c.from_residual-in_err-put_parted_items.ensures.0 c.in_err-put_parted_items.ensures)
 
 pub put_items-returns : goal.put_items-returns
 put_items-returns g t c = IsPut-append c.in_ok-put.ensures (IsPut-append c.in_ok-put_parted_items.ensures c.put-2.ensures)
@@ -19,7 +21,8 @@ pub put_entries-returns-in_err-put : goal.put_entries-returns-in_err-put
 put_entries-returns-in_err-put g t c = IsPut-stop _ c.from_residual.ensures.0 c.in_err-put.ensures
 
 pub put_entries-returns-in_err-put_parted_entries : goal.put_entries-returns-in_err-put_parted_entries
-put_entries-returns-in_err-put_parted_entries g t c = IsPut-append c.in_ok-put.ensures (IsPut-stop _ c.from_residual-in_err-put_parted_entries.ensures.0 c.in_err-put_parted_entries.ensures)
+put_entries-returns-in_err-put_parted_entries g t c = IsPut-append c.in_ok-put.ensures
+    (IsPut-stop _ c.from_residual-in_err-put_parted_entries.ensures.0 c.in_err-put_parted_entries.ensures)
 
 pub put_entries-returns : goal.put_entries-returns
 put_entries-returns g t c = IsPut-append c.in_ok-put.ensures (IsPut-append c.in_ok-put_parted_entries.ensures c.put-2.ensures)
@@ -28,65 +31,81 @@ pub put_parted_items-returns-in_err-put : goal.put_parted_items-returns-in_err-p
 put_parted_items-returns-in_err-put g t c =
     let l = c.loop-item in
     let all = parted-at item_text c.args.items.now l.item-index c.item-item.result c.loop-item-test.true c.item-item.is l.lead.now l.invariant.lead in
-    IsPut-along (IsPut-append l.invariant.put (IsPut-stop _ c.from_residual.ensures.0 c.in_err-put.ensures)) (all ∙ sym (ap parted (item_texts-map c.args.items.now)))
+    IsPut-along (IsPut-append l.invariant.put (IsPut-stop _ c.from_residual.ensures.0 c.in_err-put.ensures))
+    (all ∙ sym (ap parted (item_texts-map c.args.items.now)))
 
 pub put_parted_items-returns-in_err-put_inner : goal.put_parted_items-returns-in_err-put_inner
 put_parted_items-returns-in_err-put_inner g t c =
     let l = c.loop-item in
     let all = parted-at item_text c.args.items.now l.item-index c.item-item.result c.loop-item-test.true c.item-item.is l.lead.now l.invariant.lead in
-    IsPut-along (IsPut-append l.invariant.put (IsPut-append c.in_ok-put.ensures (IsPut-stop _ c.from_residual-in_err-put_inner.ensures.0 c.in_err-put_inner.ensures))) (all ∙ sym (ap parted (item_texts-map c.args.items.now)))
+    IsPut-along (IsPut-append l.invariant.put (IsPut-append c.in_ok-put.ensures
+    (IsPut-stop _ c.from_residual-in_err-put_inner.ensures.0 c.in_err-put_inner.ensures))) (all ∙ sym (ap parted (item_texts-map c.args.items.now)))
 
 pub put_parted_items-loop-item-preserved : goal.put_parted_items-loop-item-preserved
 put_parted_items-loop-item-preserved g t c =
     let l = c.loop-item in record {
       lead = lead-next item_text c.args.items.now l.item-index c.item-item.result c.loop-item-test.true c.item-item.is;
-      put = IsPut-along (IsPut-append l.invariant.put (IsPut-append c.in_ok-put.ensures c.in_ok-put_inner.ensures)) (parted-next item_text c.args.items.now l.item-index c.item-item.result c.loop-item-test.true c.item-item.is l.lead.now l.invariant.lead);
+      put = IsPut-along (IsPut-append l.invariant.put (IsPut-append c.in_ok-put.ensures c.in_ok-put_inner.ensures))
+          (parted-next item_text c.args.items.now l.item-index c.item-item.result c.loop-item-test.true c.item-item.is l.lead.now l.invariant.lead);
     }
 
 pub put_parted_items-returns : goal.put_parted_items-returns
 put_parted_items-returns g t c =
-    IsPut-along c.loop-item.invariant.put (parted-all item_text c.args.items.now c.loop-item.item-index (omega arith) ∙ sym (ap parted (item_texts-map c.args.items.now)))
+    IsPut-along c.loop-item.invariant.put (parted-all item_text c.args.items.now c.loop-item.item-index (omega arith)
+    ∙ sym (ap parted (item_texts-map c.args.items.now)))
 
 pub put_parted_entries-returns-in_err-put : goal.put_parted_entries-returns-in_err-put
 put_parted_entries-returns-in_err-put g t c =
     let l = c.loop-key in
     let x = c.loop-key-item in
     let all = parted-entry c.args.entries.now l.key-index x.result c.loop-key-test.true x.is l.lead.now x.result.0 l.invariant.lead refl in
-    IsPut-along (IsPut-append l.invariant.put (IsPut-stop _ c.from_residual.ensures.0 c.in_err-put.ensures)) (all ∙ sym (ap parted (entry_texts-map c.args.entries.now)))
+    IsPut-along (IsPut-append l.invariant.put (IsPut-stop _ c.from_residual.ensures.0 c.in_err-put.ensures))
+    (all ∙ sym (ap parted (entry_texts-map c.args.entries.now)))
 
 pub put_parted_entries-returns-in_err-put-2 : goal.put_parted_entries-returns-in_err-put-2
 put_parted_entries-returns-in_err-put-2 g t c =
     let l = c.loop-key in
     let x = c.loop-key-item in
-    let all = parted-entry c.args.entries.now l.key-index x.result c.loop-key-test.true x.is l.lead.now c.as_slice.result.now l.invariant.lead c.as_slice.ensures in
-    IsPut-along (IsPut-append l.invariant.put (IsPut-append c.in_ok-put.ensures (IsPut-stop _ c.from_residual-in_err-put-2.ensures.0 c.in_err-put-2.ensures))) (all ∙ sym (ap parted (entry_texts-map c.args.entries.now)))
+    let all = parted-entry c.args.entries.now l.key-index x.result c.loop-key-test.true x.is l.lead.now c.as_slice.result.now l.invariant.lead
+    c.as_slice.ensures in
+    IsPut-along (IsPut-append l.invariant.put (IsPut-append c.in_ok-put.ensures
+    (IsPut-stop _ c.from_residual-in_err-put-2.ensures.0 c.in_err-put-2.ensures))) (all ∙ sym (ap parted (entry_texts-map c.args.entries.now)))
 
 pub put_parted_entries-returns-in_err-put-3 : goal.put_parted_entries-returns-in_err-put-3
 put_parted_entries-returns-in_err-put-3 g t c =
     let l = c.loop-key in
     let x = c.loop-key-item in
-    let all = parted-entry c.args.entries.now l.key-index x.result c.loop-key-test.true x.is l.lead.now c.as_slice.result.now l.invariant.lead c.as_slice.ensures in
-    IsPut-along (IsPut-append l.invariant.put (IsPut-append c.in_ok-put.ensures (IsPut-append c.in_ok-put-2.ensures (IsPut-stop _ c.from_residual-in_err-put-3.ensures.0 c.in_err-put-3.ensures)))) (all ∙ sym (ap parted (entry_texts-map c.args.entries.now)))
+    let all = parted-entry c.args.entries.now l.key-index x.result c.loop-key-test.true x.is l.lead.now c.as_slice.result.now l.invariant.lead
+    c.as_slice.ensures in
+    IsPut-along (IsPut-append l.invariant.put (IsPut-append c.in_ok-put.ensures
+    (IsPut-append c.in_ok-put-2.ensures (IsPut-stop _ c.from_residual-in_err-put-3.ensures.0 c.in_err-put-3.ensures))))
+    (all ∙ sym (ap parted (entry_texts-map c.args.entries.now)))
 
 pub put_parted_entries-returns-in_err-put_inner : goal.put_parted_entries-returns-in_err-put_inner
 put_parted_entries-returns-in_err-put_inner g t c =
     let l = c.loop-key in
     let x = c.loop-key-item in
-    let all = parted-entry c.args.entries.now l.key-index x.result c.loop-key-test.true x.is l.lead.now c.as_slice.result.now l.invariant.lead c.as_slice.ensures in
-    IsPut-along (IsPut-append l.invariant.put (IsPut-append c.in_ok-put.ensures (IsPut-append c.in_ok-put-2.ensures (IsPut-append c.in_ok-put-3.ensures (IsPut-stop _ c.from_residual-in_err-put_inner.ensures.0 c.in_err-put_inner.ensures))))) (all ∙ sym (ap parted (entry_texts-map c.args.entries.now)))
+    let all = parted-entry c.args.entries.now l.key-index x.result c.loop-key-test.true x.is l.lead.now c.as_slice.result.now l.invariant.lead
+    c.as_slice.ensures in
+    IsPut-along (IsPut-append l.invariant.put (IsPut-append c.in_ok-put.ensures
+    (IsPut-append c.in_ok-put-2.ensures (IsPut-append c.in_ok-put-3.ensures
+    (IsPut-stop _ c.from_residual-in_err-put_inner.ensures.0 c.in_err-put_inner.ensures))))) (all ∙ sym (ap parted (entry_texts-map c.args.entries.now)))
 
 pub put_parted_entries-loop-key-preserved : goal.put_parted_entries-loop-key-preserved
 put_parted_entries-loop-key-preserved g t c =
     let l = c.loop-key in
     let x = c.loop-key-item in record {
       lead = lead-next entry_text c.args.entries.now l.key-index x.result c.loop-key-test.true x.is;
-      put = IsPut-along (IsPut-append l.invariant.put (IsPut-append c.in_ok-put.ensures (IsPut-append c.in_ok-put-2.ensures (IsPut-append c.in_ok-put-3.ensures c.in_ok-put_inner.ensures))))
-          (parted-entry_next c.args.entries.now l.key-index x.result c.loop-key-test.true x.is l.lead.now c.as_slice.result.now l.invariant.lead c.as_slice.ensures);
+      put = IsPut-along (IsPut-append l.invariant.put (IsPut-append c.in_ok-put.ensures
+          (IsPut-append c.in_ok-put-2.ensures (IsPut-append c.in_ok-put-3.ensures c.in_ok-put_inner.ensures))))
+          (parted-entry_next c.args.entries.now l.key-index x.result c.loop-key-test.true x.is l.lead.now c.as_slice.result.now l.invariant.lead
+          c.as_slice.ensures);
     }
 
 pub put_parted_entries-returns : goal.put_parted_entries-returns
 put_parted_entries-returns g t c =
-    IsPut-along c.loop-key.invariant.put (parted-all entry_text c.args.entries.now c.loop-key.key-index (omega arith) ∙ sym (ap parted (entry_texts-map c.args.entries.now)))
+    IsPut-along c.loop-key.invariant.put (parted-all entry_text c.args.entries.now c.loop-key.key-index (omega arith)
+    ∙ sym (ap parted (entry_texts-map c.args.entries.now)))
 
 pub put_inner-put_items-requires : goal.put_inner-put_items-requires
 put_inner-put_items-requires g t c κs within =

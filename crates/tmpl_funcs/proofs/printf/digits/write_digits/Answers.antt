@@ -11,5 +11,6 @@ pub loop-i-init : goal.loop-i-init
 loop-i-init c = (
   omega arith,
   omega (arith, c.told-out),
-  ap (digits_onto 64 c.args.base c.args.upper c.args.n) (drop_all 64 c.args.out.now (omega (arith, c.told-out))) ∙ digits_onto-digits c.args.base c.args.upper c.args.n,
+  ap (digits_onto 64 c.args.base c.args.upper c.args.n) (drop_all 64 c.args.out.now (omega (arith, c.told-out)))
+      ∙ digits_onto-digits c.args.base c.args.upper c.args.n,
 )

@@ -2,8 +2,9 @@ use Rattle.std.proofs.Common.{◌++◌, ℕ, List, length-drop, drop, Ok, Err, s
 use Rattle.tmpl_values.specs.Value.{Value}
 use Rattle.tmpl_funcs.specs.View.{values_of}
 use Rattle.tmpl_funcs.specs.printf.Format.{formatted}
-use Rattle.tmpl_funcs.specs.computed.Format.{IsAdded, IsPieceAdded}
-use Rattle.tmpl_funcs.proofs.AddedLemmas.{IsErrAnd-along, IsAdded-refused, formatted-piece, formatted-all, formatted-too_many, values_of-behind, length-values_of}
+use Rattle.tmpl_funcs.specs.computed.Format.{IsAdded, IsSegmentAdded}
+use Rattle.tmpl_funcs.proofs.AddedLemmas.{IsErrAnd-along, IsAdded-refused, formatted-segment, formatted-all}
+use Rattle.tmpl_funcs.proofs.AddedLemmas.{formatted-too_many, values_of-behind, length-values_of}
 use Rattle.tmpl_funcs.proofs.printf.format.add_formatted.Goals as goal
 
 pub returns-in_err-behind : goal.returns-in_err-behind
@@ -11,10 +12,11 @@ returns-in_err-behind c =
     let l = c.loop-rest in
     let cells = c.args.operands.now in
     let vs : List Value = values_of cells in
-    let new : List ℕ = c.add_piece.new.bytes.items in
+    let new : List ℕ = c.add_segment.new.bytes.items in
     IsErrAnd-along (IsAdded (formatted c.args.format.now vs) c.args.bytes.now.items new) c.from_residual.result _ c.from_residual.ensures.1
     (IsAdded-refused l.rest.now c.args.format.now (drop l.used vs) vs l.invariant.0 c.args.bytes.now.items l.bytes.items new _ l.invariant.2
-    (subst (λ (ws : List Value). IsPieceAdded l.rest.now ws l.bytes.items new (Err c.in_err-behind.field-0.0)) (values_of-behind l.used cells) c.in_err-behind.ensures))
+    (subst (λ (ws : List Value). IsSegmentAdded l.rest.now ws l.bytes.items new (Err c.in_err-behind.field-0.0))
+    (values_of-behind l.used cells) c.in_err-behind.ensures))
 
 pub loop-rest-preserved : goal.loop-rest-preserved
 loop-rest-preserved c =
@@ -22,24 +24,28 @@ loop-rest-preserved c =
     let cells = c.args.operands.now in
     let vs : List Value = values_of cells in
     let behind = c.in_ok-behind in
-    let new : List ℕ = c.add_piece.new.bytes.items in
-    let piece : IsPieceAdded l.rest.now (drop l.used vs) l.bytes.items new (Ok (behind.behind, behind.taken)) =
-    subst (λ (ws : List Value). IsPieceAdded l.rest.now ws l.bytes.items new (Ok (behind.behind, behind.taken))) (values_of-behind l.used cells) behind.ensures in
-    let more = formatted-piece c.args.format.now l.rest.now behind.behind.now cells l.used behind.taken l.invariant.0 piece.0 c.args.bytes.now.items l.bytes.items new l.invariant.1 l.invariant.2 piece.1 piece.2 in (
-      l.invariant.0 ++ piece.0,
+    let new : List ℕ = c.add_segment.new.bytes.items in
+    let segment : IsSegmentAdded l.rest.now (drop l.used vs) l.bytes.items new (Ok (behind.behind, behind.taken)) =
+    subst (λ (ws : List Value). IsSegmentAdded l.rest.now ws l.bytes.items new (Ok (behind.behind, behind.taken)))
+    (values_of-behind l.used cells) behind.ensures in
+    let more = formatted-segment c.args.format.now l.rest.now behind.behind.now cells l.used behind.taken l.invariant.0 segment.0
+    c.args.bytes.now.items l.bytes.items new l.invariant.1 l.invariant.2 segment.1 segment.2 in (
+      l.invariant.0 ++ segment.0,
       more.0,
       more.1,
-      omega (arith, piece.3, length-drop l.used vs, length-values_of cells),
+      omega (arith, segment.3, length-drop l.used vs, length-values_of cells),
     )
 
 pub returns-then-used-operands : goal.returns-then-used-operands
 returns-then-used-operands c =
     let l = c.loop-rest in
     let vs : List Value = values_of c.args.operands.now in
-    formatted-all c.args.format.now l.rest.now vs (drop l.used vs) l.invariant.0 c.args.bytes.now.items l.bytes.items l.invariant.1 l.invariant.2 (omega arith) (omega (arith, length-drop l.used vs, length-values_of c.args.operands.now))
+    formatted-all c.args.format.now l.rest.now vs (drop l.used vs) l.invariant.0 c.args.bytes.now.items l.bytes.items l.invariant.1 l.invariant.2
+    (omega arith) (omega (arith, length-drop l.used vs, length-values_of c.args.operands.now))
 
 pub returns-else-used-operands : goal.returns-else-used-operands
 returns-else-used-operands c =
     let l = c.loop-rest in
     let vs : List Value = values_of c.args.operands.now in
-    formatted-too_many c.args.format.now l.rest.now vs (drop l.used vs) l.invariant.0 c.args.bytes.now.items l.bytes.items l.invariant.1 l.invariant.2 (omega arith) (omega (arith, length-drop l.used vs, length-values_of c.args.operands.now))
+    formatted-too_many c.args.format.now l.rest.now vs (drop l.used vs) l.invariant.0 c.args.bytes.now.items l.bytes.items l.invariant.1 l.invariant.2
+    (omega arith) (omega (arith, length-drop l.used vs, length-values_of c.args.operands.now))

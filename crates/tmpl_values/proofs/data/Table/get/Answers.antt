@@ -12,7 +12,8 @@ returns-in-Ok c =
     let rising = subst AreRising (sym c.as_slice-entries.ensures.same) c.as_slice-entries.ensures.rising in
     let there = c.in-Ok.ensures.position (λ e. slice_cmp nat_cmp e.0 c.args.key.now) (always_returns_same _ _ _ (λ a r f called. search rules)) in
     ap (entry_at c.args.key.now) (sym c.as_slice-entries.ensures.same) ∙
-    entry_at-there c.args.key.now c.as_slice-entries.result.now c.in-Ok.place c.index-entries-place.result rising c.in-Ok.ensures.bound (there c.index-entries-place.result)
+    entry_at-there c.args.key.now c.as_slice-entries.result.now c.in-Ok.place c.index-entries-place.result rising c.in-Ok.ensures.bound
+    (there c.index-entries-place.result)
 
 pub returns-in-Err : goal.returns-in-Err
 returns-in-Err c =

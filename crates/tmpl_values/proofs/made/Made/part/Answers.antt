@@ -10,7 +10,8 @@ returns c =
     let bytes : List ℕ = buffer_bytes inside.buffer in
     let within : inside.start + c.args.j ≤ inside.end =
     let long_enough = length-take (inside.end - inside.start) (drop inside.start bytes) in
-    let long : c.args.j ≤ length (slice_range bytes inside.start inside.end) = subst (λ (p : List ℕ × Bool). c.args.j ≤ length p.0) (sym c.self.view_is) c.requires.1 in
+    let long : c.args.j ≤ length (slice_range bytes inside.start inside.end) =
+    subst (λ (p : List ℕ × Bool). c.args.j ≤ length p.0) (sym c.self.view_is) c.requires.1 in
     omega (arith, long_enough, long, c.self.invariant) in
     ap (λ s. (s, is_counted inside.buffer)) (range-range bytes inside.start inside.end c.args.i c.args.j c.requires.0 within)
     ∙ ap (λ (p : List ℕ × Bool). (slice_range p.0 c.args.i c.args.j, p.1)) c.self.view_is

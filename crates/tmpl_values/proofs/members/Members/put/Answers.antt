@@ -19,7 +19,8 @@ pub returns-in-Few-clause-rising : goal.returns-in-Few-clause-rising
 returns-in-Few-clause-rising c =
     let before = subst IsRising c.in-Few.is c.requires in
     on_ok_weaker c.put_in_row.result (λ e.
-    subst (λ es. IsStrictlySortedBy string_cmp (keys_of es)) (sym e) (sorted-insert_entry c.args.key c.args.value c.in-Few.row.items before)) c.put_in_row.ensures
+    subst (λ es. IsStrictlySortedBy string_cmp (keys_of es)) (sym e)
+    (sorted-insert_entry c.args.key c.args.value c.in-Few.row.items before)) c.put_in_row.ensures
 
 pub returns-in_ok-put_in_tree-in-Few-2-clause-put : goal.returns-in_ok-put_in_tree-in-Few-2-clause-put
 returns-in_ok-put_in_tree-in-Few-2-clause-put c =

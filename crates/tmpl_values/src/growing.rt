@@ -4,8 +4,11 @@ ghost use Rattle.tmpl_values.specs.Quote.{quote};
 ghost use Rattle.tmpl_values.specs.Text.{text_of};
 ghost use Rattle.tmpl_values.specs.View.{val_of};
 
+use crate::put::Put;
+use crate::quote::put_quoted;
+use crate::text::put_text;
+use crate::value::Val;
 use std::alloc::AllocError;
-use tmpl_values::{Put, Val, put_quoted, put_text};
 
 /// A vector that takes bytes until memory is refused.
 #[derive(Drop)]
@@ -36,7 +39,7 @@ impl Put for Growing<'_> {
     }
 }
 
-/// Adds the text that a value has as an action.
+/// Adds the text that a value has as an action behind what stands in the vector.
 pub fn add_text(value: &Val<'_>, bytes: &mut Vec<u8>) -> Result<(), AllocError>
     ensures { OnOk result (bytes.new.items ≡ bytes.old.items ++ text_of (val_of value.now)) }
 {
@@ -44,7 +47,7 @@ pub fn add_text(value: &Val<'_>, bytes: &mut Vec<u8>) -> Result<(), AllocError>
     put_text(value, &mut growing)
 }
 
-/// Adds the quote of a text.
+/// Adds the quote of a text behind what stands in the vector.
 pub fn add_quote(text: &[u8], bytes: &mut Vec<u8>) -> Result<(), AllocError>
     ensures { OnOk result (bytes.new.items ≡ bytes.old.items ++ quote text.now) }
 {
