@@ -5,4 +5,5 @@ pub mod Parser
 pub mod Print
 pub mod Quoted
 pub mod Reading
+pub mod View
 pub mod Within

@@ -2,7 +2,7 @@
 ghost use Rattle.std.specs.Prelude.{◌≡◌, IfOk, map, option_map};
 ghost use Rattle.tmpl_lex.specs.View.{token_of};
 ghost use Rattle.tmpl_grammar.specs.computed.Reading as spec;
-ghost use Rattle.tmpl_grammar.specs.View.{front_of, name_of, split_of};
+ghost use Rattle.tmpl_grammar.specs.computed.View.{front_of, name_of, split_of};
 
 use crate::operand::{name_in, next};
 use crate::tree::{Binding, Pair};

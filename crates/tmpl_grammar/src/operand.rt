@@ -4,7 +4,8 @@ ghost use Rattle.std.specs.List.{list_all, prefix_len};
 ghost use Rattle.tmpl_lex.specs.View.{token_of};
 ghost use Rattle.tmpl_grammar.specs.Token as spec;
 ghost use Rattle.tmpl_grammar.specs.computed.Operand as word;
-ghost use Rattle.tmpl_grammar.specs.View.{next_of, operand_of};
+ghost use Rattle.tmpl_grammar.specs.View.{operand_of};
+ghost use Rattle.tmpl_grammar.specs.computed.View.{next_of};
 
 use crate::constant::constant;
 use crate::tree::Operand;

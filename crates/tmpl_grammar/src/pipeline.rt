@@ -4,7 +4,8 @@ ghost use Rattle.tmpl_lex.specs.View.{token_of};
 ghost use Rattle.tmpl_grammar.specs.computed.Reading as spec;
 ghost use Rattle.tmpl_grammar.specs.computed.Limited as limited;
 ghost use Rattle.tmpl_grammar.specs.computed.Parser.{finished};
-ghost use Rattle.tmpl_grammar.specs.View.{operand_of, parser_of, limited_of, pipeline_reading};
+ghost use Rattle.tmpl_grammar.specs.View.{operand_of};
+ghost use Rattle.tmpl_grammar.specs.computed.View.{parser_of, limited_of, pipeline_reading};
 
 mod parser;
 

@@ -3,7 +3,8 @@ ghost use Rattle.std.specs.Prelude.{◌≡◌, IfOk, map, option_map};
 ghost use Rattle.tmpl_lex.specs.View.{token_of};
 ghost use Rattle.tmpl_grammar.specs.Action.{action_with, break_action, continue_action, end_action};
 ghost use Rattle.tmpl_grammar.specs.Depth as depth;
-ghost use Rattle.tmpl_grammar.specs.View.{action_of, action_reading, quoted_of};
+ghost use Rattle.tmpl_grammar.specs.View.{action_of, action_reading};
+ghost use Rattle.tmpl_grammar.specs.computed.View.{quoted_of};
 ghost use Rattle.tmpl_grammar.specs.computed.Reading as spec;
 
 use crate::action::{Action, HeaderShape, Reading, Shape};

@@ -2,7 +2,7 @@
 ghost use Rattle.std.specs.Prelude.{◌≡◌, ◌++◌, ◌∷◌, [], IfOk, OnOk, map, option_map};
 ghost use Rattle.tmpl_lex.specs.View.{token_of};
 ghost use Rattle.tmpl_grammar.specs.computed.Parser as spec;
-ghost use Rattle.tmpl_grammar.specs.View.{parser_of, partial_of};
+ghost use Rattle.tmpl_grammar.specs.computed.View.{parser_of, partial_of};
 ghost use Rattle.tmpl_grammar.specs.View.{command_of, operand_of};
 ghost use Rattle.tmpl_grammar.specs.Token as token;
 ghost use Rattle.tmpl_grammar.specs.Operand as word;

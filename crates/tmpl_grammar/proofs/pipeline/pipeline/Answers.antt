@@ -2,7 +2,7 @@ use Rattle.std.proofs.Common.{arith, ◌≡◌, ◌∙◌, IfOk, sym, ap, subst,
 use Rattle.std.proofs.lemmas.List.{drop_all}
 use Rattle.std.specs.Option.{option_map}
 use Rattle.tmpl_lex.specs.View.{token_of}
-use Rattle.tmpl_grammar.specs.View.{limited_of, pipeline_reading}
+use Rattle.tmpl_grammar.specs.computed.View.{limited_of, pipeline_reading}
 use Rattle.std.proofs.lemmas.List.{drop_more}
 use Rattle.tmpl_grammar.proofs.LimitLemmas.{Follows, follows-start, follows-none, follows-step, follows-end}
 use Rattle.tmpl_grammar.proofs.pipeline.pipeline.Goals as goal

@@ -1,7 +1,7 @@
 use Rattle.std.proofs.Common.{◌∙◌, ◌∷◌, Some, sym, ap, map, reverse}
 use Rattle.std.specs.Option.{option_map}
 use Rattle.tmpl_grammar.specs.computed.Parser as spec
-use Rattle.tmpl_grammar.specs.View.{parser_of, partial_of}
+use Rattle.tmpl_grammar.specs.computed.View.{parser_of, partial_of}
 use Rattle.tmpl_grammar.specs.Tree.{Operand, group}
 use Rattle.tmpl_grammar.specs.View.{command_of, commands_in}
 use Rattle.tmpl_grammar.proofs.ViewLemmas.{group_seen}
