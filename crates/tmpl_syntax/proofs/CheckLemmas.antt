@@ -9,7 +9,7 @@ use Rattle.tmpl_syntax.specs.declared.place.frame.Frame.{Frame}
 use Rattle.tmpl_syntax.specs.declared.item.Item as held
 use Rattle.tmpl_syntax.specs.Fault.{Reason, of_action, open_at_end}
 use Rattle.tmpl_syntax.specs.Item.{Item}
-use Rattle.tmpl_syntax.specs.View.{item_of}
+use Rattle.tmpl_syntax.specs.computed.View.{item_of}
 use Rattle.tmpl_syntax.specs.Place.Role.{Name, Role, role_of, roles_of}
 use Rattle.tmpl_syntax.specs.Place.Body.{Verdict, fine, refused, left_open}
 use Rattle.tmpl_syntax.specs.computed.Frames.{top, seen_at, fault_at, frames_past, at_end, Known, with_inner, known_past, none_known, unless_fault, verdict_from, verdict_of}

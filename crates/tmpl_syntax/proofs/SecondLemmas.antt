@@ -9,7 +9,8 @@ use Rattle.std.proofs.lemmas.List.Folds.{list_any-append}
 use Rattle.std.proofs.lemmas.Option.{slice_get_read, slice_get_within, slice_get-map, get_or_from_slice_get}
 use lib.Pointwise.{bytes_decides}
 use Rattle.tmpl_syntax.specs.Tree.{Definition}
-use Rattle.tmpl_syntax.specs.View.{definition_of, nodes_in}
+use Rattle.tmpl_syntax.specs.View.{nodes_in}
+use Rattle.tmpl_syntax.specs.computed.View.{definition_of}
 use Rattle.tmpl_syntax.specs.declared.tree.Definition as held
 use Rattle.tmpl_syntax.specs.Place.Role.{Name}
 use Rattle.tmpl_syntax.specs.Set.{is_blank}

@@ -4,7 +4,8 @@ use Rattle.tmpl_grammar.specs.View.{header_of}
 use Rattle.tmpl_grammar.specs.declared.tree.Control as held_control
 use Rattle.tmpl_grammar.specs.declared.tree.Header as held_header
 use Rattle.tmpl_syntax.specs.Tree.{NodeKind, control_node}
-use Rattle.tmpl_syntax.specs.View.{kind_of, control_of, node_of, nodes_in}
+use Rattle.tmpl_syntax.specs.View.{control_of, node_of, nodes_in}
+use Rattle.tmpl_syntax.specs.computed.View.{kind_of}
 use Rattle.tmpl_syntax.specs.declared.tree.Node as held_node
 use Rattle.tmpl_syntax.specs.declared.tree.Node.{out-Node, roll-Node}
 use Rattle.tmpl_syntax.specs.declared.tree.ControlNode as held_node_control

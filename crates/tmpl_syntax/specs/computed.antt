@@ -4,3 +4,4 @@ pub mod Frames
 pub mod Item
 pub mod Parse
 pub mod Print
+pub mod View

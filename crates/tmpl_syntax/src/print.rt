@@ -5,7 +5,8 @@ ghost use Rattle.tmpl_syntax.specs.Print.Join.{behind, ends_brace, opening, part
 ghost use Rattle.tmpl_syntax.specs.Print.Laws.{SetBack};
 ghost use Rattle.tmpl_syntax.specs.Print.Printed.{else_said, node_said, nodes_said, printed, printed_set};
 ghost use Rattle.tmpl_syntax.specs.Print.Printed.{said, said_text};
-ghost use Rattle.tmpl_syntax.specs.View.{control_of, node_of, nodes_in, page_of, set_view, tree_of};
+ghost use Rattle.tmpl_syntax.specs.View.{control_of, node_of, nodes_in, set_view, tree_of};
+ghost use Rattle.tmpl_syntax.specs.computed.View.{page_of};
 ghost use Rattle.tmpl_syntax.specs.declared.print.Before.TheVariants.{Nothing};
 ghost use Rattle.tmpl_syntax.specs.computed.Print.{page_with, template_said};
 
@@ -57,7 +58,7 @@ pub fn print_tree(alloc: Global, tree: &Tree<'_>) -> Result<Vec<u8>, AllocError>
 
 impl Page {
     /// An empty file.
-    #[tactic(auto, unfolding(crate::specs::View::page_of))]
+    #[tactic(auto, unfolding(crate::specs::computed::View::page_of))]
     fn new(alloc: Global) -> Page
         ensures { page_of result ≡ ([], Nothing) }
     {

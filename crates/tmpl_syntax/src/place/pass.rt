@@ -1,7 +1,7 @@
 //! What stands after an item: the frames of what is open, and the names that are known.
 ghost use Rattle.std.specs.Prelude.{◌≡◌, ◌<◌, ◌++◌, [], ◌∷◌, ◌+◌, IfOk, reverse, true, false, Some, None, length};
 ghost use Rattle.tmpl_grammar.specs.View.{action_of, binding_of, header_of};
-ghost use Rattle.tmpl_syntax.specs.View.{item_of, known_names, scopes_of};
+ghost use Rattle.tmpl_syntax.specs.computed.View.{item_of, known_names, scopes_of};
 ghost use Rattle.tmpl_syntax.specs.Place.Role as role;
 ghost use Rattle.tmpl_syntax.specs.Place.Role.{act_of, act_of_shape, names_of, no_names, role_of};
 ghost use Rattle.tmpl_syntax.specs.Place.Body as body;
@@ -95,7 +95,7 @@ pub(super) fn take_in<'i>(
 }
 
 /// Takes in an action that is not refused.
-#[tactic(auto, unfolding(crate::specs::View::scopes_of))]
+#[tactic(auto, unfolding(crate::specs::computed::View::scopes_of))]
 fn take_in_action<'i>(
     alloc: Global,
     stack: &mut Vec<Frame>,

@@ -1,7 +1,7 @@
 //! The fault of an action in its place.
 ghost use Rattle.std.specs.Prelude.{◌≡◌, List, Some};
 ghost use Rattle.tmpl_grammar.specs.View.{action_of};
-ghost use Rattle.tmpl_syntax.specs.View.{item_of, known_names};
+ghost use Rattle.tmpl_syntax.specs.computed.View.{item_of, known_names};
 ghost use Rattle.tmpl_syntax.specs.Place.Role as role;
 ghost use Rattle.tmpl_syntax.specs.Place.Role.{act_of, act_of_shape, role_of};
 ghost use Rattle.tmpl_syntax.specs.Place.Body as body;

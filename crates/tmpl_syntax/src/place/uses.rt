@@ -2,7 +2,7 @@
 ghost use Rattle.std.specs.Prelude.{◌≡◌};
 ghost use Rattle.tmpl_grammar.specs.View.{action_of, binding_of, header_of, pipeline_of};
 ghost use Rattle.tmpl_grammar.specs.View.{commands_in, operand_of, operands_in};
-ghost use Rattle.tmpl_syntax.specs.View.{known_names};
+ghost use Rattle.tmpl_syntax.specs.computed.View.{known_names};
 ghost use Rattle.tmpl_syntax.specs.Place.Role as role;
 ghost use Rattle.tmpl_syntax.specs.Place.Body as body;
 ghost use Rattle.tmpl_syntax.specs.computed.Frames.{knows, used};

@@ -4,7 +4,7 @@ use Rattle.std.specs.Vec.Iter.{into_iter_items}
 use Rattle.tmpl_lex.specs.declared.piece.Piece.{Piece}
 use Rattle.tmpl_lex.specs.View.{piece_of}
 use Rattle.tmpl_syntax.specs.declared.item.Item.{Item}
-use Rattle.tmpl_syntax.specs.View.{item_of}
+use Rattle.tmpl_syntax.specs.computed.View.{item_of}
 use Rattle.tmpl_syntax.specs.computed.Item.{item_in, items_in}
 use Rattle.tmpl_syntax.proofs.item.read_all.Goals as goal
 

@@ -3,7 +3,8 @@ use Rattle.std.proofs.lemmas.List.{drop_all, map-append}
 use Rattle.std.specs.Vec.Iter.{into_iter_items}
 use Rattle.tmpl_syntax.specs.Set.{Template}
 use Rattle.tmpl_syntax.specs.Parse.{template_in}
-use Rattle.tmpl_syntax.specs.View.{definition_of, template_of}
+use Rattle.tmpl_syntax.specs.View.{template_of}
+use Rattle.tmpl_syntax.specs.computed.View.{definition_of}
 use Rattle.tmpl_syntax.specs.declared.tree.Definition.{Definition}
 use Rattle.tmpl_syntax.proofs.SetLemmas.{Entry}
 use Rattle.tmpl_syntax.proofs.parse.templates_at.Goals as goal

@@ -1,6 +1,7 @@
 use Rattle.std.proofs.Common.{◌∙◌, [], ap}
 use Rattle.tmpl_syntax.specs.declared.print.Before.TheVariants.{Nothing}
-use Rattle.tmpl_syntax.specs.View.{nodes_in, page_of}
+use Rattle.tmpl_syntax.specs.View.{nodes_in}
+use Rattle.tmpl_syntax.specs.computed.View.{page_of}
 use Rattle.tmpl_syntax.specs.Print.Printed.{nodes_said}
 use Rattle.tmpl_syntax.specs.computed.Print.{page_with}
 use Rattle.tmpl_syntax.proofs.print.print_tree.Goals as goal

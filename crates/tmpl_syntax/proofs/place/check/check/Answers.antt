@@ -2,7 +2,7 @@ use Rattle.std.proofs.Common.{refl, arith, ◌≡◌, ◌≢◌, ◌≤◌, reve
 use Rattle.std.proofs.lemmas.Grind.{common_steps}
 use Rattle.std.proofs.lemmas.List.{length-map, length-reverse}
 use Rattle.tmpl_syntax.specs.Fault.{open_at_end, reason_of}
-use Rattle.tmpl_syntax.specs.View.{item_of, known_names, scopes_of}
+use Rattle.tmpl_syntax.specs.computed.View.{item_of, known_names, scopes_of}
 use Rattle.tmpl_syntax.specs.Place.Role.{role_of, roles_of}
 use Rattle.tmpl_syntax.proofs.CheckLemmas.{checking-start, checking-past, checking-refused, checking-ended, item-at, role-at, checked-refused, checked-fine, checked-open}
 use Rattle.tmpl_syntax.proofs.place.check.check.Goals as goal

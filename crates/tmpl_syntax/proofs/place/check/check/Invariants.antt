@@ -1,5 +1,5 @@
 use Rattle.std.proofs.Common.{map, reverse}
-use Rattle.tmpl_syntax.specs.View.{item_of, scopes_of}
+use Rattle.tmpl_syntax.specs.computed.View.{item_of, scopes_of}
 use Rattle.tmpl_syntax.specs.Place.Role.{roles_of}
 use Rattle.tmpl_syntax.proofs.CheckLemmas.{IsChecking}
 use Rattle.tmpl_syntax.proofs.place.check.check.Given as goal

@@ -1,6 +1,6 @@
 use Rattle.std.proofs.Common.{◌∙◌, ◌++◌, ap}
 use Rattle.tmpl_grammar.specs.View.{printed_of}
-use Rattle.tmpl_syntax.specs.View.{page_of}
+use Rattle.tmpl_syntax.specs.computed.View.{page_of}
 use Rattle.tmpl_syntax.proofs.PageLemmas.{action-put}
 use Rattle.tmpl_syntax.proofs.print.Page.action.Goals as goal
 

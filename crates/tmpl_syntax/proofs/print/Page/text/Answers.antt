@@ -1,5 +1,5 @@
 use Rattle.std.proofs.Common.{◌∙◌, ◌++◌, ap}
-use Rattle.tmpl_syntax.specs.View.{page_of}
+use Rattle.tmpl_syntax.specs.computed.View.{page_of}
 use Rattle.tmpl_syntax.proofs.PageLemmas.{text-put}
 use Rattle.tmpl_syntax.proofs.print.Page.text.Goals as goal
 

@@ -1,6 +1,6 @@
 use Rattle.std.proofs.Common.{arith, ◌≡◌, ℕ, ◌-◌, List, Bor, length, map, take, sym, ap, ◌∙◌}
 use Rattle.std.proofs.lemmas.List.{length-map, take-map}
-use Rattle.tmpl_syntax.specs.View.{known_names}
+use Rattle.tmpl_syntax.specs.computed.View.{known_names}
 use Rattle.tmpl_syntax.proofs.place.names.KnownNames.pop.Goals as goal
 
 -- the list without its last element, and what is seen of it

@@ -1,6 +1,6 @@
 use Rattle.std.proofs.Common.{ℕ, List, [], ◌∷◌, Bor, map, ap, ◌∙◌}
 use Rattle.std.proofs.lemmas.List.{map-append}
-use Rattle.tmpl_syntax.specs.View.{known_names}
+use Rattle.tmpl_syntax.specs.computed.View.{known_names}
 use Rattle.tmpl_syntax.proofs.place.names.KnownNames.push.Goals as goal
 
 pub returns-in-Ok : goal.returns-in-Ok

@@ -1,0 +1,69 @@
+-- What Rust values of the steps between a file and its trees stand for.
+use Rattle.std.specs.Prelude.{ℕ, List, map, reverse}
+use Rattle.std.specs.Borrow.{Bor}
+use Rattle.tmpl_grammar.specs.View.{action_of}
+use Rattle.tmpl_syntax.specs.Tree.{NodeKind, Node, Definition}
+use Rattle.tmpl_syntax.specs.Spelling.{definition}
+use Rattle.tmpl_syntax.specs.Item.{ItemKind, text_item, unreadable_item}
+use Rattle.tmpl_syntax.specs.Item.{unread_item, deep_item, action_item, Item, item}
+use Rattle.tmpl_syntax.specs.Place.Role.{Name}
+use Rattle.tmpl_syntax.specs.View.{kind_step, control_step, node_step, nodes_in}
+use Rattle.tmpl_syntax.specs.computed.Build as build
+use Rattle.tmpl_syntax.specs.computed.Print as print
+use Rattle.tmpl_syntax.specs.computed.Frames.{Known}
+use Rattle.tmpl_syntax.specs.declared.tree.NodeKind as held_node_kind
+use Rattle.tmpl_syntax.specs.declared.tree.NodeKind.{fold-NodeKind}
+use Rattle.tmpl_syntax.specs.declared.tree.Definition as held_definition
+use Rattle.tmpl_syntax.specs.declared.item.Item as held_item
+use Rattle.tmpl_syntax.specs.declared.item.ItemKind as held_kind
+use Rattle.tmpl_syntax.specs.declared.item.ItemKind.TheVariants as held
+use Rattle.tmpl_syntax.specs.declared.print.Page.{Page}
+use Rattle.tmpl_syntax.specs.declared.place.names.KnownNames.{KnownNames}
+use Rattle.tmpl_syntax.specs.declared.place.scopes.Scopes.{Scopes}
+use Rattle.tmpl_syntax.specs.declared.build.Level.{Level}
+use Rattle.tmpl_syntax.specs.declared.build.Parts.{Parts}
+
+-- ---- items
+
+abbrev pub item_kind : held_kind.ItemKind → ItemKind
+item_kind (held.Text bytes) = text_item bytes.now
+item_kind held.Unreadable = unreadable_item
+item_kind held.Unread = unread_item
+item_kind (held.TooDeep shape) = deep_item shape
+item_kind (held.Action a) = action_item (action_of a)
+
+abbrev pub item_of : held_item.Item → Item
+item_of x = item x.line (item_kind x.what)
+
+-- ---- the check of places
+
+unfoldable pub known_names : KnownNames → List Name
+known_names d = map (λ (n : Bor (List ℕ)). n.now) d.names.items
+
+unfoldable pub scopes_of : Scopes → Known
+scopes_of s = record { inner = known_names s.inner; around = map known_names (reverse s.around.items) }
+
+-- ---- the building of nodes
+
+abbrev pub kind_of : held_node_kind.NodeKind → NodeKind
+kind_of = fold-NodeKind NodeKind NodeKind Node kind_step control_step node_step
+
+abbrev pub definition_of : held_definition.Definition → Definition
+definition_of d = definition d.line d.name (nodes_in d.nodes.items)
+
+-- of a part's nodes the last one comes first
+abbrev pub level_of : Level → build.Level
+level_of l = record { nodes = nodes_in (reverse l.nodes.items); other = nodes_in l.other.items }
+
+unfoldable pub parts_of : Parts → build.Parts
+parts_of p = record {
+  inner = level_of p.inner;
+  around = map level_of (reverse p.around.items);
+  definitions = map definition_of (reverse p.definitions.items);
+}
+
+-- ---- printing
+
+-- a file's bytes as far as it is printed, and what stands behind them
+unfoldable pub page_of : Page → print.Page
+page_of p = (p.bytes.items, p.before)
