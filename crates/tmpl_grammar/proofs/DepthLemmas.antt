@@ -86,15 +86,10 @@ IsAsDeep o None = Unit {0}
 IsAsDeep o (Some p) = depth_of_operand o ≡ depth_of_operand p
 
 linked-deep : (o : Operand) (name : List ℕ) → IsAsDeep o (parser.linked o name)
-linked-deep tree.dot name = tt
 linked-deep (tree.fields names) name = refl
 linked-deep (tree.variable x names) name = refl
-linked-deep (tree.bool_constant b) name = tt
-linked-deep (tree.number_constant n) name = tt
-linked-deep (tree.text_constant bytes) name = tt
-linked-deep tree.nil name = tt
-linked-deep (tree.function f) name = tt
 linked-deep (tree.group commands names) name = refl
+linked-deep _ name = tt
 
 linked_by-deep : (b : Bool) (o : Operand) (name : List ℕ) → IsAsDeep o (linked_by b o name)
 linked_by-deep true o name = linked-deep o name
@@ -134,16 +129,7 @@ step_by-steps kind.Pipe t h = barred-steps h (closed h) (closed-depth h)
 step_by-steps kind.LeftParenthesis t h = opened-steps h h.last refl
 step_by-steps kind.RightParenthesis t h = left-steps h h.outer (closed h) refl (closed-depth h)
 step_by-steps kind.Field t h = fielded-steps h h.last t refl
-step_by-steps kind.Word t h = placed-steps h h.last (operand_at t) refl (flat-at t)
-step_by-steps kind.Number t h = placed-steps h h.last (operand_at t) refl (flat-at t)
-step_by-steps kind.Dot t h = placed-steps h h.last (operand_at t) refl (flat-at t)
-step_by-steps kind.Variable t h = placed-steps h h.last (operand_at t) refl (flat-at t)
-step_by-steps kind.String t h = placed-steps h h.last (operand_at t) refl (flat-at t)
-step_by-steps kind.RawString t h = placed-steps h h.last (operand_at t) refl (flat-at t)
-step_by-steps kind.Character t h = placed-steps h h.last (operand_at t) refl (flat-at t)
-step_by-steps kind.Declare t h = placed-steps h h.last (operand_at t) refl (flat-at t)
-step_by-steps kind.Assign t h = placed-steps h h.last (operand_at t) refl (flat-at t)
-step_by-steps kind.Comma t h = placed-steps h h.last (operand_at t) refl (flat-at t)
+step_by-steps _ t h = placed-steps h h.last (operand_at t) refl (flat-at t)
 
 pub step-steps : (t : Token) (h : Parser) → Steps h (step t h)
 unfolding step

@@ -21,16 +21,8 @@ abbrev pub place : Limited → Place
 place l = place_of (count l.beyond) l.parser
 
 emptied-behind : (last : Option Operand) (l : Partial) → position_in (option_map emptied last) l ≡ position_in last l
-emptied-behind None l = refl
-emptied-behind (Some tree.dot) l = refl
 emptied-behind (Some (tree.fields names)) l = refl
-emptied-behind (Some (tree.variable x names)) l = refl
-emptied-behind (Some (tree.bool_constant b)) l = refl
-emptied-behind (Some (tree.number_constant n)) l = refl
-emptied-behind (Some (tree.text_constant bytes)) l = refl
-emptied-behind (Some tree.nil) l = refl
-emptied-behind (Some (tree.function f)) l = refl
-emptied-behind (Some (tree.group commands names)) l = refl
+emptied-behind _ l = refl
 
 restored-place : (b : Option ℕ) (h : Parser) → place (restored_by b h) ≡ place_of (count b) h
 restored-place None h = refl
@@ -40,9 +32,8 @@ restored-place (Some (suc n)) h =
     ∙ ap (λ m. record { position = position_in h.last h.inner; depth = m }) (more-suc n (length h.outer))
 
 restored-held : (b : Option ℕ) (h : Parser) → IsHeld (restored_by b h).parser.outer (count (restored_by b h).beyond)
-restored-held None h = held-none h.outer
-restored-held (Some zero) h = held-none h.outer
 restored-held (Some (suc n)) h = tt
+restored-held _ h = held-none h.outer
 
 forgotten-place : (b : Option ℕ) (h : Parser) → place (behind_step b h) ≡ place_of (count b) h
 forgotten-place b h = by h.outer refl (nat_lt most_deep (length h.outer)) refl

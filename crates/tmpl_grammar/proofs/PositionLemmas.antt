@@ -35,23 +35,18 @@ pub record Place : Type 0 where
 abbrev pub has_operand : Position → Bool
 has_operand First = false
 has_operand Later = false
-has_operand Linkable = true
-has_operand Touching = true
-has_operand Apart = true
+has_operand _ = true
 
 abbrev pub may_open : Position → Bool
-may_open First = true
-may_open Later = true
 may_open Linkable = false
 may_open Touching = false
-may_open Apart = true
+may_open _ = true
 
 abbrev pub allows : Position → Operand → Bool
-allows First o = true
 allows Later o = begins_later o
 allows Linkable o = false
 allows Touching o = false
-allows Apart o = true
+allows _ o = true
 
 abbrev pub spaced : Position → Position
 spaced First = First
@@ -62,15 +57,10 @@ spaced Apart = Apart
 
 -- an operand may have a chain
 abbrev pub may_chain : Operand → Bool
-may_chain tree.dot = false
 may_chain (tree.fields names) = true
 may_chain (tree.variable name names) = true
-may_chain (tree.bool_constant b) = false
-may_chain (tree.number_constant n) = false
-may_chain (tree.text_constant bytes) = false
-may_chain tree.nil = false
-may_chain (tree.function f) = false
 may_chain (tree.group commands names) = true
+may_chain _ = false
 
 abbrev pub touching : Bool → Position
 touching true = Linkable
@@ -316,16 +306,7 @@ module _ (n : ℕ) (ls : List Partial) (cs : List Operands) (os : List Operand) 
   step_by-place kind.LeftParenthesis t last held = opened-place last
   step_by-place kind.RightParenthesis t last held = left-place ls last held (closes last cs os)
   step_by-place kind.Field t last held = fielded-place last t
-  step_by-place kind.Word t last held = placed-place last (operand_at t)
-  step_by-place kind.Number t last held = placed-place last (operand_at t)
-  step_by-place kind.Dot t last held = placed-place last (operand_at t)
-  step_by-place kind.Variable t last held = placed-place last (operand_at t)
-  step_by-place kind.String t last held = placed-place last (operand_at t)
-  step_by-place kind.RawString t last held = placed-place last (operand_at t)
-  step_by-place kind.Character t last held = placed-place last (operand_at t)
-  step_by-place kind.Declare t last held = placed-place last (operand_at t)
-  step_by-place kind.Assign t last held = placed-place last (operand_at t)
-  step_by-place kind.Comma t last held = placed-place last (operand_at t)
+  step_by-place _ t last held = placed-place last (operand_at t)
 
 pub step-place : (n : ℕ) (t : Token) (h : Parser) → IsHeld h.outer n → option_map (place_of n) (step t h) ≡ passed t (place_of n h)
 unfolding step passed

@@ -1,5 +1,5 @@
 -- What holds of the actions that tokens of a file spell.
-use Rattle.std.proofs.Common.{◌≡◌, ◌∙◌, ℕ, ◌-◌, ◌≤◌, Bool, true, false, cond, List, [], ◌∷◌, ◌++◌, Option, Some, None, refl, sym, ap, subst, length, take, drop, if◌then◌else◌, pos, bytes_eq, codes}
+use Rattle.std.proofs.Common.{◌≡◌, ◌∙◌, ℕ, ◌-◌, ◌≤◌, Bool, true, false, cond, List, [], ◌∷◌, ◌++◌, Option, Some, None, refl, sym, ap, subst, length, take, drop, pos, bytes_eq, codes, if◌then◌else◌}
 use Rattle.std.specs.Option.{option_map, option_and_then}
 use lib.IntN.{ℤ}
 use Rattle.tmpl_values.proofs.RuneLemmas.{AreBytes}
@@ -11,7 +11,7 @@ use Rattle.tmpl_lex.specs.declared.piece.TokenKind.TheVariants as kind
 use Rattle.tmpl_grammar.specs.Token.{begins_name, name_in}
 use Rattle.tmpl_grammar.specs.Tree as tree
 use Rattle.tmpl_grammar.specs.Tree.{Operand, Operands, Commands, Pipeline, pipeline, Binding, unbound, declare, assign, Header, declare_pair}
-use Rattle.tmpl_grammar.specs.Action.{Action, pipeline_action, opening, plain_else, else_branch, end_action, break_action, continue_action, define_action, template_action, block_action, IsQuoted, SpellsAction}
+use Rattle.tmpl_grammar.specs.Action.{Action, pipeline_action, opening, else_branch, define_action, template_action, block_action, IsQuoted, SpellsAction}
 use Rattle.tmpl_grammar.specs.Header.{IsVariable, SpellsHeader, SpellsBinding, SpellsWhole}
 use Rattle.tmpl_grammar.specs.computed.Constant.{constant_of, constant_by, string_in, raw_string_in, character_in}
 use Rattle.tmpl_grammar.specs.Depth.{depth_of, depth_of_pipeline, most_deep}
@@ -70,17 +70,7 @@ constant-is kind.Number bs h = number-of (integer bs) (integer-range bs)
 constant-is kind.String bs h = string-of (between 34 bs)
 constant-is kind.RawString bs h = raw-of (between 96 bs) (between-bytes 96 bs h)
 constant-is kind.Character bs h = rune-of (between 39 bs)
-constant-is kind.Space bs h = tt
-constant-is kind.Word bs h = tt
-constant-is kind.Field bs h = tt
-constant-is kind.Dot bs h = tt
-constant-is kind.Variable bs h = tt
-constant-is kind.Declare bs h = tt
-constant-is kind.Assign bs h = tt
-constant-is kind.Comma bs h = tt
-constant-is kind.Pipe bs h = tt
-constant-is kind.LeftParenthesis bs h = tt
-constant-is kind.RightParenthesis bs h = tt
+constant-is _ bs h = tt
 
 pub constant-maybe : (t : Token) → AreBytes t.bytes → OfMaybe (constant_of t)
 unfolding constant_of
@@ -106,7 +96,6 @@ field-of true name e h = ((e, h), tt)
 field-of false name e h = tt
 
 operand-is : (k : TokenKind) (t : Token) → OfKind k (name_in t) → AreBytes t.bytes → OfMaybe (operand_by k t)
-operand-is kind.Dot t n h = tt
 operand-is kind.Field t n h = field-of (begins_name (name_in t)) (name_in t) refl n
 operand-is kind.Variable t n h = (n, tt)
 operand-is kind.Word t n h = word-of t.bytes
@@ -114,13 +103,7 @@ operand-is kind.Number t n h = constant-maybe t h
 operand-is kind.String t n h = constant-maybe t h
 operand-is kind.RawString t n h = constant-maybe t h
 operand-is kind.Character t n h = constant-maybe t h
-operand-is kind.Space t n h = tt
-operand-is kind.Declare t n h = tt
-operand-is kind.Assign t n h = tt
-operand-is kind.Comma t n h = tt
-operand-is kind.Pipe t n h = tt
-operand-is kind.LeftParenthesis t n h = tt
-operand-is kind.RightParenthesis t n h = tt
+operand-is _ t n h = tt
 
 of-token : (t : Token) (o : Operand) → IsRead t → IsOperand t o → OfOperand o
 unfolding operand_at
@@ -141,7 +124,6 @@ of-chain (n ∷ ns) ts r s =
 
 mutual
   of-operand : (o : Operand) (ts : List Token) → AreRead ts → SpellsOperand o ts → OfOperand o
-  of-operand tree.dot ts r s = tt
   of-operand (tree.fields []) ts r s = s
   of-operand (tree.fields (n ∷ ns)) ts r s =
       let h = subst AreRead s.2 r in
@@ -149,15 +131,13 @@ mutual
   of-operand (tree.variable name names) ts r s =
       let h = subst AreRead s.2 r in
       ((of-token s.0 (tree.variable name []) h.0 s.3).0, of-chain names s.1 h.1 s.4)
-  of-operand (tree.bool_constant b) ts r s = tt
   of-operand (tree.number_constant n) ts r s = let h = subst AreRead s.2 r in of-token s.0 (tree.number_constant n) h.0 s.3
   of-operand (tree.text_constant bytes) ts r s = let h = subst AreRead s.2 r in of-token s.0 (tree.text_constant bytes) h.0 s.3
-  of-operand tree.nil ts r s = tt
-  of-operand (tree.function f) ts r s = tt
   of-operand (tree.group commands names) ts r s =
       let h = (subst AreRead s.4 r).1 in
       let parts = read-parts s.1 (s.2 ∷ s.3) h in
       (of-commands commands s.1 parts.0 s.7, of-chain names s.3 parts.1.1 s.8)
+  of-operand _ ts r s = tt
 
   of-more : (os : Operands) (ts : List Token) → AreRead ts → SpellsMore os ts → OfMore os
   of-more tree.no_operand ts r s = tt
@@ -225,14 +205,10 @@ of-name name t r q = subst OfMaybe (computes-constant t (tree.text_constant name
 pub of_action : (a : Action) (ts : List Token) → depth_of a ≤ most_deep → AreRead ts → SpellsAction a ts → OfAction a
 of_action (pipeline_action h) ts d r s = of-header shape.Pipeline h ts d r s
 of_action (opening c h) ts d r s = of-header (shape.Open c) h s.2 d (behind s.0 s.1 s.2 ts s.3 r).1 s.6
-of_action plain_else ts d r s = tt
 of_action (else_branch br h) ts d r s =
     let else_behind = behind s.0 s.1 s.2 ts s.3 r in
     let more = s.6 in
     of-header (shape.ElseBranch br) h more.2 d (behind more.0 more.1 more.2 s.2 more.3 else_behind.1).1 more.6
-of_action end_action ts d r s = tt
-of_action break_action ts d r s = tt
-of_action continue_action ts d r s = tt
 of_action (define_action name) ts d r s =
     let h = behind s.0 s.1 s.2 ts s.3 r in
     let n = s.6 in
@@ -251,3 +227,4 @@ of_action (block_action name p) ts d r s =
     let n = s.6 in
     let k = behind n.0 n.1 n.2 s.2 n.3 h.1 in
     (of-name name n.1 k.0 n.5, of-whole p n.2 d k.1 n.6)
+of_action _ ts d r s = tt

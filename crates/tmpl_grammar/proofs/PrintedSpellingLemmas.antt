@@ -9,7 +9,7 @@ use Rattle.tmpl_lex.specs.Piece.{Token}
 use Rattle.tmpl_lex.specs.declared.piece.TokenKind.TheVariants as kind
 use Rattle.tmpl_grammar.specs.Tree as tree
 use Rattle.tmpl_grammar.specs.Tree.{Operand, Operands, Commands, Pipeline, pipeline, Binding, unbound, declare, assign, Header, declare_pair}
-use Rattle.tmpl_grammar.specs.Action.{Action, pipeline_action, opening, plain_else, else_branch, end_action, break_action, continue_action, define_action, template_action, block_action, SpellsGiven, SpellsAction}
+use Rattle.tmpl_grammar.specs.Action.{Action, pipeline_action, opening, else_branch, define_action, template_action, block_action, SpellsGiven, SpellsAction}
 use Rattle.tmpl_grammar.specs.Pipeline.{IsBlank, IsChain, SpellsOperand, SpellsMore, SpellsCommand, SpellsLater, SpellsPipeline}
 use Rattle.tmpl_grammar.specs.Header.{Then, IsVariable, IsSign, IsName, SpellsHeader, SpellsBinding, SpellsWhole}
 use Rattle.tmpl_grammar.specs.Constant.{IsConstant}
@@ -174,12 +174,9 @@ spells-given (Some p) h = spaced-whole p h
 pub spells-tokens : (a : Action) → OfAction a → SpellsAction a (action_tokens a)
 spells-tokens (pipeline_action h) of = (of.0, (spells-bound h.binding h.pipeline of.1 of.2).1)
 spells-tokens (opening c h) of = ([], word _, _, refl, tt, (refl, refl), spells-header (shape.Open c) h of)
-spells-tokens plain_else of = ([], word _, [], refl, tt, (refl, refl), tt)
 spells-tokens (else_branch br h) of =
     ([], word _, _, refl, tt, (refl, refl), (space ∷ [], word _, _, refl, (refl, tt), (refl, refl), spells-header (shape.ElseBranch br) h of))
-spells-tokens end_action of = ([], word _, [], refl, tt, (refl, refl), tt)
-spells-tokens break_action of = ([], word _, [], refl, tt, (refl, refl), tt)
-spells-tokens continue_action of = ([], word _, [], refl, tt, (refl, refl), tt)
 spells-tokens (define_action name) of = ([], word _, _, refl, tt, (refl, refl), (space ∷ [], token kind.String (quote name), [], refl, (refl, tt), quoted-constant name of, tt))
 spells-tokens (template_action name given) of = ([], word _, _, refl, tt, (refl, refl), (space ∷ [], token kind.String (quote name), given_tokens given, refl, (refl, tt), quoted-constant name of.0, spells-given given of.1))
 spells-tokens (block_action name p) of = ([], word _, _, refl, tt, (refl, refl), (space ∷ [], token kind.String (quote name), given_tokens (Some p), refl, (refl, tt), quoted-constant name of.0, spaced-whole p of.1))
+spells-tokens _ of = ([], word _, [], refl, tt, (refl, refl), tt)

@@ -168,15 +168,8 @@ begins_or (Some o) = begins_later o
 
 -- an operand that begins a command does so with any chain
 link-begins : (o : Operand) (name : List ℕ) → begins_or (linked o name) ≡ true
-link-begins tree.dot name = refl
 link-begins (tree.fields names) name = refl
-link-begins (tree.variable x names) name = refl
-link-begins (tree.bool_constant b) name = refl
-link-begins (tree.number_constant n) name = refl
-link-begins (tree.text_constant bytes) name = refl
-link-begins tree.nil name = refl
-link-begins (tree.function f) name = refl
-link-begins (tree.group commands names) name = refl
+link-begins _ name = refl
 
 link-stands : (cs : List Operands) (os : List Operand) (o p : Operand) (name : List ℕ) → linked o name ≡ Some p → may_stand cs os p ≡ true
 link-stands [] os o p name link = refl
@@ -378,16 +371,7 @@ module _ (t : Token) (cs : List Operands) (os : List Operand) (ts : List Token) 
   step-ends kind.LeftParenthesis is ls last e = open-ends ls last is e
   step-ends kind.RightParenthesis is ls last e = close-ends ls last is _ refl e
   step-ends kind.Field is ls last e = field-ends ls last is e
-  step-ends kind.Word is ls last e = placed-ends ls last (operand_at t) refl e
-  step-ends kind.Number is ls last e = placed-ends ls last (operand_at t) refl e
-  step-ends kind.Dot is ls last e = placed-ends ls last (operand_at t) refl e
-  step-ends kind.Variable is ls last e = placed-ends ls last (operand_at t) refl e
-  step-ends kind.String is ls last e = placed-ends ls last (operand_at t) refl e
-  step-ends kind.RawString is ls last e = placed-ends ls last (operand_at t) refl e
-  step-ends kind.Character is ls last e = placed-ends ls last (operand_at t) refl e
-  step-ends kind.Declare is ls last e = placed-ends ls last (operand_at t) refl e
-  step-ends kind.Assign is ls last e = placed-ends ls last (operand_at t) refl e
-  step-ends kind.Comma is ls last e = placed-ends ls last (operand_at t) refl e
+  step-ends _ is ls last e = placed-ends ls last (operand_at t) refl e
 
 -- ---- all of them
 

@@ -72,21 +72,11 @@ placed-step t o ls cs os admitted may = by t.kind refl
     none e = absurd (let g : ⊥ = cc in g)
 
     by : (k : TokenKind) → t.kind ≡ k → step_by t.kind t (parser_at ls cs os None) ≡ Some (parser_at ls cs os (Some o))
-    by kind.Word e = ap (λ k. step_by k t (parser_at ls cs os None)) e ∙ same
-    by kind.Number e = ap (λ k. step_by k t (parser_at ls cs os None)) e ∙ same
-    by kind.Dot e = ap (λ k. step_by k t (parser_at ls cs os None)) e ∙ same
-    by kind.Variable e = ap (λ k. step_by k t (parser_at ls cs os None)) e ∙ same
-    by kind.String e = ap (λ k. step_by k t (parser_at ls cs os None)) e ∙ same
-    by kind.RawString e = ap (λ k. step_by k t (parser_at ls cs os None)) e ∙ same
-    by kind.Character e = ap (λ k. step_by k t (parser_at ls cs os None)) e ∙ same
-    by kind.Field e = ap (λ k. step_by k t (parser_at ls cs os None)) e ∙ same
-    by kind.Declare e = ap (λ k. step_by k t (parser_at ls cs os None)) e ∙ same
-    by kind.Assign e = ap (λ k. step_by k t (parser_at ls cs os None)) e ∙ same
-    by kind.Comma e = ap (λ k. step_by k t (parser_at ls cs os None)) e ∙ same
     by kind.Space e = none (ap (λ k. operand_by k t) (sym e) ∙ is)
     by kind.Pipe e = none (ap (λ k. operand_by k t) (sym e) ∙ is)
     by kind.LeftParenthesis e = none (ap (λ k. operand_by k t) (sym e) ∙ is)
     by kind.RightParenthesis e = none (ap (λ k. operand_by k t) (sym e) ∙ is)
+    by _ e = ap (λ k. step_by k t (parser_at ls cs os None)) e ∙ same
 
 -- an operand that chains may be added to
 abbrev pub Chains : (List (List ℕ) → Operand) → Type 0

@@ -35,21 +35,18 @@ Then Is Rest ts =
 -- ---- headers
 
 abbrev pub is_range : Control → Bool
-is_range control.If = false
-is_range control.With = false
 is_range control.Range = true
+is_range c = false
 
 abbrev pub opens_range : HeaderShape → Bool
-opens_range shape.Pipeline = false
 opens_range (shape.Open c) = is_range c
-opens_range (shape.ElseBranch b) = false
+opens_range s = false
 
 -- how a header may bind variables: the header of a range assigns to none, and it alone declares two
 abbrev pub may_bind : HeaderShape → Binding → Bool
-may_bind s unbound = true
-may_bind s (declare name) = true
 may_bind s (assign name) = not (opens_range s)
 may_bind s (declare_pair key name) = opens_range s
+may_bind s b = true
 
 -- nothing, `$x :=`, `$x =` or `$i, $x :=`, and then such tokens
 abbrev pub SpellsBinding : Binding → (List Token → Type 0) → List Token → Type 0

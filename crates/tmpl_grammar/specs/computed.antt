@@ -1,4 +1,5 @@
 pub mod Constant
+pub mod Keyword
 pub mod Limited
 pub mod Operand
 pub mod Parser

@@ -1,7 +1,7 @@
 //! The words that begin an action.
 ghost use Rattle.std.specs.Prelude.{◌≡◌};
 ghost use Rattle.tmpl_lex.specs.View.{token_of};
-ghost use Rattle.tmpl_grammar.specs.Keyword.{spelling};
+ghost use Rattle.tmpl_grammar.specs.computed.Keyword.{spelling};
 ghost use Rattle.tmpl_grammar.specs.computed.Reading.{branch_of, keyword_of, spells_keyword};
 ghost use Rattle.tmpl_grammar.specs.computed.Reading.{spells_template_keyword};
 
@@ -48,14 +48,7 @@ impl Keyword {
         match self {
             Keyword::Control(Control::If) => Some(Branch::If),
             Keyword::Control(Control::With) => Some(Branch::With),
-            Keyword::Control(Control::Range)
-            | Keyword::Else
-            | Keyword::End
-            | Keyword::Break
-            | Keyword::Continue
-            | Keyword::Define
-            | Keyword::Template
-            | Keyword::Block => None,
+            _ => None,
         }
     }
 }

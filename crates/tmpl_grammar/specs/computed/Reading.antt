@@ -152,14 +152,7 @@ alone a ts = if is_blank ts then Some a else None
 abbrev pub branch_of : Keyword → Option Branch
 branch_of (word.Control control.If) = Some branch.If
 branch_of (word.Control control.With) = Some branch.With
-branch_of (word.Control control.Range) = None
-branch_of word.Else = None
-branch_of word.End = None
-branch_of word.Break = None
-branch_of word.Continue = None
-branch_of word.Define = None
-branch_of word.Template = None
-branch_of word.Block = None
+branch_of k = None
 
 abbrev pub else_branched : Option Branch → List Token → Option Action
 else_branched None ts = None

@@ -1,6 +1,7 @@
 -- What Rust values of the steps of a reading stand for.
 use Rattle.std.specs.Prelude.{ℕ, List, map, reverse, option_map}
 use Rattle.std.specs.Borrow.{Bor}
+use Rattle.tmpl_values.specs.Rune.{Rune, char, byte}
 use Rattle.tmpl_lex.specs.declared.piece.Token as held_token
 use Rattle.tmpl_lex.specs.Piece.{Token}
 use Rattle.tmpl_lex.specs.View.{token_of}
@@ -14,6 +15,8 @@ use Rattle.tmpl_grammar.specs.declared.tree.Pipeline as held_pipeline
 use Rattle.tmpl_grammar.specs.declared.tree.Binding as held_binding
 use Rattle.tmpl_grammar.specs.declared.action.Reading as held_reading
 use Rattle.tmpl_grammar.specs.declared.action.Reading.TheVariants as held
+use Rattle.tmpl_grammar.specs.declared.constant.quoted.Part.{Part}
+use Rattle.tmpl_grammar.specs.declared.constant.quoted.Part.TheVariants as part
 use Rattle.tmpl_grammar.specs.declared.header.Front.{Front}
 use Rattle.tmpl_grammar.specs.declared.header.Front.TheVariants as front
 use Rattle.tmpl_grammar.specs.declared.pipeline.parser.PipelineParser.{PipelineParser}
@@ -55,3 +58,11 @@ parser_of h = record {
 
 abbrev pub limited_of : LimitedParser → limited.Limited
 limited_of l = record { parser = parser_of l.parser; beyond = l.beyond }
+
+-- what a part between quotes stands for, and how many bytes spell it
+abbrev pub rune_of : Part → Rune
+rune_of (part.Byte b) = byte b
+rune_of (part.Char c) = char c
+
+abbrev pub spelled_of : Part × ℕ → Rune × ℕ
+spelled_of p = (rune_of p.0, p.1)

@@ -130,8 +130,7 @@ fn begins_later(operand: &Operand) -> bool
         | Operand::Variable { .. }
         | Operand::Function(_)
         | Operand::Group { .. } => true,
-        Operand::Dot | Operand::Bool(_) | Operand::Number(_) | Operand::Text(_) | Operand::Nil =>
-            false,
+        _ => false,
     }
 }
 
