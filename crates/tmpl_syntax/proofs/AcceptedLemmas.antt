@@ -7,12 +7,12 @@ use Rattle.std.specs.Cmp.Derive.{both_true}
 use Rattle.tmpl_grammar.specs.declared.action.Branch.{Branch}
 use Rattle.tmpl_grammar.specs.declared.action.Branch.TheVariants as branch
 use Rattle.tmpl_grammar.specs.declared.tree.Control.{Control}
-use Rattle.tmpl_grammar.specs.declared.tree.Control.TheVariants.{If, With, Range}
+use Rattle.tmpl_grammar.specs.declared.tree.Control.TheVariants.{If, With}
 use Rattle.tmpl_syntax.specs.declared.place.frame.Frame.{Frame}
 use Rattle.tmpl_syntax.specs.declared.place.frame.Opening.{Opening}
 use Rattle.tmpl_syntax.specs.declared.place.frame.Opening.TheVariants as opened
 use Rattle.tmpl_grammar.specs.Tree.{Header}
-use Rattle.tmpl_syntax.specs.Tree.{NodeKind, text, action, control_node, break_node, continue_node, template_node, Nodes, none, then, Definition}
+use Rattle.tmpl_syntax.specs.Tree.{NodeKind, control_node, Nodes, none, then, Definition}
 use Rattle.tmpl_grammar.specs.Action.{pipeline_action, opening, plain_else, else_branch, end_action, break_action, continue_action, define_action, template_action, block_action, control_in}
 use Rattle.tmpl_syntax.specs.Item.{Item, item, action_item}
 use Rattle.tmpl_syntax.specs.Place.Role.{Name, no_names, names_of, names_given, roles_of}
@@ -31,13 +31,11 @@ use Rattle.tmpl_syntax.proofs.FitLemmas.{no_fault, passes, is_fine, fine-back, p
 
 part-low : (k : Control) (n d : ℕ) → n ≤ part_of k n (n + d)
 part-low If n d = omega arith
-part-low With n d = omega arith
-part-low Range n d = omega arith
+part-low _ n d = omega arith
 
 part-high : (k : Control) (n d : ℕ) → part_of k n (n + d) ≤ n + d
 part-high If n d = omega arith
-part-high With n d = omega arith
-part-high Range n d = omega arith
+part-high _ n d = omega arith
 
 part-within : (k : Control) (names ds : List Name) → part_of k (length names) (length names + length ds) ≤ length (names ++ ds)
 part-within k names ds = omega (arith, part-high k (length names) (length ds), length-append names ds)
@@ -54,15 +52,8 @@ placed-test false d k e = absurd (false≢true e)
 -- an else branch joins the control with which it begins, and that is no range
 joins-control : (b : Branch) (o : Opening) → joins b o ≡ true → o ≡ opened.Control (control_in b)
 joins-control branch.If (opened.Control If) e = refl
-joins-control branch.If (opened.Control With) e = absurd (false≢true e)
-joins-control branch.If (opened.Control Range) e = absurd (false≢true e)
-joins-control branch.If opened.Define e = absurd (false≢true e)
-joins-control branch.If opened.Block e = absurd (false≢true e)
-joins-control branch.With (opened.Control If) e = absurd (false≢true e)
 joins-control branch.With (opened.Control With) e = refl
-joins-control branch.With (opened.Control Range) e = absurd (false≢true e)
-joins-control branch.With opened.Define e = absurd (false≢true e)
-joins-control branch.With opened.Block e = absurd (false≢true e)
+joins-control _ _ e = absurd (false≢true e)
 
 branch-loops : (b : Branch) (o : Opening) (x a : Bool) → o ≡ opened.Control (control_in b) → loops o x a ≡ a
 branch-loops branch.If o x a e = ap (λ j. loops j x a) e
@@ -187,9 +178,8 @@ mutual
   leads-rest (a_break l) h = leads-rest l h
   leads-rest (a_continue l) h = leads-rest l h
   leads-rest (a_template l) h = leads-rest l h
-  leads-rest (a_define b l) h = absurd h
-  leads-rest (a_block b l) h = absurd h
   leads-rest (a_control b o l) h = leads-rest l (closes-rest o (leads-rest b h))
+  leads-rest _ h = absurd h
 
   closes-rest : {xs ys : List Item} {ds es : List Definition} {ns : Nodes} → Closes xs ds ns ys es → NoBranch xs → NoBranch ys
   closes-rest an_end h = h
@@ -216,8 +206,6 @@ mutual
       let e = and_parts (knows known.inner (names_given given).uses) (fits ns (in_loop (top fs)) (levels (top fs)) known.inner) h in
       both_true (call-test given (top fs) known.inner ∙ e.0)
       (subst (λ names. passes fs (with_inner known names) (roles_of xs) ≡ true) (sym (call-declares given known.inner)) (leads-pass l n fs known e.1 k))
-  leads-pass (a_define b l) n fs known h k = absurd n
-  leads-pass (a_block b l) n fs known h k = absurd n
   leads-pass (a_control {c = c} {h = r} {zs = zs} {body = body} {other = other} {ns = ns} b o l) n fs known h k =
       let names : List Name = known.inner in
       let loop : Bool = in_loop (top fs) in
@@ -233,6 +221,7 @@ mutual
       let behind = closes-pass o within_body f fs (with_inner known (seen_behind inside body)) refl refl (part-low c (length names) (length (names_of r).declares)) (within-seen c r names body) others
       (subst (λ k. passes fs (with_inner known k) (roles_of zs) ≡ true) (sym (control-names r names body)) more) in
       both_true (opener-test c r (top fs) names ∙ d.0) (leads-pass b n (f ∷ fs) (with_inner known inside) parts.0 behind)
+  leads-pass _ n fs known h k = absurd n
 
   closes-pass : {xs zs : List Item} {ds es : List Definition} {other : Nodes} → Closes xs ds other zs es → NoBranch xs → (f : Frame) (fs : List Frame) (known : Known) → f.has_else ≡ false → is_template f.opening ≡ false → f.start ≤ f.part → f.part ≤ length known.inner
       → fits other (loops f.opening true f.around) f.levels (take f.part known.inner) ≡ true → passes fs (with_inner known (take f.start known.inner)) (roles_of zs) ≡ true → passes (f ∷ fs) known (roles_of xs) ≡ true
@@ -263,13 +252,11 @@ plain-append (said_text t ∷ ss) ts h k = plain-append ss ts h k
 plain-append (said (pipeline_action r) ∷ ss) ts h k = plain-append ss ts h k
 plain-append (said (opening c r) ∷ ss) ts h k = plain-append ss ts h k
 plain-append (said plain_else ∷ ss) ts h k = plain-append ss ts h k
-plain-append (said (else_branch br r) ∷ ss) ts h k = absurd h
 plain-append (said end_action ∷ ss) ts h k = plain-append ss ts h k
 plain-append (said break_action ∷ ss) ts h k = plain-append ss ts h k
 plain-append (said continue_action ∷ ss) ts h k = plain-append ss ts h k
-plain-append (said (define_action name) ∷ ss) ts h k = absurd h
 plain-append (said (template_action name given) ∷ ss) ts h k = plain-append ss ts h k
-plain-append (said (block_action name p) ∷ ss) ts h k = absurd h
+plain-append _ ts h k = absurd h
 
 control-plain : (c : Control) (h : Header) (body : List Said) (other : Nodes) → Plain body → Plain (nodes_said other) → Plain (control_said c h body (else_said other (nodes_said other)))
 control-plain c h body none p k = plain-append body (said end_action ∷ []) p tt
@@ -277,12 +264,8 @@ control-plain c h body (then line n ns) p k = plain-append body (else_said (then
 
 mutual
   node-plain : (n : NodeKind) → Plain (node_said n)
-  node-plain (text bytes) = tt
-  node-plain (action h) = tt
   node-plain (control_node c h body other) = control-plain c h (nodes_said body) other (nodes-plain body) (nodes-plain other)
-  node-plain break_node = tt
-  node-plain continue_node = tt
-  node-plain (template_node name given) = tt
+  node-plain _ = tt
 
   nodes-plain : (ns : Nodes) → Plain (nodes_said ns)
   nodes-plain none = tt
@@ -294,13 +277,11 @@ no_branch (says_text s) h = no_branch s h
 no_branch (says {a = pipeline_action r} s) h = no_branch s h
 no_branch (says {a = opening c r} s) h = no_branch s h
 no_branch (says {a = plain_else} s) h = no_branch s h
-no_branch (says {a = else_branch br r} s) h = absurd h
 no_branch (says {a = end_action} s) h = no_branch s h
 no_branch (says {a = break_action} s) h = no_branch s h
 no_branch (says {a = continue_action} s) h = no_branch s h
-no_branch (says {a = define_action name} s) h = absurd h
 no_branch (says {a = template_action name given} s) h = no_branch s h
-no_branch (says {a = block_action name p} s) h = absurd h
+no_branch _ h = absurd h
 
 -- ---- the law
 

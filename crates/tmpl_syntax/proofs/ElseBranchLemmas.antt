@@ -18,7 +18,7 @@ use Rattle.tmpl_syntax.proofs.StandLemmas.{Here, closed_at, Stands, here-of, sta
 use Rattle.tmpl_syntax.proofs.StepLemmas.{changed, stands-parted}
 use Rattle.tmpl_syntax.specs.declared.place.frame.Opening.{Opening}
 use Rattle.tmpl_syntax.specs.declared.place.frame.Opening.TheVariants as opened
-use Rattle.tmpl_grammar.specs.declared.tree.Control.TheVariants.{If, With, Range}
+use Rattle.tmpl_grammar.specs.declared.tree.Control.TheVariants.{Range}
 use Rattle.tmpl_syntax.specs.Place.Role.{Name, Names, plain, opener, bare_else, branch_else, closer, Role, act_role}
 use Rattle.tmpl_syntax.proofs.FaultLemmas.{in-nothing}
 
@@ -26,24 +26,20 @@ pub else-parts : (f : Frame) → takes_else (Some f) ≡ true → (is_template f
 else-parts f e = let a = and_parts (not (is_template f.opening)) (not f.has_else) e in (not-true (is_template f.opening) a.0, not-true f.has_else a.1)
 
 loops-else : (c : Opening) (a : Bool) → is_template c ≡ false → loops c true a ≡ a
-loops-else (opened.Control If) a own = refl
-loops-else (opened.Control With) a own = refl
 loops-else (opened.Control Range) a own = refl
-loops-else opened.Define a own = let g : true ≡ false = own in cc
-loops-else opened.Block a own = let g : true ≡ false = own in cc
+loops-else (opened.Control _) a own = refl
+loops-else _ a own = let g : true ≡ false = own in cc
 
 loops-other : (c : Opening) (h a : Bool) → is_template c ≡ false → c ≢ opened.Control Range → loops c h a ≡ a
-loops-other (opened.Control If) h a own nr = refl
-loops-other (opened.Control With) h a own nr = refl
 loops-other (opened.Control Range) h a own nr = absurd (nr refl)
 loops-other opened.Define h a own nr = let g : true ≡ false = own in cc
 loops-other opened.Block h a own nr = let g : true ≡ false = own in cc
+loops-other _ h a own nr = refl
 
 -- a control is a level
 pub level-there : (c : Opening) → is_template c ≡ false → is_level c ≡ true
-level-there (opened.Control c) e = refl
 level-there opened.Define e = let g : true ≡ false = e in cc
-level-there opened.Block e = refl
+level-there _ e = refl
 
 -- no else that opens a level is one of a range
 joins-range : (b : Branch) → joins b (opened.Control Range) ≡ false

@@ -57,10 +57,9 @@ unplaced-else_branch xs i known b [] s (inr e) = inl (nothing_open s.0)
 unplaced-else_branch xs i known b (f ∷ fs) s (inr e) = inr (record { opened = s.1; last = s.2.last; other = ap (joins b) (top-opening xs i known f fs s s.1 s.2.last) ∙ e })
 
 unplaced-opener : (xs : List Role) (i : ℕ) (known : Known) (c : Opening) (fs : List Frame) → Stands xs i known fs → may_open c (top fs) ≡ false → MayNotOpen xs i c
-unplaced-opener xs i known (opened.Control c) fs s e = let g : true ≡ false = e in cc
 unplaced-opener xs i known opened.Define [] s e = let g : true ≡ false = e in cc
 unplaced-opener xs i known opened.Define (f ∷ fs) s e = (s.1, s.2.last.is_open)
-unplaced-opener xs i known opened.Block fs s e = let g : true ≡ false = e in cc
+unplaced-opener xs i known _ fs s e = let g : true ≡ false = e in cc
 
 pub unplaced : (xs : List Role) (i : ℕ) (known : Known) (fs : List Frame) (a : Act) → Stands xs i known fs → is_placed a (top fs) ≡ false → IsMisplaced xs i a
 unplaced xs i known fs (plain p) s e = let g : true ≡ false = e in cc
@@ -72,10 +71,9 @@ unplaced xs i known (f ∷ fs) closer s e = let g : true ≡ false = e in cc
 unplaced xs i known fs jump s e = λ j l. both_ways (in_loop (top fs)) e ((here-of xs i known fs s).looped.1 (j, l))
 
 placed-opener : (xs : List Role) (i : ℕ) (known : Known) (c : Opening) (fs : List Frame) → Stands xs i known fs → may_open c (top fs) ≡ true → MayNotOpen xs i c → ⊥
-placed-opener xs i known (opened.Control c) fs s e h = h
 placed-opener xs i known opened.Define [] s e h = s.0 h.0 h.1
 placed-opener xs i known opened.Define (f ∷ fs) s e h = let g : false ≡ true = e in cc
-placed-opener xs i known opened.Block fs s e h = h
+placed-opener xs i known _ fs s e h = h
 
 joined : (xs : List Role) (i : ℕ) (known : Known) (b : Branch) (fs : List Frame) → Stands xs i known fs → takes_branch b (top fs) ≡ true → TakesNoBranch xs b i → ⊥
 joined xs i known b [] s e h = let g : false ≡ true = e in cc
@@ -156,20 +154,16 @@ module _ (xs : List Role) (i : ℕ) (known : Known) where
   pub in-scope : (fs : List Frame) → Stands xs i known fs → (a : Act) → slice_get xs i ≡ Some (act_role a) → is_placed a (top fs) ≡ true → (p : Names) → names_in a ≡ Some p → (n : Name) → Contains (names_at a (top fs) names) n → IsInScope xs i n
   in-scope fs s (plain q) at e p is n k = wide fs s (act_role (plain q)) at (λ g. cc) (λ b r g. cc) n k
   in-scope fs s (opener c q) at e p is n k = wide fs s (act_role (opener c q)) at (λ g. cc) (λ b r g. cc) n k
-  in-scope fs s bare_else at e p is n k = let g : None ≡ Some p = is in cc
   in-scope [] s (branch_else b q) at e p is n k = let g : false ≡ true = e in cc
   in-scope (f ∷ fs) s (branch_else b q) at e p is n k = let a = and_parts (takes_else (Some f)) (joins b f.opening) e in narrow f fs s b q at a.0 a.1 n k
-  in-scope fs s closer at e p is n k = let g : None ≡ Some p = is in cc
-  in-scope fs s jump at e p is n k = let g : None ≡ Some p = is in cc
+  in-scope fs s _ at e p is n k = let g : None ≡ Some p = is in cc
 
   pub scope-has : (fs : List Frame) → Stands xs i known fs → (a : Act) → slice_get xs i ≡ Some (act_role a) → is_placed a (top fs) ≡ true → (p : Names) → names_in a ≡ Some p → (n : Name) → IsInScope xs i n → Contains (names_at a (top fs) names) n
   scope-has fs s (plain q) at e p is n k = wide-back fs s n k
   scope-has fs s (opener c q) at e p is n k = wide-back fs s n k
-  scope-has fs s bare_else at e p is n k = let g : None ≡ Some p = is in cc
   scope-has [] s (branch_else b q) at e p is n k = let g : false ≡ true = e in cc
   scope-has (f ∷ fs) s (branch_else b q) at e p is n k = let a = and_parts (takes_else (Some f)) (joins b f.opening) e in narrow-back f fs s b q at a.0 a.1 n k
-  scope-has fs s closer at e p is n k = let g : None ≡ Some p = is in cc
-  scope-has fs s jump at e p is n k = let g : None ≡ Some p = is in cc
+  scope-has fs s _ at e p is n k = let g : None ≡ Some p = is in cc
 
   module _ (fs : List Frame) (s : Stands xs i known fs) (a : Act) (at : slice_get xs i ≡ Some (act_role a)) (e : is_placed a (top fs) ≡ true) where
     pub none-unknown : IsKnown (used (names_in a)) (names_at a (top fs) names) → IsUndeclared xs i a → ⊥

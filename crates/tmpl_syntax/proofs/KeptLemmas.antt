@@ -10,7 +10,7 @@ use Rattle.tmpl_syntax.specs.declared.tree.Tree as held
 use Rattle.tmpl_syntax.specs.Language.{every_branch}
 use Rattle.tmpl_syntax.specs.Item.{Item}
 use Rattle.tmpl_syntax.specs.Place.Role.{roles_of}
-use Rattle.tmpl_syntax.specs.Place.Body.{Verdict, fine, refused, left_open}
+use Rattle.tmpl_syntax.specs.Place.Body.{Verdict, fine}
 use Rattle.tmpl_syntax.specs.Set.{Template, has_name, tree_named, is_blank, chosen, defined, defined_each}
 use Rattle.tmpl_syntax.specs.Kept.{IsKept, AreKept}
 use Rattle.tmpl_syntax.specs.Parse.{last_line, base_name, most_bytes, all_defined, template_in}
@@ -74,8 +74,7 @@ found-kept name ts (Some t) h e = subst IsKeptIf (sym e) (named-kept name ts h)
 
 verdict-fine : (last : ℕ) (items : List Item) (v : Verdict) → by_verdict last items v ≡ Ok tt → v ≡ fine
 verdict-fine last items fine e = refl
-verdict-fine last items (refused i f) e = absurd (let g : ⊥ = cc in g)
-verdict-fine last items left_open e = absurd (let g : ⊥ = cc in g)
+verdict-fine last items _ e = absurd (let g : ⊥ = cc in g)
 
 checked-verdict : (bytes : List ℕ) (items : List Item) → checked bytes items ≡ Ok tt → verdict_of (roles_of items) ≡ fine
 unfolding checked

@@ -10,7 +10,7 @@ use Rattle.std.proofs.lemmas.List.Sums.{sum_by-append}
 use Rattle.tmpl_grammar.specs.declared.action.Branch.{Branch}
 use Rattle.tmpl_syntax.specs.Place.Open.{opening, there, opens, ends, IsOpening, IsOpen, IsLast, IsElseOf, IsElseBranchOf}
 use Rattle.tmpl_syntax.specs.declared.place.frame.Opening.{Opening}
-use Rattle.tmpl_syntax.specs.Place.Role.{Names, plain, opener, bare_else, branch_else, closer, jump, Role, text_role, unreadable_role, unread_role, act_role}
+use Rattle.tmpl_syntax.specs.Place.Role.{Names, bare_else, branch_else, closer, Role, act_role}
 
 abbrev pub one_if : Bool → ℕ
 one_if b = cond b 1 0
@@ -73,15 +73,8 @@ same-opening xs j c d a b =
     let s : Some c ≡ Some d = sym p.is ∙ ap opening e ∙ q.is in cc
 
 pub opening-no-end : (x : Role) (c : Opening) → opening x ≡ Some c → ends x ≡ false
-opening-no-end text_role c e = refl
-opening-no-end unreadable_role c e = refl
-opening-no-end unread_role c e = refl
-opening-no-end (act_role (plain p)) c e = refl
-opening-no-end (act_role (opener d p)) c e = refl
-opening-no-end (act_role bare_else) c e = refl
-opening-no-end (act_role (branch_else b p)) c e = refl
 opening-no-end (act_role closer) c e = let g : None ≡ Some c = e in cc
-opening-no-end (act_role jump) c e = refl
+opening-no-end _ c e = refl
 
 pub opening-opens : (x : Role) (c : Opening) → opening x ≡ Some c → opens x ≡ true
 opening-opens x c e = ap there e

@@ -6,7 +6,7 @@ use Rattle.tmpl_grammar.specs.Action.{opening, else_branch, end_action, control_
 use Rattle.tmpl_grammar.specs.declared.tree.Control.{Control}
 use Rattle.tmpl_syntax.specs.Tree.{Nodes, none, then, control_node, Definition}
 use Rattle.tmpl_syntax.specs.Language.{Branches}
-use Rattle.tmpl_syntax.specs.Item.{Item, item, text_item, unreadable_item, unread_item, deep_item, action_item, IsItem, a_text as text_read, an_unreadable, unread, too_deep, read, AreItems, no_item, an_item}
+use Rattle.tmpl_syntax.specs.Item.{Item, item, text_item, action_item, IsItem, a_text as text_read, an_unreadable, unread, too_deep, read, AreItems, no_item, an_item}
 use Rattle.tmpl_syntax.specs.Spelling.{Leads, nothing, a_text, an_action, a_break, a_continue, a_control, a_template, a_define, a_block, Closes, an_end, an_else, an_else_branch}
 use Rattle.tmpl_grammar.specs.declared.action.Branch.{Branch}
 use Rattle.tmpl_grammar.specs.declared.action.Branch.TheVariants as branch
@@ -21,10 +21,8 @@ use Rattle.tmpl_grammar.proofs.PrintableActionLemmas.{of_action}
 
 abbrev OfItem : Item → Type 0
 OfItem (item line (text_item bytes)) = IsText bytes
-OfItem (item line unreadable_item) = Unit {0}
-OfItem (item line unread_item) = Unit {0}
-OfItem (item line (deep_item s)) = Unit {0}
 OfItem (item line (action_item a)) = OfAction a
+OfItem _ = Unit {0}
 
 abbrev OfItems : List Item → Type 0
 OfItems [] = Unit {0}

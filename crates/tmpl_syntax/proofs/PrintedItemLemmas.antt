@@ -1,8 +1,8 @@
 -- The pieces of a printed file are read as what its nodes say, and those of a printed set as what it says.
-use Rattle.std.proofs.Common.{arith, ◌≡◌, ◌≤◌, ℕ, List, [], ◌∷◌, Some, None, refl, sym, subst, map, codes}
+use Rattle.std.proofs.Common.{arith, ◌≡◌, ◌≤◌, ℕ, List, [], ◌∷◌, Some, refl, sym, subst, map, codes}
 use Rattle.tmpl_lex.specs.Piece.{Token, Piece, text, action}
 use Rattle.tmpl_grammar.specs.Tree.{Pipeline, pipeline}
-use Rattle.tmpl_grammar.specs.Action.{Action, pipeline_action, opening, plain_else, else_branch, end_action, break_action, continue_action, define_action, template_action, block_action}
+use Rattle.tmpl_grammar.specs.Action.{Action, pipeline_action, opening, else_branch, end_action, template_action, block_action}
 use Rattle.tmpl_grammar.specs.Depth.{depth_of, depth_of_pipeline, most_deep}
 use Rattle.tmpl_syntax.specs.Language.{every_branch}
 use Rattle.tmpl_syntax.specs.Item.{Item, item, text_item, action_item, a_text as text_read, read, AreItems, no_item, an_item}
@@ -31,15 +31,10 @@ pipeline_within (pipeline cs) h = h.1
 within : (a : Action) → OfAction a → depth_of a ≤ most_deep
 within (pipeline_action r) h = pipeline_within r.pipeline h.2
 within (opening c r) h = pipeline_within r.pipeline h.2
-within plain_else h = omega arith
 within (else_branch br r) h = pipeline_within r.pipeline h.2
-within end_action h = omega arith
-within break_action h = omega arith
-within continue_action h = omega arith
-within (define_action name) h = omega arith
-within (template_action name None) h = omega arith
 within (template_action name (Some p)) h = pipeline_within p h.1
 within (block_action name p) h = pipeline_within p h.1
+within _ h = omega arith
 
 -- items that pieces are read as, and that say this
 record ItemsSaid (ss : List Said) (ps : List Piece) : Type 0 where

@@ -1,8 +1,8 @@
 -- The items of an accepted file spell the definitions and nodes that are built from them.
 use Rattle.std.proofs.Common.{◌≡◌, ◌∙◌, ℕ, Bool, true, false, not, ◌&&◌, ◌||◌, List, [], ◌∷◌, refl, sym, subst, length, Option, Some, None}
 use Rattle.std.proofs.lemmas.Bool.{false≢true, and_parts}
-use Rattle.tmpl_syntax.specs.declared.fault.Fault.{Fault}
-use Rattle.tmpl_syntax.specs.declared.fault.Fault.TheVariants.{Unreadable, NotAnAction}
+use Rattle.tmpl_syntax.specs.Fault.{Reason}
+use Rattle.tmpl_syntax.specs.Fault as reason
 use Rattle.tmpl_syntax.specs.declared.place.frame.Frame.{Frame}
 use Rattle.tmpl_syntax.specs.Tree.{NodeKind, text, action, control_node, break_node, continue_node, template_node, Nodes, none, then, Definition}
 use Rattle.tmpl_grammar.specs.Action.{pipeline_action, opening, plain_else, else_branch, end_action, break_action, continue_action, define_action, template_action, block_action}
@@ -68,11 +68,8 @@ closes-of : (f : Frame) (ys zs : List Item) (es gs : List Definition) (other : N
 closes-of f ys zs es gs other e c = subst (λ k. Closing k ys es other zs gs) (open-end f e) c
 
 pub too-deep : (shape : Shape) (t : Option Frame) → is_too_deep (act_of_shape shape) t ≡ true
-too-deep (piped.Header shape.Pipeline) t = refl
 too-deep (piped.Header (shape.Open c)) t = refl
-too-deep (piped.Header (shape.ElseBranch branch)) t = refl
-too-deep piped.Template t = refl
-too-deep piped.Block t = refl
+too-deep _ t = refl
 
 -- behind a plain else, and in the body of a template, only the `end` stands
 elsed-closing : (f : Frame) (ys zs : List Item) (es gs : List Definition) (other : Nodes) → Closing (ends_only (elsed f)) ys es other zs gs → Closing true ys es other zs gs
@@ -91,8 +88,8 @@ module _ (names : List Name) (xs : List Item) (p : build.Parts) where
 
   step : (x : Item) (fs : List Frame) → fault_at (role_of x) (top fs) names ≡ None → Rest (frames_past (role_of x) fs (length names)) xs p.definitions p.inner p.around → Rest fs (x ∷ xs) (parts_with x p).definitions (parts_with x p).inner (parts_with x p).around
   step (item line (text_item bytes)) fs e r = at-node fs _ line (text bytes) (λ ns ys es d. a_text d) r
-  step (item line unreadable_item) fs e r = let g : Some Unreadable ≡ None = e in cc
-  step (item line unread_item) fs e r = let g : Some NotAnAction ≡ None = e in cc
+  step (item line unreadable_item) fs e r = let g : Some reason.unreadable ≡ None = e in cc
+  step (item line unread_item) fs e r = let g : Some reason.not_an_action ≡ None = e in cc
   step (item line (deep_item shape)) fs e r =
       let deep : true ≡ false = sym (too-deep shape (top fs)) ∙ (placed (item line (deep_item shape)) (top fs) e).1 in
       let g : ⊥ = cc in
@@ -134,7 +131,7 @@ module _ (names : List Name) (xs : List Item) (p : build.Parts) where
       let body = template-body _ _ _ _ _ r.5 r.2 in
       rest-node fs _ r.3 _ r.4 line (template_node name (Some q)) (first_of p.around) (rest_of p.around) (λ ns ys es d. a_block {last = r.5.0} body d) r.6
 
-unless-fine : (o : Option Fault) (i : ℕ) (v : Verdict) → unless_fault o i v ≡ fine → (o ≡ None) × (v ≡ fine)
+unless-fine : (o : Option Reason) (i : ℕ) (v : Verdict) → unless_fault o i v ≡ fine → (o ≡ None) × (v ≡ fine)
 unless-fine None i v e = (refl, e)
 unless-fine (Some f) i v e = let g : refused i f ≡ fine = e in cc
 

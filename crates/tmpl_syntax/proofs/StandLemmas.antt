@@ -98,8 +98,7 @@ module _ (xs : List Role) (j m : ℕ) (s : Same xs j m) (known : Known) (ds : Li
 
 loops-template : (c : Opening) (has around : Bool) → is_template c ≡ true → loops c has around ≡ false
 loops-template (opened.Control c) has around own = let g : false ≡ true = own in cc
-loops-template opened.Define has around own = refl
-loops-template opened.Block has around own = refl
+loops-template _ has around own = refl
 
 -- an opening
 module _ (xs : List Role) (i : ℕ) (names : List Name) (c : Opening) (p : Names) (at : slice_get xs i ≡ Some (act_role (opener c p))) (o : IsOpening (slice_get xs i) c) (t : Option Frame) (h : Here xs i t names) where

@@ -39,13 +39,11 @@ module _ (xs : List Role) (i : ℕ) (names : List Name) (c : Opening) (p : Names
   -- an else part sees no fewer names than there were before, and no more than there are in the body
   part-above : (d : Control) → length names ≤ part_of d (length names) (length names + length p.declares)
   part-above If = omega arith
-  part-above With = omega arith
-  part-above Range = omega arith
+  part-above _ = omega arith
 
   part-below : (d : Control) → part_of d (length names) (length names + length p.declares) ≤ length names + length p.declares
   part-below If = omega arith
-  part-below With = omega arith
-  part-below Range = omega arith
+  part-below _ = omega arith
 
   -- what the parts see at first: for an if or with
   part-wide : c ≢ opened.Control Range → (n : Name) → Contains (take (length names + length p.declares) (names ++ p.declares)) n → Part xs i (i + 1) n
@@ -70,11 +68,10 @@ module _ (xs : List Role) (i : ℕ) (names : List Name) (c : Opening) (p : Names
       earlier (h.to n (subst (λ l. Contains l n) s k))
 
   part-first-back : (d : Control) → c ≡ opened.Control d → (n : Name) → Part xs i (i + 1) n → Contains (take (part_of d (length names) (length names + length p.declares)) (names ++ p.declares)) n
-  part-first-back If e n k = part-wide-back n k
-  part-first-back With e n k = part-wide-back n k
   part-first-back Range e n k =
       let s : take (length names) (names ++ p.declares) ≡ names = take_at names p.declares (length names) refl in
       subst (λ l. Contains l n) (sym s) (⊎_elim (λ b. h.back n b) (λ r. absurd (r.1 e)) (part-new n k))
+  part-first-back _ e n k = part-wide-back n k
 
   stood-opened : (ns : List Name) → IsWithin (entered c p t (length names)) (length ns)
       → (is_template c ≡ false → (n : Name) → Contains (take (entered c p t (length names)).part ns) n → Part xs i (i + 1) n)

@@ -3,7 +3,7 @@ use Rattle.std.proofs.Common.{arith, ◌≡◌, ℕ, suc, ◌+◌, ◌<◌, List
 use Rattle.std.specs.Prelude.{slice_get}
 use Rattle.std.proofs.lemmas.List.{drop-drop}
 use Rattle.std.proofs.lemmas.Option.{slice_get-get_or}
-use Rattle.tmpl_syntax.specs.declared.fault.Fault.{Fault}
+use Rattle.tmpl_syntax.specs.Fault.{Reason}
 use Rattle.tmpl_syntax.specs.declared.place.frame.Frame.{Frame}
 use Rattle.tmpl_syntax.specs.Place.Role.{Role}
 use Rattle.tmpl_syntax.specs.Place.Body.{Verdict, Judged}
@@ -30,7 +30,7 @@ module _ (xs : List Role) where
       go at.0 (fault_at x (top fs) seen) (tells x (top fs) seen) (verdict_from (i + 1) (frames_past x fs (length seen)) next ys)
       (λ h. judged-from ys (i + 1) next (frames_past x fs (length seen)) at.1 (omega arith) (sound-past xs i known fs x at.0 h s))
     where
-      go : slice_get xs i ≡ Some x → (o : Option Fault) → TellsRole x (top fs) (seen_at x (top fs) known.inner) o → (v : Verdict) → (TellsRole x (top fs) (seen_at x (top fs) known.inner) None → Judged xs v) → Judged xs (unless_fault o i v)
+      go : slice_get xs i ≡ Some x → (o : Option Reason) → TellsRole x (top fs) (seen_at x (top fs) known.inner) o → (v : Verdict) → (TellsRole x (top fs) (seen_at x (top fs) known.inner) None → Judged xs v) → Judged xs (unless_fault o i v)
       go at None h v further = further h
       go at (Some f) h v further = refused-here xs i known fs s x f at h
 

@@ -1,5 +1,6 @@
 pub mod Build
 pub mod Count
+pub mod Fault
 pub mod Frames
 pub mod Item
 pub mod Parse

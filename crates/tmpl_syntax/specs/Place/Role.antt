@@ -1,9 +1,9 @@
 -- What counts of an item for the place in which it stands: which kind of action it is, and the names in it. Names
 -- are without their `$`.
 use Rattle.std.specs.Prelude.{ℕ, Bool, true, false, List, [], ◌∷◌, ◌++◌, map, Option, Some, None}
-use Rattle.tmpl_grammar.specs.Tree.{Operand, dot, fields, variable, bool_constant, number_constant, text_constant}
-use Rattle.tmpl_grammar.specs.Tree.{nil, function, group, Operands, no_operand, operand, Commands, no_command, command}
-use Rattle.tmpl_grammar.specs.Tree.{Pipeline, pipeline, Binding, unbound, declare, assign, declare_pair, Header}
+use Rattle.tmpl_grammar.specs.Tree.{Operand, dot, variable}
+use Rattle.tmpl_grammar.specs.Tree.{group, Operands, no_operand, operand, Commands, no_command, command}
+use Rattle.tmpl_grammar.specs.Tree.{Pipeline, pipeline, Binding, declare, assign, declare_pair, Header}
 use Rattle.tmpl_grammar.specs.Action as action
 use Rattle.tmpl_grammar.specs.Action.{Action, pipeline_action, plain_else}
 use Rattle.tmpl_grammar.specs.Action.{else_branch, end_action, break_action, continue_action, define_action}
@@ -48,15 +48,9 @@ named (b ∷ bs) = (b ∷ bs) ∷ []
 
 abbrev mutual
   pub used_by_operand : Operand → List Name
-  used_by_operand dot = []
-  used_by_operand (fields names) = []
   used_by_operand (variable name names) = named name
-  used_by_operand (bool_constant b) = []
-  used_by_operand (number_constant n) = []
-  used_by_operand (text_constant bytes) = []
-  used_by_operand nil = []
-  used_by_operand (function f) = []
   used_by_operand (group commands names) = used_by_commands commands
+  used_by_operand o = []
 
   pub used_by_operands : Operands → List Name
   used_by_operands no_operand = []
@@ -70,16 +64,13 @@ abbrev pub used_by : Pipeline → List Name
 used_by (pipeline commands) = used_by_commands commands
 
 abbrev pub assigned_by : Binding → List Name
-assigned_by unbound = []
-assigned_by (declare name) = []
 assigned_by (assign name) = named name
-assigned_by (declare_pair key name) = []
+assigned_by b = []
 
 abbrev pub declared_by : Binding → List Name
-declared_by unbound = []
 declared_by (declare name) = name ∷ []
-declared_by (assign name) = []
 declared_by (declare_pair key name) = key ∷ name ∷ []
+declared_by b = []
 
 -- the names in a header
 abbrev pub names_of : Header → Names

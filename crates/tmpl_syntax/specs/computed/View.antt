@@ -1,5 +1,5 @@
 -- What Rust values of the steps between a file and its trees stand for.
-use Rattle.std.specs.Prelude.{ℕ, List, map, reverse}
+use Rattle.std.specs.Prelude.{ℕ, List, Option, map, reverse, option_map}
 use Rattle.std.specs.Borrow.{Bor}
 use Rattle.tmpl_grammar.specs.View.{action_of}
 use Rattle.tmpl_syntax.specs.Tree.{NodeKind, Node, Definition}
@@ -64,6 +64,9 @@ parts_of p = record {
 
 -- ---- printing
 
--- a file's bytes as far as it is printed, and what stands behind them
+-- a text, if there is one
+abbrev pub text_of : Option (Bor (List ℕ)) → Option (List ℕ)
+text_of before = option_map (λ (t : Bor (List ℕ)). t.now) before
+
 unfoldable pub page_of : Page → print.Page
-page_of p = (p.bytes.items, p.before)
+page_of p = (p.bytes.items, text_of p.before)

@@ -40,7 +40,7 @@ pub(super) fn forget(names: &mut KnownNames<'_>, item: &Item<'_>, outside: Optio
     match &item.what {
         ItemKind::Action(action) => forget_at(names, action, frame),
         ItemKind::TooDeep(shape) => forget_part(names, *shape, frame),
-        ItemKind::Text(_) | ItemKind::Unreadable | ItemKind::Unread => {}
+        _ => {}
     }
 }
 
@@ -50,9 +50,7 @@ fn forget_part(names: &mut KnownNames<'_>, shape: Shape, frame: Frame)
 {
     match shape {
         Shape::Header(HeaderShape::ElseBranch(_)) => names.truncate(frame.part),
-        Shape::Header(HeaderShape::Pipeline | HeaderShape::Open(_))
-        | Shape::Template
-        | Shape::Block => {}
+        _ => {}
     }
 }
 
@@ -63,13 +61,7 @@ fn forget_at(names: &mut KnownNames<'_>, action: &Action, frame: Frame)
     match action {
         Action::Else | Action::ElseBranch(_, _) => names.truncate(frame.part),
         Action::End => names.truncate(frame.start),
-        Action::Pipeline(_)
-        | Action::Open(_, _)
-        | Action::Break
-        | Action::Continue
-        | Action::Define(_)
-        | Action::Template(_, _)
-        | Action::Block(_, _) => {}
+        _ => {}
     }
 }
 

@@ -1,10 +1,11 @@
 //! The fault of an action in its place.
-ghost use Rattle.std.specs.Prelude.{◌≡◌, List, Some};
+ghost use Rattle.std.specs.Prelude.{◌≡◌, List, Some, option_map};
 ghost use Rattle.tmpl_grammar.specs.View.{action_of};
 ghost use Rattle.tmpl_syntax.specs.computed.View.{item_of, known_names};
 ghost use Rattle.tmpl_syntax.specs.Place.Role as role;
 ghost use Rattle.tmpl_syntax.specs.Place.Role.{act_of, act_of_shape, role_of};
 ghost use Rattle.tmpl_syntax.specs.Place.Body as body;
+ghost use Rattle.tmpl_syntax.specs.computed.Fault.{of_action};
 ghost use Rattle.tmpl_syntax.specs.computed.Frames.{fault_at, fault_in, in_loop, is_placed, is_too_deep, levels};
 ghost use Rattle.tmpl_syntax.specs.computed.Frames.{takes_branch, takes_else};
 
@@ -24,7 +25,7 @@ pub(crate) fn fault_of(
     outside: Option<Frame>,
     names: &KnownNames<'_>,
 ) -> Option<Fault>
-    ensures { result ≡ fault_at (role_of (item_of item.now)) outside (known_names names.now) }
+    ensures { option_map of_action result ≡ fault_at (role_of (item_of item.now)) outside (known_names names.now) }
 {
     match &item.what {
         ItemKind::Text(_) => None,
@@ -37,7 +38,7 @@ pub(crate) fn fault_of(
 
 /// The first fault of an action, in the order in which they are asked.
 fn action_fault(action: &Action, outside: Option<Frame>, names: &KnownNames<'_>) -> Option<Fault>
-    ensures { result ≡ fault_in (act_of (action_of action.now)) outside (known_names names.now) }
+    ensures { option_map of_action result ≡ fault_in (act_of (action_of action.now)) outside (known_names names.now) }
 {
     if !is_in_place(action, outside) {
         Some(Fault::OutOfPlace)
@@ -52,7 +53,7 @@ fn action_fault(action: &Action, outside: Option<Frame>, names: &KnownNames<'_>)
 
 /// The fault of an action of this shape whose parentheses nest too deep: its place is looked at first.
 fn deep_fault(shape: Shape, outside: Option<Frame>) -> Fault
-    ensures { (names : List role.Name) → Some result ≡ fault_in (act_of_shape shape) outside names }
+    ensures { (names : List role.Name) → Some (of_action result) ≡ fault_in (act_of_shape shape) outside names }
 {
     if is_shape_in_place(shape, outside) {
         Fault::NestedTooDeeply

@@ -4,6 +4,7 @@ use Rattle.std.proofs.lemmas.List.{length-map, length-reverse}
 use Rattle.tmpl_syntax.specs.Fault.{open_at_end, reason_of}
 use Rattle.tmpl_syntax.specs.computed.View.{item_of, known_names, scopes_of}
 use Rattle.tmpl_syntax.specs.Place.Role.{role_of, roles_of}
+use Rattle.tmpl_syntax.specs.computed.Fault.{of_action}
 use Rattle.tmpl_syntax.proofs.CheckLemmas.{checking-start, checking-past, checking-refused, checking-ended, item-at, role-at, checked-refused, checked-fine, checked-open}
 use Rattle.tmpl_syntax.proofs.place.check.check.Goals as goal
 
@@ -17,9 +18,9 @@ returns-in-Some c =
     let i = c.loop-item.item-index in
     let x = c.item-item.result in
     let at = item-at items i x c.loop-item-test.true c.item-item.is in
-    checked-refused c.args.bytes.now (map item_of items) i (item_of x) c.in-Some.fault x.line (reason_of c.kind.result) at
+    checked-refused c.args.bytes.now (map item_of items) i (item_of x) (of_action c.in-Some.fault) x.line (reason_of c.kind.result) at
     (checking-refused (roles_of (map item_of items)) i (scopes_of c.loop-item.scopes) (reverse c.loop-item.stack.items) (role_of (item_of x)) (role-at (map item_of items) i (item_of x) at) c.loop-item.invariant
-    c.newest-outside.result (known_names c.forget.new.names) c.newest-outside.ensures c.forget.ensures c.in-Some.fault (sym c.in-Some.ensures))
+    c.newest-outside.result (known_names c.forget.new.names) c.newest-outside.ensures c.forget.ensures (of_action c.in-Some.fault) (sym c.in-Some.ensures))
     refl c.kind.ensures
 
 pub loop-item-preserved : goal.loop-item-preserved
