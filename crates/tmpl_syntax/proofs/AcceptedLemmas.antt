@@ -8,9 +8,9 @@ use Rattle.tmpl_grammar.specs.declared.action.Branch.{Branch}
 use Rattle.tmpl_grammar.specs.declared.action.Branch.TheVariants as branch
 use Rattle.tmpl_grammar.specs.declared.tree.Control.{Control}
 use Rattle.tmpl_grammar.specs.declared.tree.Control.TheVariants.{If, With}
-use Rattle.tmpl_syntax.specs.declared.place.frame.Frame.{Frame}
-use Rattle.tmpl_syntax.specs.declared.place.frame.Opening.{Opening}
-use Rattle.tmpl_syntax.specs.declared.place.frame.Opening.TheVariants as opened
+use Rattle.tmpl_syntax.specs.computed.Frames.{Frame}
+use Rattle.tmpl_syntax.specs.Place.Opening.{Opening}
+use Rattle.tmpl_syntax.specs.Place.Opening as opened
 use Rattle.tmpl_grammar.specs.Tree.{Header}
 use Rattle.tmpl_syntax.specs.Tree.{NodeKind, control_node, Nodes, none, then, Definition}
 use Rattle.tmpl_grammar.specs.Action.{pipeline_action, opening, plain_else, else_branch, end_action, break_action, continue_action, define_action, template_action, block_action, control_in}
@@ -50,12 +50,12 @@ placed-test true d k e = (refl, sym (first-none d k) ∙ e)
 placed-test false d k e = absurd (false≢true e)
 
 -- an else branch joins the control with which it begins, and that is no range
-joins-control : (b : Branch) (o : Opening) → joins b o ≡ true → o ≡ opened.Control (control_in b)
-joins-control branch.If (opened.Control If) e = refl
-joins-control branch.With (opened.Control With) e = refl
+joins-control : (b : Branch) (o : Opening) → joins b o ≡ true → o ≡ opened.control (control_in b)
+joins-control branch.If (opened.control If) e = refl
+joins-control branch.With (opened.control With) e = refl
 joins-control _ _ e = absurd (false≢true e)
 
-branch-loops : (b : Branch) (o : Opening) (x a : Bool) → o ≡ opened.Control (control_in b) → loops o x a ≡ a
+branch-loops : (b : Branch) (o : Opening) (x a : Bool) → o ≡ opened.control (control_in b) → loops o x a ≡ a
 branch-loops branch.If o x a e = ap (λ j. loops j x a) e
 branch-loops branch.With o x a e = ap (λ j. loops j x a) e
 
@@ -108,20 +108,20 @@ mutual
       let more = leads-fit l fs known (subst (λ k. passes fs (with_inner known k) (roles_of xs) ≡ true) (call-declares given known.inner) e.1) in
       (both_true (sym (call-test given (top fs) known.inner) ∙ e.0) more.0, more.1)
   leads-fit (a_define {xs = xs} b l) fs known h =
-      let f : Frame = entered opened.Define no_names (top fs) (length known.inner) in
-      let e = and_parts _ (passes (f ∷ fs) (opened_names opened.Define [] known) (roles_of xs)) h in
-      leads-fit l fs known (leads-fit b (f ∷ fs) (opened_names opened.Define [] known) e.1).1
+      let f : Frame = entered opened.define no_names (top fs) (length known.inner) in
+      let e = and_parts _ (passes (f ∷ fs) (opened_names opened.define [] known) (roles_of xs)) h in
+      leads-fit l fs known (leads-fit b (f ∷ fs) (opened_names opened.define [] known) e.1).1
   leads-fit (a_block {p = p} {xs = xs} b l) fs known h =
       let names : List Name = (names_given (Some p)).uses in
-      let f : Frame = entered opened.Block (names_given (Some p)) (top fs) (length known.inner) in
-      let e = and_parts _ (passes (f ∷ fs) (opened_names opened.Block [] known) (roles_of xs)) h in
+      let f : Frame = entered opened.block (names_given (Some p)) (top fs) (length known.inner) in
+      let e = and_parts _ (passes (f ∷ fs) (opened_names opened.block [] known) (roles_of xs)) h in
       let t = placed-test true (leb most_levels (levels (top fs))) (knows known.inner names) e.0 in
       let k = and_parts (not (leb most_levels (levels (top fs)))) (knows known.inner names) t.1 in
-      let more = leads-fit l fs known (leads-fit b (f ∷ fs) (opened_names opened.Block [] known) e.1).1 in
+      let more = leads-fit l fs known (leads-fit b (f ∷ fs) (opened_names opened.block [] known) e.1).1 in
       (both_true k.1 more.0, more.1)
   leads-fit (a_control {c = c} {h = r} {xs = xs} {zs = zs} {body = body} {other = other} b o l) fs known h =
       let names : List Name = known.inner in
-      let f : Frame = entered (opened.Control c) (names_of r) (top fs) (length names) in
+      let f : Frame = entered (opened.control c) (names_of r) (top fs) (length names) in
       let inside : Known = with_inner known (names ++ (names_of r).declares) in
       let e = and_parts _ (passes (f ∷ fs) inside (roles_of xs)) h in
       let inner = leads-fit b (f ∷ fs) inside e.1 in
@@ -209,7 +209,7 @@ mutual
   leads-pass (a_control {c = c} {h = r} {zs = zs} {body = body} {other = other} {ns = ns} b o l) n fs known h k =
       let names : List Name = known.inner in
       let loop : Bool = in_loop (top fs) in
-      let f : Frame = entered (opened.Control c) (names_of r) (top fs) (length names) in
+      let f : Frame = entered (opened.control c) (names_of r) (top fs) (length names) in
       let inside : List Name = names ++ (names_of r).declares in
       let within_body = leads-rest b n in
       let e = and_parts (fits_node (control_node c r body other) loop (levels (top fs)) names) (fits ns loop (levels (top fs)) names) h in

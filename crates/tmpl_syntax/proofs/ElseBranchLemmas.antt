@@ -6,7 +6,7 @@ use Rattle.std.proofs.lemmas.Bool.Decides.{Decides-like}
 use Rattle.std.proofs.lemmas.List.{append-nil}
 use Rattle.tmpl_grammar.specs.declared.action.Branch.{Branch}
 use Rattle.tmpl_grammar.specs.declared.action.Branch.TheVariants.{If as if_branch, With as with_branch}
-use Rattle.tmpl_syntax.specs.declared.place.frame.Frame.{Frame}
+use Rattle.tmpl_syntax.specs.computed.Frames.{Frame}
 use Rattle.tmpl_syntax.specs.Place.Open.{opens, ends, NothingOpen, IsLast, IsElseOf, IsElseBranchOf, HasElse, is_template}
 use Rattle.tmpl_syntax.specs.Place.Body.{joins, is_level}
 use Rattle.tmpl_syntax.specs.computed.Frames.{top, loops, elsed, branched, takes_else, Known, with_inner}
@@ -16,8 +16,8 @@ use Rattle.tmpl_syntax.proofs.ScopeLemmas.{Reaches, from_top, from_inside, from_
 use Rattle.tmpl_syntax.proofs.ElsePartLemmas.{Part, earlier, header, branch_header, part-sooner, by_else, by_else_branch}
 use Rattle.tmpl_syntax.proofs.StandLemmas.{Here, closed_at, Stands, here-of, stands-moves}
 use Rattle.tmpl_syntax.proofs.StepLemmas.{changed, stands-parted}
-use Rattle.tmpl_syntax.specs.declared.place.frame.Opening.{Opening}
-use Rattle.tmpl_syntax.specs.declared.place.frame.Opening.TheVariants as opened
+use Rattle.tmpl_syntax.specs.Place.Opening.{Opening}
+use Rattle.tmpl_syntax.specs.Place.Opening as opened
 use Rattle.tmpl_grammar.specs.declared.tree.Control.TheVariants.{Range}
 use Rattle.tmpl_syntax.specs.Place.Role.{Name, Names, plain, opener, bare_else, branch_else, closer, Role, act_role}
 use Rattle.tmpl_syntax.proofs.FaultLemmas.{in-nothing}
@@ -26,27 +26,27 @@ pub else-parts : (f : Frame) → takes_else (Some f) ≡ true → (is_template f
 else-parts f e = let a = and_parts (not (is_template f.opening)) (not f.has_else) e in (not-true (is_template f.opening) a.0, not-true f.has_else a.1)
 
 loops-else : (c : Opening) (a : Bool) → is_template c ≡ false → loops c true a ≡ a
-loops-else (opened.Control Range) a own = refl
-loops-else (opened.Control _) a own = refl
+loops-else (opened.control Range) a own = refl
+loops-else (opened.control _) a own = refl
 loops-else _ a own = let g : true ≡ false = own in cc
 
-loops-other : (c : Opening) (h a : Bool) → is_template c ≡ false → c ≢ opened.Control Range → loops c h a ≡ a
-loops-other (opened.Control Range) h a own nr = absurd (nr refl)
-loops-other opened.Define h a own nr = let g : true ≡ false = own in cc
-loops-other opened.Block h a own nr = let g : true ≡ false = own in cc
+loops-other : (c : Opening) (h a : Bool) → is_template c ≡ false → c ≢ opened.control Range → loops c h a ≡ a
+loops-other (opened.control Range) h a own nr = absurd (nr refl)
+loops-other opened.define h a own nr = let g : true ≡ false = own in cc
+loops-other opened.block h a own nr = let g : true ≡ false = own in cc
 loops-other _ h a own nr = refl
 
 -- a control is a level
 pub level-there : (c : Opening) → is_template c ≡ false → is_level c ≡ true
-level-there opened.Define e = let g : true ≡ false = e in cc
+level-there opened.define e = let g : true ≡ false = e in cc
 level-there _ e = refl
 
 -- no else that opens a level is one of a range
-joins-range : (b : Branch) → joins b (opened.Control Range) ≡ false
+joins-range : (b : Branch) → joins b (opened.control Range) ≡ false
 joins-range if_branch = refl
 joins-range with_branch = refl
 
-pub joins-no-range : (b : Branch) (c : Opening) → joins b c ≡ true → c ≢ opened.Control Range
+pub joins-no-range : (b : Branch) (c : Opening) → joins b c ≡ true → c ≢ opened.control Range
 joins-no-range b c j e = let t : true ≡ false = sym j ∙ ap (joins b) e ∙ joins-range b in cc
 
 pub stands-elsed : (xs : List Role) (i : ℕ) (known : Known) (f : Frame) (fs : List Frame) → slice_get xs i ≡ Some (act_role bare_else) → takes_else (Some f) ≡ true → Stands xs i known (f ∷ fs) → Stands xs (i + 1) (with_inner known (take f.part known.inner)) (elsed f ∷ fs)

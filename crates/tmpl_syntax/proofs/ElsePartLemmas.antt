@@ -7,15 +7,15 @@ use Rattle.tmpl_syntax.specs.Place.Open.{opens, IsOpening, IsOpen, IsLast, IsEls
 use Rattle.tmpl_syntax.proofs.OpenLemmas.{same-opening, cut, through, shut-at}
 use Rattle.tmpl_syntax.proofs.PlaceLemmas.{alike-back, alike-last, one-moves, template-moves, else_before}
 use Rattle.tmpl_syntax.proofs.ScopeLemmas.{Reaches, from_top, from_inside, from_header, from_else_branch, Brought, reaches-moves}
-use Rattle.tmpl_syntax.specs.declared.place.frame.Opening.{Opening}
-use Rattle.tmpl_syntax.specs.declared.place.frame.Opening.TheVariants as opened
+use Rattle.tmpl_syntax.specs.Place.Opening.{Opening}
+use Rattle.tmpl_syntax.specs.Place.Opening as opened
 use Rattle.tmpl_grammar.specs.declared.tree.Control.TheVariants.{Range}
 use Rattle.tmpl_syntax.specs.Place.Role.{Name, Names, plain, opener, bare_else, branch_else, Role, act_role}
 
 -- what an else part of the opening at j sees, were it to begin at h
 pub data Part (xs : List Role) (j h : ℕ) (name : Name) : Type 0 where
   earlier : Brought xs j j name → Part xs j h name
-  header : {c : Opening} {p : Names} → slice_get xs j ≡ Some (act_role (opener c p)) → Contains p.declares name → (c ≡ opened.Control Range → ⊥) → Part xs j h name
+  header : {c : Opening} {p : Names} → slice_get xs j ≡ Some (act_role (opener c p)) → Contains p.declares name → (c ≡ opened.control Range → ⊥) → Part xs j h name
   branch_header : {k : ℕ} {b : Branch} {p : Names} → k < h → slice_get xs k ≡ Some (act_role (branch_else b p)) → Contains p.declares name → IsLast xs j k → Part xs j h name
 
 -- a later beginning, with no else if of it between
@@ -40,7 +40,7 @@ pub record BroughtFrom (xs : List Role) (h a b : ℕ) (name : Name) : Type 0 whe
   pub template : OfOneTemplate xs by a
   pub reaches : Reaches xs by a b name
 
-module _ (xs : List Role) (j h a b : ℕ) (l : IsLast xs j a) (own : is_template l.is_open.opened ≡ false) (part : IsPartAt xs j h) (jh : j < h) (ha : h ≤ a) (hb : h < b) (ba : b ≤ a + 1) (ranged : l.is_open.opened ≡ opened.Control Range → HasElse xs j a) where
+module _ (xs : List Role) (j h a b : ℕ) (l : IsLast xs j a) (own : is_template l.is_open.opened ≡ false) (part : IsPartAt xs j h) (jh : j < h) (ha : h ≤ a) (hb : h < b) (ba : b ≤ a + 1) (ranged : l.is_open.opened ≡ opened.control Range → HasElse xs j a) where
   at-opening : (x : Role) → slice_get xs j ≡ Some x → opens x ≡ false → ⊥
   at-opening x at shut = shut-at xs x j a at shut l.is_open
 

@@ -7,7 +7,7 @@ use Rattle.std.proofs.lemmas.List.Elements.{Contains-append_left, Contains-appen
 use Rattle.std.proofs.lemmas.Bool.{both_ways, and_parts, and_cases, or_cases, or_right}
 use Rattle.tmpl_syntax.specs.Fault.{Reason}
 use Rattle.tmpl_syntax.specs.Fault as reason
-use Rattle.tmpl_syntax.specs.declared.place.frame.Frame.{Frame}
+use Rattle.tmpl_syntax.specs.computed.Frames.{Frame}
 use Rattle.tmpl_syntax.specs.Place.Role.{Name, Act, Role, text_role, unreadable_role, unread_role, act_role}
 use Rattle.tmpl_syntax.specs.Place.Body.{names_in}
 use Rattle.tmpl_syntax.specs.computed.Frames.{is_placed, is_too_deep, used, is_known, knows, first_fault, fault_at}

@@ -4,8 +4,8 @@ use Rattle.std.proofs.lemmas.Bool.{false≢true}
 use Rattle.std.proofs.lemmas.List.{take-append-le}
 use Rattle.tmpl_grammar.specs.Tree.{Pipeline, Header}
 use Rattle.tmpl_grammar.specs.declared.tree.Control.{Control}
-use Rattle.tmpl_syntax.specs.declared.place.frame.Frame.{Frame}
-use Rattle.tmpl_syntax.specs.declared.place.frame.Opening.TheVariants as opened
+use Rattle.tmpl_syntax.specs.computed.Frames.{Frame}
+use Rattle.tmpl_syntax.specs.Place.Opening as opened
 use Rattle.tmpl_syntax.specs.Fault.{Reason}
 use Rattle.tmpl_syntax.specs.Tree.{NodeKind, text, action, control_node, template_node, Nodes, none, then}
 use Rattle.tmpl_syntax.specs.Place.Role.{Name, names_of, names_given, plain, opener, Role}
@@ -73,7 +73,7 @@ seen_behind names none = names
 seen_behind names (then line n ns) = seen_behind (seen_past names n) ns
 
 abbrev pub loops_in : Control → Bool → Bool → Bool
-loops_in c has_else around = loops (opened.Control c) has_else around
+loops_in c has_else around = loops (opened.control c) has_else around
 
 abbrev pub fits_control : Bool → ℕ → List Name → Control → Header → (Bool → ℕ → List Name → Bool) → (Bool → ℕ → List Name → Bool) → Bool
 fits_control loop n names c h body other =
@@ -140,7 +140,7 @@ first-none true false = refl
 first-none false true = refl
 first-none false false = refl
 
-pub opener-test : (c : Control) (h : Header) (t : Option Frame) (names : List Name) → no_fault (fault_in (opener (opened.Control c) (names_of h)) t names) ≡ headed (levels t) names h
+pub opener-test : (c : Control) (h : Header) (t : Option Frame) (names : List Name) → no_fault (fault_in (opener (opened.control c) (names_of h)) t names) ≡ headed (levels t) names h
 opener-test c h t names = first-none (leb most_levels (levels t)) (knows names (names_of h).uses)
 
 -- a call of a template is in place wherever its names are known, and declares none

@@ -3,7 +3,7 @@ use Rattle.std.proofs.Common.{arith, ◌≡◌, ◌≢◌, ℕ, ◌+◌, ◌≤�
 use Rattle.std.specs.Prelude.{slice_get, Contains}
 use Rattle.std.proofs.lemmas.Bool.{and_parts, both_ways, and_cases, not-false, or_parts, le-leb, leb-true}
 use Rattle.tmpl_grammar.specs.declared.action.Branch.{Branch}
-use Rattle.tmpl_syntax.specs.declared.place.frame.Frame.{Frame}
+use Rattle.tmpl_syntax.specs.computed.Frames.{Frame}
 use Rattle.tmpl_syntax.specs.Place.Open.{IsOpening, IsLast, HasElse, is_template}
 use Rattle.tmpl_syntax.specs.Place.Scope.{IsInScope}
 use Rattle.tmpl_syntax.specs.Place.Body.{joins, TakesNoElse, nothing_open, of_a_template, after_an_else, TakesNoBranch, MayNotOpen, IsMisplaced, names_in, opens_level, most_levels, IsTooDeep, in_levels, in_parentheses, IsUndeclared}
@@ -15,8 +15,8 @@ use Rattle.tmpl_syntax.proofs.ScopeLemmas.{to-scope, from-scope, at-place, at-pl
 use Rattle.tmpl_syntax.proofs.ElsePartLemmas.{by_else_branch, to-part, from-part}
 use Rattle.tmpl_syntax.proofs.StandLemmas.{Here, closed_at, Stands, here-of}
 use Rattle.tmpl_syntax.proofs.ElseBranchLemmas.{else-parts, joins-no-range}
-use Rattle.tmpl_syntax.specs.declared.place.frame.Opening.{Opening}
-use Rattle.tmpl_syntax.specs.declared.place.frame.Opening.TheVariants as opened
+use Rattle.tmpl_syntax.specs.Place.Opening.{Opening}
+use Rattle.tmpl_syntax.specs.Place.Opening as opened
 use Rattle.tmpl_grammar.specs.declared.tree.Control.TheVariants.{Range}
 use Rattle.tmpl_syntax.specs.Place.Role.{Name, Names, Act, plain, opener, bare_else, branch_else, closer, jump, Role, act_role}
 
@@ -57,8 +57,8 @@ unplaced-else_branch xs i known b [] s (inr e) = inl (nothing_open s.0)
 unplaced-else_branch xs i known b (f ∷ fs) s (inr e) = inr (record { opened = s.1; last = s.2.last; other = ap (joins b) (top-opening xs i known f fs s s.1 s.2.last) ∙ e })
 
 unplaced-opener : (xs : List Role) (i : ℕ) (known : Known) (c : Opening) (fs : List Frame) → Stands xs i known fs → may_open c (top fs) ≡ false → MayNotOpen xs i c
-unplaced-opener xs i known opened.Define [] s e = let g : true ≡ false = e in cc
-unplaced-opener xs i known opened.Define (f ∷ fs) s e = (s.1, s.2.last.is_open)
+unplaced-opener xs i known opened.define [] s e = let g : true ≡ false = e in cc
+unplaced-opener xs i known opened.define (f ∷ fs) s e = (s.1, s.2.last.is_open)
 unplaced-opener xs i known _ fs s e = let g : true ≡ false = e in cc
 
 pub unplaced : (xs : List Role) (i : ℕ) (known : Known) (fs : List Frame) (a : Act) → Stands xs i known fs → is_placed a (top fs) ≡ false → IsMisplaced xs i a
@@ -71,8 +71,8 @@ unplaced xs i known (f ∷ fs) closer s e = let g : true ≡ false = e in cc
 unplaced xs i known fs jump s e = λ j l. both_ways (in_loop (top fs)) e ((here-of xs i known fs s).looped.1 (j, l))
 
 placed-opener : (xs : List Role) (i : ℕ) (known : Known) (c : Opening) (fs : List Frame) → Stands xs i known fs → may_open c (top fs) ≡ true → MayNotOpen xs i c → ⊥
-placed-opener xs i known opened.Define [] s e h = s.0 h.0 h.1
-placed-opener xs i known opened.Define (f ∷ fs) s e h = let g : false ≡ true = e in cc
+placed-opener xs i known opened.define [] s e h = s.0 h.0 h.1
+placed-opener xs i known opened.define (f ∷ fs) s e h = let g : false ≡ true = e in cc
 placed-opener xs i known _ fs s e h = h
 
 joined : (xs : List Role) (i : ℕ) (known : Known) (b : Branch) (fs : List Frame) → Stands xs i known fs → takes_branch b (top fs) ≡ true → TakesNoBranch xs b i → ⊥
@@ -130,7 +130,7 @@ module _ (xs : List Role) (i : ℕ) (known : Known) where
     own : is_template s.2.last.is_open.opened ≡ false
     own = ap is_template (top-opening xs i known f fs s s.1 s.2.last) ∙ (else-parts f takes).0
 
-    not-ranged : s.2.last.is_open.opened ≡ opened.Control Range → HasElse xs s.1 i
+    not-ranged : s.2.last.is_open.opened ≡ opened.control Range → HasElse xs s.1 i
     not-ranged e = absurd (joins-no-range b f.opening joining (sym (top-opening xs i known f fs s s.1 s.2.last) ∙ e))
 
     below : Here xs s.1 (top fs) (closed_at f known).inner

@@ -7,8 +7,8 @@ use Rattle.tmpl_syntax.specs.Place.Open.{ends, IsOpening, IsOpen, IsLast, IsElse
 use Rattle.tmpl_syntax.specs.Place.Body.{is_level, IsLoop, IsLevel, of_opening, of_else_branch, Levels, none, one, other}
 use Rattle.tmpl_syntax.specs.computed.Frames.{level_of}
 use Rattle.tmpl_syntax.proofs.OpenLemmas.{same-opening, same-piece, cut, through, Even, Same, shut-at, opened-keeps, opened_new}
-use Rattle.tmpl_syntax.specs.declared.place.frame.Opening.{Opening}
-use Rattle.tmpl_syntax.specs.declared.place.frame.Opening.TheVariants as opened
+use Rattle.tmpl_syntax.specs.Place.Opening.{Opening}
+use Rattle.tmpl_syntax.specs.Place.Opening as opened
 use Rattle.tmpl_syntax.specs.Place.Role.{Names, opener, bare_else, branch_else, Role, act_role}
 
 -- at two places the bodies of the same defines and blocks are open
@@ -147,9 +147,9 @@ levels-opened xs i n c p at o r = go c o
     no d od nt (of_else_branch {j = q} t h is) = no-else_branch xs (act_role (opener c p)) i q at (λ b r g. cc) t
 
     go : (d : Opening) → IsOpening (slice_get xs i) d → Levels xs (i + 1) (i + 1) (n + level_of d)
-    go (opened.Control d) od = yes (opened.Control d) od refl
-    go opened.Define od = subst (λ k. Levels xs (i + 1) (i + 1) k) (sym (add-zero n)) (levels-no xs (i + 1) i n below (no opened.Define od refl))
-    go opened.Block od = yes opened.Block od refl
+    go (opened.control d) od = yes (opened.control d) od refl
+    go opened.define od = subst (λ k. Levels xs (i + 1) (i + 1) k) (sym (add-zero n)) (levels-no xs (i + 1) i n below (no opened.define od refl))
+    go opened.block od = yes opened.block od refl
 
 -- loops
 

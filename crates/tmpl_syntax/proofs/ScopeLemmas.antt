@@ -7,8 +7,8 @@ use Rattle.tmpl_syntax.specs.Place.Open.{IsOpening, IsOpen, NothingOpen, IsLast,
 use Rattle.tmpl_syntax.specs.Place.Scope.{Declares, at_the_top, inside, in_header, in_else_branch, IsInScope}
 use Rattle.tmpl_syntax.proofs.OpenLemmas.{same-piece, cut, Same, opened-keeps, opened_new}
 use Rattle.tmpl_syntax.proofs.PlaceLemmas.{alike-even, alike-back, alike-opened, one-moves, template-moves, else_before, else-same, no-else_branch}
-use Rattle.tmpl_syntax.specs.declared.place.frame.Opening.{Opening}
-use Rattle.tmpl_syntax.specs.declared.place.frame.Opening.TheVariants as opened
+use Rattle.tmpl_syntax.specs.Place.Opening.{Opening}
+use Rattle.tmpl_syntax.specs.Place.Opening as opened
 use Rattle.tmpl_grammar.specs.declared.tree.Control.TheVariants.{Range}
 use Rattle.tmpl_syntax.specs.Place.Role.{Name, Names, plain, opener, bare_else, branch_else, Role, act_role}
 
@@ -16,7 +16,7 @@ use Rattle.tmpl_syntax.specs.Place.Role.{Name, Names, plain, opener, bare_else, 
 pub data Reaches (xs : List Role) (k a b : ℕ) (name : Name) : Type 0 where
   from_top : {p : Names} → slice_get xs k ≡ Some (act_role (plain p)) → Contains p.declares name → NothingOpen xs k → Reaches xs k a b name
   from_inside : {p : Names} {j : ℕ} → slice_get xs k ≡ Some (act_role (plain p)) → Contains p.declares name → IsLast xs j k → IsOpen xs j a → ((m : ℕ) → k < m → m < b → IsElseOf xs j m → ⊥) → ((m : ℕ) → k < m → m < b → IsElseBranchOf xs j m → ⊥) → Reaches xs k a b name
-  from_header : {c : Opening} {p : Names} → slice_get xs k ≡ Some (act_role (opener c p)) → Contains p.declares name → IsOpen xs k a → (c ≡ opened.Control Range → HasElse xs k a → ⊥) → Reaches xs k a b name
+  from_header : {c : Opening} {p : Names} → slice_get xs k ≡ Some (act_role (opener c p)) → Contains p.declares name → IsOpen xs k a → (c ≡ opened.control Range → HasElse xs k a → ⊥) → Reaches xs k a b name
   from_else_branch : {c : Branch} {p : Names} {j : ℕ} → slice_get xs k ≡ Some (act_role (branch_else c p)) → Contains p.declares name → IsLast xs j k → IsOpen xs j a → Reaches xs k a b name
 
 pub record Brought (xs : List Role) (a b : ℕ) (name : Name) : Type 0 where

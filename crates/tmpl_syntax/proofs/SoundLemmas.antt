@@ -5,7 +5,7 @@ use Rattle.std.proofs.lemmas.Bool.{cases_lt, and_parts}
 use Rattle.std.proofs.lemmas.List.{length-take-le}
 use Rattle.tmpl_syntax.specs.Fault.{Reason, rank}
 use Rattle.tmpl_syntax.specs.Fault as reason
-use Rattle.tmpl_syntax.specs.declared.place.frame.Frame.{Frame}
+use Rattle.tmpl_syntax.specs.computed.Frames.{Frame}
 use Rattle.tmpl_syntax.specs.Place.Body.{joins, IsMisplaced, none, IsTooDeep, IsUndeclared, Applies, unreadable, unread, misplaced, too_deep, undeclared, NoneRefused, IsRefused, Judged}
 use Rattle.tmpl_syntax.specs.computed.Frames.{top, takes_else, is_placed, is_too_deep, names_at, seen_at, frames_after, frames_past, branched, at_end, Known, with_inner, known_after, known_past, none_known}
 use Rattle.tmpl_syntax.proofs.FaultLemmas.{Tells, TellsRole, in-nothing}

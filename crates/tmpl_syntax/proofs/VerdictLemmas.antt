@@ -4,7 +4,7 @@ use Rattle.std.specs.Prelude.{slice_get}
 use Rattle.std.proofs.lemmas.List.{drop-drop}
 use Rattle.std.proofs.lemmas.Option.{slice_get-get_or}
 use Rattle.tmpl_syntax.specs.Fault.{Reason}
-use Rattle.tmpl_syntax.specs.declared.place.frame.Frame.{Frame}
+use Rattle.tmpl_syntax.specs.computed.Frames.{Frame}
 use Rattle.tmpl_syntax.specs.Place.Role.{Role}
 use Rattle.tmpl_syntax.specs.Place.Body.{Verdict, Judged}
 use Rattle.tmpl_syntax.specs.computed.Frames.{top, fault_at, seen_at, frames_past, Known, with_inner, known_past, none_known, unless_fault, verdict_from, verdict_of}

@@ -3,8 +3,8 @@ use Rattle.std.specs.Prelude.{◌≡◌, ℕ, suc, ◌<◌, ◌≤◌, Bool, tru
 use Rattle.std.specs.Prelude.{length, slice_get, Option, Some, None, ◌⊎◌, Contains}
 use Rattle.tmpl_grammar.specs.declared.action.Branch.{Branch}
 use Rattle.tmpl_grammar.specs.declared.action.Branch.TheVariants.{If as if_branch, With as with_branch}
-use Rattle.tmpl_syntax.specs.declared.place.frame.Opening.{Opening}
-use Rattle.tmpl_syntax.specs.declared.place.frame.Opening.TheVariants as opened
+use Rattle.tmpl_syntax.specs.Place.Opening.{Opening}
+use Rattle.tmpl_syntax.specs.Place.Opening as opened
 use Rattle.tmpl_grammar.specs.declared.tree.Control.TheVariants.{If, With, Range}
 use Rattle.tmpl_syntax.specs.Fault as reason
 use Rattle.tmpl_syntax.specs.Fault.{Reason, rank}
@@ -16,8 +16,8 @@ use Rattle.tmpl_syntax.specs.Place.Scope.{IsInScope}
 
 -- an `else if` stands in an `if` alone, and an `else with` in a `with`
 abbrev pub joins : Branch → Opening → Bool
-joins if_branch (opened.Control If) = true
-joins with_branch (opened.Control With) = true
+joins if_branch (opened.control If) = true
+joins with_branch (opened.control With) = true
 joins b c = false
 
 -- nothing is open at i, or its last opening is a template's body, or has an else already
@@ -35,13 +35,13 @@ pub record TakesNoBranch (xs : List Role) (b : Branch) (i : ℕ) : Type 0 where
 -- a range of the template of i that is open at i with no else of its own before i
 pub record IsLoop (xs : List Role) (j i : ℕ) : Type 0 where
   pub is_open : IsOpen xs j i
-  pub range : is_open.opened ≡ opened.Control Range
+  pub range : is_open.opened ≡ opened.control Range
   pub template : OfOneTemplate xs j i
   pub bare : HasElse xs j i → ⊥
 
 -- a define at which something is open is out of place
 abbrev pub MayNotOpen : List Role → ℕ → Opening → Type 0
-MayNotOpen xs i opened.Define = (j : ℕ) × IsOpen xs j i
+MayNotOpen xs i opened.define = (j : ℕ) × IsOpen xs j i
 MayNotOpen xs i c = ⊥
 
 -- .. and an end, else or else branch at which nothing is open; an else or else branch of a define or block, or after an
@@ -56,7 +56,7 @@ IsMisplaced xs i jump = (j : ℕ) → IsLoop xs j i → ⊥
 
 -- the openings that are a level while they are open
 abbrev pub is_level : Opening → Bool
-is_level opened.Define = false
+is_level opened.define = false
 is_level c = true
 
 -- a level is an open if, with, range or block, or an else branch that belongs to an open one

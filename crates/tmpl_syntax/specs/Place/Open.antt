@@ -2,8 +2,8 @@
 use Rattle.std.specs.Prelude.{◌≡◌, ℕ, ◌+◌, ◌<◌, ◌≤◌, Bool, true, false, List}
 use Rattle.std.specs.Prelude.{count_by, slice_get, slice_range, Option, Some, None}
 use Rattle.tmpl_grammar.specs.declared.action.Branch.{Branch}
-use Rattle.tmpl_syntax.specs.declared.place.frame.Opening.{Opening}
-use Rattle.tmpl_syntax.specs.declared.place.frame.Opening.TheVariants as opened
+use Rattle.tmpl_syntax.specs.Place.Opening.{Opening}
+use Rattle.tmpl_syntax.specs.Place.Opening as opened
 use Rattle.tmpl_syntax.specs.Place.Role.{Names, Act, opener, bare_else, branch_else, closer}
 use Rattle.tmpl_syntax.specs.Place.Role.{Role, act_role}
 
@@ -69,7 +69,7 @@ HasElse xs j i = (k : ℕ) × (k < i) × IsElseOf xs j k
 
 -- the openings whose body is a template of its own
 abbrev pub is_template : Opening → Bool
-is_template (opened.Control c) = false
+is_template (opened.control c) = false
 is_template c = true
 
 -- an opening at j, open at i, whose body is a template of its own

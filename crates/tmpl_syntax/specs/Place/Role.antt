@@ -13,8 +13,8 @@ use Rattle.tmpl_grammar.specs.declared.action.Branch.{Branch}
 use Rattle.tmpl_grammar.specs.declared.action.Shape.{Shape}
 use Rattle.tmpl_grammar.specs.declared.action.Shape.TheVariants as piped
 use Rattle.tmpl_grammar.specs.declared.action.HeaderShape.TheVariants as shape
-use Rattle.tmpl_syntax.specs.declared.place.frame.Opening.{Opening}
-use Rattle.tmpl_syntax.specs.declared.place.frame.Opening.TheVariants as opening
+use Rattle.tmpl_syntax.specs.Place.Opening.{Opening}
+use Rattle.tmpl_syntax.specs.Place.Opening as opening
 
 abbrev pub Name : Type 0
 Name = List ℕ
@@ -90,15 +90,15 @@ names_given (Some p) = record { declares = []; uses = used_by p; nested = false 
 
 abbrev pub act_of : Action → Act
 act_of (pipeline_action h) = plain (names_of h)
-act_of (action.opening c h) = opener (opening.Control c) (names_of h)
+act_of (action.opening c h) = opener (opening.control c) (names_of h)
 act_of plain_else = bare_else
 act_of (else_branch branch h) = branch_else branch (names_of h)
 act_of end_action = closer
 act_of break_action = jump
 act_of continue_action = jump
-act_of (define_action name) = opener opening.Define no_names
+act_of (define_action name) = opener opening.define no_names
 act_of (template_action name given) = plain (names_given given)
-act_of (block_action name p) = opener opening.Block (names_given (Some p))
+act_of (block_action name p) = opener opening.block (names_given (Some p))
 
 -- parentheses that nest too deep, whose names do not count: they are asked for last
 abbrev pub deep_names : Names
@@ -106,10 +106,10 @@ deep_names = record { declares = []; uses = []; nested = true }
 
 abbrev pub act_of_shape : Shape → Act
 act_of_shape (piped.Header shape.Pipeline) = plain deep_names
-act_of_shape (piped.Header (shape.Open c)) = opener (opening.Control c) deep_names
+act_of_shape (piped.Header (shape.Open c)) = opener (opening.control c) deep_names
 act_of_shape (piped.Header (shape.ElseBranch branch)) = branch_else branch deep_names
 act_of_shape piped.Template = plain deep_names
-act_of_shape piped.Block = opener opening.Block deep_names
+act_of_shape piped.Block = opener opening.block deep_names
 
 abbrev pub role_of : Item → Role
 role_of (item line (text_item bytes)) = text_role

@@ -6,10 +6,9 @@ use Rattle.std.specs.List.{list_any, list_all}
 use Rattle.std.specs.Str.{bytes_eq}
 use Rattle.tmpl_grammar.specs.declared.action.Branch.{Branch}
 use Rattle.tmpl_grammar.specs.declared.tree.Control.{Control}
-use Rattle.tmpl_syntax.specs.declared.place.frame.Opening.{Opening}
-use Rattle.tmpl_syntax.specs.declared.place.frame.Opening.TheVariants as opened
+use Rattle.tmpl_syntax.specs.Place.Opening.{Opening}
+use Rattle.tmpl_syntax.specs.Place.Opening as opened
 use Rattle.tmpl_grammar.specs.declared.tree.Control.TheVariants.{Range}
-use Rattle.tmpl_syntax.specs.declared.place.frame.Frame.{Frame}
 use Rattle.tmpl_syntax.specs.Fault as reason
 use Rattle.tmpl_syntax.specs.Fault.{Reason}
 use Rattle.tmpl_syntax.specs.Place.Role.{Name, Names, Act, plain, opener, bare_else, branch_else, closer}
@@ -17,14 +16,24 @@ use Rattle.tmpl_syntax.specs.Place.Role.{jump, Role, text_role, unreadable_role,
 use Rattle.tmpl_syntax.specs.Place.Open.{is_template}
 use Rattle.tmpl_syntax.specs.Place.Body.{joins, names_in, opens_level, most_levels, Verdict, fine, refused, left_open}
 
+-- what is open, and what stands inside it: whether an else came, whether a break may stand where it was opened, the levels,
+-- how many names there were where it was opened, and how many an else part of it sees
+pub record Frame : Type 0 where
+  pub opening : Opening
+  pub has_else : Bool
+  pub around : Bool
+  pub levels : ℕ
+  pub start : ℕ
+  pub part : ℕ
+
 abbrev pub top : List Frame → Option Frame
 top [] = None
 top (f ∷ fs) = Some f
 
 -- inside an opening: may a break stand there
 abbrev pub loops : Opening → Bool → Bool → Bool
-loops (opened.Control Range) has_else around = not has_else || around
-loops (opened.Control c) has_else around = around
+loops (opened.control Range) has_else around = not has_else || around
+loops (opened.control c) has_else around = around
 loops c has_else around = false
 
 abbrev pub in_loop : Option Frame → Bool
@@ -48,7 +57,7 @@ is_inside None = false
 is_inside (Some f) = true
 
 abbrev pub may_open : Opening → Option Frame → Bool
-may_open opened.Define t = not (is_inside t)
+may_open opened.define t = not (is_inside t)
 may_open c t = true
 
 -- not out of place
@@ -98,7 +107,7 @@ fault_in a t names = first_fault (is_placed a t) (is_too_deep a t) (knows names 
 
 -- how many levels an opening adds
 abbrev pub level_of : Opening → ℕ
-level_of opened.Define = 0
+level_of opened.define = 0
 level_of c = 1
 
 -- how many names an else part sees, of those before the header and those with it: a range's own are not seen there
@@ -108,11 +117,11 @@ part_of c before after = after
 
 -- the names at the start of what is opened, and at the start of its else part: a template sees none from outside
 abbrev pub start_of : Opening → ℕ → ℕ
-start_of (opened.Control c) before = before
+start_of (opened.control c) before = before
 start_of c before = 0
 
 abbrev pub else_start : Opening → ℕ → ℕ → ℕ
-else_start (opened.Control c) before after = part_of c before after
+else_start (opened.control c) before after = part_of c before after
 else_start c before after = 0
 
 -- an opening in whose outside this frame is the newest and there are n names
@@ -172,7 +181,7 @@ rest_names (ns ∷ nss) = nss
 
 -- behind an opening: a control adds what its header declares, and in a template nothing is known yet
 abbrev pub opened_names : Opening → List Name → Known → Known
-opened_names (opened.Control c) declares k = with_inner k (k.inner ++ declares)
+opened_names (opened.control c) declares k = with_inner k (k.inner ++ declares)
 opened_names c declares k = record { inner = []; around = k.inner ∷ k.around }
 
 abbrev pub closed_if : Bool → Known → Known

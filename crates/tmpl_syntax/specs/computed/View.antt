@@ -10,7 +10,8 @@ use Rattle.tmpl_syntax.specs.Place.Role.{Name}
 use Rattle.tmpl_syntax.specs.View.{kind_step, control_step, node_step, nodes_in}
 use Rattle.tmpl_syntax.specs.computed.Build as build
 use Rattle.tmpl_syntax.specs.computed.Print as print
-use Rattle.tmpl_syntax.specs.computed.Frames.{Known}
+use Rattle.tmpl_syntax.specs.Place.Opening.{Opening, control, define, block}
+use Rattle.tmpl_syntax.specs.computed.Frames.{Frame, Known}
 use Rattle.tmpl_syntax.specs.declared.tree.NodeKind as held_node_kind
 use Rattle.tmpl_syntax.specs.declared.tree.NodeKind.{fold-NodeKind}
 use Rattle.tmpl_syntax.specs.declared.tree.Definition as held_definition
@@ -18,6 +19,9 @@ use Rattle.tmpl_syntax.specs.declared.item.Item as held_item
 use Rattle.tmpl_syntax.specs.declared.item.ItemKind as held_kind
 use Rattle.tmpl_syntax.specs.declared.item.ItemKind.TheVariants as held
 use Rattle.tmpl_syntax.specs.declared.print.Page.{Page}
+use Rattle.tmpl_syntax.specs.declared.place.frame.Frame as held_frame
+use Rattle.tmpl_syntax.specs.declared.place.frame.Opening as held_opening
+use Rattle.tmpl_syntax.specs.declared.place.frame.Opening.TheVariants as held_opened
 use Rattle.tmpl_syntax.specs.declared.place.names.KnownNames.{KnownNames}
 use Rattle.tmpl_syntax.specs.declared.place.scopes.Scopes.{Scopes}
 use Rattle.tmpl_syntax.specs.declared.build.Level.{Level}
@@ -42,6 +46,25 @@ known_names d = map (λ (n : Bor (List ℕ)). n.now) d.names.items
 
 unfoldable pub scopes_of : Scopes → Known
 scopes_of s = record { inner = known_names s.inner; around = map known_names (reverse s.around.items) }
+
+abbrev pub opening_of : held_opening.Opening → Opening
+opening_of (held_opened.Control c) = control c
+opening_of held_opened.Define = define
+opening_of held_opened.Block = block
+
+abbrev pub frame_of : held_frame.Frame → Frame
+frame_of f = record {
+  opening = opening_of f.opening;
+  has_else = f.has_else;
+  around = f.around;
+  levels = f.levels;
+  start = f.start;
+  part = f.part;
+}
+
+-- of a stack the newest frame comes first
+abbrev pub frames_in : List held_frame.Frame → List Frame
+frames_in stack = map frame_of (reverse stack)
 
 -- ---- the building of nodes
 
