@@ -6,9 +6,10 @@ use lib.Pointwise.{bytes_decides}
 use Rattle.tmpl_lex.specs.declared.piece.TokenKind.{TokenKind}
 use Rattle.tmpl_lex.specs.declared.piece.TokenKind.TheVariants as kind
 use Rattle.tmpl_lex.specs.Piece.{Token}
-use Rattle.tmpl_grammar.specs.Token.{is_space_kind, is_white, is_blank, next}
+use Rattle.tmpl_grammar.specs.computed.Token.{is_space_kind, is_white, is_blank, next}
 use Rattle.tmpl_grammar.specs.Tree.{Operand, text_constant, Commands, Pipeline, pipeline, Binding, unbound, declare, assign, declare_pair, Header}
-use Rattle.tmpl_grammar.specs.Action.{Action, pipeline_action, opening, plain_else, else_branch, end_action, break_action, continue_action, define_action, template_action, block_action, action_with, control_in, IsQuoted, SpellsGiven, SpellsAction}
+use Rattle.tmpl_grammar.specs.Action.{Action, pipeline_action, opening, plain_else, else_branch, end_action, break_action, continue_action, define_action, template_action, block_action, control_in, IsQuoted, SpellsGiven, SpellsAction}
+use Rattle.tmpl_grammar.specs.computed.Reading.{action_with}
 use Rattle.tmpl_grammar.specs.Pipeline.{IsBlank, SpellsPipeline}
 use Rattle.tmpl_grammar.specs.Header.{IsSign, IsVariable, Then, SpellsWhole, SpellsBinding, SpellsHeader}
 use Rattle.tmpl_grammar.specs.Keyword.{IsWord}

@@ -9,7 +9,8 @@ use Rattle.tmpl_grammar.specs.Tree as tree
 use Rattle.tmpl_grammar.specs.Tree.{Operand, Operands, Pipeline}
 use Rattle.tmpl_grammar.specs.computed.Parser.{Parser, Partial, step, steps, finished, commands_after, start}
 use Rattle.tmpl_grammar.specs.computed.Limited.{Limited, limited_start, count, emptied, restored, restored_by, forgotten_if, behind_step, limited_step, reading_by}
-use Rattle.tmpl_grammar.specs.Depth.{Reading, unread, limited_to, pipeline_within, most_deep}
+use Rattle.tmpl_grammar.specs.Depth.{Reading, unread, most_deep}
+use Rattle.tmpl_grammar.specs.computed.Depth.{limited_to, pipeline_within}
 use Rattle.tmpl_grammar.specs.declared.action.Shape.{Shape}
 use Rattle.tmpl_grammar.specs.computed.Reading.{pipeline_from, pipeline_in, limited_in}
 use Rattle.tmpl_grammar.proofs.DepthLemmas.{parser_depth, deep_commands, Steps, step-steps, IsAtLeast, IsClosed, end-least, less-least, finished-depth}

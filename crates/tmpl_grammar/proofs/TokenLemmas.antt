@@ -6,7 +6,7 @@ use Rattle.std.proofs.lemmas.Option.{same_Some}
 use Rattle.tmpl_lex.specs.declared.piece.TokenKind.{TokenKind}
 use Rattle.tmpl_lex.specs.declared.piece.TokenKind.TheVariants as kind
 use Rattle.tmpl_lex.specs.Piece.{Token}
-use Rattle.tmpl_grammar.specs.Token.{is_space_kind, is_white, is_blank, first, next}
+use Rattle.tmpl_grammar.specs.computed.Token.{is_space_kind, is_white, is_blank, first, next}
 use Rattle.tmpl_grammar.specs.Pipeline.{IsBlank}
 use Rattle.tmpl_grammar.specs.Header.{Then}
 use Rattle.tmpl_grammar.proofs.OptionLemmas.{no-value}

@@ -10,7 +10,6 @@ use Rattle.tmpl_grammar.specs.declared.tree.Control.{Control}
 use Rattle.tmpl_grammar.specs.declared.tree.Control.TheVariants as control
 use Rattle.tmpl_grammar.specs.declared.action.Branch.{Branch}
 use Rattle.tmpl_grammar.specs.declared.action.Branch.TheVariants as branch
-use Rattle.tmpl_grammar.specs.declared.action.HeaderShape.{HeaderShape}
 use Rattle.tmpl_grammar.specs.declared.action.HeaderShape.TheVariants as shape
 use Rattle.tmpl_grammar.specs.declared.action.Shape.{Shape}
 use Rattle.tmpl_grammar.specs.declared.action.Shape.TheVariants as piped
@@ -51,7 +50,8 @@ SpellsAction (pipeline_action h) ts = SpellsHeader shape.Pipeline h ts
 SpellsAction (opening c h) ts = Then (IsWord (control_spelling c)) (SpellsHeader (shape.Open c) h) ts
 SpellsAction plain_else ts = Then (IsWord (codes "else")) IsBlank ts
 SpellsAction (else_branch br h) ts =
-    Then (IsWord (codes "else")) (Then (IsWord (control_spelling (control_in br))) (SpellsHeader (shape.ElseBranch br) h)) ts
+    Then (IsWord (codes "else"))
+    (Then (IsWord (control_spelling (control_in br))) (SpellsHeader (shape.ElseBranch br) h)) ts
 SpellsAction end_action ts = Then (IsWord (codes "end")) IsBlank ts
 SpellsAction break_action ts = Then (IsWord (codes "break")) IsBlank ts
 SpellsAction continue_action ts = Then (IsWord (codes "continue")) IsBlank ts
@@ -59,12 +59,6 @@ SpellsAction (define_action name) ts = Then (IsWord (codes "define")) (Then (IsQ
 SpellsAction (template_action name given) ts =
     Then (IsWord (codes "template")) (Then (IsQuoted name) (SpellsGiven given)) ts
 SpellsAction (block_action name p) ts = Then (IsWord (codes "block")) (Then (IsQuoted name) (SpellsWhole p)) ts
-
--- the action of this shape with this header
-abbrev pub action_with : HeaderShape → Header → Action
-action_with shape.Pipeline h = pipeline_action h
-action_with (shape.Open c) h = opening c h
-action_with (shape.ElseBranch br) h = else_branch br h
 
 -- the shape of an action that has a pipeline
 abbrev pub shape_of : Action → Option Shape

@@ -1,4 +1,5 @@
 pub mod Constant
+pub mod Depth
 pub mod Keyword
 pub mod Limited
 pub mod Operand
@@ -6,5 +7,6 @@ pub mod Parser
 pub mod Print
 pub mod Quoted
 pub mod Reading
+pub mod Token
 pub mod View
 pub mod Within

@@ -1,6 +1,7 @@
 //! What one action says.
 ghost use Rattle.std.specs.Prelude.{◌≡◌};
-ghost use Rattle.tmpl_grammar.specs.Action.{action_with, control_in};
+ghost use Rattle.tmpl_grammar.specs.Action.{control_in};
+ghost use Rattle.tmpl_grammar.specs.computed.Reading.{action_with};
 ghost use Rattle.tmpl_grammar.specs.Header.{may_bind};
 ghost use Rattle.tmpl_grammar.specs.View.{action_of, binding_of, header_of};
 

@@ -59,13 +59,13 @@ pub(crate) fn keyword_in(token: Token<'_>) -> Option<Keyword>
     ensures { result ≡ keyword_of (token_of token.entry) }
 {
     match token.kind {
-        TokenKind::Word => spelled(token.bytes),
+        TokenKind::Word => keyword_named(token.bytes),
         _ => None,
     }
 }
 
 /// The keyword of this spelling.
-fn spelled(name: &[u8]) -> Option<Keyword>
+fn keyword_named(name: &[u8]) -> Option<Keyword>
     ensures { result ≡ spells_keyword name.now }
 {
     if name == b"if".as_slice() {
@@ -83,12 +83,12 @@ fn spelled(name: &[u8]) -> Option<Keyword>
     } else if name == b"continue".as_slice() {
         Some(Keyword::Continue)
     } else {
-        spelled_of_templates(name)
+        template_keyword_named(name)
     }
 }
 
 /// The keyword of this spelling, of those that speak of templates.
-fn spelled_of_templates(name: &[u8]) -> Option<Keyword>
+fn template_keyword_named(name: &[u8]) -> Option<Keyword>
     ensures { result ≡ spells_template_keyword name.now }
 {
     if name == b"define".as_slice() {

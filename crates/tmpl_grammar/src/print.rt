@@ -65,7 +65,8 @@ fn print_named(
     bytes: &mut Vec<u8>,
 ) -> Result<(), AllocError>
     ensures { OnOk result (bytes.new.items
-        ≡ bytes.old.items ++ bytes_of (named_tokens (spelling keyword) name.now (given_tokens (given_of given.entry)))) }
+        ≡ bytes.old.items
+        ++ bytes_of (named_tokens (spelling keyword) name.now (given_tokens (given_of given.entry)))) }
 {
     bytes.extend_from_slice(keyword.spelling())?;
     bytes.extend_from_slice(b" ")?;

@@ -7,7 +7,8 @@ use Rattle.tmpl_lex.specs.computed.Cut.{cut_of}
 use Rattle.tmpl_lex.specs.Piece.{Token, Piece, text, action, unreadable}
 use Rattle.tmpl_lex.proofs.CutLemmas.{cut_of-Cuts, Cuts-cut_of}
 use Rattle.tmpl_grammar.specs.Action.{Action, pipeline_action, opening, else_branch, template_action, block_action, SpellsAction, shape_of}
-use Rattle.tmpl_grammar.specs.Depth.{depth_of_pipeline, depth_of, most_deep, limited, limited_to, within_limit, reading_of, unread as unread_within, too_deep as deep_within, read as read_within}
+use Rattle.tmpl_grammar.specs.Depth.{depth_of_pipeline, depth_of, most_deep, unread as unread_within, too_deep as deep_within, read as read_within}
+use Rattle.tmpl_grammar.specs.computed.Depth.{limited, limited_to, within_limit, reading_of}
 use Rattle.tmpl_grammar.specs.computed.Reading.{action_in}
 use Rattle.tmpl_syntax.specs.Item.{Item, item, HasItems, IsItem, a_text, an_unreadable, unread, too_deep, read, AreItems, no_item, an_item}
 use Rattle.tmpl_syntax.specs.computed.Item.{read_item, item_in, items_in}

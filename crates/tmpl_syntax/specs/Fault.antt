@@ -3,8 +3,8 @@ use Rattle.std.specs.Prelude.{ℕ, Option, Some, None}
 use Rattle.tmpl_syntax.specs.declared.fault.ParseKind.{ParseKind}
 use Rattle.tmpl_syntax.specs.declared.fault.ParseKind.TheVariants as kind
 
--- it is too long, or its first refused action is so, or it ends inside a control or a template, or it defines a template
--- twice
+-- it is too long, or its first refused action is so, or it ends inside a control or a template, or it defines a
+-- template twice
 pub data Reason : Type 0 where
   too_long : Reason
   unreadable : Reason

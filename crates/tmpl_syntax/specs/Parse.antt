@@ -103,7 +103,8 @@ IsRefusedBy branches file bytes line reason =
 abbrev pub Refusal : Type 0
 Refusal = ℕ × Reason
 
--- what comes of a file of this path and these bytes: it is accepted, and makes a new set of the old one, or it is refused
+-- what comes of a file of this path and these bytes: it is accepted, and makes a new set of the old one, or it is
+-- refused
 abbrev pub Parses : List Template → List ℕ → List ℕ → Result (List Template) Refusal → Type 0
 Parses old file bytes (Ok new) = IsAccepted every_branch old file bytes new
 Parses old file bytes (Err refusal) = IsRefusedBy every_branch file bytes refusal.0 refusal.1

@@ -6,13 +6,16 @@ use Rattle.std.specs.Str.{bytes_eq}
 use Rattle.tmpl_lex.specs.declared.piece.TokenKind.{TokenKind}
 use Rattle.tmpl_lex.specs.declared.piece.TokenKind.TheVariants as kind
 use Rattle.tmpl_lex.specs.Piece.{Token}
-pub use Rattle.tmpl_grammar.specs.Token.{is_white, is_blank, without_front, next, name_in, begins_name}
+pub use Rattle.tmpl_grammar.specs.Token.{name_in, begins_name}
+pub use Rattle.tmpl_grammar.specs.computed.Token.{is_white, is_blank, without_front, next}
 use Rattle.tmpl_grammar.specs.computed.Parser.{start, commands_after}
 use Rattle.tmpl_grammar.specs.Tree.{Operand, Operands, Pipeline, pipeline, Binding, unbound}
 use Rattle.tmpl_grammar.specs.Tree.{declare, assign, declare_pair, Header, commands_from}
 use Rattle.tmpl_grammar.specs.Header.{may_bind}
-use Rattle.tmpl_grammar.specs.Depth.{Reading, reading_of, pipeline_within}
-use Rattle.tmpl_grammar.specs.Action.{Action, plain_else, end_action, break_action, continue_action, action_with}
+use Rattle.tmpl_grammar.specs.Depth.{Reading}
+use Rattle.tmpl_grammar.specs.computed.Depth.{reading_of, pipeline_within}
+use Rattle.tmpl_grammar.specs.Action.{Action, pipeline_action, opening, plain_else, else_branch, end_action}
+use Rattle.tmpl_grammar.specs.Action.{break_action, continue_action}
 use Rattle.tmpl_grammar.specs.Action.{define_action, template_action, block_action}
 use Rattle.tmpl_grammar.specs.computed.Constant.{constant_of}
 use Rattle.tmpl_grammar.specs.Tree as tree
@@ -143,6 +146,12 @@ keyword_by k name = None
 -- the keyword that a token is
 unfoldable pub keyword_of : Token → Option Keyword
 keyword_of t = keyword_by t.kind t.bytes
+
+-- the action of this shape with this header
+abbrev pub action_with : HeaderShape → Header → Action
+action_with shape.Pipeline h = pipeline_action h
+action_with (shape.Open c) h = opening c h
+action_with (shape.ElseBranch br) h = else_branch br h
 
 -- an action that stands alone
 abbrev pub alone : Action → List Token → Option Action

@@ -41,11 +41,7 @@ pub(crate) fn between(quote: u8, bytes: &[u8]) -> Option<&[u8]>
 }
 
 /// The text that stands between such quotes, if it consists of parts.
-pub(crate) fn unquoted(
-    alloc: Global,
-    quote: u8,
-    bytes: &[u8],
-) -> Result<Option<Vec<u8>>, AllocError>
+pub(crate) fn unquote(alloc: Global, quote: u8, bytes: &[u8]) -> Result<Option<Vec<u8>>, AllocError>
     ensures { IfOk result (λ o. option_map (λ v. v.items) o ≡ spec.unquoted quote bytes.now) }
 {
     let mut text = Vec::new(alloc);
@@ -145,7 +141,7 @@ fn escape(quote: u8, bytes: &[u8]) -> Option<Spelled>
         [] => None,
         [letter, digits @ ..] => match byte_named(quote, *letter) {
             Some(byte) => Some((Part::Byte(byte), 2)),
-            None => coded(*letter, digits, bytes),
+            None => escape_by_digits(*letter, digits, bytes),
         },
     }
 }
@@ -168,7 +164,7 @@ fn byte_named(quote: u8, letter: u8) -> Option<u8>
 }
 
 /// The escape by digits: in base 16 behind a letter, or else in base 8.
-fn coded(letter: u8, digits: &[u8], whole: &[u8]) -> Option<Spelled>
+fn escape_by_digits(letter: u8, digits: &[u8], whole: &[u8]) -> Option<Spelled>
     requires { whole.now ≡ letter ∷ digits.now }
     ensures value { option_map spelled_of result ≡ spec.coded letter digits.now }
     ensures within { IfSome result (λ p. (0 < p.1) × (p.1 ≤ length digits.now + 2)) }
@@ -194,7 +190,8 @@ fn byte_of(base: u32, count: usize, bytes: &[u8]) -> Option<Spelled>
 /// The character that so many digits at the front name, behind a letter.
 fn char_of(count: usize, bytes: &[u8]) -> Option<Spelled>
     requires { count ≤ 8 }
-    ensures value { option_map spelled_of result ≡ option_and_then (spec.as_char (count + 2)) (spec.code 16 count bytes.now) }
+    ensures value { option_map spelled_of result
+        ≡ option_and_then (spec.as_char (count + 2)) (spec.code 16 count bytes.now) }
     ensures within { IfSome result (λ p. (p.1 ≡ count + 2) × (count ≤ length bytes.now)) }
 {
     as_char(count + 2, code(16, count, bytes)?)

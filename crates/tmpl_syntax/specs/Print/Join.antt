@@ -20,8 +20,8 @@ ends_brace [] = false
 ends_brace (b ∷ []) = b == 123
 ends_brace (b ∷ c ∷ bs) = ends_brace (c ∷ bs)
 
--- what opens an action or a comment behind a text, or behind none: `{{`, or, behind a text that ends in `{`, a space and
--- a left trim marker that takes it
+-- what opens an action or a comment behind a text, or behind none: `{{`, or, behind a text that ends in `{`, a space
+-- and a left trim marker that takes it
 abbrev pub opening : Option (List ℕ) → List ℕ
 opening None = codes "{{"
 opening (Some t) = if ends_brace t then codes " {{- " else codes "{{"

@@ -16,8 +16,8 @@ use Rattle.tmpl_syntax.specs.Place.Role.{jump, Role, text_role, unreadable_role,
 use Rattle.tmpl_syntax.specs.Place.Open.{is_template}
 use Rattle.tmpl_syntax.specs.Place.Body.{joins, names_in, opens_level, most_levels, Verdict, fine, refused, left_open}
 
--- what is open, and what stands inside it: whether an else came, whether a break may stand where it was opened, the levels,
--- how many names there were where it was opened, and how many an else part of it sees
+-- what is open, and what stands inside it: whether an else came, whether a break may stand where it was opened, the
+-- levels, how many names there were where it was opened, and how many an else part of it sees
 pub record Frame : Type 0 where
   pub opening : Opening
   pub has_else : Bool

@@ -79,7 +79,8 @@ items_of bytes = items_in (cut_of bytes)
 -- the set with the file's templates, or the refusal
 unfoldable pub parsed : List Template → List ℕ → List ℕ → Result (List Template) Refusal
 parsed set file bytes =
-    if nat_lt most_bytes (length bytes) then Err (1, too_long) else placed set file (bodies_of file bytes (items_of bytes))
+    if nat_lt most_bytes (length bytes) then Err (1, too_long)
+    else placed set file (bodies_of file bytes (items_of bytes))
 
 -- what is known of a refusal: not which one it is where memory ran out
 abbrev pub IsRefusal : {T : Type 0} → Result T Refusal → ℕ → Option Reason → Type 0

@@ -32,7 +32,8 @@ pub(super) fn newest(stack: &Vec<Frame>) -> Option<Frame>
 /// Forgets the names that an item does not see: an `else` or else branch ends the part before it, and
 /// an `end` the control.
 pub(super) fn forget(names: &mut KnownNames<'_>, item: &Item<'_>, outside: Option<Frame>)
-    ensures { known_names names.new ≡ seen_at (role_of (item_of item.now)) (option_map frame_of outside) (known_names names.old) }
+    ensures { known_names names.new
+        ≡ seen_at (role_of (item_of item.now)) (option_map frame_of outside) (known_names names.old) }
 {
     let Some(frame) = outside else {
         return;
@@ -56,7 +57,8 @@ fn forget_part(names: &mut KnownNames<'_>, shape: Shape, frame: Frame)
 
 /// Forgets the names that an action does not see.
 fn forget_at(names: &mut KnownNames<'_>, action: &Action, frame: Frame)
-    ensures { known_names names.new ≡ names_at (act_of (action_of action.now)) (Some (frame_of frame)) (known_names names.old) }
+    ensures { known_names names.new
+        ≡ names_at (act_of (action_of action.now)) (Some (frame_of frame)) (known_names names.old) }
 {
     match action {
         Action::Else | Action::ElseBranch(_, _) => names.truncate(frame.part),
@@ -136,11 +138,13 @@ fn enter_template(
     opening: Opening,
 ) -> Result<(), AllocError>
     requires template { is_template (opening_of opening) ≡ true }
-    requires levels { is_level (opening_of opening) ≡ true → levels (top (frames_in stack.old.items)) < body.most_levels }
+    requires levels { is_level (opening_of opening) ≡ true
+        → levels (top (frames_in stack.old.items)) < body.most_levels }
     ensures frames { IfOk result (λ u. frames_in stack.new.items
         ≡ entered (opening_of opening) no_names (top (frames_in stack.old.items)) (length (scopes_of scopes.old).inner)
         ∷ frames_in stack.old.items) }
-    ensures names { IfOk result (λ u. scopes_of scopes.new ≡ opened_names (opening_of opening) [] (scopes_of scopes.old)) }
+    ensures names { IfOk result (λ u. scopes_of scopes.new
+        ≡ opened_names (opening_of opening) [] (scopes_of scopes.old)) }
 {
     let outside = newest(stack);
     scopes.enter(alloc)?;

@@ -25,7 +25,8 @@ pub(crate) fn fault_of(
     outside: Option<Frame>,
     names: &KnownNames<'_>,
 ) -> Option<Fault>
-    ensures { option_map of_action result ≡ fault_at (role_of (item_of item.now)) (option_map frame_of outside) (known_names names.now) }
+    ensures { option_map of_action result
+        ≡ fault_at (role_of (item_of item.now)) (option_map frame_of outside) (known_names names.now) }
 {
     match &item.what {
         ItemKind::Text(_) => None,
@@ -38,7 +39,8 @@ pub(crate) fn fault_of(
 
 /// The first fault of an action, in the order in which they are asked.
 fn action_fault(action: &Action, outside: Option<Frame>, names: &KnownNames<'_>) -> Option<Fault>
-    ensures { option_map of_action result ≡ fault_in (act_of (action_of action.now)) (option_map frame_of outside) (known_names names.now) }
+    ensures { option_map of_action result
+        ≡ fault_in (act_of (action_of action.now)) (option_map frame_of outside) (known_names names.now) }
 {
     if !is_in_place(action, outside) {
         Some(Fault::OutOfPlace)
@@ -53,7 +55,8 @@ fn action_fault(action: &Action, outside: Option<Frame>, names: &KnownNames<'_>)
 
 /// The fault of an action of this shape whose parentheses nest too deep: its place is looked at first.
 fn deep_fault(shape: Shape, outside: Option<Frame>) -> Fault
-    ensures { (names : List role.Name) → Some (of_action result) ≡ fault_in (act_of_shape shape) (option_map frame_of outside) names }
+    ensures { (names : List role.Name)
+        → Some (of_action result) ≡ fault_in (act_of_shape shape) (option_map frame_of outside) names }
 {
     if is_shape_in_place(shape, outside) {
         Fault::NestedTooDeeply

@@ -31,6 +31,6 @@ loop-token-preserved c =
 pub returns : goal.returns
 returns c =
     let end = ap (map token_of) (drop_all c.loop-token.token-index c.args.tokens.now (omega arith)) in
-    subst (λ p. IfOk c.finished.result (λ r. pipeline_reading r ≡ p))
+    subst (λ p. IfOk c.finish.result (λ r. pipeline_reading r ≡ p))
     (follows-end c.args.shape (map token_of c.args.tokens.now) (limited_of c.loop-token.parser) (subst (Follows (map token_of c.args.tokens.now) (limited_of c.loop-token.parser)) end c.loop-token.invariant.follows))
-    c.finished.ensures
+    c.finish.ensures

@@ -3,7 +3,7 @@ use Rattle.tmpl_grammar.specs.computed.Quoted.{unquoted}
 use Rattle.tmpl_grammar.specs.computed.View.{rune_of}
 use Rattle.tmpl_grammar.proofs.ListLemmas.{take-rest}
 use Rattle.tmpl_grammar.proofs.QuotedLemmas.{led, unquoted-first, unquoted-none, unquoted-end}
-use Rattle.tmpl_grammar.proofs.constant.quoted.unquoted.Goals as goal
+use Rattle.tmpl_grammar.proofs.constant.quoted.unquote.Goals as goal
 
 pub returns-in_default : goal.returns-in_default
 returns-in_default c =
