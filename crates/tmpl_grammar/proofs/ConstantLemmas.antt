@@ -1,4 +1,4 @@
--- What the operands of one token are.
+-- For `one_reading`: what the operands of one token are, since a chain may follow some of them alone.
 use Rattle.std.proofs.Common.{◌≡◌, ℕ, ℤ, pos, Bool, true, false, List, [], ◌∷◌, Option, Some, None, refl, cond, bytes_eq, codes}
 use Rattle.std.specs.Option.{option_map, option_and_then}
 use Rattle.tmpl_funcs.specs.declared.func.Func.{Func}

@@ -1,4 +1,4 @@
--- How deep a pipeline is that is read in part, and that the parser's steps keep it.
+-- For `pipeline`: how deep a pipeline is that is read in part, and that the parser's steps keep it.
 use Rattle.std.proofs.Common.{arith, ◌≡◌, ◌∙◌, ◌≤◌, ℕ, ◌+◌, max, Bool, true, false, List, [], ◌∷◌, ◌++◌, Option, Some, None, refl, ap, sym, subst, length}
 use Rattle.std.specs.Option.{option_map, option_and_then}
 use Rattle.tmpl_lex.specs.declared.piece.TokenKind.{TokenKind}
@@ -114,7 +114,8 @@ opened-steps : (h : Parser) (last : Option Operand) → last ≡ h.last → Step
 opened-steps h None e = let d : deep_last h.last ≡ 0 = ap deep_last (sym e) in omega (arith, d)
 opened-steps h (Some o) e = tt
 
-left-steps : (h : Parser) (ls : List Partial) (o : Option (List Operands)) → ls ≡ h.outer → IsClosed (max (deep_partial h.inner) (deep_last h.last)) o → Steps h (parser.left_with ls o)
+left-steps : (h : Parser) (ls : List Partial) (o : Option (List Operands)) → ls ≡ h.outer
+    → IsClosed (max (deep_partial h.inner) (deep_last h.last)) o → Steps h (parser.left_with ls o)
 left-steps h [] o e c = tt
 left-steps h (l ∷ ls) None e c = tt
 left-steps h (l ∷ ls) (Some cs) e c =
@@ -141,7 +142,8 @@ pub finished-depth : (h : Parser) → IsClosed (parser_depth h) (finished h)
 unfolding finished
 finished-depth h = by h.outer refl (closed h) (closed-depth h)
   where
-    by : (ls : List Partial) → ls ≡ h.outer → (o : Option (List Operands)) → IsClosed (max (deep_partial h.inner) (deep_last h.last)) o → IsClosed (parser_depth h) (parser.finished_with ls o)
+    by : (ls : List Partial) → ls ≡ h.outer → (o : Option (List Operands)) → IsClosed (max (deep_partial h.inner) (deep_last h.last)) o
+        → IsClosed (parser_depth h) (parser.finished_with ls o)
     by [] e None c = tt
     by [] e (Some cs) c =
         let n : length h.outer ≡ 0 = ap length (sym e) in
@@ -166,7 +168,8 @@ pub none-behind : (ts : List Token) → steps None ts ≡ None
 none-behind [] = refl
 none-behind (t ∷ ts) = none-behind ts
 
-behind-least : (h : Parser) (ts : List Token) (o : Option Parser) → Steps h o → ((r : Parser) → IsAtLeast (parser_depth r) (commands_after r ts)) → IsAtLeast (parser_depth h) (option_and_then finished (steps o ts))
+behind-least : (h : Parser) (ts : List Token) (o : Option Parser) → Steps h o
+    → ((r : Parser) → IsAtLeast (parser_depth r) (commands_after r ts)) → IsAtLeast (parser_depth h) (option_and_then finished (steps o ts))
 behind-least h ts None s rest = subst (λ o. IsAtLeast (parser_depth h) (option_and_then finished o)) (sym (none-behind ts)) tt
 behind-least h ts (Some r) s rest = less-least (parser_depth h) (parser_depth r) (commands_after r ts) (omega (arith, s)) (rest r)
 

@@ -1,10 +1,12 @@
--- The escapes that are computed are those that the relation admits.
-use Rattle.std.proofs.Common.{◌≡◌, ◌∙◌, ℕ, ◌+◌, ◌<◌, ◌≤◌, Bool, true, false, nat_eq, nat_lt, List, [], ◌∷◌, ◌++◌, length, Option, Some, None, option_and_then, refl, ap, subst, arith, if◌then◌else◌}
+-- For `one_constant`: the escapes that are computed are those that the relation admits.
+use Rattle.std.proofs.Common.{◌≡◌, ◌∙◌, ℕ, ◌+◌, ◌<◌, ◌≤◌, Bool, true, false, nat_eq, nat_lt, List, [], ◌∷◌, ◌++◌, length, Option, Some}
+use Rattle.std.proofs.Common.{None, option_and_then, refl, ap, subst, arith, if◌then◌else◌}
 use Rattle.std.specs.Str.Parse.{digits_value}
 use Rattle.std.proofs.lemmas.Bool.Decides.{nat_tests}
 use lib.Utf8.{scalar}
 use Rattle.tmpl_values.specs.Rune.{Rune, char, byte}
-use Rattle.tmpl_grammar.specs.Constant.Quoted.{AreDigits, IsEscape, alert, backspace, form_feed, newline, carriage_return, tab, vertical_tab, backslash, the_quote, octal, two_digits, four_digits, eight_digits}
+use Rattle.tmpl_grammar.specs.Constant.Quoted.{AreDigits, IsEscape, alert, backspace, form_feed, newline, carriage_return, tab}
+use Rattle.tmpl_grammar.specs.Constant.Quoted.{vertical_tab, backslash, the_quote, octal, two_digits, four_digits, eight_digits}
 use Rattle.tmpl_grammar.specs.computed.Quoted.{Spelled, as_byte, as_char, code, byte_named, coded, escape_by, escape, part_at}
 use Rattle.tmpl_grammar.proofs.DigitLemmas.{code-digits, FrontDigits, HasDigits, code-has, octal-digit, hex-byte}
 
@@ -96,7 +98,8 @@ abbrev pub HasEscape : ℕ → List ℕ → Option Spelled → Type 0
 HasEscape quote bs None = Unit {0}
 HasEscape quote bs (Some p) = FrontEscape quote bs p
 
-if-escape : (quote : ℕ) (bs : List ℕ) (t : Bool) (o p : Option Spelled) → (t ≡ true → HasEscape quote bs o) → HasEscape quote bs p → HasEscape quote bs (if t then o else p)
+if-escape : (quote : ℕ) (bs : List ℕ) (t : Bool) (o p : Option Spelled) → (t ≡ true → HasEscape quote bs o) → HasEscape quote bs p
+    → HasEscape quote bs (if t then o else p)
 if-escape quote bs true o p h k = h refl
 if-escape quote bs false o p h k = k
 

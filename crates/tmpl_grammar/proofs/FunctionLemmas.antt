@@ -1,4 +1,4 @@
--- Functions by name.
+-- For `function_named`: the function of a name is found by its name among all.
 use Rattle.std.proofs.Common.{◌≡◌, ◌≢◌, ◌∙◌, ℕ, false, List, [], ◌∷◌, Option, Some, None, cond, refl, ap, sym, find, bytes_eq, IfSome, IfNone, ⊎_elim}
 use Rattle.std.proofs.lemmas.Bool.{cases_Bool}
 use lib.Pointwise.{bytes_decides}

@@ -1,5 +1,6 @@
--- The parts that are computed are those that the relation admits.
-use Rattle.std.proofs.Common.{◌≡◌, ◌∙◌, ℕ, zero, suc, ◌<◌, ◌≤◌, Bool, true, false, nat_eq, List, [], ◌∷◌, ◌++◌, length, drop, get_or, Option, Some, None, refl, sym, ap, subst, arith, length-append, length-drop, if◌then◌else◌}
+-- For `one_constant`: the runes between quotes that are computed are those that the relation admits.
+use Rattle.std.proofs.Common.{◌≡◌, ◌∙◌, ℕ, zero, suc, ◌<◌, ◌≤◌, Bool, true, false, nat_eq, List, [], ◌∷◌, ◌++◌, length, drop, get_or}
+use Rattle.std.proofs.Common.{Option, Some, None, refl, sym, ap, subst, arith, length-append, length-drop, if◌then◌else◌}
 use Rattle.std.specs.Char.{encode_utf8, len_utf8, IsScalar}
 use Rattle.std.proofs.Math.Seq.{drop-append_seam}
 use Rattle.std.proofs.lemmas.List.{take-append-drop}
@@ -25,7 +26,8 @@ other-first true m b c bs rest e low other h =
 other-first false m b c bs rest e low other h = refl
 
 -- a character as it is
-pub char-at : (quote c : ℕ) (rest : List ℕ) → quote < 128 → IsScalar c → (c ≡ 92 → ⊥) → (c ≡ quote → ⊥) → part_at quote (encode_utf8 c ++ rest) ≡ Some (char c, len_utf8 c)
+pub char-at : (quote c : ℕ) (rest : List ℕ) → quote < 128 → IsScalar c → (c ≡ 92 → ⊥) → (c ≡ quote → ⊥)
+    → part_at quote (encode_utf8 c ++ rest) ≡ Some (char c, len_utf8 c)
 unfolding part_at
 char-at quote c rest low s slash other = split (encode_utf8 c ++ rest) refl
   where
@@ -59,7 +61,8 @@ mark-scalar _ double = refl
 mark-scalar _ single = refl
 
 -- a part comes off the front
-pub parts-seam : (quote : ℕ) (s rest : List ℕ) (p : Rune) → 0 < length s → part_at quote (s ++ rest) ≡ Some (p, length s) → parts quote (s ++ rest) ≡ with_part p (parts quote rest)
+pub parts-seam : (quote : ℕ) (s rest : List ℕ) (p : Rune) → 0 < length s → part_at quote (s ++ rest) ≡ Some (p, length s)
+    → parts quote (s ++ rest) ≡ with_part p (parts quote rest)
 parts-seam quote s rest p low is =
     parts-first quote (s ++ rest) (p, length s) (omega (arith, length-append s rest)) is low (omega (arith, length-append s rest))
     ∙ ap (λ bs. with_part p (parts quote bs)) (drop-append_seam s rest)
@@ -89,7 +92,8 @@ abbrev HasFirst : ℕ → List ℕ → Option Spelled → Type 0
 HasFirst quote bs None = Unit {0}
 HasFirst quote bs (Some p) = FirstPart quote bs p
 
-if-first : (quote : ℕ) (bs : List ℕ) (t : Bool) (o p : Option Spelled) → (t ≡ true → HasFirst quote bs o) → (t ≡ false → HasFirst quote bs p) → HasFirst quote bs (if t then o else p)
+if-first : (quote : ℕ) (bs : List ℕ) (t : Bool) (o p : Option Spelled) → (t ≡ true → HasFirst quote bs o)
+    → (t ≡ false → HasFirst quote bs p) → HasFirst quote bs (if t then o else p)
 if-first quote bs true o p h k = h refl
 if-first quote bs false o p h k = k refl
 
@@ -110,7 +114,8 @@ other-char b k c bs rest is low h e =
     let same : k ≡ b = ap (λ l. get_or l 0 0) first in
     let g : true ≡ false = sym (let t : nat_eq b k ≡ true = grind (arith, nat_tests) in t) ∙ h in cc
 
-rune-first : (quote b : ℕ) (bs : List ℕ) (r : Rune) → quote < 128 → nat_eq b 92 ≡ false → nat_eq b quote ≡ false → first_rune (b ∷ bs) ≡ r → Front (b ∷ bs) r → FirstPart quote (b ∷ bs) (rune_part r)
+rune-first : (quote b : ℕ) (bs : List ℕ) (r : Rune) → quote < 128 → nat_eq b 92 ≡ false → nat_eq b quote ≡ false → first_rune (b ∷ bs) ≡ r
+    → Front (b ∷ bs) r → FirstPart quote (b ∷ bs) (rune_part r)
 rune-first quote b bs _ low slash other is lone = record {
   low = omega arith;
   high = omega arith;
@@ -138,7 +143,8 @@ has-first quote (b ∷ bs) low =
 parts-in : (n quote : ℕ) (bs : List ℕ) (ps : List Rune) → length bs ≤ n → quote < 128 → parts quote bs ≡ Some ps → SpellsRunes quote bs ps
 parts-in n quote [] ps h low e = subst (SpellsRunes quote []) (same_Some [] ps (sym (parts-nil quote) ∙ e)) at_end
 parts-in zero quote (b ∷ bs) ps h low e = absurd (omega arith)
-parts-in (suc n) quote (b ∷ bs) ps h low e = go (λ rest qs fits is. parts-in n quote rest qs fits low is) (part_at quote (b ∷ bs)) refl (has-first quote (b ∷ bs) low)
+parts-in (suc n) quote (b ∷ bs) ps h low e =
+    go (λ rest qs fits is. parts-in n quote rest qs fits low is) (part_at quote (b ∷ bs)) refl (has-first quote (b ∷ bs) low)
   where
     go : ((rest : List ℕ) (qs : List Rune) → length rest ≤ n → parts quote rest ≡ Some qs → SpellsRunes quote rest qs)
         → (o : Option Spelled) → part_at quote (b ∷ bs) ≡ o → HasFirst quote (b ∷ bs) o → SpellsRunes quote (b ∷ bs) ps

@@ -1,5 +1,6 @@
--- The constants that are computed are those that the relation admits.
-use Rattle.std.proofs.Common.{◌≡◌, ◌∙◌, ℕ, zero, suc, pos, ◌-◌, ◌≤◌, Bool, true, false, ◌&&◌, nat_eq, nat_le, List, [], ◌∷◌, ◌++◌, length, take, drop, get_or, Some, None, refl, sym, ap, subst, arith, length-append, if◌then◌else◌}
+-- For `one_constant`: the constants that are computed are those that the relation admits.
+use Rattle.std.proofs.Common.{◌≡◌, ◌∙◌, ℕ, zero, suc, pos, ◌-◌, ◌≤◌, Bool, true, false, ◌&&◌, nat_eq, nat_le, List, [], ◌∷◌, ◌++◌, length}
+use Rattle.std.proofs.Common.{take, drop, get_or, Some, None, refl, sym, ap, subst, arith, length-append, if◌then◌else◌}
 use Rattle.std.specs.Option.{option_map, option_and_then}
 use Rattle.std.specs.List.{flat_map}
 use Rattle.std.proofs.Math.Seq.{take-append_seam, get_or-append_seam}
@@ -58,7 +59,8 @@ quotes-round quote bs h =
     let ends = and_parts (nat_eq (get_or bs 0 0) quote) (nat_eq (get_or bs (length bs - 1) 0) quote) long.1 in
     go bs (length bs - 2) (let two : 2 ≤ length bs = grind (arith, nat_tests) in omega arith) (same (get_or bs 0 0) quote ends.0) (same (get_or bs (length bs - 1) 0) quote ends.1)
   where
-    go : (bs : List ℕ) (m : ℕ) → length bs ≡ suc (suc m) → get_or bs 0 0 ≡ quote → get_or bs (length bs - 1) 0 ≡ quote → quote ∷ (take m (drop 1 bs) ++ quote ∷ []) ≡ bs
+    go : (bs : List ℕ) (m : ℕ) → length bs ≡ suc (suc m) → get_or bs 0 0 ≡ quote → get_or bs (length bs - 1) 0 ≡ quote
+        → quote ∷ (take m (drop 1 bs) ++ quote ∷ []) ≡ bs
     go [] m n first last = absurd (omega arith)
     go (b ∷ bs) m n first last =
         let back : length (b ∷ bs) - 1 ≡ suc m = omega arith in

@@ -1,4 +1,4 @@
--- The operands of one token that are computed are those that the relation admits.
+-- For `one_operand`: the operands of one token that are computed are those that the relation admits.
 use Rattle.std.proofs.Common.{◌≡◌, ◌∙◌, ℕ, Bool, true, false, cond, List, [], ◌∷◌, Option, Some, refl, sym, ap, subst, bytes_eq, codes, find}
 use Rattle.std.specs.Option.{option_map}
 use Rattle.std.proofs.lemmas.Slice.Eq.{bytes_eq-Decides}
@@ -73,7 +73,8 @@ is-word : (name word : List ℕ) (o p : Operand) → IsOperand (token kind.Word 
 is-word name word o p is q more e = go (bytes_eq name word) refl e
   where
     go : (b : Bool) → bytes_eq name word ≡ b → cond b (Some p) q ≡ Some o → IsOperand (token kind.Word name) o
-    go true h e = subst (λ bs. IsOperand (token kind.Word bs) o) (sym ((bytes_eq-Decides name word).0 h)) (subst (IsOperand (token kind.Word word)) (same_Some _ _ e) is)
+    go true h e =
+        subst (λ bs. IsOperand (token kind.Word bs) o) (sym ((bytes_eq-Decides name word).0 h)) (subst (IsOperand (token kind.Word word)) (same_Some _ _ e) is)
     go false h e = more e
 
 is-named : (name : List ℕ) (o : Operand) → word_operand name ≡ Some o → IsOperand (token kind.Word name) o

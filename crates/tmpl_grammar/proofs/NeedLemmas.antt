@@ -1,12 +1,14 @@
--- What an action needs is no more than two and one for each of its tokens.
+-- For the bound on what a template needs: an action needs no more than two and one for each of its tokens.
 use Rattle.std.proofs.Common.{arith, ◌≡◌, ◌∙◌, ◌≤◌, ℕ, suc, ◌+◌, max, List, [], ◌∷◌, ◌++◌, Option, Some, None, ap, length, length-append}
 use Rattle.tmpl_lex.specs.Piece.{Token}
+use Rattle.tmpl_grammar.specs.computed.Reading.{opens_range}
 use Rattle.tmpl_grammar.specs.Tree as tree
 use Rattle.tmpl_grammar.specs.Tree.{Operand, Operands, Commands, Pipeline, pipeline, Binding, unbound, declare_pair, Header}
 use Rattle.tmpl_grammar.specs.Pipeline.{IsChained, SpellsOperand, SpellsMore, SpellsCommand, SpellsLater, SpellsPipeline}
 use Rattle.tmpl_grammar.specs.Header.{SpellsBinding, SpellsWhole, SpellsHeader}
 use Rattle.tmpl_grammar.specs.Action.{Action, pipeline_action, opening, else_branch, template_action, block_action, SpellsGiven, SpellsAction}
-use Rattle.tmpl_grammar.specs.Need.{called_or_alone, need_of_operand, need_of_arguments, need_of_command, need_of_commands, need_of_pipeline, need_of_given, declared_count}
+use Rattle.tmpl_grammar.specs.Need.{called_or_alone, need_of_operand, need_of_arguments, need_of_command, need_of_commands}
+use Rattle.tmpl_grammar.specs.Need.{need_of_pipeline, need_of_given, declared_count}
 use Rattle.tmpl_grammar.specs.declared.action.HeaderShape.{HeaderShape}
 use Rattle.tmpl_grammar.specs.declared.action.HeaderShape.TheVariants as shape
 
@@ -128,7 +130,7 @@ cells_of (template_action name given) = need_of_given given
 cells_of (block_action name p) = need_of_pipeline p
 cells_of _ = 0
 
-header-within : (s : HeaderShape) (h : Header) (ts : List Token) → SpellsHeader s h ts → header_cells h ≤ length ts
+header-within : (s : HeaderShape) (h : Header) (ts : List Token) → SpellsHeader (opens_range s) h ts → header_cells h ≤ length ts
 header-within s h ts spelled = bound-within h.binding h.pipeline ts spelled.1
 
 given-within : (given : Option Pipeline) (ts : List Token) → SpellsGiven given ts → need_of_given given ≤ 1 + length ts

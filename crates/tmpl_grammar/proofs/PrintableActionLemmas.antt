@@ -1,5 +1,6 @@
--- What holds of the actions that tokens of a file spell.
-use Rattle.std.proofs.Common.{◌≡◌, ◌∙◌, ℕ, ◌-◌, ◌≤◌, Bool, true, false, cond, List, [], ◌∷◌, ◌++◌, Option, Some, None, refl, sym, ap, subst, length, take, drop, pos, bytes_eq, codes, if◌then◌else◌}
+-- For the law that what a file defines can be printed: what holds of the actions that its tokens spell.
+use Rattle.std.proofs.Common.{◌≡◌, ◌∙◌, ℕ, ◌-◌, ◌≤◌, Bool, true, false, cond, List, [], ◌∷◌, ◌++◌, Option, Some, None, refl, sym, ap, subst}
+use Rattle.std.proofs.Common.{length, take, drop, pos, bytes_eq, codes, if◌then◌else◌}
 use Rattle.std.specs.Option.{option_map, option_and_then}
 use lib.IntN.{ℤ}
 use Rattle.tmpl_values.proofs.RuneLemmas.{AreBytes}
@@ -8,6 +9,7 @@ use Rattle.tmpl_lex.proofs.NameLemmas.{IsNamed, OfKind}
 use Rattle.tmpl_lex.specs.Piece.{Token}
 use Rattle.tmpl_lex.specs.declared.piece.TokenKind.{TokenKind}
 use Rattle.tmpl_lex.specs.declared.piece.TokenKind.TheVariants as kind
+use Rattle.tmpl_grammar.specs.computed.Reading.{opens_range}
 use Rattle.tmpl_grammar.specs.Token.{begins_name, name_in}
 use Rattle.tmpl_grammar.specs.Tree as tree
 use Rattle.tmpl_grammar.specs.Tree.{Operand, Operands, Commands, Pipeline, pipeline, Binding, unbound, declare, assign, Header, declare_pair}
@@ -20,7 +22,8 @@ use Rattle.tmpl_grammar.specs.Constant.Integer.{integer}
 use Rattle.tmpl_grammar.specs.computed.Quoted.{between, unquoted, rune_code}
 use Rattle.tmpl_grammar.specs.Operand.{IsOperand}
 use Rattle.tmpl_grammar.specs.computed.Operand.{operand_at, operand_by, word_operand, func_named, field_operand}
-use Rattle.tmpl_grammar.specs.Printable.{AreFieldNames, OfOperand, OfMore, OfCommand, OfLater, OfCommands, OfPipeline, OfVariable, OfBinding, OfAction, OfHeader}
+use Rattle.tmpl_grammar.specs.Printable.{AreFieldNames, OfOperand, OfMore, OfCommand, OfLater, OfCommands, OfPipeline, OfVariable}
+use Rattle.tmpl_grammar.specs.Printable.{OfBinding, OfAction, OfHeader}
 use Rattle.tmpl_grammar.specs.declared.action.HeaderShape.{HeaderShape}
 use Rattle.tmpl_grammar.specs.declared.action.HeaderShape.TheVariants as shape
 use Rattle.tmpl_grammar.proofs.IsOperandLemmas.{computes-operand}
@@ -175,7 +178,8 @@ of-variable name t r v = (v.2, subst IsNamed v.1 (subst (λ k. OfKind k (name_in
 of-whole : (p : Pipeline) (ts : List Token) → depth_of_pipeline p ≤ most_deep → AreRead ts → SpellsWhole p ts → OfPipeline p
 of-whole (pipeline cs) ts d r s = (of-commands cs ts r s, d)
 
-of-bound : (b : Binding) (p : Pipeline) (ts : List Token) → depth_of_pipeline p ≤ most_deep → AreRead ts → SpellsBinding b (SpellsWhole p) ts → OfBinding b × OfPipeline p
+of-bound : (b : Binding) (p : Pipeline) (ts : List Token) → depth_of_pipeline p ≤ most_deep → AreRead ts
+    → SpellsBinding b (SpellsWhole p) ts → OfBinding b × OfPipeline p
 of-bound unbound p ts d r s = (tt, of-whole p ts d r s)
 of-bound (declare name) p ts d r s =
     let h = behind s.0 s.1 s.2 ts s.3 r in
@@ -194,7 +198,8 @@ of-bound (declare_pair key name) p ts d r s =
     let j = behind sign.0 sign.1 sign.2 more.2 sign.3 k.1 in
     ((of-variable key s.1 h.0 s.5, of-variable name more.1 k.0 more.5), of-whole p sign.2 d j.1 sign.6)
 
-of-header : (s : HeaderShape) (h : Header) (ts : List Token) → depth_of_pipeline h.pipeline ≤ most_deep → AreRead ts → SpellsHeader s h ts → OfHeader s h
+of-header : (s : HeaderShape) (h : Header) (ts : List Token) → depth_of_pipeline h.pipeline ≤ most_deep → AreRead ts
+    → SpellsHeader (opens_range s) h ts → OfHeader (opens_range s) h
 of-header s h ts d r spelled =
     let of = of-bound h.binding h.pipeline ts d r spelled.1 in
     (spelled.0, of.0, of.1)

@@ -1,5 +1,6 @@
--- What holds of the constants that tokens stand for: numbers are within the range, and texts are bytes.
-use Rattle.std.proofs.Common.{arith, ◌≡◌, ℕ, zero, suc, ◌+◌, ◌-◌, ◌/◌, ◌^◌, ◌<◌, ◌≤◌, Bool, true, false, not, nat_eq, nat_lt, nat_le, cond, List, [], ◌∷◌, ◌++◌, Option, Some, None, refl, pos, neg_ℤ, option_and_then, ⊎_elim, if◌then◌else◌}
+-- For what can be printed: the constants that tokens stand for are numbers within the range, and texts of bytes.
+use Rattle.std.proofs.Common.{arith, ◌≡◌, ℕ, zero, suc, ◌+◌, ◌-◌, ◌/◌, ◌^◌, ◌<◌, ◌≤◌, Bool, true, false, not, nat_eq, nat_lt, nat_le, cond}
+use Rattle.std.proofs.Common.{List, [], ◌∷◌, ◌++◌, Option, Some, None, refl, pos, neg_ℤ, option_and_then, ⊎_elim, if◌then◌else◌}
 use Rattle.std.specs.Option.{option_map}
 use lib.IntN.{ℤ}
 use lib.Signed.{mag}
@@ -12,7 +13,8 @@ use Rattle.tmpl_values.specs.computed.Rune.{first_rune}
 use Rattle.tmpl_values.proofs.RuneLemmas.{AreBytes, Front, encoding, lone, front}
 use Rattle.tmpl_grammar.specs.Constant.Integer.{magnitude, signed, integer}
 use Rattle.tmpl_grammar.specs.Constant.Quoted.{code_of, without_returns}
-use Rattle.tmpl_grammar.specs.computed.Quoted.{Spelled, rune_part, as_byte, as_char, code, byte_named, coded, escape_by, escape, part_at, with_part, parts_after, parts, unquoted, one_code, rune_code}
+use Rattle.tmpl_grammar.specs.computed.Quoted.{Spelled, rune_part, as_byte, as_char, code, byte_named, coded, escape_by, escape, part_at}
+use Rattle.tmpl_grammar.specs.computed.Quoted.{with_part, parts_after, parts, unquoted, one_code, rune_code}
 
 -- ---- numbers
 
@@ -146,7 +148,8 @@ after-spelled quote (suc n) [] h = tt
 after-spelled quote (suc n) (b ∷ bs) h = after-spelled quote n bs h
 after-spelled quote zero (b ∷ bs) h = go (λ n. after-spelled quote n bs h) (part_at quote (b ∷ bs)) (part-spelled quote (b ∷ bs) h)
   where
-    go : ((n : ℕ) → OfParts (parts_after quote n bs)) → (o : Option Spelled) → OfSpelled o → OfParts (option_and_then (λ (p : Spelled). with_part p.0 (parts_after quote (p.1 - 1) bs)) o)
+    go : ((n : ℕ) → OfParts (parts_after quote n bs)) → (o : Option Spelled) → OfSpelled o
+        → OfParts (option_and_then (λ (p : Spelled). with_part p.0 (parts_after quote (p.1 - 1) bs)) o)
     go more None k = tt
     go more (Some p) k = with-spelled p.0 _ k (more (p.1 - 1))
 

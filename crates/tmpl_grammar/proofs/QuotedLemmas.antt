@@ -1,5 +1,6 @@
--- The parts of a text between quotes, from the first one on.
-use Rattle.std.proofs.Common.{◌≡◌, ◌∙◌, ℕ, zero, suc, ◌-◌, ◌<◌, ◌≤◌, List, [], ◌∷◌, ◌++◌, length, drop, Option, Some, None, refl, sym, ap, arith, option_map, option_and_then, append_assoc, append-nil}
+-- For `unquote` and `rune_code`: the parts of a text between quotes, from the first one on.
+use Rattle.std.proofs.Common.{◌≡◌, ◌∙◌, ℕ, zero, suc, ◌-◌, ◌<◌, ◌≤◌, List, [], ◌∷◌, ◌++◌, length, drop, Option, Some, None, refl, sym, ap}
+use Rattle.std.proofs.Common.{arith, option_map, option_and_then, append_assoc, append-nil}
 use Rattle.std.specs.List.{flat_map}
 use Rattle.tmpl_values.specs.Rune.{Rune, bytes_in}
 use Rattle.tmpl_grammar.specs.Constant.Quoted.{code_of}
@@ -15,7 +16,8 @@ unfolding parts
 parts-nil quote = refl
 
 -- the first part, and those behind it
-pub parts-first : (quote : ℕ) (bs : List ℕ) (p : Spelled) → 0 < length bs → part_at quote bs ≡ Some p → 0 < p.1 → p.1 ≤ length bs → parts quote bs ≡ with_part p.0 (parts quote (drop p.1 bs))
+pub parts-first : (quote : ℕ) (bs : List ℕ) (p : Spelled) → 0 < length bs → part_at quote bs ≡ Some p → 0 < p.1 → p.1 ≤ length bs
+    → parts quote bs ≡ with_part p.0 (parts quote (drop p.1 bs))
 unfolding parts
 parts-first quote [] p h is low high = absurd (omega arith)
 parts-first quote (b ∷ bs) p h is low high =
@@ -78,7 +80,8 @@ two : (p q : Rune) (ps : Option (List Rune)) → option_and_then one_code (with_
 two p q None = refl
 two p q (Some ps) = refl
 
-more : (quote : ℕ) (p : Rune) (bs : List ℕ) (o : Option Spelled) → option_and_then one_code (with_part p (option_and_then (λ q. with_part q.0 (parts_after quote (q.1 - 1) bs)) o)) ≡ None
+more : (quote : ℕ) (p : Rune) (bs : List ℕ) (o : Option Spelled)
+    → option_and_then one_code (with_part p (option_and_then (λ q. with_part q.0 (parts_after quote (q.1 - 1) bs)) o)) ≡ None
 more quote p bs None = refl
 more quote p bs (Some q) = two p q.0 (parts_after quote (q.1 - 1) bs)
 
@@ -87,7 +90,8 @@ unfolding parts
 two-at quote p [] h = absurd (omega arith)
 two-at quote p (b ∷ bs) h = more quote p bs (part_at quote (b ∷ bs))
 
-pub code-more : (quote : ℕ) (bs : List ℕ) (p : Spelled) → part_at quote bs ≡ Some p → 0 < p.1 → p.1 < length bs → 0 < length (drop p.1 bs) → rune_code quote bs ≡ None
+pub code-more : (quote : ℕ) (bs : List ℕ) (p : Spelled) → part_at quote bs ≡ Some p → 0 < p.1 → p.1 < length bs → 0 < length (drop p.1 bs)
+    → rune_code quote bs ≡ None
 code-more quote bs p is low high left =
     ap (option_and_then one_code) (parts-first quote bs p (omega arith) is low (omega arith))
     ∙ two-at quote p.0 (drop p.1 bs) left

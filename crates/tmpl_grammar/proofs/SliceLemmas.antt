@@ -1,4 +1,4 @@
--- Runs of tokens, as code holds them and as contracts see them.
+-- For code on runs of tokens: how it holds them and how contracts see them.
 use Rattle.std.proofs.Common.{◌≡◌, List, sym, map}
 use Rattle.std.specs.List.{list_all}
 use Rattle.std.proofs.lemmas.List.Folds.{list_all-map}

@@ -1,4 +1,4 @@
--- Tokens that no pipeline has.
+-- For `one_action`: tokens that no pipeline has, so that no header begins with a keyword.
 use Rattle.std.proofs.Common.{◌≡◌, ◌∙◌, List, [], ◌∷◌, ◌++◌, Option, Some, None, refl, ap, sym, subst}
 use Rattle.std.specs.Option.{option_map, option_and_then}
 use Rattle.tmpl_lex.specs.declared.piece.TokenKind.TheVariants as kind

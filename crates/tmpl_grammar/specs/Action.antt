@@ -1,10 +1,10 @@
 -- What one action says, and which tokens spell it ("Actions" in the documentation of Go's text/template).
-use Rattle.std.specs.Prelude.{ℕ, List, Option, Some, None, codes}
+use Rattle.std.specs.Prelude.{ℕ, false, List, Option, Some, None, codes}
 use Rattle.tmpl_lex.specs.Piece.{Token}
 use Rattle.tmpl_grammar.specs.Tree.{text_constant, Pipeline, Header}
 use Rattle.tmpl_grammar.specs.Constant.{IsConstant}
 use Rattle.tmpl_grammar.specs.Pipeline.{IsBlank}
-use Rattle.tmpl_grammar.specs.Header.{Then, SpellsWhole, SpellsHeader}
+use Rattle.tmpl_grammar.specs.Header.{is_range, Then, SpellsWhole, SpellsHeader}
 use Rattle.tmpl_grammar.specs.Keyword.{control_spelling, IsWord}
 use Rattle.tmpl_grammar.specs.declared.tree.Control.{Control}
 use Rattle.tmpl_grammar.specs.declared.tree.Control.TheVariants as control
@@ -46,12 +46,11 @@ SpellsGiven (Some p) ts = SpellsWhole p ts
 
 -- an action: a header alone, or a keyword and what stands behind it
 abbrev pub SpellsAction : Action → List Token → Type 0
-SpellsAction (pipeline_action h) ts = SpellsHeader shape.Pipeline h ts
-SpellsAction (opening c h) ts = Then (IsWord (control_spelling c)) (SpellsHeader (shape.Open c) h) ts
+SpellsAction (pipeline_action h) ts = SpellsHeader false h ts
+SpellsAction (opening c h) ts = Then (IsWord (control_spelling c)) (SpellsHeader (is_range c) h) ts
 SpellsAction plain_else ts = Then (IsWord (codes "else")) IsBlank ts
 SpellsAction (else_branch br h) ts =
-    Then (IsWord (codes "else"))
-    (Then (IsWord (control_spelling (control_in br))) (SpellsHeader (shape.ElseBranch br) h)) ts
+    Then (IsWord (codes "else")) (Then (IsWord (control_spelling (control_in br))) (SpellsHeader false h)) ts
 SpellsAction end_action ts = Then (IsWord (codes "end")) IsBlank ts
 SpellsAction break_action ts = Then (IsWord (codes "break")) IsBlank ts
 SpellsAction continue_action ts = Then (IsWord (codes "continue")) IsBlank ts

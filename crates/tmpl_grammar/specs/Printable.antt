@@ -1,5 +1,5 @@
 -- What holds of each action that is read from a file, and lets it be printed and read again.
-use Rattle.std.specs.Prelude.{◌≡◌, ◌<◌, ◌≤◌, ◌^◌, ℕ, true, List, [], ◌∷◌, Option, Some, None}
+use Rattle.std.specs.Prelude.{◌≡◌, ◌<◌, ◌≤◌, ◌^◌, ℕ, Bool, false, true, List, [], ◌∷◌, Option, Some, None}
 use Rattle.std.specs.List.{list_all}
 use lib.Signed.{mag}
 use Rattle.tmpl_values.proofs.RuneLemmas.{AreBytes}
@@ -11,11 +11,9 @@ use Rattle.tmpl_grammar.specs.Tree.{Binding, unbound, declare, assign, declare_p
 use Rattle.tmpl_grammar.specs.Action.{Action, pipeline_action, opening}
 use Rattle.tmpl_grammar.specs.Action.{else_branch, define_action}
 use Rattle.tmpl_grammar.specs.Action.{template_action, block_action}
-use Rattle.tmpl_grammar.specs.Header.{IsName, may_bind}
+use Rattle.tmpl_grammar.specs.Header.{is_range, IsName, may_bind}
 use Rattle.tmpl_grammar.specs.Pipeline.{MayBeLater}
 use Rattle.tmpl_grammar.specs.Depth.{depth_of_pipeline, most_deep}
-use Rattle.tmpl_grammar.specs.declared.action.HeaderShape.{HeaderShape}
-use Rattle.tmpl_grammar.specs.declared.action.HeaderShape.TheVariants as shape
 
 -- ---- names
 
@@ -74,18 +72,18 @@ OfBinding (declare name) = OfVariable name
 OfBinding (assign name) = OfVariable name
 OfBinding (declare_pair key name) = OfVariable key × OfVariable name
 
--- in an action of this shape
-abbrev pub OfHeader : HeaderShape → Header → Type 0
-OfHeader s h = (may_bind s h.binding ≡ true) × OfBinding h.binding × OfPipeline h.pipeline
+-- of a range, or of another action
+abbrev pub OfHeader : Bool → Header → Type 0
+OfHeader in_range h = (may_bind in_range h.binding ≡ true) × OfBinding h.binding × OfPipeline h.pipeline
 
 abbrev pub OfGiven : Option Pipeline → Type 0
 OfGiven None = Unit {0}
 OfGiven (Some p) = OfPipeline p
 
 abbrev pub OfAction : Action → Type 0
-OfAction (pipeline_action h) = OfHeader shape.Pipeline h
-OfAction (opening c h) = OfHeader (shape.Open c) h
-OfAction (else_branch br h) = OfHeader (shape.ElseBranch br) h
+OfAction (pipeline_action h) = OfHeader false h
+OfAction (opening c h) = OfHeader (is_range c) h
+OfAction (else_branch br h) = OfHeader false h
 OfAction (define_action name) = AreBytes name
 OfAction (template_action name given) = AreBytes name × OfGiven given
 OfAction (block_action name p) = AreBytes name × OfPipeline p

@@ -34,7 +34,10 @@ fn first_variable<'t, 'b>(tokens: &'t [Token<'b>]) -> Option<(&'b [u8], &'t [Tok
 }
 
 /// A name of at least one byte, and the tokens behind it.
-fn variable_named<'t, 'b>(name: &'b [u8], rest: &'t [Token<'b>]) -> Option<(&'b [u8], &'t [Token<'b>])>
+fn variable_named<'t, 'b>(
+    name: &'b [u8],
+    rest: &'t [Token<'b>],
+) -> Option<(&'b [u8], &'t [Token<'b>])>
     ensures { option_map name_of result ≡ spec.named_by name.now (map token_of rest.now) }
 {
     match name {

@@ -1,5 +1,6 @@
--- What the own template of an accepted file says is accepted when it is printed.
-use Rattle.std.proofs.Common.{arith, ◌≡◌, ◌∙◌, ℕ, ◌+◌, ◌≤◌, Bool, true, false, not, ◌&&◌, leb, List, [], ◌∷◌, ◌++◌, length, take, Some, refl, sym, ap, subst, length-append, length-take}
+-- For `accepted_back`: what the own template of an accepted file says is accepted when it is printed.
+use Rattle.std.proofs.Common.{arith, ◌≡◌, ◌∙◌, ℕ, ◌+◌, ◌≤◌, Bool, true, false, not, ◌&&◌, leb, List, [], ◌∷◌, ◌++◌, length, take, Some}
+use Rattle.std.proofs.Common.{refl, sym, ap, subst, length-append, length-take}
 use Rattle.std.proofs.lemmas.Bool.{false≢true, and_parts}
 use Rattle.std.proofs.lemmas.List.{take-take, take-append-le}
 use Rattle.std.proofs.Math.Seq.{take-append_seam}
@@ -13,19 +14,23 @@ use Rattle.tmpl_syntax.specs.Place.Opening.{Opening}
 use Rattle.tmpl_syntax.specs.Place.Opening as opened
 use Rattle.tmpl_grammar.specs.Tree.{Header}
 use Rattle.tmpl_syntax.specs.Tree.{NodeKind, control_node, Nodes, none, then, Definition}
-use Rattle.tmpl_grammar.specs.Action.{pipeline_action, opening, plain_else, else_branch, end_action, break_action, continue_action, define_action, template_action, block_action, control_in}
+use Rattle.tmpl_grammar.specs.Action.{pipeline_action, opening, plain_else, else_branch, end_action, break_action, continue_action}
+use Rattle.tmpl_grammar.specs.Action.{define_action, template_action, block_action, control_in}
 use Rattle.tmpl_syntax.specs.Item.{Item, item, action_item}
 use Rattle.tmpl_syntax.specs.Place.Role.{Name, no_names, names_of, names_given, roles_of}
 use Rattle.tmpl_syntax.specs.Place.Open.{is_template}
 use Rattle.tmpl_syntax.specs.Place.Body.{joins, most_levels, fine, Judged}
-use Rattle.tmpl_syntax.specs.computed.Frames.{top, loops, in_loop, levels, takes_else, knows, first_fault, part_of, entered, elsed, branched, Known, with_inner, opened_names, closed_if, none_known, verdict_of}
-use Rattle.tmpl_syntax.specs.Spelling.{Leads, nothing, a_text, an_action, a_break, a_continue, a_control, a_template, a_define, a_block, Closes, an_end, an_else, an_else_branch}
+use Rattle.tmpl_syntax.specs.computed.Frames.{top, loops, in_loop, levels, takes_else, knows, first_fault, part_of, entered, elsed}
+use Rattle.tmpl_syntax.specs.computed.Frames.{branched, Known, with_inner, opened_names, closed_if, none_known, verdict_of}
+use Rattle.tmpl_syntax.specs.Spelling.{Leads, nothing, a_text, an_action, a_break, a_continue, a_control, a_template, a_define, a_block}
+use Rattle.tmpl_syntax.specs.Spelling.{Closes, an_end, an_else, an_else_branch}
 use Rattle.tmpl_syntax.specs.Print.Printed.{Said, said_text, said, else_said, control_said, node_said, nodes_said}
 use Rattle.tmpl_syntax.specs.Print.Laws.{Says, says_nothing, says_text, says, AcceptsBack}
 use Rattle.tmpl_syntax.proofs.OneVerdictLemmas.{one-verdict}
 use Rattle.tmpl_syntax.proofs.VerdictLemmas.{judged-all}
 use Rattle.tmpl_syntax.proofs.PrintedNodeLemmas.{spells-alike}
-use Rattle.tmpl_syntax.proofs.FitLemmas.{no_fault, passes, is_fine, fine-back, passes-fine, headed, part_names, seen_behind, loops_in, fits_node, fits, nodes-unlined, take-seen, first-none, opener-test, call-test, call-declares}
+use Rattle.tmpl_syntax.proofs.FitLemmas.{no_fault, passes, is_fine, fine-back, passes-fine, headed, part_names, seen_behind, loops_in}
+use Rattle.tmpl_syntax.proofs.FitLemmas.{fits_node, fits, nodes-unlined, take-seen, first-none, opener-test, call-test, call-declares}
 
 -- ---- frames and names
 
@@ -78,14 +83,16 @@ part-seen c r names body = take-seen _ body (names ++ (names_of r).declares) (pa
 part-long : (names : List Name) (ns : Nodes) (k : ℕ) → k ≤ length names → k ≤ length (seen_behind names ns)
 part-long names ns k h = omega (arith, ap length (take-seen k ns names h), length-take k (seen_behind names ns), length-take k names)
 
-within-seen : (c : Control) (r : Header) (names : List Name) (body : Nodes) → part_of c (length names) (length names + length (names_of r).declares) ≤ length (seen_behind (names ++ (names_of r).declares) body)
+within-seen : (c : Control) (r : Header) (names : List Name) (body : Nodes)
+    → part_of c (length names) (length names + length (names_of r).declares) ≤ length (seen_behind (names ++ (names_of r).declares) body)
 within-seen c r names body = part-long (names ++ (names_of r).declares) body _ (part-within c names (names_of r).declares)
 
 -- ---- an accepted list
 
 -- behind the `end` of a definition or a block the names are those before it, whatever its body is
 mutual
-  leads-fit : {xs ys : List Item} {ds es : List Definition} {ns : Nodes} → Leads xs ds ns ys es → (fs : List Frame) (known : Known) → passes fs known (roles_of xs) ≡ true
+  leads-fit : {xs ys : List Item} {ds es : List Definition} {ns : Nodes} → Leads xs ds ns ys es → (fs : List Frame) (known : Known)
+      → passes fs known (roles_of xs) ≡ true
       → (fits ns (in_loop (top fs)) (levels (top fs)) known.inner ≡ true) × (passes fs (with_inner known (seen_behind known.inner ns)) (roles_of ys) ≡ true)
   leads-fit nothing fs known h = (refl, h)
   leads-fit (a_text l) fs known h = leads-fit l fs known h
@@ -131,7 +138,9 @@ mutual
       let more = leads-fit l fs known (subst (λ k. passes fs (with_inner known k) (roles_of zs) ≡ true) (control-names r names body) behind.1) in
       (both_true here more.0, more.1)
 
-  closes-fit : {xs zs : List Item} {ds es : List Definition} {other : Nodes} → Closes xs ds other zs es → (f : Frame) (fs : List Frame) (known : Known) → is_template f.opening ≡ false → f.start ≤ f.part → f.part ≤ length known.inner → passes (f ∷ fs) known (roles_of xs) ≡ true
+  closes-fit : {xs zs : List Item} {ds es : List Definition} {other : Nodes} → Closes xs ds other zs es
+      → (f : Frame) (fs : List Frame) (known : Known) → is_template f.opening ≡ false → f.start ≤ f.part → f.part ≤ length known.inner
+      → passes (f ∷ fs) known (roles_of xs) ≡ true
       → (fits other (loops f.opening true f.around) f.levels (take f.part known.inner) ≡ true) × (passes fs (with_inner known (take f.start known.inner)) (roles_of zs) ≡ true)
   closes-fit (an_end {xs = xs}) f fs known own low high h =
       (refl, subst (λ t. passes fs (closed_if t (with_inner known (take f.start known.inner))) (roles_of xs) ≡ true) own h)
@@ -223,7 +232,9 @@ mutual
       both_true (opener-test c r (top fs) names ∙ d.0) (leads-pass b n (f ∷ fs) (with_inner known inside) parts.0 behind)
   leads-pass _ n fs known h k = absurd n
 
-  closes-pass : {xs zs : List Item} {ds es : List Definition} {other : Nodes} → Closes xs ds other zs es → NoBranch xs → (f : Frame) (fs : List Frame) (known : Known) → f.has_else ≡ false → is_template f.opening ≡ false → f.start ≤ f.part → f.part ≤ length known.inner
+  closes-pass : {xs zs : List Item} {ds es : List Definition} {other : Nodes} → Closes xs ds other zs es → NoBranch xs
+      → (f : Frame) (fs : List Frame) (known : Known) → f.has_else ≡ false → is_template f.opening ≡ false → f.start ≤ f.part
+      → f.part ≤ length known.inner
       → fits other (loops f.opening true f.around) f.levels (take f.part known.inner) ≡ true → passes fs (with_inner known (take f.start known.inner)) (roles_of zs) ≡ true → passes (f ∷ fs) known (roles_of xs) ≡ true
   closes-pass (an_end {xs = xs}) n f fs known first own low high h k =
       subst (λ t. passes fs (closed_if t (with_inner known (take f.start known.inner))) (roles_of xs) ≡ true) (sym own) k
@@ -258,7 +269,8 @@ plain-append (said continue_action ∷ ss) ts h k = plain-append ss ts h k
 plain-append (said (template_action name given) ∷ ss) ts h k = plain-append ss ts h k
 plain-append _ ts h k = absurd h
 
-control-plain : (c : Control) (h : Header) (body : List Said) (other : Nodes) → Plain body → Plain (nodes_said other) → Plain (control_said c h body (else_said other (nodes_said other)))
+control-plain : (c : Control) (h : Header) (body : List Said) (other : Nodes) → Plain body → Plain (nodes_said other)
+    → Plain (control_said c h body (else_said other (nodes_said other)))
 control-plain c h body none p k = plain-append body (said end_action ∷ []) p tt
 control-plain c h body (then line n ns) p k = plain-append body (else_said (then line n ns) (nodes_said (then line n ns)) ++ said end_action ∷ []) p (plain-append (nodes_said (then line n ns)) (said end_action ∷ []) k tt)
 

@@ -1,8 +1,9 @@
--- What the definitions say of some lists of actions.
+-- For the reader of places: what the definitions say of some lists of actions.
 use Rattle.std.proofs.Common.{◌≡◌, ℕ, List, [], ◌∷◌, ◌++◌, refl, subst, replicate, Some}
 use Rattle.tmpl_grammar.specs.declared.action.Branch.TheVariants.{If as if_branch}
 use Rattle.tmpl_syntax.specs.Fault as reason
-use Rattle.tmpl_grammar.specs.Tree.{Operand, dot, variable, operand, no_operand, command, no_command, Pipeline, pipeline, Binding, unbound, declare, assign, declare_pair, Header}
+use Rattle.tmpl_grammar.specs.Tree.{Operand, dot, variable, operand, no_operand, command, no_command, Pipeline, pipeline, Binding, unbound}
+use Rattle.tmpl_grammar.specs.Tree.{declare, assign, declare_pair, Header}
 use Rattle.tmpl_grammar.specs.declared.tree.Control.TheVariants as control
 use Rattle.tmpl_syntax.specs.Tree.{Nodes, none, then, text, action, control_node, break_node, template_node}
 use Rattle.tmpl_grammar.specs.Action.{pipeline_action, opening, plain_else, else_branch, end_action, break_action, define_action, template_action, block_action}
@@ -245,7 +246,8 @@ no-name-from-outside-a-define = says (declares x ∷ define_it ∷ uses x ∷ en
 
 a-block-in-a-first-part : Says (if_it 1 ∷ declares x ∷ block_it ∷ declares y ∷ end_it 1 ∷ uses x ∷ else_it 1 ∷ uses x ∷ end_it 1 ∷ []) (refused 7 reason.undeclared_variable)
 unfolding verdict_of
-a-block-in-a-first-part = says (if_it 1 ∷ declares x ∷ block_it ∷ declares y ∷ end_it 1 ∷ uses x ∷ else_it 1 ∷ uses x ∷ end_it 1 ∷ []) (refused 7 reason.undeclared_variable) refl
+a-block-in-a-first-part =
+    says (if_it 1 ∷ declares x ∷ block_it ∷ declares y ∷ end_it 1 ∷ uses x ∷ else_it 1 ∷ uses x ∷ end_it 1 ∷ []) (refused 7 reason.undeclared_variable) refl
 
 the-pipeline-of-a-template : Says (runs_given x ∷ []) (refused 0 reason.undeclared_variable)
 unfolding verdict_of

@@ -1,4 +1,4 @@
--- What the fault of an item says, and the places that a frame holds.
+-- For `one_verdict`: what the reason that is found at an item says, and the places that a frame holds.
 use Rattle.std.proofs.Common.{arith, ◌≡◌, ℕ, ◌≤◌, Bool, true, false, ◌||◌, List, [], ◌∷◌, refl, sym, ap, subst, Option, Some, None, ⊎_elim}
 use Rattle.std.specs.Prelude.{Contains}
 use Rattle.std.specs.Str.{bytes_eq}

@@ -1,5 +1,6 @@
--- Whether the items of a template are accepted depends on the nodes that they spell alone.
-use Rattle.std.proofs.Common.{arith, ◌≡◌, ◌∙◌, ℕ, ◌+◌, ◌≤◌, Bool, true, false, not, ◌&&◌, leb, List, [], ◌∷◌, ◌++◌, length, take, Option, Some, None, refl, ap, length-append, append-nil}
+-- For `accepted_back`: whether the items of a template are accepted depends on its nodes alone.
+use Rattle.std.proofs.Common.{arith, ◌≡◌, ◌∙◌, ℕ, ◌+◌, ◌≤◌, Bool, true, false, not, ◌&&◌, leb, List, [], ◌∷◌, ◌++◌, length, take, Option}
+use Rattle.std.proofs.Common.{Some, None, refl, ap, length-append, append-nil}
 use Rattle.std.proofs.lemmas.Bool.{false≢true}
 use Rattle.std.proofs.lemmas.List.{take-append-le}
 use Rattle.tmpl_grammar.specs.Tree.{Pipeline, Header}
@@ -10,7 +11,8 @@ use Rattle.tmpl_syntax.specs.Fault.{Reason}
 use Rattle.tmpl_syntax.specs.Tree.{NodeKind, text, action, control_node, template_node, Nodes, none, then}
 use Rattle.tmpl_syntax.specs.Place.Role.{Name, names_of, names_given, plain, opener, Role}
 use Rattle.tmpl_syntax.specs.Place.Body.{most_levels, Verdict, fine}
-use Rattle.tmpl_syntax.specs.computed.Frames.{top, loops, levels, knows, first_fault, fault_in, part_of, seen_at, fault_at, frames_past, unless_fault, Known, with_inner, known_past, verdict_from}
+use Rattle.tmpl_syntax.specs.computed.Frames.{top, loops, levels, knows, first_fault, fault_in, part_of, seen_at, fault_at, frames_past}
+use Rattle.tmpl_syntax.specs.computed.Frames.{unless_fault, Known, with_inner, known_past, verdict_from}
 use Rattle.tmpl_syntax.specs.Print.Printed.{unlined_node, unlined}
 
 -- ---- what the judge asks, as a test
@@ -99,7 +101,8 @@ past-unlined : (n : NodeKind) (names : List Name) → seen_past names (unlined_n
 past-unlined (text bytes) names = refl
 past-unlined _ names = refl
 
-alike-control : (c : Control) (r : Header) (f g h k : Bool → ℕ → List Name → Bool) → ((l : Bool) (n : ℕ) (ns : List Name) → f l n ns ≡ g l n ns) → ((l : Bool) (n : ℕ) (ns : List Name) → h l n ns ≡ k l n ns)
+alike-control : (c : Control) (r : Header) (f g h k : Bool → ℕ → List Name → Bool)
+    → ((l : Bool) (n : ℕ) (ns : List Name) → f l n ns ≡ g l n ns) → ((l : Bool) (n : ℕ) (ns : List Name) → h l n ns ≡ k l n ns)
     → (loop : Bool) (n : ℕ) (names : List Name) → fits_control loop n names c r f h ≡ fits_control loop n names c r g k
 alike-control c r f g h k e d loop n names =
     ap (λ b. headed n names r && (b && h (loops_in c true loop) (n + 1) (part_names c names (names_of r).declares))) (e _ _ _)
@@ -107,7 +110,8 @@ alike-control c r f g h k e d loop n names =
 
 mutual
   node-unlined : (m : NodeKind) (loop : Bool) (n : ℕ) (names : List Name) → fits_node (unlined_node m) loop n names ≡ fits_node m loop n names
-  node-unlined (control_node c h body other) loop n names = alike-control c h (fits (unlined body)) (fits body) (fits (unlined other)) (fits other) (nodes-unlined body) (nodes-unlined other) loop n names
+  node-unlined (control_node c h body other) loop n names =
+      alike-control c h (fits (unlined body)) (fits body) (fits (unlined other)) (fits other) (nodes-unlined body) (nodes-unlined other) loop n names
   node-unlined _ loop n names = refl
 
   pub nodes-unlined : (ms : Nodes) (loop : Bool) (n : ℕ) (names : List Name) → fits (unlined ms) loop n names ≡ fits ms loop n names
@@ -140,11 +144,13 @@ first-none true false = refl
 first-none false true = refl
 first-none false false = refl
 
-pub opener-test : (c : Control) (h : Header) (t : Option Frame) (names : List Name) → no_fault (fault_in (opener (opened.control c) (names_of h)) t names) ≡ headed (levels t) names h
+pub opener-test : (c : Control) (h : Header) (t : Option Frame) (names : List Name)
+    → no_fault (fault_in (opener (opened.control c) (names_of h)) t names) ≡ headed (levels t) names h
 opener-test c h t names = first-none (leb most_levels (levels t)) (knows names (names_of h).uses)
 
 -- a call of a template is in place wherever its names are known, and declares none
-pub call-test : (given : Option Pipeline) (t : Option Frame) (names : List Name) → no_fault (fault_in (plain (names_given given)) t names) ≡ knows names (names_given given).uses
+pub call-test : (given : Option Pipeline) (t : Option Frame) (names : List Name)
+    → no_fault (fault_in (plain (names_given given)) t names) ≡ knows names (names_given given).uses
 call-test None t names = first-none false (knows names [])
 call-test (Some p) t names = first-none false (knows names (names_given (Some p)).uses)
 

@@ -1,4 +1,4 @@
--- The pieces of a file are read as the items that are computed.
+-- For `one_list_of_items`: the pieces of a file are read as the items that are computed.
 use Rattle.std.proofs.Common.{arith, ◌≡◌, ◌∙◌, ◌≤◌, ◌<◌, ℕ, Bool, true, false, List, [], ◌∷◌, map, Option, Some, None, refl, ap, sym, subst, ⊎_elim}
 use Rattle.std.proofs.lemmas.Bool.{le-leb, cases_lt}
 use Rattle.std.proofs.lemmas.Bool.Decides.{leb_tells}
@@ -90,7 +90,8 @@ for-every _ = refl
 -- ---- one item
 
 module _ (branches : Branches) where
-  read-item : (line : ℕ) (ts : List Token) (a : Action) → SpellsAction a ts → has_action branches a ≡ true → IsItem branches (action line ts) (item line (read_item (within_limit a)))
+  read-item : (line : ℕ) (ts : List Token) (a : Action) → SpellsAction a ts → has_action branches a ≡ true
+      → IsItem branches (action line ts) (item line (read_item (within_limit a)))
   read-item line ts a s t = ⊎_elim
       (λ lt. let d = deep-read a lt in
       subst (λ r. IsItem branches (action line ts) (item line (read_item r))) (sym d.is) (too_deep a s t d.shape_is lt))
@@ -100,7 +101,8 @@ module _ (branches : Branches) where
   action-item : (line : ℕ) (ts : List Token) → IsItem branches (action line ts) (item_for branches (action line ts))
   action-item line ts = by (action_in ts) refl
     where
-      there : (a : Action) → action_in ts ≡ Some a → (b : Bool) → has_action branches a ≡ b → IsItem branches (action line ts) (item line (read_item (reading_of (if_there b a))))
+      there : (a : Action) → action_in ts ≡ Some a → (b : Bool) → has_action branches a ≡ b
+          → IsItem branches (action line ts) (item line (read_item (reading_of (if_there b a))))
       there a e true t = read-item line ts a (spells-action ts a e) t
       there a e false t = unread (λ b s h. let same : b ≡ a = same_Some b a (sym (reads-action ts b s) ∙ e) in absurd (let g : true ≡ false = sym h ∙ ap (has_action branches) same ∙ t in cc))
 
@@ -117,7 +119,8 @@ module _ (branches : Branches) where
   spelled-read : (ts : List Token) (a : Action) → SpellsAction a ts → has_action branches a ≡ true → reading_of (kept branches (action_in ts)) ≡ within_limit a
   spelled-read ts a s t = ap (λ o. reading_of (kept branches o)) (reads-action ts a s) ∙ ap (λ b. reading_of (if_there b a)) t
 
-  unread-only : (line : ℕ) (ts : List Token) → ((a : Action) → SpellsAction a ts → has_action branches a ≡ true → ⊥) → (o : Option Action) → action_in ts ≡ o → item line (read_item unread_within) ≡ item line (read_item (reading_of (kept branches o)))
+  unread-only : (line : ℕ) (ts : List Token) → ((a : Action) → SpellsAction a ts → has_action branches a ≡ true → ⊥) → (o : Option Action)
+      → action_in ts ≡ o → item line (read_item unread_within) ≡ item line (read_item (reading_of (kept branches o)))
   unread-only line ts none None e = refl
   unread-only line ts none (Some a) e = by (has_action branches a) refl
     where

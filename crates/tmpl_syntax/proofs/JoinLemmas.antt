@@ -1,5 +1,6 @@
--- Joined parts are cut into the same parts.
-use Rattle.std.proofs.Common.{arith, ◌≡◌, ◌∙◌, ℕ, ◌+◌, ◌<◌, Bool, true, false, ◌&&◌, nat_eq, List, [], ◌∷◌, ◌++◌, refl, sym, ap, subst, length, append_assoc, append-nil, reverse, Some, None, if◌then◌else◌, codes}
+-- For `cut_back`: joined parts are cut into the same parts.
+use Rattle.std.proofs.Common.{arith, ◌≡◌, ◌∙◌, ℕ, ◌+◌, ◌<◌, Bool, true, false, ◌&&◌, nat_eq, List, [], ◌∷◌, ◌++◌, refl, sym, ap, subst}
+use Rattle.std.proofs.Common.{length, append_assoc, append-nil, reverse, Some, None, if◌then◌else◌, codes}
 use Rattle.std.proofs.lemmas.Bool.{eqb-true}
 use Rattle.std.proofs.lemmas.List.{reverse-append}
 use Rattle.std.proofs.Math.Bool.{and-false}
@@ -9,7 +10,8 @@ use Rattle.tmpl_lex.specs.Delimiter.{IsLeftMarker, left_marker, opens, opens_mar
 use Rattle.tmpl_lex.specs.Piece.{Piece, text, action}
 use Rattle.tmpl_lex.specs.Text.{newlines, text_piece, keeps_front, keeps_end, trims_end, Texts, trimmed}
 use Rattle.tmpl_lex.proofs.PartLemmas.{absent-rest, absent-here, absent-nil, absent-one, absent-cons}
-use Rattle.tmpl_syntax.specs.Print.Join.{Part, a_text, an_action, ends_brace, opening, parting, before_of, joined, AreParts, no_piece, same_text, same_action, HasParts}
+use Rattle.tmpl_syntax.specs.Print.Join.{Part, a_text, an_action, ends_brace, opening, parting, before_of, joined, AreParts, no_piece}
+use Rattle.tmpl_syntax.specs.Print.Join.{same_text, same_action, HasParts}
 use Rattle.tmpl_grammar.specs.Print.{bytes_of}
 use Rattle.tmpl_grammar.proofs.FrontLemmas.{solid, solid-unmarked}
 

@@ -1,4 +1,4 @@
--- What a language accepts, one with more else branches accepts.
+-- For `more_branches`: what a language accepts, one with more else branches accepts.
 use Rattle.std.proofs.Common.{◌≡◌, ◌∙◌, ℕ, true, suc, List, Option, Some, None, Ok, refl, ap, sym, length}
 use Rattle.std.specs.Prelude.{slice_get}
 use Rattle.tmpl_lex.specs.Piece.{Piece}

@@ -1,4 +1,4 @@
--- What a template needs is no more than three and the bytes of its file.
+-- For `bounded_need`: what a template needs is no more than three and the bytes of its file.
 use Rattle.std.proofs.Common.{arith, ◌≤◌, ℕ, ◌+◌, List, [], ◌∷◌, length, map}
 use Rattle.tmpl_lex.specs.Piece.{Piece}
 use Rattle.tmpl_lex.proofs.WeightLemmas.{weight_of, weight, weight-within}
@@ -11,7 +11,8 @@ use Rattle.tmpl_syntax.specs.Tree.{Nodes, Definition}
 use Rattle.tmpl_syntax.specs.Set.{Template}
 use Rattle.tmpl_syntax.specs.Language.{Branches}
 use Rattle.tmpl_syntax.specs.Item.{Item, item, action_item, IsItem, a_text as text_read, an_unreadable, unread, too_deep, read, AreItems, no_item, an_item}
-use Rattle.tmpl_syntax.specs.Spelling.{Leads, nothing, a_text, an_action, a_break, a_continue, a_control, a_template, a_define, a_block, Closes, an_end, an_else, an_else_branch}
+use Rattle.tmpl_syntax.specs.Spelling.{Leads, nothing, a_text, an_action, a_break, a_continue, a_control, a_template, a_define, a_block}
+use Rattle.tmpl_syntax.specs.Spelling.{Closes, an_end, an_else, an_else_branch}
 use Rattle.tmpl_syntax.specs.Need.{need_of_parts, need_of_nodes, NeedAtMost, most_need}
 use Rattle.tmpl_syntax.specs.Parse.{all_defined, template_in}
 use Rattle.tmpl_syntax.specs.Laws.{NeedsAtMostBytes, NeedsAtMost}
@@ -113,7 +114,8 @@ mutual
 
 -- ---- files
 
-all-within : (file : List ℕ) (n : ℕ) (ds : List Definition) (own : Nodes) → Within n ds → need_of_nodes own ≤ n → NeedAtMost (3 + n) (map (template_in file) (all_defined file ds own))
+all-within : (file : List ℕ) (n : ℕ) (ds : List Definition) (own : Nodes) → Within n ds → need_of_nodes own ≤ n
+    → NeedAtMost (3 + n) (map (template_in file) (all_defined file ds own))
 all-within file n [] own w le = (omega (arith, le), tt)
 all-within file n (d ∷ ds) own w le = let here = w.0 in (omega (arith, here), all-within file n ds own w.1 le)
 

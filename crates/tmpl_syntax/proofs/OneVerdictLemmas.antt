@@ -1,4 +1,4 @@
--- A list has one verdict.
+-- For `one_verdict`: a list has one verdict at most.
 use Rattle.std.proofs.Common.{arith, ◌≡◌, ℕ, ◌<◌, List, length, refl, subst, ⊎_elim}
 use Rattle.std.proofs.lemmas.Bool.{cases_order}
 use Rattle.std.proofs.lemmas.Option.{slice_get_within}

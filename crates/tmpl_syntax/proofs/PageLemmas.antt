@@ -1,5 +1,6 @@
--- What is said first and what is said next are one page.
-use Rattle.std.proofs.Common.{◌≡◌, ◌∙◌, ℕ, Bool, true, false, List, [], ◌∷◌, ◌++◌, refl, sym, ap, append_assoc, append-nil, Option, Some, None, map, codes, nat_eq, length, drop, arith, ◌-◌, ◌==◌}
+-- For `print_set` and `print_tree`: what is said first and what is said next are one page.
+use Rattle.std.proofs.Common.{◌≡◌, ◌∙◌, ℕ, Bool, true, false, List, [], ◌∷◌, ◌++◌, refl, sym, ap, append_assoc, append-nil, Option, Some}
+use Rattle.std.proofs.Common.{None, map, codes, nat_eq, length, drop, arith, ◌-◌, ◌==◌}
 use Rattle.std.proofs.lemmas.List.{map-append}
 use Rattle.std.proofs.Math.Bool.{and-true}
 use Rattle.std.proofs.lemmas.Bool.{both_ways, eqb-true, false_from_ne_true}

@@ -1,4 +1,4 @@
--- The pieces of a printed file are read as what its nodes say, and those of a printed set as what it says.
+-- For `printed_back` and `set_back`: the pieces of what is printed are read as what its nodes say.
 use Rattle.std.proofs.Common.{arith, ◌≡◌, ◌≤◌, ℕ, List, [], ◌∷◌, Some, refl, sym, subst, map, codes}
 use Rattle.tmpl_lex.specs.Piece.{Token, Piece, text, action}
 use Rattle.tmpl_grammar.specs.Tree.{Pipeline, pipeline}
@@ -95,7 +95,8 @@ newline-is-text = record { some = omega arith; clear = absent-cons 123 123 10 []
 
 set-is-said : (ts : List Template) → ArePrintable ts → AreSaid (set_said ts)
 set-is-said [] h = tt
-set-is-said (t ∷ ts) h = (h.0, said-append (nodes_said t.1.nodes) (said end_action ∷ said_text (codes "\n") ∷ set_said ts) h.1 (tt, (newline-is-text, set-is-said ts h.2)))
+set-is-said (t ∷ ts) h =
+    (h.0, said-append (nodes_said t.1.nodes) (said end_action ∷ said_text (codes "\n") ∷ set_said ts) h.1 (tt, (newline-is-text, set-is-said ts h.2)))
 
 pub set-reads-same : SetReadsSame
 set-reads-same ts h =

@@ -1,4 +1,4 @@
--- A file is accepted or refused just as the function says.
+-- For `one_outcome`: a file is accepted or refused just as the function says.
 use Rattle.std.proofs.Common.{arith, ◌≡◌, ◌<◌, ◌≤◌, ℕ, List, [], ◌∷◌, get_or, Option, Some, None, Result, Ok, Err, refl, sym, ap, subst, ◌∙◌, length, ⊎_elim}
 use Rattle.std.specs.Prelude.{slice_get}
 use Rattle.std.proofs.lemmas.Bool.{cases_lt}
@@ -15,7 +15,8 @@ use Rattle.tmpl_syntax.specs.Spelling.{Spells}
 use Rattle.tmpl_syntax.specs.computed.Build.{nodes_from, definitions_from}
 use Rattle.tmpl_syntax.specs.Set.{Template}
 use Rattle.tmpl_syntax.specs.Laws.{HasOutcome, HasOneOutcome, AcceptsAsParsed, RefusesAsParsed}
-use Rattle.tmpl_syntax.specs.computed.Parse.{Refusal, IsRefusal, line_in, line_at, by_verdict, checked, second_in, unless_second, spelled, all_from, items_of, placed, parsed}
+use Rattle.tmpl_syntax.specs.computed.Parse.{Refusal, IsRefusal, line_in, line_at, by_verdict, checked, second_in, unless_second, spelled}
+use Rattle.tmpl_syntax.specs.computed.Parse.{all_from, items_of, placed, parsed}
 use Rattle.tmpl_syntax.specs.Parse.{last_line, base_name, most_bytes, all_defined, HasSecond, IsAccepted, IsRefusedAt, IsRefusedBy, Parses, ParsesUnless}
 use Rattle.tmpl_syntax.proofs.ItemLemmas.{has-items, no-others}
 use Rattle.tmpl_syntax.proofs.OneVerdictLemmas.{within, one-verdict}
@@ -49,9 +50,12 @@ item-there [] i h = absurd (omega arith)
 item-there (d ∷ ds) i h = (get_or (d ∷ ds) i d, slice_get-get_or (d ∷ ds) i d h)
 
 module _ (set : List Template) (file bytes : List ℕ) where
-  short-by : (v : Verdict) → length bytes ≤ most_bytes → verdict_of (roles_of (items_of bytes)) ≡ v → parsed set file bytes ≡ placed set file (spelled (by_verdict (last_line bytes) (items_of bytes) v) (all_from (base_name file) (items_of bytes)))
+  short-by : (v : Verdict) → length bytes ≤ most_bytes → verdict_of (roles_of (items_of bytes)) ≡ v
+      → parsed set file bytes ≡ placed set file (spelled (by_verdict (last_line bytes) (items_of bytes) v) (all_from (base_name file) (items_of bytes)))
   unfolding checked
-  short-by v h e = parsed-short set file bytes h ∙ ap (λ w. placed set file (spelled (by_verdict (last_line bytes) (items_of bytes) w) (all_from (base_name file) (items_of bytes)))) e
+  short-by v h e =
+      parsed-short set file bytes h
+      ∙ ap (λ w. placed set file (spelled (by_verdict (last_line bytes) (items_of bytes) w) (all_from (base_name file) (items_of bytes)))) e
 
   judged-by : (v : Verdict) → verdict_of (roles_of (items_of bytes)) ≡ v → Judged (roles_of (items_of bytes)) v
   judged-by v e = subst (Judged (roles_of (items_of bytes))) e (judged-all (roles_of (items_of bytes)))
@@ -68,7 +72,8 @@ module _ (set : List Template) (file bytes : List ℕ) where
       (λ short. by short (verdict_of (roles_of (items_of bytes))) refl)
       (cases_lt most_bytes (length bytes))
     where
-      once : length bytes ≤ most_bytes → verdict_of (roles_of (items_of bytes)) ≡ fine → (o : Option ℕ) → second_in ds ≡ o → IsAccepted every_branch set file bytes new
+      once : length bytes ≤ most_bytes → verdict_of (roles_of (items_of bytes)) ≡ fine → (o : Option ℕ) → second_in ds ≡ o
+          → IsAccepted every_branch set file bytes new
       once short v None o = record {
         short = short;
         items = items_of bytes;
@@ -87,7 +92,8 @@ module _ (set : List Template) (file bytes : List ℕ) where
       by short (refused i f) v = no-value new _ (sym e ∙ short-by (refused i f) short v)
       by short left_open v = no-value new _ (sym e ∙ short-by left_open short v)
 
-  refused-there : (i : ℕ) (why : Reason) (line : ℕ) → line ≡ line_at (items_of bytes) i → Judged (roles_of (items_of bytes)) (refused i why) → IsRefusedAt (items_of bytes) line why
+  refused-there : (i : ℕ) (why : Reason) (line : ℕ) → line ≡ line_at (items_of bytes) i → Judged (roles_of (items_of bytes)) (refused i why)
+      → IsRefusedAt (items_of bytes) line why
   refused-there i why line e j =
       let lt : i < length (items_of bytes) = let n = within (roles_of (items_of bytes)) i why j.applies in omega (arith, n, length-map (items_of bytes) role_of) in
       let x = item-there (items_of bytes) i lt in
@@ -95,7 +101,8 @@ module _ (set : List Template) (file bytes : List ℕ) where
       record { place = i; first = j; what = it.0; at = it.1 }
 
   -- what applies to an item is no reason that is asked for at the front or at the end of a file
-  refused-as : (line : ℕ) (why : Reason) → {i : ℕ} → Applies (roles_of (items_of bytes)) i why → length bytes ≤ most_bytes → IsRefusedAt (items_of bytes) line why → IsRefusedBy every_branch file bytes line why
+  refused-as : (line : ℕ) (why : Reason) → {i : ℕ} → Applies (roles_of (items_of bytes)) i why → length bytes ≤ most_bytes
+      → IsRefusedAt (items_of bytes) line why → IsRefusedBy every_branch file bytes line why
   refused-as line _ (unreadable a) h r = (h, items_of bytes, has-items bytes, r)
   refused-as line _ _ h r = (h, items_of bytes, has-items bytes, r)
 
@@ -106,7 +113,8 @@ module _ (set : List Template) (file bytes : List ℕ) where
       (λ short. by short (verdict_of (roles_of (items_of bytes))) refl)
       (cases_lt most_bytes (length bytes))
     where
-      once : length bytes ≤ most_bytes → verdict_of (roles_of (items_of bytes)) ≡ fine → (o : Option ℕ) → second_in ds ≡ o → IsRefusedBy every_branch file bytes line reason
+      once : length bytes ≤ most_bytes → verdict_of (roles_of (items_of bytes)) ≡ fine → (o : Option ℕ) → second_in ds ≡ o
+          → IsRefusedBy every_branch file bytes line reason
       once short v None o = no-value _ (line, reason) (sym (short-by fine short v ∙ ap (λ second. placed set file (unless_second second ds)) o) ∙ e)
       once short v (Some at) o =
           let s = same-refusal (line, reason) (at, second_definition) (sym e ∙ short-by fine short v ∙ ap (λ second. placed set file (unless_second second ds)) o) in
@@ -139,7 +147,9 @@ module _ (set : List Template) (file bytes : List ℕ) where
   -- ---- to the function
 
   -- a file of items on which this is the verdict
-  verdict-as : (items : List Item) → HasItems every_branch bytes items → (v : Verdict) → Judged (roles_of items) v → length bytes ≤ most_bytes → parsed set file bytes ≡ placed set file (spelled (by_verdict (last_line bytes) items v) (all_from (base_name file) items))
+  verdict-as : (items : List Item) → HasItems every_branch bytes items → (v : Verdict) → Judged (roles_of items) v
+      → length bytes ≤ most_bytes
+      → parsed set file bytes ≡ placed set file (spelled (by_verdict (last_line bytes) items v) (all_from (base_name file) items))
   verdict-as items has v j short =
       let same : items ≡ items_of bytes = no-others bytes items has in
       let is : verdict_of (roles_of items) ≡ v = one-verdict (roles_of items) (verdict_of (roles_of items)) v (judged-all (roles_of items)) j in
@@ -147,13 +157,16 @@ module _ (set : List Template) (file bytes : List ℕ) where
       ∙ ap (λ xs. placed set file (spelled (by_verdict (last_line bytes) xs v) (all_from (base_name file) xs))) (sym same)
 
   -- .. which spell these definitions
-  spelled-as : (items : List Item) (es : List Definition) (own : Nodes) → Judged (roles_of items) fine → Spells items es own → all_from (base_name file) items ≡ all_defined file es own
+  spelled-as : (items : List Item) (es : List Definition) (own : Nodes) → Judged (roles_of items) fine → Spells items es own
+      → all_from (base_name file) items ≡ all_defined file es own
   spelled-as items es own j s =
       let is : verdict_of (roles_of items) ≡ fine = one-verdict (roles_of items) (verdict_of (roles_of items)) fine (judged-all (roles_of items)) j in
       let same = one-spelling items (definitions_from items) es (nodes_from items) own (spells-fine items is) s in
       ap (λ xs. all_defined file xs (nodes_from items)) same.0 ∙ ap (all_defined file es) same.1
 
-  fine-as : (items : List Item) → HasItems every_branch bytes items → (es : List Definition) (own : Nodes) → Judged (roles_of items) fine → Spells items es own → length bytes ≤ most_bytes → (o : Option ℕ) → second_in (all_defined file es own) ≡ o → parsed set file bytes ≡ placed set file (unless_second o (all_defined file es own))
+  fine-as : (items : List Item) → HasItems every_branch bytes items → (es : List Definition) (own : Nodes) → Judged (roles_of items) fine
+      → Spells items es own → length bytes ≤ most_bytes → (o : Option ℕ) → second_in (all_defined file es own) ≡ o
+      → parsed set file bytes ≡ placed set file (unless_second o (all_defined file es own))
   fine-as items has es own j s short o second =
       verdict-as items has fine j short
       ∙ ap (λ xs. placed set file (spelled (Ok tt) xs)) (spelled-as items es own j s)
@@ -163,7 +176,8 @@ module _ (set : List Template) (file bytes : List ℕ) where
   parsed-accepted new h =
       fine-as h.items h.has h.definitions h.own h.judged h.spells h.short None (second-none (all_defined file h.definitions h.own) h.once) ∙ ap (λ ts. Ok ts) (sym h.set)
 
-  refused-there-as : (line : ℕ) (why : Reason) → length bytes ≤ most_bytes → (items : List Item) → HasItems every_branch bytes items → IsRefusedAt items line why → parsed set file bytes ≡ Err (line, why)
+  refused-there-as : (line : ℕ) (why : Reason) → length bytes ≤ most_bytes → (items : List Item) → HasItems every_branch bytes items
+      → IsRefusedAt items line why → parsed set file bytes ≡ Err (line, why)
   refused-there-as line why short items has r =
       verdict-as items has (refused r.place why) r.first short ∙ ap (λ o. Err (line_in o, why)) r.at
 

@@ -1,4 +1,4 @@
--- So far nothing is refused, and the stack is what is open.
+-- For `one_verdict`: so far nothing is refused, and the stack is what is open.
 use Rattle.std.proofs.Common.{arith, ◌≡◌, ◌≢◌, ℕ, ◌+◌, ◌<◌, true, false, List, [], ◌∷◌, ◌++◌, take, refl, sym, subst, length, Some, None, ⊎_elim}
 use Rattle.std.specs.Prelude.{slice_get}
 use Rattle.std.proofs.lemmas.Bool.{cases_lt, and_parts}
@@ -6,8 +6,10 @@ use Rattle.std.proofs.lemmas.List.{length-take-le}
 use Rattle.tmpl_syntax.specs.Fault.{Reason, rank}
 use Rattle.tmpl_syntax.specs.Fault as reason
 use Rattle.tmpl_syntax.specs.computed.Frames.{Frame}
-use Rattle.tmpl_syntax.specs.Place.Body.{joins, IsMisplaced, none, IsTooDeep, IsUndeclared, Applies, unreadable, unread, misplaced, too_deep, undeclared, NoneRefused, IsRefused, Judged}
-use Rattle.tmpl_syntax.specs.computed.Frames.{top, takes_else, is_placed, is_too_deep, names_at, seen_at, frames_after, frames_past, branched, at_end, Known, with_inner, known_after, known_past, none_known}
+use Rattle.tmpl_syntax.specs.Place.Body.{joins, IsMisplaced, none, IsTooDeep, IsUndeclared, Applies, unreadable, unread, misplaced}
+use Rattle.tmpl_syntax.specs.Place.Body.{too_deep, undeclared, NoneRefused, IsRefused, Judged}
+use Rattle.tmpl_syntax.specs.computed.Frames.{top, takes_else, is_placed, is_too_deep, names_at, seen_at, frames_after, frames_past}
+use Rattle.tmpl_syntax.specs.computed.Frames.{branched, at_end, Known, with_inner, known_after, known_past, none_known}
 use Rattle.tmpl_syntax.proofs.FaultLemmas.{Tells, TellsRole, in-nothing}
 use Rattle.tmpl_syntax.proofs.OpenLemmas.{same-piece}
 use Rattle.tmpl_syntax.proofs.StandLemmas.{Here, Stands, here-of}
@@ -46,13 +48,16 @@ no-unreadable xs i x at ne (unreadable e) = ne (same-piece xs i x unreadable_rol
 no-unread : (xs : List Role) (i : ℕ) (x : Role) → slice_get xs i ≡ Some x → x ≢ unread_role → Applies xs i reason.not_an_action → ⊥
 no-unread xs i x at ne (unread e) = ne (same-piece xs i x unread_role at e)
 
-no-misplaced : (xs : List Role) (i : ℕ) (x : Role) → slice_get xs i ≡ Some x → ((a : Act) → x ≡ act_role a → IsMisplaced xs i a → ⊥) → Applies xs i reason.out_of_place → ⊥
+no-misplaced : (xs : List Role) (i : ℕ) (x : Role) → slice_get xs i ≡ Some x → ((a : Act) → x ≡ act_role a → IsMisplaced xs i a → ⊥)
+    → Applies xs i reason.out_of_place → ⊥
 no-misplaced xs i x at ne (misplaced {a = a} e m) = ne a (same-piece xs i x (act_role a) at e) m
 
-no-deep : (xs : List Role) (i : ℕ) (x : Role) → slice_get xs i ≡ Some x → ((a : Act) → x ≡ act_role a → IsTooDeep xs i a → ⊥) → Applies xs i reason.nested_too_deeply → ⊥
+no-deep : (xs : List Role) (i : ℕ) (x : Role) → slice_get xs i ≡ Some x → ((a : Act) → x ≡ act_role a → IsTooDeep xs i a → ⊥)
+    → Applies xs i reason.nested_too_deeply → ⊥
 no-deep xs i x at ne (too_deep {a = a} e m) = ne a (same-piece xs i x (act_role a) at e) m
 
-no-undeclared : (xs : List Role) (i : ℕ) (x : Role) → slice_get xs i ≡ Some x → ((a : Act) → x ≡ act_role a → IsUndeclared xs i a → ⊥) → Applies xs i reason.undeclared_variable → ⊥
+no-undeclared : (xs : List Role) (i : ℕ) (x : Role) → slice_get xs i ≡ Some x → ((a : Act) → x ≡ act_role a → IsUndeclared xs i a → ⊥)
+    → Applies xs i reason.undeclared_variable → ⊥
 no-undeclared xs i x at ne (undeclared {a = a} e m) = ne a (same-piece xs i x (act_role a) at e) m
 
 module _ (xs : List Role) (i : ℕ) (known : Known) (fs : List Frame) (s : Sound xs i known fs) where
@@ -81,23 +86,27 @@ module _ (xs : List Role) (i : ℕ) (known : Known) (fs : List Frame) (s : Sound
     fine-action e _ (unread h) = no-unread xs i (act_role a) at (λ g. cc) (unread h)
     fine-action e _ (misplaced h m) = not-misplaced e.0 (misplaced h m)
     fine-action e _ (too_deep h m) = not-deep e.1 (too_deep h m)
-    fine-action e _ (undeclared h m) = no-undeclared xs i (act_role a) at (λ b g m. none-unknown xs i known fs s.stands a at e.0 e.2 (own (IsUndeclared xs i) b g m)) (undeclared h m)
+    fine-action e _ (undeclared h m) =
+        no-undeclared xs i (act_role a) at (λ b g m. none-unknown xs i known fs s.stands a at e.0 e.2 (own (IsUndeclared xs i) b g m)) (undeclared h m)
 
     refused-action : (fault : Reason) → Tells a (top fs) (names_at a (top fs) known.inner) (Some fault) → IsRefused xs i fault
-    refused-action reason.out_of_place e = record { applies = misplaced at (unplaced xs i known fs a s.stands e); first_reason = first; first_item = s.none_refused }
+    refused-action reason.out_of_place e =
+        record { applies = misplaced at (unplaced xs i known fs a s.stands e); first_reason = first; first_item = s.none_refused }
       where
         first : (f : Reason) → rank f < rank reason.out_of_place → Applies xs i f → ⊥
         first _ lt (unreadable h) = no-unreadable xs i (act_role a) at (λ g. cc) (unreadable h)
         first _ lt (unread h) = no-unread xs i (act_role a) at (λ g. cc) (unread h)
         first _ lt _ = absurd (omega arith)
-    refused-action reason.nested_too_deeply e = record { applies = too_deep at (deep xs i a (top fs) known.inner h e.1); first_reason = first; first_item = s.none_refused }
+    refused-action reason.nested_too_deeply e =
+        record { applies = too_deep at (deep xs i a (top fs) known.inner h e.1); first_reason = first; first_item = s.none_refused }
       where
         first : (f : Reason) → rank f < rank reason.nested_too_deeply → Applies xs i f → ⊥
         first _ lt (unreadable h) = no-unreadable xs i (act_role a) at (λ g. cc) (unreadable h)
         first _ lt (unread h) = no-unread xs i (act_role a) at (λ g. cc) (unread h)
         first _ lt (misplaced h m) = not-misplaced e.0 (misplaced h m)
         first _ lt _ = absurd (omega arith)
-    refused-action reason.undeclared_variable e = record { applies = undeclared at (unknown xs i known fs s.stands a at e.0 e.2); first_reason = first; first_item = s.none_refused }
+    refused-action reason.undeclared_variable e =
+        record { applies = undeclared at (unknown xs i known fs s.stands a at e.0 e.2); first_reason = first; first_item = s.none_refused }
       where
         first : (f : Reason) → rank f < rank reason.undeclared_variable → Applies xs i f → ⊥
         first _ lt (unreadable h) = no-unreadable xs i (act_role a) at (λ g. cc) (unreadable h)
@@ -111,7 +120,8 @@ module _ (xs : List Role) (i : ℕ) (known : Known) (fs : List Frame) (s : Sound
   none-before _ lt (unreadable h) = absurd (omega arith)
   none-before _ lt _ = absurd (omega arith)
 
-  pub refused-here : (x : Role) (fault : Reason) → slice_get xs i ≡ Some x → TellsRole x (top fs) (seen_at x (top fs) known.inner) (Some fault) → IsRefused xs i fault
+  pub refused-here : (x : Role) (fault : Reason) → slice_get xs i ≡ Some x
+      → TellsRole x (top fs) (seen_at x (top fs) known.inner) (Some fault) → IsRefused xs i fault
   refused-here text_role fault at e = let g : Some fault ≡ None = e in cc
   refused-here (act_role a) fault at e = refused-action a at fault e
   refused-here unreadable_role fault at e = let g : fault ≡ reason.unreadable = cc in subst (IsRefused xs i) (sym g) (record { applies = unreadable at; first_reason = none-before; first_item = s.none_refused })
@@ -128,7 +138,8 @@ module _ (xs : List Role) (i : ℕ) (known : Known) (fs : List Frame) (s : Sound
   fine-here unread_role at e = let g : None ≡ Some reason.not_an_action = e in cc
 
   more : (x : Role) → slice_get xs i ≡ Some x → TellsRole x (top fs) (seen_at x (top fs) known.inner) None → NoneRefused xs (i + 1)
-  more x at e k f lt a = ⊎_elim (λ low. s.none_refused k f low a) (λ ge. let g : k ≡ i = omega arith in fine-here x at e f (subst (λ n. Applies xs n f) g a)) (cases_lt k i)
+  more x at e k f lt a =
+      ⊎_elim (λ low. s.none_refused k f low a) (λ ge. let g : k ≡ i = omega arith in fine-here x at e f (subst (λ n. Applies xs n f) g a)) (cases_lt k i)
 
 after : (xs : List Role) (i : ℕ) (known : Known) (fs : List Frame) (a : Act) → slice_get xs i ≡ Some (act_role a) → is_placed a (top fs) ≡ true → Stands xs i known fs → Stands xs (i + 1) (known_after a (top fs) (with_inner known (names_at a (top fs) known.inner))) (frames_after a fs (length (names_at a (top fs) known.inner)))
 after xs i known fs (plain p) at e s = stands-declared xs i known p fs at s
@@ -144,7 +155,9 @@ after xs i known fs jump at e s = stands-still xs i known (act_role jump) fs at 
 after xs i known [] _ at e s = let g : false ≡ true = e in cc
 
 -- what stands after an item that is not refused
-pub sound-past : (xs : List Role) (i : ℕ) (known : Known) (fs : List Frame) (x : Role) → slice_get xs i ≡ Some x → TellsRole x (top fs) (seen_at x (top fs) known.inner) None → Sound xs i known fs → Sound xs (i + 1) (known_past x (top fs) (with_inner known (seen_at x (top fs) known.inner))) (frames_past x fs (length (seen_at x (top fs) known.inner)))
+pub sound-past : (xs : List Role) (i : ℕ) (known : Known) (fs : List Frame) (x : Role) → slice_get xs i ≡ Some x
+    → TellsRole x (top fs) (seen_at x (top fs) known.inner) None → Sound xs i known fs
+    → Sound xs (i + 1) (known_past x (top fs) (with_inner known (seen_at x (top fs) known.inner))) (frames_past x fs (length (seen_at x (top fs) known.inner)))
 sound-past xs i known fs text_role at e s = record { stands = stands-still xs i known text_role fs at refl refl (λ g. cc) (λ q g. cc) (λ c q g. cc) (λ b q g. cc) s.stands; none_refused = more xs i known fs s text_role at e }
 sound-past xs i known fs unreadable_role at e s = let g : None ≡ Some reason.unreadable = e in cc
 sound-past xs i known fs unread_role at e s = let g : None ≡ Some reason.not_an_action = e in cc
@@ -152,4 +165,5 @@ sound-past xs i known fs (act_role a) at e s = record { stands = after xs i know
 
 pub sound-end : (xs : List Role) (i : ℕ) (known : Known) (fs : List Frame) → i ≡ length xs → Sound xs i known fs → Judged xs (at_end fs)
 sound-end xs i known [] e s = let all : Sound xs (length xs) known [] = subst (λ n. Sound xs n known []) e s in (all.none_refused, all.stands.0)
-sound-end xs i known (f ∷ fs) e s = let all : Sound xs (length xs) known (f ∷ fs) = subst (λ n. Sound xs n known (f ∷ fs)) e s in (all.none_refused, all.stands.1, all.stands.2.last.is_open)
+sound-end xs i known (f ∷ fs) e s =
+    let all : Sound xs (length xs) known (f ∷ fs) = subst (λ n. Sound xs n known (f ∷ fs)) e s in (all.none_refused, all.stands.1, all.stands.2.last.is_open)

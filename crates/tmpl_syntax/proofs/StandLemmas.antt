@@ -1,5 +1,6 @@
--- What stands on the stack is what is open, and the names are those in scope.
-use Rattle.std.proofs.Common.{arith, ◌≡◌, ◌≢◌, ℕ, ◌+◌, ◌≤◌, Bool, true, false, List, [], ◌∷◌, ◌++◌, refl, sym, ap, ◌∙◌, subst, length, take, Option, Some, None, ⊎_elim}
+-- For `one_verdict`: what stands on the stack is what is open, and the names are those in scope.
+use Rattle.std.proofs.Common.{arith, ◌≡◌, ◌≢◌, ℕ, ◌+◌, ◌≤◌, Bool, true, false, List, [], ◌∷◌, ◌++◌, refl, sym, ap, ◌∙◌, subst, length, take}
+use Rattle.std.proofs.Common.{Option, Some, None, ⊎_elim}
 use Rattle.std.specs.Prelude.{slice_get, Contains}
 use Rattle.std.specs.Bool.{Decides}
 use Rattle.std.proofs.lemmas.Bool.{cases_lt}
@@ -12,7 +13,9 @@ use Rattle.tmpl_syntax.specs.Place.Body.{IsLoop, Levels}
 use Rattle.tmpl_syntax.specs.computed.Frames.{top, loops, in_loop, levels, entered, Known, with_inner, closed_if, closed_names}
 use Rattle.tmpl_syntax.proofs.FaultLemmas.{IsWithin, in-nothing}
 use Rattle.tmpl_syntax.proofs.OpenLemmas.{ups, downs, count-split, same-opening, same-piece, cut, Same, opened-keeps, opened_new}
-use Rattle.tmpl_syntax.proofs.PlaceLemmas.{alike-back, alike-even, alike-opened, template-moves, template-opened, template-apart, levels-same, levels-opened, InLoop, loop-moves, else_before, else-same, loop-same, loop-same-back}
+use Rattle.tmpl_syntax.proofs.PlaceLemmas.{alike-back, alike-even, alike-opened, template-moves, template-opened, template-apart}
+use Rattle.tmpl_syntax.proofs.PlaceLemmas.{levels-same, levels-opened, InLoop, loop-moves, else_before, else-same, loop-same}
+use Rattle.tmpl_syntax.proofs.PlaceLemmas.{loop-same-back}
 use Rattle.tmpl_syntax.proofs.ScopeLemmas.{Brought, brought-same, brought-same-back, brought-opened, brought-header, brought-opened-back}
 use Rattle.tmpl_syntax.proofs.ElsePartLemmas.{Part, part-later, part-sooner}
 use Rattle.tmpl_syntax.specs.Place.Opening.{Opening}
@@ -123,7 +126,8 @@ module _ (xs : List Role) (i : ℕ) (names : List Name) (c : Opening) (p : Names
       (cases_lt l.0 i)
 
   module _ (own : is_template c ≡ false) where
-    here-plain : (l : Bool) → Decides l (InLoop xs (i + 1)) → l ≡ loops c false (in_loop t) → Here xs (i + 1) (Some (entered c p t (length names))) (names ++ p.declares)
+    here-plain : (l : Bool) → Decides l (InLoop xs (i + 1)) → l ≡ loops c false (in_loop t)
+        → Here xs (i + 1) (Some (entered c p t (length names))) (names ++ p.declares)
     here-plain l d dl = record {
       template = h.template;
       is_template_here = template-moves xs i (i + 1) (alike-opened xs (act_role (opener c p)) i c at refl o own) h.template h.is_template_here;

@@ -1,5 +1,6 @@
--- What stands after each action.
-use Rattle.std.proofs.Common.{arith, ◌≡◌, ◌≢◌, ℕ, ◌+◌, ◌<◌, ◌≤◌, Bool, true, false, List, [], ◌∷◌, ◌++◌, refl, sym, ap, ◌∙◌, subst, length, take, Option, Some, inl, inr, ⊎_elim, ◌⊎◌}
+-- For `one_verdict`: what stands after an opening, and where a further part of a control begins.
+use Rattle.std.proofs.Common.{arith, ◌≡◌, ◌≢◌, ℕ, ◌+◌, ◌<◌, ◌≤◌, Bool, true, false, List, [], ◌∷◌, ◌++◌, refl, sym, ap, ◌∙◌, subst, length}
+use Rattle.std.proofs.Common.{take, Option, Some, inl, inr, ⊎_elim, ◌⊎◌}
 use Rattle.std.specs.Prelude.{slice_get, Contains}
 use Rattle.std.specs.Bool.{Decides}
 use Rattle.std.proofs.lemmas.Bool.{cases_order, cases_lt}
@@ -60,14 +61,16 @@ module _ (xs : List Role) (i : ℕ) (names : List Name) (c : Opening) (p : Names
       (λ r. Contains-append_right names p.declares n r.0)
       (part-new n k))
 
-  part-first : (d : Control) → c ≡ opened.control d → (n : Name) → Contains (take (part_of d (length names) (length names + length p.declares)) (names ++ p.declares)) n → Part xs i (i + 1) n
+  part-first : (d : Control) → c ≡ opened.control d → (n : Name)
+      → Contains (take (part_of d (length names) (length names + length p.declares)) (names ++ p.declares)) n → Part xs i (i + 1) n
   part-first If e n k = part-wide (λ r. let g : opened.control If ≡ opened.control Range = sym e ∙ r in cc) n k
   part-first With e n k = part-wide (λ r. let g : opened.control With ≡ opened.control Range = sym e ∙ r in cc) n k
   part-first Range e n k =
       let s : take (length names) (names ++ p.declares) ≡ names = take_at names p.declares (length names) refl in
       earlier (h.to n (subst (λ l. Contains l n) s k))
 
-  part-first-back : (d : Control) → c ≡ opened.control d → (n : Name) → Part xs i (i + 1) n → Contains (take (part_of d (length names) (length names + length p.declares)) (names ++ p.declares)) n
+  part-first-back : (d : Control) → c ≡ opened.control d → (n : Name) → Part xs i (i + 1) n
+      → Contains (take (part_of d (length names) (length names + length p.declares)) (names ++ p.declares)) n
   part-first-back Range e n k =
       let s : take (length names) (names ++ p.declares) ≡ names = take_at names p.declares (length names) refl in
       subst (λ l. Contains l n) (sym s) (⊎_elim (λ b. h.back n b) (λ r. absurd (r.1 e)) (part-new n k))
@@ -89,7 +92,8 @@ module _ (xs : List Role) (i : ℕ) (names : List Name) (c : Opening) (p : Names
   }
 
 module _ (xs : List Role) (i : ℕ) (known : Known) (p : Names) (fs : List Frame) (s : Stands xs i known fs) where
-  control-opened : (d : Control) → slice_get xs i ≡ Some (act_role (opener (opened.control d) p)) → Stands xs (i + 1) (opened_names (opened.control d) p.declares known) (entered (opened.control d) p (top fs) (length known.inner) ∷ fs)
+  control-opened : (d : Control) → slice_get xs i ≡ Some (act_role (opener (opened.control d) p))
+      → Stands xs (i + 1) (opened_names (opened.control d) p.declares known) (entered (opened.control d) p (top fs) (length known.inner) ∷ fs)
   control-opened d at =
       let c = opened.control d in
       let o : IsOpening (slice_get xs i) c = subst (λ z. IsOpening z c) (sym at) refl in
@@ -107,7 +111,8 @@ module _ (xs : List Role) (i : ℕ) (known : Known) (p : Names) (fs : List Frame
       )
 
   -- in a template nothing is known, and behind it what is known here
-  pub stands-opened : (c : Opening) → slice_get xs i ≡ Some (act_role (opener c p)) → Stands xs (i + 1) (opened_names c p.declares known) (entered c p (top fs) (length known.inner) ∷ fs)
+  pub stands-opened : (c : Opening) → slice_get xs i ≡ Some (act_role (opener c p))
+      → Stands xs (i + 1) (opened_names c p.declares known) (entered c p (top fs) (length known.inner) ∷ fs)
   stands-opened (opened.control d) at = control-opened d at
   stands-opened opened.define at =
       let c = opened.define in
@@ -226,7 +231,8 @@ module _ (xs : List Role) (i : ℕ) (known : Known) (f : Frame) (fs : List Frame
     }
 
     below : take f.start (take f.part names ++ ds) ≡ take f.start names
-    below = take-append-le f.start (take f.part names) ds (let a = s.2.within.started in omega (arith, front)) ∙ take-take f.start f.part names s.2.within.started
+    below =
+        take-append-le f.start (take f.part names) ds (let a = s.2.within.started in omega (arith, front)) ∙ take-take f.start f.part names s.2.within.started
 
     pub stands-parted : Stands xs (i + 1) (with_inner known (take f.part names ++ ds)) (changed f has lv ds ∷ fs)
     stands-parted = (here-parted, s.1, stood-parted, subst (λ l. Stands xs s.1 (closed_if (is_template f.opening) (with_inner known l)) fs) (sym below) s.3)

@@ -11,7 +11,7 @@ pub use Rattle.tmpl_grammar.specs.computed.Token.{is_white, is_blank, without_fr
 use Rattle.tmpl_grammar.specs.computed.Parser.{start, commands_after}
 use Rattle.tmpl_grammar.specs.Tree.{Operand, Operands, Pipeline, pipeline, Binding, unbound}
 use Rattle.tmpl_grammar.specs.Tree.{declare, assign, declare_pair, Header, commands_from}
-use Rattle.tmpl_grammar.specs.Header.{may_bind}
+use Rattle.tmpl_grammar.specs.Header.{is_range, may_bind}
 use Rattle.tmpl_grammar.specs.Depth.{Reading}
 use Rattle.tmpl_grammar.specs.computed.Depth.{reading_of, pipeline_within}
 use Rattle.tmpl_grammar.specs.Action.{Action, pipeline_action, opening, plain_else, else_branch, end_action}
@@ -111,8 +111,13 @@ abbrev pub header_if : Bool → Binding → Option Pipeline → Option Header
 header_if true b o = option_map (header_with b) o
 header_if false b o = None
 
+-- whether the header of an action of this shape is that of a range
+abbrev pub opens_range : HeaderShape → Bool
+opens_range (shape.Open c) = is_range c
+opens_range s = false
+
 abbrev pub header_by : HeaderShape → Binding × List Token → Option Header
-header_by s h = header_if (may_bind s h.0) h.0 (pipeline_in h.1)
+header_by s h = header_if (may_bind (opens_range s) h.0) h.0 (pipeline_in h.1)
 
 -- the header of an action of this shape
 abbrev pub header_in : HeaderShape → List Token → Option Header

@@ -15,7 +15,8 @@ use Rattle.tmpl_syntax.proofs.FileLemmas.{parsed-long, refusal-placed, fine-plac
 use Rattle.tmpl_syntax.proofs.parse.add_file.Goals as goal
 
 -- definitions as templates in a file, one after the other
-in-file : (file : List ℕ) (ds : List held.Definition) → map (λ (d : held.Definition). template_in file (definition_of d)) ds ≡ map (template_in file) (map definition_of ds)
+in-file : (file : List ℕ) (ds : List held.Definition)
+    → map (λ (d : held.Definition). template_in file (definition_of d)) ds ≡ map (template_in file) (map definition_of ds)
 in-file file [] = refl
 in-file file (d ∷ ds) = ap (λ ts. template_in file (definition_of d) ∷ ts) (in-file file ds)
 

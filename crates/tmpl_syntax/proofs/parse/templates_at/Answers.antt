@@ -10,7 +10,9 @@ use Rattle.tmpl_syntax.proofs.SetLemmas.{Entry}
 use Rattle.tmpl_syntax.proofs.parse.templates_at.Goals as goal
 
 -- one more definition is a template
-one-more : (f : Definition → Template) (all : List Definition) (xs ys : List Entry) (x : Entry) (d : Definition) (ds rest : List Definition) → map template_of xs ++ map f rest ≡ map f all → rest ≡ d ∷ ds → template_of x ≡ f d → ys ≡ xs ++ x ∷ [] → map template_of ys ++ map f ds ≡ map f all
+one-more : (f : Definition → Template) (all : List Definition) (xs ys : List Entry) (x : Entry) (d : Definition) (ds rest : List Definition)
+    → map template_of xs ++ map f rest ≡ map f all → rest ≡ d ∷ ds → template_of x ≡ f d → ys ≡ xs ++ x ∷ []
+    → map template_of ys ++ map f ds ≡ map f all
 one-more f all xs ys x d ds rest so_far next is more =
     ap (λ zs. map template_of zs ++ map f ds) more
     ∙ ap (λ zs. zs ++ map f ds) (map-append template_of xs (x ∷ []))

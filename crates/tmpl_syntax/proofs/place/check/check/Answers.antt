@@ -6,7 +6,8 @@ use Rattle.tmpl_syntax.specs.Fault.{open_at_end, reason_of}
 use Rattle.tmpl_syntax.specs.computed.View.{item_of, frame_of, frames_in, known_names, scopes_of}
 use Rattle.tmpl_syntax.specs.Place.Role.{role_of, roles_of}
 use Rattle.tmpl_syntax.specs.computed.Fault.{of_action}
-use Rattle.tmpl_syntax.proofs.CheckLemmas.{checking-start, checking-past, checking-refused, checking-ended, item-at, role-at, checked-refused, checked-fine, checked-open}
+use Rattle.tmpl_syntax.proofs.CheckLemmas.{checking-start, checking-past, checking-refused, checking-ended, item-at, role-at}
+use Rattle.tmpl_syntax.proofs.CheckLemmas.{checked-refused, checked-fine, checked-open}
 use Rattle.tmpl_syntax.proofs.place.check.check.Goals as goal
 
 pub loop-item-init : goal.loop-item-init
