@@ -11,7 +11,6 @@ use Rattle.tmpl_syntax.specs.declared.tree.NodeKind.TheOpen.{Node-F, ControlNode
 use Rattle.tmpl_syntax.specs.declared.tree.ControlNode as held_control
 use Rattle.tmpl_syntax.specs.declared.tree.ControlNode.{fold-ControlNode}
 use Rattle.tmpl_syntax.specs.declared.tree.Tree as held_tree
-use Rattle.tmpl_syntax.specs.declared.item.ItemKind.TheVariants as held
 use Rattle.tmpl_syntax.specs.declared.set.Set.{Set}
 use Rattle.tmpl_syntax.specs.declared.set.Names.{Names}
 
