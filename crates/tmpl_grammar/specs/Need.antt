@@ -3,7 +3,7 @@
 use Rattle.std.specs.Prelude.{ℕ, suc, ◌+◌, max, Option, Some, None}
 use Rattle.tmpl_grammar.specs.Tree as tree
 use Rattle.tmpl_grammar.specs.Tree.{Operand, Operands, Commands, Pipeline}
-use Rattle.tmpl_grammar.specs.Tree.{Binding, declare, declare_pair}
+use Rattle.tmpl_grammar.specs.Tree.{Binding, unbound, declare, assign, declare_pair}
 
 -- a command, by its first operand: where that is a function what the call needs, and else what the operand needs alone,
 -- since nothing that stands behind it is computed
@@ -14,8 +14,15 @@ called_or_alone o call alone = alone
 abbrev mutual
   -- an operand: one for its value; parentheses need what the pipeline in them needs, and a chain no more than that
   pub need_of_operand : Operand → ℕ
+  need_of_operand tree.dot = 1
+  need_of_operand (tree.fields names) = 1
+  need_of_operand (tree.variable name names) = 1
+  need_of_operand (tree.bool_constant b) = 1
+  need_of_operand (tree.number_constant n) = 1
+  need_of_operand (tree.text_constant bytes) = 1
+  need_of_operand tree.nil = 1
+  need_of_operand (tree.function f) = 1
   need_of_operand (tree.group commands names) = need_of_commands 0 commands
-  need_of_operand o = 1
 
   -- the arguments of a call, above so many values that are held already: each is held while those behind are computed,
   -- and all are held at the call
@@ -45,6 +52,7 @@ need_of_given (Some p) = need_of_pipeline p
 
 -- how many variables are declared
 abbrev pub declared_count : Binding → ℕ
+declared_count unbound = 0
 declared_count (declare name) = 1
+declared_count (assign name) = 0
 declared_count (declare_pair key name) = 2
-declared_count b = 0

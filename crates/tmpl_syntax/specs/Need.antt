@@ -5,7 +5,7 @@ use Rattle.tmpl_grammar.specs.Need.{need_of_pipeline, need_of_given, declared_co
 use Rattle.tmpl_grammar.specs.declared.tree.Control.{Control}
 use Rattle.tmpl_grammar.specs.declared.tree.Control.TheVariants as control
 use Rattle.tmpl_syntax.specs.Tree as tree
-use Rattle.tmpl_syntax.specs.Tree.{NodeKind, action, control_node, template_node}
+use Rattle.tmpl_syntax.specs.Tree.{NodeKind, text, action, control_node, break_node, continue_node, template_node}
 use Rattle.tmpl_syntax.specs.Tree.{Nodes, Tree}
 use Rattle.tmpl_syntax.specs.Set.{Template}
 
@@ -20,18 +20,24 @@ need_of_parts control.Range declared body other = max (2 + declared + body) othe
 
 -- how many variables a node leaves to the nodes behind it: an action the one that it declares, a control none
 abbrev pub left_behind : NodeKind → ℕ
+left_behind (text bytes) = 0
 left_behind (action h) = declared_count h.binding
-left_behind n = 0
+left_behind (control_node c h body other) = 0
+left_behind break_node = 0
+left_behind continue_node = 0
+left_behind (template_node name given) = 0
 
 abbrev mutual
   -- while the pipeline of a header is computed its variables are not there yet
   pub need_of_node : NodeKind → ℕ
+  need_of_node (text bytes) = 0
   need_of_node (action h) = need_of_pipeline h.pipeline
   need_of_node (control_node c h body other) =
       max (need_of_pipeline h.pipeline)
       (need_of_parts c (declared_count h.binding) (need_of_nodes body) (need_of_nodes other))
+  need_of_node break_node = 0
+  need_of_node continue_node = 0
   need_of_node (template_node name given) = need_of_given given
-  need_of_node n = 0
 
   -- the most that one of the nodes needs, above the variables that those before it in this list leave
   pub need_of_nodes : Nodes → ℕ
