@@ -1,4 +1,4 @@
--- What the grammar spells, and what it does not.
+-- For the reader of the grammar: what it spells, and what it does not.
 use Rattle.std.proofs.Common.{ℕ, pos, List, [], ◌∷◌, refl, codes}
 use Rattle.tmpl_lex.specs.declared.piece.TokenKind.TheVariants as kind
 use Rattle.tmpl_lex.specs.Piece.{Token}
@@ -199,4 +199,5 @@ a-range-assigns = none-spelled (word (codes "range") ∷ space ∷ variable (cod
 
 no-second-name : Nothing (word (codes "range") ∷ space ∷ variable (codes "i") ∷ space ∷ comma ∷ space ∷ variable [] ∷ space ∷ declares ∷ space ∷ period ∷ [])
 unfolding action_in keyword_of split pipeline_in step finished operand_at
-no-second-name = none-spelled (word (codes "range") ∷ space ∷ variable (codes "i") ∷ space ∷ comma ∷ space ∷ variable [] ∷ space ∷ declares ∷ space ∷ period ∷ []) refl
+no-second-name =
+    none-spelled (word (codes "range") ∷ space ∷ variable (codes "i") ∷ space ∷ comma ∷ space ∷ variable [] ∷ space ∷ declares ∷ space ∷ period ∷ []) refl

@@ -1,4 +1,4 @@
--- The grammar of an action and its reading agree.
+-- For `one_action`: the grammar of an action and its reading agree, keyword by keyword.
 use Rattle.std.proofs.Common.{◌≡◌, ◌∙◌, ℕ, Bool, true, false, cond, List, Option, Some, None, refl, ap, sym, subst, bytes_eq}
 use Rattle.std.specs.Option.{option_map}
 use Rattle.std.proofs.lemmas.Option.{same_Some}
@@ -6,13 +6,19 @@ use lib.Pointwise.{bytes_decides}
 use Rattle.tmpl_lex.specs.declared.piece.TokenKind.{TokenKind}
 use Rattle.tmpl_lex.specs.declared.piece.TokenKind.TheVariants as kind
 use Rattle.tmpl_lex.specs.Piece.{Token}
-use Rattle.tmpl_grammar.specs.Token.{is_space_kind, is_white, is_blank, next}
+use Rattle.tmpl_grammar.specs.computed.Reading.{opens_range}
+use Rattle.tmpl_grammar.specs.computed.Token.{is_space_kind, is_white, is_blank, next}
 use Rattle.tmpl_grammar.specs.Tree.{Operand, text_constant, Commands, Pipeline, pipeline, Binding, unbound, declare, assign, declare_pair, Header}
-use Rattle.tmpl_grammar.specs.Action.{Action, pipeline_action, opening, plain_else, else_branch, end_action, break_action, continue_action, define_action, template_action, block_action, action_with, control_in, IsQuoted, SpellsGiven, SpellsAction}
+use Rattle.tmpl_grammar.specs.Action.{Action, pipeline_action, opening, plain_else, else_branch, end_action, break_action, continue_action}
+use Rattle.tmpl_grammar.specs.Action.{define_action, template_action, block_action, control_in, IsQuoted, SpellsGiven, SpellsAction}
+use Rattle.tmpl_grammar.specs.computed.Reading.{action_with}
 use Rattle.tmpl_grammar.specs.Pipeline.{IsBlank, SpellsPipeline}
 use Rattle.tmpl_grammar.specs.Header.{IsSign, IsVariable, Then, SpellsWhole, SpellsBinding, SpellsHeader}
-use Rattle.tmpl_grammar.specs.Keyword.{spelling, IsWord}
-use Rattle.tmpl_grammar.specs.computed.Reading.{header_in, spells_keyword, keyword_by, keyword_of, alone, branch_of, text_in, quoted_before, quoted_at, with_name, named_action, define_by, called, template_by, block_by, pipeline_in, else_branched, else_keyword, else_by, action_by, action_behind, action_at, action_in}
+use Rattle.tmpl_grammar.specs.Keyword.{IsWord}
+use Rattle.tmpl_grammar.specs.computed.Keyword.{spelling}
+use Rattle.tmpl_grammar.specs.computed.Reading.{header_in, spells_keyword, keyword_by, keyword_of, alone, branch_of, text_in, quoted_before}
+use Rattle.tmpl_grammar.specs.computed.Reading.{quoted_at, with_name, named_action, define_by, called, template_by, block_by, pipeline_in}
+use Rattle.tmpl_grammar.specs.computed.Reading.{else_branched, else_keyword, else_by, action_by, action_behind, action_at, action_in}
 use Rattle.tmpl_grammar.specs.computed.Constant.{constant_by, constant_of}
 use Rattle.tmpl_grammar.specs.Laws.{ReadsSpelledAction, SpellsReadAction, SpellsOneAction}
 use Rattle.tmpl_grammar.specs.declared.tree.Control.TheVariants as control
@@ -33,22 +39,15 @@ use Rattle.tmpl_grammar.proofs.HeaderLemmas.{variable-other, IsRest, header-read
 
 known : (k : Keyword) → spells_keyword (spelling k) ≡ Some k
 known (word.Control control.If) = refl
-known (word.Control control.With) = refl
-known (word.Control control.Range) = refl
-known word.Else = refl
-known word.End = refl
-known word.Break = refl
-known word.Continue = refl
-known word.Define = refl
-known word.Template = refl
-known word.Block = refl
+known _ = refl
 
-word-known : (k : Keyword) (t : Token) → IsWord k t → keyword_of t ≡ Some k
+word-known : (k : Keyword) (t : Token) → IsWord (spelling k) t → keyword_of t ≡ Some k
 unfolding keyword_of
 word-known k t w = ap (λ j. keyword_by j t.bytes) w.0 ∙ ap spells_keyword w.1 ∙ known k
 
 -- of a chain of tests, the one that holds
-chosen : (bs : List ℕ) (k j : Keyword) (rest : Option Keyword) → (rest ≡ Some k → bs ≡ spelling k) → (b : Bool) → bytes_eq bs (spelling j) ≡ b → cond b (Some j) rest ≡ Some k → bs ≡ spelling k
+chosen : (bs : List ℕ) (k j : Keyword) (rest : Option Keyword) → (rest ≡ Some k → bs ≡ spelling k) → (b : Bool)
+    → bytes_eq bs (spelling j) ≡ b → cond b (Some j) rest ≡ Some k → bs ≡ spelling k
 chosen bs k j rest more true is e = (bytes_decides bs (spelling j)).0 is ∙ ap spelling (same_Some j k e)
 chosen bs k j rest more false is e = more e
 
@@ -59,15 +58,15 @@ spelled-known bs k e =
     at : (j : Keyword) (rest : Option Keyword) → (rest ≡ Some k → bs ≡ spelling k) → cond (bytes_eq bs (spelling j)) (Some j) rest ≡ Some k → bs ≡ spelling k
     at j rest more e = chosen bs k j rest more (bytes_eq bs (spelling j)) refl e
 
-known-word : (t : Token) (k : Keyword) → keyword_of t ≡ Some k → IsWord k t
+known-word : (t : Token) (k : Keyword) → keyword_of t ≡ Some k → IsWord (spelling k) t
 unfolding keyword_of
 known-word t k e = by t.kind refl e
   where
-    by : (j : TokenKind) → t.kind ≡ j → keyword_by j t.bytes ≡ Some k → IsWord k t
+    by : (j : TokenKind) → t.kind ≡ j → keyword_by j t.bytes ≡ Some k → IsWord (spelling k) t
     by kind.Word is e = (is, spelled-known t.bytes k e)
     by j is e = no-value k e
 
-word-other : (k : Keyword) (t : Token) → IsWord k t → is_white t ≡ false
+word-other : (k : Keyword) (t : Token) → IsWord (spelling k) t → is_white t ≡ false
 word-other k t w = ap is_space_kind w.0
 
 -- ---- actions
@@ -78,17 +77,18 @@ pub record Keyed (k : Keyword) (Rest : List Token → Type 0) (ts : List Token) 
   pub is : action_in ts ≡ action_by k rest
   pub behind : Rest rest
 
-then-keyed : (k : Keyword) (Rest : List Token → Type 0) (ts : List Token) → Then (IsWord k) Rest ts → Keyed k Rest ts
+then-keyed : (k : Keyword) (Rest : List Token → Type 0) (ts : List Token) → Then (IsWord (spelling k)) Rest ts → Keyed k Rest ts
 unfolding action_in
 then-keyed k Rest ts s =
-    let l = then-led (IsWord k) Rest ts (word-other k) s in
+    let l = then-led (IsWord (spelling k)) Rest ts (word-other k) s in
     record {
       rest = l.rest;
       is = ap (λ o. action_at o ts) l.first_is ∙ ap (λ o. action_behind o l.rest ts) (word-known k l.token l.is);
       behind = l.behind;
     }
 
-keyed : (k : Keyword) (Rest : List Token → Type 0) (a : Action) → ((us : List Token) → Rest us → action_by k us ≡ Some a) → (ts : List Token) → Then (IsWord k) Rest ts → action_in ts ≡ Some a
+keyed : (k : Keyword) (Rest : List Token → Type 0) (a : Action) → ((us : List Token) → Rest us → action_by k us ≡ Some a)
+    → (ts : List Token) → Then (IsWord (spelling k)) Rest ts → action_in ts ≡ Some a
 keyed k Rest a f ts s = let r = then-keyed k Rest ts s in r.is ∙ f r.rest r.behind
 
 -- no keyword comes first in a header
@@ -110,7 +110,7 @@ pipeline-plain cs ts s = by (next ts) refl
     by-keyword : (t : Token) (us : List Token) → next ts ≡ Some (t, us) → (o : Option Keyword) → keyword_of t ≡ o → Plain ts
     by-keyword t us e None is = record { token = t; rest = us; first_is = e; other = is }
     by-keyword t us e (Some k) is =
-        spelled-lives ts cs s (dead-read ts (then-stray (IsWord k) (IsRest us) ts (word-stray k) (led-then (IsWord k) (IsRest us) ts t us e (known-word t k is) refl)))
+        spelled-lives ts cs s (dead-read ts (then-stray (IsWord (spelling k)) (IsRest us) ts (word-stray k) (led-then (IsWord (spelling k)) (IsRest us) ts t us e (known-word t k is) refl)))
 
     by : (o : Option (Token × List Token)) → next ts ≡ o → Plain ts
     by None e = spelled-lives ts cs s (blank-read ts (no-next ts e))
@@ -126,10 +126,11 @@ header-plain (assign name) p ts s = named-plain name (Then (IsSign kind.Assign) 
 header-plain (declare_pair key name) p ts s =
     named-plain key (Then (IsSign kind.Comma) (Then (IsVariable name) (Then (IsSign kind.Declare) (SpellsWhole p)))) ts s
 
-bound-read : (s : HeaderShape) (h : Header) (ts : List Token) → SpellsHeader s h ts → option_map (action_with s) (header_in s ts) ≡ Some (action_with s h)
+bound-read : (s : HeaderShape) (h : Header) (ts : List Token) → SpellsHeader (opens_range s) h ts
+    → option_map (action_with s) (header_in s ts) ≡ Some (action_with s h)
 bound-read s h ts spelled = ap (option_map (action_with s)) (header-read s h ts spelled)
 
-plain-read : (h : Header) (ts : List Token) → SpellsHeader shape.Pipeline h ts → action_in ts ≡ Some (pipeline_action h)
+plain-read : (h : Header) (ts : List Token) → SpellsHeader (opens_range shape.Pipeline) h ts → action_in ts ≡ Some (pipeline_action h)
 unfolding action_in
 plain-read h ts s =
     let l = header-plain h.binding h.pipeline ts s.1 in
@@ -140,9 +141,11 @@ plain-read h ts s =
 alone-read : (a : Action) (us : List Token) → IsBlank us → alone a us ≡ Some a
 alone-read a us b = ap (λ w. cond w (Some a) None) (blank-all us b)
 
-else-read : (k : Keyword) (us : List Token) (Rest : List Token → Type 0) (a : Action) → ((vs : List Token) → Rest vs → else_keyword (Some k) vs ≡ Some a) → Then (IsWord k) Rest us → action_by word.Else us ≡ Some a
+else-read : (k : Keyword) (us : List Token) (Rest : List Token → Type 0) (a : Action)
+    → ((vs : List Token) → Rest vs → else_keyword (Some k) vs ≡ Some a) → Then (IsWord (spelling k)) Rest us
+    → action_by word.Else us ≡ Some a
 else-read k us Rest a f s =
-    let l = then-led (IsWord k) Rest us (word-other k) s in
+    let l = then-led (IsWord (spelling k)) Rest us (word-other k) s in
     ap else_by l.first_is ∙ ap (λ o. else_keyword o l.rest) (word-known k l.token l.is) ∙ f l.rest l.behind
 
 -- a branch is found by the control with which it begins, and by no other keyword
@@ -153,39 +156,20 @@ branch-known branch.With = refl
 branch-keyword : (k : Keyword) (br : Branch) → branch_of k ≡ Some br → k ≡ word.Control (control_in br)
 branch-keyword (word.Control control.If) br e = ap (λ b. word.Control (control_in b)) (same_Some branch.If br e)
 branch-keyword (word.Control control.With) br e = ap (λ b. word.Control (control_in b)) (same_Some branch.With br e)
-branch-keyword (word.Control control.Range) br e = no-value br e
-branch-keyword word.Else br e = no-value br e
-branch-keyword word.End br e = no-value br e
-branch-keyword word.Break br e = no-value br e
-branch-keyword word.Continue br e = no-value br e
-branch-keyword word.Define br e = no-value br e
-branch-keyword word.Template br e = no-value br e
-branch-keyword word.Block br e = no-value br e
+branch-keyword _ br e = no-value br e
 
 -- ---- names in quotes
 
 quoted-other : (k : TokenKind) (name bs : List ℕ) → constant_by k bs ≡ Some (text_constant name) → is_space_kind k ≡ false
 quoted-other kind.Space name bs e = no-value (text_constant name) e
-quoted-other kind.Word name bs e = refl
-quoted-other kind.Number name bs e = refl
-quoted-other kind.Field name bs e = refl
-quoted-other kind.Dot name bs e = refl
-quoted-other kind.Variable name bs e = refl
-quoted-other kind.String name bs e = refl
-quoted-other kind.RawString name bs e = refl
-quoted-other kind.Character name bs e = refl
-quoted-other kind.Declare name bs e = refl
-quoted-other kind.Assign name bs e = refl
-quoted-other kind.Comma name bs e = refl
-quoted-other kind.Pipe name bs e = refl
-quoted-other kind.LeftParenthesis name bs e = refl
-quoted-other kind.RightParenthesis name bs e = refl
+quoted-other _ name bs e = refl
 
 quoted-solid : (name : List ℕ) (t : Token) → IsQuoted name t → is_white t ≡ false
 unfolding constant_of
 quoted-solid name t q = quoted-other t.kind name t.bytes (computes-constant t (text_constant name) q)
 
-named-read : (made : List ℕ → List Token → Option Action) (name : List ℕ) (Rest : List Token → Type 0) (a : Action) (us : List Token) → ((vs : List Token) → Rest vs → made name vs ≡ Some a) → Then (IsQuoted name) Rest us → named_action made us ≡ Some a
+named-read : (made : List ℕ → List Token → Option Action) (name : List ℕ) (Rest : List Token → Type 0) (a : Action) (us : List Token)
+    → ((vs : List Token) → Rest vs → made name vs ≡ Some a) → Then (IsQuoted name) Rest us → named_action made us ≡ Some a
 named-read made name Rest a us f s =
     let l = then-led (IsQuoted name) Rest us (quoted-solid name) s in
     ap (λ o. with_name made (quoted_at o)) l.first_is
@@ -214,7 +198,8 @@ record Quoted (made : List ℕ → List Token → Option Action) (us : List Toke
 quoted-from : (made : List ℕ → List Token → Option Action) (us : List Token) (a : Action) → named_action made us ≡ Some a → Quoted made us a
 quoted-from made us a e = by (next us) refl e
   where
-    by-constant : (t : Token) (vs : List Token) → next us ≡ Some (t, vs) → (o : Option Operand) → constant_of t ≡ o → with_name made (quoted_before vs (text_in o)) ≡ Some a → Quoted made us a
+    by-constant : (t : Token) (vs : List Token) → next us ≡ Some (t, vs) → (o : Option Operand) → constant_of t ≡ o
+        → with_name made (quoted_before vs (text_in o)) ≡ Some a → Quoted made us a
     by-constant t vs n (Some (text_constant name)) is e =
         record { name = name; token = t; rest = vs; first_is = n; quoted = is-computed-constant t (text_constant name) is; is = e }
     by-constant t vs n o is e = no-value a e
@@ -244,11 +229,11 @@ given-spelled name vs a e = by (is_blank vs) refl e
 pub reads-action : ReadsSpelledAction
 reads-action ts (pipeline_action h) s = plain-read h ts s
 reads-action ts (opening c h) s =
-    keyed (word.Control c) (SpellsHeader (shape.Open c) h) (opening c h) (λ us spelled. bound-read (shape.Open c) h us spelled) ts s
+    keyed (word.Control c) (SpellsHeader (opens_range (shape.Open c)) h) (opening c h) (λ us spelled. bound-read (shape.Open c) h us spelled) ts s
 reads-action ts plain_else s = keyed word.Else IsBlank plain_else (λ us b. ap else_by (blank-next us b)) ts s
 reads-action ts (else_branch br h) s =
-    let Spelled : List Token → Type 0 = SpellsHeader (shape.ElseBranch br) h in
-    keyed word.Else (Then (IsWord (word.Control (control_in br))) Spelled) (else_branch br h)
+    let Spelled : List Token → Type 0 = SpellsHeader (opens_range (shape.ElseBranch br)) h in
+    keyed word.Else (Then (IsWord (spelling (word.Control (control_in br)))) Spelled) (else_branch br h)
     (λ us t. else-read (word.Control (control_in br)) us Spelled (else_branch br h) (λ vs spelled. ap (λ o. else_branched o vs) (branch-known br) ∙ bound-read (shape.ElseBranch br) h vs spelled) t) ts s
 reads-action ts end_action s = keyed word.End IsBlank end_action (alone-read end_action) ts s
 reads-action ts break_action s = keyed word.Break IsBlank break_action (alone-read break_action) ts s
@@ -273,20 +258,24 @@ alone-blank a c us e = by (is_blank us) refl e
 
 module _ (ts : List Token) (a : Action) where
   -- an action with a header, by the tokens of the header
-  bound-spelled : (s : HeaderShape) (us : List Token) → ((h : Header) → SpellsHeader s h us → SpellsAction (action_with s h) ts) → option_map (action_with s) (header_in s us) ≡ Some a → SpellsAction a ts
+  bound-spelled : (s : HeaderShape) (us : List Token)
+      → ((h : Header) → SpellsHeader (opens_range s) h us → SpellsAction (action_with s h) ts)
+      → option_map (action_with s) (header_in s us) ≡ Some a → SpellsAction a ts
   bound-spelled s us f e =
       let h = mapped (action_with s) (header_in s us) a e in
       subst (λ x. SpellsAction x ts) h.to (f h.source (header-spelled s h.source us h.is))
 
-  alone-spelled : (k : Keyword) (c : Action) (t : Token) (us : List Token) → next ts ≡ Some (t, us) → IsWord k t → (Then (IsWord k) IsBlank ts → SpellsAction c ts) → alone c us ≡ Some a → SpellsAction a ts
+  alone-spelled : (k : Keyword) (c : Action) (t : Token) (us : List Token) → next ts ≡ Some (t, us) → IsWord (spelling k) t
+      → (Then (IsWord (spelling k)) IsBlank ts → SpellsAction c ts) → alone c us ≡ Some a → SpellsAction a ts
   alone-spelled k c t us n w f e =
       let b = alone-blank c a us e in
-      subst (λ x. SpellsAction x ts) b.1 (f (led-then (IsWord k) IsBlank ts t us n w b.0))
+      subst (λ x. SpellsAction x ts) b.1 (f (led-then (IsWord (spelling k)) IsBlank ts t us n w b.0))
 
-  else-spelled : (t : Token) (us : List Token) → next ts ≡ Some (t, us) → IsWord word.Else t → else_by (next us) ≡ Some a → SpellsAction a ts
+  else-spelled : (t : Token) (us : List Token) → next ts ≡ Some (t, us) → IsWord (spelling word.Else) t → else_by (next us) ≡ Some a → SpellsAction a ts
   else-spelled t us n w e = by (next us) refl e
     where
-      by-keyword : (s : Token) (vs : List Token) → next us ≡ Some (s, vs) → (o : Option Keyword) → keyword_of s ≡ o → else_keyword o vs ≡ Some a → SpellsAction a ts
+      by-keyword : (s : Token) (vs : List Token) → next us ≡ Some (s, vs) → (o : Option Keyword) → keyword_of s ≡ o
+          → else_keyword o vs ≡ Some a → SpellsAction a ts
       by-keyword s vs m None is e = no-value a e
       by-keyword s vs m (Some k) is e = by-branch (branch_of k) refl e
         where
@@ -294,22 +283,24 @@ module _ (ts : List Token) (a : Action) where
           by-branch None found e = no-value a e
           by-branch (Some br) found e =
               bound-spelled (shape.ElseBranch br) vs
-              (λ h spelled. let Spelled : List Token → Type 0 = SpellsHeader (shape.ElseBranch br) h in
+              (λ h spelled. let Spelled : List Token → Type 0 = SpellsHeader (opens_range (shape.ElseBranch br)) h in
               let key : Keyword = word.Control (control_in br) in
-              led-then (IsWord word.Else) (Then (IsWord key) Spelled) ts t us n w
-              (led-then (IsWord key) Spelled us s vs m (subst (λ x. IsWord x s) (branch-keyword k br found) (known-word s k is)) spelled)) e
+              led-then (IsWord (spelling word.Else)) (Then (IsWord (spelling key)) Spelled) ts t us n w
+              (led-then (IsWord (spelling key)) Spelled us s vs m (subst (λ x. IsWord (spelling x) s) (branch-keyword k br found) (known-word s k is)) spelled)) e
 
       by : (o : Option (Token × List Token)) → next us ≡ o → else_by o ≡ Some a → SpellsAction a ts
-      by None m e = subst (λ x. SpellsAction x ts) (same_Some plain_else a e) (led-then (IsWord word.Else) IsBlank ts t us n w (no-next us m))
+      by None m e = subst (λ x. SpellsAction x ts) (same_Some plain_else a e) (led-then (IsWord (spelling word.Else)) IsBlank ts t us n w (no-next us m))
       by (Some p) m e = by-keyword p.0 p.1 m (keyword_of p.0) refl e
 
-  named-spelled : (k : Keyword) (name : List ℕ) (Rest : List Token → Type 0) (t : Token) (us : List Token) → next ts ≡ Some (t, us) → IsWord k t → (s : Token) (vs : List Token) → next us ≡ Some (s, vs) → IsQuoted name s → Rest vs → Then (IsWord k) (Then (IsQuoted name) Rest) ts
+  named-spelled : (k : Keyword) (name : List ℕ) (Rest : List Token → Type 0) (t : Token) (us : List Token) → next ts ≡ Some (t, us)
+      → IsWord (spelling k) t → (s : Token) (vs : List Token) → next us ≡ Some (s, vs) → IsQuoted name s → Rest vs
+      → Then (IsWord (spelling k)) (Then (IsQuoted name) Rest) ts
   named-spelled k name Rest t us n w s vs m q rest =
-      led-then (IsWord k) (Then (IsQuoted name) Rest) ts t us n w (led-then (IsQuoted name) Rest us s vs m q rest)
+      led-then (IsWord (spelling k)) (Then (IsQuoted name) Rest) ts t us n w (led-then (IsQuoted name) Rest us s vs m q rest)
 
-  keyword-spelled : (k : Keyword) (t : Token) (us : List Token) → next ts ≡ Some (t, us) → IsWord k t → action_by k us ≡ Some a → SpellsAction a ts
+  keyword-spelled : (k : Keyword) (t : Token) (us : List Token) → next ts ≡ Some (t, us) → IsWord (spelling k) t → action_by k us ≡ Some a → SpellsAction a ts
   keyword-spelled (word.Control c) t us n w e =
-      bound-spelled (shape.Open c) us (λ h spelled. led-then (IsWord (word.Control c)) (SpellsHeader (shape.Open c) h) ts t us n w spelled) e
+      bound-spelled (shape.Open c) us (λ h spelled. led-then (IsWord (spelling (word.Control c))) (SpellsHeader (opens_range (shape.Open c)) h) ts t us n w spelled) e
   keyword-spelled word.Else t us n w e = else-spelled t us n w e
   keyword-spelled word.End t us n w e = alone-spelled word.End end_action t us n w (λ s. s) e
   keyword-spelled word.Break t us n w e = alone-spelled word.Break break_action t us n w (λ s. s) e

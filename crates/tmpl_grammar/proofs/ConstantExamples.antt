@@ -1,4 +1,4 @@
--- What the definition of constants says of some tokens, computed.
+-- For the reader of constants: what their definition says of some tokens, computed.
 use Prim.Native.String.{String}
 use Rattle.std.proofs.Common.{◌≡◌, pos, negsuc, [], ◌∷◌, Option, Some, None, refl, codes, arith}
 use Rattle.tmpl_lex.specs.declared.piece.TokenKind.TheVariants as kind

@@ -1,4 +1,4 @@
--- What the operands of one token are.
+-- For `one_reading`: what the operands of one token are, since a chain may follow some of them alone.
 use Rattle.std.proofs.Common.{◌≡◌, ℕ, ℤ, pos, Bool, true, false, List, [], ◌∷◌, Option, Some, None, refl, cond, bytes_eq, codes}
 use Rattle.std.specs.Option.{option_map, option_and_then}
 use Rattle.tmpl_funcs.specs.declared.func.Func.{Func}
@@ -17,15 +17,9 @@ use Rattle.tmpl_grammar.specs.Depth.{depth_of_operand}
 -- a number or a text
 abbrev pub IsValue : Option Operand → Type 0
 IsValue None = Unit {0}
-IsValue (Some tree.dot) = ⊥
-IsValue (Some (tree.fields names)) = ⊥
-IsValue (Some (tree.variable name names)) = ⊥
-IsValue (Some (tree.bool_constant b)) = ⊥
 IsValue (Some (tree.number_constant n)) = Unit {0}
 IsValue (Some (tree.text_constant bytes)) = Unit {0}
-IsValue (Some tree.nil) = ⊥
-IsValue (Some (tree.function f)) = ⊥
-IsValue (Some (tree.group commands names)) = ⊥
+IsValue _ = ⊥
 
 number-value : (o : Option ℤ) → IsValue (option_map tree.number_constant o)
 number-value None = tt
@@ -56,17 +50,7 @@ value-by kind.Number bytes = number-value (integer bytes)
 value-by kind.String bytes = string-value (between 34 bytes)
 value-by kind.RawString bytes = raw-value (between 96 bytes)
 value-by kind.Character bytes = character-value (between 39 bytes)
-value-by kind.Space bytes = tt
-value-by kind.Word bytes = tt
-value-by kind.Field bytes = tt
-value-by kind.Dot bytes = tt
-value-by kind.Variable bytes = tt
-value-by kind.Declare bytes = tt
-value-by kind.Assign bytes = tt
-value-by kind.Comma bytes = tt
-value-by kind.Pipe bytes = tt
-value-by kind.LeftParenthesis bytes = tt
-value-by kind.RightParenthesis bytes = tt
+value-by _ bytes = tt
 
 pub constant-value : (t : Token) → IsValue (constant_of t)
 unfolding constant_of
@@ -74,28 +58,16 @@ constant-value t = value-by t.kind t.bytes
 
 -- an operand of one token
 abbrev pub IsToken : Option Operand → Type 0
-IsToken None = Unit {0}
-IsToken (Some tree.dot) = Unit {0}
 IsToken (Some (tree.fields names)) = (n : List ℕ) × (names ≡ n ∷ [])
 IsToken (Some (tree.variable name names)) = names ≡ []
-IsToken (Some (tree.bool_constant b)) = Unit {0}
-IsToken (Some (tree.number_constant n)) = Unit {0}
-IsToken (Some (tree.text_constant bytes)) = Unit {0}
-IsToken (Some tree.nil) = Unit {0}
-IsToken (Some (tree.function f)) = Unit {0}
 IsToken (Some (tree.group commands names)) = ⊥
+IsToken _ = Unit {0}
 
 value-token : (o : Option Operand) → IsValue o → IsToken o
-value-token None v = tt
-value-token (Some tree.dot) v = tt
 value-token (Some (tree.fields names)) v = absurd v
 value-token (Some (tree.variable name names)) v = absurd v
-value-token (Some (tree.bool_constant b)) v = tt
-value-token (Some (tree.number_constant n)) v = tt
-value-token (Some (tree.text_constant bytes)) v = tt
-value-token (Some tree.nil) v = tt
-value-token (Some (tree.function f)) v = tt
 value-token (Some (tree.group commands names)) v = absurd v
+value-token _ v = tt
 
 function-token : (o : Option Func) → IsToken (option_map tree.function o)
 function-token None = tt
@@ -117,7 +89,6 @@ field-token true name = (name, refl)
 field-token false name = tt
 
 token-by : (k : TokenKind) (t : Token) → IsToken (operand_by k t)
-token-by kind.Dot t = tt
 token-by kind.Field t = field-token (begins_name (name_in t)) (name_in t)
 token-by kind.Variable t = refl
 token-by kind.Word t = word-token t.bytes
@@ -125,13 +96,7 @@ token-by kind.Number t = value-token (constant_of t) (constant-value t)
 token-by kind.String t = value-token (constant_of t) (constant-value t)
 token-by kind.RawString t = value-token (constant_of t) (constant-value t)
 token-by kind.Character t = value-token (constant_of t) (constant-value t)
-token-by kind.Space t = tt
-token-by kind.Declare t = tt
-token-by kind.Assign t = tt
-token-by kind.Comma t = tt
-token-by kind.Pipe t = tt
-token-by kind.LeftParenthesis t = tt
-token-by kind.RightParenthesis t = tt
+token-by _ t = tt
 
 pub token-form : (t : Token) → IsToken (operand_at t)
 unfolding operand_at
@@ -144,15 +109,8 @@ IsFlat (Some o) = depth_of_operand o ≡ 0
 
 token-flat : (o : Option Operand) → IsToken o → IsFlat o
 token-flat None is = tt
-token-flat (Some tree.dot) is = refl
-token-flat (Some (tree.fields names)) is = refl
-token-flat (Some (tree.variable name names)) is = refl
-token-flat (Some (tree.bool_constant b)) is = refl
-token-flat (Some (tree.number_constant n)) is = refl
-token-flat (Some (tree.text_constant bytes)) is = refl
-token-flat (Some tree.nil) is = refl
-token-flat (Some (tree.function f)) is = refl
 token-flat (Some (tree.group commands names)) is = absurd is
+token-flat _ is = refl
 
 pub flat-at : (t : Token) → IsFlat (operand_at t)
 flat-at t = token-flat (operand_at t) (token-form t)

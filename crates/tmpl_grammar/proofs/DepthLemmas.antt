@@ -1,4 +1,4 @@
--- How deep a pipeline is that is read in part, and that the parser's steps keep it.
+-- For `pipeline`: how deep a pipeline is that is read in part, and that the parser's steps keep it.
 use Rattle.std.proofs.Common.{arith, ◌≡◌, ◌∙◌, ◌≤◌, ℕ, ◌+◌, max, Bool, true, false, List, [], ◌∷◌, ◌++◌, Option, Some, None, refl, ap, sym, subst, length}
 use Rattle.std.specs.Option.{option_map, option_and_then}
 use Rattle.tmpl_lex.specs.declared.piece.TokenKind.{TokenKind}
@@ -86,15 +86,10 @@ IsAsDeep o None = Unit {0}
 IsAsDeep o (Some p) = depth_of_operand o ≡ depth_of_operand p
 
 linked-deep : (o : Operand) (name : List ℕ) → IsAsDeep o (parser.linked o name)
-linked-deep tree.dot name = tt
 linked-deep (tree.fields names) name = refl
 linked-deep (tree.variable x names) name = refl
-linked-deep (tree.bool_constant b) name = tt
-linked-deep (tree.number_constant n) name = tt
-linked-deep (tree.text_constant bytes) name = tt
-linked-deep tree.nil name = tt
-linked-deep (tree.function f) name = tt
 linked-deep (tree.group commands names) name = refl
+linked-deep _ name = tt
 
 linked_by-deep : (b : Bool) (o : Operand) (name : List ℕ) → IsAsDeep o (linked_by b o name)
 linked_by-deep true o name = linked-deep o name
@@ -119,7 +114,8 @@ opened-steps : (h : Parser) (last : Option Operand) → last ≡ h.last → Step
 opened-steps h None e = let d : deep_last h.last ≡ 0 = ap deep_last (sym e) in omega (arith, d)
 opened-steps h (Some o) e = tt
 
-left-steps : (h : Parser) (ls : List Partial) (o : Option (List Operands)) → ls ≡ h.outer → IsClosed (max (deep_partial h.inner) (deep_last h.last)) o → Steps h (parser.left_with ls o)
+left-steps : (h : Parser) (ls : List Partial) (o : Option (List Operands)) → ls ≡ h.outer
+    → IsClosed (max (deep_partial h.inner) (deep_last h.last)) o → Steps h (parser.left_with ls o)
 left-steps h [] o e c = tt
 left-steps h (l ∷ ls) None e c = tt
 left-steps h (l ∷ ls) (Some cs) e c =
@@ -134,16 +130,7 @@ step_by-steps kind.Pipe t h = barred-steps h (closed h) (closed-depth h)
 step_by-steps kind.LeftParenthesis t h = opened-steps h h.last refl
 step_by-steps kind.RightParenthesis t h = left-steps h h.outer (closed h) refl (closed-depth h)
 step_by-steps kind.Field t h = fielded-steps h h.last t refl
-step_by-steps kind.Word t h = placed-steps h h.last (operand_at t) refl (flat-at t)
-step_by-steps kind.Number t h = placed-steps h h.last (operand_at t) refl (flat-at t)
-step_by-steps kind.Dot t h = placed-steps h h.last (operand_at t) refl (flat-at t)
-step_by-steps kind.Variable t h = placed-steps h h.last (operand_at t) refl (flat-at t)
-step_by-steps kind.String t h = placed-steps h h.last (operand_at t) refl (flat-at t)
-step_by-steps kind.RawString t h = placed-steps h h.last (operand_at t) refl (flat-at t)
-step_by-steps kind.Character t h = placed-steps h h.last (operand_at t) refl (flat-at t)
-step_by-steps kind.Declare t h = placed-steps h h.last (operand_at t) refl (flat-at t)
-step_by-steps kind.Assign t h = placed-steps h h.last (operand_at t) refl (flat-at t)
-step_by-steps kind.Comma t h = placed-steps h h.last (operand_at t) refl (flat-at t)
+step_by-steps _ t h = placed-steps h h.last (operand_at t) refl (flat-at t)
 
 pub step-steps : (t : Token) (h : Parser) → Steps h (step t h)
 unfolding step
@@ -155,7 +142,8 @@ pub finished-depth : (h : Parser) → IsClosed (parser_depth h) (finished h)
 unfolding finished
 finished-depth h = by h.outer refl (closed h) (closed-depth h)
   where
-    by : (ls : List Partial) → ls ≡ h.outer → (o : Option (List Operands)) → IsClosed (max (deep_partial h.inner) (deep_last h.last)) o → IsClosed (parser_depth h) (parser.finished_with ls o)
+    by : (ls : List Partial) → ls ≡ h.outer → (o : Option (List Operands)) → IsClosed (max (deep_partial h.inner) (deep_last h.last)) o
+        → IsClosed (parser_depth h) (parser.finished_with ls o)
     by [] e None c = tt
     by [] e (Some cs) c =
         let n : length h.outer ≡ 0 = ap length (sym e) in
@@ -180,7 +168,8 @@ pub none-behind : (ts : List Token) → steps None ts ≡ None
 none-behind [] = refl
 none-behind (t ∷ ts) = none-behind ts
 
-behind-least : (h : Parser) (ts : List Token) (o : Option Parser) → Steps h o → ((r : Parser) → IsAtLeast (parser_depth r) (commands_after r ts)) → IsAtLeast (parser_depth h) (option_and_then finished (steps o ts))
+behind-least : (h : Parser) (ts : List Token) (o : Option Parser) → Steps h o
+    → ((r : Parser) → IsAtLeast (parser_depth r) (commands_after r ts)) → IsAtLeast (parser_depth h) (option_and_then finished (steps o ts))
 behind-least h ts None s rest = subst (λ o. IsAtLeast (parser_depth h) (option_and_then finished o)) (sym (none-behind ts)) tt
 behind-least h ts (Some r) s rest = less-least (parser_depth h) (parser_depth r) (commands_after r ts) (omega (arith, s)) (rest r)
 

@@ -1,5 +1,6 @@
--- Digits at the front, and the number that they write.
-use Rattle.std.proofs.Common.{◌≡◌, ◌∙◌, ℕ, ◌+◌, ◌*◌, ◌-◌, ◌<◌, ◌≤◌, Bool, true, false, ◌&&◌, cond, List, [], ◌∷◌, ◌++◌, length, take, drop, Option, Some, None, nat_lt, nat_le, if◌then◌else◌, refl, sym, ap, arith, length-append}
+-- For `one_constant`: digits at the front, and the number that they write, as escapes have them.
+use Rattle.std.proofs.Common.{◌≡◌, ◌∙◌, ℕ, ◌+◌, ◌*◌, ◌-◌, ◌<◌, ◌≤◌, Bool, true, false, ◌&&◌, cond, List, [], ◌∷◌, ◌++◌, length, take, drop}
+use Rattle.std.proofs.Common.{Option, Some, None, nat_lt, nat_le, refl, sym, ap, arith, length-append, if◌then◌else◌}
 use Rattle.std.specs.List.{list_all}
 use Rattle.std.specs.Char.{digit_value, is_digit}
 use Rattle.std.specs.Str.Parse.{AllDigits, digits_value}
@@ -84,7 +85,5 @@ two-low m n h k = omega arith
 
 -- two digits of base 16 are a byte
 pub hex-byte : (ds : List ℕ) → AreDigits 16 2 ds → digits_value 16 ds < 256
-hex-byte [] are = absurd (omega (arith, are.0))
-hex-byte (a ∷ []) are = absurd (omega (arith, are.0))
 hex-byte (a ∷ b ∷ []) are = two-low (digit_value a) (digit_value b) are.1.0 are.1.1.0
-hex-byte (a ∷ b ∷ c ∷ ds) are = absurd (omega (arith, are.0))
+hex-byte _ are = absurd (omega (arith, are.0))

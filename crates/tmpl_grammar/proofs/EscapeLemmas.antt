@@ -1,12 +1,13 @@
--- The escapes that are computed are those that the relation admits.
-use Rattle.std.proofs.Common.{◌≡◌, ◌∙◌, ℕ, ◌+◌, ◌<◌, ◌≤◌, Bool, true, false, nat_eq, nat_lt, List, [], ◌∷◌, ◌++◌, length, Option, Some, None, option_and_then, if◌then◌else◌, refl, ap, subst, arith}
+-- For `one_constant`: the escapes that are computed are those that the relation admits.
+use Rattle.std.proofs.Common.{◌≡◌, ◌∙◌, ℕ, ◌+◌, ◌<◌, ◌≤◌, Bool, true, false, nat_eq, nat_lt, List, [], ◌∷◌, ◌++◌, length, Option, Some}
+use Rattle.std.proofs.Common.{None, option_and_then, refl, ap, subst, arith, if◌then◌else◌}
 use Rattle.std.specs.Str.Parse.{digits_value}
 use Rattle.std.proofs.lemmas.Bool.Decides.{nat_tests}
 use lib.Utf8.{scalar}
-use Rattle.tmpl_grammar.specs.Constant.Quoted.{AreDigits, IsEscape, alert, backspace, form_feed, newline, carriage_return, tab, vertical_tab, backslash, the_quote, octal, two_digits, four_digits, eight_digits}
+use Rattle.tmpl_values.specs.Rune.{Rune, char, byte}
+use Rattle.tmpl_grammar.specs.Constant.Quoted.{AreDigits, IsEscape, alert, backspace, form_feed, newline, carriage_return, tab}
+use Rattle.tmpl_grammar.specs.Constant.Quoted.{vertical_tab, backslash, the_quote, octal, two_digits, four_digits, eight_digits}
 use Rattle.tmpl_grammar.specs.computed.Quoted.{Spelled, as_byte, as_char, code, byte_named, coded, escape_by, escape, part_at}
-use Rattle.tmpl_grammar.specs.declared.constant.quoted.Part.{Part}
-use Rattle.tmpl_grammar.specs.declared.constant.quoted.Part.TheVariants.{Byte, Char}
 use Rattle.tmpl_grammar.proofs.DigitLemmas.{code-digits, FrontDigits, HasDigits, code-has, octal-digit, hex-byte}
 
 -- what ends a string, and what ends a character
@@ -28,20 +29,20 @@ not-lettered e bs low high =
     rw (x, u, U) refl
 
 byte-read : (base count : ℕ) (ds rest : List ℕ) → AreDigits base count ds → digits_value base ds < 256
-    → option_and_then (as_byte 4) (code base count (ds ++ rest)) ≡ Some (Byte (digits_value base ds), 4)
+    → option_and_then (as_byte 4) (code base count (ds ++ rest)) ≡ Some (byte (digits_value base ds), 4)
 byte-read base count ds rest are h =
     let low : nat_lt (digits_value base ds) 256 ≡ true = grind (arith, nat_tests) in
     ap (option_and_then (as_byte 4)) (code-digits base count ds rest are)
-    ∙ ap (λ t. if t then Some (Byte (digits_value base ds), 4) else None) low
+    ∙ ap (λ t. if t then Some (byte (digits_value base ds), 4) else None) low
 
 char-read : (len count : ℕ) (ds rest : List ℕ) → AreDigits 16 count ds → scalar (digits_value 16 ds) ≡ true
-    → option_and_then (as_char len) (code 16 count (ds ++ rest)) ≡ Some (Char (digits_value 16 ds), len)
+    → option_and_then (as_char len) (code 16 count (ds ++ rest)) ≡ Some (char (digits_value 16 ds), len)
 char-read len count ds rest are s =
     ap (option_and_then (as_char len)) (code-digits 16 count ds rest are)
-    ∙ ap (λ t. if t then Some (Char (digits_value 16 ds), len) else None) s
+    ∙ ap (λ t. if t then Some (char (digits_value 16 ds), len) else None) s
 
 octal-read : (quote : ℕ) (ds rest : List ℕ) → IsMark quote → AreDigits 8 3 ds → digits_value 8 ds < 256
-    → escape quote (ds ++ rest) ≡ Some (Byte (digits_value 8 ds), 4)
+    → escape quote (ds ++ rest) ≡ Some (byte (digits_value 8 ds), 4)
 octal-read quote [] rest m are h = absurd (omega (arith, are.0))
 octal-read quote (e ∷ ds) rest m are h =
     let range = octal-digit e are.1.0 in
@@ -49,57 +50,39 @@ octal-read quote (e ∷ ds) rest m are h =
     ∙ not-lettered e (ds ++ rest) range.0 range.1
     ∙ byte-read 8 3 (e ∷ ds) rest are h
 
-hex-read : (quote : ℕ) (ds rest : List ℕ) → IsMark quote → AreDigits 16 2 ds → escape quote (120 ∷ (ds ++ rest)) ≡ Some (Byte (digits_value 16 ds), 4)
+hex-read : (quote : ℕ) (ds rest : List ℕ) → IsMark quote → AreDigits 16 2 ds → escape quote (120 ∷ (ds ++ rest)) ≡ Some (byte (digits_value 16 ds), 4)
 hex-read _ ds rest double are = byte-read 16 2 ds rest are (hex-byte ds are)
 hex-read _ ds rest single are = byte-read 16 2 ds rest are (hex-byte ds are)
 
 four-read : (quote : ℕ) (ds rest : List ℕ) → IsMark quote → AreDigits 16 4 ds → scalar (digits_value 16 ds) ≡ true
-    → escape quote (117 ∷ (ds ++ rest)) ≡ Some (Char (digits_value 16 ds), 6)
+    → escape quote (117 ∷ (ds ++ rest)) ≡ Some (char (digits_value 16 ds), 6)
 four-read _ ds rest double are s = char-read 6 4 ds rest are s
 four-read _ ds rest single are s = char-read 6 4 ds rest are s
 
 eight-read : (quote : ℕ) (ds rest : List ℕ) → IsMark quote → AreDigits 16 8 ds → scalar (digits_value 16 ds) ≡ true
-    → escape quote (85 ∷ (ds ++ rest)) ≡ Some (Char (digits_value 16 ds), 10)
+    → escape quote (85 ∷ (ds ++ rest)) ≡ Some (char (digits_value 16 ds), 10)
 eight-read _ ds rest double are s = char-read 10 8 ds rest are s
 eight-read _ ds rest single are s = char-read 10 8 ds rest are s
 
-quote-read : (quote : ℕ) (rest : List ℕ) → IsMark quote → escape quote (quote ∷ rest) ≡ Some (Byte quote, 2)
+quote-read : (quote : ℕ) (rest : List ℕ) → IsMark quote → escape quote (quote ∷ rest) ≡ Some (byte quote, 2)
 quote-read _ rest double = refl
 quote-read _ rest single = refl
 
-sized : (p : Part) (m n : ℕ) (o : Option Spelled) → o ≡ Some (p, m) → m ≡ n → o ≡ Some (p, n)
+sized : (p : Rune) (m n : ℕ) (o : Option Spelled) → o ≡ Some (p, m) → m ≡ n → o ≡ Some (p, n)
 sized p m n o is e = is ∙ ap (λ k. Some (p, k)) e
 
-pub escape-at : (quote : ℕ) (s rest : List ℕ) (p : Part) → IsMark quote → IsEscape quote s p → part_at quote (s ++ rest) ≡ Some (p, length s)
+pub escape-at : (quote : ℕ) (s rest : List ℕ) (p : Rune) → IsMark quote → IsEscape quote s p → part_at quote (s ++ rest) ≡ Some (p, length s)
 unfolding part_at
-escape-at quote _ rest _ m alert = refl
-escape-at quote _ rest _ m backspace = refl
-escape-at quote _ rest _ m form_feed = refl
-escape-at quote _ rest _ m newline = refl
-escape-at quote _ rest _ m carriage_return = refl
-escape-at quote _ rest _ m tab = refl
-escape-at quote _ rest _ m vertical_tab = refl
-escape-at quote _ rest _ m backslash = refl
 escape-at quote _ rest _ m the_quote = quote-read quote rest m
 escape-at quote _ rest _ m (octal {ds = ds} are h) = sized _ 4 (length (92 ∷ ds)) _ (octal-read quote ds rest m are h) (omega (arith, are.0))
 escape-at quote _ rest _ m (two_digits {ds = ds} are) = sized _ 4 (length (92 ∷ 120 ∷ ds)) _ (hex-read quote ds rest m are) (omega (arith, are.0))
 escape-at quote _ rest _ m (four_digits {ds = ds} are s) = sized _ 6 (length (92 ∷ 117 ∷ ds)) _ (four-read quote ds rest m are s) (omega (arith, are.0))
 escape-at quote _ rest _ m (eight_digits {ds = ds} are s) = sized _ 10 (length (92 ∷ 85 ∷ ds)) _ (eight-read quote ds rest m are s) (omega (arith, are.0))
+escape-at quote _ rest _ m _ = refl
 
-pub escape-some : (quote : ℕ) (s : List ℕ) (p : Part) → IsEscape quote s p → 0 < length s
-escape-some quote _ _ alert = omega arith
-escape-some quote _ _ backspace = omega arith
-escape-some quote _ _ form_feed = omega arith
-escape-some quote _ _ newline = omega arith
-escape-some quote _ _ carriage_return = omega arith
-escape-some quote _ _ tab = omega arith
-escape-some quote _ _ vertical_tab = omega arith
-escape-some quote _ _ backslash = omega arith
-escape-some quote _ _ the_quote = omega arith
+pub escape-some : (quote : ℕ) (s : List ℕ) (p : Rune) → IsEscape quote s p → 0 < length s
 escape-some quote _ _ (octal are h) = omega arith
-escape-some quote _ _ (two_digits are) = omega arith
-escape-some quote _ _ (four_digits are s) = omega arith
-escape-some quote _ _ (eight_digits are s) = omega arith
+escape-some quote _ _ _ = omega arith
 
 -- ---- what is computed the relation admits
 
@@ -115,7 +98,8 @@ abbrev pub HasEscape : ℕ → List ℕ → Option Spelled → Type 0
 HasEscape quote bs None = Unit {0}
 HasEscape quote bs (Some p) = FrontEscape quote bs p
 
-if-escape : (quote : ℕ) (bs : List ℕ) (t : Bool) (o p : Option Spelled) → (t ≡ true → HasEscape quote bs o) → HasEscape quote bs p → HasEscape quote bs (if t then o else p)
+if-escape : (quote : ℕ) (bs : List ℕ) (t : Bool) (o p : Option Spelled) → (t ≡ true → HasEscape quote bs o) → HasEscape quote bs p
+    → HasEscape quote bs (if t then o else p)
 if-escape quote bs true o p h k = h refl
 if-escape quote bs false o p h k = k
 
@@ -125,13 +109,13 @@ same e k h = grind (arith, nat_tests)
 -- what a letter stands for
 abbrev HasLetter : ℕ → ℕ → Option ℕ → Type 0
 HasLetter quote e None = Unit {0}
-HasLetter quote e (Some b) = IsEscape quote (92 ∷ e ∷ []) (Byte b)
+HasLetter quote e (Some b) = IsEscape quote (92 ∷ e ∷ []) (byte b)
 
-letter : (quote e k b : ℕ) (o : Option ℕ) → IsEscape quote (92 ∷ k ∷ []) (Byte b) → HasLetter quote e o → HasLetter quote e (if nat_eq e k then Some b else o)
+letter : (quote e k b : ℕ) (o : Option ℕ) → IsEscape quote (92 ∷ k ∷ []) (byte b) → HasLetter quote e o → HasLetter quote e (if nat_eq e k then Some b else o)
 letter quote e k b o is more = go (nat_eq e k) refl
   where
     go : (t : Bool) → nat_eq e k ≡ t → HasLetter quote e (if t then Some b else o)
-    go true h = subst (λ x. IsEscape quote (92 ∷ x ∷ []) (Byte b)) (same e k h) is
+    go true h = subst (λ x. IsEscape quote (92 ∷ x ∷ []) (byte b)) (same e k h) is
     go false h = more
 
 letters : (quote e : ℕ) → HasLetter quote e (byte_named quote e)
@@ -143,7 +127,7 @@ letters quote e =
 has-octal : (quote : ℕ) (bs : List ℕ) → HasEscape quote (92 ∷ bs) (option_and_then (as_byte 4) (code 8 3 bs))
 has-octal quote bs = go (code 8 3 bs) (code-has 8 3 bs)
   where
-    by : (n : ℕ) → FrontDigits 8 3 bs n → (t : Bool) → nat_lt n 256 ≡ t → HasEscape quote (92 ∷ bs) (if t then Some (Byte n, 4) else None)
+    by : (n : ℕ) → FrontDigits 8 3 bs n → (t : Bool) → nat_lt n 256 ≡ t → HasEscape quote (92 ∷ bs) (if t then Some (byte n, 4) else None)
     by n d false e = tt
     by n d true e =
         let value : digits_value 8 d.ds ≡ n = d.value in
@@ -153,7 +137,7 @@ has-octal quote bs = go (code 8 3 bs) (code-has 8 3 bs)
           rest = d.rest;
           is = ap (λ xs. 92 ∷ xs) d.is;
           count = let are = d.are in omega (arith, are.0);
-          escapes = subst (λ k. IsEscape quote (92 ∷ d.ds) (Byte k)) d.value (octal d.are low);
+          escapes = subst (λ k. IsEscape quote (92 ∷ d.ds) (byte k)) d.value (octal d.are low);
         }
 
     go : (o : Option ℕ) → HasDigits 8 3 bs o → HasEscape quote (92 ∷ bs) (option_and_then (as_byte 4) o)
@@ -163,14 +147,14 @@ has-octal quote bs = go (code 8 3 bs) (code-has 8 3 bs)
 has-hex : (quote : ℕ) (bs : List ℕ) → HasEscape quote (92 ∷ 120 ∷ bs) (option_and_then (as_byte 4) (code 16 2 bs))
 has-hex quote bs = go (code 16 2 bs) (code-has 16 2 bs)
   where
-    by : (n : ℕ) → FrontDigits 16 2 bs n → (t : Bool) → HasEscape quote (92 ∷ 120 ∷ bs) (if t then Some (Byte n, 4) else None)
+    by : (n : ℕ) → FrontDigits 16 2 bs n → (t : Bool) → HasEscape quote (92 ∷ 120 ∷ bs) (if t then Some (byte n, 4) else None)
     by n d false = tt
     by n d true = record {
       spelling = 92 ∷ 120 ∷ d.ds;
       rest = d.rest;
       is = ap (λ xs. 92 ∷ 120 ∷ xs) d.is;
       count = let are = d.are in omega (arith, are.0);
-      escapes = subst (λ k. IsEscape quote (92 ∷ 120 ∷ d.ds) (Byte k)) d.value (two_digits d.are);
+      escapes = subst (λ k. IsEscape quote (92 ∷ 120 ∷ d.ds) (byte k)) d.value (two_digits d.are);
     }
 
     go : (o : Option ℕ) → HasDigits 16 2 bs o → HasEscape quote (92 ∷ 120 ∷ bs) (option_and_then (as_byte 4) o)
@@ -179,18 +163,18 @@ has-hex quote bs = go (code 16 2 bs) (code-has 16 2 bs)
 
 -- by so many digits of base 16 behind this first byte
 has-char : (quote head count : ℕ) (bs : List ℕ)
-    → ((ds : List ℕ) → AreDigits 16 count ds → scalar (digits_value 16 ds) ≡ true → IsEscape quote (92 ∷ head ∷ ds) (Char (digits_value 16 ds)))
+    → ((ds : List ℕ) → AreDigits 16 count ds → scalar (digits_value 16 ds) ≡ true → IsEscape quote (92 ∷ head ∷ ds) (char (digits_value 16 ds)))
     → HasEscape quote (92 ∷ head ∷ bs) (option_and_then (as_char (2 + count)) (code 16 count bs))
 has-char quote head count bs made = go (code 16 count bs) (code-has 16 count bs)
   where
-    by : (n : ℕ) → FrontDigits 16 count bs n → (t : Bool) → scalar n ≡ t → HasEscape quote (92 ∷ head ∷ bs) (if t then Some (Char n, 2 + count) else None)
+    by : (n : ℕ) → FrontDigits 16 count bs n → (t : Bool) → scalar n ≡ t → HasEscape quote (92 ∷ head ∷ bs) (if t then Some (char n, 2 + count) else None)
     by n d false e = tt
     by n d true e = record {
       spelling = 92 ∷ head ∷ d.ds;
       rest = d.rest;
       is = ap (λ xs. 92 ∷ head ∷ xs) d.is;
       count = let are = d.are in omega (arith, are.0);
-      escapes = subst (λ k. IsEscape quote (92 ∷ head ∷ d.ds) (Char k)) d.value (made d.ds d.are (ap scalar d.value ∙ e));
+      escapes = subst (λ k. IsEscape quote (92 ∷ head ∷ d.ds) (char k)) d.value (made d.ds d.are (ap scalar d.value ∙ e));
     }
 
     go : (o : Option ℕ) → HasDigits 16 count bs o → HasEscape quote (92 ∷ head ∷ bs) (option_and_then (as_char (2 + count)) o)

@@ -1,4 +1,4 @@
--- The tokens that are printed stand at the front of what is printed.
+-- For `printed_tokens`: the tokens that are printed stand at the front of what is printed.
 use Rattle.std.proofs.Common.{arith, ◌≡◌, ◌∙◌, ℕ, Bool, true, false, ◌&&◌, ◌||◌, nat_eq, List, [], ◌∷◌, ◌++◌, refl, sym, ap, subst, append_assoc, get_or, codes}
 use Rattle.std.specs.Char.{is_ascii_digit}
 use Rattle.std.specs.List.{list_all}
@@ -28,7 +28,8 @@ stops-name (b ∷ rest) e = name-byte-first (is_name_byte b) (nat_eq b 46) e
 
 -- ---- words, fields and variables
 
-pub word-front : (b : ℕ) (bs rest : List ℕ) → is_ascii_digit b ≡ false → list_all is_name_byte (b ∷ bs) ≡ true → Stops is_name_byte rest → IsFront (token kind.Word (b ∷ bs)) rest
+pub word-front : (b : ℕ) (bs rest : List ℕ) → is_ascii_digit b ≡ false → list_all is_name_byte (b ∷ bs) ≡ true → Stops is_name_byte rest
+    → IsFront (token kind.Word (b ∷ bs)) rest
 word-front b bs rest d all stop = row.word d (record { passes = all; longest = stop })
 
 pub field-front : (b : ℕ) (bs rest : List ℕ) → list_all is_name_byte (b ∷ bs) ≡ true → Stops is_name_byte rest → IsFront (token kind.Field (46 ∷ b ∷ bs)) rest
@@ -47,10 +48,12 @@ digits-pass (b ∷ bs) h =
     let here : is_number_byte b ≡ true = grind (arith, nat_tests) in
     ap (λ k. k && list_all is_number_byte bs) here ∙ digits-pass bs both.1
 
-pub digit-front : (b : ℕ) (bs rest : List ℕ) → is_ascii_digit b ≡ true → list_all is_ascii_digit bs ≡ true → Stops is_number_byte rest → IsFront (token kind.Number (b ∷ bs)) rest
+pub digit-front : (b : ℕ) (bs rest : List ℕ) → is_ascii_digit b ≡ true → list_all is_ascii_digit bs ≡ true → Stops is_number_byte rest
+    → IsFront (token kind.Number (b ∷ bs)) rest
 digit-front b bs rest d all stop = row.number b no_sign d (record { passes = digits-pass bs all; longest = stop })
 
-pub minus-front : (b : ℕ) (bs rest : List ℕ) → is_ascii_digit b ≡ true → list_all is_ascii_digit bs ≡ true → Stops is_number_byte rest → IsFront (token kind.Number (45 ∷ b ∷ bs)) rest
+pub minus-front : (b : ℕ) (bs rest : List ℕ) → is_ascii_digit b ≡ true → list_all is_ascii_digit bs ≡ true → Stops is_number_byte rest
+    → IsFront (token kind.Number (45 ∷ b ∷ bs)) rest
 minus-front b bs rest d all stop = row.number b row.minus d (record { passes = digits-pass bs all; longest = stop })
 
 -- ---- a space

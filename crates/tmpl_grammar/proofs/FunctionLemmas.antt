@@ -1,31 +1,16 @@
--- Functions by name.
+-- For `function_named`: the function of a name is found by its name among all.
 use Rattle.std.proofs.Common.{◌≡◌, ◌≢◌, ◌∙◌, ℕ, false, List, [], ◌∷◌, Option, Some, None, cond, refl, ap, sym, find, bytes_eq, IfSome, IfNone, ⊎_elim}
 use Rattle.std.proofs.lemmas.Bool.{cases_Bool}
 use lib.Pointwise.{bytes_decides}
 use Rattle.tmpl_funcs.specs.Func.{name_of}
 use Rattle.tmpl_funcs.specs.declared.func.Func.{Func}
-use Rattle.tmpl_funcs.specs.declared.func.Func.TheVariants.{And, Or, Not, Len, Index, Slice, Print, Println, Printf, Html, Urlquery, Eq, Ne, Lt, Le, Gt, Ge}
+use Rattle.tmpl_funcs.specs.declared.func.Func.TheVariants.{And}
 use Rattle.tmpl_grammar.specs.computed.Operand.{func_named, funcs}
 
 named-itself : (f : Func) → Some f ≡ func_named (name_of f)
 unfolding func_named
 named-itself And = refl
-named-itself Or = refl
-named-itself Not = refl
-named-itself Len = refl
-named-itself Index = refl
-named-itself Slice = refl
-named-itself Print = refl
-named-itself Println = refl
-named-itself Printf = refl
-named-itself Html = refl
-named-itself Urlquery = refl
-named-itself Eq = refl
-named-itself Ne = refl
-named-itself Lt = refl
-named-itself Le = refl
-named-itself Gt = refl
-named-itself Ge = refl
+named-itself _ = refl
 
 differs : (f : Func) (name : List ℕ) → name_of f ≢ name → bytes_eq (name_of f) name ≡ false
 differs f name h = ⊎_elim (λ y. absurd (h ((bytes_decides (name_of f) name).0 y))) (λ n. n) (cases_Bool (bytes_eq (name_of f) name))

@@ -1,19 +1,18 @@
--- The parts that are computed are those that the relation admits.
-use Rattle.std.proofs.Common.{◌≡◌, ◌∙◌, ℕ, zero, suc, ◌<◌, ◌≤◌, Bool, true, false, nat_eq, List, [], ◌∷◌, ◌++◌, length, drop, get_or, Option, Some, None, if◌then◌else◌, refl, sym, ap, subst, arith, length-append, length-drop}
+-- For `one_constant`: the runes between quotes that are computed are those that the relation admits.
+use Rattle.std.proofs.Common.{◌≡◌, ◌∙◌, ℕ, zero, suc, ◌<◌, ◌≤◌, Bool, true, false, nat_eq, List, [], ◌∷◌, ◌++◌, length, drop, get_or}
+use Rattle.std.proofs.Common.{Option, Some, None, refl, sym, ap, subst, arith, length-append, length-drop, if◌then◌else◌}
 use Rattle.std.specs.Char.{encode_utf8, len_utf8, IsScalar}
 use Rattle.std.proofs.Math.Seq.{drop-append_seam}
 use Rattle.std.proofs.lemmas.List.{take-append-drop}
 use Rattle.std.proofs.lemmas.Bool.Decides.{nat_tests}
 use Rattle.std.proofs.lemmas.Option.{same_Some}
 use Rattle.std.proofs.lemmas.Str.{length-encode, len_utf8_bounds, char_from_byte, encode_ascii}
-use Rattle.tmpl_values.specs.Rune.{Rune, BeginsNoChar}
+use Rattle.tmpl_values.specs.Rune.{Rune, BeginsNoChar, char, byte}
 use Rattle.tmpl_values.specs.Rune.{first_rune}
 use Rattle.tmpl_values.proofs.HasRunesLemmas.{begins-none, byte-first}
 use Rattle.tmpl_values.proofs.RuneLemmas.{first_rune-encode, Front, encoding, lone, front}
-use Rattle.tmpl_grammar.specs.Constant.Quoted.{HasParts, at_end, a_char, a_byte, an_escape}
+use Rattle.tmpl_grammar.specs.Constant.Quoted.{SpellsRunes, at_end, a_char, a_byte, an_escape}
 use Rattle.tmpl_grammar.specs.computed.Quoted.{Spelled, rune_part, escape, part_at, with_part, parts}
-use Rattle.tmpl_grammar.specs.declared.constant.quoted.Part.{Part}
-use Rattle.tmpl_grammar.specs.declared.constant.quoted.Part.TheVariants.{Char}
 use Rattle.tmpl_grammar.proofs.EscapeLemmas.{IsMark, double, single, escape-at, escape-some, HasEscape, has-escape}
 use Rattle.tmpl_grammar.proofs.OptionLemmas.{no-value, mapped}
 use Rattle.tmpl_grammar.proofs.QuotedLemmas.{parts-nil, parts-first, parts-none}
@@ -27,11 +26,12 @@ other-first true m b c bs rest e low other h =
 other-first false m b c bs rest e low other h = refl
 
 -- a character as it is
-pub char-at : (quote c : ℕ) (rest : List ℕ) → quote < 128 → IsScalar c → (c ≡ 92 → ⊥) → (c ≡ quote → ⊥) → part_at quote (encode_utf8 c ++ rest) ≡ Some (Char c, len_utf8 c)
+pub char-at : (quote c : ℕ) (rest : List ℕ) → quote < 128 → IsScalar c → (c ≡ 92 → ⊥) → (c ≡ quote → ⊥)
+    → part_at quote (encode_utf8 c ++ rest) ≡ Some (char c, len_utf8 c)
 unfolding part_at
 char-at quote c rest low s slash other = split (encode_utf8 c ++ rest) refl
   where
-    split : (bs : List ℕ) → bs ≡ encode_utf8 c ++ rest → part_at quote bs ≡ Some (Char c, len_utf8 c)
+    split : (bs : List ℕ) → bs ≡ encode_utf8 c ++ rest → part_at quote bs ≡ Some (char c, len_utf8 c)
     split [] e = absurd (omega (arith, ap length e, length-append (encode_utf8 c) rest, length-encode c, len_utf8_bounds c))
     split (b ∷ bs) e =
         ap (λ t. if t then escape quote bs else (if nat_eq b quote then None else Some (rune_part (first_rune (b ∷ bs))))) (other-first (nat_eq b 92) 92 b c bs rest e (omega arith) slash refl)
@@ -45,7 +45,7 @@ not-ascii true b k rest none low s h =
     absurd (none k rest s (ap (λ x. x ∷ rest) is ∙ ap (λ t. t ++ rest) (sym (encode_ascii k low))))
 not-ascii false b k rest none low s h = refl
 
-byte-at : (quote b : ℕ) (rest : List ℕ) → quote < 128 → IsScalar quote → BeginsNoChar (b ∷ rest) → part_at quote (b ∷ rest) ≡ Some (Char 65533, 1)
+byte-at : (quote b : ℕ) (rest : List ℕ) → quote < 128 → IsScalar quote → BeginsNoChar (b ∷ rest) → part_at quote (b ∷ rest) ≡ Some (char 65533, 1)
 unfolding part_at
 byte-at quote b rest low s none =
     ap (λ t. if t then escape quote rest else (if nat_eq b quote then None else Some (rune_part (first_rune (b ∷ rest))))) (not-ascii (nat_eq b 92) b 92 rest none (omega arith) refl refl)
@@ -61,21 +61,22 @@ mark-scalar _ double = refl
 mark-scalar _ single = refl
 
 -- a part comes off the front
-pub parts-seam : (quote : ℕ) (s rest : List ℕ) (p : Part) → 0 < length s → part_at quote (s ++ rest) ≡ Some (p, length s) → parts quote (s ++ rest) ≡ with_part p (parts quote rest)
+pub parts-seam : (quote : ℕ) (s rest : List ℕ) (p : Rune) → 0 < length s → part_at quote (s ++ rest) ≡ Some (p, length s)
+    → parts quote (s ++ rest) ≡ with_part p (parts quote rest)
 parts-seam quote s rest p low is =
     parts-first quote (s ++ rest) (p, length s) (omega (arith, length-append s rest)) is low (omega (arith, length-append s rest))
     ∙ ap (λ bs. with_part p (parts quote bs)) (drop-append_seam s rest)
 
-pub parts-computed : (quote : ℕ) (bs : List ℕ) (ps : List Part) → IsMark quote → HasParts quote bs ps → parts quote bs ≡ Some ps
+pub parts-computed : (quote : ℕ) (bs : List ℕ) (ps : List Rune) → IsMark quote → SpellsRunes quote bs ps → parts quote bs ≡ Some ps
 parts-computed quote _ _ m at_end = parts-nil quote
-parts-computed quote _ _ m (a_char {c = c} {rest = rest} {ps = ps} s other slash more) =
-    parts-seam quote (encode_utf8 c) rest (Char c) (omega (arith, length-encode c, len_utf8_bounds c))
-    (char-at quote c rest (mark-low quote m) s slash other ∙ ap (λ n. Some (Char c, n)) (sym (length-encode c)))
-    ∙ ap (with_part (Char c)) (parts-computed quote rest ps m more)
-parts-computed quote _ _ m (a_byte {b = b} {rest = rest} {ps = ps} none more) =
-    parts-seam quote (b ∷ []) rest (Char 65533) (omega arith) (byte-at quote b rest (mark-low quote m) (mark-scalar quote m) none)
-    ∙ ap (with_part (Char 65533)) (parts-computed quote rest ps m more)
-parts-computed quote _ _ m (an_escape {spelling = s} {rest = rest} {p = p} {ps = ps} is more) =
+parts-computed quote _ _ m (a_char {c = c} {rest = rest} {rs = ps} s other slash more) =
+    parts-seam quote (encode_utf8 c) rest (char c) (omega (arith, length-encode c, len_utf8_bounds c))
+    (char-at quote c rest (mark-low quote m) s slash other ∙ ap (λ n. Some (char c, n)) (sym (length-encode c)))
+    ∙ ap (with_part (char c)) (parts-computed quote rest ps m more)
+parts-computed quote _ _ m (a_byte {b = b} {rest = rest} {rs = ps} none more) =
+    parts-seam quote (b ∷ []) rest (char 65533) (omega arith) (byte-at quote b rest (mark-low quote m) (mark-scalar quote m) none)
+    ∙ ap (with_part (char 65533)) (parts-computed quote rest ps m more)
+parts-computed quote _ _ m (an_escape {spelling = s} {rest = rest} {r = p} {rs = ps} is more) =
     parts-seam quote s rest p (escape-some quote s p is) (escape-at quote s rest p m is)
     ∙ ap (with_part p) (parts-computed quote rest ps m more)
 
@@ -85,13 +86,14 @@ parts-computed quote _ _ m (an_escape {spelling = s} {rest = rest} {p = p} {ps =
 record FirstPart (quote : ℕ) (bs : List ℕ) (p : Spelled) : Type 0 where
   low : 0 < p.1
   high : p.1 ≤ length bs
-  leads : (ps : List Part) → HasParts quote (drop p.1 bs) ps → HasParts quote bs (p.0 ∷ ps)
+  leads : (ps : List Rune) → SpellsRunes quote (drop p.1 bs) ps → SpellsRunes quote bs (p.0 ∷ ps)
 
 abbrev HasFirst : ℕ → List ℕ → Option Spelled → Type 0
 HasFirst quote bs None = Unit {0}
 HasFirst quote bs (Some p) = FirstPart quote bs p
 
-if-first : (quote : ℕ) (bs : List ℕ) (t : Bool) (o p : Option Spelled) → (t ≡ true → HasFirst quote bs o) → (t ≡ false → HasFirst quote bs p) → HasFirst quote bs (if t then o else p)
+if-first : (quote : ℕ) (bs : List ℕ) (t : Bool) (o p : Option Spelled) → (t ≡ true → HasFirst quote bs o)
+    → (t ≡ false → HasFirst quote bs p) → HasFirst quote bs (if t then o else p)
 if-first quote bs true o p h k = h refl
 if-first quote bs false o p h k = k refl
 
@@ -103,7 +105,7 @@ escape-first quote bs (Some p) h =
     record {
       low = omega (arith, escape-some quote h.spelling p.0 h.escapes, count);
       high = omega (arith, ap length h.is, length-append h.spelling h.rest, count);
-      leads = λ ps more. subst (λ xs. HasParts quote xs (p.0 ∷ ps)) (sym h.is) (an_escape h.escapes (subst (λ xs. HasParts quote xs ps) behind more));
+      leads = λ ps more. subst (λ xs. SpellsRunes quote xs (p.0 ∷ ps)) (sym h.is) (an_escape h.escapes (subst (λ xs. SpellsRunes quote xs ps) behind more));
     }
 
 other-char : (b k c : ℕ) (bs rest : List ℕ) → encode_utf8 c ++ rest ≡ b ∷ bs → k < 128 → nat_eq b k ≡ false → c ≡ k → ⊥
@@ -112,7 +114,8 @@ other-char b k c bs rest is low h e =
     let same : k ≡ b = ap (λ l. get_or l 0 0) first in
     let g : true ≡ false = sym (let t : nat_eq b k ≡ true = grind (arith, nat_tests) in t) ∙ h in cc
 
-rune-first : (quote b : ℕ) (bs : List ℕ) (r : Rune) → quote < 128 → nat_eq b 92 ≡ false → nat_eq b quote ≡ false → first_rune (b ∷ bs) ≡ r → Front (b ∷ bs) r → FirstPart quote (b ∷ bs) (rune_part r)
+rune-first : (quote b : ℕ) (bs : List ℕ) (r : Rune) → quote < 128 → nat_eq b 92 ≡ false → nat_eq b quote ≡ false → first_rune (b ∷ bs) ≡ r
+    → Front (b ∷ bs) r → FirstPart quote (b ∷ bs) (rune_part r)
 rune-first quote b bs _ low slash other is lone = record {
   low = omega arith;
   high = omega arith;
@@ -124,7 +127,7 @@ rune-first quote b bs _ low slash other is (encoding c s e) =
     record {
       low = omega (arith, len_utf8_bounds c);
       high = omega (arith, ap length whole, length-append (encode_utf8 c) rest, length-encode c);
-      leads = λ ps more. subst (λ xs. HasParts quote xs (Char c ∷ ps)) whole
+      leads = λ ps more. subst (λ xs. SpellsRunes quote xs (char c ∷ ps)) whole
           (a_char s (other-char b quote c bs rest whole low other) (other-char b 92 c bs rest whole (omega arith) slash) more);
     }
 
@@ -137,20 +140,21 @@ has-first quote (b ∷ bs) low =
     (λ slash. if-first quote (b ∷ bs) (nat_eq b quote) _ _ (λ h. tt)
     (λ other. rune-first quote b bs (first_rune (b ∷ bs)) low slash other refl (front (b ∷ bs))))
 
-parts-in : (n quote : ℕ) (bs : List ℕ) (ps : List Part) → length bs ≤ n → quote < 128 → parts quote bs ≡ Some ps → HasParts quote bs ps
-parts-in n quote [] ps h low e = subst (HasParts quote []) (same_Some [] ps (sym (parts-nil quote) ∙ e)) at_end
+parts-in : (n quote : ℕ) (bs : List ℕ) (ps : List Rune) → length bs ≤ n → quote < 128 → parts quote bs ≡ Some ps → SpellsRunes quote bs ps
+parts-in n quote [] ps h low e = subst (SpellsRunes quote []) (same_Some [] ps (sym (parts-nil quote) ∙ e)) at_end
 parts-in zero quote (b ∷ bs) ps h low e = absurd (omega arith)
-parts-in (suc n) quote (b ∷ bs) ps h low e = go (λ rest qs fits is. parts-in n quote rest qs fits low is) (part_at quote (b ∷ bs)) refl (has-first quote (b ∷ bs) low)
+parts-in (suc n) quote (b ∷ bs) ps h low e =
+    go (λ rest qs fits is. parts-in n quote rest qs fits low is) (part_at quote (b ∷ bs)) refl (has-first quote (b ∷ bs) low)
   where
-    go : ((rest : List ℕ) (qs : List Part) → length rest ≤ n → parts quote rest ≡ Some qs → HasParts quote rest qs)
-        → (o : Option Spelled) → part_at quote (b ∷ bs) ≡ o → HasFirst quote (b ∷ bs) o → HasParts quote (b ∷ bs) ps
+    go : ((rest : List ℕ) (qs : List Rune) → length rest ≤ n → parts quote rest ≡ Some qs → SpellsRunes quote rest qs)
+        → (o : Option Spelled) → part_at quote (b ∷ bs) ≡ o → HasFirst quote (b ∷ bs) o → SpellsRunes quote (b ∷ bs) ps
     go behind None is f = no-value ps (sym (parts-none quote (b ∷ bs) (omega arith) is) ∙ e)
     go behind (Some p) is f =
         let rest : List ℕ = drop p.1 (b ∷ bs) in
         let some : 0 < p.1 = f.low in
         let whole = sym (parts-first quote (b ∷ bs) p (omega arith) is f.low f.high) ∙ e in
-        let more = mapped (λ (qs : List Part). p.0 ∷ qs) (parts quote rest) ps whole in
-        subst (HasParts quote (b ∷ bs)) more.to (f.leads more.source (behind rest more.source (omega (arith, length-drop p.1 (b ∷ bs))) more.is))
+        let more = mapped (λ (qs : List Rune). p.0 ∷ qs) (parts quote rest) ps whole in
+        subst (SpellsRunes quote (b ∷ bs)) more.to (f.leads more.source (behind rest more.source (omega (arith, length-drop p.1 (b ∷ bs))) more.is))
 
-pub parts-admitted : (quote : ℕ) (bs : List ℕ) (ps : List Part) → IsMark quote → parts quote bs ≡ Some ps → HasParts quote bs ps
+pub parts-admitted : (quote : ℕ) (bs : List ℕ) (ps : List Rune) → IsMark quote → parts quote bs ≡ Some ps → SpellsRunes quote bs ps
 parts-admitted quote bs ps m e = parts-in (length bs) quote bs ps (omega arith) (mark-low quote m) e

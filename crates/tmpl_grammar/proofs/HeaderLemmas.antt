@@ -1,14 +1,18 @@
--- The grammar of a header and its reading agree.
+-- For `one_action`: the grammar of a header and its reading agree.
 use Rattle.std.specs.Option.{option_map}
 use Rattle.std.proofs.Common.{◌≡◌, ◌∙◌, ℕ, Bool, true, false, List, [], ◌∷◌, Option, Some, None, refl, ap, sym, subst}
 use Rattle.tmpl_lex.specs.declared.piece.TokenKind.{TokenKind}
 use Rattle.tmpl_lex.specs.declared.piece.TokenKind.TheVariants as kind
 use Rattle.tmpl_lex.specs.Piece.{Token}
-use Rattle.tmpl_grammar.specs.Token.{is_space_kind, is_white, next, name_in}
+use Rattle.tmpl_grammar.specs.computed.Reading.{opens_range}
+use Rattle.tmpl_grammar.specs.Token.{name_in}
+use Rattle.tmpl_grammar.specs.computed.Token.{is_space_kind, is_white, next}
 use Rattle.tmpl_grammar.specs.Tree.{Commands, Pipeline, pipeline, Binding, unbound, declare, assign, declare_pair, Header}
 use Rattle.tmpl_grammar.specs.Pipeline.{SpellsPipeline}
 use Rattle.tmpl_grammar.specs.Header.{IsSign, IsName, IsVariable, Then, may_bind, SpellsBinding, SpellsWhole, SpellsHeader}
-use Rattle.tmpl_grammar.specs.computed.Reading.{pipeline_in, named_by, named_kind, named_at, named, Front, plain, bound, second_by, second_signed, second_named, front_by, front_signed, front_named, front_in, split_by, split, header_with, header_if, header_by, header_in}
+use Rattle.tmpl_grammar.specs.computed.Reading.{pipeline_in, named_by, named_kind, named_at, named, Front, plain, bound, second_by}
+use Rattle.tmpl_grammar.specs.computed.Reading.{second_signed, second_named, front_by, front_signed, front_named, front_in, split_by, split}
+use Rattle.tmpl_grammar.specs.computed.Reading.{header_with, header_if, header_by, header_in}
 use Rattle.tmpl_grammar.specs.declared.action.HeaderShape.{HeaderShape}
 use Rattle.tmpl_grammar.proofs.PipelineLemmas.{reads-spelled, spells-read}
 use Rattle.tmpl_grammar.proofs.OptionLemmas.{no-value, mapped}
@@ -75,24 +79,29 @@ pub record SignedBy (name : List ℕ) (k : TokenKind) (Rest : List Token → Typ
   pub kind_is : sign.kind ≡ k
   pub behind : Rest rest
 
-then-signed : (name : List ℕ) (k : TokenKind) (Rest : List Token → Type 0) (ts : List Token) → is_space_kind k ≡ false → Then (IsVariable name) (Then (IsSign k) Rest) ts → SignedBy name k Rest ts
+then-signed : (name : List ℕ) (k : TokenKind) (Rest : List Token → Type 0) (ts : List Token) → is_space_kind k ≡ false
+    → Then (IsVariable name) (Then (IsSign k) Rest) ts → SignedBy name k Rest ts
 then-signed name k Rest ts other s =
     let n = then-named name (Then (IsSign k) Rest) ts s in
     let l = then-led (IsSign k) Rest n.rest (λ t is. ap is_space_kind is ∙ other) n.behind in
     record { mid = n.rest; rest = l.rest; name_is = n.is; sign = l.token; sign_is = l.first_is; kind_is = l.is; behind = l.behind }
 
-signed-front : (name : List ℕ) (k : TokenKind) (Rest : List Token → Type 0) (ts : List Token) → (s : SignedBy name k Rest ts) → front_in ts ≡ front_by k name s.rest
+signed-front : (name : List ℕ) (k : TokenKind) (Rest : List Token → Type 0) (ts : List Token) → (s : SignedBy name k Rest ts)
+    → front_in ts ≡ front_by k name s.rest
 signed-front name k Rest ts s = ap front_named s.name_is ∙ ap (front_signed name) s.sign_is ∙ ap (λ k. front_by k name s.rest) s.kind_is
 
-signed-second : (key name : List ℕ) (k : TokenKind) (Rest : List Token → Type 0) (ts : List Token) → (s : SignedBy name k Rest ts) → second_named key (named ts) ≡ second_by k key name s.rest
+signed-second : (key name : List ℕ) (k : TokenKind) (Rest : List Token → Type 0) (ts : List Token) → (s : SignedBy name k Rest ts)
+    → second_named key (named ts) ≡ second_by k key name s.rest
 signed-second key name k Rest ts s = ap (second_named key) s.name_is ∙ ap (second_signed key name) s.sign_is ∙ ap (λ k. second_by k key name s.rest) s.kind_is
 
-signed-then : (ts : List Token) (name : List ℕ) (us : List Token) (s : Token) (vs : List Token) (k : TokenKind) → Then (IsVariable name) (IsRest us) ts → next us ≡ Some (s, vs) → s.kind ≡ k → Then (IsVariable name) (Then (IsSign k) (IsRest vs)) ts
+signed-then : (ts : List Token) (name : List ℕ) (us : List Token) (s : Token) (vs : List Token) (k : TokenKind)
+    → Then (IsVariable name) (IsRest us) ts → next us ≡ Some (s, vs) → s.kind ≡ k → Then (IsVariable name) (Then (IsSign k) (IsRest vs)) ts
 signed-then ts name us s vs k v e is =
     then-map (IsVariable name) (IsRest us) (Then (IsSign k) (IsRest vs))
     (λ ws same. subst (λ xs. Then (IsSign k) (IsRest vs) xs) (sym same) (led-then (IsSign k) (IsRest vs) us s vs e is refl)) ts v
 
-behind-signed : (Is Sign : Token → Type 0) (rest : List Token) (R : List Token → Type 0) → R rest → (ts : List Token) → Then Is (Then Sign (IsRest rest)) ts → Then Is (Then Sign R) ts
+behind-signed : (Is Sign : Token → Type 0) (rest : List Token) (R : List Token → Type 0) → R rest → (ts : List Token)
+    → Then Is (Then Sign (IsRest rest)) ts → Then Is (Then Sign R) ts
 behind-signed Is Sign rest R r ts s =
     then-map Is (Then Sign (IsRest rest)) (Then Sign R) (λ us t. then-map Sign (IsRest rest) R (λ vs same. subst R (sym same) r) us t) ts s
 
@@ -108,13 +117,15 @@ module _ (ts : List Token) (key : List ℕ) (mid : List Token) (comma : Then (Is
   second-tells : FrontAs ts (second_named key (named mid))
   second-tells = by (named mid) (named-tells mid)
     where
-      kind-tells : (name : List ℕ) (us : List Token) → Then (IsVariable name) (IsRest us) mid → (s : Token) (vs : List Token) → next us ≡ Some (s, vs) → (k : TokenKind) → s.kind ≡ k → FrontAs ts (second_by k key name vs)
+      kind-tells : (name : List ℕ) (us : List Token) → Then (IsVariable name) (IsRest us) mid → (s : Token) (vs : List Token)
+          → next us ≡ Some (s, vs) → (k : TokenKind) → s.kind ≡ k → FrontAs ts (second_by k key name vs)
       kind-tells name us v s vs e kind.Declare is =
           behind-signed (IsVariable key) (IsSign kind.Comma) mid (Then (IsVariable name) (Then (IsSign kind.Declare) (IsRest vs)))
           (signed-then mid name us s vs kind.Declare v e is) ts comma
       kind-tells name us v s vs e k is = tt
 
-      sign-tells : (name : List ℕ) (us : List Token) → Then (IsVariable name) (IsRest us) mid → (o : Option (Token × List Token)) → next us ≡ o → FrontAs ts (second_signed key name o)
+      sign-tells : (name : List ℕ) (us : List Token) → Then (IsVariable name) (IsRest us) mid → (o : Option (Token × List Token))
+          → next us ≡ o → FrontAs ts (second_signed key name o)
       sign-tells name us v None e = tt
       sign-tells name us v (Some p) e = kind-tells name us v p.0 p.1 e p.0.kind refl
 
@@ -125,13 +136,15 @@ module _ (ts : List Token) (key : List ℕ) (mid : List Token) (comma : Then (Is
 front-tells : (ts : List Token) → FrontAs ts (front_in ts)
 front-tells ts = by (named ts) (named-tells ts)
   where
-    kind-tells : (name : List ℕ) (us : List Token) → Then (IsVariable name) (IsRest us) ts → (s : Token) (vs : List Token) → next us ≡ Some (s, vs) → (k : TokenKind) → s.kind ≡ k → FrontAs ts (front_by k name vs)
+    kind-tells : (name : List ℕ) (us : List Token) → Then (IsVariable name) (IsRest us) ts → (s : Token) (vs : List Token)
+        → next us ≡ Some (s, vs) → (k : TokenKind) → s.kind ≡ k → FrontAs ts (front_by k name vs)
     kind-tells name us v s vs e kind.Declare is = signed-then ts name us s vs kind.Declare v e is
     kind-tells name us v s vs e kind.Assign is = signed-then ts name us s vs kind.Assign v e is
     kind-tells name us v s vs e kind.Comma is = second-tells ts name vs (signed-then ts name us s vs kind.Comma v e is)
     kind-tells name us v s vs e k is = tt
 
-    sign-tells : (name : List ℕ) (us : List Token) → Then (IsVariable name) (IsRest us) ts → (o : Option (Token × List Token)) → next us ≡ o → FrontAs ts (front_signed name o)
+    sign-tells : (name : List ℕ) (us : List Token) → Then (IsVariable name) (IsRest us) ts → (o : Option (Token × List Token)) → next us ≡ o
+        → FrontAs ts (front_signed name o)
     sign-tells name us v None e = tt
     sign-tells name us v (Some p) e = kind-tells name us v p.0 p.1 e p.0.kind refl
 
@@ -194,7 +207,7 @@ split-bound (declare_pair key name) p ts s =
       behind = q.behind;
     }
 
-pub header-read : (s : HeaderShape) (h : Header) (ts : List Token) → SpellsHeader s h ts → header_in s ts ≡ Some h
+pub header-read : (s : HeaderShape) (h : Header) (ts : List Token) → SpellsHeader (opens_range s) h ts → header_in s ts ≡ Some h
 header-read s h ts (may, spelled) =
     let r = split-bound h.binding h.pipeline ts spelled in
     ap (header_by s) r.is
@@ -214,25 +227,25 @@ spells-bound (declare_pair key name) rest R r ts a =
 -- a binding that is allowed, and a pipeline behind it
 record ReadAs (s : HeaderShape) (b : Binding) (o : Option Pipeline) (h : Header) : Type 0 where
   source : Pipeline
-  may : may_bind s b ≡ true
+  may : may_bind (opens_range s) b ≡ true
   is : o ≡ Some source
   to : header_with b source ≡ h
 
-if-read : (s : HeaderShape) (b : Binding) (o : Option Pipeline) (h : Header) → header_if (may_bind s b) b o ≡ Some h → ReadAs s b o h
-if-read s b o h e = by (may_bind s b) refl e
+if-read : (s : HeaderShape) (b : Binding) (o : Option Pipeline) (h : Header) → header_if (may_bind (opens_range s) b) b o ≡ Some h → ReadAs s b o h
+if-read s b o h e = by (may_bind (opens_range s) b) refl e
   where
-    by : (t : Bool) → may_bind s b ≡ t → header_if t b o ≡ Some h → ReadAs s b o h
+    by : (t : Bool) → may_bind (opens_range s) b ≡ t → header_if t b o ≡ Some h → ReadAs s b o h
     by true may e = let m = mapped (header_with b) o h e in record { source = m.source; may = may; is = m.is; to = m.to }
     by false may e = no-value h e
 
-pub header-spelled : (s : HeaderShape) (h : Header) (ts : List Token) → header_in s ts ≡ Some h → SpellsHeader s h ts
+pub header-spelled : (s : HeaderShape) (h : Header) (ts : List Token) → header_in s ts ≡ Some h → SpellsHeader (opens_range s) h ts
 unfolding split
 header-spelled s h ts e = by (front_in ts) (front-tells ts) e
   where
-    by : (f : Front) → FrontAs ts f → header_by s (split_by f ts) ≡ Some h → SpellsHeader s h ts
+    by : (f : Front) → FrontAs ts f → header_by s (split_by f ts) ≡ Some h → SpellsHeader (opens_range s) h ts
     by plain a e =
         let r = if-read s unbound (pipeline_in ts) h e in
-        subst (λ x. SpellsHeader s x ts) r.to (r.may, read-whole r.source ts r.is)
+        subst (λ x. SpellsHeader (opens_range s) x ts) r.to (r.may, read-whole r.source ts r.is)
     by (bound b rest) a e =
         let r = if-read s b (pipeline_in rest) h e in
-        subst (λ x. SpellsHeader s x ts) r.to (r.may, spells-bound b rest (SpellsWhole r.source) (read-whole r.source rest r.is) ts a)
+        subst (λ x. SpellsHeader (opens_range s) x ts) r.to (r.may, spells-bound b rest (SpellsWhole r.source) (read-whole r.source rest r.is) ts a)

@@ -1,5 +1,6 @@
--- Digits in base 16 read back as their number.
-use Rattle.std.proofs.Common.{◌≡◌, ◌∙◌, ℕ, zero, suc, ◌+◌, ◌*◌, ◌/◌, ◌%◌, ◌^◌, ◌<◌, Bool, true, ◌&&◌, List, [], ◌∷◌, ◌++◌, length, take, Some, None, nat_lt, nat_le, if◌then◌else◌, refl, sym, ap, arith, length-append}
+-- For `printed_spelling`: digits in base 16 read back as their number, as a quote has them.
+use Rattle.std.proofs.Common.{◌≡◌, ◌∙◌, ℕ, zero, suc, ◌+◌, ◌*◌, ◌/◌, ◌%◌, ◌^◌, ◌<◌, Bool, true, ◌&&◌, List, [], ◌∷◌, ◌++◌, length, take}
+use Rattle.std.proofs.Common.{Some, None, nat_lt, nat_le, if◌then◌else◌, refl, sym, ap, arith, length-append}
 use Rattle.std.specs.List.{list_all}
 use Rattle.std.specs.Char.{digit_char, digit_value, is_digit}
 use Rattle.std.specs.Str.Parse.{digits_value, digits_value_after}

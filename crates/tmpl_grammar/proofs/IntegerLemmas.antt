@@ -1,5 +1,7 @@
--- Digits, read from left to right.
-use Rattle.std.proofs.Common.{◌≡◌, ◌∙◌, ℕ, ◌+◌, ◌-◌, ◌*◌, ◌^◌, ◌<◌, ◌≤◌, Bool, true, false, ◌&&◌, List, [], ◌∷◌, Option, Some, None, if◌then◌else◌, cond, nat_le, nat_lt, pos, neg_ℤ, filter, length, take, drop, get_or, refl, sym, ap, arith, le_refl, le_trans, mul-le-mul_left, option_and_then}
+-- For `integer` and what it calls: digits, read from left to right by a loop.
+use Rattle.std.proofs.Common.{◌≡◌, ◌∙◌, ℕ, ◌+◌, ◌-◌, ◌*◌, ◌^◌, ◌<◌, ◌≤◌, Bool, true, false, ◌&&◌, List, [], ◌∷◌, Option, Some, None}
+use Rattle.std.proofs.Common.{if◌then◌else◌, cond, nat_le, nat_lt, pos, neg_ℤ, filter, length, take, drop, get_or, refl, sym, ap, arith}
+use Rattle.std.proofs.Common.{le_refl, le_trans, mul-le-mul_left, option_and_then}
 use Rattle.std.specs.List.{list_all}
 use Rattle.std.specs.Char.{is_digit, digit_value}
 use Rattle.std.specs.Str.Parse.{digits_value_after}
@@ -46,7 +48,8 @@ left-large base n bs h large = too-large _ (digits_value_after base n (filter is
 underscore : (d base : ℕ) → base ≤ 16 → is_digit d base ≡ true → is_plain d ≡ false → ⊥
 underscore d base h e o = let is : d ≡ 95 = grind (arith, nat_tests) in let none = rw is at e in grind (arith, nat_tests)
 
-one-plain : (digit own : Bool) (base d : ℕ) (ds : List ℕ) → base ≤ 16 → is_digit d base ≡ digit → is_plain d ≡ own → (digit && list_all (λ d. is_digit d base) ds) ≡ true
+one-plain : (digit own : Bool) (base d : ℕ) (ds : List ℕ) → base ≤ 16 → is_digit d base ≡ digit → is_plain d ≡ own
+    → (digit && list_all (λ d. is_digit d base) ds) ≡ true
     → (list_all (λ d. is_digit d base) ds ≡ true → filter is_plain ds ≡ ds) → cond own (d ∷ filter is_plain ds) (filter is_plain ds) ≡ d ∷ ds
 one-plain true true base d ds h e o all more = ap (λ t. d ∷ t) (more all)
 one-plain true false base d ds h e o all more = absurd (underscore d base h e o)
@@ -77,13 +80,15 @@ plus : (bs : List ℕ) → integer (43 ∷ bs) ≡ option_and_then (signed false
 unfolding integer
 plus bs = refl
 
-pub integer-minus : (bs : List ℕ) → 1 ≤ length bs → get_or bs 0 0 ≡ 45 → option_and_then (signed true) (within (magnitude (take (length bs - 1) (drop 1 bs)))) ≡ integer bs
+pub integer-minus : (bs : List ℕ) → 1 ≤ length bs → get_or bs 0 0 ≡ 45
+    → option_and_then (signed true) (within (magnitude (take (length bs - 1) (drop 1 bs)))) ≡ integer bs
 integer-minus [] h is = absurd (omega arith)
 integer-minus (b ∷ bs) h is =
     ap (λ t. option_and_then (signed true) (within (magnitude t))) (take-rest (b ∷ bs) 1 (length (b ∷ bs) - 1) (omega arith) refl)
     ∙ signed-within true (magnitude bs) ∙ sym (ap (λ x. integer (x ∷ bs)) is ∙ minus bs)
 
-pub integer-plus : (bs : List ℕ) → 1 ≤ length bs → get_or bs 0 0 ≡ 43 → option_and_then (signed false) (within (magnitude (take (length bs - 1) (drop 1 bs)))) ≡ integer bs
+pub integer-plus : (bs : List ℕ) → 1 ≤ length bs → get_or bs 0 0 ≡ 43
+    → option_and_then (signed false) (within (magnitude (take (length bs - 1) (drop 1 bs)))) ≡ integer bs
 integer-plus [] h is = absurd (omega arith)
 integer-plus (b ∷ bs) h is =
     ap (λ t. option_and_then (signed false) (within (magnitude t))) (take-rest (b ∷ bs) 1 (length (b ∷ bs) - 1) (omega arith) refl)

@@ -1,5 +1,6 @@
--- The constants that are computed are those that the relation admits.
-use Rattle.std.proofs.Common.{◌≡◌, ◌∙◌, ℕ, zero, suc, pos, ◌-◌, ◌≤◌, Bool, true, false, ◌&&◌, nat_eq, nat_le, List, [], ◌∷◌, ◌++◌, length, take, drop, get_or, Some, None, if◌then◌else◌, refl, sym, ap, subst, arith, length-append}
+-- For `one_constant`: the constants that are computed are those that the relation admits.
+use Rattle.std.proofs.Common.{◌≡◌, ◌∙◌, ℕ, zero, suc, pos, ◌-◌, ◌≤◌, Bool, true, false, ◌&&◌, nat_eq, nat_le, List, [], ◌∷◌, ◌++◌, length}
+use Rattle.std.proofs.Common.{take, drop, get_or, Some, None, refl, sym, ap, subst, arith, length-append, if◌then◌else◌}
 use Rattle.std.specs.Option.{option_map, option_and_then}
 use Rattle.std.specs.List.{flat_map}
 use Rattle.std.proofs.Math.Seq.{take-append_seam, get_or-append_seam}
@@ -8,16 +9,16 @@ use Rattle.std.proofs.lemmas.Bool.Decides.{nat_tests}
 use Rattle.std.proofs.lemmas.Option.{same_Some}
 use Rattle.tmpl_lex.specs.declared.piece.TokenKind.{TokenKind}
 use Rattle.tmpl_lex.specs.declared.piece.TokenKind.TheVariants as kind
+use Rattle.tmpl_values.specs.Rune.{Rune, bytes_in}
 use Rattle.tmpl_grammar.specs.Token.{token}
 use Rattle.tmpl_grammar.specs.Tree.{Operand, number_constant, text_constant}
 use Rattle.tmpl_grammar.specs.Constant as constant
 use Rattle.tmpl_grammar.specs.Constant.{IsConstant}
 use Rattle.tmpl_grammar.specs.Constant.Integer.{integer}
-use Rattle.tmpl_grammar.specs.Constant.Quoted.{HasParts, part_text, part_code}
+use Rattle.tmpl_grammar.specs.Constant.Quoted.{SpellsRunes, code_of}
 use Rattle.tmpl_grammar.specs.Laws.{ComputesConstant, IsComputedConstant, HasOneConstant}
 use Rattle.tmpl_grammar.specs.computed.Constant.{constant_of, constant_by, string_in, raw_string_in, character_in}
 use Rattle.tmpl_grammar.specs.computed.Quoted.{between, parts, unquoted, one_code, rune_code}
-use Rattle.tmpl_grammar.specs.declared.constant.quoted.Part.{Part}
 use Rattle.tmpl_grammar.proofs.EscapeLemmas.{double, single}
 use Rattle.tmpl_grammar.proofs.HasPartsLemmas.{parts-computed, parts-admitted}
 use Rattle.tmpl_grammar.proofs.OptionLemmas.{no-value, mapped, chained}
@@ -58,7 +59,8 @@ quotes-round quote bs h =
     let ends = and_parts (nat_eq (get_or bs 0 0) quote) (nat_eq (get_or bs (length bs - 1) 0) quote) long.1 in
     go bs (length bs - 2) (let two : 2 ≤ length bs = grind (arith, nat_tests) in omega arith) (same (get_or bs 0 0) quote ends.0) (same (get_or bs (length bs - 1) 0) quote ends.1)
   where
-    go : (bs : List ℕ) (m : ℕ) → length bs ≡ suc (suc m) → get_or bs 0 0 ≡ quote → get_or bs (length bs - 1) 0 ≡ quote → quote ∷ (take m (drop 1 bs) ++ quote ∷ []) ≡ bs
+    go : (bs : List ℕ) (m : ℕ) → length bs ≡ suc (suc m) → get_or bs 0 0 ≡ quote → get_or bs (length bs - 1) 0 ≡ quote
+        → quote ∷ (take m (drop 1 bs) ++ quote ∷ []) ≡ bs
     go [] m n first last = absurd (omega arith)
     go (b ∷ bs) m n first last =
         let back : length (b ∷ bs) - 1 ≡ suc m = omega arith in
@@ -79,11 +81,11 @@ between-is quote bs xs e = go (quoted quote bs) refl e
 pub computes-constant : ComputesConstant
 unfolding constant_of
 computes-constant _ _ (constant.number is) = ap (option_map number_constant) is
-computes-constant _ _ (constant.string {bs = bs} {ps = ps} has) =
+computes-constant _ _ (constant.string {bs = bs} {rs = ps} has) =
     ap (option_and_then string_in) (between-quotes 34 bs)
-    ∙ ap (λ o. option_map text_constant (option_map (flat_map part_text) o)) (parts-computed 34 bs ps double has)
+    ∙ ap (λ o. option_map text_constant (option_map (flat_map bytes_in) o)) (parts-computed 34 bs ps double has)
 computes-constant _ _ (constant.raw_string bs) = ap (option_map raw_string_in) (between-quotes 96 bs)
-computes-constant _ _ (constant.character {bs = bs} {p = p} has) =
+computes-constant _ _ (constant.character {bs = bs} {r = p} has) =
     ap (option_and_then character_in) (between-quotes 39 bs)
     ∙ ap (λ o. option_map (λ n. number_constant (pos n)) (option_and_then one_code o)) (parts-computed 39 bs (p ∷ []) single has)
 
@@ -98,7 +100,7 @@ is-string : (bs : List ℕ) (o : Operand) → option_and_then string_in (between
 is-string bs o e =
     let inside = chained string_in (between 34 bs) o e in
     let bytes = mapped text_constant (unquoted 34 inside.source) o inside.to in
-    let ps = mapped (flat_map part_text) (parts 34 inside.source) bytes.source bytes.is in
+    let ps = mapped (flat_map bytes_in) (parts 34 inside.source) bytes.source bytes.is in
     subst (λ xs. IsConstant (token kind.String xs) o) (between-is 34 bs inside.source inside.is)
     (subst (IsConstant (token kind.String (34 ∷ (inside.source ++ 34 ∷ [])))) (ap text_constant ps.to ∙ bytes.to)
     (constant.string (parts-admitted 34 inside.source ps.source double ps.is)))
@@ -109,10 +111,9 @@ is-raw bs o e =
     subst (λ xs. IsConstant (token kind.RawString xs) o) (between-is 96 bs inside.source inside.is)
     (subst (IsConstant (token kind.RawString (96 ∷ (inside.source ++ 96 ∷ [])))) inside.to (constant.raw_string inside.source))
 
-one-part : (ps : List Part) (n : ℕ) → one_code ps ≡ Some n → (p : Part) × (ps ≡ p ∷ []) × (part_code p ≡ n)
-one-part [] n e = no-value n e
+one-part : (ps : List Rune) (n : ℕ) → one_code ps ≡ Some n → (p : Rune) × (ps ≡ p ∷ []) × (code_of p ≡ n)
 one-part (p ∷ []) n e = (p, refl, same_Some _ _ e)
-one-part (p ∷ q ∷ ps) n e = no-value n e
+one-part _ n e = no-value n e
 
 is-character : (bs : List ℕ) (o : Operand) → option_and_then character_in (between 39 bs) ≡ Some o → IsConstant (token kind.Character bs) o
 is-character bs o e =
@@ -122,24 +123,14 @@ is-character bs o e =
     let one = one-part ps.source code.source ps.to in
     subst (λ xs. IsConstant (token kind.Character xs) o) (between-is 39 bs inside.source inside.is)
     (subst (IsConstant (token kind.Character (39 ∷ (inside.source ++ 39 ∷ [])))) (ap (λ n. number_constant (pos n)) one.2 ∙ code.to)
-    (constant.character (subst (HasParts 39 inside.source) one.1 (parts-admitted 39 inside.source ps.source single ps.is))))
+    (constant.character (subst (SpellsRunes 39 inside.source) one.1 (parts-admitted 39 inside.source ps.source single ps.is))))
 
 is-constant : (k : TokenKind) (bs : List ℕ) (o : Operand) → constant_by k bs ≡ Some o → IsConstant (token k bs) o
 is-constant kind.Number bs o e = is-number bs o e
 is-constant kind.String bs o e = is-string bs o e
 is-constant kind.RawString bs o e = is-raw bs o e
 is-constant kind.Character bs o e = is-character bs o e
-is-constant kind.Space bs o e = no-value o e
-is-constant kind.Word bs o e = no-value o e
-is-constant kind.Field bs o e = no-value o e
-is-constant kind.Dot bs o e = no-value o e
-is-constant kind.Variable bs o e = no-value o e
-is-constant kind.Declare bs o e = no-value o e
-is-constant kind.Assign bs o e = no-value o e
-is-constant kind.Comma bs o e = no-value o e
-is-constant kind.Pipe bs o e = no-value o e
-is-constant kind.LeftParenthesis bs o e = no-value o e
-is-constant kind.RightParenthesis bs o e = no-value o e
+is-constant _ bs o e = no-value o e
 
 pub is-computed-constant : IsComputedConstant
 unfolding constant_of

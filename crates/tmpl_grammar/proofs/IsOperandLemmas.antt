@@ -1,11 +1,11 @@
--- The operands of one token that are computed are those that the relation admits.
+-- For `one_operand`: the operands of one token that are computed are those that the relation admits.
 use Rattle.std.proofs.Common.{◌≡◌, ◌∙◌, ℕ, Bool, true, false, cond, List, [], ◌∷◌, Option, Some, refl, sym, ap, subst, bytes_eq, codes, find}
 use Rattle.std.specs.Option.{option_map}
 use Rattle.std.proofs.lemmas.Slice.Eq.{bytes_eq-Decides}
 use Rattle.std.proofs.lemmas.Option.{same_Some}
 use Rattle.tmpl_funcs.specs.Func.{name_of}
 use Rattle.tmpl_funcs.specs.declared.func.Func.{Func}
-use Rattle.tmpl_funcs.specs.declared.func.Func.TheVariants.{And, Or, Not, Len, Index, Slice, Print, Println, Printf, Html, Urlquery, Eq, Ne, Lt, Le, Gt, Ge}
+use Rattle.tmpl_funcs.specs.declared.func.Func.TheVariants.{And}
 use Rattle.tmpl_lex.specs.Piece.{Token}
 use Rattle.tmpl_lex.specs.declared.piece.TokenKind.{TokenKind}
 use Rattle.tmpl_lex.specs.declared.piece.TokenKind.TheVariants as kind
@@ -27,40 +27,20 @@ use Rattle.tmpl_grammar.proofs.OptionLemmas.{no-value, mapped}
 function-read : (f : Func) → word_operand (name_of f) ≡ Some (tree.function f)
 unfolding word_operand func_named
 function-read And = refl
-function-read Or = refl
-function-read Not = refl
-function-read Len = refl
-function-read Index = refl
-function-read Slice = refl
-function-read Print = refl
-function-read Println = refl
-function-read Printf = refl
-function-read Html = refl
-function-read Urlquery = refl
-function-read Eq = refl
-function-read Ne = refl
-function-read Lt = refl
-function-read Le = refl
-function-read Gt = refl
-function-read Ge = refl
+function-read _ = refl
 
 constant-kind : (t : Token) (o : Operand) → IsConstant t o → operand_at t ≡ constant_of t
 unfolding operand_at
 constant-kind _ _ (constant.number is) = refl
-constant-kind _ _ (constant.string has) = refl
-constant-kind _ _ (constant.raw_string bs) = refl
-constant-kind _ _ (constant.character has) = refl
+constant-kind _ _ _ = refl
 
 pub computes-operand : ComputesOperand
 unfolding operand_at word_operand
-computes-operand _ _ operand.dot = refl
 computes-operand t _ (operand.field is begins) = ap (λ k. operand_by k t) is ∙ ap (λ b. field_operand b (name_in t)) begins
 computes-operand t _ (operand.variable is) = ap (λ k. operand_by k t) is
-computes-operand _ _ operand.true_word = refl
-computes-operand _ _ operand.false_word = refl
-computes-operand _ _ operand.nil_word = refl
 computes-operand _ _ (operand.a_function f) = function-read f
 computes-operand t o (operand.a_constant is) = constant-kind t o is ∙ computes-constant t o is
+computes-operand _ _ _ = refl
 
 -- ---- what is computed the relation admits
 
@@ -93,7 +73,8 @@ is-word : (name word : List ℕ) (o p : Operand) → IsOperand (token kind.Word 
 is-word name word o p is q more e = go (bytes_eq name word) refl e
   where
     go : (b : Bool) → bytes_eq name word ≡ b → cond b (Some p) q ≡ Some o → IsOperand (token kind.Word name) o
-    go true h e = subst (λ bs. IsOperand (token kind.Word bs) o) (sym ((bytes_eq-Decides name word).0 h)) (subst (IsOperand (token kind.Word word)) (same_Some _ _ e) is)
+    go true h e =
+        subst (λ bs. IsOperand (token kind.Word bs) o) (sym ((bytes_eq-Decides name word).0 h)) (subst (IsOperand (token kind.Word word)) (same_Some _ _ e) is)
     go false h e = more e
 
 is-named : (name : List ℕ) (o : Operand) → word_operand name ≡ Some o → IsOperand (token kind.Word name) o
@@ -112,13 +93,7 @@ is-operand kind.Number bs o e = operand.a_constant (is-computed-constant (token 
 is-operand kind.String bs o e = operand.a_constant (is-computed-constant (token kind.String bs) o e)
 is-operand kind.RawString bs o e = operand.a_constant (is-computed-constant (token kind.RawString bs) o e)
 is-operand kind.Character bs o e = operand.a_constant (is-computed-constant (token kind.Character bs) o e)
-is-operand kind.Space bs o e = no-value o e
-is-operand kind.Declare bs o e = no-value o e
-is-operand kind.Assign bs o e = no-value o e
-is-operand kind.Comma bs o e = no-value o e
-is-operand kind.Pipe bs o e = no-value o e
-is-operand kind.LeftParenthesis bs o e = no-value o e
-is-operand kind.RightParenthesis bs o e = no-value o e
+is-operand _ bs o e = no-value o e
 
 pub is-computed-operand : IsComputedOperand
 unfolding operand_at

@@ -1,6 +1,7 @@
--- What is within the limit of parentheses: up to it the limited parser is the unlimited one, and beyond it stands at the
+-- For `pipeline`: up to the limit of parentheses the limited parser is the unlimited one, and beyond it stands at the
 -- same places.
-use Rattle.std.proofs.Common.{arith, ◌≡◌, ◌∙◌, ◌≤◌, ◌<◌, ℕ, zero, suc, ◌+◌, Bool, true, false, nat_le, nat_lt, List, [], ◌∷◌, Option, Some, None, refl, ap, sym, subst, length, drop, add-one, is_some, ⊎_elim}
+use Rattle.std.proofs.Common.{arith, ◌≡◌, ◌∙◌, ◌≤◌, ◌<◌, ℕ, zero, suc, ◌+◌, Bool, true, false, nat_le, nat_lt, List, [], ◌∷◌, Option, Some}
+use Rattle.std.proofs.Common.{None, refl, ap, sym, subst, length, drop, add-one, is_some, ⊎_elim}
 use Rattle.std.proofs.lemmas.Bool.{le-leb, ltb-true, ltb-false}
 use Rattle.std.proofs.lemmas.Bool.Decides.{leb_tells}
 use Rattle.std.specs.Option.{option_map, option_and_then}
@@ -8,12 +9,15 @@ use Rattle.tmpl_lex.specs.Piece.{Token}
 use Rattle.tmpl_grammar.specs.Tree as tree
 use Rattle.tmpl_grammar.specs.Tree.{Operand, Operands, Pipeline}
 use Rattle.tmpl_grammar.specs.computed.Parser.{Parser, Partial, step, steps, finished, commands_after, start}
-use Rattle.tmpl_grammar.specs.computed.Limited.{Limited, limited_start, count, emptied, restored, restored_by, forgotten_if, behind_step, limited_step, reading_by}
-use Rattle.tmpl_grammar.specs.Depth.{Reading, unread, limited_to, pipeline_within, most_deep}
+use Rattle.tmpl_grammar.specs.computed.Limited.{Limited, limited_start, count, emptied, restored, restored_by, forgotten_if, behind_step}
+use Rattle.tmpl_grammar.specs.computed.Limited.{limited_step, reading_by}
+use Rattle.tmpl_grammar.specs.Depth.{Reading, unread, most_deep}
+use Rattle.tmpl_grammar.specs.computed.Depth.{limited_to, pipeline_within}
 use Rattle.tmpl_grammar.specs.declared.action.Shape.{Shape}
 use Rattle.tmpl_grammar.specs.computed.Reading.{pipeline_from, pipeline_in, limited_in}
 use Rattle.tmpl_grammar.proofs.DepthLemmas.{parser_depth, deep_commands, Steps, step-steps, IsAtLeast, IsClosed, end-least, less-least, finished-depth}
-use Rattle.tmpl_grammar.proofs.PositionLemmas.{Place, more, more-suc, place_of, position_in, IsHeld, held-none, step-place, passed, passes, ended, ends-as, finished-place, none-passes}
+use Rattle.tmpl_grammar.proofs.PositionLemmas.{Place, more, more-suc, place_of, position_in, IsHeld, held-none, step-place, passed, passes}
+use Rattle.tmpl_grammar.proofs.PositionLemmas.{ended, ends-as, finished-place, none-passes}
 
 -- ---- places
 
@@ -21,16 +25,8 @@ abbrev pub place : Limited → Place
 place l = place_of (count l.beyond) l.parser
 
 emptied-behind : (last : Option Operand) (l : Partial) → position_in (option_map emptied last) l ≡ position_in last l
-emptied-behind None l = refl
-emptied-behind (Some tree.dot) l = refl
 emptied-behind (Some (tree.fields names)) l = refl
-emptied-behind (Some (tree.variable x names)) l = refl
-emptied-behind (Some (tree.bool_constant b)) l = refl
-emptied-behind (Some (tree.number_constant n)) l = refl
-emptied-behind (Some (tree.text_constant bytes)) l = refl
-emptied-behind (Some tree.nil) l = refl
-emptied-behind (Some (tree.function f)) l = refl
-emptied-behind (Some (tree.group commands names)) l = refl
+emptied-behind _ l = refl
 
 restored-place : (b : Option ℕ) (h : Parser) → place (restored_by b h) ≡ place_of (count b) h
 restored-place None h = refl
@@ -40,14 +36,14 @@ restored-place (Some (suc n)) h =
     ∙ ap (λ m. record { position = position_in h.last h.inner; depth = m }) (more-suc n (length h.outer))
 
 restored-held : (b : Option ℕ) (h : Parser) → IsHeld (restored_by b h).parser.outer (count (restored_by b h).beyond)
-restored-held None h = held-none h.outer
-restored-held (Some zero) h = held-none h.outer
 restored-held (Some (suc n)) h = tt
+restored-held _ h = held-none h.outer
 
 forgotten-place : (b : Option ℕ) (h : Parser) → place (behind_step b h) ≡ place_of (count b) h
 forgotten-place b h = by h.outer refl (nat_lt most_deep (length h.outer)) refl
   where
-    by : (ls : List Partial) → ls ≡ h.outer → (is : Bool) → is ≡ nat_lt most_deep (length h.outer) → place (forgotten_if is (record { parser = h; beyond = b })) ≡ place_of (count b) h
+    by : (ls : List Partial) → ls ≡ h.outer → (is : Bool) → is ≡ nat_lt most_deep (length h.outer)
+        → place (forgotten_if is (record { parser = h; beyond = b })) ≡ place_of (count b) h
     by ls e false is = refl
     by [] e true is = let n = ltb-true most_deep (length h.outer) (sym is) in let m = ap length e in absurd (omega (arith, n, m))
     by (l ∷ ls) e true is =
@@ -82,7 +78,8 @@ abbrev IsExact : List Token → List Token → Option Limited → Type 0
 IsExact all rest None = Unit {0}
 IsExact all rest (Some l) = Exact all l.beyond l.parser rest
 
-deep-exact : (all rest : List Token) (n : ℕ) (o : Option Parser) → IsAtLeast (1 + most_deep) (commands_after start all) → IsExact all rest (option_map (behind_step (Some n)) o)
+deep-exact : (all rest : List Token) (n : ℕ) (o : Option Parser) → IsAtLeast (1 + most_deep) (commands_after start all)
+    → IsExact all rest (option_map (behind_step (Some n)) o)
 deep-exact all rest n None d = tt
 deep-exact all rest n (Some h) d = by (nat_lt most_deep (length h.outer))
   where
@@ -90,7 +87,8 @@ deep-exact all rest n (Some h) d = by (nat_lt most_deep (length h.outer))
     by true = d
     by false = d
 
-within-exact : (all rest : List Token) (h : Parser) (o : Option Parser) → steps o rest ≡ steps (Some start) all → Steps h o → parser_depth h ≤ most_deep → IsExact all rest (option_map (behind_step None) o)
+within-exact : (all rest : List Token) (h : Parser) (o : Option Parser) → steps o rest ≡ steps (Some start) all → Steps h o
+    → parser_depth h ≤ most_deep → IsExact all rest (option_map (behind_step None) o)
 within-exact all rest h None so_far s deep = tt
 within-exact all rest h (Some r) so_far s deep = by (nat_lt most_deep (length r.outer)) refl
   where
@@ -105,7 +103,8 @@ exact-step : (all rest : List Token) (t : Token) (l : Limited) → Exact all l.b
 unfolding limited_step
 exact-step all rest t l x = by l.beyond l.parser x
   where
-    by : (b : Option ℕ) (h : Parser) → Exact all b h (t ∷ rest) → IsExact all rest (option_map (behind_step (restored_by b h).beyond) (step t (restored_by b h).parser))
+    by : (b : Option ℕ) (h : Parser) → Exact all b h (t ∷ rest)
+        → IsExact all rest (option_map (behind_step (restored_by b h).beyond) (step t (restored_by b h).parser))
     by None h x = within-exact all rest h (step t h) x.0 (step-steps t h) x.1
     by (Some zero) h d = deep-exact all rest 0 (step t (restored_by (Some 0) h).parser) d
     by (Some (suc n)) h d = deep-exact all rest n (step t (restored_by (Some (suc n)) h).parser) d
@@ -127,7 +126,8 @@ within-limited : (s : Shape) (n : ℕ) (o : Option (List Operands)) → n ≤ mo
 within-limited s n None h c = refl
 within-limited s n (Some cs) h c = sym (ap (λ b. limited_to b s (pipeline_from cs)) (le-leb (deep_commands cs) most_deep (omega (arith, c, h))))
 
-deep-limited : (s : Shape) (o all : Option (List Operands)) → is_some o ≡ is_some all → IsAtLeast (1 + most_deep) all → reading_by s (Some 0) o ≡ limited_commands s all
+deep-limited : (s : Shape) (o all : Option (List Operands)) → is_some o ≡ is_some all → IsAtLeast (1 + most_deep) all
+    → reading_by s (Some 0) o ≡ limited_commands s all
 deep-limited s None None e d = refl
 deep-limited s None (Some cs) e d = absurd (let g : ⊥ = cc in g)
 deep-limited s (Some cs) None e d = absurd (let g : ⊥ = cc in g)
@@ -148,7 +148,8 @@ follows-step all rest t l next e f = (
   subst (IsExact all rest) e (exact-step all rest t l f.1),
 )
 
-pub follows-none : (s : Shape) (all rest : List Token) (t : Token) (l : Limited) → limited_step t l ≡ None → Follows all l (t ∷ rest) → unread ≡ limited_in s all
+pub follows-none : (s : Shape) (all rest : List Token) (t : Token) (l : Limited) → limited_step t l ≡ None → Follows all l (t ∷ rest)
+    → unread ≡ limited_in s all
 unfolding pipeline_in
 follows-none s all rest t l e f =
     none-limited s (commands_after start all)
@@ -158,7 +159,8 @@ pub follows-end : (s : Shape) (all : List Token) (l : Limited) → Follows all l
 unfolding pipeline_in
 follows-end s all l f = by l.beyond l.parser f.0 f.1
   where
-    by : (b : Option ℕ) (h : Parser) → ended (Some (place_of (count b) h)) ≡ is_some (commands_after start all) → Exact all b h [] → reading_by s b (finished h) ≡ limited_commands s (commands_after start all)
+    by : (b : Option ℕ) (h : Parser) → ended (Some (place_of (count b) h)) ≡ is_some (commands_after start all) → Exact all b h []
+        → reading_by s b (finished h) ≡ limited_commands s (commands_after start all)
     by None h e x =
         within-limited s (parser_depth h) (finished h) x.1 (finished-depth h)
         ∙ ap (λ o. limited_commands s (option_and_then finished o)) x.0

@@ -1,4 +1,4 @@
--- Lists through a map, the last of a list, and the rest of one.
+-- For code that goes over slices: lists through a map, the last of a list, and the rest of one.
 use Rattle.std.proofs.Common.{arith, ◌≡◌, ◌∙◌, ◌+◌, ◌-◌, ◌≤◌, ℕ, Bool, List, [], ◌∷◌, ◌++◌, refl, ap, cond, map, length, take, drop, length-drop, reverse}
 use Rattle.std.specs.List.{prefix_len}
 use Rattle.std.proofs.Math.Seq.{take-length}

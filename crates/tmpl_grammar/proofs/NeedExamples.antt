@@ -1,4 +1,4 @@
--- What some pipelines need, computed.
+-- For the reader of `Need`: what some pipelines need, computed.
 use Rattle.std.proofs.Common.{◌≡◌, ℕ, List, [], ◌∷◌, refl, codes, pos}
 use Rattle.tmpl_funcs.specs.declared.func.Func.{Func}
 use Rattle.tmpl_funcs.specs.declared.func.Func.TheVariants.{And, Index, Len, Print}

@@ -1,42 +1,30 @@
--- What an action needs is no more than two and one for each of its tokens.
+-- For the bound on what a template needs: an action needs no more than two and one for each of its tokens.
 use Rattle.std.proofs.Common.{arith, ◌≡◌, ◌∙◌, ◌≤◌, ℕ, suc, ◌+◌, max, List, [], ◌∷◌, ◌++◌, Option, Some, None, ap, length, length-append}
 use Rattle.tmpl_lex.specs.Piece.{Token}
+use Rattle.tmpl_grammar.specs.computed.Reading.{opens_range}
 use Rattle.tmpl_grammar.specs.Tree as tree
-use Rattle.tmpl_grammar.specs.Tree.{Operand, Operands, Commands, Pipeline, pipeline, Binding, unbound, declare, assign, declare_pair, Header}
+use Rattle.tmpl_grammar.specs.Tree.{Operand, Operands, Commands, Pipeline, pipeline, Binding, unbound, declare_pair, Header}
 use Rattle.tmpl_grammar.specs.Pipeline.{IsChained, SpellsOperand, SpellsMore, SpellsCommand, SpellsLater, SpellsPipeline}
 use Rattle.tmpl_grammar.specs.Header.{SpellsBinding, SpellsWhole, SpellsHeader}
-use Rattle.tmpl_grammar.specs.Action.{Action, pipeline_action, opening, plain_else, else_branch, end_action, break_action, continue_action, define_action, template_action, block_action, SpellsGiven, SpellsAction}
-use Rattle.tmpl_grammar.specs.Need.{called_or_alone, need_of_operand, need_of_arguments, need_of_command, need_of_commands, need_of_pipeline, need_of_given, declared_count}
+use Rattle.tmpl_grammar.specs.Action.{Action, pipeline_action, opening, else_branch, template_action, block_action, SpellsGiven, SpellsAction}
+use Rattle.tmpl_grammar.specs.Need.{called_or_alone, need_of_operand, need_of_arguments, need_of_command, need_of_commands}
+use Rattle.tmpl_grammar.specs.Need.{need_of_pipeline, need_of_given, declared_count}
 use Rattle.tmpl_grammar.specs.declared.action.HeaderShape.{HeaderShape}
 use Rattle.tmpl_grammar.specs.declared.action.HeaderShape.TheVariants as shape
 
 -- ---- each value has a cell
 
 by-first-least : (o : Operand) (call alone : ℕ) → 1 ≤ call → 1 ≤ alone → 1 ≤ called_or_alone o call alone
-by-first-least tree.dot call alone c a = a
-by-first-least (tree.fields names) call alone c a = a
-by-first-least (tree.variable name names) call alone c a = a
-by-first-least (tree.bool_constant b) call alone c a = a
-by-first-least (tree.number_constant n) call alone c a = a
-by-first-least (tree.text_constant bytes) call alone c a = a
-by-first-least tree.nil call alone c a = a
 by-first-least (tree.function f) call alone c a = c
-by-first-least (tree.group commands names) call alone c a = a
+by-first-least _ call alone c a = a
 
 commands-least : (piped : ℕ) (cs : Commands) → 1 ≤ need_of_commands piped cs
 commands-least piped tree.no_command = omega arith
 commands-least piped (tree.command os cs) = let rest = commands-least 1 cs in omega (arith, rest)
 
 operand-least : (o : Operand) → 1 ≤ need_of_operand o
-operand-least tree.dot = omega arith
-operand-least (tree.fields names) = omega arith
-operand-least (tree.variable name names) = omega arith
-operand-least (tree.bool_constant b) = omega arith
-operand-least (tree.number_constant n) = omega arith
-operand-least (tree.text_constant bytes) = omega arith
-operand-least tree.nil = omega arith
-operand-least (tree.function f) = omega arith
 operand-least (tree.group commands names) = commands-least 0 commands
+operand-least _ = omega arith
 
 command-least : (piped : ℕ) (os : Operands) → 1 ≤ need_of_command piped os
 command-least piped tree.no_operand = omega arith
@@ -45,15 +33,8 @@ command-least piped (tree.operand o os) = by-first-least o (max 1 (need_of_argum
 -- ---- each value has a token
 
 by-first-most : (o : Operand) (call alone most : ℕ) → call ≤ most → alone ≤ most → called_or_alone o call alone ≤ most
-by-first-most tree.dot call alone most c a = a
-by-first-most (tree.fields names) call alone most c a = a
-by-first-most (tree.variable name names) call alone most c a = a
-by-first-most (tree.bool_constant b) call alone most c a = a
-by-first-most (tree.number_constant n) call alone most c a = a
-by-first-most (tree.text_constant bytes) call alone most c a = a
-by-first-most tree.nil call alone most c a = a
 by-first-most (tree.function f) call alone most c a = c
-by-first-most (tree.group commands names) call alone most c a = a
+by-first-most _ call alone most c a = a
 
 one-token : (o : Operand) (names : List (List ℕ)) (ts : List Token) → IsChained o names ts → 1 ≤ length ts
 one-token o names ts s =
@@ -120,10 +101,6 @@ behind ts ws t us e = omega (arith, joined ts ws (t ∷ us) e)
 
 bound-within : (b : Binding) (p : Pipeline) (ts : List Token) → SpellsBinding b (SpellsWhole p) ts → declared_count b + need_of_pipeline p ≤ length ts
 bound-within unbound p ts s = let n = whole-within p ts s in omega (arith, n)
-bound-within (declare name) p ts s =
-    omega (arith, behind ts s.0 s.1 s.2 s.3, behind s.2 s.6.0 s.6.1 s.6.2 s.6.3, whole-within p s.6.2 s.6.6)
-bound-within (assign name) p ts s =
-    omega (arith, behind ts s.0 s.1 s.2 s.3, behind s.2 s.6.0 s.6.1 s.6.2 s.6.3, whole-within p s.6.2 s.6.6)
 bound-within (declare_pair key name) p ts s =
     let more = s.6.6 in
     let sign = more.6 in
@@ -135,6 +112,8 @@ bound-within (declare_pair key name) p ts s =
       behind more.2 sign.0 sign.1 sign.2 sign.3,
       whole-within p sign.2 sign.6,
     )
+bound-within _ p ts s =
+    omega (arith, behind ts s.0 s.1 s.2 s.3, behind s.2 s.6.0 s.6.1 s.6.2 s.6.3, whole-within p s.6.2 s.6.6)
 
 -- ---- actions
 
@@ -146,16 +125,12 @@ header_cells h = declared_count h.binding + need_of_pipeline h.pipeline
 abbrev pub cells_of : Action → ℕ
 cells_of (pipeline_action h) = header_cells h
 cells_of (opening c h) = 2 + header_cells h
-cells_of plain_else = 0
 cells_of (else_branch br h) = 2 + header_cells h
-cells_of end_action = 0
-cells_of break_action = 0
-cells_of continue_action = 0
-cells_of (define_action name) = 0
 cells_of (template_action name given) = need_of_given given
 cells_of (block_action name p) = need_of_pipeline p
+cells_of _ = 0
 
-header-within : (s : HeaderShape) (h : Header) (ts : List Token) → SpellsHeader s h ts → header_cells h ≤ length ts
+header-within : (s : HeaderShape) (h : Header) (ts : List Token) → SpellsHeader (opens_range s) h ts → header_cells h ≤ length ts
 header-within s h ts spelled = bound-within h.binding h.pipeline ts spelled.1
 
 given-within : (given : Option Pipeline) (ts : List Token) → SpellsGiven given ts → need_of_given given ≤ 1 + length ts
@@ -167,15 +142,10 @@ action-within (pipeline_action h) ts s = let n = header-within shape.Pipeline h 
 action-within (opening c h) ts s =
     let n = header-within (shape.Open c) h s.2 s.6 in
     omega (arith, n, behind ts s.0 s.1 s.2 s.3)
-action-within plain_else ts s = omega arith
 action-within (else_branch br h) ts s =
     let more = s.6 in
     let n = header-within (shape.ElseBranch br) h more.2 more.6 in
     omega (arith, n, behind ts s.0 s.1 s.2 s.3, behind s.2 more.0 more.1 more.2 more.3)
-action-within end_action ts s = omega arith
-action-within break_action ts s = omega arith
-action-within continue_action ts s = omega arith
-action-within (define_action name) ts s = omega arith
 action-within (template_action name given) ts s =
     let named = s.6 in
     let n = given-within given named.2 named.6 in
@@ -184,3 +154,4 @@ action-within (block_action name p) ts s =
     let named = s.6 in
     let n = whole-within p named.2 named.6 in
     omega (arith, n, behind ts s.0 s.1 s.2 s.3, behind s.2 named.0 named.1 named.2 named.3)
+action-within _ ts s = omega arith

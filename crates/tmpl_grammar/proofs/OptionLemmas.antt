@@ -1,4 +1,4 @@
--- Options and their values.
+-- For the laws of this crate: options and their values, which each step of a reading gives.
 use Rattle.std.proofs.Common.{◌≡◌, Option, Some, None, refl}
 use Rattle.std.specs.Option.{option_map, option_and_then}
 use Rattle.std.proofs.lemmas.Option.{same_Some}

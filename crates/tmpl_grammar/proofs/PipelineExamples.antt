@@ -1,4 +1,4 @@
--- What the definitions read of some lists of tokens.
+-- For the reader of pipelines: what the definitions read of some lists of tokens.
 use Rattle.std.proofs.Common.{◌≡◌, ℕ, pos, List, [], ◌∷◌, ◌++◌, Some, None, refl, codes, replicate}
 use Rattle.tmpl_funcs.specs.declared.func.Func.TheVariants.{Len, Print}
 use Rattle.tmpl_lex.specs.declared.piece.TokenKind.{TokenKind}

@@ -1,4 +1,4 @@
--- The grammar and the reading agree.
+-- For `one_reading`: the grammar of a pipeline and its reading agree.
 use Rattle.std.proofs.Common.{◌≡◌, ◌∙◌, List, [], Option, Some, None, refl, ap, sym, subst}
 use Rattle.std.specs.Option.{option_map, option_and_then}
 use Rattle.tmpl_grammar.specs.Tree.{Operands, Commands, Pipeline, pipeline}

@@ -1,5 +1,5 @@
--- Whether tokens end a pipeline, told without the pipeline: a token's place is all that counts, and behind `)` it is
--- always directly behind an operand.
+-- For `pipeline`, which forgets pipelines beyond the limit: whether tokens end a pipeline is told without it, by a
+-- token's place, which behind `)` is always directly behind an operand.
 use Rattle.std.proofs.Common.{◌≡◌, ◌∙◌, ℕ, zero, suc, Bool, true, false, List, [], ◌∷◌, ◌++◌, Option, Some, None, refl, ap, sym, length, is_some}
 use Rattle.std.specs.Option.{option_map, option_and_then}
 use Rattle.tmpl_lex.specs.declared.piece.TokenKind.{TokenKind}
@@ -11,7 +11,8 @@ use Rattle.tmpl_grammar.specs.Tree.{Operand, Operands, operands_from}
 use Rattle.tmpl_grammar.specs.Operand.{begins_later}
 use Rattle.tmpl_grammar.specs.computed.Operand.{operand_at}
 use Rattle.tmpl_grammar.specs.computed.Parser as parser
-use Rattle.tmpl_grammar.specs.computed.Parser.{Parser, Partial, settled, more_commands, closed, may_stand, kept, linked_by, step, step_by, steps, finished, commands_after}
+use Rattle.tmpl_grammar.specs.computed.Parser.{Parser, Partial, settled, more_commands, closed, may_stand, kept, linked_by, step, step_by}
+use Rattle.tmpl_grammar.specs.computed.Parser.{steps, finished, commands_after}
 use Rattle.tmpl_grammar.proofs.SpelledLemmas.{parser_at}
 
 -- where a token stands in the pipeline around it
@@ -35,23 +36,18 @@ pub record Place : Type 0 where
 abbrev pub has_operand : Position → Bool
 has_operand First = false
 has_operand Later = false
-has_operand Linkable = true
-has_operand Touching = true
-has_operand Apart = true
+has_operand _ = true
 
 abbrev pub may_open : Position → Bool
-may_open First = true
-may_open Later = true
 may_open Linkable = false
 may_open Touching = false
-may_open Apart = true
+may_open _ = true
 
 abbrev pub allows : Position → Operand → Bool
-allows First o = true
 allows Later o = begins_later o
 allows Linkable o = false
 allows Touching o = false
-allows Apart o = true
+allows _ o = true
 
 abbrev pub spaced : Position → Position
 spaced First = First
@@ -62,15 +58,10 @@ spaced Apart = Apart
 
 -- an operand may have a chain
 abbrev pub may_chain : Operand → Bool
-may_chain tree.dot = false
 may_chain (tree.fields names) = true
 may_chain (tree.variable name names) = true
-may_chain (tree.bool_constant b) = false
-may_chain (tree.number_constant n) = false
-may_chain (tree.text_constant bytes) = false
-may_chain tree.nil = false
-may_chain (tree.function f) = false
 may_chain (tree.group commands names) = true
+may_chain _ = false
 
 abbrev pub touching : Bool → Position
 touching true = Linkable
@@ -204,7 +195,8 @@ begun-later (d ∷ cs) c = refl
 -- where the command has an operand, and only there, it can end
 pub data Closes (last : Option Operand) (cs : List Operands) (os : List Operand) : Type 0 where
   open_end : has_operand (position_in last (record { commands = cs; operands = os })) ≡ false → more_commands cs (settled last os) ≡ None → Closes last cs os
-  whole_end : (x : Operands) → has_operand (position_in last (record { commands = cs; operands = os })) ≡ true → more_commands cs (settled last os) ≡ Some (cs ++ x ∷ []) → Closes last cs os
+  whole_end : (x : Operands) → has_operand (position_in last (record { commands = cs; operands = os })) ≡ true
+      → more_commands cs (settled last os) ≡ Some (cs ++ x ∷ []) → Closes last cs os
 
 pub closes : (last : Option Operand) (cs : List Operands) (os : List Operand) → Closes last cs os
 closes None [] [] = open_end refl refl
@@ -235,7 +227,8 @@ none-placed b None n = refl
 none-placed b (Some o) n = ap (λ a. kept_at a (record { position = touching b; depth = n }) (behind o)) (none-allowed b o)
 
 module _ (n : ℕ) (ls : List Partial) (cs : List Operands) (os : List Operand) where
-  placed-place : (last o : Option Operand) → option_map (place_of n) (parser.placed last o (parser_at ls cs os last)) ≡ placed o (place_of n (parser_at ls cs os last))
+  placed-place : (last o : Option Operand)
+      → option_map (place_of n) (parser.placed last o (parser_at ls cs os last)) ≡ placed o (place_of n (parser_at ls cs os last))
   placed-place None None = refl
   placed-place None (Some o) = by cs os
     where
@@ -281,7 +274,8 @@ module _ (n : ℕ) (ls : List Partial) (cs : List Operands) (os : List Operand) 
   abbrev fields_on : Option Operand → Option Place
   fields_on o = option_map (place_of n) (option_map (parser.ending_with (parser_at ls cs os None)) o)
 
-  linkable : (b : Bool) (o p : Operand) (t : Token) → may_chain o ≡ true → may_chain p ≡ true → parser.linked o (name_in t) ≡ Some p → fields_on (linked_by b o (name_in t)) ≡ kept_at b (place_of n (parser_at ls cs os (Some o))) Linkable
+  linkable : (b : Bool) (o p : Operand) (t : Token) → may_chain o ≡ true → may_chain p ≡ true → parser.linked o (name_in t) ≡ Some p
+      → fields_on (linked_by b o (name_in t)) ≡ kept_at b (place_of n (parser_at ls cs os (Some o))) Linkable
   linkable false o p t can also is = refl
   linkable true o p t can also is = ap fields_on is ∙ ap (λ b. Some (record { position = touching b; depth = more n (length ls) })) also
 
@@ -289,18 +283,23 @@ module _ (n : ℕ) (ls : List Partial) (cs : List Operands) (os : List Operand) 
   unlinkable false o t is = refl
   unlinkable true o t is = ap fields_on is
 
-  linked-place : (o : Operand) (t : Token) → fields_on (linked_by (begins_name (name_in t)) o (name_in t)) ≡ fielded (behind o) t (place_of n (parser_at ls cs os (Some o)))
+  linked-place : (o : Operand) (t : Token)
+      → fields_on (linked_by (begins_name (name_in t)) o (name_in t)) ≡ fielded (behind o) t (place_of n (parser_at ls cs os (Some o)))
   linked-place tree.dot t = unlinkable (begins_name (name_in t)) tree.dot t refl ∙ sym (none-placed false (operand_at t) (more n (length ls)))
   linked-place (tree.fields names) t = linkable (begins_name (name_in t)) (tree.fields names) _ t refl refl refl
   linked-place (tree.variable x names) t = linkable (begins_name (name_in t)) (tree.variable x names) _ t refl refl refl
-  linked-place (tree.bool_constant x) t = unlinkable (begins_name (name_in t)) (tree.bool_constant x) t refl ∙ sym (none-placed false (operand_at t) (more n (length ls)))
-  linked-place (tree.number_constant x) t = unlinkable (begins_name (name_in t)) (tree.number_constant x) t refl ∙ sym (none-placed false (operand_at t) (more n (length ls)))
-  linked-place (tree.text_constant bytes) t = unlinkable (begins_name (name_in t)) (tree.text_constant bytes) t refl ∙ sym (none-placed false (operand_at t) (more n (length ls)))
+  linked-place (tree.bool_constant x) t =
+      unlinkable (begins_name (name_in t)) (tree.bool_constant x) t refl ∙ sym (none-placed false (operand_at t) (more n (length ls)))
+  linked-place (tree.number_constant x) t =
+      unlinkable (begins_name (name_in t)) (tree.number_constant x) t refl ∙ sym (none-placed false (operand_at t) (more n (length ls)))
+  linked-place (tree.text_constant bytes) t =
+      unlinkable (begins_name (name_in t)) (tree.text_constant bytes) t refl ∙ sym (none-placed false (operand_at t) (more n (length ls)))
   linked-place tree.nil t = unlinkable (begins_name (name_in t)) tree.nil t refl ∙ sym (none-placed false (operand_at t) (more n (length ls)))
   linked-place (tree.function f) t = unlinkable (begins_name (name_in t)) (tree.function f) t refl ∙ sym (none-placed false (operand_at t) (more n (length ls)))
   linked-place (tree.group commands names) t = linkable (begins_name (name_in t)) (tree.group commands names) _ t refl refl refl
 
-  plain-field : (cs : List Operands) (os : List Operand) (t : Token) → fielded (begun cs os) t (place_of n (parser_at ls cs os None)) ≡ placed (operand_at t) (place_of n (parser_at ls cs os None))
+  plain-field : (cs : List Operands) (os : List Operand) (t : Token)
+      → fielded (begun cs os) t (place_of n (parser_at ls cs os None)) ≡ placed (operand_at t) (place_of n (parser_at ls cs os None))
   plain-field [] [] t = refl
   plain-field (c ∷ cs) [] t = refl
   plain-field [] (o ∷ os) t = refl
@@ -310,22 +309,14 @@ module _ (n : ℕ) (ls : List Partial) (cs : List Operands) (os : List Operand) 
   fielded-place None t = placed-place None (operand_at t) ∙ sym (plain-field cs os t)
   fielded-place (Some o) t = linked-place o t
 
-  step_by-place : (k : TokenKind) (t : Token) (last : Option Operand) → IsHeld ls n → option_map (place_of n) (step_by k t (parser_at ls cs os last)) ≡ passed_by k t (place_of n (parser_at ls cs os last))
+  step_by-place : (k : TokenKind) (t : Token) (last : Option Operand) → IsHeld ls n
+      → option_map (place_of n) (step_by k t (parser_at ls cs os last)) ≡ passed_by k t (place_of n (parser_at ls cs os last))
   step_by-place kind.Space t last held = apart-place last
   step_by-place kind.Pipe t last held = barred-place last (closes last cs os)
   step_by-place kind.LeftParenthesis t last held = opened-place last
   step_by-place kind.RightParenthesis t last held = left-place ls last held (closes last cs os)
   step_by-place kind.Field t last held = fielded-place last t
-  step_by-place kind.Word t last held = placed-place last (operand_at t)
-  step_by-place kind.Number t last held = placed-place last (operand_at t)
-  step_by-place kind.Dot t last held = placed-place last (operand_at t)
-  step_by-place kind.Variable t last held = placed-place last (operand_at t)
-  step_by-place kind.String t last held = placed-place last (operand_at t)
-  step_by-place kind.RawString t last held = placed-place last (operand_at t)
-  step_by-place kind.Character t last held = placed-place last (operand_at t)
-  step_by-place kind.Declare t last held = placed-place last (operand_at t)
-  step_by-place kind.Assign t last held = placed-place last (operand_at t)
-  step_by-place kind.Comma t last held = placed-place last (operand_at t)
+  step_by-place _ t last held = placed-place last (operand_at t)
 
 pub step-place : (n : ℕ) (t : Token) (h : Parser) → IsHeld h.outer n → option_map (place_of n) (step t h) ≡ passed t (place_of n h)
 unfolding step passed
@@ -342,7 +333,8 @@ pub finished-place : (h : Parser) → is_some (finished h) ≡ ends (place_of 0 
 unfolding finished
 finished-place h = by h.outer h.last h.inner.commands h.inner.operands (closes h.last h.inner.commands h.inner.operands)
   where
-    by : (ls : List Partial) (last : Option Operand) (cs : List Operands) (os : List Operand) → Closes last cs os → is_some (parser.finished_with ls (more_commands cs (settled last os))) ≡ ends (place_of 0 (parser_at ls cs os last))
+    by : (ls : List Partial) (last : Option Operand) (cs : List Operands) (os : List Operand) → Closes last cs os
+        → is_some (parser.finished_with ls (more_commands cs (settled last os))) ≡ ends (place_of 0 (parser_at ls cs os last))
     by [] last cs os (open_end lacks e) = ap is_some e ∙ sym lacks
     by [] last cs os (whole_end x has e) = ap is_some e ∙ sym has
     by (l ∷ ls) last cs os c = refl

@@ -1,4 +1,4 @@
--- What is left to be printed in the midst of commands or operands.
+-- For what is printed operand by operand: what is left to be printed in the midst of commands or operands.
 use Rattle.std.proofs.Common.{◌≡◌, ◌∙◌, ℕ, ◌∷◌, ◌++◌, Bool, true, false, List, [], codes, refl, ap, append_assoc, Vec, Global}
 use Rattle.std.proofs.lemmas.List.Concat.{flat_map-append}
 use Rattle.tmpl_grammar.specs.Tree.{Operand, Operands, no_operand, operand, Commands, no_command, command}

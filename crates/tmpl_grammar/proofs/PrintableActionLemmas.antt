@@ -1,5 +1,6 @@
--- What holds of the actions that tokens of a file spell.
-use Rattle.std.proofs.Common.{◌≡◌, ◌∙◌, ℕ, ◌-◌, ◌≤◌, Bool, true, false, cond, List, [], ◌∷◌, ◌++◌, Option, Some, None, refl, sym, ap, subst, length, take, drop, if◌then◌else◌, pos, bytes_eq, codes}
+-- For the law that what a file defines can be printed: what holds of the actions that its tokens spell.
+use Rattle.std.proofs.Common.{◌≡◌, ◌∙◌, ℕ, ◌-◌, ◌≤◌, Bool, true, false, cond, List, [], ◌∷◌, ◌++◌, Option, Some, None, refl, sym, ap, subst}
+use Rattle.std.proofs.Common.{length, take, drop, pos, bytes_eq, codes, if◌then◌else◌}
 use Rattle.std.specs.Option.{option_map, option_and_then}
 use lib.IntN.{ℤ}
 use Rattle.tmpl_values.specs.Bytes.{AreBytes}
@@ -8,10 +9,11 @@ use Rattle.tmpl_lex.proofs.NameLemmas.{IsNamed, OfKind}
 use Rattle.tmpl_lex.specs.Piece.{Token}
 use Rattle.tmpl_lex.specs.declared.piece.TokenKind.{TokenKind}
 use Rattle.tmpl_lex.specs.declared.piece.TokenKind.TheVariants as kind
+use Rattle.tmpl_grammar.specs.computed.Reading.{opens_range}
 use Rattle.tmpl_grammar.specs.Token.{begins_name, name_in}
 use Rattle.tmpl_grammar.specs.Tree as tree
 use Rattle.tmpl_grammar.specs.Tree.{Operand, Operands, Commands, Pipeline, pipeline, Binding, unbound, declare, assign, Header, declare_pair}
-use Rattle.tmpl_grammar.specs.Action.{Action, pipeline_action, opening, plain_else, else_branch, end_action, break_action, continue_action, define_action, template_action, block_action, IsQuoted, SpellsAction}
+use Rattle.tmpl_grammar.specs.Action.{Action, pipeline_action, opening, else_branch, define_action, template_action, block_action, IsQuoted, SpellsAction}
 use Rattle.tmpl_grammar.specs.Header.{IsVariable, SpellsHeader, SpellsBinding, SpellsWhole}
 use Rattle.tmpl_grammar.specs.computed.Constant.{constant_of, constant_by, string_in, raw_string_in, character_in}
 use Rattle.tmpl_grammar.specs.Depth.{depth_of, depth_of_pipeline, most_deep}
@@ -20,7 +22,8 @@ use Rattle.tmpl_grammar.specs.Constant.Integer.{integer}
 use Rattle.tmpl_grammar.specs.computed.Quoted.{between, unquoted, rune_code}
 use Rattle.tmpl_grammar.specs.Operand.{IsOperand}
 use Rattle.tmpl_grammar.specs.computed.Operand.{operand_at, operand_by, word_operand, func_named, field_operand}
-use Rattle.tmpl_grammar.specs.Printable.{AreFieldNames, OfOperand, OfMore, OfCommand, OfLater, OfCommands, OfPipeline, OfVariable, OfBinding, OfAction, OfHeader}
+use Rattle.tmpl_grammar.specs.Printable.{AreFieldNames, OfOperand, OfMore, OfCommand, OfLater, OfCommands, OfPipeline, OfVariable}
+use Rattle.tmpl_grammar.specs.Printable.{OfBinding, OfAction, OfHeader}
 use Rattle.tmpl_grammar.specs.declared.action.HeaderShape.{HeaderShape}
 use Rattle.tmpl_grammar.specs.declared.action.HeaderShape.TheVariants as shape
 use Rattle.tmpl_grammar.proofs.IsOperandLemmas.{computes-operand}
@@ -70,17 +73,7 @@ constant-is kind.Number bs h = number-of (integer bs) (integer-range bs)
 constant-is kind.String bs h = string-of (between 34 bs)
 constant-is kind.RawString bs h = raw-of (between 96 bs) (between-bytes 96 bs h)
 constant-is kind.Character bs h = rune-of (between 39 bs)
-constant-is kind.Space bs h = tt
-constant-is kind.Word bs h = tt
-constant-is kind.Field bs h = tt
-constant-is kind.Dot bs h = tt
-constant-is kind.Variable bs h = tt
-constant-is kind.Declare bs h = tt
-constant-is kind.Assign bs h = tt
-constant-is kind.Comma bs h = tt
-constant-is kind.Pipe bs h = tt
-constant-is kind.LeftParenthesis bs h = tt
-constant-is kind.RightParenthesis bs h = tt
+constant-is _ bs h = tt
 
 pub constant-maybe : (t : Token) → AreBytes t.bytes → OfMaybe (constant_of t)
 unfolding constant_of
@@ -106,7 +99,6 @@ field-of true name e h = ((e, h), tt)
 field-of false name e h = tt
 
 operand-is : (k : TokenKind) (t : Token) → OfKind k (name_in t) → AreBytes t.bytes → OfMaybe (operand_by k t)
-operand-is kind.Dot t n h = tt
 operand-is kind.Field t n h = field-of (begins_name (name_in t)) (name_in t) refl n
 operand-is kind.Variable t n h = (n, tt)
 operand-is kind.Word t n h = word-of t.bytes
@@ -114,13 +106,7 @@ operand-is kind.Number t n h = constant-maybe t h
 operand-is kind.String t n h = constant-maybe t h
 operand-is kind.RawString t n h = constant-maybe t h
 operand-is kind.Character t n h = constant-maybe t h
-operand-is kind.Space t n h = tt
-operand-is kind.Declare t n h = tt
-operand-is kind.Assign t n h = tt
-operand-is kind.Comma t n h = tt
-operand-is kind.Pipe t n h = tt
-operand-is kind.LeftParenthesis t n h = tt
-operand-is kind.RightParenthesis t n h = tt
+operand-is _ t n h = tt
 
 of-token : (t : Token) (o : Operand) → IsRead t → IsOperand t o → OfOperand o
 unfolding operand_at
@@ -141,7 +127,6 @@ of-chain (n ∷ ns) ts r s =
 
 mutual
   of-operand : (o : Operand) (ts : List Token) → AreRead ts → SpellsOperand o ts → OfOperand o
-  of-operand tree.dot ts r s = tt
   of-operand (tree.fields []) ts r s = s
   of-operand (tree.fields (n ∷ ns)) ts r s =
       let h = subst AreRead s.2 r in
@@ -149,15 +134,13 @@ mutual
   of-operand (tree.variable name names) ts r s =
       let h = subst AreRead s.2 r in
       ((of-token s.0 (tree.variable name []) h.0 s.3).0, of-chain names s.1 h.1 s.4)
-  of-operand (tree.bool_constant b) ts r s = tt
   of-operand (tree.number_constant n) ts r s = let h = subst AreRead s.2 r in of-token s.0 (tree.number_constant n) h.0 s.3
   of-operand (tree.text_constant bytes) ts r s = let h = subst AreRead s.2 r in of-token s.0 (tree.text_constant bytes) h.0 s.3
-  of-operand tree.nil ts r s = tt
-  of-operand (tree.function f) ts r s = tt
   of-operand (tree.group commands names) ts r s =
       let h = (subst AreRead s.4 r).1 in
       let parts = read-parts s.1 (s.2 ∷ s.3) h in
       (of-commands commands s.1 parts.0 s.7, of-chain names s.3 parts.1.1 s.8)
+  of-operand _ ts r s = tt
 
   of-more : (os : Operands) (ts : List Token) → AreRead ts → SpellsMore os ts → OfMore os
   of-more tree.no_operand ts r s = tt
@@ -195,7 +178,8 @@ of-variable name t r v = (v.2, subst IsNamed v.1 (subst (λ k. OfKind k (name_in
 of-whole : (p : Pipeline) (ts : List Token) → depth_of_pipeline p ≤ most_deep → AreRead ts → SpellsWhole p ts → OfPipeline p
 of-whole (pipeline cs) ts d r s = (of-commands cs ts r s, d)
 
-of-bound : (b : Binding) (p : Pipeline) (ts : List Token) → depth_of_pipeline p ≤ most_deep → AreRead ts → SpellsBinding b (SpellsWhole p) ts → OfBinding b × OfPipeline p
+of-bound : (b : Binding) (p : Pipeline) (ts : List Token) → depth_of_pipeline p ≤ most_deep → AreRead ts
+    → SpellsBinding b (SpellsWhole p) ts → OfBinding b × OfPipeline p
 of-bound unbound p ts d r s = (tt, of-whole p ts d r s)
 of-bound (declare name) p ts d r s =
     let h = behind s.0 s.1 s.2 ts s.3 r in
@@ -214,7 +198,8 @@ of-bound (declare_pair key name) p ts d r s =
     let j = behind sign.0 sign.1 sign.2 more.2 sign.3 k.1 in
     ((of-variable key s.1 h.0 s.5, of-variable name more.1 k.0 more.5), of-whole p sign.2 d j.1 sign.6)
 
-of-header : (s : HeaderShape) (h : Header) (ts : List Token) → depth_of_pipeline h.pipeline ≤ most_deep → AreRead ts → SpellsHeader s h ts → OfHeader s h
+of-header : (s : HeaderShape) (h : Header) (ts : List Token) → depth_of_pipeline h.pipeline ≤ most_deep → AreRead ts
+    → SpellsHeader (opens_range s) h ts → OfHeader (opens_range s) h
 of-header s h ts d r spelled =
     let of = of-bound h.binding h.pipeline ts d r spelled.1 in
     (spelled.0, of.0, of.1)
@@ -225,14 +210,10 @@ of-name name t r q = subst OfMaybe (computes-constant t (tree.text_constant name
 pub of_action : (a : Action) (ts : List Token) → depth_of a ≤ most_deep → AreRead ts → SpellsAction a ts → OfAction a
 of_action (pipeline_action h) ts d r s = of-header shape.Pipeline h ts d r s
 of_action (opening c h) ts d r s = of-header (shape.Open c) h s.2 d (behind s.0 s.1 s.2 ts s.3 r).1 s.6
-of_action plain_else ts d r s = tt
 of_action (else_branch br h) ts d r s =
     let else_behind = behind s.0 s.1 s.2 ts s.3 r in
     let more = s.6 in
     of-header (shape.ElseBranch br) h more.2 d (behind more.0 more.1 more.2 s.2 more.3 else_behind.1).1 more.6
-of_action end_action ts d r s = tt
-of_action break_action ts d r s = tt
-of_action continue_action ts d r s = tt
 of_action (define_action name) ts d r s =
     let h = behind s.0 s.1 s.2 ts s.3 r in
     let n = s.6 in
@@ -251,3 +232,4 @@ of_action (block_action name p) ts d r s =
     let n = s.6 in
     let k = behind n.0 n.1 n.2 s.2 n.3 h.1 in
     (of-name name n.1 k.0 n.5, of-whole p n.2 d k.1 n.6)
+of_action _ ts d r s = tt

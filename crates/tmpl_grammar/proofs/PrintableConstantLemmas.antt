@@ -1,5 +1,6 @@
--- What holds of the constants that tokens stand for: numbers are within the range, and texts are bytes.
-use Rattle.std.proofs.Common.{arith, ◌≡◌, ℕ, zero, suc, ◌+◌, ◌-◌, ◌/◌, ◌^◌, ◌<◌, ◌≤◌, Bool, true, false, not, nat_eq, nat_lt, nat_le, cond, if◌then◌else◌, List, [], ◌∷◌, ◌++◌, Option, Some, None, refl, pos, neg_ℤ, option_and_then, ⊎_elim}
+-- For what can be printed: the constants that tokens stand for are numbers within the range, and texts of bytes.
+use Rattle.std.proofs.Common.{arith, ◌≡◌, ℕ, zero, suc, ◌+◌, ◌-◌, ◌/◌, ◌^◌, ◌<◌, ◌≤◌, Bool, true, false, not, nat_eq, nat_lt, nat_le, cond}
+use Rattle.std.proofs.Common.{List, [], ◌∷◌, ◌++◌, Option, Some, None, refl, pos, neg_ℤ, option_and_then, ⊎_elim, if◌then◌else◌}
 use Rattle.std.specs.Option.{option_map}
 use lib.IntN.{ℤ}
 use lib.Signed.{mag}
@@ -7,15 +8,14 @@ use lib.Utf8.{scalar, next, scalar_cases}
 use Rattle.std.specs.List.{flat_map}
 use Rattle.std.specs.Char.{encode_utf8, IsScalar}
 use Rattle.std.proofs.lemmas.Bool.Decides.{nat_tests}
-use Rattle.tmpl_values.specs.Rune.{Rune}
+use Rattle.tmpl_values.specs.Rune.{Rune, char, byte, bytes_in}
 use Rattle.tmpl_values.specs.Rune.{first_rune}
 use Rattle.tmpl_values.specs.Bytes.{AreBytes}
 use Rattle.tmpl_values.proofs.RuneLemmas.{Front, encoding, lone, front}
 use Rattle.tmpl_grammar.specs.Constant.Integer.{magnitude, signed, integer}
-use Rattle.tmpl_grammar.specs.Constant.Quoted.{part_text, part_code, without_returns}
-use Rattle.tmpl_grammar.specs.computed.Quoted.{Spelled, rune_part, as_byte, as_char, code, byte_named, coded, escape_by, escape, part_at, with_part, parts_after, parts, unquoted, one_code, rune_code}
-use Rattle.tmpl_grammar.specs.declared.constant.quoted.Part.{Part}
-use Rattle.tmpl_grammar.specs.declared.constant.quoted.Part.TheVariants.{Byte, Char}
+use Rattle.tmpl_grammar.specs.Constant.Quoted.{code_of, without_returns}
+use Rattle.tmpl_grammar.specs.computed.Quoted.{Spelled, rune_part, as_byte, as_char, code, byte_named, coded, escape_by, escape, part_at}
+use Rattle.tmpl_grammar.specs.computed.Quoted.{with_part, parts_after, parts, unquoted, one_code, rune_code}
 
 -- ---- numbers
 
@@ -56,9 +56,9 @@ integer-range (b ∷ bs) =
 
 -- ---- the parts of a text
 
-abbrev OfPart : Part → Type 0
-OfPart (Byte b) = b < 256
-OfPart (Char c) = IsScalar c
+abbrev OfPart : Rune → Type 0
+OfPart (byte b) = b < 256
+OfPart (char c) = IsScalar c
 
 abbrev OfSpelled : Option Spelled → Type 0
 OfSpelled None = Unit {0}
@@ -71,14 +71,14 @@ if-spelled false o p h k = k
 byte-spelled : (len n : ℕ) → OfSpelled (as_byte len n)
 byte-spelled len n = go (nat_lt n 256) refl
   where
-    go : (k : Bool) → nat_lt n 256 ≡ k → OfSpelled (if k then Some (Byte n, len) else None)
+    go : (k : Bool) → nat_lt n 256 ≡ k → OfSpelled (if k then Some (byte n, len) else None)
     go true e = grind (arith, nat_tests)
     go false e = tt
 
 char-spelled : (len n : ℕ) → OfSpelled (as_char len n)
 char-spelled len n = go (scalar n) refl
   where
-    go : (k : Bool) → scalar n ≡ k → OfSpelled (if k then Some (Char n, len) else None)
+    go : (k : Bool) → scalar n ≡ k → OfSpelled (if k then Some (char n, len) else None)
     go true e = e
     go false e = tt
 
@@ -131,15 +131,15 @@ part-spelled quote (b ∷ bs) h =
     if-spelled (nat_eq b 92) _ _ (escape-spelled quote bs h)
     (if-spelled (nat_eq b quote) _ _ tt (rune-spelled (b ∷ bs) (first_rune (b ∷ bs)) (front (b ∷ bs))))
 
-abbrev AreParts : List Part → Type 0
+abbrev AreParts : List Rune → Type 0
 AreParts [] = Unit {0}
 AreParts (p ∷ ps) = OfPart p × AreParts ps
 
-abbrev OfParts : Option (List Part) → Type 0
+abbrev OfParts : Option (List Rune) → Type 0
 OfParts None = Unit {0}
 OfParts (Some ps) = AreParts ps
 
-with-spelled : (p : Part) (o : Option (List Part)) → OfPart p → OfParts o → OfParts (with_part p o)
+with-spelled : (p : Rune) (o : Option (List Rune)) → OfPart p → OfParts o → OfParts (with_part p o)
 with-spelled p None h k = tt
 with-spelled p (Some ps) h k = (h, k)
 
@@ -149,7 +149,8 @@ after-spelled quote (suc n) [] h = tt
 after-spelled quote (suc n) (b ∷ bs) h = after-spelled quote n bs h
 after-spelled quote zero (b ∷ bs) h = go (λ n. after-spelled quote n bs h) (part_at quote (b ∷ bs)) (part-spelled quote (b ∷ bs) h)
   where
-    go : ((n : ℕ) → OfParts (parts_after quote n bs)) → (o : Option Spelled) → OfSpelled o → OfParts (option_and_then (λ (p : Spelled). with_part p.0 (parts_after quote (p.1 - 1) bs)) o)
+    go : ((n : ℕ) → OfParts (parts_after quote n bs)) → (o : Option Spelled) → OfSpelled o
+        → OfParts (option_and_then (λ (p : Spelled). with_part p.0 (parts_after quote (p.1 - 1) bs)) o)
     go more None k = tt
     go more (Some p) k = with-spelled p.0 _ k (more (p.1 - 1))
 
@@ -177,13 +178,13 @@ encode-bytes : (c : ℕ) → IsScalar c → AreBytes (encode_utf8 c)
 unfolding encode_utf8
 encode-bytes c s = encode-by _ _ _ c (below c s) refl refl refl
 
-part-bytes : (p : Part) → OfPart p → AreBytes (part_text p)
-part-bytes (Byte b) h = (h, tt)
-part-bytes (Char c) h = encode-bytes c h
+part-bytes : (p : Rune) → OfPart p → AreBytes (bytes_in p)
+part-bytes (byte b) h = (h, tt)
+part-bytes (char c) h = encode-bytes c h
 
-parts-bytes : (ps : List Part) → AreParts ps → AreBytes (flat_map part_text ps)
+parts-bytes : (ps : List Rune) → AreParts ps → AreBytes (flat_map bytes_in ps)
 parts-bytes [] h = tt
-parts-bytes (p ∷ ps) h = bytes-append (part_text p) (flat_map part_text ps) (part-bytes p h.0) (parts-bytes ps h.1)
+parts-bytes (p ∷ ps) h = bytes-append (bytes_in p) (flat_map bytes_in ps) (part-bytes p h.0) (parts-bytes ps h.1)
 
 abbrev pub OfText : Option (List ℕ) → Type 0
 OfText None = Unit {0}
@@ -192,7 +193,7 @@ OfText (Some bytes) = AreBytes bytes
 pub unquoted-bytes : (bs : List ℕ) → OfText (unquoted 34 bs)
 unquoted-bytes bs = go (parts 34 bs) (parts-spelled 34 bs (omega arith))
   where
-    go : (o : Option (List Part)) → OfParts o → OfText (option_map (flat_map part_text) o)
+    go : (o : Option (List Rune)) → OfParts o → OfText (option_map (flat_map bytes_in) o)
     go None h = tt
     go (Some ps) h = parts-bytes ps h
 
@@ -206,22 +207,21 @@ raw-bytes (b ∷ bs) h = go (not (nat_eq b 13)) (raw-bytes bs h.1)
 
 -- ---- characters
 
-code-range : (p : Part) → OfPart p → part_code p < 2 ^ 63
-code-range (Byte b) h = omega arith
-code-range (Char c) h = let low = below c h in omega arith
+code-range : (p : Rune) → OfPart p → code_of p < 2 ^ 63
+code-range (byte b) h = omega arith
+code-range (char c) h = let low = below c h in omega arith
 
 abbrev pub OfCode : Option ℕ → Type 0
 OfCode None = Unit {0}
 OfCode (Some n) = n < 2 ^ 63
 
-one-range : (ps : List Part) → AreParts ps → OfCode (one_code ps)
-one-range [] h = tt
+one-range : (ps : List Rune) → AreParts ps → OfCode (one_code ps)
 one-range (p ∷ []) h = code-range p h.0
-one-range (p ∷ q ∷ ps) h = tt
+one-range _ h = tt
 
 pub character-range : (bs : List ℕ) → OfCode (rune_code 39 bs)
 character-range bs = go (parts 39 bs) (parts-spelled 39 bs (omega arith))
   where
-    go : (o : Option (List Part)) → OfParts o → OfCode (option_and_then one_code o)
+    go : (o : Option (List Rune)) → OfParts o → OfCode (option_and_then one_code o)
     go None h = tt
     go (Some ps) h = one-range ps h

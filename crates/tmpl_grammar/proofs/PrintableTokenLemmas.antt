@@ -1,4 +1,4 @@
--- What holds of the tokens of a file: their bytes are bytes, and their names are names.
+-- For what can be printed: the tokens of a file have bytes that are bytes, and names that are names.
 use Rattle.std.proofs.Common.{ℕ, zero, suc, List, [], ◌∷◌, ◌++◌, take, drop}
 use Rattle.tmpl_values.specs.Bytes.{AreBytes}
 use Rattle.tmpl_lex.proofs.NameLemmas.{OfKind}

@@ -1,5 +1,6 @@
--- A whole number in decimal is one token, and is read as the number.
-use Rattle.std.proofs.Common.{arith, ◌≡◌, ◌∙◌, ℕ, zero, suc, ◌^◌, ◌<◌, true, false, ◌&&◌, ◌||◌, nat_eq, nat_lt, nat_le, if◌then◌else◌, List, [], ◌∷◌, ◌++◌, get_or, filter, Some, None, refl, ap, pos, negsuc, neg_ℤ, option_and_then}
+-- For `printed_tokens` and `printed_spelling`: a whole number in decimal is one token, and is read as it.
+use Rattle.std.proofs.Common.{arith, ◌≡◌, ◌∙◌, ℕ, zero, suc, ◌^◌, ◌<◌, true, false, ◌&&◌, ◌||◌, nat_eq, nat_lt, nat_le, if◌then◌else◌, List}
+use Rattle.std.proofs.Common.{[], ◌∷◌, ◌++◌, get_or, filter, Some, None, refl, ap, pos, negsuc, neg_ℤ, option_and_then}
 use lib.IntN.{ℤ}
 use lib.Signed.{mag}
 use Rattle.std.specs.List.{list_all}

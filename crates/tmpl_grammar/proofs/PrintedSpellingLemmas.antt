@@ -1,4 +1,4 @@
--- The tokens of a printed pipeline or action spell it.
+-- For `printed_spelling`: the tokens of a printed pipeline or action spell it.
 use Rattle.std.proofs.Common.{◌≡◌, ◌∙◌, ℕ, Bool, true, false, List, [], ◌∷◌, ◌++◌, Option, Some, None, refl, sym, ap, append_assoc}
 use Rattle.std.specs.Option.{option_map, option_and_then}
 use Rattle.tmpl_values.specs.Quote.{quote, inside}
@@ -7,9 +7,10 @@ use Rattle.tmpl_values.specs.Bytes.{AreBytes}
 use Rattle.tmpl_funcs.specs.Func.{name_of}
 use Rattle.tmpl_lex.specs.Piece.{Token}
 use Rattle.tmpl_lex.specs.declared.piece.TokenKind.TheVariants as kind
+use Rattle.tmpl_grammar.specs.computed.Reading.{opens_range}
 use Rattle.tmpl_grammar.specs.Tree as tree
 use Rattle.tmpl_grammar.specs.Tree.{Operand, Operands, Commands, Pipeline, pipeline, Binding, unbound, declare, assign, Header, declare_pair}
-use Rattle.tmpl_grammar.specs.Action.{Action, pipeline_action, opening, plain_else, else_branch, end_action, break_action, continue_action, define_action, template_action, block_action, SpellsGiven, SpellsAction}
+use Rattle.tmpl_grammar.specs.Action.{Action, pipeline_action, opening, else_branch, define_action, template_action, block_action, SpellsGiven, SpellsAction}
 use Rattle.tmpl_grammar.specs.Pipeline.{IsBlank, IsChain, SpellsOperand, SpellsMore, SpellsCommand, SpellsLater, SpellsPipeline}
 use Rattle.tmpl_grammar.specs.Header.{Then, IsVariable, IsSign, IsName, SpellsHeader, SpellsBinding, SpellsWhole}
 use Rattle.tmpl_grammar.specs.Constant.{IsConstant}
@@ -17,7 +18,9 @@ use Rattle.tmpl_grammar.specs.computed.Constant.{constant_of, string_in}
 use Rattle.tmpl_grammar.specs.Operand as operand
 use Rattle.tmpl_grammar.specs.Operand.{IsOperand}
 use Rattle.tmpl_grammar.specs.Constant as constant
-use Rattle.tmpl_grammar.specs.Print.{token, space, word, chain_tokens, truth_word, operand_tokens, more_tokens, command_tokens, later_tokens, commands_tokens, header_tokens, action_tokens, binding_tokens, pipeline_tokens, given_tokens}
+use Rattle.tmpl_grammar.specs.Print.{token, space, word, chain_tokens, truth_word, operand_tokens, more_tokens, command_tokens}
+use Rattle.tmpl_grammar.specs.Print.{later_tokens, commands_tokens, header_tokens, action_tokens, binding_tokens, pipeline_tokens}
+use Rattle.tmpl_grammar.specs.Print.{given_tokens}
 use Rattle.tmpl_grammar.specs.Printable.{AreFieldNames, OfOperand, OfMore, OfCommand, OfLater, OfCommands, OfPipeline, OfBinding, OfGiven, OfAction, OfHeader}
 use Rattle.tmpl_grammar.specs.declared.action.HeaderShape.{HeaderShape}
 use Rattle.tmpl_grammar.specs.declared.action.HeaderShape.TheVariants as shape
@@ -160,11 +163,13 @@ paired key name p h i k ws w = (
 spells-bound : (b : Binding) (p : Pipeline) → OfBinding b → OfPipeline p
     → SpellsBinding b (SpellsWhole p) (space ∷ (binding_tokens b ++ pipeline_tokens p)) × SpellsBinding b (SpellsWhole p) (binding_tokens b ++ pipeline_tokens p)
 spells-bound unbound p h k = (spaced-whole p k, spells-whole p k)
-spells-bound (declare name) p h k = (signed name p (token kind.Declare (58 ∷ 61 ∷ [])) h.0 k (space ∷ []) (refl, tt), signed name p (token kind.Declare (58 ∷ 61 ∷ [])) h.0 k [] tt)
-spells-bound (assign name) p h k = (signed name p (token kind.Assign (61 ∷ [])) h.0 k (space ∷ []) (refl, tt), signed name p (token kind.Assign (61 ∷ [])) h.0 k [] tt)
+spells-bound (declare name) p h k =
+    (signed name p (token kind.Declare (58 ∷ 61 ∷ [])) h.0 k (space ∷ []) (refl, tt), signed name p (token kind.Declare (58 ∷ 61 ∷ [])) h.0 k [] tt)
+spells-bound (assign name) p h k =
+    (signed name p (token kind.Assign (61 ∷ [])) h.0 k (space ∷ []) (refl, tt), signed name p (token kind.Assign (61 ∷ [])) h.0 k [] tt)
 spells-bound (declare_pair key name) p h k = (paired key name p h.0.0 h.1.0 k (space ∷ []) (refl, tt), paired key name p h.0.0 h.1.0 k [] tt)
 
-spells-header : (s : HeaderShape) (h : Header) → OfHeader s h → SpellsHeader s h (space ∷ header_tokens h)
+spells-header : (s : HeaderShape) (h : Header) → OfHeader (opens_range s) h → SpellsHeader (opens_range s) h (space ∷ header_tokens h)
 spells-header s h of = (of.0, (spells-bound h.binding h.pipeline of.1 of.2).0)
 
 spells-given : (given : Option Pipeline) → OfGiven given → SpellsGiven given (given_tokens given)
@@ -174,12 +179,10 @@ spells-given (Some p) h = spaced-whole p h
 pub spells-tokens : (a : Action) → OfAction a → SpellsAction a (action_tokens a)
 spells-tokens (pipeline_action h) of = (of.0, (spells-bound h.binding h.pipeline of.1 of.2).1)
 spells-tokens (opening c h) of = ([], word _, _, refl, tt, (refl, refl), spells-header (shape.Open c) h of)
-spells-tokens plain_else of = ([], word _, [], refl, tt, (refl, refl), tt)
 spells-tokens (else_branch br h) of =
     ([], word _, _, refl, tt, (refl, refl), (space ∷ [], word _, _, refl, (refl, tt), (refl, refl), spells-header (shape.ElseBranch br) h of))
-spells-tokens end_action of = ([], word _, [], refl, tt, (refl, refl), tt)
-spells-tokens break_action of = ([], word _, [], refl, tt, (refl, refl), tt)
-spells-tokens continue_action of = ([], word _, [], refl, tt, (refl, refl), tt)
-spells-tokens (define_action name) of = ([], word _, _, refl, tt, (refl, refl), (space ∷ [], token kind.String (quote name), [], refl, (refl, tt), quoted-constant name of, tt))
+spells-tokens (define_action name) of =
+    ([], word _, _, refl, tt, (refl, refl), (space ∷ [], token kind.String (quote name), [], refl, (refl, tt), quoted-constant name of, tt))
 spells-tokens (template_action name given) of = ([], word _, _, refl, tt, (refl, refl), (space ∷ [], token kind.String (quote name), given_tokens given, refl, (refl, tt), quoted-constant name of.0, spells-given given of.1))
 spells-tokens (block_action name p) of = ([], word _, _, refl, tt, (refl, refl), (space ∷ [], token kind.String (quote name), given_tokens (Some p), refl, (refl, tt), quoted-constant name of.0, spaced-whole p of.1))
+spells-tokens _ of = ([], word _, [], refl, tt, (refl, refl), tt)

@@ -1,4 +1,4 @@
--- The tokens of a printed pipeline or action are read from its bytes.
+-- For `printed_tokens`: the tokens of a printed pipeline or action are read from its bytes.
 use Rattle.std.proofs.Common.{◌≡◌, ◌∙◌, ℕ, Bool, true, false, List, [], ◌∷◌, ◌++◌, Option, Some, None, refl, sym, ap, subst, append_assoc, append-nil}
 use Rattle.tmpl_values.specs.Quote.{quote, inside}
 use Rattle.tmpl_values.specs.Printable.{printable}
@@ -11,13 +11,18 @@ use Rattle.tmpl_lex.specs.Token as row
 use Rattle.tmpl_lex.specs.declared.piece.TokenKind.TheVariants as kind
 use Rattle.tmpl_grammar.specs.Tree as tree
 use Rattle.tmpl_grammar.specs.Tree.{Operand, Operands, Commands, Pipeline, pipeline, Binding, unbound, declare, assign, declare_pair}
-use Rattle.tmpl_grammar.specs.Action.{Action, pipeline_action, opening, plain_else, else_branch, end_action, break_action, continue_action, define_action, template_action, block_action, control_in}
-use Rattle.tmpl_grammar.specs.Print.{bytes_of, Spells, IsInside, token, space, word, chain_tokens, truth_word, operand_tokens, more_tokens, command_tokens, later_tokens, commands_tokens, pipeline_tokens, header_tokens, action_tokens, binding_tokens, keyword_token, given_tokens}
-use Rattle.tmpl_grammar.specs.Printable.{IsFieldName, AreFieldNames, IsFieldChain, OfOperand, OfMore, OfCommand, OfLater, OfCommands, OfPipeline, OfBinding, OfGiven, OfAction}
+use Rattle.tmpl_grammar.specs.Action.{Action, pipeline_action, opening, else_branch, break_action, continue_action, define_action}
+use Rattle.tmpl_grammar.specs.Action.{template_action, block_action, control_in}
+use Rattle.tmpl_grammar.specs.Keyword.{control_spelling}
+use Rattle.tmpl_grammar.specs.Print.{bytes_of, Spells, IsInside, token, space, word, chain_tokens, truth_word, operand_tokens, more_tokens}
+use Rattle.tmpl_grammar.specs.Print.{command_tokens, later_tokens, commands_tokens, pipeline_tokens, header_tokens, action_tokens}
+use Rattle.tmpl_grammar.specs.Print.{binding_tokens, given_tokens}
+use Rattle.tmpl_grammar.specs.Printable.{IsFieldName, AreFieldNames, IsFieldChain, OfOperand, OfMore, OfCommand, OfLater, OfCommands}
+use Rattle.tmpl_grammar.specs.Printable.{OfPipeline, OfBinding, OfGiven, OfAction}
 use Rattle.tmpl_grammar.specs.declared.tree.Control.{Control}
 use Rattle.tmpl_grammar.specs.declared.tree.Control.TheVariants as control
-use Rattle.tmpl_grammar.specs.declared.keyword.Keyword.TheVariants as keyword
-use Rattle.tmpl_grammar.proofs.FrontLemmas.{IsFront, Solid, solid, solid-unmarked, stops-name, word-front, field-front, variable-front, space-front, bytes-append, spells-append}
+use Rattle.tmpl_grammar.proofs.FrontLemmas.{IsFront, Solid, solid, solid-unmarked, stops-name, word-front, field-front, variable-front}
+use Rattle.tmpl_grammar.proofs.FrontLemmas.{space-front, bytes-append, spells-append}
 use Rattle.tmpl_grammar.proofs.QuoteTokenLemmas.{quoted-inside}
 use Rattle.tmpl_grammar.proofs.PrintedNumberLemmas.{number-stands}
 
@@ -146,8 +151,10 @@ pipeline-reads (pipeline cs) rest h stop = commands-reads cs rest h.0 stop
 -- ---- actions
 
 -- tokens behind one whose first byte may stand behind a space
-behind : (b : ℕ) (bs : List ℕ) (t : Token) (ts : List Token) (rest : List ℕ) → t.bytes ≡ b ∷ bs → Solid (b ∷ (bs ++ (bytes_of ts ++ rest))) → IsFront t (bytes_of ts ++ rest) → Spells ts rest → Reads (t ∷ ts) rest
-behind b bs t ts rest e s f l = record { spells = (f, l); firm = subst Solid (sym (append_assoc t.bytes (bytes_of ts) rest ∙ ap (λ xs. xs ++ (bytes_of ts ++ rest)) e)) s }
+behind : (b : ℕ) (bs : List ℕ) (t : Token) (ts : List Token) (rest : List ℕ) → t.bytes ≡ b ∷ bs → Solid (b ∷ (bs ++ (bytes_of ts ++ rest)))
+    → IsFront t (bytes_of ts ++ rest) → Spells ts rest → Reads (t ∷ ts) rest
+behind b bs t ts rest e s f l =
+    record { spells = (f, l); firm = subst Solid (sym (append_assoc t.bytes (bytes_of ts) rest ∙ ap (λ xs. xs ++ (bytes_of ts ++ rest)) e)) s }
 
 header-reads : (b : Binding) (p : Pipeline) (rest : List ℕ) → OfBinding b → OfPipeline p → EndsToken rest → Reads (binding_tokens b ++ pipeline_tokens p) rest
 header-reads unbound p rest h k stop = pipeline-reads p rest k stop
@@ -163,16 +170,18 @@ header-reads (declare_pair key name) p rest h k stop =
     (row.comma, (space-front _ (solid refl refl), (variable-front name _ h.1.1 refl, (space-front _ (solid refl refl), (row.declare, (space-front _ r.firm, r.spells))))))
 
 -- a keyword, and tokens behind it and a space
-pub keyword-reads : (b : ℕ) (bs : List ℕ) (ts : List Token) (rest : List ℕ) → Solid (b ∷ (bs ++ (32 ∷ (bytes_of ts ++ rest)))) → IsFront (word (b ∷ bs)) (32 ∷ (bytes_of ts ++ rest)) → Reads ts rest → Reads (word (b ∷ bs) ∷ space ∷ ts) rest
+pub keyword-reads : (b : ℕ) (bs : List ℕ) (ts : List Token) (rest : List ℕ) → Solid (b ∷ (bs ++ (32 ∷ (bytes_of ts ++ rest))))
+    → IsFront (word (b ∷ bs)) (32 ∷ (bytes_of ts ++ rest)) → Reads ts rest → Reads (word (b ∷ bs) ∷ space ∷ ts) rest
 keyword-reads b bs ts rest s f r = behind b bs (word (b ∷ bs)) (space ∷ ts) rest refl s f (space-front _ r.firm, r.spells)
 
-control-reads : (c : Control) (ts : List Token) (rest : List ℕ) → Reads ts rest → Reads (keyword_token (keyword.Control c) ∷ space ∷ ts) rest
+control-reads : (c : Control) (ts : List Token) (rest : List ℕ) → Reads ts rest → Reads (word (control_spelling c) ∷ space ∷ ts) rest
 control-reads control.If ts rest r = keyword-reads 105 _ ts rest (solid refl refl) (word-front 105 _ _ refl refl refl) r
 control-reads control.With ts rest r = keyword-reads 119 _ ts rest (solid refl refl) (word-front 119 _ _ refl refl refl) r
 control-reads control.Range ts rest r = keyword-reads 114 _ ts rest (solid refl refl) (word-front 114 _ _ refl refl refl) r
 
 -- a name, and a pipeline behind it or nothing
-given-reads : (name : List ℕ) (given : Option Pipeline) (rest : List ℕ) → OfGiven given → EndsToken rest → Reads (token kind.String (quote name) ∷ given_tokens given) rest
+given-reads : (name : List ℕ) (given : Option Pipeline) (rest : List ℕ) → OfGiven given → EndsToken rest
+    → Reads (token kind.String (quote name) ∷ given_tokens given) rest
 given-reads name None rest h stop = string-reads name rest
 given-reads name (Some p) rest h stop =
     let r = pipeline-reads p rest h stop in
@@ -185,16 +194,16 @@ given-reads name (Some p) rest h stop =
 pub action-reads : (a : Action) (rest : List ℕ) → OfAction a → EndsToken rest → Reads (action_tokens a) rest
 action-reads (pipeline_action h) rest of stop = header-reads h.binding h.pipeline rest of.1 of.2 stop
 action-reads (opening c h) rest of stop = control-reads c (header_tokens h) rest (header-reads h.binding h.pipeline rest of.1 of.2 stop)
-action-reads plain_else rest of stop = one (word _) rest (word-front 101 _ rest refl refl (stops-name rest stop)) (solid refl refl)
 action-reads (else_branch br h) rest of stop =
-    keyword-reads 101 _ (keyword_token (keyword.Control (control_in br)) ∷ space ∷ header_tokens h) rest (solid refl refl) (word-front 101 _ _ refl refl refl)
+    keyword-reads 101 _ (word (control_spelling (control_in br)) ∷ space ∷ header_tokens h) rest (solid refl refl) (word-front 101 _ _ refl refl refl)
     (control-reads (control_in br) (header_tokens h) rest (header-reads h.binding h.pipeline rest of.1 of.2 stop))
-action-reads end_action rest of stop = one (word _) rest (word-front 101 _ rest refl refl (stops-name rest stop)) (solid refl refl)
 action-reads break_action rest of stop = one (word _) rest (word-front 98 _ rest refl refl (stops-name rest stop)) (solid refl refl)
 action-reads continue_action rest of stop = one (word _) rest (word-front 99 _ rest refl refl (stops-name rest stop)) (solid refl refl)
-action-reads (define_action name) rest of stop = keyword-reads 100 _ (token kind.String (quote name) ∷ []) rest (solid refl refl) (word-front 100 _ _ refl refl refl) (string-reads name rest)
+action-reads (define_action name) rest of stop =
+    keyword-reads 100 _ (token kind.String (quote name) ∷ []) rest (solid refl refl) (word-front 100 _ _ refl refl refl) (string-reads name rest)
 action-reads (template_action name given) rest of stop = keyword-reads 116 _ (token kind.String (quote name) ∷ given_tokens given) rest (solid refl refl) (word-front 116 _ _ refl refl refl) (given-reads name given rest of.1 stop)
 action-reads (block_action name p) rest of stop = keyword-reads 98 _ (token kind.String (quote name) ∷ given_tokens (Some p)) rest (solid refl refl) (word-front 98 _ _ refl refl refl) (given-reads name (Some p) rest of.1 stop)
+action-reads _ rest of stop = one (word _) rest (word-front 101 _ rest refl refl (stops-name rest stop)) (solid refl refl)
 
 pub action-inside : (a : Action) → OfAction a → IsInside (action_tokens a)
 action-inside a h = record {

@@ -1,5 +1,6 @@
--- The spelling of each rune in a quote is one part, and stands for the rune.
-use Rattle.std.proofs.Common.{◌≡◌, ◌∙◌, ℕ, ◌-◌, ◌^◌, ◌<◌, Bool, true, false, nat_eq, ◌||◌, List, [], ◌∷◌, ◌++◌, length, Option, Some, None, option_map, nat_lt, if◌then◌else◌, refl, sym, ap, subst, arith, option_and_then}
+-- For `printed_spelling`: the spelling of each rune in a quote is one part, and stands for the rune.
+use Rattle.std.proofs.Common.{◌≡◌, ◌∙◌, ℕ, ◌-◌, ◌^◌, ◌<◌, Bool, true, false, nat_eq, ◌||◌, List, [], ◌∷◌, ◌++◌, length, Option, Some, None}
+use Rattle.std.proofs.Common.{option_map, nat_lt, refl, sym, ap, subst, arith, option_and_then, if◌then◌else◌}
 use Rattle.std.specs.List.{flat_map}
 use Rattle.std.specs.Char.{encode_utf8, len_utf8, IsScalar}
 use Rattle.std.proofs.lemmas.Bool.Decides.{nat_tests}
@@ -10,18 +11,15 @@ use Rattle.tmpl_values.specs.Rune.{runes}
 use Rattle.tmpl_values.specs.Quote.{letters, letter_of, hexes, spelled, spelling, inside}
 use Rattle.tmpl_values.specs.Bytes.{AreBytes}
 use Rattle.tmpl_values.proofs.RuneLemmas.{IsRune, AreRunes, are_runes, text-runes}
-use Rattle.tmpl_grammar.specs.Constant.Quoted.{part_text}
 use Rattle.tmpl_grammar.specs.computed.Quoted.{as_byte, as_char, byte_named, escape_by, part_at, with_part, parts_after, parts, unquoted}
-use Rattle.tmpl_grammar.specs.declared.constant.quoted.Part.{Part}
-use Rattle.tmpl_grammar.specs.declared.constant.quoted.Part.TheVariants.{Byte, Char}
 use Rattle.tmpl_grammar.proofs.HasPartsLemmas.{char-at}
 use Rattle.tmpl_grammar.proofs.HexLemmas.{length-hexes, code-hexes}
 
 -- so many bytes at the front are one part, which stands for this
 record IsPart (bs : List ℕ) (count : ℕ) (v : List ℕ) : Type 0 where
-  part : Part
+  part : Rune
   at : part_at 34 bs ≡ Some (part, count)
-  is : part_text part ≡ v
+  is : bytes_in part ≡ v
 
 -- ---- a part comes off the front
 
@@ -29,7 +27,8 @@ skip : (s rest : List ℕ) → parts_after 34 (length s) (s ++ rest) ≡ parts_a
 skip [] rest = refl
 skip (x ∷ s) rest = skip s rest
 
-more-text : (p : Part) (o : Option (List Part)) → option_map (flat_map part_text) (with_part p o) ≡ option_map (λ t. part_text p ++ t) (option_map (flat_map part_text) o)
+more-text : (p : Rune) (o : Option (List Rune))
+    → option_map (flat_map bytes_in) (with_part p o) ≡ option_map (λ t. bytes_in p ++ t) (option_map (flat_map bytes_in) o)
 more-text p None = refl
 more-text p (Some ps) = refl
 
@@ -38,9 +37,9 @@ unfolding parts
 unquoted-part [] rest v h p = absurd (omega arith)
 unquoted-part (b ∷ s) rest v h p =
     let n : length (b ∷ s) - 1 ≡ length s = omega arith in
-    ap (λ o. option_map (flat_map part_text) (option_and_then (λ (q : Part × ℕ). with_part q.0 (parts_after 34 (q.1 - 1) (s ++ rest))) o)) p.at
-    ∙ ap (λ k. option_map (flat_map part_text) (with_part p.part (parts_after 34 k (s ++ rest)))) n
-    ∙ ap (λ o. option_map (flat_map part_text) (with_part p.part o)) (skip s rest)
+    ap (λ o. option_map (flat_map bytes_in) (option_and_then (λ (q : Rune × ℕ). with_part q.0 (parts_after 34 (q.1 - 1) (s ++ rest))) o)) p.at
+    ∙ ap (λ k. option_map (flat_map bytes_in) (with_part p.part (parts_after 34 k (s ++ rest)))) n
+    ∙ ap (λ o. option_map (flat_map bytes_in) (with_part p.part o)) (skip s rest)
     ∙ more-text p.part (parts_after 34 0 rest)
     ∙ ap (λ v. option_map (λ t. v ++ t) (unquoted 34 rest)) p.is
 
@@ -50,15 +49,17 @@ part-x : (b : ℕ) (rest : List ℕ) → b < 256 → IsPart (92 ∷ 120 ∷ (hex
 unfolding part_at
 part-x b rest h =
     let low : nat_lt b 256 ≡ true = grind (arith, nat_tests) in
-    record { part = Byte b; at = ap (option_and_then (as_byte 4)) (code-hexes 2 b rest h) ∙ ap (λ t. if t then Some (Byte b, 4) else None) low; is = refl }
+    record { part = byte b; at = ap (option_and_then (as_byte 4)) (code-hexes 2 b rest h) ∙ ap (λ t. if t then Some (byte b, 4) else None) low; is = refl }
 
 part-u : (c : ℕ) (rest : List ℕ) → c < 65536 → IsScalar c → IsPart (92 ∷ 117 ∷ (hexes 4 c ++ rest)) 6 (encode_utf8 c)
 unfolding part_at
-part-u c rest h s = record { part = Char c; at = ap (option_and_then (as_char 6)) (code-hexes 4 c rest h) ∙ ap (λ t. if t then Some (Char c, 6) else None) s; is = refl }
+part-u c rest h s =
+    record { part = char c; at = ap (option_and_then (as_char 6)) (code-hexes 4 c rest h) ∙ ap (λ t. if t then Some (char c, 6) else None) s; is = refl }
 
 part-U : (c : ℕ) (rest : List ℕ) → c < 16 ^ 8 → IsScalar c → IsPart (92 ∷ 85 ∷ (hexes 8 c ++ rest)) 10 (encode_utf8 c)
 unfolding part_at
-part-U c rest h s = record { part = Char c; at = ap (option_and_then (as_char 10)) (code-hexes 8 c rest h) ∙ ap (λ t. if t then Some (Char c, 10) else None) s; is = refl }
+part-U c rest h s =
+    record { part = char c; at = ap (option_and_then (as_char 10)) (code-hexes 8 c rest h) ∙ ap (λ t. if t then Some (char c, 10) else None) s; is = refl }
 
 -- ---- letters
 
@@ -66,7 +67,8 @@ abbrev pub AllOf : (ℕ → ℕ → Type 0) → List (ℕ × ℕ) → Type 0
 AllOf P [] = Unit {0}
 AllOf P (p ∷ ps) = P p.0 p.1 × AllOf P ps
 
-found-at : (P : ℕ → ℕ → Type 0) (b : Bool) (c e k l : ℕ) (o : Option ℕ) → nat_eq c k ≡ b → P k l → (o ≡ Some e → P c e) → (if b then Some l else o) ≡ Some e → P c e
+found-at : (P : ℕ → ℕ → Type 0) (b : Bool) (c e k l : ℕ) (o : Option ℕ) → nat_eq c k ≡ b → P k l → (o ≡ Some e → P c e)
+    → (if b then Some l else o) ≡ Some e → P c e
 found-at P true c e k l o t h rest is =
     let same : k ≡ c = grind (arith, nat_tests) in
     let letter : l ≡ e = cc in
@@ -95,12 +97,12 @@ unfolding part_at
 part-letter c e rest is =
     let ascii = letter-ascii c e is in
     let low : c < 128 = grind (arith, nat_tests) in
-    record { part = Byte c; at = ap (λ o. escape_by o e rest) (letter-back c e is); is = sym (encode_ascii c low) }
+    record { part = byte c; at = ap (λ o. escape_by o e rest) (letter-back c e is); is = sym (encode_ascii c low) }
 
 -- ---- a character as it is
 
 part-plain : (c : ℕ) (rest : List ℕ) → IsScalar c → (c ≡ 92 → ⊥) → (c ≡ 34 → ⊥) → IsPart (encode_utf8 c ++ rest) (len_utf8 c) (encode_utf8 c)
-part-plain c rest s slash quote = record { part = Char c; at = char-at 34 c rest (omega arith) s slash quote; is = refl }
+part-plain c rest s slash quote = record { part = char c; at = char-at 34 c rest (omega arith) s slash quote; is = refl }
 
 -- ---- every spelling
 
@@ -110,7 +112,8 @@ count-is {bs} {v} m n e p = subst (λ k. IsPart bs k v) e p
 spelled-code : (p low bmp : Bool) (c : ℕ) (rest : List ℕ) → IsScalar c → letter_of c letters ≡ None → (nat_lt c 32 || nat_eq c 127) ≡ low → nat_lt c 65536 ≡ bmp
     → let s = (if p then encode_utf8 c else (if low then 92 ∷ 120 ∷ hexes 2 c else (if bmp then 92 ∷ 117 ∷ hexes 4 c else 92 ∷ 85 ∷ hexes 8 c))) in
     IsPart (s ++ rest) (length s) (encode_utf8 c)
-spelled-code true low bmp c rest s none l b = count-is (len_utf8 c) (length (encode_utf8 c)) (sym (length-encode c)) (part-plain c rest s (unlettered c 92 92 refl none) (unlettered c 34 34 refl none))
+spelled-code true low bmp c rest s none l b =
+    count-is (len_utf8 c) (length (encode_utf8 c)) (sym (length-encode c)) (part-plain c rest s (unlettered c 92 92 refl none) (unlettered c 34 34 refl none))
 spelled-code false true bmp c rest s none l b =
     let under : c < 128 = grind (arith, nat_tests) in
     count-is 4 (length (92 ∷ 120 ∷ hexes 2 c)) (omega (arith, length-hexes 2 c)) (subst (IsPart (92 ∷ 120 ∷ (hexes 2 c ++ rest)) 4) (sym (encode_ascii c under)) (part-x c rest (omega arith)))
@@ -120,7 +123,8 @@ spelled-code false false true c rest s none l b =
 spelled-code false false false c rest s none l b =
     count-is 10 (length (92 ∷ 85 ∷ hexes 8 c)) (omega (arith, length-hexes 8 c)) (part-U c rest (scalar_fits c s) s)
 
-spelled-char : (prints : ℕ → Bool) (c : ℕ) (o : Option ℕ) (rest : List ℕ) → letter_of c letters ≡ o → IsScalar c → IsPart (spelled prints c o ++ rest) (length (spelled prints c o)) (encode_utf8 c)
+spelled-char : (prints : ℕ → Bool) (c : ℕ) (o : Option ℕ) (rest : List ℕ) → letter_of c letters ≡ o → IsScalar c
+    → IsPart (spelled prints c o ++ rest) (length (spelled prints c o)) (encode_utf8 c)
 spelled-char prints c (Some e) rest is s = part-letter c e rest is
 spelled-char prints c None rest is s = spelled-code (prints c) _ _ c rest s is refl refl
 
@@ -128,7 +132,8 @@ part-spelling : (prints : ℕ → Bool) (r : Rune) (rest : List ℕ) → IsRune 
 part-spelling prints (char c) rest s = spelled-char prints c (letter_of c letters) rest refl s
 part-spelling prints (byte b) rest h = count-is 4 (length (92 ∷ 120 ∷ hexes 2 b)) (omega (arith, length-hexes 2 b)) (part-x b rest h)
 
-some : (p low bmp : Bool) (c : ℕ) → 0 < length (if p then encode_utf8 c else (if low then 92 ∷ 120 ∷ hexes 2 c else (if bmp then 92 ∷ 117 ∷ hexes 4 c else 92 ∷ 85 ∷ hexes 8 c)))
+some : (p low bmp : Bool) (c : ℕ)
+    → 0 < length (if p then encode_utf8 c else (if low then 92 ∷ 120 ∷ hexes 2 c else (if bmp then 92 ∷ 117 ∷ hexes 4 c else 92 ∷ 85 ∷ hexes 8 c)))
 some true low bmp c = omega (arith, length-encode c, len_utf8_bounds c)
 some false true bmp c = omega arith
 some false false true c = omega arith

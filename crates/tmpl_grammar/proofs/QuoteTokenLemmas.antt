@@ -1,5 +1,6 @@
--- A quote is one string token, whatever stands behind it.
-use Rattle.std.proofs.Common.{◌≡◌, ◌∙◌, ℕ, zero, suc, ◌+◌, ◌/◌, ◌%◌, ◌<◌, Bool, true, false, nat_eq, List, [], ◌∷◌, ◌++◌, length, get_or, Option, Some, None, nat_lt, if◌then◌else◌, refl, sym, arith, append-nil}
+-- For `printed_tokens`: a quote is one string token, whatever stands behind it.
+use Rattle.std.proofs.Common.{◌≡◌, ◌∙◌, ℕ, zero, suc, ◌+◌, ◌/◌, ◌%◌, ◌<◌, Bool, true, false, nat_eq, List, [], ◌∷◌, ◌++◌, length, get_or}
+use Rattle.std.proofs.Common.{Option, Some, None, nat_lt, if◌then◌else◌, refl, sym, arith, append-nil}
 use Rattle.std.specs.List.{flat_map}
 use Rattle.std.specs.Char.{encode_utf8, digit_char}
 use Rattle.std.proofs.lemmas.Bool.Decides.{nat_tests}
@@ -28,7 +29,9 @@ plain-append : (xs ys : List ℕ) → ArePlain xs → ArePlain ys → ArePlain (
 plain-append [] ys h k = k
 plain-append (x ∷ xs) ys h k = (h.0, h.1, h.2, plain-append xs ys h.3 k)
 
-plain-at : (s : List ℕ) → ((k : ℕ) → k < length s → (nat_eq (get_or s k 0) 34 ≡ false) × (nat_eq (get_or s k 0) 10 ≡ false) × (nat_eq (get_or s k 0) 92 ≡ false)) → ArePlain s
+plain-at : (s : List ℕ)
+    → ((k : ℕ) → k < length s → (nat_eq (get_or s k 0) 34 ≡ false) × (nat_eq (get_or s k 0) 10 ≡ false) × (nat_eq (get_or s k 0) 92 ≡ false))
+    → ArePlain s
 plain-at [] f = tt
 plain-at (b ∷ s) f = let h = f 0 (omega arith) in (h.0, h.1, h.2, plain-at s (λ k l. f (suc k) (omega arith)))
 

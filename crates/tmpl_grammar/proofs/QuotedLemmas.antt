@@ -1,8 +1,9 @@
--- The parts of a text between quotes, from the first one on.
-use Rattle.std.proofs.Common.{◌≡◌, ◌∙◌, ℕ, zero, suc, ◌-◌, ◌<◌, ◌≤◌, List, [], ◌∷◌, ◌++◌, length, drop, Option, Some, None, refl, sym, ap, arith, option_map, option_and_then, append_assoc, append-nil}
+-- For `unquote` and `rune_code`: the parts of a text between quotes, from the first one on.
+use Rattle.std.proofs.Common.{◌≡◌, ◌∙◌, ℕ, zero, suc, ◌-◌, ◌<◌, ◌≤◌, List, [], ◌∷◌, ◌++◌, length, drop, Option, Some, None, refl, sym, ap}
+use Rattle.std.proofs.Common.{arith, option_map, option_and_then, append_assoc, append-nil}
 use Rattle.std.specs.List.{flat_map}
-use Rattle.tmpl_grammar.specs.declared.constant.quoted.Part.{Part}
-use Rattle.tmpl_grammar.specs.Constant.Quoted.{part_text, part_code}
+use Rattle.tmpl_values.specs.Rune.{Rune, bytes_in}
+use Rattle.tmpl_grammar.specs.Constant.Quoted.{code_of}
 use Rattle.tmpl_grammar.specs.computed.Quoted.{Spelled, part_at, with_part, parts_after, parts, unquoted, one_code, rune_code}
 
 skip-to : (quote n : ℕ) (bs : List ℕ) → n ≤ length bs → parts_after quote n bs ≡ parts_after quote 0 (drop n bs)
@@ -15,7 +16,8 @@ unfolding parts
 parts-nil quote = refl
 
 -- the first part, and those behind it
-pub parts-first : (quote : ℕ) (bs : List ℕ) (p : Spelled) → 0 < length bs → part_at quote bs ≡ Some p → 0 < p.1 → p.1 ≤ length bs → parts quote bs ≡ with_part p.0 (parts quote (drop p.1 bs))
+pub parts-first : (quote : ℕ) (bs : List ℕ) (p : Spelled) → 0 < length bs → part_at quote bs ≡ Some p → 0 < p.1 → p.1 ≤ length bs
+    → parts quote bs ≡ with_part p.0 (parts quote (drop p.1 bs))
 unfolding parts
 parts-first quote [] p h is low high = absurd (omega arith)
 parts-first quote (b ∷ bs) p h is low high =
@@ -38,22 +40,22 @@ led-led : (s t : List ℕ) (o : Option (List ℕ)) → led s (led t o) ≡ led (
 led-led s t None = refl
 led-led s t (Some u) = ap Some (sym (append_assoc s t u))
 
-text-with : (p : Part) (ps : Option (List Part)) → option_map (flat_map part_text) (with_part p ps) ≡ led (part_text p) (option_map (flat_map part_text) ps)
+text-with : (p : Rune) (ps : Option (List Rune)) → option_map (flat_map bytes_in) (with_part p ps) ≡ led (bytes_in p) (option_map (flat_map bytes_in) ps)
 text-with p None = refl
 text-with p (Some ps) = refl
 
 pub unquoted-first : (quote : ℕ) (s bs : List ℕ) (p : Spelled) → 0 < length bs → part_at quote bs ≡ Some p → 0 < p.1 → p.1 ≤ length bs
-    → led s (unquoted quote bs) ≡ led (s ++ part_text p.0) (unquoted quote (drop p.1 bs))
+    → led s (unquoted quote bs) ≡ led (s ++ bytes_in p.0) (unquoted quote (drop p.1 bs))
 unquoted-first quote s bs p h is low high =
-    ap (λ ps. led s (option_map (flat_map part_text) ps)) (parts-first quote bs p h is low high)
+    ap (λ ps. led s (option_map (flat_map bytes_in) ps)) (parts-first quote bs p h is low high)
     ∙ ap (led s) (text-with p.0 (parts quote (drop p.1 bs)))
-    ∙ led-led s (part_text p.0) (unquoted quote (drop p.1 bs))
+    ∙ led-led s (bytes_in p.0) (unquoted quote (drop p.1 bs))
 
 pub unquoted-none : (quote : ℕ) (s bs : List ℕ) → 0 < length bs → part_at quote bs ≡ None → led s (unquoted quote bs) ≡ None
-unquoted-none quote s bs h is = ap (λ ps. led s (option_map (flat_map part_text) ps)) (parts-none quote bs h is)
+unquoted-none quote s bs h is = ap (λ ps. led s (option_map (flat_map bytes_in) ps)) (parts-none quote bs h is)
 
 pub unquoted-end : (quote : ℕ) (s bs : List ℕ) → length bs ≤ 0 → led s (unquoted quote bs) ≡ Some s
-unquoted-end quote s [] h = ap (λ ps. led s (option_map (flat_map part_text) ps)) (parts-nil quote) ∙ ap Some (append-nil s)
+unquoted-end quote s [] h = ap (λ ps. led s (option_map (flat_map bytes_in) ps)) (parts-nil quote) ∙ ap Some (append-nil s)
 unquoted-end quote s (b ∷ bs) h = absurd (omega arith)
 
 -- ---- one part alone
@@ -69,25 +71,27 @@ nil-at quote bs n e = ap (parts quote) (drop-end bs n e) ∙ parts-nil quote
     drop-end [] n e = ap (λ k. drop k []) e
     drop-end (b ∷ bs) n e = ap (λ k. drop k (b ∷ bs)) e ∙ drop-end bs (length bs) refl
 
-pub code-one : (quote : ℕ) (bs : List ℕ) (p : Spelled) → part_at quote bs ≡ Some p → 0 < p.1 → p.1 ≡ length bs → rune_code quote bs ≡ Some (part_code p.0)
+pub code-one : (quote : ℕ) (bs : List ℕ) (p : Spelled) → part_at quote bs ≡ Some p → 0 < p.1 → p.1 ≡ length bs → rune_code quote bs ≡ Some (code_of p.0)
 code-one quote bs p is low whole =
     ap (option_and_then one_code) (parts-first quote bs p (omega arith) is low (omega arith))
     ∙ ap (λ ps. option_and_then one_code (with_part p.0 ps)) (nil-at quote bs p.1 whole)
 
-two : (p q : Part) (ps : Option (List Part)) → option_and_then one_code (with_part p (with_part q ps)) ≡ None
+two : (p q : Rune) (ps : Option (List Rune)) → option_and_then one_code (with_part p (with_part q ps)) ≡ None
 two p q None = refl
 two p q (Some ps) = refl
 
-more : (quote : ℕ) (p : Part) (bs : List ℕ) (o : Option Spelled) → option_and_then one_code (with_part p (option_and_then (λ q. with_part q.0 (parts_after quote (q.1 - 1) bs)) o)) ≡ None
+more : (quote : ℕ) (p : Rune) (bs : List ℕ) (o : Option Spelled)
+    → option_and_then one_code (with_part p (option_and_then (λ q. with_part q.0 (parts_after quote (q.1 - 1) bs)) o)) ≡ None
 more quote p bs None = refl
 more quote p bs (Some q) = two p q.0 (parts_after quote (q.1 - 1) bs)
 
-two-at : (quote : ℕ) (p : Part) (bs : List ℕ) → 0 < length bs → option_and_then one_code (with_part p (parts quote bs)) ≡ None
+two-at : (quote : ℕ) (p : Rune) (bs : List ℕ) → 0 < length bs → option_and_then one_code (with_part p (parts quote bs)) ≡ None
 unfolding parts
 two-at quote p [] h = absurd (omega arith)
 two-at quote p (b ∷ bs) h = more quote p bs (part_at quote (b ∷ bs))
 
-pub code-more : (quote : ℕ) (bs : List ℕ) (p : Spelled) → part_at quote bs ≡ Some p → 0 < p.1 → p.1 < length bs → 0 < length (drop p.1 bs) → rune_code quote bs ≡ None
+pub code-more : (quote : ℕ) (bs : List ℕ) (p : Spelled) → part_at quote bs ≡ Some p → 0 < p.1 → p.1 < length bs → 0 < length (drop p.1 bs)
+    → rune_code quote bs ≡ None
 code-more quote bs p is low high left =
     ap (option_and_then one_code) (parts-first quote bs p (omega arith) is low (omega arith))
     ∙ two-at quote p.0 (drop p.1 bs) left

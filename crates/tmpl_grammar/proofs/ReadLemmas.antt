@@ -1,4 +1,4 @@
--- What is read is what the grammar spells.
+-- For `one_reading`: what is read is what the grammar spells, by induction on the tokens.
 use Rattle.std.proofs.Common.{◌≡◌, ◌∙◌, ℕ, true, false, Bool, List, [], ◌∷◌, ◌++◌, Option, Some, None, refl, ap, sym, subst, append_assoc}
 use Rattle.std.proofs.lemmas.List.{append-nil}
 use Rattle.std.specs.Option.{option_map, option_and_then}
@@ -12,11 +12,13 @@ use Rattle.tmpl_grammar.specs.Tree.{Operand, Operands, Commands, operands_from, 
 use Rattle.tmpl_grammar.specs.Operand.{IsOperand, begins_later}
 use Rattle.tmpl_grammar.specs.computed.Operand.{operand_at}
 use Rattle.tmpl_grammar.specs.computed.Parser as parser
-use Rattle.tmpl_grammar.specs.computed.Parser.{Parser, Partial, settled, more_commands, may_stand, kept, linked, linked_by, step, step_by, steps, finished, finished_with, commands_after}
+use Rattle.tmpl_grammar.specs.computed.Parser.{Parser, Partial, settled, more_commands, may_stand, kept, linked, linked_by, step, step_by}
+use Rattle.tmpl_grammar.specs.computed.Parser.{steps, finished, finished_with, commands_after}
 use Rattle.tmpl_grammar.specs.Pipeline.{IsBlank, IsChain, IsChained, MayBeLater, SpellsOperand, SpellsMore, SpellsCommand, SpellsLater, SpellsPipeline}
 use Rattle.tmpl_grammar.proofs.IsOperandLemmas.{is-computed-operand}
 use Rattle.tmpl_grammar.proofs.ConstantLemmas.{IsToken, token-form}
-use Rattle.tmpl_grammar.proofs.SpelledLemmas.{parser_at, operand_list, command_list, operands-back, commands-back, Chains, fields-chain, variable-chain, group-chain}
+use Rattle.tmpl_grammar.proofs.SpelledLemmas.{parser_at, operand_list, command_list, operands-back, commands-back, Chains, fields-chain}
+use Rattle.tmpl_grammar.proofs.SpelledLemmas.{variable-chain, group-chain}
 
 -- fields continue an operand's chain
 abbrev Extends : Operand → List Token → Operand → Type 0
@@ -74,13 +76,16 @@ EndsParser h ts all = EndsIn h.outer h.last h.inner.commands h.inner.operands ts
 -- ---- one token more at the front
 
 -- where a token only changes the innermost pipeline
-within-partial : (ls : List Partial) (t : Token) (last pre : Option Operand) (cs ds : List Operands) (os qs : List Operand) → ((ts : List Token) (all : List Operands) → EndsPartial last cs os ts all → EndsPartial pre ds qs (t ∷ ts) all) → (ts : List Token) (all : List Operands) → EndsIn ls last cs os ts all → EndsIn ls pre ds qs (t ∷ ts) all
+within-partial : (ls : List Partial) (t : Token) (last pre : Option Operand) (cs ds : List Operands) (os qs : List Operand)
+    → ((ts : List Token) (all : List Operands) → EndsPartial last cs os ts all → EndsPartial pre ds qs (t ∷ ts) all)
+    → (ts : List Token) (all : List Operands) → EndsIn ls last cs os ts all → EndsIn ls pre ds qs (t ∷ ts) all
 within-partial [] t last pre cs ds os qs f ts all e = f ts all e
 within-partial (l ∷ ls) t last pre cs ds os qs f ts all (a, r, b, inner, is, right, partial, rest) =
     (t ∷ a, r, b, inner, ap (λ us. t ∷ us) is, right, f a inner partial, rest)
 
 -- white space behind an operand
-space-behind : (t : Token) (o : Operand) (cs : List Operands) (os : List Operand) → t.kind ≡ kind.Space → (ts : List Token) (all : List Operands) → EndsPartial None cs (os ++ o ∷ []) ts all → EndsPartial (Some o) cs os (t ∷ ts) all
+space-behind : (t : Token) (o : Operand) (cs : List Operands) (os : List Operand) → t.kind ≡ kind.Space
+    → (ts : List Token) (all : List Operands) → EndsPartial None cs (os ++ o ∷ []) ts all → EndsPartial (Some o) cs os (t ∷ ts) all
 space-behind t o cs os is ts all e = record {
   more = tree.operand o e.more;
   later = e.later;
@@ -110,7 +115,8 @@ space-behind t o cs os is ts all e = record {
     by (q ∷ os) more s = apart more s
 
 -- white space before an operand
-space-before : (t : Token) (cs : List Operands) (os : List Operand) → t.kind ≡ kind.Space → (ts : List Token) (all : List Operands) → EndsPartial None cs os ts all → EndsPartial None cs os (t ∷ ts) all
+space-before : (t : Token) (cs : List Operands) (os : List Operand) → t.kind ≡ kind.Space → (ts : List Token) (all : List Operands)
+    → EndsPartial None cs os ts all → EndsPartial None cs os (t ∷ ts) all
 space-before t cs os is ts all e = record {
   more = e.more;
   later = e.later;
@@ -135,7 +141,9 @@ space-before t cs os is ts all e = record {
     by (q ∷ os) more s = apart more s
 
 -- a field behind an operand
-field-behind : (t : Token) (o p : Operand) (cs : List Operands) (os : List Operand) → t.kind ≡ kind.Field → begins_name (name_in t) ≡ true → linked o (name_in t) ≡ Some p → (ts : List Token) (all : List Operands) → EndsPartial (Some p) cs os ts all → EndsPartial (Some o) cs os (t ∷ ts) all
+field-behind : (t : Token) (o p : Operand) (cs : List Operands) (os : List Operand) → t.kind ≡ kind.Field → begins_name (name_in t) ≡ true
+    → linked o (name_in t) ≡ Some p → (ts : List Token) (all : List Operands) → EndsPartial (Some p) cs os ts all
+    → EndsPartial (Some o) cs os (t ∷ ts) all
 field-behind t o p cs os is begins link ts all e = record {
   more = e.more;
   later = e.later;
@@ -168,27 +176,22 @@ begins_or (Some o) = begins_later o
 
 -- an operand that begins a command does so with any chain
 link-begins : (o : Operand) (name : List ℕ) → begins_or (linked o name) ≡ true
-link-begins tree.dot name = refl
 link-begins (tree.fields names) name = refl
-link-begins (tree.variable x names) name = refl
-link-begins (tree.bool_constant b) name = refl
-link-begins (tree.number_constant n) name = refl
-link-begins (tree.text_constant bytes) name = refl
-link-begins tree.nil name = refl
-link-begins (tree.function f) name = refl
-link-begins (tree.group commands names) name = refl
+link-begins _ name = refl
 
 link-stands : (cs : List Operands) (os : List Operand) (o p : Operand) (name : List ℕ) → linked o name ≡ Some p → may_stand cs os p ≡ true
 link-stands [] os o p name link = refl
 link-stands (c ∷ cs) [] o p name link = ap begins_or (sym link) ∙ link-begins o name
 link-stands (c ∷ cs) (q ∷ os) o p name link = refl
 
-extends-stands : (cs : List Operands) (os : List Operand) (o p : Operand) (ts : List Token) → Extends o ts p → may_stand cs os o ≡ true → may_stand cs os p ≡ true
+extends-stands : (cs : List Operands) (os : List Operand) (o p : Operand) (ts : List Token) → Extends o ts p → may_stand cs os o ≡ true
+    → may_stand cs os p ≡ true
 extends-stands cs os o p [] e may = ap (may_stand cs os) (sym e) ∙ may
 extends-stands cs os o p (t ∷ ts) (is, begins, (q, link, rest)) may = extends-stands cs os q p ts rest (link-stands cs os o q (name_in t) link)
 
 -- an operand before what ends a command or a pipeline
-operand-before : (us : List Token) (o : Operand) (cs : List Operands) (os : List Operand) → Spells o us → may_stand cs os o ≡ true → (ts : List Token) (all : List Operands) → EndsPartial (Some o) cs os ts all → EndsPartial None cs os (us ++ ts) all
+operand-before : (us : List Token) (o : Operand) (cs : List Operands) (os : List Operand) → Spells o us → may_stand cs os o ≡ true
+    → (ts : List Token) (all : List Operands) → EndsPartial (Some o) cs os ts all → EndsPartial None cs os (us ++ ts) all
 operand-before us o cs os spells may ts all e = record {
   more = e.more;
   later = e.later;
@@ -215,12 +218,15 @@ operand-before us o cs os spells may ts all e = record {
     by [] may = (command, extends-stands cs [] o e.ends.whole e.ends.chain e.ends.extends may)
     by (q ∷ os) may = command
 
-operand-within : (ls : List Partial) (us : List Token) (o : Operand) (cs : List Operands) (os : List Operand) → Spells o us → may_stand cs os o ≡ true → (ts : List Token) (all : List Operands) → EndsIn ls (Some o) cs os ts all → EndsIn ls None cs os (us ++ ts) all
+operand-within : (ls : List Partial) (us : List Token) (o : Operand) (cs : List Operands) (os : List Operand) → Spells o us
+    → may_stand cs os o ≡ true → (ts : List Token) (all : List Operands) → EndsIn ls (Some o) cs os ts all
+    → EndsIn ls None cs os (us ++ ts) all
 operand-within [] us o cs os spells may ts all e = operand-before us o cs os spells may ts all e
 operand-within (l ∷ ls) us o cs os spells may ts all (a, r, b, inner, is, right, partial, rest) =
     (us ++ a, r, b, inner, ap (λ vs. us ++ vs) is ∙ sym (append_assoc us a (r ∷ b)), right, operand-before us o cs os spells may a inner partial, rest)
 
-chained : (f : List (List ℕ) → Operand) → Chains f → (ns : List (List ℕ)) (ts : List Token) (p : Operand) → Extends (f ns) ts p → (names : List (List ℕ)) × (p ≡ f (ns ++ names)) × IsChain names ts
+chained : (f : List (List ℕ) → Operand) → Chains f → (ns : List (List ℕ)) (ts : List Token) (p : Operand) → Extends (f ns) ts p
+    → (names : List (List ℕ)) × (p ≡ f (ns ++ names)) × IsChain names ts
 chained f can ns [] p e = ([], sym e ∙ ap f (sym (append-nil ns)), refl)
 chained f can ns (t ∷ ts) p (is, begins, (q, link, rest)) =
     let same : f (ns ++ name_in t ∷ []) ≡ q = same_Some _ _ (sym (can ns (name_in t)) ∙ link) in
@@ -232,7 +238,8 @@ unchained : (o : Operand) → ((n : List ℕ) → linked o n ≡ None) → (ts :
 unchained o cannot [] p e = (e, refl)
 unchained o cannot (t ∷ ts) p (is, begins, (q, link, rest)) = absurd (let c = cannot (name_in t) in let g : ⊥ = cc in g)
 
-one-spells : (o : Operand) (t : Token) → IsOperand t o → ((n : List ℕ) → linked o n ≡ None) → ((ts : List Token) → IsChained o [] ts → SpellsOperand o ts) → Spells o (t ∷ [])
+one-spells : (o : Operand) (t : Token) → IsOperand t o → ((n : List ℕ) → linked o n ≡ None)
+    → ((ts : List Token) → IsChained o [] ts → SpellsOperand o ts) → Spells o (t ∷ [])
 one-spells o t is cannot spells ts p e =
     let u = unchained o cannot ts p e in
     subst (λ p. SpellsOperand p (t ∷ ts)) u.0 (spells (t ∷ ts) (t, ts, refl, is, u.1))
@@ -255,7 +262,8 @@ token-spells t o at = by o (is-computed-operand t o at) (subst IsToken at (token
     by (tree.function f) at form = one-spells (tree.function f) t at (λ n. refl) (λ ts c. c)
     by (tree.group commands names) at form = absurd form
 
-group-spells : (cs : Commands) (l r : Token) (a : List Token) → l.kind ≡ kind.LeftParenthesis → r.kind ≡ kind.RightParenthesis → SpellsPipeline cs a → Spells (tree.group cs []) (l ∷ a ++ (r ∷ []))
+group-spells : (cs : Commands) (l r : Token) (a : List Token) → l.kind ≡ kind.LeftParenthesis → r.kind ≡ kind.RightParenthesis
+    → SpellsPipeline cs a → Spells (tree.group cs []) (l ∷ a ++ (r ∷ []))
 group-spells cs l r a left right s ts p e =
     let c = chained (tree.group cs) (group-chain cs) [] ts p e in
     subst (λ p. SpellsOperand p (l ∷ (a ++ (r ∷ [])) ++ ts)) (sym c.1) (l, a, r, ts, ap (λ us. l ∷ us) (append_assoc a (r ∷ []) ts), left, right, s, c.2)
@@ -278,7 +286,8 @@ abbrev unwrap : List Operands → Option (List Operands) → List Operands
 unwrap d None = d
 unwrap d (Some x) = x
 
-ends-now : (last : Option Operand) (cs : List Operands) (os : List Operand) (done : List Operands) → more_commands cs (settled last os) ≡ Some done → EndsNow last cs os done
+ends-now : (last : Option Operand) (cs : List Operands) (os : List Operand) (done : List Operands)
+    → more_commands cs (settled last os) ≡ Some done → EndsNow last cs os done
 ends-now None cs [] done e = absurd (let g : ⊥ = cc in g)
 ends-now None cs (o ∷ os) done e = record {
   more = tree.no_operand;
@@ -295,7 +304,8 @@ ends-now (Some o) cs os done e = record {
     by [] e = sym (ap (unwrap done) e)
     by (q ∷ os) e = sym (ap (unwrap done) e)
 
-partial-end : (last : Option Operand) (cs : List Operands) (os : List Operand) (done : List Operands) → more_commands cs (settled last os) ≡ Some done → EndsPartial last cs os [] done
+partial-end : (last : Option Operand) (cs : List Operands) (os : List Operand) (done : List Operands)
+    → more_commands cs (settled last os) ≡ Some done → EndsPartial last cs os [] done
 partial-end last cs os done e =
     let n = ends-now last cs os done e in
     record { more = n.more; later = tree.no_command; front = []; back = []; tokens_are = refl; ends = n.ends; spells = refl; all_are = n.done_is }
@@ -306,7 +316,9 @@ later-of [] x (tree.operand o os) may = may
 later-of (c ∷ cs) x (tree.operand o os) may = may
 
 -- a bar behind a command
-bar-behind : (t : Token) (last : Option Operand) (cs : List Operands) (os : List Operand) (done : List Operands) → t.kind ≡ kind.Pipe → more_commands cs (settled last os) ≡ Some done → (ts : List Token) (all : List Operands) → EndsPartial None done [] ts all → EndsPartial last cs os (t ∷ ts) all
+bar-behind : (t : Token) (last : Option Operand) (cs : List Operands) (os : List Operand) (done : List Operands) → t.kind ≡ kind.Pipe
+    → more_commands cs (settled last os) ≡ Some done → (ts : List Token) (all : List Operands) → EndsPartial None done [] ts all
+    → EndsPartial last cs os (t ∷ ts) all
 bar-behind t last cs os done is whole ts all e =
     let n = ends-now last cs os done whole in
     record {
@@ -335,63 +347,66 @@ group-stands (c ∷ cs) [] commands = refl
 group-stands (c ∷ cs) (q ∷ os) commands = refl
 
 module _ (t : Token) (cs : List Operands) (os : List Operand) (ts : List Token) (all : List Operands) where
-  space-ends : (ls : List Partial) (last : Option Operand) → t.kind ≡ kind.Space → EndsParser (parser.apart (parser_at ls cs os last)) ts all → EndsIn ls last cs os (t ∷ ts) all
+  space-ends : (ls : List Partial) (last : Option Operand) → t.kind ≡ kind.Space
+      → EndsParser (parser.apart (parser_at ls cs os last)) ts all → EndsIn ls last cs os (t ∷ ts) all
   space-ends ls None is e = within-partial ls t None None cs cs os os (space-before t cs os is) ts all e
   space-ends ls (Some o) is e = within-partial ls t None (Some o) cs cs (os ++ o ∷ []) os (space-behind t o cs os is) ts all e
 
-  bar-ends : (ls : List Partial) (last : Option Operand) → t.kind ≡ kind.Pipe → (done : Option (List Operands)) → more_commands cs (settled last os) ≡ done → EndsOpt (option_map (parser.barred (parser_at ls cs os last)) done) ts all → EndsIn ls last cs os (t ∷ ts) all
+  bar-ends : (ls : List Partial) (last : Option Operand) → t.kind ≡ kind.Pipe → (done : Option (List Operands))
+      → more_commands cs (settled last os) ≡ done → EndsOpt (option_map (parser.barred (parser_at ls cs os last)) done) ts all
+      → EndsIn ls last cs os (t ∷ ts) all
   bar-ends ls last is None whole e = absurd e
   bar-ends ls last is (Some done) whole e = within-partial ls t None last done cs [] os (bar-behind t last cs os done is whole) ts all e
 
-  open-ends : (ls : List Partial) (last : Option Operand) → t.kind ≡ kind.LeftParenthesis → EndsOpt (parser.opened last (parser_at ls cs os last)) ts all → EndsIn ls last cs os (t ∷ ts) all
+  open-ends : (ls : List Partial) (last : Option Operand) → t.kind ≡ kind.LeftParenthesis
+      → EndsOpt (parser.opened last (parser_at ls cs os last)) ts all → EndsIn ls last cs os (t ∷ ts) all
   open-ends ls None is (a, r, b, inner, at, right, partial, rest) =
       subst (λ us. EndsIn ls None cs os us all) (ap (λ us. t ∷ us) (append_assoc a (r ∷ []) b ∙ sym at))
       (operand-within ls (t ∷ a ++ (r ∷ [])) (tree.group (commands_from inner) []) cs os (group-spells (commands_from inner) t r a is right (partial-spells a inner partial)) (group-stands cs os (commands_from inner)) b all rest)
   open-ends ls (Some o) is e = absurd e
 
-  close-ends : (ls : List Partial) (last : Option Operand) → t.kind ≡ kind.RightParenthesis → (done : Option (List Operands)) → more_commands cs (settled last os) ≡ done → EndsOpt (parser.left_with ls done) ts all → EndsIn ls last cs os (t ∷ ts) all
+  close-ends : (ls : List Partial) (last : Option Operand) → t.kind ≡ kind.RightParenthesis → (done : Option (List Operands))
+      → more_commands cs (settled last os) ≡ done → EndsOpt (parser.left_with ls done) ts all → EndsIn ls last cs os (t ∷ ts) all
   close-ends [] last is o whole e = absurd e
   close-ends (l ∷ ls) last is None whole e = absurd e
   close-ends (l ∷ ls) last is (Some done) whole e = ([], t, ts, done, refl, is, partial-end last cs os done whole, e)
 
-  kept-ends : (ls : List Partial) (o : Operand) → operand_at t ≡ Some o → (b : Bool) → may_stand cs os o ≡ b → EndsOpt (kept b (parser_at ls cs os (Some o))) ts all → EndsIn ls None cs os (t ∷ ts) all
+  kept-ends : (ls : List Partial) (o : Operand) → operand_at t ≡ Some o → (b : Bool) → may_stand cs os o ≡ b
+      → EndsOpt (kept b (parser_at ls cs os (Some o))) ts all → EndsIn ls None cs os (t ∷ ts) all
   kept-ends ls o at true may e = operand-within ls (t ∷ []) o cs os (token-spells t o at) may ts all e
   kept-ends ls o at false may e = absurd e
 
-  placed-ends : (ls : List Partial) (last o : Option Operand) → operand_at t ≡ o → EndsOpt (parser.placed last o (parser_at ls cs os last)) ts all → EndsIn ls last cs os (t ∷ ts) all
+  placed-ends : (ls : List Partial) (last o : Option Operand) → operand_at t ≡ o
+      → EndsOpt (parser.placed last o (parser_at ls cs os last)) ts all → EndsIn ls last cs os (t ∷ ts) all
   placed-ends ls None None at e = absurd e
   placed-ends ls None (Some o) at e = kept-ends ls o at (may_stand cs os o) refl e
   placed-ends ls (Some p) o at e = absurd e
 
-  link-ends : (ls : List Partial) (o : Operand) → t.kind ≡ kind.Field → (b : Bool) → begins_name (name_in t) ≡ b → (p : Option Operand) → linked_by b o (name_in t) ≡ p → EndsOpt (option_map (parser.ending_with (parser_at ls cs os (Some o))) p) ts all → EndsIn ls (Some o) cs os (t ∷ ts) all
+  link-ends : (ls : List Partial) (o : Operand) → t.kind ≡ kind.Field → (b : Bool) → begins_name (name_in t) ≡ b → (p : Option Operand)
+      → linked_by b o (name_in t) ≡ p → EndsOpt (option_map (parser.ending_with (parser_at ls cs os (Some o))) p) ts all
+      → EndsIn ls (Some o) cs os (t ∷ ts) all
   link-ends ls o is b begins None link e = absurd e
   link-ends ls o is true begins (Some p) link e = within-partial ls t (Some p) (Some o) cs cs os os (field-behind t o p cs os is begins link) ts all e
   link-ends ls o is false begins (Some p) link e = absurd (let g : ⊥ = cc in g)
 
-  field-ends : (ls : List Partial) (last : Option Operand) → t.kind ≡ kind.Field → EndsOpt (parser.fielded last t (parser_at ls cs os last)) ts all → EndsIn ls last cs os (t ∷ ts) all
+  field-ends : (ls : List Partial) (last : Option Operand) → t.kind ≡ kind.Field
+      → EndsOpt (parser.fielded last t (parser_at ls cs os last)) ts all → EndsIn ls last cs os (t ∷ ts) all
   field-ends ls None is e = placed-ends ls None (operand_at t) refl e
   field-ends ls (Some o) is e = link-ends ls o is (begins_name (name_in t)) refl _ refl e
 
-  step-ends : (k : TokenKind) → t.kind ≡ k → (ls : List Partial) (last : Option Operand) → EndsOpt (step_by k t (parser_at ls cs os last)) ts all → EndsIn ls last cs os (t ∷ ts) all
+  step-ends : (k : TokenKind) → t.kind ≡ k → (ls : List Partial) (last : Option Operand)
+      → EndsOpt (step_by k t (parser_at ls cs os last)) ts all → EndsIn ls last cs os (t ∷ ts) all
   step-ends kind.Space is ls last e = space-ends ls last is e
   step-ends kind.Pipe is ls last e = bar-ends ls last is _ refl e
   step-ends kind.LeftParenthesis is ls last e = open-ends ls last is e
   step-ends kind.RightParenthesis is ls last e = close-ends ls last is _ refl e
   step-ends kind.Field is ls last e = field-ends ls last is e
-  step-ends kind.Word is ls last e = placed-ends ls last (operand_at t) refl e
-  step-ends kind.Number is ls last e = placed-ends ls last (operand_at t) refl e
-  step-ends kind.Dot is ls last e = placed-ends ls last (operand_at t) refl e
-  step-ends kind.Variable is ls last e = placed-ends ls last (operand_at t) refl e
-  step-ends kind.String is ls last e = placed-ends ls last (operand_at t) refl e
-  step-ends kind.RawString is ls last e = placed-ends ls last (operand_at t) refl e
-  step-ends kind.Character is ls last e = placed-ends ls last (operand_at t) refl e
-  step-ends kind.Declare is ls last e = placed-ends ls last (operand_at t) refl e
-  step-ends kind.Assign is ls last e = placed-ends ls last (operand_at t) refl e
-  step-ends kind.Comma is ls last e = placed-ends ls last (operand_at t) refl e
+  step-ends _ is ls last e = placed-ends ls last (operand_at t) refl e
 
 -- ---- all of them
 
-finished-ends : (ls : List Partial) (last : Option Operand) (cs : List Operands) (os : List Operand) (all : List Operands) → finished_with ls (more_commands cs (settled last os)) ≡ Some all → EndsIn ls last cs os [] all
+finished-ends : (ls : List Partial) (last : Option Operand) (cs : List Operands) (os : List Operand) (all : List Operands)
+    → finished_with ls (more_commands cs (settled last os)) ≡ Some all → EndsIn ls last cs os [] all
 finished-ends [] last cs os all e = partial-end last cs os all e
 finished-ends (l ∷ ls) last cs os all e = absurd (let g : ⊥ = cc in g)
 

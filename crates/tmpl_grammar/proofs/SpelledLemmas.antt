@@ -1,4 +1,4 @@
--- What the grammar spells is read.
+-- For `one_reading`: what the grammar spells is read, by induction on the tree.
 use Rattle.std.proofs.Common.{◌≡◌, ◌∙◌, ℕ, true, List, [], ◌∷◌, ◌++◌, Option, Some, None, refl, ap, sym, subst, append_assoc}
 use Rattle.std.proofs.lemmas.List.{append-nil}
 use Rattle.std.specs.Option.{option_map, option_and_then}
@@ -50,15 +50,18 @@ pub step-at : (k : TokenKind) (t : Token) (h : Parser) → t.kind ≡ k → step
 unfolding step
 step-at k t h e = ap (λ k. step_by k t h) e
 
-pub blank-steps : (ls : List Partial) (cs : List Operands) (os : List Operand) (ts : List Token) → IsBlank ts → steps (Some (parser_at ls cs os None)) ts ≡ Some (parser_at ls cs os None)
+pub blank-steps : (ls : List Partial) (cs : List Operands) (os : List Operand) (ts : List Token) → IsBlank ts
+    → steps (Some (parser_at ls cs os None)) ts ≡ Some (parser_at ls cs os None)
 blank-steps ls cs os [] b = refl
 blank-steps ls cs os (t ∷ ts) b = ap (λ o. steps o ts) (step-at kind.Space t (parser_at ls cs os None) b.0) ∙ blank-steps ls cs os ts b.1
 
-white-steps : (ls : List Partial) (cs : List Operands) (os : List Operand) (o : Operand) (t : Token) (ts : List Token) → IsBlank (t ∷ ts) → steps (Some (parser_at ls cs os (Some o))) (t ∷ ts) ≡ Some (parser_at ls cs (os ++ o ∷ []) None)
+white-steps : (ls : List Partial) (cs : List Operands) (os : List Operand) (o : Operand) (t : Token) (ts : List Token) → IsBlank (t ∷ ts)
+    → steps (Some (parser_at ls cs os (Some o))) (t ∷ ts) ≡ Some (parser_at ls cs (os ++ o ∷ []) None)
 white-steps ls cs os o t ts b = ap (λ p. steps p ts) (step-at kind.Space t (parser_at ls cs os (Some o)) b.0) ∙ blank-steps ls cs (os ++ o ∷ []) ts b.1
 
 -- a token that is an operand of its own, of whatever kind it is
-placed-step : (t : Token) (o : Operand) (ls : List Partial) (cs : List Operands) (os : List Operand) → IsOperand t o → may_stand cs os o ≡ true → step t (parser_at ls cs os None) ≡ Some (parser_at ls cs os (Some o))
+placed-step : (t : Token) (o : Operand) (ls : List Partial) (cs : List Operands) (os : List Operand) → IsOperand t o
+    → may_stand cs os o ≡ true → step t (parser_at ls cs os None) ≡ Some (parser_at ls cs os (Some o))
 unfolding step operand_at
 placed-step t o ls cs os admitted may = by t.kind refl
   where
@@ -72,33 +75,28 @@ placed-step t o ls cs os admitted may = by t.kind refl
     none e = absurd (let g : ⊥ = cc in g)
 
     by : (k : TokenKind) → t.kind ≡ k → step_by t.kind t (parser_at ls cs os None) ≡ Some (parser_at ls cs os (Some o))
-    by kind.Word e = ap (λ k. step_by k t (parser_at ls cs os None)) e ∙ same
-    by kind.Number e = ap (λ k. step_by k t (parser_at ls cs os None)) e ∙ same
-    by kind.Dot e = ap (λ k. step_by k t (parser_at ls cs os None)) e ∙ same
-    by kind.Variable e = ap (λ k. step_by k t (parser_at ls cs os None)) e ∙ same
-    by kind.String e = ap (λ k. step_by k t (parser_at ls cs os None)) e ∙ same
-    by kind.RawString e = ap (λ k. step_by k t (parser_at ls cs os None)) e ∙ same
-    by kind.Character e = ap (λ k. step_by k t (parser_at ls cs os None)) e ∙ same
-    by kind.Field e = ap (λ k. step_by k t (parser_at ls cs os None)) e ∙ same
-    by kind.Declare e = ap (λ k. step_by k t (parser_at ls cs os None)) e ∙ same
-    by kind.Assign e = ap (λ k. step_by k t (parser_at ls cs os None)) e ∙ same
-    by kind.Comma e = ap (λ k. step_by k t (parser_at ls cs os None)) e ∙ same
     by kind.Space e = none (ap (λ k. operand_by k t) (sym e) ∙ is)
     by kind.Pipe e = none (ap (λ k. operand_by k t) (sym e) ∙ is)
     by kind.LeftParenthesis e = none (ap (λ k. operand_by k t) (sym e) ∙ is)
     by kind.RightParenthesis e = none (ap (λ k. operand_by k t) (sym e) ∙ is)
+    by _ e = ap (λ k. step_by k t (parser_at ls cs os None)) e ∙ same
 
 -- an operand that chains may be added to
 abbrev pub Chains : (List (List ℕ) → Operand) → Type 0
 Chains f = (ns : List (List ℕ)) (n : List ℕ) → linked (f ns) n ≡ Some (f (ns ++ n ∷ []))
 
-link-step : (f : List (List ℕ) → Operand) → Chains f → (ls : List Partial) (cs : List Operands) (os : List Operand) (ns : List (List ℕ)) (t : Token) → t.kind ≡ kind.Field → begins_name (name_in t) ≡ true → step t (parser_at ls cs os (Some (f ns))) ≡ Some (parser_at ls cs os (Some (f (ns ++ name_in t ∷ []))))
+link-step : (f : List (List ℕ) → Operand) → Chains f
+    → (ls : List Partial) (cs : List Operands) (os : List Operand) (ns : List (List ℕ)) (t : Token) → t.kind ≡ kind.Field
+    → begins_name (name_in t) ≡ true
+    → step t (parser_at ls cs os (Some (f ns))) ≡ Some (parser_at ls cs os (Some (f (ns ++ name_in t ∷ []))))
 link-step f can ls cs os ns t is begins =
     step-at kind.Field t (parser_at ls cs os (Some (f ns))) is
     ∙ ap (λ b. option_map (parser.ending_with (parser_at ls cs os (Some (f ns)))) (linked_by b (f ns) (name_in t))) begins
     ∙ ap (option_map (parser.ending_with (parser_at ls cs os (Some (f ns))))) (can ns (name_in t))
 
-chain-steps : (f : List (List ℕ) → Operand) → Chains f → (ls : List Partial) (cs : List Operands) (os : List Operand) (names ns : List (List ℕ)) (ts : List Token) → IsChain names ts → steps (Some (parser_at ls cs os (Some (f ns)))) ts ≡ Some (parser_at ls cs os (Some (f (ns ++ names))))
+chain-steps : (f : List (List ℕ) → Operand) → Chains f
+    → (ls : List Partial) (cs : List Operands) (os : List Operand) (names ns : List (List ℕ)) (ts : List Token) → IsChain names ts
+    → steps (Some (parser_at ls cs os (Some (f ns)))) ts ≡ Some (parser_at ls cs os (Some (f (ns ++ names))))
 chain-steps f can ls cs os [] ns ts c =
     ap (steps (Some (parser_at ls cs os (Some (f ns))))) c
     ∙ ap (λ m. Some (parser_at ls cs os (Some (f m)))) (sym (append-nil ns))
@@ -118,11 +116,14 @@ variable-chain x ns n = refl
 pub group-chain : (cs : Commands) → Chains (tree.group cs)
 group-chain cs ns n = refl
 
-one-steps : (o : Operand) (ls : List Partial) (cs : List Operands) (os : List Operand) (ts : List Token) → IsChained o [] ts → may_stand cs os o ≡ true → steps (Some (parser_at ls cs os None)) ts ≡ Some (parser_at ls cs os (Some o))
+one-steps : (o : Operand) (ls : List Partial) (cs : List Operands) (os : List Operand) (ts : List Token) → IsChained o [] ts
+    → may_stand cs os o ≡ true → steps (Some (parser_at ls cs os None)) ts ≡ Some (parser_at ls cs os (Some o))
 one-steps o ls cs os ts (t, us, is, at, rest) may =
     ap (steps (Some (parser_at ls cs os None))) (is ∙ ap (λ vs. t ∷ vs) rest) ∙ placed-step t o ls cs os at may
 
-chained-steps : (f : List (List ℕ) → Operand) → Chains f → (ns names : List (List ℕ)) (ls : List Partial) (cs : List Operands) (os : List Operand) (ts : List Token) → IsChained (f ns) names ts → may_stand cs os (f ns) ≡ true → steps (Some (parser_at ls cs os None)) ts ≡ Some (parser_at ls cs os (Some (f (ns ++ names))))
+chained-steps : (f : List (List ℕ) → Operand) → Chains f
+    → (ns names : List (List ℕ)) (ls : List Partial) (cs : List Operands) (os : List Operand) (ts : List Token) → IsChained (f ns) names ts
+    → may_stand cs os (f ns) ≡ true → steps (Some (parser_at ls cs os None)) ts ≡ Some (parser_at ls cs os (Some (f (ns ++ names))))
 chained-steps f can ns names ls cs os ts (t, us, is, at, rest) may =
     ap (steps (Some (parser_at ls cs os None))) is
     ∙ ap (λ o. steps o us) (placed-step t (f ns) ls cs os at may)
@@ -173,7 +174,8 @@ pub record Ended (h : Parser) (ts : List Token) (ls : List Partial) (cs : List O
   pub outer_is : end.outer ≡ ls
   pub closed_is : closed end ≡ Some cs
 
-reached-closed : (h : Parser) (ts : List Token) (ls : List Partial) (cs : List Operands) (o : Operand) (os : List Operand) → Reached h ts ls cs (o ∷ os) → Ended h ts ls (cs ++ operands_from (o ∷ os) ∷ [])
+reached-closed : (h : Parser) (ts : List Token) (ls : List Partial) (cs : List Operands) (o : Operand) (os : List Operand)
+    → Reached h ts ls cs (o ∷ os) → Ended h ts ls (cs ++ operands_from (o ∷ os) ∷ [])
 reached-closed h ts ls cs o os r = record {
   end = r.end;
   to = r.to;
@@ -181,11 +183,14 @@ reached-closed h ts ls cs o os r = record {
   closed_is = ap (λ ds. more_commands ds (settled r.end.last r.end.inner.operands)) r.commands_is ∙ ap (more_commands cs) r.operands_is;
 }
 
-blank-reached : (ls : List Partial) (cs : List Operands) (os : List Operand) (o : Operand) (ts : List Token) → IsBlank ts → Reached (parser_at ls cs os (Some o)) ts ls cs (os ++ o ∷ [])
+blank-reached : (ls : List Partial) (cs : List Operands) (os : List Operand) (o : Operand) (ts : List Token) → IsBlank ts
+    → Reached (parser_at ls cs os (Some o)) ts ls cs (os ++ o ∷ [])
 blank-reached ls cs os o [] b = record { end = parser_at ls cs os (Some o); to = refl; outer_is = refl; commands_is = refl; operands_is = refl }
-blank-reached ls cs os o (t ∷ ts) b = record { end = parser_at ls cs (os ++ o ∷ []) None; to = white-steps ls cs os o t ts b; outer_is = refl; commands_is = refl; operands_is = refl }
+blank-reached ls cs os o (t ∷ ts) b =
+    record { end = parser_at ls cs (os ++ o ∷ []) None; to = white-steps ls cs os o t ts b; outer_is = refl; commands_is = refl; operands_is = refl }
 
-reached-along : (h n : Parser) (ts us vs : List Token) (ls : List Partial) (cs : List Operands) (os qs : List Operand) → ts ≡ us ++ vs → steps (Some h) us ≡ Some n → os ≡ qs → Reached n vs ls cs os → Reached h ts ls cs qs
+reached-along : (h n : Parser) (ts us vs : List Token) (ls : List Partial) (cs : List Operands) (os qs : List Operand) → ts ≡ us ++ vs
+    → steps (Some h) us ≡ Some n → os ≡ qs → Reached n vs ls cs os → Reached h ts ls cs qs
 reached-along h n ts us vs ls cs os qs is to e r = record {
   end = r.end;
   to = along (Some h) (Some n) ts us vs is to ∙ r.to;
@@ -194,7 +199,8 @@ reached-along h n ts us vs ls cs os qs is to e r = record {
   operands_is = r.operands_is ∙ e;
 }
 
-ended-along : (h n : Parser) (ts us vs : List Token) (ls : List Partial) (cs ds : List Operands) → ts ≡ us ++ vs → steps (Some h) us ≡ Some n → cs ≡ ds → Ended n vs ls cs → Ended h ts ls ds
+ended-along : (h n : Parser) (ts us vs : List Token) (ls : List Partial) (cs ds : List Operands) → ts ≡ us ++ vs
+    → steps (Some h) us ≡ Some n → cs ≡ ds → Ended n vs ls cs → Ended h ts ls ds
 ended-along h n ts us vs ls cs ds is to e r = record {
   end = r.end;
   to = along (Some h) (Some n) ts us vs is to ∙ r.to;
@@ -202,20 +208,25 @@ ended-along h n ts us vs ls cs ds is to e r = record {
   closed_is = r.closed_is ∙ ap Some e;
 }
 
-bar-step : (h : Parser) (ls : List Partial) (cs : List Operands) (t : Token) → t.kind ≡ kind.Pipe → h.outer ≡ ls → closed h ≡ Some cs → step t h ≡ Some (parser_at ls cs [] None)
+bar-step : (h : Parser) (ls : List Partial) (cs : List Operands) (t : Token) → t.kind ≡ kind.Pipe → h.outer ≡ ls → closed h ≡ Some cs
+    → step t h ≡ Some (parser_at ls cs [] None)
 bar-step h ls cs t is outer whole =
     step-at kind.Pipe t h is ∙ ap (option_map (parser.barred h)) whole ∙ ap (λ ls. Some (parser_at ls cs [] None)) outer
 
-close-step : (h : Parser) (l : Partial) (ls : List Partial) (cs : List Operands) (t : Token) → t.kind ≡ kind.RightParenthesis → h.outer ≡ l ∷ ls → closed h ≡ Some cs → step t h ≡ Some (parser_at ls l.commands l.operands (Some (tree.group (commands_from cs) [])))
+close-step : (h : Parser) (l : Partial) (ls : List Partial) (cs : List Operands) (t : Token) → t.kind ≡ kind.RightParenthesis
+    → h.outer ≡ l ∷ ls → closed h ≡ Some cs → step t h ≡ Some (parser_at ls l.commands l.operands (Some (tree.group (commands_from cs) [])))
 close-step h l ls cs t is outer whole =
     step-at kind.RightParenthesis t h is ∙ ap (λ o. parser.left_with h.outer o) whole ∙ ap (λ ls. parser.left_with ls (Some cs)) outer
 
 mutual
-  operand-read : (o : Operand) (ts : List Token) → SpellsOperand o ts → (ls : List Partial) (cs : List Operands) (os : List Operand) → may_stand cs os o ≡ true → steps (Some (parser_at ls cs os None)) ts ≡ Some (parser_at ls cs os (Some o))
+  operand-read : (o : Operand) (ts : List Token) → SpellsOperand o ts → (ls : List Partial) (cs : List Operands) (os : List Operand)
+      → may_stand cs os o ≡ true → steps (Some (parser_at ls cs os None)) ts ≡ Some (parser_at ls cs os (Some o))
   operand-read tree.dot ts s ls cs os may = one-steps tree.dot ls cs os ts s may
   operand-read (tree.fields []) ts s ls cs os may = absurd s
-  operand-read (tree.fields (n ∷ ns)) ts s ls cs os may = chained-steps tree.fields fields-chain (n ∷ []) ns ls cs os ts s (stands-as cs os _ (tree.fields (n ∷ [])) refl may)
-  operand-read (tree.variable x names) ts s ls cs os may = chained-steps (tree.variable x) (variable-chain x) [] names ls cs os ts s (stands-as cs os _ (tree.variable x []) refl may)
+  operand-read (tree.fields (n ∷ ns)) ts s ls cs os may =
+      chained-steps tree.fields fields-chain (n ∷ []) ns ls cs os ts s (stands-as cs os _ (tree.fields (n ∷ [])) refl may)
+  operand-read (tree.variable x names) ts s ls cs os may =
+      chained-steps (tree.variable x) (variable-chain x) [] names ls cs os ts s (stands-as cs os _ (tree.variable x []) refl may)
   operand-read (tree.bool_constant b) ts s ls cs os may = one-steps (tree.bool_constant b) ls cs os ts s may
   operand-read (tree.number_constant n) ts s ls cs os may = one-steps (tree.number_constant n) ls cs os ts s may
   operand-read (tree.text_constant bytes) ts s ls cs os may = one-steps (tree.text_constant bytes) ls cs os ts s may
@@ -231,14 +242,17 @@ mutual
       ∙ ap (λ ds. steps (Some (parser_at ls cs os (Some (tree.group ds [])))) us) (commands-back commands)
       ∙ chain-steps (tree.group commands) (group-chain commands) ls cs os names [] us chain
 
-  more-read : (ms : Operands) (ts : List Token) → SpellsMore ms ts → (ls : List Partial) (cs : List Operands) (os : List Operand) (o : Operand) → Reached (parser_at ls cs os (Some o)) ts ls cs (os ++ o ∷ operand_list ms)
+  more-read : (ms : Operands) (ts : List Token) → SpellsMore ms ts
+      → (ls : List Partial) (cs : List Operands) (os : List Operand) (o : Operand)
+      → Reached (parser_at ls cs os (Some o)) ts ls cs (os ++ o ∷ operand_list ms)
   more-read tree.no_operand ts s ls cs os o = blank-reached ls cs os o ts s
   more-read (tree.operand p ps) ts (w, ws, a, b, is, blank, spells, rest) ls cs os o =
       reached-along _ (parser_at ls cs (os ++ o ∷ []) None) ts (w ∷ ws) (a ++ b) ls cs _ _ is (white-steps ls cs os o w ws blank) (append_assoc os (o ∷ []) (p ∷ operand_list ps))
       (reached-along _ (parser_at ls cs (os ++ o ∷ []) (Some p)) (a ++ b) a b ls cs _ _ refl (operand-read p a spells ls cs (os ++ o ∷ []) (stands-behind cs os o p)) refl
       (more-read ps b rest ls cs (os ++ o ∷ []) p))
 
-  command-read : (os : Operands) (ts : List Token) → SpellsCommand os ts → (ls : List Partial) (cs : List Operands) → StandsFirst cs os → Ended (parser_at ls cs [] None) ts ls (cs ++ os ∷ [])
+  command-read : (os : Operands) (ts : List Token) → SpellsCommand os ts → (ls : List Partial) (cs : List Operands) → StandsFirst cs os
+      → Ended (parser_at ls cs [] None) ts ls (cs ++ os ∷ [])
   command-read tree.no_operand ts s ls cs may = absurd s
   command-read (tree.operand o ms) ts (ws, a, b, is, blank, spells, rest) ls cs may =
       let r = reached-along _ (parser_at ls cs [] None) ts ws (a ++ b) ls cs _ _ is (blank-steps ls cs [] ws blank) refl
@@ -246,7 +260,8 @@ mutual
       (more-read ms b rest ls cs [] o)) in
       subst (λ os. Ended (parser_at ls cs [] None) ts ls (cs ++ os ∷ [])) (operands-back (tree.operand o ms)) (reached-closed _ ts ls cs o (operand_list ms) r)
 
-  later-read : (later : Commands) (ts : List Token) → SpellsLater later ts → (h : Parser) (ls : List Partial) (cs : List Operands) → h.outer ≡ ls → closed h ≡ Some cs → Ended h ts ls (cs ++ command_list later)
+  later-read : (later : Commands) (ts : List Token) → SpellsLater later ts → (h : Parser) (ls : List Partial) (cs : List Operands)
+      → h.outer ≡ ls → closed h ≡ Some cs → Ended h ts ls (cs ++ command_list later)
   later-read tree.no_command ts s h ls cs outer whole = record {
     end = h;
     to = ap (steps (Some h)) s;

@@ -1,4 +1,4 @@
--- Tokens that no pipeline has.
+-- For `one_action`: tokens that no pipeline has, so that no header begins with a keyword.
 use Rattle.std.proofs.Common.{◌≡◌, ◌∙◌, List, [], ◌∷◌, ◌++◌, Option, Some, None, refl, ap, sym, subst}
 use Rattle.std.specs.Option.{option_map, option_and_then}
 use Rattle.tmpl_lex.specs.declared.piece.TokenKind.TheVariants as kind
@@ -7,7 +7,8 @@ use Rattle.tmpl_grammar.specs.computed.Operand.{operand_at, operand_by, word_ope
 use Rattle.tmpl_grammar.specs.computed.Parser.{Parser, step, steps, placed, start, finished}
 use Rattle.tmpl_grammar.specs.Tree.{Operand, Commands, pipeline}
 use Rattle.tmpl_grammar.specs.Pipeline.{IsBlank, SpellsPipeline}
-use Rattle.tmpl_grammar.specs.Keyword.{spelling, IsWord}
+use Rattle.tmpl_grammar.specs.Keyword.{IsWord}
+use Rattle.tmpl_grammar.specs.computed.Keyword.{spelling}
 use Rattle.tmpl_grammar.specs.Header.{Then}
 use Rattle.tmpl_grammar.specs.computed.Reading.{pipeline_in, pipeline_from}
 use Rattle.tmpl_grammar.specs.declared.keyword.Keyword.{Keyword}
@@ -41,17 +42,9 @@ comma-stray t e h = step-at kind.Comma t h e ∙ ap (λ o. placed h.last o h) (a
 keyword-none : (k : Keyword) → word_operand (spelling k) ≡ None
 unfolding word_operand func_named
 keyword-none (word.Control control.If) = refl
-keyword-none (word.Control control.With) = refl
-keyword-none (word.Control control.Range) = refl
-keyword-none word.Else = refl
-keyword-none word.End = refl
-keyword-none word.Break = refl
-keyword-none word.Continue = refl
-keyword-none word.Define = refl
-keyword-none word.Template = refl
-keyword-none word.Block = refl
+keyword-none _ = refl
 
-pub word-stray : (k : Keyword) (t : Token) → IsWord k t → IsStray t
+pub word-stray : (k : Keyword) (t : Token) → IsWord (spelling k) t → IsStray t
 unfolding operand_at
 word-stray k t w h =
     step-at kind.Word t h w.0

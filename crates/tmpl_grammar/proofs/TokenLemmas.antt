@@ -1,4 +1,4 @@
--- The first token that is no white space, and those behind it.
+-- For `one_action`: the first token that is no white space, and those behind it.
 use Rattle.std.proofs.Common.{◌≡◌, ◌∙◌, ◌+◌, Bool, true, false, ◌&&◌, cond, List, [], ◌∷◌, ◌++◌, Some, None, refl, ap, sym, drop}
 use Rattle.std.proofs.Math.Numerals.{one-add}
 use Rattle.std.specs.List.{prefix_len}
@@ -6,7 +6,7 @@ use Rattle.std.proofs.lemmas.Option.{same_Some}
 use Rattle.tmpl_lex.specs.declared.piece.TokenKind.{TokenKind}
 use Rattle.tmpl_lex.specs.declared.piece.TokenKind.TheVariants as kind
 use Rattle.tmpl_lex.specs.Piece.{Token}
-use Rattle.tmpl_grammar.specs.Token.{is_space_kind, is_white, is_blank, first, next}
+use Rattle.tmpl_grammar.specs.computed.Token.{is_space_kind, is_white, is_blank, first, next}
 use Rattle.tmpl_grammar.specs.Pipeline.{IsBlank}
 use Rattle.tmpl_grammar.specs.Header.{Then}
 use Rattle.tmpl_grammar.proofs.OptionLemmas.{no-value}
@@ -80,7 +80,8 @@ pub record Led (Is : Token → Type 0) (Rest : List Token → Type 0) (ts : List
   pub is : Is token
   pub behind : Rest rest
 
-pub then-led : (Is : Token → Type 0) (Rest : List Token → Type 0) (ts : List Token) → ((t : Token) → Is t → is_white t ≡ false) → Then Is Rest ts → Led Is Rest ts
+pub then-led : (Is : Token → Type 0) (Rest : List Token → Type 0) (ts : List Token) → ((t : Token) → Is t → is_white t ≡ false)
+    → Then Is Rest ts → Led Is Rest ts
 then-led Is Rest ts other (ws, t, us, at, blank, is, rest) = record {
   token = t;
   rest = us;
@@ -89,7 +90,8 @@ then-led Is Rest ts other (ws, t, us, at, blank, is, rest) = record {
   behind = rest;
 }
 
-pub led-then : (Is : Token → Type 0) (Rest : List Token → Type 0) (ts : List Token) (t : Token) (us : List Token) → next ts ≡ Some (t, us) → Is t → Rest us → Then Is Rest ts
+pub led-then : (Is : Token → Type 0) (Rest : List Token → Type 0) (ts : List Token) (t : Token) (us : List Token) → next ts ≡ Some (t, us)
+    → Is t → Rest us → Then Is Rest ts
 led-then Is Rest ts t us e is rest = let b = begins ts t us e in (b.front, t, us, b.tokens_are, b.blank, is, rest)
 
 pub then-map : (Is : Token → Type 0) (R S : List Token → Type 0) → ((us : List Token) → R us → S us) → (ts : List Token) → Then Is R ts → Then Is S ts

@@ -1,4 +1,4 @@
--- A pipeline in parentheses, seen by its commands.
+-- For code on operands: a pipeline in parentheses, seen by its commands.
 use Rattle.std.proofs.Common.{rules, ◌≡◌, List, ℕ, Vec, Global}
 use Rattle.tmpl_grammar.specs.View.{operand_of, commands_in}
 use Rattle.tmpl_grammar.specs.Tree.{group}

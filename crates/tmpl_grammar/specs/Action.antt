@@ -1,20 +1,18 @@
 -- What one action says, and which tokens spell it ("Actions" in the documentation of Go's text/template).
-use Rattle.std.specs.Prelude.{ℕ, List, Option, Some, None}
+use Rattle.std.specs.Prelude.{ℕ, false, List, Option, Some, None, codes}
 use Rattle.tmpl_lex.specs.Piece.{Token}
 use Rattle.tmpl_grammar.specs.Tree.{text_constant, Pipeline, Header}
 use Rattle.tmpl_grammar.specs.Constant.{IsConstant}
 use Rattle.tmpl_grammar.specs.Pipeline.{IsBlank}
-use Rattle.tmpl_grammar.specs.Header.{Then, SpellsWhole, SpellsHeader}
-use Rattle.tmpl_grammar.specs.Keyword.{IsWord}
+use Rattle.tmpl_grammar.specs.Header.{is_range, Then, SpellsWhole, SpellsHeader}
+use Rattle.tmpl_grammar.specs.Keyword.{control_spelling, IsWord}
 use Rattle.tmpl_grammar.specs.declared.tree.Control.{Control}
 use Rattle.tmpl_grammar.specs.declared.tree.Control.TheVariants as control
 use Rattle.tmpl_grammar.specs.declared.action.Branch.{Branch}
 use Rattle.tmpl_grammar.specs.declared.action.Branch.TheVariants as branch
-use Rattle.tmpl_grammar.specs.declared.action.HeaderShape.{HeaderShape}
 use Rattle.tmpl_grammar.specs.declared.action.HeaderShape.TheVariants as shape
 use Rattle.tmpl_grammar.specs.declared.action.Shape.{Shape}
 use Rattle.tmpl_grammar.specs.declared.action.Shape.TheVariants as piped
-use Rattle.tmpl_grammar.specs.declared.keyword.Keyword.TheVariants as word
 
 -- an else branch is an else part that begins with a control of its own
 pub data Action : Type 0 where
@@ -48,35 +46,24 @@ SpellsGiven (Some p) ts = SpellsWhole p ts
 
 -- an action: a header alone, or a keyword and what stands behind it
 abbrev pub SpellsAction : Action → List Token → Type 0
-SpellsAction (pipeline_action h) ts = SpellsHeader shape.Pipeline h ts
-SpellsAction (opening c h) ts = Then (IsWord (word.Control c)) (SpellsHeader (shape.Open c) h) ts
-SpellsAction plain_else ts = Then (IsWord word.Else) IsBlank ts
+SpellsAction (pipeline_action h) ts = SpellsHeader false h ts
+SpellsAction (opening c h) ts = Then (IsWord (control_spelling c)) (SpellsHeader (is_range c) h) ts
+SpellsAction plain_else ts = Then (IsWord (codes "else")) IsBlank ts
 SpellsAction (else_branch br h) ts =
-    Then (IsWord word.Else) (Then (IsWord (word.Control (control_in br))) (SpellsHeader (shape.ElseBranch br) h)) ts
-SpellsAction end_action ts = Then (IsWord word.End) IsBlank ts
-SpellsAction break_action ts = Then (IsWord word.Break) IsBlank ts
-SpellsAction continue_action ts = Then (IsWord word.Continue) IsBlank ts
-SpellsAction (define_action name) ts = Then (IsWord word.Define) (Then (IsQuoted name) IsBlank) ts
+    Then (IsWord (codes "else")) (Then (IsWord (control_spelling (control_in br))) (SpellsHeader false h)) ts
+SpellsAction end_action ts = Then (IsWord (codes "end")) IsBlank ts
+SpellsAction break_action ts = Then (IsWord (codes "break")) IsBlank ts
+SpellsAction continue_action ts = Then (IsWord (codes "continue")) IsBlank ts
+SpellsAction (define_action name) ts = Then (IsWord (codes "define")) (Then (IsQuoted name) IsBlank) ts
 SpellsAction (template_action name given) ts =
-    Then (IsWord word.Template) (Then (IsQuoted name) (SpellsGiven given)) ts
-SpellsAction (block_action name p) ts = Then (IsWord word.Block) (Then (IsQuoted name) (SpellsWhole p)) ts
-
--- the action of this shape with this header
-abbrev pub action_with : HeaderShape → Header → Action
-action_with shape.Pipeline h = pipeline_action h
-action_with (shape.Open c) h = opening c h
-action_with (shape.ElseBranch br) h = else_branch br h
+    Then (IsWord (codes "template")) (Then (IsQuoted name) (SpellsGiven given)) ts
+SpellsAction (block_action name p) ts = Then (IsWord (codes "block")) (Then (IsQuoted name) (SpellsWhole p)) ts
 
 -- the shape of an action that has a pipeline
 abbrev pub shape_of : Action → Option Shape
 shape_of (pipeline_action h) = Some (piped.Header shape.Pipeline)
 shape_of (opening c h) = Some (piped.Header (shape.Open c))
-shape_of plain_else = None
 shape_of (else_branch br h) = Some (piped.Header (shape.ElseBranch br))
-shape_of end_action = None
-shape_of break_action = None
-shape_of continue_action = None
-shape_of (define_action name) = None
-shape_of (template_action name None) = None
 shape_of (template_action name (Some p)) = Some piped.Template
 shape_of (block_action name p) = Some piped.Block
+shape_of a = None

@@ -9,8 +9,6 @@ use Rattle.tmpl_grammar.specs.Tree.{Pipeline, pipeline, Binding, unbound, declar
 use Rattle.tmpl_grammar.specs.Pipeline.{IsBlank, SpellsPipeline}
 use Rattle.tmpl_grammar.specs.declared.tree.Control.{Control}
 use Rattle.tmpl_grammar.specs.declared.tree.Control.TheVariants as control
-use Rattle.tmpl_grammar.specs.declared.action.HeaderShape.{HeaderShape}
-use Rattle.tmpl_grammar.specs.declared.action.HeaderShape.TheVariants as shape
 
 -- ---- single tokens
 
@@ -35,21 +33,14 @@ Then Is Rest ts =
 -- ---- headers
 
 abbrev pub is_range : Control → Bool
-is_range control.If = false
-is_range control.With = false
 is_range control.Range = true
-
-abbrev pub opens_range : HeaderShape → Bool
-opens_range shape.Pipeline = false
-opens_range (shape.Open c) = is_range c
-opens_range (shape.ElseBranch b) = false
+is_range c = false
 
 -- how a header may bind variables: the header of a range assigns to none, and it alone declares two
-abbrev pub may_bind : HeaderShape → Binding → Bool
-may_bind s unbound = true
-may_bind s (declare name) = true
-may_bind s (assign name) = not (opens_range s)
-may_bind s (declare_pair key name) = opens_range s
+abbrev pub may_bind : Bool → Binding → Bool
+may_bind in_range (assign name) = not in_range
+may_bind in_range (declare_pair key name) = in_range
+may_bind in_range b = true
 
 -- nothing, `$x :=`, `$x =` or `$i, $x :=`, and then such tokens
 abbrev pub SpellsBinding : Binding → (List Token → Type 0) → List Token → Type 0
@@ -62,6 +53,6 @@ SpellsBinding (declare_pair key name) Rest ts =
 abbrev pub SpellsWhole : Pipeline → List Token → Type 0
 SpellsWhole (pipeline commands) ts = SpellsPipeline commands ts
 
--- the header of an action of this shape
-abbrev pub SpellsHeader : HeaderShape → Header → List Token → Type 0
-SpellsHeader s h ts = (may_bind s h.binding ≡ true) × SpellsBinding h.binding (SpellsWhole h.pipeline) ts
+-- the header of a range, or of another action
+abbrev pub SpellsHeader : Bool → Header → List Token → Type 0
+SpellsHeader in_range h ts = (may_bind in_range h.binding ≡ true) × SpellsBinding h.binding (SpellsWhole h.pipeline) ts

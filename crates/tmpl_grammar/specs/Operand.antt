@@ -23,12 +23,8 @@ pub data IsOperand : Token → Operand → Type 0 where
 
 -- a constant, `nil` and dot begin no later command of a pipeline
 abbrev pub begins_later : Operand → Bool
-begins_later tree.dot = false
 begins_later (tree.fields names) = true
 begins_later (tree.variable name names) = true
-begins_later (tree.bool_constant b) = false
-begins_later (tree.number_constant n) = false
-begins_later (tree.text_constant bytes) = false
-begins_later tree.nil = false
 begins_later (tree.function f) = true
 begins_later (tree.group commands names) = true
+begins_later o = false

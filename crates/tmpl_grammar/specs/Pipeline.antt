@@ -36,18 +36,13 @@ MayBeLater (tree.operand o os) = begins_later o ≡ true
 abbrev mutual
   -- an operand
   pub SpellsOperand : Operand → List Token → Type 0
-  SpellsOperand tree.dot ts = IsChained tree.dot [] ts
   SpellsOperand (tree.fields names) ts = IsFields names ts
   SpellsOperand (tree.variable name names) ts = IsChained (tree.variable name []) names ts
-  SpellsOperand (tree.bool_constant b) ts = IsChained (tree.bool_constant b) [] ts
-  SpellsOperand (tree.number_constant n) ts = IsChained (tree.number_constant n) [] ts
-  SpellsOperand (tree.text_constant bytes) ts = IsChained (tree.text_constant bytes) [] ts
-  SpellsOperand tree.nil ts = IsChained tree.nil [] ts
-  SpellsOperand (tree.function f) ts = IsChained (tree.function f) [] ts
   SpellsOperand (tree.group commands names) ts =
       (l : Token) × (inner : List Token) × (r : Token) × (us : List Token) × (ts ≡ l ∷ inner ++ r ∷ us)
       × (l.kind ≡ kind.LeftParenthesis) × (r.kind ≡ kind.RightParenthesis) × SpellsPipeline commands inner
       × IsChain names us
+  SpellsOperand o ts = IsChained o [] ts
 
   -- operands, each behind white space, and perhaps white space
   pub SpellsMore : Operands → List Token → Type 0

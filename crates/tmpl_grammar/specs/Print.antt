@@ -15,9 +15,7 @@ use Rattle.tmpl_grammar.specs.Tree.{Binding, unbound, declare, assign, declare_p
 use Rattle.tmpl_grammar.specs.Action.{Action, pipeline_action, opening, plain_else, else_branch}
 use Rattle.tmpl_grammar.specs.Action.{end_action, break_action, continue_action, define_action, template_action}
 use Rattle.tmpl_grammar.specs.Action.{block_action, control_in}
-use Rattle.tmpl_grammar.specs.Keyword.{spelling}
-use Rattle.tmpl_grammar.specs.declared.keyword.Keyword.{Keyword}
-use Rattle.tmpl_grammar.specs.declared.keyword.Keyword.TheVariants as keyword
+use Rattle.tmpl_grammar.specs.Keyword.{control_spelling}
 
 -- ---- the tokens of a pipeline
 
@@ -87,30 +85,27 @@ binding_tokens (declare_pair key name) =
 abbrev pub header_tokens : Header → List Token
 header_tokens h = binding_tokens h.binding ++ pipeline_tokens h.pipeline
 
-abbrev pub keyword_token : Keyword → Token
-keyword_token k = word (spelling k)
-
 -- a pipeline, behind a space
 abbrev pub given_tokens : Option Pipeline → List Token
 given_tokens None = []
 given_tokens (Some p) = space ∷ pipeline_tokens p
 
--- a keyword, a name in quotes, and what stands behind it
-abbrev pub named_tokens : Keyword → List ℕ → List Token → List Token
-named_tokens k name ts = keyword_token k ∷ space ∷ token kind.String (quote name) ∷ ts
+-- a keyword of this spelling, a name in quotes, and what stands behind it
+abbrev pub named_tokens : List ℕ → List ℕ → List Token → List Token
+named_tokens keyword name ts = word keyword ∷ space ∷ token kind.String (quote name) ∷ ts
 
 abbrev pub action_tokens : Action → List Token
 action_tokens (pipeline_action h) = header_tokens h
-action_tokens (opening c h) = keyword_token (keyword.Control c) ∷ space ∷ header_tokens h
-action_tokens plain_else = keyword_token keyword.Else ∷ []
+action_tokens (opening c h) = word (control_spelling c) ∷ space ∷ header_tokens h
+action_tokens plain_else = word (codes "else") ∷ []
 action_tokens (else_branch br h) =
-    keyword_token keyword.Else ∷ space ∷ keyword_token (keyword.Control (control_in br)) ∷ space ∷ header_tokens h
-action_tokens end_action = keyword_token keyword.End ∷ []
-action_tokens break_action = keyword_token keyword.Break ∷ []
-action_tokens continue_action = keyword_token keyword.Continue ∷ []
-action_tokens (define_action name) = named_tokens keyword.Define name []
-action_tokens (template_action name given) = named_tokens keyword.Template name (given_tokens given)
-action_tokens (block_action name p) = named_tokens keyword.Block name (given_tokens (Some p))
+    word (codes "else") ∷ space ∷ word (control_spelling (control_in br)) ∷ space ∷ header_tokens h
+action_tokens end_action = word (codes "end") ∷ []
+action_tokens break_action = word (codes "break") ∷ []
+action_tokens continue_action = word (codes "continue") ∷ []
+action_tokens (define_action name) = named_tokens (codes "define") name []
+action_tokens (template_action name given) = named_tokens (codes "template") name (given_tokens given)
+action_tokens (block_action name p) = named_tokens (codes "block") name (given_tokens (Some p))
 
 -- ---- how they stand in a file
 

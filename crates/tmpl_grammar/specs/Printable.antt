@@ -1,5 +1,5 @@
 -- What holds of each action that is read from a file, and lets it be printed and read again.
-use Rattle.std.specs.Prelude.{◌≡◌, ◌<◌, ◌≤◌, ◌^◌, ℕ, true, List, [], ◌∷◌, Option, Some, None}
+use Rattle.std.specs.Prelude.{◌≡◌, ◌<◌, ◌≤◌, ◌^◌, ℕ, Bool, false, true, List, [], ◌∷◌, Option, Some, None}
 use Rattle.std.specs.List.{list_all}
 use lib.Signed.{mag}
 use Rattle.tmpl_values.specs.Bytes.{AreBytes}
@@ -8,14 +8,12 @@ use Rattle.tmpl_grammar.specs.Token.{begins_name}
 use Rattle.tmpl_grammar.specs.Tree as tree
 use Rattle.tmpl_grammar.specs.Tree.{Operand, Operands, Commands, Pipeline, pipeline}
 use Rattle.tmpl_grammar.specs.Tree.{Binding, unbound, declare, assign, declare_pair, Header}
-use Rattle.tmpl_grammar.specs.Action.{Action, pipeline_action, opening, plain_else}
-use Rattle.tmpl_grammar.specs.Action.{else_branch, end_action, break_action, continue_action, define_action}
+use Rattle.tmpl_grammar.specs.Action.{Action, pipeline_action, opening}
+use Rattle.tmpl_grammar.specs.Action.{else_branch, define_action}
 use Rattle.tmpl_grammar.specs.Action.{template_action, block_action}
-use Rattle.tmpl_grammar.specs.Header.{IsName, may_bind}
+use Rattle.tmpl_grammar.specs.Header.{is_range, IsName, may_bind}
 use Rattle.tmpl_grammar.specs.Pipeline.{MayBeLater}
 use Rattle.tmpl_grammar.specs.Depth.{depth_of_pipeline, most_deep}
-use Rattle.tmpl_grammar.specs.declared.action.HeaderShape.{HeaderShape}
-use Rattle.tmpl_grammar.specs.declared.action.HeaderShape.TheVariants as shape
 
 -- ---- names
 
@@ -37,15 +35,12 @@ IsFieldChain (n ∷ ns) = IsFieldName n × AreFieldNames ns
 
 abbrev mutual
   pub OfOperand : Operand → Type 0
-  OfOperand tree.dot = Unit {0}
   OfOperand (tree.fields names) = IsFieldChain names
   OfOperand (tree.variable name names) = IsNamed name × AreFieldNames names
-  OfOperand (tree.bool_constant b) = Unit {0}
   OfOperand (tree.number_constant n) = mag n < 2 ^ 63
   OfOperand (tree.text_constant bytes) = AreBytes bytes
-  OfOperand tree.nil = Unit {0}
-  OfOperand (tree.function f) = Unit {0}
   OfOperand (tree.group commands names) = OfCommands commands × AreFieldNames names
+  OfOperand o = Unit {0}
 
   pub OfMore : Operands → Type 0
   OfMore tree.no_operand = Unit {0}
@@ -77,22 +72,19 @@ OfBinding (declare name) = OfVariable name
 OfBinding (assign name) = OfVariable name
 OfBinding (declare_pair key name) = OfVariable key × OfVariable name
 
--- in an action of this shape
-abbrev pub OfHeader : HeaderShape → Header → Type 0
-OfHeader s h = (may_bind s h.binding ≡ true) × OfBinding h.binding × OfPipeline h.pipeline
+-- of a range, or of another action
+abbrev pub OfHeader : Bool → Header → Type 0
+OfHeader in_range h = (may_bind in_range h.binding ≡ true) × OfBinding h.binding × OfPipeline h.pipeline
 
 abbrev pub OfGiven : Option Pipeline → Type 0
 OfGiven None = Unit {0}
 OfGiven (Some p) = OfPipeline p
 
 abbrev pub OfAction : Action → Type 0
-OfAction (pipeline_action h) = OfHeader shape.Pipeline h
-OfAction (opening c h) = OfHeader (shape.Open c) h
-OfAction plain_else = Unit {0}
-OfAction (else_branch br h) = OfHeader (shape.ElseBranch br) h
-OfAction end_action = Unit {0}
-OfAction break_action = Unit {0}
-OfAction continue_action = Unit {0}
+OfAction (pipeline_action h) = OfHeader false h
+OfAction (opening c h) = OfHeader (is_range c) h
+OfAction (else_branch br h) = OfHeader false h
 OfAction (define_action name) = AreBytes name
 OfAction (template_action name given) = AreBytes name × OfGiven given
 OfAction (block_action name p) = AreBytes name × OfPipeline p
+OfAction a = Unit {0}

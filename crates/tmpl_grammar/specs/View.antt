@@ -1,18 +1,12 @@
--- What trees, and the steps of the reading, stand for, apart from how they are held.
-use Rattle.std.specs.Prelude.{ℕ, List, Option, map, reverse, option_map}
+-- What trees and actions stand for, apart from how they are held.
+use Rattle.std.specs.Prelude.{List, Option, map, option_map}
 use Rattle.std.specs.Borrow.{Bor}
-use Rattle.tmpl_lex.specs.declared.piece.Token as held_token
-use Rattle.tmpl_lex.specs.Piece.{Token}
-use Rattle.tmpl_lex.specs.View.{token_of}
 use Rattle.tmpl_grammar.specs.Tree.{Operand, dot, fields, variable, bool_constant, number_constant, text_constant, nil}
 use Rattle.tmpl_grammar.specs.Tree.{function, group, Operands, operands_from, Commands, commands_from, Pipeline}
 use Rattle.tmpl_grammar.specs.Tree.{pipeline, Binding, unbound, declare, assign, declare_pair, Header}
 use Rattle.tmpl_grammar.specs.Action.{Action, pipeline_action, opening, plain_else, else_branch, end_action}
 use Rattle.tmpl_grammar.specs.Action.{break_action, continue_action, define_action, template_action, block_action}
 use Rattle.tmpl_grammar.specs.Depth as depth
-use Rattle.tmpl_grammar.specs.computed.Reading as reading
-use Rattle.tmpl_grammar.specs.computed.Parser as parser
-use Rattle.tmpl_grammar.specs.computed.Limited as limited
 use Rattle.tmpl_grammar.specs.declared.tree.Operand as held_operand
 use Rattle.tmpl_grammar.specs.declared.tree.Operand.{fold-Operand}
 use Rattle.tmpl_grammar.specs.declared.tree.Operand.TheOpen.{Operand-F, Command-F}
@@ -27,11 +21,6 @@ use Rattle.tmpl_grammar.specs.declared.action.Reading as held_reading
 use Rattle.tmpl_grammar.specs.declared.print.PrintedAction.{PrintedAction}
 use Rattle.tmpl_grammar.specs.declared.print.PrintedAction.TheVariants as print
 use Rattle.tmpl_grammar.specs.declared.action.Reading.TheVariants as held
-use Rattle.tmpl_grammar.specs.declared.header.Front.{Front}
-use Rattle.tmpl_grammar.specs.declared.header.Front.TheVariants as front
-use Rattle.tmpl_grammar.specs.declared.pipeline.parser.PipelineParser.{PipelineParser}
-use Rattle.tmpl_grammar.specs.declared.pipeline.parser.PartialPipeline.{PartialPipeline}
-use Rattle.tmpl_grammar.specs.declared.pipeline.LimitedParser.{LimitedParser}
 
 -- ---- trees
 
@@ -107,41 +96,3 @@ abbrev pub action_reading : held_reading.Reading held_action.Action → depth.Re
 action_reading held.Unread = depth.unread
 action_reading (held.TooDeep s) = depth.too_deep s
 action_reading (held.Read a) = depth.read (action_of a)
-
-abbrev pub pipeline_reading : held_reading.Reading held_pipeline.Pipeline → depth.Reading Pipeline
-pipeline_reading held.Unread = depth.unread
-pipeline_reading (held.TooDeep s) = depth.too_deep s
-pipeline_reading (held.Read p) = depth.read (pipeline_of p)
-
--- ---- steps of the reading
-
-abbrev pub quoted_of : List ℕ × Bor (List held_token.Token) → List ℕ × List Token
-quoted_of p = (p.0, map token_of p.1.now)
-
-abbrev pub next_of : held_token.Token × Bor (List held_token.Token) → Token × List Token
-next_of p = (token_of p.0, map token_of p.1.now)
-
-abbrev pub name_of : Bor (List ℕ) × Bor (List held_token.Token) → List ℕ × List Token
-name_of p = (p.0.now, map token_of p.1.now)
-
-abbrev pub front_of : Front → reading.Front
-front_of front.Plain = reading.plain
-front_of (front.Declare name ts) = reading.bound (declare name.now) (map token_of ts.now)
-front_of (front.Assign name ts) = reading.bound (assign name.now) (map token_of ts.now)
-front_of (front.DeclarePair key name ts) = reading.bound (declare_pair key.now name.now) (map token_of ts.now)
-
-abbrev pub split_of : held_binding.Binding × Bor (List held_token.Token) → Binding × List Token
-split_of h = (binding_of h.0, map token_of h.1.now)
-
-abbrev pub partial_of : PartialPipeline → parser.Partial
-partial_of l = record { commands = map command_of l.commands.items; operands = map operand_of l.operands.items }
-
-abbrev pub parser_of : PipelineParser → parser.Parser
-parser_of h = record {
-  outer = reverse (map partial_of h.outer.items);
-  inner = partial_of h.inner;
-  last = option_map operand_of h.last;
-}
-
-abbrev pub limited_of : LimitedParser → limited.Limited
-limited_of l = record { parser = parser_of l.parser; beyond = l.beyond }

@@ -1,8 +1,12 @@
 pub mod Constant
+pub mod Depth
+pub mod Keyword
 pub mod Limited
 pub mod Operand
 pub mod Parser
 pub mod Print
 pub mod Quoted
 pub mod Reading
+pub mod Token
+pub mod View
 pub mod Within

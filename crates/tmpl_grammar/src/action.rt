@@ -1,6 +1,7 @@
 //! What one action says.
 ghost use Rattle.std.specs.Prelude.{◌≡◌};
-ghost use Rattle.tmpl_grammar.specs.Action.{action_with, control_in};
+ghost use Rattle.tmpl_grammar.specs.Action.{control_in};
+ghost use Rattle.tmpl_grammar.specs.computed.Reading.{action_with, opens_range};
 ghost use Rattle.tmpl_grammar.specs.Header.{may_bind};
 ghost use Rattle.tmpl_grammar.specs.View.{action_of, binding_of, header_of};
 
@@ -93,7 +94,7 @@ impl HeaderShape {
 
     /// Whether a header of this shape may bind variables so.
     pub(crate) fn may_bind(self, binding: &Binding) -> bool
-        ensures { result ≡ may_bind self (binding_of binding.now) }
+        ensures { result ≡ may_bind (opens_range self) (binding_of binding.now) }
     {
         let is_range = matches!(self, HeaderShape::Open(Control::Range));
         match binding {

@@ -9,7 +9,7 @@ mod integer;
 mod quoted;
 
 use crate::constant::integer::integer;
-use crate::constant::quoted::{between, rune_code, unquoted, without_returns};
+use crate::constant::quoted::{between, rune_code, unquote, without_returns};
 use crate::tree::Operand;
 use std::alloc::{AllocError, Global};
 use tmpl_lex::{Token, TokenKind};
@@ -46,7 +46,7 @@ fn string(alloc: Global, bytes: &[u8]) -> Result<Option<Operand>, AllocError>
     let Some(inside) = between(b'"', bytes) else {
         return Ok(None);
     };
-    match unquoted(alloc, b'"', inside)? {
+    match unquote(alloc, b'"', inside)? {
         Some(text) => Ok(Some(Operand::Text(Bytes::new(text)))),
         None => Ok(None),
     }

@@ -2,7 +2,7 @@
 ghost use Rattle.std.specs.Prelude.{◌≡◌, IfOk, map, option_map};
 ghost use Rattle.tmpl_lex.specs.View.{token_of};
 ghost use Rattle.tmpl_grammar.specs.computed.Reading as spec;
-ghost use Rattle.tmpl_grammar.specs.View.{front_of, name_of, split_of};
+ghost use Rattle.tmpl_grammar.specs.computed.View.{front_of, name_of, split_of};
 
 use crate::operand::{name_in, next};
 use crate::tree::{Binding, Pair};
@@ -23,18 +23,21 @@ enum Front<'t, 'b> {
 }
 
 /// The variable that comes first, by its name of at least one byte, and the tokens behind it.
-fn named<'t, 'b>(tokens: &'t [Token<'b>]) -> Option<(&'b [u8], &'t [Token<'b>])>
+fn first_variable<'t, 'b>(tokens: &'t [Token<'b>]) -> Option<(&'b [u8], &'t [Token<'b>])>
     ensures { option_map name_of result ≡ spec.named (map token_of tokens.now) }
 {
     let (first, rest) = next(tokens)?;
     match first.kind {
-        TokenKind::Variable => named_by(name_in(&first), rest),
+        TokenKind::Variable => variable_named(name_in(&first), rest),
         _ => None,
     }
 }
 
 /// A name of at least one byte, and the tokens behind it.
-fn named_by<'t, 'b>(name: &'b [u8], rest: &'t [Token<'b>]) -> Option<(&'b [u8], &'t [Token<'b>])>
+fn variable_named<'t, 'b>(
+    name: &'b [u8],
+    rest: &'t [Token<'b>],
+) -> Option<(&'b [u8], &'t [Token<'b>])>
     ensures { option_map name_of result ≡ spec.named_by name.now (map token_of rest.now) }
 {
     match name {
@@ -47,7 +50,7 @@ fn named_by<'t, 'b>(name: &'b [u8], rest: &'t [Token<'b>]) -> Option<(&'b [u8], 
 fn header_front<'t, 'b>(tokens: &'t [Token<'b>]) -> Front<'t, 'b>
     ensures { front_of result ≡ spec.front_in (map token_of tokens.now) }
 {
-    let Some((name, rest)) = named(tokens) else {
+    let Some((name, rest)) = first_variable(tokens) else {
         return Front::Plain;
     };
     let Some((sign, rest)) = next(rest) else {
@@ -65,7 +68,7 @@ fn header_front<'t, 'b>(tokens: &'t [Token<'b>]) -> Front<'t, 'b>
 fn second_name<'t, 'b>(key: &'b [u8], tokens: &'t [Token<'b>]) -> Front<'t, 'b>
     ensures { front_of result ≡ spec.second_named key.now (spec.named (map token_of tokens.now)) }
 {
-    let Some((name, rest)) = named(tokens) else {
+    let Some((name, rest)) = first_variable(tokens) else {
         return Front::Plain;
     };
     let Some((sign, rest)) = next(rest) else {
@@ -78,7 +81,7 @@ fn second_name<'t, 'b>(key: &'b [u8], tokens: &'t [Token<'b>]) -> Front<'t, 'b>
 }
 
 /// The name in memory of its own.
-fn copied(alloc: Global, name: &[u8]) -> Result<Bytes, AllocError>
+fn copy(alloc: Global, name: &[u8]) -> Result<Bytes, AllocError>
     ensures { IfOk result (λ b. b ≡ name.now) }
 {
     Ok(Bytes::new(name.to_vec(alloc)?))
@@ -94,11 +97,11 @@ pub(crate) fn split<'t, 'b>(
 {
     match header_front(tokens) {
         Front::Plain => Ok((Binding::Unbound, tokens)),
-        Front::Declare(name, rest) => Ok((Binding::Declare(copied(alloc, name)?), rest)),
-        Front::Assign(name, rest) => Ok((Binding::Assign(copied(alloc, name)?), rest)),
+        Front::Declare(name, rest) => Ok((Binding::Declare(copy(alloc, name)?), rest)),
+        Front::Assign(name, rest) => Ok((Binding::Assign(copy(alloc, name)?), rest)),
         Front::DeclarePair(key, name, rest) => {
-            let key = copied(alloc, key)?;
-            let element = copied(alloc, name)?;
+            let key = copy(alloc, key)?;
+            let element = copy(alloc, name)?;
             let pair = Box::new(alloc, Pair { key, element })?;
             Ok((Binding::DeclarePair(pair), rest))
         }

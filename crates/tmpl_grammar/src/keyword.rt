@@ -1,7 +1,7 @@
 //! The words that begin an action.
 ghost use Rattle.std.specs.Prelude.{◌≡◌};
 ghost use Rattle.tmpl_lex.specs.View.{token_of};
-ghost use Rattle.tmpl_grammar.specs.Keyword.{spelling};
+ghost use Rattle.tmpl_grammar.specs.computed.Keyword.{spelling};
 ghost use Rattle.tmpl_grammar.specs.computed.Reading.{branch_of, keyword_of, spells_keyword};
 ghost use Rattle.tmpl_grammar.specs.computed.Reading.{spells_template_keyword};
 
@@ -48,14 +48,7 @@ impl Keyword {
         match self {
             Keyword::Control(Control::If) => Some(Branch::If),
             Keyword::Control(Control::With) => Some(Branch::With),
-            Keyword::Control(Control::Range)
-            | Keyword::Else
-            | Keyword::End
-            | Keyword::Break
-            | Keyword::Continue
-            | Keyword::Define
-            | Keyword::Template
-            | Keyword::Block => None,
+            _ => None,
         }
     }
 }
@@ -66,13 +59,13 @@ pub(crate) fn keyword_in(token: Token<'_>) -> Option<Keyword>
     ensures { result ≡ keyword_of (token_of token.entry) }
 {
     match token.kind {
-        TokenKind::Word => spelled(token.bytes),
+        TokenKind::Word => keyword_named(token.bytes),
         _ => None,
     }
 }
 
 /// The keyword of this spelling.
-fn spelled(name: &[u8]) -> Option<Keyword>
+fn keyword_named(name: &[u8]) -> Option<Keyword>
     ensures { result ≡ spells_keyword name.now }
 {
     if name == b"if".as_slice() {
@@ -90,12 +83,12 @@ fn spelled(name: &[u8]) -> Option<Keyword>
     } else if name == b"continue".as_slice() {
         Some(Keyword::Continue)
     } else {
-        spelled_of_templates(name)
+        template_keyword_named(name)
     }
 }
 
 /// The keyword of this spelling, of those that speak of templates.
-fn spelled_of_templates(name: &[u8]) -> Option<Keyword>
+fn template_keyword_named(name: &[u8]) -> Option<Keyword>
     ensures { result ≡ spells_template_keyword name.now }
 {
     if name == b"define".as_slice() {

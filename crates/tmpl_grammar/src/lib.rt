@@ -14,7 +14,9 @@ mod read;
 mod tree;
 
 pub use action::{Action, Branch, HeaderShape, Reading, Shape};
-pub use laws::{one_action, one_reading, printed_spelling, printed_tokens};
+pub use laws::{
+    one_action, one_constant, one_operand, one_reading, printed_spelling, printed_tokens,
+};
 pub use print::PrintedAction;
 pub use read::read_action;
 pub use tree::{Binding, Command, Control, Header, Operand, Pair, Pipeline};

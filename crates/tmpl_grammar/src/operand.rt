@@ -4,7 +4,9 @@ ghost use Rattle.std.specs.List.{list_all, prefix_len};
 ghost use Rattle.tmpl_lex.specs.View.{token_of};
 ghost use Rattle.tmpl_grammar.specs.Token as spec;
 ghost use Rattle.tmpl_grammar.specs.computed.Operand as word;
-ghost use Rattle.tmpl_grammar.specs.View.{next_of, operand_of};
+ghost use Rattle.tmpl_grammar.specs.computed.Token as white;
+ghost use Rattle.tmpl_grammar.specs.View.{operand_of};
+ghost use Rattle.tmpl_grammar.specs.computed.View.{next_of};
 
 use crate::constant::constant;
 use crate::tree::Operand;
@@ -15,7 +17,7 @@ use tmpl_values::Bytes;
 
 /// Whether a token is white space.
 fn is_white(token: &Token<'_>) -> bool
-    ensures { result ≡ spec.is_white (token_of token.now) }
+    ensures { result ≡ white.is_white (token_of token.now) }
 {
     matches!(token.kind, TokenKind::Space)
 }
@@ -23,14 +25,14 @@ fn is_white(token: &Token<'_>) -> bool
 /// Whether there is nothing but white space.
 #[tactic(auto, using(crate::proofs::SliceLemmas::views))]
 pub(crate) fn is_blank(tokens: &[Token<'_>]) -> bool
-    ensures { result ≡ spec.is_blank (map token_of tokens.now) }
+    ensures { result ≡ white.is_blank (map token_of tokens.now) }
 {
     all_white(tokens)
 }
 
 /// Whether each token is white space.
 fn all_white(tokens: &[Token<'_>]) -> bool
-    ensures { result ≡ list_all (λ t. spec.is_white (token_of t)) tokens.now }
+    ensures { result ≡ list_all (λ t. white.is_white (token_of t)) tokens.now }
 {
     tokens.iter().all(|t| is_white(t))
 }
@@ -38,7 +40,7 @@ fn all_white(tokens: &[Token<'_>]) -> bool
 /// How many tokens of white space there are at the front.
 #[tactic(auto, using(crate::proofs::SliceLemmas::runs))]
 fn front_len(tokens: &[Token<'_>]) -> usize
-    ensures count { result ≡ prefix_len (λ t. spec.is_white (token_of t)) tokens.now }
+    ensures count { result ≡ prefix_len (λ t. white.is_white (token_of t)) tokens.now }
     ensures within { result ≤ length tokens.now }
 {
     tokens.iter().take_while(|t| is_white(t)).count()
@@ -46,14 +48,14 @@ fn front_len(tokens: &[Token<'_>]) -> usize
 
 /// The tokens without the white space at their front.
 fn without_front<'t, 'b>(tokens: &'t [Token<'b>]) -> &'t [Token<'b>]
-    ensures { map token_of result.now ≡ spec.without_front (map token_of tokens.now) }
+    ensures { map token_of result.now ≡ white.without_front (map token_of tokens.now) }
 {
     &tokens[front_len(tokens)..]
 }
 
 /// The first token that is no white space, and those behind it.
 pub(crate) fn next<'t, 'b>(tokens: &'t [Token<'b>]) -> Option<(Token<'b>, &'t [Token<'b>])>
-    ensures { option_map next_of result ≡ spec.next (map token_of tokens.now) }
+    ensures { option_map next_of result ≡ white.next (map token_of tokens.now) }
 {
     match without_front(tokens) {
         [first, rest @ ..] => Some((*first, rest)),

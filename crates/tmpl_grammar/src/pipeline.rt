@@ -4,7 +4,8 @@ ghost use Rattle.tmpl_lex.specs.View.{token_of};
 ghost use Rattle.tmpl_grammar.specs.computed.Reading as spec;
 ghost use Rattle.tmpl_grammar.specs.computed.Limited as limited;
 ghost use Rattle.tmpl_grammar.specs.computed.Parser.{finished};
-ghost use Rattle.tmpl_grammar.specs.View.{operand_of, parser_of, limited_of, pipeline_reading};
+ghost use Rattle.tmpl_grammar.specs.View.{operand_of};
+ghost use Rattle.tmpl_grammar.specs.computed.View.{parser_of, limited_of, pipeline_reading};
 
 mod parser;
 
@@ -42,7 +43,7 @@ pub(crate) fn pipeline(
             None => return Ok(Reading::Unread),
         }
     }
-    parser.finished(shape)
+    parser.finish(shape)
 }
 
 impl LimitedParser {
@@ -62,15 +63,15 @@ impl LimitedParser {
         ensures { IfOk result (λ o. option_map limited_of o
             ≡ limited.limited_step (token_of token.now) (limited_of self)) }
     {
-        let LimitedParser { parser, beyond } = self.restored(alloc)?;
+        let LimitedParser { parser, beyond } = self.restore(alloc)?;
         match parser.step(alloc, token)? {
-            Some(parser) => Ok(Some(LimitedParser { parser, beyond }.forgotten())),
+            Some(parser) => Ok(Some(LimitedParser { parser, beyond }.forget())),
             None => Ok(None),
         }
     }
 
     /// Before a token: with an empty pipeline in place of the innermost that is forgotten.
-    fn restored(self, alloc: Global) -> Result<LimitedParser, AllocError>
+    fn restore(self, alloc: Global) -> Result<LimitedParser, AllocError>
         ensures parser { IfOk result (λ l. limited_of l ≡ limited.restored (limited_of self)) }
         ensures room { IfOk result (λ l. limited.count l.beyond + 1 < 2 ^ 64) }
     {
@@ -85,7 +86,7 @@ impl LimitedParser {
         if count > 0 {
             outer.push(PartialPipeline::new(alloc))?;
         }
-        let last = emptied(alloc, last);
+        let last = empty(alloc, last);
         Ok(LimitedParser {
             parser: PipelineParser { outer, inner, last },
             beyond: Some(count.saturating_sub(1)),
@@ -93,7 +94,7 @@ impl LimitedParser {
     }
 
     /// Behind a token: without the innermost of the pipelines around it, where that is one too many.
-    fn forgotten(self) -> LimitedParser
+    fn forget(self) -> LimitedParser
         requires { limited.count self.beyond + 1 < 2 ^ 64 }
         ensures { limited_of result ≡ limited.forgotten (limited_of self) }
     {
@@ -109,11 +110,11 @@ impl LimitedParser {
     }
 
     /// What is read in an action of this shape, where the tokens end here.
-    fn finished(self, shape: Shape) -> Result<Reading<Pipeline>, AllocError>
+    fn finish(self, shape: Shape) -> Result<Reading<Pipeline>, AllocError>
         ensures { IfOk result (λ p. pipeline_reading p
             ≡ limited.reading_by shape self.beyond (finished (parser_of self.parser))) }
     {
-        match (self.parser.finished()?, self.beyond) {
+        match (self.parser.finish()?, self.beyond) {
             (Some(commands), None) => Ok(Reading::Read(Pipeline { commands })),
             (Some(_), Some(0)) => Ok(Reading::TooDeep(shape)),
             _ => Ok(Reading::Unread),
@@ -122,7 +123,7 @@ impl LimitedParser {
 }
 
 /// The operand, without what stands in it if it is a group: else trees would be as deep as the parentheses.
-fn emptied(alloc: Global, last: Option<Operand>) -> Option<Operand>
+fn empty(alloc: Global, last: Option<Operand>) -> Option<Operand>
     ensures { option_map operand_of result ≡ option_map limited.emptied (option_map operand_of last) }
 {
     match last {

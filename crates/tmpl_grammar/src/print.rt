@@ -1,10 +1,11 @@
 //! Actions as they are printed: the bytes of their tokens.
 ghost use Rattle.std.specs.Prelude.{◌≡◌, ◌++◌, ◌∷◌, OnOk};
 ghost use Rattle.tmpl_grammar.specs.Print.{action_tokens, bytes_of, chain_tokens, command_tokens, commands_tokens};
-ghost use Rattle.tmpl_grammar.specs.Print.{given_tokens, header_tokens, keyword_token, later_tokens, more_tokens};
+ghost use Rattle.tmpl_grammar.specs.Print.{given_tokens, header_tokens, later_tokens, more_tokens};
 ghost use Rattle.tmpl_grammar.specs.Print.{named_tokens, operand_tokens, pipeline_tokens, variable_token};
 ghost use Rattle.tmpl_grammar.specs.View.{commands_in, given_of, header_of, operand_of, operands_in, pipeline_of};
 ghost use Rattle.tmpl_grammar.specs.View.{printed_of};
+ghost use Rattle.tmpl_grammar.specs.computed.Keyword.{spelling};
 ghost use Rattle.tmpl_grammar.specs.computed.Print.{unless};
 
 use crate::keyword::Keyword;
@@ -63,7 +64,8 @@ fn print_named(
     bytes: &mut Vec<u8>,
 ) -> Result<(), AllocError>
     ensures { OnOk result (bytes.new.items
-        ≡ bytes.old.items ++ bytes_of (named_tokens keyword name.now (given_tokens (given_of given.entry)))) }
+        ≡ bytes.old.items
+        ++ bytes_of (named_tokens (spelling keyword) name.now (given_tokens (given_of given.entry)))) }
 {
     bytes.extend_from_slice(keyword.spelling())?;
     bytes.extend_from_slice(b" ")?;

@@ -1,9 +1,12 @@
 //! The reading of one action's tokens.
 ghost use Rattle.std.specs.Prelude.{◌≡◌, IfOk, map, option_map};
 ghost use Rattle.tmpl_lex.specs.View.{token_of};
-ghost use Rattle.tmpl_grammar.specs.Action.{action_with, break_action, continue_action, end_action};
+ghost use Rattle.tmpl_grammar.specs.Action.{break_action, continue_action, end_action};
+ghost use Rattle.tmpl_grammar.specs.computed.Reading.{action_with};
 ghost use Rattle.tmpl_grammar.specs.Depth as depth;
-ghost use Rattle.tmpl_grammar.specs.View.{action_of, action_reading, quoted_of};
+ghost use Rattle.tmpl_grammar.specs.computed.Depth as limit;
+ghost use Rattle.tmpl_grammar.specs.View.{action_of, action_reading};
+ghost use Rattle.tmpl_grammar.specs.computed.View.{quoted_of};
 ghost use Rattle.tmpl_grammar.specs.computed.Reading as spec;
 
 use crate::action::{Action, HeaderShape, Reading, Shape};
@@ -38,7 +41,7 @@ fn read_behind(
     rest: &[Token<'_>],
 ) -> Result<Reading<Action>, AllocError>
     ensures { IfOk result (λ a. action_reading a
-        ≡ depth.reading_of (spec.action_by keyword (map token_of rest.now))) }
+        ≡ limit.reading_of (spec.action_by keyword (map token_of rest.now))) }
 {
     match keyword {
         Keyword::Control(control) => read_bound(alloc, HeaderShape::Open(control), rest),
@@ -54,8 +57,8 @@ fn read_behind(
 
 /// An action without a header, behind whose keyword nothing may stand.
 fn read_alone(action: Action, rest: &[Token<'_>]) -> Reading<Action>
-    requires { depth.within_limit (action_of action) ≡ depth.read (action_of action) }
-    ensures { action_reading result ≡ depth.reading_of (spec.alone (action_of action) (map token_of rest.now)) }
+    requires { limit.within_limit (action_of action) ≡ depth.read (action_of action) }
+    ensures { action_reading result ≡ limit.reading_of (spec.alone (action_of action) (map token_of rest.now)) }
 {
     if is_blank(rest) {
         Reading::Read(action)
@@ -71,7 +74,7 @@ fn read_bound(
     tokens: &[Token<'_>],
 ) -> Result<Reading<Action>, AllocError>
     ensures { IfOk result (λ a. action_reading a
-        ≡ depth.reading_of (option_map (action_with shape) (spec.header_in shape (map token_of tokens.now)))) }
+        ≡ limit.reading_of (option_map (action_with shape) (spec.header_in shape (map token_of tokens.now)))) }
 {
     let (binding, rest) = split(alloc, tokens)?;
     if !shape.may_bind(&binding) {
@@ -87,7 +90,7 @@ fn read_bound(
 /// An `else`, behind which nothing, an `if` or a `with` stands.
 fn read_else(alloc: Global, rest: &[Token<'_>]) -> Result<Reading<Action>, AllocError>
     ensures { IfOk result (λ a. action_reading a
-        ≡ depth.reading_of (spec.else_by (spec.next (map token_of rest.now)))) }
+        ≡ limit.reading_of (spec.else_by (spec.next (map token_of rest.now)))) }
 {
     match next(rest) {
         None => Ok(Reading::Read(Action::Else)),
@@ -104,7 +107,7 @@ fn read_else(alloc: Global, rest: &[Token<'_>]) -> Result<Reading<Action>, Alloc
 /// A `define`, behind which a name stands alone.
 fn read_define(alloc: Global, rest: &[Token<'_>]) -> Result<Reading<Action>, AllocError>
     ensures { IfOk result (λ a. action_reading a
-        ≡ depth.reading_of (spec.named_action spec.define_by (map token_of rest.now))) }
+        ≡ limit.reading_of (spec.named_action spec.define_by (map token_of rest.now))) }
 {
     match quoted_name(alloc, rest)? {
         Some((name, rest)) => Ok(read_alone(Action::Define(name), rest)),
@@ -115,7 +118,7 @@ fn read_define(alloc: Global, rest: &[Token<'_>]) -> Result<Reading<Action>, All
 /// A `template`, behind which a name stands, and a pipeline or nothing.
 fn read_template(alloc: Global, rest: &[Token<'_>]) -> Result<Reading<Action>, AllocError>
     ensures { IfOk result (λ a. action_reading a
-        ≡ depth.reading_of (spec.named_action spec.template_by (map token_of rest.now))) }
+        ≡ limit.reading_of (spec.named_action spec.template_by (map token_of rest.now))) }
 {
     let Some((name, rest)) = quoted_name(alloc, rest)? else {
         return Ok(Reading::Unread);
@@ -133,7 +136,7 @@ fn read_template(alloc: Global, rest: &[Token<'_>]) -> Result<Reading<Action>, A
 /// A `block`, behind which a name and a pipeline stand.
 fn read_block(alloc: Global, rest: &[Token<'_>]) -> Result<Reading<Action>, AllocError>
     ensures { IfOk result (λ a. action_reading a
-        ≡ depth.reading_of (spec.named_action spec.block_by (map token_of rest.now))) }
+        ≡ limit.reading_of (spec.named_action spec.block_by (map token_of rest.now))) }
 {
     let Some((name, rest)) = quoted_name(alloc, rest)? else {
         return Ok(Reading::Unread);

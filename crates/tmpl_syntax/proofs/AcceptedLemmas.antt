@@ -1,5 +1,6 @@
--- What the own template of an accepted file says is accepted when it is printed.
-use Rattle.std.proofs.Common.{arith, ◌≡◌, ◌∙◌, ℕ, ◌+◌, ◌≤◌, Bool, true, false, not, ◌&&◌, leb, List, [], ◌∷◌, ◌++◌, length, take, Some, refl, sym, ap, subst, length-append, length-take}
+-- For `accepted_back`: what the own template of an accepted file says is accepted when it is printed.
+use Rattle.std.proofs.Common.{arith, ◌≡◌, ◌∙◌, ℕ, ◌+◌, ◌≤◌, Bool, true, false, not, ◌&&◌, leb, List, [], ◌∷◌, ◌++◌, length, take, Some}
+use Rattle.std.proofs.Common.{refl, sym, ap, subst, length-append, length-take}
 use Rattle.std.proofs.lemmas.Bool.{false≢true, and_parts}
 use Rattle.std.proofs.lemmas.List.{take-take, take-append-le}
 use Rattle.std.proofs.Math.Seq.{take-append_seam}
@@ -7,37 +8,39 @@ use Rattle.std.specs.Cmp.Derive.{both_true}
 use Rattle.tmpl_grammar.specs.declared.action.Branch.{Branch}
 use Rattle.tmpl_grammar.specs.declared.action.Branch.TheVariants as branch
 use Rattle.tmpl_grammar.specs.declared.tree.Control.{Control}
-use Rattle.tmpl_grammar.specs.declared.tree.Control.TheVariants.{If, With, Range}
-use Rattle.tmpl_syntax.specs.declared.place.frame.Frame.{Frame}
-use Rattle.tmpl_syntax.specs.declared.place.frame.Opening.{Opening}
-use Rattle.tmpl_syntax.specs.declared.place.frame.Opening.TheVariants as opened
+use Rattle.tmpl_grammar.specs.declared.tree.Control.TheVariants.{If, With}
+use Rattle.tmpl_syntax.specs.computed.Frames.{Frame}
+use Rattle.tmpl_syntax.specs.Place.Opening.{Opening}
+use Rattle.tmpl_syntax.specs.Place.Opening as opened
 use Rattle.tmpl_grammar.specs.Tree.{Header}
-use Rattle.tmpl_syntax.specs.Tree.{NodeKind, text, action, control_node, break_node, continue_node, template_node, Nodes, none, then, Definition}
-use Rattle.tmpl_grammar.specs.Action.{pipeline_action, opening, plain_else, else_branch, end_action, break_action, continue_action, define_action, template_action, block_action, control_in}
+use Rattle.tmpl_syntax.specs.Tree.{NodeKind, control_node, Nodes, none, then, Definition}
+use Rattle.tmpl_grammar.specs.Action.{pipeline_action, opening, plain_else, else_branch, end_action, break_action, continue_action}
+use Rattle.tmpl_grammar.specs.Action.{define_action, template_action, block_action, control_in}
 use Rattle.tmpl_syntax.specs.Item.{Item, item, action_item}
 use Rattle.tmpl_syntax.specs.Place.Role.{Name, no_names, names_of, names_given, roles_of}
 use Rattle.tmpl_syntax.specs.Place.Open.{is_template}
 use Rattle.tmpl_syntax.specs.Place.Body.{joins, most_levels, fine, Judged}
-use Rattle.tmpl_syntax.specs.computed.Frames.{top, loops, in_loop, levels, takes_else, knows, first_fault, part_of, entered, elsed, branched, Known, with_inner, opened_names, closed_if, none_known, verdict_of}
-use Rattle.tmpl_syntax.specs.Spelling.{Leads, nothing, a_text, an_action, a_break, a_continue, a_control, a_template, a_define, a_block, Closes, an_end, an_else, an_else_branch}
+use Rattle.tmpl_syntax.specs.computed.Frames.{top, loops, in_loop, levels, takes_else, knows, first_fault, part_of, entered, elsed}
+use Rattle.tmpl_syntax.specs.computed.Frames.{branched, Known, with_inner, opened_names, closed_if, none_known, verdict_of}
+use Rattle.tmpl_syntax.specs.Spelling.{Leads, nothing, a_text, an_action, a_break, a_continue, a_control, a_template, a_define, a_block}
+use Rattle.tmpl_syntax.specs.Spelling.{Closes, an_end, an_else, an_else_branch}
 use Rattle.tmpl_syntax.specs.Print.Printed.{Said, said_text, said, else_said, control_said, node_said, nodes_said}
 use Rattle.tmpl_syntax.specs.Print.Laws.{Says, says_nothing, says_text, says, AcceptsBack}
 use Rattle.tmpl_syntax.proofs.OneVerdictLemmas.{one-verdict}
 use Rattle.tmpl_syntax.proofs.VerdictLemmas.{judged-all}
 use Rattle.tmpl_syntax.proofs.PrintedNodeLemmas.{spells-alike}
-use Rattle.tmpl_syntax.proofs.FitLemmas.{no_fault, passes, is_fine, fine-back, passes-fine, headed, part_names, seen_behind, loops_in, fits_node, fits, nodes-unlined, take-seen, first-none, opener-test, call-test, call-declares}
+use Rattle.tmpl_syntax.proofs.FitLemmas.{no_fault, passes, is_fine, fine-back, passes-fine, headed, part_names, seen_behind, loops_in}
+use Rattle.tmpl_syntax.proofs.FitLemmas.{fits_node, fits, nodes-unlined, take-seen, first-none, opener-test, call-test, call-declares}
 
 -- ---- frames and names
 
 part-low : (k : Control) (n d : ℕ) → n ≤ part_of k n (n + d)
 part-low If n d = omega arith
-part-low With n d = omega arith
-part-low Range n d = omega arith
+part-low _ n d = omega arith
 
 part-high : (k : Control) (n d : ℕ) → part_of k n (n + d) ≤ n + d
 part-high If n d = omega arith
-part-high With n d = omega arith
-part-high Range n d = omega arith
+part-high _ n d = omega arith
 
 part-within : (k : Control) (names ds : List Name) → part_of k (length names) (length names + length ds) ≤ length (names ++ ds)
 part-within k names ds = omega (arith, part-high k (length names) (length ds), length-append names ds)
@@ -52,19 +55,12 @@ placed-test true d k e = (refl, sym (first-none d k) ∙ e)
 placed-test false d k e = absurd (false≢true e)
 
 -- an else branch joins the control with which it begins, and that is no range
-joins-control : (b : Branch) (o : Opening) → joins b o ≡ true → o ≡ opened.Control (control_in b)
-joins-control branch.If (opened.Control If) e = refl
-joins-control branch.If (opened.Control With) e = absurd (false≢true e)
-joins-control branch.If (opened.Control Range) e = absurd (false≢true e)
-joins-control branch.If opened.Define e = absurd (false≢true e)
-joins-control branch.If opened.Block e = absurd (false≢true e)
-joins-control branch.With (opened.Control If) e = absurd (false≢true e)
-joins-control branch.With (opened.Control With) e = refl
-joins-control branch.With (opened.Control Range) e = absurd (false≢true e)
-joins-control branch.With opened.Define e = absurd (false≢true e)
-joins-control branch.With opened.Block e = absurd (false≢true e)
+joins-control : (b : Branch) (o : Opening) → joins b o ≡ true → o ≡ opened.control (control_in b)
+joins-control branch.If (opened.control If) e = refl
+joins-control branch.With (opened.control With) e = refl
+joins-control _ _ e = absurd (false≢true e)
 
-branch-loops : (b : Branch) (o : Opening) (x a : Bool) → o ≡ opened.Control (control_in b) → loops o x a ≡ a
+branch-loops : (b : Branch) (o : Opening) (x a : Bool) → o ≡ opened.control (control_in b) → loops o x a ≡ a
 branch-loops branch.If o x a e = ap (λ j. loops j x a) e
 branch-loops branch.With o x a e = ap (λ j. loops j x a) e
 
@@ -87,14 +83,16 @@ part-seen c r names body = take-seen _ body (names ++ (names_of r).declares) (pa
 part-long : (names : List Name) (ns : Nodes) (k : ℕ) → k ≤ length names → k ≤ length (seen_behind names ns)
 part-long names ns k h = omega (arith, ap length (take-seen k ns names h), length-take k (seen_behind names ns), length-take k names)
 
-within-seen : (c : Control) (r : Header) (names : List Name) (body : Nodes) → part_of c (length names) (length names + length (names_of r).declares) ≤ length (seen_behind (names ++ (names_of r).declares) body)
+within-seen : (c : Control) (r : Header) (names : List Name) (body : Nodes)
+    → part_of c (length names) (length names + length (names_of r).declares) ≤ length (seen_behind (names ++ (names_of r).declares) body)
 within-seen c r names body = part-long (names ++ (names_of r).declares) body _ (part-within c names (names_of r).declares)
 
 -- ---- an accepted list
 
 -- behind the `end` of a definition or a block the names are those before it, whatever its body is
 mutual
-  leads-fit : {xs ys : List Item} {ds es : List Definition} {ns : Nodes} → Leads xs ds ns ys es → (fs : List Frame) (known : Known) → passes fs known (roles_of xs) ≡ true
+  leads-fit : {xs ys : List Item} {ds es : List Definition} {ns : Nodes} → Leads xs ds ns ys es → (fs : List Frame) (known : Known)
+      → passes fs known (roles_of xs) ≡ true
       → (fits ns (in_loop (top fs)) (levels (top fs)) known.inner ≡ true) × (passes fs (with_inner known (seen_behind known.inner ns)) (roles_of ys) ≡ true)
   leads-fit nothing fs known h = (refl, h)
   leads-fit (a_text l) fs known h = leads-fit l fs known h
@@ -117,20 +115,20 @@ mutual
       let more = leads-fit l fs known (subst (λ k. passes fs (with_inner known k) (roles_of xs) ≡ true) (call-declares given known.inner) e.1) in
       (both_true (sym (call-test given (top fs) known.inner) ∙ e.0) more.0, more.1)
   leads-fit (a_define {xs = xs} b l) fs known h =
-      let f : Frame = entered opened.Define no_names (top fs) (length known.inner) in
-      let e = and_parts _ (passes (f ∷ fs) (opened_names opened.Define [] known) (roles_of xs)) h in
-      leads-fit l fs known (leads-fit b (f ∷ fs) (opened_names opened.Define [] known) e.1).1
+      let f : Frame = entered opened.define no_names (top fs) (length known.inner) in
+      let e = and_parts _ (passes (f ∷ fs) (opened_names opened.define [] known) (roles_of xs)) h in
+      leads-fit l fs known (leads-fit b (f ∷ fs) (opened_names opened.define [] known) e.1).1
   leads-fit (a_block {p = p} {xs = xs} b l) fs known h =
       let names : List Name = (names_given (Some p)).uses in
-      let f : Frame = entered opened.Block (names_given (Some p)) (top fs) (length known.inner) in
-      let e = and_parts _ (passes (f ∷ fs) (opened_names opened.Block [] known) (roles_of xs)) h in
+      let f : Frame = entered opened.block (names_given (Some p)) (top fs) (length known.inner) in
+      let e = and_parts _ (passes (f ∷ fs) (opened_names opened.block [] known) (roles_of xs)) h in
       let t = placed-test true (leb most_levels (levels (top fs))) (knows known.inner names) e.0 in
       let k = and_parts (not (leb most_levels (levels (top fs)))) (knows known.inner names) t.1 in
-      let more = leads-fit l fs known (leads-fit b (f ∷ fs) (opened_names opened.Block [] known) e.1).1 in
+      let more = leads-fit l fs known (leads-fit b (f ∷ fs) (opened_names opened.block [] known) e.1).1 in
       (both_true k.1 more.0, more.1)
   leads-fit (a_control {c = c} {h = r} {xs = xs} {zs = zs} {body = body} {other = other} b o l) fs known h =
       let names : List Name = known.inner in
-      let f : Frame = entered (opened.Control c) (names_of r) (top fs) (length names) in
+      let f : Frame = entered (opened.control c) (names_of r) (top fs) (length names) in
       let inside : Known = with_inner known (names ++ (names_of r).declares) in
       let e = and_parts _ (passes (f ∷ fs) inside (roles_of xs)) h in
       let inner = leads-fit b (f ∷ fs) inside e.1 in
@@ -140,7 +138,9 @@ mutual
       let more = leads-fit l fs known (subst (λ k. passes fs (with_inner known k) (roles_of zs) ≡ true) (control-names r names body) behind.1) in
       (both_true here more.0, more.1)
 
-  closes-fit : {xs zs : List Item} {ds es : List Definition} {other : Nodes} → Closes xs ds other zs es → (f : Frame) (fs : List Frame) (known : Known) → is_template f.opening ≡ false → f.start ≤ f.part → f.part ≤ length known.inner → passes (f ∷ fs) known (roles_of xs) ≡ true
+  closes-fit : {xs zs : List Item} {ds es : List Definition} {other : Nodes} → Closes xs ds other zs es
+      → (f : Frame) (fs : List Frame) (known : Known) → is_template f.opening ≡ false → f.start ≤ f.part → f.part ≤ length known.inner
+      → passes (f ∷ fs) known (roles_of xs) ≡ true
       → (fits other (loops f.opening true f.around) f.levels (take f.part known.inner) ≡ true) × (passes fs (with_inner known (take f.start known.inner)) (roles_of zs) ≡ true)
   closes-fit (an_end {xs = xs}) f fs known own low high h =
       (refl, subst (λ t. passes fs (closed_if t (with_inner known (take f.start known.inner))) (roles_of xs) ≡ true) own h)
@@ -187,9 +187,8 @@ mutual
   leads-rest (a_break l) h = leads-rest l h
   leads-rest (a_continue l) h = leads-rest l h
   leads-rest (a_template l) h = leads-rest l h
-  leads-rest (a_define b l) h = absurd h
-  leads-rest (a_block b l) h = absurd h
   leads-rest (a_control b o l) h = leads-rest l (closes-rest o (leads-rest b h))
+  leads-rest _ h = absurd h
 
   closes-rest : {xs ys : List Item} {ds es : List Definition} {ns : Nodes} → Closes xs ds ns ys es → NoBranch xs → NoBranch ys
   closes-rest an_end h = h
@@ -216,12 +215,10 @@ mutual
       let e = and_parts (knows known.inner (names_given given).uses) (fits ns (in_loop (top fs)) (levels (top fs)) known.inner) h in
       both_true (call-test given (top fs) known.inner ∙ e.0)
       (subst (λ names. passes fs (with_inner known names) (roles_of xs) ≡ true) (sym (call-declares given known.inner)) (leads-pass l n fs known e.1 k))
-  leads-pass (a_define b l) n fs known h k = absurd n
-  leads-pass (a_block b l) n fs known h k = absurd n
   leads-pass (a_control {c = c} {h = r} {zs = zs} {body = body} {other = other} {ns = ns} b o l) n fs known h k =
       let names : List Name = known.inner in
       let loop : Bool = in_loop (top fs) in
-      let f : Frame = entered (opened.Control c) (names_of r) (top fs) (length names) in
+      let f : Frame = entered (opened.control c) (names_of r) (top fs) (length names) in
       let inside : List Name = names ++ (names_of r).declares in
       let within_body = leads-rest b n in
       let e = and_parts (fits_node (control_node c r body other) loop (levels (top fs)) names) (fits ns loop (levels (top fs)) names) h in
@@ -233,8 +230,11 @@ mutual
       let behind = closes-pass o within_body f fs (with_inner known (seen_behind inside body)) refl refl (part-low c (length names) (length (names_of r).declares)) (within-seen c r names body) others
       (subst (λ k. passes fs (with_inner known k) (roles_of zs) ≡ true) (sym (control-names r names body)) more) in
       both_true (opener-test c r (top fs) names ∙ d.0) (leads-pass b n (f ∷ fs) (with_inner known inside) parts.0 behind)
+  leads-pass _ n fs known h k = absurd n
 
-  closes-pass : {xs zs : List Item} {ds es : List Definition} {other : Nodes} → Closes xs ds other zs es → NoBranch xs → (f : Frame) (fs : List Frame) (known : Known) → f.has_else ≡ false → is_template f.opening ≡ false → f.start ≤ f.part → f.part ≤ length known.inner
+  closes-pass : {xs zs : List Item} {ds es : List Definition} {other : Nodes} → Closes xs ds other zs es → NoBranch xs
+      → (f : Frame) (fs : List Frame) (known : Known) → f.has_else ≡ false → is_template f.opening ≡ false → f.start ≤ f.part
+      → f.part ≤ length known.inner
       → fits other (loops f.opening true f.around) f.levels (take f.part known.inner) ≡ true → passes fs (with_inner known (take f.start known.inner)) (roles_of zs) ≡ true → passes (f ∷ fs) known (roles_of xs) ≡ true
   closes-pass (an_end {xs = xs}) n f fs known first own low high h k =
       subst (λ t. passes fs (closed_if t (with_inner known (take f.start known.inner))) (roles_of xs) ≡ true) (sym own) k
@@ -263,26 +263,21 @@ plain-append (said_text t ∷ ss) ts h k = plain-append ss ts h k
 plain-append (said (pipeline_action r) ∷ ss) ts h k = plain-append ss ts h k
 plain-append (said (opening c r) ∷ ss) ts h k = plain-append ss ts h k
 plain-append (said plain_else ∷ ss) ts h k = plain-append ss ts h k
-plain-append (said (else_branch br r) ∷ ss) ts h k = absurd h
 plain-append (said end_action ∷ ss) ts h k = plain-append ss ts h k
 plain-append (said break_action ∷ ss) ts h k = plain-append ss ts h k
 plain-append (said continue_action ∷ ss) ts h k = plain-append ss ts h k
-plain-append (said (define_action name) ∷ ss) ts h k = absurd h
 plain-append (said (template_action name given) ∷ ss) ts h k = plain-append ss ts h k
-plain-append (said (block_action name p) ∷ ss) ts h k = absurd h
+plain-append _ ts h k = absurd h
 
-control-plain : (c : Control) (h : Header) (body : List Said) (other : Nodes) → Plain body → Plain (nodes_said other) → Plain (control_said c h body (else_said other (nodes_said other)))
+control-plain : (c : Control) (h : Header) (body : List Said) (other : Nodes) → Plain body → Plain (nodes_said other)
+    → Plain (control_said c h body (else_said other (nodes_said other)))
 control-plain c h body none p k = plain-append body (said end_action ∷ []) p tt
 control-plain c h body (then line n ns) p k = plain-append body (else_said (then line n ns) (nodes_said (then line n ns)) ++ said end_action ∷ []) p (plain-append (nodes_said (then line n ns)) (said end_action ∷ []) k tt)
 
 mutual
   node-plain : (n : NodeKind) → Plain (node_said n)
-  node-plain (text bytes) = tt
-  node-plain (action h) = tt
   node-plain (control_node c h body other) = control-plain c h (nodes_said body) other (nodes-plain body) (nodes-plain other)
-  node-plain break_node = tt
-  node-plain continue_node = tt
-  node-plain (template_node name given) = tt
+  node-plain _ = tt
 
   nodes-plain : (ns : Nodes) → Plain (nodes_said ns)
   nodes-plain none = tt
@@ -294,13 +289,11 @@ no_branch (says_text s) h = no_branch s h
 no_branch (says {a = pipeline_action r} s) h = no_branch s h
 no_branch (says {a = opening c r} s) h = no_branch s h
 no_branch (says {a = plain_else} s) h = no_branch s h
-no_branch (says {a = else_branch br r} s) h = absurd h
 no_branch (says {a = end_action} s) h = no_branch s h
 no_branch (says {a = break_action} s) h = no_branch s h
 no_branch (says {a = continue_action} s) h = no_branch s h
-no_branch (says {a = define_action name} s) h = absurd h
 no_branch (says {a = template_action name given} s) h = no_branch s h
-no_branch (says {a = block_action name p} s) h = absurd h
+no_branch _ h = absurd h
 
 -- ---- the law
 

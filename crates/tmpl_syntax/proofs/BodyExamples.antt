@@ -1,8 +1,9 @@
--- What the definitions say of some lists of actions.
+-- For the reader of places: what the definitions say of some lists of actions.
 use Rattle.std.proofs.Common.{◌≡◌, ℕ, List, [], ◌∷◌, ◌++◌, refl, subst, replicate, Some}
 use Rattle.tmpl_grammar.specs.declared.action.Branch.TheVariants.{If as if_branch}
-use Rattle.tmpl_syntax.specs.declared.fault.Fault.TheVariants.{NotAnAction, OutOfPlace, NestedTooDeeply, UndeclaredVariable}
-use Rattle.tmpl_grammar.specs.Tree.{Operand, dot, variable, operand, no_operand, command, no_command, Pipeline, pipeline, Binding, unbound, declare, assign, declare_pair, Header}
+use Rattle.tmpl_syntax.specs.Fault as reason
+use Rattle.tmpl_grammar.specs.Tree.{Operand, dot, variable, operand, no_operand, command, no_command, Pipeline, pipeline, Binding, unbound}
+use Rattle.tmpl_grammar.specs.Tree.{declare, assign, declare_pair, Header}
 use Rattle.tmpl_grammar.specs.declared.tree.Control.TheVariants as control
 use Rattle.tmpl_syntax.specs.Tree.{Nodes, none, then, text, action, control_node, break_node, template_node}
 use Rattle.tmpl_grammar.specs.Action.{pipeline_action, opening, plain_else, else_branch, end_action, break_action, define_action, template_action, block_action}
@@ -106,38 +107,38 @@ if-and-end : Says (if_it 1 ∷ puts 1 ∷ end_it 1 ∷ []) fine
 unfolding verdict_of
 if-and-end = says (if_it 1 ∷ puts 1 ∷ end_it 1 ∷ []) fine refl
 
-an-end-too-many : Says (if_it 1 ∷ end_it 1 ∷ word 1 ∷ end_it 1 ∷ []) (refused 3 OutOfPlace)
+an-end-too-many : Says (if_it 1 ∷ end_it 1 ∷ word 1 ∷ end_it 1 ∷ []) (refused 3 reason.out_of_place)
 unfolding verdict_of
-an-end-too-many = says (if_it 1 ∷ end_it 1 ∷ word 1 ∷ end_it 1 ∷ []) (refused 3 OutOfPlace) refl
+an-end-too-many = says (if_it 1 ∷ end_it 1 ∷ word 1 ∷ end_it 1 ∷ []) (refused 3 reason.out_of_place) refl
 
-a-second-else : Says (if_it 1 ∷ else_it 1 ∷ else_it 1 ∷ end_it 1 ∷ []) (refused 2 OutOfPlace)
+a-second-else : Says (if_it 1 ∷ else_it 1 ∷ else_it 1 ∷ end_it 1 ∷ []) (refused 2 reason.out_of_place)
 unfolding verdict_of
-a-second-else = says (if_it 1 ∷ else_it 1 ∷ else_it 1 ∷ end_it 1 ∷ []) (refused 2 OutOfPlace) refl
+a-second-else = says (if_it 1 ∷ else_it 1 ∷ else_it 1 ∷ end_it 1 ∷ []) (refused 2 reason.out_of_place) refl
 
-else-if-of-a-with : Says (with_it 1 ∷ else_if 1 ∷ end_it 1 ∷ []) (refused 1 OutOfPlace)
+else-if-of-a-with : Says (with_it 1 ∷ else_if 1 ∷ end_it 1 ∷ []) (refused 1 reason.out_of_place)
 unfolding verdict_of
-else-if-of-a-with = says (with_it 1 ∷ else_if 1 ∷ end_it 1 ∷ []) (refused 1 OutOfPlace) refl
+else-if-of-a-with = says (with_it 1 ∷ else_if 1 ∷ end_it 1 ∷ []) (refused 1 reason.out_of_place) refl
 
-break-in-an-if : Says (if_it 1 ∷ break_it 1 ∷ end_it 1 ∷ []) (refused 1 OutOfPlace)
+break-in-an-if : Says (if_it 1 ∷ break_it 1 ∷ end_it 1 ∷ []) (refused 1 reason.out_of_place)
 unfolding verdict_of
-break-in-an-if = says (if_it 1 ∷ break_it 1 ∷ end_it 1 ∷ []) (refused 1 OutOfPlace) refl
+break-in-an-if = says (if_it 1 ∷ break_it 1 ∷ end_it 1 ∷ []) (refused 1 reason.out_of_place) refl
 
-break-in-the-else-part : Says (range_it 1 ∷ else_it 1 ∷ break_it 1 ∷ end_it 1 ∷ []) (refused 2 OutOfPlace)
+break-in-the-else-part : Says (range_it 1 ∷ else_it 1 ∷ break_it 1 ∷ end_it 1 ∷ []) (refused 2 reason.out_of_place)
 unfolding verdict_of
-break-in-the-else-part = says (range_it 1 ∷ else_it 1 ∷ break_it 1 ∷ end_it 1 ∷ []) (refused 2 OutOfPlace) refl
+break-in-the-else-part = says (range_it 1 ∷ else_it 1 ∷ break_it 1 ∷ end_it 1 ∷ []) (refused 2 reason.out_of_place) refl
 
 -- .. but an outer range's body may hold it
 break-in-an-inner-else-part : Says (range_it 1 ∷ range_it 1 ∷ else_it 1 ∷ break_it 1 ∷ end_it 1 ∷ end_it 1 ∷ []) fine
 unfolding verdict_of
 break-in-an-inner-else-part = says (range_it 1 ∷ range_it 1 ∷ else_it 1 ∷ break_it 1 ∷ end_it 1 ∷ end_it 1 ∷ []) fine refl
 
-no-such-name : Says (declares y ∷ uses x ∷ []) (refused 1 UndeclaredVariable)
+no-such-name : Says (declares y ∷ uses x ∷ []) (refused 1 reason.undeclared_variable)
 unfolding verdict_of
-no-such-name = says (declares y ∷ uses x ∷ []) (refused 1 UndeclaredVariable) refl
+no-such-name = says (declares y ∷ uses x ∷ []) (refused 1 reason.undeclared_variable) refl
 
-assigned-before-it-is-there : Says (assigns x ∷ declares x ∷ []) (refused 0 UndeclaredVariable)
+assigned-before-it-is-there : Says (assigns x ∷ declares x ∷ []) (refused 0 reason.undeclared_variable)
 unfolding verdict_of
-assigned-before-it-is-there = says (assigns x ∷ declares x ∷ []) (refused 0 UndeclaredVariable) refl
+assigned-before-it-is-there = says (assigns x ∷ declares x ∷ []) (refused 0 reason.undeclared_variable) refl
 
 -- the variable of no name is always there
 dollar-alone : Says (uses [] ∷ []) fine
@@ -149,27 +150,27 @@ header-in-both-parts : Says (if_new x ∷ uses x ∷ else_if_uses x ∷ else_it 
 unfolding verdict_of
 header-in-both-parts = says (if_new x ∷ uses x ∷ else_if_uses x ∷ else_it 1 ∷ uses x ∷ end_it 1 ∷ []) fine refl
 
-first-part-alone : Says (if_it 1 ∷ declares x ∷ uses x ∷ else_it 1 ∷ uses x ∷ end_it 1 ∷ []) (refused 4 UndeclaredVariable)
+first-part-alone : Says (if_it 1 ∷ declares x ∷ uses x ∷ else_it 1 ∷ uses x ∷ end_it 1 ∷ []) (refused 4 reason.undeclared_variable)
 unfolding verdict_of
-first-part-alone = says (if_it 1 ∷ declares x ∷ uses x ∷ else_it 1 ∷ uses x ∷ end_it 1 ∷ []) (refused 4 UndeclaredVariable) refl
+first-part-alone = says (if_it 1 ∷ declares x ∷ uses x ∷ else_it 1 ∷ uses x ∷ end_it 1 ∷ []) (refused 4 reason.undeclared_variable) refl
 
-gone-after-the-end : Says (if_new x ∷ end_it 1 ∷ uses x ∷ []) (refused 2 UndeclaredVariable)
+gone-after-the-end : Says (if_new x ∷ end_it 1 ∷ uses x ∷ []) (refused 2 reason.undeclared_variable)
 unfolding verdict_of
-gone-after-the-end = says (if_new x ∷ end_it 1 ∷ uses x ∷ []) (refused 2 UndeclaredVariable) refl
+gone-after-the-end = says (if_new x ∷ end_it 1 ∷ uses x ∷ []) (refused 2 reason.undeclared_variable) refl
 
 -- a range's own are not seen in its else part
-range-names : Says (range_new y x ∷ uses y ∷ uses x ∷ else_it 1 ∷ uses y ∷ end_it 1 ∷ []) (refused 4 UndeclaredVariable)
+range-names : Says (range_new y x ∷ uses y ∷ uses x ∷ else_it 1 ∷ uses y ∷ end_it 1 ∷ []) (refused 4 reason.undeclared_variable)
 unfolding verdict_of
-range-names = says (range_new y x ∷ uses y ∷ uses x ∷ else_it 1 ∷ uses y ∷ end_it 1 ∷ []) (refused 4 UndeclaredVariable) refl
+range-names = says (range_new y x ∷ uses y ∷ uses x ∷ else_it 1 ∷ uses y ∷ end_it 1 ∷ []) (refused 4 reason.undeclared_variable) refl
 
 -- out of place comes before an unknown name, and the first action before a later one
-the-first-of-two : Says (else_if_uses x ∷ item 1 unreadable_item ∷ []) (refused 0 OutOfPlace)
+the-first-of-two : Says (else_if_uses x ∷ item 1 unreadable_item ∷ []) (refused 0 reason.out_of_place)
 unfolding verdict_of
-the-first-of-two = says (else_if_uses x ∷ item 1 unreadable_item ∷ []) (refused 0 OutOfPlace) refl
+the-first-of-two = says (else_if_uses x ∷ item 1 unreadable_item ∷ []) (refused 0 reason.out_of_place) refl
 
-no-reading : Says (if_it 1 ∷ item 1 unread_item ∷ end_it 1 ∷ end_it 1 ∷ []) (refused 1 NotAnAction)
+no-reading : Says (if_it 1 ∷ item 1 unread_item ∷ end_it 1 ∷ end_it 1 ∷ []) (refused 1 reason.not_an_action)
 unfolding verdict_of
-no-reading = says (if_it 1 ∷ item 1 unread_item ∷ end_it 1 ∷ end_it 1 ∷ []) (refused 1 NotAnAction) refl
+no-reading = says (if_it 1 ∷ item 1 unread_item ∷ end_it 1 ∷ end_it 1 ∷ []) (refused 1 reason.not_an_action) refl
 
 open-at-the-end : Says (if_it 1 ∷ else_if 1 ∷ with_it 1 ∷ end_it 1 ∷ []) left_open
 unfolding verdict_of
@@ -180,35 +181,35 @@ defines-beside-one-another : Says (define_it ∷ puts 1 ∷ end_it 1 ∷ word 1 
 unfolding verdict_of
 defines-beside-one-another = says (define_it ∷ puts 1 ∷ end_it 1 ∷ word 1 ∷ define_it ∷ end_it 1 ∷ []) fine refl
 
-a-define-inside-an-if : Says (if_it 1 ∷ define_it ∷ end_it 1 ∷ end_it 1 ∷ []) (refused 1 OutOfPlace)
+a-define-inside-an-if : Says (if_it 1 ∷ define_it ∷ end_it 1 ∷ end_it 1 ∷ []) (refused 1 reason.out_of_place)
 unfolding verdict_of
-a-define-inside-an-if = says (if_it 1 ∷ define_it ∷ end_it 1 ∷ end_it 1 ∷ []) (refused 1 OutOfPlace) refl
+a-define-inside-an-if = says (if_it 1 ∷ define_it ∷ end_it 1 ∷ end_it 1 ∷ []) (refused 1 reason.out_of_place) refl
 
-a-define-inside-a-define : Says (define_it ∷ define_it ∷ end_it 1 ∷ end_it 1 ∷ []) (refused 1 OutOfPlace)
+a-define-inside-a-define : Says (define_it ∷ define_it ∷ end_it 1 ∷ end_it 1 ∷ []) (refused 1 reason.out_of_place)
 unfolding verdict_of
-a-define-inside-a-define = says (define_it ∷ define_it ∷ end_it 1 ∷ end_it 1 ∷ []) (refused 1 OutOfPlace) refl
+a-define-inside-a-define = says (define_it ∷ define_it ∷ end_it 1 ∷ end_it 1 ∷ []) (refused 1 reason.out_of_place) refl
 
-a-define-inside-a-block : Says (block_it ∷ define_it ∷ end_it 1 ∷ end_it 1 ∷ []) (refused 1 OutOfPlace)
+a-define-inside-a-block : Says (block_it ∷ define_it ∷ end_it 1 ∷ end_it 1 ∷ []) (refused 1 reason.out_of_place)
 unfolding verdict_of
-a-define-inside-a-block = says (block_it ∷ define_it ∷ end_it 1 ∷ end_it 1 ∷ []) (refused 1 OutOfPlace) refl
+a-define-inside-a-block = says (block_it ∷ define_it ∷ end_it 1 ∷ end_it 1 ∷ []) (refused 1 reason.out_of_place) refl
 
 -- .. and a block anywhere
 a-block-inside-a-define : Says (define_it ∷ if_it 1 ∷ block_it ∷ puts 1 ∷ end_it 1 ∷ end_it 1 ∷ end_it 1 ∷ []) fine
 unfolding verdict_of
 a-block-inside-a-define = says (define_it ∷ if_it 1 ∷ block_it ∷ puts 1 ∷ end_it 1 ∷ end_it 1 ∷ end_it 1 ∷ []) fine refl
 
-an-else-of-a-define : Says (define_it ∷ else_it 1 ∷ end_it 1 ∷ []) (refused 1 OutOfPlace)
+an-else-of-a-define : Says (define_it ∷ else_it 1 ∷ end_it 1 ∷ []) (refused 1 reason.out_of_place)
 unfolding verdict_of
-an-else-of-a-define = says (define_it ∷ else_it 1 ∷ end_it 1 ∷ []) (refused 1 OutOfPlace) refl
+an-else-of-a-define = says (define_it ∷ else_it 1 ∷ end_it 1 ∷ []) (refused 1 reason.out_of_place) refl
 
-an-else-if-of-a-block : Says (if_it 1 ∷ block_it ∷ else_if 1 ∷ end_it 1 ∷ end_it 1 ∷ []) (refused 2 OutOfPlace)
+an-else-if-of-a-block : Says (if_it 1 ∷ block_it ∷ else_if 1 ∷ end_it 1 ∷ end_it 1 ∷ []) (refused 2 reason.out_of_place)
 unfolding verdict_of
-an-else-if-of-a-block = says (if_it 1 ∷ block_it ∷ else_if 1 ∷ end_it 1 ∷ end_it 1 ∷ []) (refused 2 OutOfPlace) refl
+an-else-if-of-a-block = says (if_it 1 ∷ block_it ∷ else_if 1 ∷ end_it 1 ∷ end_it 1 ∷ []) (refused 2 reason.out_of_place) refl
 
 -- a break inside a block needs a range inside it
-break-in-a-block : Says (range_it 1 ∷ block_it ∷ break_it 1 ∷ end_it 1 ∷ end_it 1 ∷ []) (refused 2 OutOfPlace)
+break-in-a-block : Says (range_it 1 ∷ block_it ∷ break_it 1 ∷ end_it 1 ∷ end_it 1 ∷ []) (refused 2 reason.out_of_place)
 unfolding verdict_of
-break-in-a-block = says (range_it 1 ∷ block_it ∷ break_it 1 ∷ end_it 1 ∷ end_it 1 ∷ []) (refused 2 OutOfPlace) refl
+break-in-a-block = says (range_it 1 ∷ block_it ∷ break_it 1 ∷ end_it 1 ∷ end_it 1 ∷ []) (refused 2 reason.out_of_place) refl
 
 break-in-a-range-in-a-block : Says (block_it ∷ range_it 1 ∷ break_it 1 ∷ end_it 1 ∷ end_it 1 ∷ []) fine
 unfolding verdict_of
@@ -219,13 +220,13 @@ unfolding verdict_of
 break-behind-a-block = says (range_it 1 ∷ block_it ∷ end_it 1 ∷ break_it 1 ∷ end_it 1 ∷ []) fine refl
 
 -- a block sees no name from outside, its own pipeline does, and behind it the name is known again
-no-name-from-outside-a-block : Says (declares x ∷ block_it ∷ uses x ∷ end_it 1 ∷ []) (refused 2 UndeclaredVariable)
+no-name-from-outside-a-block : Says (declares x ∷ block_it ∷ uses x ∷ end_it 1 ∷ []) (refused 2 reason.undeclared_variable)
 unfolding verdict_of
-no-name-from-outside-a-block = says (declares x ∷ block_it ∷ uses x ∷ end_it 1 ∷ []) (refused 2 UndeclaredVariable) refl
+no-name-from-outside-a-block = says (declares x ∷ block_it ∷ uses x ∷ end_it 1 ∷ []) (refused 2 reason.undeclared_variable) refl
 
-a-header-s-name-outside-a-block : Says (if_new x ∷ block_it ∷ uses x ∷ end_it 1 ∷ end_it 1 ∷ []) (refused 2 UndeclaredVariable)
+a-header-s-name-outside-a-block : Says (if_new x ∷ block_it ∷ uses x ∷ end_it 1 ∷ end_it 1 ∷ []) (refused 2 reason.undeclared_variable)
 unfolding verdict_of
-a-header-s-name-outside-a-block = says (if_new x ∷ block_it ∷ uses x ∷ end_it 1 ∷ end_it 1 ∷ []) (refused 2 UndeclaredVariable) refl
+a-header-s-name-outside-a-block = says (if_new x ∷ block_it ∷ uses x ∷ end_it 1 ∷ end_it 1 ∷ []) (refused 2 reason.undeclared_variable) refl
 
 the-pipeline-of-a-block : Says (declares x ∷ block_given x ∷ end_it 1 ∷ []) fine
 unfolding verdict_of
@@ -235,21 +236,22 @@ known-again-behind-a-block : Says (declares x ∷ block_it ∷ declares y ∷ us
 unfolding verdict_of
 known-again-behind-a-block = says (declares x ∷ block_it ∷ declares y ∷ uses y ∷ end_it 1 ∷ uses x ∷ []) fine refl
 
-gone-behind-a-block : Says (block_it ∷ declares y ∷ end_it 1 ∷ uses y ∷ []) (refused 3 UndeclaredVariable)
+gone-behind-a-block : Says (block_it ∷ declares y ∷ end_it 1 ∷ uses y ∷ []) (refused 3 reason.undeclared_variable)
 unfolding verdict_of
-gone-behind-a-block = says (block_it ∷ declares y ∷ end_it 1 ∷ uses y ∷ []) (refused 3 UndeclaredVariable) refl
+gone-behind-a-block = says (block_it ∷ declares y ∷ end_it 1 ∷ uses y ∷ []) (refused 3 reason.undeclared_variable) refl
 
-no-name-from-outside-a-define : Says (declares x ∷ define_it ∷ uses x ∷ end_it 1 ∷ []) (refused 2 UndeclaredVariable)
+no-name-from-outside-a-define : Says (declares x ∷ define_it ∷ uses x ∷ end_it 1 ∷ []) (refused 2 reason.undeclared_variable)
 unfolding verdict_of
-no-name-from-outside-a-define = says (declares x ∷ define_it ∷ uses x ∷ end_it 1 ∷ []) (refused 2 UndeclaredVariable) refl
+no-name-from-outside-a-define = says (declares x ∷ define_it ∷ uses x ∷ end_it 1 ∷ []) (refused 2 reason.undeclared_variable) refl
 
-a-block-in-a-first-part : Says (if_it 1 ∷ declares x ∷ block_it ∷ declares y ∷ end_it 1 ∷ uses x ∷ else_it 1 ∷ uses x ∷ end_it 1 ∷ []) (refused 7 UndeclaredVariable)
+a-block-in-a-first-part : Says (if_it 1 ∷ declares x ∷ block_it ∷ declares y ∷ end_it 1 ∷ uses x ∷ else_it 1 ∷ uses x ∷ end_it 1 ∷ []) (refused 7 reason.undeclared_variable)
 unfolding verdict_of
-a-block-in-a-first-part = says (if_it 1 ∷ declares x ∷ block_it ∷ declares y ∷ end_it 1 ∷ uses x ∷ else_it 1 ∷ uses x ∷ end_it 1 ∷ []) (refused 7 UndeclaredVariable) refl
+a-block-in-a-first-part =
+    says (if_it 1 ∷ declares x ∷ block_it ∷ declares y ∷ end_it 1 ∷ uses x ∷ else_it 1 ∷ uses x ∷ end_it 1 ∷ []) (refused 7 reason.undeclared_variable) refl
 
-the-pipeline-of-a-template : Says (runs_given x ∷ []) (refused 0 UndeclaredVariable)
+the-pipeline-of-a-template : Says (runs_given x ∷ []) (refused 0 reason.undeclared_variable)
 unfolding verdict_of
-the-pipeline-of-a-template = says (runs_given x ∷ []) (refused 0 UndeclaredVariable) refl
+the-pipeline-of-a-template = says (runs_given x ∷ []) (refused 0 reason.undeclared_variable) refl
 
 a-define-open-at-the-end : Says (define_it ∷ if_it 1 ∷ end_it 1 ∷ []) left_open
 unfolding verdict_of
@@ -260,9 +262,9 @@ as-many-levels-as-may-stand : Says (define_it ∷ replicate 500 block_it ++ repl
 unfolding verdict_of
 as-many-levels-as-may-stand = says (define_it ∷ replicate 500 block_it ++ replicate 501 (end_it 1)) fine refl
 
-a-level-too-many : Says (define_it ∷ replicate 501 block_it) (refused 501 NestedTooDeeply)
+a-level-too-many : Says (define_it ∷ replicate 501 block_it) (refused 501 reason.nested_too_deeply)
 unfolding verdict_of
-a-level-too-many = says (define_it ∷ replicate 501 block_it) (refused 501 NestedTooDeeply) refl
+a-level-too-many = says (define_it ∷ replicate 501 block_it) (refused 501 reason.nested_too_deeply) refl
 
 -- `{{if .}}w{{else if .}}{{.}}{{else}}w{{end}}{{.}}`, each on a line of its own
 abbrev chain : List Item

@@ -1,18 +1,19 @@
--- The check, from item to item.
-use Rattle.std.proofs.Common.{arith, ◌≡◌, ◌≢◌, ℕ, suc, ◌+◌, ◌<◌, ◌≤◌, List, [], ◌∷◌, refl, sym, ap, ◌∙◌, subst, length, map, drop, get_or, drop-cons, add-one, Option, Some, None, Ok, Err}
+-- For `check`: the verdict, from item to item.
+use Rattle.std.proofs.Common.{arith, ◌≡◌, ◌≢◌, ℕ, suc, ◌+◌, ◌<◌, ◌≤◌, List, [], ◌∷◌, refl, sym, ap, ◌∙◌, subst, length, map, drop, get_or}
+use Rattle.std.proofs.Common.{drop-cons, add-one, Option, Some, None, Ok, Err}
 use Rattle.std.specs.Prelude.{slice_get}
 use Rattle.std.specs.Option.{option_map}
 use Rattle.std.proofs.lemmas.List.{drop_all}
 use Rattle.std.proofs.lemmas.Option.{slice_get_read, slice_get_within, slice_get-map, get_or_from_slice_get}
-use Rattle.tmpl_syntax.specs.declared.fault.Fault.{Fault}
-use Rattle.tmpl_syntax.specs.declared.place.frame.Frame.{Frame}
+use Rattle.tmpl_syntax.specs.computed.Frames.{Frame}
 use Rattle.tmpl_syntax.specs.declared.item.Item as held
-use Rattle.tmpl_syntax.specs.Fault.{Reason, of_action, open_at_end}
+use Rattle.tmpl_syntax.specs.Fault.{Reason, open_at_end}
 use Rattle.tmpl_syntax.specs.Item.{Item}
-use Rattle.tmpl_syntax.specs.View.{item_of}
+use Rattle.tmpl_syntax.specs.computed.View.{item_of}
 use Rattle.tmpl_syntax.specs.Place.Role.{Name, Role, role_of, roles_of}
 use Rattle.tmpl_syntax.specs.Place.Body.{Verdict, fine, refused, left_open}
-use Rattle.tmpl_syntax.specs.computed.Frames.{top, seen_at, fault_at, frames_past, at_end, Known, with_inner, known_past, none_known, unless_fault, verdict_from, verdict_of}
+use Rattle.tmpl_syntax.specs.computed.Frames.{top, seen_at, fault_at, frames_past, at_end, Known, with_inner, known_past, none_known}
+use Rattle.tmpl_syntax.specs.computed.Frames.{unless_fault, verdict_from, verdict_of}
 use Rattle.tmpl_syntax.specs.computed.Parse.{IsRefusal, line_in, by_verdict, checked}
 use Rattle.tmpl_syntax.specs.Parse.{last_line}
 use Rattle.tmpl_syntax.proofs.FaultLemmas.{TellsRole, tells}
@@ -42,8 +43,11 @@ module _ (xs : List Role) (i : ℕ) (known : Known) (fs : List Frame) (x : Role)
   abbrev next : List Name → Known
   next names = known_past x (top fs) (with_inner known names)
 
-  here : (o : Option Fault) → fault_at x (top fs) seen ≡ o → verdict_of xs ≡ unless_fault o i (verdict_from (i + 1) (frames_past x fs (length seen)) (next seen) (drop (i + 1) xs))
-  here o e = c.goes ∙ ap (verdict_from i fs known) (drop-at xs i x at) ∙ ap (λ p. unless_fault p i (verdict_from (i + 1) (frames_past x fs (length seen)) (next seen) (drop (i + 1) xs))) e
+  here : (o : Option Reason) → fault_at x (top fs) seen ≡ o
+      → verdict_of xs ≡ unless_fault o i (verdict_from (i + 1) (frames_past x fs (length seen)) (next seen) (drop (i + 1) xs))
+  here o e =
+      c.goes ∙ ap (verdict_from i fs known) (drop-at xs i x at)
+      ∙ ap (λ p. unless_fault p i (verdict_from (i + 1) (frames_past x fs (length seen)) (next seen) (drop (i + 1) xs))) e
 
   past : fault_at x (top fs) seen ≡ None → IsChecking xs (i + 1) (next seen) (frames_past x fs (length seen))
   past none = record {
@@ -55,7 +59,7 @@ module _ (xs : List Role) (i : ℕ) (known : Known) (fs : List Frame) (x : Role)
     sees' : ms ≡ seen
     sees' = sees ∙ ap (λ u. seen_at x u known.inner) same
 
-    fault-same : (o : Option Fault) → fault_at x t ms ≡ o → fault_at x (top fs) seen ≡ o
+    fault-same : (o : Option Reason) → fault_at x t ms ≡ o → fault_at x (top fs) seen ≡ o
     fault-same o e = sym (ap (λ u. fault_at x u ms) same ∙ ap (fault_at x (top fs)) sees') ∙ e
 
     pub checking-past : (k : Known) (gs : List Frame) → k ≡ next ms → gs ≡ frames_past x fs (length ms) → fault_at x t ms ≡ None → IsChecking xs (i + 1) k gs
@@ -63,7 +67,7 @@ module _ (xs : List Role) (i : ℕ) (known : Known) (fs : List Frame) (x : Role)
         subst (λ n. IsChecking xs (i + 1) n gs) (sym (e ∙ ap next sees'))
         (subst (λ s. IsChecking xs (i + 1) (next seen) s) (sym (f ∙ ap (λ l. frames_past x fs (length l)) sees')) (past (fault-same None none)))
 
-    pub checking-refused : (f : Fault) → fault_at x t ms ≡ Some f → verdict_of xs ≡ refused i f
+    pub checking-refused : (f : Reason) → fault_at x t ms ≡ Some f → verdict_of xs ≡ refused i f
     checking-refused f e = here (Some f) (fault-same (Some f) e)
 
 -- the item at a place, as it is held and by its role
@@ -84,10 +88,11 @@ module _ (bytes : List ℕ) (items : List Item) where
   unfolding checked
   by v e = ap (by_verdict (last_line bytes) items) e
 
-  pub checked-refused : (i : ℕ) (x : Item) (f : Fault) (line : ℕ) (o : Option Reason) → slice_get items i ≡ Some x → verdict_of (roles_of items) ≡ refused i f → line ≡ line_in (Some x) → o ≡ Some (of_action f) → IsRefusal (checked bytes items) line o
+  pub checked-refused : (i : ℕ) (x : Item) (f : Reason) (line : ℕ) (o : Option Reason) → slice_get items i ≡ Some x
+      → verdict_of (roles_of items) ≡ refused i f → line ≡ line_in (Some x) → o ≡ Some f → IsRefusal (checked bytes items) line o
   checked-refused i x f line o at e is named =
       subst (λ n. IsRefusal (checked bytes items) n o) (sym is) (subst (λ z. IsRefusal (checked bytes items) (line_in (Some x)) z) (sym named)
-      (by (refused i f) e ∙ ap (λ y. Err (line_in y, of_action f)) at))
+      (by (refused i f) e ∙ ap (λ y. Err (line_in y, f)) at))
 
   pub checked-fine : (fs : List Frame) → length fs ≡ 0 → verdict_of (roles_of items) ≡ at_end fs → checked bytes items ≡ Ok tt
   checked-fine [] n e = by fine e

@@ -1,4 +1,4 @@
--- How often each name is there.
+-- For `KnownNames`: how often each name is there.
 use Rattle.std.proofs.Common.{arith, ◌≡◌, ℕ, ◌+◌, ◌-◌, Bool, true, false, cond, List, [], ◌∷◌, ◌||◌, refl, sym, ap, ◌∙◌, map, Bor, Option, Some, ltb, zero-add}
 use Rattle.std.specs.List.{list_any, count_by}
 use Rattle.std.specs.Option.{unwrap_or}
@@ -25,14 +25,16 @@ module _ (m n : BTreeMap (Bor (List ℕ)) ℕ) (name q : List ℕ) where
   same-name : bytes_eq name q ≡ true → count_of m name ≡ count_of m q
   same-name e = ap (count_of m) ((bytes_eq-Decides name q).0 e)
 
-  pub counted-in : (k : ℕ) → k ≡ count_of m name → value_at n q ≡ update bytes_eq (value_at m) name (Some (k + 1)) q → count_of n q ≡ count_of m q + one_if (bytes_eq name q)
+  pub counted-in : (k : ℕ) → k ≡ count_of m name → value_at n q ≡ update bytes_eq (value_at m) name (Some (k + 1)) q
+      → count_of n q ≡ count_of m q + one_if (bytes_eq name q)
   counted-in k e u = go (bytes_eq name q) refl u
     where
       go : (b : Bool) → bytes_eq name q ≡ b → value_at n q ≡ cond b (Some (k + 1)) (value_at m q) → count_of n q ≡ count_of m q + one_if b
       go true s h = changed true (k + 1) s h ∙ ap (λ c. c + 1) (e ∙ same-name s)
       go false s h = let r : count_of n q ≡ count_of m q = changed false (k + 1) s h in omega arith
 
-  pub counted-out : (k : ℕ) → value_at m name ≡ Some k → value_at n q ≡ update bytes_eq (value_at m) name (Some (k - 1)) q → count_of n q ≡ count_of m q - one_if (bytes_eq name q)
+  pub counted-out : (k : ℕ) → value_at m name ≡ Some k → value_at n q ≡ update bytes_eq (value_at m) name (Some (k - 1)) q
+      → count_of n q ≡ count_of m q - one_if (bytes_eq name q)
   counted-out k e u = go (bytes_eq name q) refl u
     where
       go : (b : Bool) → bytes_eq name q ≡ b → value_at n q ≡ cond b (Some (k - 1)) (value_at m q) → count_of n q ≡ count_of m q - one_if b
@@ -48,10 +50,12 @@ swapped a b = go (bytes_eq a b) (bytes_eq b a) refl refl
     go false false e f = refl
 
 -- one that is counted is there
-pub is-there : (name : List ℕ) (names : List (Bor (List ℕ))) → ltb 0 (count_by (λ n. bytes_eq n.now name) names) ≡ list_any (bytes_eq name) (map (λ (n : Bor (List ℕ)). n.now) names)
+pub is-there : (name : List ℕ) (names : List (Bor (List ℕ)))
+    → ltb 0 (count_by (λ n. bytes_eq n.now name) names) ≡ list_any (bytes_eq name) (map (λ (n : Bor (List ℕ)). n.now) names)
 is-there name [] = refl
 is-there name (n ∷ ns) = ap (ltb 0) (sum_by-append (λ (m : Bor (List ℕ)). cond (bytes_eq m.now name) 1 0) (n ∷ []) ns ∙ ap (λ k. k + count_by (λ (m : Bor (List ℕ)). bytes_eq m.now name) ns) (zero-add (cond (bytes_eq n.now name) 1 0))) ∙ go (bytes_eq n.now name) (count_by (λ n. bytes_eq n.now name) ns) (is-there name ns) ∙ ap (λ b. b || list_any (bytes_eq name) (map (λ (n : Bor (List ℕ)). n.now) ns)) (swapped n.now name)
   where
-    go : (b : Bool) (k : ℕ) → ltb 0 k ≡ list_any (bytes_eq name) (map (λ (n : Bor (List ℕ)). n.now) ns) → ltb 0 (cond b 1 0 + k) ≡ (b || list_any (bytes_eq name) (map (λ (n : Bor (List ℕ)). n.now) ns))
+    go : (b : Bool) (k : ℕ) → ltb 0 k ≡ list_any (bytes_eq name) (map (λ (n : Bor (List ℕ)). n.now) ns)
+        → ltb 0 (cond b 1 0 + k) ≡ (b || list_any (bytes_eq name) (map (λ (n : Bor (List ℕ)). n.now) ns))
     go true k e = lt-ltb 0 (1 + k) (omega arith)
     go false k e = ap (ltb 0) (zero-add k) ∙ e

@@ -1,12 +1,13 @@
--- What stands after an else, an else if, an end, and an action that changes no frame.
-use Rattle.std.proofs.Common.{arith, ◌≡◌, ◌≢◌, ℕ, ◌+◌, Bool, true, false, not, List, [], ◌∷◌, ◌++◌, refl, sym, ap, ◌∙◌, subst, length, take, add-zero, Some, inl, inr, ⊎_elim, ◌⊎◌}
+-- For `one_verdict`: what stands after an else, an else branch, an end, and what changes no frame.
+use Rattle.std.proofs.Common.{arith, ◌≡◌, ◌≢◌, ℕ, ◌+◌, Bool, true, false, not, List, [], ◌∷◌, ◌++◌, refl, sym, ap, ◌∙◌, subst, length, take}
+use Rattle.std.proofs.Common.{add-zero, Some, inl, inr, ⊎_elim, ◌⊎◌}
 use Rattle.std.specs.Prelude.{slice_get, Contains}
 use Rattle.std.proofs.lemmas.Bool.{cases_lt, and_parts, not-true}
 use Rattle.std.proofs.lemmas.Bool.Decides.{Decides-like}
 use Rattle.std.proofs.lemmas.List.{append-nil}
 use Rattle.tmpl_grammar.specs.declared.action.Branch.{Branch}
 use Rattle.tmpl_grammar.specs.declared.action.Branch.TheVariants.{If as if_branch, With as with_branch}
-use Rattle.tmpl_syntax.specs.declared.place.frame.Frame.{Frame}
+use Rattle.tmpl_syntax.specs.computed.Frames.{Frame}
 use Rattle.tmpl_syntax.specs.Place.Open.{opens, ends, NothingOpen, IsLast, IsElseOf, IsElseBranchOf, HasElse, is_template}
 use Rattle.tmpl_syntax.specs.Place.Body.{joins, is_level}
 use Rattle.tmpl_syntax.specs.computed.Frames.{top, loops, elsed, branched, takes_else, Known, with_inner}
@@ -16,9 +17,9 @@ use Rattle.tmpl_syntax.proofs.ScopeLemmas.{Reaches, from_top, from_inside, from_
 use Rattle.tmpl_syntax.proofs.ElsePartLemmas.{Part, earlier, header, branch_header, part-sooner, by_else, by_else_branch}
 use Rattle.tmpl_syntax.proofs.StandLemmas.{Here, closed_at, Stands, here-of, stands-moves}
 use Rattle.tmpl_syntax.proofs.StepLemmas.{changed, stands-parted}
-use Rattle.tmpl_syntax.specs.declared.place.frame.Opening.{Opening}
-use Rattle.tmpl_syntax.specs.declared.place.frame.Opening.TheVariants as opened
-use Rattle.tmpl_grammar.specs.declared.tree.Control.TheVariants.{If, With, Range}
+use Rattle.tmpl_syntax.specs.Place.Opening.{Opening}
+use Rattle.tmpl_syntax.specs.Place.Opening as opened
+use Rattle.tmpl_grammar.specs.declared.tree.Control.TheVariants.{Range}
 use Rattle.tmpl_syntax.specs.Place.Role.{Name, Names, plain, opener, bare_else, branch_else, closer, Role, act_role}
 use Rattle.tmpl_syntax.proofs.FaultLemmas.{in-nothing}
 
@@ -26,34 +27,32 @@ pub else-parts : (f : Frame) → takes_else (Some f) ≡ true → (is_template f
 else-parts f e = let a = and_parts (not (is_template f.opening)) (not f.has_else) e in (not-true (is_template f.opening) a.0, not-true f.has_else a.1)
 
 loops-else : (c : Opening) (a : Bool) → is_template c ≡ false → loops c true a ≡ a
-loops-else (opened.Control If) a own = refl
-loops-else (opened.Control With) a own = refl
-loops-else (opened.Control Range) a own = refl
-loops-else opened.Define a own = let g : true ≡ false = own in cc
-loops-else opened.Block a own = let g : true ≡ false = own in cc
+loops-else (opened.control Range) a own = refl
+loops-else (opened.control _) a own = refl
+loops-else _ a own = let g : true ≡ false = own in cc
 
-loops-other : (c : Opening) (h a : Bool) → is_template c ≡ false → c ≢ opened.Control Range → loops c h a ≡ a
-loops-other (opened.Control If) h a own nr = refl
-loops-other (opened.Control With) h a own nr = refl
-loops-other (opened.Control Range) h a own nr = absurd (nr refl)
-loops-other opened.Define h a own nr = let g : true ≡ false = own in cc
-loops-other opened.Block h a own nr = let g : true ≡ false = own in cc
+loops-other : (c : Opening) (h a : Bool) → is_template c ≡ false → c ≢ opened.control Range → loops c h a ≡ a
+loops-other (opened.control Range) h a own nr = absurd (nr refl)
+loops-other opened.define h a own nr = let g : true ≡ false = own in cc
+loops-other opened.block h a own nr = let g : true ≡ false = own in cc
+loops-other _ h a own nr = refl
 
 -- a control is a level
 pub level-there : (c : Opening) → is_template c ≡ false → is_level c ≡ true
-level-there (opened.Control c) e = refl
-level-there opened.Define e = let g : true ≡ false = e in cc
-level-there opened.Block e = refl
+level-there opened.define e = let g : true ≡ false = e in cc
+level-there _ e = refl
 
 -- no else that opens a level is one of a range
-joins-range : (b : Branch) → joins b (opened.Control Range) ≡ false
+joins-range : (b : Branch) → joins b (opened.control Range) ≡ false
 joins-range if_branch = refl
 joins-range with_branch = refl
 
-pub joins-no-range : (b : Branch) (c : Opening) → joins b c ≡ true → c ≢ opened.Control Range
+pub joins-no-range : (b : Branch) (c : Opening) → joins b c ≡ true → c ≢ opened.control Range
 joins-no-range b c j e = let t : true ≡ false = sym j ∙ ap (joins b) e ∙ joins-range b in cc
 
-pub stands-elsed : (xs : List Role) (i : ℕ) (known : Known) (f : Frame) (fs : List Frame) → slice_get xs i ≡ Some (act_role bare_else) → takes_else (Some f) ≡ true → Stands xs i known (f ∷ fs) → Stands xs (i + 1) (with_inner known (take f.part known.inner)) (elsed f ∷ fs)
+pub stands-elsed : (xs : List Role) (i : ℕ) (known : Known) (f : Frame) (fs : List Frame) → slice_get xs i ≡ Some (act_role bare_else)
+    → takes_else (Some f) ≡ true → Stands xs i known (f ∷ fs)
+    → Stands xs (i + 1) (with_inner known (take f.part known.inner)) (elsed f ∷ fs)
 stands-elsed xs i known f fs at takes s =
     let own = (else-parts f takes).0 in
     let el : IsElseOf xs s.1 i = record { at = at; belongs = s.2.last } in
@@ -71,12 +70,16 @@ stands-elsed xs i known f fs at takes s =
 
 module _ (xs : List Role) (i : ℕ) (b : Branch) (p : Names) (at : slice_get xs i ≡ Some (act_role (branch_else b p))) where
   same-pipe : (d : Branch) (q : Names) → slice_get xs i ≡ Some (act_role (branch_else d q)) → p ≡ q
-  same-pipe d q e = let g : act_role (branch_else b p) ≡ act_role (branch_else d q) = same-piece xs i (act_role (branch_else b p)) (act_role (branch_else d q)) at e in cc
+  same-pipe d q e =
+      let g : act_role (branch_else b p) ≡ act_role (branch_else d q) = same-piece xs i (act_role (branch_else b p)) (act_role (branch_else d q)) at e in cc
 
   else_branch-declares : (n : Name) → Reaches xs i (i + 1) (i + 1) n → Contains p.declares n
-  else_branch-declares n (from_top {p = q} e c z) = let g : act_role (branch_else b p) ≡ act_role (plain q) = same-piece xs i (act_role (branch_else b p)) (act_role (plain q)) at e in cc
-  else_branch-declares n (from_inside {p = q} e c l o ne nt) = let g : act_role (branch_else b p) ≡ act_role (plain q) = same-piece xs i (act_role (branch_else b p)) (act_role (plain q)) at e in cc
-  else_branch-declares n (from_header {c = d} {p = q} e c o r) = let g : act_role (branch_else b p) ≡ act_role (opener d q) = same-piece xs i (act_role (branch_else b p)) (act_role (opener d q)) at e in cc
+  else_branch-declares n (from_top {p = q} e c z) =
+      let g : act_role (branch_else b p) ≡ act_role (plain q) = same-piece xs i (act_role (branch_else b p)) (act_role (plain q)) at e in cc
+  else_branch-declares n (from_inside {p = q} e c l o ne nt) =
+      let g : act_role (branch_else b p) ≡ act_role (plain q) = same-piece xs i (act_role (branch_else b p)) (act_role (plain q)) at e in cc
+  else_branch-declares n (from_header {c = d} {p = q} e c o r) =
+      let g : act_role (branch_else b p) ≡ act_role (opener d q) = same-piece xs i (act_role (branch_else b p)) (act_role (opener d q)) at e in cc
   else_branch-declares n (from_else_branch {c = d} {p = q} e c l o) = subst (λ z. Contains z.declares n) (sym (same-pipe d q e)) c
 
   else_branch-part : (j : ℕ) (n : Name) → Part xs j (i + 1) n → Part xs j i n ⊎ Contains p.declares n
@@ -92,7 +95,10 @@ module _ (xs : List Role) (i : ℕ) (b : Branch) (p : Names) (at : slice_get xs 
       (λ ge. let u = h.1 in let s : h.0 ≡ i = omega arith in let g : act_role (branch_else b p) ≡ act_role bare_else = same-piece xs i (act_role (branch_else b p)) (act_role bare_else) at (subst (λ z. slice_get xs z ≡ Some (act_role bare_else)) s h.2.at) in cc)
       (cases_lt h.0 i)
 
-pub stands-branched : (xs : List Role) (i : ℕ) (known : Known) (f : Frame) (fs : List Frame) (b : Branch) (p : Names) → slice_get xs i ≡ Some (act_role (branch_else b p)) → takes_else (Some f) ≡ true → joins b f.opening ≡ true → Stands xs i known (f ∷ fs) → Stands xs (i + 1) (with_inner known (take f.part known.inner ++ p.declares)) (branched f (f.part + length p.declares) ∷ fs)
+pub stands-branched : (xs : List Role) (i : ℕ) (known : Known) (f : Frame) (fs : List Frame) (b : Branch) (p : Names)
+    → slice_get xs i ≡ Some (act_role (branch_else b p)) → takes_else (Some f) ≡ true → joins b f.opening ≡ true
+    → Stands xs i known (f ∷ fs)
+    → Stands xs (i + 1) (with_inner known (take f.part known.inner ++ p.declares)) (branched f (f.part + length p.declares) ∷ fs)
 stands-branched xs i known f fs b p at takes joined s =
     let own = (else-parts f takes).0 in
     let even = even-step xs (act_role (branch_else b p)) i at refl refl in
@@ -107,7 +113,8 @@ stands-branched xs i known f fs b p at takes joined s =
     (λ n c. branch_header (omega arith) at c s.2.last)
     (else_branch-part xs i b p at s.1)
 
-pub stands-ended : (xs : List Role) (i : ℕ) (known : Known) (f : Frame) (fs : List Frame) → slice_get xs i ≡ Some (act_role closer) → Stands xs i known (f ∷ fs) → Stands xs (i + 1) (closed_at f known) fs
+pub stands-ended : (xs : List Role) (i : ℕ) (known : Known) (f : Frame) (fs : List Frame) → slice_get xs i ≡ Some (act_role closer)
+    → Stands xs i known (f ∷ fs) → Stands xs (i + 1) (closed_at f known) fs
 stands-ended xs i known f fs at s =
     let same = same-ended xs s.1 i s.2.last s.2.over at in
     let back = closed_at f known in
@@ -125,7 +132,8 @@ pub last-of : (xs : List Role) (i : ℕ) (known : Known) (fs : List Frame) → S
 last-of xs i known [] s = inl s.0
 last-of xs i known (f ∷ fs) s = inr (s.1, s.2.last)
 
-pub stands-declared : (xs : List Role) (i : ℕ) (known : Known) (p : Names) (fs : List Frame) → slice_get xs i ≡ Some (act_role (plain p)) → Stands xs i known fs → Stands xs (i + 1) (with_inner known (known.inner ++ p.declares)) fs
+pub stands-declared : (xs : List Role) (i : ℕ) (known : Known) (p : Names) (fs : List Frame) → slice_get xs i ≡ Some (act_role (plain p))
+    → Stands xs i known fs → Stands xs (i + 1) (with_inner known (known.inner ++ p.declares)) fs
 stands-declared xs i known p fs at s = stands-moves xs i (i + 1) same known p.declares new (λ n b ge. let u = b.before in let e : b.by ≡ i = omega arith in old n (subst (λ k. Reaches xs k (i + 1) (i + 1) n) e b.reaches)) fs s
   where
     same : Same xs i (i + 1)
@@ -146,10 +154,15 @@ stands-declared xs i known p fs at s = stands-moves xs i (i + 1) same known p.de
     old : (n : Name) → Reaches xs i (i + 1) (i + 1) n → Contains p.declares n
     old n (from_top {p = q} e c z) = subst (λ z. Contains z.declares n) (sym (same-pipe q e)) c
     old n (from_inside {p = q} e c l o ne nt) = subst (λ z. Contains z.declares n) (sym (same-pipe q e)) c
-    old n (from_header {c = d} {p = q} e c o r) = let g : act_role (plain p) ≡ act_role (opener d q) = same-piece xs i (act_role (plain p)) (act_role (opener d q)) at e in cc
-    old n (from_else_branch {c = d} {p = q} e c l o) = let g : act_role (plain p) ≡ act_role (branch_else d q) = same-piece xs i (act_role (plain p)) (act_role (branch_else d q)) at e in cc
+    old n (from_header {c = d} {p = q} e c o r) =
+        let g : act_role (plain p) ≡ act_role (opener d q) = same-piece xs i (act_role (plain p)) (act_role (opener d q)) at e in cc
+    old n (from_else_branch {c = d} {p = q} e c l o) =
+        let g : act_role (plain p) ≡ act_role (branch_else d q) = same-piece xs i (act_role (plain p)) (act_role (branch_else d q)) at e in cc
 
-pub stands-still : (xs : List Role) (i : ℕ) (known : Known) (x : Role) (fs : List Frame) → slice_get xs i ≡ Some x → opens x ≡ false → ends x ≡ false → x ≢ act_role bare_else → ((p : Names) → x ≢ act_role (plain p)) → ((c : Opening) (p : Names) → x ≢ act_role (opener c p)) → ((b : Branch) (p : Names) → x ≢ act_role (branch_else b p)) → Stands xs i known fs → Stands xs (i + 1) known fs
+pub stands-still : (xs : List Role) (i : ℕ) (known : Known) (x : Role) (fs : List Frame) → slice_get xs i ≡ Some x → opens x ≡ false
+    → ends x ≡ false → x ≢ act_role bare_else → ((p : Names) → x ≢ act_role (plain p))
+    → ((c : Opening) (p : Names) → x ≢ act_role (opener c p)) → ((b : Branch) (p : Names) → x ≢ act_role (branch_else b p))
+    → Stands xs i known fs → Stands xs (i + 1) known fs
 stands-still xs i known x fs at o e ne np nopen nt s =
     subst (λ l. Stands xs (i + 1) (with_inner known l) fs) (append-nil known.inner)
     (stands-moves xs i (i + 1) (same-still xs x i at o e ne nt) known [] (λ n c. in-nothing n c)

@@ -1,4 +1,4 @@
--- What a further part of a control sees.
+-- For `one_verdict`: what a further part of a control sees.
 use Rattle.std.proofs.Common.{arith, ◌≡◌, ℕ, ◌+◌, ◌<◌, ◌≤◌, false, List, refl, sym, ap, ◌∙◌, subst, Option, Some, ⊎_elim}
 use Rattle.std.specs.Prelude.{slice_get, Contains}
 use Rattle.std.proofs.lemmas.Bool.{cases_order, cases_lt}
@@ -7,16 +7,18 @@ use Rattle.tmpl_syntax.specs.Place.Open.{opens, IsOpening, IsOpen, IsLast, IsEls
 use Rattle.tmpl_syntax.proofs.OpenLemmas.{same-opening, cut, through, shut-at}
 use Rattle.tmpl_syntax.proofs.PlaceLemmas.{alike-back, alike-last, one-moves, template-moves, else_before}
 use Rattle.tmpl_syntax.proofs.ScopeLemmas.{Reaches, from_top, from_inside, from_header, from_else_branch, Brought, reaches-moves}
-use Rattle.tmpl_syntax.specs.declared.place.frame.Opening.{Opening}
-use Rattle.tmpl_syntax.specs.declared.place.frame.Opening.TheVariants as opened
+use Rattle.tmpl_syntax.specs.Place.Opening.{Opening}
+use Rattle.tmpl_syntax.specs.Place.Opening as opened
 use Rattle.tmpl_grammar.specs.declared.tree.Control.TheVariants.{Range}
 use Rattle.tmpl_syntax.specs.Place.Role.{Name, Names, plain, opener, bare_else, branch_else, Role, act_role}
 
 -- what an else part of the opening at j sees, were it to begin at h
 pub data Part (xs : List Role) (j h : ℕ) (name : Name) : Type 0 where
   earlier : Brought xs j j name → Part xs j h name
-  header : {c : Opening} {p : Names} → slice_get xs j ≡ Some (act_role (opener c p)) → Contains p.declares name → (c ≡ opened.Control Range → ⊥) → Part xs j h name
-  branch_header : {k : ℕ} {b : Branch} {p : Names} → k < h → slice_get xs k ≡ Some (act_role (branch_else b p)) → Contains p.declares name → IsLast xs j k → Part xs j h name
+  header : {c : Opening} {p : Names} → slice_get xs j ≡ Some (act_role (opener c p)) → Contains p.declares name
+      → (c ≡ opened.control Range → ⊥) → Part xs j h name
+  branch_header : {k : ℕ} {b : Branch} {p : Names} → k < h → slice_get xs k ≡ Some (act_role (branch_else b p)) → Contains p.declares name
+      → IsLast xs j k → Part xs j h name
 
 -- a later beginning, with no else if of it between
 pub part-later : (xs : List Role) (j h m : ℕ) (n : Name) → h ≤ m → Part xs j h n → Part xs j m n
@@ -27,7 +29,8 @@ part-later xs j h m n le (branch_header lt at c l) = branch_header (omega arith)
 pub part-sooner : (xs : List Role) (j h m : ℕ) (n : Name) → ((k : ℕ) → h ≤ k → k < m → IsElseBranchOf xs j k → ⊥) → Part xs j m n → Part xs j h n
 part-sooner xs j h m n none (earlier b) = earlier b
 part-sooner xs j h m n none (header at c r) = header at c r
-part-sooner xs j h m n none (branch_header {k = k} {b = b} {p = p} lt at c l) = ⊎_elim (λ low. branch_header low at c l) (λ high. absurd (none k high lt (record { branch = b; names = p; at = at; belongs = l }))) (cases_lt k h)
+part-sooner xs j h m n none (branch_header {k = k} {b = b} {p = p} lt at c l) =
+    ⊎_elim (λ low. branch_header low at c l) (λ high. absurd (none k high lt (record { branch = b; names = p; at = at; belongs = l }))) (cases_lt k h)
 
 -- an else or else if of the opening at j, at h
 pub data IsPartAt (xs : List Role) (j h : ℕ) : Type 0 where
@@ -40,7 +43,7 @@ pub record BroughtFrom (xs : List Role) (h a b : ℕ) (name : Name) : Type 0 whe
   pub template : OfOneTemplate xs by a
   pub reaches : Reaches xs by a b name
 
-module _ (xs : List Role) (j h a b : ℕ) (l : IsLast xs j a) (own : is_template l.is_open.opened ≡ false) (part : IsPartAt xs j h) (jh : j < h) (ha : h ≤ a) (hb : h < b) (ba : b ≤ a + 1) (ranged : l.is_open.opened ≡ opened.Control Range → HasElse xs j a) where
+module _ (xs : List Role) (j h a b : ℕ) (l : IsLast xs j a) (own : is_template l.is_open.opened ≡ false) (part : IsPartAt xs j h) (jh : j < h) (ha : h ≤ a) (hb : h < b) (ba : b ≤ a + 1) (ranged : l.is_open.opened ≡ opened.control Range → HasElse xs j a) where
   at-opening : (x : Role) → slice_get xs j ≡ Some x → opens x ≡ false → ⊥
   at-opening x at shut = shut-at xs x j a at shut l.is_open
 
@@ -73,7 +76,8 @@ module _ (xs : List Role) (j h a b : ℕ) (l : IsLast xs j a) (own : is_template
   at-j : (n : Name) → Reaches xs j a b n → Part xs j h n
   at-j n (from_top {p = p} e c z) = absurd (at-opening (act_role (plain p)) e refl)
   at-j n (from_inside {p = p} e c lq o ne nt) = absurd (at-opening (act_role (plain p)) e refl)
-  at-j n (from_header {c = d} {p = p} e c o r) = header e c (λ is. r is (ranged (same-opening xs j l.is_open.opened d l.is_open.at (subst (λ z. IsOpening z d) (sym e) refl) ∙ is)))
+  at-j n (from_header {c = d} {p = p} e c o r) =
+      header e c (λ is. r is (ranged (same-opening xs j l.is_open.opened d l.is_open.at (subst (λ z. IsOpening z d) (sym e) refl) ∙ is)))
   at-j n (from_else_branch {c = d} {p = p} e c lq o) = absurd (at-opening (act_role (branch_else d p)) e refl)
 
   after-j : (k : ℕ) (n : Name) → j < k → k < h → Reaches xs k a b n → Part xs j h n
@@ -82,7 +86,8 @@ module _ (xs : List Role) (j h a b : ℕ) (l : IsLast xs j a) (own : is_template
       let s : q ≡ j = not-both k q jk (omega arith) lq o in
       absurd (cuts h refl part (λ p. ne h kh hb (subst (λ z. IsElseOf xs z h) (sym s) p)) (λ p. nt h kh hb (subst (λ z. IsElseBranchOf xs z h) (sym s) p)))
   after-j k n jk kh (from_header e c o r) = absurd (l.last k jk o)
-  after-j k n jk kh (from_else_branch {j = q} e c lq o) = let s : q ≡ j = not-both k q jk (omega arith) lq o in branch_header kh e c (subst (λ z. IsLast xs z k) s lq)
+  after-j k n jk kh (from_else_branch {j = q} e c lq o) =
+      let s : q ≡ j = not-both k q jk (omega arith) lq o in branch_header kh e c (subst (λ z. IsLast xs z k) s lq)
 
   -- what is brought there, by an action before h, is what the part sees
   pub to-part : (n : Name) → BroughtFrom xs h a b n → Part xs j h n

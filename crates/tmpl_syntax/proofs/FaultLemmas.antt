@@ -1,13 +1,13 @@
--- What the fault of an item says, and the places that a frame holds.
+-- For `one_verdict`: what the reason that is found at an item says, and the places that a frame holds.
 use Rattle.std.proofs.Common.{arith, ◌≡◌, ℕ, ◌≤◌, Bool, true, false, ◌||◌, List, [], ◌∷◌, refl, sym, ap, subst, Option, Some, None, ⊎_elim}
 use Rattle.std.specs.Prelude.{Contains}
 use Rattle.std.specs.Str.{bytes_eq}
 use Rattle.std.proofs.lemmas.Slice.Eq.{bytes_eq-Decides}
 use Rattle.std.proofs.lemmas.List.Elements.{Contains-append_left, Contains-append_right, Contains-push, Contains-push_cases, Contains-append_cases}
 use Rattle.std.proofs.lemmas.Bool.{both_ways, and_parts, and_cases, or_cases, or_right}
-use Rattle.tmpl_syntax.specs.declared.fault.Fault.{Fault}
-use Rattle.tmpl_syntax.specs.declared.fault.Fault.TheVariants.{Unreadable, NotAnAction, OutOfPlace, NestedTooDeeply, UndeclaredVariable}
-use Rattle.tmpl_syntax.specs.declared.place.frame.Frame.{Frame}
+use Rattle.tmpl_syntax.specs.Fault.{Reason}
+use Rattle.tmpl_syntax.specs.Fault as reason
+use Rattle.tmpl_syntax.specs.computed.Frames.{Frame}
 use Rattle.tmpl_syntax.specs.Place.Role.{Name, Act, Role, text_role, unreadable_role, unread_role, act_role}
 use Rattle.tmpl_syntax.specs.Place.Body.{names_in}
 use Rattle.tmpl_syntax.specs.computed.Frames.{is_placed, is_too_deep, used, is_known, knows, first_fault, fault_at}
@@ -23,19 +23,18 @@ IsKnown uses names = (n : Name) → Contains uses n → Contains names n
 abbrev pub IsUnknown : List Name → List Name → Type 0
 IsUnknown uses names = (n : Name) × Contains uses n × (Contains names n → ⊥)
 
-abbrev pub Tells : Act → Option Frame → List Name → Option Fault → Type 0
+abbrev pub Tells : Act → Option Frame → List Name → Option Reason → Type 0
 Tells a t names None = (is_placed a t ≡ true) × (is_too_deep a t ≡ false) × IsKnown (used (names_in a)) names
-Tells a t names (Some Unreadable) = ⊥
-Tells a t names (Some NotAnAction) = ⊥
-Tells a t names (Some OutOfPlace) = is_placed a t ≡ false
-Tells a t names (Some NestedTooDeeply) = (is_placed a t ≡ true) × (is_too_deep a t ≡ true)
-Tells a t names (Some UndeclaredVariable) =
+Tells a t names (Some reason.out_of_place) = is_placed a t ≡ false
+Tells a t names (Some reason.nested_too_deeply) = (is_placed a t ≡ true) × (is_too_deep a t ≡ true)
+Tells a t names (Some reason.undeclared_variable) =
     (is_placed a t ≡ true) × (is_too_deep a t ≡ false) × IsUnknown (used (names_in a)) names
+Tells a t names _ = ⊥
 
-abbrev pub TellsRole : Role → Option Frame → List Name → Option Fault → Type 0
+abbrev pub TellsRole : Role → Option Frame → List Name → Option Reason → Type 0
 TellsRole text_role t names r = r ≡ None
-TellsRole unreadable_role t names r = r ≡ Some Unreadable
-TellsRole unread_role t names r = r ≡ Some NotAnAction
+TellsRole unreadable_role t names r = r ≡ Some reason.unreadable
+TellsRole unread_role t names r = r ≡ Some reason.not_an_action
 TellsRole (act_role a) t names r = Tells a t names r
 
 -- no name is one of none
@@ -87,7 +86,5 @@ module _ (a : Act) (t : Option Frame) (names : List Name) where
 
 -- the fault that the definition gives is the one that these facts say
 pub tells : (x : Role) (t : Option Frame) (names : List Name) → TellsRole x t names (fault_at x t names)
-tells text_role t names = refl
-tells unreadable_role t names = refl
-tells unread_role t names = refl
 tells (act_role a) t names = tells-by a t names (is_placed a t) (is_too_deep a t) (knows names (used (names_in a))) refl refl refl
+tells _ t names = refl

@@ -1,11 +1,12 @@
--- A file and the set before and after it.
+-- For `add_file`: a file and the set before and after it, by where the file is refused.
 use Rattle.std.proofs.Common.{◌≡◌, ◌<◌, ◌≤◌, ℕ, List, Option, Some, None, Result, Ok, Err, refl, sym, ap, subst, ◌∙◌, length, cond}
 use Rattle.std.proofs.lemmas.Bool.{lt-ltb, le-ltb}
 use Rattle.std.specs.Result.{IsErrAnd}
 use Rattle.tmpl_syntax.specs.Fault.{Reason, too_long, reason_of}
 use Rattle.tmpl_syntax.specs.declared.fault.Refusal as held_refusal
 use Rattle.tmpl_syntax.specs.Set.{Template}
-use Rattle.tmpl_syntax.specs.computed.Parse.{Refusal, IsRefusal, checked, second_in, unless_second, IsSecondAt, spelled, bodies_of, all_from, items_of, placed, parsed, IsAdded}
+use Rattle.tmpl_syntax.specs.computed.Parse.{Refusal, IsRefusal, checked, second_in, unless_second, IsSecondAt, spelled, bodies_of}
+use Rattle.tmpl_syntax.specs.computed.Parse.{all_from, items_of, placed, parsed, IsAdded}
 use Rattle.tmpl_syntax.specs.Parse.{base_name, most_bytes}
 
 module _ (set : List Template) (file bytes : List ℕ) where
@@ -21,21 +22,25 @@ module _ (set : List Template) (file bytes : List ℕ) where
   refused-short r h e = parsed-short h ∙ ap (λ c. placed set file (spelled c (all_from (base_name file) (items_of bytes)))) e
 
   -- the refusal of the items is that of their file
-  pub refusal-placed : (line : ℕ) (o : Option Reason) → length bytes ≤ most_bytes → IsRefusal (checked bytes (items_of bytes)) line o → IsRefusal (parsed set file bytes) line o
+  pub refusal-placed : (line : ℕ) (o : Option Reason) → length bytes ≤ most_bytes → IsRefusal (checked bytes (items_of bytes)) line o
+      → IsRefusal (parsed set file bytes) line o
   refusal-placed line None h e = e
   refusal-placed line (Some reason) h e = refused-short (line, reason) h e
 
   -- a file all of whose items are in place
-  pub fine-placed : length bytes ≤ most_bytes → checked bytes (items_of bytes) ≡ Ok tt → let ds = all_from (base_name file) (items_of bytes) in parsed set file bytes ≡ placed set file (unless_second (second_in ds) ds)
+  pub fine-placed : length bytes ≤ most_bytes → checked bytes (items_of bytes) ≡ Ok tt
+      → let ds = all_from (base_name file) (items_of bytes) in parsed set file bytes ≡ placed set file (unless_second (second_in ds) ds)
   fine-placed h e = parsed-short h ∙ ap (λ c. placed set file (spelled c (all_from (base_name file) (items_of bytes)))) e
 
   -- the refusal of a second definition is that of its file
-  pub second-placed : (line : ℕ) (o : Option Reason) → length bytes ≤ most_bytes → checked bytes (items_of bytes) ≡ Ok tt → IsSecondAt (second_in (all_from (base_name file) (items_of bytes))) line o → IsRefusal (parsed set file bytes) line o
+  pub second-placed : (line : ℕ) (o : Option Reason) → length bytes ≤ most_bytes → checked bytes (items_of bytes) ≡ Ok tt
+      → IsSecondAt (second_in (all_from (base_name file) (items_of bytes))) line o → IsRefusal (parsed set file bytes) line o
   second-placed line None h e s = s
   second-placed line (Some reason) h e s =
       let ds = all_from (base_name file) (items_of bytes) in
       fine-placed h e ∙ ap (λ k. placed set file (unless_second k ds)) s.0 ∙ ap (λ r. Err (line, r)) (sym s.1)
 
-  pub adding-ends : (r : Result (Unit {0}) held_refusal.Refusal) (f : held_refusal.Refusal) → IsErrAnd r (λ e. e ≡ f) → IsRefusal (parsed set file bytes) f.line (reason_of f.kind) → IsAdded set file bytes set r
+  pub adding-ends : (r : Result (Unit {0}) held_refusal.Refusal) (f : held_refusal.Refusal) → IsErrAnd r (λ e. e ≡ f)
+      → IsRefusal (parsed set file bytes) f.line (reason_of f.kind) → IsAdded set file bytes set r
   adding-ends (Ok u) f h k = absurd h
   adding-ends (Err e) f h k = (refl, subst (λ (g : held_refusal.Refusal). IsRefusal (parsed set file bytes) g.line (reason_of g.kind)) (sym h) k)

@@ -1,21 +1,23 @@
--- Whether the items of a template are accepted depends on the nodes that they spell alone.
-use Rattle.std.proofs.Common.{arith, ◌≡◌, ◌∙◌, ℕ, ◌+◌, ◌≤◌, Bool, true, false, not, ◌&&◌, leb, List, [], ◌∷◌, ◌++◌, length, take, Option, Some, None, refl, ap, length-append, append-nil}
+-- For `accepted_back`: whether the items of a template are accepted depends on its nodes alone.
+use Rattle.std.proofs.Common.{arith, ◌≡◌, ◌∙◌, ℕ, ◌+◌, ◌≤◌, Bool, true, false, not, ◌&&◌, leb, List, [], ◌∷◌, ◌++◌, length, take, Option}
+use Rattle.std.proofs.Common.{Some, None, refl, ap, length-append, append-nil}
 use Rattle.std.proofs.lemmas.Bool.{false≢true}
 use Rattle.std.proofs.lemmas.List.{take-append-le}
 use Rattle.tmpl_grammar.specs.Tree.{Pipeline, Header}
 use Rattle.tmpl_grammar.specs.declared.tree.Control.{Control}
-use Rattle.tmpl_syntax.specs.declared.place.frame.Frame.{Frame}
-use Rattle.tmpl_syntax.specs.declared.place.frame.Opening.TheVariants as opened
-use Rattle.tmpl_syntax.specs.declared.fault.Fault.{Fault}
-use Rattle.tmpl_syntax.specs.Tree.{NodeKind, text, action, control_node, break_node, continue_node, template_node, Nodes, none, then}
+use Rattle.tmpl_syntax.specs.computed.Frames.{Frame}
+use Rattle.tmpl_syntax.specs.Place.Opening as opened
+use Rattle.tmpl_syntax.specs.Fault.{Reason}
+use Rattle.tmpl_syntax.specs.Tree.{NodeKind, text, action, control_node, template_node, Nodes, none, then}
 use Rattle.tmpl_syntax.specs.Place.Role.{Name, names_of, names_given, plain, opener, Role}
-use Rattle.tmpl_syntax.specs.Place.Body.{most_levels, Verdict, fine, refused, left_open}
-use Rattle.tmpl_syntax.specs.computed.Frames.{top, loops, levels, knows, first_fault, fault_in, part_of, seen_at, fault_at, frames_past, unless_fault, Known, with_inner, known_past, verdict_from}
+use Rattle.tmpl_syntax.specs.Place.Body.{most_levels, Verdict, fine}
+use Rattle.tmpl_syntax.specs.computed.Frames.{top, loops, levels, knows, first_fault, fault_in, part_of, seen_at, fault_at, frames_past}
+use Rattle.tmpl_syntax.specs.computed.Frames.{unless_fault, Known, with_inner, known_past, verdict_from}
 use Rattle.tmpl_syntax.specs.Print.Printed.{unlined_node, unlined}
 
 -- ---- what the judge asks, as a test
 
-abbrev pub no_fault : Option Fault → Bool
+abbrev pub no_fault : Option Reason → Bool
 no_fault None = true
 no_fault (Some f) = false
 
@@ -33,13 +35,11 @@ passes fs known (x ∷ xs) =
 
 abbrev pub is_fine : Verdict → Bool
 is_fine fine = true
-is_fine (refused i f) = false
-is_fine left_open = false
+is_fine _ = false
 
 pub fine-back : (v : Verdict) → is_fine v ≡ true → v ≡ fine
 fine-back fine e = refl
-fine-back (refused i f) e = absurd (false≢true e)
-fine-back left_open e = absurd (false≢true e)
+fine-back _ e = absurd (false≢true e)
 
 pub passes-fine : (xs : List Role) (i : ℕ) (fs : List Frame) (known : Known) → is_fine (verdict_from i fs known xs) ≡ passes fs known xs
 passes-fine [] i [] known = refl
@@ -50,7 +50,7 @@ passes-fine (x ∷ xs) i fs known =
     let past : Known = known_past x (top fs) (with_inner known seen) in
     go (fault_at x (top fs) seen) (verdict_from (i + 1) next past xs) (passes next past xs) (passes-fine xs (i + 1) next past)
   where
-    go : (o : Option Fault) (v : Verdict) (b : Bool) → is_fine v ≡ b → is_fine (unless_fault o i v) ≡ (no_fault o && b)
+    go : (o : Option Reason) (v : Verdict) (b : Bool) → is_fine v ≡ b → is_fine (unless_fault o i v) ≡ (no_fault o && b)
     go None v b e = e
     go (Some f) v b e = refl
 
@@ -67,19 +67,15 @@ abbrev pub part_names : Control → List Name → List Name → List Name
 part_names k names declares = take (part_of k (length names) (length names + length declares)) (names ++ declares)
 
 abbrev pub seen_past : List Name → NodeKind → List Name
-seen_past names (text bytes) = names
 seen_past names (action h) = names ++ (names_of h).declares
-seen_past names (control_node c h body other) = names
-seen_past names break_node = names
-seen_past names continue_node = names
-seen_past names (template_node name given) = names
+seen_past names _ = names
 
 abbrev pub seen_behind : List Name → Nodes → List Name
 seen_behind names none = names
 seen_behind names (then line n ns) = seen_behind (seen_past names n) ns
 
 abbrev pub loops_in : Control → Bool → Bool → Bool
-loops_in c has_else around = loops (opened.Control c) has_else around
+loops_in c has_else around = loops (opened.control c) has_else around
 
 abbrev pub fits_control : Bool → ℕ → List Name → Control → Header → (Bool → ℕ → List Name → Bool) → (Bool → ℕ → List Name → Bool) → Bool
 fits_control loop n names c h body other =
@@ -93,9 +89,8 @@ abbrev mutual
   fits_node (text bytes) = λ loop n names. true
   fits_node (action h) = λ loop n names. knows names (names_of h).uses
   fits_node (control_node c h body other) = λ loop n names. fits_control loop n names c h (fits body) (fits other)
-  fits_node break_node = λ loop n names. loop
-  fits_node continue_node = λ loop n names. loop
   fits_node (template_node name given) = λ loop n names. knows names (names_given given).uses
+  fits_node _ = λ loop n names. loop
 
   pub fits : Nodes → Bool → ℕ → List Name → Bool
   fits none = λ loop n names. true
@@ -104,13 +99,10 @@ abbrev mutual
 -- lines play no part
 past-unlined : (n : NodeKind) (names : List Name) → seen_past names (unlined_node n) ≡ seen_past names n
 past-unlined (text bytes) names = refl
-past-unlined (action h) names = refl
-past-unlined (control_node c h body other) names = refl
-past-unlined break_node names = refl
-past-unlined continue_node names = refl
-past-unlined (template_node name given) names = refl
+past-unlined _ names = refl
 
-alike-control : (c : Control) (r : Header) (f g h k : Bool → ℕ → List Name → Bool) → ((l : Bool) (n : ℕ) (ns : List Name) → f l n ns ≡ g l n ns) → ((l : Bool) (n : ℕ) (ns : List Name) → h l n ns ≡ k l n ns)
+alike-control : (c : Control) (r : Header) (f g h k : Bool → ℕ → List Name → Bool)
+    → ((l : Bool) (n : ℕ) (ns : List Name) → f l n ns ≡ g l n ns) → ((l : Bool) (n : ℕ) (ns : List Name) → h l n ns ≡ k l n ns)
     → (loop : Bool) (n : ℕ) (names : List Name) → fits_control loop n names c r f h ≡ fits_control loop n names c r g k
 alike-control c r f g h k e d loop n names =
     ap (λ b. headed n names r && (b && h (loops_in c true loop) (n + 1) (part_names c names (names_of r).declares))) (e _ _ _)
@@ -118,12 +110,9 @@ alike-control c r f g h k e d loop n names =
 
 mutual
   node-unlined : (m : NodeKind) (loop : Bool) (n : ℕ) (names : List Name) → fits_node (unlined_node m) loop n names ≡ fits_node m loop n names
-  node-unlined (text bytes) loop n names = refl
-  node-unlined (action h) loop n names = refl
-  node-unlined (control_node c h body other) loop n names = alike-control c h (fits (unlined body)) (fits body) (fits (unlined other)) (fits other) (nodes-unlined body) (nodes-unlined other) loop n names
-  node-unlined break_node loop n names = refl
-  node-unlined continue_node loop n names = refl
-  node-unlined (template_node name given) loop n names = refl
+  node-unlined (control_node c h body other) loop n names =
+      alike-control c h (fits (unlined body)) (fits body) (fits (unlined other)) (fits other) (nodes-unlined body) (nodes-unlined other) loop n names
+  node-unlined _ loop n names = refl
 
   pub nodes-unlined : (ms : Nodes) (loop : Bool) (n : ℕ) (names : List Name) → fits (unlined ms) loop n names ≡ fits ms loop n names
   nodes-unlined none loop n names = refl
@@ -136,20 +125,12 @@ mutual
 
 -- the first names stay
 take-past : (k : ℕ) (n : NodeKind) (names : List Name) → k ≤ length names → take k (seen_past names n) ≡ take k names
-take-past k (text bytes) names h = refl
 take-past k (action r) names h = take-append-le k names (names_of r).declares h
-take-past k (control_node c r body other) names h = refl
-take-past k break_node names h = refl
-take-past k continue_node names h = refl
-take-past k (template_node name given) names h = refl
+take-past k _ names h = refl
 
 past-longer : (n : NodeKind) (names : List Name) → length names ≤ length (seen_past names n)
-past-longer (text bytes) names = omega arith
 past-longer (action h) names = omega (arith, length-append names (names_of h).declares)
-past-longer (control_node c h body other) names = omega arith
-past-longer break_node names = omega arith
-past-longer continue_node names = omega arith
-past-longer (template_node name given) names = omega arith
+past-longer _ names = omega arith
 
 pub take-seen : (k : ℕ) (ns : Nodes) (names : List Name) → k ≤ length names → take k (seen_behind names ns) ≡ take k names
 take-seen k none names h = refl
@@ -163,11 +144,13 @@ first-none true false = refl
 first-none false true = refl
 first-none false false = refl
 
-pub opener-test : (c : Control) (h : Header) (t : Option Frame) (names : List Name) → no_fault (fault_in (opener (opened.Control c) (names_of h)) t names) ≡ headed (levels t) names h
+pub opener-test : (c : Control) (h : Header) (t : Option Frame) (names : List Name)
+    → no_fault (fault_in (opener (opened.control c) (names_of h)) t names) ≡ headed (levels t) names h
 opener-test c h t names = first-none (leb most_levels (levels t)) (knows names (names_of h).uses)
 
 -- a call of a template is in place wherever its names are known, and declares none
-pub call-test : (given : Option Pipeline) (t : Option Frame) (names : List Name) → no_fault (fault_in (plain (names_given given)) t names) ≡ knows names (names_given given).uses
+pub call-test : (given : Option Pipeline) (t : Option Frame) (names : List Name)
+    → no_fault (fault_in (plain (names_given given)) t names) ≡ knows names (names_given given).uses
 call-test None t names = first-none false (knows names [])
 call-test (Some p) t names = first-none false (knows names (names_given (Some p)).uses)
 

@@ -1,4 +1,4 @@
--- The pieces of a file are read as the items that are computed.
+-- For `one_list_of_items`: the pieces of a file are read as the items that are computed.
 use Rattle.std.proofs.Common.{arith, ◌≡◌, ◌∙◌, ◌≤◌, ◌<◌, ℕ, Bool, true, false, List, [], ◌∷◌, map, Option, Some, None, refl, ap, sym, subst, ⊎_elim}
 use Rattle.std.proofs.lemmas.Bool.{le-leb, cases_lt}
 use Rattle.std.proofs.lemmas.Bool.Decides.{leb_tells}
@@ -6,8 +6,9 @@ use Rattle.std.proofs.lemmas.Option.{same_Some}
 use Rattle.tmpl_lex.specs.computed.Cut.{cut_of}
 use Rattle.tmpl_lex.specs.Piece.{Token, Piece, text, action, unreadable}
 use Rattle.tmpl_lex.proofs.CutLemmas.{cut_of-Cuts, Cuts-cut_of}
-use Rattle.tmpl_grammar.specs.Action.{Action, pipeline_action, opening, plain_else, else_branch, end_action, break_action, continue_action, define_action, template_action, block_action, SpellsAction, shape_of}
-use Rattle.tmpl_grammar.specs.Depth.{depth_of_pipeline, depth_of, most_deep, limited, limited_to, within_limit, reading_of, unread as unread_within, too_deep as deep_within, read as read_within}
+use Rattle.tmpl_grammar.specs.Action.{Action, pipeline_action, opening, else_branch, template_action, block_action, SpellsAction, shape_of}
+use Rattle.tmpl_grammar.specs.Depth.{depth_of_pipeline, depth_of, most_deep, unread as unread_within, too_deep as deep_within, read as read_within}
+use Rattle.tmpl_grammar.specs.computed.Depth.{limited, limited_to, within_limit, reading_of}
 use Rattle.tmpl_grammar.specs.computed.Reading.{action_in}
 use Rattle.tmpl_syntax.specs.Item.{Item, item, HasItems, IsItem, a_text, an_unreadable, unread, too_deep, read, AreItems, no_item, an_item}
 use Rattle.tmpl_syntax.specs.computed.Item.{read_item, item_in, items_in}
@@ -33,15 +34,10 @@ limited-deep s n x lt = ⊎_elim
 within-read : (a : Action) → depth_of a ≤ most_deep → within_limit a ≡ read_within a
 within-read (pipeline_action h) le = limited-within (piped.Header shape.Pipeline) (depth_of_pipeline h.pipeline) (pipeline_action h) le
 within-read (opening c h) le = limited-within (piped.Header (shape.Open c)) (depth_of_pipeline h.pipeline) (opening c h) le
-within-read plain_else le = refl
 within-read (else_branch br h) le = limited-within (piped.Header (shape.ElseBranch br)) (depth_of_pipeline h.pipeline) (else_branch br h) le
-within-read end_action le = refl
-within-read break_action le = refl
-within-read continue_action le = refl
-within-read (define_action name) le = refl
-within-read (template_action name None) le = refl
 within-read (template_action name (Some p)) le = limited-within piped.Template (depth_of_pipeline p) (template_action name (Some p)) le
 within-read (block_action name p) le = limited-within piped.Block (depth_of_pipeline p) (block_action name p) le
+within-read _ le = refl
 
 -- an action that is too deep, by its shape
 pub record Deep (a : Action) : Type 0 where
@@ -56,30 +52,17 @@ deep-by a s n is e lt = record { shape = s; shape_is = is; is = e ∙ limited-de
 deep-read : (a : Action) → most_deep < depth_of a → Deep a
 deep-read (pipeline_action h) lt = deep-by (pipeline_action h) (piped.Header shape.Pipeline) (depth_of_pipeline h.pipeline) refl refl lt
 deep-read (opening c h) lt = deep-by (opening c h) (piped.Header (shape.Open c)) (depth_of_pipeline h.pipeline) refl refl lt
-deep-read plain_else lt = absurd (omega (arith, lt))
 deep-read (else_branch br h) lt = deep-by (else_branch br h) (piped.Header (shape.ElseBranch br)) (depth_of_pipeline h.pipeline) refl refl lt
-deep-read end_action lt = absurd (omega (arith, lt))
-deep-read break_action lt = absurd (omega (arith, lt))
-deep-read continue_action lt = absurd (omega (arith, lt))
-deep-read (define_action name) lt = absurd (omega (arith, lt))
-deep-read (template_action name None) lt = absurd (omega (arith, lt))
 deep-read (template_action name (Some p)) lt = deep-by (template_action name (Some p)) piped.Template (depth_of_pipeline p) refl refl lt
 deep-read (block_action name p) lt = deep-by (block_action name p) piped.Block (depth_of_pipeline p) refl refl lt
+deep-read _ lt = absurd (omega (arith, lt))
 
 -- ---- the actions of a language
 
 -- this language has every action
 pub has-every : (a : Action) → has_action every_branch a ≡ true
 has-every (pipeline_action h) = refl
-has-every (opening c h) = refl
-has-every plain_else = refl
-has-every (else_branch b h) = refl
-has-every end_action = refl
-has-every break_action = refl
-has-every continue_action = refl
-has-every (define_action name) = refl
-has-every (template_action name given) = refl
-has-every (block_action name p) = refl
+has-every _ = refl
 
 abbrev pub if_there : Bool → Action → Option Action
 if_there true a = Some a
@@ -101,14 +84,14 @@ item_for branches (action line ts) = item line (read_item (reading_of (kept bran
 item_for branches (unreadable line) = item_in (unreadable line)
 
 for-every : (p : Piece) → item_for every_branch p ≡ item_in p
-for-every (text line bytes) = refl
 for-every (action line ts) = ap (λ o. item line (read_item (reading_of o))) (kept-every (action_in ts))
-for-every (unreadable line) = refl
+for-every _ = refl
 
 -- ---- one item
 
 module _ (branches : Branches) where
-  read-item : (line : ℕ) (ts : List Token) (a : Action) → SpellsAction a ts → has_action branches a ≡ true → IsItem branches (action line ts) (item line (read_item (within_limit a)))
+  read-item : (line : ℕ) (ts : List Token) (a : Action) → SpellsAction a ts → has_action branches a ≡ true
+      → IsItem branches (action line ts) (item line (read_item (within_limit a)))
   read-item line ts a s t = ⊎_elim
       (λ lt. let d = deep-read a lt in
       subst (λ r. IsItem branches (action line ts) (item line (read_item r))) (sym d.is) (too_deep a s t d.shape_is lt))
@@ -118,7 +101,8 @@ module _ (branches : Branches) where
   action-item : (line : ℕ) (ts : List Token) → IsItem branches (action line ts) (item_for branches (action line ts))
   action-item line ts = by (action_in ts) refl
     where
-      there : (a : Action) → action_in ts ≡ Some a → (b : Bool) → has_action branches a ≡ b → IsItem branches (action line ts) (item line (read_item (reading_of (if_there b a))))
+      there : (a : Action) → action_in ts ≡ Some a → (b : Bool) → has_action branches a ≡ b
+          → IsItem branches (action line ts) (item line (read_item (reading_of (if_there b a))))
       there a e true t = read-item line ts a (spells-action ts a e) t
       there a e false t = unread (λ b s h. let same : b ≡ a = same_Some b a (sym (reads-action ts b s) ∙ e) in absurd (let g : true ≡ false = sym h ∙ ap (has_action branches) same ∙ t in cc))
 
@@ -135,7 +119,8 @@ module _ (branches : Branches) where
   spelled-read : (ts : List Token) (a : Action) → SpellsAction a ts → has_action branches a ≡ true → reading_of (kept branches (action_in ts)) ≡ within_limit a
   spelled-read ts a s t = ap (λ o. reading_of (kept branches o)) (reads-action ts a s) ∙ ap (λ b. reading_of (if_there b a)) t
 
-  unread-only : (line : ℕ) (ts : List Token) → ((a : Action) → SpellsAction a ts → has_action branches a ≡ true → ⊥) → (o : Option Action) → action_in ts ≡ o → item line (read_item unread_within) ≡ item line (read_item (reading_of (kept branches o)))
+  unread-only : (line : ℕ) (ts : List Token) → ((a : Action) → SpellsAction a ts → has_action branches a ≡ true → ⊥) → (o : Option Action)
+      → action_in ts ≡ o → item line (read_item unread_within) ≡ item line (read_item (reading_of (kept branches o)))
   unread-only line ts none None e = refl
   unread-only line ts none (Some a) e = by (has_action branches a) refl
     where
@@ -144,8 +129,6 @@ module _ (branches : Branches) where
       by false t = refl
 
   only-item : {p : Piece} {x : Item} → IsItem branches p x → x ≡ item_for branches p
-  only-item a_text = refl
-  only-item an_unreadable = refl
   only-item (unread {line = line} {ts = ts} none) = unread-only line ts none (action_in ts) refl
   only-item (too_deep {line = line} {ts = ts} {s = s} a spells t is lt) =
       let d = deep-read a lt in
@@ -154,6 +137,7 @@ module _ (branches : Branches) where
       ∙ ap (λ r. item line (read_item r)) (sym (spelled-read ts a spells t))
   only-item (read {line = line} {ts = ts} {a = a} spells t le) =
       ap (λ r. item line (read_item r)) (sym (within-read a le)) ∙ ap (λ r. item line (read_item r)) (sym (spelled-read ts a spells t))
+  only-item _ = refl
 
   -- ---- the items of a file
 

@@ -1,5 +1,6 @@
--- Joined parts are cut into the same parts.
-use Rattle.std.proofs.Common.{arith, ◌≡◌, ◌∙◌, ℕ, ◌+◌, ◌<◌, Bool, true, false, ◌&&◌, nat_eq, List, [], ◌∷◌, ◌++◌, refl, sym, ap, subst, length, append_assoc, append-nil, reverse, codes}
+-- For `cut_back`: joined parts are cut into the same parts.
+use Rattle.std.proofs.Common.{arith, ◌≡◌, ◌∙◌, ℕ, ◌+◌, ◌<◌, Bool, true, false, ◌&&◌, nat_eq, List, [], ◌∷◌, ◌++◌, refl, sym, ap, subst}
+use Rattle.std.proofs.Common.{length, append_assoc, append-nil, reverse, Some, None, if◌then◌else◌, codes}
 use Rattle.std.proofs.lemmas.Bool.{eqb-true}
 use Rattle.std.proofs.lemmas.List.{reverse-append}
 use Rattle.std.proofs.Math.Bool.{and-false}
@@ -9,8 +10,8 @@ use Rattle.tmpl_lex.specs.Delimiter.{IsLeftMarker, left_marker, opens, opens_mar
 use Rattle.tmpl_lex.specs.Piece.{Piece, text, action}
 use Rattle.tmpl_lex.specs.Text.{newlines, text_piece, keeps_front, keeps_end, trims_end, Texts, trimmed}
 use Rattle.tmpl_lex.proofs.PartLemmas.{absent-rest, absent-here, absent-nil, absent-one, absent-cons}
-use Rattle.tmpl_syntax.specs.declared.print.Before.TheVariants.{Nothing}
-use Rattle.tmpl_syntax.specs.Print.Join.{Part, a_text, an_action, ends_brace, behind, behind_by, opening, parting, before_of, joined, AreParts, no_piece, same_text, same_action, HasParts}
+use Rattle.tmpl_syntax.specs.Print.Join.{Part, a_text, an_action, ends_brace, opening, parting, before_of, joined, AreParts, no_piece}
+use Rattle.tmpl_syntax.specs.Print.Join.{same_text, same_action, HasParts}
 use Rattle.tmpl_grammar.specs.Print.{bytes_of}
 use Rattle.tmpl_grammar.proofs.FrontLemmas.{solid, solid-unmarked}
 
@@ -30,9 +31,8 @@ clear-space (b ∷ c ∷ t) h =
     absent-cons 123 123 b (c ∷ (t ++ 32 ∷ [])) (absent-here 123 123 b c t h) (clear-space (c ∷ t) (absent-rest b (123 ∷ 123 ∷ []) (c ∷ t) h))
 
 spaced-end : (t : List ℕ) → ends_brace (t ++ 32 ∷ []) ≡ false
-spaced-end [] = refl
-spaced-end (b ∷ []) = refl
 spaced-end (b ∷ c ∷ t) = spaced-end (c ∷ t)
+spaced-end _ = refl
 
 brace-last : (t : List ℕ) → ends_brace t ≡ true → (u : List ℕ) × (t ≡ u ++ 123 ∷ [])
 brace-last [] e = cc
@@ -56,7 +56,7 @@ texts-spaced line t e =
     subst (λ (k : ℕ). Texts false true line (t ++ 32 ∷ []) (text_piece k t)) n (trimmed keeps_front (trims_end refl (brace-stops t e)))
 
 abbrev opened_by : Bool → List ℕ
-opened_by k = opening (behind_by k)
+opened_by k = if k then codes " {{- " else codes "{{"
 
 abbrev open_behind : List ℕ → List ℕ
 open_behind t = opened_by (ends_brace t)
@@ -65,14 +65,14 @@ open-is : (t : List ℕ) → opening (before_of t) ≡ open_behind t
 open-is [] = refl
 open-is (b ∷ t) = refl
 
-some-before : (t : List ℕ) → 0 < length t → behind t ≡ before_of t
+some-before : (t : List ℕ) → 0 < length t → Some t ≡ before_of t
 some-before [] h = absurd (omega arith)
 some-before (b ∷ t) h = refl
 
-parting-is : (t : List ℕ) (rest : List ℕ) → parting (behind t) ++ rest ≡ open_behind t ++ (codes "/**/}}" ++ rest)
+parting-is : (t : List ℕ) (rest : List ℕ) → parting (Some t) ++ rest ≡ open_behind t ++ (codes "/**/}}" ++ rest)
 parting-is t rest = go (ends_brace t)
   where
-    go : (k : Bool) → parting (behind_by k) ++ rest ≡ opened_by k ++ (codes "/**/}}" ++ rest)
+    go : (k : Bool) → (if k then codes " {{- /**/}}" else codes "{{/**/}}") ++ rest ≡ opened_by k ++ (codes "/**/}}" ++ rest)
     go true = refl
     go false = refl
 
@@ -119,7 +119,7 @@ cut-back [] h t clear line = record {
   same = no_piece;
 }
 cut-back (an_action ts ∷ ps) h t clear line =
-    let rest : List ℕ = joined Nothing ps in
+    let rest : List ℕ = joined None ps in
     let body : List ℕ = bytes_of ts ++ codes "}}" in
     let inside : body ++ rest ≡ bytes_of ts ++ (codes "}}" ++ rest) = append_assoc (bytes_of ts) (codes "}}") rest in
     let o = opens-behind line t (body ++ rest) clear (subst (BeginsNone IsLeftMarker) (sym inside) (h.0.unmarked rest)) in
@@ -149,10 +149,10 @@ cut-back (a_text u ∷ ps) h (b ∷ t) clear line =
     let o = opens-behind line (b ∷ t) (body ++ rest) clear (solid-unmarked (solid refl refl)) in
     let next : ℕ = line + newlines (o.before ++ o.delimiter ++ body) in
     let more = cut-back ps h.1 u h.0.clear next in
-    let file : o.before ++ o.delimiter ++ body ++ rest ≡ (b ∷ t) ++ (parting (behind (b ∷ t)) ++ (u ++ joined (behind u) ps)) =
+    let file : o.before ++ o.delimiter ++ body ++ rest ≡ (b ∷ t) ++ (parting (Some (b ∷ t)) ++ (u ++ joined (Some u) ps)) =
     append_assoc (o.before ++ o.delimiter) body rest ∙ append_assoc o.before o.delimiter (body ++ rest) ∙ o.is
     ∙ ap (λ l. (b ∷ t) ++ l) (sym (parting-is (b ∷ t) rest))
-    ∙ ap (λ k. (b ∷ t) ++ (parting (behind (b ∷ t)) ++ (u ++ joined k ps))) (sym (some-before u h.0.some)) in
+    ∙ ap (λ k. (b ∷ t) ++ (parting (Some (b ∷ t)) ++ (u ++ joined k ps))) (sym (some-before u h.0.some)) in
     record {
       pieces = text next u ∷ more.pieces;
       cuts = subst (λ (bs : List ℕ). Cuts false line bs (text line (b ∷ t) ∷ text next u ∷ more.pieces)) file

@@ -1,13 +1,17 @@
--- What the scanner tells is the fault.
-use Rattle.std.proofs.Common.{arith, ◌≡◌, ◌≢◌, ℕ, ◌+◌, ◌≤◌, Bool, true, false, not, ◌&&◌, ◌||◌, leb, List, [], ◌∷◌, refl, sym, ap, ◌∙◌, subst, take, Option, Some, None, inl, inr, ⊎_elim, ◌⊎◌}
+-- For `one_verdict`: what frames and names tell at an item is which reasons apply to it.
+use Rattle.std.proofs.Common.{arith, ◌≡◌, ◌≢◌, ℕ, ◌+◌, ◌≤◌, Bool, true, false, not, ◌&&◌, ◌||◌, leb, List, [], ◌∷◌, refl, sym, ap, ◌∙◌}
+use Rattle.std.proofs.Common.{subst, take, Option, Some, None, inl, inr, ⊎_elim, ◌⊎◌}
 use Rattle.std.specs.Prelude.{slice_get, Contains}
 use Rattle.std.proofs.lemmas.Bool.{and_parts, both_ways, and_cases, not-false, or_parts, le-leb, leb-true}
 use Rattle.tmpl_grammar.specs.declared.action.Branch.{Branch}
-use Rattle.tmpl_syntax.specs.declared.place.frame.Frame.{Frame}
+use Rattle.tmpl_syntax.specs.computed.Frames.{Frame}
 use Rattle.tmpl_syntax.specs.Place.Open.{IsOpening, IsLast, HasElse, is_template}
 use Rattle.tmpl_syntax.specs.Place.Scope.{IsInScope}
-use Rattle.tmpl_syntax.specs.Place.Body.{joins, TakesNoElse, nothing_open, of_a_template, after_an_else, TakesNoBranch, MayNotOpen, IsMisplaced, names_in, opens_level, most_levels, IsTooDeep, in_levels, in_parentheses, IsUndeclared}
-use Rattle.tmpl_syntax.specs.computed.Frames.{top, in_loop, levels, takes_else, takes_branch, may_open, is_placed, used, is_nested, is_too_deep, names_at, Known}
+use Rattle.tmpl_syntax.specs.Place.Body.{joins, TakesNoElse, nothing_open, of_a_template, after_an_else, TakesNoBranch, MayNotOpen}
+use Rattle.tmpl_syntax.specs.Place.Body.{IsMisplaced, names_in, opens_level, most_levels, IsTooDeep, in_levels, in_parentheses}
+use Rattle.tmpl_syntax.specs.Place.Body.{IsUndeclared}
+use Rattle.tmpl_syntax.specs.computed.Frames.{top, in_loop, levels, takes_else, takes_branch, may_open, is_placed, used, is_nested}
+use Rattle.tmpl_syntax.specs.computed.Frames.{is_too_deep, names_at, Known}
 use Rattle.tmpl_syntax.proofs.FaultLemmas.{IsKnown, IsUnknown, in-nothing}
 use Rattle.tmpl_syntax.proofs.OpenLemmas.{same-opening, same-piece, one-last}
 use Rattle.tmpl_syntax.proofs.PlaceLemmas.{levels-unique, no-else_branch}
@@ -15,8 +19,8 @@ use Rattle.tmpl_syntax.proofs.ScopeLemmas.{to-scope, from-scope, at-place, at-pl
 use Rattle.tmpl_syntax.proofs.ElsePartLemmas.{by_else_branch, to-part, from-part}
 use Rattle.tmpl_syntax.proofs.StandLemmas.{Here, closed_at, Stands, here-of}
 use Rattle.tmpl_syntax.proofs.ElseBranchLemmas.{else-parts, joins-no-range}
-use Rattle.tmpl_syntax.specs.declared.place.frame.Opening.{Opening}
-use Rattle.tmpl_syntax.specs.declared.place.frame.Opening.TheVariants as opened
+use Rattle.tmpl_syntax.specs.Place.Opening.{Opening}
+use Rattle.tmpl_syntax.specs.Place.Opening as opened
 use Rattle.tmpl_grammar.specs.declared.tree.Control.TheVariants.{Range}
 use Rattle.tmpl_syntax.specs.Place.Role.{Name, Names, Act, plain, opener, bare_else, branch_else, closer, jump, Role, act_role}
 
@@ -46,21 +50,24 @@ some-part xs i known (f ∷ fs) s e (after_an_else {j = j} l h) =
     let q : j ≡ s.1 = one-last xs j s.1 i l s.2.last in
     absurd (both_ways f.has_else (else-parts f e).1 (s.2.has.1 (subst (λ z. HasElse xs z i) q h)))
 
-top-opening : (xs : List Role) (i : ℕ) (known : Known) (f : Frame) (fs : List Frame) (s : Stands xs i known (f ∷ fs)) (k : ℕ) (m : IsLast xs k i) → m.is_open.opened ≡ f.opening
+top-opening : (xs : List Role) (i : ℕ) (known : Known) (f : Frame) (fs : List Frame) (s : Stands xs i known (f ∷ fs)) (k : ℕ) (m : IsLast xs k i)
+    → m.is_open.opened ≡ f.opening
 top-opening xs i known f fs s k m =
     let q : k ≡ s.1 = one-last xs k s.1 i m s.2.last in
     same-opening xs k m.is_open.opened f.opening m.is_open.at (subst (λ z. IsOpening (slice_get xs z) f.opening) (sym q) s.2.opened)
 
-unplaced-else_branch : (xs : List Role) (i : ℕ) (known : Known) (b : Branch) (fs : List Frame) → Stands xs i known fs → (takes_else (top fs) ≡ false) ⊎ (takes_branch b (top fs) ≡ false) → TakesNoElse xs i ⊎ TakesNoBranch xs b i
+unplaced-else_branch : (xs : List Role) (i : ℕ) (known : Known) (b : Branch) (fs : List Frame) → Stands xs i known fs
+    → (takes_else (top fs) ≡ false) ⊎ (takes_branch b (top fs) ≡ false) → TakesNoElse xs i ⊎ TakesNoBranch xs b i
 unplaced-else_branch xs i known b fs s (inl e) = inl (no-part xs i known fs s e)
 unplaced-else_branch xs i known b [] s (inr e) = inl (nothing_open s.0)
-unplaced-else_branch xs i known b (f ∷ fs) s (inr e) = inr (record { opened = s.1; last = s.2.last; other = ap (joins b) (top-opening xs i known f fs s s.1 s.2.last) ∙ e })
+unplaced-else_branch xs i known b (f ∷ fs) s (inr e) =
+    inr (record { opened = s.1; last = s.2.last; other = ap (joins b) (top-opening xs i known f fs s s.1 s.2.last) ∙ e })
 
-unplaced-opener : (xs : List Role) (i : ℕ) (known : Known) (c : Opening) (fs : List Frame) → Stands xs i known fs → may_open c (top fs) ≡ false → MayNotOpen xs i c
-unplaced-opener xs i known (opened.Control c) fs s e = let g : true ≡ false = e in cc
-unplaced-opener xs i known opened.Define [] s e = let g : true ≡ false = e in cc
-unplaced-opener xs i known opened.Define (f ∷ fs) s e = (s.1, s.2.last.is_open)
-unplaced-opener xs i known opened.Block fs s e = let g : true ≡ false = e in cc
+unplaced-opener : (xs : List Role) (i : ℕ) (known : Known) (c : Opening) (fs : List Frame) → Stands xs i known fs
+    → may_open c (top fs) ≡ false → MayNotOpen xs i c
+unplaced-opener xs i known opened.define [] s e = let g : true ≡ false = e in cc
+unplaced-opener xs i known opened.define (f ∷ fs) s e = (s.1, s.2.last.is_open)
+unplaced-opener xs i known _ fs s e = let g : true ≡ false = e in cc
 
 pub unplaced : (xs : List Role) (i : ℕ) (known : Known) (fs : List Frame) (a : Act) → Stands xs i known fs → is_placed a (top fs) ≡ false → IsMisplaced xs i a
 unplaced xs i known fs (plain p) s e = let g : true ≡ false = e in cc
@@ -71,13 +78,14 @@ unplaced xs i known [] closer s e = s.0
 unplaced xs i known (f ∷ fs) closer s e = let g : true ≡ false = e in cc
 unplaced xs i known fs jump s e = λ j l. both_ways (in_loop (top fs)) e ((here-of xs i known fs s).looped.1 (j, l))
 
-placed-opener : (xs : List Role) (i : ℕ) (known : Known) (c : Opening) (fs : List Frame) → Stands xs i known fs → may_open c (top fs) ≡ true → MayNotOpen xs i c → ⊥
-placed-opener xs i known (opened.Control c) fs s e h = h
-placed-opener xs i known opened.Define [] s e h = s.0 h.0 h.1
-placed-opener xs i known opened.Define (f ∷ fs) s e h = let g : false ≡ true = e in cc
-placed-opener xs i known opened.Block fs s e h = h
+placed-opener : (xs : List Role) (i : ℕ) (known : Known) (c : Opening) (fs : List Frame) → Stands xs i known fs → may_open c (top fs) ≡ true
+    → MayNotOpen xs i c → ⊥
+placed-opener xs i known opened.define [] s e h = s.0 h.0 h.1
+placed-opener xs i known opened.define (f ∷ fs) s e h = let g : false ≡ true = e in cc
+placed-opener xs i known _ fs s e h = h
 
-joined : (xs : List Role) (i : ℕ) (known : Known) (b : Branch) (fs : List Frame) → Stands xs i known fs → takes_branch b (top fs) ≡ true → TakesNoBranch xs b i → ⊥
+joined : (xs : List Role) (i : ℕ) (known : Known) (b : Branch) (fs : List Frame) → Stands xs i known fs → takes_branch b (top fs) ≡ true
+    → TakesNoBranch xs b i → ⊥
 joined xs i known b [] s e h = let g : false ≡ true = e in cc
 joined xs i known b (f ∷ fs) s e h = absurd (both_ways (joins b f.opening) (ap (joins b) (sym (top-opening xs i known f fs s h.opened h.last)) ∙ h.other) e)
 
@@ -85,14 +93,16 @@ pub placed : (xs : List Role) (i : ℕ) (known : Known) (fs : List Frame) (a : A
 placed xs i known fs (plain p) s e h = h
 placed xs i known fs (opener c p) s e h = placed-opener xs i known c fs s e h
 placed xs i known fs bare_else s e h = some-part xs i known fs s e h
-placed xs i known fs (branch_else b p) s e h = let a = and_parts (takes_else (top fs)) (takes_branch b (top fs)) e in ⊎_elim (some-part xs i known fs s a.0) (joined xs i known b fs s a.1) h
+placed xs i known fs (branch_else b p) s e h =
+    let a = and_parts (takes_else (top fs)) (takes_branch b (top fs)) e in ⊎_elim (some-part xs i known fs s a.0) (joined xs i known b fs s a.1) h
 placed xs i known [] closer s e h = let g : false ≡ true = e in cc
 placed xs i known (f ∷ fs) closer s e h = h s.1 s.2.last.is_open
 placed xs i known fs jump s e h = let l = (here-of xs i known fs s).looped.0 e in h l.0 l.1
 
 -- depths
 
-nested-or : (xs : List Role) (i : ℕ) (a : Act) (o : Option Names) → names_in a ≡ o → (b : Bool) → (is_nested o || b) ≡ true → (b ≡ true → IsTooDeep xs i a) → IsTooDeep xs i a
+nested-or : (xs : List Role) (i : ℕ) (a : Act) (o : Option Names) → names_in a ≡ o → (b : Bool) → (is_nested o || b) ≡ true
+    → (b ≡ true → IsTooDeep xs i a) → IsTooDeep xs i a
 nested-or xs i a None is b e levels = levels e
 nested-or xs i a (Some p) is b e levels = by p.nested refl e
   where
@@ -122,8 +132,10 @@ module _ (xs : List Role) (i : ℕ) (known : Known) where
   abbrev names : List Name
   names = known.inner
 
-  wide : (fs : List Frame) → Stands xs i known fs → (x : Role) → slice_get xs i ≡ Some x → x ≢ act_role bare_else → ((b : Branch) (p : Names) → x ≢ act_role (branch_else b p)) → (n : Name) → Contains names n → IsInScope xs i n
-  wide fs s x at ne nt n k = at-place xs i n (λ j e. ne (same-piece xs i x (act_role bare_else) at e.at)) (λ j t. no-else_branch xs x i j at nt t) ((here-of xs i known fs s).to n k)
+  wide : (fs : List Frame) → Stands xs i known fs → (x : Role) → slice_get xs i ≡ Some x → x ≢ act_role bare_else
+      → ((b : Branch) (p : Names) → x ≢ act_role (branch_else b p)) → (n : Name) → Contains names n → IsInScope xs i n
+  wide fs s x at ne nt n k =
+      at-place xs i n (λ j e. ne (same-piece xs i x (act_role bare_else) at e.at)) (λ j t. no-else_branch xs x i j at nt t) ((here-of xs i known fs s).to n k)
 
   wide-back : (fs : List Frame) → Stands xs i known fs → (n : Name) → IsInScope xs i n → Contains names n
   wide-back fs s n k = (here-of xs i known fs s).back n (at-place-back xs i n k)
@@ -132,7 +144,7 @@ module _ (xs : List Role) (i : ℕ) (known : Known) where
     own : is_template s.2.last.is_open.opened ≡ false
     own = ap is_template (top-opening xs i known f fs s s.1 s.2.last) ∙ (else-parts f takes).0
 
-    not-ranged : s.2.last.is_open.opened ≡ opened.Control Range → HasElse xs s.1 i
+    not-ranged : s.2.last.is_open.opened ≡ opened.control Range → HasElse xs s.1 i
     not-ranged e = absurd (joins-no-range b f.opening joining (sym (top-opening xs i known f fs s s.1 s.2.last) ∙ e))
 
     below : Here xs s.1 (top fs) (closed_at f known).inner
@@ -153,23 +165,21 @@ module _ (xs : List Role) (i : ℕ) (known : Known) where
         (to-part xs s.1 i i (i + 1) s.2.last own (by_else_branch (record { branch = b; names = p; at = at; belongs = s.2.last })) low (omega arith) (omega arith) (omega arith) not-ranged n
         (record { by = v.by; before = v.before; template = v.template; reaches = v.reaches }))
 
-  pub in-scope : (fs : List Frame) → Stands xs i known fs → (a : Act) → slice_get xs i ≡ Some (act_role a) → is_placed a (top fs) ≡ true → (p : Names) → names_in a ≡ Some p → (n : Name) → Contains (names_at a (top fs) names) n → IsInScope xs i n
+  pub in-scope : (fs : List Frame) → Stands xs i known fs → (a : Act) → slice_get xs i ≡ Some (act_role a) → is_placed a (top fs) ≡ true
+      → (p : Names) → names_in a ≡ Some p → (n : Name) → Contains (names_at a (top fs) names) n → IsInScope xs i n
   in-scope fs s (plain q) at e p is n k = wide fs s (act_role (plain q)) at (λ g. cc) (λ b r g. cc) n k
   in-scope fs s (opener c q) at e p is n k = wide fs s (act_role (opener c q)) at (λ g. cc) (λ b r g. cc) n k
-  in-scope fs s bare_else at e p is n k = let g : None ≡ Some p = is in cc
   in-scope [] s (branch_else b q) at e p is n k = let g : false ≡ true = e in cc
   in-scope (f ∷ fs) s (branch_else b q) at e p is n k = let a = and_parts (takes_else (Some f)) (joins b f.opening) e in narrow f fs s b q at a.0 a.1 n k
-  in-scope fs s closer at e p is n k = let g : None ≡ Some p = is in cc
-  in-scope fs s jump at e p is n k = let g : None ≡ Some p = is in cc
+  in-scope fs s _ at e p is n k = let g : None ≡ Some p = is in cc
 
-  pub scope-has : (fs : List Frame) → Stands xs i known fs → (a : Act) → slice_get xs i ≡ Some (act_role a) → is_placed a (top fs) ≡ true → (p : Names) → names_in a ≡ Some p → (n : Name) → IsInScope xs i n → Contains (names_at a (top fs) names) n
+  pub scope-has : (fs : List Frame) → Stands xs i known fs → (a : Act) → slice_get xs i ≡ Some (act_role a) → is_placed a (top fs) ≡ true
+      → (p : Names) → names_in a ≡ Some p → (n : Name) → IsInScope xs i n → Contains (names_at a (top fs) names) n
   scope-has fs s (plain q) at e p is n k = wide-back fs s n k
   scope-has fs s (opener c q) at e p is n k = wide-back fs s n k
-  scope-has fs s bare_else at e p is n k = let g : None ≡ Some p = is in cc
   scope-has [] s (branch_else b q) at e p is n k = let g : false ≡ true = e in cc
   scope-has (f ∷ fs) s (branch_else b q) at e p is n k = let a = and_parts (takes_else (Some f)) (joins b f.opening) e in narrow-back f fs s b q at a.0 a.1 n k
-  scope-has fs s closer at e p is n k = let g : None ≡ Some p = is in cc
-  scope-has fs s jump at e p is n k = let g : None ≡ Some p = is in cc
+  scope-has fs s _ at e p is n k = let g : None ≡ Some p = is in cc
 
   module _ (fs : List Frame) (s : Stands xs i known fs) (a : Act) (at : slice_get xs i ≡ Some (act_role a)) (e : is_placed a (top fs) ≡ true) where
     pub none-unknown : IsKnown (used (names_in a)) (names_at a (top fs) names) → IsUndeclared xs i a → ⊥

@@ -1,5 +1,6 @@
--- Each tree of a set is kept as files are added.
-use Rattle.std.proofs.Common.{◌≡◌, ◌≤◌, length, ℕ, zero, suc, slice_get, Bool, true, false, List, [], ◌∷◌, Option, Some, None, Ok, refl, sym, subst, cond, if◌then◌else◌, Bor, map}
+-- For the invariant of `Set`: each tree of a set is kept as files are added.
+use Rattle.std.proofs.Common.{◌≡◌, ◌≤◌, length, ℕ, zero, suc, slice_get, Bool, true, false, List, [], ◌∷◌, Option, Some, None, Ok, refl}
+use Rattle.std.proofs.Common.{sym, subst, cond, if◌then◌else◌, Bor, map}
 use Rattle.std.specs.Prelude.{IfSome, find}
 use Rattle.std.specs.Option.{option_map}
 use Rattle.std.specs.Str.{bytes_eq}
@@ -10,7 +11,7 @@ use Rattle.tmpl_syntax.specs.declared.tree.Tree as held
 use Rattle.tmpl_syntax.specs.Language.{every_branch}
 use Rattle.tmpl_syntax.specs.Item.{Item}
 use Rattle.tmpl_syntax.specs.Place.Role.{roles_of}
-use Rattle.tmpl_syntax.specs.Place.Body.{Verdict, fine, refused, left_open}
+use Rattle.tmpl_syntax.specs.Place.Body.{Verdict, fine}
 use Rattle.tmpl_syntax.specs.Set.{Template, has_name, tree_named, is_blank, chosen, defined, defined_each}
 use Rattle.tmpl_syntax.specs.Kept.{IsKept, AreKept}
 use Rattle.tmpl_syntax.specs.Parse.{last_line, base_name, most_bytes, all_defined, template_in}
@@ -66,7 +67,8 @@ named-kept name (t ∷ ts) h = go (bytes_eq name t.0) (named-kept name ts h.2)
     go true more = h.1
     go false more = more
 
-pub found-kept : (name : List ℕ) (ts : List Template) (o : Option (Bor held.Tree)) → AreKept ts → option_map (λ (t : Bor held.Tree). tree_of t.now) o ≡ tree_named name ts → IfSome o (λ (t : Bor held.Tree). IsKept (tree_of t.now))
+pub found-kept : (name : List ℕ) (ts : List Template) (o : Option (Bor held.Tree)) → AreKept ts
+    → option_map (λ (t : Bor held.Tree). tree_of t.now) o ≡ tree_named name ts → IfSome o (λ (t : Bor held.Tree). IsKept (tree_of t.now))
 found-kept name ts None h e = tt
 found-kept name ts (Some t) h e = subst IsKeptIf (sym e) (named-kept name ts h)
 
@@ -74,8 +76,7 @@ found-kept name ts (Some t) h e = subst IsKeptIf (sym e) (named-kept name ts h)
 
 verdict-fine : (last : ℕ) (items : List Item) (v : Verdict) → by_verdict last items v ≡ Ok tt → v ≡ fine
 verdict-fine last items fine e = refl
-verdict-fine last items (refused i f) e = absurd (let g : ⊥ = cc in g)
-verdict-fine last items left_open e = absurd (let g : ⊥ = cc in g)
+verdict-fine last items _ e = absurd (let g : ⊥ = cc in g)
 
 checked-verdict : (bytes : List ℕ) (items : List Item) → checked bytes items ≡ Ok tt → verdict_of (roles_of items) ≡ fine
 unfolding checked
@@ -91,12 +92,14 @@ pub kept-printable : (ts : List Template) → AreKept ts → ArePrintable ts
 kept-printable [] h = tt
 kept-printable (t ∷ ts) h = (h.0, h.1.printable, kept-printable ts h.2)
 
-printable-all : (file : List ℕ) (ds : List Definition) (own : Nodes) → AreBytes (base_name file) → ArePrintable (map (template_in file) ds) → IsPrintable own → ArePrintable (map (template_in file) (all_defined file ds own))
+printable-all : (file : List ℕ) (ds : List Definition) (own : Nodes) → AreBytes (base_name file) → ArePrintable (map (template_in file) ds)
+    → IsPrintable own → ArePrintable (map (template_in file) (all_defined file ds own))
 printable-all file [] own name p o = (name, o, tt)
 printable-all file (d ∷ ds) own name p o = (p.0, p.1, printable-all file ds own name p.2 o)
 
 -- the templates of a file are kept; these are those that were built
-pub file-kept : (file bytes : List ℕ) (ts : List Template) → AreBytes (base_name file) → AreBytes bytes → length bytes ≤ most_bytes → checked bytes (items_of bytes) ≡ Ok tt → ts ≡ map (template_in file) (all_from (base_name file) (items_of bytes)) → AreKept ts
+pub file-kept : (file bytes : List ℕ) (ts : List Template) → AreBytes (base_name file) → AreBytes bytes → length bytes ≤ most_bytes
+    → checked bytes (items_of bytes) ≡ Ok tt → ts ≡ map (template_in file) (all_from (base_name file) (items_of bytes)) → AreKept ts
 file-kept file bytes ts name h within passed built =
     let items = items_of bytes in
     let ds = definitions_from items in

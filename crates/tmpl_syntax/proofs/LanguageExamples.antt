@@ -1,4 +1,4 @@
--- What the languages that else branches tell apart read of some tokens.
+-- For the reader of languages: what those that else branches tell apart read of some tokens.
 use Rattle.std.proofs.Common.{◌≡◌, List, [], ◌∷◌, false, refl, subst, codes}
 use Rattle.tmpl_lex.specs.declared.piece.TokenKind.TheVariants as kind
 use Rattle.tmpl_lex.specs.Piece.{Token, action}

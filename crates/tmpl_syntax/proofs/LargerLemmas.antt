@@ -1,9 +1,9 @@
--- What a language accepts, one with more else branches accepts.
+-- For `more_branches`: what a language accepts, one with more else branches accepts.
 use Rattle.std.proofs.Common.{◌≡◌, ◌∙◌, ℕ, true, suc, List, Option, Some, None, Ok, refl, ap, sym, length}
 use Rattle.std.specs.Prelude.{slice_get}
 use Rattle.tmpl_lex.specs.Piece.{Piece}
-use Rattle.tmpl_grammar.specs.Action.{Action, pipeline_action, opening, plain_else, else_branch, end_action, break_action, continue_action, define_action, template_action, block_action}
-use Rattle.tmpl_syntax.specs.declared.fault.Fault.TheVariants.{NotAnAction}
+use Rattle.tmpl_grammar.specs.Action.{Action, else_branch}
+use Rattle.tmpl_syntax.specs.Fault as reason
 use Rattle.tmpl_syntax.specs.Language.{Branches, every_branch, go_1_22, has_action}
 use Rattle.tmpl_syntax.specs.Item.{Item, IsItem, a_text, an_unreadable, unread, too_deep, read, AreItems, no_item, an_item}
 use Rattle.tmpl_syntax.specs.Place.Role.{Role, unread_role, role_of, roles_of}
@@ -21,20 +21,12 @@ abbrev AllRead : List Role → Type 0
 AllRead xs = (k : ℕ) → slice_get xs k ≡ Some unread_role → ⊥
 
 all-read : (xs : List Role) → NoneRefused xs (length xs) → AllRead xs
-all-read xs none k at = none k NotAnAction (within xs k NotAnAction (unread_applies at)) (unread_applies at)
+all-read xs none k at = none k reason.not_an_action (within xs k reason.not_an_action (unread_applies at)) (unread_applies at)
 
 module _ (large small : Branches) (more : IsLarger large small) where
   has-more : (a : Action) → has_action small a ≡ true → has_action large a ≡ true
-  has-more (pipeline_action h) t = refl
-  has-more (opening c h) t = refl
-  has-more plain_else t = refl
   has-more (else_branch b h) t = more b t
-  has-more end_action t = refl
-  has-more break_action t = refl
-  has-more continue_action t = refl
-  has-more (define_action name) t = refl
-  has-more (template_action name given) t = refl
-  has-more (block_action name p) t = refl
+  has-more _ t = refl
 
   same-item : {p : Piece} {x : Item} → IsItem small p x → (role_of x ≡ unread_role → ⊥) → IsItem large p x
   same-item a_text h = a_text

@@ -1,4 +1,4 @@
--- Templates of a set, by name and by number.
+-- For the crates above: templates of a set, by name and by number.
 use Rattle.std.proofs.lemmas.Bool.Decides.{nat_tests}
 use Rattle.std.proofs.Common.{arith, ◌≡◌, ◌∙◌, ◌≤◌, ◌<◌, nat_lt, ℕ, Bool, true, false, cond, List, [], length, get_or, refl, ap, Some, None}
 use Rattle.std.specs.Prelude.{slice_get, option_map}
@@ -39,6 +39,7 @@ numbered name ts k e = record { t = get_or ts k some; at = at; same = (bytes_eq-
 pub unnumbered : (name : List ℕ) (ts : List Template) → number_of name ts ≡ None → tree_named name ts ≡ None
 unnumbered name ts e = ap (λ o. option_map (λ (t : Template). t.1) o) (find_at (has_name name) ts ∙ slice_get_past ts (position_or_len (has_name name) ts) (by (nat_lt (position_or_len (has_name name) ts) (length ts)) refl e))
   where
-    by : (b : Bool) → nat_lt (position_or_len (has_name name) ts) (length ts) ≡ b → cond b (Some (position_or_len (has_name name) ts)) None ≡ None → length ts ≤ position_or_len (has_name name) ts
+    by : (b : Bool) → nat_lt (position_or_len (has_name name) ts) (length ts) ≡ b
+        → cond b (Some (position_or_len (has_name name) ts)) None ≡ None → length ts ≤ position_or_len (has_name name) ts
     by true is e = cc
     by false is e = grind (arith, nat_tests)

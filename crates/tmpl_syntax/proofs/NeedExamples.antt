@@ -1,7 +1,8 @@
--- What some templates need, computed.
+-- For the reader of `Need`: what some templates need, computed.
 use Rattle.std.proofs.Common.{◌≡◌, ℕ, List, [], ◌∷◌, refl, codes, pos}
 use Rattle.tmpl_funcs.specs.declared.func.Func.TheVariants.{Eq, Print}
-use Rattle.tmpl_grammar.specs.Tree.{Operand, dot, variable, number_constant, function, operands_from, commands_from, pipeline, Binding, unbound, declare, assign, declare_pair, Header}
+use Rattle.tmpl_grammar.specs.Tree.{Operand, dot, variable, number_constant, function, operands_from, commands_from, pipeline, Binding}
+use Rattle.tmpl_grammar.specs.Tree.{unbound, declare, assign, declare_pair, Header}
 use Rattle.tmpl_grammar.specs.declared.tree.Control.{Control}
 use Rattle.tmpl_grammar.specs.declared.tree.Control.TheVariants as control
 use Rattle.tmpl_syntax.specs.Tree.{NodeKind, Nodes, none, then, text, action, control_node, break_node}

@@ -1,4 +1,4 @@
--- What a template needs is no more than three and the bytes of its file.
+-- For `bounded_need`: what a template needs is no more than three and the bytes of its file.
 use Rattle.std.proofs.Common.{arith, ◌≤◌, ℕ, ◌+◌, List, [], ◌∷◌, length, map}
 use Rattle.tmpl_lex.specs.Piece.{Piece}
 use Rattle.tmpl_lex.proofs.WeightLemmas.{weight_of, weight, weight-within}
@@ -10,8 +10,9 @@ use Rattle.tmpl_grammar.proofs.NeedLemmas.{cells_of, action-within}
 use Rattle.tmpl_syntax.specs.Tree.{Nodes, Definition}
 use Rattle.tmpl_syntax.specs.Set.{Template}
 use Rattle.tmpl_syntax.specs.Language.{Branches}
-use Rattle.tmpl_syntax.specs.Item.{Item, item, text_item, unreadable_item, unread_item, deep_item, action_item, IsItem, a_text as text_read, an_unreadable, unread, too_deep, read, AreItems, no_item, an_item}
-use Rattle.tmpl_syntax.specs.Spelling.{Leads, nothing, a_text, an_action, a_break, a_continue, a_control, a_template, a_define, a_block, Closes, an_end, an_else, an_else_branch}
+use Rattle.tmpl_syntax.specs.Item.{Item, item, action_item, IsItem, a_text as text_read, an_unreadable, unread, too_deep, read, AreItems, no_item, an_item}
+use Rattle.tmpl_syntax.specs.Spelling.{Leads, nothing, a_text, an_action, a_break, a_continue, a_control, a_template, a_define, a_block}
+use Rattle.tmpl_syntax.specs.Spelling.{Closes, an_end, an_else, an_else_branch}
 use Rattle.tmpl_syntax.specs.Need.{need_of_parts, need_of_nodes, NeedAtMost, most_need}
 use Rattle.tmpl_syntax.specs.Parse.{all_defined, template_in}
 use Rattle.tmpl_syntax.specs.Laws.{NeedsAtMostBytes, NeedsAtMost}
@@ -19,11 +20,8 @@ use Rattle.tmpl_syntax.specs.Laws.{NeedsAtMostBytes, NeedsAtMost}
 -- ---- items
 
 abbrev cells_at : Item → ℕ
-cells_at (item line (text_item bytes)) = 0
-cells_at (item line unreadable_item) = 0
-cells_at (item line unread_item) = 0
-cells_at (item line (deep_item shape)) = 0
 cells_at (item line (action_item a)) = cells_of a
+cells_at _ = 0
 
 abbrev cells : List Item → ℕ
 cells [] = 0
@@ -47,8 +45,7 @@ items-within (an_item {p = p} {x = x} {ps = ps} {xs = xs} i is) =
 
 parts-within : (c : Control) (declared body other : ℕ) → need_of_parts c declared body other ≤ 2 + declared + body + other
 parts-within control.If declared body other = omega arith
-parts-within control.With declared body other = omega arith
-parts-within control.Range declared body other = omega arith
+parts-within _ declared body other = omega arith
 
 mutual
   leads-within : {xs ys : List Item} {ds es : List Definition} {ns : Nodes} → Leads xs ds ns ys es → need_of_nodes ns + cells ys ≤ cells xs
@@ -117,7 +114,8 @@ mutual
 
 -- ---- files
 
-all-within : (file : List ℕ) (n : ℕ) (ds : List Definition) (own : Nodes) → Within n ds → need_of_nodes own ≤ n → NeedAtMost (3 + n) (map (template_in file) (all_defined file ds own))
+all-within : (file : List ℕ) (n : ℕ) (ds : List Definition) (own : Nodes) → Within n ds → need_of_nodes own ≤ n
+    → NeedAtMost (3 + n) (map (template_in file) (all_defined file ds own))
 all-within file n [] own w le = (omega (arith, le), tt)
 all-within file n (d ∷ ds) own w le = let here = w.0 in (omega (arith, here), all-within file n ds own w.1 le)
 

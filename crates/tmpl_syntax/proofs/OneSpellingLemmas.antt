@@ -1,36 +1,27 @@
--- A list of items spells definitions and nodes in one way at most.
+-- For `one_spelling`: a list of items spells definitions and nodes in one way at most.
 use Rattle.std.proofs.Common.{◌≡◌, ℕ, Bool, true, false, List, [], ◌∷◌, Some, refl, sym, ap, ◌∙◌, subst, drop}
 use Rattle.tmpl_syntax.specs.Tree.{NodeKind, text, action, control_node, break_node, continue_node, template_node, Nodes, none, then, Definition}
-use Rattle.tmpl_grammar.specs.Action.{Action, pipeline_action, opening, plain_else, else_branch, end_action, break_action, continue_action, define_action, template_action, block_action, control_in}
-use Rattle.tmpl_syntax.specs.Item.{Item, item, text_item, unreadable_item, unread_item, deep_item, action_item}
-use Rattle.tmpl_syntax.specs.Spelling.{definition, Leads, nothing, a_text, an_action, a_break, a_continue, a_control, a_template, a_define, a_block, Closes, an_end, an_else, an_else_branch}
+use Rattle.tmpl_grammar.specs.Action.{Action, plain_else, else_branch, end_action, control_in}
+use Rattle.tmpl_syntax.specs.Item.{Item, item, action_item}
+use Rattle.tmpl_syntax.specs.Spelling.{definition, Leads, nothing, a_text, an_action, a_break, a_continue, a_control, a_template, a_define}
+use Rattle.tmpl_syntax.specs.Spelling.{a_block, Closes, an_end, an_else, an_else_branch}
 use Rattle.tmpl_syntax.specs.Laws.{SpellsAtMostOne}
 
 -- an action that ends a part
 abbrev ends_part : Action → Bool
-ends_part (pipeline_action h) = false
-ends_part (opening c h) = false
 ends_part plain_else = true
 ends_part (else_branch branch h) = true
 ends_part end_action = true
-ends_part break_action = false
-ends_part continue_action = false
-ends_part (define_action name) = false
-ends_part (template_action name given) = false
-ends_part (block_action name p) = false
+ends_part _ = false
 
 abbrev stops : List Item → Bool
 stops [] = true
-stops (item line (text_item bytes) ∷ xs) = false
-stops (item line unreadable_item ∷ xs) = false
-stops (item line unread_item ∷ xs) = false
-stops (item line (deep_item shape) ∷ xs) = false
 stops (item line (action_item a) ∷ xs) = ends_part a
+stops _ = false
 
 closes-stops : {xs ys : List Item} {ds es : List Definition} {ns : Nodes} → Closes xs ds ns ys es → stops xs ≡ true
-closes-stops an_end = refl
 closes-stops (an_else d) = refl
-closes-stops (an_else_branch d c) = refl
+closes-stops _ = refl
 
 no-stop : {A : Type 0} → true ≡ false → A
 no-stop e = absurd (let g : ⊥ = cc in g)
@@ -40,31 +31,20 @@ abbrev Same : Nodes → Nodes → List Item → List Item → List Definition �
 Same ns ms ys zs ds fs es gs = (ns ≡ ms) × (ys ≡ zs) × (es ≡ gs → ds ≡ fs)
 
 -- a node more at the front
-same-then : (line : ℕ) (n : NodeKind) (ns ms : Nodes) (ys zs : List Item) (ds fs es gs : List Definition) → Same ns ms ys zs ds fs es gs → Same (then line n ns) (then line n ms) ys zs ds fs es gs
+same-then : (line : ℕ) (n : NodeKind) (ns ms : Nodes) (ys zs : List Item) (ds fs es gs : List Definition) → Same ns ms ys zs ds fs es gs
+    → Same (then line n ns) (then line n ms) ys zs ds fs es gs
 same-then line n ns ms ys zs ds fs es gs s = (ap (then line n) s.0, s.1, s.2)
 
 mutual
-  one-leads : {xs ys zs : List Item} {ds es fs gs : List Definition} {ns ms : Nodes} → Leads xs ds ns ys es → Leads xs fs ms zs gs → stops ys ≡ true → stops zs ≡ true → Same ns ms ys zs ds fs es gs
+  one-leads : {xs ys zs : List Item} {ds es fs gs : List Definition} {ns ms : Nodes} → Leads xs ds ns ys es → Leads xs fs ms zs gs
+      → stops ys ≡ true → stops zs ≡ true → Same ns ms ys zs ds fs es gs
   one-leads nothing nothing s t = (refl, refl, λ e. e)
-  one-leads nothing (a_text e) s t = no-stop (sym s)
-  one-leads nothing (an_action e) s t = no-stop (sym s)
-  one-leads nothing (a_break e) s t = no-stop (sym s)
-  one-leads nothing (a_continue e) s t = no-stop (sym s)
-  one-leads nothing (a_control e f g) s t = no-stop (sym s)
-  one-leads nothing (a_template e) s t = no-stop (sym s)
-  one-leads nothing (a_define e f) s t = no-stop (sym s)
-  one-leads nothing (a_block e f) s t = no-stop (sym s)
-  one-leads (a_text d) nothing s t = no-stop (sym t)
   one-leads (a_text {line = l} {bytes = b} d) (a_text e) s t = same-then l (text b) _ _ _ _ _ _ _ _ (one-leads d e s t)
-  one-leads (an_action d) nothing s t = no-stop (sym t)
   one-leads (an_action {line = l} {h = h} d) (an_action e) s t = same-then l (action h) _ _ _ _ _ _ _ _ (one-leads d e s t)
-  one-leads (a_break d) nothing s t = no-stop (sym t)
   one-leads (a_break {line = l} d) (a_break e) s t = same-then l break_node _ _ _ _ _ _ _ _ (one-leads d e s t)
-  one-leads (a_continue d) nothing s t = no-stop (sym t)
   one-leads (a_continue {line = l} d) (a_continue e) s t = same-then l continue_node _ _ _ _ _ _ _ _ (one-leads d e s t)
-  one-leads (a_template d) nothing s t = no-stop (sym t)
-  one-leads (a_template {line = l} {name = name} {given = given} d) (a_template e) s t = same-then l (template_node name given) _ _ _ _ _ _ _ _ (one-leads d e s t)
-  one-leads (a_control d f g) nothing s t = no-stop (sym t)
+  one-leads (a_template {line = l} {name = name} {given = given} d) (a_template e) s t =
+      same-then l (template_node name given) _ _ _ _ _ _ _ _ (one-leads d e s t)
   one-leads (a_control {line = l} {c = c} {h = r} {body = b} {other = o} {ns = ns} d f g) (a_control {zs = zs} {ws = ws} {es = es} {fs = fs} {gs = gs} {body = b'} {other = o'} {ns = ns'} e h k) s t =
       let p = one-leads d e (closes-stops f) (closes-stops h) in
       let q = one-closes f (subst (λ y. Closes y es o' zs fs) (sym p.1) h) in
@@ -73,12 +53,10 @@ mutual
         n.1,
         λ left. p.2 (q.2 (n.2 left)),
       )
-  one-leads (a_define d f) nothing s t = no-stop (sym t)
   one-leads (a_define {line = l} {name = name} {ds = ds} d f) (a_define {zs = zs} {es = es} {fs = fs} {body = b'} {ns = ns'} e g) s t =
       let p = one-leads d e refl refl in
       let n = one-leads f (subst (λ y. Leads y es ns' zs fs) (sym (ap (drop 1) p.1)) g) s t in
       (n.0, n.1, λ left. ap (λ b. definition l name b ∷ ds) p.0 ∙ ap (λ more. definition l name b' ∷ more) (p.2 (n.2 left)))
-  one-leads (a_block d f) nothing s t = no-stop (sym t)
   one-leads (a_block {line = l} {name = name} {p = q} {ds = ds} d f) (a_block {zs = zs} {es = es} {fs = fs} {body = b'} {ns = ns'} e g) s t =
       let p = one-leads d e refl refl in
       let n = one-leads f (subst (λ y. Leads y es ns' zs fs) (sym (ap (drop 1) p.1)) g) s t in (
@@ -86,8 +64,11 @@ mutual
         n.1,
         λ left. ap (λ b. definition l name b ∷ ds) p.0 ∙ ap (λ more. definition l name b' ∷ more) (p.2 (n.2 left)),
       )
+  one-leads _ nothing s t = no-stop (sym t)
+  one-leads nothing _ s t = no-stop (sym s)
 
-  one-closes : {xs ys zs : List Item} {ds es fs gs : List Definition} {ns ms : Nodes} → Closes xs ds ns ys es → Closes xs fs ms zs gs → Same ns ms ys zs ds fs es gs
+  one-closes : {xs ys zs : List Item} {ds es fs gs : List Definition} {ns ms : Nodes} → Closes xs ds ns ys es → Closes xs fs ms zs gs
+      → Same ns ms ys zs ds fs es gs
   one-closes an_end an_end = (refl, refl, λ e. e)
   one-closes (an_else d) (an_else e) = let p = one-leads d e refl refl in (p.0, ap (drop 1) p.1, p.2)
   one-closes (an_else_branch {line = l} {branch = br} {h = h} {other = o} d f) (an_else_branch {zs = zs} {es = es} {fs = fs} {body = n'} {other = o'} e g) =

@@ -1,31 +1,34 @@
--- A list has one verdict.
+-- For `one_verdict`: a list has one verdict at most.
 use Rattle.std.proofs.Common.{arith, ◌≡◌, ℕ, ◌<◌, List, length, refl, subst, ⊎_elim}
 use Rattle.std.proofs.lemmas.Bool.{cases_order}
 use Rattle.std.proofs.lemmas.Option.{slice_get_within}
-use Rattle.tmpl_syntax.specs.declared.fault.Fault.{Fault}
-use Rattle.tmpl_syntax.specs.declared.fault.Fault.TheVariants.{Unreadable, NotAnAction, OutOfPlace, NestedTooDeeply, UndeclaredVariable}
-use Rattle.tmpl_syntax.specs.Place.Body.{Applies, unreadable, unread, misplaced, too_deep, undeclared, rank, IsRefused, Verdict, fine, refused, left_open, Judged}
+use Rattle.tmpl_syntax.specs.Fault.{Reason, rank}
+use Rattle.tmpl_syntax.specs.Fault as reason
+use Rattle.tmpl_syntax.specs.Place.Body.{Applies, unreadable, unread, misplaced, too_deep, undeclared, IsRefused, Verdict, fine, refused, left_open, Judged}
 use Rattle.tmpl_syntax.specs.Place.Role.{Role, unreadable_role, unread_role, act_role}
 
-pub within : (xs : List Role) (i : ℕ) (f : Fault) → Applies xs i f → i < length xs
-within xs i Unreadable (unreadable e) = slice_get_within xs i unreadable_role e
-within xs i NotAnAction (unread e) = slice_get_within xs i unread_role e
-within xs i OutOfPlace (misplaced {a = a} e m) = slice_get_within xs i (act_role a) e
-within xs i NestedTooDeeply (too_deep {a = a} e m) = slice_get_within xs i (act_role a) e
-within xs i UndeclaredVariable (undeclared {a = a} e m) = slice_get_within xs i (act_role a) e
+pub within : (xs : List Role) (i : ℕ) (f : Reason) → Applies xs i f → i < length xs
+within xs i _ (unreadable e) = slice_get_within xs i unreadable_role e
+within xs i _ (unread e) = slice_get_within xs i unread_role e
+within xs i _ (misplaced {a = a} e m) = slice_get_within xs i (act_role a) e
+within xs i _ (too_deep {a = a} e m) = slice_get_within xs i (act_role a) e
+within xs i _ (undeclared {a = a} e m) = slice_get_within xs i (act_role a) e
 
-same-rank : (f g : Fault) → rank f ≡ rank g → f ≡ g
-same-rank Unreadable Unreadable e = refl
-same-rank NotAnAction NotAnAction e = refl
-same-rank OutOfPlace OutOfPlace e = refl
-same-rank NestedTooDeeply NestedTooDeeply e = refl
-same-rank UndeclaredVariable UndeclaredVariable e = refl
+same-rank : (f g : Reason) → rank f ≡ rank g → f ≡ g
+same-rank reason.too_long reason.too_long e = refl
+same-rank reason.unreadable reason.unreadable e = refl
+same-rank reason.not_an_action reason.not_an_action e = refl
+same-rank reason.out_of_place reason.out_of_place e = refl
+same-rank reason.nested_too_deeply reason.nested_too_deeply e = refl
+same-rank reason.undeclared_variable reason.undeclared_variable e = refl
+same-rank reason.open_at_end reason.open_at_end e = refl
+same-rank reason.second_definition reason.second_definition e = refl
 same-rank f g e = absurd (omega arith)
 
-same-fault : (xs : List Role) (i : ℕ) (f g : Fault) → IsRefused xs i f → IsRefused xs i g → f ≡ g
-same-fault xs i f g a b = ⊎_elim (λ e. same-rank f g e) (λ o. ⊎_elim (λ lt. absurd (b.first_fault f lt a.applies)) (λ gt. absurd (a.first_fault g gt b.applies)) o) (cases_order (rank f) (rank g))
+same-fault : (xs : List Role) (i : ℕ) (f g : Reason) → IsRefused xs i f → IsRefused xs i g → f ≡ g
+same-fault xs i f g a b = ⊎_elim (λ e. same-rank f g e) (λ o. ⊎_elim (λ lt. absurd (b.first_reason f lt a.applies)) (λ gt. absurd (a.first_reason g gt b.applies)) o) (cases_order (rank f) (rank g))
 
-same-refused : (xs : List Role) (i j : ℕ) (f g : Fault) → IsRefused xs i f → IsRefused xs j g → refused i f ≡ refused j g
+same-refused : (xs : List Role) (i j : ℕ) (f g : Reason) → IsRefused xs i f → IsRefused xs j g → refused i f ≡ refused j g
 same-refused xs i j f g a b = ⊎_elim
     (λ e. let s = same-fault xs j f g (subst (λ k. IsRefused xs k f) e a) b in cc)
     (λ o. ⊎_elim (λ lt. absurd (b.first_item i f lt a.applies)) (λ gt. absurd (a.first_item j g gt b.applies)) o)
@@ -37,7 +40,5 @@ one-verdict xs left_open left_open a b = refl
 one-verdict xs (refused i f) (refused j g) a b = same-refused xs i j f g a b
 one-verdict xs fine left_open a b = absurd (a.1 b.1 b.2)
 one-verdict xs left_open fine a b = absurd (b.1 a.1 a.2)
-one-verdict xs fine (refused i f) a b = absurd (a.0 i f (within xs i f b.applies) b.applies)
-one-verdict xs left_open (refused i f) a b = absurd (a.0 i f (within xs i f b.applies) b.applies)
-one-verdict xs (refused i f) fine a b = absurd (b.0 i f (within xs i f a.applies) a.applies)
-one-verdict xs (refused i f) left_open a b = absurd (b.0 i f (within xs i f a.applies) a.applies)
+one-verdict xs _ (refused i f) a b = absurd (a.0 i f (within xs i f b.applies) b.applies)
+one-verdict xs (refused i f) _ a b = absurd (b.0 i f (within xs i f a.applies) a.applies)

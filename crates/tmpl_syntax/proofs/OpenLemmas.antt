@@ -1,5 +1,6 @@
--- What is open moves with the place.
-use Rattle.std.proofs.Common.{arith, ◌≡◌, ◌≢◌, ℕ, suc, ◌+◌, ◌-◌, ◌<◌, ◌≤◌, Bool, true, false, cond, List, [], ◌∷◌, ◌++◌, refl, sym, ap, ◌∙◌, subst, length, take, drop, get_or, length-drop, get_or-drop, zero-add, Option, Some, None, ⊎_elim}
+-- For `one_verdict`: what is open moves with the place.
+use Rattle.std.proofs.Common.{arith, ◌≡◌, ◌≢◌, ℕ, suc, ◌+◌, ◌-◌, ◌<◌, ◌≤◌, Bool, true, false, cond, List, [], ◌∷◌, ◌++◌, refl, sym, ap, ◌∙◌}
+use Rattle.std.proofs.Common.{subst, length, take, drop, get_or, length-drop, get_or-drop, zero-add, Option, Some, None, ⊎_elim}
 use Rattle.std.specs.Prelude.{slice_get, slice_range}
 use Rattle.std.specs.List.{count_by}
 use Rattle.std.proofs.lemmas.Bool.{cases_order, cases_lt}
@@ -9,8 +10,8 @@ use Rattle.std.proofs.Math.Seq.{take-suc}
 use Rattle.std.proofs.lemmas.List.Sums.{sum_by-append}
 use Rattle.tmpl_grammar.specs.declared.action.Branch.{Branch}
 use Rattle.tmpl_syntax.specs.Place.Open.{opening, there, opens, ends, IsOpening, IsOpen, IsLast, IsElseOf, IsElseBranchOf}
-use Rattle.tmpl_syntax.specs.declared.place.frame.Opening.{Opening}
-use Rattle.tmpl_syntax.specs.Place.Role.{Names, plain, opener, bare_else, branch_else, closer, jump, Role, text_role, unreadable_role, unread_role, act_role}
+use Rattle.tmpl_syntax.specs.Place.Opening.{Opening}
+use Rattle.tmpl_syntax.specs.Place.Role.{Names, bare_else, branch_else, closer, Role, act_role}
 
 abbrev pub one_if : Bool → ℕ
 one_if b = cond b 1 0
@@ -22,7 +23,8 @@ ups xs a n = count_by opens (slice_range xs a n)
 abbrev pub downs : List Role → ℕ → ℕ → ℕ
 downs xs a n = count_by ends (slice_range xs a n)
 
-pub count-split : (p : Role → Bool) (xs : List Role) (a m n : ℕ) → a ≤ m → m ≤ n → count_by p (slice_range xs a n) ≡ count_by p (slice_range xs a m) + count_by p (slice_range xs m n)
+pub count-split : (p : Role → Bool) (xs : List Role) (a m n : ℕ) → a ≤ m → m ≤ n
+    → count_by p (slice_range xs a n) ≡ count_by p (slice_range xs a m) + count_by p (slice_range xs m n)
 count-split p xs a m n low high =
     let ys = drop a xs in
     let u = m - a in
@@ -46,7 +48,8 @@ count-one p xs x n at =
     ap (λ k. count_by p (take k (drop n xs))) one ∙ ap (count_by p) (take-suc (drop n xs) 0 x inside ∙ ap (λ y. y ∷ []) same) ∙ zero-add (one_if (p x))
 
 -- one more piece in a stretch
-pub count-more : (p : Role → Bool) (xs : List Role) (x : Role) (a n : ℕ) → a ≤ n → slice_get xs n ≡ Some x → count_by p (slice_range xs a (n + 1)) ≡ count_by p (slice_range xs a n) + one_if (p x)
+pub count-more : (p : Role → Bool) (xs : List Role) (x : Role) (a n : ℕ) → a ≤ n → slice_get xs n ≡ Some x
+    → count_by p (slice_range xs a (n + 1)) ≡ count_by p (slice_range xs a n) + one_if (p x)
 count-more p xs x a n le at = count-split p xs a n (n + 1) le (omega arith) ∙ ap (λ k. count_by p (slice_range xs a n) + k) (count-one p xs x n at)
 
 -- the piece of an opening
@@ -73,15 +76,8 @@ same-opening xs j c d a b =
     let s : Some c ≡ Some d = sym p.is ∙ ap opening e ∙ q.is in cc
 
 pub opening-no-end : (x : Role) (c : Opening) → opening x ≡ Some c → ends x ≡ false
-opening-no-end text_role c e = refl
-opening-no-end unreadable_role c e = refl
-opening-no-end unread_role c e = refl
-opening-no-end (act_role (plain p)) c e = refl
-opening-no-end (act_role (opener d p)) c e = refl
-opening-no-end (act_role bare_else) c e = refl
-opening-no-end (act_role (branch_else b p)) c e = refl
 opening-no-end (act_role closer) c e = let g : None ≡ Some c = e in cc
-opening-no-end (act_role jump) c e = refl
+opening-no-end _ c e = refl
 
 pub opening-opens : (x : Role) (c : Opening) → opening x ≡ Some c → opens x ≡ true
 opening-opens x c e = ap there e
@@ -160,7 +156,8 @@ even-step xs x i at o e =
     }
 
 -- after an end stands what stood before its opening
-pub same-ended : (xs : List Role) (j i : ℕ) → IsLast xs j i → ups xs (j + 1) i ≡ downs xs (j + 1) i → slice_get xs i ≡ Some (act_role closer) → Same xs j (i + 1)
+pub same-ended : (xs : List Role) (j i : ℕ) → IsLast xs j i → ups xs (j + 1) i ≡ downs xs (j + 1) i
+    → slice_get xs i ≡ Some (act_role closer) → Same xs j (i + 1)
 same-ended xs j i l over at =
     let lt = l.is_open.before in
     let p = piece-of xs j l.is_open.opened l.is_open.at in
@@ -221,7 +218,8 @@ same-ended xs j i l over at =
         (cases_lt h i)
 
 -- .. and after a piece that is no opening, end or else
-pub same-still : (xs : List Role) (x : Role) (i : ℕ) → slice_get xs i ≡ Some x → opens x ≡ false → ends x ≡ false → x ≢ act_role bare_else → ((b : Branch) (p : Names) → x ≢ act_role (branch_else b p)) → Same xs i (i + 1)
+pub same-still : (xs : List Role) (x : Role) (i : ℕ) → slice_get xs i ≡ Some x → opens x ≡ false → ends x ≡ false → x ≢ act_role bare_else
+    → ((b : Branch) (p : Names) → x ≢ act_role (branch_else b p)) → Same xs i (i + 1)
 same-still xs x i at o e ne nt = record {
   even = even-step xs x i at o e;
   no_else = λ q h from to open_q el. let s : h ≡ i = omega arith in ne (same-piece xs i x (act_role bare_else) at (subst (λ n. slice_get xs n ≡ Some (act_role bare_else)) s el.at));

@@ -1,46 +1,45 @@
--- What is said first and what is said next are one page.
-use Rattle.std.proofs.Common.{◌≡◌, ◌∙◌, ℕ, Bool, true, false, List, [], ◌∷◌, ◌++◌, refl, sym, ap, append_assoc, append-nil, map, codes, nat_eq, length, drop, arith, ◌-◌, ◌==◌}
+-- For `print_set` and `print_tree`: what is said first and what is said next are one page.
+use Rattle.std.proofs.Common.{◌≡◌, ◌∙◌, ℕ, Bool, true, false, List, [], ◌∷◌, ◌++◌, refl, sym, ap, append_assoc, append-nil, Option, Some}
+use Rattle.std.proofs.Common.{None, map, codes, nat_eq, length, drop, arith, ◌-◌, ◌==◌}
 use Rattle.std.proofs.lemmas.List.{map-append}
 use Rattle.std.proofs.Math.Bool.{and-true}
 use Rattle.std.proofs.lemmas.Bool.{both_ways, eqb-true, false_from_ne_true}
 use Rattle.std.specs.List.{ends_with}
 use Rattle.std.specs.Cmp.Lexicographic.{pointwise}
 use Rattle.tmpl_grammar.specs.Print.{action_tokens, bytes_of}
-use Rattle.tmpl_syntax.specs.declared.print.Before.{Before}
-use Rattle.tmpl_syntax.specs.declared.print.Before.TheVariants.{Nothing}
-use Rattle.tmpl_syntax.specs.Print.Join.{Part, a_text, an_action, after, behind, ends_brace, joined, opening, parting}
+use Rattle.tmpl_syntax.specs.Print.Join.{Part, a_text, an_action, ends_brace, joined, opening, parting}
 use Rattle.tmpl_grammar.specs.Action.{Action, define_action, end_action, plain_else}
 use Rattle.tmpl_syntax.specs.Set.{Template}
 use Rattle.tmpl_syntax.specs.View.{nodes_in}
 use Rattle.tmpl_syntax.specs.declared.tree.Node as held
 use Rattle.tmpl_syntax.specs.Print.Printed.{Said, said, said_text, else_said, nodes_said, part_of, set_said}
-use Rattle.tmpl_syntax.specs.computed.Print.{Page, page_with, template_said}
+use Rattle.tmpl_syntax.specs.computed.Print.{Page, last_text, page_with, template_said}
 
-joined-append : (before : Before) (ps qs : List Part) → joined before (ps ++ qs) ≡ joined before ps ++ joined (after before ps) qs
+joined-append : (before : Option (List ℕ)) (ps qs : List Part) → joined before (ps ++ qs) ≡ joined before ps ++ joined (last_text before ps) qs
 joined-append before [] qs = refl
 joined-append before (a_text t ∷ ps) qs =
-    ap (λ bs. parting before ++ (t ++ bs)) (joined-append (behind t) ps qs) ∙
-    sym (append_assoc (parting before) (t ++ joined (behind t) ps) (joined (after (behind t) ps) qs) ∙ ap (λ bs. parting before ++ bs) (append_assoc t (joined (behind t) ps) (joined (after (behind t) ps) qs)))
+    ap (λ bs. parting before ++ (t ++ bs)) (joined-append (Some t) ps qs) ∙
+    sym (append_assoc (parting before) (t ++ joined (Some t) ps) (joined (last_text (Some t) ps) qs) ∙ ap (λ bs. parting before ++ bs) (append_assoc t (joined (Some t) ps) (joined (last_text (Some t) ps) qs)))
 joined-append before (an_action ts ∷ ps) qs =
-    let rest = joined Nothing ps in
-    let more = joined (after Nothing ps) qs in
-    ap (λ bs. opening before ++ (bytes_of ts ++ 125 ∷ 125 ∷ bs)) (joined-append Nothing ps qs) ∙
-    sym (append_assoc (opening before) (bytes_of ts ++ 125 ∷ 125 ∷ rest) more ∙ ap (λ bs. opening before ++ bs) (append_assoc (bytes_of ts) (125 ∷ 125 ∷ rest) more))
+    let rest = joined None ps in
+    let more = joined (last_text None ps) qs in
+    ap (λ bs. opening before ++ (bytes_of ts ++ (codes "}}" ++ bs))) (joined-append None ps qs) ∙
+    sym (append_assoc (opening before) (bytes_of ts ++ (codes "}}" ++ rest)) more ∙ ap (λ bs. opening before ++ bs) (append_assoc (bytes_of ts) (codes "}}" ++ rest) more))
 
-after-append : (before : Before) (ps qs : List Part) → after before (ps ++ qs) ≡ after (after before ps) qs
-after-append before [] qs = refl
-after-append before (a_text t ∷ ps) qs = after-append (behind t) ps qs
-after-append before (an_action ts ∷ ps) qs = after-append Nothing ps qs
+last-append : (before : Option (List ℕ)) (ps qs : List Part) → last_text before (ps ++ qs) ≡ last_text (last_text before ps) qs
+last-append before [] qs = refl
+last-append before (a_text t ∷ ps) qs = last-append (Some t) ps qs
+last-append before (an_action ts ∷ ps) qs = last-append None ps qs
 
 pub page_append : (p : Page) (ss rs : List Said) → page_with (page_with p ss) rs ≡ page_with p (ss ++ rs)
 unfolding page_with
 page_append p ss rs =
     let ps = map part_of ss in
     let qs = map part_of rs in
-    let bytes : (p.0 ++ joined p.1 ps) ++ joined (after p.1 ps) qs ≡ p.0 ++ joined p.1 (map part_of (ss ++ rs)) =
-    append_assoc p.0 (joined p.1 ps) (joined (after p.1 ps) qs) ∙ ap (λ bs. p.0 ++ bs) (sym (joined-append p.1 ps qs) ∙ ap (joined p.1) (sym (map-append part_of ss rs))) in
-    let end : after (after p.1 ps) qs ≡ after p.1 (map part_of (ss ++ rs)) = sym (after-append p.1 ps qs) ∙ ap (after p.1) (sym (map-append part_of ss rs)) in
-    ap (λ bs. (bs, after (after p.1 ps) qs)) bytes ∙ ap (λ (b : Before). (p.0 ++ joined p.1 (map part_of (ss ++ rs)), b)) end
+    let bytes : (p.0 ++ joined p.1 ps) ++ joined (last_text p.1 ps) qs ≡ p.0 ++ joined p.1 (map part_of (ss ++ rs)) =
+    append_assoc p.0 (joined p.1 ps) (joined (last_text p.1 ps) qs) ∙ ap (λ bs. p.0 ++ bs) (sym (joined-append p.1 ps qs) ∙ ap (joined p.1) (sym (map-append part_of ss rs))) in
+    let end : last_text (last_text p.1 ps) qs ≡ last_text p.1 (map part_of (ss ++ rs)) = sym (last-append p.1 ps qs) ∙ ap (last_text p.1) (sym (map-append part_of ss rs)) in
+    ap (λ bs. (bs, last_text (last_text p.1 ps) qs)) bytes ∙ ap (λ (b : Option (List ℕ)). (p.0 ++ joined p.1 (map part_of (ss ++ rs)), b)) end
 
 pub page_nothing : (p : Page) → page_with p [] ≡ p
 unfolding page_with
@@ -52,20 +51,20 @@ set_said_first t ts =
     ap (λ ss. said (define_action t.0) ∷ ss) (sym (append_assoc (nodes_said t.1.nodes) (said end_action ∷ said_text (codes "\n") ∷ []) (set_said ts)))
 
 -- an action, put piece by piece
-pub action-put : (before : Before) (a : Action) (old : List ℕ) {opened inside closed : List ℕ} → opened ≡ old ++ opening before
-    → inside ≡ opened ++ bytes_of (action_tokens a) → closed ≡ inside ++ codes "}}" → (closed, Nothing) ≡ page_with (old, before) (said a ∷ [])
+pub action-put : (before : Option (List ℕ)) (a : Action) (old : List ℕ) {opened inside closed : List ℕ} → opened ≡ old ++ opening before
+    → inside ≡ opened ++ bytes_of (action_tokens a) → closed ≡ inside ++ codes "}}" → (closed, None) ≡ page_with (old, before) (said a ∷ [])
 unfolding page_with
 action-put before a old {opened} {inside} {closed} h i j =
     let tokens = bytes_of (action_tokens a) in
-    ap (λ (bs : List ℕ). (bs, Nothing)) (j ∙ ap (λ bs. bs ++ codes "}}") (i ∙ ap (λ bs. bs ++ tokens) h)
+    ap (λ (bs : List ℕ). (bs, None)) (j ∙ ap (λ bs. bs ++ codes "}}") (i ∙ ap (λ bs. bs ++ tokens) h)
     ∙ append_assoc (old ++ opening before) tokens (codes "}}") ∙ append_assoc old (opening before) (tokens ++ codes "}}"))
 
 -- a text, put piece by piece
-pub text-put : (before : Before) (t old : List ℕ) {parted ended : List ℕ} → parted ≡ old ++ parting before → ended ≡ parted ++ t
-    → (ended, behind t) ≡ page_with (old, before) (said_text t ∷ [])
+pub text-put : (before : Option (List ℕ)) (t old : List ℕ) {parted ended : List ℕ} → parted ≡ old ++ parting before → ended ≡ parted ++ t
+    → (ended, Some t) ≡ page_with (old, before) (said_text t ∷ [])
 unfolding page_with
 text-put before t old {parted} {ended} h i =
-    ap (λ (bs : List ℕ). (bs, behind t)) (i ∙ ap (λ bs. bs ++ t) h ∙ append_assoc old (parting before) t ∙ ap (λ bs. old ++ (parting before ++ bs)) (sym (append-nil t)))
+    ap (λ (bs : List ℕ). (bs, Some t)) (i ∙ ap (λ bs. bs ++ t) h ∙ append_assoc old (parting before) t ∙ ap (λ bs. old ++ (parting before ++ bs)) (sym (append-nil t)))
 
 same-flipped : (a b : ℕ) → nat_eq a b ≡ true → nat_eq b a ≡ nat_eq a b
 same-flipped a b e = let same = eqb-true a b e in ap (λ x. nat_eq x a) (sym same) ∙ ap (nat_eq a) same

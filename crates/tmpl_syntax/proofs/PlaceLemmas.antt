@@ -1,5 +1,6 @@
--- Templates, levels and loops move with what is open.
-use Rattle.std.proofs.Common.{arith, ◌≡◌, ◌≢◌, ℕ, zero, suc, ◌+◌, ◌<◌, ◌≤◌, true, false, List, refl, sym, ap, ◌∙◌, subst, add-one, add-zero, Option, Some, None, ⊎_elim}
+-- For `one_verdict`: templates, levels and loops move with what is open.
+use Rattle.std.proofs.Common.{arith, ◌≡◌, ◌≢◌, ℕ, zero, suc, ◌+◌, ◌<◌, ◌≤◌, true, false, List, refl, sym, ap, ◌∙◌, subst, add-one, add-zero}
+use Rattle.std.proofs.Common.{Option, Some, None, ⊎_elim}
 use Rattle.std.specs.Prelude.{slice_get}
 use Rattle.std.proofs.lemmas.Bool.{cases_order, cases_lt}
 use Rattle.tmpl_grammar.specs.declared.action.Branch.{Branch}
@@ -7,8 +8,8 @@ use Rattle.tmpl_syntax.specs.Place.Open.{ends, IsOpening, IsOpen, IsLast, IsElse
 use Rattle.tmpl_syntax.specs.Place.Body.{is_level, IsLoop, IsLevel, of_opening, of_else_branch, Levels, none, one, other}
 use Rattle.tmpl_syntax.specs.computed.Frames.{level_of}
 use Rattle.tmpl_syntax.proofs.OpenLemmas.{same-opening, same-piece, cut, through, Even, Same, shut-at, opened-keeps, opened_new}
-use Rattle.tmpl_syntax.specs.declared.place.frame.Opening.{Opening}
-use Rattle.tmpl_syntax.specs.declared.place.frame.Opening.TheVariants as opened
+use Rattle.tmpl_syntax.specs.Place.Opening.{Opening}
+use Rattle.tmpl_syntax.specs.Place.Opening as opened
 use Rattle.tmpl_syntax.specs.Place.Role.{Names, opener, bare_else, branch_else, Role, act_role}
 
 -- at two places the bodies of the same defines and blocks are open
@@ -50,7 +51,8 @@ alike-last xs j i l nt = record {
         let c : b.is_open.opened ≡ l.is_open.opened = same-opening xs j b.is_open.opened l.is_open.opened b.is_open.at l.is_open.at in
         let t : true ≡ false = sym b.own ∙ ap is_template c ∙ nt in cc
 
-pub alike-opened : (xs : List Role) (x : Role) (i : ℕ) (c : Opening) → slice_get xs i ≡ Some x → ends x ≡ false → IsOpening (slice_get xs i) c → is_template c ≡ false → Alike xs i (i + 1)
+pub alike-opened : (xs : List Role) (x : Role) (i : ℕ) (c : Opening) → slice_get xs i ≡ Some x → ends x ≡ false
+    → IsOpening (slice_get xs i) c → is_template c ≡ false → Alike xs i (i + 1)
 alike-opened xs x i c at e o nt = record {
   to = λ k h. move-body xs k i (i + 1) h (opened-keeps xs x i k at e h.is_open);
   back = λ k h. ⊎_elim
@@ -77,7 +79,8 @@ template-apart xs j k i b le (Some t, at, here) = let lt = at.0.is_open.before i
 
 pub level-moves : (xs : List Role) (k a b : ℕ) → ((q : ℕ) → q ≤ k → IsOpen xs q a → IsOpen xs q b) → IsLevel xs k a → IsLevel xs k b
 level-moves xs k a b f (of_opening o nt) = let n = f k (omega arith) o in of_opening n (ap is_level (same-opening xs k n.opened o.opened n.at o.at) ∙ nt)
-level-moves xs k a b f (of_else_branch {j = j} t o nt) = let lt = t.belongs.is_open.before in let n = f j (omega arith) o in of_else_branch t n (ap is_level (same-opening xs j n.opened o.opened n.at o.at) ∙ nt)
+level-moves xs k a b f (of_else_branch {j = j} t o nt) =
+    let lt = t.belongs.is_open.before in let n = f j (omega arith) o in of_else_branch t n (ap is_level (same-opening xs j n.opened o.opened n.at o.at) ∙ nt)
 
 pub levels-unique : {xs : List Role} {i m n p : ℕ} → Levels xs i m n → Levels xs i m p → n ≡ p
 levels-unique none none = refl
@@ -86,10 +89,12 @@ levels-unique (one r h) (other s g) = absurd (g h)
 levels-unique (other r h) (one s g) = absurd (h g)
 levels-unique (other r h) (other s g) = levels-unique r s
 
-pub levels-move : {xs : List Role} {a m n : ℕ} → (b : ℕ) → ((k : ℕ) → k < m → IsLevel xs k a → IsLevel xs k b) → ((k : ℕ) → k < m → IsLevel xs k b → IsLevel xs k a) → Levels xs a m n → Levels xs b m n
+pub levels-move : {xs : List Role} {a m n : ℕ} → (b : ℕ) → ((k : ℕ) → k < m → IsLevel xs k a → IsLevel xs k b)
+    → ((k : ℕ) → k < m → IsLevel xs k b → IsLevel xs k a) → Levels xs a m n → Levels xs b m n
 levels-move b to back none = none
 levels-move {m = suc m} b to back (one r h) = one (levels-move b (λ k lt. to k (omega arith)) (λ k lt. back k (omega arith)) r) (to m (omega arith) h)
-levels-move {m = suc m} b to back (other r h) = other (levels-move b (λ k lt. to k (omega arith)) (λ k lt. back k (omega arith)) r) (λ l. h (back m (omega arith) l))
+levels-move {m = suc m} b to back (other r h) =
+    other (levels-move b (λ k lt. to k (omega arith)) (λ k lt. back k (omega arith)) r) (λ l. h (back m (omega arith) l))
 
 pub levels-upto : (xs : List Role) (i m n p : ℕ) → m ≤ p → ((k : ℕ) → m ≤ k → k < p → IsLevel xs k i → ⊥) → Levels xs i m n → Levels xs i p n
 levels-upto xs i m n zero le nt r = let e : m ≡ zero = omega arith in subst (λ k. Levels xs i k n) e r
@@ -116,7 +121,8 @@ levels-same xs j m n s r =
 pub levels-even : (xs : List Role) (i n : ℕ) → Even xs i (i + 1) → Levels xs i i n → Levels xs (i + 1) i n
 levels-even xs i n e r = levels-move (i + 1) (λ k lt. level-moves xs k i (i + 1) (λ q le. e.keeps q)) (λ k lt. level-moves xs k (i + 1) i (λ q le. e.only q)) r
 
-pub no-else_branch : (xs : List Role) (x : Role) (i j : ℕ) → slice_get xs i ≡ Some x → ((b : Branch) (p : Names) → x ≢ act_role (branch_else b p)) → IsElseBranchOf xs j i → ⊥
+pub no-else_branch : (xs : List Role) (x : Role) (i j : ℕ) → slice_get xs i ≡ Some x
+    → ((b : Branch) (p : Names) → x ≢ act_role (branch_else b p)) → IsElseBranchOf xs j i → ⊥
 no-else_branch xs x i j at ne t = ne t.branch t.names (same-piece xs i x (act_role (branch_else t.branch t.names)) at t.at)
 
 pub levels-else : (xs : List Role) (i n : ℕ) → Even xs i (i + 1) → slice_get xs i ≡ Some (act_role bare_else) → Levels xs i i n → Levels xs (i + 1) (i + 1) n
@@ -126,12 +132,14 @@ levels-else xs i n e at r = levels-no xs (i + 1) i n (levels-even xs i n e r) fr
     fresh (of_opening o nt) = shut-at xs (act_role bare_else) i (i + 1) at refl o
     fresh (of_else_branch {j = q} t o nt) = no-else_branch xs (act_role bare_else) i q at (λ b p g. cc) t
 
-pub levels-else_branch : (xs : List Role) (i j n : ℕ) → Even xs i (i + 1) → (t : IsElseBranchOf xs j i) → is_level t.belongs.is_open.opened ≡ true → Levels xs i i n → Levels xs (i + 1) (i + 1) (n + 1)
+pub levels-else_branch : (xs : List Role) (i j n : ℕ) → Even xs i (i + 1) → (t : IsElseBranchOf xs j i)
+    → is_level t.belongs.is_open.opened ≡ true → Levels xs i i n → Levels xs (i + 1) (i + 1) (n + 1)
 levels-else_branch xs i j n e t nt r =
     let o = e.keeps j t.belongs.is_open in
     levels-yes xs (i + 1) i n (levels-even xs i n e r) (of_else_branch t o (ap is_level (same-opening xs j o.opened t.belongs.is_open.opened o.at t.belongs.is_open.at) ∙ nt))
 
-pub levels-opened : (xs : List Role) (i n : ℕ) (c : Opening) (p : Names) → slice_get xs i ≡ Some (act_role (opener c p)) → IsOpening (slice_get xs i) c → Levels xs i i n → Levels xs (i + 1) (i + 1) (n + level_of c)
+pub levels-opened : (xs : List Role) (i n : ℕ) (c : Opening) (p : Names) → slice_get xs i ≡ Some (act_role (opener c p))
+    → IsOpening (slice_get xs i) c → Levels xs i i n → Levels xs (i + 1) (i + 1) (n + level_of c)
 levels-opened xs i n c p at o r = go c o
   where
     below : Levels xs (i + 1) i n
@@ -147,9 +155,9 @@ levels-opened xs i n c p at o r = go c o
     no d od nt (of_else_branch {j = q} t h is) = no-else_branch xs (act_role (opener c p)) i q at (λ b r g. cc) t
 
     go : (d : Opening) → IsOpening (slice_get xs i) d → Levels xs (i + 1) (i + 1) (n + level_of d)
-    go (opened.Control d) od = yes (opened.Control d) od refl
-    go opened.Define od = subst (λ k. Levels xs (i + 1) (i + 1) k) (sym (add-zero n)) (levels-no xs (i + 1) i n below (no opened.Define od refl))
-    go opened.Block od = yes opened.Block od refl
+    go (opened.control d) od = yes (opened.control d) od refl
+    go opened.define od = subst (λ k. Levels xs (i + 1) (i + 1) k) (sym (add-zero n)) (levels-no xs (i + 1) i n below (no opened.define od refl))
+    go opened.block od = yes opened.block od refl
 
 -- loops
 
@@ -174,4 +182,5 @@ pub loop-same : (xs : List Role) (j m : ℕ) → Same xs j m → InLoop xs j →
 loop-same xs j m s l = (l.0, loop-moves xs l.0 j m (alike-even xs j m s.even) (s.even.keeps l.0 l.1.is_open) (else-same xs l.0 j m s l.1.is_open) l.1)
 
 pub loop-same-back : (xs : List Role) (j m : ℕ) → Same xs j m → InLoop xs m → InLoop xs j
-loop-same-back xs j m s l = (l.0, loop-moves xs l.0 m j (alike-back xs j m (alike-even xs j m s.even)) (s.even.only l.0 l.1.is_open) (else_before xs l.0 j m s.even.le) l.1)
+loop-same-back xs j m s l =
+    (l.0, loop-moves xs l.0 m j (alike-back xs j m (alike-even xs j m s.even)) (s.even.only l.0 l.1.is_open) (else_before xs l.0 j m s.even.le) l.1)

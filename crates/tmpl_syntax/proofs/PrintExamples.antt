@@ -1,4 +1,4 @@
--- What the definitions print of some trees and sets, computed.
+-- For the reader of what is printed: some trees and sets, computed.
 use Rattle.std.proofs.Common.{◌≡◌, pos, negsuc, ℕ, true, List, [], ◌∷◌, Option, Some, None, refl, codes}
 use Rattle.std.specs.Char.{encode_utf8}
 use Rattle.std.specs.Str.{chars}
@@ -7,7 +7,8 @@ use Rattle.tmpl_values.specs.Rune.{runes, first_rune}
 use Rattle.tmpl_values.specs.Printable.{printable}
 use Rattle.tmpl_values.specs.Quote.{quote}
 use Rattle.tmpl_funcs.specs.declared.func.Func.TheVariants.{Len}
-use Rattle.tmpl_grammar.specs.Tree.{Operand, dot, fields, variable, number_constant, function, group, no_operand, operand, no_command, command, Pipeline, pipeline, Binding, unbound, declare, declare_pair, Header}
+use Rattle.tmpl_grammar.specs.Tree.{Operand, dot, fields, variable, number_constant, function, group, no_operand, operand, no_command}
+use Rattle.tmpl_grammar.specs.Tree.{command, Pipeline, pipeline, Binding, unbound, declare, declare_pair, Header}
 use Rattle.tmpl_grammar.specs.declared.tree.Control.TheVariants as control
 use Rattle.tmpl_syntax.specs.Tree.{Nodes, none, then, text, action, control_node, break_node, template_node}
 use Rattle.tmpl_syntax.specs.Set.{Template}
@@ -84,7 +85,8 @@ no-template : printed_set [] ≡ []
 no-template = refl
 
 -- a newline behind the `end`
-a-definition : Prints → printed_set (template (codes "a") (then 1 (text (codes "x")) (call (codes "b") None none)) ∷ []) ≡ codes "{{define \"a\"}}x{{template \"b\"}}{{end}}\n"
+a-definition : Prints
+    → printed_set (template (codes "a") (then 1 (text (codes "x")) (call (codes "b") None none)) ∷ []) ≡ codes "{{define \"a\"}}x{{template \"b\"}}{{end}}\n"
 a-definition e = rw (a-quoted e, b-quoted e) refl
 
 -- a block is a template of the set, and a call where it stands

@@ -1,4 +1,4 @@
--- What a file spells can be printed: its definitions, and the nodes of its own template.
+-- For `printable`: what a file spells can be printed, its definitions and the nodes of its own template.
 use Rattle.std.proofs.Common.{ℕ, List, [], ◌∷◌, ◌++◌, map}
 use Rattle.tmpl_lex.specs.Piece.{Piece}
 use Rattle.tmpl_grammar.specs.Tree.{Header}
@@ -6,8 +6,10 @@ use Rattle.tmpl_grammar.specs.Action.{opening, else_branch, end_action, control_
 use Rattle.tmpl_grammar.specs.declared.tree.Control.{Control}
 use Rattle.tmpl_syntax.specs.Tree.{Nodes, none, then, control_node, Definition}
 use Rattle.tmpl_syntax.specs.Language.{Branches}
-use Rattle.tmpl_syntax.specs.Item.{Item, item, text_item, unreadable_item, unread_item, deep_item, action_item, IsItem, a_text as text_read, an_unreadable, unread, too_deep, read, AreItems, no_item, an_item}
-use Rattle.tmpl_syntax.specs.Spelling.{Leads, nothing, a_text, an_action, a_break, a_continue, a_control, a_template, a_define, a_block, Closes, an_end, an_else, an_else_branch}
+use Rattle.tmpl_syntax.specs.Item.{Item, item, text_item, action_item, IsItem, a_text as text_read, an_unreadable, unread, too_deep, read}
+use Rattle.tmpl_syntax.specs.Item.{AreItems, no_item, an_item}
+use Rattle.tmpl_syntax.specs.Spelling.{Leads, nothing, a_text, an_action, a_break, a_continue, a_control, a_template, a_define, a_block}
+use Rattle.tmpl_syntax.specs.Spelling.{Closes, an_end, an_else, an_else_branch}
 use Rattle.tmpl_grammar.specs.declared.action.Branch.{Branch}
 use Rattle.tmpl_grammar.specs.declared.action.Branch.TheVariants as branch
 use Rattle.tmpl_syntax.specs.Print.Join.{IsText}
@@ -21,10 +23,8 @@ use Rattle.tmpl_grammar.proofs.PrintableActionLemmas.{of_action}
 
 abbrev OfItem : Item → Type 0
 OfItem (item line (text_item bytes)) = IsText bytes
-OfItem (item line unreadable_item) = Unit {0}
-OfItem (item line unread_item) = Unit {0}
-OfItem (item line (deep_item s)) = Unit {0}
 OfItem (item line (action_item a)) = OfAction a
+OfItem _ = Unit {0}
 
 abbrev OfItems : List Item → Type 0
 OfItems [] = Unit {0}
@@ -90,9 +90,11 @@ mutual
       let m = leads-of l i.behind_them.1 in
       record { nodes = (h.0, m.nodes); behind_them = m.behind_them; definitions = λ path k. (h.0.0, i.nodes, i.definitions path (m.definitions path k)) }
 
-  closes-of : {xs ys : List Item} {ds es : List Definition} {other : Nodes} → Closes xs ds other ys es → OfItems xs → Kept (else_said other (nodes_said other)) ys ds es
+  closes-of : {xs ys : List Item} {ds es : List Definition} {other : Nodes} → Closes xs ds other ys es → OfItems xs
+      → Kept (else_said other (nodes_said other)) ys ds es
   closes-of an_end h = record { nodes = tt; behind_them = h.1; definitions = λ path k. k }
-  closes-of (an_else {other = other} l) h = let m = leads-of l h.1 in record { nodes = else-of other m.nodes; behind_them = m.behind_them.1; definitions = m.definitions }
+  closes-of (an_else {other = other} l) h =
+      let m = leads-of l h.1 in record { nodes = else-of other m.nodes; behind_them = m.behind_them.1; definitions = m.definitions }
   closes-of (an_else_branch {branch = br} {h = r} {body = body} {other = other} l o) h =
       let i = leads-of l h.1 in
       let e = closes-of o i.behind_them in

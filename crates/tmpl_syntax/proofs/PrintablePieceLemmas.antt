@@ -1,4 +1,5 @@
--- What holds of the pieces of a file: texts without `{{`, and tokens whose bytes are bytes and whose names are names.
+-- For `printable`: the pieces of a file are texts without `{{`, and tokens whose bytes are bytes and whose names are
+-- names.
 use Rattle.std.proofs.Common.{arith, ℕ, Bool, List, [], ◌∷◌, ◌++◌, codes}
 use Rattle.tmpl_values.specs.Bytes.{AreBytes}
 use Rattle.tmpl_lex.specs.Bytes.{Absent}

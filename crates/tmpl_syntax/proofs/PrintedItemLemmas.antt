@@ -1,8 +1,8 @@
--- The pieces of a printed file are read as what its nodes say, and those of a printed set as what it says.
-use Rattle.std.proofs.Common.{arith, ◌≡◌, ◌≤◌, ℕ, List, [], ◌∷◌, Some, None, refl, sym, subst, map, codes}
+-- For `printed_back` and `set_back`: the pieces of what is printed are read as what its nodes say.
+use Rattle.std.proofs.Common.{arith, ◌≡◌, ◌≤◌, ℕ, List, [], ◌∷◌, Some, refl, sym, subst, map, codes}
 use Rattle.tmpl_lex.specs.Piece.{Token, Piece, text, action}
 use Rattle.tmpl_grammar.specs.Tree.{Pipeline, pipeline}
-use Rattle.tmpl_grammar.specs.Action.{Action, pipeline_action, opening, plain_else, else_branch, end_action, break_action, continue_action, define_action, template_action, block_action}
+use Rattle.tmpl_grammar.specs.Action.{Action, pipeline_action, opening, else_branch, end_action, template_action, block_action}
 use Rattle.tmpl_grammar.specs.Depth.{depth_of, depth_of_pipeline, most_deep}
 use Rattle.tmpl_syntax.specs.Language.{every_branch}
 use Rattle.tmpl_syntax.specs.Item.{Item, item, text_item, action_item, a_text as text_read, read, AreItems, no_item, an_item}
@@ -31,15 +31,10 @@ pipeline_within (pipeline cs) h = h.1
 within : (a : Action) → OfAction a → depth_of a ≤ most_deep
 within (pipeline_action r) h = pipeline_within r.pipeline h.2
 within (opening c r) h = pipeline_within r.pipeline h.2
-within plain_else h = omega arith
 within (else_branch br r) h = pipeline_within r.pipeline h.2
-within end_action h = omega arith
-within break_action h = omega arith
-within continue_action h = omega arith
-within (define_action name) h = omega arith
-within (template_action name None) h = omega arith
 within (template_action name (Some p)) h = pipeline_within p h.1
 within (block_action name p) h = pipeline_within p h.1
+within _ h = omega arith
 
 -- items that pieces are read as, and that say this
 record ItemsSaid (ss : List Said) (ps : List Piece) : Type 0 where
@@ -100,7 +95,8 @@ newline-is-text = record { some = omega arith; clear = absent-cons 123 123 10 []
 
 set-is-said : (ts : List Template) → ArePrintable ts → AreSaid (set_said ts)
 set-is-said [] h = tt
-set-is-said (t ∷ ts) h = (h.0, said-append (nodes_said t.1.nodes) (said end_action ∷ said_text (codes "\n") ∷ set_said ts) h.1 (tt, (newline-is-text, set-is-said ts h.2)))
+set-is-said (t ∷ ts) h =
+    (h.0, said-append (nodes_said t.1.nodes) (said end_action ∷ said_text (codes "\n") ∷ set_said ts) h.1 (tt, (newline-is-text, set-is-said ts h.2)))
 
 pub set-reads-same : SetReadsSame
 set-reads-same ts h =

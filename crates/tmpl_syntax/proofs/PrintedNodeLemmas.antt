@@ -1,4 +1,4 @@
--- What nodes say spells the same nodes, apart from lines, and what a set says spells its definitions.
+-- For `printed_back` and `set_back`: what nodes say spells the same nodes, apart from lines.
 use Rattle.std.proofs.Common.{◌≡◌, ◌∙◌, ℕ, List, [], ◌∷◌, ◌++◌, refl, sym, ap, subst, append_assoc, append-nil, map, codes}
 use Rattle.tmpl_grammar.specs.Tree.{Header}
 use Rattle.tmpl_grammar.specs.declared.tree.Control.{Control}
@@ -6,7 +6,8 @@ use Rattle.tmpl_grammar.specs.Action.{Action, end_action}
 use Rattle.tmpl_syntax.specs.Tree.{NodeKind, text, action, control_node, break_node, continue_node, template_node, Nodes, none, then, Definition}
 use Rattle.tmpl_syntax.specs.Item.{Item, item, text_item, action_item}
 use Rattle.tmpl_syntax.specs.Set.{Template}
-use Rattle.tmpl_syntax.specs.Spelling.{definition, Leads, nothing, a_text, an_action, a_break, a_continue, a_control, a_template, a_define, Closes, an_end, an_else, Spells}
+use Rattle.tmpl_syntax.specs.Spelling.{definition, Leads, nothing, a_text, an_action, a_break, a_continue, a_control, a_template, a_define}
+use Rattle.tmpl_syntax.specs.Spelling.{Closes, an_end, an_else, Spells}
 use Rattle.tmpl_syntax.specs.Print.Printed.{Said, said_text, said, else_said, control_said, node_said, nodes_said, set_said, unlined_node, unlined}
 use Rattle.tmpl_syntax.specs.Print.Laws.{Says, says_nothing, says_text, says, unlined_definition, unlined_template, newline_nodes}
 
@@ -59,7 +60,8 @@ record LeadsElse (other : Nodes) (ss : List Said) (xs : List Item) : Type 0 wher
   alike : unlined nodes ≡ unlined other
   says_rest : Says ss rest
 
-else-leads : (other : Nodes) → ((ss : List Said) (xs : List Item) → Says (nodes_said other ++ ss) xs → LeadsNodes other ss xs) → (ss : List Said) (xs : List Item) → Says (else_said other (nodes_said other) ++ said end_action ∷ ss) xs → LeadsElse other ss xs
+else-leads : (other : Nodes) → ((ss : List Said) (xs : List Item) → Says (nodes_said other ++ ss) xs → LeadsNodes other ss xs)
+    → (ss : List Said) (xs : List Item) → Says (else_said other (nodes_said other) ++ said end_action ∷ ss) xs → LeadsElse other ss xs
 else-leads none ih ss xs s =
     let f = first-said s in
     record { nodes = none; rest = f.rest; closes = λ {ds}. subst (λ ys. Closes ys ds none f.rest ds) (sym f.is) an_end; alike = refl; says_rest = f.says_rest }
@@ -75,10 +77,13 @@ else-leads (then line n ns) ih ss xs s =
       says_rest = e.says_rest;
     }
 
-control-alike : (c : Control) (h : Header) (body other : Nodes) (body' other' : Nodes) → unlined body ≡ unlined body' → unlined other ≡ unlined other' → unlined_node (control_node c h body other) ≡ unlined_node (control_node c h body' other')
+control-alike : (c : Control) (h : Header) (body other : Nodes) (body' other' : Nodes) → unlined body ≡ unlined body'
+    → unlined other ≡ unlined other' → unlined_node (control_node c h body other) ≡ unlined_node (control_node c h body' other')
 control-alike c h body other body' other' e f = cc
 
-control-leads : (c : Control) (h : Header) (body other : Nodes) → ((ss : List Said) (xs : List Item) → Says (nodes_said body ++ ss) xs → LeadsNodes body ss xs) → ((ss : List Said) (xs : List Item) → Says (nodes_said other ++ ss) xs → LeadsNodes other ss xs)
+control-leads : (c : Control) (h : Header) (body other : Nodes)
+    → ((ss : List Said) (xs : List Item) → Says (nodes_said body ++ ss) xs → LeadsNodes body ss xs)
+    → ((ss : List Said) (xs : List Item) → Says (nodes_said other ++ ss) xs → LeadsNodes other ss xs)
     → (ss : List Said) (xs : List Item) → Says (control_said c h (nodes_said body) (else_said other (nodes_said other)) ++ ss) xs → LeadsNode (control_node c h body other) ss xs
 control-leads c h body other in_body in_other ss xs s =
     let ends : List Said = else_said other (nodes_said other) in
@@ -145,7 +150,8 @@ pub record SetSpelling (ts : List Template) (xs : List Item) : Type 0 where
   pub newlines : unlined own ≡ newline_nodes ts
 
 pub set-leads : (ts : List Template) (xs : List Item) → Says (set_said ts) xs → SetSpelling ts xs
-set-leads [] xs s = record { definitions = []; own = none; spells = subst (λ ys. Leads ys [] none [] []) (sym (no-rest s)) nothing; alike = refl; newlines = refl }
+set-leads [] xs s =
+    record { definitions = []; own = none; spells = subst (λ ys. Leads ys [] none [] []) (sym (no-rest s)) nothing; alike = refl; newlines = refl }
 set-leads (t ∷ ts) xs s =
     let f = first-said s in
     let b = nodes-leads t.1.nodes (said end_action ∷ said_text (codes "\n") ∷ set_said ts) f.rest f.says_rest in

@@ -1,4 +1,4 @@
--- Names in scope move with what is open.
+-- For `one_verdict`: names in scope move with what is open.
 use Rattle.std.proofs.Common.{arith, ◌≡◌, ◌≢◌, ℕ, ◌+◌, ◌<◌, ◌≤◌, false, List, refl, sym, subst, Option, Some, inl, inr, ⊎_elim, ◌⊎◌}
 use Rattle.std.specs.Prelude.{slice_get, Contains}
 use Rattle.std.proofs.lemmas.Bool.{cases_lt}
@@ -7,17 +7,20 @@ use Rattle.tmpl_syntax.specs.Place.Open.{IsOpening, IsOpen, NothingOpen, IsLast,
 use Rattle.tmpl_syntax.specs.Place.Scope.{Declares, at_the_top, inside, in_header, in_else_branch, IsInScope}
 use Rattle.tmpl_syntax.proofs.OpenLemmas.{same-piece, cut, Same, opened-keeps, opened_new}
 use Rattle.tmpl_syntax.proofs.PlaceLemmas.{alike-even, alike-back, alike-opened, one-moves, template-moves, else_before, else-same, no-else_branch}
-use Rattle.tmpl_syntax.specs.declared.place.frame.Opening.{Opening}
-use Rattle.tmpl_syntax.specs.declared.place.frame.Opening.TheVariants as opened
+use Rattle.tmpl_syntax.specs.Place.Opening.{Opening}
+use Rattle.tmpl_syntax.specs.Place.Opening as opened
 use Rattle.tmpl_grammar.specs.declared.tree.Control.TheVariants.{Range}
 use Rattle.tmpl_syntax.specs.Place.Role.{Name, Names, plain, opener, bare_else, branch_else, Role, act_role}
 
 -- as Declares, with no else from after k to before b
 pub data Reaches (xs : List Role) (k a b : ℕ) (name : Name) : Type 0 where
   from_top : {p : Names} → slice_get xs k ≡ Some (act_role (plain p)) → Contains p.declares name → NothingOpen xs k → Reaches xs k a b name
-  from_inside : {p : Names} {j : ℕ} → slice_get xs k ≡ Some (act_role (plain p)) → Contains p.declares name → IsLast xs j k → IsOpen xs j a → ((m : ℕ) → k < m → m < b → IsElseOf xs j m → ⊥) → ((m : ℕ) → k < m → m < b → IsElseBranchOf xs j m → ⊥) → Reaches xs k a b name
-  from_header : {c : Opening} {p : Names} → slice_get xs k ≡ Some (act_role (opener c p)) → Contains p.declares name → IsOpen xs k a → (c ≡ opened.Control Range → HasElse xs k a → ⊥) → Reaches xs k a b name
-  from_else_branch : {c : Branch} {p : Names} {j : ℕ} → slice_get xs k ≡ Some (act_role (branch_else c p)) → Contains p.declares name → IsLast xs j k → IsOpen xs j a → Reaches xs k a b name
+  from_inside : {p : Names} {j : ℕ} → slice_get xs k ≡ Some (act_role (plain p)) → Contains p.declares name → IsLast xs j k → IsOpen xs j a
+      → ((m : ℕ) → k < m → m < b → IsElseOf xs j m → ⊥) → ((m : ℕ) → k < m → m < b → IsElseBranchOf xs j m → ⊥) → Reaches xs k a b name
+  from_header : {c : Opening} {p : Names} → slice_get xs k ≡ Some (act_role (opener c p)) → Contains p.declares name → IsOpen xs k a
+      → (c ≡ opened.control Range → HasElse xs k a → ⊥) → Reaches xs k a b name
+  from_else_branch : {c : Branch} {p : Names} {j : ℕ} → slice_get xs k ≡ Some (act_role (branch_else c p)) → Contains p.declares name
+      → IsLast xs j k → IsOpen xs j a → Reaches xs k a b name
 
 pub record Brought (xs : List Role) (a b : ℕ) (name : Name) : Type 0 where
   pub by : ℕ
@@ -60,7 +63,9 @@ reaches-moves xs k a b c d n o e t r (from_header at h p nr) = from_header at h 
 reaches-moves xs k a b c d n o e t r (from_else_branch {j = j} at h l p) = let lt = l.is_open.before in from_else_branch at h l (o j (omega arith) p)
 
 -- what the piece at a place is, by what brings a name there
-pub wrong-piece : (xs : List Role) (k a b : ℕ) (n : Name) (x : Role) → slice_get xs k ≡ Some x → ((p : Names) → x ≢ act_role (plain p)) → ((c : Opening) (p : Names) → x ≢ act_role (opener c p)) → ((c : Branch) (p : Names) → x ≢ act_role (branch_else c p)) → Reaches xs k a b n → ⊥
+pub wrong-piece : (xs : List Role) (k a b : ℕ) (n : Name) (x : Role) → slice_get xs k ≡ Some x → ((p : Names) → x ≢ act_role (plain p))
+    → ((c : Opening) (p : Names) → x ≢ act_role (opener c p)) → ((c : Branch) (p : Names) → x ≢ act_role (branch_else c p))
+    → Reaches xs k a b n → ⊥
 wrong-piece xs k a b n x at np nopen nt (from_top {p = p} e h z) = np p (same-piece xs k x (act_role (plain p)) at e)
 wrong-piece xs k a b n x at np nopen nt (from_inside {p = p} e h l o ne no_branches) = np p (same-piece xs k x (act_role (plain p)) at e)
 wrong-piece xs k a b n x at np nopen nt (from_header {c = c} {p = p} e h o r) = nopen c p (same-piece xs k x (act_role (opener c p)) at e)
@@ -89,10 +94,12 @@ pub brought-late : (xs : List Role) (j m : ℕ) (n : Name) (k : ℕ) → Same xs
 brought-late xs j m n k s from to (from_top {p = p} e h z) f = f p e h (inl z)
 brought-late xs j m n k s from to (from_inside {p = p} {j = q} e h l o ne nt) f = f p e h (inr (q, l, s.even.only q o))
 brought-late xs j m n k s from to (from_header e h o r) f = let b = (s.even.only k o).before in omega arith
-brought-late xs j m n k s from to (from_else_branch {c = c} {p = p} {j = q} e h l o) f = s.no_branch q k from to (s.even.only q o) (record { branch = c; names = p; at = e; belongs = l })
+brought-late xs j m n k s from to (from_else_branch {c = c} {p = p} {j = q} e h l o) f =
+    s.no_branch q k from to (s.even.only q o) (record { branch = c; names = p; at = e; belongs = l })
 
 -- at an action that is no else, the definition is what was brought before it
-pub at-place : (xs : List Role) (i : ℕ) (n : Name) → ((j : ℕ) → IsElseOf xs j i → ⊥) → ((j : ℕ) → IsElseBranchOf xs j i → ⊥) → Brought xs i i n → IsInScope xs i n
+pub at-place : (xs : List Role) (i : ℕ) (n : Name) → ((j : ℕ) → IsElseOf xs j i → ⊥) → ((j : ℕ) → IsElseBranchOf xs j i → ⊥)
+    → Brought xs i i n → IsInScope xs i n
 at-place xs i n ne nt b = to-scope xs i n (record {
   by = b.by;
   before = b.before;
@@ -112,7 +119,8 @@ at-place-back xs i n s = let b = from-scope xs i n s in record {
 }
 
 -- after an opening that is no define or block
-pub brought-opened : (xs : List Role) (i : ℕ) (n : Name) (c : Opening) (p : Names) → slice_get xs i ≡ Some (act_role (opener c p)) → IsOpening (slice_get xs i) c → is_template c ≡ false → Brought xs i i n → Brought xs (i + 1) (i + 1) n
+pub brought-opened : (xs : List Role) (i : ℕ) (n : Name) (c : Opening) (p : Names) → slice_get xs i ≡ Some (act_role (opener c p))
+    → IsOpening (slice_get xs i) c → is_template c ≡ false → Brought xs i i n → Brought xs (i + 1) (i + 1) n
 brought-opened xs i n c p at o nt b =
     let x = act_role (opener c p) in
     record {
@@ -130,7 +138,9 @@ brought-opened xs i n c p at o nt b =
     no-else-at : (q : ℕ) → IsElseOf xs q i → ⊥
     no-else-at q e = let g : act_role (opener c p) ≡ act_role bare_else = same-piece xs i (act_role (opener c p)) (act_role bare_else) at e.at in cc
 
-pub brought-header : (xs : List Role) (i : ℕ) (n : Name) (t : Option ℕ) (c : Opening) (p : Names) → slice_get xs i ≡ Some (act_role (opener c p)) → IsOpening (slice_get xs i) c → is_template c ≡ false → IsTemplate xs i t → Contains p.declares n → Brought xs (i + 1) (i + 1) n
+pub brought-header : (xs : List Role) (i : ℕ) (n : Name) (t : Option ℕ) (c : Opening) (p : Names)
+    → slice_get xs i ≡ Some (act_role (opener c p)) → IsOpening (slice_get xs i) c → is_template c ≡ false → IsTemplate xs i t
+    → Contains p.declares n → Brought xs (i + 1) (i + 1) n
 brought-header xs i n t c p at o nt is h = record {
   by = i;
   before = omega arith;
@@ -138,7 +148,8 @@ brought-header xs i n t c p at o nt is h = record {
   reaches = from_header at h (opened_new xs i c o) (λ r e. let b = e.2.belongs.is_open.before in let g = e.1 in omega arith);
 }
 
-pub brought-opened-back : (xs : List Role) (i : ℕ) (n : Name) (c : Opening) (p : Names) → slice_get xs i ≡ Some (act_role (opener c p)) → IsOpening (slice_get xs i) c → is_template c ≡ false → Brought xs (i + 1) (i + 1) n → Brought xs i i n ⊎ Contains p.declares n
+pub brought-opened-back : (xs : List Role) (i : ℕ) (n : Name) (c : Opening) (p : Names) → slice_get xs i ≡ Some (act_role (opener c p))
+    → IsOpening (slice_get xs i) c → is_template c ≡ false → Brought xs (i + 1) (i + 1) n → Brought xs i i n ⊎ Contains p.declares n
 brought-opened-back xs i n c p at o nt b = ⊎_elim
     (λ lt. inl (record {
       by = b.by;
@@ -159,6 +170,9 @@ brought-opened-back xs i n c p at o nt b = ⊎_elim
 
     new : Reaches xs i (i + 1) (i + 1) n → Contains p.declares n
     new (from_top {p = q} e h z) = let g : act_role (opener c p) ≡ act_role (plain q) = same-piece xs i (act_role (opener c p)) (act_role (plain q)) at e in cc
-    new (from_inside {p = q} e h l oq ne ntu) = let g : act_role (opener c p) ≡ act_role (plain q) = same-piece xs i (act_role (opener c p)) (act_role (plain q)) at e in cc
-    new (from_header {c = d} {p = q} e h oq r) = let g = same-pipe d q (same-piece xs i (act_role (opener c p)) (act_role (opener d q)) at e) in subst (λ z. Contains z.declares n) (sym g) h
-    new (from_else_branch {c = d} {p = q} e h l oq) = let g : act_role (opener c p) ≡ act_role (branch_else d q) = same-piece xs i (act_role (opener c p)) (act_role (branch_else d q)) at e in cc
+    new (from_inside {p = q} e h l oq ne ntu) =
+        let g : act_role (opener c p) ≡ act_role (plain q) = same-piece xs i (act_role (opener c p)) (act_role (plain q)) at e in cc
+    new (from_header {c = d} {p = q} e h oq r) =
+        let g = same-pipe d q (same-piece xs i (act_role (opener c p)) (act_role (opener d q)) at e) in subst (λ z. Contains z.declares n) (sym g) h
+    new (from_else_branch {c = d} {p = q} e h l oq) =
+        let g : act_role (opener c p) ≡ act_role (branch_else d q) = same-piece xs i (act_role (opener c p)) (act_role (branch_else d q)) at e in cc

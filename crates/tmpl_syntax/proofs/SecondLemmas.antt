@@ -1,5 +1,7 @@
--- The second definition of a name that is found is the first there is.
-use Rattle.std.proofs.Common.{arith, ◌≡◌, ◌∙◌, ℕ, ◌+◌, Bool, true, false, ◌||◌, List, [], ◌∷◌, ◌++◌, Option, Some, None, refl, sym, ap, subst, append_assoc, append-nil, length, length-append, bytes_eq, drop, get_or, map, suc, add-one, ◌<◌, ◌⊎◌, inl, inr, ⊎_elim}
+-- For `refuse_second`: the second definition of a name that is found is the first there is.
+use Rattle.std.proofs.Common.{arith, ◌≡◌, ◌∙◌, ℕ, ◌+◌, Bool, true, false, ◌||◌, List, [], ◌∷◌, ◌++◌, Option, Some, None, refl, sym, ap}
+use Rattle.std.proofs.Common.{subst, append_assoc, append-nil, length, length-append, bytes_eq, drop, get_or, map, suc, add-one, ◌<◌, ◌⊎◌}
+use Rattle.std.proofs.Common.{inl, inr, ⊎_elim}
 use Rattle.std.specs.List.{list_any}
 use Rattle.std.specs.Prelude.{slice_get}
 use Rattle.std.specs.Option.{option_map}
@@ -9,7 +11,8 @@ use Rattle.std.proofs.lemmas.List.Folds.{list_any-append}
 use Rattle.std.proofs.lemmas.Option.{slice_get_read, slice_get_within, slice_get-map, get_or_from_slice_get}
 use lib.Pointwise.{bytes_decides}
 use Rattle.tmpl_syntax.specs.Tree.{Definition}
-use Rattle.tmpl_syntax.specs.View.{definition_of, nodes_in}
+use Rattle.tmpl_syntax.specs.View.{nodes_in}
+use Rattle.tmpl_syntax.specs.computed.View.{definition_of}
 use Rattle.tmpl_syntax.specs.declared.tree.Definition as held
 use Rattle.tmpl_syntax.specs.Place.Role.{Name}
 use Rattle.tmpl_syntax.specs.Set.{is_blank}
@@ -39,7 +42,8 @@ split-order (x ∷ b) d r (y ∷ c) e s is =
     (split-order b d r c e s tail)
 
 none-empty : NoneSecond []
-none-empty before d behind are is = let e : length {A = Definition} [] ≡ length (before ++ d ∷ behind) = ap length are in absurd (omega (arith, e, length-append before (d ∷ behind)))
+none-empty before d behind are is =
+    let e : length {A = Definition} [] ≡ length (before ++ d ∷ behind) = ap length are in absurd (omega (arith, e, length-append before (d ∷ behind)))
 
 -- one more, which is no second one
 none-more : (before : List Definition) (d : Definition) → NoneSecond before → (IsSecond before d → ⊥) → NoneSecond (before ++ d ∷ [])
@@ -83,13 +87,17 @@ known-second [] d some e = absurd (false≢true e)
 known-second (f ∷ earlier) d some e = by (known-second earlier d some) (is_blank f.nodes) refl e
   where
     later : IsSecond earlier d → IsSecond (f ∷ earlier) d
-    later s = record { front = f ∷ s.front; first = s.first; rest = s.rest; are = ap (λ xs. f ∷ xs) s.are; name = s.name; first_some = s.first_some; some = some }
+    later s =
+        record { front = f ∷ s.front; first = s.first; rest = s.rest; are = ap (λ xs. f ∷ xs) s.are; name = s.name; first_some = s.first_some; some = some }
 
-    named : (is_known (kept earlier) d.name ≡ true → IsSecond earlier d) → (b : Bool) → bytes_eq d.name f.name ≡ b → is_blank f.nodes ≡ false → (b || is_known (kept earlier) d.name) ≡ true → IsSecond (f ∷ earlier) d
-    named more true same blank k = record { front = []; first = f; rest = earlier; are = refl; name = sym ((bytes_decides d.name f.name).0 same); first_some = blank; some = some }
+    named : (is_known (kept earlier) d.name ≡ true → IsSecond earlier d) → (b : Bool) → bytes_eq d.name f.name ≡ b
+        → is_blank f.nodes ≡ false → (b || is_known (kept earlier) d.name) ≡ true → IsSecond (f ∷ earlier) d
+    named more true same blank k =
+        record { front = []; first = f; rest = earlier; are = refl; name = sym ((bytes_decides d.name f.name).0 same); first_some = blank; some = some }
     named more false same blank k = later (more k)
 
-    by : (is_known (kept earlier) d.name ≡ true → IsSecond earlier d) → (b : Bool) → is_blank f.nodes ≡ b → is_known (kept_if b f.name (kept earlier)) d.name ≡ true → IsSecond (f ∷ earlier) d
+    by : (is_known (kept earlier) d.name ≡ true → IsSecond earlier d) → (b : Bool) → is_blank f.nodes ≡ b
+        → is_known (kept_if b f.name (kept earlier)) d.name ≡ true → IsSecond (f ∷ earlier) d
     by more true blank k = later (more k)
     by more false blank k = named more (bytes_eq d.name f.name) refl blank k
 
@@ -118,15 +126,19 @@ found : (before ds : List Definition) → NoneSecond before → Found (before ++
 found before [] none = subst NoneSecond (sym (append-nil before)) none
 found before (d ∷ ds) none = by (λ none. found (before ++ d ∷ []) ds none) (is_blank d.nodes) (is_known (kept before) d.name) refl refl
   where
-    next : (NoneSecond (before ++ d ∷ []) → Found ((before ++ d ∷ []) ++ ds) (second_from (kept (before ++ d ∷ [])) ds)) → (IsSecond before d → ⊥) → (ns : List Name) → kept (before ++ d ∷ []) ≡ ns → Found (before ++ d ∷ ds) (second_from ns ds)
+    next : (NoneSecond (before ++ d ∷ []) → Found ((before ++ d ∷ []) ++ ds) (second_from (kept (before ++ d ∷ [])) ds))
+        → (IsSecond before d → ⊥) → (ns : List Name) → kept (before ++ d ∷ []) ≡ ns → Found (before ++ d ∷ ds) (second_from ns ds)
     next more other_name ns e =
         subst (λ xs. Found xs (second_from ns ds)) (append_assoc before (d ∷ []) ds)
         (subst (λ ms. Found ((before ++ d ∷ []) ++ ds) (second_from ms ds)) e (more (none-more before d none other_name)))
 
-    by : (NoneSecond (before ++ d ∷ []) → Found ((before ++ d ∷ []) ++ ds) (second_from (kept (before ++ d ∷ [])) ds)) → (blank known : Bool) → is_blank d.nodes ≡ blank → is_known (kept before) d.name ≡ known → Found (before ++ d ∷ ds) (second_if blank known d.line (second_from (kept before) ds) (second_from (kept before ++ d.name ∷ []) ds))
+    by : (NoneSecond (before ++ d ∷ []) → Found ((before ++ d ∷ []) ++ ds) (second_from (kept (before ++ d ∷ [])) ds))
+        → (blank known : Bool) → is_blank d.nodes ≡ blank → is_known (kept before) d.name ≡ known
+        → Found (before ++ d ∷ ds) (second_if blank known d.line (second_from (kept before) ds) (second_from (kept before ++ d.name ∷ []) ds))
     by more true known b k = next more (λ s. let e : false ≡ true = sym s.some ∙ b in false≢true e) (kept before) (kept-blank before d b)
     by more false true b k = record { before = before; second = d; behind = ds; are = refl; is_second = known-second before d b k; is_first = none; at = refl }
-    by more false false b k = next more (λ s. let e : false ≡ true = sym k ∙ second-known before d s in false≢true e) (kept before ++ d.name ∷ []) (kept-some before d b)
+    by more false false b k =
+        next more (λ s. let e : false ≡ true = sym k ∙ second-known before d s in false≢true e) (kept before ++ d.name ∷ []) (kept-some before d b)
 
 found-in : (ds : List Definition) → Found ds (second_in ds)
 unfolding second_in
@@ -192,7 +204,8 @@ module _ (names : List Name) (held_ds : List held.Definition) (i : ℕ) (d : hel
   pub next-blank : is_blank (nodes_in d.nodes.items) ≡ true → second_from names (drop i ds) ≡ without
   next-blank blank = next ∙ ap (λ b. second_if b (is_known names d.name) d.line without with_it) blank
 
-  some : (known : Bool) → is_blank (nodes_in d.nodes.items) ≡ false → is_known names d.name ≡ known → second_from names (drop i ds) ≡ second_if false known d.line without with_it
+  some : (known : Bool) → is_blank (nodes_in d.nodes.items) ≡ false → is_known names d.name ≡ known
+      → second_from names (drop i ds) ≡ second_if false known d.line without with_it
   some known blank k = next ∙ ap (λ b. second_if b (is_known names d.name) d.line without with_it) blank ∙ ap (λ b. second_if false b d.line without with_it) k
 
   pub next-known : is_blank (nodes_in d.nodes.items) ≡ false → is_known names d.name ≡ true → second_from names (drop i ds) ≡ Some d.line

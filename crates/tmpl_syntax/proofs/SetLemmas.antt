@@ -1,5 +1,6 @@
--- The set's entries as a list of names and trees.
-use Rattle.std.proofs.Common.{◌≡◌, ℕ, suc, ◌+◌, nat_lt, not, length, Bool, true, false, List, [], ◌∷◌, Option, Some, None, refl, sym, ap, ◌∙◌, ◌&&◌, cond, map, Vec, Global}
+-- For `Set`: its entries as a list of names and trees.
+use Rattle.std.proofs.Common.{◌≡◌, ℕ, suc, ◌+◌, nat_lt, not, length, Bool, true, false, List, [], ◌∷◌, Option, Some, None, refl, sym, ap}
+use Rattle.std.proofs.Common.{◌∙◌, ◌&&◌, cond, map, Vec, Global}
 use Rattle.std.specs.Option.{option_map, is_some}
 use Rattle.std.specs.List.{find, list_all, position, position_or_len}
 use Rattle.std.specs.Str.{bytes_eq}
@@ -19,7 +20,8 @@ pub names-view : (es : List Entry) → map (λ (k : Vec ℕ Global). k.items) (k
 names-view [] = refl
 names-view (e ∷ es) = ap (λ ns. e.0.items ∷ ns) (names-view es)
 
-pub lookup-view : (name : List ℕ) (es : List Entry) → option_map tree_of (lookup (λ (k : Vec ℕ Global). bytes_eq name k.items) es) ≡ tree_named name (map template_of es)
+pub lookup-view : (name : List ℕ) (es : List Entry)
+    → option_map tree_of (lookup (λ (k : Vec ℕ Global). bytes_eq name k.items) es) ≡ tree_named name (map template_of es)
 lookup-view name [] = refl
 lookup-view name (e ∷ es) = go (bytes_eq name e.0.items) (lookup-view name es)
   where
@@ -45,7 +47,8 @@ kept : (ts : List Template) (name : List ℕ) (tree : Tree) → is_blank tree.no
 kept [] name tree blank there = let g : false ≡ true = there in cc
 kept (t ∷ ts) name tree blank there = go (bytes_eq name t.0) (kept ts name tree blank) (sym (ap is_some (named-find name t ts)) ∙ there)
   where
-    go : (same : Bool) → (is_some (tree_named name ts) ≡ true → ts ≡ defined ts name tree) → is_some (named same t (tree_named name ts)) ≡ true → t ∷ ts ≡ cond same ((t.0, chosen t.1 tree) ∷ ts) (t ∷ defined ts name tree)
+    go : (same : Bool) → (is_some (tree_named name ts) ≡ true → ts ≡ defined ts name tree)
+        → is_some (named same t (tree_named name ts)) ≡ true → t ∷ ts ≡ cond same ((t.0, chosen t.1 tree) ∷ ts) (t ∷ defined ts name tree)
     go true ih h = ap (λ b. (t.0, cond b t.1 tree) ∷ ts) (sym blank)
     go false ih h = ap (λ us. t ∷ us) (ih h)
 
@@ -54,7 +57,9 @@ pub kept-as-is : (ts : List Template) (name : List ℕ) (tree : Tree) → (is_bl
 kept-as-is ts name tree e = let parts = and_parts (is_blank tree.nodes) (is_some (tree_named name ts)) e in kept ts name tree parts.0 parts.1
 
 -- any other is inserted
-pub defined-insert : (es : List Entry) (k : Vec ℕ Global) (tree : held.Tree) → (is_blank (tree_of tree).nodes && is_some (tree_named k.items (map template_of es))) ≡ false → map template_of (insert_entry (λ (x y : Vec ℕ Global). bytes_eq x.items y.items) es k tree) ≡ defined (map template_of es) k.items (tree_of tree)
+pub defined-insert : (es : List Entry) (k : Vec ℕ Global) (tree : held.Tree)
+    → (is_blank (tree_of tree).nodes && is_some (tree_named k.items (map template_of es))) ≡ false
+    → map template_of (insert_entry (λ (x y : Vec ℕ Global). bytes_eq x.items y.items) es k tree) ≡ defined (map template_of es) k.items (tree_of tree)
 defined-insert [] k tree e = refl
 defined-insert (d ∷ es) k tree e = go (bytes_eq k.items d.0.items) (is_blank (tree_of tree).nodes) refl (defined-insert es k tree) (sym (ap (λ o. is_blank (tree_of tree).nodes && is_some o) (named-find k.items (template_of d) (map template_of es))) ∙ e)
   where
@@ -67,7 +72,8 @@ pub ruleset blanks = blank-list
 
 -- ---- by number
 
-place-view : (name : List ℕ) (es : List Entry) → position_or_len (λ (k : Vec ℕ Global). bytes_eq name k.items) (keys_of es) ≡ position_or_len (has_name name) (map template_of es)
+place-view : (name : List ℕ) (es : List Entry)
+    → position_or_len (λ (k : Vec ℕ Global). bytes_eq name k.items) (keys_of es) ≡ position_or_len (has_name name) (map template_of es)
 place-view name [] = refl
 place-view name (e ∷ es) = ap (λ n. cond (not (bytes_eq name e.0.items)) (1 + n) 0) (place-view name es)
 

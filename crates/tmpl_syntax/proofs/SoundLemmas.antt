@@ -1,13 +1,15 @@
--- So far nothing is refused, and the stack is what is open.
+-- For `one_verdict`: so far nothing is refused, and the stack is what is open.
 use Rattle.std.proofs.Common.{arith, ◌≡◌, ◌≢◌, ℕ, ◌+◌, ◌<◌, true, false, List, [], ◌∷◌, ◌++◌, take, refl, sym, subst, length, Some, None, ⊎_elim}
 use Rattle.std.specs.Prelude.{slice_get}
 use Rattle.std.proofs.lemmas.Bool.{cases_lt, and_parts}
 use Rattle.std.proofs.lemmas.List.{length-take-le}
-use Rattle.tmpl_syntax.specs.declared.fault.Fault.{Fault}
-use Rattle.tmpl_syntax.specs.declared.fault.Fault.TheVariants.{Unreadable, NotAnAction, OutOfPlace, NestedTooDeeply, UndeclaredVariable}
-use Rattle.tmpl_syntax.specs.declared.place.frame.Frame.{Frame}
-use Rattle.tmpl_syntax.specs.Place.Body.{joins, IsMisplaced, none, IsTooDeep, IsUndeclared, Applies, unreadable, unread, misplaced, too_deep, undeclared, rank, NoneRefused, IsRefused, Judged}
-use Rattle.tmpl_syntax.specs.computed.Frames.{top, takes_else, is_placed, is_too_deep, names_at, seen_at, frames_after, frames_past, branched, at_end, Known, with_inner, known_after, known_past, none_known}
+use Rattle.tmpl_syntax.specs.Fault.{Reason, rank}
+use Rattle.tmpl_syntax.specs.Fault as reason
+use Rattle.tmpl_syntax.specs.computed.Frames.{Frame}
+use Rattle.tmpl_syntax.specs.Place.Body.{joins, IsMisplaced, none, IsTooDeep, IsUndeclared, Applies, unreadable, unread, misplaced}
+use Rattle.tmpl_syntax.specs.Place.Body.{too_deep, undeclared, NoneRefused, IsRefused, Judged}
+use Rattle.tmpl_syntax.specs.computed.Frames.{top, takes_else, is_placed, is_too_deep, names_at, seen_at, frames_after, frames_past}
+use Rattle.tmpl_syntax.specs.computed.Frames.{branched, at_end, Known, with_inner, known_after, known_past, none_known}
 use Rattle.tmpl_syntax.proofs.FaultLemmas.{Tells, TellsRole, in-nothing}
 use Rattle.tmpl_syntax.proofs.OpenLemmas.{same-piece}
 use Rattle.tmpl_syntax.proofs.StandLemmas.{Here, Stands, here-of}
@@ -40,121 +42,128 @@ sound-start xs = record {
 same_action : (xs : List Role) (i : ℕ) (a b : Act) → slice_get xs i ≡ Some (act_role a) → slice_get xs i ≡ Some (act_role b) → a ≡ b
 same_action xs i a b e f = let g : act_role a ≡ act_role b = same-piece xs i (act_role a) (act_role b) e f in cc
 
-no-unreadable : (xs : List Role) (i : ℕ) (x : Role) → slice_get xs i ≡ Some x → x ≢ unreadable_role → Applies xs i Unreadable → ⊥
+no-unreadable : (xs : List Role) (i : ℕ) (x : Role) → slice_get xs i ≡ Some x → x ≢ unreadable_role → Applies xs i reason.unreadable → ⊥
 no-unreadable xs i x at ne (unreadable e) = ne (same-piece xs i x unreadable_role at e)
 
-no-unread : (xs : List Role) (i : ℕ) (x : Role) → slice_get xs i ≡ Some x → x ≢ unread_role → Applies xs i NotAnAction → ⊥
+no-unread : (xs : List Role) (i : ℕ) (x : Role) → slice_get xs i ≡ Some x → x ≢ unread_role → Applies xs i reason.not_an_action → ⊥
 no-unread xs i x at ne (unread e) = ne (same-piece xs i x unread_role at e)
 
-no-misplaced : (xs : List Role) (i : ℕ) (x : Role) → slice_get xs i ≡ Some x → ((a : Act) → x ≡ act_role a → IsMisplaced xs i a → ⊥) → Applies xs i OutOfPlace → ⊥
+no-misplaced : (xs : List Role) (i : ℕ) (x : Role) → slice_get xs i ≡ Some x → ((a : Act) → x ≡ act_role a → IsMisplaced xs i a → ⊥)
+    → Applies xs i reason.out_of_place → ⊥
 no-misplaced xs i x at ne (misplaced {a = a} e m) = ne a (same-piece xs i x (act_role a) at e) m
 
-no-deep : (xs : List Role) (i : ℕ) (x : Role) → slice_get xs i ≡ Some x → ((a : Act) → x ≡ act_role a → IsTooDeep xs i a → ⊥) → Applies xs i NestedTooDeeply → ⊥
+no-deep : (xs : List Role) (i : ℕ) (x : Role) → slice_get xs i ≡ Some x → ((a : Act) → x ≡ act_role a → IsTooDeep xs i a → ⊥)
+    → Applies xs i reason.nested_too_deeply → ⊥
 no-deep xs i x at ne (too_deep {a = a} e m) = ne a (same-piece xs i x (act_role a) at e) m
 
-no-undeclared : (xs : List Role) (i : ℕ) (x : Role) → slice_get xs i ≡ Some x → ((a : Act) → x ≡ act_role a → IsUndeclared xs i a → ⊥) → Applies xs i UndeclaredVariable → ⊥
+no-undeclared : (xs : List Role) (i : ℕ) (x : Role) → slice_get xs i ≡ Some x → ((a : Act) → x ≡ act_role a → IsUndeclared xs i a → ⊥)
+    → Applies xs i reason.undeclared_variable → ⊥
 no-undeclared xs i x at ne (undeclared {a = a} e m) = ne a (same-piece xs i x (act_role a) at e) m
 
 module _ (xs : List Role) (i : ℕ) (known : Known) (fs : List Frame) (s : Sound xs i known fs) where
   h : Here xs i (top fs) known.inner
   h = here-of xs i known fs s.stands
 
-  fine-text : (x : Role) → slice_get xs i ≡ Some x → ((a : Act) → x ≢ act_role a) → x ≢ unreadable_role → x ≢ unread_role → (f : Fault) → Applies xs i f → ⊥
-  fine-text x at nr nu nd Unreadable = no-unreadable xs i x at nu
-  fine-text x at nr nu nd NotAnAction = no-unread xs i x at nd
-  fine-text x at nr nu nd OutOfPlace = no-misplaced xs i x at (λ a e m. nr a e)
-  fine-text x at nr nu nd NestedTooDeeply = no-deep xs i x at (λ a e m. nr a e)
-  fine-text x at nr nu nd UndeclaredVariable = no-undeclared xs i x at (λ a e m. nr a e)
+  fine-text : (x : Role) → slice_get xs i ≡ Some x → ((a : Act) → x ≢ act_role a) → x ≢ unreadable_role → x ≢ unread_role → (f : Reason) → Applies xs i f → ⊥
+  fine-text x at nr nu nd _ (unreadable e) = no-unreadable xs i x at nu (unreadable e)
+  fine-text x at nr nu nd _ (unread e) = no-unread xs i x at nd (unread e)
+  fine-text x at nr nu nd _ (misplaced {a = a} e m) = nr a (same-piece xs i x (act_role a) at e)
+  fine-text x at nr nu nd _ (too_deep {a = a} e m) = nr a (same-piece xs i x (act_role a) at e)
+  fine-text x at nr nu nd _ (undeclared {a = a} e m) = nr a (same-piece xs i x (act_role a) at e)
 
   module _ (a : Act) (at : slice_get xs i ≡ Some (act_role a)) where
     own : (P : Act → Type 0) → (b : Act) → act_role a ≡ act_role b → P b → P a
     own P b e p = let g : a ≡ b = cc in subst P (sym g) p
 
-    not-misplaced : is_placed a (top fs) ≡ true → Applies xs i OutOfPlace → ⊥
+    not-misplaced : is_placed a (top fs) ≡ true → Applies xs i reason.out_of_place → ⊥
     not-misplaced e = no-misplaced xs i (act_role a) at (λ b g m. placed xs i known fs a s.stands e (own (IsMisplaced xs i) b g m))
 
-    not-deep : is_too_deep a (top fs) ≡ false → Applies xs i NestedTooDeeply → ⊥
+    not-deep : is_too_deep a (top fs) ≡ false → Applies xs i reason.nested_too_deeply → ⊥
     not-deep e = no-deep xs i (act_role a) at (λ b g m. shallow xs i a (top fs) known.inner h e (own (IsTooDeep xs i) b g m))
 
-    fine-action : Tells a (top fs) (names_at a (top fs) known.inner) None → (f : Fault) → Applies xs i f → ⊥
-    fine-action e Unreadable = no-unreadable xs i (act_role a) at (λ g. cc)
-    fine-action e NotAnAction = no-unread xs i (act_role a) at (λ g. cc)
-    fine-action e OutOfPlace = not-misplaced e.0
-    fine-action e NestedTooDeeply = not-deep e.1
-    fine-action e UndeclaredVariable = no-undeclared xs i (act_role a) at (λ b g m. none-unknown xs i known fs s.stands a at e.0 e.2 (own (IsUndeclared xs i) b g m))
+    fine-action : Tells a (top fs) (names_at a (top fs) known.inner) None → (f : Reason) → Applies xs i f → ⊥
+    fine-action e _ (unreadable h) = no-unreadable xs i (act_role a) at (λ g. cc) (unreadable h)
+    fine-action e _ (unread h) = no-unread xs i (act_role a) at (λ g. cc) (unread h)
+    fine-action e _ (misplaced h m) = not-misplaced e.0 (misplaced h m)
+    fine-action e _ (too_deep h m) = not-deep e.1 (too_deep h m)
+    fine-action e _ (undeclared h m) =
+        no-undeclared xs i (act_role a) at (λ b g m. none-unknown xs i known fs s.stands a at e.0 e.2 (own (IsUndeclared xs i) b g m)) (undeclared h m)
 
-    refused-action : (fault : Fault) → Tells a (top fs) (names_at a (top fs) known.inner) (Some fault) → IsRefused xs i fault
-    refused-action Unreadable e = absurd e
-    refused-action NotAnAction e = absurd e
-    refused-action OutOfPlace e = record { applies = misplaced at (unplaced xs i known fs a s.stands e); first_fault = first; first_item = s.none_refused }
+    refused-action : (fault : Reason) → Tells a (top fs) (names_at a (top fs) known.inner) (Some fault) → IsRefused xs i fault
+    refused-action reason.out_of_place e =
+        record { applies = misplaced at (unplaced xs i known fs a s.stands e); first_reason = first; first_item = s.none_refused }
       where
-        first : (f : Fault) → rank f < rank OutOfPlace → Applies xs i f → ⊥
-        first Unreadable lt = no-unreadable xs i (act_role a) at (λ g. cc)
-        first NotAnAction lt = no-unread xs i (act_role a) at (λ g. cc)
-        first OutOfPlace lt = absurd (omega arith)
-        first NestedTooDeeply lt = absurd (omega arith)
-        first UndeclaredVariable lt = absurd (omega arith)
-    refused-action NestedTooDeeply e = record { applies = too_deep at (deep xs i a (top fs) known.inner h e.1); first_fault = first; first_item = s.none_refused }
+        first : (f : Reason) → rank f < rank reason.out_of_place → Applies xs i f → ⊥
+        first _ lt (unreadable h) = no-unreadable xs i (act_role a) at (λ g. cc) (unreadable h)
+        first _ lt (unread h) = no-unread xs i (act_role a) at (λ g. cc) (unread h)
+        first _ lt _ = absurd (omega arith)
+    refused-action reason.nested_too_deeply e =
+        record { applies = too_deep at (deep xs i a (top fs) known.inner h e.1); first_reason = first; first_item = s.none_refused }
       where
-        first : (f : Fault) → rank f < rank NestedTooDeeply → Applies xs i f → ⊥
-        first Unreadable lt = no-unreadable xs i (act_role a) at (λ g. cc)
-        first NotAnAction lt = no-unread xs i (act_role a) at (λ g. cc)
-        first OutOfPlace lt = not-misplaced e.0
-        first NestedTooDeeply lt = absurd (omega arith)
-        first UndeclaredVariable lt = absurd (omega arith)
-    refused-action UndeclaredVariable e = record { applies = undeclared at (unknown xs i known fs s.stands a at e.0 e.2); first_fault = first; first_item = s.none_refused }
+        first : (f : Reason) → rank f < rank reason.nested_too_deeply → Applies xs i f → ⊥
+        first _ lt (unreadable h) = no-unreadable xs i (act_role a) at (λ g. cc) (unreadable h)
+        first _ lt (unread h) = no-unread xs i (act_role a) at (λ g. cc) (unread h)
+        first _ lt (misplaced h m) = not-misplaced e.0 (misplaced h m)
+        first _ lt _ = absurd (omega arith)
+    refused-action reason.undeclared_variable e =
+        record { applies = undeclared at (unknown xs i known fs s.stands a at e.0 e.2); first_reason = first; first_item = s.none_refused }
       where
-        first : (f : Fault) → rank f < rank UndeclaredVariable → Applies xs i f → ⊥
-        first Unreadable lt = no-unreadable xs i (act_role a) at (λ g. cc)
-        first NotAnAction lt = no-unread xs i (act_role a) at (λ g. cc)
-        first OutOfPlace lt = not-misplaced e.0
-        first NestedTooDeeply lt = not-deep e.1
-        first UndeclaredVariable lt = absurd (omega arith)
+        first : (f : Reason) → rank f < rank reason.undeclared_variable → Applies xs i f → ⊥
+        first _ lt (unreadable h) = no-unreadable xs i (act_role a) at (λ g. cc) (unreadable h)
+        first _ lt (unread h) = no-unread xs i (act_role a) at (λ g. cc) (unread h)
+        first _ lt (misplaced h m) = not-misplaced e.0 (misplaced h m)
+        first _ lt (too_deep h m) = not-deep e.1 (too_deep h m)
+        first _ lt _ = absurd (omega arith)
+    refused-action _ e = absurd e
 
-  pub refused-here : (x : Role) (fault : Fault) → slice_get xs i ≡ Some x → TellsRole x (top fs) (seen_at x (top fs) known.inner) (Some fault) → IsRefused xs i fault
+  none-before : (f : Reason) → rank f < rank reason.unreadable → Applies xs i f → ⊥
+  none-before _ lt (unreadable h) = absurd (omega arith)
+  none-before _ lt _ = absurd (omega arith)
+
+  pub refused-here : (x : Role) (fault : Reason) → slice_get xs i ≡ Some x
+      → TellsRole x (top fs) (seen_at x (top fs) known.inner) (Some fault) → IsRefused xs i fault
   refused-here text_role fault at e = let g : Some fault ≡ None = e in cc
   refused-here (act_role a) fault at e = refused-action a at fault e
-  refused-here unreadable_role fault at e = let g : fault ≡ Unreadable = cc in subst (IsRefused xs i) (sym g) (record { applies = unreadable at; first_fault = λ f lt. absurd (omega arith); first_item = s.none_refused })
-  refused-here unread_role fault at e = let g : fault ≡ NotAnAction = cc in subst (IsRefused xs i) (sym g) (record { applies = unread at; first_fault = first; first_item = s.none_refused })
+  refused-here unreadable_role fault at e = let g : fault ≡ reason.unreadable = cc in subst (IsRefused xs i) (sym g) (record { applies = unreadable at; first_reason = none-before; first_item = s.none_refused })
+  refused-here unread_role fault at e = let g : fault ≡ reason.not_an_action = cc in subst (IsRefused xs i) (sym g) (record { applies = unread at; first_reason = first; first_item = s.none_refused })
     where
-      first : (f : Fault) → rank f < rank NotAnAction → Applies xs i f → ⊥
-      first Unreadable lt = no-unreadable xs i unread_role at (λ g. cc)
-      first NotAnAction lt = absurd (omega arith)
-      first OutOfPlace lt = absurd (omega arith)
-      first NestedTooDeeply lt = absurd (omega arith)
-      first UndeclaredVariable lt = absurd (omega arith)
+      first : (f : Reason) → rank f < rank reason.not_an_action → Applies xs i f → ⊥
+      first _ lt (unreadable h) = no-unreadable xs i unread_role at (λ g. cc) (unreadable h)
+      first _ lt _ = absurd (omega arith)
 
-  fine-here : (x : Role) → slice_get xs i ≡ Some x → TellsRole x (top fs) (seen_at x (top fs) known.inner) None → (f : Fault) → Applies xs i f → ⊥
+  fine-here : (x : Role) → slice_get xs i ≡ Some x → TellsRole x (top fs) (seen_at x (top fs) known.inner) None → (f : Reason) → Applies xs i f → ⊥
   fine-here text_role at e = fine-text text_role at (λ a g. cc) (λ g. cc) (λ g. cc)
   fine-here (act_role a) at e = fine-action a at e
-  fine-here unreadable_role at e = let g : None ≡ Some Unreadable = e in cc
-  fine-here unread_role at e = let g : None ≡ Some NotAnAction = e in cc
+  fine-here unreadable_role at e = let g : None ≡ Some reason.unreadable = e in cc
+  fine-here unread_role at e = let g : None ≡ Some reason.not_an_action = e in cc
 
   more : (x : Role) → slice_get xs i ≡ Some x → TellsRole x (top fs) (seen_at x (top fs) known.inner) None → NoneRefused xs (i + 1)
-  more x at e k f lt a = ⊎_elim (λ low. s.none_refused k f low a) (λ ge. let g : k ≡ i = omega arith in fine-here x at e f (subst (λ n. Applies xs n f) g a)) (cases_lt k i)
+  more x at e k f lt a =
+      ⊎_elim (λ low. s.none_refused k f low a) (λ ge. let g : k ≡ i = omega arith in fine-here x at e f (subst (λ n. Applies xs n f) g a)) (cases_lt k i)
 
 after : (xs : List Role) (i : ℕ) (known : Known) (fs : List Frame) (a : Act) → slice_get xs i ≡ Some (act_role a) → is_placed a (top fs) ≡ true → Stands xs i known fs → Stands xs (i + 1) (known_after a (top fs) (with_inner known (names_at a (top fs) known.inner))) (frames_after a fs (length (names_at a (top fs) known.inner)))
 after xs i known fs (plain p) at e s = stands-declared xs i known p fs at s
 after xs i known fs (opener c p) at e s = stands-opened xs i known p fs s c at
-after xs i known [] bare_else at e s = let g : false ≡ true = e in cc
 after xs i known (f ∷ fs) bare_else at e s = stands-elsed xs i known f fs at e s
-after xs i known [] (branch_else b p) at e s = let g : false ≡ true = e in cc
 after xs i known (f ∷ fs) (branch_else b p) at e s =
     let names = take f.part known.inner in
     let k = and_parts (takes_else (Some f)) (joins b f.opening) e in
     let l = length-take-le f.part known.inner s.2.within.parted in
     subst (λ n. Stands xs (i + 1) (with_inner known (names ++ p.declares)) (branched f (n + length p.declares) ∷ fs)) (sym l) (stands-branched xs i known f fs b p at k.0 k.1 s)
-after xs i known [] closer at e s = let g : false ≡ true = e in cc
 after xs i known (f ∷ fs) closer at e s = stands-ended xs i known f fs at s
 after xs i known fs jump at e s = stands-still xs i known (act_role jump) fs at refl refl (λ g. cc) (λ q g. cc) (λ c q g. cc) (λ b q g. cc) s
+after xs i known [] _ at e s = let g : false ≡ true = e in cc
 
 -- what stands after an item that is not refused
-pub sound-past : (xs : List Role) (i : ℕ) (known : Known) (fs : List Frame) (x : Role) → slice_get xs i ≡ Some x → TellsRole x (top fs) (seen_at x (top fs) known.inner) None → Sound xs i known fs → Sound xs (i + 1) (known_past x (top fs) (with_inner known (seen_at x (top fs) known.inner))) (frames_past x fs (length (seen_at x (top fs) known.inner)))
+pub sound-past : (xs : List Role) (i : ℕ) (known : Known) (fs : List Frame) (x : Role) → slice_get xs i ≡ Some x
+    → TellsRole x (top fs) (seen_at x (top fs) known.inner) None → Sound xs i known fs
+    → Sound xs (i + 1) (known_past x (top fs) (with_inner known (seen_at x (top fs) known.inner))) (frames_past x fs (length (seen_at x (top fs) known.inner)))
 sound-past xs i known fs text_role at e s = record { stands = stands-still xs i known text_role fs at refl refl (λ g. cc) (λ q g. cc) (λ c q g. cc) (λ b q g. cc) s.stands; none_refused = more xs i known fs s text_role at e }
-sound-past xs i known fs unreadable_role at e s = let g : None ≡ Some Unreadable = e in cc
-sound-past xs i known fs unread_role at e s = let g : None ≡ Some NotAnAction = e in cc
+sound-past xs i known fs unreadable_role at e s = let g : None ≡ Some reason.unreadable = e in cc
+sound-past xs i known fs unread_role at e s = let g : None ≡ Some reason.not_an_action = e in cc
 sound-past xs i known fs (act_role a) at e s = record { stands = after xs i known fs a at e.0 s.stands; none_refused = more xs i known fs s (act_role a) at e }
 
 pub sound-end : (xs : List Role) (i : ℕ) (known : Known) (fs : List Frame) → i ≡ length xs → Sound xs i known fs → Judged xs (at_end fs)
 sound-end xs i known [] e s = let all : Sound xs (length xs) known [] = subst (λ n. Sound xs n known []) e s in (all.none_refused, all.stands.0)
-sound-end xs i known (f ∷ fs) e s = let all : Sound xs (length xs) known (f ∷ fs) = subst (λ n. Sound xs n known (f ∷ fs)) e s in (all.none_refused, all.stands.1, all.stands.2.last.is_open)
+sound-end xs i known (f ∷ fs) e s =
+    let all : Sound xs (length xs) known (f ∷ fs) = subst (λ n. Sound xs n known (f ∷ fs)) e s in (all.none_refused, all.stands.1, all.stands.2.last.is_open)

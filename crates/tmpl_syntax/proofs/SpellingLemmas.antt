@@ -1,11 +1,12 @@
--- The items of an accepted file spell the definitions and nodes that are built from them.
+-- For `one_spelling`: the items of an accepted file spell what is built from them.
 use Rattle.std.proofs.Common.{◌≡◌, ◌∙◌, ℕ, Bool, true, false, not, ◌&&◌, ◌||◌, List, [], ◌∷◌, refl, sym, subst, length, Option, Some, None}
 use Rattle.std.proofs.lemmas.Bool.{false≢true, and_parts}
-use Rattle.tmpl_syntax.specs.declared.fault.Fault.{Fault}
-use Rattle.tmpl_syntax.specs.declared.fault.Fault.TheVariants.{Unreadable, NotAnAction}
-use Rattle.tmpl_syntax.specs.declared.place.frame.Frame.{Frame}
+use Rattle.tmpl_syntax.specs.Fault.{Reason}
+use Rattle.tmpl_syntax.specs.Fault as reason
+use Rattle.tmpl_syntax.specs.computed.Frames.{Frame}
 use Rattle.tmpl_syntax.specs.Tree.{NodeKind, text, action, control_node, break_node, continue_node, template_node, Nodes, none, then, Definition}
-use Rattle.tmpl_grammar.specs.Action.{pipeline_action, opening, plain_else, else_branch, end_action, break_action, continue_action, define_action, template_action, block_action}
+use Rattle.tmpl_grammar.specs.Action.{pipeline_action, opening, plain_else, else_branch, end_action, break_action, continue_action}
+use Rattle.tmpl_grammar.specs.Action.{define_action, template_action, block_action}
 use Rattle.tmpl_syntax.specs.Item.{Item, item, text_item, unreadable_item, unread_item, deep_item, action_item}
 use Rattle.tmpl_syntax.specs.Place.Role.{Name, act_of_shape, role_of, roles_of}
 use Rattle.tmpl_grammar.specs.declared.action.Shape.{Shape}
@@ -13,8 +14,10 @@ use Rattle.tmpl_grammar.specs.declared.action.Shape.TheVariants as piped
 use Rattle.tmpl_grammar.specs.declared.action.HeaderShape.TheVariants as shape
 use Rattle.tmpl_syntax.specs.Place.Open.{is_template}
 use Rattle.tmpl_syntax.specs.Place.Body.{Verdict, fine, refused, left_open}
-use Rattle.tmpl_syntax.specs.computed.Frames.{Known, none_known, top, takes_else, elsed, is_too_deep, seen_at, fault_at, frames_past, unless_fault, verdict_from, verdict_of}
-use Rattle.tmpl_syntax.specs.Spelling.{Leads, nothing, a_text, an_action, a_break, a_continue, a_control, a_template, a_define, a_block, Closes, an_end, an_else, an_else_branch, Spells}
+use Rattle.tmpl_syntax.specs.computed.Frames.{Known, none_known, top, takes_else, elsed, is_too_deep, seen_at, fault_at, frames_past}
+use Rattle.tmpl_syntax.specs.computed.Frames.{unless_fault, verdict_from, verdict_of}
+use Rattle.tmpl_syntax.specs.Spelling.{Leads, nothing, a_text, an_action, a_break, a_continue, a_control, a_template, a_define, a_block}
+use Rattle.tmpl_syntax.specs.Spelling.{Closes, an_end, an_else, an_else_branch, Spells}
 use Rattle.tmpl_syntax.specs.computed.Build as build
 use Rattle.tmpl_syntax.specs.computed.Build.{no_parts, first_of, rest_of, with_node_before, parts_with, parts_before, nodes_from, definitions_from}
 use Rattle.tmpl_syntax.proofs.FaultLemmas.{TellsRole, tells}
@@ -50,49 +53,59 @@ Rest (f ∷ fs) xs ds l ls =
     × Closing (ends_only f) ys es l.other zs gs × Rest fs zs gs (first_of ls) (rest_of ls)
 
 -- items before the rest
-rest-led : (fs : List Frame) (xs zs : List Item) (ds gs : List Definition) (l k : build.Level) (ls : List build.Level) → l.other ≡ k.other → ((ys : List Item) (es : List Definition) → Leads zs gs l.nodes ys es → Leads xs ds k.nodes ys es) → Rest fs zs gs l ls → Rest fs xs ds k ls
+rest-led : (fs : List Frame) (xs zs : List Item) (ds gs : List Definition) (l k : build.Level) (ls : List build.Level) → l.other ≡ k.other
+    → ((ys : List Item) (es : List Definition) → Leads zs gs l.nodes ys es → Leads xs ds k.nodes ys es) → Rest fs zs gs l ls
+    → Rest fs xs ds k ls
 rest-led [] xs zs ds gs l k ls e more r = more [] [] r
 rest-led (f ∷ fs) xs zs ds gs l k ls e more r = (r.0, r.1, more r.0 r.1 r.2, r.3, r.4, subst (λ o. Closing (ends_only f) r.0 r.1 o r.3 r.4) e r.5, r.6)
 
-rest-node : (fs : List Frame) (xs zs : List Item) (ds gs : List Definition) (line : ℕ) (n : NodeKind) (l : build.Level) (ls : List build.Level) → ((ns : Nodes) (ys : List Item) (es : List Definition) → Leads zs gs ns ys es → Leads xs ds (then line n ns) ys es) → Rest fs zs gs l ls → Rest fs xs ds (with_node_before line n l) ls
+rest-node : (fs : List Frame) (xs zs : List Item) (ds gs : List Definition) (line : ℕ) (n : NodeKind) (l : build.Level) (ls : List build.Level)
+    → ((ns : Nodes) (ys : List Item) (es : List Definition) → Leads zs gs ns ys es → Leads xs ds (then line n ns) ys es)
+    → Rest fs zs gs l ls → Rest fs xs ds (with_node_before line n l) ls
 rest-node fs xs zs ds gs line n l ls more r = rest-led fs xs zs ds gs l (with_node_before line n l) ls refl (λ ys es. more l.nodes ys es) r
 
 closing-end : (b : Bool) (line : ℕ) (xs : List Item) (ds : List Definition) → Closing b (item line (action_item end_action) ∷ xs) ds none xs ds
 closing-end false line xs ds = an_end
 closing-end true line xs ds = (line, refl, refl, refl)
 
-closing-of : (f : Frame) (ys zs : List Item) (es gs : List Definition) (other : Nodes) → takes_else (Some f) ≡ true → Closes ys es other zs gs → Closing (ends_only f) ys es other zs gs
+closing-of : (f : Frame) (ys zs : List Item) (es gs : List Definition) (other : Nodes) → takes_else (Some f) ≡ true
+    → Closes ys es other zs gs → Closing (ends_only f) ys es other zs gs
 closing-of f ys zs es gs other e c = subst (λ k. Closing k ys es other zs gs) (sym (open-end f e)) c
 
-closes-of : (f : Frame) (ys zs : List Item) (es gs : List Definition) (other : Nodes) → takes_else (Some f) ≡ true → Closing (ends_only f) ys es other zs gs → Closes ys es other zs gs
+closes-of : (f : Frame) (ys zs : List Item) (es gs : List Definition) (other : Nodes) → takes_else (Some f) ≡ true
+    → Closing (ends_only f) ys es other zs gs → Closes ys es other zs gs
 closes-of f ys zs es gs other e c = subst (λ k. Closing k ys es other zs gs) (open-end f e) c
 
 pub too-deep : (shape : Shape) (t : Option Frame) → is_too_deep (act_of_shape shape) t ≡ true
-too-deep (piped.Header shape.Pipeline) t = refl
 too-deep (piped.Header (shape.Open c)) t = refl
-too-deep (piped.Header (shape.ElseBranch branch)) t = refl
-too-deep piped.Template t = refl
-too-deep piped.Block t = refl
+too-deep _ t = refl
 
 -- behind a plain else, and in the body of a template, only the `end` stands
-elsed-closing : (f : Frame) (ys zs : List Item) (es gs : List Definition) (other : Nodes) → Closing (ends_only (elsed f)) ys es other zs gs → Closing true ys es other zs gs
+elsed-closing : (f : Frame) (ys zs : List Item) (es gs : List Definition) (other : Nodes) → Closing (ends_only (elsed f)) ys es other zs gs
+    → Closing true ys es other zs gs
 elsed-closing f ys zs es gs other c = subst (λ b. Closing b ys es other zs gs) (or-true (is_template f.opening)) c
 
-template-body : (xs ys zs : List Item) (es gs : List Definition) {ds : List Definition} {ns other : Nodes} (c : Closing true ys es other zs gs) → Leads xs ds ns ys es → Leads xs ds ns (item c.0 (action_item end_action) ∷ zs) gs
-template-body xs ys zs es gs {ds = ds} {ns = ns} c d = subst (λ k. Leads xs ds ns (item c.0 (action_item end_action) ∷ zs) k) c.3 (subst (λ y. Leads xs ds ns y es) c.1 d)
+template-body : (xs ys zs : List Item) (es gs : List Definition) {ds : List Definition} {ns other : Nodes} (c : Closing true ys es other zs gs)
+    → Leads xs ds ns ys es → Leads xs ds ns (item c.0 (action_item end_action) ∷ zs) gs
+template-body xs ys zs es gs {ds = ds} {ns = ns} c d =
+    subst (λ k. Leads xs ds ns (item c.0 (action_item end_action) ∷ zs) k) c.3 (subst (λ y. Leads xs ds ns y es) c.1 d)
 
 module _ (names : List Name) (xs : List Item) (p : build.Parts) where
   placed : (x : Item) (t : Option Frame) → fault_at (role_of x) t names ≡ None → TellsRole (role_of x) t names None
   placed x t e = subst (TellsRole (role_of x) t names) e (tells (role_of x) t names)
 
   -- a plain action's node
-  at-node : (fs : List Frame) (y : Item) (line : ℕ) (n : NodeKind) → ((ns : Nodes) (ys : List Item) (es : List Definition) → Leads xs p.definitions ns ys es → Leads (y ∷ xs) p.definitions (then line n ns) ys es) → Rest fs xs p.definitions p.inner p.around → Rest fs (y ∷ xs) p.definitions (with_node_before line n p.inner) p.around
+  at-node : (fs : List Frame) (y : Item) (line : ℕ) (n : NodeKind)
+      → ((ns : Nodes) (ys : List Item) (es : List Definition) → Leads xs p.definitions ns ys es → Leads (y ∷ xs) p.definitions (then line n ns) ys es)
+      → Rest fs xs p.definitions p.inner p.around → Rest fs (y ∷ xs) p.definitions (with_node_before line n p.inner) p.around
   at-node fs y line n more r = rest-node fs _ xs p.definitions p.definitions line n p.inner p.around more r
 
-  step : (x : Item) (fs : List Frame) → fault_at (role_of x) (top fs) names ≡ None → Rest (frames_past (role_of x) fs (length names)) xs p.definitions p.inner p.around → Rest fs (x ∷ xs) (parts_with x p).definitions (parts_with x p).inner (parts_with x p).around
+  step : (x : Item) (fs : List Frame) → fault_at (role_of x) (top fs) names ≡ None
+      → Rest (frames_past (role_of x) fs (length names)) xs p.definitions p.inner p.around
+      → Rest fs (x ∷ xs) (parts_with x p).definitions (parts_with x p).inner (parts_with x p).around
   step (item line (text_item bytes)) fs e r = at-node fs _ line (text bytes) (λ ns ys es d. a_text d) r
-  step (item line unreadable_item) fs e r = let g : Some Unreadable ≡ None = e in cc
-  step (item line unread_item) fs e r = let g : Some NotAnAction ≡ None = e in cc
+  step (item line unreadable_item) fs e r = let g : Some reason.unreadable ≡ None = e in cc
+  step (item line unread_item) fs e r = let g : Some reason.not_an_action ≡ None = e in cc
   step (item line (deep_item shape)) fs e r =
       let deep : true ≡ false = sym (too-deep shape (top fs)) ∙ (placed (item line (deep_item shape)) (top fs) e).1 in
       let g : ⊥ = cc in
@@ -111,7 +124,8 @@ module _ (names : List Name) (xs : List Item) (p : build.Parts) where
         closing-of f _ _ _ _ _ takes (an_else {last = end.0} (subst (λ es. Leads xs p.definitions p.inner.nodes (item end.0 (action_item end_action) ∷ r.3) es) end.3 (subst (λ ys. Leads xs p.definitions p.inner.nodes ys r.1) end.1 r.2))),
         r.6,
       )
-  step (item line (action_item (else_branch branch h))) [] e r = let g = (placed (item line (action_item (else_branch branch h))) None e).0 in let h : false ≡ true = g in cc
+  step (item line (action_item (else_branch branch h))) [] e r =
+      let g = (placed (item line (action_item (else_branch branch h))) None e).0 in let h : false ≡ true = g in cc
   step (item line (action_item (else_branch branch h))) (f ∷ fs) e r =
       let takes : takes_else (Some f) ≡ true = (and_parts _ _ (placed (item line (action_item (else_branch branch h))) (Some f) e).0).0 in (
         item line (action_item (else_branch branch h)) ∷ xs,
@@ -123,7 +137,8 @@ module _ (names : List Name) (xs : List Item) (p : build.Parts) where
         r.6,
       )
   step (item line (action_item end_action)) [] e r = let g : false ≡ true = (placed (item line (action_item end_action)) None e).0 in cc
-  step (item line (action_item end_action)) (f ∷ fs) e r = (item line (action_item end_action) ∷ xs, p.definitions, nothing, xs, p.definitions, closing-end (ends_only f) line xs p.definitions, r)
+  step (item line (action_item end_action)) (f ∷ fs) e r =
+      (item line (action_item end_action) ∷ xs, p.definitions, nothing, xs, p.definitions, closing-end (ends_only f) line xs p.definitions, r)
   step (item line (action_item break_action)) fs e r = at-node fs _ line break_node (λ ns ys es d. a_break d) r
   step (item line (action_item continue_action)) fs e r = at-node fs _ line continue_node (λ ns ys es d. a_continue d) r
   step (item line (action_item (template_action name given))) fs e r = at-node fs _ line (template_node name given) (λ ns ys es d. a_template d) r
@@ -134,11 +149,12 @@ module _ (names : List Name) (xs : List Item) (p : build.Parts) where
       let body = template-body _ _ _ _ _ r.5 r.2 in
       rest-node fs _ r.3 _ r.4 line (template_node name (Some q)) (first_of p.around) (rest_of p.around) (λ ns ys es d. a_block {last = r.5.0} body d) r.6
 
-unless-fine : (o : Option Fault) (i : ℕ) (v : Verdict) → unless_fault o i v ≡ fine → (o ≡ None) × (v ≡ fine)
+unless-fine : (o : Option Reason) (i : ℕ) (v : Verdict) → unless_fault o i v ≡ fine → (o ≡ None) × (v ≡ fine)
 unless-fine None i v e = (refl, e)
 unless-fine (Some f) i v e = let g : refused i f ≡ fine = e in cc
 
-rest-from : (xs : List Item) (i : ℕ) (known : Known) (fs : List Frame) → verdict_from i fs known (roles_of xs) ≡ fine → let p = parts_before xs no_parts in Rest fs xs p.definitions p.inner p.around
+rest-from : (xs : List Item) (i : ℕ) (known : Known) (fs : List Frame) → verdict_from i fs known (roles_of xs) ≡ fine
+    → let p = parts_before xs no_parts in Rest fs xs p.definitions p.inner p.around
 rest-from [] i known [] e = nothing
 rest-from [] i known (f ∷ fs) e = let g : left_open ≡ fine = e in cc
 rest-from (x ∷ xs) i known fs e =

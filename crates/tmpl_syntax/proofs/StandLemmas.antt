@@ -1,22 +1,25 @@
--- What stands on the stack is what is open, and the names are those in scope.
-use Rattle.std.proofs.Common.{arith, ◌≡◌, ◌≢◌, ℕ, ◌+◌, ◌≤◌, Bool, true, false, List, [], ◌∷◌, ◌++◌, refl, sym, ap, ◌∙◌, subst, length, take, Option, Some, None, ⊎_elim}
+-- For `one_verdict`: what stands on the stack is what is open, and the names are those in scope.
+use Rattle.std.proofs.Common.{arith, ◌≡◌, ◌≢◌, ℕ, ◌+◌, ◌≤◌, Bool, true, false, List, [], ◌∷◌, ◌++◌, refl, sym, ap, ◌∙◌, subst, length, take}
+use Rattle.std.proofs.Common.{Option, Some, None, ⊎_elim}
 use Rattle.std.specs.Prelude.{slice_get, Contains}
 use Rattle.std.specs.Bool.{Decides}
 use Rattle.std.proofs.lemmas.Bool.{cases_lt}
 use Rattle.std.proofs.lemmas.Bool.Decides.{Decides-like}
 use Rattle.std.proofs.lemmas.List.{length-append, take-append-le}
 use Rattle.std.proofs.lemmas.List.Elements.{Contains-append_left, Contains-append_right, Contains-append_cases}
-use Rattle.tmpl_syntax.specs.declared.place.frame.Frame.{Frame}
+use Rattle.tmpl_syntax.specs.computed.Frames.{Frame}
 use Rattle.tmpl_syntax.specs.Place.Open.{opens, ends, IsOpening, NothingOpen, IsLast, IsElseOf, HasElse, is_template, IsTemplate}
 use Rattle.tmpl_syntax.specs.Place.Body.{IsLoop, Levels}
 use Rattle.tmpl_syntax.specs.computed.Frames.{top, loops, in_loop, levels, entered, Known, with_inner, closed_if, closed_names}
 use Rattle.tmpl_syntax.proofs.FaultLemmas.{IsWithin, in-nothing}
 use Rattle.tmpl_syntax.proofs.OpenLemmas.{ups, downs, count-split, same-opening, same-piece, cut, Same, opened-keeps, opened_new}
-use Rattle.tmpl_syntax.proofs.PlaceLemmas.{alike-back, alike-even, alike-opened, template-moves, template-opened, template-apart, levels-same, levels-opened, InLoop, loop-moves, else_before, else-same, loop-same, loop-same-back}
+use Rattle.tmpl_syntax.proofs.PlaceLemmas.{alike-back, alike-even, alike-opened, template-moves, template-opened, template-apart}
+use Rattle.tmpl_syntax.proofs.PlaceLemmas.{levels-same, levels-opened, InLoop, loop-moves, else_before, else-same, loop-same}
+use Rattle.tmpl_syntax.proofs.PlaceLemmas.{loop-same-back}
 use Rattle.tmpl_syntax.proofs.ScopeLemmas.{Brought, brought-same, brought-same-back, brought-opened, brought-header, brought-opened-back}
 use Rattle.tmpl_syntax.proofs.ElsePartLemmas.{Part, part-later, part-sooner}
-use Rattle.tmpl_syntax.specs.declared.place.frame.Opening.{Opening}
-use Rattle.tmpl_syntax.specs.declared.place.frame.Opening.TheVariants as opened
+use Rattle.tmpl_syntax.specs.Place.Opening.{Opening}
+use Rattle.tmpl_syntax.specs.Place.Opening as opened
 use Rattle.tmpl_grammar.specs.declared.tree.Control.{Control}
 use Rattle.tmpl_grammar.specs.declared.tree.Control.TheVariants.{If, With, Range}
 use Rattle.tmpl_syntax.specs.Place.Role.{Name, Names, opener, bare_else, Role, act_role}
@@ -97,9 +100,8 @@ module _ (xs : List Role) (j m : ℕ) (s : Same xs j m) (known : Known) (ds : Li
       (here-moves (Some f) h.0, h.1, stood-moves f h.1 h.2, subst (λ l. Stands xs h.1 (closed_if (is_template f.opening) (with_inner known l)) fs) (sym e) h.3)
 
 loops-template : (c : Opening) (has around : Bool) → is_template c ≡ true → loops c has around ≡ false
-loops-template (opened.Control c) has around own = let g : false ≡ true = own in cc
-loops-template opened.Define has around own = refl
-loops-template opened.Block has around own = refl
+loops-template (opened.control c) has around own = let g : false ≡ true = own in cc
+loops-template _ has around own = refl
 
 -- an opening
 module _ (xs : List Role) (i : ℕ) (names : List Name) (c : Opening) (p : Names) (at : slice_get xs i ≡ Some (act_role (opener c p))) (o : IsOpening (slice_get xs i) c) (t : Option Frame) (h : Here xs i t names) where
@@ -115,7 +117,7 @@ module _ (xs : List Role) (i : ℕ) (names : List Name) (c : Opening) (p : Names
   loop-on : is_template c ≡ false → InLoop xs i → InLoop xs (i + 1)
   loop-on own l = (l.0, loop-moves xs l.0 i (i + 1) (alike-opened xs (act_role (opener c p)) i c at refl o own) (opened-keeps xs (act_role (opener c p)) i l.0 at refl l.1.is_open) (has-before l.0) l.1)
 
-  loop-off : is_template c ≡ false → c ≢ opened.Control Range → InLoop xs (i + 1) → InLoop xs i
+  loop-off : is_template c ≡ false → c ≢ opened.control Range → InLoop xs (i + 1) → InLoop xs i
   loop-off own nr l = ⊎_elim
       (λ lt. (l.0, loop-moves xs l.0 (i + 1) i (alike-back xs i (i + 1) (alike-opened xs (act_role (opener c p)) i c at refl o own)) (cut xs l.0 i (i + 1) lt (omega arith) l.1.is_open) (else_before xs l.0 i (i + 1) (omega arith)) l.1))
       (λ ge. let b = l.1.is_open.before in let s : l.0 ≡ i = omega arith in
@@ -124,7 +126,8 @@ module _ (xs : List Role) (i : ℕ) (names : List Name) (c : Opening) (p : Names
       (cases_lt l.0 i)
 
   module _ (own : is_template c ≡ false) where
-    here-plain : (l : Bool) → Decides l (InLoop xs (i + 1)) → l ≡ loops c false (in_loop t) → Here xs (i + 1) (Some (entered c p t (length names))) (names ++ p.declares)
+    here-plain : (l : Bool) → Decides l (InLoop xs (i + 1)) → l ≡ loops c false (in_loop t)
+        → Here xs (i + 1) (Some (entered c p t (length names))) (names ++ p.declares)
     here-plain l d dl = record {
       template = h.template;
       is_template_here = template-moves xs i (i + 1) (alike-opened xs (act_role (opener c p)) i c at refl o own) h.template h.is_template_here;
@@ -140,7 +143,7 @@ module _ (xs : List Role) (i : ℕ) (names : List Name) (c : Opening) (p : Names
           (brought-opened-back xs i n c p at o own b);
     }
 
-    new-loop : c ≡ opened.Control Range → InLoop xs (i + 1)
+    new-loop : c ≡ opened.control Range → InLoop xs (i + 1)
     new-loop e = (
       i,
       record {
@@ -151,9 +154,9 @@ module _ (xs : List Role) (i : ℕ) (names : List Name) (c : Opening) (p : Names
       },
     )
 
-    pub here-control : (d : Control) → c ≡ opened.Control d → Here xs (i + 1) (Some (entered c p t (length names))) (names ++ p.declares)
-    here-control If e = here-plain (in_loop t) (Decides-like (in_loop t) (loop-on own) (loop-off own (λ r. let g : opened.Control If ≡ opened.Control Range = sym e ∙ r in cc)) h.looped) (ap (λ z. loops z false (in_loop t)) (sym e))
-    here-control With e = here-plain (in_loop t) (Decides-like (in_loop t) (loop-on own) (loop-off own (λ r. let g : opened.Control With ≡ opened.Control Range = sym e ∙ r in cc)) h.looped) (ap (λ z. loops z false (in_loop t)) (sym e))
+    pub here-control : (d : Control) → c ≡ opened.control d → Here xs (i + 1) (Some (entered c p t (length names))) (names ++ p.declares)
+    here-control If e = here-plain (in_loop t) (Decides-like (in_loop t) (loop-on own) (loop-off own (λ r. let g : opened.control If ≡ opened.control Range = sym e ∙ r in cc)) h.looped) (ap (λ z. loops z false (in_loop t)) (sym e))
+    here-control With e = here-plain (in_loop t) (Decides-like (in_loop t) (loop-on own) (loop-off own (λ r. let g : opened.control With ≡ opened.control Range = sym e ∙ r in cc)) h.looped) (ap (λ z. loops z false (in_loop t)) (sym e))
     here-control Range e = here-plain true (λ g. new-loop e, λ l. refl) (ap (λ z. loops z false (in_loop t)) (sym e))
 
   -- in a template nothing is known, and no loop is around it

@@ -1,12 +1,13 @@
--- What stands after each action.
-use Rattle.std.proofs.Common.{arith, ◌≡◌, ◌≢◌, ℕ, ◌+◌, ◌<◌, ◌≤◌, Bool, true, false, List, [], ◌∷◌, ◌++◌, refl, sym, ap, ◌∙◌, subst, length, take, Option, Some, inl, inr, ⊎_elim, ◌⊎◌}
+-- For `one_verdict`: what stands after an opening, and where a further part of a control begins.
+use Rattle.std.proofs.Common.{arith, ◌≡◌, ◌≢◌, ℕ, ◌+◌, ◌<◌, ◌≤◌, Bool, true, false, List, [], ◌∷◌, ◌++◌, refl, sym, ap, ◌∙◌, subst, length}
+use Rattle.std.proofs.Common.{take, Option, Some, inl, inr, ⊎_elim, ◌⊎◌}
 use Rattle.std.specs.Prelude.{slice_get, Contains}
 use Rattle.std.specs.Bool.{Decides}
 use Rattle.std.proofs.lemmas.Bool.{cases_order, cases_lt}
 use Rattle.std.proofs.lemmas.Bool.Decides.{Decides-like}
 use Rattle.std.proofs.lemmas.List.Elements.{Contains-append_left, Contains-append_right, Contains-append_cases}
 use Rattle.std.proofs.lemmas.List.{length-append, length-take-le, take-take, take_at, take_all, take-append-le}
-use Rattle.tmpl_syntax.specs.declared.place.frame.Frame.{Frame}
+use Rattle.tmpl_syntax.specs.computed.Frames.{Frame}
 use Rattle.tmpl_syntax.specs.Place.Open.{opens, ends, IsOpening, IsLast, HasElse, is_template}
 use Rattle.tmpl_syntax.specs.Place.Body.{IsLoop, Levels}
 use Rattle.tmpl_syntax.specs.computed.Frames.{top, loops, part_of, entered, Known, with_inner, closed_if, opened_names}
@@ -16,8 +17,8 @@ use Rattle.tmpl_syntax.proofs.PlaceLemmas.{alike-back, alike-even, alike-last, t
 use Rattle.tmpl_syntax.proofs.ScopeLemmas.{Reaches, Brought}
 use Rattle.tmpl_syntax.proofs.ElsePartLemmas.{Part, earlier, header, branch_header, part-later, IsPartAt, BroughtFrom, to-part, from-part}
 use Rattle.tmpl_syntax.proofs.StandLemmas.{Here, Stood, closed_at, Stands, here-of, here-control, here-template}
-use Rattle.tmpl_syntax.specs.declared.place.frame.Opening.{Opening}
-use Rattle.tmpl_syntax.specs.declared.place.frame.Opening.TheVariants as opened
+use Rattle.tmpl_syntax.specs.Place.Opening.{Opening}
+use Rattle.tmpl_syntax.specs.Place.Opening as opened
 use Rattle.tmpl_grammar.specs.declared.tree.Control.{Control}
 use Rattle.tmpl_grammar.specs.declared.tree.Control.TheVariants.{If, With, Range}
 use Rattle.tmpl_syntax.specs.Place.Role.{Name, Names, opener, bare_else, Role, act_role}
@@ -27,7 +28,7 @@ module _ (xs : List Role) (i : ℕ) (names : List Name) (c : Opening) (p : Names
   not-after : {A : Type 0} → (k : ℕ) → k < i + 1 → IsLast xs i k → A
   not-after k lt l = let b = l.is_open.before in absurd (omega arith)
 
-  part-new : (n : Name) → Part xs i (i + 1) n → (Brought xs i i n) ⊎ (Contains p.declares n × (c ≡ opened.Control Range → ⊥))
+  part-new : (n : Name) → Part xs i (i + 1) n → (Brought xs i i n) ⊎ (Contains p.declares n × (c ≡ opened.control Range → ⊥))
   part-new n (earlier b) = inl b
   part-new n (header {c = d} {p = q} e k r) =
       let g : act_role (opener c p) ≡ act_role (opener d q) = same-piece xs i (act_role (opener c p)) (act_role (opener d q)) at e in
@@ -39,16 +40,14 @@ module _ (xs : List Role) (i : ℕ) (names : List Name) (c : Opening) (p : Names
   -- an else part sees no fewer names than there were before, and no more than there are in the body
   part-above : (d : Control) → length names ≤ part_of d (length names) (length names + length p.declares)
   part-above If = omega arith
-  part-above With = omega arith
-  part-above Range = omega arith
+  part-above _ = omega arith
 
   part-below : (d : Control) → part_of d (length names) (length names + length p.declares) ≤ length names + length p.declares
   part-below If = omega arith
-  part-below With = omega arith
-  part-below Range = omega arith
+  part-below _ = omega arith
 
   -- what the parts see at first: for an if or with
-  part-wide : c ≢ opened.Control Range → (n : Name) → Contains (take (length names + length p.declares) (names ++ p.declares)) n → Part xs i (i + 1) n
+  part-wide : c ≢ opened.control Range → (n : Name) → Contains (take (length names + length p.declares) (names ++ p.declares)) n → Part xs i (i + 1) n
   part-wide nr n k =
       let e : take (length names + length p.declares) (names ++ p.declares) ≡ names ++ p.declares = take_all (length names + length p.declares) (names ++ p.declares) (omega (arith, length-append names p.declares)) in
       ⊎_elim (λ l. earlier (h.to n l)) (λ r. header at r nr)
@@ -62,19 +61,20 @@ module _ (xs : List Role) (i : ℕ) (names : List Name) (c : Opening) (p : Names
       (λ r. Contains-append_right names p.declares n r.0)
       (part-new n k))
 
-  part-first : (d : Control) → c ≡ opened.Control d → (n : Name) → Contains (take (part_of d (length names) (length names + length p.declares)) (names ++ p.declares)) n → Part xs i (i + 1) n
-  part-first If e n k = part-wide (λ r. let g : opened.Control If ≡ opened.Control Range = sym e ∙ r in cc) n k
-  part-first With e n k = part-wide (λ r. let g : opened.Control With ≡ opened.Control Range = sym e ∙ r in cc) n k
+  part-first : (d : Control) → c ≡ opened.control d → (n : Name)
+      → Contains (take (part_of d (length names) (length names + length p.declares)) (names ++ p.declares)) n → Part xs i (i + 1) n
+  part-first If e n k = part-wide (λ r. let g : opened.control If ≡ opened.control Range = sym e ∙ r in cc) n k
+  part-first With e n k = part-wide (λ r. let g : opened.control With ≡ opened.control Range = sym e ∙ r in cc) n k
   part-first Range e n k =
       let s : take (length names) (names ++ p.declares) ≡ names = take_at names p.declares (length names) refl in
       earlier (h.to n (subst (λ l. Contains l n) s k))
 
-  part-first-back : (d : Control) → c ≡ opened.Control d → (n : Name) → Part xs i (i + 1) n → Contains (take (part_of d (length names) (length names + length p.declares)) (names ++ p.declares)) n
-  part-first-back If e n k = part-wide-back n k
-  part-first-back With e n k = part-wide-back n k
+  part-first-back : (d : Control) → c ≡ opened.control d → (n : Name) → Part xs i (i + 1) n
+      → Contains (take (part_of d (length names) (length names + length p.declares)) (names ++ p.declares)) n
   part-first-back Range e n k =
       let s : take (length names) (names ++ p.declares) ≡ names = take_at names p.declares (length names) refl in
       subst (λ l. Contains l n) (sym s) (⊎_elim (λ b. h.back n b) (λ r. absurd (r.1 e)) (part-new n k))
+  part-first-back _ e n k = part-wide-back n k
 
   stood-opened : (ns : List Name) → IsWithin (entered c p t (length names)) (length ns)
       → (is_template c ≡ false → (n : Name) → Contains (take (entered c p t (length names)).part ns) n → Part xs i (i + 1) n)
@@ -92,9 +92,10 @@ module _ (xs : List Role) (i : ℕ) (names : List Name) (c : Opening) (p : Names
   }
 
 module _ (xs : List Role) (i : ℕ) (known : Known) (p : Names) (fs : List Frame) (s : Stands xs i known fs) where
-  control-opened : (d : Control) → slice_get xs i ≡ Some (act_role (opener (opened.Control d) p)) → Stands xs (i + 1) (opened_names (opened.Control d) p.declares known) (entered (opened.Control d) p (top fs) (length known.inner) ∷ fs)
+  control-opened : (d : Control) → slice_get xs i ≡ Some (act_role (opener (opened.control d) p))
+      → Stands xs (i + 1) (opened_names (opened.control d) p.declares known) (entered (opened.control d) p (top fs) (length known.inner) ∷ fs)
   control-opened d at =
-      let c = opened.Control d in
+      let c = opened.control d in
       let o : IsOpening (slice_get xs i) c = subst (λ z. IsOpening z c) (sym at) refl in
       let h = here-of xs i known fs s in (
         here-control xs i known.inner c p at o (top fs) h refl d refl,
@@ -110,10 +111,11 @@ module _ (xs : List Role) (i : ℕ) (known : Known) (p : Names) (fs : List Frame
       )
 
   -- in a template nothing is known, and behind it what is known here
-  pub stands-opened : (c : Opening) → slice_get xs i ≡ Some (act_role (opener c p)) → Stands xs (i + 1) (opened_names c p.declares known) (entered c p (top fs) (length known.inner) ∷ fs)
-  stands-opened (opened.Control d) at = control-opened d at
-  stands-opened opened.Define at =
-      let c = opened.Define in
+  pub stands-opened : (c : Opening) → slice_get xs i ≡ Some (act_role (opener c p))
+      → Stands xs (i + 1) (opened_names c p.declares known) (entered c p (top fs) (length known.inner) ∷ fs)
+  stands-opened (opened.control d) at = control-opened d at
+  stands-opened opened.define at =
+      let c = opened.define in
       let o : IsOpening (slice_get xs i) c = subst (λ z. IsOpening z c) (sym at) refl in
       let h = here-of xs i known fs s in (
         here-template xs i known.inner c p at o (top fs) h refl,
@@ -122,8 +124,8 @@ module _ (xs : List Role) (i : ℕ) (known : Known) (p : Names) (fs : List Frame
             (λ own. let g : true ≡ false = own in cc) (λ own. let g : true ≡ false = own in cc),
         s,
       )
-  stands-opened opened.Block at =
-      let c = opened.Block in
+  stands-opened opened.block at =
+      let c = opened.block in
       let o : IsOpening (slice_get xs i) c = subst (λ z. IsOpening z c) (sym at) refl in
       let h = here-of xs i known fs s in (
         here-template xs i known.inner c p at o (top fs) h refl,
@@ -169,7 +171,7 @@ module _ (xs : List Role) (i : ℕ) (known : Known) (f : Frame) (fs : List Frame
         (cases_lt has.0 s.1)) l.1,
   )
 
-  loop-out : (f.opening ≡ opened.Control Range → HasElse xs s.1 (i + 1)) → InLoop xs (i + 1) → InLoop xs s.1
+  loop-out : (f.opening ≡ opened.control Range → HasElse xs s.1 (i + 1)) → InLoop xs (i + 1) → InLoop xs s.1
   loop-out ranged l = ⊎_elim
       (λ e. let w : IsLoop xs s.1 (i + 1) = subst (λ k. IsLoop xs k (i + 1)) e l.1 in
       absurd (w.bare (ranged (same-opening xs s.1 f.opening w.is_open.opened s.2.opened w.is_open.at ∙ w.range))))
@@ -178,13 +180,13 @@ module _ (xs : List Role) (i : ℕ) (known : Known) (f : Frame) (fs : List Frame
       (λ gt. absurd (last-after.last l.0 gt l.1.is_open)) o)
       (cases_order l.0 s.1)
 
-  module _ (has : Bool) (lv : ℕ) (ds : List Name) (leveled : Levels xs (i + 1) (i + 1) lv) (has_is : Decides has (HasElse xs s.1 (i + 1))) (ranged : f.opening ≡ opened.Control Range → HasElse xs s.1 (i + 1)) (looped : loops f.opening has f.around ≡ f.around)
+  module _ (has : Bool) (lv : ℕ) (ds : List Name) (leveled : Levels xs (i + 1) (i + 1) lv) (has_is : Decides has (HasElse xs s.1 (i + 1))) (ranged : f.opening ≡ opened.control Range → HasElse xs s.1 (i + 1)) (looped : loops f.opening has f.around ≡ f.around)
       (new : (n : Name) → Contains ds n → Reaches xs i (i + 1) (i + 1) n) (old : (n : Name) → Reaches xs i (i + 1) (i + 1) n → Contains ds n)
       (new_part : (n : Name) → Contains ds n → Part xs s.1 (i + 1) n) (old_part : (n : Name) → Part xs s.1 (i + 1) n → Part xs s.1 i n ⊎ Contains ds n) where
     front : length (take f.part names) ≡ f.part
     front = length-take-le f.part names s.2.within.parted
 
-    ranged-last : last-after.is_open.opened ≡ opened.Control Range → HasElse xs s.1 (i + 1)
+    ranged-last : last-after.is_open.opened ≡ opened.control Range → HasElse xs s.1 (i + 1)
     ranged-last e = ranged (same-opening xs s.1 f.opening last-after.is_open.opened s.2.opened last-after.is_open.at ∙ e)
 
     seen : (n : Name) → Part xs s.1 i n → BroughtFrom xs i (i + 1) (i + 1) n
@@ -229,7 +231,8 @@ module _ (xs : List Role) (i : ℕ) (known : Known) (f : Frame) (fs : List Frame
     }
 
     below : take f.start (take f.part names ++ ds) ≡ take f.start names
-    below = take-append-le f.start (take f.part names) ds (let a = s.2.within.started in omega (arith, front)) ∙ take-take f.start f.part names s.2.within.started
+    below =
+        take-append-le f.start (take f.part names) ds (let a = s.2.within.started in omega (arith, front)) ∙ take-take f.start f.part names s.2.within.started
 
     pub stands-parted : Stands xs (i + 1) (with_inner known (take f.part names ++ ds)) (changed f has lv ds ∷ fs)
     stands-parted = (here-parted, s.1, stood-parted, subst (λ l. Stands xs s.1 (closed_if (is_template f.opening) (with_inner known l)) fs) (sym below) s.3)

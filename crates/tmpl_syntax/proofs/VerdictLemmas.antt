@@ -1,13 +1,15 @@
--- The verdict in one pass is the one that the definition gives.
-use Rattle.std.proofs.Common.{arith, ◌≡◌, ℕ, suc, ◌+◌, ◌<◌, List, [], ◌∷◌, refl, sym, ap, ◌∙◌, length, drop, get_or, length-drop, get_or-drop, Option, Some, None}
+-- For `one_verdict`: the verdict in one pass is the one that the definition gives.
+use Rattle.std.proofs.Common.{arith, ◌≡◌, ℕ, suc, ◌+◌, ◌<◌, List, [], ◌∷◌, refl, sym, ap, ◌∙◌, length, drop, get_or, length-drop}
+use Rattle.std.proofs.Common.{get_or-drop, Option, Some, None}
 use Rattle.std.specs.Prelude.{slice_get}
 use Rattle.std.proofs.lemmas.List.{drop-drop}
 use Rattle.std.proofs.lemmas.Option.{slice_get-get_or}
-use Rattle.tmpl_syntax.specs.declared.fault.Fault.{Fault}
-use Rattle.tmpl_syntax.specs.declared.place.frame.Frame.{Frame}
+use Rattle.tmpl_syntax.specs.Fault.{Reason}
+use Rattle.tmpl_syntax.specs.computed.Frames.{Frame}
 use Rattle.tmpl_syntax.specs.Place.Role.{Role}
 use Rattle.tmpl_syntax.specs.Place.Body.{Verdict, Judged}
-use Rattle.tmpl_syntax.specs.computed.Frames.{top, fault_at, seen_at, frames_past, Known, with_inner, known_past, none_known, unless_fault, verdict_from, verdict_of}
+use Rattle.tmpl_syntax.specs.computed.Frames.{top, fault_at, seen_at, frames_past, Known, with_inner, known_past, none_known, unless_fault}
+use Rattle.tmpl_syntax.specs.computed.Frames.{verdict_from, verdict_of}
 use Rattle.tmpl_syntax.proofs.FaultLemmas.{TellsRole, tells}
 use Rattle.tmpl_syntax.proofs.SoundLemmas.{Sound, sound-start, sound-past, sound-end, refused-here}
 
@@ -21,7 +23,8 @@ at-drop xs i x ys e =
     )
 
 module _ (xs : List Role) where
-  judged-from : (ys : List Role) (i : ℕ) (known : Known) (fs : List Frame) → drop i xs ≡ ys → i + length ys ≡ length xs → Sound xs i known fs → Judged xs (verdict_from i fs known ys)
+  judged-from : (ys : List Role) (i : ℕ) (known : Known) (fs : List Frame) → drop i xs ≡ ys → i + length ys ≡ length xs
+      → Sound xs i known fs → Judged xs (verdict_from i fs known ys)
   judged-from [] i known fs e n s = sound-end xs i known fs (omega arith) s
   judged-from (x ∷ ys) i known fs e n s =
       let at = at-drop xs i x ys e in
@@ -30,7 +33,8 @@ module _ (xs : List Role) where
       go at.0 (fault_at x (top fs) seen) (tells x (top fs) seen) (verdict_from (i + 1) (frames_past x fs (length seen)) next ys)
       (λ h. judged-from ys (i + 1) next (frames_past x fs (length seen)) at.1 (omega arith) (sound-past xs i known fs x at.0 h s))
     where
-      go : slice_get xs i ≡ Some x → (o : Option Fault) → TellsRole x (top fs) (seen_at x (top fs) known.inner) o → (v : Verdict) → (TellsRole x (top fs) (seen_at x (top fs) known.inner) None → Judged xs v) → Judged xs (unless_fault o i v)
+      go : slice_get xs i ≡ Some x → (o : Option Reason) → TellsRole x (top fs) (seen_at x (top fs) known.inner) o → (v : Verdict)
+          → (TellsRole x (top fs) (seen_at x (top fs) known.inner) None → Judged xs v) → Judged xs (unless_fault o i v)
       go at None h v further = further h
       go at (Some f) h v further = refused-here xs i known fs s x f at h
 

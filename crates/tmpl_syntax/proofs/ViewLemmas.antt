@@ -1,10 +1,11 @@
--- Nodes, seen by their parts.
+-- For code on nodes: nodes, seen by their parts.
 use Rattle.std.proofs.Common.{rules, ◌≡◌, ◌∙◌, ℕ, Vec, Box, Global}
 use Rattle.tmpl_grammar.specs.View.{header_of}
 use Rattle.tmpl_grammar.specs.declared.tree.Control as held_control
 use Rattle.tmpl_grammar.specs.declared.tree.Header as held_header
 use Rattle.tmpl_syntax.specs.Tree.{NodeKind, control_node}
-use Rattle.tmpl_syntax.specs.View.{kind_of, control_of, node_of, nodes_in}
+use Rattle.tmpl_syntax.specs.View.{control_of, node_of, nodes_in}
+use Rattle.tmpl_syntax.specs.computed.View.{kind_of}
 use Rattle.tmpl_syntax.specs.declared.tree.Node as held_node
 use Rattle.tmpl_syntax.specs.declared.tree.Node.{out-Node, roll-Node}
 use Rattle.tmpl_syntax.specs.declared.tree.ControlNode as held_node_control
@@ -12,7 +13,8 @@ use Rattle.tmpl_syntax.specs.declared.tree.ControlNode.{out-ControlNode, roll-Co
 use Rattle.tmpl_syntax.specs.declared.tree.NodeKind as held_kind
 use Rattle.tmpl_syntax.specs.declared.tree.NodeKind.{Control, the_lemmas}
 
-pub node_of-Node : (line : ℕ) (what : held_kind.NodeKind) → node_of (roll-Node (record { line = line; what = what })) ≡ record { line = line; what = kind_of what }
+pub node_of-Node : (line : ℕ) (what : held_kind.NodeKind)
+    → node_of (roll-Node (record { line = line; what = what })) ≡ record { line = line; what = kind_of what }
 node_of-Node line what = search (rules, the_lemmas)
 
 -- .. and so by its fields

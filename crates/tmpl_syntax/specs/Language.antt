@@ -1,8 +1,6 @@
 -- The languages that are told apart: by the controls with which an else part may begin.
 use Rattle.std.specs.Prelude.{Bool, true, false}
-use Rattle.tmpl_grammar.specs.Action.{Action, pipeline_action, opening, plain_else, else_branch}
-use Rattle.tmpl_grammar.specs.Action.{end_action, break_action, continue_action, define_action, template_action}
-use Rattle.tmpl_grammar.specs.Action.{block_action}
+use Rattle.tmpl_grammar.specs.Action.{Action, else_branch}
 use Rattle.tmpl_grammar.specs.declared.action.Branch.{Branch}
 use Rattle.tmpl_grammar.specs.declared.action.Branch.TheVariants as branch
 
@@ -20,13 +18,5 @@ go_1_22 branch.With = false
 
 -- whether an action is one of the language
 abbrev pub has_action : Branches → Action → Bool
-has_action branches (pipeline_action h) = true
-has_action branches (opening c h) = true
-has_action branches plain_else = true
 has_action branches (else_branch b h) = branches b
-has_action branches end_action = true
-has_action branches break_action = true
-has_action branches continue_action = true
-has_action branches (define_action name) = true
-has_action branches (template_action name given) = true
-has_action branches (block_action name p) = true
+has_action branches a = true

@@ -1,5 +1,5 @@
 -- Laws of the definitions.
-use Rattle.std.specs.Prelude.{◌≡◌, ◌↔◌, ◌≤◌, ◌+◌, ℕ, true, List, Ok, Err, length, map}
+use Rattle.std.specs.Prelude.{◌≡◌, ◌↔◌, ◌≤◌, ◌+◌, ℕ, true, List, Result, Ok, Err, length, map}
 use Rattle.tmpl_grammar.specs.declared.action.Branch.{Branch}
 use Rattle.tmpl_syntax.specs.Tree.{Nodes, Definition}
 use Rattle.tmpl_syntax.specs.Language.{Branches, every_branch}
@@ -13,7 +13,7 @@ use Rattle.tmpl_syntax.specs.Parse.{most_bytes, all_defined, template_in}
 use Rattle.tmpl_syntax.specs.computed.Build.{nodes_from, definitions_from}
 use Rattle.tmpl_syntax.specs.Fault.{Reason}
 use Rattle.tmpl_syntax.specs.Set.{Template}
-use Rattle.tmpl_syntax.specs.Parse.{IsAccepted, IsRefusedBy}
+use Rattle.tmpl_syntax.specs.Parse.{Refusal, IsAccepted, IsRefusedBy, Parses}
 use Rattle.tmpl_syntax.specs.computed.Parse.{items_of, parsed}
 
 -- in each language a file has items, and no others
@@ -46,6 +46,15 @@ abbrev pub SpellsAtMostOne : Type 0
 SpellsAtMostOne =
     (items : List Item) (ds es : List Definition) (ns ms : Nodes) → Spells items ds ns → Spells items es ms
     → (ds ≡ es) × (ns ≡ ms)
+
+-- something comes of each file, and nothing else
+abbrev pub HasOutcome : Type 0
+HasOutcome = (old : List Template) (file bytes : List ℕ) → Parses old file bytes (parsed old file bytes)
+
+abbrev pub HasOneOutcome : Type 0
+HasOneOutcome =
+    (old : List Template) (file bytes : List ℕ) (r s : Result (List Template) Refusal)
+    → Parses old file bytes r → Parses old file bytes s → r ≡ s
 
 -- a file is accepted just where the function gives a set, and the set is then that one
 abbrev pub AcceptsAsParsed : Type 0

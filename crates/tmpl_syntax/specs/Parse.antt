@@ -12,9 +12,8 @@ use Rattle.tmpl_syntax.specs.Item.{ItemKind, Item, item, HasItems}
 use Rattle.tmpl_syntax.specs.Place.Role.{roles_of}
 use Rattle.tmpl_syntax.specs.Place.Body.{fine, refused, left_open, Judged}
 use Rattle.tmpl_syntax.specs.Spelling.{definition, Spells}
-use Rattle.tmpl_syntax.specs.Fault.{Reason, of_action, open_at_end, too_long, second_definition, reason_of}
+use Rattle.tmpl_syntax.specs.Fault.{Reason, open_at_end, too_long, second_definition, reason_of}
 use Rattle.tmpl_syntax.specs.Set.{Template, is_blank, defined_each}
-use Rattle.tmpl_syntax.specs.declared.fault.Fault.{Fault}
 use Rattle.tmpl_syntax.specs.declared.fault.ParseFault.{ParseFault}
 
 -- the line of the end of a file
@@ -81,14 +80,12 @@ pub record IsAccepted (branches : Branches) (old : List Template) (file bytes : 
   pub once : NoneSecond (all_defined file definitions own)
   pub set : new ≡ defined_each old (map (template_in file) (all_defined file definitions own))
 
--- the item at a place is the first that is refused, and this is its line, and why
+-- the item at a place is the first that is refused, for this reason, and this is its line
 pub record IsRefusedAt (items : List Item) (line : ℕ) (reason : Reason) : Type 0 where
   pub place : ℕ
-  pub fault : Fault
-  pub first : Judged (roles_of items) (refused place fault)
+  pub first : Judged (roles_of items) (refused place reason)
   pub what : ItemKind
   pub at : slice_get items place ≡ Some (item line what)
-  pub why : reason ≡ of_action fault
 
 -- a file of this path and these bytes is refused at this line, for this reason
 abbrev pub IsRefusedBy : Branches → List ℕ → List ℕ → ℕ → Reason → Type 0
@@ -102,16 +99,26 @@ IsRefusedBy branches file bytes line second_definition =
 IsRefusedBy branches file bytes line reason =
     (length bytes ≤ most_bytes) × (items : List Item) × HasItems branches bytes items × IsRefusedAt items line reason
 
--- .. or for none, which is want of memory
-abbrev pub IsRefusedFor : Branches → List ℕ → List ℕ → ℕ → Option Reason → Type 0
-IsRefusedFor branches file bytes line None = line ≡ 1
-IsRefusedFor branches file bytes line (Some reason) = IsRefusedBy branches file bytes line reason
+-- the line and the reason of a refusal
+abbrev pub Refusal : Type 0
+Refusal = ℕ × Reason
+
+-- what comes of a file of this path and these bytes: it is accepted, and makes a new set of the old one, or it is
+-- refused
+abbrev pub Parses : List Template → List ℕ → List ℕ → Result (List Template) Refusal → Type 0
+Parses old file bytes (Ok new) = IsAccepted every_branch old file bytes new
+Parses old file bytes (Err refusal) = IsRefusedBy every_branch file bytes refusal.0 refusal.1
+
+-- .. where a refusal may be for none of the reasons, which is want of memory
+abbrev pub ParsesUnless : List Template → List ℕ → List ℕ → ℕ → Option Reason → Type 0
+ParsesUnless old file bytes line None = line ≡ 1
+ParsesUnless old file bytes line (Some reason) = Parses old file bytes (Err (line, reason))
 
 -- what the parser answers: the file is accepted, or the set stays and the file is named, with its line and reason
 abbrev pub IsReading : List Template → Bor (List ℕ) → List ℕ → List Template → Result (Unit {0}) ParseFault → Type 0
-IsReading old file bytes new (Ok u) = IsAccepted every_branch old file.now bytes new
+IsReading old file bytes new (Ok u) = Parses old file.now bytes (Ok new)
 IsReading old file bytes new (Err fault) =
-    (fault.file ≡ file) × (new ≡ old) × IsRefusedFor every_branch file.now bytes fault.line (reason_of fault.kind)
+    (fault.file ≡ file) × (new ≡ old) × ParsesUnless old file.now bytes fault.line (reason_of fault.kind)
 
 -- what Go 1.22 accepts is accepted, want of memory aside, and the set is then what it is there
 abbrev pub IsAsBefore : List Template → Bor (List ℕ) → List ℕ → List Template → Result (Unit {0}) ParseFault → Type 0

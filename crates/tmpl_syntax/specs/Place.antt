@@ -1,4 +1,5 @@
 pub mod Body
 pub mod Open
+pub mod Opening
 pub mod Role
 pub mod Scope

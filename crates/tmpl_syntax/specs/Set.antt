@@ -6,7 +6,7 @@ use Rattle.std.specs.List.{list_all}
 use Rattle.std.specs.Str.{bytes_eq}
 use Rattle.tmpl_lex.specs.Bytes.{is_space}
 use Rattle.tmpl_syntax.specs.Tree as tree
-use Rattle.tmpl_syntax.specs.Tree.{NodeKind, text, action, control_node, break_node, continue_node, template_node}
+use Rattle.tmpl_syntax.specs.Tree.{NodeKind, text}
 use Rattle.tmpl_syntax.specs.Tree.{Nodes, Tree}
 
 -- a name and a tree
@@ -26,11 +26,7 @@ number_of name ts = position (has_name name) ts
 
 abbrev pub is_blank_node : NodeKind → Bool
 is_blank_node (text bytes) = list_all is_space bytes
-is_blank_node (action h) = false
-is_blank_node (control_node c h body other) = false
-is_blank_node break_node = false
-is_blank_node continue_node = false
-is_blank_node (template_node name given) = false
+is_blank_node n = false
 
 -- whether all nodes are texts of white space
 abbrev pub is_blank : Nodes → Bool

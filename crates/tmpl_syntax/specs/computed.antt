@@ -1,6 +1,8 @@
 pub mod Build
 pub mod Count
+pub mod Fault
 pub mod Frames
 pub mod Item
 pub mod Parse
 pub mod Print
+pub mod View

@@ -4,7 +4,8 @@ ghost use Rattle.tmpl_grammar.specs.Action.{block_action};
 ghost use Rattle.tmpl_grammar.specs.View.{action_of, header_of, pipeline_of};
 ghost use Rattle.tmpl_syntax.specs.Item.{action_item, item};
 ghost use Rattle.tmpl_syntax.specs.Tree.{control_node};
-ghost use Rattle.tmpl_syntax.specs.View.{definition_of, item_of, kind_of, level_of, nodes_in, parts_of};
+ghost use Rattle.tmpl_syntax.specs.View.{nodes_in};
+ghost use Rattle.tmpl_syntax.specs.computed.View.{definition_of, item_of, kind_of, level_of, parts_of};
 ghost use Rattle.tmpl_syntax.specs.computed.Parse.{all_from};
 ghost use Rattle.tmpl_syntax.specs.computed.Build as spec;
 

@@ -1,6 +1,7 @@
 //! Why a file is refused.
 ghost use Rattle.std.specs.Prelude.{◌≡◌, Some};
-ghost use Rattle.tmpl_syntax.specs.Fault.{of_action, out_of_memory, reason_of};
+ghost use Rattle.tmpl_syntax.specs.Fault.{reason_of};
+ghost use Rattle.tmpl_syntax.specs.computed.Fault.{of_action, out_of_memory};
 
 use std::alloc::AllocError;
 

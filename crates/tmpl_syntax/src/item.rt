@@ -2,7 +2,7 @@
 ghost use Rattle.std.specs.Prelude.{◌≡◌, IfOk, map};
 ghost use Rattle.tmpl_lex.specs.View.{piece_of};
 ghost use Rattle.tmpl_grammar.specs.View.{action_reading};
-ghost use Rattle.tmpl_syntax.specs.View.{item_kind, item_of};
+ghost use Rattle.tmpl_syntax.specs.computed.View.{item_kind, item_of};
 ghost use Rattle.tmpl_syntax.specs.computed.Item.{item_in, items_in, read_item};
 
 use std::alloc::{AllocError, Global};

@@ -1,7 +1,7 @@
 //! Laws of the definitions that the contracts speak of.
 ghost use Rattle.tmpl_syntax.specs.Laws.{HasItemsOf, HasOneList, HasSomeItems, HasVerdict, HasOneVerdict};
 ghost use Rattle.tmpl_syntax.specs.Laws.{SpellsWhereFine, SpellsAtMostOne, AcceptsAsParsed, RefusesAsParsed};
-ghost use Rattle.tmpl_syntax.specs.Laws.{AcceptsInLarger};
+ghost use Rattle.tmpl_syntax.specs.Laws.{AcceptsInLarger, HasOutcome, HasOneOutcome};
 ghost use Rattle.tmpl_syntax.specs.Laws.{NeedsAtMost, NeedsAtMostBytes};
 ghost use Rattle.tmpl_syntax.specs.Print.Join.{CutsBack};
 ghost use Rattle.tmpl_syntax.specs.Print.Laws.{AcceptsBack, KeepsPrintable, ReadsSame, SetReadsSame};
@@ -30,6 +30,8 @@ pub fn one_spelling()
 /// The law that each file has one outcome, which the function `parsed` gives: it is accepted and makes one set of
 /// the set that is there, or it is refused at one line for one reason.
 pub fn one_outcome()
+    ensures exists { HasOutcome }
+    ensures one { HasOneOutcome }
     ensures accepted { AcceptsAsParsed }
     ensures refused { RefusesAsParsed }
 {}

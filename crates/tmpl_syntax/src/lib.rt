@@ -21,7 +21,7 @@ pub use parse::{base_name, parse_file};
 pub use print::{print_set, print_tree};
 pub use set::{Names, Set};
 pub use tmpl_grammar::{
-    Binding, Command, Control, Header, Operand, Pair, Pipeline, one_action, one_reading,
-    printed_spelling, printed_tokens,
+    Binding, Command, Control, Header, Operand, Pair, Pipeline, one_action, one_constant,
+    one_operand, one_reading, printed_spelling, printed_tokens,
 };
 pub use tree::{ControlNode, Node, NodeKind, Tree};

@@ -1,7 +1,8 @@
 //! Reading a file into the set.
 ghost use Rattle.std.specs.Prelude.{◌≡◌, ◌≤◌, ◌==◌, IfOk, length, map, not};
 ghost use Rattle.std.specs.List.{suffix_len};
-ghost use Rattle.tmpl_syntax.specs.View.{definition_of, item_of, set_view, template_of};
+ghost use Rattle.tmpl_syntax.specs.View.{set_view, template_of};
+ghost use Rattle.tmpl_syntax.specs.computed.View.{definition_of, item_of};
 ghost use Rattle.tmpl_syntax.specs.Parse as spec;
 ghost use Rattle.tmpl_syntax.specs.Parse.{IsAsBefore, IsReading, template_in};
 ghost use Rattle.tmpl_syntax.specs.computed.Parse.{IsAdded, IsOnce, IsParse, items_of};

@@ -1,12 +1,12 @@
 //! Trees printed as template files.
-ghost use Rattle.std.specs.Prelude.{◌≡◌, ◌∷◌, [], IfOk, OnOk, codes};
+ghost use Rattle.std.specs.Prelude.{◌≡◌, ◌∷◌, [], IfOk, OnOk, None, codes};
 ghost use Rattle.tmpl_grammar.specs.View.{printed_of};
-ghost use Rattle.tmpl_syntax.specs.Print.Join.{behind, ends_brace, opening, parting};
+ghost use Rattle.tmpl_syntax.specs.Print.Join.{ends_brace, opening, parting};
 ghost use Rattle.tmpl_syntax.specs.Print.Laws.{SetBack};
 ghost use Rattle.tmpl_syntax.specs.Print.Printed.{else_said, node_said, nodes_said, printed, printed_set};
 ghost use Rattle.tmpl_syntax.specs.Print.Printed.{said, said_text};
-ghost use Rattle.tmpl_syntax.specs.View.{control_of, node_of, nodes_in, page_of, set_view, tree_of};
-ghost use Rattle.tmpl_syntax.specs.declared.print.Before.TheVariants.{Nothing};
+ghost use Rattle.tmpl_syntax.specs.View.{control_of, node_of, nodes_in, set_view, tree_of};
+ghost use Rattle.tmpl_syntax.specs.computed.View.{page_of, text_of};
 ghost use Rattle.tmpl_syntax.specs.computed.Print.{page_with, template_said};
 
 use crate::set::Set;
@@ -14,22 +14,12 @@ use crate::tree::{ControlNode, Node, NodeKind, Tree};
 use std::alloc::{AllocError, Global};
 use tmpl_grammar::PrintedAction;
 
-/// What stands just before a place of a printed file.
-#[derive(Clone, Copy)]
-pub(crate) enum Before {
-    /// No text.
-    Nothing,
-    /// A text that does not end in `{`.
-    Text,
-    /// A text that ends in `{`.
-    Brace,
-}
-
 /// A file as far as it is printed.
 #[derive(Drop)]
-pub(crate) struct Page {
+pub(crate) struct Page<'b> {
     bytes: Vec<u8>,
-    before: Before,
+    /// The text with which it ends, if it ends with one.
+    before: Option<&'b [u8]>,
 }
 
 /// A set as one template file: each template as a definition with a newline behind it, in the order of the set.
@@ -55,20 +45,20 @@ pub fn print_tree(alloc: Global, tree: &Tree<'_>) -> Result<Vec<u8>, AllocError>
     Ok(page.bytes)
 }
 
-impl Page {
+impl<'b> Page<'b> {
     /// An empty file.
-    #[tactic(auto, unfolding(crate::specs::View::page_of))]
-    fn new(alloc: Global) -> Page
-        ensures { page_of result ≡ ([], Nothing) }
+    #[tactic(auto, unfolding(crate::specs::computed::View::page_of))]
+    fn new(alloc: Global) -> Page<'b>
+        ensures { page_of result ≡ ([], None) }
     {
         Page {
             bytes: Vec::new(alloc),
-            before: Before::Nothing,
+            before: None,
         }
     }
 
     /// Adds a template as a definition, and a newline.
-    fn template(&mut self, name: &[u8], tree: &Tree<'_>) -> Result<(), AllocError>
+    fn template(&mut self, name: &[u8], tree: &Tree<'b>) -> Result<(), AllocError>
         ensures { OnOk result (page_of self.new
             ≡ page_with (page_of self.old) (template_said (name.now, tree_of tree.now))) }
     {
@@ -80,7 +70,7 @@ impl Page {
 
     /// Adds nodes.
     #[cycle(print)]
-    fn nodes(&mut self, nodes: &[Node<'_>]) -> Result<(), AllocError>
+    fn nodes(&mut self, nodes: &[Node<'b>]) -> Result<(), AllocError>
         ensures { OnOk result (page_of self.new ≡ page_with (page_of self.old) (nodes_said (nodes_in nodes.now))) }
     {
         for node in nodes {
@@ -91,7 +81,7 @@ impl Page {
 
     /// Adds one node.
     #[cycle(print)]
-    fn node(&mut self, node: &Node<'_>) -> Result<(), AllocError>
+    fn node(&mut self, node: &Node<'b>) -> Result<(), AllocError>
         ensures { OnOk result (page_of self.new ≡ page_with (page_of self.old) (node_said (node_of node.now).what)) }
     {
         match &node.what {
@@ -109,7 +99,7 @@ impl Page {
 
     /// Adds a control with its parts.
     #[cycle(print)]
-    fn control(&mut self, control: &ControlNode<'_>) -> Result<(), AllocError>
+    fn control(&mut self, control: &ControlNode<'b>) -> Result<(), AllocError>
         ensures { OnOk result (page_of self.new ≡ page_with (page_of self.old) (node_said (control_of control.now))) }
     {
         self.action(PrintedAction::Open(control.control, &control.header))?;
@@ -120,7 +110,7 @@ impl Page {
 
     /// Adds an else part, where it has nodes.
     #[cycle(print)]
-    fn else_part(&mut self, nodes: &[Node<'_>]) -> Result<(), AllocError>
+    fn else_part(&mut self, nodes: &[Node<'b>]) -> Result<(), AllocError>
         ensures { OnOk result (page_of self.new
             ≡ page_with (page_of self.old) (else_said (nodes_in nodes.now) (nodes_said (nodes_in nodes.now)))) }
     {
@@ -139,50 +129,42 @@ impl Page {
         self.bytes.extend_from_slice(opening(self.before))?;
         action.print(&mut self.bytes)?;
         self.bytes.extend_from_slice(b"}}")?;
-        self.before = Before::Nothing;
+        self.before = None;
         Ok(())
     }
 
     /// Adds a text.
-    fn text(&mut self, text: &[u8]) -> Result<(), AllocError>
+    fn text(&mut self, text: &'b [u8]) -> Result<(), AllocError>
         ensures { OnOk result (page_of self.new ≡ page_with (page_of self.old) (said_text text.now ∷ [])) }
     {
         self.bytes.extend_from_slice(parting(self.before))?;
         self.bytes.extend_from_slice(text)?;
-        self.before = behind(text);
+        self.before = Some(text);
         Ok(())
     }
 }
 
-/// What opens an action: its `{{`, which takes back a space behind a text that ends in `{`.
-fn opening(before: Before) -> &'static [u8]
-    ensures { result.now ≡ opening before }
+/// What opens an action behind a text or none: its `{{`, which takes back a space behind a text that ends in `{`.
+fn opening(before: Option<&[u8]>) -> &'static [u8]
+    ensures { result.now ≡ opening (text_of before.entry) }
 {
     match before {
-        Before::Nothing | Before::Text => b"{{",
-        Before::Brace => b" {{- ",
+        Some(text) => if ends_in_brace(text) { b" {{- " } else { b"{{" },
+        None => b"{{",
     }
 }
 
 /// What parts a text from one before it: a comment, which takes back a space behind a text that ends in `{`.
-fn parting(before: Before) -> &'static [u8]
-    ensures { result.now ≡ parting before }
+fn parting(before: Option<&[u8]>) -> &'static [u8]
+    ensures { result.now ≡ parting (text_of before.entry) }
 {
     match before {
-        Before::Nothing => b"",
-        Before::Text => b"{{/**/}}",
-        Before::Brace => b" {{- /**/}}",
-    }
-}
-
-/// What stands behind a text.
-fn behind(text: &[u8]) -> Before
-    ensures { result ≡ behind text.now }
-{
-    if ends_in_brace(text) {
-        Before::Brace
-    } else {
-        Before::Text
+        Some(text) => if ends_in_brace(text) {
+            b" {{- /**/}}"
+        } else {
+            b"{{/**/}}"
+        },
+        None => b"",
     }
 }
 

@@ -138,7 +138,8 @@ impl<'s, 'b> Iterator for Names<'s, 'b> {
 /// Adds templates, one by one, for each of which there is room.
 fn define_each<'b>(set: &mut IndexMap<Vec<u8>, Tree<'b>>, templates: Vec<(Vec<u8>, Tree<'b>)>)
     requires { length templates.items ≤ spare set.old }
-    ensures { set_view set.new.entries ≡ defined_each (set_view set.old.entries) (map template_of templates.entry.items) }
+    ensures { set_view set.new.entries
+        ≡ defined_each (set_view set.old.entries) (map template_of templates.entry.items) }
 {
     for (name, tree) in templates {
         define(set, name, tree);

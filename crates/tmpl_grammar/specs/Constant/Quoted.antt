@@ -5,54 +5,48 @@ use Rattle.std.specs.Char.{encode_utf8}
 use Rattle.std.specs.Str.{byte}
 use Rattle.std.specs.Str.Parse.{AllDigits, digits_value}
 use lib.Utf8.{scalar}
-use Rattle.tmpl_values.specs.Rune.{BeginsNoChar}
-use Rattle.tmpl_grammar.specs.declared.constant.quoted.Part.{Part}
-use Rattle.tmpl_grammar.specs.declared.constant.quoted.Part.TheVariants.{Byte, Char}
+use Rattle.tmpl_values.specs.Rune as rune
+use Rattle.tmpl_values.specs.Rune.{Rune, BeginsNoChar}
 
--- the bytes that a part stands for
-abbrev pub part_text : Part → List ℕ
-part_text (Byte b) = b ∷ []
-part_text (Char c) = encode_utf8 c
-
--- the code of a part
-abbrev pub part_code : Part → ℕ
-part_code (Byte b) = b
-part_code (Char c) = c
+-- the value of the byte, or the code of the character
+abbrev pub code_of : Rune → ℕ
+code_of (rune.byte b) = b
+code_of (rune.char c) = c
 
 -- so many digits in a base
 abbrev pub AreDigits : ℕ → ℕ → List ℕ → Type 0
 AreDigits base count ds = (length ds ≡ count) × AllDigits base ds
 
--- the escapes between two such quotes, and the part that each stands for: a byte by a letter, by three octal digits or
+-- the escapes between two such quotes, and the rune that each stands for: a byte by a letter, by three octal digits or
 -- by two of base 16; a character, which is no surrogate and at most 10FFFFh, by four or eight of base 16
-pub data IsEscape (quote : ℕ) : List ℕ → Part → Type 0 where
-  alert : IsEscape quote (codes "\\a") (Byte 7)
-  backspace : IsEscape quote (codes "\\b") (Byte 8)
-  form_feed : IsEscape quote (codes "\\f") (Byte 12)
-  newline : IsEscape quote (codes "\\n") (Byte 10)
-  carriage_return : IsEscape quote (codes "\\r") (Byte 13)
-  tab : IsEscape quote (codes "\\t") (Byte 9)
-  vertical_tab : IsEscape quote (codes "\\v") (Byte 11)
-  backslash : IsEscape quote (codes "\\\\") (Byte (byte "\\"))
-  the_quote : IsEscape quote (codes "\\" ++ quote ∷ []) (Byte quote)
+pub data IsEscape (quote : ℕ) : List ℕ → Rune → Type 0 where
+  alert : IsEscape quote (codes "\\a") (rune.byte 7)
+  backspace : IsEscape quote (codes "\\b") (rune.byte 8)
+  form_feed : IsEscape quote (codes "\\f") (rune.byte 12)
+  newline : IsEscape quote (codes "\\n") (rune.byte 10)
+  carriage_return : IsEscape quote (codes "\\r") (rune.byte 13)
+  tab : IsEscape quote (codes "\\t") (rune.byte 9)
+  vertical_tab : IsEscape quote (codes "\\v") (rune.byte 11)
+  backslash : IsEscape quote (codes "\\\\") (rune.byte (byte "\\"))
+  the_quote : IsEscape quote (codes "\\" ++ quote ∷ []) (rune.byte quote)
   octal : {ds : List ℕ} → AreDigits 8 3 ds → digits_value 8 ds < 256
-      → IsEscape quote (codes "\\" ++ ds) (Byte (digits_value 8 ds))
-  two_digits : {ds : List ℕ} → AreDigits 16 2 ds → IsEscape quote (codes "\\x" ++ ds) (Byte (digits_value 16 ds))
+      → IsEscape quote (codes "\\" ++ ds) (rune.byte (digits_value 8 ds))
+  two_digits : {ds : List ℕ} → AreDigits 16 2 ds → IsEscape quote (codes "\\x" ++ ds) (rune.byte (digits_value 16 ds))
   four_digits : {ds : List ℕ} → AreDigits 16 4 ds → scalar (digits_value 16 ds) ≡ true
-      → IsEscape quote (codes "\\u" ++ ds) (Char (digits_value 16 ds))
+      → IsEscape quote (codes "\\u" ++ ds) (rune.char (digits_value 16 ds))
   eight_digits : {ds : List ℕ} → AreDigits 16 8 ds → scalar (digits_value 16 ds) ≡ true
-      → IsEscape quote (codes "\\U" ++ ds) (Char (digits_value 16 ds))
+      → IsEscape quote (codes "\\U" ++ ds) (rune.char (digits_value 16 ds))
 
--- bytes between two such quotes spell these parts: characters other than the quote and the backslash, U+FFFD for each
+-- bytes between two such quotes spell these runes: characters other than the quote and the backslash, U+FFFD for each
 -- byte that begins none, and escapes
-pub data HasParts (quote : ℕ) : List ℕ → List Part → Type 0 where
-  at_end : HasParts quote [] []
-  a_char : {c : ℕ} {rest : List ℕ} {ps : List Part} → scalar c ≡ true → (c ≡ quote → ⊥) → (c ≡ byte "\\" → ⊥)
-      → HasParts quote rest ps → HasParts quote (encode_utf8 c ++ rest) (Char c ∷ ps)
-  a_byte : {b : ℕ} {rest : List ℕ} {ps : List Part} → BeginsNoChar (b ∷ rest)
-      → HasParts quote rest ps → HasParts quote (b ∷ rest) (Char 65533 ∷ ps)
-  an_escape : {spelling rest : List ℕ} {p : Part} {ps : List Part} → IsEscape quote spelling p
-      → HasParts quote rest ps → HasParts quote (spelling ++ rest) (p ∷ ps)
+pub data SpellsRunes (quote : ℕ) : List ℕ → List Rune → Type 0 where
+  at_end : SpellsRunes quote [] []
+  a_char : {c : ℕ} {rest : List ℕ} {rs : List Rune} → scalar c ≡ true → (c ≡ quote → ⊥) → (c ≡ byte "\\" → ⊥)
+      → SpellsRunes quote rest rs → SpellsRunes quote (encode_utf8 c ++ rest) (rune.char c ∷ rs)
+  a_byte : {b : ℕ} {rest : List ℕ} {rs : List Rune} → BeginsNoChar (b ∷ rest)
+      → SpellsRunes quote rest rs → SpellsRunes quote (b ∷ rest) (rune.char 65533 ∷ rs)
+  an_escape : {spelling rest : List ℕ} {r : Rune} {rs : List Rune} → IsEscape quote spelling r
+      → SpellsRunes quote rest rs → SpellsRunes quote (spelling ++ rest) (r ∷ rs)
 
 -- the text of a raw string
 abbrev pub without_returns : List ℕ → List ℕ

@@ -24,17 +24,7 @@ constant_by kind.Number bs = option_map number_constant (integer bs)
 constant_by kind.String bs = option_and_then string_in (between 34 bs)
 constant_by kind.RawString bs = option_map raw_string_in (between 96 bs)
 constant_by kind.Character bs = option_and_then character_in (between 39 bs)
-constant_by kind.Space bs = None
-constant_by kind.Word bs = None
-constant_by kind.Field bs = None
-constant_by kind.Dot bs = None
-constant_by kind.Variable bs = None
-constant_by kind.Declare bs = None
-constant_by kind.Assign bs = None
-constant_by kind.Comma bs = None
-constant_by kind.Pipe bs = None
-constant_by kind.LeftParenthesis bs = None
-constant_by kind.RightParenthesis bs = None
+constant_by k bs = None
 
 -- the constant of a token, if it is one
 unfoldable pub constant_of : Token → Option Operand

@@ -1,31 +1,29 @@
--- What stands between quotes, computed: the twin of `HasParts`.
+-- What stands between quotes, computed: the twin of `SpellsRunes`.
 use Rattle.std.specs.Prelude.{ℕ, zero, suc, ◌-◌, ◌==◌, ◌&&◌, nat_lt, nat_le, List, [], ◌∷◌, length, take, drop}
 use Rattle.std.specs.Prelude.{slice_index, Option, Some, None, option_map, option_and_then, if◌then◌else◌}
 use Rattle.std.specs.List.{flat_map}
 use Rattle.std.specs.Char.{len_utf8}
 use lib.Utf8.{scalar}
-use Rattle.tmpl_values.specs.Rune.{Rune, char, byte}
+use Rattle.tmpl_values.specs.Rune.{Rune, char, byte, bytes_in}
 use Rattle.tmpl_values.specs.Rune.{first_rune}
 use Rattle.tmpl_grammar.specs.Constant.Integer.{number_in}
-use Rattle.tmpl_grammar.specs.Constant.Quoted.{part_text, part_code}
-use Rattle.tmpl_grammar.specs.declared.constant.quoted.Part.{Part}
-use Rattle.tmpl_grammar.specs.declared.constant.quoted.Part.TheVariants.{Byte, Char}
+use Rattle.tmpl_grammar.specs.Constant.Quoted.{code_of}
 
 -- a part, and how many bytes spell it
 abbrev pub Spelled : Type 0
-Spelled = Part × ℕ
+Spelled = Rune × ℕ
 
 -- a rune stands for itself, and an ill-formed byte for U+FFFD
 abbrev pub rune_part : Rune → Spelled
-rune_part (char c) = (Char c, len_utf8 c)
-rune_part (byte b) = (Char 65533, 1)
+rune_part (char c) = (char c, len_utf8 c)
+rune_part (byte b) = (char 65533, 1)
 
 -- a number as a byte, and as a character: no surrogate, and at most 10FFFFh
 abbrev pub as_byte : ℕ → ℕ → Option Spelled
-as_byte len n = if nat_lt n 256 then Some (Byte n, len) else None
+as_byte len n = if nat_lt n 256 then Some (byte n, len) else None
 
 abbrev pub as_char : ℕ → ℕ → Option Spelled
-as_char len n = if scalar n then Some (Char n, len) else None
+as_char len n = if scalar n then Some (char n, len) else None
 
 -- the number that so many digits at the front write
 abbrev pub code : ℕ → ℕ → List ℕ → Option ℕ
@@ -50,7 +48,7 @@ coded e bs =
 
 abbrev pub escape_by : Option ℕ → ℕ → List ℕ → Option Spelled
 escape_by None e bs = coded e bs
-escape_by (Some b) e bs = Some (Byte b, 2)
+escape_by (Some b) e bs = Some (byte b, 2)
 
 -- the escape whose backslash stands before these bytes
 abbrev pub escape : ℕ → List ℕ → Option Spelled
@@ -64,18 +62,18 @@ part_at quote (b ∷ bs) =
     if b == 92 then escape quote bs
     else (if b == quote then None else Some (rune_part (first_rune (b ∷ bs))))
 
-abbrev pub with_part : Part → Option (List Part) → Option (List Part)
+abbrev pub with_part : Rune → Option (List Rune) → Option (List Rune)
 with_part p ps = option_map (λ ps. p ∷ ps) ps
 
 -- the parts after so many bytes that belong to the part before
-abbrev pub parts_after : ℕ → ℕ → List ℕ → Option (List Part)
+abbrev pub parts_after : ℕ → ℕ → List ℕ → Option (List Rune)
 parts_after quote n [] = Some []
 parts_after quote (suc n) (b ∷ bs) = parts_after quote n bs
 parts_after quote zero (b ∷ bs) =
     option_and_then (λ p. with_part p.0 (parts_after quote (p.1 - 1) bs)) (part_at quote (b ∷ bs))
 
 -- the parts from left to right, if the bytes are parts
-unfoldable pub parts : ℕ → List ℕ → Option (List Part)
+unfoldable pub parts : ℕ → List ℕ → Option (List Rune)
 parts quote bs = parts_after quote 0 bs
 
 -- the bytes between two such quotes, if the first byte and the last are such
@@ -86,11 +84,11 @@ between quote bs =
 
 -- the text of a string
 abbrev pub unquoted : ℕ → List ℕ → Option (List ℕ)
-unquoted quote bs = option_map (flat_map part_text) (parts quote bs)
+unquoted quote bs = option_map (flat_map bytes_in) (parts quote bs)
 
-abbrev pub one_code : List Part → Option ℕ
+abbrev pub one_code : List Rune → Option ℕ
 one_code [] = None
-one_code (p ∷ []) = Some (part_code p)
+one_code (p ∷ []) = Some (code_of p)
 one_code (p ∷ q ∷ ps) = None
 
 -- the code of a character

@@ -6,13 +6,16 @@ use Rattle.std.specs.Str.{bytes_eq}
 use Rattle.tmpl_lex.specs.declared.piece.TokenKind.{TokenKind}
 use Rattle.tmpl_lex.specs.declared.piece.TokenKind.TheVariants as kind
 use Rattle.tmpl_lex.specs.Piece.{Token}
-pub use Rattle.tmpl_grammar.specs.Token.{is_white, is_blank, without_front, next, name_in, begins_name}
+pub use Rattle.tmpl_grammar.specs.Token.{name_in, begins_name}
+pub use Rattle.tmpl_grammar.specs.computed.Token.{is_white, is_blank, without_front, next}
 use Rattle.tmpl_grammar.specs.computed.Parser.{start, commands_after}
 use Rattle.tmpl_grammar.specs.Tree.{Operand, Operands, Pipeline, pipeline, Binding, unbound}
 use Rattle.tmpl_grammar.specs.Tree.{declare, assign, declare_pair, Header, commands_from}
-use Rattle.tmpl_grammar.specs.Header.{may_bind}
-use Rattle.tmpl_grammar.specs.Depth.{Reading, reading_of, pipeline_within}
-use Rattle.tmpl_grammar.specs.Action.{Action, plain_else, end_action, break_action, continue_action, action_with}
+use Rattle.tmpl_grammar.specs.Header.{is_range, may_bind}
+use Rattle.tmpl_grammar.specs.Depth.{Reading}
+use Rattle.tmpl_grammar.specs.computed.Depth.{reading_of, pipeline_within}
+use Rattle.tmpl_grammar.specs.Action.{Action, pipeline_action, opening, plain_else, else_branch, end_action}
+use Rattle.tmpl_grammar.specs.Action.{break_action, continue_action}
 use Rattle.tmpl_grammar.specs.Action.{define_action, template_action, block_action}
 use Rattle.tmpl_grammar.specs.computed.Constant.{constant_of}
 use Rattle.tmpl_grammar.specs.Tree as tree
@@ -108,8 +111,13 @@ abbrev pub header_if : Bool → Binding → Option Pipeline → Option Header
 header_if true b o = option_map (header_with b) o
 header_if false b o = None
 
+-- whether the header of an action of this shape is that of a range
+abbrev pub opens_range : HeaderShape → Bool
+opens_range (shape.Open c) = is_range c
+opens_range s = false
+
 abbrev pub header_by : HeaderShape → Binding × List Token → Option Header
-header_by s h = header_if (may_bind s h.0) h.0 (pipeline_in h.1)
+header_by s h = header_if (may_bind (opens_range s) h.0) h.0 (pipeline_in h.1)
 
 -- the header of an action of this shape
 abbrev pub header_in : HeaderShape → List Token → Option Header
@@ -144,6 +152,12 @@ keyword_by k name = None
 unfoldable pub keyword_of : Token → Option Keyword
 keyword_of t = keyword_by t.kind t.bytes
 
+-- the action of this shape with this header
+abbrev pub action_with : HeaderShape → Header → Action
+action_with shape.Pipeline h = pipeline_action h
+action_with (shape.Open c) h = opening c h
+action_with (shape.ElseBranch br) h = else_branch br h
+
 -- an action that stands alone
 abbrev pub alone : Action → List Token → Option Action
 alone a ts = if is_blank ts then Some a else None
@@ -152,14 +166,7 @@ alone a ts = if is_blank ts then Some a else None
 abbrev pub branch_of : Keyword → Option Branch
 branch_of (word.Control control.If) = Some branch.If
 branch_of (word.Control control.With) = Some branch.With
-branch_of (word.Control control.Range) = None
-branch_of word.Else = None
-branch_of word.End = None
-branch_of word.Break = None
-branch_of word.Continue = None
-branch_of word.Define = None
-branch_of word.Template = None
-branch_of word.Block = None
+branch_of k = None
 
 abbrev pub else_branched : Option Branch → List Token → Option Action
 else_branched None ts = None

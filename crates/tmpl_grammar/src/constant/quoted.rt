@@ -4,7 +4,9 @@ ghost use Rattle.std.specs.Prelude.{◌≡◌, ◌≤◌, ◌<◌, ◌^◌, ◌+
 ghost use Rattle.std.specs.Prelude.{IfOk, IfSome, OnOk, length, option_and_then, option_map};
 ghost use Rattle.tmpl_values.specs.Rune.{first_rune};
 ghost use Rattle.tmpl_grammar.specs.Constant.Integer as numeral;
-ghost use Rattle.tmpl_grammar.specs.Constant.Quoted.{part_code, part_text, without_returns};
+ghost use Rattle.tmpl_values.specs.Rune.{bytes_in};
+ghost use Rattle.tmpl_grammar.specs.Constant.Quoted.{code_of, without_returns};
+ghost use Rattle.tmpl_grammar.specs.computed.View.{rune_of, spelled_of};
 ghost use Rattle.tmpl_grammar.specs.computed.Quoted as spec;
 ghost use Rattle.tmpl_grammar.specs.computed.Within.{within};
 
@@ -39,11 +41,7 @@ pub(crate) fn between(quote: u8, bytes: &[u8]) -> Option<&[u8]>
 }
 
 /// The text that stands between such quotes, if it consists of parts.
-pub(crate) fn unquoted(
-    alloc: Global,
-    quote: u8,
-    bytes: &[u8],
-) -> Result<Option<Vec<u8>>, AllocError>
+pub(crate) fn unquote(alloc: Global, quote: u8, bytes: &[u8]) -> Result<Option<Vec<u8>>, AllocError>
     ensures { IfOk result (λ o. option_map (λ v. v.items) o ≡ spec.unquoted quote bytes.now) }
 {
     let mut text = Vec::new(alloc);
@@ -80,7 +78,7 @@ pub(crate) fn rune_code(quote: u8, bytes: &[u8]) -> Option<u32>
 impl Part {
     /// Puts it behind a text, a character by its UTF-8.
     fn add_to(self, text: &mut Vec<u8>) -> Result<(), AllocError>
-        ensures { OnOk result (text.new.items ≡ text.old.items ++ part_text self) }
+        ensures { OnOk result (text.new.items ≡ text.old.items ++ bytes_in (rune_of self)) }
     {
         match self {
             Part::Byte(byte) => Ok(text.push(byte)?),
@@ -93,7 +91,7 @@ impl Part {
 
     /// The value of the byte, or the code of the character.
     fn code(self) -> u32
-        ensures { result ≡ part_code self }
+        ensures { result ≡ code_of (rune_of self) }
     {
         match self {
             Part::Byte(byte) => u32::from(byte),
@@ -105,7 +103,7 @@ impl Part {
 /// The part at the front.
 #[tactic(auto, unfolding(crate::specs::computed::Quoted::part_at))]
 fn part_at(quote: u8, bytes: &[u8]) -> Option<Spelled>
-    ensures value { result ≡ spec.part_at quote bytes.now }
+    ensures value { option_map spelled_of result ≡ spec.part_at quote bytes.now }
     ensures within { IfSome result (λ p. (0 < p.1) × (p.1 ≤ length bytes.now)) }
 {
     match bytes {
@@ -125,7 +123,7 @@ fn part_at(quote: u8, bytes: &[u8]) -> Option<Spelled>
 /// The rune at the front, or U+FFFD for an ill-formed byte.
 fn rune_part(bytes: &[u8]) -> Spelled
     requires { 0 < length bytes.now }
-    ensures value { result ≡ spec.rune_part (first_rune bytes.now) }
+    ensures value { spelled_of result ≡ spec.rune_part (first_rune bytes.now) }
     ensures within { (0 < result.1) × (result.1 ≤ length bytes.now) }
 {
     match first_char(bytes) {
@@ -136,14 +134,14 @@ fn rune_part(bytes: &[u8]) -> Spelled
 
 /// The escape whose backslash stands before these bytes.
 fn escape(quote: u8, bytes: &[u8]) -> Option<Spelled>
-    ensures value { result ≡ spec.escape quote bytes.now }
+    ensures value { option_map spelled_of result ≡ spec.escape quote bytes.now }
     ensures within { IfSome result (λ p. (0 < p.1) × (p.1 ≤ length bytes.now + 1)) }
 {
     match bytes {
         [] => None,
         [letter, digits @ ..] => match byte_named(quote, *letter) {
             Some(byte) => Some((Part::Byte(byte), 2)),
-            None => coded(*letter, digits, bytes),
+            None => escape_by_digits(*letter, digits, bytes),
         },
     }
 }
@@ -166,9 +164,9 @@ fn byte_named(quote: u8, letter: u8) -> Option<u8>
 }
 
 /// The escape by digits: in base 16 behind a letter, or else in base 8.
-fn coded(letter: u8, digits: &[u8], whole: &[u8]) -> Option<Spelled>
+fn escape_by_digits(letter: u8, digits: &[u8], whole: &[u8]) -> Option<Spelled>
     requires { whole.now ≡ letter ∷ digits.now }
-    ensures value { result ≡ spec.coded letter digits.now }
+    ensures value { option_map spelled_of result ≡ spec.coded letter digits.now }
     ensures within { IfSome result (λ p. (0 < p.1) × (p.1 ≤ length digits.now + 2)) }
 {
     match letter {
@@ -183,7 +181,7 @@ fn coded(letter: u8, digits: &[u8], whole: &[u8]) -> Option<Spelled>
 fn byte_of(base: u32, count: usize, bytes: &[u8]) -> Option<Spelled>
     requires low { 2 ≤ base }
     requires high { base ≤ 16 }
-    ensures value { result ≡ option_and_then (spec.as_byte 4) (spec.code base count bytes.now) }
+    ensures value { option_map spelled_of result ≡ option_and_then (spec.as_byte 4) (spec.code base count bytes.now) }
     ensures within { IfSome result (λ p. (p.1 ≡ 4) × (count ≤ length bytes.now)) }
 {
     as_byte(4, code(base, count, bytes)?)
@@ -192,7 +190,8 @@ fn byte_of(base: u32, count: usize, bytes: &[u8]) -> Option<Spelled>
 /// The character that so many digits at the front name, behind a letter.
 fn char_of(count: usize, bytes: &[u8]) -> Option<Spelled>
     requires { count ≤ 8 }
-    ensures value { result ≡ option_and_then (spec.as_char (count + 2)) (spec.code 16 count bytes.now) }
+    ensures value { option_map spelled_of result
+        ≡ option_and_then (spec.as_char (count + 2)) (spec.code 16 count bytes.now) }
     ensures within { IfSome result (λ p. (p.1 ≡ count + 2) × (count ≤ length bytes.now)) }
 {
     as_char(count + 2, code(16, count, bytes)?)
@@ -200,7 +199,7 @@ fn char_of(count: usize, bytes: &[u8]) -> Option<Spelled>
 
 /// The byte of this value, if there is one, and by how many bytes it is spelled.
 fn as_byte(len: usize, n: u64) -> Option<Spelled>
-    ensures value { result ≡ spec.as_byte len n }
+    ensures value { option_map spelled_of result ≡ spec.as_byte len n }
     ensures within { IfSome result (λ p. p.1 ≡ len) }
 {
     match u8::try_from(n) {
@@ -211,7 +210,7 @@ fn as_byte(len: usize, n: u64) -> Option<Spelled>
 
 /// The character of this code, if there is one, and by how many bytes it is spelled.
 fn as_char(len: usize, n: u64) -> Option<Spelled>
-    ensures value { result ≡ spec.as_char len n }
+    ensures value { option_map spelled_of result ≡ spec.as_char len n }
     ensures within { IfSome result (λ p. p.1 ≡ len) }
 {
     match u32::try_from(n) {

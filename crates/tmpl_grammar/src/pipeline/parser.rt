@@ -2,7 +2,7 @@
 ghost use Rattle.std.specs.Prelude.{◌≡◌, ◌++◌, ◌∷◌, [], IfOk, OnOk, map, option_map};
 ghost use Rattle.tmpl_lex.specs.View.{token_of};
 ghost use Rattle.tmpl_grammar.specs.computed.Parser as spec;
-ghost use Rattle.tmpl_grammar.specs.View.{parser_of, partial_of};
+ghost use Rattle.tmpl_grammar.specs.computed.View.{parser_of, partial_of};
 ghost use Rattle.tmpl_grammar.specs.View.{command_of, operand_of};
 ghost use Rattle.tmpl_grammar.specs.Token as token;
 ghost use Rattle.tmpl_grammar.specs.Operand as word;
@@ -56,7 +56,7 @@ fn add<T: Drop>(items: &mut Vec<T>, item: T) -> Result<(), AllocError>
 }
 
 /// The operands with the last one, if there is one.
-fn settled(last: Option<Operand>, mut operands: Vec<Operand>) -> Result<Vec<Operand>, AllocError>
+fn settle(last: Option<Operand>, mut operands: Vec<Operand>) -> Result<Vec<Operand>, AllocError>
     ensures { IfOk result (λ v. map operand_of v.items
         ≡ spec.settled (option_map operand_of last) (map operand_of operands.items)) }
 {
@@ -83,16 +83,16 @@ fn more_commands(
 }
 
 /// The commands of a pipeline that ends here.
-fn closed(inner: PartialPipeline, last: Option<Operand>) -> Result<Option<Vec<Command>>, AllocError>
+fn close(inner: PartialPipeline, last: Option<Operand>) -> Result<Option<Vec<Command>>, AllocError>
     ensures { IfOk result (λ o. option_map (λ v. map command_of v.items) o
         ≡ spec.more_commands (partial_of inner).commands
         (spec.settled (option_map operand_of last) (partial_of inner).operands)) }
 {
-    more_commands(inner.commands, settled(last, inner.operands)?)
+    more_commands(inner.commands, settle(last, inner.operands)?)
 }
 
 /// The operand with one more field in its chain, if it may have a chain.
-fn linked(operand: Operand, name: Bytes) -> Result<Option<Operand>, AllocError>
+fn link(operand: Operand, name: Bytes) -> Result<Option<Operand>, AllocError>
     ensures { IfOk result (λ o. option_map operand_of o ≡ spec.linked (operand_of operand) name) }
 {
     match operand {
@@ -130,8 +130,7 @@ fn begins_later(operand: &Operand) -> bool
         | Operand::Variable { .. }
         | Operand::Function(_)
         | Operand::Group { .. } => true,
-        Operand::Dot | Operand::Bool(_) | Operand::Number(_) | Operand::Text(_) | Operand::Nil =>
-            false,
+        _ => false,
     }
 }
 
@@ -165,22 +164,22 @@ impl PipelineParser {
         ensures { IfOk result (λ o. option_map parser_of o ≡ spec.step (token_of token.now) (parser_of self)) }
     {
         match token.kind {
-            TokenKind::Space => Ok(Some(self.apart()?)),
-            TokenKind::Pipe => self.barred(alloc),
-            TokenKind::LeftParenthesis => self.opened(alloc),
-            TokenKind::RightParenthesis => self.left(alloc),
-            TokenKind::Field => self.fielded(alloc, token),
-            _ => self.placed(operand_at(alloc, token)?),
+            TokenKind::Space => Ok(Some(self.pass_space()?)),
+            TokenKind::Pipe => self.pass_bar(alloc),
+            TokenKind::LeftParenthesis => self.open_group(alloc),
+            TokenKind::RightParenthesis => self.close_group(alloc),
+            TokenKind::Field => self.pass_field(alloc, token),
+            _ => self.place(operand_at(alloc, token)?),
         }
     }
 
     /// Behind white space.
-    fn apart(self) -> Result<PipelineParser, AllocError>
+    fn pass_space(self) -> Result<PipelineParser, AllocError>
         ensures { IfOk result (λ h. parser_of h ≡ spec.apart (parser_of self)) }
     {
         let PipelineParser { outer, inner, last } = self;
         let PartialPipeline { commands, operands } = inner;
-        let operands = settled(last, operands)?;
+        let operands = settle(last, operands)?;
         Ok(PipelineParser {
             outer,
             inner: PartialPipeline { commands, operands },
@@ -189,11 +188,11 @@ impl PipelineParser {
     }
 
     /// Behind a bar; `None` where no command ends.
-    fn barred(self, alloc: Global) -> Result<Option<PipelineParser>, AllocError>
+    fn pass_bar(self, alloc: Global) -> Result<Option<PipelineParser>, AllocError>
         ensures { IfOk result (λ o. option_map parser_of o
             ≡ option_map (spec.barred (parser_of self)) (spec.closed (parser_of self))) }
     {
-        match closed(self.inner, self.last)? {
+        match close(self.inner, self.last)? {
             Some(commands) => Ok(Some(PipelineParser {
                 outer: self.outer,
                 inner: PartialPipeline {
@@ -207,7 +206,7 @@ impl PipelineParser {
     }
 
     /// Behind `(`; `None` where it touches an operand.
-    fn opened(self, alloc: Global) -> Result<Option<PipelineParser>, AllocError>
+    fn open_group(self, alloc: Global) -> Result<Option<PipelineParser>, AllocError>
         ensures { IfOk result (λ o. option_map parser_of o
             ≡ spec.opened (option_map operand_of self.last) (parser_of self)) }
     {
@@ -224,7 +223,7 @@ impl PipelineParser {
     }
 
     /// Behind `)`; `None` where none is open or no command ends.
-    fn left(self, alloc: Global) -> Result<Option<PipelineParser>, AllocError>
+    fn close_group(self, alloc: Global) -> Result<Option<PipelineParser>, AllocError>
         ensures { IfOk result (λ o. option_map parser_of o
             ≡ spec.left_with (parser_of self).outer (spec.closed (parser_of self))) }
     {
@@ -232,7 +231,7 @@ impl PipelineParser {
         let Some(inner) = outer.pop() else {
             return Ok(None);
         };
-        match closed(self.inner, self.last)? {
+        match close(self.inner, self.last)? {
             Some(commands) => Ok(Some(PipelineParser {
                 outer,
                 inner,
@@ -246,7 +245,7 @@ impl PipelineParser {
     }
 
     /// Behind an operand; `None` where it may not stand.
-    fn placed(self, operand: Option<Operand>) -> Result<Option<PipelineParser>, AllocError>
+    fn place(self, operand: Option<Operand>) -> Result<Option<PipelineParser>, AllocError>
         ensures { IfOk result (λ o. option_map parser_of o
             ≡ spec.placed (option_map operand_of self.last) (option_map operand_of operand) (parser_of self)) }
     {
@@ -256,7 +255,7 @@ impl PipelineParser {
         match operand {
             Some(operand) => {
                 if may_stand(&self.inner, &operand) {
-                    Ok(Some(self.ending_with(operand)))
+                    Ok(Some(self.end_with(operand)))
                 } else {
                     Ok(None)
                 }
@@ -266,7 +265,7 @@ impl PipelineParser {
     }
 
     /// With this operand last.
-    fn ending_with(self, operand: Operand) -> PipelineParser
+    fn end_with(self, operand: Operand) -> PipelineParser
         ensures { parser_of result ≡ spec.ending_with (parser_of self) (operand_of operand) }
     {
         PipelineParser {
@@ -277,7 +276,11 @@ impl PipelineParser {
     }
 
     /// Behind a field: in a chain, or an operand of its own.
-    fn fielded(self, alloc: Global, token: &Token<'_>) -> Result<Option<PipelineParser>, AllocError>
+    fn pass_field(
+        self,
+        alloc: Global,
+        token: &Token<'_>,
+    ) -> Result<Option<PipelineParser>, AllocError>
         ensures { IfOk result (λ o. option_map parser_of o
             ≡ spec.fielded (option_map operand_of self.last) (token_of token.now) (parser_of self)) }
     {
@@ -289,9 +292,9 @@ impl PipelineParser {
                     inner,
                     last: None,
                 };
-                parser.placed(operand_at(alloc, token)?)
+                parser.place(operand_at(alloc, token)?)
             }
-            Some(operand) => match linked_by(alloc, operand, name_in(token))? {
+            Some(operand) => match link_named(alloc, operand, name_in(token))? {
                 Some(operand) => Ok(Some(PipelineParser {
                     outer,
                     inner,
@@ -304,23 +307,23 @@ impl PipelineParser {
 
     /// The commands of the pipeline, where no parenthesis is open.
     #[tactic(auto, unfolding(crate::specs::computed::Parser::finished))]
-    pub(crate) fn finished(self) -> Result<Option<Vec<Command>>, AllocError>
+    pub(crate) fn finish(self) -> Result<Option<Vec<Command>>, AllocError>
         ensures { IfOk result (λ o. option_map (λ v. map command_of v.items) o ≡ spec.finished (parser_of self)) }
     {
         if self.outer.len() > 0 {
             return Ok(None);
         }
-        closed(self.inner, self.last)
+        close(self.inner, self.last)
     }
 }
 
 /// The operand with one more field of this name, if both may be.
-fn linked_by(alloc: Global, operand: Operand, name: &[u8]) -> Result<Option<Operand>, AllocError>
+fn link_named(alloc: Global, operand: Operand, name: &[u8]) -> Result<Option<Operand>, AllocError>
     ensures { IfOk result (λ o. option_map operand_of o
         ≡ spec.linked_by (token.begins_name name.now) (operand_of operand) name.now) }
 {
     if begins_name(name) {
-        linked(operand, Bytes::new(name.to_vec(alloc)?))
+        link(operand, Bytes::new(name.to_vec(alloc)?))
     } else {
         Ok(None)
     }

@@ -3,12 +3,11 @@ use Rattle.std.specs.Prelude.{◌≡◌, ℕ, suc, ◌<◌, ◌≤◌, Bool, tru
 use Rattle.std.specs.Prelude.{length, slice_get, Option, Some, None, ◌⊎◌, Contains}
 use Rattle.tmpl_grammar.specs.declared.action.Branch.{Branch}
 use Rattle.tmpl_grammar.specs.declared.action.Branch.TheVariants.{If as if_branch, With as with_branch}
-use Rattle.tmpl_syntax.specs.declared.place.frame.Opening.{Opening}
-use Rattle.tmpl_syntax.specs.declared.place.frame.Opening.TheVariants as opened
+use Rattle.tmpl_syntax.specs.Place.Opening.{Opening}
+use Rattle.tmpl_syntax.specs.Place.Opening as opened
 use Rattle.tmpl_grammar.specs.declared.tree.Control.TheVariants.{If, With, Range}
-use Rattle.tmpl_syntax.specs.declared.fault.Fault.{Fault}
-use Rattle.tmpl_syntax.specs.declared.fault.Fault.TheVariants.{Unreadable, NotAnAction, OutOfPlace}
-use Rattle.tmpl_syntax.specs.declared.fault.Fault.TheVariants.{NestedTooDeeply, UndeclaredVariable}
+use Rattle.tmpl_syntax.specs.Fault as reason
+use Rattle.tmpl_syntax.specs.Fault.{Reason, rank}
 use Rattle.tmpl_syntax.specs.Place.Role.{Name, Names, Act, plain, opener, bare_else, branch_else}
 use Rattle.tmpl_syntax.specs.Place.Role.{closer, jump, Role, unreadable_role, unread_role, act_role}
 use Rattle.tmpl_syntax.specs.Place.Open.{IsOpen, NothingOpen, IsLast, IsElseBranchOf}
@@ -17,14 +16,9 @@ use Rattle.tmpl_syntax.specs.Place.Scope.{IsInScope}
 
 -- an `else if` stands in an `if` alone, and an `else with` in a `with`
 abbrev pub joins : Branch → Opening → Bool
-joins if_branch (opened.Control If) = true
-joins if_branch (opened.Control With) = false
-joins if_branch (opened.Control Range) = false
-joins with_branch (opened.Control If) = false
-joins with_branch (opened.Control With) = true
-joins with_branch (opened.Control Range) = false
-joins b opened.Define = false
-joins b opened.Block = false
+joins if_branch (opened.control If) = true
+joins with_branch (opened.control With) = true
+joins b c = false
 
 -- nothing is open at i, or its last opening is a template's body, or has an else already
 pub data TakesNoElse (xs : List Role) (i : ℕ) : Type 0 where
@@ -41,15 +35,14 @@ pub record TakesNoBranch (xs : List Role) (b : Branch) (i : ℕ) : Type 0 where
 -- a range of the template of i that is open at i with no else of its own before i
 pub record IsLoop (xs : List Role) (j i : ℕ) : Type 0 where
   pub is_open : IsOpen xs j i
-  pub range : is_open.opened ≡ opened.Control Range
+  pub range : is_open.opened ≡ opened.control Range
   pub template : OfOneTemplate xs j i
   pub bare : HasElse xs j i → ⊥
 
 -- a define at which something is open is out of place
 abbrev pub MayNotOpen : List Role → ℕ → Opening → Type 0
-MayNotOpen xs i (opened.Control c) = ⊥
-MayNotOpen xs i opened.Define = (j : ℕ) × IsOpen xs j i
-MayNotOpen xs i opened.Block = ⊥
+MayNotOpen xs i opened.define = (j : ℕ) × IsOpen xs j i
+MayNotOpen xs i c = ⊥
 
 -- .. and an end, else or else branch at which nothing is open; an else or else branch of a define or block, or after an
 -- else of the same opening; an else branch of another control; a break or continue in no range's body
@@ -63,9 +56,8 @@ IsMisplaced xs i jump = (j : ℕ) → IsLoop xs j i → ⊥
 
 -- the openings that are a level while they are open
 abbrev pub is_level : Opening → Bool
-is_level (opened.Control c) = true
-is_level opened.Define = false
-is_level opened.Block = true
+is_level opened.define = false
+is_level c = true
 
 -- a level is an open if, with, range or block, or an else branch that belongs to an open one
 pub data IsLevel (xs : List Role) (k i : ℕ) : Type 0 where
@@ -82,19 +74,14 @@ pub data Levels (xs : List Role) (i : ℕ) : ℕ → ℕ → Type 0 where
 abbrev pub names_in : Act → Option Names
 names_in (plain p) = Some p
 names_in (opener c p) = Some p
-names_in bare_else = None
 names_in (branch_else b p) = Some p
-names_in closer = None
-names_in jump = None
+names_in a = None
 
 -- an opening that is a level, or an else branch
 abbrev pub opens_level : Act → Bool
-opens_level (plain p) = false
 opens_level (opener c p) = is_level c
-opens_level bare_else = false
 opens_level (branch_else b p) = true
-opens_level closer = false
-opens_level jump = false
+opens_level a = false
 
 -- the most levels that may stand
 abbrev pub most_levels : ℕ
@@ -113,39 +100,32 @@ pub record IsUndeclared (xs : List Role) (i : ℕ) (a : Act) : Type 0 where
   pub uses : Contains names.uses name
   pub unknown : IsInScope xs i name → ⊥
 
--- the fault applies to the item at i
-pub data Applies (xs : List Role) (i : ℕ) : Fault → Type 0 where
-  unreadable : slice_get xs i ≡ Some unreadable_role → Applies xs i Unreadable
-  unread : slice_get xs i ≡ Some unread_role → Applies xs i NotAnAction
-  misplaced : {a : Act} → slice_get xs i ≡ Some (act_role a) → IsMisplaced xs i a → Applies xs i OutOfPlace
-  too_deep : {a : Act} → slice_get xs i ≡ Some (act_role a) → IsTooDeep xs i a → Applies xs i NestedTooDeeply
-  undeclared : {a : Act} → slice_get xs i ≡ Some (act_role a) → IsUndeclared xs i a → Applies xs i UndeclaredVariable
-
--- the order in which faults are named
-abbrev pub rank : Fault → ℕ
-rank Unreadable = 0
-rank NotAnAction = 1
-rank OutOfPlace = 2
-rank NestedTooDeeply = 3
-rank UndeclaredVariable = 4
+-- the reason applies to the item at i
+pub data Applies (xs : List Role) (i : ℕ) : Reason → Type 0 where
+  unreadable : slice_get xs i ≡ Some unreadable_role → Applies xs i reason.unreadable
+  unread : slice_get xs i ≡ Some unread_role → Applies xs i reason.not_an_action
+  misplaced : {a : Act} → slice_get xs i ≡ Some (act_role a) → IsMisplaced xs i a → Applies xs i reason.out_of_place
+  too_deep : {a : Act} → slice_get xs i ≡ Some (act_role a) → IsTooDeep xs i a → Applies xs i reason.nested_too_deeply
+  undeclared : {a : Act} → slice_get xs i ≡ Some (act_role a) → IsUndeclared xs i a
+      → Applies xs i reason.undeclared_variable
 
 abbrev pub NoneRefused : List Role → ℕ → Type 0
-NoneRefused xs i = (k : ℕ) (f : Fault) → k < i → Applies xs k f → ⊥
+NoneRefused xs i = (k : ℕ) (r : Reason) → k < i → Applies xs k r → ⊥
 
--- the first item to which a fault applies, and the first fault that does
-pub record IsRefused (xs : List Role) (i : ℕ) (fault : Fault) : Type 0 where
-  pub applies : Applies xs i fault
-  pub first_fault : (f : Fault) → rank f < rank fault → Applies xs i f → ⊥
+-- the first item to which a reason applies, and the first reason that does
+pub record IsRefused (xs : List Role) (i : ℕ) (why : Reason) : Type 0 where
+  pub applies : Applies xs i why
+  pub first_reason : (r : Reason) → rank r < rank why → Applies xs i r → ⊥
   pub first_item : NoneRefused xs i
 
 -- no item is refused and nothing is open at the end, or the item at a place is the first that is refused, or none is
 -- but something is open at the end
 pub data Verdict : Type 0 where
   fine : Verdict
-  refused : ℕ → Fault → Verdict
+  refused : ℕ → Reason → Verdict
   left_open : Verdict
 
 abbrev pub Judged : List Role → Verdict → Type 0
 Judged xs fine = NoneRefused xs (length xs) × NothingOpen xs (length xs)
-Judged xs (refused i fault) = IsRefused xs i fault
+Judged xs (refused i why) = IsRefused xs i why
 Judged xs left_open = NoneRefused xs (length xs) × (j : ℕ) × IsOpen xs j (length xs)

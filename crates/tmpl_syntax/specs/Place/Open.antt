@@ -2,25 +2,19 @@
 use Rattle.std.specs.Prelude.{◌≡◌, ℕ, ◌+◌, ◌<◌, ◌≤◌, Bool, true, false, List}
 use Rattle.std.specs.Prelude.{count_by, slice_get, slice_range, Option, Some, None}
 use Rattle.tmpl_grammar.specs.declared.action.Branch.{Branch}
-use Rattle.tmpl_syntax.specs.declared.place.frame.Opening.{Opening}
-use Rattle.tmpl_syntax.specs.declared.place.frame.Opening.TheVariants as opened
-use Rattle.tmpl_syntax.specs.Place.Role.{Names, Act, plain, opener, bare_else, branch_else, closer}
-use Rattle.tmpl_syntax.specs.Place.Role.{jump, Role, text_role, unreadable_role, unread_role, act_role}
+use Rattle.tmpl_syntax.specs.Place.Opening.{Opening}
+use Rattle.tmpl_syntax.specs.Place.Opening as opened
+use Rattle.tmpl_syntax.specs.Place.Role.{Names, Act, opener, bare_else, branch_else, closer}
+use Rattle.tmpl_syntax.specs.Place.Role.{Role, act_role}
 
 abbrev pub opening_of : Act → Option Opening
-opening_of (plain p) = None
 opening_of (opener c p) = Some c
-opening_of bare_else = None
-opening_of (branch_else b p) = None
-opening_of closer = None
-opening_of jump = None
+opening_of a = None
 
 -- an opening is an if, with, range, define or block
 abbrev pub opening : Role → Option Opening
-opening text_role = None
-opening unreadable_role = None
-opening unread_role = None
 opening (act_role a) = opening_of a
+opening x = None
 
 abbrev pub there : Option Opening → Bool
 there None = false
@@ -30,18 +24,12 @@ abbrev pub opens : Role → Bool
 opens x = there (opening x)
 
 abbrev pub is_end : Act → Bool
-is_end (plain p) = false
-is_end (opener c p) = false
-is_end bare_else = false
-is_end (branch_else b p) = false
 is_end closer = true
-is_end jump = false
+is_end a = false
 
 abbrev pub ends : Role → Bool
-ends text_role = false
-ends unreadable_role = false
-ends unread_role = false
 ends (act_role a) = is_end a
+ends x = false
 
 abbrev pub IsOpening : Option Role → Opening → Type 0
 IsOpening None c = ⊥
@@ -81,9 +69,8 @@ HasElse xs j i = (k : ℕ) × (k < i) × IsElseOf xs j k
 
 -- the openings whose body is a template of its own
 abbrev pub is_template : Opening → Bool
-is_template (opened.Control c) = false
-is_template opened.Define = true
-is_template opened.Block = true
+is_template (opened.control c) = false
+is_template c = true
 
 -- an opening at j, open at i, whose body is a template of its own
 pub record IsBody (xs : List Role) (j i : ℕ) : Type 0 where

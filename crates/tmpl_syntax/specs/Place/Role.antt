@@ -1,9 +1,9 @@
 -- What counts of an item for the place in which it stands: which kind of action it is, and the names in it. Names
 -- are without their `$`.
 use Rattle.std.specs.Prelude.{ℕ, Bool, true, false, List, [], ◌∷◌, ◌++◌, map, Option, Some, None}
-use Rattle.tmpl_grammar.specs.Tree.{Operand, dot, fields, variable, bool_constant, number_constant, text_constant}
-use Rattle.tmpl_grammar.specs.Tree.{nil, function, group, Operands, no_operand, operand, Commands, no_command, command}
-use Rattle.tmpl_grammar.specs.Tree.{Pipeline, pipeline, Binding, unbound, declare, assign, declare_pair, Header}
+use Rattle.tmpl_grammar.specs.Tree.{Operand, dot, variable}
+use Rattle.tmpl_grammar.specs.Tree.{group, Operands, no_operand, operand, Commands, no_command, command}
+use Rattle.tmpl_grammar.specs.Tree.{Pipeline, pipeline, Binding, declare, assign, declare_pair, Header}
 use Rattle.tmpl_grammar.specs.Action as action
 use Rattle.tmpl_grammar.specs.Action.{Action, pipeline_action, plain_else}
 use Rattle.tmpl_grammar.specs.Action.{else_branch, end_action, break_action, continue_action, define_action}
@@ -13,8 +13,8 @@ use Rattle.tmpl_grammar.specs.declared.action.Branch.{Branch}
 use Rattle.tmpl_grammar.specs.declared.action.Shape.{Shape}
 use Rattle.tmpl_grammar.specs.declared.action.Shape.TheVariants as piped
 use Rattle.tmpl_grammar.specs.declared.action.HeaderShape.TheVariants as shape
-use Rattle.tmpl_syntax.specs.declared.place.frame.Opening.{Opening}
-use Rattle.tmpl_syntax.specs.declared.place.frame.Opening.TheVariants as opening
+use Rattle.tmpl_syntax.specs.Place.Opening.{Opening}
+use Rattle.tmpl_syntax.specs.Place.Opening as opening
 
 abbrev pub Name : Type 0
 Name = List ℕ
@@ -48,15 +48,9 @@ named (b ∷ bs) = (b ∷ bs) ∷ []
 
 abbrev mutual
   pub used_by_operand : Operand → List Name
-  used_by_operand dot = []
-  used_by_operand (fields names) = []
   used_by_operand (variable name names) = named name
-  used_by_operand (bool_constant b) = []
-  used_by_operand (number_constant n) = []
-  used_by_operand (text_constant bytes) = []
-  used_by_operand nil = []
-  used_by_operand (function f) = []
   used_by_operand (group commands names) = used_by_commands commands
+  used_by_operand o = []
 
   pub used_by_operands : Operands → List Name
   used_by_operands no_operand = []
@@ -70,16 +64,13 @@ abbrev pub used_by : Pipeline → List Name
 used_by (pipeline commands) = used_by_commands commands
 
 abbrev pub assigned_by : Binding → List Name
-assigned_by unbound = []
-assigned_by (declare name) = []
 assigned_by (assign name) = named name
-assigned_by (declare_pair key name) = []
+assigned_by b = []
 
 abbrev pub declared_by : Binding → List Name
-declared_by unbound = []
 declared_by (declare name) = name ∷ []
-declared_by (assign name) = []
 declared_by (declare_pair key name) = key ∷ name ∷ []
+declared_by b = []
 
 -- the names in a header
 abbrev pub names_of : Header → Names
@@ -99,15 +90,15 @@ names_given (Some p) = record { declares = []; uses = used_by p; nested = false 
 
 abbrev pub act_of : Action → Act
 act_of (pipeline_action h) = plain (names_of h)
-act_of (action.opening c h) = opener (opening.Control c) (names_of h)
+act_of (action.opening c h) = opener (opening.control c) (names_of h)
 act_of plain_else = bare_else
 act_of (else_branch branch h) = branch_else branch (names_of h)
 act_of end_action = closer
 act_of break_action = jump
 act_of continue_action = jump
-act_of (define_action name) = opener opening.Define no_names
+act_of (define_action name) = opener opening.define no_names
 act_of (template_action name given) = plain (names_given given)
-act_of (block_action name p) = opener opening.Block (names_given (Some p))
+act_of (block_action name p) = opener opening.block (names_given (Some p))
 
 -- parentheses that nest too deep, whose names do not count: they are asked for last
 abbrev pub deep_names : Names
@@ -115,10 +106,10 @@ deep_names = record { declares = []; uses = []; nested = true }
 
 abbrev pub act_of_shape : Shape → Act
 act_of_shape (piped.Header shape.Pipeline) = plain deep_names
-act_of_shape (piped.Header (shape.Open c)) = opener (opening.Control c) deep_names
+act_of_shape (piped.Header (shape.Open c)) = opener (opening.control c) deep_names
 act_of_shape (piped.Header (shape.ElseBranch branch)) = branch_else branch deep_names
 act_of_shape piped.Template = plain deep_names
-act_of_shape piped.Block = opener opening.Block deep_names
+act_of_shape piped.Block = opener opening.block deep_names
 
 abbrev pub role_of : Item → Role
 role_of (item line (text_item bytes)) = text_role

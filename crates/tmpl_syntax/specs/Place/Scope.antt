@@ -2,8 +2,8 @@
 -- first part is not seen in the else part, nor a range's own in its else part, is our own rule.
 use Rattle.std.specs.Prelude.{◌≡◌, ℕ, ◌<◌, ◌≤◌, List, slice_get, Some, Contains}
 use Rattle.tmpl_grammar.specs.declared.action.Branch.{Branch}
-use Rattle.tmpl_syntax.specs.declared.place.frame.Opening.{Opening}
-use Rattle.tmpl_syntax.specs.declared.place.frame.Opening.TheVariants as opened
+use Rattle.tmpl_syntax.specs.Place.Opening.{Opening}
+use Rattle.tmpl_syntax.specs.Place.Opening as opened
 use Rattle.tmpl_grammar.specs.declared.tree.Control.TheVariants.{Range}
 use Rattle.tmpl_syntax.specs.Place.Role.{Name, Names, plain, opener, branch_else, Role, act_role}
 use Rattle.tmpl_syntax.specs.Place.Open.{IsOpen, NothingOpen, IsLast, IsElseOf, IsElseBranchOf, HasElse, OfOneTemplate}
@@ -22,7 +22,7 @@ pub data Declares (xs : List Role) (k i : ℕ) (name : Name) : Type 0 where
       → IsOpen xs j i → IsOnePart xs j k i → Declares xs k i name
   -- in the header of an opening, that opening is open at i, and a range has no else of its own between;
   in_header : {c : Opening} {p : Names} → slice_get xs k ≡ Some (act_role (opener c p)) → Contains p.declares name
-      → IsOpen xs k i → (c ≡ opened.Control Range → HasElse xs k i → ⊥) → Declares xs k i name
+      → IsOpen xs k i → (c ≡ opened.control Range → HasElse xs k i → ⊥) → Declares xs k i name
   -- in an else branch, the opening to which it belongs is open at i
   in_else_branch : {b : Branch} {p : Names} {j : ℕ} → slice_get xs k ≡ Some (act_role (branch_else b p))
       → Contains p.declares name → IsLast xs j k → IsOpen xs j i → Declares xs k i name

@@ -1,11 +1,10 @@
 -- Texts and actions joined to a file: the inverse of the cut.
-use Rattle.std.specs.Prelude.{◌<◌, ℕ, Bool, true, false, ◌==◌, List, [], ◌∷◌, ◌++◌, length, codes}
+use Rattle.std.specs.Prelude.{◌<◌, ℕ, Bool, false, ◌==◌, List, [], ◌∷◌, ◌++◌, length, Option, Some, None, codes}
+use Rattle.std.specs.Prelude.{if◌then◌else◌}
 use Rattle.tmpl_lex.specs.Bytes.{Absent}
 use Rattle.tmpl_lex.specs.Text.{text_piece}
 use Rattle.tmpl_lex.specs.Piece.{Token, Piece, text, action}
 use Rattle.tmpl_lex.specs.Cut.{Cuts}
-use Rattle.tmpl_syntax.specs.declared.print.Before.{Before}
-use Rattle.tmpl_syntax.specs.declared.print.Before.TheVariants.{Nothing, Text, Brace}
 use Rattle.tmpl_grammar.specs.Print.{IsInside, bytes_of}
 
 -- a text, or the tokens of an action
@@ -21,38 +20,22 @@ ends_brace [] = false
 ends_brace (b ∷ []) = b == 123
 ends_brace (b ∷ c ∷ bs) = ends_brace (c ∷ bs)
 
-abbrev pub behind_by : Bool → Before
-behind_by true = Brace
-behind_by false = Text
-
--- what stands behind this text
-abbrev pub behind : List ℕ → Before
-behind t = behind_by (ends_brace t)
-
--- what opens an action or a comment: `{{`, or, behind a text that ends in `{`, a space and a left trim marker that
--- takes it
-abbrev pub opening : Before → List ℕ
-opening Nothing = 123 ∷ 123 ∷ []
-opening Text = 123 ∷ 123 ∷ []
-opening Brace = 32 ∷ 123 ∷ 123 ∷ 45 ∷ 32 ∷ []
+-- what opens an action or a comment behind a text, or behind none: `{{`, or, behind a text that ends in `{`, a space
+-- and a left trim marker that takes it
+abbrev pub opening : Option (List ℕ) → List ℕ
+opening None = codes "{{"
+opening (Some t) = if ends_brace t then codes " {{- " else codes "{{"
 
 -- between a text and the text before it, if there is one, stands an empty comment
-abbrev pub parting : Before → List ℕ
-parting Nothing = []
-parting Text = 123 ∷ 123 ∷ 47 ∷ 42 ∷ 42 ∷ 47 ∷ 125 ∷ 125 ∷ []
-parting Brace = 32 ∷ 123 ∷ 123 ∷ 45 ∷ 32 ∷ 47 ∷ 42 ∷ 42 ∷ 47 ∷ 125 ∷ 125 ∷ []
+abbrev pub parting : Option (List ℕ) → List ℕ
+parting None = []
+parting (Some t) = if ends_brace t then codes " {{- /**/}}" else codes "{{/**/}}"
 
--- the bytes of parts
-abbrev pub joined : Before → List Part → List ℕ
+-- the bytes of parts, behind this text or none
+abbrev pub joined : Option (List ℕ) → List Part → List ℕ
 joined before [] = []
-joined before (a_text t ∷ ps) = parting before ++ (t ++ joined (behind t) ps)
-joined before (an_action ts ∷ ps) = opening before ++ (bytes_of ts ++ 125 ∷ 125 ∷ joined Nothing ps)
-
--- what stands behind them
-abbrev pub after : Before → List Part → Before
-after before [] = before
-after before (a_text t ∷ ps) = after (behind t) ps
-after before (an_action ts ∷ ps) = after Nothing ps
+joined before (a_text t ∷ ps) = parting before ++ (t ++ joined (Some t) ps)
+joined before (an_action ts ∷ ps) = opening before ++ (bytes_of ts ++ (codes "}}" ++ joined None ps))
 
 -- ---- parts that can be joined
 
@@ -76,10 +59,10 @@ pub data SamePieces : List Part → List Piece → Type 0 where
   same_action : {line : ℕ} {ts : List Token} {ps : List Part} {qs : List Piece} → SamePieces ps qs
       → SamePieces (an_action ts ∷ ps) (action line ts ∷ qs)
 
--- behind this text, or behind none, which is the empty one
-abbrev pub before_of : List ℕ → Before
-before_of [] = Nothing
-before_of (b ∷ bs) = behind (b ∷ bs)
+-- a text, of which the empty one is none
+abbrev pub before_of : List ℕ → Option (List ℕ)
+before_of [] = None
+before_of (b ∷ bs) = Some (b ∷ bs)
 
 -- pieces of a text and bytes behind it that are these parts
 pub record HasParts (line : ℕ) (t : List ℕ) (ps : List Part) : Type 0 where

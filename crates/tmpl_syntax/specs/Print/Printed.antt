@@ -1,5 +1,5 @@
 -- How a tree and a set are printed: their texts and actions one behind the other.
-use Rattle.std.specs.Prelude.{ℕ, List, [], ◌∷◌, ◌++◌, map, codes}
+use Rattle.std.specs.Prelude.{ℕ, List, [], ◌∷◌, ◌++◌, None, map, codes}
 use Rattle.tmpl_grammar.specs.Tree.{Header}
 use Rattle.tmpl_grammar.specs.Action.{Action, pipeline_action, opening, plain_else}
 use Rattle.tmpl_grammar.specs.Action.{end_action, break_action, continue_action, define_action, template_action}
@@ -8,7 +8,6 @@ use Rattle.tmpl_grammar.specs.declared.tree.Control.{Control}
 use Rattle.tmpl_syntax.specs.Tree.{NodeKind, text, action, control_node, break_node, continue_node, template_node}
 use Rattle.tmpl_syntax.specs.Tree.{Nodes, none, then}
 use Rattle.tmpl_syntax.specs.Set.{Template}
-use Rattle.tmpl_syntax.specs.declared.print.Before.TheVariants.{Nothing}
 use Rattle.tmpl_syntax.specs.Print.Join.{Part, a_text, an_action, joined}
 
 -- ---- what nodes say, one text or action behind the other
@@ -52,12 +51,8 @@ part_of (said a) = an_action (action_tokens a)
 
 abbrev mutual
   pub unlined_node : NodeKind → NodeKind
-  unlined_node (text bytes) = text bytes
-  unlined_node (action h) = action h
   unlined_node (control_node c h body other) = control_node c h (unlined body) (unlined other)
-  unlined_node break_node = break_node
-  unlined_node continue_node = continue_node
-  unlined_node (template_node name given) = template_node name given
+  unlined_node n = n
 
   pub unlined : Nodes → Nodes
   unlined none = none
@@ -67,8 +62,8 @@ abbrev mutual
 
 -- the bytes of nodes: the inverse of cutting, reading and spelling
 abbrev pub printed : Nodes → List ℕ
-printed ns = joined Nothing (map part_of (nodes_said ns))
+printed ns = joined None (map part_of (nodes_said ns))
 
 -- the bytes of a set
 abbrev pub printed_set : List Template → List ℕ
-printed_set ts = joined Nothing (map part_of (set_said ts))
+printed_set ts = joined None (map part_of (set_said ts))

@@ -6,17 +6,25 @@ use Rattle.std.specs.List.{list_any, list_all}
 use Rattle.std.specs.Str.{bytes_eq}
 use Rattle.tmpl_grammar.specs.declared.action.Branch.{Branch}
 use Rattle.tmpl_grammar.specs.declared.tree.Control.{Control}
-use Rattle.tmpl_syntax.specs.declared.place.frame.Opening.{Opening}
-use Rattle.tmpl_syntax.specs.declared.place.frame.Opening.TheVariants as opened
-use Rattle.tmpl_grammar.specs.declared.tree.Control.TheVariants.{If, With, Range}
-use Rattle.tmpl_syntax.specs.declared.place.frame.Frame.{Frame}
-use Rattle.tmpl_syntax.specs.declared.fault.Fault.{Fault}
-use Rattle.tmpl_syntax.specs.declared.fault.Fault.TheVariants.{Unreadable, NotAnAction, OutOfPlace}
-use Rattle.tmpl_syntax.specs.declared.fault.Fault.TheVariants.{NestedTooDeeply, UndeclaredVariable}
+use Rattle.tmpl_syntax.specs.Place.Opening.{Opening}
+use Rattle.tmpl_syntax.specs.Place.Opening as opened
+use Rattle.tmpl_grammar.specs.declared.tree.Control.TheVariants.{Range}
+use Rattle.tmpl_syntax.specs.Fault as reason
+use Rattle.tmpl_syntax.specs.Fault.{Reason}
 use Rattle.tmpl_syntax.specs.Place.Role.{Name, Names, Act, plain, opener, bare_else, branch_else, closer}
 use Rattle.tmpl_syntax.specs.Place.Role.{jump, Role, text_role, unreadable_role, unread_role, act_role}
 use Rattle.tmpl_syntax.specs.Place.Open.{is_template}
 use Rattle.tmpl_syntax.specs.Place.Body.{joins, names_in, opens_level, most_levels, Verdict, fine, refused, left_open}
+
+-- what is open, and what stands inside it: whether an else came, whether a break may stand where it was opened, the
+-- levels, how many names there were where it was opened, and how many an else part of it sees
+pub record Frame : Type 0 where
+  pub opening : Opening
+  pub has_else : Bool
+  pub around : Bool
+  pub levels : ℕ
+  pub start : ℕ
+  pub part : ℕ
 
 abbrev pub top : List Frame → Option Frame
 top [] = None
@@ -24,11 +32,9 @@ top (f ∷ fs) = Some f
 
 -- inside an opening: may a break stand there
 abbrev pub loops : Opening → Bool → Bool → Bool
-loops (opened.Control If) has_else around = around
-loops (opened.Control With) has_else around = around
-loops (opened.Control Range) has_else around = not has_else || around
-loops opened.Define has_else around = false
-loops opened.Block has_else around = false
+loops (opened.control Range) has_else around = not has_else || around
+loops (opened.control c) has_else around = around
+loops c has_else around = false
 
 abbrev pub in_loop : Option Frame → Bool
 in_loop None = false
@@ -51,9 +57,8 @@ is_inside None = false
 is_inside (Some f) = true
 
 abbrev pub may_open : Opening → Option Frame → Bool
-may_open (opened.Control c) t = true
-may_open opened.Define t = not (is_inside t)
-may_open opened.Block t = true
+may_open opened.define t = not (is_inside t)
+may_open c t = true
 
 -- not out of place
 abbrev pub is_placed : Act → Option Frame → Bool
@@ -78,15 +83,10 @@ is_too_deep a t = is_nested (names_in a) || (opens_level a && leb most_levels (l
 -- of the names before an action, those that it sees: an else or else branch ends the part before it, and an `end` the
 -- control
 abbrev pub names_at : Act → Option Frame → List Name → List Name
-names_at (plain p) t names = names
-names_at (opener c p) t names = names
-names_at bare_else None names = names
 names_at bare_else (Some f) names = take f.part names
-names_at (branch_else b p) None names = names
 names_at (branch_else b p) (Some f) names = take f.part names
-names_at closer None names = names
 names_at closer (Some f) names = take f.start names
-names_at jump t names = names
+names_at a t names = names
 
 abbrev pub is_known : List Name → Name → Bool
 is_known names name = list_any (λ n. bytes_eq name n) names
@@ -95,38 +95,34 @@ abbrev pub knows : List Name → List Name → Bool
 knows names uses = list_all (is_known names) uses
 
 -- the first fault, of an action that is placed, is too deep and knows its names, or not
-abbrev pub first_fault : Bool → Bool → Bool → Option Fault
-first_fault false deep known = Some OutOfPlace
-first_fault true true known = Some NestedTooDeeply
-first_fault true false false = Some UndeclaredVariable
+abbrev pub first_fault : Bool → Bool → Bool → Option Reason
+first_fault false deep known = Some reason.out_of_place
+first_fault true true known = Some reason.nested_too_deeply
+first_fault true false false = Some reason.undeclared_variable
 first_fault true false true = None
 
 -- the fault of an action that sees these names, if it has one
-abbrev pub fault_in : Act → Option Frame → List Name → Option Fault
+abbrev pub fault_in : Act → Option Frame → List Name → Option Reason
 fault_in a t names = first_fault (is_placed a t) (is_too_deep a t) (knows names (used (names_in a)))
 
 -- how many levels an opening adds
 abbrev pub level_of : Opening → ℕ
-level_of (opened.Control c) = 1
-level_of opened.Define = 0
-level_of opened.Block = 1
+level_of opened.define = 0
+level_of c = 1
 
 -- how many names an else part sees, of those before the header and those with it: a range's own are not seen there
 abbrev pub part_of : Control → ℕ → ℕ → ℕ
-part_of If before after = after
-part_of With before after = after
 part_of Range before after = before
+part_of c before after = after
 
 -- the names at the start of what is opened, and at the start of its else part: a template sees none from outside
 abbrev pub start_of : Opening → ℕ → ℕ
-start_of (opened.Control c) before = before
-start_of opened.Define before = 0
-start_of opened.Block before = 0
+start_of (opened.control c) before = before
+start_of c before = 0
 
 abbrev pub else_start : Opening → ℕ → ℕ → ℕ
-else_start (opened.Control c) before after = part_of c before after
-else_start opened.Define before after = 0
-else_start opened.Block before after = 0
+else_start (opened.control c) before after = part_of c before after
+else_start c before after = 0
 
 -- an opening in whose outside this frame is the newest and there are n names
 abbrev pub entered : Opening → Names → Option Frame → ℕ → Frame
@@ -185,9 +181,8 @@ rest_names (ns ∷ nss) = nss
 
 -- behind an opening: a control adds what its header declares, and in a template nothing is known yet
 abbrev pub opened_names : Opening → List Name → Known → Known
-opened_names (opened.Control c) declares k = with_inner k (k.inner ++ declares)
-opened_names opened.Define declares k = record { inner = []; around = k.inner ∷ k.around }
-opened_names opened.Block declares k = record { inner = []; around = k.inner ∷ k.around }
+opened_names (opened.control c) declares k = with_inner k (k.inner ++ declares)
+opened_names c declares k = record { inner = []; around = k.inner ∷ k.around }
 
 abbrev pub closed_if : Bool → Known → Known
 closed_if true k = record { inner = first_names k.around; around = rest_names k.around }
@@ -209,34 +204,28 @@ known_after jump t k = k
 
 -- the same for an item
 abbrev pub seen_at : Role → Option Frame → List Name → List Name
-seen_at text_role t names = names
-seen_at unreadable_role t names = names
-seen_at unread_role t names = names
 seen_at (act_role a) t names = names_at a t names
+seen_at x t names = names
 
-abbrev pub fault_at : Role → Option Frame → List Name → Option Fault
+abbrev pub fault_at : Role → Option Frame → List Name → Option Reason
 fault_at text_role t names = None
-fault_at unreadable_role t names = Some Unreadable
-fault_at unread_role t names = Some NotAnAction
+fault_at unreadable_role t names = Some reason.unreadable
+fault_at unread_role t names = Some reason.not_an_action
 fault_at (act_role a) t names = fault_in a t names
 
 abbrev pub frames_past : Role → List Frame → ℕ → List Frame
-frames_past text_role fs n = fs
-frames_past unreadable_role fs n = fs
-frames_past unread_role fs n = fs
 frames_past (act_role a) fs n = frames_after a fs n
+frames_past x fs n = fs
 
 abbrev pub known_past : Role → Option Frame → Known → Known
-known_past text_role t k = k
-known_past unreadable_role t k = k
-known_past unread_role t k = k
 known_past (act_role a) t k = known_after a t k
+known_past x t k = k
 
 abbrev pub at_end : List Frame → Verdict
 at_end [] = fine
 at_end (f ∷ fs) = left_open
 
-abbrev pub unless_fault : Option Fault → ℕ → Verdict → Verdict
+abbrev pub unless_fault : Option Reason → ℕ → Verdict → Verdict
 unless_fault None i v = v
 unless_fault (Some f) i v = refused i f
 

@@ -6,20 +6,17 @@ use Rattle.tmpl_lex.specs.computed.Cut.{cut_of}
 use Rattle.tmpl_syntax.specs.Tree.{Definition}
 use Rattle.tmpl_syntax.specs.Spelling.{definition}
 use Rattle.tmpl_syntax.specs.Item.{Item, item}
+pub use Rattle.tmpl_syntax.specs.Parse.{Refusal}
 use Rattle.tmpl_syntax.specs.Parse.{last_line, base_name, most_bytes, template_in}
 use Rattle.tmpl_syntax.specs.Place.Role.{Name, roles_of}
 use Rattle.tmpl_syntax.specs.Place.Body.{Verdict, fine, refused, left_open}
-use Rattle.tmpl_syntax.specs.Fault.{Reason, of_action, open_at_end, too_long, second_definition, reason_of}
+use Rattle.tmpl_syntax.specs.Fault.{Reason, open_at_end, too_long, second_definition, reason_of}
 use Rattle.tmpl_syntax.specs.Set.{Template, is_blank, defined_each}
 use Rattle.tmpl_syntax.specs.computed.Item.{items_in}
 use Rattle.tmpl_syntax.specs.computed.Frames.{is_known, verdict_of}
 use Rattle.tmpl_syntax.specs.computed.Build.{nodes_from, definitions_from}
 use Rattle.tmpl_syntax.specs.declared.fault.ParseFault.{ParseFault}
 use Rattle.tmpl_syntax.specs.declared.fault.Refusal as held
-
--- the line and the reason of a refusal
-abbrev pub Refusal : Type 0
-Refusal = ℕ × Reason
 
 abbrev pub line_in : Option Item → ℕ
 line_in None = 1
@@ -31,7 +28,7 @@ line_at items i = line_in (slice_get items i)
 
 abbrev pub by_verdict : ℕ → List Item → Verdict → Result (Unit {0}) Refusal
 by_verdict last items fine = Ok tt
-by_verdict last items (refused i fault) = Err (line_at items i, of_action fault)
+by_verdict last items (refused i reason) = Err (line_at items i, reason)
 by_verdict last items left_open = Err (last, open_at_end)
 
 -- the refusal of the first item that is refused, or at its last line of a file that ends inside what is open
@@ -82,7 +79,8 @@ items_of bytes = items_in (cut_of bytes)
 -- the set with the file's templates, or the refusal
 unfoldable pub parsed : List Template → List ℕ → List ℕ → Result (List Template) Refusal
 parsed set file bytes =
-    if nat_lt most_bytes (length bytes) then Err (1, too_long) else placed set file (bodies_of file bytes (items_of bytes))
+    if nat_lt most_bytes (length bytes) then Err (1, too_long)
+    else placed set file (bodies_of file bytes (items_of bytes))
 
 -- what is known of a refusal: not which one it is where memory ran out
 abbrev pub IsRefusal : {T : Type 0} → Result T Refusal → ℕ → Option Reason → Type 0

@@ -1,6 +1,6 @@
 //! Whether the actions of a file stand where they may.
 ghost use Rattle.std.specs.Prelude.{◌≡◌, map};
-ghost use Rattle.tmpl_syntax.specs.View.{item_of};
+ghost use Rattle.tmpl_syntax.specs.computed.View.{item_of};
 ghost use Rattle.tmpl_syntax.specs.Parse as spec;
 ghost use Rattle.tmpl_syntax.specs.computed.Parse.{IsChecked};
 
@@ -13,7 +13,7 @@ use crate::place::scopes::Scopes;
 use std::alloc::Global;
 
 /// Refuses the first action that is refused, or else at its last line a file in which something is open at the end.
-#[tactic(auto, unfolding(crate::specs::View::scopes_of))]
+#[tactic(auto, unfolding(crate::specs::computed::View::scopes_of))]
 pub(crate) fn check(alloc: Global, items: &[Item<'_>], bytes: &[u8]) -> Result<(), Refusal>
     ensures { IsChecked bytes.now (map item_of items.now) result }
 {

@@ -2,6 +2,7 @@
 ghost use Rattle.std.specs.Prelude.{◌≡◌};
 ghost use Rattle.tmpl_syntax.specs.Place.Open.{is_template};
 ghost use Rattle.tmpl_syntax.specs.computed.Frames.{level_of};
+ghost use Rattle.tmpl_syntax.specs.computed.View.{opening_of};
 
 use tmpl_grammar::Control;
 
@@ -32,7 +33,7 @@ pub(crate) struct Frame {
 impl Opening {
     /// Whether its body is a template of its own.
     pub(crate) fn is_template(self) -> bool
-        ensures { result ≡ is_template self }
+        ensures { result ≡ is_template (opening_of self) }
     {
         match self {
             Opening::Control(_) => false,
@@ -42,7 +43,7 @@ impl Opening {
 
     /// How many levels it adds.
     pub(super) fn levels(self) -> usize
-        ensures { result ≡ level_of self }
+        ensures { result ≡ level_of (opening_of self) }
     {
         match self {
             Opening::Control(_) | Opening::Block => 1,

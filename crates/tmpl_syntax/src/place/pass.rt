@@ -1,7 +1,7 @@
 //! What stands after an item: the frames of what is open, and the names that are known.
-ghost use Rattle.std.specs.Prelude.{◌≡◌, ◌<◌, ◌++◌, [], ◌∷◌, ◌+◌, IfOk, reverse, true, false, Some, None, length};
+ghost use Rattle.std.specs.Prelude.{◌≡◌, ◌<◌, ◌++◌, [], ◌∷◌, ◌+◌, IfOk, option_map, true, false, Some, None, length};
 ghost use Rattle.tmpl_grammar.specs.View.{action_of, binding_of, header_of};
-ghost use Rattle.tmpl_syntax.specs.View.{item_of, known_names, scopes_of};
+ghost use Rattle.tmpl_syntax.specs.computed.View.{frame_of, frames_in, item_of, known_names, scopes_of, opening_of};
 ghost use Rattle.tmpl_syntax.specs.Place.Role as role;
 ghost use Rattle.tmpl_syntax.specs.Place.Role.{act_of, act_of_shape, names_of, no_names, role_of};
 ghost use Rattle.tmpl_syntax.specs.Place.Body as body;
@@ -12,7 +12,7 @@ ghost use Rattle.tmpl_syntax.specs.computed.Frames.{closed_names, ended_all, fau
 ghost use Rattle.tmpl_syntax.specs.computed.Frames.{known_past, levels, names_at, opened_names};
 ghost use Rattle.tmpl_syntax.specs.computed.Frames.{branched_all, elsed_all, entered, frames_after, frames_past};
 ghost use Rattle.tmpl_syntax.specs.computed.Frames.{seen_at, top};
-ghost use Rattle.tmpl_syntax.specs.declared.place.frame.Opening.TheVariants as opening;
+ghost use Rattle.tmpl_syntax.specs.Place.Opening as opening;
 
 use crate::item::{Item, ItemKind};
 use crate::place::frame::{Frame, Opening};
@@ -24,7 +24,7 @@ use tmpl_grammar::{Action, Binding, Control, Header, HeaderShape, Shape};
 
 /// The newest frame.
 pub(super) fn newest(stack: &Vec<Frame>) -> Option<Frame>
-    ensures { result ≡ top (reverse stack.now.items) }
+    ensures { option_map frame_of result ≡ top (frames_in stack.now.items) }
 {
     stack.last().copied()
 }
@@ -32,7 +32,8 @@ pub(super) fn newest(stack: &Vec<Frame>) -> Option<Frame>
 /// Forgets the names that an item does not see: an `else` or else branch ends the part before it, and
 /// an `end` the control.
 pub(super) fn forget(names: &mut KnownNames<'_>, item: &Item<'_>, outside: Option<Frame>)
-    ensures { known_names names.new ≡ seen_at (role_of (item_of item.now)) outside (known_names names.old) }
+    ensures { known_names names.new
+        ≡ seen_at (role_of (item_of item.now)) (option_map frame_of outside) (known_names names.old) }
 {
     let Some(frame) = outside else {
         return;
@@ -40,36 +41,29 @@ pub(super) fn forget(names: &mut KnownNames<'_>, item: &Item<'_>, outside: Optio
     match &item.what {
         ItemKind::Action(action) => forget_at(names, action, frame),
         ItemKind::TooDeep(shape) => forget_part(names, *shape, frame),
-        ItemKind::Text(_) | ItemKind::Unreadable | ItemKind::Unread => {}
+        _ => {}
     }
 }
 
 /// Forgets the names that an action of this shape does not see.
 fn forget_part(names: &mut KnownNames<'_>, shape: Shape, frame: Frame)
-    ensures { known_names names.new ≡ names_at (act_of_shape shape) (Some frame) (known_names names.old) }
+    ensures { known_names names.new ≡ names_at (act_of_shape shape) (Some (frame_of frame)) (known_names names.old) }
 {
     match shape {
         Shape::Header(HeaderShape::ElseBranch(_)) => names.truncate(frame.part),
-        Shape::Header(HeaderShape::Pipeline | HeaderShape::Open(_))
-        | Shape::Template
-        | Shape::Block => {}
+        _ => {}
     }
 }
 
 /// Forgets the names that an action does not see.
 fn forget_at(names: &mut KnownNames<'_>, action: &Action, frame: Frame)
-    ensures { known_names names.new ≡ names_at (act_of (action_of action.now)) (Some frame) (known_names names.old) }
+    ensures { known_names names.new
+        ≡ names_at (act_of (action_of action.now)) (Some (frame_of frame)) (known_names names.old) }
 {
     match action {
         Action::Else | Action::ElseBranch(_, _) => names.truncate(frame.part),
         Action::End => names.truncate(frame.start),
-        Action::Pipeline(_)
-        | Action::Open(_, _)
-        | Action::Break
-        | Action::Continue
-        | Action::Define(_)
-        | Action::Template(_, _)
-        | Action::Block(_, _) => {}
+        _ => {}
     }
 }
 
@@ -80,13 +74,13 @@ pub(super) fn take_in<'i>(
     scopes: &mut Scopes<'i>,
     item: &'i Item<'_>,
 ) -> Result<(), AllocError>
-    requires { fault_at (role_of (item_of item.now)) (top (reverse stack.old.items))
+    requires { fault_at (role_of (item_of item.now)) (top (frames_in stack.old.items))
         (scopes_of scopes.old).inner ≡ None }
-    ensures frames { IfOk result (λ u. reverse stack.new.items
-        ≡ frames_past (role_of (item_of item.now)) (reverse stack.old.items)
+    ensures frames { IfOk result (λ u. frames_in stack.new.items
+        ≡ frames_past (role_of (item_of item.now)) (frames_in stack.old.items)
         (length (scopes_of scopes.old).inner)) }
     ensures names { IfOk result (λ u. scopes_of scopes.new
-        ≡ known_past (role_of (item_of item.now)) (top (reverse stack.old.items)) (scopes_of scopes.old)) }
+        ≡ known_past (role_of (item_of item.now)) (top (frames_in stack.old.items)) (scopes_of scopes.old)) }
 {
     match &item.what {
         ItemKind::Action(action) => take_in_action(alloc, stack, scopes, action),
@@ -95,19 +89,19 @@ pub(super) fn take_in<'i>(
 }
 
 /// Takes in an action that is not refused.
-#[tactic(auto, unfolding(crate::specs::View::scopes_of))]
+#[tactic(auto, unfolding(crate::specs::computed::View::scopes_of))]
 fn take_in_action<'i>(
     alloc: Global,
     stack: &mut Vec<Frame>,
     scopes: &mut Scopes<'i>,
     action: &'i Action,
 ) -> Result<(), AllocError>
-    requires { is_too_deep (act_of (action_of action.now)) (top (reverse stack.old.items)) ≡ false }
-    ensures frames { IfOk result (λ u. reverse stack.new.items
-        ≡ frames_after (act_of (action_of action.now)) (reverse stack.old.items)
+    requires { is_too_deep (act_of (action_of action.now)) (top (frames_in stack.old.items)) ≡ false }
+    ensures frames { IfOk result (λ u. frames_in stack.new.items
+        ≡ frames_after (act_of (action_of action.now)) (frames_in stack.old.items)
         (length (scopes_of scopes.old).inner)) }
     ensures names { IfOk result (λ u. scopes_of scopes.new
-        ≡ known_after (act_of (action_of action.now)) (top (reverse stack.old.items)) (scopes_of scopes.old)) }
+        ≡ known_after (act_of (action_of action.now)) (top (frames_in stack.old.items)) (scopes_of scopes.old)) }
 {
     match action {
         Action::Pipeline(header) => declare(&mut scopes.inner, &header.binding),
@@ -126,8 +120,8 @@ fn take_in_action<'i>(
 
 /// Closes what was opened last.
 fn leave(alloc: Global, stack: &mut Vec<Frame>, scopes: &mut Scopes<'_>)
-    ensures frames { reverse stack.new.items ≡ ended_all (reverse stack.old.items) }
-    ensures names { scopes_of scopes.new ≡ closed_names (top (reverse stack.old.items)) (scopes_of scopes.old) }
+    ensures frames { frames_in stack.new.items ≡ ended_all (frames_in stack.old.items) }
+    ensures names { scopes_of scopes.new ≡ closed_names (top (frames_in stack.old.items)) (scopes_of scopes.old) }
 {
     if let Some(frame) = stack.pop() {
         if frame.opening.is_template() {
@@ -143,12 +137,14 @@ fn enter_template(
     scopes: &mut Scopes<'_>,
     opening: Opening,
 ) -> Result<(), AllocError>
-    requires template { is_template opening ≡ true }
-    requires levels { is_level opening ≡ true → levels (top (reverse stack.old.items)) < body.most_levels }
-    ensures frames { IfOk result (λ u. reverse stack.new.items
-        ≡ entered opening no_names (top (reverse stack.old.items)) (length (scopes_of scopes.old).inner)
-        ∷ reverse stack.old.items) }
-    ensures names { IfOk result (λ u. scopes_of scopes.new ≡ opened_names opening [] (scopes_of scopes.old)) }
+    requires template { is_template (opening_of opening) ≡ true }
+    requires levels { is_level (opening_of opening) ≡ true
+        → levels (top (frames_in stack.old.items)) < body.most_levels }
+    ensures frames { IfOk result (λ u. frames_in stack.new.items
+        ≡ entered (opening_of opening) no_names (top (frames_in stack.old.items)) (length (scopes_of scopes.old).inner)
+        ∷ frames_in stack.old.items) }
+    ensures names { IfOk result (λ u. scopes_of scopes.new
+        ≡ opened_names (opening_of opening) [] (scopes_of scopes.old)) }
 {
     let outside = newest(stack);
     scopes.enter(alloc)?;
@@ -185,10 +181,10 @@ fn enter<'i>(
     control: Control,
     header: &'i Header,
 ) -> Result<(), AllocError>
-    requires { levels (top (reverse stack.old.items)) < body.most_levels }
-    ensures frames { let h = names_of (header_of header.now) in IfOk result (λ u. reverse stack.new.items
-        ≡ entered (opening.Control control) h (top (reverse stack.old.items)) (length (known_names names.old))
-        ∷ reverse stack.old.items) }
+    requires { levels (top (frames_in stack.old.items)) < body.most_levels }
+    ensures frames { let h = names_of (header_of header.now) in IfOk result (λ u. frames_in stack.new.items
+        ≡ entered (opening.control control) h (top (frames_in stack.old.items)) (length (known_names names.old))
+        ∷ frames_in stack.old.items) }
     ensures names { let h = names_of (header_of header.now) in IfOk result (λ u. known_names names.new
         ≡ known_names names.old ++ h.declares) }
 {
@@ -218,7 +214,7 @@ fn part_of(control: Control, before: usize, after: usize) -> usize
 
 /// Begins the else part of the newest control.
 fn pass_else(stack: &mut Vec<Frame>) -> Result<(), AllocError>
-    ensures { IfOk result (λ u. reverse stack.new.items ≡ elsed_all (reverse stack.old.items)) }
+    ensures { IfOk result (λ u. frames_in stack.new.items ≡ elsed_all (frames_in stack.old.items)) }
 {
     if let Some(frame) = stack.pop() {
         stack.push(Frame {
@@ -235,10 +231,10 @@ fn pass_branch<'i>(
     names: &mut KnownNames<'i>,
     binding: &'i Binding,
 ) -> Result<(), AllocError>
-    requires { levels (top (reverse stack.old.items)) < body.most_levels }
-    ensures frames { IfOk result (λ u. reverse stack.new.items
+    requires { levels (top (frames_in stack.old.items)) < body.most_levels }
+    ensures frames { IfOk result (λ u. frames_in stack.new.items
         ≡ branched_all (length (known_names names.old) + length (role.declared_by (binding_of binding.now)))
-        (reverse stack.old.items)) }
+        (frames_in stack.old.items)) }
     ensures names { IfOk result (λ u. known_names names.new
         ≡ known_names names.old ++ role.declared_by (binding_of binding.now)) }
 {

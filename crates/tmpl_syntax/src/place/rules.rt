@@ -1,10 +1,11 @@
 //! The fault of an action in its place.
-ghost use Rattle.std.specs.Prelude.{◌≡◌, List, Some};
+ghost use Rattle.std.specs.Prelude.{◌≡◌, List, Some, option_map};
 ghost use Rattle.tmpl_grammar.specs.View.{action_of};
-ghost use Rattle.tmpl_syntax.specs.View.{item_of, known_names};
+ghost use Rattle.tmpl_syntax.specs.computed.View.{frame_of, item_of, known_names, opening_of};
 ghost use Rattle.tmpl_syntax.specs.Place.Role as role;
 ghost use Rattle.tmpl_syntax.specs.Place.Role.{act_of, act_of_shape, role_of};
 ghost use Rattle.tmpl_syntax.specs.Place.Body as body;
+ghost use Rattle.tmpl_syntax.specs.computed.Fault.{of_action};
 ghost use Rattle.tmpl_syntax.specs.computed.Frames.{fault_at, fault_in, in_loop, is_placed, is_too_deep, levels};
 ghost use Rattle.tmpl_syntax.specs.computed.Frames.{takes_branch, takes_else};
 
@@ -24,7 +25,8 @@ pub(crate) fn fault_of(
     outside: Option<Frame>,
     names: &KnownNames<'_>,
 ) -> Option<Fault>
-    ensures { result ≡ fault_at (role_of (item_of item.now)) outside (known_names names.now) }
+    ensures { option_map of_action result
+        ≡ fault_at (role_of (item_of item.now)) (option_map frame_of outside) (known_names names.now) }
 {
     match &item.what {
         ItemKind::Text(_) => None,
@@ -37,7 +39,8 @@ pub(crate) fn fault_of(
 
 /// The first fault of an action, in the order in which they are asked.
 fn action_fault(action: &Action, outside: Option<Frame>, names: &KnownNames<'_>) -> Option<Fault>
-    ensures { result ≡ fault_in (act_of (action_of action.now)) outside (known_names names.now) }
+    ensures { option_map of_action result
+        ≡ fault_in (act_of (action_of action.now)) (option_map frame_of outside) (known_names names.now) }
 {
     if !is_in_place(action, outside) {
         Some(Fault::OutOfPlace)
@@ -52,7 +55,8 @@ fn action_fault(action: &Action, outside: Option<Frame>, names: &KnownNames<'_>)
 
 /// The fault of an action of this shape whose parentheses nest too deep: its place is looked at first.
 fn deep_fault(shape: Shape, outside: Option<Frame>) -> Fault
-    ensures { (names : List role.Name) → Some result ≡ fault_in (act_of_shape shape) outside names }
+    ensures { (names : List role.Name)
+        → Some (of_action result) ≡ fault_in (act_of_shape shape) (option_map frame_of outside) names }
 {
     if is_shape_in_place(shape, outside) {
         Fault::NestedTooDeeply
@@ -63,7 +67,7 @@ fn deep_fault(shape: Shape, outside: Option<Frame>) -> Fault
 
 /// Whether an action of this shape may stand there.
 fn is_shape_in_place(shape: Shape, outside: Option<Frame>) -> bool
-    ensures { result ≡ is_placed (act_of_shape shape) outside }
+    ensures { result ≡ is_placed (act_of_shape shape) (option_map frame_of outside) }
 {
     match shape {
         Shape::Header(HeaderShape::Pipeline | HeaderShape::Open(_))
@@ -77,7 +81,7 @@ fn is_shape_in_place(shape: Shape, outside: Option<Frame>) -> bool
 
 /// Whether an action may stand there.
 fn is_in_place(action: &Action, outside: Option<Frame>) -> bool
-    ensures { result ≡ is_placed (act_of (action_of action.now)) outside }
+    ensures { result ≡ is_placed (act_of (action_of action.now)) (option_map frame_of outside) }
 {
     match action {
         Action::Pipeline(_) | Action::Open(_, _) | Action::Template(_, _) | Action::Block(_, _) =>
@@ -94,7 +98,7 @@ fn is_in_place(action: &Action, outside: Option<Frame>) -> bool
 
 /// Whether an else part may stand there.
 fn may_take_else(outside: Option<Frame>) -> bool
-    ensures { result ≡ takes_else outside }
+    ensures { result ≡ takes_else (option_map frame_of outside) }
 {
     match outside {
         Some(frame) => !frame.opening.is_template() && !frame.has_else,
@@ -104,7 +108,7 @@ fn may_take_else(outside: Option<Frame>) -> bool
 
 /// Whether an else part that begins so may belong to what is open there.
 fn may_take_branch(branch: Branch, outside: Option<Frame>) -> bool
-    ensures { result ≡ takes_branch branch outside }
+    ensures { result ≡ takes_branch branch (option_map frame_of outside) }
 {
     match outside {
         Some(frame) => may_join(branch, frame.opening),
@@ -114,7 +118,7 @@ fn may_take_branch(branch: Branch, outside: Option<Frame>) -> bool
 
 /// Whether an else part that begins so may belong to what is opened so.
 fn may_join(branch: Branch, opening: Opening) -> bool
-    ensures { result ≡ body.joins branch opening }
+    ensures { result ≡ body.joins branch (opening_of opening) }
 {
     match branch {
         Branch::If => matches!(opening, Opening::Control(Control::If)),
@@ -124,7 +128,7 @@ fn may_join(branch: Branch, opening: Opening) -> bool
 
 /// Whether a break may stand there.
 pub(super) fn is_in_loop(outside: Option<Frame>) -> bool
-    ensures { result ≡ in_loop outside }
+    ensures { result ≡ in_loop (option_map frame_of outside) }
 {
     match outside {
         None => false,
@@ -138,7 +142,7 @@ pub(super) fn is_in_loop(outside: Option<Frame>) -> bool
 
 /// Whether an action is a level more than may stand there.
 fn is_deep(action: &Action, outside: Option<Frame>) -> bool
-    ensures { result ≡ is_too_deep (act_of (action_of action.now)) outside }
+    ensures { result ≡ is_too_deep (act_of (action_of action.now)) (option_map frame_of outside) }
 {
     adds_level(action) && levels_in(outside) >= MOST_LEVELS
 }
@@ -155,7 +159,7 @@ fn adds_level(action: &Action) -> bool
 
 /// How many levels stand there.
 pub(super) fn levels_in(outside: Option<Frame>) -> usize
-    ensures { result ≡ levels outside }
+    ensures { result ≡ levels (option_map frame_of outside) }
 {
     match outside {
         Some(frame) => frame.levels,

@@ -1,6 +1,6 @@
 //! The names that are known in the template of a place, and in those around it.
 ghost use Rattle.std.specs.Prelude.{◌≡◌, ◌∷◌, [], IfOk, true};
-ghost use Rattle.tmpl_syntax.specs.View.{known_names, scopes_of};
+ghost use Rattle.tmpl_syntax.specs.computed.View.{known_names, scopes_of};
 ghost use Rattle.tmpl_syntax.specs.computed.Frames.{closed_if, none_known};
 
 use crate::place::names::KnownNames;
@@ -18,7 +18,7 @@ pub(crate) struct Scopes<'i> {
 
 impl<'i> Scopes<'i> {
     /// No names.
-    #[tactic(auto, unfolding(crate::specs::View::scopes_of))]
+    #[tactic(auto, unfolding(crate::specs::computed::View::scopes_of))]
     pub(crate) fn new(alloc: Global) -> Scopes<'i>
         ensures { scopes_of result ≡ none_known }
     {
@@ -29,7 +29,7 @@ impl<'i> Scopes<'i> {
     }
 
     /// Begins a template, in which none is known yet.
-    #[tactic(auto, unfolding(crate::specs::View::scopes_of))]
+    #[tactic(auto, unfolding(crate::specs::computed::View::scopes_of))]
     pub(crate) fn enter(&mut self, alloc: Global) -> Result<(), AllocError>
         ensures inner { IfOk result (λ u. (scopes_of self.new).inner ≡ []) }
         ensures around { IfOk result (λ u. (scopes_of self.new).around
@@ -41,7 +41,7 @@ impl<'i> Scopes<'i> {
     }
 
     /// Ends a template.
-    #[tactic(auto, unfolding(crate::specs::View::scopes_of))]
+    #[tactic(auto, unfolding(crate::specs::computed::View::scopes_of))]
     pub(crate) fn leave(&mut self, alloc: Global)
         ensures { scopes_of self.new ≡ closed_if true (scopes_of self.old) }
     {

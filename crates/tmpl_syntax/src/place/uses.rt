@@ -2,7 +2,7 @@
 ghost use Rattle.std.specs.Prelude.{◌≡◌};
 ghost use Rattle.tmpl_grammar.specs.View.{action_of, binding_of, header_of, pipeline_of};
 ghost use Rattle.tmpl_grammar.specs.View.{commands_in, operand_of, operands_in};
-ghost use Rattle.tmpl_syntax.specs.View.{known_names};
+ghost use Rattle.tmpl_syntax.specs.computed.View.{known_names};
 ghost use Rattle.tmpl_syntax.specs.Place.Role as role;
 ghost use Rattle.tmpl_syntax.specs.Place.Body as body;
 ghost use Rattle.tmpl_syntax.specs.computed.Frames.{knows, used};
@@ -21,12 +21,7 @@ pub(super) fn knows_its_names(action: &Action, names: &KnownNames<'_>) -> bool
         Action::Template(_, Some(pipeline)) | Action::Block(_, pipeline) => {
             knows_pipeline(names, pipeline)
         }
-        Action::Template(_, None)
-        | Action::Define(_)
-        | Action::Else
-        | Action::End
-        | Action::Break
-        | Action::Continue => true,
+        _ => true,
     }
 }
 
@@ -43,7 +38,7 @@ fn knows_assigned(names: &KnownNames<'_>, binding: &Binding) -> bool
 {
     match binding {
         Binding::Assign(name) => knows_variable(names, name.as_slice()),
-        Binding::Unbound | Binding::Declare(_) | Binding::DeclarePair(_) => true,
+        _ => true,
     }
 }
 
@@ -89,13 +84,7 @@ fn knows_operand(names: &KnownNames<'_>, operand: &Operand) -> bool
     match operand {
         Operand::Variable { name, .. } => knows_variable(names, name.as_slice()),
         Operand::Group { commands, .. } => knows_commands(names, commands.as_slice()),
-        Operand::Dot
-        | Operand::Fields(_)
-        | Operand::Bool(_)
-        | Operand::Number(_)
-        | Operand::Text(_)
-        | Operand::Nil
-        | Operand::Function(_) => true,
+        _ => true,
     }
 }
 

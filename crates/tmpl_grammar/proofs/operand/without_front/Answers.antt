@@ -1,7 +1,7 @@
 use Rattle.std.proofs.Common.{refl, sym, ap, ◌∙◌, map, drop}
 use Rattle.std.proofs.lemmas.List.{drop-map}
 use Rattle.tmpl_lex.specs.View.{token_of}
-use Rattle.tmpl_grammar.specs.Token.{is_white}
+use Rattle.tmpl_grammar.specs.computed.Token.{is_white}
 use Rattle.tmpl_grammar.proofs.ListLemmas.{take-rest, prefix-map}
 use Rattle.tmpl_grammar.proofs.operand.without_front.Goals as goal
 

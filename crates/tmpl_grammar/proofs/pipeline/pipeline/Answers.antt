@@ -2,7 +2,7 @@ use Rattle.std.proofs.Common.{arith, ◌≡◌, ◌∙◌, IfOk, sym, ap, subst,
 use Rattle.std.proofs.lemmas.List.{drop_all}
 use Rattle.std.specs.Option.{option_map}
 use Rattle.tmpl_lex.specs.View.{token_of}
-use Rattle.tmpl_grammar.specs.View.{limited_of, pipeline_reading}
+use Rattle.tmpl_grammar.specs.computed.View.{limited_of, pipeline_reading}
 use Rattle.std.proofs.lemmas.List.{drop_more}
 use Rattle.tmpl_grammar.proofs.LimitLemmas.{Follows, follows-start, follows-none, follows-step, follows-end}
 use Rattle.tmpl_grammar.proofs.pipeline.pipeline.Goals as goal
@@ -31,6 +31,6 @@ loop-token-preserved c =
 pub returns : goal.returns
 returns c =
     let end = ap (map token_of) (drop_all c.loop-token.token-index c.args.tokens.now (omega arith)) in
-    subst (λ p. IfOk c.finished.result (λ r. pipeline_reading r ≡ p))
+    subst (λ p. IfOk c.finish.result (λ r. pipeline_reading r ≡ p))
     (follows-end c.args.shape (map token_of c.args.tokens.now) (limited_of c.loop-token.parser) (subst (Follows (map token_of c.args.tokens.now) (limited_of c.loop-token.parser)) end c.loop-token.invariant.follows))
-    c.finished.ensures
+    c.finish.ensures

@@ -1,6 +1,6 @@
 use Rattle.std.proofs.Common.{drop, map}
 use Rattle.tmpl_lex.specs.View.{token_of}
-use Rattle.tmpl_grammar.specs.View.{limited_of}
+use Rattle.tmpl_grammar.specs.computed.View.{limited_of}
 use Rattle.tmpl_grammar.proofs.LimitLemmas.{Follows}
 use Rattle.tmpl_grammar.proofs.pipeline.pipeline.Given as goal
 

@@ -1,7 +1,8 @@
 use Rattle.std.proofs.Common.{refl, ap, reverse, ◌∙◌}
 use Rattle.tmpl_syntax.specs.Tree.{Node, none, then, control_node}
 use Rattle.tmpl_grammar.specs.View.{header_of}
-use Rattle.tmpl_syntax.specs.View.{level_of, nodes_in, parts_of}
+use Rattle.tmpl_syntax.specs.View.{nodes_in}
+use Rattle.tmpl_syntax.specs.computed.View.{level_of, parts_of}
 use Rattle.tmpl_syntax.proofs.ViewLemmas.{node_of-Node}
 use Rattle.tmpl_syntax.proofs.BuildLemmas.{same-parts}
 use Rattle.tmpl_syntax.proofs.build.begin_branch.Goals as goal

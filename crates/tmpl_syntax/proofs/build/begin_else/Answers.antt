@@ -1,6 +1,6 @@
 use Rattle.std.proofs.Common.{refl, ap, reverse}
 use Rattle.tmpl_syntax.specs.View.{nodes_in}
-use Rattle.tmpl_syntax.specs.View.{parts_of}
+use Rattle.tmpl_syntax.specs.computed.View.{parts_of}
 use Rattle.tmpl_syntax.proofs.BuildLemmas.{same-parts}
 use Rattle.tmpl_syntax.proofs.build.begin_else.Goals as goal
 

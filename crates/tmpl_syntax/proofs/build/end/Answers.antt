@@ -1,6 +1,6 @@
 use Rattle.std.proofs.Common.{ap, map, refl}
 use Rattle.tmpl_syntax.specs.computed.Build as build
-use Rattle.tmpl_syntax.specs.View.{level_of, parts_of}
+use Rattle.tmpl_syntax.specs.computed.View.{level_of, parts_of}
 use Rattle.tmpl_syntax.proofs.BuildLemmas.{same-parts, reverse-push}
 use Rattle.tmpl_syntax.proofs.build.end.Goals as goal
 

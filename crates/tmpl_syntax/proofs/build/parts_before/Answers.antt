@@ -1,9 +1,9 @@
 use Rattle.std.proofs.Common.{arith, length, ◌≡◌, [], ◌∷◌, ap, map, reverse, sym, ◌∙◌}
 use Rattle.std.proofs.lemmas.List.{map-append}
-use Rattle.tmpl_syntax.specs.View.{item_of}
+use Rattle.tmpl_syntax.specs.computed.View.{item_of}
 use Rattle.tmpl_syntax.specs.computed.Build as build
 use Rattle.tmpl_syntax.specs.computed.Build.{parts_before, no_parts}
-use Rattle.tmpl_syntax.specs.View.{definition_of, level_of, parts_of}
+use Rattle.tmpl_syntax.specs.computed.View.{definition_of, level_of, parts_of}
 use Rattle.tmpl_syntax.proofs.BuildLemmas.{before-last, same-parts}
 use Rattle.std.proofs.lemmas.List.{nil_from_length}
 use Rattle.tmpl_syntax.proofs.build.parts_before.Goals as goal

@@ -1,6 +1,6 @@
 use Rattle.std.proofs.Common.{◌≡◌, IfOk, subst}
 use Rattle.tmpl_syntax.specs.computed.Build as build
-use Rattle.tmpl_syntax.specs.View.{parts_of}
+use Rattle.tmpl_syntax.specs.computed.View.{parts_of}
 use Rattle.tmpl_syntax.proofs.BuildLemmas.{same-before}
 use Rattle.tmpl_syntax.proofs.build.put_control.Goals as goal
 

@@ -1,6 +1,7 @@
 use Rattle.std.proofs.Common.{◌∷◌, ap, reverse, map, ◌∙◌}
 use Rattle.tmpl_syntax.specs.Spelling.{definition}
-use Rattle.tmpl_syntax.specs.View.{definition_of, nodes_in, parts_of}
+use Rattle.tmpl_syntax.specs.View.{nodes_in}
+use Rattle.tmpl_syntax.specs.computed.View.{definition_of, parts_of}
 use Rattle.tmpl_syntax.proofs.BuildLemmas.{same-around, reverse-push}
 use Rattle.tmpl_syntax.proofs.build.put_definition.Goals as goal
 

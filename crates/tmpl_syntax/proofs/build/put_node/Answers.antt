@@ -1,7 +1,7 @@
 use Rattle.std.proofs.Common.{refl, ap, reverse, ◌∙◌}
 use Rattle.tmpl_syntax.specs.Tree.{Node, then}
 use Rattle.tmpl_syntax.specs.View.{nodes_in}
-use Rattle.tmpl_syntax.specs.View.{parts_of}
+use Rattle.tmpl_syntax.specs.computed.View.{parts_of}
 use Rattle.tmpl_syntax.proofs.ViewLemmas.{node_of-Node}
 use Rattle.tmpl_syntax.proofs.BuildLemmas.{same-parts, reverse-push}
 use Rattle.tmpl_syntax.proofs.build.put_node.Goals as goal

@@ -4,12 +4,14 @@ use Rattle.std.specs.Vec.Iter.{into_iter_items}
 use Rattle.tmpl_lex.specs.declared.piece.Piece.{Piece}
 use Rattle.tmpl_lex.specs.View.{piece_of}
 use Rattle.tmpl_syntax.specs.declared.item.Item.{Item}
-use Rattle.tmpl_syntax.specs.View.{item_of}
+use Rattle.tmpl_syntax.specs.computed.View.{item_of}
 use Rattle.tmpl_syntax.specs.computed.Item.{item_in, items_in}
 use Rattle.tmpl_syntax.proofs.item.read_all.Goals as goal
 
 -- one more piece is read
-one-more : (all : List Piece) (xs ys : List Item) (x : Item) (p : Piece) (ps rest : List Piece) → map item_of xs ++ items_in (map piece_of rest) ≡ items_in (map piece_of all) → rest ≡ p ∷ ps → item_of x ≡ item_in (piece_of p) → ys ≡ xs ++ x ∷ [] → map item_of ys ++ items_in (map piece_of ps) ≡ items_in (map piece_of all)
+one-more : (all : List Piece) (xs ys : List Item) (x : Item) (p : Piece) (ps rest : List Piece)
+    → map item_of xs ++ items_in (map piece_of rest) ≡ items_in (map piece_of all) → rest ≡ p ∷ ps → item_of x ≡ item_in (piece_of p)
+    → ys ≡ xs ++ x ∷ [] → map item_of ys ++ items_in (map piece_of ps) ≡ items_in (map piece_of all)
 one-more all xs ys x p ps rest so_far next is more =
     ap (λ zs. map item_of zs ++ items_in (map piece_of ps)) more
     ∙ ap (λ zs. zs ++ items_in (map piece_of ps)) (map-append item_of xs (x ∷ []))

@@ -1,6 +1,6 @@
 use Rattle.std.proofs.Common.{◌≡◌, ◌++◌, map}
 use Rattle.tmpl_lex.specs.View.{piece_of}
-use Rattle.tmpl_syntax.specs.View.{item_of}
+use Rattle.tmpl_syntax.specs.computed.View.{item_of}
 use Rattle.tmpl_syntax.specs.computed.Item.{items_in}
 use Rattle.tmpl_syntax.proofs.item.read_all.Given as goal
 

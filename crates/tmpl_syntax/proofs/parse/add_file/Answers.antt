@@ -4,7 +4,8 @@ use Rattle.tmpl_syntax.specs.declared.tree.Definition as held
 use Rattle.tmpl_syntax.specs.Tree.{Definition}
 use Rattle.tmpl_syntax.specs.Item.{Item}
 use Rattle.tmpl_syntax.specs.Set.{Template, defined_each}
-use Rattle.tmpl_syntax.specs.View.{definition_of, item_of, set_view, template_of}
+use Rattle.tmpl_syntax.specs.View.{set_view, template_of}
+use Rattle.tmpl_syntax.specs.computed.View.{definition_of, item_of}
 use Rattle.tmpl_syntax.specs.Parse.{base_name, template_in}
 use Rattle.tmpl_syntax.specs.Fault.{reason_of}
 use Rattle.tmpl_syntax.specs.computed.Parse.{IsRefusal, checked, second_in, unless_second, IsSecondAt, all_from, items_of, placed}
@@ -14,7 +15,8 @@ use Rattle.tmpl_syntax.proofs.FileLemmas.{parsed-long, refusal-placed, fine-plac
 use Rattle.tmpl_syntax.proofs.parse.add_file.Goals as goal
 
 -- definitions as templates in a file, one after the other
-in-file : (file : List ℕ) (ds : List held.Definition) → map (λ (d : held.Definition). template_in file (definition_of d)) ds ≡ map (template_in file) (map definition_of ds)
+in-file : (file : List ℕ) (ds : List held.Definition)
+    → map (λ (d : held.Definition). template_in file (definition_of d)) ds ≡ map (template_in file) (map definition_of ds)
 in-file file [] = refl
 in-file file (d ∷ ds) = ap (λ ts. template_in file (definition_of d) ∷ ts) (in-file file ds)
 

@@ -2,7 +2,8 @@ use Rattle.std.proofs.Common.{arith, ◌≡◌, ◌+◌, true, false, List, [], 
 use Rattle.std.proofs.lemmas.List.{drop_all, length-map}
 use Rattle.tmpl_syntax.specs.Set.{is_blank}
 use Rattle.tmpl_syntax.specs.Place.Role.{Name}
-use Rattle.tmpl_syntax.specs.View.{definition_of, nodes_in, known_names}
+use Rattle.tmpl_syntax.specs.View.{nodes_in}
+use Rattle.tmpl_syntax.specs.computed.View.{definition_of, known_names}
 use Rattle.tmpl_syntax.specs.computed.Frames.{is_known}
 use Rattle.tmpl_syntax.specs.computed.Parse.{second_from, second_in}
 use Rattle.tmpl_syntax.proofs.SecondLemmas.{next-blank, next-known, next-new}

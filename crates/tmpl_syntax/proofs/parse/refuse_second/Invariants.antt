@@ -1,5 +1,5 @@
 use Rattle.std.proofs.Common.{◌≡◌, drop, map}
-use Rattle.tmpl_syntax.specs.View.{definition_of, known_names}
+use Rattle.tmpl_syntax.specs.computed.View.{definition_of, known_names}
 use Rattle.tmpl_syntax.specs.computed.Parse.{second_from, second_in}
 use Rattle.tmpl_syntax.proofs.parse.refuse_second.Given as goal
 

@@ -3,13 +3,16 @@ use Rattle.std.proofs.lemmas.List.{drop_all, map-append}
 use Rattle.std.specs.Vec.Iter.{into_iter_items}
 use Rattle.tmpl_syntax.specs.Set.{Template}
 use Rattle.tmpl_syntax.specs.Parse.{template_in}
-use Rattle.tmpl_syntax.specs.View.{definition_of, template_of}
+use Rattle.tmpl_syntax.specs.View.{template_of}
+use Rattle.tmpl_syntax.specs.computed.View.{definition_of}
 use Rattle.tmpl_syntax.specs.declared.tree.Definition.{Definition}
 use Rattle.tmpl_syntax.proofs.SetLemmas.{Entry}
 use Rattle.tmpl_syntax.proofs.parse.templates_at.Goals as goal
 
 -- one more definition is a template
-one-more : (f : Definition → Template) (all : List Definition) (xs ys : List Entry) (x : Entry) (d : Definition) (ds rest : List Definition) → map template_of xs ++ map f rest ≡ map f all → rest ≡ d ∷ ds → template_of x ≡ f d → ys ≡ xs ++ x ∷ [] → map template_of ys ++ map f ds ≡ map f all
+one-more : (f : Definition → Template) (all : List Definition) (xs ys : List Entry) (x : Entry) (d : Definition) (ds rest : List Definition)
+    → map template_of xs ++ map f rest ≡ map f all → rest ≡ d ∷ ds → template_of x ≡ f d → ys ≡ xs ++ x ∷ []
+    → map template_of ys ++ map f ds ≡ map f all
 one-more f all xs ys x d ds rest so_far next is more =
     ap (λ zs. map template_of zs ++ map f ds) more
     ∙ ap (λ zs. zs ++ map f ds) (map-append template_of xs (x ∷ []))

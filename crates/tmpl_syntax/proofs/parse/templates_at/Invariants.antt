@@ -1,5 +1,6 @@
 use Rattle.std.proofs.Common.{◌≡◌, ◌++◌, map}
-use Rattle.tmpl_syntax.specs.View.{definition_of, template_of}
+use Rattle.tmpl_syntax.specs.View.{template_of}
+use Rattle.tmpl_syntax.specs.computed.View.{definition_of}
 use Rattle.tmpl_syntax.specs.Parse.{template_in}
 use Rattle.tmpl_syntax.specs.declared.tree.Definition.{Definition}
 use Rattle.tmpl_syntax.proofs.parse.templates_at.Given as goal

@@ -1,6 +1,7 @@
 use Rattle.std.proofs.Common.{◌∙◌, ◌++◌, List, ap, map, subst, sym}
 use Rattle.tmpl_syntax.specs.Kept.{AreKept}
-use Rattle.tmpl_syntax.specs.View.{page_of, set_view, template_of, tree_of}
+use Rattle.tmpl_syntax.specs.View.{set_view, template_of, tree_of}
+use Rattle.tmpl_syntax.specs.computed.View.{page_of}
 use Rattle.tmpl_syntax.specs.Print.Laws.{SetBack}
 use Rattle.tmpl_syntax.specs.Print.Printed.{set_said}
 use Rattle.tmpl_syntax.specs.computed.Print.{page_with, template_said}

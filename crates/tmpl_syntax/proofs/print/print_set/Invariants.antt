@@ -1,5 +1,6 @@
 use Rattle.std.proofs.Common.{◌≡◌, map}
-use Rattle.tmpl_syntax.specs.View.{page_of, set_view, template_of}
+use Rattle.tmpl_syntax.specs.View.{set_view, template_of}
+use Rattle.tmpl_syntax.specs.computed.View.{page_of}
 use Rattle.tmpl_syntax.specs.Print.Printed.{set_said}
 use Rattle.tmpl_syntax.specs.computed.Print.{page_with}
 use Rattle.tmpl_syntax.proofs.print.print_set.Given as goal

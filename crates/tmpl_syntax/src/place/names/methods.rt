@@ -1,6 +1,6 @@
 //! What is done with the names that are known.
 ghost use Rattle.std.specs.Prelude.{◌≡◌, ◌-◌, ◌++◌, ◌∷◌, [], IfOk, length, take};
-ghost use Rattle.tmpl_syntax.specs.View.{known_names};
+ghost use Rattle.tmpl_syntax.specs.computed.View.{known_names};
 ghost use Rattle.tmpl_syntax.specs.computed.Frames.{is_known};
 
 use super::KnownNames;

@@ -1,5 +1,5 @@
 use Rattle.std.proofs.Common.{◌≡◌, drop}
-use Rattle.tmpl_syntax.specs.View.{known_names}
+use Rattle.tmpl_syntax.specs.computed.View.{known_names}
 use Rattle.tmpl_syntax.specs.Place.Role.{used_by_commands, used_by_operands}
 use Rattle.tmpl_syntax.specs.computed.Frames.{knows}
 use Rattle.tmpl_grammar.specs.View.{commands_in, operands_in}

@@ -2,7 +2,8 @@ use Rattle.std.proofs.Common.{◌∙◌, ◌+◌, ◌++◌, ◌∷◌, [], ap, s
 use Rattle.std.proofs.lemmas.List.{at_drop_all, at_drop_more}
 use Rattle.std.proofs.lemmas.Result.{on_ok_weaker}
 use Rattle.tmpl_grammar.specs.Action.{plain_else}
-use Rattle.tmpl_syntax.specs.View.{node_of, nodes_in, page_of}
+use Rattle.tmpl_syntax.specs.View.{node_of, nodes_in}
+use Rattle.tmpl_syntax.specs.computed.View.{page_of}
 use Rattle.tmpl_syntax.specs.Print.Printed.{said, else_said, node_said, nodes_said}
 use Rattle.tmpl_syntax.specs.computed.Print.{page_with}
 use Rattle.tmpl_syntax.proofs.PageLemmas.{control-put, no_else, page_append, page_nothing, some_else}

@@ -1,5 +1,6 @@
 use Rattle.std.proofs.Common.{◌≡◌, drop}
-use Rattle.tmpl_syntax.specs.View.{nodes_in, page_of}
+use Rattle.tmpl_syntax.specs.View.{nodes_in}
+use Rattle.tmpl_syntax.specs.computed.View.{page_of}
 use Rattle.tmpl_syntax.specs.Print.Printed.{nodes_said}
 use Rattle.tmpl_syntax.specs.computed.Print.{page_with}
 use Rattle.tmpl_syntax.proofs.print.Page.+print.Given as goal

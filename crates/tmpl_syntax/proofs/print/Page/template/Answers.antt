@@ -1,7 +1,8 @@
 use Rattle.std.proofs.Common.{◌∙◌, ◌∷◌, [], ap, codes}
 use Rattle.std.proofs.lemmas.Result.{on_ok_weaker}
 use Rattle.tmpl_grammar.specs.Action.{end_action}
-use Rattle.tmpl_syntax.specs.View.{nodes_in, page_of}
+use Rattle.tmpl_syntax.specs.View.{nodes_in}
+use Rattle.tmpl_syntax.specs.computed.View.{page_of}
 use Rattle.tmpl_syntax.specs.Print.Printed.{said, said_text, nodes_said}
 use Rattle.tmpl_syntax.specs.computed.Print.{page_with}
 use Rattle.tmpl_syntax.proofs.PageLemmas.{control-put}

@@ -1,5 +1,5 @@
 use Rattle.std.proofs.Common.{ap, ◌∙◌, nat_lt}
-use Rattle.tmpl_syntax.specs.View.{known_names}
+use Rattle.tmpl_syntax.specs.computed.View.{known_names}
 use Rattle.tmpl_syntax.proofs.CountLemmas.{is-there}
 use Rattle.tmpl_syntax.proofs.place.names.KnownNames.knows.Goals as goal
 

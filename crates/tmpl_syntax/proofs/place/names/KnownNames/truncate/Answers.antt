@@ -1,6 +1,6 @@
 use Rattle.std.proofs.Common.{arith, ◌<◌, ◌≤◌, ◌-◌, length, take, sym, ap, ◌∙◌}
 use Rattle.std.proofs.lemmas.List.{length-take-le, take-take, take_all}
-use Rattle.tmpl_syntax.specs.View.{known_names}
+use Rattle.tmpl_syntax.specs.computed.View.{known_names}
 use Rattle.tmpl_syntax.proofs.place.names.KnownNames.truncate.Goals as goal
 
 pub loop-self-smaller : goal.loop-self-smaller

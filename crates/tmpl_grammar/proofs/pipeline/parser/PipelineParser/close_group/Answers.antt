@@ -1,12 +1,12 @@
 use Rattle.std.proofs.Common.{◌∙◌, ◌∷◌, Some, sym, ap, map, reverse}
 use Rattle.std.specs.Option.{option_map}
 use Rattle.tmpl_grammar.specs.computed.Parser as spec
-use Rattle.tmpl_grammar.specs.View.{parser_of, partial_of}
+use Rattle.tmpl_grammar.specs.computed.View.{parser_of, partial_of}
 use Rattle.tmpl_grammar.specs.Tree.{Operand, group}
 use Rattle.tmpl_grammar.specs.View.{command_of, commands_in}
 use Rattle.tmpl_grammar.proofs.ViewLemmas.{group_seen}
 use Rattle.tmpl_grammar.proofs.ListLemmas.{last-first}
-use Rattle.tmpl_grammar.proofs.pipeline.parser.PipelineParser.left.Goals as goal
+use Rattle.tmpl_grammar.proofs.pipeline.parser.PipelineParser.close_group.Goals as goal
 
 pub returns-in-Some-2 : goal.returns-in-Some-2
 returns-in-Some-2 c =

@@ -1,7 +1,7 @@
 use Rattle.std.proofs.Common.{◌≡◌, length}
 use Rattle.tmpl_grammar.specs.computed.Quoted.{unquoted}
 use Rattle.tmpl_grammar.proofs.QuotedLemmas.{led}
-use Rattle.tmpl_grammar.proofs.constant.quoted.unquoted.Given as goal
+use Rattle.tmpl_grammar.proofs.constant.quoted.unquote.Given as goal
 
 abbrev pub invariant-loop-rest : goal.invariant-loop-rest
 invariant-loop-rest l = unquoted l.quote l.bytes ≡ led l.text.items (unquoted l.quote l.rest)
