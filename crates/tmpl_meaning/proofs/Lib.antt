@@ -1,4 +1,3 @@
-pub mod CountLemmas
 pub mod Examples
 pub mod JoinLemmas
 pub mod PutLemmas

@@ -15,4 +15,4 @@ pub use laws::joins_by_table;
 pub use missing_key::MissingKey;
 pub use options::Options;
 pub use sink::{Sink, SinkFault, WholePuts, put_all};
-pub use values::{decides, element_count, pair_count, without_null};
+pub use values::{decides, without_null};

@@ -14,7 +14,7 @@ ghost use Rattle.tmpl_run.specs.computed.View.{cells_of, size_of};
 use crate::machine::Machine;
 use std::alloc::AllocError;
 use std::mem;
-use tmpl_meaning::{RunFaultKind, element_count, pair_count};
+use tmpl_meaning::RunFaultKind;
 use tmpl_values::Val;
 
 /// How many elements a range visits of the value, by whether it wants their index or key; none where it may not be
@@ -23,9 +23,9 @@ fn visited_count(key: bool, value: &Val<'_>) -> Option<u64>
     ensures { result ≡ option_map length (elements_for key (val_of value.now)) }
 {
     if key {
-        pair_count(value)
+        value.pair_count()
     } else {
-        element_count(value)
+        value.element_count()
     }
 }
 

@@ -21,7 +21,7 @@ ghost use Rattle.tmpl_run.specs.computed.Output.{Grows, given_of};
 use crate::piece::Piece;
 use std::alloc::{AllocError, Global};
 use tmpl_funcs::{CallError, Func, call};
-use tmpl_meaning::{Sink, SinkFault, element_count};
+use tmpl_meaning::{Sink, SinkFault};
 use tmpl_values::{Cell, Val};
 
 /// The cells below `top` are live, the newest last.
@@ -376,7 +376,7 @@ fn has_more_at(cells: &mut [Cell<'_>], at: usize) -> bool
 {
     let whole = &cells[..];
     let cell = &whole[at];
-    match element_count(&cell.val) {
+    match cell.val.element_count() {
         Some(count) => cell.num < count.saturating_sub(1),
         None => false,
     }

@@ -7,9 +7,8 @@ use Rattle.tmpl_values.specs.Value.{Value}
 use Rattle.tmpl_values.specs.Json.{Flaw, not_json, not_whole, data_of}
 use Rattle.tmpl_syntax.specs.Fault as reason
 use Rattle.tmpl_syntax.specs.Fault.{Reason}
-use Rattle.tmpl_syntax.specs.Language.{every_branch}
 use Rattle.tmpl_syntax.specs.Set.{Template, tree_named}
-use Rattle.tmpl_syntax.specs.Parse.{IsAccepted, IsRefusedBy, base_name}
+use Rattle.tmpl_syntax.specs.Parse.{Parses, Refusal, base_name}
 use Rattle.tmpl_syntax.specs.Print.Printed.{printed_set}
 use Rattle.tmpl_meaning.specs.Sink.{Sunk}
 use Rattle.tmpl_meaning.specs.Meaning.{Cause, steps_spent, not_a_function, nil_command, lacks_field, lacks_entry}
@@ -27,14 +26,11 @@ use Rattle.tmpl_tool.specs.Outcome.{Answer, Outcome}
 
 -- the set with the templates of a file of this path and these bytes, or the line and the reason of its refusal
 abbrev pub Parse : Type 0
-Parse = List Template → Bytes → Bytes → Result (List Template) (ℕ × Reason)
+Parse = List Template → Bytes → Bytes → Result (List Template) Refusal
 
 -- it accepts and refuses files by the rules; there is just one that does, which is a law
-pub record IsParse (parse : Parse) : Type 0 where
-  pub accepts : (old : List Template) (file bytes : Bytes) (new : List Template)
-      → IsAccepted every_branch old file bytes new → parse old file bytes ≡ Ok new
-  pub refuses : (old : List Template) (file bytes : Bytes) (at : ℕ) (why : Reason)
-      → IsRefusedBy every_branch file bytes at why → parse old file bytes ≡ Err (at, why)
+abbrev pub IsParse : Parse → Type 0
+IsParse parse = (old : List Template) (file bytes : Bytes) → Parses old file bytes (parse old file bytes)
 
 -- ---- why nothing is run
 
@@ -47,7 +43,7 @@ pub data Stop : Type 0 where
   not_found : Bytes → Stop
   unread : Bytes → Stop
   -- a template file is refused at this line, or the data are
-  refused : Bytes → ℕ × Reason → Stop
+  refused : Bytes → Refusal → Stop
   flawed : Bytes → Flaw → Stop
   -- the set is to be printed
   printed : List Template → Stop
