@@ -13,7 +13,15 @@ PAGE = Path(harness.TOP) / "docs" / "BELIEVED.md"
 # what the contract of `tool` stands on: it, and the traits of what it is given
 ROOTS = (("tmpl_tool", "src/command.rt", "pub fn tool"), ("tmpl_tool", "src/files/source.rt", "pub trait Source"), ("tmpl_meaning", "src/sink.rt", "pub trait Sink"))
 # the lines of each crate that are believed, at most
-MOST = {}
+MOST = {
+    "tmpl_values": 244,
+    "tmpl_funcs": 380,
+    "tmpl_lex": 111,
+    "tmpl_grammar": 333,
+    "tmpl_syntax": 475,
+    "tmpl_meaning": 311,
+    "tmpl_tool": 259,
+}
 
 WORD = r"[^\s(){}.,;]+"
 BEGINS = re.compile(r"(abbrev|unfoldable|pub|data|record|mutual|module)\b|\S+ :( |$)")
