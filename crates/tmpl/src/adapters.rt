@@ -1,6 +1,6 @@
 //! Files and standard streams as sources and sinks. Of these nothing is told but their failures.
 ghost use Rattle.std.specs.Prelude.{◌≡◌, None};
-ghost use Rattle.tmpl_tool.specs.Adapter.{answered, source_fault, taken};
+ghost use Rattle.tmpl.specs.Adapter.{answered, source_fault, taken};
 
 use std::alloc::Global;
 use std::fs;
