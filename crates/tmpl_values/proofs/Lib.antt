@@ -4,14 +4,11 @@ pub mod ElementLemmas
 pub mod HasRunesLemmas
 pub mod ItemLemmas
 pub mod KeyLemmas
-pub mod MemberLemmas
 pub mod PartedLemmas
 pub mod PutLemmas
 pub mod QuoteLemmas
-pub mod ReadLemmas
 pub mod RestLemmas
 pub mod RisingLemmas
-pub mod RowLemmas
 pub mod RuneLemmas
 pub mod TreeLemmas
 pub mod TruthLemmas

@@ -1,5 +1,3 @@
 pub mod Codes
 pub mod Falls
-pub mod Members
-pub mod Read
 pub mod Weight

@@ -1,24 +1,14 @@
-//! Data from JSON, in one pass over its tokens.
-ghost use Rattle.std.specs.Prelude.{◌≡◌, ◌<◌, length, option_map, Some, None, Err, IfOk, OnOk};
-ghost use Rattle.json.specs.Json.{items, members, value};
-ghost use Rattle.serde_json.specs.Data.{no_members};
-ghost use Rattle.serde_json.specs.Read.{converted, read as read_tree};
-ghost use Rattle.tmpl_values.specs.Json.{if_json, if_whole, not_json, IsData};
-ghost use Rattle.tmpl_values.specs.computed.Read.{value_in, items_in, entries_in};
+//! Data from JSON: `serde_json` reads it, and its tree becomes data by value.
+ghost use Rattle.std.specs.Prelude.{◌≡◌};
+ghost use Rattle.serde_json.specs.View.{view, items_view, members_view};
+ghost use Rattle.tmpl_values.specs.Json.{tree_value, tree_items, tree_entries, if_whole, IsConverted, IsData};
 ghost use Rattle.tmpl_values.specs.row.View.{value_of};
 
-mod number;
-
-use self::number::whole_number;
 use crate::bytes::Bytes;
 use crate::data::{Data, Row, Table};
-use crate::members::Members;
-use json::{Invalid, Reader, Scratch, Token};
+use serde_json::{Map, Value};
 use std::alloc::{AllocError, AllocFailed, Global};
 use thiserror::Error;
-
-/// So many lists and maps may be inside one another.
-const DEPTH: usize = 127;
 
 /// Why bytes are no data.
 #[derive(Clone, Copy, Debug, PartialEq, Eq, Error)]
@@ -34,53 +24,39 @@ pub enum DataFault {
     OutOfMemory,
 }
 
-/// Why a value was not read.
-#[derive(Clone, Copy, Debug, PartialEq, Eq)]
-enum ReadFault {
-    NotJson,
-    OutOfMemory,
-}
+impl From<serde_json::Error> for DataFault {
+    ghost use Rattle.serde_json.specs.Errors.{IsMemory};
+    ghost use Rattle.tmpl_values.specs.declared.from_json.DataFault.{DataFault};
 
-impl From<ReadFault> for DataFault {
-    ghost use Rattle.tmpl_values.specs.computed.Read.{fault_of};
+    ghost from_gives = { λ error fault. (IsMemory error → fault ≡ DataFault.OutOfMemory)
+        × (¬ IsMemory error → fault ≡ DataFault.NotJson) };
 
-    ghost from_gives = { λ f e. e ≡ fault_of f };
-
-    fn from(fault: ReadFault) -> DataFault {
-        match fault {
-            ReadFault::NotJson => DataFault::NotJson,
-            ReadFault::OutOfMemory => DataFault::OutOfMemory,
+    fn from(error: serde_json::Error) -> DataFault {
+        if error.is_memory() {
+            DataFault::OutOfMemory
+        } else {
+            DataFault::NotJson
         }
     }
 }
 
-impl From<Invalid> for ReadFault {
-    ghost use Rattle.tmpl_values.specs.declared.from_json.ReadFault.{ReadFault};
+impl From<AllocError> for DataFault {
+    ghost use Rattle.tmpl_values.specs.declared.from_json.DataFault.{DataFault};
 
-    ghost from_gives = { λ _ e. e ≡ ReadFault.NotJson };
+    ghost from_gives = { λ _ e. e ≡ DataFault.OutOfMemory };
 
-    fn from(_: Invalid) -> ReadFault {
-        ReadFault::NotJson
+    fn from(_: AllocError) -> DataFault {
+        DataFault::OutOfMemory
     }
 }
 
-impl From<AllocError> for ReadFault {
-    ghost use Rattle.tmpl_values.specs.declared.from_json.ReadFault.{ReadFault};
+impl<T: Drop> From<AllocFailed<T>> for DataFault {
+    ghost use Rattle.tmpl_values.specs.declared.from_json.DataFault.{DataFault};
 
-    ghost from_gives = { λ _ e. e ≡ ReadFault.OutOfMemory };
+    ghost from_gives = { λ _ e. e ≡ DataFault.OutOfMemory };
 
-    fn from(_: AllocError) -> ReadFault {
-        ReadFault::OutOfMemory
-    }
-}
-
-impl<T: Drop> From<AllocFailed<T>> for ReadFault {
-    ghost use Rattle.tmpl_values.specs.declared.from_json.ReadFault.{ReadFault};
-
-    ghost from_gives = { λ _ e. e ≡ ReadFault.OutOfMemory };
-
-    fn from(_: AllocFailed<T>) -> ReadFault {
-        ReadFault::OutOfMemory
+    fn from(_: AllocFailed<T>) -> DataFault {
+        DataFault::OutOfMemory
     }
 }
 
@@ -91,107 +67,50 @@ impl Data {
     pub fn from_json(alloc: Global, bytes: &[u8]) -> Result<Data, DataFault>
         ensures { IsData bytes.now result }
     {
-        match str::from_utf8(bytes) {
-            Ok(text) => match read_text(alloc, text)? {
-                Some(data) => Ok(data),
-                None => Err(DataFault::NotWhole),
-            },
-            Err(_) => Err(DataFault::NotJson),
-        }
+        let value = Value::from_slice(alloc, bytes)?;
+        data_of(alloc, value)
     }
 }
 
-/// The data of a text; none where a number is not whole.
-fn read_text(alloc: Global, text: &str) -> Result<Option<Data>, ReadFault>
-    ensures ok { IfOk result (λ d. if_json (read_tree text.now) ≡ if_whole (option_map value_of d)) }
-    ensures err { result ≡ Err ReadFault.NotJson → if_json (read_tree text.now) ≡ Err not_json }
-{
-    let mut scratch = Scratch::new(alloc);
-    let mut reader = Reader::new(text, &mut scratch)?;
-    let data = read(alloc, &mut reader, DEPTH)?;
-    if reader.next().is_some() {
-        return Err(ReadFault::NotJson);
-    }
-    Ok(data)
-}
-
-/// The data of the value that comes next, in which so many lists and maps may be inside one another; none where a
-/// number is not whole. What follows such a number is read all the same: it decides whether the text is JSON, and a
-/// later member of the same key may take its place.
-#[cycle(read)]
+/// The data of a JSON value, whose texts it takes over. `serde_json` nests no deeper than 127, so neither does this.
+#[cycle(data)]
 #[inline(always)]
-fn read(alloc: Global, reader: &mut Reader<'_>, depth: usize) -> Result<Option<Data>, ReadFault>
-    ensures ok { IfOk result
-        (λ d. converted value_in (value depth reader.old) ≡ Some (option_map value_of d, reader.new)) }
-    ensures err { result ≡ Err ReadFault.NotJson → converted value_in (value depth reader.old) ≡ None }
-    ensures shorter { OnOk result (length reader.new < length reader.old) }
+fn data_of(alloc: Global, value: Value) -> Result<Data, DataFault>
+    ensures { IsConverted value_of result (if_whole (tree_value (view value))) }
 {
-    let Some(token) = reader.next() else {
-        return Err(ReadFault::NotJson);
-    };
-    match token {
-        Token::Null => Ok(Some(Data::Null)),
-        Token::Bool(b) => Ok(Some(Data::Bool(b))),
-        Token::Number(text) => match whole_number(text) {
-            Some(n) => Ok(n.map(Data::Num)),
-            None => Err(ReadFault::NotJson),
+    match value {
+        Value::Null => Ok(Data::Null),
+        Value::Bool(b) => Ok(Data::Bool(b)),
+        Value::Number(number) => match number.as_i64() {
+            Some(n) => Ok(Data::Num(n)),
+            None => Err(DataFault::NotWhole),
         },
-        Token::String(text) => Ok(Some(Data::Text(copy(alloc, text)?))),
-        Token::BeginArray if depth > 0 => Ok(read_list(alloc, reader, depth - 1)?.map(Data::List)),
-        Token::BeginObject if depth > 0 => Ok(read_map(alloc, reader, depth - 1)?.map(Data::Map)),
-        _ => Err(ReadFault::NotJson),
+        Value::String(text) => Ok(Data::Text(Bytes::new(text.into_bytes()))),
+        Value::Array(items) => Ok(Data::List(row_of(alloc, items)?)),
+        Value::Object(members) => Ok(Data::Map(table_of(alloc, members)?)),
     }
 }
 
-/// The bytes of a text.
-fn copy(alloc: Global, text: &str) -> Result<Bytes, AllocError>
-    ensures { IfOk result (λ b. b ≡ text.now) }
+/// The list of the items of an array.
+#[cycle(data)]
+fn row_of(alloc: Global, items: Vec<Value>) -> Result<Row, DataFault>
+    ensures { IsConverted (λ row. row) result (if_whole (tree_items (items_view items.items))) }
 {
-    Ok(Bytes::new(Vec::from_slice(alloc, text.as_bytes())?))
+    let mut converted = Vec::with_capacity(alloc, items.len())?;
+    for item in items {
+        converted.push(data_of(alloc, item)?)?;
+    }
+    Ok(Row::new(converted))
 }
 
-/// The list of the values up to the bracket; none where one of them is none.
-#[cycle(read)]
-#[inline(never)]
-fn read_list(alloc: Global, reader: &mut Reader<'_>, depth: usize) -> Result<Option<Row>, ReadFault>
-    ensures ok { IfOk result (λ row.
-        converted items_in (items (value depth) (length reader.old) reader.old)
-        ≡ Some (row, reader.new)) }
-    ensures err { result ≡ Err ReadFault.NotJson
-        → converted items_in (items (value depth) (length reader.old) reader.old) ≡ None }
-    ensures shorter { OnOk result (length reader.new < length reader.old) }
+/// The map of the members of an object, which stand by rising keys there too.
+#[cycle(data)]
+fn table_of(alloc: Global, members: Map<String, Value>) -> Result<Table, DataFault>
+    ensures { IsConverted (λ table. table) result (if_whole (tree_entries (members_view members.entries))) }
 {
-    let mut found = Vec::new(alloc);
-    let mut whole = true;
-    'items: while !reader.take_end_array() {
-        match read(alloc, reader, depth)? {
-            Some(item) => found.push(item)?,
-            None => whole = false,
-        }
+    let mut converted = Vec::with_capacity(alloc, members.len())?;
+    for (key, member) in members {
+        converted.push((Bytes::new(key.into_bytes()), data_of(alloc, member)?))?;
     }
-    Ok(whole.then_some(Row::new(found)))
-}
-
-/// The map of the members up to the brace; none where one that counts has no value.
-#[cycle(read)]
-#[inline(never)]
-fn read_map(
-    alloc: Global,
-    reader: &mut Reader<'_>,
-    depth: usize,
-) -> Result<Option<Table>, ReadFault>
-    ensures ok { IfOk result (λ table.
-        converted (entries_in no_members) (members (value depth) (length reader.old) reader.old)
-        ≡ Some (table, reader.new)) }
-    ensures err { result ≡ Err ReadFault.NotJson
-        → converted (entries_in no_members) (members (value depth) (length reader.old) reader.old) ≡ None }
-    ensures shorter { OnOk result (length reader.new < length reader.old) }
-{
-    let mut found = Members::new(alloc);
-    'members: while let Some(key) = reader.next_key()? {
-        let key = String::from_str(alloc, key)?;
-        let member = read(alloc, reader, depth)?;
-        found.put(alloc, key, member)?;
-    }
-    Ok(found.into_table(alloc)?)
+    Ok(Table::new(converted))
 }

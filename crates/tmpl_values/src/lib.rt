@@ -11,7 +11,6 @@ mod growing;
 mod hex;
 mod laws;
 mod made;
-mod members;
 mod put;
 mod quote;
 mod rune;
