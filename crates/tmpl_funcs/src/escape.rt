@@ -56,7 +56,7 @@ fn escape_text<'a>(alloc: Global, text: &[u8], escape: Escape) -> Result<Val<'a>
 {
     let mut bytes = reserve(alloc, escape.escaped_len(text));
     add_escaped(text, escape, &mut bytes)?;
-    Ok(Val::made(bytes))
+    Ok(Val::buffer(bytes))
 }
 
 /// The operands joined, and behind that, in the same memory, their escape, which alone is the answer.
@@ -76,7 +76,7 @@ fn escape_joined<'a>(
     let plain = bytes.len();
     add_escape_of_all(escape, &mut bytes)?;
     let end = bytes.len();
-    Ok(Val::made(bytes).part(plain as u64, end as u64))
+    Ok(Val::buffer(bytes).part(plain as u64, end as u64))
 }
 
 /// The text that is the only operand, which needs no joining.

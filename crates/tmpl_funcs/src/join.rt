@@ -27,7 +27,7 @@ pub(crate) fn print<'a>(alloc: Global, operands: &[Cell<'_>]) -> Result<Val<'a>,
 {
     let mut bytes = reserve(alloc, joined_capacity(operands, None));
     add_joined(operands, NothingText::Nil, &mut bytes)?;
-    Ok(Val::made(bytes))
+    Ok(Val::buffer(bytes))
 }
 
 /// The operands parted by one space, and a newline.
@@ -37,7 +37,7 @@ pub(crate) fn println<'a>(alloc: Global, operands: &[Cell<'_>]) -> Result<Val<'a
     let mut bytes = reserve(alloc, joined_capacity(operands, None));
     add_parted(operands, &mut bytes)?;
     bytes.push(b'\n')?;
-    Ok(Val::made(bytes))
+    Ok(Val::buffer(bytes))
 }
 
 /// Adds the operands, with a space between two neighbours of which neither is a text.

@@ -159,8 +159,19 @@ impl<'a> Val<'a> {
         }
     }
 
-    /// A text of these bytes, which it owns. It takes no memory of its own.
-    pub fn made(bytes: Vec<u8>) -> Val<'a>
+    /// A made text of these bytes that can be shared: `share` copies nothing of it. It takes memory
+    /// for the count of its owners.
+    pub fn made(bytes: Vec<u8>) -> Result<Val<'a>, AllocError>
+        ensures same { IfOk result (λ v. (val_of v ≡ string bytes.items) × (is_made v ≡ true)) }
+        ensures kept { IfOk result (λ v. is_kept v ≡ true) }
+    {
+        let alloc = *bytes.allocator();
+        Val::buffer(bytes).into_shared(alloc)
+    }
+
+    /// A made text of these bytes, which it owns alone until it is made ready to be shared, for
+    /// what is mostly put out at once. It takes no memory of its own.
+    pub fn buffer(bytes: Vec<u8>) -> Val<'a>
         ensures value { val_of result ≡ string bytes.items }
         ensures kind { is_made result ≡ true }
     {

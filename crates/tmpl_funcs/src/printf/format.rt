@@ -39,7 +39,7 @@ fn print_formatted<'a>(
 {
     let mut bytes = reserve(alloc, format_capacity(format, operands));
     add_formatted(format, operands, &mut bytes)?;
-    Ok(Val::made(bytes))
+    Ok(Val::buffer(bytes))
 }
 
 /// Adds the texts of the segments of a format, which it reads from left to right.

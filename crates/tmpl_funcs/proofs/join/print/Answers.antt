@@ -11,4 +11,4 @@ returns c =
     let cells = c.args.operands.now in
     ap (λ ws. Ok (string (joined ws))) (sym (map-shown (values_of cells))) ∙
     ap (λ s. Ok (string s)) (sym (c.in_ok-add_joined.ensures ∙ ap (λ s. s ++ joined (operands_of Nil cells)) c.reserve-bytes.ensures)) ∙
-    ap (λ v. Ok v) (sym c.made.ensures.value)
+    ap (λ v. Ok v) (sym c.buffer.ensures.value)
