@@ -1,3 +1,4 @@
+pub mod AddLemmas
 pub mod Examples
 pub mod JoinLemmas
 pub mod PutLemmas

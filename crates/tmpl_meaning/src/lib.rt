@@ -11,7 +11,7 @@ mod sink;
 mod values;
 
 pub use fault::{RunFault, RunFaultKind};
-pub use laws::joins_by_table;
+pub use laws::{adds_to_text, joins_by_table};
 pub use missing_key::MissingKey;
 pub use options::Options;
 pub use sink::{Sink, SinkFault, WholePuts, put_all};

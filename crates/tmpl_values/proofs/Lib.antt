@@ -1,4 +1,5 @@
 pub mod BytesLemmas
+pub mod DataLemmas
 pub mod ElementExamples
 pub mod ElementLemmas
 pub mod HasRunesLemmas

@@ -32,7 +32,7 @@ before_entries-one : (ds : List (List ℕ × Data)) (d : List ℕ × Data) (es :
 before_entries-one [] d es = refl
 before_entries-one (e ∷ ds) d es = ap (entry e.0 (value_of e.1)) (before_entries-one ds d es)
 
-if_whole-Ok : {A : Type 0} (o : Option A) (a : A) → if_whole o ≡ Ok a → o ≡ Some a
+pub if_whole-Ok : {A : Type 0} (o : Option A) (a : A) → if_whole o ≡ Ok a → o ≡ Some a
 if_whole-Ok None a h = cc
 if_whole-Ok (Some b) a h = cc
 

@@ -1,9 +1,15 @@
-//! The law of runes.
-ghost use Rattle.tmpl_values.specs.Laws.{HasNoOtherRunes, HasTheseRunes, JoinsBack};
+//! The laws of runes and of data.
+ghost use Rattle.tmpl_values.specs.Laws.{HasNoOtherRunes, HasRisingKeys, HasTheseRunes, JoinsBack, NestsWithin};
 
 /// The law that bytes have one list of runes, which joined are the bytes.
 pub fn one_list_of_runes()
     ensures exists { HasTheseRunes }
     ensures one { HasNoOtherRunes }
     ensures joined { JoinsBack }
+{}
+
+/// The law that data is nested at most 127 deep, and that the keys of each of its maps rise.
+pub fn data_is_bounded()
+    ensures nests { NestsWithin }
+    ensures rising { HasRisingKeys }
 {}

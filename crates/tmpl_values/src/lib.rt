@@ -24,7 +24,7 @@ pub use field::Field;
 pub use from_json::DataFault;
 pub use growing::{add_quote, add_text};
 pub use hex::digit;
-pub use laws::one_list_of_runes;
+pub use laws::{data_is_bounded, one_list_of_runes};
 pub use made::Made;
 pub use put::Put;
 pub use quote::put_quoted;
