@@ -3,8 +3,8 @@ ghost use Rattle.std.specs.Prelude.{◌≡◌, None};
 ghost use Rattle.tmpl.specs.Adapter.{answered, source_fault, taken};
 
 use std::alloc::Global;
-use std::fs;
-use std::io::{self, ErrorKind, Write};
+use std::fs::{self, File};
+use std::io::{self, ErrorKind, Read, Write};
 use std::rt::Files;
 use tmpl_run::{Sink, SinkFault};
 use tmpl_tool::{Source, SourceFault};
@@ -37,6 +37,26 @@ impl<'a, R: Files + AllocGlobal> Source for FileSource<'a, R> {
         }
         read
     }
+
+    fn read_up_to(
+        &mut self,
+        alloc: Global,
+        name: &str,
+        most: u64,
+    ) -> Result<Vec<u8>, SourceFault> {
+        let read = answered(read_front(alloc, self.rt, name, most.saturating_add(1)));
+        if let Err(SourceFault::Failed) = read {
+            self.failures += 1;
+        }
+        read
+    }
+}
+
+/// The first bytes of a file, so many if there are as many.
+fn read_front(alloc: Global, rt: &impl Files, name: &str, count: u64) -> io::Result<Vec<u8>> {
+    let mut bytes = Vec::new(alloc);
+    File::open(rt, name)?.take(count).read_to_end(&mut bytes)?;
+    Ok(bytes)
 }
 
 /// What a read of the system answers.

@@ -1,9 +1,11 @@
 -- For the reader of the table of tokens: what its rows say of some bytes.
 use Prim.Native.String.{String}
-use Rattle.std.proofs.Common.{◌≡◌, [], refl, codes, arith, ap, length}
+use Rattle.std.proofs.Common.{◌≡◌, ℕ, zero, suc, List, [], ◌∷◌, ◌++◌, refl, codes, arith, ap, length}
+use Rattle.std.specs.Prelude.{filter}
 use Rattle.std.proofs.lemmas.Option.{same_Some}
 use Rattle.tmpl_lex.specs.declared.piece.TokenKind.{TokenKind}
 use Rattle.tmpl_lex.specs.declared.piece.TokenKind.TheVariants as kind
+use Rattle.tmpl_lex.specs.Bytes.{is_space}
 use Rattle.tmpl_lex.specs.Delimiter.{closes_marked}
 use Rattle.tmpl_lex.specs.Piece.{Token}
 use Rattle.tmpl_lex.specs.Token.{IsToken, space, number, field, dot, string, at_marker, minus, no_byte, a_byte, an_escape}
@@ -47,3 +49,11 @@ a_string = string (a_byte refl refl refl (a_byte refl refl refl (an_escape refl 
 -- a minus alone is no token
 a_minus : (k : TokenKind) → IsToken k (codes "-") (codes "}}") → ⊥
 a_minus k h = let f = (found h).front in cc
+
+-- of all bytes just four are white space
+abbrev below : ℕ → List ℕ
+below zero = []
+below (suc n) = below n ++ n ∷ []
+
+white_space : filter is_space (below 256) ≡ 9 ∷ 10 ∷ 13 ∷ 32 ∷ []
+white_space = refl

@@ -4,6 +4,7 @@
 #![tactic(auto)]
 
 mod fault;
+mod fixed;
 mod laws;
 mod missing_key;
 mod options;
@@ -11,6 +12,7 @@ mod sink;
 mod values;
 
 pub use fault::{RunFault, RunFaultKind};
+pub use fixed::{Fixed, Full};
 pub use laws::{adds_to_text, joins_by_table};
 pub use missing_key::MissingKey;
 pub use options::Options;

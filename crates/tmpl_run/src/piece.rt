@@ -1,10 +1,11 @@
 //! Memory in which bytes wait for a sink.
 ghost use Rattle.std.specs.Prelude.{◌≡◌, ◌+◌, ◌-◌, ◌<◌, ◌≤◌, ◌++◌, [], drop, false, length, take, true};
-ghost use Rattle.std.specs.Prelude.{Some, None, MatchOption};
+ghost use Rattle.std.specs.Prelude.{MatchOption};
 ghost use Rattle.tmpl_values.specs.Text.{text_of};
 ghost use Rattle.tmpl_values.specs.View.{val_of};
 
-use tmpl_values::{Put, Val, put_text};
+use tmpl_meaning::{Fixed, Full};
+use tmpl_values::{Val, put_text};
 
 /// Memory in which bytes wait for a sink, so that it is given many at once.
 #[derive(Drop)]
@@ -113,47 +114,13 @@ fn copy_text(all: &mut [u8], end: usize, value: &Val<'_>) -> Option<usize>
     ensures order { MatchOption result (end ≤ length all.new) (λ behind. end ≤ behind) }
     ensures within { MatchOption result (end ≤ length all.new) (λ behind. behind ≤ length all.new) }
 {
-    let mut free = Free {
+    let mut fixed = Fixed {
         bytes: all,
         end,
         failures: 0,
     };
-    match put_text(value, &mut free) {
-        Ok(()) => Some(free.end),
+    match put_text(value, &mut fixed) {
+        Ok(()) => Some(fixed.end),
         Err(Full) => None,
-    }
-}
-
-/// A text does not fit.
-#[derive(Clone, Copy)]
-struct Full;
-
-/// Memory that takes texts behind the bytes before `end`, until one does not fit.
-#[derive(Drop)]
-struct Free<'r> {
-    bytes: &'r mut [u8],
-    end: usize,
-    failures: u64,
-    ghost within: { end ≤ length bytes.now },
-}
-
-impl Put for Free<'_> {
-    type Fault = Full;
-
-    ghost so_far = { λ p. record {
-      bytes = Some (take p.end p.bytes.now);
-      failures = p.failures;
-      through = p.bytes.ghost_name;
-    } };
-
-    fn put(&mut self, bytes: &[u8]) -> Result<(), Full> {
-        let end = self.end;
-        if bytes.len() > self.bytes.len() - end {
-            self.failures += 1;
-            return Err(Full);
-        }
-        copy_behind(self.bytes, end, bytes);
-        self.end += bytes.len();
-        Ok(())
     }
 }

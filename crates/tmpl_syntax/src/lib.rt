@@ -17,7 +17,7 @@ pub use laws::{
     accepted_back, bounded_need, cut_back, more_branches, one_list_of_items, one_outcome,
     one_spelling, one_verdict, printable, printed_back, set_back,
 };
-pub use parse::{base_name, parse_file};
+pub use parse::{MOST_BYTES, base_name, parse_file};
 pub use print::{print_set, print_tree};
 pub use set::{Names, Set};
 pub use tmpl_grammar::{

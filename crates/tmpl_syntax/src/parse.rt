@@ -20,8 +20,8 @@ use std::rc::Rc;
 use tmpl_lex::cut;
 use tmpl_values::Bytes;
 
-/// The most bytes that a file may have.
-const MOST_BYTES: usize = 16_777_216;
+/// The most bytes that a file may have (our own limit).
+pub const MOST_BYTES: usize = 16_777_216;
 
 /// Adds the templates of a file to the set: those that it defines, by `define` and `block`, in the order of their
 /// headers, and then its own, what stands outside these, whose name is the part of the path after the last `/`, as

@@ -1,3 +1,4 @@
+pub mod AnswerExamples
 pub mod CommandLemmas
 pub mod LoadLemmas
 pub mod MessageLemmas

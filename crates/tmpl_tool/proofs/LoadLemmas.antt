@@ -1,24 +1,79 @@
 -- For `load_files`: the files read so far, and those that are left.
-use Rattle.std.proofs.Common.{◌≡◌, ◌∙◌, ◌+◌, ◌<◌, ℕ, zero, suc, false, List, [], ◌∷◌, length, Option, Some, None, Result, Ok, Err, add-zero}
-use Rattle.std.proofs.Common.{ap, arith, eq-eqb, refl, sym, zero-add}
-use Rattle.std.specs.Prelude.{nat_eq}
+use Rattle.std.proofs.Common.{◌≡◌, ◌∙◌, ◌+◌, ◌++◌, ◌<◌, ℕ, zero, suc, false, List, [], ◌∷◌, length, Option, Some, None, Result, Ok, Err, add-zero}
+use Rattle.std.proofs.Common.{IfSome, ap, append_assoc, arith, eq-eqb, inl, inr, refl, subst, sym, zero-add}
+use Rattle.std.specs.Prelude.{nat_eq, option_map}
+use Rattle.std.proofs.lemmas.List.{append-nil, length-append}
+use Rattle.std.specs.Option.{ok_or}
+use Rattle.std.specs.Result.{result_map_both}
 use Rattle.std.proofs.Math.Dec.{eqb-suc-zero}
 use Rattle.std.proofs.lemmas.Bool.{ne_eqb}
 use Rattle.tmpl_syntax.specs.Set.{Template}
 use Rattle.tmpl_syntax.specs.computed.Parse.{parsed}
-use Rattle.tmpl_tool.specs.Source.{Bytes, Files}
+use Rattle.tmpl_syntax.specs.Fault.{Reason, reason_of}
+use Rattle.tmpl_syntax.specs.Parse.{most_bytes}
+use Rattle.tmpl_syntax.specs.declared.fault.ParseFault.{ParseFault}
+use Rattle.tmpl_syntax.proofs.FileLemmas.{parsed-long}
+use Rattle.tmpl_tool.specs.Source.{Asked, Bytes, Files, TellsFront}
 use Rattle.tmpl_tool.specs.Tool as tool
-use Rattle.tmpl_tool.specs.Tool.{Failing, Stop, loaded, no_read, or_stop, with_file}
-use Rattle.tmpl_tool.specs.Inputs.{StopsAt}
+use Rattle.tmpl_tool.specs.Tool.{Failing, Stop, file_reads, loaded, no_read, or_stop, reads_behind, with_file}
+use Rattle.tmpl_tool.specs.Inputs.{Adds, ComesOf, StopsAt, refusal_seen}
+use Rattle.tmpl_tool.specs.declared.stop.Stop as held
+use Rattle.tmpl_tool.specs.declared.stop.Stop.TheVariants as stop
+
+-- ---- which reads are made
+
+-- none
+pub asked-nothing : (asked : Option (List Bytes)) → Asked asked asked []
+asked-nothing None = refl
+asked-nothing (Some names) = ap Some (sym (append-nil names))
+
+-- some, and then more
+pub asked-append : (before between after : Option (List Bytes)) (xs ys : List Bytes) → Asked before between xs → Asked between after ys
+    → Asked before after (xs ++ ys)
+asked-append None between after xs ys p q = q ∙ ap (option_map (λ (asked : List Bytes). asked ++ ys)) p
+asked-append (Some names) between after xs ys p q = q ∙ ap (option_map (λ (asked : List Bytes). asked ++ ys)) p ∙ ap Some (append_assoc names xs ys)
+
+-- ---- one FILE
+
+module _ (Made : List Bytes → Type 0) (files : Files) (set : List Template) (name bytes : Bytes) (new : List Template)
+    (found : TellsFront most_bytes (Some files) name bytes) (made : Made (name ∷ [])) where
+  -- a beginning that is too long is refused as the whole is
+  same_parsed : parsed set name (bytes ++ found.0) ≡ parsed set name bytes
+  same_parsed = elim found.2 [
+    inl none ↦ ap (λ (rest : Bytes). parsed set name (bytes ++ rest)) none ∙ ap (parsed set name) (append-nil bytes)
+    | inr long ↦
+        parsed-long set name (bytes ++ found.0) (omega (arith, long, length-append bytes found.0)) ∙ sym (parsed-long set name bytes long)
+  ]
+
+  as_parsed : with_file parsed files false set name ≡ result_map_both (λ s. s) (tool.refused name) (parsed set name bytes)
+  as_parsed =
+      ap (λ o. or_stop (ok_or o (tool.not_found name)) (λ bytes. result_map_both (λ s. s) (tool.refused name) (parsed set name bytes))) found.1
+      ∙ ap (result_map_both (λ s. s) (tool.refused name)) same_parsed
+
+  refusal_comes : (f : ParseFault) (why : Option Reason)
+      → IfSome (option_map (λ r. tool.refused f.file.now (f.line, r)) why) (λ s. result_map_both (λ t. t) (tool.refused name) (parsed set name bytes) ≡ Err s)
+      → StopsAt Made (λ fails. with_file parsed files (fails 0) set name) (λ fails. name ∷ []) (option_map (λ r. tool.refused f.file.now (f.line, r)) why)
+  refusal_comes f None h = (name ∷ [], [], refl, made)
+  refusal_comes f (Some r) h = (as_parsed ∙ h, made)
+
+  -- a file that was read comes to what it is parsed to
+  pub file_comes : (r : Result (Unit {0}) held.Stop) → Adds (parsed set name bytes) name new r
+      → ComesOf Made (λ fails. with_file parsed files (fails 0) set name) (λ fails. name ∷ []) (λ u. new) r
+  file_comes (Ok u) h = (as_parsed ∙ ap (result_map_both (λ s. s) (tool.refused name)) h, made)
+  file_comes (Err (stop.Template f)) h = refusal_comes f (reason_of f.kind) h
+  file_comes (Err s) h = absurd h
+
+-- ---- one FILE behind others
 
 -- no read fails of so many
 abbrev pub Succeed : ℕ → Failing → Type 0
 Succeed n fails = (k : ℕ) → k < n → fails k ≡ false
 
--- whatever the files that are left come to, the files come to
-abbrev pub ComesTo : Files → List Template → List Bytes → ℕ → List Template → List Bytes → Type 0
-ComesTo files start names i set left =
-    (fails : Failing) → Succeed i fails → loaded parsed files fails 0 start names ≡ loaded parsed files fails i set left
+-- whatever the files that are left come to, the files come to, and what is read of them is read behind the others
+abbrev pub ComesTo : (List Bytes → Type 0) → Files → List Template → List Bytes → ℕ → List Template → List Bytes → Type 0
+ComesTo Made files start names i set left = (done : List Bytes) × Made done × ((fails : Failing) → Succeed i fails
+    → (loaded parsed files fails 0 start names ≡ loaded parsed files fails i set left)
+    × (file_reads parsed files fails 0 start names ≡ done ++ file_reads parsed files fails i set left))
 
 -- the number of a read, by how many go before it
 pub other-above : (k n i : ℕ) → k < i → nat_eq (n + i) k ≡ false
@@ -28,27 +83,61 @@ pub nat_eq-add : (n i : ℕ) → nat_eq (n + i) i ≡ nat_eq n 0
 nat_eq-add zero i = eq-eqb (0 + i) i (zero-add i)
 nat_eq-add (suc n) i = ne_eqb (suc n + i) i (λ e. omega (arith, e)) ∙ sym (eqb-suc-zero n)
 
-module _ (files : Files) (start : List Template) (names : List Bytes) (i : ℕ) (set : List Template) (name : Bytes) (left : List Bytes)
-    (so_far : ComesTo files start names i set (name ∷ left)) where
+module _ (before between after : Option (List Bytes)) (files : Files) (start : List Template) (names : List Bytes) (i : ℕ) (set : List Template)
+    (name : Bytes) (left : List Bytes) (so_far : ComesTo (Asked before between) files start names i set (name ∷ left)) where
+  -- what is read behind the file
+  abbrev behind : Failing → Result (List Template) Stop → List Bytes
+  behind fails r = reads_behind (λ s. file_reads parsed files fails (suc i) s left) r
+
   -- the file comes to this where its read does as that of a number
   one_file : (fails : Failing) → Succeed i fails → (r : Result (List Template) Stop) → with_file parsed files (fails i) set name ≡ r
       → loaded parsed files fails 0 start names ≡ or_stop r (λ s. loaded parsed files fails (suc i) s left)
-  one_file fails succeed r is = so_far fails succeed ∙ ap (λ r. or_stop r (λ s. loaded parsed files fails (suc i) s left)) is
+  one_file fails succeed r is = (so_far.2 fails succeed).0 ∙ ap (λ r. or_stop r (λ s. loaded parsed files fails (suc i) s left)) is
+
+  one_read : (fails : Failing) → Succeed i fails → (r : Result (List Template) Stop) → with_file parsed files (fails i) set name ≡ r
+      → file_reads parsed files fails 0 start names ≡ so_far.0 ++ (name ∷ behind fails r)
+  one_read fails succeed r is = (so_far.2 fails succeed).1 ∙ ap (λ r. so_far.0 ++ (name ∷ behind fails r)) is
 
   -- one more file
-  pub one_more : (new : List Template) → with_file parsed files false set name ≡ Ok new → ComesTo files start names (i + 1) new left
-  one_more new is fails succeed =
-      one_file fails (λ k lt. succeed k (omega (arith, lt))) (Ok new)
-      (ap (λ b. with_file parsed files b set name) (succeed i (omega arith)) ∙ is)
-      ∙ ap (λ n. loaded parsed files fails n new left) (omega arith)
+  pub one_more : (new : List Template) → with_file parsed files false set name ≡ Ok new → Asked between after (name ∷ [])
+      → ComesTo (Asked before after) files start names (i + 1) new left
+  one_more new is asked = (
+    so_far.0 ++ name ∷ [],
+    asked-append before between after so_far.0 (name ∷ []) so_far.1 asked,
+    λ fails succeed.
+        let fewer : Succeed i fails = λ k lt. succeed k (omega (arith, lt)) in
+        let here : with_file parsed files (fails i) set name ≡ Ok new = ap (λ b. with_file parsed files b set name) (succeed i (omega arith)) ∙ is in
+        let next : suc i ≡ i + 1 = omega arith in (
+          one_file fails fewer (Ok new) here ∙ ap (λ n. loaded parsed files fails n new left) next,
+          one_read fails fewer (Ok new) here ∙ sym (append_assoc so_far.0 (name ∷ []) (file_reads parsed files fails (suc i) new left))
+              ∙ ap (λ n. (so_far.0 ++ name ∷ []) ++ file_reads parsed files fails n new left) next,
+        ),
+  )
 
   -- a file that stops the program
-  pub stops_there : (s : Option Stop) → StopsAt (λ fails. with_file parsed files (fails 0) set name) s
-      → StopsAt (λ fails. loaded parsed files fails 0 start names) s
-  stops_there None is = tt
-  stops_there (Some (tool.unread n)) (k, is) =
-      (k + i, one_file (nat_eq (k + i)) (λ j lt. other-above j k i lt) (Err (tool.unread n)) (ap (λ b. with_file parsed files b set name) (nat_eq-add k i) ∙ is))
-  stops_there (Some s) is = one_file no_read (λ j lt. refl) (Err s) is
+  pub stops_there : (s : Option Stop) → StopsAt (Asked between after) (λ fails. with_file parsed files (fails 0) set name) (λ fails. name ∷ []) s
+      → StopsAt (Asked before after) (λ fails. loaded parsed files fails 0 start names) (λ fails. file_reads parsed files fails 0 start names) s
+  stops_there None (front, rest, e, asked) =
+      let tail = behind no_read (with_file parsed files false set name) in
+      let parted : (so_far.0 ++ front) ++ (rest ++ tail) ≡ so_far.0 ++ ((front ++ rest) ++ tail) = simp append_assoc in (
+        so_far.0 ++ front,
+        rest ++ tail,
+        parted ∙ ap (λ (x : List Bytes). so_far.0 ++ (x ++ tail)) e ∙ sym (one_read no_read (λ j lt. refl) (with_file parsed files false set name) refl),
+        asked-append before between after so_far.0 front so_far.1 asked,
+      )
+  stops_there (Some (tool.unread n)) (k, is, asked) =
+      let fails : Failing = nat_eq (k + i) in
+      let here : with_file parsed files (fails i) set name ≡ Err (tool.unread n) = ap (λ b. with_file parsed files b set name) (nat_eq-add k i) ∙ is in (
+        k + i,
+        one_file fails (λ j lt. other-above j k i lt) (Err (tool.unread n)) here,
+        subst (Asked before after) (sym (one_read fails (λ j lt. other-above j k i lt) (Err (tool.unread n)) here))
+            (asked-append before between after so_far.0 (name ∷ []) so_far.1 asked),
+      )
+  stops_there (Some s) h = (
+    one_file no_read (λ j lt. refl) (Err s) h.0,
+    subst (Asked before after) (sym (one_read no_read (λ j lt. refl) (Err s) h.0))
+        (asked-append before between after so_far.0 (name ∷ []) so_far.1 h.1),
+  )
 
 -- a stage behind another, where it comes to the same behind each set
 behind_same : (r : Result (List Template) Stop) (f g : List Template → Result (List Template) Stop) → ((s : List Template) → f s ≡ g s)
@@ -67,3 +156,20 @@ all_succeed files fails k set (n ∷ ns) succeed =
     (ap fails (sym (add-zero k)) ∙ succeed 0 (omega arith))
     ∙ behind_same (with_file parsed files false set n) (λ s. loaded parsed files fails (suc k) s ns) (λ s. loaded parsed files no_read (suc k) s ns)
     (λ s. all_succeed files fails (suc k) s ns (λ j lt. ap fails (moved j) ∙ succeed (suc j) (omega (arith, lt))))
+
+-- .. and as many of them are read
+read_same : (r : Result (List Template) Stop) (f g : List Template → List Bytes) → ((s : List Template) → f s ≡ g s) → reads_behind f r ≡ reads_behind g r
+read_same (Ok s) f g same = same s
+read_same (Err stop) f g same = refl
+
+pub all_read : (files : Files) (fails : Failing) (k : ℕ) (set : List Template) (names : List Bytes)
+    → ((j : ℕ) → j < length names → fails (k + j) ≡ false)
+    → file_reads parsed files fails k set names ≡ file_reads parsed files no_read k set names
+all_read files fails k set [] succeed = refl
+all_read files fails k set (n ∷ ns) succeed =
+    let moved : (j : ℕ) → suc k + j ≡ k + suc j = λ j. omega arith in
+    ap (λ b. n ∷ reads_behind (λ s. file_reads parsed files fails (suc k) s ns) (with_file parsed files b set n))
+    (ap fails (sym (add-zero k)) ∙ succeed 0 (omega arith))
+    ∙ ap (λ (names : List Bytes). n ∷ names)
+    (read_same (with_file parsed files false set n) (λ s. file_reads parsed files fails (suc k) s ns) (λ s. file_reads parsed files no_read (suc k) s ns)
+    (λ s. all_read files fails (suc k) s ns (λ j lt. ap fails (moved j) ∙ succeed (suc j) (omega (arith, lt)))))

@@ -1,7 +1,8 @@
 -- For `tool` and `read_inputs`: the program stops, or goes on, as the definition does.
-use Rattle.std.proofs.Common.{◌≡◌, ◌∙◌, ◌+◌, ◌<◌, ℕ, Bool, true, false, List, [], length, Option, Some, None, Result, Ok, Err, ap, refl}
-use Rattle.std.proofs.Common.{sym, subst, inl, inr, zero-add}
-use Rattle.std.specs.Prelude.{nat_eq, option_map, if◌then◌else◌}
+use Rattle.std.proofs.Common.{◌≡◌, ◌∙◌, ◌+◌, ◌++◌, ◌<◌, ℕ, Bool, true, false, List, [], length, Option, Some, None, Result, Ok, Err, ap}
+use Rattle.std.proofs.Common.{append_assoc, refl, sym, subst, inl, inr, zero-add}
+use Rattle.std.proofs.lemmas.List.{append-nil}
+use Rattle.std.specs.Prelude.{nat_eq, option_map, option_to_list, if◌then◌else◌}
 use Rattle.std.specs.Option.{ok_or}
 use Rattle.std.specs.Result.{result_map_both}
 use Rattle.tmpl_values.specs.Value.{Value}
@@ -14,16 +15,16 @@ use Rattle.tmpl_meaning.specs.Meaning.{ran}
 use Rattle.tmpl_meaning.specs.Sink.{Told, Sunk, Whole, sunk}
 use Rattle.tmpl_tool.specs.Words.{Wanted, wanted}
 use Rattle.tmpl_tool.specs.Help.{asks_help}
-use Rattle.tmpl_tool.specs.Source.{Bytes, Files}
+use Rattle.tmpl_tool.specs.Source.{Asked, Bytes, Files}
 use Rattle.tmpl_tool.specs.Outcome.{Answer, Outcome, Says}
 use Rattle.tmpl_tool.specs.Tool as tool
-use Rattle.tmpl_tool.specs.Tool.{Failing, Follows, Parse, Stop, answer_of, asked_by, asked_name, data_found, loaded, no_read, or_stop}
-use Rattle.tmpl_tool.specs.Tool.{stop_answer, stop_if, tool_answer}
-use Rattle.tmpl_tool.specs.Inputs.{Counts, StopsAt, data_wanted, inputs_of, refusal_seen, stop_seen}
+use Rattle.tmpl_tool.specs.Tool.{Failing, Follows, MadeOf, Parse, Stop, answer_of, asked_by, asked_name, data_found, data_wanted, file_reads}
+use Rattle.tmpl_tool.specs.Tool.{loaded, no_read, or_stop, reads_behind, stop_answer, stop_if, tool_answer, tool_reads}
+use Rattle.tmpl_tool.specs.Inputs.{Counts, StopsAt, inputs_of, inputs_reads, refusal_seen, stop_seen}
 use Rattle.tmpl_tool.specs.computed.Load.{after_set, after_words, finished, rendered, said_of}
 use Rattle.tmpl_tool.specs.declared.stop.Stop as held
 use Rattle.tmpl_tool.specs.declared.stop.Stop.TheVariants as stop
-use Rattle.tmpl_tool.proofs.LoadLemmas.{all_succeed, nat_eq-add, other-above}
+use Rattle.tmpl_tool.proofs.LoadLemmas.{all_read, all_succeed, asked-append, asked-nothing, nat_eq-add, other-above}
 use Rattle.tmpl_tool.proofs.MessageLemmas.{nothing_out, nothing_put}
 use Rattle.tmpl_tool.proofs.StageLemmas.{with_words}
 
@@ -31,15 +32,51 @@ use Rattle.tmpl_tool.proofs.StageLemmas.{with_words}
 abbrev with_data : List Template → Result (Option Value) Stop → Result (List Template × Option Value) Stop
 with_data set r = result_map_both (λ input. (set, input)) (λ s. s) r
 
-module _ (files : Files) (w : Wanted) where
-  -- a template file stops the program
-  pub load_stops : (s : Option Stop) → StopsAt (λ fails. loaded parsed files fails 0 [] w.files) s → StopsAt (inputs_of parsed files w) s
-  load_stops None h = tt
-  load_stops (Some (tool.unread n)) (k, h) =
-      (k, ap (λ r. or_stop r (λ set. with_data set (data_found files (nat_eq k (length w.files)) (data_wanted w)))) h)
-  load_stops (Some s) h = ap (λ r. or_stop r (λ set. with_data set (data_found files false (data_wanted w)))) h
+-- what is read for the templates, and behind them
+abbrev template_reads : Files → Wanted → Failing → List Bytes
+template_reads files w fails = file_reads parsed files fails 0 [] w.files
 
-  module _ (set : List Template) (loads : loaded parsed files no_read 0 [] w.files ≡ Ok set) where
+abbrev behind_templates : Wanted → Result (List Template) Stop → List Bytes
+behind_templates w r = reads_behind (λ set. option_to_list (data_wanted w)) r
+
+module _ (files : Files) (w : Wanted) where
+  module _ (Made : List Bytes → Type 0) where
+    -- where a template file stops the program nothing is read behind it
+    no_more : (fails : Failing) (s : Stop) → loaded parsed files fails 0 [] w.files ≡ Err s → Made (template_reads files w fails)
+        → Made (inputs_reads parsed files w fails)
+    no_more fails s h made =
+        subst Made (sym (ap (λ r. template_reads files w fails ++ behind_templates w r) h ∙ append-nil (template_reads files w fails))) made
+
+    -- a template file stops the program
+    pub load_stops : (s : Option Stop) → StopsAt Made (λ fails. loaded parsed files fails 0 [] w.files) (template_reads files w) s
+        → StopsAt Made (inputs_of parsed files w) (inputs_reads parsed files w) s
+    load_stops None (front, rest, e, made) =
+        let more = behind_templates w (loaded parsed files no_read 0 [] w.files) in
+        (front, rest ++ more, sym (append_assoc front rest more) ∙ ap (λ (names : List Bytes). names ++ more) e, made)
+    load_stops (Some (tool.unread n)) (k, h, made) = (
+      k,
+      ap (λ r. or_stop r (λ set. with_data set (data_found files (nat_eq k (length w.files)) (data_wanted w)))) h,
+      no_more (nat_eq k) (tool.unread n) h made,
+    )
+    load_stops (Some s) h =
+        (ap (λ r. or_stop r (λ set. with_data set (data_found files false (data_wanted w)))) h.0, no_more no_read s h.0 h.1)
+
+  module _ (before between after : Option (List Bytes)) (set : List Template) (loads : loaded parsed files no_read 0 [] w.files ≡ Ok set)
+      (asked : Asked before between (template_reads files w no_read)) where
+    -- the templates are read, and then this is
+    reads_next : (fails : Failing) → loaded parsed files fails 0 [] w.files ≡ Ok set → template_reads files w fails ≡ template_reads files w no_read
+        → (o : Option Bytes) → data_wanted w ≡ o → inputs_reads parsed files w fails ≡ template_reads files w no_read ++ option_to_list o
+    reads_next fails all same o is =
+        ap (λ r. template_reads files w fails ++ behind_templates w r) all
+        ∙ ap (λ (names : List Bytes). names ++ option_to_list (data_wanted w)) same
+        ∙ ap (λ (o : Option Bytes). template_reads files w no_read ++ option_to_list o) is
+
+    asked_next : (fails : Failing) → loaded parsed files fails 0 [] w.files ≡ Ok set → template_reads files w fails ≡ template_reads files w no_read
+        → (o : Option Bytes) → data_wanted w ≡ o → Asked between after (option_to_list o) → Asked before after (inputs_reads parsed files w fails)
+    asked_next fails all same o is more =
+        subst (Asked before after) (sym (reads_next fails all same o is))
+        (asked-append before between after (template_reads files w no_read) (option_to_list o) asked more)
+
     -- the templates are read, and the data is next
     data_next : (fails : Failing) → loaded parsed files fails 0 [] w.files ≡ Ok set → (o : Option Bytes) → data_wanted w ≡ o
         → inputs_of parsed files w fails ≡ with_data set (data_found files (fails (length w.files)) o)
@@ -47,29 +84,46 @@ module _ (files : Files) (w : Wanted) where
         ap (λ r. or_stop r (λ set. with_data set (data_found files (fails (length w.files)) (data_wanted w)))) all
         ∙ ap (λ o. with_data set (data_found files (fails (length w.files)) o)) is
 
-    -- the set is to be printed, whatever the data is
-    pub printed_next : w.print ≡ true → inputs_of parsed files w no_read ≡ Ok (set, None)
-    printed_next is = data_next no_read loads None (ap (λ p. if p then None else w.data_file) is)
+    -- the set is to be printed, whatever the data is, and nothing more is read
+    pub printed_next : w.print ≡ true → Asked between after []
+        → (inputs_of parsed files w no_read ≡ Ok (set, None)) × Asked before after (inputs_reads parsed files w no_read)
+    printed_next is more =
+        let none = ap (λ p. if p then None else w.data_file) is in
+        (data_next no_read loads None none, asked_next no_read loads refl None none more)
 
     module _ (runs : w.print ≡ false) where
       wanted_data : data_wanted w ≡ w.data_file
       wanted_data = ap (λ p. if p then None else w.data_file) runs
 
       -- the data stops the program
-      pub data_stops : (s : Option Stop) → StopsAt (λ fails. data_found files (fails 0) w.data_file) s → StopsAt (inputs_of parsed files w) s
-      data_stops None h = tt
-      data_stops (Some (tool.unread n)) (k, h) =
-          let size = length w.files in
-          let fails : Failing = nat_eq (k + size) in (
-            k + size,
-            data_next fails (all_succeed files fails 0 [] w.files (λ j lt. other-above (0 + j) k size (subst (λ i. i < size) (sym (zero-add j)) lt)) ∙ loads) w.data_file wanted_data
-                ∙ ap (λ b. with_data set (data_found files b w.data_file)) (nat_eq-add k size) ∙ ap (with_data set) h,
+      pub data_stops : (s : Option Stop)
+          → StopsAt (Asked between after) (λ fails. data_found files (fails 0) w.data_file) (λ fails. option_to_list w.data_file) s
+          → StopsAt (Asked before after) (inputs_of parsed files w) (inputs_reads parsed files w) s
+      data_stops None (front, rest, e, more) =
+          let first = template_reads files w no_read in (
+            first ++ front,
+            rest,
+            append_assoc first front rest ∙ ap (λ (names : List Bytes). first ++ names) e ∙ sym (reads_next no_read loads refl w.data_file wanted_data),
+            asked-append before between after first front asked more,
           )
-      data_stops (Some s) h = data_next no_read loads w.data_file wanted_data ∙ ap (with_data set) h
+      data_stops (Some (tool.unread n)) (k, h, more) =
+          let size = length w.files in
+          let fails : Failing = nat_eq (k + size) in
+          let succeed : (j : ℕ) → j < size → fails (0 + j) ≡ false = λ j lt. other-above (0 + j) k size (subst (λ i. i < size) (sym (zero-add j)) lt) in
+          let all = all_succeed files fails 0 [] w.files succeed ∙ loads in (
+            k + size,
+            data_next fails all w.data_file wanted_data
+                ∙ ap (λ b. with_data set (data_found files b w.data_file)) (nat_eq-add k size) ∙ ap (with_data set) h,
+            asked_next fails all (all_read files fails 0 [] w.files succeed) w.data_file wanted_data more,
+          )
+      data_stops (Some s) h =
+          (data_next no_read loads w.data_file wanted_data ∙ ap (with_data set) h.0, asked_next no_read loads refl w.data_file wanted_data h.1)
 
       -- nothing stops it
-      pub all_read : (input : Option Value) → data_found files false w.data_file ≡ Ok input → inputs_of parsed files w no_read ≡ Ok (set, input)
-      all_read input found = data_next no_read loads w.data_file wanted_data ∙ ap (with_data set) found
+      pub nothing_stops : (input : Option Value) → data_found files false w.data_file ≡ Ok input → Asked between after (option_to_list w.data_file)
+          → (inputs_of parsed files w no_read ≡ Ok (set, input)) × Asked before after (inputs_reads parsed files w no_read)
+      nothing_stops input found more =
+          (data_next no_read loads w.data_file wanted_data ∙ ap (with_data set) found, asked_next no_read loads refl w.data_file wanted_data more)
 
 module _ (parse : Parse) (files : Files) (w : Wanted) where
   -- behind the inputs stands what is done with them
@@ -93,50 +147,62 @@ module _ (parse : Parse) (files : Files) (w : Wanted) where
       from (Err s) = refl
 
   -- a stop at the inputs is the command's
-  pub stops_after : (s : Option Stop) → StopsAt (inputs_of parse files w) s → StopsAt (after_words parse files w) s
-  stops_after None h = tt
-  stops_after (Some (tool.unread n)) (k, h) = (k, after_inputs (nat_eq k) ∙ ap (λ r. or_stop r (λ i. finished w i.0 i.1)) h)
-  stops_after (Some s) h = after_inputs no_read ∙ ap (λ r. or_stop r (λ i. finished w i.0 i.1)) h
+  pub stops_after : (Made : List Bytes → Type 0) (s : Option Stop) → StopsAt Made (inputs_of parse files w) (inputs_reads parse files w) s
+      → StopsAt Made (after_words parse files w) (inputs_reads parse files w) s
+  stops_after Made None h = h
+  stops_after Made (Some (tool.unread n)) (k, h, made) = (k, after_inputs (nat_eq k) ∙ ap (λ r. or_stop r (λ i. finished w i.0 i.1)) h, made)
+  stops_after Made (Some s) h = (after_inputs no_read ∙ ap (λ r. or_stop r (λ i. finished w i.0 i.1)) h.0, h.1)
 
 module _ (err : Sunk) (code : ℕ) where
   -- an outcome of what comes to the same
   pub outcome_as : (out : Sunk) (a b : Answer) → a ≡ b → Outcome b out err code → Outcome a out err code
   outcome_as out a b is o = subst (λ (x : Answer). Outcome x out err code) (sym is) o
 
-  module _ (parse : Parse) (t : Told) (was is : ℕ) (w : Wanted) (files : Files) where
-    stops_at : (s : Stop) → is ≡ was → after_words parse files w no_read ≡ Err s → code ≡ (stop_answer s).status → Says (stop_answer s).line err
-        → (stop_answer s).text ≡ [] → Follows (λ fails. answer_of (after_words parse files w fails)) was is (sunk t t) err code
-    stops_at s counts h status says empty =
-        inl (counts, outcome_as _ _ _ (ap answer_of h) (inl (subst (λ x. Whole x (sunk t t)) (sym empty) (nothing_put t), status, says)))
+  module _ (parse : Parse) (t : Told) (was is : ℕ) (Made : List Bytes → Type 0) (w : Wanted) (files : Files) where
+    -- what is read, and what comes of it
+    abbrev Comes : Type 0
+    Comes = Follows (λ fails. answer_of (after_words parse files w fails)) (inputs_reads parse files w) was is Made (sunk t t) err code
+
+    stops_at : (s : Stop) → is ≡ was → (after_words parse files w no_read ≡ Err s) × Made (inputs_reads parse files w no_read)
+        → code ≡ (stop_answer s).status → Says (stop_answer s).line err → (stop_answer s).text ≡ [] → Comes
+    stops_at s counts (h, made) status says empty =
+        inl (counts, inl made, outcome_as _ _ _ (ap answer_of h) (inl (subst (λ x. Whole x (sunk t t)) (sym empty) (nothing_put t), status, says)))
+
+    refused_memory : is ≡ was → MadeOf Made (inputs_reads parse files w no_read) → code ≡ 7 → Says (said_of None).line err → Comes
+    refused_memory counts made status says =
+        inl (counts, inr (status, made), nothing_out (answer_of (after_words parse files w no_read)) t err code status says)
 
     refusal : (f : ParseFault) (why : Option Reason) (o : Option Stop) → o ≡ option_map (λ r. tool.refused f.file.now (f.line, r)) why → is ≡ was
-        → StopsAt (after_words parse files w) o → code ≡ (said_of o).status → Says (said_of o).line err
-        → Follows (λ fails. answer_of (after_words parse files w fails)) was is (sunk t t) err code
-    refusal f None o e counts h status says = refused_memory (subst (λ o. code ≡ (said_of o).status) e status) (subst (λ o. Says (said_of o).line err) e says)
-      where
-        refused_memory : code ≡ 7 → Says (said_of None).line err → Follows (λ fails. answer_of (after_words parse files w fails)) was is (sunk t t) err code
-        refused_memory status says = inl (counts, nothing_out (answer_of (after_words parse files w no_read)) t err code status says)
+        → StopsAt Made (after_words parse files w) (inputs_reads parse files w) o → code ≡ (said_of o).status → Says (said_of o).line err → Comes
+    refusal f None o e counts h status says =
+        refused_memory counts (subst (λ o. StopsAt Made (after_words parse files w) (inputs_reads parse files w) o) e h)
+        (subst (λ o. code ≡ (said_of o).status) e status) (subst (λ o. Says (said_of o).line err) e says)
     refusal f (Some r) o e counts h status says =
-        stops_at (tool.refused f.file.now (f.line, r)) counts (subst (λ o. StopsAt (after_words parse files w) o) e h) (subst (λ o. code ≡ (said_of o).status) e status)
+        stops_at (tool.refused f.file.now (f.line, r)) counts
+        (subst (λ o. StopsAt Made (after_words parse files w) (inputs_reads parse files w) o) e h) (subst (λ o. code ≡ (said_of o).status) e status)
         (subst (λ o. Says (said_of o).line err) e says) refl
 
     -- the program stops, and says why
-    pub stops : (s : held.Stop) → Counts {T = ℕ} was is (Err s) → StopsAt (after_words parse files w) (stop_seen s) → code ≡ (said_of (stop_seen s)).status
-        → Says (said_of (stop_seen s)).line err → Follows (λ fails. answer_of (after_words parse files w fails)) was is (sunk t t) err code
+    pub stops : (s : held.Stop) → Counts {T = ℕ} was is (Err s) → StopsAt Made (after_words parse files w) (inputs_reads parse files w) (stop_seen s)
+        → code ≡ (said_of (stop_seen s)).status → Says (said_of (stop_seen s)).line err → Comes
     stops (stop.NotFound m) counts h status says = stops_at (tool.not_found m.now) counts h status says refl
-    stops (stop.Failed m) counts (k, h) status says =
-        inr (counts, (k, ap (λ r. (answer_of r).unread) h, outcome_as _ _ _ (ap answer_of h) (inl (nothing_put t, status, says))))
+    stops (stop.Failed m) counts (k, h, made) status says =
+        inr (counts, (k, ap (λ r. (answer_of r).unread) h, made, outcome_as _ _ _ (ap answer_of h) (inl (nothing_put t, status, says))))
     stops (stop.Template f) counts h status says = refusal f (reason_of f.kind) (refusal_seen f) refl counts h status says
     stops (stop.NotJson m) counts h status says = stops_at (tool.flawed m.now not_json) counts h status says refl
     stops (stop.NotWhole m) counts h status says = stops_at (tool.flawed m.now not_whole) counts h status says refl
-    stops stop.OutOfMemory counts h status says = inl (counts, nothing_out (answer_of (after_words parse files w no_read)) t err code status says)
+    stops stop.OutOfMemory counts h status says = refused_memory counts h status says
 
-  module _ (parse : Parse) (out : Sunk) (was is : ℕ) (w : Wanted) (files : Files) where
+  module _ (parse : Parse) (out : Sunk) (was is : ℕ) (Made : List Bytes → Type 0) (w : Wanted) (files : Files) where
     -- the words are accepted, and the program goes on
-    pub accepted : (words : List Bytes) → asked_by words ≡ Ok w → Follows (λ fails. answer_of (after_words parse files w fails)) was is out err code
-        → Follows (tool_answer parse words files) was is out err code
+    pub accepted : (words : List Bytes) → asked_by words ≡ Ok w
+        → Follows (λ fails. answer_of (after_words parse files w fails)) (inputs_reads parse files w) was is Made out err code
+        → Follows (tool_answer parse words files) (tool_reads parse words files) was is Made out err code
     accepted words asked h =
-        subst (λ (answers : Failing → Answer). Follows answers was is out err code) (λ i fails. sym (with_words parse words files fails (Ok w) asked) i) h
+        subst (λ (reads : Failing → List Bytes). Follows (tool_answer parse words files) reads was is Made out err code)
+        (λ i fails. sym (ap (λ r. reads_behind (λ w. inputs_reads parse files w fails) r) asked) i)
+        (subst (λ (answers : Failing → Answer). Follows answers (inputs_reads parse files w) was is Made out err code)
+        (λ i fails. sym (with_words parse words files fails (Ok w) asked) i) h)
 
   -- no template has the name
   pub has_no_template : (w : Wanted) (set : List Template) (input : Option Value) (t : Told) → tree_named (asked_name w) set ≡ None → code ≡ 4

@@ -1,30 +1,32 @@
 -- What the command needs of the files, and what is answered of it.
-use Rattle.std.specs.Prelude.{◌≡◌, ◌+◌, ℕ, nat_eq, List, [], Option, Some, None, Result, Ok, Err, length}
-use Rattle.std.specs.Prelude.{option_map, if◌then◌else◌}
+use Rattle.std.specs.Prelude.{◌≡◌, ◌+◌, ◌++◌, ℕ, nat_eq, List, [], Option, Some, None, Result, Ok, Err, length}
+use Rattle.std.specs.Prelude.{option_map, option_to_list, IfSome}
 use Rattle.std.specs.Result.{result_map_both}
 use Rattle.tmpl_values.specs.Json.{not_json, not_whole}
 use Rattle.tmpl_values.specs.Value.{Value}
 use Rattle.tmpl_values.specs.View.{value_of}
 use Rattle.tmpl_syntax.specs.Set.{Template}
+use Rattle.tmpl_syntax.specs.Parse.{Refusal}
 use Rattle.tmpl_syntax.specs.View.{set_view}
 use Rattle.tmpl_syntax.specs.Fault.{reason_of}
 use Rattle.tmpl_syntax.specs.declared.fault.ParseFault.{ParseFault}
 use Rattle.tmpl_tool.specs.Source.{Bytes, Files}
-use Rattle.tmpl_tool.specs.Tool.{Failing, Parse, Stop, data_found, flawed, loaded, no_read, not_found, or_stop}
-use Rattle.tmpl_tool.specs.Tool.{refused, unread}
+use Rattle.tmpl_tool.specs.Tool.{Failing, MadeOf, Parse, Stop, data_found, data_wanted, file_reads, flawed, loaded, no_read}
+use Rattle.tmpl_tool.specs.Tool.{not_found, or_stop, reads_behind, refused, unread}
 use Rattle.tmpl_tool.specs.Words.{Wanted}
 use Rattle.tmpl_tool.specs.declared.files.inputs.Inputs.{Inputs}
 use Rattle.tmpl_tool.specs.declared.stop.Stop as held
 use Rattle.tmpl_tool.specs.declared.stop.Stop.TheVariants as stop
 
--- the file of the data, where something is to be run
-abbrev pub data_wanted : Wanted → Option Bytes
-data_wanted w = if w.print then None else w.data_file
-
 -- the set of all FILEs, and then the data of a run
 abbrev pub inputs_of : Parse → Files → Wanted → Failing → Result (List Template × Option Value) Stop
 inputs_of parse files w fails = or_stop (loaded parse files fails 0 [] w.files) (λ set.
     result_map_both (λ input. (set, input)) (λ s. s) (data_found files (fails (length w.files)) (data_wanted w)))
+
+-- .. and the files that are read for that
+abbrev pub inputs_reads : Parse → Files → Wanted → Failing → List Bytes
+inputs_reads parse files w fails = file_reads parse files fails 0 [] w.files
+    ++ reads_behind (λ set. option_to_list (data_wanted w)) (loaded parse files fails 0 [] w.files)
 
 -- ---- what is held
 
@@ -45,16 +47,26 @@ stop_seen stop.OutOfMemory = None
 
 -- ---- what is answered
 
--- a stage stops so: where just one read fails, if the stop is at that, and else where none does
-abbrev pub StopsAt : {T : Type 0} → (Failing → Result T Stop) → Option Stop → Type 0
-StopsAt stage None = Unit {0}
-StopsAt stage (Some (unread name)) = (k : ℕ) × (stage (nat_eq k) ≡ Err (unread name))
-StopsAt stage (Some s) = stage no_read ≡ Err s
+-- a stage stops so, with such reads made: where just one read fails, if the stop is at that, and else where none does
+abbrev pub StopsAt : {T : Type 0} → (List Bytes → Type 0) → (Failing → Result T Stop) → (Failing → List Bytes)
+    → Option Stop → Type 0
+StopsAt Made stage reads None = MadeOf Made (reads no_read)
+StopsAt Made stage reads (Some (unread name)) =
+    (k : ℕ) × (stage (nat_eq k) ≡ Err (unread name)) × Made (reads (nat_eq k))
+StopsAt Made stage reads (Some s) = (stage no_read ≡ Err s) × Made (reads no_read)
 
 -- the answer is what a stage comes to, or it is a stop of the stage, or memory was refused
-abbrev pub ComesOf : {T U : Type 0} → (Failing → Result U Stop) → (T → U) → Result T held.Stop → Type 0
-ComesOf stage seen (Ok t) = stage no_read ≡ Ok (seen t)
-ComesOf stage seen (Err s) = StopsAt stage (stop_seen s)
+abbrev pub ComesOf : {T U : Type 0} → (List Bytes → Type 0) → (Failing → Result U Stop) → (Failing → List Bytes) → (T → U)
+    → Result T held.Stop → Type 0
+ComesOf Made stage reads seen (Ok t) = (stage no_read ≡ Ok (seen t)) × Made (reads no_read)
+ComesOf Made stage reads seen (Err s) = StopsAt Made stage reads (stop_seen s)
+
+-- a file is added to the set, or refused, or memory was
+abbrev pub Adds : Result (List Template) Refusal → Bytes → List Template → Result (Unit {0}) held.Stop → Type 0
+Adds parsed name new (Ok u) = parsed ≡ Ok new
+Adds parsed name new (Err (stop.Template f)) =
+    IfSome (refusal_seen f) (λ s. result_map_both (λ t. t) (refused name) parsed ≡ Err s)
+Adds parsed name new (Err s) = ⊥
 
 -- the count of failures rose exactly where a read failed
 abbrev pub Counts : {T : Type 0} → ℕ → ℕ → Result T held.Stop → Type 0

@@ -1,5 +1,5 @@
 -- What a source tells, and what a read answers.
-use Rattle.std.specs.Prelude.{◌≡◌, ◌+◌, ℕ, List, Option, Some, None, Result, Ok, Err, Vec}
+use Rattle.std.specs.Prelude.{◌≡◌, ◌<◌, ◌⊎◌, ◌+◌, ◌++◌, ℕ, List, [], ◌∷◌, length, Option, Some, None, Result, Ok, Err, Vec, option_map}
 use Rattle.tmpl_tool.specs.declared.files.source.SourceFault.{SourceFault}
 use Rattle.tmpl_tool.specs.declared.files.source.SourceFault.TheVariants as fault
 
@@ -21,3 +21,23 @@ IsRead told name was is (Ok bytes) = (is ≡ was) × Tells told name (Some bytes
 IsRead told name was is (Err fault.NotFound) = (is ≡ was) × Tells told name None
 IsRead told name was is (Err fault.Failed) = is ≡ was + 1
 IsRead told name was is (Err fault.OutOfMemory) = is ≡ was
+
+-- where the files are told, this one begins with these bytes, and they are all of it or more than so many
+abbrev pub TellsFront : ℕ → Option Files → Bytes → Bytes → Type 0
+TellsFront most None name bytes = Unit {0}
+TellsFront most (Some files) name bytes =
+    (rest : Bytes) × (files name ≡ Some (bytes ++ rest)) × ((rest ≡ []) ⊎ (most < length bytes))
+
+-- a read that may stop behind so many bytes
+abbrev pub IsReadUpTo : {Z : Type 0} → ℕ → Option Files → Bytes → ℕ → ℕ → Result (Vec ℕ Z) SourceFault → Type 0
+IsReadUpTo most told name was is (Ok bytes) = (is ≡ was) × TellsFront most told name bytes.items
+IsReadUpTo {Z} most told name was is (Err e) = IsRead {Z = Z} told name was is (Err e)
+
+-- the names that were asked for, where a source tells them: before, and after these too, one after the other
+abbrev pub Asked : Option (List Bytes) → Option (List Bytes) → List Bytes → Type 0
+Asked before after names = after ≡ option_map (λ asked. asked ++ names) before
+
+-- a read asks for its name, but for one to which memory was refused
+abbrev pub Asks : {T : Type 0} → Option (List Bytes) → Bytes → Result T SourceFault → Option (List Bytes) → Type 0
+Asks before name (Err fault.OutOfMemory) after = Asked before after []
+Asks before name r after = Asked before after (name ∷ [])

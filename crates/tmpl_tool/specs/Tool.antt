@@ -1,6 +1,6 @@
 -- The command as one function of the words and of the contents of files.
 use Rattle.std.specs.Prelude.{◌≡◌, ◌⊎◌, ◌+◌, ℕ, suc, nat_eq, Bool, true, false, List, [], ◌∷◌, ◌++◌, length, Option}
-use Rattle.std.specs.Prelude.{Some, None, Result, Ok, Err, codes, unwrap_or}
+use Rattle.std.specs.Prelude.{Some, None, Result, Ok, Err, codes, option_to_list, unwrap_or, if◌then◌else◌}
 use Rattle.std.specs.Option.{ok_or, option_map_or}
 use Rattle.std.specs.Result.{result_err, result_map_both}
 use Rattle.tmpl_values.specs.Value.{Value}
@@ -175,6 +175,10 @@ data_found files fails None = Ok None
 data_found files fails (Some name) =
     or_stop (read files fails name) (λ bytes. result_map_both Some (flawed name) (data_of bytes))
 
+-- the file of the data, where something is to be run
+abbrev pub data_wanted : Wanted → Option Bytes
+data_wanted w = if w.print then None else w.data_file
+
 -- the name of the first FILE's own template
 abbrev pub first_name : List Bytes → Bytes
 first_name [] = []
@@ -200,11 +204,38 @@ tool_answer parse words files fails = answer_of
 abbrev pub words_alone : List Bytes → Option Stop
 words_alone words = result_err (asked_by words)
 
+-- ---- the reads
+
+-- what is read where a stage goes on; nothing where it stops
+abbrev pub reads_behind : {T : Type 0} → (T → List Bytes) → Result T Stop → List Bytes
+reads_behind next (Ok t) = next t
+reads_behind next (Err s) = []
+
+-- each FILE in turn, up to the first that stops the command
+abbrev pub file_reads : Parse → Files → Failing → ℕ → List Template → List Bytes → List Bytes
+file_reads parse files fails k set [] = []
+file_reads parse files fails k set (name ∷ names) =
+    name ∷ reads_behind (λ s. file_reads parse files fails (suc k) s names) (with_file parse files (fails k) set name)
+
+-- the files that are read, in order: the FILEs, and then the data of a run
+abbrev pub tool_reads : Parse → List Bytes → Files → Failing → List Bytes
+tool_reads parse words files fails = reads_behind (λ w. file_reads parse files fails 0 [] w.files
+    ++ reads_behind (λ set. option_to_list (data_wanted w)) (loaded parse files fails 0 [] w.files)) (asked_by words)
+
 -- ---- what is observed
 
--- no read failed, or one did, at which the command stops
-abbrev pub Follows : (Failing → Answer) → ℕ → ℕ → Sunk → Sunk → ℕ → Type 0
-Follows answers was is out err code =
-    ((is ≡ was) × Outcome (answers no_read) out err code)
-    ⊎ ((is ≡ was + 1)
-    × ((k : ℕ) × ((answers (nat_eq k)).unread ≡ true) × Outcome (answers (nat_eq k)) out err code))
+-- the reads that were made are a beginning of these
+abbrev pub MadeOf : (List Bytes → Type 0) → List Bytes → Type 0
+MadeOf Made names = (front : List Bytes) × (rest : List Bytes) × (front ++ rest ≡ names) × Made front
+
+-- they are these, or memory was refused, and they are a beginning of them
+abbrev pub MadeUnless : (List Bytes → Type 0) → ℕ → List Bytes → Type 0
+MadeUnless Made code names = Made names ⊎ ((code ≡ 7) × MadeOf Made names)
+
+-- no read failed, or one did, at which the command stops; what was read, and what comes of it
+abbrev pub Follows : (Failing → Answer) → (Failing → List Bytes) → ℕ → ℕ → (List Bytes → Type 0) → Sunk → Sunk → ℕ
+    → Type 0
+Follows answers reads was is Made out err code =
+    ((is ≡ was) × MadeUnless Made code (reads no_read) × Outcome (answers no_read) out err code)
+    ⊎ ((is ≡ was + 1) × ((k : ℕ) × ((answers (nat_eq k)).unread ≡ true) × Made (reads (nat_eq k))
+    × Outcome (answers (nat_eq k)) out err code))

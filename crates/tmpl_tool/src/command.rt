@@ -3,7 +3,8 @@ ghost use Rattle.std.specs.Prelude.{◌≡◌, ◌<◌, ◌^◌, ◌-◌, IfSome
 ghost use Rattle.std.specs.String.{string_bytes};
 ghost use Rattle.tmpl_meaning.specs.Sink.{sunk};
 ghost use Rattle.tmpl_tool.specs.Outcome.{Counted, Once, Outcome};
-ghost use Rattle.tmpl_tool.specs.Tool.{Follows, IsParse, Parse, stop_answer, tool_answer, words_alone};
+ghost use Rattle.tmpl_tool.specs.Source.{Asked};
+ghost use Rattle.tmpl_tool.specs.Tool.{Follows, IsParse, Parse, stop_answer, tool_answer, tool_reads, words_alone};
 
 use crate::answer::answer;
 use crate::files::inputs::read_inputs;
@@ -28,7 +29,7 @@ static USAGE: &[u8] =
 /// What is put out, the line on the error sink and the status are one function of the words and of what the
 /// files hold. Where a write fails the output is a beginning of that text, and the status 6. Where memory is
 /// refused it is a beginning too, and nothing where no text is made, and the status 7. Words that ask for help
-/// or are refused read no file.
+/// or are refused read no file. The files that the answer speaks of are read once each, in order, and no other.
 pub fn tool<S: Source, O: Sink, E: Sink>(
     alloc: Global,
     words: &[String],
@@ -48,8 +49,9 @@ pub fn tool<S: Source, O: Sink, E: Sink>(
         (sunk (E.so_far err.old) (E.so_far err.new))
         result.code) }
     ensures told { (parse : Parse) → IsParse parse → IfSome (S.contents source.old) (λ files.
-        Follows (tool_answer parse (map (λ word. string_bytes word) words.now) files)
-        (S.failures source.old) (S.failures source.new)
+        let bytes = map (λ word. string_bytes word) words.now in
+        Follows (tool_answer parse bytes files) (tool_reads parse bytes files)
+        (S.failures source.old) (S.failures source.new) (Asked (S.asked source.old) (S.asked source.new))
         (sunk (O.so_far out.old) (O.so_far out.new))
         (sunk (E.so_far err.old) (E.so_far err.new))
         result.code) }

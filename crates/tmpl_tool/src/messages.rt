@@ -1,4 +1,3 @@
 //! What the program says on the error sink.
 pub(crate) mod lines;
 mod part;
-mod quote;

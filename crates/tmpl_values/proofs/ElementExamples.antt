@@ -1,7 +1,8 @@
--- For the reader of `Elements`: what a range visits of some values, computed.
-use Rattle.std.proofs.Common.{◌≡◌, ℕ, true, [], ◌∷◌, Some, None, pos, negsuc, refl, codes}
+-- For the reader of `Elements` and `Truth`: what a range visits of some values, and whether some are empty, computed.
+use Rattle.std.proofs.Common.{◌≡◌, ℕ, true, false, [], ◌∷◌, Some, None, pos, negsuc, refl, codes}
 use Rattle.tmpl_values.specs.Value.{Value, boolean, number, string, sequence, mapping, no_item, item, no_entry, entry}
 use Rattle.tmpl_values.specs.Elements.{elements, pairs, item_at}
+use Rattle.tmpl_values.specs.Truth.{truth}
 
 abbrev whole : ℕ → Value
 whole n = number (pos n)
@@ -49,3 +50,10 @@ not-a-truth-value = refl
 
 not-a-string : elements (string (codes "ab")) ≡ None
 not-a-string = refl
+
+-- a number is empty where it is 0, and not where it is below that
+zero-is-empty : truth (whole 0) ≡ false
+zero-is-empty = refl
+
+minus-one-is-not : truth (number (negsuc 0)) ≡ true
+minus-one-is-not = refl

@@ -5,7 +5,8 @@ use Rattle.tmpl_values.specs.Value.{Value}
 use Rattle.tmpl_syntax.specs.Set.{Template, tree_named}
 use Rattle.tmpl_meaning.specs.Meaning.{Ran, ran}
 use Rattle.tmpl_tool.specs.Outcome.{Answer}
-use Rattle.tmpl_tool.specs.Part.{plain}
+use Rattle.tmpl_meaning.specs.declared.fault.RunFault.{RunFault}
+use Rattle.tmpl_tool.specs.Part.{Piece, number, plain, quoted}
 use Rattle.tmpl_tool.specs.Source.{Files}
 use Rattle.tmpl_tool.specs.Tool.{Failing, Parse, Stop, asked_name, data_found, loaded, only_line, or_stop, printed}
 use Rattle.tmpl_tool.specs.Tool.{stop_answer, stop_if, unnamed}
@@ -37,3 +38,8 @@ after_words parse files w fails = or_stop (loaded parse files fails 0 [] w.files
 abbrev pub said_of : Option Stop → Answer
 said_of None = only_line 7 (plain (codes "out of memory") ∷ [])
 said_of (Some s) = stop_answer s
+
+-- where a run failed, as the line says it
+abbrev pub place_of : RunFault → List Piece
+place_of f = plain f.file.now ∷ plain (codes ":") ∷ number f.line ∷ plain (codes ": in ") ∷ quoted f.template.now
+    ∷ plain (codes ": ") ∷ []

@@ -1,15 +1,15 @@
 //! Each FILE in turn, read and then parsed.
-ghost use Rattle.std.specs.Prelude.{◌≡◌, ◌<◌, ◌^◌, ◌-◌, IfSome, map};
-ghost use Rattle.std.specs.Result.{result_map_both};
+ghost use Rattle.std.specs.Prelude.{◌≡◌, ◌<◌, ◌^◌, ◌-◌, ◌∷◌, [], IfSome, map};
 ghost use Rattle.tmpl_syntax.specs.View.{set_view};
 ghost use Rattle.tmpl_syntax.specs.computed.Parse.{parsed};
-ghost use Rattle.tmpl_tool.specs.Tool.{loaded, refused, with_file};
-ghost use Rattle.tmpl_tool.specs.Inputs.{ComesOf, Counts};
+ghost use Rattle.tmpl_tool.specs.Source.{Asked};
+ghost use Rattle.tmpl_tool.specs.Tool.{file_reads, loaded, with_file};
+ghost use Rattle.tmpl_tool.specs.Inputs.{Adds, ComesOf, Counts};
 
 use crate::files::source::{Source, SourceFault};
 use crate::stop::Stop;
 use std::alloc::Global;
-use tmpl_syntax::{Set, parse_file};
+use tmpl_syntax::{MOST_BYTES, Set, parse_file};
 
 /// Adds the templates of the files to the set.
 pub(crate) fn load_files<'a, 'b, S: Source>(
@@ -22,8 +22,9 @@ pub(crate) fn load_files<'a, 'b, S: Source>(
     ensures contents { S.contents source.new ≡ S.contents source.old }
     ensures counts { Counts (S.failures source.old) (S.failures source.new) result }
     ensures loads { IfSome (S.contents source.old) (λ files.
-        ComesOf
+        ComesOf (Asked (S.asked source.old) (S.asked source.new))
         (λ fails. loaded parsed files fails 0 (set_view set.old) (map (λ s. s.now) names.now))
+        (λ fails. file_reads parsed files fails 0 (set_view set.old) (map (λ s. s.now) names.now))
         (λ u. set_view set.new) result) }
 {
     for name in names {
@@ -43,10 +44,11 @@ fn load_file<'a, 'b, S: Source>(
     ensures contents { S.contents source.new ≡ S.contents source.old }
     ensures counts { Counts (S.failures source.old) (S.failures source.new) result }
     ensures loads { IfSome (S.contents source.old) (λ files.
-        ComesOf
-        (λ fails. with_file parsed files (fails 0) (set_view set.old) name.entry.now) (λ u. set_view set.new) result) }
+        ComesOf (Asked (S.asked source.old) (S.asked source.new))
+        (λ fails. with_file parsed files (fails 0) (set_view set.old) name.entry.now) (λ fails. name.entry.now ∷ [])
+        (λ u. set_view set.new) result) }
 {
-    match source.read(alloc, name) {
+    match source.read_up_to(alloc, name, MOST_BYTES as u64) {
         // The set borrows its texts from the bytes, which stay until the process ends.
         Ok(bytes) => add_file(alloc, set, name, bytes.leak()),
         Err(SourceFault::NotFound) => Err(Stop::NotFound(name)),
@@ -55,15 +57,14 @@ fn load_file<'a, 'b, S: Source>(
     }
 }
 
-/// Adds the template of a file of these bytes.
+/// Adds the templates of a file of these bytes.
 fn add_file<'a, 'b>(
     alloc: Global,
     set: &mut Set<'b>,
     name: &'a str,
     bytes: &'b [u8],
 ) -> Result<(), Stop<'a>>
-    ensures { ComesOf (λ fails. result_map_both (λ s. s) (refused name.entry.now)
-        (parsed (set_view set.old) name.entry.now bytes.now)) (λ u. set_view set.new) result }
+    ensures { Adds (parsed (set_view set.old) name.entry.now bytes.now) name.entry.now (set_view set.new) result }
 {
     match parse_file(alloc, set, name, bytes) {
         Ok(()) => Ok(()),

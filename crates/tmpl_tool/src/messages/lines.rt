@@ -1,21 +1,21 @@
 //! What the program says where it does not end well.
-ghost use Rattle.std.specs.Prelude.{◌≡◌, ◌≢◌, ◌<◌, ◌^◌, ◌-◌, ◌∷◌, [], option_map};
-ghost use Rattle.tmpl_meaning.specs.Sink.{IsPut, as_puts, sunk};
-ghost use Rattle.tmpl_meaning.specs.View.{cause_of, fault_seen};
+ghost use Rattle.std.specs.Prelude.{◌≡◌, ◌≢◌, ◌<◌, ◌^◌, ◌-◌, ◌∷◌, ◌++◌, [], option_map};
+ghost use Rattle.tmpl_meaning.specs.Sink.{sunk};
+ghost use Rattle.tmpl_meaning.specs.View.{fault_seen};
 ghost use Rattle.tmpl_tool.specs.Outcome.{Once, Says, memory_line, write_line};
-ghost use Rattle.tmpl_tool.specs.Part.{joined, line, plain};
-ghost use Rattle.tmpl_tool.specs.Tool.{call_text, cause_pieces, fault_line};
+ghost use Rattle.tmpl_tool.specs.Part.{line, plain};
+ghost use Rattle.tmpl_tool.specs.computed.Load.{place_of, said_of};
+ghost use Rattle.tmpl_tool.specs.Tool.{call_text, fault_line};
 ghost use Rattle.tmpl_tool.specs.Tool.{bad_words, reason_text, stop_answer, unnamed};
 ghost use Rattle.tmpl_tool.specs.View.{pieces_of};
 ghost use Rattle.tmpl_tool.specs.Inputs.{refusal_seen, stop_seen};
-ghost use Rattle.tmpl_tool.specs.computed.Load.{said_of};
 ghost use Rattle.tmpl_syntax.specs.Fault.{reason_of};
 
-use crate::messages::part::{Part, put_line, put_parts};
+use crate::messages::part::{Part, put_line};
 use crate::status::Status;
 use crate::stop::Stop;
 use tmpl_funcs::CallFault;
-use tmpl_run::{RunFault, RunFaultKind, Sink, SinkFault, put_all};
+use tmpl_run::{RunFault, RunFaultKind, Sink};
 use tmpl_syntax::{ParseFault, ParseKind};
 
 /// Says a line of these parts. A sink that fails cuts it.
@@ -26,7 +26,7 @@ fn say<E: Sink>(err: &mut E, parts: &[Part<'_>])
     ensures line { Says (line (pieces_of parts.now))
         (sunk (E.so_far err.old) (E.so_far err.new)) }
 {
-    let _ = put_line(err, parts);
+    let _ = put_line(err, [].as_slice(), parts);
 }
 
 /// Says that the words were refused.
@@ -167,7 +167,6 @@ fn call_text(fault: CallFault) -> &'static str
 }
 
 /// Says where and why a run failed.
-#[tactic(auto, using(crate::proofs::MessageLemmas::said))]
 pub(crate) fn run_failed<E: Sink>(err: &mut E, fault: &RunFault<'_>) -> Status
     requires { (E.so_far err.old).failures < 2 ^ 64 - 1 }
     ensures code { result.code ≡ 1 }
@@ -175,17 +174,19 @@ pub(crate) fn run_failed<E: Sink>(err: &mut E, fault: &RunFault<'_>) -> Status
     ensures line { Says (fault_line (fault_seen fault.now))
         (sunk (E.so_far err.old) (E.so_far err.new)) }
 {
-    let _ = put_fault(err, fault);
+    say_fault(err, fault);
     Status { code: 1 }
 }
 
-/// Puts the line of a fault: where it is, and the reason.
-fn put_fault<E: Sink>(err: &mut E, fault: &RunFault<'_>) -> Result<(), SinkFault>
+/// Says where a run failed, and these parts as the reason.
+#[tactic(auto, using(crate::proofs::MessageLemmas::said))]
+fn say_at<E: Sink>(err: &mut E, fault: &RunFault<'_>, reason: &[Part<'_>])
     requires { (E.so_far err.old).failures < 2 ^ 64 - 1 }
-    ensures { IsPut result (as_puts (E.so_far err.old))
-        (as_puts (E.so_far err.new)) (fault_line (fault_seen fault.now)) }
+    ensures cuts { Once (E.so_far err.old).failures (E.so_far err.new).failures }
+    ensures line { Says (line (place_of fault.now ++ pieces_of reason.now))
+        (sunk (E.so_far err.old) (E.so_far err.new)) }
 {
-    let position = [
+    let place = [
         Part::Bytes(fault.file),
         Part::Text(":"),
         Part::Number(fault.line),
@@ -193,26 +194,24 @@ fn put_fault<E: Sink>(err: &mut E, fault: &RunFault<'_>) -> Result<(), SinkFault
         Part::Quoted(fault.template),
         Part::Text(": "),
     ];
-    put_all(err, b"tmpl: ")?;
-    put_parts(err, position.as_slice())?;
-    put_reason(err, fault.kind)?;
-    put_all(err, b"\n")
+    let _ = put_line(err, place.as_slice(), reason);
 }
 
-/// Puts why a run failed.
-fn put_reason<E: Sink>(err: &mut E, kind: RunFaultKind<'_>) -> Result<(), SinkFault>
+/// Says where a run failed, and why.
+fn say_fault<E: Sink>(err: &mut E, fault: &RunFault<'_>)
     requires { (E.so_far err.old).failures < 2 ^ 64 - 1 }
-    ensures { IsPut result (as_puts (E.so_far err.old))
-        (as_puts (E.so_far err.new)) (joined (cause_pieces (cause_of kind.entry))) }
+    ensures cuts { Once (E.so_far err.old).failures (E.so_far err.new).failures }
+    ensures line { Says (fault_line (fault_seen fault.now))
+        (sunk (E.so_far err.old) (E.so_far err.new)) }
 {
-    match kind {
+    match fault.kind {
         RunFaultKind::StepsSpent(limit) => {
             let parts = [
                 Part::Text("more than "),
                 Part::Number(limit),
                 Part::Text(" steps"),
             ];
-            put_parts(err, parts.as_slice())
+            say_at(err, fault, parts.as_slice())
         }
         RunFaultKind::NoField(name) => {
             let parts = [
@@ -220,32 +219,32 @@ fn put_reason<E: Sink>(err: &mut E, kind: RunFaultKind<'_>) -> Result<(), SinkFa
                 Part::Quoted(name),
                 Part::Text(" here"),
             ];
-            put_parts(err, parts.as_slice())
+            say_at(err, fault, parts.as_slice())
         }
         RunFaultKind::NoEntry(name) => {
             let parts = [Part::Text("no entry for key "), Part::Quoted(name)];
-            put_parts(err, parts.as_slice())
+            say_at(err, fault, parts.as_slice())
         }
         RunFaultKind::NoTemplate(name) => {
             let parts = [Part::Text("no template "), Part::Quoted(name)];
-            put_parts(err, parts.as_slice())
+            say_at(err, fault, parts.as_slice())
         }
         RunFaultKind::CallsTooDeep(limit) => {
             let parts = [Part::Text("calls deeper than "), Part::Number(limit as u64)];
-            put_parts(err, parts.as_slice())
+            say_at(err, fault, parts.as_slice())
         }
         RunFaultKind::NotARange => {
-            put_parts(err, [Part::Text("can't range over this value")].as_slice())
+            say_at(err, fault, [Part::Text("can't range over this value")].as_slice())
         }
-        RunFaultKind::NotAFunction => put_parts(err, [Part::Text("not a function")].as_slice()),
-        RunFaultKind::NilCommand => put_parts(err, [Part::Text("nil is not a command")].as_slice()),
-        RunFaultKind::Call(func, fault) => {
+        RunFaultKind::NotAFunction => say_at(err, fault, [Part::Text("not a function")].as_slice()),
+        RunFaultKind::NilCommand => { say_at(err, fault, [Part::Text("nil is not a command")].as_slice()) }
+        RunFaultKind::Call(func, fault_of_call) => {
             let parts = [
                 Part::Text(func.name()),
                 Part::Text(": "),
-                Part::Text(call_text(fault)),
+                Part::Text(call_text(fault_of_call)),
             ];
-            put_parts(err, parts.as_slice())
+            say_at(err, fault, parts.as_slice())
         }
     }
 }

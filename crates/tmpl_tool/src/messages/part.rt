@@ -1,12 +1,17 @@
 //! Lines on the error sink, as lists of parts.
-ghost use Rattle.std.specs.Prelude.{◌≡◌, ◌<◌, ◌^◌, ◌-◌};
-ghost use Rattle.tmpl_meaning.specs.Sink.{IsPut, as_puts};
+ghost use Rattle.std.specs.Prelude.{◌≡◌, ◌≤◌, ◌<◌, ◌^◌, ◌-◌, ◌++◌, IfSome, length, take};
+ghost use Rattle.tmpl_values.specs.Put.{IsPut};
+ghost use Rattle.tmpl_meaning.specs.Sink.{as_puts};
 ghost use Rattle.tmpl_tool.specs.Part.{joined, line, piece_text};
 ghost use Rattle.tmpl_tool.specs.View.{piece_of, pieces_of};
 
-use crate::messages::quote::put_quote;
 use itoa::Buffer;
-use tmpl_run::{Sink, SinkFault, put_all};
+use tmpl_meaning::{Fixed, Full};
+use tmpl_run::{Sink, SinkFault, WholePuts, put_all};
+use tmpl_values::{Put, put_quoted};
+
+/// A line of so many bytes goes out by one put, so that lines of programs that share a stream do not mix.
+const LINE_SIZE: usize = 4096;
 
 /// A part of a line.
 #[derive(Clone, Copy, Debug)]
@@ -21,42 +26,93 @@ pub(crate) enum Part<'a> {
     Number(u64),
 }
 
-/// Puts a line: the program's name, the parts, and a newline.
-pub(crate) fn put_line<E: Sink>(err: &mut E, parts: &[Part<'_>]) -> Result<(), SinkFault>
+/// Puts a line: the program's name, the parts that say a place, the others, and a newline. It goes out at once, or part
+/// by part where it is longer than `LINE_SIZE`.
+pub(crate) fn put_line<E: Sink>(
+    err: &mut E,
+    place: &[Part<'_>],
+    parts: &[Part<'_>],
+) -> Result<(), SinkFault>
     requires { (E.so_far err.old).failures < 2 ^ 64 - 1 }
     ensures { IsPut result (as_puts (E.so_far err.old))
-        (as_puts (E.so_far err.new)) (line (pieces_of parts.now)) }
+        (as_puts (E.so_far err.new)) (line (pieces_of place.now ++ pieces_of parts.now)) }
 {
-    put_all(err, b"tmpl: ")?;
-    put_parts(err, parts)?;
-    put_all(err, b"\n")
+    let mut memory = [0; LINE_SIZE];
+    match line_in(memory.as_mut_slice(), place, parts) {
+        Some(size) => put_all(err, &memory[..size]),
+        None => put_long_line(err, place, parts),
+    }
+}
+
+/// Writes a line to the front of the memory, and says how long it is, if it fits.
+fn line_in(memory: &mut [u8], place: &[Part<'_>], parts: &[Part<'_>]) -> Option<usize>
+    ensures line { IfSome result (λ size. take size memory.new ≡ line (pieces_of place.now ++ pieces_of parts.now)) }
+    ensures within { IfSome result (λ size. size ≤ length memory.new) }
+{
+    let mut fixed = Fixed {
+        bytes: memory,
+        end: 0,
+        failures: 0,
+    };
+    match write_line(&mut fixed, place, parts) {
+        Ok(()) => Some(fixed.end),
+        Err(Full) => None,
+    }
+}
+
+/// Puts a line part by part.
+fn put_long_line<E: Sink>(
+    err: &mut E,
+    place: &[Part<'_>],
+    parts: &[Part<'_>],
+) -> Result<(), SinkFault>
+    requires { (E.so_far err.old).failures < 2 ^ 64 - 1 }
+    ensures { IsPut result (as_puts (E.so_far err.old))
+        (as_puts (E.so_far err.new)) (line (pieces_of place.now ++ pieces_of parts.now)) }
+{
+    let mut puts = WholePuts { sink: err };
+    write_line(&mut puts, place, parts)
+}
+
+/// Puts the program's name, the place, the parts, and a newline.
+fn write_line<P: Put>(
+    put: &mut P,
+    place: &[Part<'_>],
+    parts: &[Part<'_>],
+) -> Result<(), P::Fault>
+    requires { (P.so_far put.old).failures < 2 ^ 64 - 1 }
+    ensures { IsPut result (P.so_far put.old) (P.so_far put.new)
+        (line (pieces_of place.now ++ pieces_of parts.now)) }
+{
+    put.put(b"tmpl: ")?;
+    write_parts(put, place)?;
+    write_parts(put, parts)?;
+    put.put(b"\n")
 }
 
 /// Puts the parts, one after the other.
-pub(crate) fn put_parts<E: Sink>(err: &mut E, parts: &[Part<'_>]) -> Result<(), SinkFault>
-    requires { (E.so_far err.old).failures < 2 ^ 64 - 1 }
-    ensures { IsPut result (as_puts (E.so_far err.old))
-        (as_puts (E.so_far err.new)) (joined (pieces_of parts.now)) }
+fn write_parts<P: Put>(put: &mut P, parts: &[Part<'_>]) -> Result<(), P::Fault>
+    requires { (P.so_far put.old).failures < 2 ^ 64 - 1 }
+    ensures { IsPut result (P.so_far put.old) (P.so_far put.new) (joined (pieces_of parts.now)) }
 {
     for part in parts {
-        put_part(err, part)?;
+        write_part(put, part)?;
     }
     Ok(())
 }
 
 /// Puts a part, as its kind says.
-fn put_part<E: Sink>(err: &mut E, part: &Part<'_>) -> Result<(), SinkFault>
-    requires { (E.so_far err.old).failures < 2 ^ 64 - 1 }
-    ensures { IsPut result (as_puts (E.so_far err.old))
-        (as_puts (E.so_far err.new)) (piece_text (piece_of part.now)) }
+fn write_part<P: Put>(put: &mut P, part: &Part<'_>) -> Result<(), P::Fault>
+    requires { (P.so_far put.old).failures < 2 ^ 64 - 1 }
+    ensures { IsPut result (P.so_far put.old) (P.so_far put.new) (piece_text (piece_of part.now)) }
 {
     match part {
-        Part::Text(text) => put_all(err, text.as_bytes()),
-        Part::Bytes(bytes) => put_all(err, bytes),
-        Part::Quoted(name) => put_quote(err, name),
+        Part::Text(text) => put.put(text.as_bytes()),
+        Part::Bytes(bytes) => put.put(bytes),
+        Part::Quoted(name) => put_quoted(name, put),
         Part::Number(number) => {
             let mut buffer = Buffer::new();
-            put_all(err, buffer.format(*number).as_bytes())
+            put.put(buffer.format(*number).as_bytes())
         }
     }
 }

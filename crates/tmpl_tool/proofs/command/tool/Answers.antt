@@ -1,18 +1,36 @@
-use Rattle.std.proofs.Common.{◌≡◌, ◌∙◌, ap, refl, sym, map, rules, false, inl}
+use Rattle.std.proofs.Common.{◌≡◌, ◌∙◌, ◌++◌, [], ap, refl, subst, sym, map, rules, false, true, inl, inr}
 use Rattle.std.specs.String.{string_bytes}
-use Rattle.std.specs.Option.{option_map}
+use Rattle.std.specs.Option.{ok_or, option_map}
 use Rattle.tmpl_values.specs.View.{value_of}
 use Rattle.tmpl_syntax.specs.View.{set_view}
 use Rattle.tmpl_meaning.specs.Sink.{sunk}
 use Rattle.tmpl_meaning.proofs.ToldLemmas.{if_told, of_told}
 use Rattle.tmpl_tool.specs.Help.{asks_help}
-use Rattle.tmpl_tool.specs.Inputs.{stop_seen}
-use Rattle.tmpl_tool.specs.Tool.{answer_of, no_read, or_stop, tool_answer}
+use Rattle.tmpl_tool.specs.Inputs.{inputs_reads, stop_seen}
+use Rattle.tmpl_tool.specs.Source.{Asked}
+use Rattle.tmpl_tool.specs.Tool.{answer_of, bad_words, help, no_read, or_stop, reads_behind, stop_if, tool_answer, tool_reads}
+use Rattle.tmpl_tool.specs.Words.{wanted}
 use Rattle.tmpl_tool.specs.View.{seen}
 use Rattle.tmpl_tool.specs.computed.Load.{finished}
+use Rattle.tmpl_tool.proofs.LoadLemmas.{asked-nothing}
 use Rattle.tmpl_tool.proofs.MessageLemmas.{nothing_out}
+use Rattle.tmpl_tool.proofs.StageLemmas.{gives_help}
 use Rattle.tmpl_tool.proofs.StopLemmas.{accepted, after_inputs, asks, outcome_as, stops, stops_after}
 use Rattle.tmpl_tool.proofs.command.tool.Goals as goal
+
+pub returns-then-asks_help-clause-told : goal.returns-then-asks_help-clause-told
+returns-then-asks_help-clause-told g c parse is =
+    let words = map (λ word. string_bytes word) c.args.words.now in
+    let helps : asks_help words ≡ true = search rules in
+    let asked = g.S.Source.asked c.args.source.now in
+    if_told _ (g.S.Source.contents c.args.source.now) (λ files told.
+    inl (
+      refl,
+      inl (subst (Asked asked asked)
+      (ap (λ b. reads_behind (λ w. inputs_reads parse files w no_read) (or_stop (stop_if b help) (λ u. ok_or (wanted words) bad_words))) (sym helps))
+      (asked-nothing asked)),
+      outcome_as _ c.put_out.result.code _ _ _ (gives_help parse words files no_read helps) c.put_out.ensures.outcome,
+    ))
 
 pub returns-in-Ok-read_inputs-clause-told : goal.returns-in-Ok-read_inputs-clause-told
 returns-in-Ok-read_inputs-clause-told g c parse is =
@@ -23,12 +41,13 @@ returns-in-Ok-read_inputs-clause-told g c parse is =
     let same : option_map (λ d. value_of d.now) c.as_ref.result ≡ option_map value_of inputs.data = search rules in
     if_told _ (g.S.Source.contents c.args.source.now) (λ files told.
     let reads = of_told _ _ files told (c.in-Ok-read_inputs.ensures.reads parse is) in
-    accepted _ c.answer-status.result.code parse _ _ _ w files words (asks words w c.in-Ok.ensures helps)
+    accepted _ c.answer-status.result.code parse _ _ _ _ w files words (asks words w c.in-Ok.ensures helps)
     (inl (
       c.in-Ok-read_inputs.ensures.counts,
+      inl reads.1,
       outcome_as _ c.answer-status.result.code _ _ _
           (ap answer_of
-          (after_inputs parse files w no_read ∙ ap (λ r. or_stop r (λ i. finished w i.0 i.1)) reads
+          (after_inputs parse files w no_read ∙ ap (λ r. or_stop r (λ i. finished w i.0 i.1)) reads.0
           ∙ ap (finished w (set_view inputs.set)) (sym same)))
           c.answer-status.ensures.outcome,
     )))
@@ -39,14 +58,19 @@ returns-in-Ok-clause-told g c parse is =
     let helps : asks_help words ≡ false = search rules in
     let w = seen c.in-Ok.request in
     if_told _ (g.S.Source.contents c.args.source.now) (λ files told.
-    accepted _ c.refuse.result.code parse _ _ _ w files words (asks words w c.in-Ok.ensures helps)
-    (stops _ c.refuse.result.code parse _ _ _ w files c.in-Err.stop c.in-Err.ensures.counts
-    (stops_after parse files w (stop_seen c.in-Err.stop) (of_told _ _ files told (c.in-Err.ensures.reads parse is)))
+    accepted _ c.refuse.result.code parse _ _ _ _ w files words (asks words w c.in-Ok.ensures helps)
+    (stops _ c.refuse.result.code parse _ _ _ _ w files c.in-Err.stop c.in-Err.ensures.counts
+    (stops_after parse files w _ (stop_seen c.in-Err.stop) (of_told _ _ files told (c.in-Err.ensures.reads parse is)))
     c.refuse.ensures.code c.refuse.ensures.line))
 
 pub returns-clause-told : goal.returns-clause-told
 returns-clause-told g c parse is =
     let words = map (λ word. string_bytes word) c.args.words.now in
     let err = sunk (g.E.Sink.so_far c.args.err.now) (g.E.Sink.so_far c.out_of_memory.new.err) in
+    let asked = g.S.Source.asked c.args.source.now in
     if_told _ (g.S.Source.contents c.args.source.now) (λ files told.
-    inl (refl, nothing_out (tool_answer parse words files no_read) (g.O.Sink.so_far c.args.out.now) err c.out_of_memory.result.code c.out_of_memory.ensures.code c.out_of_memory.ensures.line))
+    inl (
+      refl,
+      inr (c.out_of_memory.ensures.code, ([], tool_reads parse words files no_read, refl, asked-nothing asked)),
+      nothing_out (tool_answer parse words files no_read) (g.O.Sink.so_far c.args.out.now) err c.out_of_memory.result.code c.out_of_memory.ensures.code c.out_of_memory.ensures.line,
+    ))

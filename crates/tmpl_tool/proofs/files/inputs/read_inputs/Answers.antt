@@ -1,66 +1,83 @@
-use Rattle.std.proofs.Common.{◌≡◌, ◌∙◌, ap, sym, subst, map, rules, [], List, Bor, None, Ok, IfSome}
+use Rattle.std.proofs.Common.{◌≡◌, ◌∙◌, ap, sym, subst, map, rules, [], List, Bor, None, Option, Ok, IfSome}
 use Rattle.std.specs.Option.{option_map}
 use Rattle.tmpl_values.specs.View.{value_of}
 use Rattle.tmpl_syntax.specs.Set.{Template}
 use Rattle.tmpl_syntax.specs.View.{set_view}
 use Rattle.tmpl_syntax.specs.computed.Parse.{parsed}
 use Rattle.tmpl_meaning.proofs.ToldLemmas.{err_up, if_told, of_told}
-use Rattle.tmpl_tool.specs.Source.{Bytes}
-use Rattle.tmpl_tool.specs.Tool.{Parse, loaded, no_read}
+use Rattle.tmpl_tool.specs.Source.{Asked, Bytes, Files}
+use Rattle.tmpl_tool.specs.Tool.{Parse, file_reads, loaded, no_read}
 use Rattle.tmpl_tool.specs.View.{seen}
-use Rattle.tmpl_tool.specs.Inputs.{ComesOf, StopsAt, inputs_of, inputs_seen, stop_seen}
+use Rattle.tmpl_tool.specs.Inputs.{ComesOf, StopsAt, inputs_of, inputs_reads, inputs_seen, stop_seen}
+use Rattle.tmpl_tool.proofs.LoadLemmas.{asked-nothing}
 use Rattle.tmpl_tool.proofs.ParseLemmas.{for_each}
-use Rattle.tmpl_tool.proofs.StopLemmas.{all_read, data_stops, load_stops, printed_next}
+use Rattle.tmpl_tool.proofs.StopLemmas.{data_stops, load_stops, nothing_stops, printed_next}
 use Rattle.tmpl_tool.proofs.files.inputs.read_inputs.Goals as goal
+
+-- the templates of FILEs, which are given as a slice, and what is read for them
+all_loaded : (Made : List Bytes → Type 0) (files : Files) (old : List Template) (names given : List (Bor Bytes)) (set : List Template)
+    → [] ≡ old → names ≡ given
+    → (loaded parsed files no_read 0 old (map (λ s. s.now) given) ≡ Ok set) × Made (file_reads parsed files no_read 0 old (map (λ s. s.now) given))
+    → (loaded parsed files no_read 0 [] (map (λ s. s.now) names) ≡ Ok set) × Made (file_reads parsed files no_read 0 [] (map (λ s. s.now) names))
+all_loaded Made files old names given set none same h =
+    subst (λ (ns : List (Bor Bytes)). (loaded parsed files no_read 0 [] (map (λ s. s.now) ns) ≡ Ok set) × Made (file_reads parsed files no_read 0 [] (map (λ s. s.now) ns))) (sym same)
+    (subst (λ (old : List Template). (loaded parsed files no_read 0 old (map (λ s. s.now) given) ≡ Ok set) × Made (file_reads parsed files no_read 0 old (map (λ s. s.now) given))) (sym none) h)
 
 pub returns-in_err-load_files-clause-reads : goal.returns-in_err-load_files-clause-reads
 returns-in_err-load_files-clause-reads g c =
-    for_each (λ parse. IfSome (g.S.Source.contents c.args.source.now) (λ files. ComesOf (inputs_of parse files (seen c.args.request.now)) inputs_seen _)) (
     let w = seen c.args.request.now in
+    let Made = Asked (g.S.Source.asked c.args.source.now) (g.S.Source.asked c.load_files.new.source) in
+    for_each (λ parse. IfSome (g.S.Source.contents c.args.source.now) (λ files. ComesOf Made (inputs_of parse files w) (inputs_reads parse files w) inputs_seen _)) (
     let stop = c.in_err-load_files.field-0.0 in
     if_told _ (g.S.Source.contents c.args.source.now) (λ files told.
     let stops = of_told _ _ files told c.in_err-load_files.ensures.loads in
-    let stops_here : StopsAt (λ fails. loaded parsed files fails 0 [] w.files) (stop_seen stop) =
-    subst (λ (ns : List (Bor Bytes)). StopsAt (λ fails. loaded parsed files fails 0 [] (map (λ s. s.now) ns)) (stop_seen stop)) c.as_slice.ensures.value
-    (subst (λ (old : List Template). StopsAt (λ fails. loaded parsed files fails 0 old (map (λ s. s.now) c.as_slice.result.now)) (stop_seen stop)) c.new-set.ensures stops) in
-    err_up (ComesOf (inputs_of parsed files w) inputs_seen) c.from_residual.result _ c.from_residual.ensures.1 (load_stops files w (stop_seen stop) stops_here)))
+    let stops_here : StopsAt Made (λ fails. loaded parsed files fails 0 [] w.files) (λ fails. file_reads parsed files fails 0 [] w.files) (stop_seen stop) =
+    subst (λ (ns : List (Bor Bytes)). StopsAt Made (λ fails. loaded parsed files fails 0 [] (map (λ s. s.now) ns))
+    (λ fails. file_reads parsed files fails 0 [] (map (λ s. s.now) ns)) (stop_seen stop)) c.as_slice.ensures.value
+    (subst (λ (old : List Template). StopsAt Made (λ fails. loaded parsed files fails 0 old (map (λ s. s.now) c.as_slice.result.now))
+    (λ fails. file_reads parsed files fails 0 old (map (λ s. s.now) c.as_slice.result.now)) (stop_seen stop)) c.new-set.ensures stops) in
+    err_up (ComesOf Made (inputs_of parsed files w) (inputs_reads parsed files w) inputs_seen) c.from_residual.result _ c.from_residual.ensures.1
+    (load_stops files w Made (stop_seen stop) stops_here)))
 
 pub returns-in_err-data-clause-reads : goal.returns-in_err-data-clause-reads
 returns-in_err-data-clause-reads g c =
-    for_each (λ parse. IfSome (g.S.Source.contents c.args.source.now) (λ files. ComesOf (inputs_of parse files (seen c.args.request.now)) inputs_seen _)) (
     let w = seen c.args.request.now in
+    let before = g.S.Source.asked c.args.source.now in
+    let between = g.S.Source.asked c.load_files.new.source in
+    let after = g.S.Source.asked c.read_data.new.source in
+    for_each (λ parse. IfSome (g.S.Source.contents c.args.source.now) (λ files.
+    ComesOf (Asked before after) (inputs_of parse files w) (inputs_reads parse files w) inputs_seen _)) (
     let set = set_view c.load_files.new.set in
     let stop = c.in_err-data.field-0.0 in
     if_told _ (g.S.Source.contents c.args.source.now) (λ files told.
-    let loads : loaded parsed files no_read 0 [] w.files ≡ Ok set =
-    ap (λ (ns : List (Bor Bytes)). loaded parsed files no_read 0 [] (map (λ s. s.now) ns)) (sym c.as_slice.ensures.value)
-    ∙ ap (λ (old : List Template). loaded parsed files no_read 0 old (map (λ s. s.now) c.as_slice.result.now)) (sym c.new-set.ensures)
-    ∙ of_told _ _ files told c.in_ok-load_files.ensures.loads in
+    let loads = all_loaded (Asked before between) files _ _ _ set (sym c.new-set.ensures) (sym c.as_slice.ensures.value) (of_told _ _ files told c.in_ok-load_files.ensures.loads) in
     let stops = of_told _ _ files (c.in_ok-load_files.ensures.contents ∙ told) c.in_err-data.ensures.reads in
-    err_up (ComesOf (inputs_of parsed files w) inputs_seen) c.from_residual-in_err-data.result _ c.from_residual-in_err-data.ensures.1
-    (data_stops files w set loads (search rules) (stop_seen stop) stops)))
+    err_up (ComesOf (Asked before after) (inputs_of parsed files w) (inputs_reads parsed files w) inputs_seen) c.from_residual-in_err-data.result _ c.from_residual-in_err-data.ensures.1
+    (data_stops files w before between after set loads.0 loads.1 (search rules) (stop_seen stop) stops)))
 
 pub returns-clause-reads : goal.returns-clause-reads
 returns-clause-reads g c parse is =
     let w = seen c.args.request.now in
     let set = set_view c.load_files.new.set in
     let input = option_map value_of c.in_ok-data.data in
+    let before = g.S.Source.asked c.args.source.now in
+    let between = g.S.Source.asked c.load_files.new.source in
+    let after = g.S.Source.asked c.read_data.new.source in
     if_told _ (g.S.Source.contents c.args.source.now) (λ files told.
-    let loads : loaded parsed files no_read 0 [] w.files ≡ Ok set =
-    ap (λ (ns : List (Bor Bytes)). loaded parsed files no_read 0 [] (map (λ s. s.now) ns)) (sym c.as_slice.ensures.value)
-    ∙ ap (λ (old : List Template). loaded parsed files no_read 0 old (map (λ s. s.now) c.as_slice.result.now)) (sym c.new-set.ensures)
-    ∙ of_told _ _ files told c.in_ok-load_files.ensures.loads in
-    for_each (λ (p : Parse). inputs_of p files w no_read ≡ Ok (set, input))
-    (all_read files w set loads (search rules) input (of_told _ _ files (c.in_ok-load_files.ensures.contents ∙ told) c.in_ok-data.ensures.reads))
+    let loads = all_loaded (Asked before between) files _ _ _ set (sym c.new-set.ensures) (sym c.as_slice.ensures.value) (of_told _ _ files told c.in_ok-load_files.ensures.loads) in
+    let found = of_told _ _ files (c.in_ok-load_files.ensures.contents ∙ told) c.in_ok-data.ensures.reads in
+    for_each (λ (p : Parse). (inputs_of p files w no_read ≡ Ok (set, input)) × Asked before after (inputs_reads p files w no_read))
+    (nothing_stops files w before between after set loads.0 loads.1 (search rules) input found.0 found.1)
     parse is)
 
 pub returns-then-request-clause-reads : goal.returns-then-request-clause-reads
 returns-then-request-clause-reads g c parse is =
     let w = seen c.args.request.now in
     let set = set_view c.load_files.new.set in
+    let before = g.S.Source.asked c.args.source.now in
+    let between = g.S.Source.asked c.load_files.new.source in
     if_told _ (g.S.Source.contents c.args.source.now) (λ files told.
-    let loads : loaded parsed files no_read 0 [] w.files ≡ Ok set =
-    ap (λ (ns : List (Bor Bytes)). loaded parsed files no_read 0 [] (map (λ s. s.now) ns)) (sym c.as_slice.ensures.value)
-    ∙ ap (λ (old : List Template). loaded parsed files no_read 0 old (map (λ s. s.now) c.as_slice.result.now)) (sym c.new-set.ensures)
-    ∙ of_told _ _ files told c.in_ok-load_files.ensures.loads in
-    for_each (λ (p : Parse). inputs_of p files w no_read ≡ Ok (set, None)) (printed_next files w set loads (search rules)) parse is)
+    let loads = all_loaded (Asked before between) files _ _ _ set (sym c.new-set.ensures) (sym c.as_slice.ensures.value) (of_told _ _ files told c.in_ok-load_files.ensures.loads) in
+    for_each (λ (p : Parse). (inputs_of p files w no_read ≡ Ok (set, None)) × Asked before between (inputs_reads p files w no_read))
+    (printed_next files w before between between set loads.0 loads.1 (search rules) (asked-nothing between))
+    parse is)

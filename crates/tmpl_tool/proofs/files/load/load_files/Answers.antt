@@ -1,49 +1,67 @@
-use Rattle.std.proofs.Common.{◌∙◌, ◌+◌, map, drop, List, Bor, refl}
-use Rattle.std.proofs.lemmas.List.{at_drop_more, at_drop_all}
+use Rattle.std.proofs.Common.{◌+◌, map, drop, subst, refl, List, Bor, ◌∙◌, ◌++◌, sym}
+use Rattle.std.proofs.lemmas.List.{append-nil, drop_all, drop_more}
 use Rattle.tmpl_syntax.specs.View.{set_view}
 use Rattle.tmpl_syntax.specs.computed.Parse.{parsed}
 use Rattle.tmpl_meaning.proofs.ToldLemmas.{err_up, if_told, of_told}
-use Rattle.tmpl_tool.specs.Source.{Bytes}
-use Rattle.tmpl_tool.specs.Tool.{loaded, no_read}
+use Rattle.tmpl_tool.specs.Source.{Asked, Bytes}
+use Rattle.tmpl_tool.specs.Tool.{file_reads, loaded, no_read}
 use Rattle.tmpl_tool.specs.Inputs.{ComesOf, stop_seen}
-use Rattle.tmpl_tool.proofs.LoadLemmas.{one_more, stops_there}
+use Rattle.tmpl_tool.proofs.LoadLemmas.{ComesTo, one_more, stops_there}
 use Rattle.tmpl_tool.proofs.files.load.load_files.Goals as goal
 
 pub returns-in_err-load_file-clause-loads : goal.returns-in_err-load_file-clause-loads
 returns-in_err-load_file-clause-loads g c =
     let names = c.args.names.now in
     let i = c.loop-name.name-index in
+    let start = set_view c.args.set.now in
     let set = set_view c.loop-name.set in
     let inv = c.loop-name.invariant in
     let stop = c.in_err-load_file.field-0.0 in
+    let before = g.S.Source.asked c.args.source.now in
+    let between = g.S.Source.asked c.loop-name.source in
+    let after = g.S.Source.asked c.load_file.new.source in
     if_told _ (g.S.Source.contents c.args.source.now) (λ files is.
-    err_up (ComesOf (λ fails. loaded parsed files fails 0 (set_view c.args.set.now) (map (λ s. s.now) names)) _) c.from_residual.result _ c.from_residual.ensures.1
-    (stops_there files (set_view c.args.set.now) (map (λ s. s.now) names) i set _ (map (λ s. s.now) (drop (i + 1) names))
-    (λ fails succeed. of_told _ _ files is inv.comes fails succeed
-    ∙ at_drop_more (λ (ns : List (Bor Bytes)). loaded parsed files fails i set (map (λ s. s.now) ns)) names i _ c.loop-name-test.true)
+    err_up (ComesOf (Asked before after) (λ fails. loaded parsed files fails 0 start (map (λ s. s.now) names))
+    (λ fails. file_reads parsed files fails 0 start (map (λ s. s.now) names)) _) c.from_residual.result _ c.from_residual.ensures.1
+    (stops_there before between after files start (map (λ s. s.now) names) i set _ (map (λ s. s.now) (drop (i + 1) names))
+    (subst (λ (ns : List (Bor Bytes)). ComesTo (Asked before between) files start (map (λ s. s.now) names) i set (map (λ s. s.now) ns))
+    (drop_more names i _ c.loop-name-test.true) (of_told _ _ files is inv.comes))
     (stop_seen stop) (of_told _ _ files (inv.contents ∙ is) c.in_err-load_file.ensures.loads)))
 
 pub loop-name-preserved : goal.loop-name-preserved
 loop-name-preserved g c =
     let names = c.args.names.now in
     let i = c.loop-name.name-index in
+    let start = set_view c.args.set.now in
+    let set = set_view c.loop-name.set in
     let inv = c.loop-name.invariant in
     let told = c.in_ok-load_file.ensures in
+    let before = g.S.Source.asked c.args.source.now in
+    let between = g.S.Source.asked c.loop-name.source in
+    let after = g.S.Source.asked c.load_file.new.source in
     record {
       contents = told.contents ∙ inv.contents;
       failures = told.counts ∙ inv.failures;
       comes = if_told _ (g.S.Source.contents c.args.source.now) (λ files is.
-          one_more files (set_view c.args.set.now) (map (λ s. s.now) names) i (set_view c.loop-name.set) _ (map (λ s. s.now) (drop (i + 1) names))
-          (λ fails succeed. of_told _ _ files is inv.comes fails succeed
-          ∙ at_drop_more (λ (ns : List (Bor Bytes)). loaded parsed files fails i (set_view c.loop-name.set) (map (λ s. s.now) ns)) names i _ c.loop-name-test.true)
-          (set_view c.load_file.new.set) (of_told _ _ files (inv.contents ∙ is) told.loads));
+          let loads = of_told _ _ files (inv.contents ∙ is) told.loads in
+          one_more before between after files start (map (λ s. s.now) names) i set _ (map (λ s. s.now) (drop (i + 1) names))
+          (subst (λ (ns : List (Bor Bytes)). ComesTo (Asked before between) files start (map (λ s. s.now) names) i set (map (λ s. s.now) ns))
+          (drop_more names i _ c.loop-name-test.true) (of_told _ _ files is inv.comes))
+          (set_view c.load_file.new.set) loads.0 loads.1);
     }
 
 pub returns-clause-loads : goal.returns-clause-loads
 returns-clause-loads g c =
     let names = c.args.names.now in
     let i = c.loop-name.name-index in
+    let start = set_view c.args.set.now in
+    let set = set_view c.loop-name.set in
     let inv = c.loop-name.invariant in
+    let before = g.S.Source.asked c.args.source.now in
+    let between = g.S.Source.asked c.loop-name.source in
     if_told _ (g.S.Source.contents c.args.source.now) (λ files is.
-    of_told _ _ files is inv.comes no_read (λ k lt. refl)
-    ∙ at_drop_all (λ (ns : List (Bor Bytes)). loaded parsed files no_read i (set_view c.loop-name.set) (map (λ s. s.now) ns)) names i c.loop-name-test.false)
+    let comes =
+        subst (λ (ns : List (Bor Bytes)). ComesTo (Asked before between) files start (map (λ s. s.now) names) i set (map (λ s. s.now) ns))
+        (drop_all i names c.loop-name-test.false) (of_told _ _ files is inv.comes) in
+    let none = comes.2 no_read (λ k lt. refl) in
+    (none.0, subst (Asked before between) (sym (none.1 ∙ append-nil comes.0)) comes.1))
