@@ -1,5 +1,8 @@
 -- Not needed by any proof: each line and each status is computed once, so that a reader sees what was meant.
-use Rattle.std.proofs.Common.{◌≡◌, ◌++◌, ℕ, List, [], ◌∷◌, None, Some, codes, false, refl, true}
+use Prim.Native.String.{String}
+use Rattle.std.proofs.Common.{◌≡◌, ◌++◌, ℕ, [], codes, false, refl, true}
+use Rattle.std.specs.Fmt.{digits}
+use Rattle.tmpl_values.specs.Quote.{quote}
 use Rattle.tmpl_values.specs.Json.{not_json, not_whole}
 use Rattle.tmpl_syntax.specs.Fault.{Reason, nested_too_deeply, not_an_action, open_at_end, out_of_place, second_definition, too_long}
 use Rattle.tmpl_syntax.specs.Fault.{undeclared_variable, unreadable}
@@ -16,6 +19,10 @@ use Rattle.tmpl_tool.specs.Tool.{Stop, bad_words, fault_line, flawed, help, not_
 usage-line : (stop_answer help).text
     ≡ codes "usage: tmpl [--data FILE] [--missingkey default|invalid|zero|error] [--name NAME] [--depth N] [--steps N] [--print] FILE...\n"
 usage-line = refl
+
+-- a name in its quotes
+abbrev name : String → Bytes
+name n = quote (codes n) ++ []
 
 abbrev Says : Stop → ℕ → Bytes → Type 0
 Says stop status line = stop_answer stop ≡ record { text = []; line = line; status = status; unread = false; made_text = false }
@@ -36,7 +43,7 @@ no-json = refl
 no-whole : Says (flawed (codes "d") not_whole) 5 (codes "tmpl: d: number not whole or out of range\n")
 no-whole = refl
 
-no-name : Says (unnamed (codes "z")) 4 (codes "tmpl: no template \"z\"\n")
+no-name : Says (unnamed (codes "z")) 4 (codes "tmpl: " ++ ((codes "no template " ++ name "z") ++ codes "\n"))
 no-name = refl
 
 -- a template file, refused at a line for each of the reasons
@@ -44,27 +51,35 @@ abbrev Refuses : Reason → Bytes → Type 0
 Refuses reason text = Says (refused (codes "m") (12, reason)) 4 (codes "tmpl: m:12: " ++ text ++ codes "\n")
 
 reason-unreadable : Refuses unreadable (codes "unclosed or unreadable action")
+unfolding digits
 reason-unreadable = refl
 
 reason-unread : Refuses not_an_action (codes "action not understood")
+unfolding digits
 reason-unread = refl
 
 reason-place : Refuses out_of_place (codes "out of place")
+unfolding digits
 reason-place = refl
 
 reason-variable : Refuses undeclared_variable (codes "undeclared variable")
+unfolding digits
 reason-variable = refl
 
 reason-second : Refuses second_definition (codes "second definition")
+unfolding digits
 reason-second = refl
 
 reason-open : Refuses open_at_end (codes "file ends inside a control")
+unfolding digits
 reason-open = refl
 
 reason-deep : Refuses nested_too_deeply (codes "nested too deeply")
+unfolding digits
 reason-deep = refl
 
 reason-long : Refuses too_long (codes "file longer than 16777216 bytes")
+unfolding digits
 reason-long = refl
 
 -- ---- a run that stops
@@ -72,45 +87,58 @@ reason-long = refl
 -- at line 7 of a file, in the template "t", for each of the causes
 abbrev Stops : Cause → Bytes → Type 0
 Stops cause text = fault_line (record { file = codes "p/m"; line = 7; template = codes "t"; cause = cause })
-    ≡ codes "tmpl: p/m:7: in \"t\": " ++ text ++ codes "\n"
+    ≡ codes "tmpl: " ++ ((codes "p/m:7: in " ++ (quote (codes "t") ++ (codes ": " ++ text))) ++ codes "\n")
 
-cause-template : Stops (no_template (codes "x y")) (codes "no template \"x y\"")
+cause-template : Stops (no_template (codes "x y")) (codes "no template " ++ name "x y")
+unfolding digits
 cause-template = refl
 
 cause-depth : Stops (calls_too_deep 1000) (codes "calls deeper than 1000")
+unfolding digits
 cause-depth = refl
 
 cause-steps : Stops (steps_spent 4) (codes "more than 4 steps")
+unfolding digits
 cause-steps = refl
 
 cause-function : Stops not_a_function (codes "not a function")
+unfolding digits
 cause-function = refl
 
 cause-nil : Stops nil_command (codes "nil is not a command")
+unfolding digits
 cause-nil = refl
 
-cause-field : Stops (lacks_field (codes "a\"b")) (codes "no field \"a\\\"b\" here")
+cause-field : Stops (lacks_field (codes "a\"b")) (codes "no field " ++ (quote (codes "a\"b") ++ codes " here"))
+unfolding digits
 cause-field = refl
 
-cause-entry : Stops (lacks_entry (codes "x")) (codes "no entry for key \"x\"")
+cause-entry : Stops (lacks_entry (codes "x")) (codes "no entry for key " ++ name "x")
+unfolding digits
 cause-entry = refl
 
 cause-range : Stops not_a_range (codes "can't range over this value")
+unfolding digits
 cause-range = refl
 
 cause-count : Stops (call_failed Len WrongCount) (codes "len: wrong number of arguments")
+unfolding digits
 cause-count = refl
 
 cause-kind : Stops (call_failed Index WrongKind) (codes "index: wrong kind of argument")
+unfolding digits
 cause-kind = refl
 
 cause-out : Stops (call_failed Index OutOfRange) (codes "index: out of range")
+unfolding digits
 cause-out = refl
 
 cause-compare : Stops (call_failed Eq NotComparable) (codes "eq: can't be compared")
+unfolding digits
 cause-compare = refl
 
 cause-format : Stops (call_failed Printf FormatRefused) (codes "printf: format refused")
+unfolding digits
 cause-format = refl
 
 -- ---- a failed write, and refused memory

@@ -1,4 +1,4 @@
-use Rattle.std.proofs.Common.{◌≡◌, ◌∙◌, ◌++◌, [], ap, refl, subst, sym, map, rules, false, true, inl, inr}
+use Rattle.std.proofs.Common.{◌≡◌, ◌∙◌, [], ap, refl, subst, sym, map, rules, false, true, inl, inr}
 use Rattle.std.specs.String.{string_bytes}
 use Rattle.std.specs.Option.{ok_or, option_map}
 use Rattle.tmpl_values.specs.View.{value_of}

@@ -1,4 +1,4 @@
-use Rattle.std.proofs.Common.{◌≡◌, ◌∙◌, ap, sym, subst, map, rules, [], List, Bor, None, Option, Ok, IfSome}
+use Rattle.std.proofs.Common.{◌≡◌, ◌∙◌, sym, subst, map, rules, [], List, Bor, None, Ok, IfSome}
 use Rattle.std.specs.Option.{option_map}
 use Rattle.tmpl_values.specs.View.{value_of}
 use Rattle.tmpl_syntax.specs.Set.{Template}

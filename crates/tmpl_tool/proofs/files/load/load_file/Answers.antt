@@ -1,4 +1,4 @@
-use Rattle.std.proofs.Common.{List, Option, subst, ◌∷◌, []}
+use Rattle.std.proofs.Common.{Option, subst}
 use Rattle.tmpl_syntax.specs.Parse.{most_bytes}
 use Rattle.tmpl_syntax.specs.View.{set_view}
 use Rattle.tmpl_syntax.specs.computed.Parse.{parsed}

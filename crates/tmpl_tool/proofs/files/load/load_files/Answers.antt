@@ -1,4 +1,4 @@
-use Rattle.std.proofs.Common.{◌+◌, map, drop, subst, refl, List, Bor, ◌∙◌, ◌++◌, sym}
+use Rattle.std.proofs.Common.{◌+◌, map, drop, subst, refl, List, Bor, ◌∙◌, sym}
 use Rattle.std.proofs.lemmas.List.{append-nil, drop_all, drop_more}
 use Rattle.tmpl_syntax.specs.View.{set_view}
 use Rattle.tmpl_syntax.specs.computed.Parse.{parsed}
