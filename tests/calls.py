@@ -1,6 +1,7 @@
 """Counts the allocations of one call of a function, over arguments from JSON: a call takes at most one where it makes
 a text, and none elsewhere. It is the difference between many calls and fewer of the program that does one part of
-what `tmpl` does, which takes no other memory between two calls. Then that a template which reads a made text from a
+what `tmpl` does, which takes no other memory between two calls. In the same way, that a share of a text that was made to
+be shared takes none. Then that a template which reads a made text from a
 variable, as dot or as what it is called with takes no more for it than for a text of its own, which shows that nothing is
 copied; and that a call of a template takes one, for the variables of the callee."""
 import json
@@ -62,6 +63,9 @@ OTHERS = [
 ]
 
 
+# texts that are made to be shared
+SHARED = ["", "a", LONG * 9]
+
 # templates over a list, with X for what makes a text
 READERS = [
     "{{$x := X}}{{range .}}{{len $x}}{{end}}",
@@ -106,16 +110,28 @@ def allocations(shim, words):
     return low
 
 
+def each(shim, runs):
+    """The allocations of one of what two processes do, the one fewer and the other more times, or none where they do not."""
+    if any(once(words, {}, ()).returncode for words in runs):
+        return None
+    fewer, more = (allocations(shim, words) for words in runs)
+    return (more - fewer) / (MORE - FEWER)
+
+
 def a_call(shim, folder, function, arguments):
     """The allocations of one call, or none where the calls are not answered."""
     file = f"{folder}/arguments"
     with open(file, "w", encoding="utf-8") as it:
         json.dump(arguments, it)
-    calls = [[PROBE, "call", file, function, str(count)] for count in (FEWER, MORE)]
-    if any(once(words, {}, ()).returncode for words in calls):
-        return None
-    fewer, more = (allocations(shim, words) for words in calls)
-    return (more - fewer) / (MORE - FEWER)
+    return each(shim, [[PROBE, "call", file, function, str(count)] for count in (FEWER, MORE)])
+
+
+def a_share(shim, folder, text):
+    """The allocations of one share of a text that was made to be shared, or none where it is not made or a share is another text."""
+    file = f"{folder}/text"
+    with open(file, "w", encoding="utf-8") as it:
+        it.write(text)
+    return each(shim, [[PROBE, "share", file, str(count)] for count in (FEWER, MORE)])
 
 
 def a_turn(shim, folder, template):
@@ -129,10 +145,7 @@ def a_turn(shim, folder, template):
         with open(data, "w", encoding="utf-8") as it:
             json.dump([7] * count, it)
         runs.append([harness.PROGRAM, "--data", data, file])
-    if any(once(words, {}, ()).returncode for words in runs):
-        return None
-    fewer, more = (allocations(shim, words) for words in runs)
-    return (more - fewer) / (MORE - FEWER)
+    return each(shim, runs)
 
 
 def judge(shim, folder, function, arguments, most):
@@ -141,6 +154,14 @@ def judge(shim, folder, function, arguments, most):
     if taken is None:
         return name, 1, ["    it does not answer"]
     return name, 1, [] if taken <= most else [f"    takes {taken:g} allocations a call, at most {most} wanted"]
+
+
+def judge_share(shim, folder, text):
+    taken = a_share(shim, folder, text)
+    name = f"a share of a made text of {len(text)} bytes"
+    if taken is None:
+        return name, 1, ["    it is not shared"]
+    return name, 1, [] if taken == 0 else [f"    takes {taken:g} allocations a share, none wanted"]
 
 
 def judge_reader(shim, folder, reader):
@@ -167,6 +188,7 @@ def main():
         shim = f"{folder}/shim.so"
         sweep.build_shim("fail_alloc.c", shim)
         results = [judge(shim, folder, *row) for row in TIMED + MAKERS + OTHERS]
+        results += [judge_share(shim, folder, it) for it in SHARED]
         results += [judge_reader(shim, folder, it) for it in READERS]
         results += [judge_caller(shim, folder, *it) for it in CALLERS]
     passed, failed, _ = harness.tally(results)

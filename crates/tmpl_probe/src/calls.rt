@@ -1,4 +1,4 @@
-//! Calls of functions with arguments from data.
+//! Calls of functions with arguments from data, and shares of a made text.
 use std::alloc::{AllocError, Global};
 use tmpl_funcs::{Func, call};
 use tmpl_values::{Cell, Data, Val};
@@ -37,4 +37,15 @@ fn answers(alloc: Global, func: Func, cells: &mut [Cell<'_>]) -> bool {
         Func::And | Func::Or => false,
         _ => call(alloc, func, cells).is_ok(),
     }
+}
+
+/// Makes a text of these bytes that can be shared, shares it so often, and tells whether each share is that text.
+pub(crate) fn share_often(alloc: Global, bytes: &[u8], count: u64) -> Result<bool, AllocError> {
+    let made = Val::made(Vec::from_slice(alloc, bytes)?)?;
+    let mut all = true;
+    for _ in 0..count {
+        let shared = made.share()?;
+        all = shared.bytes() == Some(bytes) && all;
+    }
+    Ok(all)
 }

@@ -2,9 +2,9 @@
 //!
 //! Words: the part, and a file. A JSON file: `read` into `serde_json`'s own tree, `data` into data. A template: `cut`
 //! into pieces. Each puts out how many nanoseconds it took, and so do calls: `call`, a JSON file with a list of
-//! arguments, the name of the function, and how many. `text`: a JSON file into data, whose text is put out. A
-//! template: `parse` into a set, `compile` the set; `code` puts out how many bytes its code takes, and `list` puts out
-//! the code.
+//! arguments, the name of the function, and how many; and `share`, a file that is made a text of, and how many times
+//! that is shared. `text`: a JSON file into data, whose text is put out. A template: `parse` into a set, `compile` the
+//! set; `code` puts out how many bytes its code takes, and `list` puts out the code.
 //!
 //! `room DEPTH`, and the words of a command, puts out how many cells the set of its files needs at this depth, and
 //! whether it makes text; behind no words the set is empty.
@@ -24,7 +24,7 @@ mod running;
 
 ghost use Rattle.std.specs.Prelude.{◌≡◌, None};
 
-use crate::calls::call_often;
+use crate::calls::{call_often, share_often};
 use crate::listing::put_listing;
 use crate::running::{put_room, run_words};
 use std::alloc::Global;
@@ -117,6 +117,17 @@ fn call_over(
     Ok(all)
 }
 
+/// Shares a made text so often, and says how long that took.
+fn share(rt: &(impl Print + Clock), alloc: Global, bytes: &[u8], count: &str) -> io::Result<bool> {
+    let Ok(count) = count.parse::<u64>() else {
+        return Ok(false);
+    };
+    let begun = Instant::now(rt)?;
+    let all = share_often(alloc, bytes, count)?;
+    put_elapsed(rt, begun)?;
+    Ok(all)
+}
+
 /// Reads into data, and puts its text out.
 fn put(alloc: Global, bytes: &[u8], writer: impl Write + Drop) -> bool {
     let Ok(held) = Data::from_json(alloc, bytes) else {
@@ -192,6 +203,7 @@ fn with_file(rt: &HostRuntime, part: &str, file: &str, more: &[String]) -> io::R
         ("code", []) => compile_set(rt, alloc, file, bytes, false),
         ("list", []) => list(alloc, file, bytes, BufWriter::new(alloc, rt.stdout())?),
         ("cut", []) => cut_up(rt, alloc, bytes),
+        ("share", [count]) => share(rt, alloc, bytes, count.as_str()),
         ("call", [name, count]) => call_over(rt, alloc, bytes, name.as_str(), count.as_str()),
         _ => Ok(false),
     }
