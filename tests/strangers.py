@@ -1,0 +1,128 @@
+"""What strangers choose must get its line and status, and cost little: files that do not end or are far too long, lines of
+many programs on one error stream, and what nests as deep as it may on a small stack of the machine. TMPL=PATH names another
+build."""
+import os
+import resource
+import subprocess
+import sys
+import tempfile
+
+import harness
+
+AT_ONCE = 8
+LINES = 10000
+LEVELS = 500
+PARENTHESES = 100
+NESTING = 127
+STACK = 512 << 10  # bytes
+LEAST = 31  # cases
+FEW = 64 << 20  # bytes of memory that a refused file may take
+SOME = 300 << 20
+TOO_LONG = "file longer than 16777216 bytes"
+
+
+def limited(**limits):
+    """What sets limits of the process before the program starts."""
+    return lambda: [resource.setrlimit(getattr(resource, f"RLIMIT_{name}"), (size, size)) for name, size in limits.items()]
+
+
+def ran(words, folder, **limits):
+    done = subprocess.run(
+        [harness.PROGRAM, *words],
+        cwd=folder,
+        stdin=subprocess.DEVNULL,
+        stdout=subprocess.PIPE,
+        stderr=subprocess.PIPE,
+        preexec_fn=limited(**limits),
+        timeout=harness.SECONDS,
+    )
+    return done.returncode, done.stdout.decode(), done.stderr.decode()
+
+
+def endless(folder):
+    """A template is read no further than it may be long; data, which have no limit, until memory is refused."""
+    with open(f"{folder}/long", "wb") as file:
+        file.truncate(200 << 20)
+    for name in ("/dev/zero", "long"):
+        yield f"the template {name}", (4, "", f"tmpl: {name}:1: {TOO_LONG}\n"), ran([name], folder, AS=FEW)
+    with open(f"{folder}/m", "w") as file:
+        file.write("x")
+    yield "data that do not end", (7, "", "tmpl: out of memory\n"), ran(["--data", "/dev/zero", "m"], folder, AS=SOME)
+
+
+def shared(folder):
+    """Lines of programs that run at once, on one pipe: none is mixed with another."""
+    names = [f"{'n' * k}" for k in range(1, AT_ONCE + 1)]
+    told = {}
+    for k, name in enumerate(names):
+        with open(f"{folder}/{name}", "w") as file:
+            file.write("\n" * k + '{{.a\u0007"b' if k % 2 else '{{template "\\x01\\x02\\u00a0' + "q" * 20 * k + '"}}')
+        reason = "unclosed or unreadable action" if k % 2 else f'no template "\\x01\\x02\\u00a0{"q" * 20 * k}"'
+        told[name] = f"tmpl: {name}:{k + 1}: {reason}\n" if k % 2 else f'tmpl: {name}:1: in "{name}": {reason}\n'
+    reader, writer = os.pipe()
+    each = LINES // AT_ONCE
+    loop = f'i=0; while [ $i -lt {each} ]; do "$0" "$1"; i=$((i + 1)); done'
+    running = [
+        subprocess.Popen(["sh", "-c", loop, harness.PROGRAM, name], cwd=folder, stdout=subprocess.DEVNULL, stderr=writer)
+        for name in names
+    ]
+    os.close(writer)
+    with open(reader, encoding="utf-8", errors="replace") as pipe:
+        lines = pipe.readlines()
+    for it in running:
+        it.wait()
+    counts = {line: lines.count(line) for line in set(lines)}
+    yield f"{LINES} lines of {AT_ONCE} programs at once", {line: each for line in told.values()}, counts
+
+
+def deepest():
+    """Files that nest as deep as they may, each with what it puts out."""
+    for header in ("if .", "with .", "range $"):
+        yield f"{LEVELS} levels of {header}", f"{{{{{header}}}}}" * LEVELS + "x" + "{{end}}" * LEVELS, "1", "x"
+    for branch in ("if", "with"):
+        chain = f"{{{{{branch} .a}}}}" + f"{{{{else {branch} .a}}}}" * (LEVELS - 1) + "{{else}}x{{end}}"
+        yield f"{LEVELS} levels of else {branch}", chain, "{}", "x"
+    blocks = "".join(f'{{{{block "{n}" .}}}}' for n in range(LEVELS))
+    yield f"{LEVELS} levels of block", blocks + "x" + "{{end}}" * LEVELS, "1", "x"
+    yield f"{PARENTHESES} parentheses", "{{" + "(" * PARENTHESES + "1" + ")" * PARENTHESES + "}}", "1", "1"
+    calls = '{{define "t"}}{{if .}}{{template "t" (slice . 1)}}{{end}}{{end}}{{template "t" (printf "%1000s" "")}}x'
+    yield "a thousand calls", calls, "1", "x"
+    nested = "[" * NESTING + "]" * NESTING
+    yield f"data of {NESTING} levels", "{{.}}", nested, nested
+
+
+def stacked(folder):
+    """What nests is rendered, printed, and read again as it was printed, on a small stack."""
+    for name, template, data, out in deepest():
+        for path, text in (("m", template), ("d", data)):
+            with open(f"{folder}/{path}", "w") as file:
+                file.write(text)
+        words = ["--data", "d", "--depth", "1002", "m"]
+        yield name, (0, out, ""), ran(words, folder, STACK=STACK)
+        status, printed, err = ran(["--print", "m"], folder, STACK=STACK)
+        yield f"{name}, printed", (0, ""), (status, err)
+        with open(f"{folder}/m", "w") as file:
+            file.write(printed)
+        again = ran(["--print", "m"], folder, STACK=STACK)
+        yield f"{name}, printed and read", (0, ""), (again[0], again[2])
+
+
+def main():
+    if not harness.is_built():
+        return 1
+    passed, failed = 0, []
+    with tempfile.TemporaryDirectory(dir=harness.MEMORY) as folder:
+        for test in (endless, shared, stacked):
+            for name, wanted, got in test(folder):
+                if wanted == got:
+                    passed += 1
+                else:
+                    failed.append(f"{name}:\n    wanted {str(wanted)[:300]}\n    got    {str(got)[:300]}")
+    if passed + len(failed) < LEAST:
+        failed.append(f"only {passed + len(failed)} cases, of at least {LEAST}")
+    print(*failed, f"{passed} passed, {len(failed)} failed", sep="\n")
+    return 1 if failed else 0
+
+
+if __name__ == "__main__":
+    sys.exit(main())
