@@ -7,12 +7,13 @@ use Rattle.tmpl_meaning.specs.Sink.{sunk}
 use Rattle.tmpl_meaning.proofs.ToldLemmas.{if_told, of_told}
 use Rattle.tmpl_tool.specs.Help.{asks_help}
 use Rattle.tmpl_tool.specs.Inputs.{stop_seen}
+use Rattle.tmpl_tool.specs.declared.status.Status.{Status}
 use Rattle.tmpl_tool.specs.Tool.{answer_of, no_read, or_stop, tool_answer}
 use Rattle.tmpl_tool.specs.View.{seen}
 use Rattle.tmpl_tool.specs.computed.Load.{finished}
 use Rattle.tmpl_tool.proofs.MessageLemmas.{nothing_out}
 use Rattle.tmpl_tool.proofs.StopLemmas.{accepted, after_inputs, asks, outcome_as, stops, stops_after}
-use Rattle.tmpl_tool.proofs.command.tool.Goals as goal
+use Rattle.tmpl_tool.proofs.command.tool_keeping.Goals as goal
 
 pub returns-in-Ok-read_inputs-clause-told : goal.returns-in-Ok-read_inputs-clause-told
 returns-in-Ok-read_inputs-clause-told g c parse is =
@@ -23,14 +24,14 @@ returns-in-Ok-read_inputs-clause-told g c parse is =
     let same : option_map (λ d. value_of d.now) c.as_ref.result ≡ option_map value_of inputs.data = search rules in
     if_told _ (g.S.Source.contents c.args.source.now) (λ files told.
     let reads = of_told _ _ files told (c.in-Ok-read_inputs.ensures.reads parse is) in
-    accepted _ c.answer-status.result.code parse _ _ _ w files words (asks words w c.in-Ok.ensures helps)
+    accepted _ c.answer.result.code parse _ _ _ w files words (asks words w c.in-Ok.ensures helps)
     (inl (
       c.in-Ok-read_inputs.ensures.counts,
-      outcome_as _ c.answer-status.result.code _ _ _
+      outcome_as _ c.answer.result.code _ _ _
           (ap answer_of
           (after_inputs parse files w no_read ∙ ap (λ r. or_stop r (λ i. finished w i.0 i.1)) reads
           ∙ ap (finished w (set_view inputs.set)) (sym same)))
-          c.answer-status.ensures.outcome,
+          c.answer.ensures.outcome,
     )))
 
 pub returns-in-Ok-clause-told : goal.returns-in-Ok-clause-told
@@ -39,14 +40,15 @@ returns-in-Ok-clause-told g c parse is =
     let helps : asks_help words ≡ false = search rules in
     let w = seen c.in-Ok.request in
     if_told _ (g.S.Source.contents c.args.source.now) (λ files told.
-    accepted _ c.refuse.result.code parse _ _ _ w files words (asks words w c.in-Ok.ensures helps)
-    (stops _ c.refuse.result.code parse _ _ _ w files c.in-Err.stop c.in-Err.ensures.counts
+    accepted _ c.stopped-in-Err.result.status.code parse _ _ _ w files words (asks words w c.in-Ok.ensures helps)
+    (stops _ c.stopped-in-Err.result.status.code parse _ _ _ w files c.in-Err.stop c.in-Err.ensures.counts
     (stops_after parse files w (stop_seen c.in-Err.stop) (of_told _ _ files told (c.in-Err.ensures.reads parse is)))
-    c.refuse.ensures.code c.refuse.ensures.line))
+    (ap (λ (s : Status). s.code) c.stopped-in-Err.ensures ∙ c.refuse.ensures.code) c.refuse.ensures.line))
 
 pub returns-clause-told : goal.returns-clause-told
 returns-clause-told g c parse is =
     let words = map (λ word. string_bytes word) c.args.words.now in
     let err = sunk (g.E.Sink.so_far c.args.err.now) (g.E.Sink.so_far c.out_of_memory.new.err) in
     if_told _ (g.S.Source.contents c.args.source.now) (λ files told.
-    inl (refl, nothing_out (tool_answer parse words files no_read) (g.O.Sink.so_far c.args.out.now) err c.out_of_memory.result.code c.out_of_memory.ensures.code c.out_of_memory.ensures.line))
+    inl (refl, nothing_out (tool_answer parse words files no_read) (g.O.Sink.so_far c.args.out.now) err c.stopped-in-Err-OutOfMemory.result.status.code
+    (ap (λ (s : Status). s.code) c.stopped-in-Err-OutOfMemory.ensures ∙ c.out_of_memory.ensures.code) c.out_of_memory.ensures.line))
