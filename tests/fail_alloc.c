@@ -1,14 +1,30 @@
 /* Preloaded before the C library, this refuses an allocation of a program. FAIL_ALLOC has the number, from 1, of one; then a
    byte is written to the descriptor in FAIL_FD, so that the caller knows that there were that many. Or FAIL_EACH has a
-   descriptor, and each is refused in turn, in a copy of the program of its own, of which that descriptor tells. */
+   descriptor, and each is refused in turn, in a copy of the program of its own, of which that descriptor tells. At the end
+   the number of blocks that were taken and not given back is written to the descriptor in KEPT_FD, as a machine has it. */
 #include "turns.h"
 
 extern void *__libc_malloc(size_t size);
 extern void *__libc_calloc(size_t count, size_t size);
 extern void *__libc_realloc(void *old, size_t size);
 extern void *__libc_memalign(size_t alignment, size_t size);
+extern void __libc_free(void *block);
 
 enum { no_memory = 12 };
+
+static long kept; /* blocks */
+
+static void *counted(void *block) {
+    if (block)
+        kept++;
+    return block;
+}
+
+__attribute__((destructor)) static void tell_kept(void) {
+    char *descriptor = getenv("KEPT_FD");
+    if (descriptor)
+        syscall(write_call, atol(descriptor), &kept, sizeof kept);
+}
 
 static int is_numbered(void) {
     static long left = -1;
@@ -37,13 +53,26 @@ static int is_refused(void) {
     return is_copy;
 }
 
-void *malloc(size_t size) { return is_refused() ? 0 : __libc_malloc(size); }
+void *malloc(size_t size) { return is_refused() ? 0 : counted(__libc_malloc(size)); }
 
-void *calloc(size_t count, size_t size) { return is_refused() ? 0 : __libc_calloc(count, size); }
+void *calloc(size_t count, size_t size) { return is_refused() ? 0 : counted(__libc_calloc(count, size)); }
 
-void *realloc(void *old, size_t size) { return is_refused() ? 0 : __libc_realloc(old, size); }
+/* a block that grows stays one */
+void *realloc(void *old, size_t size) {
+    if (is_refused())
+        return 0;
+    return old ? __libc_realloc(old, size) : counted(__libc_malloc(size));
+}
 
-void *aligned_alloc(size_t alignment, size_t size) { return is_refused() ? 0 : __libc_memalign(alignment, size); }
+void free(void *block) {
+    if (block)
+        kept--;
+    __libc_free(block);
+}
+
+void *aligned_alloc(size_t alignment, size_t size) {
+    return is_refused() ? 0 : counted(__libc_memalign(alignment, size));
+}
 
 int posix_memalign(void **made, size_t alignment, size_t size) {
     void *memory = aligned_alloc(alignment, size);

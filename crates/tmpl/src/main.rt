@@ -9,11 +9,11 @@ ghost use Rattle.tmpl.specs.Adapter.{SaysFlush, flushed};
 mod adapters;
 
 use crate::adapters::{FileSource, WriterSink};
-use std::env;
 use std::io::ErrorKind;
 use std::process::ExitCode;
+use std::{env, mem};
 use tmpl_run::{Sink, SinkFault};
-use tmpl_tool::{Status, out_of_memory, tool, words_refused, write_failed};
+use tmpl_tool::{Status, out_of_memory, tool_keeping, words_refused, write_failed};
 
 /// Runs the command over the file system and the standard streams.
 fn main(rt: HostRuntime) -> ExitCode {
@@ -31,8 +31,11 @@ fn main(rt: HostRuntime) -> ExitCode {
         }
         Err(_) => return exit(words_refused(&mut err)),
     };
-    let status = tool(alloc, words.as_slice(), &mut source, &mut out, &mut err);
-    exit(after_flush(out.flush(), status, &mut err))
+    let ended = tool_keeping(alloc, words.as_slice(), &mut source, &mut out, &mut err);
+    let status = after_flush(out.flush(), ended.status, &mut err);
+    // The process ends here, which gives all memory back at once; to free each value of a large file takes longer.
+    mem::forget(ended.inputs);
+    exit(status)
 }
 
 /// The status after the last flush of the output; where that fails and all went well before, it says so.

@@ -17,7 +17,7 @@ refusal_of (r.WrongCount f) = wrong_count f
 
 abbrev pub instruction_of : held_instruction.Instruction → Instruction
 instruction_of (i.Spend line) = spend line
-instruction_of (i.Put bytes) = put bytes.now.now
+instruction_of (i.Put bytes) = put bytes.now
 instruction_of i.PushNothing = act push_nothing
 instruction_of (i.PushBool b) = act (push_bool b)
 instruction_of (i.PushNumber n) = act (push_number n)

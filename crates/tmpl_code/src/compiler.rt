@@ -21,7 +21,7 @@ use tmpl_syntax::{Node, Set};
 
 /// The code of the templates of a set. An error is want of memory; code that counts beyond 32 bits, which would take
 /// 64 GiB, is answered so too.
-pub fn compile<'s, 'b>(alloc: Global, set: &'s Set<'b>) -> Result<Program<'s, 'b>, AllocError>
+pub fn compile<'s>(alloc: Global, set: &'s Set) -> Result<Program<'s>, AllocError>
     ensures linked { IfOk result (λ p. IsLinked p) }
     ensures set { IfOk result (λ p. set_view p.set.now ≡ set_view set.now) }
 {
@@ -50,11 +50,11 @@ pub fn compile<'s, 'b>(alloc: Global, set: &'s Set<'b>) -> Result<Program<'s, 'b
 
 /// Puts the code of a template before that of the others, and tells what the template needs, with three cells of its
 /// own, and does.
-fn put_tree<'s, 'b>(
+fn put_tree<'s>(
     alloc: Global,
     code: &mut Code<'s>,
-    set: &Set<'_>,
-    nodes: &'s [Node<'b>],
+    set: &Set,
+    nodes: &'s [Node],
 ) -> Result<Survey, AllocError>
     ensures code { OnOk result
         (spec.TreeAt (set_view set.now) (nodes_in nodes.now) (code_of code.new) (code_of code.old)) }
@@ -69,11 +69,11 @@ fn put_tree<'s, 'b>(
 
 /// Puts the nodes of a template, and tells what they need and do. Each is surveyed as soon as it is put, while its part of
 /// the tree is at hand.
-fn put_surveyed<'s, 'b>(
+fn put_surveyed<'s>(
     code: &mut Code<'s>,
     scope: &mut Scope<'s>,
-    set: &Set<'_>,
-    nodes: &'s [Node<'b>],
+    set: &Set,
+    nodes: &'s [Node],
 ) -> Result<Survey, AllocError>
     ensures code { OnOk result (spec.NodesAt (set_view set.now) (nodes_in nodes.now) (layout_of scope.old) None
         (code_of code.new) (code_of code.old)) }

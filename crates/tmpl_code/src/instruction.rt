@@ -1,5 +1,6 @@
 //! Instructions of flat code.
 use tmpl_funcs::Func;
+use tmpl_syntax::Text;
 use tmpl_values::Bytes;
 
 /// What the form of a command alone refuses. It is put where the run would get to it.
@@ -21,7 +22,7 @@ pub enum Instruction<'s> {
     /// Takes a step at this line, which the faults from here on bear, or stops where none is left.
     Spend(u64),
     /// Puts out a text of the template.
-    Put(&'s &'s [u8]),
+    Put(&'s Text),
     /// Puts nothing on the stack.
     PushNothing,
     /// Puts a truth value on the stack.

@@ -32,7 +32,7 @@ pub(crate) struct Around {
 }
 
 /// How many variables the nodes leave.
-pub(crate) fn declared_in(nodes: &[Node<'_>]) -> Result<usize, AllocError>
+pub(crate) fn declared_in(nodes: &[Node]) -> Result<usize, AllocError>
     ensures { IfOk result (λ n. n ≡ declared_in (nodes_in nodes.now)) }
 {
     let mut count = 0;
@@ -45,14 +45,14 @@ pub(crate) fn declared_in(nodes: &[Node<'_>]) -> Result<usize, AllocError>
 }
 
 /// How many variables a header and the nodes leave.
-fn declared_by(binding: &Binding, nodes: &[Node<'_>]) -> Result<u32, AllocError>
+fn declared_by(binding: &Binding, nodes: &[Node]) -> Result<u32, AllocError>
     ensures { IfOk result (λ n. n ≡ declared_count (binding_of binding.now) + declared_in (nodes_in nodes.now)) }
 {
     short(sum(declared_count(binding), declared_in(nodes)?)?)
 }
 
 /// How many variables a node leaves.
-pub(crate) fn left_behind(node: &Node<'_>) -> usize
+pub(crate) fn left_behind(node: &Node) -> usize
     ensures { result ≡ left_behind (node_of node.now).what }
 {
     match &node.what {
@@ -66,7 +66,7 @@ pub(crate) fn left_behind(node: &Node<'_>) -> usize
 }
 
 /// The variables that a node leaves come into scope.
-fn grow<'s, 'b>(scope: &mut Scope<'s>, node: &'s Node<'b>) -> Result<(), AllocError>
+fn grow<'s>(scope: &mut Scope<'s>, node: &'s Node) -> Result<(), AllocError>
     ensures { OnOk result (layout_of scope.new ≡ grown (node_of node.now).what (layout_of scope.old)) }
 {
     match &node.what {
@@ -80,7 +80,7 @@ fn grow<'s, 'b>(scope: &mut Scope<'s>, node: &'s Node<'b>) -> Result<(), AllocEr
 }
 
 /// They go out of scope.
-pub(crate) fn shrink(scope: &mut Scope<'_>, node: &Node<'_>)
+pub(crate) fn shrink(scope: &mut Scope<'_>, node: &Node)
     ensures { layout_of scope.new ≡ shrunk (node_of node.now).what (layout_of scope.old) }
 {
     match &node.what {
@@ -94,10 +94,7 @@ pub(crate) fn shrink(scope: &mut Scope<'_>, node: &Node<'_>)
 }
 
 /// The variables that the nodes leave come into scope.
-pub(crate) fn grow_all<'s, 'b>(
-    scope: &mut Scope<'s>,
-    nodes: &'s [Node<'b>],
-) -> Result<(), AllocError>
+pub(crate) fn grow_all<'s>(scope: &mut Scope<'s>, nodes: &'s [Node]) -> Result<(), AllocError>
     ensures { OnOk result (layout_of scope.new ≡ all_grown (nodes_in nodes.now) (layout_of scope.old)) }
 {
     for node in nodes {
@@ -183,12 +180,12 @@ fn put_given<'s>(
 
 /// Puts nodes, each of which costs a step.
 #[cycle(nodes)]
-pub(crate) fn put_nodes<'s, 'b>(
+pub(crate) fn put_nodes<'s>(
     code: &mut Code<'s>,
     scope: &mut Scope<'s>,
-    set: &Set<'_>,
+    set: &Set,
     exit: Option<Around>,
-    nodes: &'s [Node<'b>],
+    nodes: &'s [Node],
 ) -> Result<(), AllocError>
     requires { IsOpen exit (code_of code.old) (layout_of scope.old) }
     ensures code { OnOk result (spec.NodesAt (set_view set.now) (nodes_in nodes.now) (layout_of scope.old)
@@ -208,7 +205,7 @@ pub(crate) fn put_nodes<'s, 'b>(
 }
 
 /// What takes the step of a node, or, for a call of a template that is there, looks whether one is left.
-pub(crate) fn first_instruction<'s>(set: &Set<'_>, node: &Node<'_>) -> Instruction<'s>
+pub(crate) fn first_instruction<'s>(set: &Set, node: &Node) -> Instruction<'s>
     ensures { instruction_of result ≡ spec.step_of (set_view set.now) (node_of node.now).line (node_of node.now).what }
 {
     match &node.what {
@@ -226,12 +223,12 @@ pub(crate) fn first_instruction<'s>(set: &Set<'_>, node: &Node<'_>) -> Instructi
 /// Puts a node whose step is taken.
 #[cycle(nodes)]
 #[tactic(auto, using(tmpl_syntax::proofs::ViewLemmas::controls))]
-pub(crate) fn put_node<'s, 'b>(
+pub(crate) fn put_node<'s>(
     code: &mut Code<'s>,
     scope: &mut Scope<'s>,
-    set: &Set<'_>,
+    set: &Set,
     exit: Option<Around>,
-    node: &'s Node<'b>,
+    node: &'s Node,
 ) -> Result<(), AllocError>
     requires { IsOpen exit (code_of code.old) (layout_of scope.old) }
     ensures code { OnOk result (spec.NodeAt (set_view set.now) (node_of node.now).line (node_of node.now).what
@@ -239,7 +236,7 @@ pub(crate) fn put_node<'s, 'b>(
     ensures scope { OnOk result (layout_of scope.new ≡ layout_of scope.old) }
 {
     match &node.what {
-        NodeKind::Text(bytes) => code.push(Instruction::Put(bytes)),
+        NodeKind::Text(text) => code.push(Instruction::Put(text)),
         NodeKind::Action(header) => {
             put_shown(code, &header.binding)?;
             put_header(code, scope, header)
@@ -256,13 +253,13 @@ pub(crate) fn put_node<'s, 'b>(
 /// Puts a control.
 #[cycle(nodes)]
 #[tactic(auto, using(tmpl_syntax::proofs::ViewLemmas::controls))]
-fn put_control<'s, 'b>(
+fn put_control<'s>(
     code: &mut Code<'s>,
     scope: &mut Scope<'s>,
-    set: &Set<'_>,
+    set: &Set,
     exit: Option<Around>,
     line: u64,
-    node: &'s ControlNode<'b>,
+    node: &'s ControlNode,
 ) -> Result<(), AllocError>
     requires { IsOpen exit (code_of code.old) (layout_of scope.old) }
     ensures code { OnOk result (spec.NodeAt (set_view set.now) line (control_of node.now)
@@ -303,14 +300,14 @@ fn put_end(code: &mut Code<'_>, count: u32, skip: u32) -> Result<(), AllocError>
 
 /// Puts the parts of an `if`.
 #[cycle(nodes)]
-fn put_if<'s, 'b>(
+fn put_if<'s>(
     code: &mut Code<'s>,
     scope: &mut Scope<'s>,
-    set: &Set<'_>,
+    set: &Set,
     exit: Option<Around>,
     binding: &'s Binding,
-    body: &'s [Node<'b>],
-    other: &'s [Node<'b>],
+    body: &'s [Node],
+    other: &'s [Node],
 ) -> Result<(), AllocError>
     requires { IsOpen exit (code_of code.old) (layout_of scope.old) }
     ensures code { OnOk result (spec.IfAt (binding_of binding.now)
@@ -338,13 +335,13 @@ fn put_if<'s, 'b>(
 /// Puts a part behind a header.
 #[cycle(nodes)]
 #[tactic(auto, using(crate::proofs::NodeLemmas::offs))]
-fn put_part<'s, 'b>(
+fn put_part<'s>(
     code: &mut Code<'s>,
     scope: &mut Scope<'s>,
-    set: &Set<'_>,
+    set: &Set,
     exit: Option<Around>,
     binding: &'s Binding,
-    nodes: &'s [Node<'b>],
+    nodes: &'s [Node],
 ) -> Result<(), AllocError>
     requires { IsOpen exit (code_of code.old) (layout_of scope.old) }
     ensures code { OnOk result (spec.NodesAt (set_view set.now) (nodes_in nodes.now)
@@ -360,14 +357,14 @@ fn put_part<'s, 'b>(
 
 /// Puts the parts of a `with`.
 #[cycle(nodes)]
-fn put_with<'s, 'b>(
+fn put_with<'s>(
     code: &mut Code<'s>,
     scope: &mut Scope<'s>,
-    set: &Set<'_>,
+    set: &Set,
     exit: Option<Around>,
     binding: &'s Binding,
-    body: &'s [Node<'b>],
-    other: &'s [Node<'b>],
+    body: &'s [Node],
+    other: &'s [Node],
 ) -> Result<(), AllocError>
     requires { IsOpen exit (code_of code.old) (layout_of scope.old) }
     ensures code { OnOk result (spec.WithAt (binding_of binding.now)
@@ -399,13 +396,13 @@ fn put_with<'s, 'b>(
 /// Puts a part behind a header and a saved dot.
 #[cycle(nodes)]
 #[tactic(auto, using(crate::proofs::NodeLemmas::offs))]
-fn put_dotted_part<'s, 'b>(
+fn put_dotted_part<'s>(
     code: &mut Code<'s>,
     scope: &mut Scope<'s>,
-    set: &Set<'_>,
+    set: &Set,
     exit: Option<Around>,
     binding: &'s Binding,
-    nodes: &'s [Node<'b>],
+    nodes: &'s [Node],
 ) -> Result<(), AllocError>
     requires { IsOpen exit (code_of code.old) (layout_of scope.old) }
     ensures code { OnOk result (spec.NodesAt (set_view set.now) (nodes_in nodes.now)
@@ -423,15 +420,15 @@ fn put_dotted_part<'s, 'b>(
 
 /// Puts the parts of a range.
 #[cycle(nodes)]
-fn put_range<'s, 'b>(
+fn put_range<'s>(
     code: &mut Code<'s>,
     scope: &mut Scope<'s>,
-    set: &Set<'_>,
+    set: &Set,
     exit: Option<Around>,
     line: u32,
     binding: &'s Binding,
-    body: &'s [Node<'b>],
-    other: &'s [Node<'b>],
+    body: &'s [Node],
+    other: &'s [Node],
 ) -> Result<(), AllocError>
     requires { IsOpen exit (code_of code.old) (layout_of scope.old) }
     ensures code { OnOk result (spec.RangeAt line (binding_of binding.now)
@@ -472,13 +469,13 @@ fn put_range<'s, 'b>(
 /// Puts the body of a range, and before it what binds the variables.
 #[cycle(nodes)]
 #[tactic(auto, using(crate::proofs::NodeLemmas::offs))]
-fn put_turns<'s, 'b>(
+fn put_turns<'s>(
     code: &mut Code<'s>,
     scope: &mut Scope<'s>,
-    set: &Set<'_>,
+    set: &Set,
     around: Around,
     binding: &'s Binding,
-    body: &'s [Node<'b>],
+    body: &'s [Node],
 ) -> Result<(), AllocError>
     requires after { around.after ≤ length (code_of code.old) }
     requires below { around.below ≡ length (layout_of scope.old) }

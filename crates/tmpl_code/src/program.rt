@@ -11,8 +11,8 @@ use tmpl_syntax::Set;
 
 /// The code of the templates of a set, which borrows from the set.
 #[derive(Drop)]
-pub struct Program<'s, 'b> {
-    pub set: &'s Set<'b>,
+pub struct Program<'s> {
+    pub set: &'s Set,
     pub instructions: Vec<Instruction<'s>>,
     /// Where the code of each template starts, in the order of the set.
     pub starts: Vec<usize>,
@@ -31,7 +31,7 @@ pub struct Entry {
     pub number: usize,
 }
 
-impl<'s, 'b> Program<'s, 'b> {
+impl<'s> Program<'s> {
     /// The template of this name, if the set has one.
     pub fn entry(&self, name: &[u8]) -> Option<Entry>
         ensures { option_map (λ e. e.number) result ≡ number_of name.now (set_view self.now.set.now) }

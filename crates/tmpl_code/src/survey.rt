@@ -79,7 +79,7 @@ impl Survey {
 
 /// The survey of nodes, each above the variables that those before it leave.
 #[cycle(nodes)]
-fn survey_nodes(nodes: &[Node<'_>]) -> Result<Survey, AllocError>
+fn survey_nodes(nodes: &[Node]) -> Result<Survey, AllocError>
     ensures need { IfOk result (λ s. s.need ≡ needs.need_of_nodes (nodes_in nodes.now)) }
     ensures text { IfOk result (λ s. s.makes_text ≡ texts.nodes_make_text (nodes_in nodes.now)) }
     ensures calls { IfOk result (λ s. s.calls ≡ calling.nodes_call (nodes_in nodes.now)) }
@@ -96,7 +96,7 @@ fn survey_nodes(nodes: &[Node<'_>]) -> Result<Survey, AllocError>
 
 #[cycle(nodes)]
 #[tactic(auto, using(tmpl_syntax::proofs::ViewLemmas::controls))]
-pub(crate) fn survey_node(node: &Node<'_>) -> Result<Survey, AllocError>
+pub(crate) fn survey_node(node: &Node) -> Result<Survey, AllocError>
     ensures need { IfOk result (λ s. s.need ≡ needs.need_of_node (node_of node.now).what) }
     ensures text { IfOk result (λ s. s.makes_text ≡ texts.node_makes_text (node_of node.now).what) }
     ensures calls { IfOk result (λ s. s.calls ≡ calling.node_calls (node_of node.now).what) }
@@ -111,7 +111,7 @@ pub(crate) fn survey_node(node: &Node<'_>) -> Result<Survey, AllocError>
 
 #[cycle(nodes)]
 #[tactic(auto, using(tmpl_syntax::proofs::ViewLemmas::controls))]
-fn survey_control(node: &ControlNode<'_>) -> Result<Survey, AllocError>
+fn survey_control(node: &ControlNode) -> Result<Survey, AllocError>
     ensures need { IfOk result (λ s. s.need ≡ needs.need_of_node (control_of node.now)) }
     ensures text { IfOk result (λ s. s.makes_text ≡ texts.node_makes_text (control_of node.now)) }
     ensures calls { IfOk result (λ s. s.calls ≡ calling.node_calls (control_of node.now)) }

@@ -133,7 +133,7 @@ marker-is (a ∷ w ∷ after) e =
       is = ap (λ k. k ∷ w ∷ after) (eqb-true a 45 both.0);
     }
 
-has-marker : (after : List ℕ) → HasMarker after (left_marked after) (past_left after)
+pub has-marker : (after : List ℕ) → HasMarker after (left_marked after) (past_left after)
 has-marker after = go (left_marked after) refl
   where
     go : (t : Bool) → left_marked after ≡ t → HasMarker after t (behind_marker t after)

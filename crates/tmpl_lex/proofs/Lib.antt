@@ -4,6 +4,7 @@ pub mod CutLemmas
 pub mod NameLemmas
 pub mod PartLemmas
 pub mod PairLemmas
+pub mod PlaceLemmas
 pub mod QuotedLemmas
 pub mod RunLemmas
 pub mod StandLemmas

@@ -11,6 +11,6 @@ token_of t = record { kind = t.kind; bytes = t.bytes.now }
 
 -- a piece
 abbrev pub piece_of : declared_piece.Piece → Piece
-piece_of (variant.Text line bytes) = text line bytes.now
+piece_of (variant.Text line start bytes) = text line bytes.now
 piece_of (variant.Action line tokens) = action line (map token_of tokens.items)
 piece_of (variant.Unreadable line) = unreadable line

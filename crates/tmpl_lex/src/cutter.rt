@@ -1,8 +1,9 @@
 //! The cut of a file into pieces.
-ghost use Rattle.std.specs.Prelude.{◌≡◌, ◌++◌, ◌≤◌, IfOk, OnOk, List, false, length, map, option_map};
+ghost use Rattle.std.specs.Prelude.{◌≡◌, ◌++◌, ◌≤◌, ℕ, All, IfOk, OnOk, List, false, length, map, option_map};
 ghost use Rattle.tmpl_lex.specs.View.{piece_of};
 ghost use Rattle.tmpl_lex.specs.Cut as spec;
 ghost use Rattle.tmpl_lex.specs.computed.Cut as computed;
+ghost use Rattle.tmpl_lex.specs.Place.{IsPlaced, StandsAt};
 ghost use Rattle.tmpl_lex.specs.Text.{text_piece};
 ghost use Rattle.tmpl_lex.specs.computed.Cut.{ends_at, pieces_of};
 ghost use Rattle.tmpl_lex.specs.computed.View.{end_of, opened_of};
@@ -24,10 +25,11 @@ use std::alloc::{AllocError, Global};
 /// # Errors
 ///
 /// Where memory ran out.
-#[tactic(auto, using(crate::proofs::CutLemmas::cutting))]
+#[tactic(auto, using(crate::proofs::CutLemmas::cutting, crate::proofs::PlaceLemmas::placing))]
 pub fn cut(alloc: Global, bytes: &[u8]) -> Result<Vec<Piece<'_>>, AllocError>
     ensures cuts { IfOk result (λ v. spec.Cuts false 1 bytes.now (map piece_of v.items)) }
     ensures value { IfOk result (λ v. map piece_of v.items ≡ computed.cut_of bytes.now) }
+    ensures placed { IfOk result (λ v. All (IsPlaced bytes.now) v.items) }
 {
     let mut pieces = Vec::new(alloc);
     let mut scratch = Vec::new(alloc);
@@ -37,7 +39,9 @@ pub fn cut(alloc: Global, bytes: &[u8]) -> Result<Vec<Piece<'_>>, AllocError>
     while let Some((before, after)) = split_pair(rest, b'{', b'{') {
         let (taken, text) = split_leading(before, trims);
         line += newlines(taken);
-        push_text(&mut pieces, line, trim_end(text, has_left_marker(after)))?;
+        let start = bytes.len() - rest.len() + taken.len();
+        let kept = trim_end(text, has_left_marker(after));
+        push_text(&mut pieces, line, start, kept)?;
         line += newlines(text);
         let opened = read_opened(alloc, &mut scratch, skip_left_marker(after))?;
         let Some(end) = push_opened(&mut pieces, line, opened)? else {
@@ -48,17 +52,25 @@ pub fn cut(alloc: Global, bytes: &[u8]) -> Result<Vec<Piece<'_>>, AllocError>
         rest = end.rest;
     }
     let (taken, text) = split_leading(rest, trims);
-    push_text(&mut pieces, line + newlines(taken), text)?;
+    let start = bytes.len() - rest.len() + taken.len();
+    push_text(&mut pieces, line + newlines(taken), start, text)?;
     Ok(pieces)
 }
 
 /// Adds a text, unless it is empty.
-fn push_text<'b>(pieces: &mut Vec<Piece<'b>>, line: u64, bytes: &'b [u8]) -> Result<(), AllocError>
-    ensures { OnOk result (map piece_of pieces.new.items
+fn push_text<'b>(
+    pieces: &mut Vec<Piece<'b>>,
+    line: u64,
+    start: usize,
+    bytes: &'b [u8],
+) -> Result<(), AllocError>
+    ensures pieces { OnOk result (map piece_of pieces.new.items
         ≡ map piece_of pieces.old.items ++ text_piece line bytes.now) }
+    ensures placed { (file : List ℕ) → StandsAt file start bytes.now → All (IsPlaced file) pieces.old.items
+        → OnOk result (All (IsPlaced file) pieces.new.items) }
 {
     if !bytes.is_empty() {
-        pieces.push(Piece::Text { line, bytes })?;
+        pieces.push(Piece::Text { line, start, bytes })?;
     }
     Ok(())
 }
@@ -73,6 +85,8 @@ fn push_opened<'b>(
     ensures pieces { OnOk result (map piece_of pieces.new.items
         ≡ map piece_of pieces.old.items ++ pieces_of line (opened_of opened.entry)) }
     ensures end { IfOk result (λ e. option_map end_of e ≡ ends_at (opened_of opened.entry)) }
+    ensures placed { (file : List ℕ) → All (IsPlaced file) pieces.old.items
+        → OnOk result (All (IsPlaced file) pieces.new.items) }
 {
     match opened {
         Opened::Comment(end) => Ok(Some(end)),

@@ -47,10 +47,20 @@ pub struct Token<'b> {
 /// A piece of a template file. A line counts from 1.
 #[derive(Debug, Drop)]
 pub enum Piece<'b> {
-    /// Bytes that stand for themselves, at least one, and the line of the first of them.
-    Text { line: u64, bytes: &'b [u8] },
+    /// Bytes that stand for themselves, at least one, the line of the first of them, and how many bytes of the file stand
+    /// before it.
+    Text {
+        line: u64,
+        start: usize,
+        bytes: &'b [u8],
+    },
     /// The tokens between `{{` and `}}`, and the line of the `{{`.
-    Action { line: u64, tokens: Vec<Token<'b>> },
+    Action {
+        line: u64,
+        tokens: Vec<Token<'b>>,
+    },
     /// An action that is not closed or has a place where no token begins. It is the last piece.
-    Unreadable { line: u64 },
+    Unreadable {
+        line: u64,
+    },
 }

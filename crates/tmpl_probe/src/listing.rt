@@ -7,7 +7,7 @@ use tmpl_funcs::Func;
 use tmpl_values::Bytes;
 
 /// Puts out the name of each template and then its instructions.
-pub(crate) fn put_listing(writer: &mut impl Write, program: &Program<'_, '_>) -> io::Result<()> {
+pub(crate) fn put_listing(writer: &mut impl Write, program: &Program<'_>) -> io::Result<()> {
     let mut names = program.set.names();
     for (place, instruction) in program.instructions.iter().enumerate() {
         if program.starts.contains(&place) {
@@ -40,7 +40,7 @@ fn put_instruction(
 /// Puts out what an instruction is done with.
 fn put_operands(writer: &mut impl Write, instruction: &Instruction<'_>) -> io::Result<()> {
     match instruction {
-        Instruction::Put(bytes) => put_text(writer, bytes),
+        Instruction::Put(text) => put_text(writer, text.as_slice()),
         Instruction::PushNumber(number) => write!(writer, " {number}"),
         Instruction::PushText(bytes) | Instruction::RefuseTemplate(bytes) => {
             put_text(writer, bytes.as_slice())

@@ -14,18 +14,22 @@
 //! `always`, over so many cells more than there have to be, and so many times. The text goes to standard output, and
 //! the line and the status of each run to standard error. `fixed` does the same over arrays: a stack of 64 cells, and
 //! at most 4,096 bytes of text.
+//!
+//! `often TIMES`, and the words of a command, calls the command so many times.
 #![tactic(auto)]
 
 mod calls;
 mod disk;
 mod limited;
 mod listing;
+mod often;
 mod running;
 
 ghost use Rattle.std.specs.Prelude.{◌≡◌, None};
 
 use crate::calls::{call_often, share_often};
 use crate::listing::put_listing;
+use crate::often::call_tool_often;
 use crate::running::{put_room, run_words};
 use std::alloc::Global;
 use std::io::{self, BufWriter, Write};
@@ -218,6 +222,7 @@ fn main(rt: HostRuntime) -> io::Result<ExitCode> {
         ("run", _) => run_words(&rt, rest, false)?,
         ("fixed", _) => run_words(&rt, rest, true)?,
         ("room", [depth, more @ ..]) => put_room(&rt, depth.as_str(), more)?,
+        ("often", [times, more @ ..]) => call_tool_often(&rt, times.as_str(), more)?,
         (part, [file, more @ ..]) => with_file(&rt, part, file.as_str(), more)?,
         _ => return Ok(ExitCode::from(2)),
     };

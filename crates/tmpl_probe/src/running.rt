@@ -49,7 +49,7 @@ fn loan_in(words: &[String; 6]) -> Option<Loan> {
 }
 
 /// What the words of a command ask for and the files that they name hold, if they are taken and accepted.
-fn load<'a>(rt: &HostRuntime, words: &'a [String]) -> Option<(Request<'a>, Inputs<'static>)> {
+fn load<'a>(rt: &HostRuntime, words: &'a [String]) -> Option<(Request<'a>, Inputs)> {
     let alloc = rt.alloc();
     let request = request_of(alloc, words).ok()?;
     let inputs = read_inputs(alloc, &request, &mut Disk::new(rt)).ok()?;
@@ -71,7 +71,7 @@ pub(crate) fn put_room(rt: &HostRuntime, depth: &str, words: &[String]) -> io::R
     }
 }
 
-fn put_room_of(rt: &HostRuntime, depth: u32, set: &Set<'_>) -> io::Result<bool> {
+fn put_room_of(rt: &HostRuntime, depth: u32, set: &Set) -> io::Result<bool> {
     let Ok(program) = compile(rt.alloc(), set) else {
         return Ok(false);
     };
@@ -99,7 +99,7 @@ pub(crate) fn run_words(rt: &HostRuntime, words: &[String], in_arrays: bool) -> 
 /// Compiles the set, and runs its template of this number.
 fn run_template(
     rt: &HostRuntime,
-    inputs: &Inputs<'_>,
+    inputs: &Inputs,
     number: usize,
     request: &Request<'_>,
     loan: Loan,
@@ -120,7 +120,7 @@ fn run_template(
 /// Runs over as many cells as the room and those beyond it.
 fn run_in_vecs<'a>(
     rt: &HostRuntime,
-    program: &Program<'a, '_>,
+    program: &Program<'a>,
     entry: Entry,
     data: Option<&'a Data>,
     request: &Request<'_>,
@@ -150,7 +150,7 @@ fn run_in_vecs<'a>(
 /// Runs over arrays, to a sink that keeps its bytes in one, which is then put out. So it takes no memory of its own.
 fn run_in_arrays<'a>(
     rt: &HostRuntime,
-    program: &Program<'a, '_>,
+    program: &Program<'a>,
     entry: Entry,
     data: Option<&'a Data>,
     request: &Request<'_>,
@@ -212,7 +212,7 @@ fn blank_bytes(alloc: Global, count: usize) -> Result<Vec<u8>, AllocError> {
 /// the command, if it has one, its status, and how many puts there were behind one that failed, if there were some.
 fn run_often<'a, W: Write, E: Write>(
     alloc: Global,
-    program: &Program<'a, '_>,
+    program: &Program<'a>,
     entry: Entry,
     data: Option<&'a Data>,
     request: &Request<'_>,
@@ -247,7 +247,7 @@ fn run_often<'a, W: Write, E: Write>(
     Ok(true)
 }
 
-fn put_status<W: Write>(writer: &mut W, status: Status, behind: u64) -> io::Result<()> {
+pub(crate) fn put_status<W: Write>(writer: &mut W, status: Status, behind: u64) -> io::Result<()> {
     let code = status.code;
     write!(writer, "status {code}")?;
     if behind > 0 {

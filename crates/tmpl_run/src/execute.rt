@@ -27,7 +27,7 @@ impl<'m, 'a> Machine<'m, 'a> {
     #[inline(always)]
     pub(crate) fn execute<S: Sink>(
         &mut self,
-        program: &Program<'a, '_>,
+        program: &Program<'a>,
         options: &Options,
         instruction: Instruction<'a>,
         piece: &mut Piece<'_>,
@@ -53,7 +53,7 @@ impl<'m, 'a> Machine<'m, 'a> {
     {
         match instruction {
             Instruction::Spend(line) => self.spend(options.steps, line)?,
-            Instruction::Put(bytes) => self.put_bytes(*bytes, piece, sink)?,
+            Instruction::Put(text) => self.put_text(text, piece, sink)?,
             Instruction::PushNothing => self.give(Val::Nothing),
             Instruction::PushBool(truth) => self.give(Val::Bool(truth)),
             Instruction::PushNumber(number) => self.give(Val::Num(number)),

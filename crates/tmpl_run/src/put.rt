@@ -13,28 +13,29 @@ ghost use Rattle.tmpl_run.specs.computed.View.{cells_of, size_of};
 use crate::machine::Machine;
 use crate::piece::Piece;
 use tmpl_meaning::{Sink, SinkFault};
+use tmpl_syntax::Text;
 
 impl<'m, 'a> Machine<'m, 'a> {
-    /// Puts out bytes.
-    pub(crate) fn put_bytes<S: Sink>(
+    /// Puts out a text of the template.
+    pub(crate) fn put_text<S: Sink>(
         &mut self,
-        bytes: &[u8],
+        text: &Text,
         piece: &mut Piece<'_>,
         sink: &mut S,
     ) -> Result<(), SinkFault>
         ghost run: { Told }
         requires place { self.old.place + 1 < 2 ^ 64 }
         requires failures { (S.so_far sink.old).failures < 2 ^ 64 - 1 }
-        ensures step { done run.plan run.template (code.put bytes.now) (state_of run self.old)
-            ≡ goes (state_of (record run { text = run.text ++ bytes.now }) self.new) }
+        ensures step { done run.plan run.template (code.put text.now) (state_of run self.old)
+            ≡ goes (state_of (record run { text = run.text ++ text.now }) self.new) }
         ensures given { IsPut result (given_of (S.so_far sink.old) piece.old)
-            (given_of (S.so_far sink.new) piece.new) bytes.now }
+            (given_of (S.so_far sink.new) piece.new) text.now }
         ensures taken { Grows (S.so_far sink.old) (S.so_far sink.new) }
         ensures plain { IsPlain self.old → IsPlain self.new }
         ensures size { size_of self.new.stack ≡ size_of self.old.stack }
     {
         self.place += 1;
-        piece.put(sink, bytes)
+        piece.put(sink, text.as_slice())
     }
 
     /// Takes the newest value, and puts out its text.

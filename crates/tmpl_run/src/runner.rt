@@ -45,7 +45,7 @@ impl<'m, 'a> Machine<'m, 'a> {
     /// Before the first instruction of a template.
     fn start(
         alloc: Global,
-        program: &Program<'a, '_>,
+        program: &Program<'a>,
         entry: Entry,
         data: Option<&'a Data>,
         options: &Options,
@@ -78,7 +78,7 @@ impl<'m, 'a> Machine<'m, 'a> {
     /// Carries out instructions until the run is over or stops.
     fn turns<S: Sink>(
         &mut self,
-        program: &Program<'a, '_>,
+        program: &Program<'a>,
         options: &Options,
         piece: &mut Piece<'_>,
         sink: &mut S,
@@ -109,12 +109,7 @@ impl<'m, 'a> Machine<'m, 'a> {
 }
 
 /// Why a run ends that stops in the template of this number, at this line.
-fn error_for<'a>(
-    program: &Program<'a, '_>,
-    number: usize,
-    line: u64,
-    stop: Halt<'a>,
-) -> RunError<'a>
+fn error_for<'a>(program: &Program<'a>, number: usize, line: u64, stop: Halt<'a>) -> RunError<'a>
     requires { number < length (set_view program.now.set.now) }
     ensures { IsStopped (slice_get (set_view program.now.set.now) number) line stop.entry result }
 {
@@ -141,7 +136,7 @@ fn error_for<'a>(
 /// [`Program::makes_text`] is false, a run does not answer want of memory.
 pub fn run<'a, S: Sink>(
     alloc: Global,
-    program: &Program<'a, '_>,
+    program: &Program<'a>,
     entry: Entry,
     data: Option<&'a Data>,
     options: &Options,

@@ -24,7 +24,7 @@ abbrev pub control_step : ControlNode-F NodeKind NodeKind Node → NodeKind
 control_step c = control_node c.control (header_of c.header) (nodes_of c.body.items) (nodes_of c.other.items)
 
 abbrev pub kind_step : NodeKind-F NodeKind NodeKind Node → NodeKind
-kind_step (NodeKind-F.Text bytes) = text bytes.now
+kind_step (NodeKind-F.Text bytes) = text bytes
 kind_step (NodeKind-F.Action h) = action (header_of h)
 kind_step (NodeKind-F.Control c) = c.value
 kind_step NodeKind-F.Break = break_node

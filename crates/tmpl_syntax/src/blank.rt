@@ -10,14 +10,14 @@ use tmpl_lex::is_space;
 
 /// Whether all nodes are texts of white space.
 #[tactic(auto, using(crate::proofs::SetLemmas::blanks))]
-pub(crate) fn is_blank(nodes: &[Node<'_>]) -> bool
+pub(crate) fn is_blank(nodes: &[Node]) -> bool
     ensures { result ≡ spec.is_blank (nodes_in nodes.now) }
 {
     all_blank(nodes)
 }
 
 /// Whether each node is a text of white space.
-fn all_blank(nodes: &[Node<'_>]) -> bool
+fn all_blank(nodes: &[Node]) -> bool
     ensures { result ≡ list_all (λ n. spec.is_blank_node (node_of n).what) nodes.now }
 {
     nodes.iter().all(|node| is_blank_node(node))
@@ -25,11 +25,11 @@ fn all_blank(nodes: &[Node<'_>]) -> bool
 
 /// Whether a node is a text of white space.
 #[tactic(auto, using(crate::proofs::ViewLemmas::controls))]
-fn is_blank_node(node: &Node<'_>) -> bool
+fn is_blank_node(node: &Node) -> bool
     ensures { result ≡ spec.is_blank_node (node_of node.now).what }
 {
     match &node.what {
-        NodeKind::Text(bytes) => is_white(bytes),
+        NodeKind::Text(text) => is_white(text.as_slice()),
         NodeKind::Action(_)
         | NodeKind::Control(_)
         | NodeKind::Break

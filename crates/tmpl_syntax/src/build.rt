@@ -17,33 +17,33 @@ use tmpl_values::Bytes;
 
 /// What is known of a part from a place on.
 #[derive(Drop)]
-pub(crate) struct Level<'b> {
+pub(crate) struct Level {
     /// Its nodes, the last one first.
-    pub(crate) nodes: Vec<Node<'b>>,
+    pub(crate) nodes: Vec<Node>,
     /// Those of the else part behind it.
-    pub(crate) other: Vec<Node<'b>>,
+    pub(crate) other: Vec<Node>,
 }
 
 /// The part in which a place stands, and those around it.
 #[derive(Drop)]
-pub(crate) struct Parts<'b> {
-    pub(crate) inner: Level<'b>,
+pub(crate) struct Parts {
+    pub(crate) inner: Level,
     /// The nearest last.
-    pub(crate) around: Vec<Level<'b>>,
+    pub(crate) around: Vec<Level>,
     /// The templates that are defined from the place on, the last one first.
-    pub(crate) definitions: Vec<Definition<'b>>,
+    pub(crate) definitions: Vec<Definition>,
 }
 
 /// The templates that a file's items define, each of which stands where it may, in the order of their headers; the
 /// file's own, of this name, is the last. They are built from the last item to the first, so that an else part is
 /// there before the control to which it belongs.
-pub(crate) fn build<'b>(
+pub(crate) fn build(
     alloc: Global,
-    items: Vec<Item<'b>>,
+    items: Vec<Item>,
     name: Bytes,
-) -> Result<Vec<Definition<'b>>, AllocError>
+) -> Result<Vec<Definition>, AllocError>
     ensures { IfOk result (λ v. map definition_of v.items
-        ≡ all_from name (map item_of items.entry.items)) }
+        ≡ all_from name (map item_of items.items)) }
 {
     let Parts {
         inner,
@@ -60,8 +60,8 @@ pub(crate) fn build<'b>(
 }
 
 /// The parts from the first of these items on.
-fn parts_before<'b>(alloc: Global, items: Vec<Item<'b>>) -> Result<Parts<'b>, AllocError>
-    ensures { IfOk result (λ p. parts_of p ≡ spec.parts_before (map item_of items.entry.items) spec.no_parts) }
+fn parts_before(alloc: Global, items: Vec<Item>) -> Result<Parts, AllocError>
+    ensures { IfOk result (λ p. parts_of p ≡ spec.parts_before (map item_of items.items) spec.no_parts) }
 {
     let mut items = items;
     let mut parts = Parts {
@@ -75,9 +75,9 @@ fn parts_before<'b>(alloc: Global, items: Vec<Item<'b>>) -> Result<Parts<'b>, Al
     Ok(parts)
 }
 
-impl<'b> Level<'b> {
+impl Level {
     /// No nodes.
-    fn new(alloc: Global) -> Level<'b>
+    fn new(alloc: Global) -> Level
         ensures { level_of result ≡ spec.no_level }
     {
         Level {
@@ -88,8 +88,8 @@ impl<'b> Level<'b> {
 }
 
 /// The nodes of a part, of which the last one came first.
-fn in_order<'b>(nodes: Vec<Node<'b>>) -> Vec<Node<'b>>
-    ensures { result.items ≡ reverse nodes.entry.items }
+fn in_order(nodes: Vec<Node>) -> Vec<Node>
+    ensures { result.items ≡ reverse nodes.items }
 {
     let mut nodes = nodes;
     nodes.reverse();
@@ -97,26 +97,21 @@ fn in_order<'b>(nodes: Vec<Node<'b>>) -> Vec<Node<'b>>
 }
 
 /// The parts from an item on, by those behind it.
-fn put<'b>(alloc: Global, parts: Parts<'b>, item: Item<'b>) -> Result<Parts<'b>, AllocError>
-    ensures { IfOk result (λ p. parts_of p ≡ spec.parts_with (item_of item.entry) (parts_of parts.entry)) }
+fn put(alloc: Global, parts: Parts, item: Item) -> Result<Parts, AllocError>
+    ensures { IfOk result (λ p. parts_of p ≡ spec.parts_with (item_of item) (parts_of parts)) }
 {
     let Item { line, what } = item;
     match what {
-        ItemKind::Text(bytes) => put_node(parts, line, NodeKind::Text(bytes)),
+        ItemKind::Text(text) => put_node(parts, line, NodeKind::Text(text)),
         ItemKind::Unreadable | ItemKind::Unread | ItemKind::TooDeep(_) => Ok(parts),
         ItemKind::Action(action) => put_action(alloc, parts, line, action),
     }
 }
 
 /// The parts from an action on, by those behind it.
-fn put_action<'b>(
-    alloc: Global,
-    parts: Parts<'b>,
-    line: u64,
-    action: Action,
-) -> Result<Parts<'b>, AllocError>
+fn put_action(alloc: Global, parts: Parts, line: u64, action: Action) -> Result<Parts, AllocError>
     ensures { IfOk result (λ p. parts_of p
-        ≡ spec.parts_with (item line (action_item (action_of action))) (parts_of parts.entry)) }
+        ≡ spec.parts_with (item line (action_item (action_of action))) (parts_of parts)) }
 {
     match action {
         Action::Pipeline(header) => put_node(parts, line, NodeKind::Action(header)),
@@ -133,13 +128,8 @@ fn put_action<'b>(
 }
 
 /// Puts a definition before the others: its body is the innermost part.
-fn put_definition<'b>(
-    alloc: Global,
-    parts: Parts<'b>,
-    line: u64,
-    name: Bytes,
-) -> Result<Parts<'b>, AllocError>
-    ensures { IfOk result (λ p. parts_of p ≡ spec.definition_before line name (parts_of parts.entry)) }
+fn put_definition(alloc: Global, parts: Parts, line: u64, name: Bytes) -> Result<Parts, AllocError>
+    ensures { IfOk result (λ p. parts_of p ≡ spec.definition_before line name (parts_of parts)) }
 {
     let Parts {
         inner,
@@ -160,15 +150,15 @@ fn put_definition<'b>(
 }
 
 /// Puts a definition, and a call of it before the nodes of the part around.
-fn put_block<'b>(
+fn put_block(
     alloc: Global,
-    parts: Parts<'b>,
+    parts: Parts,
     line: u64,
     name: Bytes,
     pipeline: Pipeline,
-) -> Result<Parts<'b>, AllocError>
+) -> Result<Parts, AllocError>
     ensures { IfOk result (λ p. parts_of p
-        ≡ spec.parts_with (item line (action_item (block_action name (pipeline_of pipeline)))) (parts_of parts.entry)) }
+        ≡ spec.parts_with (item line (action_item (block_action name (pipeline_of pipeline)))) (parts_of parts)) }
 {
     let called = Bytes::new(name.as_slice().to_vec(alloc)?);
     let parts = put_definition(alloc, parts, line, name)?;
@@ -176,8 +166,8 @@ fn put_block<'b>(
 }
 
 /// Puts a node before those of the innermost part.
-fn put_node<'b>(parts: Parts<'b>, line: u64, what: NodeKind<'b>) -> Result<Parts<'b>, AllocError>
-    ensures { IfOk result (λ p. parts_of p ≡ spec.put_before line (kind_of what.entry) (parts_of parts.entry)) }
+fn put_node(parts: Parts, line: u64, what: NodeKind) -> Result<Parts, AllocError>
+    ensures { IfOk result (λ p. parts_of p ≡ spec.put_before line (kind_of what) (parts_of parts)) }
 {
     let mut parts = parts;
     parts.inner.nodes.push(Node { line, what })?;
@@ -185,15 +175,15 @@ fn put_node<'b>(parts: Parts<'b>, line: u64, what: NodeKind<'b>) -> Result<Parts
 }
 
 /// Puts a control before those of the part around: its body is the innermost part, behind which its else part stands.
-fn put_control<'b>(
+fn put_control(
     alloc: Global,
-    parts: Parts<'b>,
+    parts: Parts,
     line: u64,
     control: Control,
     header: Header,
-) -> Result<Parts<'b>, AllocError>
+) -> Result<Parts, AllocError>
     ensures { IfOk result (λ p. parts_of p
-        ≡ spec.control_before line control (header_of header) (parts_of parts.entry)) }
+        ≡ spec.control_before line control (header_of header) (parts_of parts)) }
 {
     let Parts {
         inner,
@@ -211,14 +201,14 @@ fn put_control<'b>(
 }
 
 /// A control whose body, and the else part behind it, are these.
-fn control_kind<'b>(
+fn control_kind(
     alloc: Global,
     control: Control,
     header: Header,
-    parts: Level<'b>,
-) -> Result<NodeKind<'b>, AllocError>
+    parts: Level,
+) -> Result<NodeKind, AllocError>
     ensures { IfOk result (λ k. kind_of k
-        ≡ control_node control (header_of header) (level_of parts.entry).nodes (level_of parts.entry).other) }
+        ≡ control_node control (header_of header) (level_of parts).nodes (level_of parts).other) }
 {
     let node = ControlNode {
         control,
@@ -230,7 +220,7 @@ fn control_kind<'b>(
 }
 
 /// Takes the nearest part around, or one of no nodes where there is none.
-fn outer<'b>(alloc: Global, around: &mut Vec<Level<'b>>) -> Level<'b>
+fn outer(alloc: Global, around: &mut Vec<Level>) -> Level
     ensures first { level_of result ≡ spec.first_of (map level_of (reverse around.old.items)) }
     ensures rest { map level_of (reverse around.new.items) ≡ spec.rest_of (map level_of (reverse around.old.items)) }
 {
@@ -241,8 +231,8 @@ fn outer<'b>(alloc: Global, around: &mut Vec<Level<'b>>) -> Level<'b>
 }
 
 /// Begins a part before an else part.
-fn begin_else<'b>(alloc: Global, parts: Parts<'b>) -> Parts<'b>
-    ensures { parts_of result ≡ spec.else_before (parts_of parts.entry) }
+fn begin_else(alloc: Global, parts: Parts) -> Parts
+    ensures { parts_of result ≡ spec.else_before (parts_of parts) }
 {
     let Parts {
         inner,
@@ -261,14 +251,14 @@ fn begin_else<'b>(alloc: Global, parts: Parts<'b>) -> Parts<'b>
 }
 
 /// Begins a part before an else part that is a control of its own.
-fn begin_branch<'b>(
+fn begin_branch(
     alloc: Global,
-    parts: Parts<'b>,
+    parts: Parts,
     line: u64,
     branch: Branch,
     header: Header,
-) -> Result<Parts<'b>, AllocError>
-    ensures { IfOk result (λ p. parts_of p ≡ spec.branch_before line branch (header_of header) (parts_of parts.entry)) }
+) -> Result<Parts, AllocError>
+    ensures { IfOk result (λ p. parts_of p ≡ spec.branch_before line branch (header_of header) (parts_of parts)) }
 {
     let what = control_kind(alloc, branch.control(), header, parts.inner)?;
     Ok(Parts {
@@ -282,8 +272,8 @@ fn begin_branch<'b>(
 }
 
 /// Begins a part before an `end`.
-fn end<'b>(alloc: Global, parts: Parts<'b>) -> Result<Parts<'b>, AllocError>
-    ensures { IfOk result (λ p. parts_of p ≡ spec.end_before (parts_of parts.entry)) }
+fn end(alloc: Global, parts: Parts) -> Result<Parts, AllocError>
+    ensures { IfOk result (λ p. parts_of p ≡ spec.end_before (parts_of parts)) }
 {
     let mut around = parts.around;
     around.push(parts.inner)?;

@@ -10,6 +10,7 @@ mod parse;
 mod place;
 mod print;
 mod set;
+mod text;
 mod tree;
 
 pub use fault::{ParseFault, ParseKind};
@@ -17,9 +18,10 @@ pub use laws::{
     accepted_back, bounded_need, cut_back, more_branches, one_list_of_items, one_outcome,
     one_spelling, one_verdict, printable, printed_back, set_back,
 };
-pub use parse::{MOST_BYTES, base_name, parse_file};
+pub use parse::{MOST_BYTES, base_name, parse_file, parse_owned};
 pub use print::{print_set, print_tree};
 pub use set::{Names, Set};
+pub use text::Text;
 pub use tmpl_grammar::{
     Binding, Command, Control, Header, Operand, Pair, Pipeline, one_action, one_constant,
     one_operand, one_reading, printed_spelling, printed_tokens,

@@ -23,11 +23,18 @@ use tmpl_values::Bytes;
 /// The most bytes that a file may have (our own limit).
 pub const MOST_BYTES: usize = 16_777_216;
 
+/// The refusal of a file of more.
+const TOO_LONG: Refusal = Refusal {
+    line: 1,
+    kind: ParseKind::TooLong,
+};
+
 /// Adds the templates of a file to the set: those that it defines, by `define` and `block`, in the order of their
 /// headers, and then its own, what stands outside these, whose name is the part of the path after the last `/`, as
 /// Go's `ParseFiles` has it. A new name goes last. A name that is there keeps its place and gets the new body, unless
 /// that is blank, nothing but white space (Go's `Template.Parse`); that a blank body replaces no blank one either is
-/// our own rule. All of the file's templates are added, or none. Their texts are not copied: the set borrows the bytes.
+/// our own rule. All of the file's templates are added, or none. The bytes are copied once, so they need not outlive the
+/// call; `parse_owned` takes them over.
 ///
 /// # Errors
 ///
@@ -40,42 +47,96 @@ pub const MOST_BYTES: usize = 16_777_216;
 /// After an error the set is as it was.
 ///
 /// `else with` is there since Go 1.23. A file that is accepted without it makes the same set with it.
-pub fn parse_file<'b, 'f>(
+pub fn parse_file<'f>(
     alloc: Global,
-    set: &mut Set<'b>,
+    set: &mut Set,
     file: &'f str,
-    bytes: &'b [u8],
+    bytes: &[u8],
 ) -> Result<(), ParseFault<'f>>
     ensures reading { IsReading (set_view set.old) file.entry bytes.now (set_view set.new) result }
     ensures value { IsParse (set_view set.old) file.entry bytes.now (set_view set.new) result }
     ensures before { IsAsBefore (set_view set.old) file.entry bytes.now (set_view set.new) result }
 {
-    match add_file(alloc, set, file, bytes) {
+    match add_copy(alloc, set, file, bytes) {
         Ok(()) => Ok(()),
-        Err(refusal) => Err(ParseFault {
-            file,
-            line: refusal.line,
-            kind: refusal.kind,
-        }),
+        Err(refusal) => Err(fault_of(file, refusal)),
     }
 }
 
-/// Adds a file's templates to the set.
-fn add_file<'b>(
+/// Does what `parse_file` does, and copies nothing: the texts of the templates stay where the bytes are, in one block of
+/// memory that they share.
+///
+/// # Errors
+///
+/// Those of `parse_file`.
+pub fn parse_owned<'f>(
     alloc: Global,
-    set: &mut Set<'b>,
-    file: &str,
-    bytes: &'b [u8],
-) -> Result<(), Refusal>
+    set: &mut Set,
+    file: &'f str,
+    bytes: Vec<u8>,
+) -> Result<(), ParseFault<'f>>
+    ensures reading { IsReading (set_view set.old) file.entry bytes.items (set_view set.new) result }
+    ensures value { IsParse (set_view set.old) file.entry bytes.items (set_view set.new) result }
+    ensures before { IsAsBefore (set_view set.old) file.entry bytes.items (set_view set.new) result }
+{
+    match add_file(alloc, set, file, bytes) {
+        Ok(()) => Ok(()),
+        Err(refusal) => Err(fault_of(file, refusal)),
+    }
+}
+
+/// The refusal, with the file that is refused.
+fn fault_of(file: &str, refusal: Refusal) -> ParseFault<'_>
+    ensures { result ≡ record { file = file.entry; line = refusal.line; kind = refusal.kind } }
+{
+    ParseFault {
+        file,
+        line: refusal.line,
+        kind: refusal.kind,
+    }
+}
+
+/// Adds the templates of a file to the set, and copies its bytes unless they are too many.
+fn add_copy(alloc: Global, set: &mut Set, file: &str, bytes: &[u8]) -> Result<(), Refusal>
     ensures { IsAdded (set_view set.old) file.now bytes.now (set_view set.new) result }
 {
     if bytes.len() > MOST_BYTES {
-        return Err(Refusal {
-            line: 1,
-            kind: ParseKind::TooLong,
-        });
+        return Err(TOO_LONG);
     }
-    let items = read_file(alloc, bytes)?;
+    add_file(alloc, set, file, copy_of(alloc, bytes)?)
+}
+
+/// Adds the templates of a file of these bytes to the set.
+fn add_file(alloc: Global, set: &mut Set, file: &str, bytes: Vec<u8>) -> Result<(), Refusal>
+    ensures { IsAdded (set_view set.old) file.now bytes.items (set_view set.new) result }
+{
+    if bytes.len() > MOST_BYTES {
+        return Err(TOO_LONG);
+    }
+    let contents = shared(alloc, bytes)?;
+    let items = read_file(alloc, &contents)?;
+    add_items(alloc, set, file, items, contents.as_slice())
+}
+
+/// The bytes, to be shared by the texts of a file.
+fn shared(alloc: Global, bytes: Vec<u8>) -> Result<Rc<Bytes>, AllocError>
+    ensures { IfOk result (λ contents. contents.value ≡ bytes.items) }
+{
+    Ok(Rc::new(alloc, Bytes::new(bytes))?)
+}
+
+/// Adds the templates of a file with these items and bytes to the set.
+fn add_items(
+    alloc: Global,
+    set: &mut Set,
+    file: &str,
+    items: Vec<Item>,
+    bytes: &[u8],
+) -> Result<(), Refusal>
+    requires read { map item_of items.items ≡ items_of bytes.now }
+    requires within { length bytes.now ≤ 16777216 }
+    ensures { IsAdded (set_view set.old) file.now bytes.now (set_view set.new) result }
+{
     check(alloc, items.as_slice(), bytes)?;
     let name = Bytes::new(copy_of(alloc, base_name(file))?);
     let definitions = build(alloc, items, name)?;
@@ -85,7 +146,7 @@ fn add_file<'b>(
 }
 
 /// Refuses the first definition that has an earlier one of its name, neither being blank.
-fn refuse_second(alloc: Global, definitions: &[Definition<'_>]) -> Result<(), Refusal>
+fn refuse_second(alloc: Global, definitions: &[Definition]) -> Result<(), Refusal>
     ensures { IsOnce (map definition_of definitions.now) result }
 {
     let mut names = KnownNames::new(alloc);
@@ -106,26 +167,26 @@ fn refuse_second(alloc: Global, definitions: &[Definition<'_>]) -> Result<(), Re
 }
 
 /// The definitions as templates in this file.
-fn templates_of<'b>(
+fn templates_of(
     alloc: Global,
     file: &str,
-    definitions: Vec<Definition<'b>>,
-) -> Result<Vec<(Vec<u8>, Tree<'b>)>, AllocError>
+    definitions: Vec<Definition>,
+) -> Result<Vec<(Vec<u8>, Tree)>, AllocError>
     ensures { IfOk result (λ v. map template_of v.items
-        ≡ map (λ d. template_in file.now (definition_of d)) definitions.entry.items) }
+        ≡ map (λ d. template_in file.now (definition_of d)) definitions.items) }
 {
     let path = Rc::new(alloc, Bytes::new(copy_of(alloc, file.as_bytes())?))?;
     templates_at(alloc, &path, definitions)
 }
 
 /// The definitions as templates in the file of this path, which they share.
-fn templates_at<'b>(
+fn templates_at(
     alloc: Global,
     path: &Rc<Bytes>,
-    definitions: Vec<Definition<'b>>,
-) -> Result<Vec<(Vec<u8>, Tree<'b>)>, AllocError>
+    definitions: Vec<Definition>,
+) -> Result<Vec<(Vec<u8>, Tree)>, AllocError>
     ensures { IfOk result (λ v. map template_of v.items
-        ≡ map (λ d. template_in path.now.value (definition_of d)) definitions.entry.items) }
+        ≡ map (λ d. template_in path.now.value (definition_of d)) definitions.items) }
 {
     let mut templates = Vec::with_capacity(alloc, definitions.len())?;
     for definition in definitions {
@@ -135,22 +196,21 @@ fn templates_at<'b>(
 }
 
 /// The definition as a template in the file of this path.
-fn template<'b>(
-    path: &Rc<Bytes>,
-    definition: Definition<'b>,
-) -> Result<(Vec<u8>, Tree<'b>), AllocError>
-    ensures { IfOk result (λ t. template_of t ≡ template_in path.now.value (definition_of definition.entry)) }
+fn template(path: &Rc<Bytes>, definition: Definition) -> Result<(Vec<u8>, Tree), AllocError>
+    ensures { IfOk result (λ t. template_of t ≡ template_in path.now.value (definition_of definition)) }
 {
     let Definition { name, nodes, .. } = definition;
     let file = Rc::clone(path)?;
     Ok((name.into_vec(), Tree { file, nodes }))
 }
 
-/// The items of a file.
-fn read_file(alloc: Global, bytes: &[u8]) -> Result<Vec<Item<'_>>, AllocError>
-    ensures { IfOk result (λ v. map item_of v.items ≡ items_of bytes.now) }
+/// The items of a file with these contents.
+fn read_file(alloc: Global, contents: &Rc<Bytes>) -> Result<Vec<Item>, AllocError>
+    requires { length contents.now.value ≤ 16777216 }
+    ensures { IfOk result (λ v. map item_of v.items ≡ items_of contents.now.value) }
 {
-    read_all(alloc, cut(alloc, bytes)?)
+    let pieces = cut(alloc, contents.as_slice())?;
+    read_all(alloc, contents, pieces)
 }
 
 /// These bytes, in a list of their own.

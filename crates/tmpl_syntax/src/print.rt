@@ -16,16 +16,16 @@ use tmpl_grammar::PrintedAction;
 
 /// A file as far as it is printed.
 #[derive(Drop)]
-pub(crate) struct Page<'b> {
+pub(crate) struct Page<'t> {
     bytes: Vec<u8>,
     /// The text with which it ends, if it ends with one.
-    before: Option<&'b [u8]>,
+    before: Option<&'t [u8]>,
 }
 
 /// A set as one template file: each template as a definition with a newline behind it, in the order of the set.
 ///
 /// Read as a file, it makes the same templates in the same order, apart from files and lines.
-pub fn print_set(alloc: Global, set: &Set<'_>) -> Result<Vec<u8>, AllocError>
+pub fn print_set(alloc: Global, set: &Set) -> Result<Vec<u8>, AllocError>
     ensures printed { IfOk result (λ v. v.items ≡ printed_set (set_view set.now)) }
     ensures read_back { IfOk result (λ v. SetBack v.items (set_view set.now)) }
 {
@@ -37,7 +37,7 @@ pub fn print_set(alloc: Global, set: &Set<'_>) -> Result<Vec<u8>, AllocError>
 }
 
 /// The body of a template as a template file.
-pub fn print_tree(alloc: Global, tree: &Tree<'_>) -> Result<Vec<u8>, AllocError>
+pub fn print_tree(alloc: Global, tree: &Tree) -> Result<Vec<u8>, AllocError>
     ensures { IfOk result (λ v. v.items ≡ printed (tree_of tree.now).nodes) }
 {
     let mut page = Page::new(alloc);
@@ -45,10 +45,10 @@ pub fn print_tree(alloc: Global, tree: &Tree<'_>) -> Result<Vec<u8>, AllocError>
     Ok(page.bytes)
 }
 
-impl<'b> Page<'b> {
+impl<'t> Page<'t> {
     /// An empty file.
     #[tactic(auto, unfolding(crate::specs::computed::View::page_of))]
-    fn new(alloc: Global) -> Page<'b>
+    fn new(alloc: Global) -> Page<'t>
         ensures { page_of result ≡ ([], None) }
     {
         Page {
@@ -58,7 +58,7 @@ impl<'b> Page<'b> {
     }
 
     /// Adds a template as a definition, and a newline.
-    fn template(&mut self, name: &[u8], tree: &Tree<'b>) -> Result<(), AllocError>
+    fn template(&mut self, name: &[u8], tree: &'t Tree) -> Result<(), AllocError>
         ensures { OnOk result (page_of self.new
             ≡ page_with (page_of self.old) (template_said (name.now, tree_of tree.now))) }
     {
@@ -70,7 +70,7 @@ impl<'b> Page<'b> {
 
     /// Adds nodes.
     #[cycle(print)]
-    fn nodes(&mut self, nodes: &[Node<'b>]) -> Result<(), AllocError>
+    fn nodes(&mut self, nodes: &'t [Node]) -> Result<(), AllocError>
         ensures { OnOk result (page_of self.new ≡ page_with (page_of self.old) (nodes_said (nodes_in nodes.now))) }
     {
         for node in nodes {
@@ -81,11 +81,11 @@ impl<'b> Page<'b> {
 
     /// Adds one node.
     #[cycle(print)]
-    fn node(&mut self, node: &Node<'b>) -> Result<(), AllocError>
+    fn node(&mut self, node: &'t Node) -> Result<(), AllocError>
         ensures { OnOk result (page_of self.new ≡ page_with (page_of self.old) (node_said (node_of node.now).what)) }
     {
         match &node.what {
-            NodeKind::Text(bytes) => self.text(bytes),
+            NodeKind::Text(text) => self.text(text.as_slice()),
             NodeKind::Action(header) => self.action(PrintedAction::Pipeline(header)),
             NodeKind::Control(control) => self.control(control),
             NodeKind::Break => self.action(PrintedAction::Break),
@@ -99,7 +99,7 @@ impl<'b> Page<'b> {
 
     /// Adds a control with its parts.
     #[cycle(print)]
-    fn control(&mut self, control: &ControlNode<'b>) -> Result<(), AllocError>
+    fn control(&mut self, control: &'t ControlNode) -> Result<(), AllocError>
         ensures { OnOk result (page_of self.new ≡ page_with (page_of self.old) (node_said (control_of control.now))) }
     {
         self.action(PrintedAction::Open(control.control, &control.header))?;
@@ -110,7 +110,7 @@ impl<'b> Page<'b> {
 
     /// Adds an else part, where it has nodes.
     #[cycle(print)]
-    fn else_part(&mut self, nodes: &[Node<'b>]) -> Result<(), AllocError>
+    fn else_part(&mut self, nodes: &'t [Node]) -> Result<(), AllocError>
         ensures { OnOk result (page_of self.new
             ≡ page_with (page_of self.old) (else_said (nodes_in nodes.now) (nodes_said (nodes_in nodes.now)))) }
     {
@@ -134,7 +134,7 @@ impl<'b> Page<'b> {
     }
 
     /// Adds a text.
-    fn text(&mut self, text: &'b [u8]) -> Result<(), AllocError>
+    fn text(&mut self, text: &'t [u8]) -> Result<(), AllocError>
         ensures { OnOk result (page_of self.new ≡ page_with (page_of self.old) (said_text text.now ∷ [])) }
     {
         self.bytes.extend_from_slice(parting(self.before))?;

@@ -15,19 +15,20 @@ use std::alloc::{AllocError, Global};
 use std::marker::Model;
 
 /// Templates by their names, in the order in which the names were first defined (our own rule; Go
-/// keeps no order). A name is bytes that need not be UTF-8. The texts of the trees lie in the bytes of their files.
+/// keeps no order). A name is bytes that need not be UTF-8. The texts of the trees of one file lie in one block of memory,
+/// which they share and which is given back with the last of them.
 #[derive(Drop)]
-pub struct Set<'b> {
-    pub(crate) templates: IndexMap<Vec<u8>, Tree<'b>>,
+pub struct Set {
+    pub(crate) templates: IndexMap<Vec<u8>, Tree>,
 }
 
 /// The names of a set, in its order.
 #[derive(Drop)]
-pub struct Names<'s, 'b> {
-    keys: Keys<'s, Vec<u8>, Tree<'b>>,
+pub struct Names<'s> {
+    keys: Keys<'s, Vec<u8>, Tree>,
 }
 
-impl<'b> Model for Set<'b> {
+impl Model for Set {
     ghost use Rattle.std.specs.Prelude.{ℕ, List, [], Vec};
     ghost use Rattle.std.specs.declared.alloc.Global.{Global};
     ghost use Rattle.tmpl_syntax.specs.declared.tree.Tree.{Tree};
@@ -36,10 +37,8 @@ impl<'b> Model for Set<'b> {
 
     ghost use Rattle.std.specs.Coded.{codes};
     ghost use Rattle.tmpl_syntax.specs.contracts.tree.Tree as held;
-    ghost use mir.Syntax.{static};
 
-    // a tree has the same code whatever its lifetime is
-    ghost coded = { Prim.hlevel (codes, (held.the_row (record { mir = static; lft = [] })).coded) };
+    ghost coded = { Prim.hlevel (codes, held.the_row.coded) };
 
     ghost use Rattle.tmpl_syntax.specs.View.{set_view};
     ghost use Rattle.tmpl_syntax.specs.Kept.{AreKept};
@@ -49,9 +48,9 @@ impl<'b> Model for Set<'b> {
     ghost invariant = { λ s. AreKept (set_view s.templates.entries) };
 }
 
-impl<'b> Set<'b> {
+impl Set {
     /// A set of no templates.
-    pub fn new(alloc: Global) -> Set<'b>
+    pub fn new(alloc: Global) -> Set
         ensures { set_view result ≡ [] }
     {
         Set {
@@ -60,7 +59,7 @@ impl<'b> Set<'b> {
     }
 
     /// The tree of the template of this name, if there is one.
-    pub fn get(&self, name: &[u8]) -> Option<&Tree<'b>>
+    pub fn get(&self, name: &[u8]) -> Option<&Tree>
         ensures value { option_map (λ t. tree_of t.now) result ≡ tree_named name.now (set_view self.now) }
         ensures kept { IfSome result (λ t. IsKept (tree_of t.now)) }
     {
@@ -82,7 +81,7 @@ impl<'b> Set<'b> {
     }
 
     /// The name and the tree of the template of this number.
-    pub fn template(&self, number: usize) -> (&[u8], &Tree<'b>)
+    pub fn template(&self, number: usize) -> (&[u8], &Tree)
         requires { number < length (set_view self.now) }
         ensures value { slice_get (set_view self.now) number ≡ Some (result.0.now, tree_of result.1.now) }
         ensures kept { IsKept (tree_of result.1.now) }
@@ -95,13 +94,10 @@ impl<'b> Set<'b> {
 
     /// Adds templates, one by one: a new name goes last, and a name that is there keeps its place and gets
     /// the new body, unless that is blank. All of them are added, or the set is as it was.
-    pub(crate) fn define_all(
-        &mut self,
-        templates: Vec<(Vec<u8>, Tree<'b>)>,
-    ) -> Result<(), AllocError>
+    pub(crate) fn define_all(&mut self, templates: Vec<(Vec<u8>, Tree)>) -> Result<(), AllocError>
         requires { AreKept (map template_of templates.items) }
         ensures ok { OnOk result (set_view self.new
-            ≡ defined_each (set_view self.old) (map template_of templates.entry.items)) }
+            ≡ defined_each (set_view self.old) (map template_of templates.items)) }
         ensures err { OnErr result (set_view self.new ≡ set_view self.old) }
     {
         // there is room for each before the first is added
@@ -111,7 +107,7 @@ impl<'b> Set<'b> {
     }
 
     /// The names, in the order in which they were first defined.
-    pub fn names(&self) -> Names<'_, 'b>
+    pub fn names(&self) -> Names<'_>
         ensures { names_left result ≡ map (λ t. t.0) (set_view self.now) }
     {
         Names {
@@ -120,7 +116,7 @@ impl<'b> Set<'b> {
     }
 }
 
-impl<'s, 'b> Iterator for Names<'s, 'b> {
+impl<'s> Iterator for Names<'s> {
     type Item = &'s [u8];
 
     ghost next_gives = { YieldsFirstRef names_left };
@@ -136,10 +132,10 @@ impl<'s, 'b> Iterator for Names<'s, 'b> {
 }
 
 /// Adds templates, one by one, for each of which there is room.
-fn define_each<'b>(set: &mut IndexMap<Vec<u8>, Tree<'b>>, templates: Vec<(Vec<u8>, Tree<'b>)>)
+fn define_each(set: &mut IndexMap<Vec<u8>, Tree>, templates: Vec<(Vec<u8>, Tree)>)
     requires { length templates.items ≤ spare set.old }
     ensures { set_view set.new.entries
-        ≡ defined_each (set_view set.old.entries) (map template_of templates.entry.items) }
+        ≡ defined_each (set_view set.old.entries) (map template_of templates.items) }
 {
     for (name, tree) in templates {
         define(set, name, tree);
@@ -147,9 +143,9 @@ fn define_each<'b>(set: &mut IndexMap<Vec<u8>, Tree<'b>>, templates: Vec<(Vec<u8
 }
 
 /// Adds a template, for which there is room.
-fn define<'b>(set: &mut IndexMap<Vec<u8>, Tree<'b>>, name: Vec<u8>, tree: Tree<'b>)
+fn define(set: &mut IndexMap<Vec<u8>, Tree>, name: Vec<u8>, tree: Tree)
     requires { 0 < spare set.old }
-    ensures defined { set_view set.new.entries ≡ defined (set_view set.old.entries) name.items (tree_of tree.entry) }
+    ensures defined { set_view set.new.entries ≡ defined (set_view set.old.entries) name.items (tree_of tree) }
     ensures room { spare set.old ≤ spare set.new + 1 }
 {
     if !keeps(set, name.as_slice(), &tree) {
@@ -159,7 +155,7 @@ fn define<'b>(set: &mut IndexMap<Vec<u8>, Tree<'b>>, name: Vec<u8>, tree: Tree<'
 }
 
 /// Whether a definition leaves the set as it is: a blank one of a name that is there.
-fn keeps(set: &IndexMap<Vec<u8>, Tree<'_>>, name: &[u8], tree: &Tree<'_>) -> bool
+fn keeps(set: &IndexMap<Vec<u8>, Tree>, name: &[u8], tree: &Tree) -> bool
     ensures { result ≡ (is_blank (tree_of tree.now).nodes && is_some (tree_named name.now (set_view set.now.entries))) }
 {
     is_blank(tree.nodes.as_slice()) && set.contains_key(name)

@@ -1,4 +1,5 @@
 //! The tree of a template.
+use crate::text::Text;
 use std::rc::Rc;
 use tmpl_grammar::{Control, Header, Pipeline};
 use tmpl_values::Bytes;
@@ -7,20 +8,20 @@ use tmpl_values::Bytes;
 /// its `{{`, a text's that of its first byte.
 #[cycle(node)]
 #[derive(Drop)]
-pub struct Node<'b> {
+pub struct Node {
     pub line: u64,
-    pub what: NodeKind<'b>,
+    pub what: NodeKind,
 }
 
 /// What a node is.
 #[cycle(node)]
 #[derive(Drop)]
-pub enum NodeKind<'b> {
+pub enum NodeKind {
     /// Bytes that are put out as they are.
-    Text(&'b [u8]),
+    Text(Text),
     /// An action that puts out the text of its value, or binds a variable to it.
     Action(Header),
-    Control(Box<ControlNode<'b>>),
+    Control(Box<ControlNode>),
     /// Ends the innermost range whose body this stands in.
     Break,
     /// Goes to the next element of that range.
@@ -36,26 +37,26 @@ pub enum NodeKind<'b> {
 /// as its dot. A `range`: the body once for each element, or the other part where there is none.
 #[cycle(node)]
 #[derive(Drop)]
-pub struct ControlNode<'b> {
+pub struct ControlNode {
     pub control: Control,
     pub header: Header,
-    pub body: Vec<Node<'b>>,
-    pub other: Vec<Node<'b>>,
+    pub body: Vec<Node>,
+    pub other: Vec<Node>,
 }
 
-/// The body of a template, and the file that it stands in, in whose bytes its texts lie.
+/// The body of a template, and the file that it stands in.
 #[derive(Drop)]
-pub struct Tree<'b> {
+pub struct Tree {
     /// The path of the file as it was given, which all templates of a file share.
     pub file: Rc<Bytes>,
-    pub nodes: Vec<Node<'b>>,
+    pub nodes: Vec<Node>,
 }
 
 /// A template that a file defines.
 #[derive(Drop)]
-pub(crate) struct Definition<'b> {
+pub(crate) struct Definition {
     /// That of its header, or 1 for the file's own template.
     pub(crate) line: u64,
     pub(crate) name: Bytes,
-    pub(crate) nodes: Vec<Node<'b>>,
+    pub(crate) nodes: Vec<Node>,
 }

@@ -19,7 +19,7 @@ use tmpl_syntax::{Set, print_set};
 use tmpl_values::Data;
 
 /// Puts the printed set out.
-fn print<O: Sink, E: Sink>(alloc: Global, set: &Set<'_>, out: &mut O, err: &mut E) -> Status
+fn print<O: Sink, E: Sink>(alloc: Global, set: &Set, out: &mut O, err: &mut E) -> Status
     requires out { (O.so_far out.old).failures < 2 ^ 64 - 1 }
     requires err { (E.so_far err.old).failures < 2 ^ 64 - 1 }
     ensures counts { Counted (O.so_far out.old).failures (O.so_far out.new).failures result.code }
@@ -39,7 +39,7 @@ fn print<O: Sink, E: Sink>(alloc: Global, set: &Set<'_>, out: &mut O, err: &mut 
 pub(crate) fn answer<O: Sink, E: Sink>(
     alloc: Global,
     request: &Request<'_>,
-    set: &Set<'_>,
+    set: &Set,
     data: Option<&Data>,
     out: &mut O,
     err: &mut E,

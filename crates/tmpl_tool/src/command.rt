@@ -7,7 +7,7 @@ ghost use Rattle.tmpl_tool.specs.Source.{Asked};
 ghost use Rattle.tmpl_tool.specs.Tool.{Follows, IsParse, Parse, stop_answer, tool_answer, tool_reads, words_alone};
 
 use crate::answer::answer;
-use crate::files::inputs::read_inputs;
+use crate::files::inputs::{Inputs, read_inputs};
 use crate::files::source::Source;
 use crate::messages::lines::{out_of_memory, refuse, words_refused};
 use crate::render::put_out;
@@ -16,7 +16,6 @@ use crate::words::help::asks_help;
 use crate::words::request::Refused;
 use crate::words::request_of;
 use std::alloc::Global;
-use std::mem;
 use tmpl_run::Sink;
 
 /// What `--help` puts out.
@@ -24,12 +23,21 @@ static USAGE: &[u8] =
     b"usage: tmpl [--data FILE] [--missingkey default|invalid|zero|error] [--name NAME] \
     [--depth N] [--steps N] [--print] FILE...\n";
 
+/// How the command ended, and what it has read.
+#[derive(Drop)]
+pub struct Ended {
+    pub status: Status,
+    /// The templates and the data; none where it ended before it had all that it needs.
+    pub inputs: Option<Inputs>,
+}
+
 /// The command `tmpl` over a source of files, an output and an error sink.
 ///
 /// What is put out, the line on the error sink and the status are one function of the words and of what the
 /// files hold. Where a write fails the output is a beginning of that text, and the status 6. Where memory is
 /// refused it is a beginning too, and nothing where no text is made, and the status 7. Words that ask for help
-/// or are refused read no file. The files that the answer speaks of are read once each, in order, and no other.
+/// or are refused read no file. One read is made for each FILE and then one for the data of a run, in order, up to where
+/// the command stops. All memory that the call takes it gives back.
 pub fn tool<S: Source, O: Sink, E: Sink>(
     alloc: Global,
     words: &[String],
@@ -56,20 +64,59 @@ pub fn tool<S: Source, O: Sink, E: Sink>(
         (sunk (E.so_far err.old) (E.so_far err.new))
         result.code) }
 {
+    tool_keeping(alloc, words, source, out, err).status
+}
+
+/// Does what `tool` does, and hands back what was read in place of giving back its memory: a program that ends next can
+/// leave that to the system.
+pub fn tool_keeping<S: Source, O: Sink, E: Sink>(
+    alloc: Global,
+    words: &[String],
+    source: &mut S,
+    out: &mut O,
+    err: &mut E,
+) -> Ended
+    requires source { S.failures source.old < 2 ^ 64 - 1 }
+    requires out { (O.so_far out.old).failures < 2 ^ 64 - 1 }
+    requires err { (E.so_far err.old).failures < 2 ^ 64 - 1 }
+    ensures reads { Once (S.failures source.old) (S.failures source.new) }
+    ensures counts { Counted (O.so_far out.old).failures (O.so_far out.new).failures result.status.code }
+    ensures cuts { Once (E.so_far err.old).failures (E.so_far err.new).failures }
+    ensures unasked { IfSome (words_alone (map (λ word. string_bytes word) words.now)) (λ stop.
+        (source.new ≡ source.old) × Outcome (stop_answer stop)
+        (sunk (O.so_far out.old) (O.so_far out.new))
+        (sunk (E.so_far err.old) (E.so_far err.new))
+        result.status.code) }
+    ensures told { (parse : Parse) → IsParse parse → IfSome (S.contents source.old) (λ files.
+        let bytes = map (λ word. string_bytes word) words.now in
+        Follows (tool_answer parse bytes files) (tool_reads parse bytes files)
+        (S.failures source.old) (S.failures source.new) (Asked (S.asked source.old) (S.asked source.new))
+        (sunk (O.so_far out.old) (O.so_far out.new))
+        (sunk (E.so_far err.old) (E.so_far err.new))
+        result.status.code) }
+{
     if asks_help(words) {
-        return put_out(USAGE, out, err);
+        return stopped(put_out(USAGE, out, err));
     }
     match request_of(alloc, words) {
         Ok(request) => match read_inputs(alloc, &request, source) {
-            Ok(inputs) => {
-                let status = answer(alloc, &request, &inputs.set, inputs.data.as_ref(), out, err);
-                // The process ends here, which gives all memory back at once; to free each value takes longer.
-                mem::forget(inputs);
-                status
-            }
-            Err(stop) => refuse(err, &stop),
+            Ok(inputs) => Ended {
+                status: answer(alloc, &request, &inputs.set, inputs.data.as_ref(), out, err),
+                inputs: Some(inputs),
+            },
+            Err(stop) => stopped(refuse(err, &stop)),
         },
-        Err(Refused::Words) => words_refused(err),
-        Err(Refused::OutOfMemory) => out_of_memory(err),
+        Err(Refused::Words) => stopped(words_refused(err)),
+        Err(Refused::OutOfMemory) => stopped(out_of_memory(err)),
+    }
+}
+
+/// An end before all was read.
+fn stopped(status: Status) -> Ended
+    ensures { result.status ≡ status }
+{
+    Ended {
+        status,
+        inputs: None,
     }
 }

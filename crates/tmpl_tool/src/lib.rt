@@ -12,7 +12,7 @@ mod status;
 mod stop;
 mod words;
 
-pub use command::tool;
+pub use command::{Ended, tool, tool_keeping};
 pub use files::inputs::{Inputs, read_inputs};
 pub use files::source::{Source, SourceFault};
 pub use laws::{ends, one_parse, stages};

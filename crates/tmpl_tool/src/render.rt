@@ -74,7 +74,7 @@ pub fn tell_end<E: Sink>(end: Result<(), RunError<'_>>, err: &mut E) -> Status
 }
 
 /// These options with no greater depth than that to which calls of the program can go, so that its stack is no larger.
-fn fitted(options: &Options, program: &Program<'_, '_>) -> Options
+fn fitted(options: &Options, program: &Program<'_>) -> Options
     ensures { let rules = rules_of options.now in
         rules_of result ≡ record rules { depth_limit = deepest rules.depth_limit (set_view program.now.set.now) } }
 {
@@ -89,7 +89,7 @@ fn fitted(options: &Options, program: &Program<'_, '_>) -> Options
 fn run_program<'a, O: Sink, E: Sink>(
     alloc: Global,
     options: &Options,
-    program: &Program<'a, '_>,
+    program: &Program<'a>,
     number: usize,
     data: Option<&'a Data>,
     out: &mut O,
@@ -131,7 +131,7 @@ fn run_program<'a, O: Sink, E: Sink>(
 fn run_template<'a, O: Sink, E: Sink>(
     alloc: Global,
     options: &Options,
-    set: &'a Set<'_>,
+    set: &'a Set,
     number: usize,
     data: Option<&'a Data>,
     out: &mut O,
@@ -173,7 +173,7 @@ pub fn asked_name<'a>(request: &Request<'a>) -> &'a [u8]
 pub(crate) fn render<O: Sink, E: Sink>(
     alloc: Global,
     request: &Request<'_>,
-    set: &Set<'_>,
+    set: &Set,
     data: Option<&Data>,
     out: &mut O,
     err: &mut E,

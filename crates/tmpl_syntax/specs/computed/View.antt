@@ -30,7 +30,7 @@ use Rattle.tmpl_syntax.specs.declared.build.Parts.{Parts}
 -- ---- items
 
 abbrev pub item_kind : held_kind.ItemKind → ItemKind
-item_kind (held.Text bytes) = text_item bytes.now
+item_kind (held.Text bytes) = text_item bytes
 item_kind held.Unreadable = unreadable_item
 item_kind held.Unread = unread_item
 item_kind (held.TooDeep shape) = deep_item shape

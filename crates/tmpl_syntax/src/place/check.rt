@@ -14,7 +14,7 @@ use std::alloc::Global;
 
 /// Refuses the first action that is refused, or else at its last line a file in which something is open at the end.
 #[tactic(auto, unfolding(crate::specs::computed::View::scopes_of))]
-pub(crate) fn check(alloc: Global, items: &[Item<'_>], bytes: &[u8]) -> Result<(), Refusal>
+pub(crate) fn check(alloc: Global, items: &[Item], bytes: &[u8]) -> Result<(), Refusal>
     ensures { IsChecked bytes.now (map item_of items.now) result }
 {
     let mut stack: Vec<Frame> = Vec::new(alloc);

@@ -31,7 +31,7 @@ pub(super) fn newest(stack: &Vec<Frame>) -> Option<Frame>
 
 /// Forgets the names that an item does not see: an `else` or else branch ends the part before it, and
 /// an `end` the control.
-pub(super) fn forget(names: &mut KnownNames<'_>, item: &Item<'_>, outside: Option<Frame>)
+pub(super) fn forget(names: &mut KnownNames<'_>, item: &Item, outside: Option<Frame>)
     ensures { known_names names.new
         ≡ seen_at (role_of (item_of item.now)) (option_map frame_of outside) (known_names names.old) }
 {
@@ -72,7 +72,7 @@ pub(super) fn take_in<'i>(
     alloc: Global,
     stack: &mut Vec<Frame>,
     scopes: &mut Scopes<'i>,
-    item: &'i Item<'_>,
+    item: &'i Item,
 ) -> Result<(), AllocError>
     requires { fault_at (role_of (item_of item.now)) (top (frames_in stack.old.items))
         (scopes_of scopes.old).inner ≡ None }

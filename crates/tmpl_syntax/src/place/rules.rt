@@ -20,11 +20,7 @@ use tmpl_grammar::{Action, Branch, Control, HeaderShape, Shape};
 const MOST_LEVELS: usize = 500;
 
 /// The fault of an item, if it has one.
-pub(crate) fn fault_of(
-    item: &Item<'_>,
-    outside: Option<Frame>,
-    names: &KnownNames<'_>,
-) -> Option<Fault>
+pub(crate) fn fault_of(item: &Item, outside: Option<Frame>, names: &KnownNames<'_>) -> Option<Fault>
     ensures { option_map of_action result
         ≡ fault_at (role_of (item_of item.now)) (option_map frame_of outside) (known_names names.now) }
 {

@@ -16,19 +16,19 @@ use tmpl_values::Data;
 
 /// What the command needs of the files.
 #[derive(Drop)]
-pub struct Inputs<'b> {
+pub struct Inputs {
     /// The templates of all the files.
-    pub set: Set<'b>,
+    pub set: Set,
     /// The data; none where the words name no file of it, or nothing is to be run.
     pub data: Option<Data>,
 }
 
 /// Reads the templates, and then the data of a run. A read that fails is the last one.
-pub fn read_inputs<'a, 'b, S: Source>(
+pub fn read_inputs<'a, S: Source>(
     alloc: Global,
     request: &Request<'a>,
     source: &mut S,
-) -> Result<Inputs<'b>, Stop<'a>>
+) -> Result<Inputs, Stop<'a>>
     requires { S.failures source.old < 2 ^ 64 - 1 }
     ensures counts { Counts (S.failures source.old) (S.failures source.new) result }
     ensures reads { (parse : Parse) → IsParse parse → IfSome (S.contents source.old) (λ files.

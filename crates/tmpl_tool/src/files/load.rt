@@ -9,12 +9,12 @@ ghost use Rattle.tmpl_tool.specs.Inputs.{Adds, ComesOf, Counts};
 use crate::files::source::{Source, SourceFault};
 use crate::stop::Stop;
 use std::alloc::Global;
-use tmpl_syntax::{MOST_BYTES, Set, parse_file};
+use tmpl_syntax::{MOST_BYTES, Set, parse_owned};
 
 /// Adds the templates of the files to the set.
-pub(crate) fn load_files<'a, 'b, S: Source>(
+pub(crate) fn load_files<'a, S: Source>(
     alloc: Global,
-    set: &mut Set<'b>,
+    set: &mut Set,
     source: &mut S,
     names: &[&'a str],
 ) -> Result<(), Stop<'a>>
@@ -34,9 +34,9 @@ pub(crate) fn load_files<'a, 'b, S: Source>(
 }
 
 /// Adds the templates of one file.
-fn load_file<'a, 'b, S: Source>(
+fn load_file<'a, S: Source>(
     alloc: Global,
-    set: &mut Set<'b>,
+    set: &mut Set,
     source: &mut S,
     name: &'a str,
 ) -> Result<(), Stop<'a>>
@@ -49,8 +49,7 @@ fn load_file<'a, 'b, S: Source>(
         (λ u. set_view set.new) result) }
 {
     match source.read_up_to(alloc, name, MOST_BYTES as u64) {
-        // The set borrows its texts from the bytes, which stay until the process ends.
-        Ok(bytes) => add_file(alloc, set, name, bytes.leak()),
+        Ok(bytes) => add_file(alloc, set, name, bytes),
         Err(SourceFault::NotFound) => Err(Stop::NotFound(name)),
         Err(SourceFault::Failed) => Err(Stop::Failed(name)),
         Err(SourceFault::OutOfMemory) => Err(Stop::OutOfMemory),
@@ -58,15 +57,10 @@ fn load_file<'a, 'b, S: Source>(
 }
 
 /// Adds the templates of a file of these bytes.
-fn add_file<'a, 'b>(
-    alloc: Global,
-    set: &mut Set<'b>,
-    name: &'a str,
-    bytes: &'b [u8],
-) -> Result<(), Stop<'a>>
-    ensures { Adds (parsed (set_view set.old) name.entry.now bytes.now) name.entry.now (set_view set.new) result }
+fn add_file<'a>(alloc: Global, set: &mut Set, name: &'a str, bytes: Vec<u8>) -> Result<(), Stop<'a>>
+    ensures { Adds (parsed (set_view set.old) name.entry.now bytes.items) name.entry.now (set_view set.new) result }
 {
-    match parse_file(alloc, set, name, bytes) {
+    match parse_owned(alloc, set, name, bytes) {
         Ok(()) => Ok(()),
         Err(fault) => Err(Stop::Template(fault)),
     }

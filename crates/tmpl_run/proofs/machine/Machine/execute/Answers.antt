@@ -23,7 +23,7 @@ use Rattle.tmpl_run.proofs.OutputLemmas.{quiet, quiet-grows}
 use Rattle.tmpl_run.proofs.OperationLemmas.{decides-over}
 use Rattle.tmpl_run.proofs.ReadyLemmas as ready
 use Rattle.tmpl_run.proofs.machine.Machine.execute.Goals as goal
-use Rattle.tmpl_run.proofs.machine.Machine.execute.Goals.{in-Spend+in_ok-spend-in-Spend, in-Put+in_ok-put_bytes-in-Put, in-PushNothing}
+use Rattle.tmpl_run.proofs.machine.Machine.execute.Goals.{in-Spend+in_ok-spend-in-Spend, in-Put+in_ok-put_text-in-Put, in-PushNothing}
 use Rattle.tmpl_run.proofs.machine.Machine.execute.Goals.{in-PushBool, in-PushNumber, in-PushText, in-PushDot+in_ok-push_dot-in-PushDot}
 use Rattle.tmpl_run.proofs.machine.Machine.execute.Goals.{in-PushFields+in_ok-push_fields-in-PushFields}
 use Rattle.tmpl_run.proofs.machine.Machine.execute.Goals.{in-PushSlot+in_ok-push_slot-in-PushSlot, in-Chain+in_ok-chain-in-Chain}
@@ -100,7 +100,7 @@ returns-clause-given g c =
     let next = given_of (g.S.Sink.so_far c.match-instruction.sink) c.match-instruction.piece in
     elim c.match-instruction.branch [
       | in-Spend+in_ok-spend-in-Spend w ↦ subst (λ i. IsPut {F = SinkFault} (Ok tt) now next (added (instruction_of i) s)) (sym w.in-Spend.is) (quiet g.S.Sink.so_far c.args.sink.now c.match-instruction.sink c.args.piece.now c.match-instruction.piece w.sink-is w.piece-is)
-      | in-Put+in_ok-put_bytes-in-Put w ↦ subst (λ i. IsPut {F = SinkFault} (Ok tt) now next (added (instruction_of i) s)) (sym w.in-Put.is) (subst (λ o. IsPut {F = SinkFault} (Ok tt) now (given_of (g.S.Sink.so_far o) c.match-instruction.piece) w.in-Put.bytes.now.now) (sym w.sink-is) (subst (λ p. IsPut {F = SinkFault} (Ok tt) now (given_of (g.S.Sink.so_far w.put_bytes.new.sink) p) w.in-Put.bytes.now.now) (sym w.piece-is) w.in_ok-put_bytes-in-Put.ensures.given))
+      | in-Put+in_ok-put_text-in-Put w ↦ subst (λ i. IsPut {F = SinkFault} (Ok tt) now next (added (instruction_of i) s)) (sym w.in-Put.is) (subst (λ o. IsPut {F = SinkFault} (Ok tt) now (given_of (g.S.Sink.so_far o) c.match-instruction.piece) w.in-Put.text.now) (sym w.sink-is) (subst (λ p. IsPut {F = SinkFault} (Ok tt) now (given_of (g.S.Sink.so_far w.put_text.new.sink) p) w.in-Put.text.now) (sym w.piece-is) w.in_ok-put_text-in-Put.ensures.given))
       | in-PushNothing w ↦ subst (λ i. IsPut {F = SinkFault} (Ok tt) now next (added (instruction_of i) s)) (sym w.in-PushNothing.is) (quiet g.S.Sink.so_far c.args.sink.now c.match-instruction.sink c.args.piece.now c.match-instruction.piece w.sink-is w.piece-is)
       | in-PushBool w ↦ subst (λ i. IsPut {F = SinkFault} (Ok tt) now next (added (instruction_of i) s)) (sym w.in-PushBool.is) (quiet g.S.Sink.so_far c.args.sink.now c.match-instruction.sink c.args.piece.now c.match-instruction.piece w.sink-is w.piece-is)
       | in-PushNumber w ↦ subst (λ i. IsPut {F = SinkFault} (Ok tt) now next (added (instruction_of i) s)) (sym w.in-PushNumber.is) (quiet g.S.Sink.so_far c.args.sink.now c.match-instruction.sink c.args.piece.now c.match-instruction.piece w.sink-is w.piece-is)
@@ -132,7 +132,7 @@ returns-clause-given g c =
 pub returns-clause-taken : goal.returns-clause-taken
 returns-clause-taken g c = elim c.match-instruction.branch [
   | in-Spend+in_ok-spend-in-Spend w ↦ quiet-grows g.S.Sink.so_far c.args.sink.now c.match-instruction.sink c.args.piece.now c.match-instruction.piece w.sink-is w.piece-is
-  | in-Put+in_ok-put_bytes-in-Put w ↦ subst (λ o. Grows (g.S.Sink.so_far c.args.sink.now) (g.S.Sink.so_far o)) (sym w.sink-is) w.in_ok-put_bytes-in-Put.ensures.taken
+  | in-Put+in_ok-put_text-in-Put w ↦ subst (λ o. Grows (g.S.Sink.so_far c.args.sink.now) (g.S.Sink.so_far o)) (sym w.sink-is) w.in_ok-put_text-in-Put.ensures.taken
   | in-PushNothing w ↦ quiet-grows g.S.Sink.so_far c.args.sink.now c.match-instruction.sink c.args.piece.now c.match-instruction.piece w.sink-is w.piece-is
   | in-PushBool w ↦ quiet-grows g.S.Sink.so_far c.args.sink.now c.match-instruction.sink c.args.piece.now c.match-instruction.piece w.sink-is w.piece-is
   | in-PushNumber w ↦ quiet-grows g.S.Sink.so_far c.args.sink.now c.match-instruction.sink c.args.piece.now c.match-instruction.piece w.sink-is w.piece-is
@@ -164,7 +164,7 @@ returns-clause-taken g c = elim c.match-instruction.branch [
 pub returns-clause-size : goal.returns-clause-size
 returns-clause-size g c = elim c.match-instruction.branch [
   | in-Spend+in_ok-spend-in-Spend w ↦ ap (λ (m : Machine). size_of m.stack) w.self-is ∙ w.in_ok-spend-in-Spend.ensures.size
-  | in-Put+in_ok-put_bytes-in-Put w ↦ ap (λ (m : Machine). size_of m.stack) w.self-is ∙ w.in_ok-put_bytes-in-Put.ensures.size
+  | in-Put+in_ok-put_text-in-Put w ↦ ap (λ (m : Machine). size_of m.stack) w.self-is ∙ w.in_ok-put_text-in-Put.ensures.size
   | in-PushNothing w ↦ ap (λ (m : Machine). size_of m.stack) w.self-is ∙ w.give.ensures.size
   | in-PushBool w ↦ ap (λ (m : Machine). size_of m.stack) w.self-is ∙ w.give-in-PushBool.ensures.size
   | in-PushNumber w ↦ ap (λ (m : Machine). size_of m.stack) w.self-is ∙ w.give-in-PushNumber.ensures.size
@@ -196,7 +196,7 @@ returns-clause-size g c = elim c.match-instruction.branch [
 pub returns-clause-plain : goal.returns-clause-plain
 returns-clause-plain g c = elim c.match-instruction.branch [
   | in-Spend+in_ok-spend-in-Spend w ↦ λ quiet plain. subst IsPlain (sym w.self-is) (w.in_ok-spend-in-Spend.ensures.plain plain)
-  | in-Put+in_ok-put_bytes-in-Put w ↦ λ quiet plain. subst IsPlain (sym w.self-is) (w.in_ok-put_bytes-in-Put.ensures.plain plain)
+  | in-Put+in_ok-put_text-in-Put w ↦ λ quiet plain. subst IsPlain (sym w.self-is) (w.in_ok-put_text-in-Put.ensures.plain plain)
   | in-PushNothing w ↦ λ quiet plain. subst IsPlain (sym w.self-is) (w.give.ensures.plain refl plain)
   | in-PushBool w ↦ λ quiet plain. subst IsPlain (sym w.self-is) (w.give-in-PushBool.ensures.plain refl plain)
   | in-PushNumber w ↦ λ quiet plain. subst IsPlain (sym w.self-is) (w.give-in-PushNumber.ensures.plain refl plain)

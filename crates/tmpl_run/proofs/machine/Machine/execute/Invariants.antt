@@ -3,8 +3,8 @@ use Rattle.tmpl_run.proofs.machine.Machine.execute.Given as goal
 abbrev pub ghost-spend : goal.ghost-spend
 ghost-spend g a = g.run
 
-abbrev pub ghost-put_bytes : goal.ghost-put_bytes
-ghost-put_bytes g a = g.run
+abbrev pub ghost-put_text : goal.ghost-put_text
+ghost-put_text g a = g.run
 
 abbrev pub ghost-show : goal.ghost-show
 ghost-show g a = g.run

@@ -7,29 +7,34 @@ use Rattle.tmpl_meaning.specs.Sink.{sunk}
 use Rattle.tmpl_meaning.proofs.ToldLemmas.{if_told, of_told}
 use Rattle.tmpl_tool.specs.Help.{asks_help}
 use Rattle.tmpl_tool.specs.Inputs.{inputs_reads, stop_seen}
+use Rattle.tmpl_tool.specs.Outcome.{Outcome}
 use Rattle.tmpl_tool.specs.Source.{Asked}
 use Rattle.tmpl_tool.specs.Tool.{answer_of, bad_words, help, no_read, or_stop, reads_behind, stop_if, tool_answer, tool_reads}
 use Rattle.tmpl_tool.specs.Words.{wanted}
+use Rattle.tmpl_tool.specs.declared.status.Status.{Status}
 use Rattle.tmpl_tool.specs.View.{seen}
 use Rattle.tmpl_tool.specs.computed.Load.{finished}
 use Rattle.tmpl_tool.proofs.LoadLemmas.{asked-nothing}
 use Rattle.tmpl_tool.proofs.MessageLemmas.{nothing_out}
 use Rattle.tmpl_tool.proofs.StageLemmas.{gives_help}
 use Rattle.tmpl_tool.proofs.StopLemmas.{accepted, after_inputs, asks, outcome_as, stops, stops_after}
-use Rattle.tmpl_tool.proofs.command.tool.Goals as goal
+use Rattle.tmpl_tool.proofs.command.tool_keeping.Goals as goal
 
 pub returns-then-asks_help-clause-told : goal.returns-then-asks_help-clause-told
 returns-then-asks_help-clause-told g c parse is =
     let words = map (λ word. string_bytes word) c.args.words.now in
     let helps : asks_help words ≡ true = search rules in
     let asked = g.S.Source.asked c.args.source.now in
+    let out = sunk (g.O.Sink.so_far c.args.out.now) (g.O.Sink.so_far c.put_out.new.out) in
+    let err = sunk (g.E.Sink.so_far c.args.err.now) (g.E.Sink.so_far c.put_out.new.err) in
     if_told _ (g.S.Source.contents c.args.source.now) (λ files told.
     inl (
       refl,
       inl (subst (Asked asked asked)
       (ap (λ b. reads_behind (λ w. inputs_reads parse files w no_read) (or_stop (stop_if b help) (λ u. ok_or (wanted words) bad_words))) (sym helps))
       (asked-nothing asked)),
-      outcome_as _ c.put_out.result.code _ _ _ (gives_help parse words files no_read helps) c.put_out.ensures.outcome,
+      subst (λ (s : Status). Outcome (tool_answer parse words files no_read) out err s.code) (sym c.stopped.ensures)
+          (outcome_as err c.put_out.result.code out _ _ (gives_help parse words files no_read helps) c.put_out.ensures.outcome),
     ))
 
 pub returns-in-Ok-read_inputs-clause-told : goal.returns-in-Ok-read_inputs-clause-told
@@ -41,15 +46,15 @@ returns-in-Ok-read_inputs-clause-told g c parse is =
     let same : option_map (λ d. value_of d.now) c.as_ref.result ≡ option_map value_of inputs.data = search rules in
     if_told _ (g.S.Source.contents c.args.source.now) (λ files told.
     let reads = of_told _ _ files told (c.in-Ok-read_inputs.ensures.reads parse is) in
-    accepted _ c.answer-status.result.code parse _ _ _ _ w files words (asks words w c.in-Ok.ensures helps)
+    accepted _ c.answer.result.code parse _ _ _ _ w files words (asks words w c.in-Ok.ensures helps)
     (inl (
       c.in-Ok-read_inputs.ensures.counts,
       inl reads.1,
-      outcome_as _ c.answer-status.result.code _ _ _
+      outcome_as _ c.answer.result.code _ _ _
           (ap answer_of
           (after_inputs parse files w no_read ∙ ap (λ r. or_stop r (λ i. finished w i.0 i.1)) reads.0
           ∙ ap (finished w (set_view inputs.set)) (sym same)))
-          c.answer-status.ensures.outcome,
+          c.answer.ensures.outcome,
     )))
 
 pub returns-in-Ok-clause-told : goal.returns-in-Ok-clause-told
@@ -58,10 +63,10 @@ returns-in-Ok-clause-told g c parse is =
     let helps : asks_help words ≡ false = search rules in
     let w = seen c.in-Ok.request in
     if_told _ (g.S.Source.contents c.args.source.now) (λ files told.
-    accepted _ c.refuse.result.code parse _ _ _ _ w files words (asks words w c.in-Ok.ensures helps)
-    (stops _ c.refuse.result.code parse _ _ _ _ w files c.in-Err.stop c.in-Err.ensures.counts
+    accepted _ c.stopped-in-Err.result.status.code parse _ _ _ _ w files words (asks words w c.in-Ok.ensures helps)
+    (stops _ c.stopped-in-Err.result.status.code parse _ _ _ _ w files c.in-Err.stop c.in-Err.ensures.counts
     (stops_after parse files w _ (stop_seen c.in-Err.stop) (of_told _ _ files told (c.in-Err.ensures.reads parse is)))
-    c.refuse.ensures.code c.refuse.ensures.line))
+    (ap (λ (s : Status). s.code) c.stopped-in-Err.ensures ∙ c.refuse.ensures.code) c.refuse.ensures.line))
 
 pub returns-clause-told : goal.returns-clause-told
 returns-clause-told g c parse is =
@@ -69,8 +74,10 @@ returns-clause-told g c parse is =
     let err = sunk (g.E.Sink.so_far c.args.err.now) (g.E.Sink.so_far c.out_of_memory.new.err) in
     let asked = g.S.Source.asked c.args.source.now in
     if_told _ (g.S.Source.contents c.args.source.now) (λ files told.
+    let status : c.stopped-in-Err-OutOfMemory.result.status.code ≡ 7 =
+    ap (λ (s : Status). s.code) c.stopped-in-Err-OutOfMemory.ensures ∙ c.out_of_memory.ensures.code in
     inl (
       refl,
-      inr (c.out_of_memory.ensures.code, ([], tool_reads parse words files no_read, refl, asked-nothing asked)),
-      nothing_out (tool_answer parse words files no_read) (g.O.Sink.so_far c.args.out.now) err c.out_of_memory.result.code c.out_of_memory.ensures.code c.out_of_memory.ensures.line,
+      inr (status, ([], tool_reads parse words files no_read, refl, asked-nothing asked)),
+      nothing_out (tool_answer parse words files no_read) (g.O.Sink.so_far c.args.out.now) err c.stopped-in-Err-OutOfMemory.result.status.code status c.out_of_memory.ensures.line,
     ))
