@@ -31,8 +31,8 @@ test:
 		"env TMPL=$(PROGRAM).by-rattle python3 tests/run.py" "python3 tests/places.py" "python3 tests/tables.py" \
 		"python3 tests/fronts.py" "python3 tests/print.py" "python3 tests/draws.py" "python3 tests/calls.py" \
 		"python3 tests/kept.py" "python3 tests/code.py" "python3 tests/pieces.py" "python3 tests/writes.py" \
-		"python3 tests/sweep.py" "python3 tests/strangers.py" "python3 tests/made.py" "python3 tests/quotes.py" \
-		"python3 tests/documents.py"
+		"python3 tests/sweep.py" "python3 tests/memory.py" "python3 tests/counts.py" "python3 tests/strangers.py" \
+		"python3 tests/made.py" "python3 tests/quotes.py" "python3 tests/documents.py"
 
 # proves one crate, CRATE=NAME, over what earlier runs kept in out/
 check:

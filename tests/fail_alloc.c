@@ -46,9 +46,9 @@ static int is_refused(void) {
         told = number_in("FAIL_EACH");
     if (!told)
         return is_numbered();
-    /* a copy has had its refusal */
+    /* a copy has had its refusal, and where FAIL_REST is 1 all that it asks for behind it is refused too */
     if (is_copy)
-        return 0;
+        return number_in("FAIL_REST") == 1;
     is_copy = in_copy(&turn, (int)told, ++number);
     return is_copy;
 }

@@ -1,23 +1,25 @@
-"""Runs the built program over every front of every template and data file of the rows and examples: over its first n bytes, for
-each n, up to 200 bytes. What a front comes to is told by reading.py, which shares no code with the program: a template is
-refused at a line for a reason, or accepted, and data is refused, or put out whole by `{{.}}`. Where a template is
-accepted its run must end well, or with one line of the tables of docs/COMMAND.md. TMPL=PATH names another build."""
+"""Reads every front of every template and data file of the rows and examples: its first n bytes, for each n, of files of up to 20,000
+bytes whole, and of longer ones up to 2,000. They are read in memory, many in one process, by tmpl_memory. What a front comes
+to is told by meaning.py and reading.py, which share no code with the program: a template is refused at a line for a reason, or runs over
+the row's data to a text and an end; data is refused, or put out whole by `{{.}}`."""
+import bisect
+import itertools
 import os
-import re
 import sys
 
 import harness
+import meaning
+import memory
 import reading
 
-LONGEST = 200  # bytes
-LEAST = {"template": 30000, "data": 6000}  # fronts
-LIMITS = [b"--steps", b"1000", b"--depth", b"20"]  # what a run may take
-QUOTED = r'"(?:[^"\\\n]|\\.)*"'
-CALL = r"wrong number of arguments|wrong kind of argument|out of range|can't be compared|format refused"
-FAULT = re.compile(
-    rf"no template {QUOTED}|calls deeper than 20|more than 1000 steps|not a function|nil is not a command"
-    rf"|no field {QUOTED} here|can't range over this value|(?:{b'|'.join(reading.FUNCTIONS).decode()}): (?:{CALL})"
-)
+WHOLE, FEW = 20000, 2000  # bytes
+RUN, EACH = 1000, 16  # bytes up to which all accepted fronts are run by meaning.py, and how few of them else
+ALONE = 200  # bytes of a file up to which each of its fronts is read alone too
+SPARE = 1 << 24  # bytes that one process may read, which it keeps, and trees of them
+LEAST = {"template": 350000, "data": 8000}  # fronts
+RUNS = 12000  # fronts of templates that are accepted
+OPTIONS = meaning.Options(depth=20, steps=1000)  # what a run may take
+WORDS = [b"tmpl", b"--steps", b"1000", b"--depth", b"20"]
 # What the fronts of a template come to, worked out by hand: the last length, and why it is refused.
 TABLE = b"a{{if .x}}{{/*c*/}}b{{end}}"
 COMES_TO = [
@@ -27,58 +29,105 @@ COMES_TO = [
 
 
 def sources(rows):
-    """The templates of the rows with their base names, and their data files."""
+    """The templates of the rows with their base names and the data over which they are run, and the data files."""
     templates, data = set(), set()
     for row in rows:
         held = {os.fsencode(name): what for name, what in row.files.items() if what is not None}
         _, files, file = harness.parted(row.words)
-        templates |= {(os.path.basename(name), held[name]) for name in files if name in held}
-        data |= {held[file]} if file in held else set()
+        given = held.get(file)
+        data |= {given} if given is not None else set()
+        given = given if given is not None and len(given) <= FEW else None
+        templates |= {(os.path.basename(name), held[name], given) for name in files if name in held and os.path.basename(name)}
     return templates, data
 
 
-def fronts(them):
-    return {it[:n] for it in them for n in range(min(len(it), LONGEST) + 1)}
+def told_of_fronts(name, data):
+    """For each front of a template file its line and why it is refused, as far as an action of it tells or what is open at its end; none
+    where nothing is open. The actions are gone over once, since a front has those of the whole file but for the last, which is not
+    closed where the front ends in it."""
+    told, read, refused, at = [], reading.Reading(name), None, 0
+    ends = [it for it in range(len(data)) if data[it] == ord("\n")]
+
+    def line(place):
+        return 1 + bisect.bisect_left(ends, place)
+
+    while True:
+        start = data.find(b"{{", at)
+        # one brace is text
+        last = len(data) if start < 0 else start + 1
+        is_open = bool(read.frames)
+        told += [refused or ((line(n), reading.OPEN) if is_open else None) for n in range(len(told), last + 1)]
+        if start < 0:
+            return told
+        unreadable = line(start), reading.UNREADABLE
+        try:
+            tokens, _, at = reading.action_at(data, start)
+        except reading.Refused:
+            return told + [refused or unreadable] * (len(data) + 1 - len(told))
+        told += [refused or unreadable] * (at - len(told))
+        try:
+            if tokens is not None and not refused:
+                read.action(line(start), tokens)
+        except reading.Refused as why:
+            refused = line(start), str(why)
 
 
-def check_template(runner, name, front):
-    runner.lay(name, front)
-    got = runner.run([*LIMITS, b"--", name])
-    refused = reading.refusal(name, front)
+def wanted_of(name, front, given, refused):
+    """The status, output and errors for a front of a template."""
     if refused:
-        wanted = 4, b"", b"tmpl: %s:%d: %s\n" % (name, refused[0], refused[1].encode())
-        return [] if got == wanted else [f"    got {got}", f"    wanted {wanted}"]
-    return [] if ends_well(name.decode(), *got) else [f"    it is accepted, and comes to {got}"]
+        return 4, b"", b"tmpl: %s:%d: %s\n" % (name, refused[0], refused[1].encode())
+    return meaning.outcome([(name, front)], given and (b"d", given), OPTIONS)
 
 
-def ends_well(name, status, _, errors):
-    """Whether a run came to its end, or to a fault with its line."""
-    if status == 0:
-        return not errors
-    line = re.fullmatch(rf"tmpl: {re.escape(name)}:[1-9][0-9]*: in {QUOTED}: (.*)\n", errors.decode(errors="replace"))
-    return bool(status == 1 and line and FAULT.fullmatch(line[1]))
-
-
-def check_data(runner, _, front):
-    runner.lay(b"d", front)
-    got = runner.run([b"--data", b"d", b"show"])
+def wanted_of_data(front):
     try:
-        wanted = 0, reading.data_text(front), b""
+        return 0, reading.data_text(front), b""
     except reading.Refused as why:
-        wanted = 5, b"", b"tmpl: d: %s\n" % str(why).encode()
-    return [] if got == wanted else [f"    got {got}", f"    wanted {wanted}"]
-
-
-def start():
-    global RUNNER
-    RUNNER = harness.Runner()
-    RUNNER.lay(b"show", b"{{.}}")
+        return 5, b"", b"tmpl: d: %s\n" % str(why).encode()
 
 
 def check(case):
-    kind, name, front = case
-    wrong = {"template": check_template, "data": check_data}[kind](RUNNER, name, front)
-    return [f"FAILED {kind} {name.decode()} of the bytes {front!r}", *wrong] if wrong else []
+    """Reads some fronts of a file: how many were accepted, and what is wrong with the first that is not as it should be."""
+    kind, name, data, given, first, count = case
+    if kind == "template":
+        words = [*WORDS, *([b"--data", b"d"] if given is not None else []), b"--", name]
+        files = [(name, data), *([(b"d", given)] if given is not None else [])]
+        told = told_of_fronts(name, data)
+    else:
+        words, files = [b"tmpl", b"--data", b"d", b"--", b"show"], [(b"d", data), (b"show", b"{{.}}")]
+    sweep = memory.Sweep(words, files, b"front", first, 1, count)
+    (runs,) = memory.run_sweeps([sweep], 1 << 20)
+    accepted = 0
+    for came in runs:
+        front = data[: came.number]
+        if kind == "data":
+            wanted = wanted_of_data(front)
+        else:
+            is_told = told[came.number] or len(data) <= RUN or accepted % EACH == 0 or came.number == len(data)
+            wanted = wanted_of(name, front, given, told[came.number]) if is_told else None
+            if len(data) <= ALONE and (reading.refusal(name, front) or told[came.number]) != told[came.number]:
+                return accepted, [f"FAILED it is told otherwise what is open in {front!r} of {name!r}"]
+        accepted += wanted is None or wanted[0] < 2
+        wrong = memory.wrongly(came, *(wanted or (min(came.status, 1), came.out, came.err)))
+        if wrong:
+            return accepted, [f"FAILED {kind} {name.decode()} of the {len(front)} bytes {harness.short(front)}", *wrong]
+    is_all = len(runs) == count
+    return accepted, [] if is_all else [f"FAILED {len(runs)} fronts of {count} were read of {name.decode()}"]
+
+
+def cases(kind, name, data, given):
+    """The fronts of a file, as many together as one process may read."""
+    last = len(data) if len(data) <= WHOLE else FEW
+    first, size = 0, 0
+    for n in range(last + 1):
+        size += n + len(given or b"")
+        if size > SPARE or n == last:
+            yield kind, name, data[: last + 1], given, first, n + 1 - first
+            first, size = n + 1, 0
+
+
+def start():
+    sys.setrecursionlimit(20000)
 
 
 def check_table():
@@ -89,21 +138,22 @@ def check_table():
 
 
 def main():
-    if not harness.is_built():
+    if not memory.is_built():
         return harness.closing(0, 1)
     templates, data = sources(harness.read_rows())
-    templates.add((b"m", TABLE))
-    names = {name for name, _ in templates}
-    cases = [("template", name, it) for name in sorted(names) for it in sorted(fronts(what for its, what in templates if its == name))]
-    cases += [("data", b"d", it) for it in sorted(fronts(data))]
+    templates.add((b"m", TABLE, None))
+    its = [it for name, what, given in sorted(templates, key=repr) for it in cases("template", name, what, given)]
+    its += itertools.chain.from_iterable(cases("data", b"d", what, None) for what in sorted(data))
     failed = len(check_table())
     print(*check_table(), sep="\n", end="\n" * failed)
-    for wrong in filter(None, harness.in_processes(check, cases, start, 200)):
-        print(*wrong, sep="\n")
-        failed += 1
-    passed = len(cases) + 1 - failed
+    runs = 0
+    for accepted, wrong in harness.in_processes(check, its, start, 4):
+        runs, failed = runs + accepted, failed + bool(wrong)
+        print(*wrong, sep="\n", end="\n" * bool(wrong))
+    passed = len(its) + 1 - failed
     for kind, least in LEAST.items():
-        failed += harness.too_few(f"fronts of {kind} files were read", sum(it[0] == kind for it in cases), least)
+        failed += harness.too_few(f"fronts of {kind} files were read", sum(it[-1] for it in its if it[0] == kind), least)
+    failed += harness.too_few("fronts were accepted", runs, RUNS)
     return harness.closing(passed, failed)
 
 

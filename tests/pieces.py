@@ -19,11 +19,14 @@ DONE = b"status 0\n"
 OUT_OF_MEMORY = b"tmpl: out of memory\nstatus 7\n"
 NOT_RUN = (b"", b"Error: Kind(OutOfMemory)\n")  # what the probe says where memory is refused before a run
 
+WITH_IN_RANGE = "{{range .}}{{with .k}}{{if eq . 2}}{{break}}{{end}}{{.}}{{end}};{{end}}{{len .}}"
+
 # the depth, the template files, the cells that runs of their set need, and whether a function makes a text. A template needs
 # three cells of its own and those that it has at most at once: one for each value of a pipeline, each variable and each dot
 # that is kept, and two for each range
 ROOMS = [
     (1, [], 0, False),
+    (1000, [], 0, False),
     (100000, [], 0, False),
     (1, ["x"], 3, False),
     (7, ["x"], 21, False),
@@ -32,6 +35,8 @@ ROOMS = [
     (1, ["{{and 0 (index .a 9)}}"], 6, False),
     (1000, ["{{range $i, $e := .}}{{if eq $e 3}}{{break}}{{end}}{{$i}}={{$e}};{{else}}none{{end}}"], 9000, False),
     (1, ["{{with .a}}A{{.}}{{else with .b}}B{{.}}{{else}}C{{.c}}{{end}}"], 5, False),
+    (1, [WITH_IN_RANGE], 8, False),
+    (1, ['{{"put" | printf "%s%s" "out" | printf "%q"}}'], 6, True),
     (2, ["x", "{{.}}"], 8, False),
     (1, ['{{define "n"}}{{print 1 2 3}}{{end}}x'], 6, True),
     (1, ["{{println}}"], 4, True),
@@ -76,6 +81,12 @@ ALLOCATIONS = [
     ('{{$x := 1}}{{$x = print "b"}}{{$x = html "c"}}{{$x}}', "c", 4, 2),
     ('{{with print "a"}}{{.}}{{.}}{{end}}', "aa", 2, 1),
     ('{{define "t"}}{{.}}{{end}}{{template "t" (print "a")}}', "a", 2, 1),
+]
+
+# a template, its data and its text, where a run makes no text, though a function of the template might: no refused allocation ends it
+SPARED = [
+    (WITH_IN_RANGE, '[{"k":1},{"k":2},{"k":3}]', "1;3"),
+    ("{{if .}}{{print 1}}{{end}}", "null", ""),
 ]
 
 
@@ -218,7 +229,7 @@ def judge_count(shim, template, text, count, _):
     return f"the memory of {template!r}", 1, wrong
 
 
-def judge_refused(shim, template, text, count, kept):
+def judge_refused(shim, template, text, count, kept, data=None):
     """Refuses each allocation of a process that runs a template over arrays. Nothing is run, where it comes before; or the run
     is as ever, or memory is told to be out and a beginning of the text was taken. The last comes of the owners at least, and
     at most of all allocations of the run: a text whose room is refused may still grow as it needs."""
@@ -234,8 +245,8 @@ def judge_refused(shim, template, text, count, kept):
         return differences(got, (0, text.encode(), DONE))
 
     with tempfile.TemporaryDirectory() as folder:
-        lay(folder, template)
-        it = ["fixed", *words(["--depth", "3", "m"], piece=2)]
+        lay(folder, template, data)
+        it = ["fixed", *words(["--depth", "3", *(["--data", "d"] if data else []), "m"], piece=2)]
         runs, said = sweep.sweep(shim, lambda *how: probe(folder, it, None, *how), wrong)
     if not said and not kept <= len(told) <= count:
         said = [f"    memory was told to be out {len(told)} times, {kept} to {count} wanted"]
@@ -256,6 +267,7 @@ def main():
         done += [pool.submit(judge_room, *row) for row in ROOMS]
         done += [pool.submit(judge_sink, *row) for row in SINKS]
         done += [pool.submit(judge, shim, *row) for judge in (judge_count, judge_refused) for row in ALLOCATIONS]
+        done += [pool.submit(judge_refused, shim, template, text, 0, 0, data) for template, data, text in SPARED]
         passed, failed, runs = harness.tally(it.result() for it in done)
     print(f"{len(rows)} rows come to a run, and {len(textless)} of the small ones make no text; {runs} runs were judged")
     return harness.closing(passed, failed)

@@ -1,16 +1,20 @@
 """Runs the built program over each small row with its Nth allocation refused, for each N that there is. Each run must answer
-as the row does, or put out nothing and end with status 7 and its line. TMPL=PATH names another build."""
+as the row does, or put out nothing and end with status 7 and its line. So also the printing of each small set of the rows, which must come
+to what reading.py tells. TMPL=PATH names another build."""
+import copy
 import os
 import subprocess
 import sys
 import tempfile
 
 import harness
+import print as printing
 from harness import build_shim
 
 SMALL = 65536  # bytes in the files and the output of a row
 MOST = 100000  # allocations of one run
-LEAST = 100000  # allocations of all
+LITTLE = 200  # bytes in the files of a set that is printed
+LEAST = {"rows": 150000, "printed sets": 40000}  # allocations of all
 
 
 def refusing(number, shim, once):
@@ -62,6 +66,21 @@ def sweep_row(row):
     return row.name, len(came), said[0] if said else [] if came else ["    no allocation was refused"]
 
 
+def printed(rows):
+    """Each small set of files of the rows once, as a row that prints it."""
+    seen = set()
+    for row in rows:
+        case = printing.of_row(row) if row.status in (0, 1, 4) else None
+        files = tuple((path, case.files[path]) for path in case.paths) if case else ()
+        if not files or files in seen or sum(len(what) for _, what in files) > LITTLE:
+            continue
+        seen.add(files)
+        it = copy.copy(row)
+        it.name, it.words, it.files = f"{row.name}, printed", [b"--print", b"--", *case.paths], {os.fsdecode(path): what for path, what in files}
+        it.status, it.out, it.err = case.wanted()
+        yield it
+
+
 def start():
     global RUNNER
     RUNNER = harness.Runner()
@@ -72,11 +91,14 @@ def main():
     if not harness.is_built():
         return harness.closing(0, 1)
     rows = [it for it in harness.read_rows() if it.is_plain() and it.is_again() and it.size() <= SMALL]
+    passed = failed = 0
     with tempfile.TemporaryDirectory() as folder:
         SHIM = f"{folder}/fail_alloc.so"
         build_shim("fail_alloc.c", SHIM)
-        passed, failed, runs = harness.tally(harness.in_processes(sweep_row, rows, start, 10))
-    failed += harness.too_few("allocations were refused, one in each run", runs, LEAST)
+        for name, its in (("rows", rows), ("printed sets", list(printed(rows)))):
+            right, wrong, runs = harness.tally(harness.in_processes(sweep_row, its, start, 10))
+            passed, failed = passed + right, failed + wrong
+            failed += harness.too_few(f"allocations of {len(its)} {name} were refused, one in each run", runs, LEAST[name])
     return harness.closing(passed, failed)
 
 

@@ -1,0 +1,9 @@
+-- Files in memory.
+use Rattle.std.specs.Prelude.{ℕ, List, [], ◌∷◌, Option, Some, None, if◌then◌else◌}
+use Rattle.std.specs.Str.{bytes_eq}
+use Rattle.tmpl_memory.specs.declared.files.File.{File}
+
+-- the bytes of the first file of this name, if there is one
+abbrev pub found : List ℕ → List File → Option (List ℕ)
+found name [] = None
+found name (file ∷ files) = if bytes_eq file.name.now name then Some file.bytes.now else found name files

@@ -1,0 +1,132 @@
+//! Runs of the command over files and sinks in memory, and what is put out of each.
+use crate::case::{Case, Numbers, Told};
+use crate::files::{File, LentFiles};
+use crate::sink::{LentSink, Limits};
+use std::alloc::{AllocError, Global};
+use std::io::{self, Write};
+use tmpl_tool::tool;
+
+/// Where the sinks of a run keep their bytes.
+#[derive(Drop)]
+pub(crate) struct Room<'a> {
+    pub(crate) out: &'a mut [u8],
+    pub(crate) err: &'a mut [u8],
+}
+
+/// Runs a case for each of its numbers, up to the first run in which nothing failed that was to fail. Behind the last
+/// there is an empty line.
+pub(crate) fn run_case(
+    alloc: Global,
+    case: &Case<'_>,
+    room: &mut Room<'_>,
+    writer: &mut impl Write,
+) -> io::Result<()> {
+    let Numbers {
+        first,
+        step,
+        count,
+        ..
+    } = case.numbers;
+    for turn in 0..count {
+        let number = first.saturating_add(turn.saturating_mul(step));
+        if !run_once(alloc, case, number, room, writer)? {
+            break;
+        }
+    }
+    writer.write_all(b"\n")
+}
+
+/// These limits, with another put that fails.
+fn failing(limits: Limits, number: u64, is_told: bool) -> Limits {
+    if is_told {
+        Limits {
+            fails_at: number,
+            ..limits
+        }
+    } else {
+        limits
+    }
+}
+
+/// The files of a case, the first of them cut to so many bytes where that is what the number says.
+fn cut_files<'a>(case: &Case<'a>, number: u64) -> Result<Vec<File<'a>>, AllocError> {
+    let mut files = case.files.clone()?;
+    if case.numbers.told == Told::Front
+        && let Some(first) = files.as_mut_slice().first_mut()
+        && let Some((front, _)) = first.bytes.split_at_checked(number as usize)
+    {
+        first.bytes = front;
+    }
+    Ok(files)
+}
+
+/// Runs a case with this number, and tells whether there may be more in the run with the next.
+fn run_once(
+    alloc: Global,
+    case: &Case<'_>,
+    number: u64,
+    room: &mut Room<'_>,
+    writer: &mut impl Write,
+) -> io::Result<bool> {
+    let told = case.numbers.told;
+    let files = cut_files(case, number)?;
+    let fails_at = if told == Told::Reads { number } else { 0 };
+    let mut source = LentFiles::new(files.as_slice(), fails_at);
+    let mut out = LentSink::new(
+        &mut *room.out,
+        failing(case.out, number, told == Told::Output),
+    );
+    let mut err = LentSink::new(
+        &mut *room.err,
+        failing(case.err, number, told == Told::Errors),
+    );
+    let status = tool(
+        alloc,
+        case.words.as_slice(),
+        &mut source,
+        &mut out,
+        &mut err,
+    );
+    put_run(writer, status.code, &source, &out, &err, case.wanted)?;
+    Ok(match told {
+        Told::Output => out.has_failed(),
+        Told::Errors => err.has_failed(),
+        Told::Reads => source.has_failed(),
+        Told::Front => true,
+    })
+}
+
+/// Puts out what came of a run: the status and how many reads there were; of the output how many puts, how many of them
+/// behind the first that failed and how many bytes were taken; of the errors how many puts behind the first that failed
+/// and bytes; and how many bytes of the output follow. Then these, none where they are a beginning of what is wanted,
+/// and those of the errors.
+fn put_run(
+    writer: &mut impl Write,
+    code: u8,
+    source: &LentFiles<'_>,
+    out: &LentSink<'_>,
+    err: &LentSink<'_>,
+    wanted: &[u8],
+) -> io::Result<()> {
+    let taken = out.as_slice();
+    let told = if wanted.starts_with(taken) {
+        b"".as_slice()
+    } else {
+        taken
+    };
+    let reads = source.reads();
+    let puts = out.puts();
+    write!(writer, "{code} {reads} {puts} ")?;
+    put_counts(writer, out)?;
+    put_counts(writer, err)?;
+    let length = told.len();
+    writeln!(writer, "{length}")?;
+    writer.write_all(told)?;
+    writer.write_all(err.as_slice())
+}
+
+fn put_counts(writer: &mut impl Write, sink: &LentSink<'_>) -> io::Result<()> {
+    let behind = sink.behind();
+    let taken = sink.as_slice().len();
+    write!(writer, "{behind} {taken} ")
+}
