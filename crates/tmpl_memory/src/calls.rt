@@ -214,7 +214,7 @@ fn with_set(alloc: Global, name: &str, bytes: &[u8], writer: &mut impl Write) ->
 
 /// Compiles a set, and puts out the room at depth 1, how deep calls can go of 7, whether it makes text, and the numbers
 /// of the template `m` and of the template `none`, a dash where there is none.
-fn compile_set(alloc: Global, set: &Set<'_>, writer: &mut impl Write) -> io::Result<bool> {
+fn compile_set(alloc: Global, set: &Set, writer: &mut impl Write) -> io::Result<bool> {
     let Ok(program) = compile(alloc, set) else {
         return put(writer, Err(AllocError));
     };
@@ -255,7 +255,7 @@ fn parse_behind(
 }
 
 /// Puts out each name of a set and its tree as a file, a line each, and tells whether `none` is no name of it.
-fn put_set(alloc: Global, set: &Set<'_>, writer: &mut impl Write) -> io::Result<bool> {
+fn put_set(alloc: Global, set: &Set, writer: &mut impl Write) -> io::Result<bool> {
     for name in set.names() {
         writer.write_all(name)?;
         writer.write_all(b": ")?;
