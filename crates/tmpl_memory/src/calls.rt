@@ -116,7 +116,7 @@ fn read_actions(alloc: Global, bytes: &[u8], writer: &mut impl Write) -> io::Res
 /// Keeps a made text and shares it, and puts out what both hold, and a part of one.
 fn share(alloc: Global, bytes: &[u8], writer: &mut impl Write) -> io::Result<bool> {
     let text = bytes.to_vec(alloc)?;
-    let Ok(kept) = Val::made(text).into_shared(alloc) else {
+    let Ok(kept) = Val::made(text) else {
         return put(writer, Err(AllocError));
     };
     let Ok(other) = kept.share() else {
@@ -135,7 +135,7 @@ fn put_bytes(value: &Val<'_>, writer: &mut impl Write) -> io::Result<bool> {
 
 /// Shares a made text that is not ready for it, which copies it.
 fn copy(alloc: Global, bytes: &[u8], writer: &mut impl Write) -> io::Result<bool> {
-    let made = Val::made(bytes.to_vec(alloc)?);
+    let made = Val::buffer(bytes.to_vec(alloc)?);
     match made.share() {
         Ok(copy) => put(writer, Ok(text_of(alloc, &copy)?)),
         Err(_) => put(writer, Err(AllocError)),
