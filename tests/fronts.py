@@ -1,7 +1,8 @@
 """Reads every front of every template and data file of the rows and examples: its first n bytes, for each n, of files of up to 20,000
 bytes whole, and of longer ones up to 2,000. They are read in memory, many in one process, by tmpl_memory. What a front comes
 to is told by meaning.py and reading.py, which share no code with the program: a template is refused at a line for a reason, or runs over
-the row's data to a text and an end; data is refused, or put out whole by `{{.}}`."""
+the row's data to a text and an end; data is refused, or put out whole by `{{.}}`. Of the fronts of a file of more than
+1,000 bytes that are accepted, of which meaning.py is slow to tell, it tells each 64th and the last; the others must be accepted."""
 import bisect
 import itertools
 import os
@@ -13,11 +14,11 @@ import memory
 import reading
 
 WHOLE, FEW = 20000, 2000  # bytes
-RUN, EACH = 1000, 16  # bytes up to which all accepted fronts are run by meaning.py, and how few of them else
-ALONE = 200  # bytes of a file up to which each of its fronts is read alone too
+RUN, EACH = 1000, 64  # bytes up to which all accepted fronts are run by meaning.py, and how few of them else
+ALONE = 100  # bytes of a file up to which each of its fronts is read alone too
 SPARE = 1 << 24  # bytes that one process may read, which it keeps, and trees of them
-LEAST = {"template": 350000, "data": 8000}  # fronts
-RUNS = 12000  # fronts of templates that are accepted
+LEAST = {"template": 380000, "data": 25000}  # fronts
+RUNS = 25000  # fronts of templates that are accepted
 OPTIONS = meaning.Options(depth=20, steps=1000)  # what a run may take
 WORDS = [b"tmpl", b"--steps", b"1000", b"--depth", b"20"]
 # What the fronts of a template come to, worked out by hand: the last length, and why it is refused.
@@ -29,15 +30,18 @@ COMES_TO = [
 
 
 def sources(rows):
-    """The templates of the rows with their base names and the data over which they are run, and the data files."""
-    templates, data = set(), set()
+    """The templates of the rows with their base names and the data over which they are run, a long one once, and the data files."""
+    templates, data, long = set(), set(), set()
     for row in rows:
         held = {os.fsencode(name): what for name, what in row.files.items() if what is not None}
         _, files, file = harness.parted(row.words)
         given = held.get(file)
         data |= {given} if given is not None else set()
         given = given if given is not None and len(given) <= FEW else None
-        templates |= {(os.path.basename(name), held[name], given) for name in files if name in held and os.path.basename(name)}
+        for name in files:
+            if name in held and os.path.basename(name) and not (len(held[name]) > RUN and held[name] in long):
+                long.add(held[name])
+                templates.add((os.path.basename(name), held[name], given))
     return templates, data
 
 
@@ -76,7 +80,13 @@ def wanted_of(name, front, given, refused):
     """The status, output and errors for a front of a template."""
     if refused:
         return 4, b"", b"tmpl: %s:%d: %s\n" % (name, refused[0], refused[1].encode())
-    return meaning.outcome([(name, front)], given and (b"d", given), OPTIONS)
+    return meaning.outcome([(name, front)], None if given is None else (b"d", given), OPTIONS)
+
+
+def is_told_otherwise(name, front, told):
+    """Whether a front that is read alone is refused otherwise. Where nothing is open it may have a second definition."""
+    refused = reading.refusal(name, front)
+    return refused != told and not (told is None and refused[1] == reading.SECOND)
 
 
 def wanted_of_data(front):
@@ -105,7 +115,7 @@ def check(case):
         else:
             is_told = told[came.number] or len(data) <= RUN or accepted % EACH == 0 or came.number == len(data)
             wanted = wanted_of(name, front, given, told[came.number]) if is_told else None
-            if len(data) <= ALONE and (reading.refusal(name, front) or told[came.number]) != told[came.number]:
+            if len(data) <= ALONE and is_told_otherwise(name, front, told[came.number]):
                 return accepted, [f"FAILED it is told otherwise what is open in {front!r} of {name!r}"]
         accepted += wanted is None or wanted[0] < 2
         wrong = memory.wrongly(came, *(wanted or (min(came.status, 1), came.out, came.err)))

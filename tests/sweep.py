@@ -13,8 +13,8 @@ from harness import build_shim
 
 SMALL = 65536  # bytes in the files and the output of a row
 MOST = 100000  # allocations of one run
-LITTLE = 200  # bytes in the files of a set that is printed
-LEAST = {"rows": 150000, "printed sets": 40000}  # allocations of all
+LITTLE = 60  # bytes in the files of a set that is printed
+LEAST = {"rows": 150000, "printed sets": 25000}  # allocations of all
 
 
 def refusing(number, shim, once):
