@@ -1,5 +1,5 @@
 //! Pipelines to code, each from its last operand to its first.
-ghost use Rattle.std.specs.Prelude.{◌≡◌, ◌+◌, ◌≤◌, ◌∷◌, IfOk, OnOk, false, length, true};
+ghost use Rattle.std.specs.Prelude.{◌≡◌, ◌+◌, ◌^◌, ◌≤◌, ◌<◌, ◌∷◌, IfOk, IsOk, OnOk, false, length, true};
 ghost use Rattle.tmpl_funcs.specs.Func.{takes};
 ghost use Rattle.tmpl_grammar.specs.View.{commands_in, operand_of, operands_in, pipeline_of};
 ghost use Rattle.tmpl_code.specs.Code as spec;
@@ -17,7 +17,8 @@ use tmpl_values::Bytes;
 
 /// The sum; no memory would hold so many if it were larger than a number.
 pub(crate) fn sum(a: usize, b: usize) -> Result<usize, AllocError>
-    ensures { IfOk result (λ n. n ≡ a + b) }
+    ensures value { IfOk result (λ n. n ≡ a + b) }
+    ensures fits { a + b < 2 ^ 64 → IsOk result }
 {
     match a.checked_add(b) {
         Some(n) => Ok(n),
@@ -27,9 +28,14 @@ pub(crate) fn sum(a: usize, b: usize) -> Result<usize, AllocError>
 
 /// The number in 32 bits; the code that counts so far would take 64 GiB.
 pub(crate) fn short(n: usize) -> Result<u32, AllocError>
-    ensures { IfOk result (λ m. m ≡ n) }
+    ensures value { IfOk result (λ m. m ≡ n) }
+    ensures fits { n < 2 ^ 32 → IsOk result }
 {
-    u32::try_from(n).ok().ok_or(AllocError)
+    if n <= u32::MAX as usize {
+        Ok(n as u32)
+    } else {
+        Err(AllocError)
+    }
 }
 
 /// Puts a pipeline.

@@ -1,4 +1,5 @@
 //! The stack of a run, in cells that are lent to it.
+ghost use Rattle.std.specs.List.{AllWithin};
 ghost use Rattle.std.specs.Prelude.{◌≡◌, ◌+◌, ◌-◌, ◌<◌, ◌≤◌, ◌∷◌, ◌++◌, [], drop, get_or, length, option_map, reverse};
 ghost use Rattle.std.specs.Prelude.{take, false, true, ◌^◌, slice_set, if◌then◌else◌, IfOk, IfSome, IsOkAnd};
 ghost use Rattle.tmpl_values.specs.Elements.{item_at};
@@ -402,6 +403,7 @@ fn take_at<'a>(cells: &mut [Cell<'a>], at: usize) -> Cell<'a>
 fn clear(cells: &mut [Cell<'_>], from: usize, to: usize)
     requires { to ≤ length cells.old }
     ensures left { take from cells.new ≡ take from cells.old }
+    ensures cleared { AllWithin (λ cell. cell.val ≡ Val.Nothing) cells.new from to }
     ensures size { length cells.new ≡ length cells.old }
 {
     for i in from..to {
