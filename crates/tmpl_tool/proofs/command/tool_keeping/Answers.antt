@@ -50,5 +50,8 @@ returns-clause-told g c parse is =
     let words = map (λ word. string_bytes word) c.args.words.now in
     let err = sunk (g.E.Sink.so_far c.args.err.now) (g.E.Sink.so_far c.out_of_memory.new.err) in
     if_told _ (g.S.Source.contents c.args.source.now) (λ files told.
-    inl (refl, nothing_out (tool_answer parse words files no_read) (g.O.Sink.so_far c.args.out.now) err c.stopped-in-Err-OutOfMemory.result.status.code
-    (ap (λ (s : Status). s.code) c.stopped-in-Err-OutOfMemory.ensures ∙ c.out_of_memory.ensures.code) c.out_of_memory.ensures.line))
+    inl (
+      refl,
+      nothing_out (tool_answer parse words files no_read) (g.O.Sink.so_far c.args.out.now) err c.stopped-in-Err-OutOfMemory.result.status.code
+          (ap (λ (s : Status). s.code) c.stopped-in-Err-OutOfMemory.ensures ∙ c.out_of_memory.ensures.code) c.out_of_memory.ensures.line,
+    ))
