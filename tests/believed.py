@@ -20,7 +20,7 @@ MOST = {
     "tmpl_grammar": 333,
     "tmpl_syntax": 475,
     "tmpl_meaning": 311,
-    "tmpl_tool": 259,
+    "tmpl_tool": 288,
 }
 
 WORD = r"[^\s(){}.,;]+"

@@ -38,12 +38,7 @@ impl<'a, R: Files + AllocGlobal> Source for FileSource<'a, R> {
         read
     }
 
-    fn read_up_to(
-        &mut self,
-        alloc: Global,
-        name: &str,
-        most: u64,
-    ) -> Result<Vec<u8>, SourceFault> {
+    fn read_up_to(&mut self, alloc: Global, name: &str, most: u64) -> Result<Vec<u8>, SourceFault> {
         let read = answered(read_front(alloc, self.rt, name, most.saturating_add(1)));
         if let Err(SourceFault::Failed) = read {
             self.failures += 1;

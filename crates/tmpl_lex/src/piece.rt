@@ -47,8 +47,8 @@ pub struct Token<'b> {
 /// A piece of a template file. A line counts from 1.
 #[derive(Debug, Drop)]
 pub enum Piece<'b> {
-    /// Bytes that stand for themselves, at least one, the line of the first of them, and how many bytes of the file stand
-    /// before it.
+    /// Bytes that stand for themselves, at least one, the line of the first of them, and how many bytes of the file
+    /// stand before it.
     Text {
         line: u64,
         start: usize,

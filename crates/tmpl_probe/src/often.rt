@@ -5,8 +5,8 @@ use crate::running::put_status;
 use std::io;
 use tmpl_tool::tool;
 
-/// Calls the command so many times with these words, over the file system and the standard streams. Behind what each call
-/// says stands its status.
+/// Calls the command so many times with these words, over the file system and the standard streams. Behind what each
+/// call says stands its status.
 pub(crate) fn call_tool_often(rt: &HostRuntime, times: &str, words: &[String]) -> io::Result<bool> {
     let Ok(times) = times.parse::<u64>() else {
         return Ok(false);

@@ -33,8 +33,8 @@ const TOO_LONG: Refusal = Refusal {
 /// headers, and then its own, what stands outside these, whose name is the part of the path after the last `/`, as
 /// Go's `ParseFiles` has it. A new name goes last. A name that is there keeps its place and gets the new body, unless
 /// that is blank, nothing but white space (Go's `Template.Parse`); that a blank body replaces no blank one either is
-/// our own rule. All of the file's templates are added, or none. The bytes are copied once, so they need not outlive the
-/// call; `parse_owned` takes them over.
+/// our own rule. All of the file's templates are added, or none. The bytes are copied once, so they need not outlive
+/// the call; `parse_owned` takes them over.
 ///
 /// # Errors
 ///
@@ -63,8 +63,8 @@ pub fn parse_file<'f>(
     }
 }
 
-/// Does what `parse_file` does, and copies nothing: the texts of the templates stay where the bytes are, in one block of
-/// memory that they share.
+/// Does what `parse_file` does, and copies nothing: the texts of the templates stay where the bytes are, in one block
+/// of memory that they share.
 ///
 /// # Errors
 ///

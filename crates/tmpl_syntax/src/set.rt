@@ -15,8 +15,8 @@ use std::alloc::{AllocError, Global};
 use std::marker::Model;
 
 /// Templates by their names, in the order in which the names were first defined (our own rule; Go
-/// keeps no order). A name is bytes that need not be UTF-8. The texts of the trees of one file lie in one block of memory,
-/// which they share and which is given back with the last of them.
+/// keeps no order). A name is bytes that need not be UTF-8. The texts of the trees of one file lie in one block of
+/// memory, which they share and which is given back with the last of them.
 #[derive(Drop)]
 pub struct Set {
     pub(crate) templates: IndexMap<Vec<u8>, Tree>,

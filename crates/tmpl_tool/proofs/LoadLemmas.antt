@@ -40,7 +40,7 @@ module _ (Made : List Bytes → Type 0) (files : Files) (set : List Template) (n
   -- a beginning that is too long is refused as the whole is
   same_parsed : parsed set name (bytes ++ found.0) ≡ parsed set name bytes
   same_parsed = elim found.2 [
-    inl none ↦ ap (λ (rest : Bytes). parsed set name (bytes ++ rest)) none ∙ ap (parsed set name) (append-nil bytes)
+    | inl none ↦ ap (λ (rest : Bytes). parsed set name (bytes ++ rest)) none ∙ ap (parsed set name) (append-nil bytes)
     | inr long ↦
         parsed-long set name (bytes ++ found.0) (omega (arith, long, length-append bytes found.0)) ∙ sym (parsed-long set name bytes long)
   ]

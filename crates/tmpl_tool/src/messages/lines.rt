@@ -234,10 +234,16 @@ fn say_fault<E: Sink>(err: &mut E, fault: &RunFault<'_>)
             say_at(err, fault, parts.as_slice())
         }
         RunFaultKind::NotARange => {
-            say_at(err, fault, [Part::Text("can't range over this value")].as_slice())
+            say_at(
+                err,
+                fault,
+                [Part::Text("can't range over this value")].as_slice(),
+            )
         }
         RunFaultKind::NotAFunction => say_at(err, fault, [Part::Text("not a function")].as_slice()),
-        RunFaultKind::NilCommand => { say_at(err, fault, [Part::Text("nil is not a command")].as_slice()) }
+        RunFaultKind::NilCommand => {
+            say_at(err, fault, [Part::Text("nil is not a command")].as_slice())
+        }
         RunFaultKind::Call(func, fault_of_call) => {
             let parts = [
                 Part::Text(func.name()),

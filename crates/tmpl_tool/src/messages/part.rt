@@ -75,11 +75,7 @@ fn put_long_line<E: Sink>(
 }
 
 /// Puts the program's name, the place, the parts, and a newline.
-fn write_line<P: Put>(
-    put: &mut P,
-    place: &[Part<'_>],
-    parts: &[Part<'_>],
-) -> Result<(), P::Fault>
+fn write_line<P: Put>(put: &mut P, place: &[Part<'_>], parts: &[Part<'_>]) -> Result<(), P::Fault>
     requires { (P.so_far put.old).failures < 2 ^ 64 - 1 }
     ensures { IsPut result (P.so_far put.old) (P.so_far put.new)
         (line (pieces_of place.now ++ pieces_of parts.now)) }

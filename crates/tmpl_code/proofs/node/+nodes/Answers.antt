@@ -60,7 +60,7 @@ put_if-returns-clause-code t c =
     let body = subst (λ (l : Layout). NodesAt ts (nodes_in a.body.now) (bound_on b l) (exit_seen a.exit (code_of c.put_end-2.new.code)) (code_of c.put_part-2.new.code) (code_of c.put_end-2.new.code)) c.in_ok-put_part.ensures.scope c.in_ok-put_part-2.ensures.code in
     let q = both ts a.exit (nodes_in a.body.now) (bound_on b lay) lay old (code_of c.put_part.new.code) (code_of c.put_end-2.new.code) (code_of c.put_part-2.new.code) c.requires p.ends (end_ends _ _ _ _ c.in_ok-put_end-2.ensures) body in
     on_ok _ _ _ (λ is. if_at (NodesAt ts (nodes_in a.body.now) (bound_on b lay) (exit_seen a.exit old)) (NodesAt ts (nodes_in a.other.now) (bound_on b lay) (exit_seen a.exit old))
-    (code_of c.put_part-2.new.code) (code_of c.put_part.new.code) old (code_of c.put_end-2.new.code) (code_of c.put_end.new.code) (code_of c.push.new.self) _ _ (omega arith) (omega arith) q.over p.over
+    (code_of c.put_part-2.new.code) (code_of c.put_part.new.code) old (code_of c.put_end-2.new.code) (code_of c.put_end.new.code) (code_of c.push.new.self) _ _ (omega (arith, c.in_ok-short-2.ensures.value)) (omega (arith, c.in_ok-short.ensures.value)) q.over p.over
     b (declared_in (nodes_in a.body.now)) (declared_in (nodes_in a.other.now)) _ _ _ c.declares.ensures
     c.in_ok-declared_by-2.ensures c.in_ok-declared_by.ensures
     q.lies c.in_ok-put_end-2.ensures p.lies c.in_ok-put_end.ensures is) c.push.ensures
@@ -112,7 +112,7 @@ put_with-returns-clause-code t c =
     let body = subst (λ (l : Layout). NodesAt ts (nodes_in a.body.now) (None ∷ bound_on b l) (exit_seen a.exit (code_of c.push.new.self)) (code_of c.put_dotted_part.new.code) (code_of c.push.new.self)) c.in_ok-put_part.ensures.scope c.in_ok-put_dotted_part.ensures.code in
     let q = both ts a.exit (nodes_in a.body.now) (None ∷ bound_on b lay) lay old (code_of c.put_part.new.code) (code_of c.push.new.self) (code_of c.put_dotted_part.new.code) c.requires p.ends (ends_one _ _ _ c.in_ok-push.ensures) body in
     on_ok _ _ _ (λ is. with_at (NodesAt ts (nodes_in a.body.now) (None ∷ bound_on b lay) (exit_seen a.exit old)) (NodesAt ts (nodes_in a.other.now) (bound_on b lay) (exit_seen a.exit old))
-    (code_of c.put_dotted_part.new.code) (code_of c.put_part.new.code) old (code_of c.push.new.self) (code_of c.put_end.new.code) (code_of c.push-2.new.self) _ _ (omega arith) (omega (arith, c.in_ok-short-3.ensures.value)) q.over p.over
+    (code_of c.put_dotted_part.new.code) (code_of c.put_part.new.code) old (code_of c.push.new.self) (code_of c.put_end.new.code) (code_of c.push-2.new.self) _ _ (omega (arith, c.in_ok-short-4.ensures.value)) (omega (arith, c.in_ok-short-3.ensures.value)) q.over p.over
     b (declared_in (nodes_in a.body.now)) (declared_in (nodes_in a.other.now)) _ _ _ _ c.declares.ensures (c.in_ok-short-2.ensures.value ∙ c.declared_count.ensures)
     (c.in_ok-short.ensures.value ∙ c.in_ok-declared_in.ensures) c.in_ok-declared_by.ensures
     q.lies c.in_ok-push.ensures p.lies c.in_ok-put_end.ensures is) c.push-2.ensures
@@ -210,7 +210,7 @@ put_range-returns-clause-code t c =
     c.len-after.ensures refl (c.len-below.ensures ∙ ap (λ (l : Layout). length l) c.in_ok-put_nodes.ensures.scope) p.ends (ends_one _ _ _ c.in_ok-push.ensures) body in
     let longer_body = q.longer in
     on_ok _ _ _ (λ is. range_at (NodesAt ts (nodes_in a.body.now) (bound_on b (None ∷ None ∷ lay)) (Some (record { out = old; line = a.line; below = length lay }))) (NodesAt ts (nodes_in a.other.now) lay (exit_seen a.exit old))
-    (code_of c.put_turns.new.code) (code_of c.put_nodes.new.code) old (code_of c.push.new.self) (code_of c.put_end.new.code) (code_of c.push-2.new.self) _ _ (omega arith) (omega arith) q.over p.over
+    (code_of c.put_turns.new.code) (code_of c.put_nodes.new.code) old (code_of c.push.new.self) (code_of c.put_end.new.code) (code_of c.push-2.new.self) _ _ (omega (arith, c.in_ok-skip.ensures.value)) (omega (arith, c.in_ok-short-2.ensures.value)) q.over p.over
     a.line b (declared_in (nodes_in a.body.now)) (declared_in (nodes_in a.other.now)) _ _ _ (TurnAt b (None ∷ None ∷ lay)) q.first c.declares_key.ensures
     c.in_ok-declared_by.ensures (c.in_ok-short.ensures.value ∙ c.in_ok-declared_in.ensures)
     q.turn q.lies c.in_ok-push.ensures p.lies c.in_ok-put_end.ensures is) c.push-2.ensures

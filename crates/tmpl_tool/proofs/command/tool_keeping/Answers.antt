@@ -31,8 +31,8 @@ returns-then-asks_help-clause-told g c parse is =
     inl (
       refl,
       inl (subst (Asked asked asked)
-      (ap (λ b. reads_behind (λ w. inputs_reads parse files w no_read) (or_stop (stop_if b help) (λ u. ok_or (wanted words) bad_words))) (sym helps))
-      (asked-nothing asked)),
+          (ap (λ b. reads_behind (λ w. inputs_reads parse files w no_read) (or_stop (stop_if b help) (λ u. ok_or (wanted words) bad_words))) (sym helps))
+          (asked-nothing asked)),
       subst (λ (s : Status). Outcome (tool_answer parse words files no_read) out err s.code) (sym c.stopped.ensures)
           (outcome_as err c.put_out.result.code out _ _ (gives_help parse words files no_read helps) c.put_out.ensures.outcome),
     ))

@@ -61,7 +61,7 @@ returns-clause-loads g c =
     let between = g.S.Source.asked c.loop-name.source in
     if_told _ (g.S.Source.contents c.args.source.now) (λ files is.
     let comes =
-        subst (λ (ns : List (Bor Bytes)). ComesTo (Asked before between) files start (map (λ s. s.now) names) i set (map (λ s. s.now) ns))
-        (drop_all i names c.loop-name-test.false) (of_told _ _ files is inv.comes) in
+    subst (λ (ns : List (Bor Bytes)). ComesTo (Asked before between) files start (map (λ s. s.now) names) i set (map (λ s. s.now) ns))
+    (drop_all i names c.loop-name-test.false) (of_told _ _ files is inv.comes) in
     let none = comes.2 no_read (λ k lt. refl) in
     (none.0, subst (Asked before between) (sym (none.1 ∙ append-nil comes.0)) comes.1))
