@@ -16,7 +16,7 @@ SPARE = 1 << 23  # bytes of files that one process may read again and again, whi
 MANY = 1 << 30  # more runs than there are puts
 ALL = 1 << 62  # more bytes than there are
 ROWS = 1200  # rows
-LEAST = {"output": 55000, "errors": 25000, "reads": 3000}  # runs
+LEAST = {"output": 55000, "errors": 18000, "reads": 3000}  # runs
 LINES = set()  # those of which each byte was put alone
 WRITE_FAILED = b"tmpl: write failed\n"
 
