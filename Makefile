@@ -54,6 +54,7 @@ compare: $(PROGRAM)
 # copies the program, man pages, completions, templates for quoting and documents to PREFIX, /usr/local if it is not set
 install: $(PROGRAM)
 	install -D -m 755 $(PROGRAM) "$$DESTDIR$$PREFIX/bin/tmpl"
+	! command -v strip > /dev/null || strip "$$DESTDIR$$PREFIX/bin/tmpl"
 	install -D -m 644 -t "$$DESTDIR$$PREFIX/share/man/man1" man/tmpl.1
 	install -D -m 644 -t "$$DESTDIR$$PREFIX/share/man/man7" man/tmpl-language.7
 	install -D -m 644 completions/tmpl.bash "$$DESTDIR$$PREFIX/share/bash-completion/completions/tmpl"
