@@ -1,6 +1,6 @@
 """What strangers choose must get its line and status, and cost little: files that do not end or are far too long, lines of
-many programs on one error stream, and what nests as deep as it may on a small stack of the machine. TMPL=PATH names another
-build."""
+many programs on one error stream, what nests as deep as it may on a small stack of the machine, and names that a known hash
+does not tell apart. TMPL=PATH names another build."""
 import os
 import resource
 import subprocess
@@ -15,7 +15,10 @@ LEVELS = 500
 PARENTHESES = 100
 NESTING = 127
 STACK = 512 << 10  # bytes
-LEAST = 31  # cases
+ALIKE = (20000, 40000, 80000)  # definitions
+TWICE = 2  # times as long as with other names they may take
+NOISE = 0.1  # seconds
+LEAST = 37  # cases
 FEW = 64 << 20  # bytes of memory that a refused file may take
 SOME = 300 << 20
 TOO_LONG = "file longer than 16777216 bytes"
@@ -107,12 +110,50 @@ def stacked(folder):
         yield f"{name}, printed and read", (0, ""), (again[0], again[2])
 
 
+def defining(names):
+    """A file that defines a template of each name, and runs the last."""
+    return b"".join(b"{{define `%s`}}x{{end}}" % name for name in names) + b"{{template `%s`}}" % names[-1]
+
+
+def alike(count):
+    """Names that the standard library's quick hash does not tell apart: it multiplies bytes 9 to 16 of a name, with what they
+    are here changed to nothing, into what the first eight bytes left."""
+    multiplier = 0x9E3779B97F4A7C15.to_bytes(8, "little")
+    return [b"%08d" % k + multiplier + b"one tail" for k in range(count)]
+
+
+def seconds(folder, text):
+    """What the program puts out of a file, and the least processor time of three runs."""
+    with open(f"{folder}/m", "wb") as file:
+        file.write(text)
+    times = []
+    for _ in range(3):
+        before = resource.getrusage(resource.RUSAGE_CHILDREN)
+        got = ran(["m"], folder)
+        after = resource.getrusage(resource.RUSAGE_CHILDREN)
+        times.append(after.ru_utime + after.ru_stime - before.ru_utime - before.ru_stime)
+    return got, min(times)
+
+
+def colliding(folder):
+    """Names of one hash are defined about as fast as others."""
+    for count in ALIKE:
+        others = [b"%08d and the other tail." % k for k in range(count)]
+        wanted, usual = seconds(folder, defining(others))
+        got, time = seconds(folder, defining(alike(count)))
+        yield f"{count} names of one hash", (0, "x", "", wanted), (*got, got)
+        slow = time > TWICE * usual + NOISE
+        yield f"{count} names of one hash, their time", "at most twice that of others", (
+            f"{time:.2f} seconds, others {usual:.2f}" if slow else "at most twice that of others"
+        )
+
+
 def main():
     if not harness.is_built():
         return 1
     passed, failed = 0, []
     with tempfile.TemporaryDirectory(dir=harness.MEMORY) as folder:
-        for test in (endless, shared, stacked):
+        for test in (endless, shared, stacked, colliding):
             for name, wanted, got in test(folder):
                 if wanted == got:
                     passed += 1

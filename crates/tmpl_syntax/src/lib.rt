@@ -6,6 +6,7 @@ mod build;
 mod fault;
 mod item;
 mod laws;
+mod name_hash;
 mod parse;
 mod place;
 mod print;
@@ -18,6 +19,7 @@ pub use laws::{
     accepted_back, bounded_need, cut_back, more_branches, one_list_of_items, one_outcome,
     one_spelling, one_verdict, printable, printed_back, set_back,
 };
+pub use name_hash::NameHash;
 pub use parse::{MOST_BYTES, base_name, parse_file, parse_owned};
 pub use print::{print_set, print_tree};
 pub use set::{Names, Set};

@@ -8,6 +8,7 @@ ghost use Rattle.tmpl_syntax.specs.Kept.{AreKept, IsKept};
 ghost use Rattle.tmpl_syntax.specs.Set.{defined, defined_each, is_blank, number_of, tree_named};
 
 use crate::blank::is_blank;
+use crate::name_hash::NameHash;
 use crate::tree::Tree;
 use indexmap::IndexMap;
 use indexmap::map::Keys;
@@ -19,7 +20,7 @@ use std::marker::Model;
 /// memory, which they share and which is given back with the last of them.
 #[derive(Drop)]
 pub struct Set {
-    pub(crate) templates: IndexMap<Vec<u8>, Tree>,
+    pub(crate) templates: IndexMap<Vec<u8>, Tree, NameHash>,
 }
 
 /// The names of a set, in its order.
@@ -49,12 +50,19 @@ impl Model for Set {
 }
 
 impl Set {
-    /// A set of no templates.
+    /// A set of no templates, whose names are hashed by keys that everyone knows.
     pub fn new(alloc: Global) -> Set
         ensures { set_view result ≡ [] }
     {
+        Set::with_hash(alloc, NameHash::fixed())
+    }
+
+    /// A set of no templates, whose names are hashed so.
+    pub fn with_hash(alloc: Global, names: NameHash) -> Set
+        ensures { set_view result ≡ [] }
+    {
         Set {
-            templates: IndexMap::new(alloc),
+            templates: IndexMap::with_hasher(alloc, names),
         }
     }
 
@@ -132,7 +140,7 @@ impl<'s> Iterator for Names<'s> {
 }
 
 /// Adds templates, one by one, for each of which there is room.
-fn define_each(set: &mut IndexMap<Vec<u8>, Tree>, templates: Vec<(Vec<u8>, Tree)>)
+fn define_each(set: &mut IndexMap<Vec<u8>, Tree, NameHash>, templates: Vec<(Vec<u8>, Tree)>)
     requires { length templates.items ≤ spare set.old }
     ensures { set_view set.new.entries
         ≡ defined_each (set_view set.old.entries) (map template_of templates.items) }
@@ -143,7 +151,7 @@ fn define_each(set: &mut IndexMap<Vec<u8>, Tree>, templates: Vec<(Vec<u8>, Tree)
 }
 
 /// Adds a template, for which there is room.
-fn define(set: &mut IndexMap<Vec<u8>, Tree>, name: Vec<u8>, tree: Tree)
+fn define(set: &mut IndexMap<Vec<u8>, Tree, NameHash>, name: Vec<u8>, tree: Tree)
     requires { 0 < spare set.old }
     ensures defined { set_view set.new.entries ≡ defined (set_view set.old.entries) name.items (tree_of tree) }
     ensures room { spare set.old ≤ spare set.new + 1 }
@@ -155,7 +163,7 @@ fn define(set: &mut IndexMap<Vec<u8>, Tree>, name: Vec<u8>, tree: Tree)
 }
 
 /// Whether a definition leaves the set as it is: a blank one of a name that is there.
-fn keeps(set: &IndexMap<Vec<u8>, Tree>, name: &[u8], tree: &Tree) -> bool
+fn keeps(set: &IndexMap<Vec<u8>, Tree, NameHash>, name: &[u8], tree: &Tree) -> bool
     ensures { result ≡ (is_blank (tree_of tree.now).nodes && is_some (tree_named name.now (set_view set.now.entries))) }
 {
     is_blank(tree.nodes.as_slice()) && set.contains_key(name)

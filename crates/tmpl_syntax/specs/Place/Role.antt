@@ -1,7 +1,7 @@
 -- What counts of an item for the place in which it stands: which kind of action it is, and the names in it. Names
 -- are without their `$`.
 use Rattle.std.specs.Prelude.{ℕ, Bool, true, false, List, [], ◌∷◌, ◌++◌, map, Option, Some, None}
-use Rattle.tmpl_grammar.specs.Tree.{Operand, dot, variable}
+use Rattle.tmpl_grammar.specs.Tree.{Operand, variable}
 use Rattle.tmpl_grammar.specs.Tree.{group, Operands, no_operand, operand, Commands, no_command, command}
 use Rattle.tmpl_grammar.specs.Tree.{Pipeline, pipeline, Binding, declare, assign, declare_pair, Header}
 use Rattle.tmpl_grammar.specs.Action as action
