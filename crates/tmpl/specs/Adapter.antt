@@ -22,12 +22,6 @@ abbrev pub answered : Result (Vec ℕ Global) Error → Result (Vec ℕ Global) 
 answered (Ok bytes) = Ok bytes
 answered (Err e) = Err (source_fault (error_kind e))
 
--- how many bytes a write took: one that took none failed, as one that the system refused
-abbrev pub taken : Result ℕ Error → Result ℕ SinkFault
-taken (Ok zero) = Err (record {})
-taken (Ok (suc n)) = Ok (suc n)
-taken (Err e) = Err (record {})
-
 -- the status after the last flush: one that fails is a failed write, and outranks that all went well
 abbrev pub flushed : Result (Unit {0}) SinkFault → ℕ → ℕ
 flushed (Ok u) code = code

@@ -1,12 +1,12 @@
-//! Files and standard streams as sources and sinks. Of these nothing is told but their failures.
+//! The file system as a source, of which nothing is told but its failures, and random numbers.
 ghost use Rattle.std.specs.Prelude.{◌≡◌, None};
-ghost use Rattle.tmpl.specs.Adapter.{answered, source_fault, taken};
+ghost use Rattle.tmpl.specs.Adapter.{answered, source_fault};
 
 use std::alloc::Global;
 use std::fs::{self, File};
-use std::io::{self, ErrorKind, Read, Write};
+use std::io::{self, ErrorKind, Read};
+use std::random::RandomSource;
 use std::rt::Files;
-use tmpl_run::{Sink, SinkFault};
 use tmpl_tool::{Source, SourceFault};
 
 /// The file system.
@@ -54,6 +54,13 @@ fn read_front(alloc: Global, rt: &impl Files, name: &str, count: u64) -> io::Res
     Ok(bytes)
 }
 
+/// A number that nobody outside can know.
+pub(crate) fn random_key(rt: &impl RandomSource) -> io::Result<u64> {
+    let mut bytes = [0; 8];
+    rt.fill_bytes(&mut bytes)?;
+    Ok(u64::from_le_bytes(bytes))
+}
+
 /// What a read of the system answers.
 fn answered(read: io::Result<Vec<u8>>) -> Result<Vec<u8>, SourceFault>
     ensures { result ≡ answered read }
@@ -72,54 +79,5 @@ fn source_fault(kind: ErrorKind) -> SourceFault
         ErrorKind::NotFound => SourceFault::NotFound,
         ErrorKind::OutOfMemory => SourceFault::OutOfMemory,
         _ => SourceFault::Failed,
-    }
-}
-
-/// A writer, such as standard output. A write of no byte is a failure.
-#[derive(Drop)]
-pub(crate) struct WriterSink<W: Drop> {
-    writer: W,
-    failures: u64,
-}
-
-impl<W: Write + Drop> WriterSink<W> {
-    /// A sink over the writer, with no failure yet.
-    pub(crate) fn new(writer: W) -> WriterSink<W>
-        ensures { result.failures ≡ 0 }
-    {
-        WriterSink {
-            writer,
-            failures: 0,
-        }
-    }
-
-    /// Flushes the writer.
-    pub(crate) fn flush(&mut self) -> Result<(), SinkFault> {
-        match self.writer.flush() {
-            Ok(()) => Ok(()),
-            Err(_) => Err(SinkFault),
-        }
-    }
-}
-
-impl<W: Write + Drop> Sink for WriterSink<W> {
-    ghost so_far = { λ s. record { bytes = None; failures = s.failures } };
-
-    fn put(&mut self, bytes: &[u8]) -> Result<usize, SinkFault> {
-        let taken = taken(self.writer.write(bytes));
-        if taken.is_err() {
-            self.failures += 1;
-        }
-        taken
-    }
-}
-
-/// How many bytes a write took; that it took none is a failure.
-fn taken(written: io::Result<usize>) -> Result<usize, SinkFault>
-    ensures { result ≡ taken written }
-{
-    match written {
-        Ok(0) | Err(_) => Err(SinkFault),
-        Ok(count) => Ok(count),
     }
 }

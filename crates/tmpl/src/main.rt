@@ -8,11 +8,12 @@ ghost use Rattle.tmpl.specs.Adapter.{SaysFlush, flushed};
 
 mod adapters;
 
-use crate::adapters::{FileSource, WriterSink};
+use crate::adapters::{FileSource, random_key};
 use std::io::ErrorKind;
 use std::process::ExitCode;
+use std::random::RandomSource;
 use std::{env, mem};
-use tmpl_run::{Sink, SinkFault};
+use tmpl_engine::{NameHash, Sink, SinkFault, WriterSink};
 use tmpl_tool::{Status, out_of_memory, tool_keeping, words_refused, write_failed};
 
 /// Runs the command over the file system and the standard streams.
@@ -31,11 +32,27 @@ fn main(rt: HostRuntime) -> ExitCode {
         }
         Err(_) => return exit(words_refused(&mut err)),
     };
-    let ended = tool_keeping(alloc, words.as_slice(), &mut source, &mut out, &mut err);
+    let ended = tool_keeping(
+        alloc,
+        name_hash(&rt),
+        words.as_slice(),
+        &mut source,
+        &mut out,
+        &mut err,
+    );
     let status = after_flush(out.flush(), ended.status, &mut err);
     // The process ends here, which gives all memory back at once; to free each value of a large file takes longer.
     mem::forget(ended.inputs);
     exit(status)
+}
+
+/// How names are hashed: by random keys, so that nobody can choose names that are hashed alike. Where the system has no
+/// random bytes to give, it is by known keys, and every answer is the same.
+fn name_hash(rt: &impl RandomSource) -> NameHash {
+    match (random_key(rt), random_key(rt)) {
+        (Ok(first), Ok(second)) => NameHash::keyed(first, second),
+        _ => NameHash::fixed(),
+    }
 }
 
 /// The status after the last flush of the output; where that fails and all went well before, it says so.

@@ -10,8 +10,9 @@ use std::alloc::{AllocError, Global};
 use std::array;
 use std::io::{self, Write};
 use tmpl_code::{Entry, Program, compile};
+use tmpl_engine::RenderError;
 use tmpl_run::run;
-use tmpl_syntax::Set;
+use tmpl_syntax::{NameHash, Set};
 use tmpl_tool::{Inputs, Request, Status, asked_name, read_inputs, request_of, tell_end};
 use tmpl_values::{Cell, Data, Val};
 
@@ -52,7 +53,7 @@ fn loan_in(words: &[String; 6]) -> Option<Loan> {
 fn load<'a>(rt: &HostRuntime, words: &'a [String]) -> Option<(Request<'a>, Inputs)> {
     let alloc = rt.alloc();
     let request = request_of(alloc, words).ok()?;
-    let inputs = read_inputs(alloc, &request, &mut Disk::new(rt)).ok()?;
+    let inputs = read_inputs(alloc, NameHash::fixed(), &request, &mut Disk::new(rt)).ok()?;
     Some((request, inputs))
 }
 
@@ -231,7 +232,7 @@ fn run_often<'a, W: Write, E: Write>(
         }
         let mut sink = LimitedSink::new(&mut *out, loan.limits);
         let options = &request.options;
-        let end = run(
+        let end = match run(
             alloc,
             program,
             entry,
@@ -240,8 +241,12 @@ fn run_often<'a, W: Write, E: Write>(
             &mut *cells,
             &mut *piece,
             &mut sink,
-        );
-        let status = tell_end(end, &mut LimitedSink::new(&mut *err, Limits::NONE));
+        ) {
+            Ok(()) => Ok(()),
+            Err(error) => Err(RenderError::from(error)),
+        };
+        let mut line = LimitedSink::new(&mut *err, Limits::NONE);
+        let status = tell_end(end, asked_name(request), &mut line);
         put_status(err, status, sink.behind())?;
     }
     Ok(true)

@@ -1,55 +1,43 @@
--- For `render` and what it calls: the template that a number names in a set is the one that its name names, and its run.
-use Rattle.std.proofs.Common.{◌≡◌, ◌∙◌, ◌<◌, ℕ, List, [], length, get_or, Option, Some, None, Ok, IfSome, ap, refl, subst, sym}
-use Rattle.std.specs.Prelude.{slice_get}
-use Rattle.std.specs.Option.{ok_or}
-use Rattle.std.proofs.lemmas.Option.{slice_get-get_or}
+-- For `render` and `tell_end`: a render of the template of the asked name, as the definition of the command has it.
+use Rattle.std.proofs.Common.{◌≡◌, ◌∙◌, ℕ, List, [], Option, Some, None, Ok, Err, ap, refl, subst, sym, inl}
+use Rattle.std.specs.Option.{ok_or, option_map}
+use Rattle.tmpl_values.specs.Put.{IsPut, Puts}
 use Rattle.tmpl_values.specs.Value.{Value}
-use Rattle.tmpl_syntax.specs.Tree as tree
-use Rattle.tmpl_syntax.specs.Set.{Template, number_of, tree_named}
-use Rattle.tmpl_syntax.proofs.NamedLemmas.{Named, numbered}
-use Rattle.tmpl_meaning.specs.Meaning.{ran}
-use Rattle.tmpl_meaning.specs.Sink.{Sunk, Told, sunk}
-use Rattle.tmpl_tool.specs.Outcome.{Answer, Outcome, Says, memory_line}
+use Rattle.tmpl_syntax.specs.Set.{Template, tree_named}
+use Rattle.tmpl_syntax.specs.Tree.{Tree}
+use Rattle.tmpl_meaning.specs.Meaning.{Ran, ran}
+use Rattle.tmpl_meaning.specs.Sink.{Sunk, Told, Untouched, Whole, as_puts, sunk}
+use Rattle.tmpl_meaning.specs.declared.sink.SinkFault.{SinkFault}
+use Rattle.tmpl_engine.specs.Render.{IsRender, ran_named}
+use Rattle.tmpl_engine.specs.declared.error.RenderError.TheVariants.{NoTemplate}
+use Rattle.tmpl_tool.specs.Outcome.{Outcome, Says}
 use Rattle.tmpl_tool.specs.Source.{Bytes}
 use Rattle.tmpl_tool.specs.Tool as tool
-use Rattle.tmpl_tool.specs.Tool.{answer_of, asked_name, or_stop, run_answer}
+use Rattle.tmpl_tool.specs.Tool.{answer_of, asked_name, or_stop, stop_answer}
 use Rattle.tmpl_tool.specs.Words.{Wanted}
 use Rattle.tmpl_tool.specs.computed.Load.{rendered}
-use Rattle.tmpl_tool.proofs.MessageLemmas.{nothing_out}
-use Rattle.tmpl_tool.proofs.StopLemmas.{outcome_as}
+use Rattle.tmpl_tool.proofs.MessageLemmas.{nothing_put}
 
--- what holds of the template of a number, if there is one, holds where there is one
-pub of_template : (P : Template → Type 0) (C : Type 0) (ts : List Template) (n : ℕ) → n < length ts → ((t : Template) → P t → C) → IfSome (slice_get ts n) P → C
-of_template P C ts n within then h = then (get_or ts n none) (subst (λ o. IfSome o P) (slice_get-get_or ts n none within) h)
+-- a sink that was not touched took the whole of nothing
+untouched-whole : (before after : Told) → Untouched (sunk before after) → Whole [] (sunk before after)
+untouched-whole before after h =
+    let same : as_puts after ≡ as_puts before = λ i. record { bytes = h.1 i; failures = h.0 i; through = 0 } in
+    subst (λ (p : Puts). IsPut {F = SinkFault} (Ok tt) (as_puts before) p []) (sym same) (nothing_put before)
+
+-- there is no template of the name, and that is said
+pub says_unnamed : (r : Option Ran) (name : Bytes) (before after : Told) (err : Sunk) (code : ℕ) → IsRender r (sunk before after) (Err NoTemplate)
+    → code ≡ 4 → Says (stop_answer (tool.unnamed name)).line err → Outcome (answer_of (ok_or r (tool.unnamed name))) (sunk before after) err code
+says_unnamed None name before after err code h is says = inl (untouched-whole before after h.1, is, says)
+says_unnamed (Some r) name before after err code h is says = absurd h
+
+-- the render of the template of the asked name
+pub rendered-named : (w : Wanted) (set : List Template) (input : Option Value) (name : Bytes) → name ≡ asked_name w
+    → ok_or (ran_named w.rules set name input) (tool.unnamed name) ≡ rendered w set input
+rendered-named w set input name is =
+    by (tree_named name set)
+    ∙ ap (λ (n : Bytes). or_stop (ok_or (tree_named n set) (tool.unnamed n)) (λ tree. Ok (ran w.rules set n tree input))) is
   where
-    none : Template
-    none = ([], record { file = []; nodes = tree.none })
-
--- .. and so does what follows from it
-pub if_template : (P Q : Template → Type 0) (o : Option Template) → ((t : Template) → o ≡ Some t → P t → Q t) → IfSome o P → IfSome o Q
-if_template P Q None then h = tt
-if_template P Q (Some t) then h = then t refl h
-
--- a template of the set has the name that is asked for
-module _ (w : Wanted) (set : List Template) (input : Option Value) where
-  named-run : (name : Bytes) (number : ℕ) → name ≡ asked_name w → (is : Named name set number)
-      → answer_of (rendered w set input) ≡ run_answer (ran w.rules set is.t.0 is.t.1 input)
-  named-run name number asked is =
-      ap (λ (n : Bytes). answer_of (or_stop (ok_or (tree_named n set) (tool.unnamed n)) (λ tree. Ok (ran w.rules set n tree input)))) (sym asked)
-      ∙ ap (λ o. answer_of (or_stop (ok_or o (tool.unnamed name)) (λ tree. Ok (ran w.rules set name tree input)))) is.tree
-      ∙ ap (λ (n : Bytes). run_answer (ran w.rules set n is.t.1 input)) is.same
-
-  pub has_template : (name : Bytes) (number : ℕ) → name ≡ asked_name w → Some number ≡ number_of name set → (out err : Sunk) (code : ℕ)
-      → IfSome (slice_get set number) (λ t. Outcome (run_answer (ran w.rules set t.0 t.1 input)) out err code)
-      → Outcome (answer_of (rendered w set input)) out err code
-  has_template name number asked is out err code h =
-      let named = numbered name set number (sym is) in
-      outcome_as err code out _ _ (named-run name number asked named) (subst (λ o. IfSome o (λ t. Outcome (run_answer (ran w.rules set t.0 t.1 input)) out err code)) named.at h)
-
--- memory was refused before anything was put out
-pub nothing_begun : (a : Answer) (out err out-then err-then last : Told) (code : ℕ) → out-then ≡ out → err-then ≡ err → code ≡ 7
-    → Says memory_line (sunk err-then last)
-    → Outcome a (sunk out out-then) (sunk err last) code
-nothing_begun a out err out-then err-then last code same-out same-err is says =
-    subst (λ t. Outcome a (sunk out t) (sunk err last) code) (sym same-out)
-    (nothing_out a out (sunk err last) code is (subst (λ t. Says memory_line (sunk t last)) same-err says))
+    by : (o : Option Tree) → ok_or (option_map (λ tree. ran w.rules set name tree input) o) (tool.unnamed name)
+        ≡ or_stop (ok_or o (tool.unnamed name)) (λ tree. Ok (ran w.rules set name tree input))
+    by None = refl
+    by (Some tree) = refl

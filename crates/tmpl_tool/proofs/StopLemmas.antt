@@ -204,12 +204,6 @@ module _ (err : Sunk) (code : ℕ) where
         (subst (λ (answers : Failing → Answer). Follows answers (inputs_reads parse files w) was is Made out err code)
         (λ i fails. sym (with_words parse words files fails (Ok w) asked) i) h)
 
-  -- no template has the name
-  pub has_no_template : (w : Wanted) (set : List Template) (input : Option Value) (t : Told) → tree_named (asked_name w) set ≡ None → code ≡ 4
-      → Says (stop_answer (tool.unnamed (asked_name w))).line err → Outcome (answer_of (rendered w set input)) (sunk t t) err code
-  has_no_template w set input t none status says =
-      outcome_as _ _ _ (ap (λ o. answer_of (or_stop (ok_or o (tool.unnamed (asked_name w))) (λ tree. Ok (ran w.rules set (asked_name w) tree input)))) none) (inl (nothing_put t, status, says))
-
 -- words that are taken
 pub asks : (words : List Bytes) (w : Wanted) → wanted words ≡ Some w → asks_help words ≡ false → asked_by words ≡ Ok w
 asks words w asked helps =

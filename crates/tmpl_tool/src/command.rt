@@ -17,6 +17,7 @@ use crate::words::request::Refused;
 use crate::words::request_of;
 use std::alloc::Global;
 use tmpl_run::Sink;
+use tmpl_syntax::NameHash;
 
 /// What `--help` puts out.
 static USAGE: &[u8] =
@@ -64,13 +65,14 @@ pub fn tool<S: Source, O: Sink, E: Sink>(
         (sunk (E.so_far err.old) (E.so_far err.new))
         result.code) }
 {
-    tool_keeping(alloc, words, source, out, err).status
+    tool_keeping(alloc, NameHash::fixed(), words, source, out, err).status
 }
 
 /// Does what `tool` does, and hands back what was read in place of giving back its memory: a program that ends next can
-/// leave that to the system.
+/// leave that to the system. The names of templates are hashed as it is told, which makes no difference to any answer.
 pub fn tool_keeping<S: Source, O: Sink, E: Sink>(
     alloc: Global,
+    names: NameHash,
     words: &[String],
     source: &mut S,
     out: &mut O,
@@ -99,7 +101,7 @@ pub fn tool_keeping<S: Source, O: Sink, E: Sink>(
         return stopped(put_out(USAGE, out, err));
     }
     match request_of(alloc, words) {
-        Ok(request) => match read_inputs(alloc, &request, source) {
+        Ok(request) => match read_inputs(alloc, names, &request, source) {
             Ok(inputs) => Ended {
                 status: answer(alloc, &request, &inputs.set, inputs.data.as_ref(), out, err),
                 inputs: Some(inputs),

@@ -1,29 +1,24 @@
 //! The template looked up and run, and its text put out.
-ghost use Rattle.std.specs.Prelude.{◌≡◌, ◌<◌, ◌^◌, ◌-◌, IfOk, IfSome, OnErr, length, option_map, slice_get};
+ghost use Rattle.std.specs.Prelude.{◌≡◌, ◌<◌, ◌^◌, ◌-◌, Option, option_map};
+ghost use Rattle.std.specs.Option.{ok_or};
 ghost use Rattle.tmpl_values.specs.View.{value_of};
 ghost use Rattle.tmpl_syntax.specs.View.{set_view};
-ghost use Rattle.tmpl_meaning.specs.Meaning.{Ran, ran};
-ghost use Rattle.tmpl_meaning.specs.Sink.{Sunk, sunk};
-ghost use Rattle.tmpl_meaning.specs.View.{rules_of};
-ghost use Rattle.tmpl_code.specs.Calls.{deepest};
-ghost use Rattle.tmpl_code.specs.Program.{IsLinked};
-ghost use Rattle.tmpl_run.specs.Run.{IsRun};
+ghost use Rattle.tmpl_meaning.specs.Meaning.{Ran};
+ghost use Rattle.tmpl_meaning.specs.Sink.{Told, sunk};
+ghost use Rattle.tmpl_engine.specs.Render.{IsRender};
 ghost use Rattle.tmpl_tool.specs.Outcome.{Counted, Once, Outcome};
-ghost use Rattle.tmpl_tool.specs.Tool.{answer_of, asked_name, only_text, run_answer};
+ghost use Rattle.tmpl_tool.specs.Tool.{answer_of, asked_name, only_text, unnamed};
 ghost use Rattle.tmpl_tool.specs.View.{seen};
 ghost use Rattle.tmpl_tool.specs.computed.Load.{rendered};
 
 use crate::messages::lines::{out_of_memory, run_failed, template_missing, write_failed};
 use crate::status::Status;
 use crate::words::request::Request;
-use std::alloc::{AllocError, Global};
-use tmpl_code::{Entry, Program, compile};
-use tmpl_run::{Options, RunError, Sink, put_all, run};
+use std::alloc::Global;
+use tmpl_engine::RenderError;
+use tmpl_run::{Sink, put_all};
 use tmpl_syntax::{Set, base_name};
-use tmpl_values::{Cell, Data, Val};
-
-/// How many bytes of the text wait until they are put out together.
-const PIECE_SIZE: usize = 4096;
+use tmpl_values::Data;
 
 /// Puts a whole text out.
 pub(crate) fn put_out<O: Sink, E: Sink>(text: &[u8], out: &mut O, err: &mut E) -> Status
@@ -42,118 +37,42 @@ pub(crate) fn put_out<O: Sink, E: Sink>(text: &[u8], out: &mut O, err: &mut E) -
     }
 }
 
-/// So many cells that hold nothing.
-fn empty_cells<'a>(alloc: Global, count: u64) -> Result<Vec<Cell<'a>>, AllocError>
-    ensures { IfOk result (λ cells. length cells.items ≡ count) }
-{
-    let mut cells = Vec::with_capacity(alloc, count as usize)?;
-    for _ in 0..count {
-        cells.push(Cell {
-            val: Val::Nothing,
-            num: 0,
-        })?;
-    }
-    Ok(cells)
-}
-
-/// Says on the error sink how a run ended, and gives its status.
-pub fn tell_end<E: Sink>(end: Result<(), RunError<'_>>, err: &mut E) -> Status
+/// Says on the error sink how a render of the template of this name ended, and gives its status.
+pub fn tell_end<E: Sink>(end: Result<(), RenderError<'_>>, name: &[u8], err: &mut E) -> Status
     requires { (E.so_far err.old).failures < 2 ^ 64 - 1 }
     ensures cuts { Once (E.so_far err.old).failures (E.so_far err.new).failures }
-    ensures counts { (r : Ran) (out : Sunk) → IsRun r out end.entry
-        → Counted out.before.failures out.after.failures result.code }
-    ensures outcome { (r : Ran) (out : Sunk) → IsRun r out end.entry
-        → Outcome (run_answer r) out (sunk (E.so_far err.old) (E.so_far err.new)) result.code }
+    ensures counts { (r : Option Ran) (before after : Told) → IsRender r (sunk before after) end.entry
+        → Counted before.failures after.failures result.code }
+    ensures outcome { (r : Option Ran) (before after : Told) → IsRender r (sunk before after) end.entry
+        → Outcome (answer_of (ok_or r (unnamed name.now)))
+        (sunk before after)
+        (sunk (E.so_far err.old) (E.so_far err.new))
+        result.code }
 {
     match end {
         Ok(()) => Status { code: 0 },
-        Err(RunError::Fault(fault)) => run_failed(err, &fault),
-        Err(RunError::WriteFailed) => write_failed(err),
-        Err(RunError::OutOfMemory) => out_of_memory(err),
+        Err(error) => tell_error(error, name, err),
     }
 }
 
-/// These options with no greater depth than that to which calls of the program can go, so that its stack is no larger.
-fn fitted(options: &Options, program: &Program<'_>) -> Options
-    ensures { let rules = rules_of options.now in
-        rules_of result ≡ record rules { depth_limit = deepest rules.depth_limit (set_view program.now.set.now) } }
+/// Says why a render of the template of this name ended, and gives the status of that.
+fn tell_error<E: Sink>(error: RenderError<'_>, name: &[u8], err: &mut E) -> Status
+    requires { (E.so_far err.old).failures < 2 ^ 64 - 1 }
+    ensures cuts { Once (E.so_far err.old).failures (E.so_far err.new).failures }
+    ensures counts { (r : Option Ran) (before after : Told) → IsRender r (sunk before after) (Err error.entry)
+        → Counted before.failures after.failures result.code }
+    ensures outcome { (r : Option Ran) (before after : Told) → IsRender r (sunk before after) (Err error.entry)
+        → Outcome (answer_of (ok_or r (unnamed name.now)))
+        (sunk before after)
+        (sunk (E.so_far err.old) (E.so_far err.new))
+        result.code }
 {
-    Options {
-        missing_key: options.missing_key,
-        depth: program.deepest(options.depth),
-        steps: options.steps,
+    match error {
+        RenderError::NoTemplate => template_missing(err, name),
+        RenderError::Fault(fault) => run_failed(err, &fault),
+        RenderError::WriteFailed => write_failed(err),
+        RenderError::OutOfMemory => out_of_memory(err),
     }
-}
-
-/// Runs the template of this number over a stack and a piece that are taken before, and says how it ended.
-fn run_program<'a, O: Sink, E: Sink>(
-    alloc: Global,
-    options: &Options,
-    program: &Program<'a>,
-    number: usize,
-    data: Option<&'a Data>,
-    out: &mut O,
-    err: &mut E,
-) -> Result<Status, AllocError>
-    requires linked { IsLinked program.now }
-    requires number { number < length (set_view program.now.set.now) }
-    requires out { (O.so_far out.old).failures < 2 ^ 64 - 1 }
-    requires err { (E.so_far err.old).failures < 2 ^ 64 - 1 }
-    ensures counts { IfOk result (λ status.
-        Counted (O.so_far out.old).failures (O.so_far out.new).failures status.code) }
-    ensures cuts { IfOk result (λ status. Once (E.so_far err.old).failures (E.so_far err.new).failures) }
-    ensures outcome { let set = set_view program.now.set.now in
-        IfOk result (λ status. IfSome (slice_get set number) (λ t.
-        Outcome (run_answer (ran (rules_of options.now) set t.0 t.1
-        (option_map (λ d. value_of d.now) «data».entry)))
-        (sunk (O.so_far out.old) (O.so_far out.new))
-        (sunk (E.so_far err.old) (E.so_far err.new))
-        status.code)) }
-    ensures untouched { OnErr result ((out.new ≡ out.old) × (err.new ≡ err.old)) }
-{
-    let options = fitted(options, program);
-    let mut cells = empty_cells(alloc, program.room(options.depth))?;
-    let mut piece = [0; PIECE_SIZE];
-    let end = run(
-        alloc,
-        program,
-        Entry { number },
-        data,
-        &options,
-        cells.as_mut_slice(),
-        piece.as_mut_slice(),
-        out,
-    );
-    Ok(tell_end(end, err))
-}
-
-/// Compiles the set, and runs its template of this number.
-fn run_template<'a, O: Sink, E: Sink>(
-    alloc: Global,
-    options: &Options,
-    set: &'a Set,
-    number: usize,
-    data: Option<&'a Data>,
-    out: &mut O,
-    err: &mut E,
-) -> Result<Status, AllocError>
-    requires number { number < length (set_view set.now) }
-    requires out { (O.so_far out.old).failures < 2 ^ 64 - 1 }
-    requires err { (E.so_far err.old).failures < 2 ^ 64 - 1 }
-    ensures counts { IfOk result (λ status.
-        Counted (O.so_far out.old).failures (O.so_far out.new).failures status.code) }
-    ensures cuts { IfOk result (λ status. Once (E.so_far err.old).failures (E.so_far err.new).failures) }
-    ensures outcome { let set = set_view set.now in
-        IfOk result (λ status. IfSome (slice_get set number) (λ t.
-        Outcome (run_answer (ran (rules_of options.now) set t.0 t.1
-        (option_map (λ d. value_of d.now) «data».entry)))
-        (sunk (O.so_far out.old) (O.so_far out.new))
-        (sunk (E.so_far err.old) (E.so_far err.new))
-        status.code)) }
-    ensures untouched { OnErr result ((out.new ≡ out.old) × (err.new ≡ err.old)) }
-{
-    let program = compile(alloc, set)?;
-    run_program(alloc, options, &program, number, data, out, err)
 }
 
 /// The name of the template that is asked for: the one that the words say, or that of the first file's own template.
@@ -189,11 +108,6 @@ pub(crate) fn render<O: Sink, E: Sink>(
         result.code }
 {
     let name = asked_name(request);
-    let Some(number) = set.number(name) else {
-        return template_missing(err, name);
-    };
-    match run_template(alloc, &request.options, set, number, data, out, err) {
-        Ok(status) => status,
-        Err(_) => out_of_memory(err),
-    }
+    let end = tmpl_engine::render(alloc, set, name, data, &request.options, out);
+    tell_end(end, name, err)
 }

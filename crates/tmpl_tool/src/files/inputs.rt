@@ -11,7 +11,7 @@ use crate::files::source::Source;
 use crate::stop::Stop;
 use crate::words::request::Request;
 use std::alloc::Global;
-use tmpl_syntax::Set;
+use tmpl_syntax::{NameHash, Set};
 use tmpl_values::Data;
 
 /// What the command needs of the files.
@@ -23,9 +23,10 @@ pub struct Inputs {
     pub data: Option<Data>,
 }
 
-/// Reads the templates, and then the data of a run. A read that fails is the last one.
+/// Reads the templates, whose names are hashed so, and then the data of a run. A read that fails is the last one.
 pub fn read_inputs<'a, S: Source>(
     alloc: Global,
+    names: NameHash,
     request: &Request<'a>,
     source: &mut S,
 ) -> Result<Inputs, Stop<'a>>
@@ -35,7 +36,7 @@ pub fn read_inputs<'a, S: Source>(
         ComesOf (Asked (S.asked source.old) (S.asked source.new)) (inputs_of parse files (seen request.now))
         (inputs_reads parse files (seen request.now)) inputs_seen result) }
 {
-    let mut set = Set::new(alloc);
+    let mut set = Set::with_hash(alloc, names);
     load_files(alloc, &mut set, source, request.files.as_slice())?;
     if request.print {
         return Ok(Inputs { set, data: None });

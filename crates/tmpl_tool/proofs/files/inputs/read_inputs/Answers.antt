@@ -35,7 +35,7 @@ returns-in_err-load_files-clause-reads g c =
     subst (λ (ns : List (Bor Bytes)). StopsAt Made (λ fails. loaded parsed files fails 0 [] (map (λ s. s.now) ns))
     (λ fails. file_reads parsed files fails 0 [] (map (λ s. s.now) ns)) (stop_seen stop)) c.as_slice.ensures.value
     (subst (λ (old : List Template). StopsAt Made (λ fails. loaded parsed files fails 0 old (map (λ s. s.now) c.as_slice.result.now))
-    (λ fails. file_reads parsed files fails 0 old (map (λ s. s.now) c.as_slice.result.now)) (stop_seen stop)) c.new-set.ensures stops) in
+    (λ fails. file_reads parsed files fails 0 old (map (λ s. s.now) c.as_slice.result.now)) (stop_seen stop)) c.with_hash-set.ensures stops) in
     err_up (ComesOf Made (inputs_of parsed files w) (inputs_reads parsed files w) inputs_seen) c.from_residual.result _ c.from_residual.ensures.1
     (load_stops files w Made (stop_seen stop) stops_here)))
 
@@ -50,7 +50,7 @@ returns-in_err-data-clause-reads g c =
     let set = set_view c.load_files.new.set in
     let stop = c.in_err-data.field-0.0 in
     if_told _ (g.S.Source.contents c.args.source.now) (λ files told.
-    let loads = all_loaded (Asked before between) files _ _ _ set (sym c.new-set.ensures) (sym c.as_slice.ensures.value) (of_told _ _ files told c.in_ok-load_files.ensures.loads) in
+    let loads = all_loaded (Asked before between) files _ _ _ set (sym c.with_hash-set.ensures) (sym c.as_slice.ensures.value) (of_told _ _ files told c.in_ok-load_files.ensures.loads) in
     let stops = of_told _ _ files (c.in_ok-load_files.ensures.contents ∙ told) c.in_err-data.ensures.reads in
     err_up (ComesOf (Asked before after) (inputs_of parsed files w) (inputs_reads parsed files w) inputs_seen) c.from_residual-in_err-data.result _ c.from_residual-in_err-data.ensures.1
     (data_stops files w before between after set loads.0 loads.1 (search rules) (stop_seen stop) stops)))
@@ -64,7 +64,7 @@ returns-clause-reads g c parse is =
     let between = g.S.Source.asked c.load_files.new.source in
     let after = g.S.Source.asked c.read_data.new.source in
     if_told _ (g.S.Source.contents c.args.source.now) (λ files told.
-    let loads = all_loaded (Asked before between) files _ _ _ set (sym c.new-set.ensures) (sym c.as_slice.ensures.value) (of_told _ _ files told c.in_ok-load_files.ensures.loads) in
+    let loads = all_loaded (Asked before between) files _ _ _ set (sym c.with_hash-set.ensures) (sym c.as_slice.ensures.value) (of_told _ _ files told c.in_ok-load_files.ensures.loads) in
     let found = of_told _ _ files (c.in_ok-load_files.ensures.contents ∙ told) c.in_ok-data.ensures.reads in
     for_each (λ (p : Parse). (inputs_of p files w no_read ≡ Ok (set, input)) × Asked before after (inputs_reads p files w no_read))
     (nothing_stops files w before between after set loads.0 loads.1 (search rules) input found.0 found.1)
@@ -77,7 +77,7 @@ returns-then-request-clause-reads g c parse is =
     let before = g.S.Source.asked c.args.source.now in
     let between = g.S.Source.asked c.load_files.new.source in
     if_told _ (g.S.Source.contents c.args.source.now) (λ files told.
-    let loads = all_loaded (Asked before between) files _ _ _ set (sym c.new-set.ensures) (sym c.as_slice.ensures.value) (of_told _ _ files told c.in_ok-load_files.ensures.loads) in
+    let loads = all_loaded (Asked before between) files _ _ _ set (sym c.with_hash-set.ensures) (sym c.as_slice.ensures.value) (of_told _ _ files told c.in_ok-load_files.ensures.loads) in
     for_each (λ (p : Parse). (inputs_of p files w no_read ≡ Ok (set, None)) × Asked before between (inputs_reads p files w no_read))
     (printed_next files w before between between set loads.0 loads.1 (search rules) (asked-nothing between))
     parse is)

@@ -1,0 +1,65 @@
+-- For `render` and what it calls: the template that a number names in a set is the one that its name names, and its run.
+use Rattle.std.proofs.Common.{◌≡◌, ◌∙◌, ℕ, List, Option, Some, None, Result, Ok, Err, IfSome, ap, refl, subst, sym, inl}
+use Rattle.std.specs.Prelude.{slice_get}
+use Rattle.std.specs.Option.{option_map}
+use Rattle.std.specs.Result.{result_map_both}
+use Rattle.tmpl_values.specs.Value.{Value}
+use Rattle.tmpl_syntax.specs.Set.{Template, number_of, tree_named}
+use Rattle.tmpl_syntax.proofs.NamedLemmas.{Named, numbered, unnumbered}
+use Rattle.tmpl_meaning.specs.Meaning.{Ran, Rules, ran}
+use Rattle.tmpl_meaning.specs.Sink.{Sunk, Told, sunk}
+use Rattle.tmpl_code.specs.Calls.{deepest}
+use Rattle.tmpl_run.proofs.DepthLemmas.{depth_alike}
+use Rattle.tmpl_run.specs.Run.{IsRun}
+use Rattle.tmpl_run.specs.declared.fault.RunError.{RunError}
+use Rattle.tmpl_run.specs.declared.fault.RunError.TheVariants as run
+use Rattle.tmpl_engine.specs.Error.{error_of}
+use Rattle.tmpl_engine.specs.Render.{IsRender, IsRunOf, ran_named}
+use Rattle.tmpl_engine.specs.declared.error.RenderError.{RenderError}
+use Rattle.tmpl_engine.specs.declared.error.RenderError.TheVariants.{NoTemplate}
+
+-- what follows from what holds of the template of a number, if there is one, holds of it
+if_template : (P Q : Template → Type 0) (o : Option Template) → ((t : Template) → o ≡ Some t → P t → Q t) → IfSome o P → IfSome o Q
+if_template P Q None then h = tt
+if_template P Q (Some t) then h = then t refl h
+
+-- the answer of a run as that of its render
+abbrev pub as_render : Result (Unit {0}) RunError → Result (Unit {0}) RenderError
+as_render r = result_map_both (λ u. u) error_of r
+
+is_render : (r : Ran) (s : Sunk) (answer : Result (Unit {0}) RunError) → IsRun r s answer → IsRunOf r s (as_render answer)
+is_render r s (Ok u) h = h
+is_render r s (Err (run.Fault fault)) h = h
+is_render r s (Err run.WriteFailed) h = h
+is_render r s (Err run.OutOfMemory) h = inl h
+
+-- a run with the depth that the set can go to is the run with the depth that is allowed
+pub fitted_run : (rules fitted : Rules) (ts : List Template) (number : ℕ) (input : Option Value) (s : Sunk) (answer : Result (Unit {0}) RunError)
+    → fitted ≡ record rules { depth_limit = deepest rules.depth_limit ts }
+    → IfSome (slice_get ts number) (λ t. IsRun (ran fitted ts t.0 t.1 input) s answer)
+    → IfSome (slice_get ts number) (λ t. IsRunOf (ran rules ts t.0 t.1 input) s (as_render answer))
+fitted_run rules fitted ts number input s answer is runs =
+    if_template _ _ (slice_get ts number)
+    (λ t at h. is_render (ran rules ts t.0 t.1 input) s answer
+    (subst (λ r. IsRun r s answer) (ap (λ (r : Rules). ran r ts t.0 t.1 input) is ∙ depth_alike rules ts number t input at) h)) runs
+
+module _ (rules : Rules) (ts : List Template) (name : List ℕ) (input : Option Value) where
+  -- the template of the name has a number
+  pub named_render : (k : ℕ) (s : Sunk) (answer : Result (Unit {0}) RenderError) → Some k ≡ number_of name ts
+      → IfSome (slice_get ts k) (λ t. IsRunOf (ran rules ts t.0 t.1 input) s answer)
+      → IsRender (ran_named rules ts name input) s answer
+  named_render k s answer is h =
+      let named = numbered name ts k (sym is) in
+      subst (λ o. IsRender o s answer) (sym (same named))
+      (subst (λ o. IfSome o (λ (t : Template). IsRunOf (ran rules ts t.0 t.1 input) s answer)) named.at h)
+    where
+      same : (n : Named name ts k) → ran_named rules ts name input ≡ Some (ran rules ts n.t.0 n.t.1 input)
+      same n =
+          ap (option_map (λ tree. ran rules ts name tree input)) n.tree
+          ∙ ap (λ (bytes : List ℕ). Some (ran rules ts bytes n.t.1 input)) n.same
+
+  -- no template has it
+  pub unnamed_render : (t : Told) → None ≡ number_of name ts → IsRender (ran_named rules ts name input) (sunk t t) (Err NoTemplate)
+  unnamed_render t none =
+      subst (λ o. IsRender o (sunk t t) (Err NoTemplate))
+      (sym (ap (option_map (λ tree. ran rules ts name tree input)) (unnumbered name ts (sym none)))) (refl, (refl, refl))

@@ -1,0 +1,4 @@
+pub mod Error
+pub mod Render
+pub mod View
+pub mod Writer

@@ -1,0 +1,27 @@
+-- What a render of a template by its name comes to, as its sink saw it.
+use Rattle.std.specs.Prelude.{◌≡◌, ◌⊎◌, List, ℕ, Option, Some, None, Result, Ok, Err, option_map}
+use Rattle.tmpl_values.specs.Value.{Value}
+use Rattle.tmpl_syntax.specs.Set.{Template, tree_named}
+use Rattle.tmpl_meaning.specs.Meaning.{Ran, Rules, ran}
+use Rattle.tmpl_meaning.specs.Sink.{Sunk, Untouched}
+use Rattle.tmpl_run.specs.Run.{IsRun}
+use Rattle.tmpl_run.specs.declared.fault.RunError.TheVariants as run
+use Rattle.tmpl_engine.specs.declared.error.RenderError.{RenderError}
+use Rattle.tmpl_engine.specs.declared.error.RenderError.TheVariants.{NoTemplate, Fault, WriteFailed, OutOfMemory}
+
+-- the meaning of the template of this name, if there is one
+abbrev pub ran_named : Rules → List Template → List ℕ → Option Value → Option Ran
+ran_named rules ts name input = option_map (λ tree. ran rules ts name tree input) (tree_named name ts)
+
+-- a run of the template, as it is called by code; or, before it, memory was refused
+abbrev pub IsRunOf : Ran → Sunk → Result (Unit {0}) RenderError → Type 0
+IsRunOf r s (Ok u) = IsRun r s (Ok u)
+IsRunOf r s (Err (Fault fault)) = IsRun r s (Err (run.Fault fault))
+IsRunOf r s (Err WriteFailed) = IsRun r s (Err run.WriteFailed)
+IsRunOf r s (Err OutOfMemory) = IsRun r s (Err run.OutOfMemory) ⊎ Untouched s
+IsRunOf r s (Err NoTemplate) = ⊥
+
+-- where there is no such template, that is answered, and nothing is put out
+abbrev pub IsRender : Option Ran → Sunk → Result (Unit {0}) RenderError → Type 0
+IsRender None s answer = (answer ≡ Err NoTemplate) × Untouched s
+IsRender (Some r) s answer = IsRunOf r s answer

@@ -1,0 +1,10 @@
+-- What a write means.
+use Rattle.std.specs.Prelude.{ℕ, zero, suc, Result, Ok, Err}
+use Rattle.std.specs.declared.io.Error.{Error}
+use Rattle.tmpl_meaning.specs.declared.sink.SinkFault.{SinkFault}
+
+-- how many bytes a write took: one that took none failed, as one that the system refused
+abbrev pub taken : Result ℕ Error → Result ℕ SinkFault
+taken (Ok zero) = Err (record {})
+taken (Ok (suc n)) = Ok (suc n)
+taken (Err e) = Err (record {})

@@ -1,0 +1,107 @@
+//! An engine: templates that a host adds once and renders as often as it likes.
+ghost use Rattle.std.specs.Prelude.{◌≡◌, ◌<◌, ◌^◌, ◌-◌, [], option_map};
+ghost use Rattle.tmpl_values.specs.View.{value_of};
+ghost use Rattle.tmpl_syntax.specs.View.{set_view};
+ghost use Rattle.tmpl_syntax.specs.Parse.{IsReading};
+ghost use Rattle.tmpl_meaning.specs.Sink.{sunk};
+ghost use Rattle.tmpl_meaning.specs.View.{rules_of};
+ghost use Rattle.tmpl_engine.specs.Render.{IsRender, ran_named};
+ghost use Rattle.tmpl_engine.specs.View.{templates_of};
+
+use crate::error::RenderError;
+use crate::rendering::render;
+use std::alloc::Global;
+use tmpl_run::{Options, Sink};
+use tmpl_syntax::{NameHash, ParseFault, Set, parse_file, parse_owned};
+use tmpl_values::Data;
+
+/// Templates that a host adds once and renders as often as it likes. It owns them, and gives back their memory when it is
+/// dropped.
+#[derive(Drop)]
+pub struct Engine {
+    set: Set,
+}
+
+impl Engine {
+    /// An engine of no templates.
+    pub fn new(alloc: Global) -> Engine
+        ensures { templates_of result ≡ [] }
+    {
+        Engine {
+            set: Set::new(alloc),
+        }
+    }
+
+    /// An engine of no templates, whose names are hashed so. Where templates come from strangers, give keys that these
+    /// cannot know, so that they cannot make it slow.
+    pub fn with_hash(alloc: Global, names: NameHash) -> Engine
+        ensures { templates_of result ≡ [] }
+    {
+        Engine {
+            set: Set::with_hash(alloc, names),
+        }
+    }
+
+    /// Adds the templates of a file of this path and these bytes, as `tmpl_syntax::parse_file` does: those that it
+    /// defines, and its own, whose name is the part of the path after the last `/`. The bytes are copied.
+    ///
+    /// # Errors
+    ///
+    /// The file is refused, at the line and for the reason that the fault says, or memory is. The templates are then as
+    /// they were.
+    pub fn add<'f>(
+        &mut self,
+        alloc: Global,
+        file: &'f str,
+        bytes: &[u8],
+    ) -> Result<(), ParseFault<'f>>
+        ensures { IsReading (templates_of self.old) file.entry bytes.now (templates_of self.new) result }
+    {
+        parse_file(alloc, &mut self.set, file, bytes)
+    }
+
+    /// Does what `add` does, and keeps the bytes in place of copying them.
+    ///
+    /// # Errors
+    ///
+    /// Those of `add`.
+    pub fn add_owned<'f>(
+        &mut self,
+        alloc: Global,
+        file: &'f str,
+        bytes: Vec<u8>,
+    ) -> Result<(), ParseFault<'f>>
+        ensures { IsReading (templates_of self.old) file.entry bytes.items (templates_of self.new) result }
+    {
+        parse_owned(alloc, &mut self.set, file, bytes)
+    }
+
+    /// Its templates, to be printed, looked up or compiled.
+    pub fn templates(&self) -> &Set
+        ensures { set_view result.now ≡ templates_of self.now }
+    {
+        &self.set
+    }
+
+    /// Renders the template of this name with data, if there are any, by these options, and puts its text out.
+    ///
+    /// # Errors
+    ///
+    /// There is no template of the name; the run stops at a fault, after the text before it; a put fails, which is
+    /// then the last one; memory is refused.
+    pub fn render<'a, S: Sink>(
+        &'a self,
+        alloc: Global,
+        name: &[u8],
+        data: Option<&'a Data>,
+        options: &Options,
+        out: &mut S,
+    ) -> Result<(), RenderError<'a>>
+        requires { (S.so_far out.old).failures < 2 ^ 64 - 1 }
+        ensures { let input = option_map (λ d. value_of d.now) «data».entry in
+            IsRender (ran_named (rules_of options.now) (templates_of self.now) name.now input)
+            (sunk (S.so_far out.old) (S.so_far out.new)) result }
+    {
+        render(alloc, &self.set, name, data, options, out)
+    }
+}
