@@ -71,7 +71,7 @@ abbrev pub with_older : Environment → Run → Run
 with_older older r = record r { env = r.env ++ older }
 
 -- from where a run stands, a part of it does the same whatever older variables there are, and leaves them as they are:
--- so it finds each name that it looks up or assigns among its own
+-- what `lookup` and `assigned` say of a name that is none of its own plays no part
 abbrev pub FindsItsOwn : Next → Run → Type 0
 FindsItsOwn part r = (older : Environment) → part (with_older older r) ≡ (with_older older (part r).0, (part r).1)
 
