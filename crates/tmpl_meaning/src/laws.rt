@@ -14,10 +14,10 @@ pub fn adds_to_text()
 {}
 
 /// The law of what never comes in a run of formed nodes, which those of each tree of a `Set` are. From where the
-/// variables have the names in scope, as they do at the start of a template, the run is the same whatever older variables
-/// there are, and leaves them as they are; so it plays no part what is said of a name without a variable. Nodes in no
-/// body of a range, as those of a template, end neither at a `break` nor at a `continue`. And where nodes are done, the
-/// variables have the names in scope behind them.
+/// variables have the names in scope, as they do at the start of a template, the run is the same whatever older
+/// variables there are, and leaves them as they are; so it plays no part what is said of a name without a variable.
+/// Nodes in no body of a range, as those of a template, end neither at a `break` nor at a `continue`. And where nodes
+/// are done, the variables have the names in scope behind them.
 pub fn formed_runs()
     ensures finds { FindsNames }
     ensures ends { EndsInRange }

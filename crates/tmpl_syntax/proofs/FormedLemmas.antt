@@ -101,8 +101,11 @@ mutual
       let p = and_parts (headed levels names h) _ e in
       let q = and_parts (room levels) (are_among names (names_of h).uses) p.0 in
       let r = and_parts (fits body (loops_in c false loop) (levels + 1) (names ++ (names_of h).declares)) _ p.1 in
-      let body_formed = all-formed body (loops_in c false loop) (levels + 1) (names ++ (names_of h).declares) (declared_to h.binding scope) (all-declared h names scope more) r.0 in
-      let other_formed = all-formed other (loops_in c true loop) (levels + 1) (part_names c names (names_of h).declares) (else_scope c h.binding scope) (all-else c h names scope more) r.1 in
+      let inside = all-declared h names scope more in
+      let others = all-else c h names scope more in
+      let body_formed = all-formed body (loops_in c false loop) (levels + 1) (names ++ (names_of h).declares) (declared_to h.binding scope) inside r.0 in
+      let other_names = part_names c names (names_of h).declares in
+      let other_formed = all-formed other (loops_in c true loop) (levels + 1) other_names (else_scope c h.binding scope) others r.1 in
       both_true (both_true (both_true (are-among names scope (names_of h).uses more q.1) (within levels q.0))
       (subst (λ l. are_formed body (declared_to h.binding scope) l (levels + 1) ≡ true) (looped c loop) body_formed))
       (subst (λ l. are_formed other (else_scope c h.binding scope) l (levels + 1) ≡ true) (unlooped c loop) other_formed)

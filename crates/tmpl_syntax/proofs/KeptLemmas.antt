@@ -120,7 +120,8 @@ file-kept file bytes ts name h within passed built =
     let formed = spells-formed items ds own (subst (Judged (roles_of items)) accepted (judged-all (roles_of items))) spelled in
     let printable = keeps-printable every_branch bytes items ds own h (has-items bytes) spelled in
     subst AreKept (sym built)
-    (all-kept _ (formed-all file ds own formed.0 formed.1) (printable-all file ds own name (printable.0 file) printable.1) (need-most every_branch file bytes items ds own within (has-items bytes) spelled))
+    (all-kept _ (formed-all file ds own formed.0 formed.1) (printable-all file ds own name (printable.0 file) printable.1)
+    (need-most every_branch file bytes items ds own within (has-items bytes) spelled))
 
 -- ---- definitions one by one
 
