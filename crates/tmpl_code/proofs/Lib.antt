@@ -1,5 +1,6 @@
 pub mod BackwardLemmas
 pub mod CostLemmas
+pub mod FormedLemmas
 pub mod HeldLemmas
 pub mod NodeLemmas
 pub mod NodeTailLemmas

@@ -1,6 +1,7 @@
 pub mod Calls
 pub mod Code
 pub mod Instruction
+pub mod Laws
 pub mod Layout
 pub mod MakesText
 pub mod Program

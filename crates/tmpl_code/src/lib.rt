@@ -6,6 +6,7 @@ mod code;
 mod compiler;
 mod cost;
 mod instruction;
+mod laws;
 mod node;
 mod pipeline;
 mod program;
@@ -14,4 +15,5 @@ mod survey;
 
 pub use compiler::compile;
 pub use instruction::{Instruction, Refusal};
+pub use laws::formed_slots;
 pub use program::{Entry, Program};

@@ -10,7 +10,8 @@ use Rattle.tmpl_grammar.specs.Tree.{no_operand, operand, no_command, command, Pi
 use Rattle.tmpl_grammar.specs.Tree.{declare_pair}
 use Rattle.tmpl_grammar.specs.declared.tree.Control.TheVariants as control
 use Rattle.tmpl_syntax.specs.Tree.{NodeKind, Nodes, Tree, none, then, text, action, control_node, break_node, continue_node, template_node}
-use Rattle.tmpl_meaning.specs.Meaning.{Ran, Cause, Rules, ran_with, steps_spent, not_a_function, nil_command, lacks_field, lacks_entry}
+use Rattle.tmpl_meaning.specs.Laws.{with_older, within}
+use Rattle.tmpl_meaning.specs.Meaning.{Ran, Cause, Rules, meanings, ran_with, started, steps_spent, not_a_function, nil_command, lacks_field, lacks_entry}
 use Rattle.tmpl_meaning.specs.Meaning.{not_a_range, call_failed, no_template, calls_too_deep}
 use Rattle.tmpl_syntax.specs.Set.{Template}
 use Rattle.tmpl_meaning.specs.Pipeline.{Given, Place, pipeline_value}
@@ -363,3 +364,36 @@ steps-across-calls = refl
 a-step-too-few : run_with 3 9 (beside a (then 5 (text (codes "x")) none) ∷ []) (bare_call a (bare_call a none)) nothing
     ≡ stops_in (codes "x") (codes "g") a 5 (steps_spent 3)
 a-step-too-few = refl
+
+-- ---- what no file spells
+
+-- {{$x}}: a name without a variable is nothing
+undeclared : run 9 (then 1 (put (variable x [])) none) three ≡ puts (text_of nothing)
+undeclared = refl
+
+-- {{$x = .}}A: assigned to such a name, a value is lost
+unassigned : run 9 (then 1 (set (assign x) dot) (then 1 (text (codes "A")) none)) three ≡ puts (codes "A")
+unassigned = refl
+
+-- A{{break}}B, A{{continue}}B: out of a template they end it, and so they do where it is called
+a-break-alone : run 9 (then 1 (text (codes "A")) (then 1 break_node (then 1 (text (codes "B")) none))) three ≡ puts (codes "A")
+a-break-alone = refl
+
+a-continue-alone : run 9 (then 1 (text (codes "A")) (then 1 continue_node (then 1 (text (codes "B")) none))) three ≡ puts (codes "A")
+a-continue-alone = refl
+
+-- {{define "a"}}A{{break}}B{{end}}{{template "a"}}C
+a-break-called : run_with 9 9 (beside a (then 1 (text (codes "A")) (then 1 break_node (then 1 (text (codes "B")) none))) ∷ [])
+    (bare_call a (then 1 (text (codes "C")) none)) nothing ≡ puts (codes "AC")
+a-break-called = refl
+
+-- {{$x}}, and {{$x := .}}{{$x}}, with an older variable of that name: what is not formed is another run, what is formed the same
+abbrev with_one : Nodes → List ℕ
+with_one ns =
+    (meanings (within (rules Default 9 9) [] 9 (codes "t") (tree_of ns)) ns three (with_older ((x, one 1) ∷ []) (started 9 three))).0.text
+
+an-older-one : with_one (then 1 (put (variable x [])) none) ≡ text_of (one 1)
+an-older-one = refl
+
+its-own-one : with_one (then 1 (set (declare x) dot) (then 1 (put (variable x [])) none)) ≡ text_of three
+its-own-one = refl

@@ -1,5 +1,5 @@
-//! The laws of `and` and `or`, and of the text of a run.
-ghost use Rattle.tmpl_meaning.specs.Laws.{JoinsByTable, NodeAdds, NodesAdd};
+//! The laws of `and` and `or`, of the text of a run, and of what never comes in one.
+ghost use Rattle.tmpl_meaning.specs.Laws.{EndsInRange, FindsNames, JoinsByTable, NodeAdds, NodesAdd, StaysInScope};
 
 /// The law that an `and` or an `or` all of whose operands have values gives what the function table says of these.
 pub fn joins_by_table()
@@ -11,4 +11,15 @@ pub fn joins_by_table()
 pub fn adds_to_text()
     ensures node { NodeAdds }
     ensures nodes { NodesAdd }
+{}
+
+/// The law of what never comes in a run of formed nodes, which those of each tree of a `Set` are. From where the
+/// variables have the names in scope, as they do at the start of a template, the run is the same whatever older
+/// variables there are, and leaves them as they are; so it plays no part what is said of a name without a variable.
+/// Nodes in no body of a range, as those of a template, end neither at a `break` nor at a `continue`. And where nodes
+/// are done, the variables have the names in scope behind them.
+pub fn formed_runs()
+    ensures finds { FindsNames }
+    ensures ends { EndsInRange }
+    ensures stays { StaysInScope }
 {}

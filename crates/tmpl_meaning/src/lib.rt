@@ -13,7 +13,7 @@ mod values;
 
 pub use fault::{RunFault, RunFaultKind};
 pub use fixed::{Fixed, Full};
-pub use laws::{adds_to_text, joins_by_table};
+pub use laws::{adds_to_text, formed_runs, joins_by_table};
 pub use missing_key::MissingKey;
 pub use options::Options;
 pub use sink::{Sink, SinkFault, WholePuts, put_all};

@@ -30,7 +30,7 @@ use Rattle.tmpl_syntax.proofs.OneVerdictLemmas.{one-verdict}
 use Rattle.tmpl_syntax.proofs.VerdictLemmas.{judged-all}
 use Rattle.tmpl_syntax.proofs.PrintedNodeLemmas.{spells-alike}
 use Rattle.tmpl_syntax.proofs.FitLemmas.{no_fault, passes, is_fine, fine-back, passes-fine, headed, part_names, seen_behind, loops_in}
-use Rattle.tmpl_syntax.proofs.FitLemmas.{fits_node, fits, nodes-unlined, take-seen, first-none, opener-test, call-test, call-declares}
+use Rattle.tmpl_syntax.proofs.FitLemmas.{fits_node, fits, fits-lower, nodes-unlined, take-seen, first-none, opener-test, call-test, call-declares}
 
 -- ---- frames and names
 
@@ -89,43 +89,56 @@ within-seen c r names body = part-long (names ++ (names_of r).declares) body _ (
 
 -- ---- an accepted list
 
+-- each of these definitions fits on its own, in no loop, at no level and with no name
+abbrev pub FitEach : List Definition → Type 0
+FitEach [] = Unit {0}
+FitEach (d ∷ ds) = (fits d.nodes false 0 [] ≡ true) × FitEach ds
+
+-- the nodes that stand here fit, the rest of the list passes, and the definitions fit if those behind them do
+abbrev Fit : Bool → ℕ → List Name → Nodes → List Frame → Known → List Item → List Definition → List Definition → Type 0
+Fit loop n names ns fs behind ys ds es =
+    (fits ns loop n names ≡ true) × (passes fs behind (roles_of ys) ≡ true) × (FitEach es → FitEach ds)
+
 -- behind the `end` of a definition or a block the names are those before it, whatever its body is
 mutual
   leads-fit : {xs ys : List Item} {ds es : List Definition} {ns : Nodes} → Leads xs ds ns ys es → (fs : List Frame) (known : Known)
       → passes fs known (roles_of xs) ≡ true
-      → (fits ns (in_loop (top fs)) (levels (top fs)) known.inner ≡ true) × (passes fs (with_inner known (seen_behind known.inner ns)) (roles_of ys) ≡ true)
-  leads-fit nothing fs known h = (refl, h)
+      → Fit (in_loop (top fs)) (levels (top fs)) known.inner ns fs (with_inner known (seen_behind known.inner ns)) ys ds es
+  leads-fit nothing fs known h = (refl, h, λ k. k)
   leads-fit (a_text l) fs known h = leads-fit l fs known h
   leads-fit (an_action {h = r} {xs = xs} l) fs known h =
       let past : Known = with_inner known (known.inner ++ (names_of r).declares) in
       let e = and_parts (no_fault (first_fault true false (knows known.inner (names_of r).uses))) (passes fs past (roles_of xs)) h in
       let more = leads-fit l fs past e.1 in
-      (both_true (sym (first-none false (knows known.inner (names_of r).uses)) ∙ e.0) more.0, more.1)
+      (both_true (sym (first-none false (knows known.inner (names_of r).uses)) ∙ e.0) more.0, more.1, more.2)
   leads-fit (a_break {xs = xs} l) fs known h =
       let e = and_parts (no_fault (first_fault (in_loop (top fs)) false true)) (passes fs known (roles_of xs)) h in
       let more = leads-fit l fs known e.1 in
-      (both_true (sym (jump-test (in_loop (top fs))) ∙ e.0) more.0, more.1)
+      (both_true (sym (jump-test (in_loop (top fs))) ∙ e.0) more.0, more.1, more.2)
   leads-fit (a_continue {xs = xs} l) fs known h =
       let e = and_parts (no_fault (first_fault (in_loop (top fs)) false true)) (passes fs known (roles_of xs)) h in
       let more = leads-fit l fs known e.1 in
-      (both_true (sym (jump-test (in_loop (top fs))) ∙ e.0) more.0, more.1)
+      (both_true (sym (jump-test (in_loop (top fs))) ∙ e.0) more.0, more.1, more.2)
   leads-fit (a_template {given = given} {xs = xs} l) fs known h =
       let past : Known = with_inner known (known.inner ++ (names_given given).declares) in
       let e = and_parts _ (passes fs past (roles_of xs)) h in
       let more = leads-fit l fs known (subst (λ k. passes fs (with_inner known k) (roles_of xs) ≡ true) (call-declares given known.inner) e.1) in
-      (both_true (sym (call-test given (top fs) known.inner) ∙ e.0) more.0, more.1)
-  leads-fit (a_define {xs = xs} b l) fs known h =
+      (both_true (sym (call-test given (top fs) known.inner) ∙ e.0) more.0, more.1, more.2)
+  leads-fit (a_define {xs = xs} {body = body} b l) fs known h =
       let f : Frame = entered opened.define no_names (top fs) (length known.inner) in
       let e = and_parts _ (passes (f ∷ fs) (opened_names opened.define [] known) (roles_of xs)) h in
-      leads-fit l fs known (leads-fit b (f ∷ fs) (opened_names opened.define [] known) e.1).1
-  leads-fit (a_block {p = p} {xs = xs} b l) fs known h =
+      let inner = leads-fit b (f ∷ fs) (opened_names opened.define [] known) e.1 in
+      let more = leads-fit l fs known inner.1 in
+      (more.0, more.1, λ k. (fits-lower body false f.levels 0 [] (omega arith) inner.0, inner.2 (more.2 k)))
+  leads-fit (a_block {p = p} {xs = xs} {body = body} b l) fs known h =
       let names : List Name = (names_given (Some p)).uses in
       let f : Frame = entered opened.block (names_given (Some p)) (top fs) (length known.inner) in
       let e = and_parts _ (passes (f ∷ fs) (opened_names opened.block [] known) (roles_of xs)) h in
       let t = placed-test true (leb most_levels (levels (top fs))) (knows known.inner names) e.0 in
       let k = and_parts (not (leb most_levels (levels (top fs)))) (knows known.inner names) t.1 in
-      let more = leads-fit l fs known (leads-fit b (f ∷ fs) (opened_names opened.block [] known) e.1).1 in
-      (both_true k.1 more.0, more.1)
+      let inner = leads-fit b (f ∷ fs) (opened_names opened.block [] known) e.1 in
+      let more = leads-fit l fs known inner.1 in
+      (both_true k.1 more.0, more.1, λ k. (fits-lower body false f.levels 0 [] (omega arith) inner.0, inner.2 (more.2 k)))
   leads-fit (a_control {c = c} {h = r} {xs = xs} {zs = zs} {body = body} {other = other} b o l) fs known h =
       let names : List Name = known.inner in
       let f : Frame = entered (opened.control c) (names_of r) (top fs) (length names) in
@@ -136,21 +149,24 @@ mutual
       let other_fits = subst (λ k. fits other (loops_in c true (in_loop (top fs))) (levels (top fs) + 1) k ≡ true) (part-seen c r names body) behind.0 in
       let here = both_true (sym (opener-test c r (top fs) names) ∙ e.0) (both_true inner.0 other_fits) in
       let more = leads-fit l fs known (subst (λ k. passes fs (with_inner known k) (roles_of zs) ≡ true) (control-names r names body) behind.1) in
-      (both_true here more.0, more.1)
+      (both_true here more.0, more.1, λ k. inner.2 (behind.2 (more.2 k)))
 
   closes-fit : {xs zs : List Item} {ds es : List Definition} {other : Nodes} → Closes xs ds other zs es
       → (f : Frame) (fs : List Frame) (known : Known) → is_template f.opening ≡ false → f.start ≤ f.part → f.part ≤ length known.inner
       → passes (f ∷ fs) known (roles_of xs) ≡ true
-      → (fits other (loops f.opening true f.around) f.levels (take f.part known.inner) ≡ true) × (passes fs (with_inner known (take f.start known.inner)) (roles_of zs) ≡ true)
+      → Fit (loops f.opening true f.around) f.levels (take f.part known.inner) other fs (with_inner known (take f.start known.inner)) zs ds es
   closes-fit (an_end {xs = xs}) f fs known own low high h =
-      (refl, subst (λ t. passes fs (closed_if t (with_inner known (take f.start known.inner))) (roles_of xs) ≡ true) own h)
+      (refl, subst (λ t. passes fs (closed_if t (with_inner known (take f.start known.inner))) (roles_of xs) ≡ true) own h, λ k. k)
   closes-fit (an_else {xs = xs} {ys = ys} {other = other} l) f fs known own low high h =
       let seen : List Name = take f.part known.inner in
       let e = and_parts _ (passes (elsed f ∷ fs) (with_inner known seen) (roles_of xs)) h in
       let inner = leads-fit l (elsed f ∷ fs) (with_inner known seen) e.1 in
       let fits_in = length-take f.part known.inner in
-      let last = subst (λ t. passes fs (closed_if t (with_inner known (take f.start (seen_behind seen other)))) (roles_of ys) ≡ true) own inner.1 in
-      (inner.0, subst (λ k. passes fs (with_inner known k) (roles_of ys) ≡ true) (take-seen f.start other seen (omega arith) ∙ take-take f.start f.part known.inner low) last)
+      let last = subst (λ t. passes fs (closed_if t (with_inner known (take f.start (seen_behind seen other)))) (roles_of ys) ≡ true) own inner.1 in (
+        inner.0,
+        subst (λ k. passes fs (with_inner known k) (roles_of ys) ≡ true) (take-seen f.start other seen (omega arith) ∙ take-take f.start f.part known.inner low) last,
+        inner.2,
+      )
   closes-fit (an_else_branch {line = line} {branch = b} {h = r} {xs = xs} {zs = zs} {body = body} {other = other} l o) f fs known own low high h =
       let seen : List Name = take f.part known.inner in
       let declares : List Name = (names_of r).declares in
@@ -167,6 +183,7 @@ mutual
       let other_fits = subst (λ k. fits other (loops f.opening true f.around) (f.levels + 1) k ≡ true) (take-seen (length seen + length declares) body inside (omega arith)) behind.0 in (
         branch-fits b line r body other (loops f.opening true f.around) f.levels seen (both_true (both_true t.1 (both_true body_fits other_fits)) refl),
         subst (λ k. passes fs (with_inner known k) (roles_of zs) ≡ true) (take-seen f.start body inside (omega arith) ∙ take-append-le f.start seen declares (omega arith) ∙ take-take f.start f.part known.inner low) behind.1,
+        λ k. inner.2 (behind.2 k),
       )
 
 -- ---- a printed list
@@ -297,11 +314,14 @@ no_branch _ h = absurd h
 
 -- ---- the law
 
-own-fits : (items : List Item) (ds : List Definition) (own : Nodes) → Judged (roles_of items) fine → Leads items ds own [] [] → fits own false 0 [] ≡ true
+-- the own template of an accepted list, and its definitions
+pub all-fit : (items : List Item) (ds : List Definition) (own : Nodes) → Judged (roles_of items) fine → Leads items ds own [] []
+    → (fits own false 0 [] ≡ true) × FitEach ds
 unfolding verdict_of
-own-fits items ds own judged spells =
+all-fit items ds own judged spells =
     let v = one-verdict (roles_of items) (verdict_of (roles_of items)) fine (judged-all (roles_of items)) judged in
-    (leads-fit spells [] none_known (sym (passes-fine (roles_of items) 0 [] none_known) ∙ ap is_fine v)).0
+    let fit = leads-fit spells [] none_known (sym (passes-fine (roles_of items) 0 [] none_known) ∙ ap is_fine v) in
+    (fit.0, fit.2 tt)
 
 printed-fine : (own : Nodes) (read : List Item) → Says (nodes_said own) read → fits own false 0 [] ≡ true → verdict_of (roles_of read) ≡ fine
 unfolding verdict_of
@@ -313,4 +333,4 @@ printed-fine own read s fit =
 
 pub accepts-back : AcceptsBack
 accepts-back items ds own judged spells read s =
-    subst (Judged (roles_of read)) (printed-fine own read s (own-fits items ds own judged spells)) (judged-all (roles_of read))
+    subst (Judged (roles_of read)) (printed-fine own read s (all-fit items ds own judged spells).0) (judged-all (roles_of read))

@@ -1,8 +1,9 @@
 -- For `accepted_back`: whether the items of a template are accepted depends on its nodes alone.
 use Rattle.std.proofs.Common.{arith, ◌≡◌, ◌∙◌, ℕ, ◌+◌, ◌≤◌, Bool, true, false, not, ◌&&◌, leb, List, [], ◌∷◌, ◌++◌, length, take, Option}
 use Rattle.std.proofs.Common.{Some, None, refl, ap, length-append, append-nil}
-use Rattle.std.proofs.lemmas.Bool.{false≢true}
+use Rattle.std.proofs.lemmas.Bool.{false≢true, and_parts, lt-leb, leb-false, not-true}
 use Rattle.std.proofs.lemmas.List.{take-append-le}
+use Rattle.std.specs.Cmp.Derive.{both_true}
 use Rattle.tmpl_grammar.specs.Tree.{Pipeline, Header}
 use Rattle.tmpl_grammar.specs.declared.tree.Control.{Control}
 use Rattle.tmpl_syntax.specs.computed.Frames.{Frame}
@@ -95,6 +96,30 @@ abbrev mutual
   pub fits : Nodes → Bool → ℕ → List Name → Bool
   fits none = λ loop n names. true
   fits (then line m ms) = λ loop n names. fits_node m loop n names && fits ms loop n (seen_past names m)
+
+-- what fits at some levels fits at fewer
+room-lower : (n m : ℕ) → m ≤ n → room n ≡ true → room m ≡ true
+room-lower n m le e = ap not (lt-leb most_levels m (let lt = leb-false most_levels n (not-true (leb most_levels n) e) in omega (arith, lt, le)))
+
+headed-lower : (h : Header) (n m : ℕ) (names : List Name) → m ≤ n → headed n names h ≡ true → headed m names h ≡ true
+headed-lower h n m names le e =
+    let p = and_parts (room n) (knows names (names_of h).uses) e in both_true (room-lower n m le p.0) p.1
+
+mutual
+  node-lower : (k : NodeKind) (loop : Bool) (n m : ℕ) (names : List Name) → m ≤ n → fits_node k loop n names ≡ true → fits_node k loop m names ≡ true
+  node-lower (control_node c h body other) loop n m names le e =
+      let p = and_parts (headed n names h) _ e in
+      let q = and_parts (fits body (loops_in c false loop) (n + 1) (names ++ (names_of h).declares)) _ p.1 in
+      both_true (headed-lower h n m names le p.0)
+      (both_true (fits-lower body (loops_in c false loop) (n + 1) (m + 1) (names ++ (names_of h).declares) (omega (arith, le)) q.0)
+      (fits-lower other (loops_in c true loop) (n + 1) (m + 1) (part_names c names (names_of h).declares) (omega (arith, le)) q.1))
+  node-lower _ loop n m names le e = e
+
+  pub fits-lower : (ns : Nodes) (loop : Bool) (n m : ℕ) (names : List Name) → m ≤ n → fits ns loop n names ≡ true → fits ns loop m names ≡ true
+  fits-lower none loop n m names le e = refl
+  fits-lower (then line k ns) loop n m names le e =
+      let p = and_parts (fits_node k loop n names) (fits ns loop n (seen_past names k)) e in
+      both_true (node-lower k loop n m names le p.0) (fits-lower ns loop n m (seen_past names k) le p.1)
 
 -- lines play no part
 past-unlined : (n : NodeKind) (names : List Name) → seen_past names (unlined_node n) ≡ seen_past names n

@@ -11,10 +11,11 @@ use Rattle.tmpl_syntax.specs.declared.tree.Tree as held
 use Rattle.tmpl_syntax.specs.Language.{every_branch}
 use Rattle.tmpl_syntax.specs.Item.{Item}
 use Rattle.tmpl_syntax.specs.Place.Role.{roles_of}
-use Rattle.tmpl_syntax.specs.Place.Body.{Verdict, fine}
+use Rattle.tmpl_syntax.specs.Place.Body.{Verdict, fine, Judged}
 use Rattle.tmpl_syntax.specs.Set.{Template, has_name, tree_named, is_blank, chosen, defined, defined_each}
 use Rattle.tmpl_syntax.specs.Kept.{IsKept, AreKept}
 use Rattle.tmpl_syntax.specs.Parse.{last_line, base_name, most_bytes, all_defined, template_in}
+use Rattle.tmpl_syntax.specs.Formed.{IsFormed, AreFormed}
 use Rattle.tmpl_syntax.specs.Need.{NeedAtMost, most_need}
 use Rattle.tmpl_syntax.specs.Print.Printable.{IsPrintable, ArePrintable}
 use Rattle.tmpl_syntax.specs.computed.Frames.{verdict_of}
@@ -22,6 +23,8 @@ use Rattle.tmpl_syntax.specs.computed.Build.{nodes_from, definitions_from}
 use Rattle.tmpl_syntax.specs.computed.Parse.{by_verdict, checked, all_from, items_of}
 use Rattle.tmpl_syntax.proofs.ItemLemmas.{has-items}
 use Rattle.tmpl_syntax.proofs.SpellingLemmas.{spells-fine}
+use Rattle.tmpl_syntax.proofs.FormedLemmas.{spells-formed}
+use Rattle.tmpl_syntax.proofs.VerdictLemmas.{judged-all}
 use Rattle.tmpl_syntax.proofs.NeedLemmas.{need-most}
 use Rattle.tmpl_syntax.proofs.PrintableNodeLemmas.{keeps-printable}
 
@@ -82,10 +85,14 @@ checked-verdict : (bytes : List ℕ) (items : List Item) → checked bytes items
 unfolding checked
 checked-verdict bytes items e = verdict-fine (last_line bytes) items (verdict_of (roles_of items)) e
 
--- templates that can be printed and are bounded
-both-kept : (ts : List Template) → ArePrintable ts → NeedAtMost most_need ts → AreKept ts
-both-kept [] p n = tt
-both-kept (t ∷ ts) p n = (p.0, record { printable = p.1; need = n.0 }, both-kept ts p.2 n.1)
+-- templates that are formed, can be printed and are bounded
+abbrev AllFormed : List Template → Type 0
+AllFormed [] = Unit {0}
+AllFormed (t ∷ ts) = IsFormed t.1.nodes × AllFormed ts
+
+all-kept : (ts : List Template) → AllFormed ts → ArePrintable ts → NeedAtMost most_need ts → AreKept ts
+all-kept [] f p n = tt
+all-kept (t ∷ ts) f p n = (p.0, record { formed = f.0; printable = p.1; need = n.0 }, all-kept ts f.1 p.2 n.1)
 
 -- templates that are kept can be printed
 pub kept-printable : (ts : List Template) → AreKept ts → ArePrintable ts
@@ -97,6 +104,10 @@ printable-all : (file : List ℕ) (ds : List Definition) (own : Nodes) → AreBy
 printable-all file [] own name p o = (name, o, tt)
 printable-all file (d ∷ ds) own name p o = (p.0, p.1, printable-all file ds own name p.2 o)
 
+formed-all : (file : List ℕ) (ds : List Definition) (own : Nodes) → AreFormed ds → IsFormed own → AllFormed (map (template_in file) (all_defined file ds own))
+formed-all file [] own h o = (o, tt)
+formed-all file (d ∷ ds) own h o = (h.0, formed-all file ds own h.1 o)
+
 -- the templates of a file are kept; these are those that were built
 pub file-kept : (file bytes : List ℕ) (ts : List Template) → AreBytes (base_name file) → AreBytes bytes → length bytes ≤ most_bytes
     → checked bytes (items_of bytes) ≡ Ok tt → ts ≡ map (template_in file) (all_from (base_name file) (items_of bytes)) → AreKept ts
@@ -104,10 +115,13 @@ file-kept file bytes ts name h within passed built =
     let items = items_of bytes in
     let ds = definitions_from items in
     let own = nodes_from items in
-    let spelled = spells-fine items (checked-verdict bytes items passed) in
+    let accepted = checked-verdict bytes items passed in
+    let spelled = spells-fine items accepted in
+    let formed = spells-formed items ds own (subst (Judged (roles_of items)) accepted (judged-all (roles_of items))) spelled in
     let printable = keeps-printable every_branch bytes items ds own h (has-items bytes) spelled in
     subst AreKept (sym built)
-    (both-kept _ (printable-all file ds own name (printable.0 file) printable.1) (need-most every_branch file bytes items ds own within (has-items bytes) spelled))
+    (all-kept _ (formed-all file ds own formed.0 formed.1) (printable-all file ds own name (printable.0 file) printable.1)
+    (need-most every_branch file bytes items ds own within (has-items bytes) spelled))
 
 -- ---- definitions one by one
 

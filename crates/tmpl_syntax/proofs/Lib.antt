@@ -8,6 +8,8 @@ pub mod ElsePartLemmas
 pub mod FaultLemmas
 pub mod FileLemmas
 pub mod FitLemmas
+pub mod FormedExamples
+pub mod FormedLemmas
 pub mod ItemLemmas
 pub mod JoinLemmas
 pub mod JudgeLemmas

@@ -4,10 +4,13 @@ use Rattle.tmpl_values.specs.Bytes.{AreBytes}
 use Rattle.tmpl_syntax.specs.Tree.{Tree}
 use Rattle.tmpl_syntax.specs.Set.{Template}
 use Rattle.tmpl_syntax.specs.Need.{need, most_need}
+use Rattle.tmpl_syntax.specs.Formed.{IsFormed}
 use Rattle.tmpl_syntax.specs.Print.Printable.{IsPrintable}
 
--- it can be printed, and a run of it needs no more cells than a file within the limit of length has bytes, and three
+-- it is formed, it can be printed, and a run of it needs no more cells than a file within the limit of length has
+-- bytes, and three
 pub record IsKept (tree : Tree) : Type 0 where
+  pub formed : IsFormed tree.nodes
   pub printable : IsPrintable tree.nodes
   pub need : need tree ≤ most_need
 

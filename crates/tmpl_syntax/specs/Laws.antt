@@ -8,6 +8,7 @@ use Rattle.tmpl_syntax.specs.Place.Role.{Role, roles_of}
 use Rattle.tmpl_syntax.specs.Place.Body.{Verdict, fine, Judged}
 use Rattle.tmpl_syntax.specs.computed.Frames.{verdict_of}
 use Rattle.tmpl_syntax.specs.Spelling.{Spells}
+use Rattle.tmpl_syntax.specs.Formed.{IsFormed, AreFormed}
 use Rattle.tmpl_syntax.specs.Need.{NeedAtMost, most_need}
 use Rattle.tmpl_syntax.specs.Parse.{most_bytes, all_defined, template_in}
 use Rattle.tmpl_syntax.specs.computed.Build.{nodes_from, definitions_from}
@@ -46,6 +47,12 @@ abbrev pub SpellsAtMostOne : Type 0
 SpellsAtMostOne =
     (items : List Item) (ds es : List Definition) (ns ms : Nodes) → Spells items ds ns → Spells items es ms
     → (ds ≡ es) × (ns ≡ ms)
+
+-- what an accepted list spells is formed
+abbrev pub SpellsFormed : Type 0
+SpellsFormed =
+    (items : List Item) (ds : List Definition) (own : Nodes) → Judged (roles_of items) fine → Spells items ds own
+    → AreFormed ds × IsFormed own
 
 -- something comes of each file, and nothing else
 abbrev pub HasOutcome : Type 0

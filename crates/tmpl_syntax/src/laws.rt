@@ -1,7 +1,7 @@
 //! Laws of the definitions that the contracts speak of.
 ghost use Rattle.tmpl_syntax.specs.Laws.{HasItemsOf, HasOneList, HasSomeItems, HasVerdict, HasOneVerdict};
-ghost use Rattle.tmpl_syntax.specs.Laws.{SpellsWhereFine, SpellsAtMostOne, AcceptsAsParsed, RefusesAsParsed};
-ghost use Rattle.tmpl_syntax.specs.Laws.{AcceptsInLarger, HasOutcome, HasOneOutcome};
+ghost use Rattle.tmpl_syntax.specs.Laws.{SpellsWhereFine, SpellsAtMostOne, SpellsFormed, AcceptsAsParsed};
+ghost use Rattle.tmpl_syntax.specs.Laws.{RefusesAsParsed, AcceptsInLarger, HasOutcome, HasOneOutcome};
 ghost use Rattle.tmpl_syntax.specs.Laws.{NeedsAtMost, NeedsAtMostBytes};
 ghost use Rattle.tmpl_syntax.specs.Print.Join.{CutsBack};
 ghost use Rattle.tmpl_syntax.specs.Print.Laws.{AcceptsBack, KeepsPrintable, ReadsSame, SetReadsSame};
@@ -25,6 +25,13 @@ pub fn one_verdict()
 pub fn one_spelling()
     ensures exists { SpellsWhereFine }
     ensures one { SpellsAtMostOne }
+{}
+
+/// The law that each definition that an accepted list of items spells is formed, and the nodes of its own template:
+/// each name that is used or assigned is in scope, each `break` and `continue` stands in the body of a range, and at
+/// most 500 levels are inside one another.
+pub fn formed()
+    ensures { SpellsFormed }
 {}
 
 /// The law that each file has one outcome, which the function `parsed` gives: it is accepted and makes one set of

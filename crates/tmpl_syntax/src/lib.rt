@@ -16,7 +16,7 @@ mod tree;
 
 pub use fault::{ParseFault, ParseKind};
 pub use laws::{
-    accepted_back, bounded_need, cut_back, more_branches, one_list_of_items, one_outcome,
+    accepted_back, bounded_need, cut_back, formed, more_branches, one_list_of_items, one_outcome,
     one_spelling, one_verdict, printable, printed_back, set_back,
 };
 pub use name_hash::NameHash;

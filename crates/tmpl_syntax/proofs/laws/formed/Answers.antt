@@ -1,0 +1,5 @@
+use Rattle.tmpl_syntax.proofs.FormedLemmas.{spells-formed}
+use Rattle.tmpl_syntax.proofs.laws.formed.Goals as goal
+
+pub returns : goal.returns
+returns c = spells-formed
