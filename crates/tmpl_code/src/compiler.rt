@@ -13,7 +13,7 @@ use crate::code::Code;
 use crate::instruction::Instruction;
 use crate::node::{declared_in, first_instruction, grow_all, left_behind, put_node, shrink};
 use crate::pipeline::short;
-use crate::program::Program;
+use crate::program::{Parts, Program};
 use crate::scope::Scope;
 use crate::survey::{Survey, survey_node};
 use std::alloc::{AllocError, Global};
@@ -39,9 +39,11 @@ pub fn compile<'s>(alloc: Global, set: &'s Set) -> Result<Program<'s>, AllocErro
     lengths.reverse();
     to_places(lengths.as_mut_slice(), code.len());
     Ok(Program {
-        set,
-        instructions: code.into_instructions(),
-        starts: lengths,
+        parts: Parts {
+            set,
+            instructions: code.into_instructions(),
+            starts: lengths,
+        },
         need: survey.need as u32,
         makes_text: survey.makes_text,
         calls: survey.calls,

@@ -14,4 +14,4 @@ mod survey;
 
 pub use compiler::compile;
 pub use instruction::{Instruction, Refusal};
-pub use program::{Entry, Program};
+pub use program::{Entry, Parts, Program};

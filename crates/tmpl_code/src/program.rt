@@ -2,27 +2,46 @@
 ghost use Rattle.std.specs.Prelude.{◌≡◌, option_map};
 ghost use Rattle.tmpl_syntax.specs.Set.{number_of};
 ghost use Rattle.tmpl_syntax.specs.View.{set_view};
-ghost use Rattle.tmpl_code.specs.Calls.{deepest, set_calls};
-ghost use Rattle.tmpl_code.specs.MakesText.{set_makes_text};
-ghost use Rattle.tmpl_code.specs.Room.{largest_need, room};
 
 use crate::instruction::Instruction;
+use std::marker::Model;
 use tmpl_syntax::Set;
 
-/// The code of the templates of a set, which borrows from the set.
+/// What a program is made of, which others may read.
 #[derive(Drop)]
-pub struct Program<'s> {
+pub struct Parts<'s> {
     pub set: &'s Set,
     pub instructions: Vec<Instruction<'s>>,
     /// Where the code of each template starts, in the order of the set.
     pub starts: Vec<usize>,
+}
+
+/// The code of the templates of a set, which borrows from the set. Clauses see its parts, and it has no others than those
+/// that `compile` makes.
+#[derive(Drop)]
+pub struct Program<'s> {
+    pub(crate) parts: Parts<'s>,
     /// How many cells the template needs that needs most.
     pub(crate) need: u32,
     pub(crate) makes_text: bool,
     pub(crate) calls: bool,
-    ghost needs: { need ≡ largest_need (set_view set.now) },
-    ghost makes: { makes_text ≡ set_makes_text (set_view set.now) },
-    ghost calling: { calls ≡ set_calls (set_view set.now) },
+}
+
+impl<'s> Model for Program<'s> {
+    ghost use Rattle.tmpl_code.specs.declared.program.Parts.{Parts};
+
+    ghost Value = { Parts };
+
+    ghost use Rattle.std.specs.Coded.{codes};
+    ghost use Rattle.tmpl_syntax.specs.contracts.tree.Tree as held;
+
+    ghost coded = { Prim.hlevel (codes, held.the_row.coded) };
+
+    ghost use Rattle.tmpl_code.specs.Program.{IsCompiled};
+
+    ghost view = { λ p. p.parts };
+
+    ghost invariant = { IsCompiled };
 }
 
 /// A template of a program, by its number.
@@ -32,11 +51,24 @@ pub struct Entry {
 }
 
 impl<'s> Program<'s> {
+    ghost use Rattle.tmpl_code.specs.Calls.{deepest};
+    ghost use Rattle.tmpl_code.specs.MakesText.{set_makes_text};
+    ghost use Rattle.tmpl_code.specs.Program.{IsLinked};
+    ghost use Rattle.tmpl_code.specs.Room.{room};
+
+    /// What the program is made of: its code is that of its set.
+    pub fn parts(&self) -> &Parts<'s>
+        ensures value { result.now ≡ self.now }
+        ensures linked { IsLinked result.now }
+    {
+        &self.parts
+    }
+
     /// The template of this name, if the set has one.
     pub fn entry(&self, name: &[u8]) -> Option<Entry>
         ensures { option_map (λ e. e.number) result ≡ number_of name.now (set_view self.now.set.now) }
     {
-        match self.set.number(name) {
+        match self.parts.set.number(name) {
             Some(number) => Some(Entry { number }),
             None => None,
         }

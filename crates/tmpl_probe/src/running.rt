@@ -2,7 +2,6 @@
 //! takes as much as the words say. Words, files and the line of a fault are those of the command.
 ghost use Rattle.std.specs.Prelude.{◌<◌, length};
 ghost use Rattle.tmpl_syntax.specs.View.{set_view};
-ghost use Rattle.tmpl_code.specs.Program.{IsLinked};
 
 use crate::disk::Disk;
 use crate::limited::{LimitedSink, Limits};
@@ -126,8 +125,7 @@ fn run_in_vecs<'a>(
     request: &Request<'_>,
     loan: Loan,
 ) -> io::Result<bool>
-    requires linked { IsLinked program.now }
-    requires entry { entry.number < length (set_view program.now.set.now) }
+    requires { entry.number < length (set_view program.now.set.now) }
 {
     let alloc = rt.alloc();
     let room = program.room(request.options.depth);
@@ -156,10 +154,9 @@ fn run_in_arrays<'a>(
     request: &Request<'_>,
     loan: Loan,
 ) -> io::Result<bool>
-    requires linked { IsLinked program.now }
-    requires entry { entry.number < length (set_view program.now.set.now) }
+    requires { entry.number < length (set_view program.now.set.now) }
 {
-    let (name, _) = program.set.template(entry.number);
+    let (name, _) = program.parts().set.template(entry.number);
     let mut cells = filled_array(name);
     let mut piece = [0; BYTES];
     let mut kept = [0; BYTES];
@@ -222,8 +219,7 @@ fn run_often<'a, W: Write, E: Write>(
     out: &mut W,
     err: &mut E,
 ) -> io::Result<bool>
-    requires linked { IsLinked program.now }
-    requires entry { entry.number < length (set_view program.now.set.now) }
+    requires { entry.number < length (set_view program.now.set.now) }
 {
     for _ in 0..loan.times {
         if (cells.len() as u64) < program.room(request.options.depth) {

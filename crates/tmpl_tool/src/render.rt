@@ -6,7 +6,6 @@ ghost use Rattle.tmpl_meaning.specs.Meaning.{Ran, ran};
 ghost use Rattle.tmpl_meaning.specs.Sink.{Sunk, sunk};
 ghost use Rattle.tmpl_meaning.specs.View.{rules_of};
 ghost use Rattle.tmpl_code.specs.Calls.{deepest};
-ghost use Rattle.tmpl_code.specs.Program.{IsLinked};
 ghost use Rattle.tmpl_run.specs.Run.{IsRun};
 ghost use Rattle.tmpl_tool.specs.Outcome.{Counted, Once, Outcome};
 ghost use Rattle.tmpl_tool.specs.Tool.{answer_of, asked_name, only_text, run_answer};
@@ -95,7 +94,6 @@ fn run_program<'a, O: Sink, E: Sink>(
     out: &mut O,
     err: &mut E,
 ) -> Result<Status, AllocError>
-    requires linked { IsLinked program.now }
     requires number { number < length (set_view program.now.set.now) }
     requires out { (O.so_far out.old).failures < 2 ^ 64 - 1 }
     requires err { (E.so_far err.old).failures < 2 ^ 64 - 1 }

@@ -45,8 +45,9 @@ loop-i-preserved c =
       calling = joined.calls ∙ (λ j. calling j || called j) ∙ ap set_calls here;
     }
 
-pub returns-clause-linked : goal.returns-clause-linked
-returns-clause-linked c =
+-- the loop ends at the first template
+pub invariant_of-result : goal.invariant_of-result
+invariant_of-result c =
     let l = c.loop-i in
     let ts = set_view c.args.set.now in
     let code = code_of l.code in
@@ -57,5 +58,15 @@ returns-clause-linked c =
     let kept = with_items_is c.reverse.new.self c.to_places.new.counts (omega (arith, many, long)) in
     let at : places (length code) (reverse l.lengths.items) ≡ (with_items c.reverse.new.self c.to_places.new.counts).items =
     sym (kept ∙ c.to_places.ensures ∙ (λ j. places (c.len-2.ensures j) ((c.as_mut_slice.ensures.value ∙ c.reverse.ensures.items) j))) in
+    let linked =
     subst (λ (is : Code). Starts ts ts (with_items c.reverse.new.self c.to_places.new.counts).items is) (sym c.into_instructions.ensures)
-    (subst (λ (ns : List ℕ). Starts ts ts ns code) at (starts ts ts (reverse l.lengths.items) code last))
+    (subst (λ (ns : List ℕ). Starts ts ts ns code) at (starts ts ts (reverse l.lengths.items) code last)) in
+    record {
+      linked = linked;
+      need = l.invariant.most ∙ ap (λ n. largest_need (drop n ts)) none;
+      makes = l.invariant.makes ∙ ap (λ n. set_makes_text (drop n ts)) none;
+      calling = l.invariant.calling ∙ ap (λ n. set_calls (drop n ts)) none;
+    }
+
+pub returns-clause-linked : goal.returns-clause-linked
+returns-clause-linked c = (invariant_of-result c).linked
