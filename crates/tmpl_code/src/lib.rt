@@ -2,15 +2,19 @@
 #![tactic(auto)]
 
 mod binding;
+mod bound;
 mod code;
 mod compiler;
 mod cost;
+mod guess;
+mod heaviest;
 mod instruction;
 mod node;
 mod pipeline;
 mod program;
 mod scope;
 mod survey;
+mod ties;
 
 pub use compiler::compile;
 pub use instruction::{Instruction, Refusal};

@@ -1,5 +1,5 @@
 //! Programs: the code of all templates of a set.
-ghost use Rattle.std.specs.Prelude.{◌≡◌, option_map};
+ghost use Rattle.std.specs.Prelude.{◌≡◌, ◌≤◌, ℕ, option_map};
 ghost use Rattle.tmpl_syntax.specs.Set.{number_of};
 ghost use Rattle.tmpl_syntax.specs.View.{set_view};
 
@@ -23,6 +23,9 @@ pub struct Program<'s> {
     pub(crate) parts: Parts<'s>,
     /// How many cells the template needs that needs most.
     pub(crate) need: u32,
+    /// So many cells, and so many more for each template that may be inside the others, are enough for every run.
+    pub(crate) fixed: u64,
+    pub(crate) each: u32,
     pub(crate) makes_text: bool,
     pub(crate) calls: bool,
 }
@@ -54,7 +57,7 @@ impl<'s> Program<'s> {
     ghost use Rattle.tmpl_code.specs.Calls.{deepest};
     ghost use Rattle.tmpl_code.specs.MakesText.{set_makes_text};
     ghost use Rattle.tmpl_code.specs.Program.{IsLinked};
-    ghost use Rattle.tmpl_code.specs.Room.{room};
+    ghost use Rattle.tmpl_code.specs.Room.{Suffices, room};
 
     /// What the program is made of: its code is that of its set.
     pub fn parts(&self) -> &Parts<'s>
@@ -86,6 +89,21 @@ impl<'s> Program<'s> {
         ensures { result ≡ room depth (set_view self.now.set.now) }
     {
         depth as u64 * self.need as u64
+    }
+
+    /// How many cells are enough for every run, where so many templates may be inside one another: as many as the chain of
+    /// calls needs that needs most, where no calls go in a cycle, and never more than the room.
+    #[tactic(auto, using(crate::proofs::BoundLemmas::room_suffices))]
+    pub fn cells(&self, depth: u32) -> u64
+        ensures enough { (first : ℕ) → Suffices depth (set_view self.now.set.now) first result }
+        ensures within { result ≤ room depth (set_view self.now.set.now) }
+    {
+        let room = self.room(depth);
+        let grown = depth as u64 * self.each as u64;
+        match grown.checked_add(self.fixed) {
+            Some(cells) if cells < room => cells,
+            _ => room,
+        }
     }
 
     /// Whether a template names a function that makes a text. Where none does, no run takes memory.

@@ -26,7 +26,7 @@ struct Loan {
     /// The bytes of the piece.
     piece: usize,
     limits: Limits,
-    /// The cells of the stack beyond the room.
+    /// The cells of the stack beyond those that are enough.
     spare: usize,
     /// How many runs.
     times: u64,
@@ -116,7 +116,7 @@ fn run_template(
     }
 }
 
-/// Runs over as many cells as the room and those beyond it.
+/// Runs over as many cells as are enough and those beyond them.
 fn run_in_vecs<'a>(
     rt: &HostRuntime,
     program: &Program<'a>,
@@ -128,8 +128,8 @@ fn run_in_vecs<'a>(
     requires { entry.number < length (set_view program.now.set.now) }
 {
     let alloc = rt.alloc();
-    let room = program.room(request.options.depth);
-    let mut cells = blank_cells(alloc, (room as usize).saturating_add(loan.spare))?;
+    let least = program.cells(request.options.depth);
+    let mut cells = blank_cells(alloc, (least as usize).saturating_add(loan.spare))?;
     let mut piece = blank_bytes(alloc, loan.piece)?;
     run_often(
         alloc,
@@ -222,7 +222,7 @@ fn run_often<'a, W: Write, E: Write>(
     requires { entry.number < length (set_view program.now.set.now) }
 {
     for _ in 0..loan.times {
-        if (cells.len() as u64) < program.room(request.options.depth) {
+        if (cells.len() as u64) < program.cells(request.options.depth) {
             return Ok(false);
         }
         let mut sink = LimitedSink::new(&mut *out, loan.limits);

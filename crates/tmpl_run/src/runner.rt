@@ -7,7 +7,7 @@ ghost use Rattle.tmpl_meaning.specs.Meaning.{Ran, ran, starting_dot};
 ghost use Rattle.tmpl_meaning.specs.Sink.{sunk};
 ghost use Rattle.tmpl_meaning.specs.View.{rules_of};
 ghost use Rattle.tmpl_code.specs.MakesText.{set_makes_text};
-ghost use Rattle.tmpl_code.specs.Room.{room};
+ghost use Rattle.tmpl_code.specs.Room.{Suffices};
 ghost use Rattle.tmpl_run.specs.computed.Came.{Came, Closed, IsStopped, nothing_told};
 ghost use Rattle.tmpl_run.specs.Ends.{Ends};
 ghost use Rattle.tmpl_run.specs.computed.Machines.{Told, state_of};
@@ -129,7 +129,7 @@ fn error_for<'a>(program: &Parts<'a>, number: usize, line: u64, stop: Halt<'a>) 
 
 /// Runs a template of a program over data, by these options, and puts its text out.
 ///
-/// The cells are all that the run keeps values in, and as many as [`Program::room`] says are enough. What is put out
+/// The cells are all that the run keeps values in, and as many as [`Program::cells`] says are enough. What is put out
 /// waits in the piece, of any size, until that is full; it is put out whole where the run ends or stops at a fault of
 /// the template. Memory is taken by the functions that make a text, and for what they made, and by nothing else: where
 /// [`Program::makes_text`] is false, a run does not answer want of memory.
@@ -144,7 +144,7 @@ pub fn run<'a, S: Sink>(
     out: &mut S,
 ) -> Result<(), RunError<'a>>
     requires entry { entry.number < length (set_view program.now.set.now) }
-    requires room { room options.now.depth (set_view program.now.set.now) ≤ length cells.old }
+    requires room { Suffices options.now.depth (set_view program.now.set.now) entry.number (length cells.old) }
     requires countable { (S.so_far out.old).failures < 2 ^ 64 - 1 }
     ensures runs { let ts = set_view program.now.set.now in IfSome (slice_get ts entry.number) (λ t.
         IsRun (ran (rules_of options.now) ts t.0 t.1 (option_map (λ d. value_of d.now) «data».entry))

@@ -5,7 +5,6 @@ ghost use Rattle.tmpl_syntax.specs.View.{set_view};
 ghost use Rattle.tmpl_meaning.specs.Meaning.{Ran, ran};
 ghost use Rattle.tmpl_meaning.specs.Sink.{Sunk, sunk};
 ghost use Rattle.tmpl_meaning.specs.View.{rules_of};
-ghost use Rattle.tmpl_code.specs.Calls.{deepest};
 ghost use Rattle.tmpl_run.specs.Run.{IsRun};
 ghost use Rattle.tmpl_tool.specs.Outcome.{Counted, Once, Outcome};
 ghost use Rattle.tmpl_tool.specs.Tool.{answer_of, asked_name, only_text, run_answer};
@@ -72,18 +71,6 @@ pub fn tell_end<E: Sink>(end: Result<(), RunError<'_>>, err: &mut E) -> Status
     }
 }
 
-/// These options with no greater depth than that to which calls of the program can go, so that its stack is no larger.
-fn fitted(options: &Options, program: &Program<'_>) -> Options
-    ensures { let rules = rules_of options.now in
-        rules_of result ≡ record rules { depth_limit = deepest rules.depth_limit (set_view program.now.set.now) } }
-{
-    Options {
-        missing_key: options.missing_key,
-        depth: program.deepest(options.depth),
-        steps: options.steps,
-    }
-}
-
 /// Runs the template of this number over a stack and a piece that are taken before, and says how it ended.
 fn run_program<'a, O: Sink, E: Sink>(
     alloc: Global,
@@ -109,15 +96,14 @@ fn run_program<'a, O: Sink, E: Sink>(
         status.code)) }
     ensures untouched { OnErr result ((out.new ≡ out.old) × (err.new ≡ err.old)) }
 {
-    let options = fitted(options, program);
-    let mut cells = empty_cells(alloc, program.room(options.depth))?;
+    let mut cells = empty_cells(alloc, program.cells(options.depth))?;
     let mut piece = [0; PIECE_SIZE];
     let end = run(
         alloc,
         program,
         Entry { number },
         data,
-        &options,
+        options,
         cells.as_mut_slice(),
         piece.as_mut_slice(),
         out,

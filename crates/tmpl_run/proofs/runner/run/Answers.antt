@@ -1,4 +1,4 @@
-use Rattle.std.proofs.Common.{arith, ◌≡◌, ◌<◌, ◌≤◌, ℕ, ap, subst, sym, refl, length, []}
+use Rattle.std.proofs.Common.{arith, ◌≡◌, ◌<◌, ℕ, ap, subst, sym, refl, length, []}
 use Rattle.std.specs.Prelude.{IfSome, option_map, slice_get}
 use Rattle.tmpl_values.specs.Put.{Puts}
 use Rattle.tmpl_values.specs.View.{value_of}
@@ -6,7 +6,7 @@ use Rattle.tmpl_meaning.specs.Meaning.{Ran, ran, starting_dot}
 use Rattle.tmpl_syntax.specs.View.{set_view}
 use Rattle.tmpl_meaning.specs.Sink.{sunk}
 use Rattle.tmpl_meaning.specs.View.{rules_of}
-use Rattle.tmpl_code.specs.Room.{room}
+use Rattle.tmpl_code.specs.Room.{Suffices}
 use Rattle.tmpl_code.specs.declared.program.Parts.{Parts}
 use Rattle.tmpl_run.specs.computed.Came.{Came, nothing_told}
 use Rattle.tmpl_run.specs.computed.Machines.{state_of}
@@ -26,8 +26,8 @@ use Rattle.tmpl_run.proofs.runner.run.Goals as goal
 entry-of : (number : ℕ) (p q : Parts) → p ≡ q → number < length (set_view q.set.now) → number < length (set_view p.set.now)
 entry-of number p q same h = subst (λ (r : Parts). number < length (set_view r.set.now)) (sym same) h
 
-room-of : (depth size : ℕ) (p q : Parts) → p ≡ q → room depth (set_view q.set.now) ≤ size → room depth (set_view p.set.now) ≤ size
-room-of depth size p q same h = subst (λ (r : Parts). room depth (set_view r.set.now) ≤ size) (sym same) h
+room-of : (depth number size : ℕ) (p q : Parts) → p ≡ q → Suffices depth (set_view q.set.now) number size → Suffices depth (set_view p.set.now) number size
+room-of depth number size p q same h = subst (λ (r : Parts). Suffices depth (set_view r.set.now) number size) (sym same) h
 
 pub start-machine-requires-clause-entry : goal.start-machine-requires-clause-entry
 start-machine-requires-clause-entry g c =
@@ -40,7 +40,7 @@ start-machine-requires-clause-room g c =
     let p = c.parts-parts.result.now in
     start.three (plan_of c.args.options.now p) (length c.args.cells.now) c.args.entry.number c.parts-parts.ensures.linked
     (entry-of c.args.entry.number p c.args.program.now c.parts-parts.ensures.value c.requires.entry) c.args.options.now.depth_in_range.0
-    (room-of c.args.options.now.depth (length c.args.cells.now) p c.args.program.now c.parts-parts.ensures.value c.requires.room)
+    (room-of c.args.options.now.depth c.args.entry.number (length c.args.cells.now) p c.args.program.now c.parts-parts.ensures.value c.requires.room)
 
 pub turns-end-requires : goal.turns-end-requires
 turns-end-requires g c =
@@ -51,7 +51,7 @@ turns-end-requires g c =
     let size = length c.args.cells.now in
     let state = c.start-machine.ensures.state in
     let inside = entry-of c.args.entry.number p c.args.program.now c.parts-parts.ensures.value c.requires.entry in
-    let room = room-of c.args.options.now.depth size p c.args.program.now c.parts-parts.ensures.value c.requires.room in
+    let room = room-of c.args.options.now.depth c.args.entry.number size p c.args.program.now c.parts-parts.ensures.value c.requires.room in
     let three = start.three plan size c.args.entry.number c.parts-parts.ensures.linked inside c.args.options.now.depth_in_range.0 room in
     let count : length (cells_of m.stack) ≡ 3 = ap (λ (t : State). length t.cells) state in
     let deep : m.depth ≡ 1 = ap (λ (t : State). t.depth) state in
