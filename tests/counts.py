@@ -1,6 +1,7 @@
 """Renders templates, data and words with small and large counts of everything that is counted: instructions, members, operands,
 definitions, variables, FILEs, bytes of made texts. What each comes to is worked out here. Then counts the allocations of some, the
-bytes that they ask for and the writes, at two sizes: twice as much may take little more than twice. TMPL=PATH names another build."""
+bytes that they ask for and the writes, at two sizes: twice as much may take little more than twice. Last comes what calls of
+templates make a run ask for. TMPL=PATH names another build."""
 import random
 import struct
 import sys
@@ -105,9 +106,9 @@ def cases():
     yield from ((f"made texts of {its}", *case) for its in (range(601), [5000], [70000]) for case in made(its))
 
 
-def words_of(held):
+def words_of(held, options=()):
     names = [name.encode() for name in held if name != "d"]
-    return [*([b"--data", b"d"] if "d" in held else []), b"--", *names]
+    return [*(it.encode() for it in options), *([b"--data", b"d"] if "d" in held else []), b"--", *names]
 
 
 def judge(runner, name, held, wanted):
@@ -122,13 +123,13 @@ def judge(runner, name, held, wanted):
 # ---- what is taken
 
 
-def taken(shim, runner, held):
+def taken(shim, runner, held, options=()):
     """The allocations, the bytes that they ask for and the writes of a run, and the bytes of its output."""
     runner.empty()
     for file, what in held.items():
         runner.lay(file.encode(), what.encode())
     more = {**harness.ENVIRONMENT, "LD_PRELOAD": shim, "COUNT_FD": str(runner.told)}
-    status, out, errors = runner.run_by(b"tmpl", words_of(held), runner.actions, more)
+    status, out, errors = runner.run_by(b"tmpl", words_of(held, options), runner.actions, more)
     if status or errors:
         raise RuntimeError(f"a run that is counted came to {status}, {errors!r}")
     return [*struct.unpack("3l", harness.taken_from(runner.told)), len(out)]
@@ -145,6 +146,40 @@ def judge_growth(shim, runner, kind, place):
     if not more[2] <= more[3] // PIECE + 2:
         wrong.append(f"    {more[2]} writes for {more[3]} bytes")
     return f"what {kind.__name__} take, number {place}", 3, wrong
+
+
+# ---- what the stack of a run takes
+
+CHAIN = 20000  # templates, each of which calls the next
+DEEPEST = ["--depth", "100000"]
+LITTLE = 4096  # bytes
+MUCH = 1 << 20
+
+
+def stacks():
+    """Templates with their options, others or none with theirs, and how many bytes the first may ask for beyond the others."""
+    big = "{{print %s}}" % ("1 " * 50000)
+    small = '{{define "t"}}x{{end}}'
+    yield "a big template that calls a small one", [], big + small + '{{template "t"}}', [], big + small, LITTLE
+    inner = '{{define "a"}}{{template "b"}}{{end}}{{define "b"}}%s{{end}}' % big
+    apart = '{{define "a"}}{{end}}{{define "b"}}%s{{end}}' % big
+    yield "a chain of three with a big one", [], inner + '{{template "a"}}', [], apart + '{{template "b"}}', LITTLE
+    again = '{{define "t"}}{{if .}}{{template "t" (slice . 1)}}{{end}}{{end}}{{template "t" "%s"}}' % ("x" * 998)
+    yield "a small template that calls itself, a thousand deep", [], again, None, None, MUCH
+    yield "a big template that calls one that calls itself", [], big + again, [], big + small, MUCH
+    pair = again.replace('{{template "t" (slice', '{{template "u" (slice') + '{{define "u"}}{{template "t" .}}{{end}}'
+    pair = pair.replace("{{end}}", '{{else}}{{template "v"}}{{end}}', 1)
+    last = '{{define "v"}}%s{{end}}' % big
+    yield "two that call each other and a big one that they call", ["--depth", "2000"], pair + last, [], last + '{{template "v"}}', MUCH
+    chain = "".join('{{define "t%d"}}{{template "t%d"}}{{end}}' % (it, it + 1) for it in range(CHAIN - 1))
+    chain += '{{define "t%d"}}x{{end}}{{template "t0"}}' % (CHAIN - 1)
+    yield f"a chain of {CHAIN}, at the greatest depth and at its own", DEEPEST, chain, ["--depth", str(CHAIN + 1)], chain, 0
+
+
+def judge_stack(shim, runner, name, options, template, others, other, most):
+    least = taken(shim, runner, {"m": other}, others)[1] if other else 0
+    more = taken(shim, runner, {"m": template}, options)[1] - least
+    return name, 2, [f"    {more} bytes more are asked for, of at most {most}"] if more > most else []
 
 
 GROWTHS = [(body, 0), (body, 1), (members, 0), (members, 1), *[(operands, it) for it in range(6)], (definitions, 0), (variables, 0), (files, 0)]
@@ -164,6 +199,7 @@ def main():
         harness.build_shim("count.c", shim)
         its = [judge(runner, *case) for case in cases()]
         its += [judge_growth(shim, runner, *it) for it in (*GROWTHS, (long_text, 0))]
+        its += [judge_stack(shim, runner, *it) for it in stacks()]
     passed, failed, runs = harness.tally(its)
     failed += harness.too_few("templates were rendered or counted", runs, LEAST)
     return harness.closing(passed, failed)

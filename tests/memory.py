@@ -322,6 +322,8 @@ CALLS = [
     ("share", [b"text"], b"text\ntext\n", b"", True),
     ("copy", [b"text"], b"text\n", b"", True),
     ("quote", [bytes.fromhex("000a227fff")], b'"\\x00\\n\\"\\x7f\\xff"\n', b"", True),
+    ("render", [b"a{{.x}}b", b'{"x":[1]}'], b"a[1]b", b"", True),
+    ("renderer", [b"a{{.x}}b", b'{"x":[1]}'], b"a[1]b", b"", True),
     ("print", [b'a{{define "t"}}{{end}}b'], b'{{define "t"}}{{end}}\n{{define "m"}}a{{/**/}}b{{end}}\n\n', b"", True),
     ("tree", [b"{ {{- .x}}"], b"{ {{- .x}}\n", b"", True),
     ("compile", [b"x"], b"3 1 false 0 -\n", b"", True),

@@ -1,5 +1,5 @@
 """Runs compiled templates by the probe, which lends the function `run` a stack and a piece, and compares the text
-and how each run ended. First every row that comes to a run, over exactly the cells of its room and with pieces of some sizes,
+and how each run ended. First every row that comes to a run, over exactly as many cells as are enough, with pieces of some sizes,
 and whether it takes memory where no function makes a text. Then templates by hand: rooms; sinks that take little a put, and
 that fail, where no put may follow the failed one; how many allocations a run makes, and each of them refused, over arrays."""
 import os
@@ -153,7 +153,7 @@ def ending(row, got):
 
 
 def judge_row(row):
-    """Runs a row with each size of a piece, over exactly its room."""
+    """Runs a row with each size of a piece, over exactly as many cells as are enough."""
     with tempfile.TemporaryDirectory() as folder:
         row.lay(folder)
         for piece in PIECES:

@@ -1,4 +1,5 @@
 pub mod BackwardLemmas
+pub mod BoundLemmas
 pub mod CostLemmas
 pub mod FormedLemmas
 pub mod HeldLemmas

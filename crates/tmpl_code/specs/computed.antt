@@ -1,3 +1,4 @@
 -- What the compiler holds, and what its private contracts say of it.
 pub mod Cells
 pub mod Held
+pub mod Weights

@@ -9,11 +9,12 @@ ghost use Rattle.tmpl_code.specs.MakesText.{nodes_make_text};
 ghost use Rattle.tmpl_code.specs.Program.{IsLinked};
 ghost use Rattle.tmpl_code.specs.computed.Held.{code_of, layout_of, places};
 
+use crate::bound::bound_of;
 use crate::code::Code;
 use crate::instruction::Instruction;
 use crate::node::{declared_in, first_instruction, grow_all, left_behind, put_node, shrink};
 use crate::pipeline::short;
-use crate::program::Program;
+use crate::program::{Parts, Program};
 use crate::scope::Scope;
 use crate::survey::{Survey, survey_node};
 use std::alloc::{AllocError, Global};
@@ -27,22 +28,32 @@ pub fn compile<'s>(alloc: Global, set: &'s Set) -> Result<Program<'s>, AllocErro
 {
     let mut code = Code::new(alloc);
     let mut lengths = Vec::new(alloc);
+    let mut needs = Vec::new(alloc);
     let mut survey = Survey::nothing();
     let mut i = set.len();
     while i > 0 {
         i -= 1;
         let (_, tree) = set.template(i);
         let nodes = tree.nodes.as_slice();
-        survey = put_tree(alloc, &mut code, set, nodes)?.with(survey);
+        let own = put_tree(alloc, &mut code, set, nodes)?;
         lengths.push(code.len())?;
+        needs.push(own.need)?;
+        survey = own.with(survey);
     }
     lengths.reverse();
+    needs.reverse();
     to_places(lengths.as_mut_slice(), code.len());
-    Ok(Program {
+    let parts = Parts {
         set,
         instructions: code.into_instructions(),
         starts: lengths,
+    };
+    let bound = bound_of(alloc, &parts, needs.as_slice(), survey)?;
+    Ok(Program {
+        parts,
         need: survey.need as u32,
+        fixed: bound.fixed as u64,
+        each: bound.each as u32,
         makes_text: survey.makes_text,
         calls: survey.calls,
     })

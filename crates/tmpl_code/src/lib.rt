@@ -2,9 +2,12 @@
 #![tactic(auto)]
 
 mod binding;
+mod bound;
 mod code;
 mod compiler;
 mod cost;
+mod guess;
+mod heaviest;
 mod instruction;
 mod laws;
 mod node;
@@ -12,8 +15,9 @@ mod pipeline;
 mod program;
 mod scope;
 mod survey;
+mod ties;
 
 pub use compiler::compile;
 pub use instruction::{Instruction, Refusal};
 pub use laws::formed_slots;
-pub use program::{Entry, Program};
+pub use program::{Entry, Parts, Program};

@@ -8,8 +8,6 @@ use Rattle.tmpl_syntax.specs.Set.{Template, number_of, tree_named}
 use Rattle.tmpl_syntax.proofs.NamedLemmas.{Named, numbered, unnumbered}
 use Rattle.tmpl_meaning.specs.Meaning.{Ran, Rules, ran}
 use Rattle.tmpl_meaning.specs.Sink.{Sunk, Told, sunk}
-use Rattle.tmpl_code.specs.Calls.{deepest}
-use Rattle.tmpl_run.proofs.DepthLemmas.{depth_alike}
 use Rattle.tmpl_run.specs.Run.{IsRun}
 use Rattle.tmpl_run.specs.declared.fault.RunError.{RunError}
 use Rattle.tmpl_run.specs.declared.fault.RunError.TheVariants as run
@@ -17,11 +15,6 @@ use Rattle.tmpl_engine.specs.Error.{error_of}
 use Rattle.tmpl_engine.specs.Render.{IsRender, IsRunOf, ran_named}
 use Rattle.tmpl_engine.specs.declared.error.RenderError.{RenderError}
 use Rattle.tmpl_engine.specs.declared.error.RenderError.TheVariants.{NoTemplate}
-
--- what follows from what holds of the template of a number, if there is one, holds of it
-if_template : (P Q : Template → Type 0) (o : Option Template) → ((t : Template) → o ≡ Some t → P t → Q t) → IfSome o P → IfSome o Q
-if_template P Q None then h = tt
-if_template P Q (Some t) then h = then t refl h
 
 -- the answer of a run as that of its render
 abbrev pub as_render : Result (Unit {0}) RunError → Result (Unit {0}) RenderError
@@ -33,15 +26,11 @@ is_render r s (Err (run.Fault fault)) h = h
 is_render r s (Err run.WriteFailed) h = h
 is_render r s (Err run.OutOfMemory) h = inl h
 
--- a run with the depth that the set can go to is the run with the depth that is allowed
-pub fitted_run : (rules fitted : Rules) (ts : List Template) (number : ℕ) (input : Option Value) (s : Sunk) (answer : Result (Unit {0}) RunError)
-    → fitted ≡ record rules { depth_limit = deepest rules.depth_limit ts }
-    → IfSome (slice_get ts number) (λ t. IsRun (ran fitted ts t.0 t.1 input) s answer)
-    → IfSome (slice_get ts number) (λ t. IsRunOf (ran rules ts t.0 t.1 input) s (as_render answer))
-fitted_run rules fitted ts number input s answer is runs =
-    if_template _ _ (slice_get ts number)
-    (λ t at h. is_render (ran rules ts t.0 t.1 input) s answer
-    (subst (λ r. IsRun r s answer) (ap (λ (r : Rules). ran r ts t.0 t.1 input) is ∙ depth_alike rules ts number t input at) h)) runs
+-- a run of the template of a number, if there is one
+pub run_of : (rules : Rules) (ts : List Template) (input : Option Value) (s : Sunk) (answer : Result (Unit {0}) RunError) (o : Option Template)
+    → IfSome o (λ t. IsRun (ran rules ts t.0 t.1 input) s answer) → IfSome o (λ t. IsRunOf (ran rules ts t.0 t.1 input) s (as_render answer))
+run_of rules ts input s answer None runs = tt
+run_of rules ts input s answer (Some t) runs = is_render (ran rules ts t.0 t.1 input) s answer runs
 
 module _ (rules : Rules) (ts : List Template) (name : List ℕ) (input : Option Value) where
   -- the template of the name has a number

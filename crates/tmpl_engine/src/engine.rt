@@ -76,19 +76,19 @@ impl Engine {
         parse_owned(alloc, &mut self.set, file, bytes)
     }
 
-    /// Its templates, to be printed, looked up or compiled.
+    /// Its templates, to be printed, looked up, or compiled by a [`Renderer`].
     pub fn templates(&self) -> &Set
         ensures { set_view result.now ≡ templates_of self.now }
     {
         &self.set
     }
 
-    /// Renders the template of this name with data, if there are any, by these options, and puts its text out.
+    /// Renders the template of this name with data, if there are any, by these options, and puts its text out. It compiles
+    /// the templates first; who renders them often does that once, by a [`Renderer`] of `templates`.
     ///
     /// # Errors
     ///
-    /// There is no template of the name; the run stops at a fault, after the text before it; a put fails, which is
-    /// then the last one; memory is refused.
+    /// Those of [`Renderer::render`].
     pub fn render<'a, S: Sink>(
         &'a self,
         alloc: Global,

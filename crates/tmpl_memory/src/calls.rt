@@ -1,9 +1,12 @@
 //! Calls of the library one by one, over files. Each puts out what was asked for, or that memory was refused.
+ghost use Rattle.std.specs.Prelude.{◌<◌, ◌-◌, ◌^◌};
+
 use crate::case::files;
 use crate::reader::Reader;
 use std::alloc::{AllocError, Global};
 use std::io::{self, Write};
 use tmpl_code::compile;
+use tmpl_engine::{Engine, MissingKey, NameHash, Options, RenderError, Renderer, Sink, WriterSink};
 use tmpl_funcs::{CallError, Func, call};
 use tmpl_grammar::{Reading, read_action};
 use tmpl_lex::{Piece, cut};
@@ -25,6 +28,8 @@ pub(crate) fn make(rt: &HostRuntime, name: &str, reader: &mut Reader<'_>) -> io:
         [one, two] => match name {
             "parse" => parse_behind(alloc, one.bytes, two.bytes, &mut writer),
             "call" => call_function(alloc, one.bytes, two.bytes, &mut writer),
+            "render" => render(alloc, false, one.bytes, two.bytes, &mut writer),
+            "renderer" => render(alloc, true, one.bytes, two.bytes, &mut writer),
             _ => Ok(false),
         },
         _ => Ok(false),
@@ -192,6 +197,55 @@ fn call_function(
         Ok(value) => put(writer, Ok(text_of(alloc, &value)?)),
         Err(CallError::OutOfMemory) => put(writer, Err(AllocError)),
         Err(CallError::Fault(_)) => Ok(false),
+    }
+}
+
+/// Adds a file to an engine, and renders its template with data, at once or by a renderer.
+fn render(
+    alloc: Global,
+    by_renderer: bool,
+    template: &[u8],
+    json: &[u8],
+    writer: &mut impl Write,
+) -> io::Result<bool> {
+    let mut engine = Engine::with_hash(alloc, NameHash::keyed(1, 2));
+    match engine.add_owned(alloc, "m", template.to_vec(alloc)?) {
+        Ok(()) => {}
+        Err(fault) if fault.kind == ParseKind::OutOfMemory => return put(writer, Err(AllocError)),
+        Err(_) => return Ok(false),
+    }
+    let Ok(data) = Data::from_json(alloc, json) else {
+        return Ok(false);
+    };
+    let mut sink = WriterSink::new(&mut *writer);
+    match render_to(alloc, by_renderer, &engine, &data, &mut sink) {
+        Ok(()) => Ok(true),
+        Err(RenderError::OutOfMemory) => put(writer, Err(AllocError)),
+        Err(_) => Ok(false),
+    }
+}
+
+/// Renders the template `m` of an engine to a sink, at once or by a renderer.
+fn render_to<'a, S: Sink>(
+    alloc: Global,
+    by_renderer: bool,
+    engine: &'a Engine,
+    data: &'a Data,
+    out: &mut S,
+) -> Result<(), RenderError<'a>>
+    requires { (S.so_far out.old).failures < 2 ^ 64 - 1 }
+{
+    let options = Options {
+        missing_key: MissingKey::Error,
+        depth: 2,
+        steps: 100,
+    };
+    if !by_renderer {
+        return engine.render(alloc, b"m", Some(data), &options, out);
+    }
+    match Renderer::new(alloc, engine.templates()) {
+        Ok(renderer) => renderer.render(alloc, b"m", Some(data), &options, out),
+        Err(_) => Err(RenderError::OutOfMemory),
     }
 }
 

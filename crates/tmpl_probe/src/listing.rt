@@ -8,9 +8,10 @@ use tmpl_values::Bytes;
 
 /// Puts out the name of each template and then its instructions.
 pub(crate) fn put_listing(writer: &mut impl Write, program: &Program<'_>) -> io::Result<()> {
-    let mut names = program.set.names();
-    for (place, instruction) in program.instructions.iter().enumerate() {
-        if program.starts.contains(&place) {
+    let parts = program.parts();
+    let mut names = parts.set.names();
+    for (place, instruction) in parts.instructions.iter().enumerate() {
+        if parts.starts.contains(&place) {
             writer.write_all(b"template")?;
             put_text(writer, names.next().unwrap_or(b""))?;
             writer.write_all(b"\n")?;

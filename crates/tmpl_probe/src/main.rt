@@ -172,7 +172,7 @@ fn compile_set(
     if is_timed {
         put_elapsed(rt, begun)?;
     } else {
-        let size = mem::size_of_val(program.instructions.as_slice());
+        let size = mem::size_of_val(program.parts().instructions.as_slice());
         println!(rt; "{size}")?;
     }
     Ok(true)

@@ -2,7 +2,6 @@
 //! takes as much as the words say. Words, files and the line of a fault are those of the command.
 ghost use Rattle.std.specs.Prelude.{◌<◌, length};
 ghost use Rattle.tmpl_syntax.specs.View.{set_view};
-ghost use Rattle.tmpl_code.specs.Program.{IsLinked};
 
 use crate::disk::Disk;
 use crate::limited::{LimitedSink, Limits};
@@ -28,7 +27,7 @@ struct Loan {
     /// The bytes of the piece.
     piece: usize,
     limits: Limits,
-    /// The cells of the stack beyond the room.
+    /// The cells of the stack beyond those that are enough.
     spare: usize,
     /// How many runs.
     times: u64,
@@ -118,7 +117,7 @@ fn run_template(
     }
 }
 
-/// Runs over as many cells as the room and those beyond it.
+/// Runs over as many cells as are enough and those beyond them.
 fn run_in_vecs<'a>(
     rt: &HostRuntime,
     program: &Program<'a>,
@@ -127,12 +126,11 @@ fn run_in_vecs<'a>(
     request: &Request<'_>,
     loan: Loan,
 ) -> io::Result<bool>
-    requires linked { IsLinked program.now }
-    requires entry { entry.number < length (set_view program.now.set.now) }
+    requires { entry.number < length (set_view program.now.set.now) }
 {
     let alloc = rt.alloc();
-    let room = program.room(request.options.depth);
-    let mut cells = blank_cells(alloc, (room as usize).saturating_add(loan.spare))?;
+    let least = program.cells(request.options.depth);
+    let mut cells = blank_cells(alloc, (least as usize).saturating_add(loan.spare))?;
     let mut piece = blank_bytes(alloc, loan.piece)?;
     run_often(
         alloc,
@@ -157,10 +155,9 @@ fn run_in_arrays<'a>(
     request: &Request<'_>,
     loan: Loan,
 ) -> io::Result<bool>
-    requires linked { IsLinked program.now }
-    requires entry { entry.number < length (set_view program.now.set.now) }
+    requires { entry.number < length (set_view program.now.set.now) }
 {
-    let (name, _) = program.set.template(entry.number);
+    let (name, _) = program.parts().set.template(entry.number);
     let mut cells = filled_array(name);
     let mut piece = [0; BYTES];
     let mut kept = [0; BYTES];
@@ -223,11 +220,10 @@ fn run_often<'a, W: Write, E: Write>(
     out: &mut W,
     err: &mut E,
 ) -> io::Result<bool>
-    requires linked { IsLinked program.now }
-    requires entry { entry.number < length (set_view program.now.set.now) }
+    requires { entry.number < length (set_view program.now.set.now) }
 {
     for _ in 0..loan.times {
-        if (cells.len() as u64) < program.room(request.options.depth) {
+        if (cells.len() as u64) < program.cells(request.options.depth) {
             return Ok(false);
         }
         let mut sink = LimitedSink::new(&mut *out, loan.limits);

@@ -3,7 +3,6 @@ use Rattle.std.proofs.lemmas.Bool.Decides.{nat_tests}
 use Rattle.std.proofs.Common.{arith, ◌≡◌, ◌∙◌, ◌+◌, ◌-◌, ◌*◌, ◌≤◌, ◌<◌, nat_eq, nat_lt, ℕ, zero, suc, Bool, true, false, List, [], ◌∷◌}
 use Rattle.std.proofs.Common.{length, drop, refl, ap, sym, subst, Option, Some, None, Err}
 use Rattle.std.specs.Prelude.{slice_get}
-use Rattle.std.proofs.Math.Nat.{suc-mul}
 use Rattle.tmpl_values.specs.Value.{Value, nothing}
 use Rattle.tmpl_grammar.specs.Tree.{Pipeline}
 use Rattle.tmpl_grammar.specs.Need.{need_of_given}
@@ -17,7 +16,8 @@ use Rattle.tmpl_meaning.specs.Meaning.{Calls, End, Next, Ran, Rules, Run, Settin
 use Rattle.tmpl_meaning.specs.Meaning.{setting_of, spend_if, uncalled, with_value}
 use Rattle.tmpl_code.specs.Instruction as code
 use Rattle.tmpl_code.specs.Layout.{Layout, first_layout}
-use Rattle.tmpl_code.specs.Room.{largest_need}
+use Rattle.tmpl_code.specs.Calls.{IsChain, NodesName}
+use Rattle.tmpl_code.specs.Room.{need_at, need_found, needs_along}
 use Rattle.tmpl_code.specs.Code.{CallAt, Code, GivenAt, Starts, TreeAt, step_of_call}
 use Rattle.tmpl_run.specs.Cell.{Cell, cell, fresh}
 use Rattle.tmpl_run.specs.State.{Plan, State}
@@ -53,10 +53,13 @@ starts-at all (u ∷ ts) (p ∷ places) code zero t l e =
 starts-at all (u ∷ ts) (p ∷ places) code (suc k) t l e =
     let more = starts-at all ts places code k t l.1 e in record { place = more.place; at = more.at; rest = more.rest; laid = more.laid }
 
-pub need-most : (ts : List Template) (k : ℕ) (t : Template) → slice_get ts k ≡ Some t → need t.1 ≤ largest_need ts
-need-most [] k t e = cc
-need-most (u ∷ ts) zero t e = let same : u ≡ t = cc in let m : need u.1 ≡ need t.1 = ap (λ (v : Template). need v.1) same in omega arith
-need-most (u ∷ ts) (suc k) t e = let more = need-most ts k t e in omega arith
+-- what the template of a number needs
+pub need-is : (ts : List Template) (k : ℕ) (t : Template) → slice_get ts k ≡ Some t → need_at ts k ≡ need t.1
+need-is ts k t e = ap need_found e
+
+-- above so many cells there is room for a template and for each chain of so many more calls from it
+abbrev pub Left : List Template → ℕ → ℕ → ℕ → ℕ → Type 0
+Left ts room n number base = (rest : List ℕ) → IsChain ts number rest → length rest ≤ n → base + needs_along ts number rest ≤ room
 
 -- ---- calls
 
@@ -81,7 +84,7 @@ abbrev pub TemplateLeads : Plan → ℕ → Ran → ℕ → Type 0
 TemplateLeads plan room f n =
     (who : Who) (me : Template) (is-me : slice_get plan.templates who.number ≡ Some me) → 1 ≤ who.depth → who.depth + n ≡ plan.rules.depth_limit
     → (home : Frame) (s : State) → who_of s ≡ who → slice_get plan.starts who.number ≡ Some s.place → frame_of first_layout s.cells ≡ home → 3 ≤ length s.cells
-    → length home + need_of_nodes me.1.nodes + n * largest_need plan.templates ≤ room
+    → (base : ℕ) → length home ≡ 3 + base → Left plan.templates room n who.number base
     → ways.After plan room f who me is-me home (ways.Leaves plan room f who me is-me home) None (meanings (setting_of plan.rules (calls_within plan.rules plan.templates n) me.0 me.1) me.1.nodes s.dot (run_of first_layout s))
     → Ends plan room s f
 
@@ -105,9 +108,6 @@ module _ (plan : Plan) (room : ℕ) (f : Ran) (who : Who) (me : Template) (is-me
 
   abbrev set_of : ℕ → Setting
   set_of n = setting_of plan.rules (calls_of n) me.0 me.1
-
-  abbrev spare_of : ℕ → ℕ
-  spare_of n = n * largest_need plan.templates
 
   -- a template that is called goes back to its caller
   goes-back : (A : Run → Type 0) (g : Option Ring) (lay : Layout) (fr : Frame) (rest : Code) (s : State) (number : ℕ) (t : Template) (is-t : slice_get plan.templates number ≡ Some t) (v : Value) (place : ℕ)
@@ -151,16 +151,16 @@ module _ (plan : Plan) (room : ℕ) (f : Ran) (who : Who) (me : Template) (is-me
   -- the call itself, with its value on the stack
   invokes : (m : ℕ) → TemplateLeads plan room f m → who.depth + suc m ≡ plan.rules.depth_limit → (g : Option Ring) (lay : Layout) (fr : Frame) (rest : Code) (s : State) (name : List ℕ) (number : ℕ) (named : Named name plan.templates number) (v : Value) (made : Bool) (place : ℕ)
       → nat_eq s.left 0 ≡ false → Stands plan who rest lay fr (record s { place = place + 1 }) → drop place plan.code ≡ code.invoke number ∷ rest
-      → length fr + spare_of (suc m) ≤ room
+      → Left plan.templates room m number (length s.cells)
       → After (Onward rest lay fr s.dot) g (apart v (meanings (setting_of plan.rules (calls_of m) name named.t.1) named.t.1.nodes v) (with_left (s.left - 1) (run_at lay made s)))
       → Leading (valued v made place s)
-  invokes m callee depth g lay fr rest s name number named v made place some st at fits k =
+  invokes m callee depth g lay fr rest s name number named v made place some st at left k =
       ways.takes plan room f who me is-me home (valued v made place s) (code.invoke number) rest st.runs at
-      (let a = long in let b = most in let c = more in omega arith)
+      (let a = own in let b = most in omega arith)
       (subst (λ o. Comes Leading (invoked plan me number o (fresh v) s.cells (valued v made place s)) f) (sym start.at)
       (subst (λ b. Comes Leading (paid_if b plan me s.line (valued v made place s) enters) f) (sym some)
       (callee (record { number = number; depth = suc s.depth }) named.t named.at (omega arith) (let same : s.depth ≡ who.depth = ap (λ (w : Who). w.depth) st.runs in omega arith)
-      (called_frame (cell nothing (place + 1)) (cell s.dot s.template) s.cells) inside refl start.at refl (omega arith) (let a = long in let b = most in let c = more in let d = length-called in omega arith)
+      (called_frame (cell nothing (place + 1)) (cell s.dot s.template) s.cells) inside refl start.at refl (omega arith) (length s.cells) length-called left
       (goes-back (Onward rest lay fr s.dot) g lay fr rest (record s { made_text = made }) number named.t named.at v place (record { at = st.at; runs = st.runs; frame = st.frame; deep = st.deep }) (meanings (setting_of plan.rules (calls_of m) named.t.0 named.t.1) named.t.1.nodes v (run_of first_layout inside))
       (subst (λ (n : List ℕ). After (Onward rest lay fr s.dot) g (apart v (meanings (setting_of plan.rules (calls_of m) n named.t.1) named.t.1.nodes v) (with_left (s.left - 1) (run_at lay made s)))) named.same k)))))
     where
@@ -173,21 +173,19 @@ module _ (plan : Plan) (room : ℕ) (f : Ran) (who : Who) (me : Template) (is-me
       inside : State
       inside = record s { cells = fresh v ∷ cell nothing (place + 1) ∷ cell s.dot s.template ∷ s.cells; dot = v; left = s.left - 1; made_text = made; template = number; depth = suc s.depth; place = start.place }
 
-      long : length fr ≡ length s.cells
-      long = sym (ap length st.frame) ∙ length-frame lay s.cells st.deep
+      own : length s.cells + need_at plan.templates number ≤ room
+      own = left [] tt (omega arith)
 
-      most : need named.t.1 ≤ largest_need plan.templates
-      most = need-most plan.templates number named.t named.at
-
-      more : spare_of (suc m) ≡ spare_of m + largest_need plan.templates
-      more = suc-mul m (largest_need plan.templates)
+      most : need_at plan.templates number ≡ need named.t.1
+      most = need-is plan.templates number named.t named.at
 
       length-called : length (called_frame (cell nothing (place + 1)) (cell s.dot s.template) s.cells) ≡ 3 + length s.cells
       length-called = let same = length-frame [] s.cells (omega arith) in omega arith
 
-  pub call-leads : (n : ℕ) → Deeper plan room f n → who.depth + n ≡ plan.rules.depth_limit → (line : ℕ) (name : List ℕ) (given : Option Pipeline)
-      → nodes.StepLeads plan room f who me is-me home (calls_of n) (spare_of n) pipes line (tree.template_node name given)
-  call-leads n deeper depth line name given g lay fr here start rest s l at-node st inside fits more-fits k = by (number_of name plan.templates) refl l at-node
+  pub call-leads : (n : ℕ) → Deeper plan room f n → who.depth + n ≡ plan.rules.depth_limit → (base spare : ℕ) → Left plan.templates room n who.number base
+      → room ≤ base + need me.1 + spare → (line : ℕ) (name : List ℕ) (given : Option Pipeline) → NodesName name me.1.nodes
+      → nodes.StepLeads plan room f who me is-me home (calls_of n) spare pipes line (tree.template_node name given)
+  call-leads n deeper depth base spare left tight line name given is-named g lay fr here start rest s l at-node st inside fits more-fits k = by (number_of name plan.templates) refl l at-node
     where
       A : Run → Type 0
       A = Onward rest lay fr s.dot
@@ -212,17 +210,25 @@ module _ (plan : Plan) (room : ℕ) (f : Ran) (who : Who) (me : Template) (is-me
           there : drop (s.place + 1) plan.code ≡ start
           there = ahead-one plan.code start s.place (code.deepen line) (st.at ∙ l)
 
-          enters : (n : ℕ) → Deeper plan room f n → who.depth + n ≡ plan.rules.depth_limit → length fr + need_of_given given + spare_of n ≤ room
+          -- a chain of calls from there is one from here, with one call more
+          deeper-left : (m : ℕ) → Left plan.templates room (suc m) who.number base → length fr + spare ≤ room → Left plan.templates room m number (length s.cells)
+          deeper-left m left fits rest chain short =
+              let long : length fr ≡ length s.cells = sym (ap length st.frame) ∙ length-frame lay s.cells st.deep in
+              let mine = need-is plan.templates who.number me is-me in
+              let all = left (number ∷ rest) (record { caller = me; at = is-me; name = name; named = is-named; number = e }, chain) (omega arith) in
+              omega arith
+
+          enters : (n : ℕ) → Deeper plan room f n → who.depth + n ≡ plan.rules.depth_limit → Left plan.templates room n who.number base → length fr + need_of_given given + spare ≤ room
               → nat_eq s.left 0 ≡ false
               → After A g (with_value (set_of n) line (calls_of n name) (handing (set_of n) line given s.dot) (with_left (s.left - 1) (run_of lay s)))
               → Comes Leading (deepened false (nat_lt s.depth plan.rules.depth_limit) plan me line s) f
-          enters zero deeper depth fits some k =
+          enters zero deeper depth left fits some k =
               subst (λ b. Comes Leading (deepened false b plan me line s) f) (sym closed)
               (subst (λ c. After A g (with_value (set_of zero) line c (handing (set_of zero) line given s.dot) (with_left (s.left - 1) (run_of lay s)))) (ap (uncalled plan.rules name) named.tree) k)
             where
               closed : nat_lt s.depth plan.rules.depth_limit ≡ false
               closed = let same = same-depth in let under : plan.rules.depth_limit ≤ s.depth = omega arith in grind (arith, nat_tests)
-          enters (suc m) deeper depth fits some k =
+          enters (suc m) deeper depth left fits some k =
               subst (λ b. Comes Leading (deepened false b plan me line s) f) (sym is-open)
               (hands given at-node fits (subst (λ c. After A g (with_value (set_of (suc m)) line c (handing (set_of (suc m)) line given s.dot) (with_left (s.left - 1) (run_of lay s)))) (ap (called plan.rules (calls_of m) name) named.tree) k))
             where
@@ -234,10 +240,10 @@ module _ (plan : Plan) (room : ℕ) (f : Ran) (who : Who) (me : Template) (is-me
 
               gets : (v : Value) (made : Bool) (place : ℕ) → drop place plan.code ≡ code.invoke number ∷ rest
                   → After A g (body v (with_left (s.left - 1) (run_at lay made s))) → Leading (valued v made place next)
-              gets v made place at k = invokes m deeper depth g lay fr rest next name number named v made place some (record { at = ahead-one plan.code rest place (code.invoke number) at; runs = st.runs; frame = st.frame; deep = st.deep }) at (omega arith) k
+              gets v made place at k = invokes m deeper depth g lay fr rest next name number named v made place some (record { at = ahead-one plan.code rest place (code.invoke number) at; runs = st.runs; frame = st.frame; deep = st.deep }) at (deeper-left m left (omega arith)) k
 
               hands : (given : Option Pipeline) → GivenAt given lay start (code.invoke number ∷ rest)
-                  → length fr + need_of_given given + spare_of (suc m) ≤ room
+                  → length fr + need_of_given given + spare ≤ room
                   → After A g (handing (set_of (suc m)) line given s.dot body (with_left (s.left - 1) (run_of lay s))) → Leading next
               hands None l fits k =
                   ways.takes plan room f who me is-me home next (code.act code.push_nothing) (code.invoke number ∷ rest) st.runs (there ∙ l) (let long = sym (ap length st.frame) ∙ length-frame lay s.cells st.deep in omega arith)
@@ -249,4 +255,4 @@ module _ (plan : Plan) (room : ℕ) (f : Ran) (who : Who) (me : Template) (is-me
           pays : (b : Bool) → nat_eq s.left 0 ≡ b → After A g (spend_if b (set_of n) line (meaning.calling (set_of n) line name given s.dot) (run_of lay s))
               → Comes Leading (deepened b (nat_lt s.depth plan.rules.depth_limit) plan me line s) f
           pays true is k = k
-          pays false is k = enters n deeper depth fits is k
+          pays false is k = enters n deeper depth left fits is k

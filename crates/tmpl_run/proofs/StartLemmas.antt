@@ -1,17 +1,16 @@
 -- For `run` and `Machine::start`: the state at the start comes to the meaning of its template.
-use Rattle.std.proofs.Common.{arith, ◌≡◌, ◌∙◌, ◌+◌, ◌-◌, ◌*◌, ◌<◌, ◌≤◌, ℕ, suc, length, get_or, ap, sym, subst, Option, Some}
+use Rattle.std.proofs.Common.{arith, ◌≡◌, ◌∙◌, ◌+◌, ◌<◌, ◌≤◌, ℕ, [], length, get_or, ap, sym, subst, Option, Some}
 use Rattle.std.specs.Prelude.{IfSome, slice_get}
-use Rattle.std.proofs.Math.Nat.{suc-mul}
 use Rattle.std.proofs.lemmas.Option.{slice_get-get_or, slice_get_within}
 use Rattle.tmpl_values.specs.Value.{Value}
 use Rattle.tmpl_syntax.specs.Set.{Template}
 use Rattle.tmpl_meaning.specs.Meaning.{Ran, ran, ran_with, starting_dot}
 use Rattle.tmpl_code.specs.Code.{Starts}
-use Rattle.tmpl_code.specs.Room.{largest_need, room}
+use Rattle.tmpl_code.specs.Room.{Suffices}
 use Rattle.tmpl_run.specs.computed.Came.{no_template}
 use Rattle.tmpl_run.specs.Ends.{Ends}
 use Rattle.tmpl_run.specs.State.{Plan, State, starting}
-use Rattle.tmpl_run.proofs.CallLemmas.{Started, need-most, starts-at}
+use Rattle.tmpl_run.proofs.CallLemmas.{Started, need-is, starts-at}
 use Rattle.tmpl_run.proofs.TreeLemmas.{run-leads}
 
 -- the run of the template that a state runs, over its dot
@@ -33,18 +32,16 @@ module _ (plan : Plan) (size number : ℕ) (linked : Starts plan.templates plan.
   pub has-start : number < length plan.starts
   has-start = slice_get_within plan.starts number started.place started.at
 
-  module _ (some : 1 ≤ plan.rules.depth_limit) (fits : room plan.rules.depth_limit plan.templates ≤ size) where
+  module _ (some : 1 ≤ plan.rules.depth_limit) (fits : Suffices plan.rules.depth_limit plan.templates number size) where
     -- `$` and the two cells below it
     pub three : 3 ≤ size
     three =
-        let need = need-most plan.templates number me is-me in
-        let one : plan.rules.depth_limit ≡ suc (plan.rules.depth_limit - 1) = omega arith in
-        let more : plan.rules.depth_limit * largest_need plan.templates ≡ (plan.rules.depth_limit - 1) * largest_need plan.templates + largest_need plan.templates =
-        ap (λ n. n * largest_need plan.templates) one ∙ suc-mul (plan.rules.depth_limit - 1) (largest_need plan.templates) in
-        omega (arith, need, more, fits)
+        let mine = need-is plan.templates number me is-me in
+        let own = fits [] tt (omega arith) in
+        omega arith
 
     pub leads : (v : Value) → Ends plan size (starting plan number (get_or plan.starts number 0) v) (ran_with plan.rules plan.templates (get_or plan.templates number no_template).0 (get_or plan.templates number no_template).1 v)
-    leads v = run-leads plan size linked some fits number me is-me (get_or plan.starts number 0) (slice_get-get_or plan.starts number 0 has-start) v
+    leads v = run-leads plan size linked some number me fits is-me (get_or plan.starts number 0) (slice_get-get_or plan.starts number 0 has-start) v
 
     -- .. of a state that is so, over so many cells
     pub starts-so : (held : ℕ) (v : Value) (s : State) → held ≡ size → s ≡ starting plan number (get_or plan.starts number 0) v

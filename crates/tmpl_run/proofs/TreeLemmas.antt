@@ -1,26 +1,26 @@
 -- For the law `comes_to_meaning`: the code of a template comes to what the template means, by induction on the depth of calls.
-use Rattle.std.proofs.Common.{arith, ◌≡◌, ◌∙◌, ◌+◌, ◌-◌, ◌*◌, ◌≤◌, nat_lt, ℕ, zero, suc, List, [], ◌∷◌, length, drop, refl, ap, sym, subst, Some, None}
+use Rattle.std.proofs.Common.{arith, ◌≡◌, ◌∙◌, ◌+◌, ◌-◌, ◌≤◌, nat_lt, ℕ, zero, suc, List, [], ◌∷◌, length, drop, refl, ap, sym, subst, inl, inr, Some, None}
 use Rattle.std.specs.Prelude.{slice_get}
-use Rattle.std.proofs.Math.Nat.{suc-mul}
 use Rattle.tmpl_grammar.specs.Tree.{Header}
 use Rattle.tmpl_grammar.specs.declared.tree.Control.{Control}
 use Rattle.tmpl_grammar.specs.declared.tree.Control.TheVariants as control
 use Rattle.tmpl_values.specs.Value.{Value, nothing}
 use Rattle.tmpl_syntax.specs.Tree as tree
 use Rattle.tmpl_syntax.specs.Tree.{NodeKind, Nodes}
-use Rattle.tmpl_syntax.specs.Need.{need_of_nodes}
+use Rattle.tmpl_syntax.specs.Need.{need, need_of_nodes}
 use Rattle.tmpl_syntax.specs.Set.{Template}
 use Rattle.tmpl_meaning.specs.Meaning as meaning
 use Rattle.tmpl_meaning.specs.Meaning.{Calls, End, Next, Ran, Run, Setting, calls_within, meanings, ran_of, ran_with, setting_of, started, stepped}
 use Rattle.tmpl_code.specs.Instruction as code
 use Rattle.tmpl_code.specs.Layout.{declared_in, first_layout, grown}
-use Rattle.tmpl_code.specs.Room.{largest_need}
+use Rattle.tmpl_code.specs.Calls.{NodeNames, NodesName}
+use Rattle.tmpl_code.specs.Room.{Suffices, need_at}
 use Rattle.tmpl_code.specs.Code.{Code, NodesAt, Starts}
 use Rattle.tmpl_run.specs.Cell.{cell}
 use Rattle.tmpl_run.specs.State.{Plan, State, starting}
 use Rattle.tmpl_run.specs.Machine.{returned_if}
 use Rattle.tmpl_run.specs.Ends.{Comes, Ends}
-use Rattle.tmpl_run.proofs.CallLemmas.{Deeper, Started, TemplateLeads, call-leads, need-most, starts-at}
+use Rattle.tmpl_run.proofs.CallLemmas.{Deeper, Left, Started, TemplateLeads, call-leads, need-is, starts-at}
 use Rattle.tmpl_run.proofs.HeaderLemmas.{Pipelines}
 use Rattle.tmpl_run.proofs.NodeLemmas as nodes
 use Rattle.tmpl_run.proofs.NodeLemmas.{action-leads, if-leads, inside-grown, length-grown, spent, with-leads}
@@ -32,15 +32,23 @@ use Rattle.tmpl_run.proofs.WayLemmas as ways
 use Rattle.tmpl_run.proofs.WayLemmas.{Ring, Stands, Who, bare, exit_of, seen, who_of}
 
 module _ (plan : Plan) (room : ℕ) (f : Ran) (who : Who) (me : Template) (is-me : slice_get plan.templates who.number ≡ Some me) (home : Frame) (first : 1 ≤ who.depth) (linked : Starts plan.templates plan.templates plan.starts plan.code)
-    (n : ℕ) (deeper : Deeper plan room f n) (depth : who.depth + n ≡ plan.rules.depth_limit) where
+    (n : ℕ) (deeper : Deeper plan room f n) (depth : who.depth + n ≡ plan.rules.depth_limit) (base : ℕ) (tall : length home ≡ 3 + base) (left : Left plan.templates room n who.number base) where
   abbrev pipes : Pipelines plan room f who me
   pipes = pipelines-lead plan room f who me is-me home
 
   abbrev calls : Calls
   calls = calls_within plan.rules plan.templates n
 
+  -- what is left above the template's own cells
   abbrev spare : ℕ
-  spare = n * largest_need plan.templates
+  spare = room - (base + need me.1)
+
+  fits-here : base + need me.1 ≤ room
+  fits-here = let own = left [] tt (omega arith) in let mine = need-is plan.templates who.number me is-me in omega arith
+
+  -- the template names what these name
+  abbrev Mine : (List ℕ → Type 0) → Type 0
+  Mine Names = (name : List ℕ) → Names name → NodesName name me.1.nodes
 
   abbrev set : Setting
   set = setting_of plan.rules calls me.0 me.1
@@ -59,26 +67,26 @@ module _ (plan : Plan) (room : ℕ) (f : Ran) (who : Who) (me : Template) (is-me
       (k _ (record { at = ahead-one plan.code rest s.place (code.put bytes) (st.at ∙ l); runs = st.runs; frame = st.frame; deep = st.deep }) refl refl)
 
   mutual
-    step-leads : (line : ℕ) (n : NodeKind) → nodes.StepLeads plan room f who me is-me home calls spare pipes line n
-    step-leads line (tree.text bytes) g lay fr here start rest s l at-node st inside fits more-fits k =
+    step-leads : (line : ℕ) (n : NodeKind) → Mine (λ name. NodeNames name n) → nodes.StepLeads plan room f who me is-me home calls spare pipes line n
+    step-leads line (tree.text bytes) mine g lay fr here start rest s l at-node st inside fits more-fits k =
         spent plan room f who me is-me home calls spare pipes line (tree.text bytes) refl (text-leads line bytes) g lay fr here start rest s l at-node st inside fits more-fits k
-    step-leads line (tree.action h) g lay fr here start rest s l at-node st inside fits more-fits k =
+    step-leads line (tree.action h) mine g lay fr here start rest s l at-node st inside fits more-fits k =
         spent plan room f who me is-me home calls spare pipes line (tree.action h) refl (action-leads plan room f who me is-me home calls spare pipes line h) g lay fr here start rest s l at-node st inside fits more-fits k
-    step-leads line (tree.control_node c h body other) g lay fr here start rest s l at-node st inside fits more-fits k =
+    step-leads line (tree.control_node c h body other) mine g lay fr here start rest s l at-node st inside fits more-fits k =
         spent plan room f who me is-me home calls spare pipes line (tree.control_node c h body other) refl
-        (control-leads line c h body other (λ g lay fr here rest s l st inside fits k. nodes-lead body g lay fr here rest s l st inside fits k)
-        (λ g lay fr here rest s l st inside fits k. nodes-lead other g lay fr here rest s l st inside fits k)) g lay fr here start rest s l at-node st inside fits more-fits k
-    step-leads line tree.break_node g lay fr here start rest s l at-node st inside fits more-fits k = spent plan room f who me is-me home calls spare pipes line tree.break_node refl (break-leads plan room f who me is-me home calls spare pipes line) g lay fr here start rest s l at-node st inside fits more-fits k
-    step-leads line tree.continue_node g lay fr here start rest s l at-node st inside fits more-fits k = spent plan room f who me is-me home calls spare pipes line tree.continue_node refl (continue-leads plan room f who me is-me home calls spare pipes line) g lay fr here start rest s l at-node st inside fits more-fits k
-    step-leads line (tree.template_node name given) g lay fr here start rest s l at-node st inside fits more-fits k =
-        call-leads plan room f who me is-me home pipes first linked n deeper depth line name given g lay fr here start rest s l at-node st inside fits more-fits k
+        (control-leads line c h body other (λ g lay fr here rest s l st inside fits k. nodes-lead body (λ name names. mine name (inl names)) g lay fr here rest s l st inside fits k)
+        (λ g lay fr here rest s l st inside fits k. nodes-lead other (λ name names. mine name (inr names)) g lay fr here rest s l st inside fits k)) g lay fr here start rest s l at-node st inside fits more-fits k
+    step-leads line tree.break_node mine g lay fr here start rest s l at-node st inside fits more-fits k = spent plan room f who me is-me home calls spare pipes line tree.break_node refl (break-leads plan room f who me is-me home calls spare pipes line) g lay fr here start rest s l at-node st inside fits more-fits k
+    step-leads line tree.continue_node mine g lay fr here start rest s l at-node st inside fits more-fits k = spent plan room f who me is-me home calls spare pipes line tree.continue_node refl (continue-leads plan room f who me is-me home calls spare pipes line) g lay fr here start rest s l at-node st inside fits more-fits k
+    step-leads line (tree.template_node name given) mine g lay fr here start rest s l at-node st inside fits more-fits k =
+        call-leads plan room f who me is-me home pipes first linked n deeper depth base spare left (let own = fits-here in omega arith) line name given (mine name refl) g lay fr here start rest s l at-node st inside fits more-fits k
 
-    nodes-lead : (ns : Nodes) → nodes.NodesLead plan room f who me is-me home calls spare pipes ns
-    nodes-lead tree.none g lay fr here rest s l st inside fits k = k s (record { at = st.at ∙ l; runs = st.runs; frame = st.frame; deep = st.deep }) refl refl
-    nodes-lead (tree.then line n ns) g lay fr here rest s l st inside fits k =
-        step-leads line n g lay fr here l.0 l.1 s l.2 l.3 st inside (omega arith) (omega arith)
+    nodes-lead : (ns : Nodes) → Mine (λ name. NodesName name ns) → nodes.NodesLead plan room f who me is-me home calls spare pipes ns
+    nodes-lead tree.none mine g lay fr here rest s l st inside fits k = k s (record { at = st.at ∙ l; runs = st.runs; frame = st.frame; deep = st.deep }) refl refl
+    nodes-lead (tree.then line n ns) mine g lay fr here rest s l st inside fits k =
+        step-leads line n (λ name names. mine name (inl names)) g lay fr here l.0 l.1 s l.2 l.3 st inside (omega arith) (omega arith)
         (ways.then-map plan room f who me is-me home (λ r. ways.After plan room f who me is-me home A g (meanings set ns s.dot r)) (ways.Onward plan room f who me is-me home l.1 (grown n lay) (grown_in n fr) s.dot) g x.0 x.1
-        (λ r k t stands dot run. nodes-lead ns g (grown n lay) (grown_in n fr) l.1 rest t l.4 stands (inside-grown home g n lay fr inside) (let long = length-grown n fr in omega arith)
+        (λ r k t stands dot run. nodes-lead ns (λ name names. mine name (inr names)) g (grown n lay) (grown_in n fr) l.1 rest t l.4 stands (inside-grown home g n lay fr inside) (let long = length-grown n fr in omega arith)
         (subst (λ d. ways.After plan room f who me is-me home (ways.Onward plan room f who me is-me home rest (all_grown ns (grown n lay)) (all_grown_in ns (grown_in n fr)) d) g (meanings set ns d (run_of (grown n lay) t))) (sym dot)
         (subst (λ r. ways.After plan room f who me is-me home A g (meanings set ns s.dot r)) (sym run) k)))
         (ways.then-on plan room f who me is-me home A g x.0 x.1 (meanings set ns s.dot) k))
@@ -91,11 +99,10 @@ module _ (plan : Plan) (room : ℕ) (f : Ran) (who : Who) (me : Template) (is-me
 
   -- a whole template
   template-leads : (s : State) → who_of s ≡ who → slice_get plan.starts who.number ≡ Some s.place → frame_of first_layout s.cells ≡ home → 3 ≤ length s.cells
-      → length home + need_of_nodes me.1.nodes + spare ≤ room
       → ways.After plan room f who me is-me home (ways.Leaves plan room f who me is-me home) None (meanings set me.1.nodes s.dot (run_of first_layout s))
       → Ends plan room s f
-  template-leads s same at-start frame deep fits k =
-      nodes-lead me.1.nodes None first_layout home (drop s.place plan.code) end s (subst (λ p. NodesAt plan.templates me.1.nodes first_layout None (drop p plan.code) end) place start.laid) (record { at = refl; runs = same; frame = frame; deep = deep }) (record { n = 0; over = over-none first_layout; cells = refl }) fits
+  template-leads s same at-start frame deep k =
+      nodes-lead me.1.nodes (λ name names. names) None first_layout home (drop s.place plan.code) end s (subst (λ p. NodesAt plan.templates me.1.nodes first_layout None (drop p plan.code) end) place start.laid) (record { at = refl; runs = same; frame = frame; deep = deep }) (record { n = 0; over = over-none first_layout; cells = refl }) (let own = fits-here in let high = tall in omega arith)
       (ways.then-map plan room f who me is-me home (ways.Leaves plan room f who me is-me home) (ways.Onward plan room f who me is-me home end (all_grown me.1.nodes first_layout) (all_grown_in me.1.nodes home) s.dot) None x.0 x.1
       (λ r k t st dot run. k t (record {
         n = declared_in me.1.nodes;
@@ -122,19 +129,19 @@ module _ (plan : Plan) (room : ℕ) (f : Ran) (who : Who) (me : Template) (is-me
 
 -- each template, however many calls may still be made
 pub templates-lead : (plan : Plan) (room : ℕ) (f : Ran) → Starts plan.templates plan.templates plan.starts plan.code → (n : ℕ) → TemplateLeads plan room f n
-templates-lead plan room f linked zero who me is-me first depth home s same at-start frame deep fits k =
-    template-leads plan room f who me is-me home first linked zero tt depth s same at-start frame deep fits k
-templates-lead plan room f linked (suc n) who me is-me first depth home s same at-start frame deep fits k =
-    template-leads plan room f who me is-me home first linked (suc n) (λ who me is-me first depth home s same at-start frame deep fits k. templates-lead plan room f linked n who me is-me first depth home s same at-start frame deep fits k)
-    depth s same at-start frame deep fits k
+templates-lead plan room f linked zero who me is-me first depth home s same at-start frame deep base tall left k =
+    template-leads plan room f who me is-me home first linked zero tt depth base tall left s same at-start frame deep k
+templates-lead plan room f linked (suc n) who me is-me first depth home s same at-start frame deep base tall left k =
+    template-leads plan room f who me is-me home first linked (suc n) (λ who me is-me first depth home s same at-start frame deep base tall left k. templates-lead plan room f linked n who me is-me first depth home s same at-start frame deep base tall left k)
+    depth base tall left s same at-start frame deep k
 
 -- the first template ends the run
-module _ (plan : Plan) (room : ℕ) (linked : Starts plan.templates plan.templates plan.starts plan.code) (some : 1 ≤ plan.rules.depth_limit) (fits : plan.rules.depth_limit * largest_need plan.templates ≤ room) where
-  pub run-leads : (number : ℕ) (t : Template) → slice_get plan.templates number ≡ Some t → (start : ℕ) → slice_get plan.starts number ≡ Some start → (d : Value)
+module _ (plan : Plan) (room : ℕ) (linked : Starts plan.templates plan.templates plan.starts plan.code) (some : 1 ≤ plan.rules.depth_limit) where
+  pub run-leads : (number : ℕ) (t : Template) → Suffices plan.rules.depth_limit plan.templates number room → slice_get plan.templates number ≡ Some t → (start : ℕ) → slice_get plan.starts number ≡ Some start → (d : Value)
       → Ends plan room (starting plan number start d) (ran_with plan.rules plan.templates t.0 t.1 d)
-  run-leads number me is-me start at-start d =
+  run-leads number me fits is-me start at-start d =
       templates-lead plan room f linked (plan.rules.depth_limit - 1) who me is-me (omega arith) (omega arith) home (starting plan number start d) refl at-start refl (omega arith)
-      (let big = need-most plan.templates number me is-me in let sum = more in omega arith) (by x.1 refl)
+      0 refl (λ rest chain short. let all = fits rest chain (omega arith) in omega arith) (by x.1 refl)
     where
       who : Who
       who = record { number = number; depth = 1 }
@@ -147,11 +154,6 @@ module _ (plan : Plan) (room : ℕ) (linked : Starts plan.templates plan.templat
 
       f : Ran
       f = ran_of x
-
-      more : plan.rules.depth_limit * largest_need plan.templates ≡ (plan.rules.depth_limit - 1) * largest_need plan.templates + largest_need plan.templates
-      more =
-          let one : plan.rules.depth_limit ≡ suc (plan.rules.depth_limit - 1) = omega arith in ap (λ n. n * largest_need plan.templates) one
-          ∙ suc-mul (plan.rules.depth_limit - 1) (largest_need plan.templates)
 
       leaves : seen x.0 None ≡ f → ways.Leaves plan room f who me is-me home x.0
       leaves is t ret same =

@@ -7,7 +7,7 @@ use Rattle.tmpl_code.specs.Calls.{deepest}
 use Rattle.tmpl_code.specs.Code.{Starts}
 use Rattle.tmpl_code.specs.Instruction.{Instruction, act}
 use Rattle.tmpl_code.specs.MakesText.{set_makes_text}
-use Rattle.tmpl_code.specs.Room.{room}
+use Rattle.tmpl_code.specs.Room.{Suffices}
 use Rattle.tmpl_run.specs.State.{Plan, State, starting}
 use Rattle.tmpl_run.specs.Step.{made_by}
 use Rattle.tmpl_run.specs.Machine.{goes, next_of}
@@ -17,13 +17,14 @@ use Rattle.tmpl_run.specs.Ends.{Ends}
 abbrev pub IsLinked : Plan → Type 0
 IsLinked plan = Starts plan.templates plan.templates plan.starts plan.code
 
--- over a stack of as many cells as the room of the set says, a run that starts at a template comes to just the text,
--- the fault and the mark that the template means: each turn is ready, and none gets stuck
+-- over a stack of as many cells as each chain of calls from it needs that is no longer than the depth, a run that starts
+-- at a template comes to just the text, the fault and the mark that the template means: each turn is ready, and none
+-- gets stuck
 abbrev pub ComesToMeaning : Type 0
 ComesToMeaning =
     (plan : Plan) (size : ℕ) → IsLinked plan → 1 ≤ plan.rules.depth_limit
-    → room plan.rules.depth_limit plan.templates ≤ size
     → (number start : ℕ) (t : Template) (input : Option Value)
+    → Suffices plan.rules.depth_limit plan.templates number size
     → slice_get plan.templates number ≡ Some t → slice_get plan.starts number ≡ Some start
     → Ends plan size (starting plan number start (starting_dot input)) (ran plan.rules plan.templates t.0 t.1 input)
 

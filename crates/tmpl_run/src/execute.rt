@@ -17,7 +17,7 @@ use crate::halt::Halt;
 use crate::machine::Machine;
 use crate::operation::fault_for;
 use crate::piece::Piece;
-use tmpl_code::{Instruction, Program};
+use tmpl_code::{Instruction, Parts};
 use tmpl_meaning::{Options, RunFaultKind, Sink};
 use tmpl_values::Val;
 
@@ -27,7 +27,7 @@ impl<'m, 'a> Machine<'m, 'a> {
     #[inline(always)]
     pub(crate) fn execute<S: Sink>(
         &mut self,
-        program: &Program<'a>,
+        program: &Parts<'a>,
         options: &Options,
         instruction: Instruction<'a>,
         piece: &mut Piece<'_>,

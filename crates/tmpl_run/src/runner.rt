@@ -7,8 +7,7 @@ ghost use Rattle.tmpl_meaning.specs.Meaning.{Ran, ran, starting_dot};
 ghost use Rattle.tmpl_meaning.specs.Sink.{sunk};
 ghost use Rattle.tmpl_meaning.specs.View.{rules_of};
 ghost use Rattle.tmpl_code.specs.MakesText.{set_makes_text};
-ghost use Rattle.tmpl_code.specs.Program.{IsLinked};
-ghost use Rattle.tmpl_code.specs.Room.{room};
+ghost use Rattle.tmpl_code.specs.Room.{Suffices};
 ghost use Rattle.tmpl_run.specs.computed.Came.{Came, Closed, IsStopped, nothing_told};
 ghost use Rattle.tmpl_run.specs.Ends.{Ends};
 ghost use Rattle.tmpl_run.specs.computed.Machines.{Told, state_of};
@@ -26,7 +25,7 @@ use crate::machine::Machine;
 use crate::piece::Piece;
 use crate::stack::Stack;
 use std::alloc::Global;
-use tmpl_code::{Entry, Program};
+use tmpl_code::{Entry, Parts, Program};
 use tmpl_meaning::{Options, RunFault, Sink, without_null};
 use tmpl_values::{Cell, Data, Val};
 
@@ -45,7 +44,7 @@ impl<'m, 'a> Machine<'m, 'a> {
     /// Before the first instruction of a template.
     fn start(
         alloc: Global,
-        program: &Program<'a>,
+        program: &Parts<'a>,
         entry: Entry,
         data: Option<&'a Data>,
         options: &Options,
@@ -78,7 +77,7 @@ impl<'m, 'a> Machine<'m, 'a> {
     /// Carries out instructions until the run is over or stops.
     fn turns<S: Sink>(
         &mut self,
-        program: &Program<'a>,
+        program: &Parts<'a>,
         options: &Options,
         piece: &mut Piece<'_>,
         sink: &mut S,
@@ -109,7 +108,7 @@ impl<'m, 'a> Machine<'m, 'a> {
 }
 
 /// Why a run ends that stops in the template of this number, at this line.
-fn error_for<'a>(program: &Program<'a>, number: usize, line: u64, stop: Halt<'a>) -> RunError<'a>
+fn error_for<'a>(program: &Parts<'a>, number: usize, line: u64, stop: Halt<'a>) -> RunError<'a>
     requires { number < length (set_view program.now.set.now) }
     ensures { IsStopped (slice_get (set_view program.now.set.now) number) line stop.entry result }
 {
@@ -130,7 +129,7 @@ fn error_for<'a>(program: &Program<'a>, number: usize, line: u64, stop: Halt<'a>
 
 /// Runs a template of a program over data, by these options, and puts its text out.
 ///
-/// The cells are all that the run keeps values in, and as many as [`Program::room`] says are enough. What is put out
+/// The cells are all that the run keeps values in, and as many as [`Program::cells`] says are enough. What is put out
 /// waits in the piece, of any size, until that is full; it is put out whole where the run ends or stops at a fault of
 /// the template. Memory is taken by the functions that make a text, and for what they made, and by nothing else: where
 /// [`Program::makes_text`] is false, a run does not answer want of memory.
@@ -144,18 +143,18 @@ pub fn run<'a, S: Sink>(
     piece: &mut [u8],
     out: &mut S,
 ) -> Result<(), RunError<'a>>
-    requires linked { IsLinked program.now }
     requires entry { entry.number < length (set_view program.now.set.now) }
-    requires room { room options.now.depth (set_view program.now.set.now) ≤ length cells.old }
+    requires room { Suffices options.now.depth (set_view program.now.set.now) entry.number (length cells.old) }
     requires countable { (S.so_far out.old).failures < 2 ^ 64 - 1 }
     ensures runs { let ts = set_view program.now.set.now in IfSome (slice_get ts entry.number) (λ t.
         IsRun (ran (rules_of options.now) ts t.0 t.1 (option_map (λ d. value_of d.now) «data».entry))
         (sunk (S.so_far out.old) (S.so_far out.new)) result) }
     ensures spared { set_makes_text (set_view program.now.set.now) ≡ false → result ≢ Err RunError.OutOfMemory }
 {
-    let mut machine = Machine::start(alloc, program, entry, data, options, cells);
+    let parts = program.parts();
+    let mut machine = Machine::start(alloc, parts, entry, data, options, cells);
     let mut piece = Piece::new(piece);
-    let end = machine.turns(program, options, &mut piece, out);
+    let end = machine.turns(parts, options, &mut piece, out);
     close(&mut piece, out, end)
 }
 

@@ -1,6 +1,6 @@
-use Rattle.std.proofs.Common.{◌≡◌, ◌∙◌, ◌+◌, ◌-◌, ℕ, suc, ◌||◌, List, ◌∷◌, max, drop, length, reverse, ap, sym, subst, arith}
+use Rattle.std.proofs.Common.{◌≡◌, ◌∙◌, ◌+◌, ◌-◌, ℕ, suc, ◌||◌, List, [], ◌∷◌, max, drop, length, map, reverse, ap, sym, subst, arith}
 use Rattle.std.specs.Vec.{with_items}
-use Rattle.std.proofs.lemmas.List.{with_items_is}
+use Rattle.std.proofs.lemmas.List.{reverse-append, with_items_is}
 use Rattle.tmpl_syntax.specs.Need.{need, need_of_nodes}
 use Rattle.tmpl_syntax.specs.Set.{Template}
 use Rattle.tmpl_syntax.specs.Tree.{Nodes}
@@ -9,8 +9,9 @@ use Rattle.tmpl_code.specs.Calls.{nodes_call, set_calls}
 use Rattle.tmpl_code.specs.Code.{Code, Starts, TreeAt}
 use Rattle.tmpl_code.specs.MakesText.{nodes_make_text, set_makes_text}
 use Rattle.tmpl_code.specs.Room.{largest_need}
+use Rattle.tmpl_code.specs.View.{instructions_of}
 use Rattle.tmpl_code.specs.computed.Held.{LastStarts, code_of, places}
-use Rattle.tmpl_code.proofs.ProgramLemmas.{from-number, starts, starts_more}
+use Rattle.tmpl_code.proofs.ProgramLemmas.{from-number, starts as starts_of, starts_more}
 use Rattle.tmpl_code.proofs.compiler.compile.Goals as goal
 
 pub loop-i-preserved : goal.loop-i-preserved
@@ -25,11 +26,11 @@ loop-i-preserved c =
     let nodes : nodes_in c.as_slice-nodes.result.now ≡ t.1.nodes = ap nodes_in c.as_slice-nodes.ensures.value in
     let here : t ∷ drop (suc i) ts ≡ drop i ts = sym (from-number ts i t c.template.ensures.value) in
     let starts = subst (λ n. LastStarts ts (drop n ts) (reverse l.lengths.items) old) next l.invariant.starts in
-    let lies = subst (λ (ns : Nodes). TreeAt ts ns new old) nodes c.in_ok-put_tree.ensures.code in
-    let found = c.in_ok-put_tree in
-    let needs : found.field-0.need ≡ need t.1 = found.ensures.need ∙ ap (λ (ns : Nodes). 3 + need_of_nodes ns) nodes in
-    let makes : found.field-0.makes_text ≡ nodes_make_text t.1.nodes = found.ensures.text ∙ ap nodes_make_text nodes in
-    let calling : found.field-0.calls ≡ nodes_call t.1.nodes = found.ensures.calls ∙ ap nodes_call nodes in
+    let lies = subst (λ (ns : Nodes). TreeAt ts ns new old) nodes c.in_ok-own.ensures.code in
+    let found = c.in_ok-own in
+    let needs : found.own.need ≡ need t.1 = found.ensures.need ∙ ap (λ (ns : Nodes). 3 + need_of_nodes ns) nodes in
+    let makes : found.own.makes_text ≡ nodes_make_text t.1.nodes = found.ensures.text ∙ ap nodes_make_text nodes in
+    let calling : found.own.calls ≡ nodes_call t.1.nodes = found.ensures.calls ∙ ap nodes_call nodes in
     let most : l.survey.need ≡ largest_need (drop (suc i) ts) = l.invariant.most ∙ ap (λ n. largest_need (drop n ts)) next in
     let made : l.survey.makes_text ≡ set_makes_text (drop (suc i) ts) = l.invariant.makes ∙ ap (λ n. set_makes_text (drop n ts)) next in
     let called : l.survey.calls ≡ set_calls (drop (suc i) ts) = l.invariant.calling ∙ ap (λ n. set_calls (drop n ts)) next in
@@ -39,23 +40,65 @@ loop-i-preserved c =
     record {
       within = omega arith;
       starts = starts_more ts i t l.lengths.items c.push.new.self.items c.len.result old new c.template.ensures.value c.in_ok-push.ensures.items c.len.ensures lies starts;
+      needs =
+          ap reverse c.in_ok-push-2.ensures.items ∙ reverse-append l.needs.items (found.own.need ∷ []) ∙ (λ j. needs j ∷ (l.invariant.needs ∙ ap (λ n. map (λ (t : Template). need t.1) (drop n ts)) next) j)
+          ∙ ap (map (λ (t : Template). need t.1)) here;
       most = joined.need ∙ (λ j. max (needs j) (most j)) ∙ ap largest_need here;
       bounded = omega (arith, joined.need, needs, bound);
       makes = joined.text ∙ (λ j. makes j || made j) ∙ ap set_makes_text here;
       calling = joined.calls ∙ (λ j. calling j || called j) ∙ ap set_calls here;
     }
 
+-- the loop ends at the first template, and its counts are made places
+linked-so : (ts : List Template) (i size : ℕ) (lengths turned counts starts : List ℕ) (code is : Code) → i ≡ 0 → LastStarts ts (drop i ts) (reverse lengths) code
+    → starts ≡ places size counts → size ≡ length code → counts ≡ turned → turned ≡ reverse lengths → is ≡ code → Starts ts ts starts is
+linked-so ts i size lengths turned counts starts code is none last placed sized same reversed put =
+    let last = subst (λ n. LastStarts ts (drop n ts) (reverse lengths) code) none last in
+    let at : places (length code) (reverse lengths) ≡ starts = sym (placed ∙ (λ j. places (sized j) ((same ∙ reversed) j))) in
+    subst (λ (is : Code). Starts ts ts starts is) (sym put) (subst (λ (ns : List ℕ). Starts ts ts ns code) at (starts_of ts ts (reverse lengths) code last))
+
+pub bound_of-requires-clause-needs : goal.bound_of-requires-clause-needs
+bound_of-requires-clause-needs c =
+    let l = c.loop-i in
+    let ts = set_view c.args.set.now in
+    let none : l.i ≡ 0 = omega arith in
+    c.as_slice.ensures.value ∙ c.reverse-2.ensures.items ∙ l.invariant.needs ∙ ap (λ n. map (λ (t : Template). need t.1) (drop n ts)) none
+
+pub bound_of-requires-clause-most : goal.bound_of-requires-clause-most
+bound_of-requires-clause-most c =
+    let none : c.loop-i.i ≡ 0 = omega arith in
+    c.loop-i.invariant.most ∙ ap (λ n. largest_need (drop n (set_view c.args.set.now))) none
+
+pub bound_of-requires-clause-calls : goal.bound_of-requires-clause-calls
+bound_of-requires-clause-calls c =
+    let none : c.loop-i.i ≡ 0 = omega arith in
+    c.loop-i.invariant.calling ∙ ap (λ n. set_calls (drop n (set_view c.args.set.now))) none
+
+pub invariant_of-result : goal.invariant_of-result
+invariant_of-result c =
+    let l = c.loop-i in
+    let ts = set_view c.args.set.now in
+    let none : l.i ≡ 0 = omega arith in
+    let many = c.to_places.auto.counts in
+    let long = c.as_mut_slice.ensures.len in
+    let kept = with_items_is c.reverse.new.self c.to_places.new.counts (omega (arith, many, long)) in
+    record {
+      linked =
+          linked-so ts l.i c.len-2.result l.lengths.items c.reverse.new.self.items c.as_mut_slice.result.now (with_items c.reverse.new.self c.to_places.new.counts).items (code_of l.code)
+          (instructions_of c.into_instructions.result.items) none l.invariant.starts (kept ∙ c.to_places.ensures) c.len-2.ensures c.as_mut_slice.ensures.value c.reverse.ensures.items c.into_instructions.ensures;
+      need = l.invariant.most ∙ ap (λ n. largest_need (drop n ts)) none;
+      enough = c.in_ok-bound.ensures.bound;
+      makes = l.invariant.makes ∙ ap (λ n. set_makes_text (drop n ts)) none;
+      calling = l.invariant.calling ∙ ap (λ n. set_calls (drop n ts)) none;
+    }
+
 pub returns-clause-linked : goal.returns-clause-linked
 returns-clause-linked c =
     let l = c.loop-i in
     let ts = set_view c.args.set.now in
-    let code = code_of l.code in
     let none : l.i ≡ 0 = omega arith in
-    let last = subst (λ n. LastStarts ts (drop n ts) (reverse l.lengths.items) code) none l.invariant.starts in
     let many = c.to_places.auto.counts in
     let long = c.as_mut_slice.ensures.len in
     let kept = with_items_is c.reverse.new.self c.to_places.new.counts (omega (arith, many, long)) in
-    let at : places (length code) (reverse l.lengths.items) ≡ (with_items c.reverse.new.self c.to_places.new.counts).items =
-    sym (kept ∙ c.to_places.ensures ∙ (λ j. places (c.len-2.ensures j) ((c.as_mut_slice.ensures.value ∙ c.reverse.ensures.items) j))) in
-    subst (λ (is : Code). Starts ts ts (with_items c.reverse.new.self c.to_places.new.counts).items is) (sym c.into_instructions.ensures)
-    (subst (λ (ns : List ℕ). Starts ts ts ns code) at (starts ts ts (reverse l.lengths.items) code last))
+    linked-so ts l.i c.len-2.result l.lengths.items c.reverse.new.self.items c.as_mut_slice.result.now (with_items c.reverse.new.self c.to_places.new.counts).items (code_of l.code)
+    (instructions_of c.into_instructions.result.items) none l.invariant.starts (kept ∙ c.to_places.ensures) c.len-2.ensures c.as_mut_slice.ensures.value c.reverse.ensures.items c.into_instructions.ensures

@@ -1,5 +1,5 @@
-use Rattle.std.proofs.Common.{◌≡◌, ◌≤◌, drop, length, reverse}
-use Rattle.tmpl_syntax.specs.Need.{most_need}
+use Rattle.std.proofs.Common.{◌≡◌, ◌≤◌, drop, length, map, reverse}
+use Rattle.tmpl_syntax.specs.Need.{most_need, need}
 use Rattle.tmpl_syntax.specs.View.{set_view}
 use Rattle.tmpl_code.specs.Calls.{set_calls}
 use Rattle.tmpl_code.specs.MakesText.{set_makes_text}
@@ -13,6 +13,7 @@ invariant-loop-i l =
     record {
       within : l.i ≤ length ts;
       starts : LastStarts ts (drop l.i ts) (reverse l.lengths.items) (code_of l.code);
+      needs : reverse l.needs.items ≡ map (λ t. need t.1) (drop l.i ts);
       most : l.survey.need ≡ largest_need (drop l.i ts);
       bounded : l.survey.need ≤ most_need;
       makes : l.survey.makes_text ≡ set_makes_text (drop l.i ts);

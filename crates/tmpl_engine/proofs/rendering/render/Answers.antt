@@ -9,7 +9,7 @@ use Rattle.tmpl_engine.proofs.rendering.render.Goals as goal
 pub returns-in-Some : goal.returns-in-Some
 returns-in-Some g c =
     named_render (rules_of c.args.options.now) (set_view c.args.set.now) c.args.name.now (option_map (λ d. value_of d.now) c.args.data) c.in-Some.number
-    (sunk (g.S.Sink.so_far c.args.out.now) (g.S.Sink.so_far c.run_template.new.out)) _ c.in-Some.ensures c.run_template.ensures
+    (sunk (g.S.Sink.so_far c.args.out.now) (g.S.Sink.so_far c.run_once.new.out)) _ c.in-Some.ensures c.run_once.ensures
 
 pub returns-in-None : goal.returns-in-None
 returns-in-None g c =

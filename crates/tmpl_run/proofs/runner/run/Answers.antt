@@ -1,11 +1,13 @@
-use Rattle.std.proofs.Common.{arith, ◌≡◌, ap, subst, refl, length, []}
-use Rattle.std.specs.Prelude.{option_map}
+use Rattle.std.proofs.Common.{arith, ◌≡◌, ◌<◌, ℕ, ap, subst, sym, refl, length, []}
+use Rattle.std.specs.Prelude.{IfSome, option_map, slice_get}
 use Rattle.tmpl_values.specs.Put.{Puts}
 use Rattle.tmpl_values.specs.View.{value_of}
-use Rattle.tmpl_meaning.specs.Meaning.{Ran, starting_dot}
+use Rattle.tmpl_meaning.specs.Meaning.{Ran, ran, starting_dot}
 use Rattle.tmpl_syntax.specs.View.{set_view}
 use Rattle.tmpl_meaning.specs.Sink.{sunk}
 use Rattle.tmpl_meaning.specs.View.{rules_of}
+use Rattle.tmpl_code.specs.Room.{Suffices}
+use Rattle.tmpl_code.specs.declared.program.Parts.{Parts}
 use Rattle.tmpl_run.specs.computed.Came.{Came, nothing_told}
 use Rattle.tmpl_run.specs.computed.Machines.{state_of}
 use Rattle.tmpl_run.specs.computed.Output.{Grows, given_of, waiting}
@@ -20,22 +22,37 @@ use Rattle.tmpl_run.proofs.StartLemmas as start
 use Rattle.tmpl_run.proofs.StartLemmas.{ran_from}
 use Rattle.tmpl_run.proofs.runner.run.Goals as goal
 
+-- what is asked of the program holds of its parts
+entry-of : (number : ℕ) (p q : Parts) → p ≡ q → number < length (set_view q.set.now) → number < length (set_view p.set.now)
+entry-of number p q same h = subst (λ (r : Parts). number < length (set_view r.set.now)) (sym same) h
+
+room-of : (depth number size : ℕ) (p q : Parts) → p ≡ q → Suffices depth (set_view q.set.now) number size → Suffices depth (set_view p.set.now) number size
+room-of depth number size p q same h = subst (λ (r : Parts). Suffices depth (set_view r.set.now) number size) (sym same) h
+
 pub start-machine-requires-clause-entry : goal.start-machine-requires-clause-entry
 start-machine-requires-clause-entry g c =
-    start.has-start (plan_of c.args.options.now c.args.program.now) (length c.args.cells.now) c.args.entry.number c.requires.linked c.requires.entry
+    let p = c.parts-parts.result.now in
+    start.has-start (plan_of c.args.options.now p) (length c.args.cells.now) c.args.entry.number c.parts-parts.ensures.linked
+    (entry-of c.args.entry.number p c.args.program.now c.parts-parts.ensures.value c.requires.entry)
 
 pub start-machine-requires-clause-room : goal.start-machine-requires-clause-room
 start-machine-requires-clause-room g c =
-    start.three (plan_of c.args.options.now c.args.program.now) (length c.args.cells.now) c.args.entry.number c.requires.linked c.requires.entry c.args.options.now.depth_in_range.0 c.requires.room
+    let p = c.parts-parts.result.now in
+    start.three (plan_of c.args.options.now p) (length c.args.cells.now) c.args.entry.number c.parts-parts.ensures.linked
+    (entry-of c.args.entry.number p c.args.program.now c.parts-parts.ensures.value c.requires.entry) c.args.options.now.depth_in_range.0
+    (room-of c.args.options.now.depth c.args.entry.number (length c.args.cells.now) p c.args.program.now c.parts-parts.ensures.value c.requires.room)
 
 pub turns-end-requires : goal.turns-end-requires
 turns-end-requires g c =
-    let plan : Plan = plan_of c.args.options.now c.args.program.now in
+    let p = c.parts-parts.result.now in
+    let plan : Plan = plan_of c.args.options.now p in
     let m = c.start-machine.result in
     let s : State = state_of (nothing_told plan) m in
     let size = length c.args.cells.now in
     let state = c.start-machine.ensures.state in
-    let three = start.three plan size c.args.entry.number c.requires.linked c.requires.entry c.args.options.now.depth_in_range.0 c.requires.room in
+    let inside = entry-of c.args.entry.number p c.args.program.now c.parts-parts.ensures.value c.requires.entry in
+    let room = room-of c.args.options.now.depth c.args.entry.number size p c.args.program.now c.parts-parts.ensures.value c.requires.room in
+    let three = start.three plan size c.args.entry.number c.parts-parts.ensures.linked inside c.args.options.now.depth_in_range.0 room in
     let count : length (cells_of m.stack) ≡ 3 = ap (λ (t : State). length t.cells) state in
     let deep : m.depth ≡ 1 = ap (λ (t : State). t.depth) state in
     let left : m.left ≡ c.args.options.now.steps = ap (λ (t : State). t.left) state in
@@ -50,7 +67,7 @@ turns-end-requires g c =
           (
             refl,
             (
-              start.starts-so plan size c.args.entry.number c.requires.linked c.requires.entry c.args.options.now.depth_in_range.0 c.requires.room (size_of m.stack)
+              start.starts-so plan size c.args.entry.number c.parts-parts.ensures.linked inside c.args.options.now.depth_in_range.0 room (size_of m.stack)
                   (starting_dot (option_map (λ d. value_of d.now) c.args.data)) s sized state,
               (
                 omega (arith, count, three, sized),
@@ -70,7 +87,8 @@ turns-end-requires g c =
 
 pub returns-clause-runs : goal.returns-clause-runs
 returns-clause-runs g c =
-    let plan : Plan = plan_of c.args.options.now c.args.program.now in
+    let p = c.parts-parts.result.now in
+    let plan : Plan = plan_of c.args.options.now p in
     let m = c.start-machine.result in
     let s : State = state_of (nothing_told plan) m in
     let end : Ran = ran_from plan s in
@@ -78,13 +96,17 @@ returns-clause-runs g c =
     let before = g.S.Sink.so_far c.args.out.now in
     let middle = g.S.Sink.so_far c.turns-end.new.sink in
     let after = g.S.Sink.so_far c.close.new.sink in
+    let input = option_map (λ d. value_of d.now) c.args.data in
     let mid : Puts = given_of middle c.turns-end.new.piece in
     let came : Came end (behind before [] 0) mid c.turns-end.result =
     subst (λ l. Came end (behind before l 0) mid c.turns-end.result) c.new-piece.ensures c.turns-end.ensures.came in
     let grows : Grows before after = grows-on before middle after c.turns-end.ensures.taken c.close.ensures.taken in
-    start.meant-so plan (length c.args.cells.now) c.args.entry.number c.requires.linked c.requires.entry
-    (λ (r : Ran). IsRun r (sunk before after) c.close.result) (option_map (λ d. value_of d.now) c.args.data) s c.start-machine.ensures.state
-    (comes-to end before after (waiting last) 0 grows 0 c.turns-end.result c.close.result mid came c.close.ensures.closed)
+    let inside = entry-of c.args.entry.number p c.args.program.now c.parts-parts.ensures.value c.requires.entry in
+    subst (λ (q : Parts). IfSome (slice_get (set_view q.set.now) c.args.entry.number) (λ t. IsRun (ran (rules_of c.args.options.now) (set_view q.set.now) t.0 t.1 input) (sunk before after) c.close.result))
+    c.parts-parts.ensures.value
+    (start.meant-so plan (length c.args.cells.now) c.args.entry.number c.parts-parts.ensures.linked inside
+    (λ (r : Ran). IsRun r (sunk before after) c.close.result) input s c.start-machine.ensures.state
+    (comes-to end before after (waiting last) 0 grows 0 c.turns-end.result c.close.result mid came c.close.ensures.closed))
 
 pub returns-clause-spared : goal.returns-clause-spared
 returns-clause-spared g c =

@@ -1,0 +1,39 @@
+-- Weights of templates, by which one look at each call says how many cells are enough for all chains of calls.
+use Rattle.std.specs.Prelude.{◌≡◌, ℕ, ◌+◌, ◌*◌, ◌≤◌, max, List, get_or, Option, Some, None, slice_get}
+use Rattle.tmpl_syntax.specs.Need.{need}
+use Rattle.tmpl_syntax.specs.Set.{Template, number_of}
+use Rattle.tmpl_syntax.specs.Tree as tree
+use Rattle.tmpl_syntax.specs.Tree.{NodeKind, control_node, template_node, Nodes}
+use Rattle.tmpl_code.specs.Room.{Suffices}
+
+abbrev pub weight_found : List ℕ → Option ℕ → ℕ
+weight_found weights None = 0
+weight_found weights (Some number) = get_or weights number 0
+
+-- the weight of the heaviest template that is called
+abbrev mutual
+  pub heaviest_of_node : List Template → List ℕ → NodeKind → ℕ
+  heaviest_of_node ts weights (control_node c h body other) =
+      max (heaviest_of_nodes ts weights body) (heaviest_of_nodes ts weights other)
+  heaviest_of_node ts weights (template_node name given) = weight_found weights (number_of name ts)
+  heaviest_of_node ts weights n = 0
+
+  pub heaviest_of_nodes : List Template → List ℕ → Nodes → ℕ
+  heaviest_of_nodes ts weights tree.none = 0
+  heaviest_of_nodes ts weights (tree.then line n ns) =
+      max (heaviest_of_node ts weights n) (heaviest_of_nodes ts weights ns)
+
+-- a template's weight, and what each is given, pay for what it needs and the heaviest that it calls; and it weighs no
+-- more than that
+pub record HoldsOf (ts : List Template) (weights : List ℕ) (each fixed : ℕ) (number : ℕ) (t : Template) : Type 0 where
+  pub pays : need t.1 + heaviest_of_nodes ts weights t.1.nodes ≤ get_or weights number 0 + each
+  pub most : get_or weights number 0 ≤ fixed
+
+-- so it is of each template
+abbrev pub Hold : List Template → List ℕ → ℕ → ℕ → Type 0
+Hold ts weights each fixed =
+    (number : ℕ) (t : Template) → slice_get ts number ≡ Some t → HoldsOf ts weights each fixed number t
+
+-- so many cells, and so many more for each template that may be inside the others, are enough for every template
+abbrev pub IsBound : List Template → ℕ → ℕ → Type 0
+IsBound ts fixed each = (depth first : ℕ) → Suffices depth ts first (fixed + depth * each)

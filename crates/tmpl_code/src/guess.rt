@@ -1,0 +1,185 @@
+//! A guess at what templates need that call one another. Nothing rests on it: `bound.rt` looks whether it holds.
+//!
+//! Each template that may be inside others is given as many cells as the one needs that needs most of those in cycles of
+//! calls, and a template weighs what it and the heaviest that it calls need beyond that.
+use crate::cost::larger;
+use crate::instruction::Instruction;
+use crate::ties::{Tie, Ties, at, filled, peel, put, turned};
+use std::alloc::{AllocError, Global};
+
+/// The weights of templates in the order of a set, the heaviest one's, and what each template is given.
+#[derive(Drop)]
+pub(crate) struct Guess {
+    pub weights: Vec<usize>,
+    pub fixed: usize,
+    pub each: usize,
+}
+
+/// A guess for templates that need so much and have this code.
+pub(crate) fn guess_weights(
+    alloc: Global,
+    needs: &[usize],
+    instructions: &[Instruction<'_>],
+    starts: &[usize],
+) -> Result<Guess, AllocError> {
+    let calls = calls_in(alloc, instructions, starts)?;
+    let callers = turned(alloc, calls.as_slice())?;
+    let called = Ties::new(alloc, needs.len(), calls.as_slice())?;
+    let calling = Ties::new(alloc, needs.len(), callers.as_slice())?;
+    let below = peel(alloc, needs.len(), calls.as_slice(), &calling)?;
+    let above = peel(alloc, needs.len(), callers.as_slice(), &called)?;
+    let between = rest(alloc, needs.len(), below.as_slice(), above.as_slice())?;
+    let each = most_of(needs, between.as_slice());
+    let mut weights = filled(alloc, needs.len(), 0)?;
+    weigh_below(
+        &called,
+        needs,
+        each,
+        below.as_slice(),
+        weights.as_mut_slice(),
+    );
+    weigh_between(&called, between.as_slice(), weights.as_mut_slice());
+    weigh_above(
+        &called,
+        needs,
+        each,
+        above.as_slice(),
+        weights.as_mut_slice(),
+    );
+    let fixed = most(weights.as_slice());
+    Ok(Guess {
+        weights,
+        fixed,
+        each,
+    })
+}
+
+/// The calls in code, each as a tie from the template that calls to the one that is called.
+fn calls_in(
+    alloc: Global,
+    instructions: &[Instruction<'_>],
+    starts: &[usize],
+) -> Result<Vec<Tie>, AllocError> {
+    let mut calls = Vec::new(alloc);
+    // how many templates have begun
+    let mut begun = 0usize;
+    for (place, instruction) in instructions.iter().enumerate() {
+        if begun < starts.len() && starts[begun] == place {
+            begun += 1;
+        }
+        if let Instruction::Invoke(number) = instruction {
+            calls.push(Tie {
+                from: begun.saturating_sub(1),
+                to: *number as usize,
+            })?;
+        }
+    }
+    Ok(calls)
+}
+
+/// The numbers below a count that are in neither list.
+fn rest(
+    alloc: Global,
+    count: usize,
+    below: &[usize],
+    above: &[usize],
+) -> Result<Vec<usize>, AllocError> {
+    let mut listed = filled(alloc, count, 0)?;
+    mark(listed.as_mut_slice(), below);
+    mark(listed.as_mut_slice(), above);
+    let mut rest = Vec::new(alloc);
+    for (number, mark) in listed.as_slice().iter().enumerate() {
+        if *mark == 0 {
+            rest.push(number)?;
+        }
+    }
+    Ok(rest)
+}
+
+/// Marks the numbers of a list.
+fn mark(marks: &mut [usize], list: &[usize]) {
+    for number in list {
+        put(marks, *number, 1);
+    }
+}
+
+/// The greatest of some weights.
+fn most(weights: &[usize]) -> usize {
+    let mut most = 0;
+    for weight in weights {
+        most = larger(most, *weight);
+    }
+    most
+}
+
+/// The most that one of these templates needs.
+fn most_of(needs: &[usize], numbers: &[usize]) -> usize {
+    let mut most = 0;
+    for number in numbers {
+        most = larger(most, at(needs, *number));
+    }
+    most
+}
+
+/// The weight of the heaviest that a template calls.
+fn heaviest(called: &Ties, number: usize, weights: &[usize]) -> usize {
+    let mut heaviest = 0;
+    let mut next = called.newest(number);
+    for _ in 0..called.len() {
+        let Some(link) = called.link(next) else {
+            break;
+        };
+        heaviest = larger(heaviest, at(weights, link.to));
+        next = link.older;
+    }
+    heaviest
+}
+
+/// Weighs a template by those that it calls.
+fn weigh(called: &Ties, needs: &[usize], each: usize, number: usize, weights: &mut [usize]) {
+    let all = at(needs, number).saturating_add(heaviest(called, number, weights));
+    put(weights, number, all.saturating_sub(each));
+}
+
+/// Weighs templates that stand behind all that they call.
+fn weigh_below(
+    called: &Ties,
+    needs: &[usize],
+    each: usize,
+    numbers: &[usize],
+    weights: &mut [usize],
+) {
+    for number in numbers {
+        weigh(called, needs, each, *number, weights);
+    }
+}
+
+/// Weighs templates in cycles alike: by the heaviest outside that one of them calls.
+fn weigh_between(called: &Ties, numbers: &[usize], weights: &mut [usize]) {
+    let heaviest = heaviest_of(called, numbers, weights);
+    for number in numbers {
+        put(weights, *number, heaviest);
+    }
+}
+
+/// The weight of the heaviest that these templates call.
+fn heaviest_of(called: &Ties, numbers: &[usize], weights: &[usize]) -> usize {
+    let mut most = 0;
+    for number in numbers {
+        most = larger(most, heaviest(called, *number, weights));
+    }
+    most
+}
+
+/// Weighs templates that stand before all that they call.
+fn weigh_above(
+    called: &Ties,
+    needs: &[usize],
+    each: usize,
+    numbers: &[usize],
+    weights: &mut [usize],
+) {
+    for number in numbers.iter().rev() {
+        weigh(called, needs, each, *number, weights);
+    }
+}

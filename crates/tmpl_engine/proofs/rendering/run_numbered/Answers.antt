@@ -1,0 +1,34 @@
+use Rattle.std.proofs.Common.{arith, ◌≡◌, Result, Ok, Err, IfSome, ap, length, option_map, slice_get, subst, sym}
+use Rattle.tmpl_values.specs.View.{value_of}
+use Rattle.tmpl_syntax.specs.View.{set_view}
+use Rattle.tmpl_meaning.specs.Meaning.{ran}
+use Rattle.tmpl_meaning.specs.Sink.{sunk}
+use Rattle.tmpl_meaning.specs.View.{rules_of}
+use Rattle.tmpl_engine.specs.Render.{IsRunOf}
+use Rattle.tmpl_engine.specs.declared.error.RenderError.{RenderError}
+use Rattle.tmpl_engine.proofs.RenderLemmas.{run_of}
+use Rattle.tmpl_engine.proofs.rendering.run_numbered.Goals as goal
+
+pub run-end-requires-clause-room : goal.run-end-requires-clause-room
+run-end-requires-clause-room g c = λ rest chain short.
+    let enough = c.cells.ensures.enough c.args.number rest chain short in
+    let held : length c.in-Ok.cells.items ≡ c.cells.result = c.in-Ok.ensures in
+    let lent = ap length c.as_mut_slice.ensures.value in
+    omega (arith, enough, held, lent)
+
+pub returns-in-Ok-end : goal.returns-in-Ok-end
+returns-in-Ok-end g c =
+    let set = set_view c.args.program.now.set.now in
+    run_of (rules_of c.args.options.now) set (option_map (λ d. value_of d.now) c.args.data)
+    (sunk (g.S.Sink.so_far c.args.out.now) (g.S.Sink.so_far c.run-end.new.out)) (Ok c.in-Ok-end.field-0) (slice_get set c.args.number)
+    c.in-Ok-end.ensures.runs
+
+pub returns : goal.returns
+returns g c =
+    let set = set_view c.args.program.now.set.now in
+    let input = option_map (λ d. value_of d.now) c.args.data in
+    let out = sunk (g.S.Sink.so_far c.args.out.now) (g.S.Sink.so_far c.run-end.new.out) in
+    subst
+    (λ (e : RenderError). IfSome (slice_get set c.args.number) (λ t. IsRunOf (ran (rules_of c.args.options.now) set t.0 t.1 input) out (Err e)))
+    (sym c.from.ensures)
+    (run_of (rules_of c.args.options.now) set input out (Err c.in-Err.error) (slice_get set c.args.number) c.in-Err.ensures.runs)
