@@ -162,8 +162,8 @@ def stacks():
     small = '{{define "t"}}x{{end}}'
     yield "a big template that calls a small one", [], big + small + '{{template "t"}}', [], big + small, LITTLE
     inner = '{{define "a"}}{{template "b"}}{{end}}{{define "b"}}%s{{end}}' % big
-    apart = '{{define "a"}}{{end}}{{define "b"}}%s{{end}}' % big
-    yield "a chain of three with a big one", [], inner + '{{template "a"}}', [], apart + '{{template "b"}}', LITTLE
+    apart = '{{define "a"}}{{end}}{{define "b"}}{{end}}' + big
+    yield "a chain of three with a big one", [], inner + '{{template "a"}}', [], apart, LITTLE
     again = '{{define "t"}}{{if .}}{{template "t" (slice . 1)}}{{end}}{{end}}{{template "t" "%s"}}' % ("x" * 998)
     yield "a small template that calls itself, a thousand deep", [], again, None, None, MUCH
     yield "a big template that calls one that calls itself", [], big + again, [], big + small, MUCH

@@ -1,7 +1,7 @@
 //! A guess at what templates need that call one another. Nothing rests on it: `bound.rt` looks whether it holds.
 //!
-//! Each template that may be inside others is given as many cells as the one needs that needs most of those in cycles of
-//! calls, and a template weighs what it and the heaviest that it calls need beyond that.
+//! Each template that may be inside others is given as many cells as the one needs that needs most of those in cycles
+//! of calls, and a template weighs what it and the heaviest that it calls need beyond that.
 use crate::cost::larger;
 use crate::instruction::Instruction;
 use crate::ties::{Tie, Ties, at, filled, peel, put, turned};

@@ -16,8 +16,8 @@ pub struct Parts<'s> {
     pub starts: Vec<usize>,
 }
 
-/// The code of the templates of a set, which borrows from the set. Clauses see its parts, and it has no others than those
-/// that `compile` makes.
+/// The code of the templates of a set, which borrows from the set. Clauses see its parts, and it has no others than
+/// those that `compile` makes.
 #[derive(Drop)]
 pub struct Program<'s> {
     pub(crate) parts: Parts<'s>,
@@ -91,8 +91,8 @@ impl<'s> Program<'s> {
         depth as u64 * self.need as u64
     }
 
-    /// How many cells are enough for every run, where so many templates may be inside one another: as many as the chain of
-    /// calls needs that needs most, where no calls go in a cycle, and never more than the room.
+    /// How many cells are enough for every run, where so many templates may be inside one another: as many as the chain
+    /// of calls needs that needs most, where no calls go in a cycle, and never more than the room.
     #[tactic(auto, using(crate::proofs::BoundLemmas::room_suffices))]
     pub fn cells(&self, depth: u32) -> u64
         ensures enough { (first : ℕ) → Suffices depth (set_view self.now.set.now) first result }

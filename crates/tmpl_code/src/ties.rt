@@ -70,8 +70,8 @@ pub(crate) fn turned(alloc: Global, ties: &[Tie]) -> Result<Vec<Tie>, AllocError
     Ok(turned)
 }
 
-/// Of so many templates those from which these ties lead to no cycle, each behind those that it is tied to. The lists are
-/// of the ties in the other direction.
+/// Of so many templates those from which these ties lead to no cycle, each behind those that it is tied to. The lists
+/// are of the ties in the other direction.
 pub(crate) fn peel(
     alloc: Global,
     count: usize,

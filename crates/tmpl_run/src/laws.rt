@@ -2,8 +2,8 @@
 ghost use Rattle.tmpl_run.specs.Laws.{ComesToMeaning, DepthAlike, EachTurnLessens, HasOneEnd};
 ghost use Rattle.tmpl_run.specs.Laws.{MarkStays, OnlyAdds, StaysWithin, TextIsNamed};
 
-/// The law that the code of a set comes to the meaning of each of its templates, on a stack with the cells that each chain
-/// of its calls needs.
+/// The law that the code of a set comes to the meaning of each of its templates, on a stack with the cells that each
+/// chain of its calls needs.
 pub fn comes_to_meaning()
     ensures { ComesToMeaning }
 {}
