@@ -1,5 +1,5 @@
 -- Which templates call which, and how many can be inside one another.
-use Rattle.std.specs.Prelude.{◌≡◌, ◌⊎◌, ℕ, Bool, true, false, ◌||◌, List, [], ◌∷◌, Some, if◌then◌else◌, slice_get}
+use Rattle.std.specs.Prelude.{◌≡◌, ◌⊎◌, ℕ, Bool, true, false, ◌||◌, List, [], ◌∷◌, Some, slice_get}
 use Rattle.tmpl_syntax.specs.Tree as tree
 use Rattle.tmpl_syntax.specs.Tree.{NodeKind, control_node, template_node, Nodes}
 use Rattle.tmpl_syntax.specs.Set.{Template, number_of}
@@ -20,10 +20,6 @@ abbrev mutual
 abbrev pub set_calls : List Template → Bool
 set_calls [] = false
 set_calls (t ∷ ts) = nodes_call t.1.nodes || set_calls ts
-
--- where so many may be inside one another, so many can: one alone, where none calls one
-abbrev pub deepest : ℕ → List Template → ℕ
-deepest limit ts = if set_calls ts then limit else 1
 
 -- ---- chains of calls
 

@@ -1,7 +1,6 @@
 -- When a program is one of its set.
 use Rattle.std.specs.Prelude.{◌≡◌, ℕ, ◌+◌, ◌*◌}
 use Rattle.tmpl_syntax.specs.View.{set_view}
-use Rattle.tmpl_code.specs.Calls.{set_calls}
 use Rattle.tmpl_code.specs.Code.{Starts}
 use Rattle.tmpl_code.specs.MakesText.{set_makes_text}
 use Rattle.tmpl_code.specs.Room.{Suffices, largest_need}
@@ -21,4 +20,3 @@ pub record IsCompiled (p : Inside) : Type 0 where
   pub need : p.need ≡ largest_need (set_view p.parts.set.now)
   pub enough : (depth first : ℕ) → Suffices depth (set_view p.parts.set.now) first (p.fixed + depth * p.each)
   pub makes : p.makes_text ≡ set_makes_text (set_view p.parts.set.now)
-  pub calling : p.calls ≡ set_calls (set_view p.parts.set.now)

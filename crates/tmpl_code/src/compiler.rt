@@ -55,7 +55,6 @@ pub fn compile<'s>(alloc: Global, set: &'s Set) -> Result<Program<'s>, AllocErro
         fixed: bound.fixed as u64,
         each: bound.each as u32,
         makes_text: survey.makes_text,
-        calls: survey.calls,
     })
 }
 

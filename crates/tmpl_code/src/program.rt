@@ -27,7 +27,6 @@ pub struct Program<'s> {
     pub(crate) fixed: u64,
     pub(crate) each: u32,
     pub(crate) makes_text: bool,
-    pub(crate) calls: bool,
 }
 
 impl<'s> Model for Program<'s> {
@@ -54,7 +53,6 @@ pub struct Entry {
 }
 
 impl<'s> Program<'s> {
-    ghost use Rattle.tmpl_code.specs.Calls.{deepest};
     ghost use Rattle.tmpl_code.specs.MakesText.{set_makes_text};
     ghost use Rattle.tmpl_code.specs.Program.{IsLinked};
     ghost use Rattle.tmpl_code.specs.Room.{Suffices, room};
@@ -75,13 +73,6 @@ impl<'s> Program<'s> {
             Some(number) => Some(Entry { number }),
             None => None,
         }
-    }
-
-    /// How many templates can be inside one another in a run, where so many may: one, where none calls one.
-    pub fn deepest(&self, limit: u32) -> u32
-        ensures { result ≡ deepest limit (set_view self.now.set.now) }
-    {
-        if self.calls { limit } else { 1 }
     }
 
     /// How many cells a stack must have for every run, where so many templates may be inside one another.

@@ -266,17 +266,16 @@ fn with_set(alloc: Global, name: &str, bytes: &[u8], writer: &mut impl Write) ->
     }
 }
 
-/// Compiles a set, and puts out the room at depth 1, the cells that are enough at depth 7, how deep calls can go of 7,
-/// whether it makes text, and the numbers of the template `m` and of the template `none`, a dash where there is none.
+/// Compiles a set, and puts out the room at depth 1, the cells that are enough at depth 7, whether it makes text, and
+/// the numbers of the template `m` and of the template `none`, a dash where there is none.
 fn compile_set(alloc: Global, set: &Set, writer: &mut impl Write) -> io::Result<bool> {
     let Ok(program) = compile(alloc, set) else {
         return put(writer, Err(AllocError));
     };
     let room = program.room(1);
     let cells = program.cells(7);
-    let deepest = program.deepest(7);
     let makes_text = program.makes_text();
-    write!(writer, "{room} {cells} {deepest} {makes_text}")?;
+    write!(writer, "{room} {cells} {makes_text}")?;
     for name in [b"m".as_slice(), b"none".as_slice()] {
         match program.entry(name) {
             Some(entry) => {

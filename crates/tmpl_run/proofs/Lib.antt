@@ -1,4 +1,3 @@
-pub mod DepthLemmas
 pub mod ExecLemmas
 pub mod PipelineLemmas
 pub mod PlaceLemmas

@@ -3,7 +3,6 @@ use Rattle.std.specs.Prelude.{◌≡◌, ◌<◌, ◌≤◌, ◌⊎◌, ℕ, Boo
 use Rattle.tmpl_values.specs.Value.{Value}
 use Rattle.tmpl_syntax.specs.Set.{Template}
 use Rattle.tmpl_meaning.specs.Meaning.{Ran, Rules, ran, starting_dot}
-use Rattle.tmpl_code.specs.Calls.{deepest}
 use Rattle.tmpl_code.specs.Code.{Starts}
 use Rattle.tmpl_code.specs.Instruction.{Instruction, act}
 use Rattle.tmpl_code.specs.MakesText.{set_makes_text}
@@ -27,14 +26,6 @@ ComesToMeaning =
     → Suffices plan.rules.depth_limit plan.templates number size
     → slice_get plan.templates number ≡ Some t → slice_get plan.starts number ≡ Some start
     → Ends plan size (starting plan number start (starting_dot input)) (ran plan.rules plan.templates t.0 t.1 input)
-
--- how deep calls may be makes no difference beyond how deep they can be
-abbrev pub DepthAlike : Type 0
-DepthAlike =
-    (rules : Rules) (ts : List Template) (number : ℕ) (t : Template) (input : Option Value)
-    → slice_get ts number ≡ Some t
-    → ran (record rules { depth_limit = deepest rules.depth_limit ts }) ts t.0 t.1 input
-    ≡ ran rules ts t.0 t.1 input
 
 -- of a state that comes to an end there are never more cells than that
 abbrev pub StaysWithin : Type 0

@@ -1,16 +1,11 @@
 //! Laws of the machine that the definitions describe.
-ghost use Rattle.tmpl_run.specs.Laws.{ComesToMeaning, DepthAlike, EachTurnLessens, HasOneEnd};
+ghost use Rattle.tmpl_run.specs.Laws.{ComesToMeaning, EachTurnLessens, HasOneEnd};
 ghost use Rattle.tmpl_run.specs.Laws.{MarkStays, OnlyAdds, StaysWithin, TextIsNamed};
 
 /// The law that the code of a set comes to the meaning of each of its templates, on a stack with the cells that each
 /// chain of its calls needs.
 pub fn comes_to_meaning()
     ensures { ComesToMeaning }
-{}
-
-/// The law that a run comes to the same whatever depth is allowed beyond that to which the set's calls can go.
-pub fn depth_alike()
-    ensures { DepthAlike }
 {}
 
 /// The law that a run keeps within the cells of its stack.

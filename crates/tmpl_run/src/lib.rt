@@ -22,7 +22,7 @@ mod variable;
 
 pub use fault::RunError;
 pub use laws::{
-    comes_to_meaning, depth_alike, each_turn_lessens, mark_stays, one_end, only_adds, stays_within,
+    comes_to_meaning, each_turn_lessens, mark_stays, one_end, only_adds, stays_within,
     text_is_named,
 };
 pub use runner::run;

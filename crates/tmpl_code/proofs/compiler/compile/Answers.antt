@@ -89,7 +89,6 @@ invariant_of-result c =
       need = l.invariant.most ∙ ap (λ n. largest_need (drop n ts)) none;
       enough = c.in_ok-bound.ensures.bound;
       makes = l.invariant.makes ∙ ap (λ n. set_makes_text (drop n ts)) none;
-      calling = l.invariant.calling ∙ ap (λ n. set_calls (drop n ts)) none;
     }
 
 pub returns-clause-linked : goal.returns-clause-linked
