@@ -5,16 +5,14 @@ use Rattle.std.specs.Option.{ok_or}
 use Rattle.std.proofs.lemmas.Option.{slice_get-get_or}
 use Rattle.tmpl_values.specs.Value.{Value}
 use Rattle.tmpl_syntax.specs.Tree as tree
-use Rattle.tmpl_syntax.specs.Set.{Template, number_of, tree_named}
+use Rattle.tmpl_syntax.specs.Set.{Template, number_of}
 use Rattle.tmpl_syntax.proofs.NamedLemmas.{Named, numbered}
-use Rattle.tmpl_meaning.specs.Meaning.{ran}
+use Rattle.tmpl_meaning.specs.Meaning.{Rules, ran}
 use Rattle.tmpl_meaning.specs.Sink.{Sunk, Told, sunk}
 use Rattle.tmpl_tool.specs.Outcome.{Answer, Outcome, Says, memory_line}
 use Rattle.tmpl_tool.specs.Source.{Bytes}
 use Rattle.tmpl_tool.specs.Tool as tool
-use Rattle.tmpl_tool.specs.Tool.{answer_of, asked_name, or_stop, run_answer}
-use Rattle.tmpl_tool.specs.Words.{Wanted}
-use Rattle.tmpl_tool.specs.computed.Load.{rendered}
+use Rattle.tmpl_tool.specs.Tool.{answer_of, named_run, or_stop, run_answer}
 use Rattle.tmpl_tool.proofs.MessageLemmas.{nothing_out}
 use Rattle.tmpl_tool.proofs.StopLemmas.{outcome_as}
 
@@ -30,21 +28,20 @@ pub if_template : (P Q : Template → Type 0) (o : Option Template) → ((t : Te
 if_template P Q None then h = tt
 if_template P Q (Some t) then h = then t refl h
 
--- a template of the set has the name that is asked for
-module _ (w : Wanted) (set : List Template) (input : Option Value) where
-  named-run : (name : Bytes) (number : ℕ) → name ≡ asked_name w → (is : Named name set number)
-      → answer_of (rendered w set input) ≡ run_answer (ran w.rules set is.t.0 is.t.1 input)
-  named-run name number asked is =
-      ap (λ (n : Bytes). answer_of (or_stop (ok_or (tree_named n set) (tool.unnamed n)) (λ tree. Ok (ran w.rules set n tree input)))) (sym asked)
-      ∙ ap (λ o. answer_of (or_stop (ok_or o (tool.unnamed name)) (λ tree. Ok (ran w.rules set name tree input)))) is.tree
-      ∙ ap (λ (n : Bytes). run_answer (ran w.rules set n is.t.1 input)) is.same
+-- a template of the set has the name
+module _ (rules : Rules) (set : List Template) (input : Option Value) where
+  run-of : (name : Bytes) (number : ℕ) (is : Named name set number)
+      → answer_of (named_run rules name set input) ≡ run_answer (ran rules set is.t.0 is.t.1 input)
+  run-of name number is =
+      ap (λ o. answer_of (or_stop (ok_or o (tool.unnamed name)) (λ tree. Ok (ran rules set name tree input)))) is.tree
+      ∙ ap (λ (n : Bytes). run_answer (ran rules set n is.t.1 input)) is.same
 
-  pub has_template : (name : Bytes) (number : ℕ) → name ≡ asked_name w → Some number ≡ number_of name set → (out err : Sunk) (code : ℕ)
-      → IfSome (slice_get set number) (λ t. Outcome (run_answer (ran w.rules set t.0 t.1 input)) out err code)
-      → Outcome (answer_of (rendered w set input)) out err code
-  has_template name number asked is out err code h =
+  pub has_template : (name : Bytes) (number : ℕ) → Some number ≡ number_of name set → (out err : Sunk) (code : ℕ)
+      → IfSome (slice_get set number) (λ t. Outcome (run_answer (ran rules set t.0 t.1 input)) out err code)
+      → Outcome (answer_of (named_run rules name set input)) out err code
+  has_template name number is out err code h =
       let named = numbered name set number (sym is) in
-      outcome_as err code out _ _ (named-run name number asked named) (subst (λ o. IfSome o (λ t. Outcome (run_answer (ran w.rules set t.0 t.1 input)) out err code)) named.at h)
+      outcome_as err code out _ _ (run-of name number named) (subst (λ o. IfSome o (λ t. Outcome (run_answer (ran rules set t.0 t.1 input)) out err code)) named.at h)
 
 -- memory was refused before anything was put out
 pub nothing_begun : (a : Answer) (out err out-then err-then last : Told) (code : ℕ) → out-then ≡ out → err-then ≡ err → code ≡ 7
