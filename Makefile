@@ -4,9 +4,15 @@ export PREFIX DESTDIR CRATE
 
 PROGRAM = crates/tmpl/out/tmpl
 PROBE = crates/tmpl_probe/out/tmpl_probe
+# the engine as a C library: what is proved, and what is linked of it for others
+PROVED_LIBRARY = crates/tmpl_c/out/libtmpl_c.a
+STATIC_LIBRARY = bindings/out/libtmpl.a
+SHARED_LIBRARY = bindings/out/libtmpl.so
+SONAME = libtmpl.so.0
 # what proofs and programs are made of, with the folders, so that a file which is gone counts too
 SOURCES = crates.txt HANDLES $(shell find $(wildcard crates/*/src crates/*/specs crates/*/proofs))
 HELLO = ../../examples/hello
+OBJCOPY ?= objcopy
 QUOTES = $(addprefix examples/quotes/,quotes.tmpl data.tmpl texts.tmpl)
 DOCUMENTS = README.md CHANGELOG.md $(wildcard docs/*.md)
 # the first line of each recipe that needs the toolchain
@@ -32,7 +38,14 @@ test:
 		"python3 tests/fronts.py" "python3 tests/print.py" "python3 tests/draws.py" "python3 tests/calls.py" \
 		"python3 tests/kept.py" "python3 tests/code.py" "python3 tests/pieces.py" "python3 tests/writes.py" \
 		"python3 tests/sweep.py" "python3 tests/memory.py" "python3 tests/counts.py" "python3 tests/strangers.py" \
-		"python3 tests/made.py" "python3 tests/quotes.py" "python3 tests/documents.py"
+		"python3 tests/made.py" "python3 tests/quotes.py" "python3 tests/documents.py" "python3 tests/library.py"
+
+# proves the engine as a C library and builds it: bindings/out/libtmpl.a and libtmpl.so
+lib: $(STATIC_LIBRARY) $(SHARED_LIBRARY)
+
+# the tests of the bindings for Go and Rust, where Go and Cargo are installed
+test-bindings:
+	python3 tests/library.py --bindings
 
 # proves one crate, CRATE=NAME, over what earlier runs kept in out/
 check:
@@ -63,10 +76,21 @@ install: $(PROGRAM)
 	install -D -m 644 -t "$$DESTDIR$$PREFIX/share/tmpl/quotes" $(QUOTES)
 	install -D -m 644 -t "$$DESTDIR$$PREFIX/share/doc/tmpl" $(DOCUMENTS)
 
-# removes what `make install` copied
+# copies the C library, its header and what pkg-config reads to PREFIX
+install-lib: lib
+	install -D -m 644 -t "$$DESTDIR$$PREFIX/include" bindings/c/tmpl.h
+	install -D -m 644 -t "$$DESTDIR$$PREFIX/lib" $(STATIC_LIBRARY)
+	install -D -m 755 $(SHARED_LIBRARY) "$$DESTDIR$$PREFIX/lib/$(SONAME)"
+	ln -sf $(SONAME) "$$DESTDIR$$PREFIX/lib/libtmpl.so"
+	install -d "$$DESTDIR$$PREFIX/lib/pkgconfig"
+	python3 -c 'import os, sys; sys.stdout.write(sys.stdin.read().replace("@PREFIX@", os.environ["PREFIX"]))' \
+		< bindings/c/tmpl.pc.in > "$$DESTDIR$$PREFIX/lib/pkgconfig/tmpl.pc"
+
+# removes what `make install` and `make install-lib` copied
 uninstall:
 	cd "$$DESTDIR$$PREFIX" && rm -f bin/tmpl share/man/man1/tmpl.1 share/man/man7/tmpl-language.7 \
-		share/bash-completion/completions/tmpl share/zsh/site-functions/_tmpl share/fish/vendor_completions.d/tmpl.fish
+		share/bash-completion/completions/tmpl share/zsh/site-functions/_tmpl share/fish/vendor_completions.d/tmpl.fish \
+		include/tmpl.h lib/libtmpl.a lib/libtmpl.so lib/$(SONAME) lib/pkgconfig/tmpl.pc
 	rm -rf "$$DESTDIR$$PREFIX/share/tmpl" "$$DESTDIR$$PREFIX/share/doc/tmpl"
 
 # packs the program and what `make install` copies as a tar, with its SHA-256
@@ -79,8 +103,8 @@ deb: $(PROGRAM)
 
 # tells what there is to make
 help:
-	@awk '/^# / { said = substr($$0, 3) } /^[a-z]+:/ && said { split($$1, name, ":"); \
-		printf "make %-10s %s\n", name[1], said } !/^#/ { said = "" }' Makefile
+	@awk '/^# / { said = substr($$0, 3) } /^[a-z-]+:/ && said { split($$1, name, ":"); \
+		printf "make %-13s %s\n", name[1], said } !/^#/ { said = "" }' Makefile
 
 $(PROGRAM): $(SOURCES)
 	@$(NEEDS_RT)
@@ -92,4 +116,23 @@ $(PROBE): $(SOURCES)
 	cd crates/tmpl_probe && rt run -- text data/numbers.json > /dev/null
 	@touch $@
 
-.PHONY: build demo test check edits bench compare install uninstall dist deb help
+$(PROVED_LIBRARY): $(SOURCES)
+	@$(NEEDS_RT)
+	@echo "Proving the library: some 50 minutes of processor time from a fresh clone, seconds where little changed .." >&2
+	cd crates/tmpl_c && rt lib >&2
+	@touch $@
+
+# one object in which no name but those of the header can be seen, with the heap
+$(STATIC_LIBRARY): $(PROVED_LIBRARY) bindings/c/heap.c
+	mkdir -p bindings/out
+	$(CC) -O2 -fPIC -Wall -Wextra -c bindings/c/heap.c -o bindings/out/heap.o
+	$(LD) -r -o bindings/out/tmpl.o --whole-archive $(PROVED_LIBRARY) --no-whole-archive bindings/out/heap.o
+	$(OBJCOPY) --wildcard --keep-global-symbol='tmpl_*' bindings/out/tmpl.o
+	rm -f $@ && $(AR) rcs $@ bindings/out/tmpl.o
+
+$(SHARED_LIBRARY): $(STATIC_LIBRARY) bindings/c/tmpl.map
+	$(CC) -shared -o $@ -Wl,--whole-archive $(STATIC_LIBRARY) -Wl,--no-whole-archive -Wl,-soname,$(SONAME) \
+		-Wl,--version-script=bindings/c/tmpl.map -Wl,-z,defs
+	ln -sf libtmpl.so bindings/out/$(SONAME)
+
+.PHONY: build demo test lib test-bindings install-lib check edits bench compare install uninstall dist deb help

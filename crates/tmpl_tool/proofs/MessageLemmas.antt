@@ -13,7 +13,7 @@ use Rattle.tmpl_tool.specs.Outcome.{Answer, BegunIf, Once, Outcome, Says, memory
 use Rattle.tmpl_tool.specs.Part.{Piece, joined, line, number, piece_text, plain}
 use Rattle.tmpl_tool.specs.Tool as tool
 use Rattle.tmpl_tool.specs.Tool.{reason_text}
-use Rattle.tmpl_tool.specs.computed.Load.{said_of}
+use Rattle.tmpl_tool.specs.Inputs.{said_of}
 use Rattle.tmpl_tool.specs.Source.{Bytes}
 use Rattle.tmpl_tool.specs.View.{piece_of, pieces_of}
 use Rattle.tmpl_tool.specs.declared.messages.part.Part.{Part}

@@ -1,11 +1,11 @@
--- For `render` and `tell_end`: a render of the template of the asked name, as the definition of the command has it.
-use Rattle.std.proofs.Common.{◌≡◌, ◌∙◌, ℕ, List, [], Option, Some, None, Ok, Err, ap, refl, subst, sym, inl}
+-- For `render_named` and `tell_end`: a render of the template of a name, as the definition of the command has it.
+use Rattle.std.proofs.Common.{◌≡◌, ℕ, List, [], Option, Some, None, Ok, Err, refl, subst, sym, inl}
 use Rattle.std.specs.Option.{ok_or, option_map}
 use Rattle.tmpl_values.specs.Put.{IsPut, Puts}
 use Rattle.tmpl_values.specs.Value.{Value}
 use Rattle.tmpl_syntax.specs.Set.{Template, tree_named}
 use Rattle.tmpl_syntax.specs.Tree.{Tree}
-use Rattle.tmpl_meaning.specs.Meaning.{Ran, ran}
+use Rattle.tmpl_meaning.specs.Meaning.{Ran, Rules, ran}
 use Rattle.tmpl_meaning.specs.Sink.{Sunk, Told, Untouched, Whole, as_puts, sunk}
 use Rattle.tmpl_meaning.specs.declared.sink.SinkFault.{SinkFault}
 use Rattle.tmpl_engine.specs.Render.{IsRender, ran_named}
@@ -13,9 +13,7 @@ use Rattle.tmpl_engine.specs.declared.error.RenderError.TheVariants.{NoTemplate}
 use Rattle.tmpl_tool.specs.Outcome.{Outcome, Says}
 use Rattle.tmpl_tool.specs.Source.{Bytes}
 use Rattle.tmpl_tool.specs.Tool as tool
-use Rattle.tmpl_tool.specs.Tool.{answer_of, asked_name, or_stop, stop_answer}
-use Rattle.tmpl_tool.specs.Words.{Wanted}
-use Rattle.tmpl_tool.specs.computed.Load.{rendered}
+use Rattle.tmpl_tool.specs.Tool.{answer_of, named_run, or_stop, stop_answer}
 use Rattle.tmpl_tool.proofs.MessageLemmas.{nothing_put}
 
 -- a sink that was not touched took the whole of nothing
@@ -30,14 +28,12 @@ pub says_unnamed : (r : Option Ran) (name : Bytes) (before after : Told) (err : 
 says_unnamed None name before after err code h is says = inl (untouched-whole before after h.1, is, says)
 says_unnamed (Some r) name before after err code h is says = absurd h
 
--- the render of the template of the asked name
-pub rendered-named : (w : Wanted) (set : List Template) (input : Option Value) (name : Bytes) → name ≡ asked_name w
-    → ok_or (ran_named w.rules set name input) (tool.unnamed name) ≡ rendered w set input
-rendered-named w set input name is =
-    by (tree_named name set)
-    ∙ ap (λ (n : Bytes). or_stop (ok_or (tree_named n set) (tool.unnamed n)) (λ tree. Ok (ran w.rules set n tree input))) is
+-- the render of the template of a name
+pub ok_or-ran_named : (rules : Rules) (name : Bytes) (set : List Template) (input : Option Value)
+    → ok_or (ran_named rules set name input) (tool.unnamed name) ≡ named_run rules name set input
+ok_or-ran_named rules name set input = by (tree_named name set)
   where
-    by : (o : Option Tree) → ok_or (option_map (λ tree. ran w.rules set name tree input) o) (tool.unnamed name)
-        ≡ or_stop (ok_or o (tool.unnamed name)) (λ tree. Ok (ran w.rules set name tree input))
+    by : (o : Option Tree) → ok_or (option_map (λ tree. ran rules set name tree input) o) (tool.unnamed name)
+        ≡ or_stop (ok_or o (tool.unnamed name)) (λ tree. Ok (ran rules set name tree input))
     by None = refl
     by (Some tree) = refl

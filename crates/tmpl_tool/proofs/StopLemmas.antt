@@ -11,17 +11,17 @@ use Rattle.tmpl_syntax.specs.Fault.{Reason, reason_of}
 use Rattle.tmpl_syntax.specs.Set.{Template, tree_named}
 use Rattle.tmpl_syntax.specs.computed.Parse.{parsed}
 use Rattle.tmpl_syntax.specs.declared.fault.ParseFault.{ParseFault}
-use Rattle.tmpl_meaning.specs.Meaning.{ran}
+use Rattle.tmpl_meaning.specs.Meaning.{Rules, ran}
 use Rattle.tmpl_meaning.specs.Sink.{Told, Sunk, Whole, sunk}
 use Rattle.tmpl_tool.specs.Words.{Wanted, wanted}
 use Rattle.tmpl_tool.specs.Help.{asks_help}
 use Rattle.tmpl_tool.specs.Source.{Asked, Bytes, Files}
 use Rattle.tmpl_tool.specs.Outcome.{Answer, Outcome, Says}
 use Rattle.tmpl_tool.specs.Tool as tool
-use Rattle.tmpl_tool.specs.Tool.{Failing, Follows, MadeOf, Parse, Stop, answer_of, asked_by, asked_name, data_found, data_wanted, file_reads}
-use Rattle.tmpl_tool.specs.Tool.{loaded, no_read, or_stop, reads_behind, stop_answer, stop_if, tool_answer, tool_reads}
-use Rattle.tmpl_tool.specs.Inputs.{Counts, StopsAt, inputs_of, inputs_reads, refusal_seen, stop_seen}
-use Rattle.tmpl_tool.specs.computed.Load.{after_set, after_words, finished, rendered, said_of}
+use Rattle.tmpl_tool.specs.Tool.{Failing, Follows, MadeOf, Parse, Stop, answer_of, asked_by, data_found, data_wanted, file_reads}
+use Rattle.tmpl_tool.specs.Tool.{loaded, named_run, no_read, or_stop, reads_behind, stop_answer, stop_if, tool_answer, tool_reads}
+use Rattle.tmpl_tool.specs.Inputs.{Counts, StopsAt, inputs_of, inputs_reads, refusal_seen, said_of, stop_seen}
+use Rattle.tmpl_tool.specs.computed.Load.{after_set, after_words, finished, rendered}
 use Rattle.tmpl_tool.specs.declared.stop.Stop as held
 use Rattle.tmpl_tool.specs.declared.stop.Stop.TheVariants as stop
 use Rattle.tmpl_tool.proofs.LoadLemmas.{all_read, all_succeed, asked-append, asked-nothing, nat_eq-add, other-above}

@@ -10,9 +10,10 @@ use Rattle.tmpl_syntax.specs.Parse.{Refusal}
 use Rattle.tmpl_syntax.specs.View.{set_view}
 use Rattle.tmpl_syntax.specs.Fault.{reason_of}
 use Rattle.tmpl_syntax.specs.declared.fault.ParseFault.{ParseFault}
+use Rattle.tmpl_tool.specs.Outcome.{Answer, memory_line}
 use Rattle.tmpl_tool.specs.Source.{Bytes, Files}
 use Rattle.tmpl_tool.specs.Tool.{Failing, MadeOf, Parse, Stop, data_found, data_wanted, file_reads, flawed, loaded, no_read}
-use Rattle.tmpl_tool.specs.Tool.{not_found, or_stop, reads_behind, refused, unread}
+use Rattle.tmpl_tool.specs.Tool.{not_found, only_line, or_stop, reads_behind, refused, stop_answer, unread}
 use Rattle.tmpl_tool.specs.Words.{Wanted}
 use Rattle.tmpl_tool.specs.declared.files.inputs.Inputs.{Inputs}
 use Rattle.tmpl_tool.specs.declared.stop.Stop as held
@@ -44,6 +45,11 @@ stop_seen (stop.Template f) = refusal_seen f
 stop_seen (stop.NotJson name) = Some (flawed name.now not_json)
 stop_seen (stop.NotWhole name) = Some (flawed name.now not_whole)
 stop_seen stop.OutOfMemory = None
+
+-- what is said of a stop, or of want of memory
+abbrev pub said_of : Option Stop → Answer
+said_of None = record (only_line 7 []) { line = memory_line }
+said_of (Some s) = stop_answer s
 
 -- ---- what is answered
 

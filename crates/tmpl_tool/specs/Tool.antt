@@ -12,7 +12,7 @@ use Rattle.tmpl_syntax.specs.Parse.{Parses, Refusal, base_name}
 use Rattle.tmpl_syntax.specs.Print.Printed.{printed_set}
 use Rattle.tmpl_meaning.specs.Sink.{Sunk}
 use Rattle.tmpl_meaning.specs.Meaning.{Cause, steps_spent, not_a_function, nil_command, lacks_field, lacks_entry}
-use Rattle.tmpl_meaning.specs.Meaning.{not_a_range, call_failed, no_template, calls_too_deep, Fault, Ran, ran}
+use Rattle.tmpl_meaning.specs.Meaning.{not_a_range, call_failed, no_template, calls_too_deep, Fault, Ran, Rules, ran}
 use Rattle.tmpl_funcs.specs.Func.{name_of}
 use Rattle.tmpl_funcs.specs.declared.fault.CallFault.{CallFault}
 use Rattle.tmpl_funcs.specs.declared.fault.CallFault.TheVariants as call
@@ -158,10 +158,13 @@ abbrev pub read : Files → Bool → Bytes → Result Bytes Stop
 read files true name = Err (unread name)
 read files false name = ok_or (files name) (not_found name)
 
+-- the set with the templates of a file of this name and these bytes
+abbrev pub added : Parse → List Template → Bytes → Bytes → Result (List Template) Stop
+added parse set name bytes = result_map_both (λ s. s) (refused name) (parse set name bytes)
+
 -- the set with the templates of one more FILE
 abbrev pub with_file : Parse → Files → Bool → List Template → Bytes → Result (List Template) Stop
-with_file parse files fails set name =
-    or_stop (read files fails name) (λ bytes. result_map_both (λ s. s) (refused name) (parse set name bytes))
+with_file parse files fails set name = or_stop (read files fails name) (added parse set name)
 
 -- each FILE in turn, read and then parsed, behind so many
 abbrev pub loaded : Parse → Files → Failing → ℕ → List Template → List Bytes → Result (List Template) Stop
@@ -169,11 +172,14 @@ loaded parse files fails k set [] = Ok set
 loaded parse files fails k set (name ∷ names) =
     or_stop (with_file parse files (fails k) set name) (λ s. loaded parse files fails (suc k) s names)
 
+-- the data that the bytes of a file of this name are
+abbrev pub data_in : Bytes → Bytes → Result (Option Value) Stop
+data_in name bytes = result_map_both Some (flawed name) (data_of bytes)
+
 -- the data, read and parsed, if the words name a file of it
 abbrev pub data_found : Files → Bool → Option Bytes → Result (Option Value) Stop
 data_found files fails None = Ok None
-data_found files fails (Some name) =
-    or_stop (read files fails name) (λ bytes. result_map_both Some (flawed name) (data_of bytes))
+data_found files fails (Some name) = or_stop (read files fails name) (data_in name)
 
 -- the file of the data, where something is to be run
 abbrev pub data_wanted : Wanted → Option Bytes
@@ -188,6 +194,11 @@ first_name (name ∷ names) = base_name name
 abbrev pub asked_name : Wanted → Bytes
 asked_name w = unwrap_or w.name (first_name w.files)
 
+-- the name looked up, and the run
+abbrev pub named_run : Rules → Bytes → List Template → Option Value → Result Ran Stop
+named_run rules name set input =
+    or_stop (ok_or (tree_named name set) (unnamed name)) (λ tree. Ok (ran rules set name tree input))
+
 -- ---- the command
 
 -- what it comes to: the words, each FILE, the printed set or else the data, the name, and the run
@@ -197,8 +208,7 @@ tool_answer parse words files fails = answer_of
     or_stop (loaded parse files fails 0 [] w.files) (λ set.
     or_stop (stop_if w.print (printed set)) (λ u.
     or_stop (data_found files (fails (length w.files)) w.data_file) (λ input.
-    or_stop (ok_or (tree_named (asked_name w) set) (unnamed (asked_name w))) (λ tree.
-    Ok (ran w.rules set (asked_name w) tree input)))))))
+    named_run w.rules (asked_name w) set input)))))
 
 -- why words are not followed that read no file: those that ask for help, and those that are refused
 abbrev pub words_alone : List Bytes → Option Stop

@@ -10,7 +10,7 @@ ghost use Rattle.tmpl_tool.specs.View.{seen};
 ghost use Rattle.tmpl_tool.specs.computed.Load.{finished};
 
 use crate::messages::lines::out_of_memory;
-use crate::render::{put_out, render};
+use crate::render::{asked_name, put_out, render_named};
 use crate::status::Status;
 use crate::words::request::Request;
 use std::alloc::Global;
@@ -19,7 +19,7 @@ use tmpl_syntax::{Set, print_set};
 use tmpl_values::Data;
 
 /// Puts the printed set out.
-fn print<O: Sink, E: Sink>(alloc: Global, set: &Set, out: &mut O, err: &mut E) -> Status
+pub fn print<O: Sink, E: Sink>(alloc: Global, set: &Set, out: &mut O, err: &mut E) -> Status
     requires out { (O.so_far out.old).failures < 2 ^ 64 - 1 }
     requires err { (E.so_far err.old).failures < 2 ^ 64 - 1 }
     ensures counts { Counted (O.so_far out.old).failures (O.so_far out.new).failures result.code }
@@ -57,6 +57,7 @@ pub(crate) fn answer<O: Sink, E: Sink>(
     if request.print {
         print(alloc, set, out, err)
     } else {
-        render(alloc, request, set, data, out, err)
+        let name = asked_name(request);
+        render_named(alloc, &request.options, set, name, data, out, err)
     }
 }

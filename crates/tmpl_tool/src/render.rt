@@ -5,18 +5,18 @@ ghost use Rattle.tmpl_values.specs.View.{value_of};
 ghost use Rattle.tmpl_syntax.specs.View.{set_view};
 ghost use Rattle.tmpl_meaning.specs.Meaning.{Ran};
 ghost use Rattle.tmpl_meaning.specs.Sink.{Told, sunk};
+ghost use Rattle.tmpl_meaning.specs.View.{rules_of};
 ghost use Rattle.tmpl_engine.specs.Render.{IsRender};
 ghost use Rattle.tmpl_tool.specs.Outcome.{Counted, Once, Outcome};
-ghost use Rattle.tmpl_tool.specs.Tool.{answer_of, asked_name, only_text, unnamed};
+ghost use Rattle.tmpl_tool.specs.Tool.{answer_of, asked_name, named_run, only_text, unnamed};
 ghost use Rattle.tmpl_tool.specs.View.{seen};
-ghost use Rattle.tmpl_tool.specs.computed.Load.{rendered};
 
 use crate::messages::lines::{out_of_memory, run_failed, template_missing, write_failed};
 use crate::status::Status;
 use crate::words::request::Request;
 use std::alloc::Global;
-use tmpl_engine::RenderError;
-use tmpl_run::{Sink, put_all};
+use tmpl_engine::{RenderError, render};
+use tmpl_run::{Options, Sink, put_all};
 use tmpl_syntax::{Set, base_name};
 use tmpl_values::Data;
 
@@ -89,10 +89,14 @@ pub fn asked_name<'a>(request: &Request<'a>) -> &'a [u8]
 }
 
 /// Looks the name up, and runs its template.
-pub(crate) fn render<O: Sink, E: Sink>(
+///
+/// The text goes to the output, up to the end or the fault of the run, and what else there is to say to the error sink, as
+/// one line. Where a write fails or memory is refused the output is a beginning of the text.
+pub fn render_named<O: Sink, E: Sink>(
     alloc: Global,
-    request: &Request<'_>,
+    options: &Options,
     set: &Set,
+    name: &[u8],
     data: Option<&Data>,
     out: &mut O,
     err: &mut E,
@@ -101,13 +105,12 @@ pub(crate) fn render<O: Sink, E: Sink>(
     requires err { (E.so_far err.old).failures < 2 ^ 64 - 1 }
     ensures counts { Counted (O.so_far out.old).failures (O.so_far out.new).failures result.code }
     ensures cuts { Once (E.so_far err.old).failures (E.so_far err.new).failures }
-    ensures outcome { Outcome (answer_of (rendered (seen request.now) (set_view set.now)
+    ensures outcome { Outcome (answer_of (named_run (rules_of options.now) name.now (set_view set.now)
         (option_map (λ d. value_of d.now) «data».entry)))
         (sunk (O.so_far out.old) (O.so_far out.new))
         (sunk (E.so_far err.old) (E.so_far err.new))
         result.code }
 {
-    let name = asked_name(request);
-    let end = tmpl_engine::render(alloc, set, name, data, &request.options, out);
+    let end = render(alloc, set, name, data, options, out);
     tell_end(end, name, err)
 }

@@ -1,21 +1,18 @@
--- The stages of the command behind a stage, and what is said of a stop.
-use Rattle.std.specs.Prelude.{List, [], ◌∷◌, Option, Some, None, Result, Ok, codes, length}
-use Rattle.std.specs.Option.{ok_or}
+-- The stages of the command behind a stage, and where a run failed.
+use Rattle.std.specs.Prelude.{List, [], ◌∷◌, Option, Result, codes, length}
 use Rattle.tmpl_values.specs.Value.{Value}
-use Rattle.tmpl_syntax.specs.Set.{Template, tree_named}
-use Rattle.tmpl_meaning.specs.Meaning.{Ran, ran}
-use Rattle.tmpl_tool.specs.Outcome.{Answer}
+use Rattle.tmpl_syntax.specs.Set.{Template}
+use Rattle.tmpl_meaning.specs.Meaning.{Ran}
 use Rattle.tmpl_meaning.specs.declared.fault.RunFault.{RunFault}
 use Rattle.tmpl_tool.specs.Part.{Piece, number, plain, quoted}
 use Rattle.tmpl_tool.specs.Source.{Files}
-use Rattle.tmpl_tool.specs.Tool.{Failing, Parse, Stop, asked_name, data_found, loaded, only_line, or_stop, printed}
-use Rattle.tmpl_tool.specs.Tool.{stop_answer, stop_if, unnamed}
+use Rattle.tmpl_tool.specs.Tool.{Failing, Parse, Stop, asked_name, data_found, loaded, named_run, or_stop, printed}
+use Rattle.tmpl_tool.specs.Tool.{stop_if}
 use Rattle.tmpl_tool.specs.Words.{Wanted}
 
--- the name looked up, and the run
+-- the name that is asked for looked up, and the run
 abbrev pub rendered : Wanted → List Template → Option Value → Result Ran Stop
-rendered w set input = or_stop (ok_or (tree_named (asked_name w) set) (unnamed (asked_name w)))
-    (λ tree. Ok (ran w.rules set (asked_name w) tree input))
+rendered w set input = named_run w.rules (asked_name w) set input
 
 -- the set printed, or the name looked up and the run
 abbrev pub finished : Wanted → List Template → Option Value → Result Ran Stop
@@ -33,11 +30,6 @@ after_set files fails w set = or_stop (stop_if w.print (printed set)) (λ u. aft
 -- each FILE, and so on
 abbrev pub after_words : Parse → Files → Wanted → Failing → Result Ran Stop
 after_words parse files w fails = or_stop (loaded parse files fails 0 [] w.files) (after_set files fails w)
-
--- what is said of a stop, or of want of memory
-abbrev pub said_of : Option Stop → Answer
-said_of None = only_line 7 (plain (codes "out of memory") ∷ [])
-said_of (Some s) = stop_answer s
 
 -- where a run failed, as the line says it
 abbrev pub place_of : RunFault → List Piece

@@ -4,11 +4,11 @@ ghost use Rattle.tmpl_meaning.specs.Sink.{sunk};
 ghost use Rattle.tmpl_meaning.specs.View.{fault_seen};
 ghost use Rattle.tmpl_tool.specs.Outcome.{Once, Says, memory_line, write_line};
 ghost use Rattle.tmpl_tool.specs.Part.{line, plain};
-ghost use Rattle.tmpl_tool.specs.computed.Load.{place_of, said_of};
+ghost use Rattle.tmpl_tool.specs.computed.Load.{place_of};
 ghost use Rattle.tmpl_tool.specs.Tool.{call_text, fault_line};
 ghost use Rattle.tmpl_tool.specs.Tool.{bad_words, reason_text, stop_answer, unnamed};
 ghost use Rattle.tmpl_tool.specs.View.{pieces_of};
-ghost use Rattle.tmpl_tool.specs.Inputs.{refusal_seen, stop_seen};
+ghost use Rattle.tmpl_tool.specs.Inputs.{refusal_seen, said_of, stop_seen};
 ghost use Rattle.tmpl_syntax.specs.Fault.{reason_of};
 
 use crate::messages::part::{Part, put_line};
@@ -134,8 +134,8 @@ fn refuse_file<E: Sink>(err: &mut E, name: &str, why: &str, code: u8) -> Status
     Status { code }
 }
 
-/// Says why the program stops.
-pub(crate) fn refuse<E: Sink>(err: &mut E, stop: &Stop<'_>) -> Status
+/// Says why the command stops, and gives the status of that.
+pub fn refuse<E: Sink>(err: &mut E, stop: &Stop<'_>) -> Status
     requires { (E.so_far err.old).failures < 2 ^ 64 - 1 }
     ensures code { result.code ≡ (said_of (stop_seen stop.now)).status }
     ensures unlike { result.code ≢ 6 }

@@ -5,18 +5,18 @@ use Rattle.tmpl_meaning.specs.Sink.{sunk}
 use Rattle.tmpl_meaning.specs.View.{rules_of}
 use Rattle.tmpl_engine.specs.Render.{ran_named}
 use Rattle.tmpl_tool.specs.Tool.{answer_of}
-use Rattle.tmpl_tool.specs.View.{seen}
-use Rattle.tmpl_tool.proofs.RenderLemmas.{rendered-named}
+use Rattle.tmpl_tool.proofs.RenderLemmas.{ok_or-ran_named}
 use Rattle.tmpl_tool.proofs.StopLemmas.{outcome_as}
-use Rattle.tmpl_tool.proofs.render.render.Goals as goal
+use Rattle.tmpl_tool.proofs.render.render_named.Goals as goal
 
 pub returns-clause-outcome : goal.returns-clause-outcome
 returns-clause-outcome g c =
+    let rules = rules_of c.args.options.now in
+    let name = c.args.name.now in
     let set = set_view c.args.set.now in
     let input = option_map (λ d. value_of d.now) c.args.data in
-    let name = c.asked_name-name.result.now in
     let before = g.O.Sink.so_far c.args.out.now in
     let after = g.O.Sink.so_far c.render-end.new.out in
     outcome_as (sunk (g.E.Sink.so_far c.args.err.now) (g.E.Sink.so_far c.tell_end.new.err)) c.tell_end.result.code (sunk before after) _ _
-    (sym (ap answer_of (rendered-named (seen c.args.request.now) set input name c.asked_name-name.ensures)))
-    (c.tell_end.ensures.outcome (ran_named (rules_of c.args.request.now.options) set name input) before after c.render-end.ensures)
+    (sym (ap answer_of (ok_or-ran_named rules name set input)))
+    (c.tell_end.ensures.outcome (ran_named rules set name input) before after c.render-end.ensures)

@@ -1,0 +1,3 @@
+module tmpl
+
+go 1.17

@@ -1,0 +1,99 @@
+"""Templates of the language of Go's text/template over data in JSON: `render(files, name, data)`. By ctypes over libtmpl.so, which
+is looked for under the path LIBTMPL, beside this file, and where the system has its libraries."""
+import ctypes
+import json
+import os
+
+OK, FAULT, NOT_TEXT, REFUSED, DATA, FULL, MEMORY = 0, 1, 2, 4, 5, 6, 7
+MISSING_KEY = {"default": 0, "invalid": 1, "zero": 2, "error": 3}
+ROOM = 1 << 16  # bytes of text that are lent first
+
+
+class TemplateError(Exception):
+    """A render that did not end well: its `status` (FAULT, NOT_TEXT, REFUSED, DATA), its `line`, and the `text` before the fault."""
+
+    def __init__(self, status, line, text=b""):
+        super().__init__(line)
+        self.status, self.line, self.text = status, line, text
+
+
+class _File(ctypes.Structure):
+    _fields_ = [("name", ctypes.c_char_p), ("name_size", ctypes.c_size_t), ("bytes", ctypes.c_char_p), ("size", ctypes.c_size_t)]
+
+
+class _Settings(ctypes.Structure):
+    _fields_ = [("steps", ctypes.c_uint64), ("depth", ctypes.c_uint32), ("missing_key", ctypes.c_uint8), ("print", ctypes.c_uint8)]
+
+
+class _Buffer(ctypes.Structure):
+    _fields_ = [("bytes", ctypes.c_char_p), ("size", ctypes.c_size_t), ("taken", ctypes.c_size_t), ("needed", ctypes.c_size_t)]
+
+
+def _library():
+    beside = os.path.join(os.path.dirname(os.path.abspath(__file__)), "libtmpl.so")
+    it = ctypes.CDLL(os.environ.get("LIBTMPL") or (beside if os.path.exists(beside) else "libtmpl.so.0"))
+    text = (ctypes.c_char_p, ctypes.c_size_t)
+    buffers = (ctypes.POINTER(_Buffer), ctypes.POINTER(_Buffer))
+    it.tmpl_render.restype = ctypes.c_uint8
+    it.tmpl_render.argtypes = [ctypes.POINTER(_Settings), ctypes.POINTER(_File), ctypes.c_size_t, *text, *text, *buffers]
+    return it
+
+
+_LIBRARY = _library()
+
+
+def _encoded(it):
+    return it.encode("utf-8", "surrogateescape") if isinstance(it, str) else bytes(it)
+
+
+def _json(data):
+    """The bytes of the data: bytes as they are, nothing for None, and the JSON of anything else."""
+    return b"" if data is None else bytes(data) if isinstance(data, (bytes, bytearray)) else json.dumps(data).encode()
+
+
+class _Lent:
+    """Memory for output."""
+
+    def __init__(self, size):
+        self.memory = ctypes.create_string_buffer(max(size, 1))
+        self.buffer = _Buffer(ctypes.cast(self.memory, ctypes.c_char_p), size, 0, 0)
+
+    def output(self):
+        return self.memory[: self.buffer.taken]
+
+    def is_cut(self):
+        return self.buffer.taken < self.buffer.needed
+
+
+def render_into(files, name, data, settings, size, line_size):
+    """One call: its status, and the memory that holds its text and its line."""
+    held = [(_encoded(path), _encoded(what)) for path, what in (files.items() if hasattr(files, "items") else files)]
+    array = (_File * max(len(held), 1))(*[_File(path, len(path), what, len(what)) for path, what in held])
+    name = _encoded(held[0][0].rpartition(b"/")[2] if name is None and held else name or b"")
+    out, err = _Lent(size), _Lent(line_size)
+    status = _LIBRARY.tmpl_render(settings, array, len(held), name, len(name), data, len(data), out.buffer, err.buffer)
+    return status, out, err
+
+
+def render_bytes(files, name=None, data=None, missing_key="default", depth=0, steps=0, printed=False):
+    """What `render` gives, as bytes, which need be no text."""
+    settings, data = _Settings(steps, depth, MISSING_KEY[missing_key], int(printed)), _json(data)
+    size, line_size = ROOM, ROOM
+    while True:
+        status, out, err = render_into(files, name, data, settings, size, line_size)
+        if status == MEMORY:
+            raise MemoryError(err.output().decode("utf-8", "replace").rstrip("\n"))
+        if status == OK:
+            return out.output()
+        if status != FULL and not err.is_cut():
+            raise TemplateError(status, err.output().decode("utf-8", "replace").rstrip("\n"), out.output())
+        size, line_size = max(size, out.buffer.needed), max(line_size, err.buffer.needed)
+
+
+def render(files, name=None, data=None, **options):
+    """The text of the template of this name: by default that of the first file.
+
+    `files` are pairs of a path and what the file holds, or a dict of them; `data` is JSON as bytes, None for no data, or a value that
+    json.dumps takes. Options: missing_key ("default", "invalid", "zero", "error"), depth, steps (0 for the defaults), and printed=True
+    for the printed set. Raises TemplateError, and MemoryError where memory is refused."""
+    return render_bytes(files, name, data, **options).decode("utf-8", "replace")

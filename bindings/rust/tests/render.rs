@@ -1,0 +1,50 @@
+//! The crate over the library: texts, errors, and memory that is too small.
+use tmpl::{render, render_into, Extent, Settings};
+
+const HELLO: &[(&str, &[u8])] = &[("hello.tmpl", b"Hello, {{.name}}!")];
+
+#[test]
+fn renders() {
+    let text = render(HELLO, "hello.tmpl", br#"{"name": "Ada"}"#, &Settings::default());
+    assert_eq!(text.as_deref(), Ok(b"Hello, Ada!".as_slice()));
+}
+
+#[test]
+fn renders_more_than_is_lent_first() {
+    let files: &[(&str, &[u8])] = &[("m", b"{{range 100000}}{{printf \"%6d\" .}}{{end}}")];
+    let text = render(files, "m", b"", &Settings::default()).unwrap();
+    let wanted: String = (0..100_000).map(|number| format!("{number:6}")).collect();
+    assert_eq!(text, wanted.into_bytes());
+}
+
+#[test]
+fn tells_a_fault() {
+    let files: &[(&str, &[u8])] = &[("m", b"before {{.a.b}}")];
+    let error = render(files, "m", br#"{"a": 1}"#, &Settings::default()).unwrap_err();
+    assert_eq!(error.status, 1);
+    assert_eq!(error.to_string(), "tmpl: m:1: in \"m\": no field \"b\" here");
+    assert_eq!(error.text, b"before ");
+}
+
+#[test]
+fn takes_settings() {
+    let settings = Settings { missing_key: 3, ..Settings::default() };
+    let error = render(HELLO, "hello.tmpl", b"{}", &settings).unwrap_err();
+    assert_eq!(error.line, "tmpl: hello.tmpl:1: in \"hello.tmpl\": no entry for key \"name\"\n");
+    let printed = render(HELLO, "", b"", &Settings { print: 1, ..Settings::default() }).unwrap();
+    assert_eq!(printed, b"{{define \"hello.tmpl\"}}Hello, {{.name}}!{{end}}\n");
+}
+
+#[test]
+fn tells_the_room_that_is_needed() {
+    let (mut out, mut line) = ([0; 4], [0; 0]);
+    let (status, text, said) = render_into(HELLO, "hello.tmpl", br#"{"name": "Ada"}"#, &Settings::default(), &mut out, &mut line);
+    assert_eq!((status, text, said), (6, Extent { taken: 4, needed: 11 }, Extent { taken: 0, needed: 19 }));
+    assert_eq!(&out, b"Hell");
+}
+
+#[test]
+fn renders_nothing_of_nothing() {
+    assert_eq!(render(&[("m", b"")], "m", b"", &Settings::default()), Ok(Vec::new()));
+    assert_eq!(render(&[], "", b"", &Settings::default()).unwrap_err().status, 4);
+}

@@ -1,0 +1,78 @@
+-- For `fill`: what was gathered is what a call comes to, as far as no memory was refused.
+use Rattle.std.proofs.Common.{◌≡◌, ◌≢◌, ◌∙◌, ◌+◌, ◌++◌, ◌<◌, ◌≤◌, ℕ, Bool, true, false, List, [], Option, Some, ap, arith, length, refl, subst, sym, inl, inr}
+use Rattle.std.specs.Prelude.{if◌then◌else◌}
+use Rattle.std.proofs.lemmas.Bool.{le-leb, lt-leb}
+use Rattle.std.proofs.lemmas.List.{append-nil}
+use Rattle.tmpl_values.specs.Put.{Begins}
+use Rattle.tmpl_meaning.specs.Sink.{Sunk, Told, Whole, sunk}
+use Rattle.tmpl_tool.specs.Outcome.{Answer, BegunIf, Outcome, Says, memory_line, write_line}
+use Rattle.tmpl_tool.specs.Source.{Bytes}
+use Rattle.tmpl_c.specs.Filled.{Fills, Rendered, Seen, fits}
+
+abbrev pub holding : Bytes → ℕ → Told
+holding bytes failures = record { bytes = Some bytes; failures = failures }
+
+some_same : (xs ys : Bytes) → Some xs ≡ Some ys → xs ≡ ys
+some_same xs ys e = cc
+
+-- one failure is not none
+one : (n : ℕ) → n ≡ 0 + 1 → n ≢ 0
+one n e h = omega (arith, e, h)
+
+-- what was put begins the text
+outcome_front : (a : Answer) (all : Bytes) (f : ℕ) (err : Sunk) (code : ℕ) → Outcome a (sunk (holding [] 0) (holding all f)) err code
+    → (rest : Bytes) × (a.text ≡ all ++ rest)
+outcome_front a all f err code (inl exact) = ([], sym (append-nil all ∙ some_same all a.text exact.0.bytes))
+outcome_front a all f err code (inr (inl cut)) =
+    let begins = cut.0.bytes in
+    (begins.1, begins.2 ∙ ap (λ (xs : Bytes). xs ++ begins.1) (sym (some_same all begins.0 begins.3)))
+outcome_front a all f err code (inr (inr refused)) = from a.made_text refused.0
+  where
+    from : (made : Bool) → BegunIf made a.text (sunk (holding [] 0) (holding all f)) → (rest : Bytes) × (a.text ≡ all ++ rest)
+    from true h = (h.1.1, h.1.2 ∙ ap (λ (xs : Bytes). xs ++ h.1.1) (sym (some_same all h.1.0 h.1.3)))
+    from false h = (a.text, ap (λ (xs : Bytes). xs ++ a.text) (sym (some_same all [] h.1)))
+
+-- where no memory was refused it is all of it, and so is the line
+outcome_exact : (a : Answer) (all line : Bytes) (f g code : ℕ) → Outcome a (sunk (holding [] 0) (holding all f)) (sunk (holding [] 0) (holding line g)) code
+    → (code ≢ 7) × (f ≡ 0) × (g ≡ 0) → (all ≡ a.text) × (line ≡ a.line) × (code ≡ a.status)
+outcome_exact a all line f g code (inl (out, is, inl err)) fine = (some_same all a.text out.bytes, some_same line a.line err.bytes, is)
+outcome_exact a all line f g code (inl (out, is, inr err)) fine = absurd (one g err.count fine.2)
+outcome_exact a all line f g code (inr (inl cut)) fine = absurd (one f cut.0.count fine.1)
+outcome_exact a all line f g code (inr (inr refused)) fine = absurd (fine.0 refused.1)
+
+module _ (a : Answer) (all line start line_start : Bytes) (f g code : ℕ) (nothing : start ≡ []) (no_line : line_start ≡ [])
+    (o : Outcome a (sunk (holding start 0) (holding all f)) (sunk (holding line_start 0) (holding line g)) code)
+    (room line_room : ℕ) (out err : Seen) (puts : Fills all room out) where
+  from_empty : Outcome a (sunk (holding [] 0) (holding all f)) (sunk (holding [] 0) (holding line g)) code
+  from_empty = subst (λ (x : Bytes × Bytes). Outcome a (sunk (holding x.0 0) (holding all f)) (sunk (holding x.1 0) (holding line g)) code) (λ i. (nothing i, no_line i)) o
+
+  -- memory was refused
+  pub refused_rendered : Fills memory_line line_room err → Rendered a room out line_room err 7
+  refused_rendered says =
+      let front = outcome_front a all f _ code from_empty in
+      inr ((all, front.0, front.1, puts), says, refl)
+
+  module _ (fine : (code ≢ 7) × (f ≡ 0) × (g ≡ 0)) where
+    is : (all ≡ a.text) × (line ≡ a.line) × (code ≡ a.status)
+    is = outcome_exact a all line f g code from_empty fine
+
+    fills_text : Fills a.text room out
+    fills_text = subst (λ (t : Bytes). Fills t room out) is.0 puts
+
+    -- the text does not fit
+    pub full_rendered : room < length all → Fills write_line line_room err → Rendered a room out line_room err 6
+    full_rendered more says =
+        let same : length all ≡ length a.text = ap length is.0 in
+        let no : fits room a ≡ false = lt-leb (length a.text) room (omega (arith, same, more)) in
+        inl (fills_text, subst (λ (b : Bool). Fills (if b then a.line else write_line) line_room err) (sym no) says, ap (λ (b : Bool). if b then a.status else 6) (sym no))
+
+    -- it fits
+    pub exact_rendered : length all ≤ room → Fills line line_room err → Rendered a room out line_room err code
+    exact_rendered most says =
+        let same : length all ≡ length a.text = ap length is.0 in
+        let yes : fits room a ≡ true = le-leb (length a.text) room (omega (arith, same, most)) in
+        inl (
+          fills_text,
+          subst (λ (b : Bool). Fills (if b then a.line else write_line) line_room err) (sym yes) (subst (λ (l : Bytes). Fills l line_room err) is.1 says),
+          is.2 ∙ ap (λ (b : Bool). if b then a.status else 6) (sym yes),
+        )

@@ -1,0 +1,3 @@
+mod GatherLemmas
+mod LawLemmas
+mod LentLemmas

@@ -1,0 +1,54 @@
+-- What is seen of the lent memory and the status, where a call comes to an end.
+use Rattle.std.specs.Prelude.{◌≡◌, ◌⊎◌, ◌++◌, ℕ, Bool, leb, length, take, if◌then◌else◌}
+use Rattle.tmpl_tool.specs.Outcome.{Answer, memory_line, write_line}
+use Rattle.tmpl_tool.specs.Source.{Bytes}
+use Rattle.tmpl_c.specs.declared.buffer.Buffer.{Buffer}
+
+-- memory, how many bytes of it hold output, and how many the output has
+pub record Seen : Type 0 where
+  pub memory : Bytes
+  pub taken : ℕ
+  pub needed : ℕ
+
+abbrev pub seen : Buffer → Seen
+seen b = record { memory = b.bytes.now; taken = b.taken; needed = b.needed }
+
+abbrev pub room : Buffer → ℕ
+room b = length b.bytes.now
+
+-- the memory begins with these bytes, or with as many of them as there is room for
+pub record Shows (bytes : Bytes) (room : ℕ) (s : Seen) : Type 0 where
+  pub taken : s.taken ≡ length (take room bytes)
+  pub memory : take s.taken s.memory ≡ take room bytes
+
+-- .. and how many they are is told
+abbrev pub Fills : Bytes → ℕ → Seen → Type 0
+Fills bytes room s = Shows bytes room s × (s.needed ≡ length bytes)
+
+-- the text has room
+abbrev pub fits : ℕ → Answer → Bool
+fits room a = leb (length a.text) room
+
+-- the line and the status: where the text has no room those of a write that failed, whatever else went wrong
+abbrev pub line_in : ℕ → Answer → Bytes
+line_in room a = if fits room a then a.line else write_line
+
+abbrev pub status_in : ℕ → Answer → ℕ
+status_in room a = if fits room a then a.status else 6
+
+abbrev pub Exact : Answer → ℕ → Seen → ℕ → Seen → ℕ → Type 0
+Exact a room out line_room err code =
+    Fills a.text room out × Fills (line_in room a) line_room err × (code ≡ status_in room a)
+
+-- of a beginning of these bytes
+abbrev pub FillsFront : Bytes → ℕ → Seen → Type 0
+FillsFront bytes room s = (front : Bytes) × (rest : Bytes) × (bytes ≡ front ++ rest) × Fills front room s
+
+-- memory was refused: a beginning of the text, and the line of that
+abbrev pub Refused : Answer → ℕ → Seen → ℕ → Seen → ℕ → Type 0
+Refused a room out line_room err code =
+    FillsFront a.text room out × Fills memory_line line_room err × (code ≡ 7)
+
+-- the answer, as far as there is room for it, unless memory was refused
+abbrev pub Rendered : Answer → ℕ → Seen → ℕ → Seen → ℕ → Type 0
+Rendered a room out line_room err code = Exact a room out line_room err code ⊎ Refused a room out line_room err code

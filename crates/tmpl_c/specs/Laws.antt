@@ -1,0 +1,96 @@
+-- Laws of the library: its stages, and that it answers as the command does.
+use Rattle.std.specs.Prelude.{◌≡◌, ◌≢◌, ◌⊎◌, Bool, true, false, List, [], ◌∷◌, ◌++◌, Option, Some, None, Ok, Err, codes}
+use Rattle.std.specs.Str.{is_utf8}
+use Rattle.tmpl_values.specs.Json.{Flaw}
+use Rattle.tmpl_values.specs.Value.{Value}
+use Rattle.tmpl_syntax.specs.Parse.{Refusal}
+use Rattle.tmpl_syntax.specs.Tree.{Tree}
+use Rattle.tmpl_syntax.specs.Set.{Template, tree_named}
+use Rattle.tmpl_meaning.specs.Meaning.{Rules, ran}
+use Rattle.tmpl_tool.specs.Outcome.{Answer}
+use Rattle.tmpl_tool.specs.Source.{Bytes, Files}
+use Rattle.tmpl_tool.specs.Tool.{Parse, Stop, asked_by, asked_name, bad_words, flawed, no_read, printed, refused}
+use Rattle.tmpl_tool.specs.Tool.{run_answer, stop_answer, tool_answer, unnamed}
+use Rattle.tmpl_tool.specs.Words.{Wanted}
+use Rattle.tmpl_c.specs.Lent.{data_lent, each_added, lent_answer, render_answer}
+
+-- ---- the stages
+
+-- the first file whose name is no text, behind files that are accepted, is the end, with status 2, whatever follows it
+abbrev pub RefusesName : Type 0
+RefusesName = (parse : Parse) (rules : Rules) (print : Bool) (name input : Bytes)
+    → (before : List (Bytes × Bytes)) (f : Bytes × Bytes) (behind : List (Bytes × Bytes))
+    → (set : List Template) → each_added parse [] before ≡ Ok set
+    → is_utf8 f.0 ≡ false
+    → render_answer parse rules print (before ++ f ∷ behind) name input ≡ stop_answer bad_words
+
+-- .. and so is the first file that is refused, with status 4
+abbrev pub StopsAtFile : Type 0
+StopsAtFile = (parse : Parse) (rules : Rules) (print : Bool) (name input : Bytes)
+    → (before : List (Bytes × Bytes)) (f : Bytes × Bytes) (behind : List (Bytes × Bytes))
+    → (set : List Template) → each_added parse [] before ≡ Ok set
+    → is_utf8 f.0 ≡ true → (r : Refusal) → parse set f.0 f.1 ≡ Err r
+    → render_answer parse rules print (before ++ f ∷ behind) name input ≡ stop_answer (refused f.0 r)
+
+-- where every file is accepted, a set that is to be printed is put out, with status 0, whatever name and data are
+abbrev pub Prints : Type 0
+Prints = (parse : Parse) (rules : Rules) (files : List (Bytes × Bytes)) (name input : Bytes)
+    → (set : List Template) → each_added parse [] files ≡ Ok set
+    → render_answer parse rules true files name input ≡ stop_answer (printed set)
+
+-- else data that is refused is the end, with status 5
+abbrev pub StopsAtData : Type 0
+StopsAtData = (parse : Parse) (rules : Rules) (files : List (Bytes × Bytes)) (name input : Bytes)
+    → (set : List Template) → each_added parse [] files ≡ Ok set
+    → (stop : Stop) → data_lent (codes "data") input ≡ Err stop
+    → render_answer parse rules false files name input ≡ stop_answer stop
+
+-- then a name that no template has is, with status 4
+abbrev pub StopsAtTemplate : Type 0
+StopsAtTemplate = (parse : Parse) (rules : Rules) (files : List (Bytes × Bytes)) (name input : Bytes)
+    → (set : List Template) → each_added parse [] files ≡ Ok set
+    → (value : Option Value) → data_lent (codes "data") input ≡ Ok value
+    → tree_named name set ≡ None
+    → render_answer parse rules false files name input ≡ stop_answer (unnamed name)
+
+-- and else it is the run of the template of that name, with status 0, or 1 where the run has a fault
+abbrev pub Runs : Type 0
+Runs = (parse : Parse) (rules : Rules) (files : List (Bytes × Bytes)) (name input : Bytes)
+    → (set : List Template) → each_added parse [] files ≡ Ok set
+    → (value : Option Value) → data_lent (codes "data") input ≡ Ok value
+    → (tree : Tree) → tree_named name set ≡ Some tree
+    → render_answer parse rules false files name input ≡ run_answer (ran rules set name tree value)
+
+-- ---- as the command
+
+-- the files of these names, which are texts, are lent as they stand
+abbrev pub LendsFiles : Files → List Bytes → List (Bytes × Bytes) → Type 0
+LendsFiles files [] [] = Unit {0}
+LendsFiles files (name ∷ names) (f ∷ fs) =
+    (f.0 ≡ name) × (is_utf8 f.0 ≡ true) × (files name ≡ Some f.1) × LendsFiles files names fs
+LendsFiles files [] (f ∷ fs) = ⊥
+LendsFiles files (name ∷ names) [] = ⊥
+
+-- .. and so is the data, if a file of it is named, which may not be empty
+abbrev pub LendsData : Files → Option Bytes → Bytes → Bytes → Type 0
+LendsData files None called input = input ≡ []
+LendsData files (Some name) called input = (called ≡ name) × (files name ≡ Some input) × (input ≢ [])
+
+-- over the same files, data, options and name it is the answer of the command, where its lines call the data as the words do
+abbrev pub AnswersAsCommand : Type 0
+AnswersAsCommand = (parse : Parse) (words : List Bytes) (files : Files) (w : Wanted) → asked_by words ≡ Ok w
+    → (lent : List (Bytes × Bytes)) → LendsFiles files w.files lent
+    → (called input : Bytes) → LendsData files w.data_file called input
+    → lent_answer called parse w.rules w.print lent (asked_name w) input ≡ tool_answer parse words files no_read
+
+-- the lines are the same, or data is refused, and they call it so and so
+abbrev pub SameBut : Bytes → Bytes → Answer → Answer → Type 0
+SameBut one other a b = (a ≡ b)
+    ⊎ ((flaw : Flaw) × (a ≡ stop_answer (flawed one flaw)) × (b ≡ stop_answer (flawed other flaw)))
+
+-- text and status do not depend on what lines call the data, and no line does but that of data that is refused
+abbrev pub AnswersButForName : Type 0
+AnswersButForName = (one other : Bytes) (parse : Parse) (rules : Rules) (print : Bool) (files : List (Bytes × Bytes))
+    (name input : Bytes) → let a = lent_answer one parse rules print files name input in
+    let b = lent_answer other parse rules print files name input in
+    (a.text ≡ b.text) × (a.status ≡ b.status) × SameBut one other a b

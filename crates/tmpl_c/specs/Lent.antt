@@ -1,0 +1,68 @@
+-- The engine as one function of what the caller lends.
+use Rattle.std.specs.Prelude.{ℕ, Bool, not, List, [], ◌∷◌, Option, None, Result, Ok, codes, eqb, ltb, map, if◌then◌else◌}
+use Rattle.std.specs.Str.{is_utf8}
+use Rattle.tmpl_values.specs.Value.{Value}
+use Rattle.tmpl_syntax.specs.Set.{Template}
+use Rattle.tmpl_meaning.specs.Meaning.{Rules}
+use Rattle.tmpl_meaning.specs.declared.missing_key.MissingKey.{MissingKey}
+use Rattle.tmpl_meaning.specs.declared.missing_key.MissingKey.TheVariants.{Default, Invalid, Zero, Error}
+use Rattle.tmpl_tool.specs.Outcome.{Answer}
+use Rattle.tmpl_tool.specs.Source.{Bytes}
+use Rattle.tmpl_tool.specs.Tool.{Parse, Stop, added, answer_of, bad_words, data_in, named_run, or_stop, printed, stop_if}
+use Rattle.tmpl_c.specs.declared.lent.File.{File}
+use Rattle.tmpl_c.specs.declared.settings.Settings.{Settings}
+
+-- ---- what is lent
+
+-- a file as its name and its bytes
+abbrev pub pair_of : File → Bytes × Bytes
+pair_of f = (f.name.now, f.bytes.now)
+
+abbrev pub pairs_of : List File → List (Bytes × Bytes)
+pairs_of files = map pair_of files
+
+-- ---- the settings
+
+abbrev pub mode_numbered : ℕ → MissingKey
+mode_numbered n = if eqb n 1 then Invalid else (if eqb n 2 then Zero else (if eqb n 3 then Error else Default))
+
+-- the number, or the default for 0, or the most
+abbrev pub limit : ℕ → ℕ → ℕ → ℕ
+limit default most n = if eqb n 0 then default else (if ltb most n then most else n)
+
+abbrev pub rules_in : Settings → Rules
+rules_in s = record {
+  missing_key = mode_numbered s.missing_key;
+  step_limit = limit 1000000000 4611686018427387904 s.steps;
+  depth_limit = limit 1000 100000 s.depth;
+}
+
+-- ---- the stages
+
+-- the set with the templates of one more file, whose name has to be a text
+abbrev pub with_lent : Parse → List Template → Bytes × Bytes → Result (List Template) Stop
+with_lent parse set f = or_stop (stop_if (not (is_utf8 f.0)) bad_words) (λ u. added parse set f.0 f.1)
+
+-- each file in turn
+abbrev pub each_added : Parse → List Template → List (Bytes × Bytes) → Result (List Template) Stop
+each_added parse set [] = Ok set
+each_added parse set (f ∷ fs) = or_stop (with_lent parse set f) (λ s. each_added parse s fs)
+
+-- the data, which lines call so; none where there are no bytes
+abbrev pub data_lent : Bytes → Bytes → Result (Option Value) Stop
+data_lent called [] = Ok None
+data_lent called (b ∷ bs) = data_in called (b ∷ bs)
+
+-- ---- the function
+
+-- what a call comes to: each file, the printed set or else the data, the name, and the run
+abbrev pub lent_answer : Bytes → Parse → Rules → Bool → List (Bytes × Bytes) → Bytes → Bytes → Answer
+lent_answer called parse rules print files name input = answer_of
+    (or_stop (each_added parse [] files) (λ set.
+    or_stop (stop_if print (printed set)) (λ u.
+    or_stop (data_lent called input) (λ v.
+    named_run rules name set v))))
+
+-- lines call the data so
+abbrev pub render_answer : Parse → Rules → Bool → List (Bytes × Bytes) → Bytes → Bytes → Answer
+render_answer = lent_answer (codes "data")

@@ -1,0 +1,4 @@
+pub mod computed
+pub mod Filled
+pub mod Laws
+pub mod Lent

@@ -1,0 +1,4 @@
+-- What private contracts alone cite.
+pub mod Extents
+pub mod Gathering
+pub mod Load

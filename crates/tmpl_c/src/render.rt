@@ -1,0 +1,158 @@
+//! A render into lent memory.
+ghost use Rattle.std.specs.Prelude.{◌≡◌, ◌≢◌, ◌<◌, ◌^◌, ◌-◌, eqb, false, length};
+ghost use Rattle.tmpl_meaning.specs.Sink.{sunk};
+ghost use Rattle.tmpl_tool.specs.Outcome.{Outcome, memory_line, write_line};
+ghost use Rattle.tmpl_tool.specs.Tool.{IsParse, Parse};
+ghost use Rattle.tmpl_c.specs.Filled.{Fills, Rendered};
+ghost use Rattle.tmpl_c.specs.Lent.{pairs_of, render_answer, rules_in};
+ghost use Rattle.tmpl_c.specs.computed.Extents.{extent_seen};
+ghost use Rattle.tmpl_c.specs.computed.Gathering.{told_of};
+
+use crate::gathered::Gathered;
+use crate::lent::File;
+use crate::load::{add_files, read_data, tell};
+use crate::settings::{Settings, options_in};
+use std::alloc::Global;
+use tmpl_syntax::Set;
+use tmpl_tool::{print, render_named};
+
+/// The line where the text does not fit.
+static FULL: &[u8] = b"tmpl: write failed\n";
+
+/// The line where memory was refused, which is there when none can be had.
+static REFUSED: &[u8] = b"tmpl: out of memory\n";
+
+/// How much output lent memory holds, and how much there is.
+#[derive(Clone, Copy, Debug)]
+pub(crate) struct Extent {
+    pub(crate) taken: usize,
+    pub(crate) needed: usize,
+}
+
+/// What a render came to.
+#[derive(Clone, Copy, Debug)]
+pub(crate) struct Filled {
+    pub(crate) status: u8,
+    pub(crate) text: Extent,
+    pub(crate) line: Extent,
+}
+
+/// Renders the template of this name to two sinks.
+fn render_to(
+    alloc: Global,
+    settings: &Settings,
+    files: &[File<'_>],
+    name: &[u8],
+    input: &[u8],
+    out: &mut Gathered,
+    err: &mut Gathered,
+) -> u8
+    requires out { out.old.failures < 2 ^ 64 - 1 }
+    requires err { err.old.failures < 2 ^ 64 - 1 }
+    ensures outcome { (parse : Parse) → IsParse parse → Outcome
+        (render_answer parse (rules_in settings.now) (eqb settings.now.print 1) (pairs_of files.now) name.now input.now)
+        (sunk (told_of out.old) (told_of out.new)) (sunk (told_of err.old) (told_of err.new)) result }
+{
+    let mut set = Set::new(alloc);
+    match add_files(alloc, &mut set, files) {
+        Ok(()) => {}
+        Err(why) => return tell(err, &why),
+    }
+    if settings.print == 1 {
+        return print(alloc, &set, out, err).code;
+    }
+    let data = match read_data(alloc, input) {
+        Ok(data) => data,
+        Err(why) => return tell(err, &why),
+    };
+    render_named(
+        alloc,
+        &options_in(settings),
+        &set,
+        name,
+        data.as_ref(),
+        out,
+        err,
+    )
+    .code
+}
+
+/// Whether memory was refused, by the status or by a sink.
+fn is_refused(code: u8, text: &Gathered, line: &Gathered) -> bool
+    ensures { result ≡ false → (code ≢ 7) × (text.now.failures ≡ 0) × (line.now.failures ≡ 0) }
+{
+    code == 7 || text.failures != 0 || line.failures != 0
+}
+
+/// Copies as many of the bytes to memory as there is room for.
+fn copy_to(memory: &mut [u8], bytes: &[u8]) -> Extent
+    ensures { Fills bytes.now (length memory.old) (extent_seen memory.new result) }
+{
+    let taken = memory.len().min(bytes.len());
+    memory[..taken].copy_from_slice(&bytes[..taken]);
+    Extent {
+        taken,
+        needed: bytes.len(),
+    }
+}
+
+/// Says in lent memory that a text does not fit.
+fn say_full(err: &mut [u8]) -> Extent
+    ensures { Fills write_line (length err.old) (extent_seen err.new result) }
+{
+    copy_to(err, FULL)
+}
+
+/// Says in lent memory that memory was refused.
+fn say_refused(err: &mut [u8]) -> Extent
+    ensures { Fills memory_line (length err.old) (extent_seen err.new result) }
+{
+    copy_to(err, REFUSED)
+}
+
+/// Renders into lent memory, and says why the text is not all there.
+pub(crate) fn fill(
+    alloc: Global,
+    settings: &Settings,
+    files: &[File<'_>],
+    name: &[u8],
+    input: &[u8],
+    out: &mut [u8],
+    err: &mut [u8],
+) -> Filled
+    ensures { (parse : Parse) → IsParse parse → Rendered
+        (render_answer parse (rules_in settings.now) (eqb settings.now.print 1) (pairs_of files.now) name.now input.now)
+        (length out.old) (extent_seen out.new result.text) (length err.old) (extent_seen err.new result.line)
+        result.status }
+{
+    let mut text = Gathered {
+        bytes: Vec::new(alloc),
+        failures: 0,
+    };
+    let mut line = Gathered {
+        bytes: Vec::new(alloc),
+        failures: 0,
+    };
+    let code = render_to(alloc, settings, files, name, input, &mut text, &mut line);
+    let room = out.len();
+    let put = copy_to(out, text.bytes.as_slice());
+    if is_refused(code, &text, &line) {
+        return Filled {
+            status: 7,
+            text: put,
+            line: say_refused(err),
+        };
+    }
+    if room < text.bytes.len() {
+        return Filled {
+            status: 6,
+            text: put,
+            line: say_full(err),
+        };
+    }
+    Filled {
+        status: code,
+        text: put,
+        line: copy_to(err, line.bytes.as_slice()),
+    }
+}

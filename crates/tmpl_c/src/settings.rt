@@ -1,0 +1,57 @@
+//! How a template is to be run.
+ghost use Rattle.std.specs.Prelude.{◌≡◌, ◌≤◌};
+ghost use Rattle.tmpl_meaning.specs.View.{rules_of};
+ghost use Rattle.tmpl_c.specs.Lent.{limit, mode_numbered, rules_in};
+
+use tmpl_run::{MissingKey, Options};
+
+/// How a template is to be run. All zeros ask for the defaults.
+#[repr(C)]
+#[derive(Clone, Copy, Debug)]
+pub struct Settings {
+    /// How many steps a run may take; 0 for 1,000,000,000.
+    pub steps: u64,
+    /// How deep calls may go; 0 for 1,000, and 100,000 for more than that.
+    pub depth: u32,
+    /// 0 default, 1 invalid, 2 zero, 3 error; any other number is the default.
+    pub missing_key: u8,
+    /// 1 to print the set, and run nothing.
+    pub print: u8,
+}
+
+/// The mode for missing keys that has this number.
+fn mode_numbered(number: u8) -> MissingKey
+    ensures { result ≡ mode_numbered number }
+{
+    match number {
+        1 => MissingKey::Invalid,
+        2 => MissingKey::Zero,
+        3 => MissingKey::Error,
+        _ => MissingKey::Default,
+    }
+}
+
+/// The number, or the default for 0, or the most.
+fn limit(default: u64, most: u64, number: u64) -> u64
+    requires { (1 ≤ default) × (default ≤ most) }
+    ensures value { result ≡ limit default most number }
+    ensures least { 1 ≤ result }
+    ensures most { result ≤ most }
+{
+    if number == 0 {
+        default
+    } else {
+        number.min(most)
+    }
+}
+
+/// The options of a run.
+pub(crate) fn options_in(settings: &Settings) -> Options
+    ensures { rules_of result ≡ rules_in settings.now }
+{
+    Options {
+        missing_key: mode_numbered(settings.missing_key),
+        depth: limit(1000, 100_000, settings.depth as u64) as u32,
+        steps: limit(1_000_000_000, 4_611_686_018_427_387_904, settings.steps),
+    }
+}

@@ -1,0 +1,332 @@
+"""Tries the engine as a C library, bindings/out/libtmpl.so and libtmpl.a, which `make lib` builds of what was proved. The rows of
+tests/rows that need no words and no files of the system go through one call each, by the Python wrapper, and through its `render_bytes`:
+text, line and status must be those of the row, but that lines call the data `data`. Rows with short texts and lines are called with room of
+each size. tests/library.c refuses each allocation of calls in turn, runs two threads, and runs under valgrind where that is there. The
+header is compiled as C and as C++, what is installed is used by pkg-config, and the programs of docs/EMBEDDING.md for C and Python are run.
+With --bindings it runs those for Go and Rust, and the tests of these two bindings, where Go and Cargo are installed, and nothing else."""
+import json
+import os
+import re
+import shutil
+import subprocess
+import sys
+import tempfile
+
+import harness
+
+BINDINGS = f"{harness.TOP}/bindings"
+OUT = f"{BINDINGS}/out"
+LEAST = 1400  # rows
+SIZES = 24  # bytes up to which texts and lines are called with room of each size
+LEAST_SIZES = 25000  # calls for that
+LEAST_CASES = 500  # of tests/library.c
+GUARD = b"\xa5" * 8  # behind lent memory
+SWITCHES = {b"--data", b"--missingkey", b"--name", b"--depth", b"--steps"}
+BLOCK = re.compile(r"^```(c|python|go|rust)\n(.*?)^```\n+(?:It puts out\n+)?```text\n(.*?)^```$", re.MULTILINE | re.DOTALL)
+WARNINGS = ["-Wall", "-Wextra", "-pedantic", "-Werror"]
+
+
+def ran(*words, **how):
+    """The status and all output of a program."""
+    it = subprocess.run(words, stdin=subprocess.DEVNULL, stdout=subprocess.PIPE, stderr=subprocess.STDOUT, **how)
+    return it.returncode, it.stdout.decode(errors="replace")
+
+
+# ---- rows
+
+
+class Call:
+    """A row as one call."""
+
+    def __init__(self, row, files, name, data, settings, line):
+        self.row, self.files, self.name, self.data, self.settings, self.line = row, files, name, data, settings, line
+
+    def into(self, size, line_size):
+        return tmpl.render_into(self.files, self.name, self.data, tmpl._Settings(*self.settings), size, line_size)
+
+
+def options_of(words):
+    """The options as a dict, or none where a word is no option of a run."""
+    found, rest = {}, iter(words)
+    for word in rest:
+        key, is_joined, value = word.partition(b"=")
+        if key in SWITCHES:
+            found[key] = value if is_joined else next(rest)
+        elif word == b"--print":
+            found[word] = b""
+        else:
+            return None
+    return found
+
+
+def call_of(row):
+    """The call that a row is, or none where it needs words or files of the system."""
+    if row.status in (2, 3) or row.pipes or row.stdin is not None or row.stdout != "pipe" or row.stderr != "pipe":
+        return None
+    words, files, data = harness.parted(row.words)
+    options = options_of(words)
+    if options is None or b"-h" in row.words or b"--help" in row.words:
+        return None
+    held = [(name, row.files.get(os.fsdecode(name))) for name in files]
+    is_print = b"--print" in options
+    what = b"" if data is None or is_print else row.files.get(os.fsdecode(data))
+    if any(it is None for _, it in held) or what is None or (what == b"" and data is not None and not is_print):
+        return None  # no file is read, and no bytes are no data
+    name = options.get(b"--name", os.path.basename(files[0]))
+    mode = tmpl.MISSING_KEY[options.get(b"--missingkey", b"default").decode()]
+    settings = (int(options.get(b"--steps", 0)), int(options.get(b"--depth", 0)), mode, int(is_print))
+    line = row.err.replace(b"tmpl: " + data + b":", b"tmpl: data:", 1) if row.status == tmpl.DATA else row.err
+    return Call(row, held, name, what, settings, line)
+
+
+def judge(call):
+    """One call with room for all, and the same by the wrapper."""
+    row = call.row
+    status, out, err = call.into(len(row.out) + 1, len(call.line) + 1)
+    got, wanted = (status, out.output(), err.output()), (row.status, row.out, call.line)
+    needed = (out.buffer.needed, err.buffer.needed)
+    wrong = [f"    got {got[0]} {harness.short(got[1])} {harness.short(got[2])}"] if got != wanted else []
+    if needed != (len(row.out), len(call.line)):
+        wrong.append(f"    it says that it needs {needed}")
+    steps, depth, mode, is_print = call.settings
+    how = {"missing_key": list(tmpl.MISSING_KEY)[mode], "depth": depth, "steps": steps, "printed": bool(is_print)}
+    try:
+        came = (0, tmpl.render_bytes(call.files, call.name, call.data, **how), "")
+    except tmpl.TemplateError as error:
+        came = (error.status, error.text, error.line)
+    if came != (row.status, row.out, call.line.decode("utf-8", "replace").rstrip("\n")):
+        wrong.append(f"    the wrapper gives {came[0]} {harness.short(came[1])} {came[2]!r}")
+    return row.name, 1, wrong
+
+
+def guarded(size):
+    """Memory of so many bytes, with a guard behind it."""
+    lent = tmpl._Lent(size)
+    lent.memory = tmpl.ctypes.create_string_buffer(b"\xa5" * size + GUARD, size + len(GUARD))
+    lent.buffer.bytes = tmpl.ctypes.cast(lent.memory, tmpl.ctypes.c_char_p)
+    return lent
+
+
+def is_shown(lent, size, text):
+    """Whether memory of so many bytes holds as much of the text as it has room for, and the guard stands."""
+    taken = min(size, len(text))
+    whole = text[:taken] + b"\xa5" * (size - taken) + GUARD
+    return lent.memory.raw == whole and (lent.buffer.taken, lent.buffer.needed) == (taken, len(text))
+
+
+def judge_sizes(call):
+    """Calls with each size of room for the text, and then for the line: how many, and what is wrong of them."""
+    text, line, count, wrong = call.row.out, call.line, 0, []
+    sizes = [(size, 64) for size in range(len(text) + 2)] + [(len(text), size) for size in range(len(line) + 2)]
+    held, lent = tmpl._Lent, None
+    for size, line_size in sizes:
+        memory = iter([guarded(size), guarded(line_size)])
+        tmpl._Lent = lambda _: next(memory)
+        try:
+            status, out, err = call.into(size, line_size)
+        finally:
+            tmpl._Lent = held
+        fits = len(text) <= size
+        said = line if fits else b"tmpl: write failed\n"
+        wanted = call.row.status if fits else tmpl.FULL
+        if status != wanted or not is_shown(out, size, text) or not is_shown(err, line_size, said):
+            wrong.append(f"    room for {size} and {line_size}: {status} {out.memory.raw!r} {err.memory.raw!r}")
+        count += 1
+    return f"{call.row.name}, each size", count, wrong
+
+
+def judge_names():
+    """Names that are no UTF-8: of a file, and of a template."""
+    settings = tmpl._Settings()
+    refused = (2, b"", b"tmpl: arguments refused; see tmpl --help\n")
+    cases = [
+        ("the name of a file is not UTF-8", [(b"\xff", b"text")], b"\xff", refused),
+        ("the name of the second file is not UTF-8", [(b"m", b"text"), (b"m\xc3", b"text")], b"m", refused),
+        ("a file is refused before the name of the next one", [(b"m", b"{{"), (b"\xff", b"")], b"m", (4, b"", b"tmpl: m:1: unclosed or unreadable action\n")),
+        ("a template's name need not be UTF-8", [(b"m", b'{{define "\xff"}}text{{end}}')], b"\xff", (4, b"", b'tmpl: no template "\\xff"\n')),
+        ("no file", [], b"m", (4, b"", b'tmpl: no template "m"\n')),
+    ]
+    for name, files, template, wanted in cases:
+        status, out, err = tmpl.render_into(files, template, b"", settings, 64, 64)
+        got = (status, out.output(), err.output())
+        yield name, 1, [] if got == wanted else [f"    got {got}"]
+
+
+# ---- C and C++
+
+
+def compiled(folder, name, compiler, *words):
+    """The path of a program, and what is wrong where it can't be compiled."""
+    path = f"{folder}/{name}"
+    status, said = ran(*compiler, *words, "-o", path)
+    return path, [f"    {said}"] if status else []
+
+
+def judge_c(folder):
+    """tests/library.c over libtmpl.a, and under valgrind."""
+    wraps = [f"-Wl,--wrap={it}" for it in ("malloc", "realloc", "free")]
+    program, wrong = compiled(
+        folder, "library", ["cc", "-std=gnu11", "-O1", "-g", *WARNINGS], f"-I{BINDINGS}/c", f"{harness.TOP}/tests/library.c", f"{OUT}/libtmpl.a", "-pthread", *wraps
+    )
+    if wrong:
+        yield "tests/library.c", 1, wrong
+        return
+    status, said = ran(program)
+    print(said.rstrip())
+    counts = re.search(r"^(\d+) cases, 0 failed$", said, re.MULTILINE)
+    few = not counts or int(counts[1]) < LEAST_CASES
+    yield "tests/library.c", int(counts[1]) if counts else 1, [f"    {said}"] if status or few else []
+    if shutil.which("valgrind"):
+        status, said = ran("valgrind", "-q", "--error-exitcode=9", "--leak-check=full", program, "few")
+        yield "tests/library.c under valgrind", 1, [f"    {said}"] if status else []
+    else:
+        print("valgrind is not there")
+
+
+HEADER = r"""
+#include "tmpl.h"
+#include <stdio.h>
+int main(void) {
+    char text[16], line[64];
+    tmpl_settings settings = {0, 0, 0, 0};
+    tmpl_file file = {"m", 1, "{{.}}", 5};
+    tmpl_buffer out = {text, sizeof text, 0, 0}, err = {line, sizeof line, 0, 0};
+    int status = tmpl_render(&settings, &file, 1, "m", 1, "[1,2]", 5, &out, &err);
+    printf("%d %.*s\n", status, (int)out.taken, out.bytes);
+    return 0;
+}
+"""
+
+
+def judge_header(folder):
+    """The header in C and C++, over the shared library and over the static one, and as it is installed."""
+    root = f"{folder}/a root"
+    status, said = ran("make", "-s", "-C", harness.TOP, "install-lib", f"DESTDIR={root}", "PREFIX=/usr")
+    yield "make install-lib", 1, [f"    {said}"] if status else []
+    for name, text in (("header.c", HEADER), ("header.cc", HEADER)):
+        with open(f"{folder}/{name}", "w", encoding="utf-8") as it:
+            it.write(text)
+    libraries = {"static": [f"{OUT}/libtmpl.a"], "shared": [f"-L{OUT}", "-ltmpl", f"-Wl,-rpath,{OUT}"]}
+    installed = [f"-I{root}/usr/include", f"-L{root}/usr/lib", "-ltmpl", f"-Wl,-rpath,{root}/usr/lib"]
+    ways = [(kind, [f"-I{BINDINGS}/c"], words) for kind, words in libraries.items()] + [("installed", [], installed)]
+    for language, compiler, file in (("C", ["cc", "-std=c99"], "header.c"), ("C++", ["c++", "-std=c++11"], "header.cc")):
+        for kind, flags, words in ways:
+            program, wrong = compiled(folder, f"{language}-{kind}", [*compiler, *WARNINGS], *flags, f"{folder}/{file}", *words)
+            got = (1, "") if wrong else ran(program)
+            yield f"the header in {language}, {kind}", 1, wrong or ([] if got == (0, "0 [1 2]\n") else [f"    got {got}"])
+    if shutil.which("pkg-config"):
+        environment = {**os.environ, "PKG_CONFIG_PATH": f"{root}/usr/lib/pkgconfig"}
+        got = ran("pkg-config", "--cflags", "--libs", "--define-variable=prefix=/opt/x", "tmpl", env=environment)
+        yield "pkg-config", 1, [] if got == (0, "-I/opt/x/include -L/opt/x/lib -ltmpl \n") or got == (0, "-I/opt/x/include -L/opt/x/lib -ltmpl\n") else [f"    got {got}"]
+    status, said = ran("make", "-s", "-C", harness.TOP, "uninstall", f"DESTDIR={root}", "PREFIX=/usr")
+    left = [name for _, _, names in os.walk(root) for name in names]
+    yield "make uninstall", 1, [f"    {said} {left}"] if status or left else []
+
+
+def judge_names_of(path):
+    """That the library shows no names but its own."""
+    status, said = ran("nm", "-D", "--defined-only", path) if path.endswith(".so") else ran("nm", "-g", "--defined-only", path)
+    names = [line.split()[-1] for line in said.splitlines() if len(line.split()) == 3]
+    return f"the names of {os.path.basename(path)}", 1, [] if names == ["tmpl_render"] and not status else [f"    {names}"]
+
+
+# ---- documents and bindings
+
+
+def programs():
+    """The programs of docs/EMBEDDING.md: language, text, and what they put out."""
+    with open(f"{harness.TOP}/docs/EMBEDDING.md", encoding="utf-8") as it:
+        return BLOCK.findall(it.read())
+
+
+def judge_program(folder, language, text, wanted):
+    """A program of the document, compiled and run."""
+    home = f"{folder}/{language}"
+    os.makedirs(home)
+    run = {"c": run_c, "python": run_python, "go": run_go, "rust": run_rust}[language]
+    got = run(home, text)
+    lines = sum(bool(line.strip()) for line in text.splitlines())
+    wrong = [] if got == (0, wanted) else [f"    got {got}"]
+    return f"docs/EMBEDDING.md: {language}", 1, wrong + [f"    {lines} lines"] * (lines > 15)
+
+
+def written(path, text):
+    os.makedirs(os.path.dirname(path), exist_ok=True)
+    with open(path, "w", encoding="utf-8") as it:
+        it.write(text)
+
+
+def run_c(home, text):
+    written(f"{home}/hello.c", text)
+    words = [f"-I{BINDINGS}/c", f"{home}/hello.c", f"-L{OUT}", "-ltmpl", f"-Wl,-rpath,{OUT}"]
+    program, wrong = compiled(home, "hello", ["cc", *WARNINGS], *words)
+    return (1, wrong) if wrong else ran(program)
+
+
+def run_python(home, text):
+    written(f"{home}/hello.py", text)
+    environment = {**os.environ, "PYTHONPATH": f"{BINDINGS}/python", "LIBTMPL": f"{OUT}/libtmpl.so"}
+    return ran(sys.executable, f"{home}/hello.py", env=environment)
+
+
+def run_go(home, text):
+    written(f"{home}/main.go", text)
+    written(f"{home}/go.mod", f"module hello\n\ngo 1.17\n\nrequire tmpl v0.0.0\n\nreplace tmpl => {BINDINGS}/go\n")
+    return ran("go", "run", ".", cwd=home, env={**os.environ, "GOFLAGS": "-mod=mod"})
+
+
+def run_rust(home, text):
+    written(f"{home}/src/main.rs", text)
+    written(f"{home}/Cargo.toml", f'[package]\nname = "hello"\nversion = "0.0.0"\nedition = "2021"\n\n[dependencies]\ntmpl = {{ path = "{BINDINGS}/rust" }}\n')
+    return ran("cargo", "run", "--quiet", "--offline", cwd=home)
+
+
+TOOLS = {"go": ("go", ["go", "test", "./..."]), "rust": ("cargo", ["cargo", "test", "--quiet", "--offline"])}
+
+
+def judge_bindings(folder):
+    """The tests and the programs of the bindings whose tools are installed."""
+    for language, (tool, words) in TOOLS.items():
+        if not shutil.which(tool):
+            print(f"{tool} is not there, so the binding for {language} is not tried")
+            continue
+        home = f"{folder}/binding-{language}"
+        shutil.copytree(f"{BINDINGS}/{language}", home, ignore=shutil.ignore_patterns("target"))
+        environment = {**os.environ, "LIBTMPL_DIR": OUT, "CGO_CFLAGS": f"-I{BINDINGS}/c", "CGO_LDFLAGS": f"-L{OUT} -Wl,-rpath,{OUT}"}
+        status, said = ran(*words, cwd=home, env={**environment, "CARGO_TARGET_DIR": f"{folder}/target"})
+        yield f"the tests of the binding for {language}", 1, [f"    {said}"] if status else []
+        for it in programs():
+            if it[0] == language:
+                yield judge_program(folder, *it)
+
+
+def main(words):
+    global tmpl
+    status, said = ran("make", "-s", "-C", harness.TOP, "lib")
+    if status:
+        print(said)
+        return harness.closing(0, 1)
+    with tempfile.TemporaryDirectory() as folder:
+        if words == ["--bindings"]:
+            passed, failed, _ = harness.tally(list(judge_bindings(folder)))
+            return harness.closing(passed, failed)
+        os.environ["LIBTMPL"] = f"{OUT}/libtmpl.so"
+        sys.path.insert(0, f"{BINDINGS}/python")
+        import tmpl
+
+        calls = [call for call in map(call_of, harness.read_rows()) if call]
+        passed, failed, runs = harness.tally(map(judge, calls))
+        failed += harness.too_few("rows went through the library", runs, LEAST)
+        small = [call for call in calls if len(call.row.out) <= SIZES and len(call.line) <= 2 * SIZES]
+        told = harness.tally(map(judge_sizes, small))
+        failed += told[1] + harness.too_few("calls with room of some size", told[2], LEAST_SIZES)
+        passed += told[0]
+        results = [*judge_names(), *judge_c(folder), *judge_header(folder)]
+        results += [judge_names_of(f"{OUT}/libtmpl.so"), judge_names_of(f"{OUT}/libtmpl.a")]
+        results += [judge_program(folder, *it) for it in programs() if it[0] in ("c", "python")]
+        told = harness.tally(results)
+        return harness.closing(passed + told[0], failed + told[1])
+
+
+if __name__ == "__main__":
+    sys.exit(main(sys.argv[1:]))
