@@ -56,8 +56,8 @@ check:
 edits:
 	python3 tests/edits.py $${CRATE:+"$$CRATE"}
 
-# times the program beside others
-bench: $(PROGRAM) $(PROBE)
+# times the program and the C library beside others
+bench: $(PROGRAM) $(PROBE) lib
 	python3 tests/bench.py
 
 # renders random templates by the program and by Go's own text/template; it needs Go

@@ -4,6 +4,7 @@ import json
 import os
 import shutil
 import statistics
+import subprocess
 import sys
 import tempfile
 import time
@@ -384,6 +385,18 @@ def bench_renders(folder):
             judge("tmpl to Go", ours[0] / theirs[0][0], most)
 
 
+def bench_library(folder):
+    """Renders by the C library in one process, with the parse of the template and the read of the data each time."""
+    print("Renders by the C library, the template parsed and the data read each time")
+    speed, out = f"{folder}/speed", f"{harness.TOP}/bindings/out/libtmpl.a"
+    subprocess.run(["cc", "-O2", f"-I{harness.TOP}/bindings/c", f"{harness.TESTS}/speed.c", out, "-o", speed], check=True)
+    for name, pieces, held, _ in renders(folder):
+        if name in ("examples/hello", "a table of 20,000 rows"):
+            file, count = write(f"{folder}/template", pieces), 10_000 if name == "examples/hello" else 1
+            least, middle, size = map(int, subprocess.run([speed, file, held, str(count)], stdout=subprocess.PIPE, check=True).stdout.split())
+            print(f"  {name}, {size} bytes of text: the least of 31 {least / 1e6:.4f} ms, the median {middle / 1e6:.4f} ms")
+
+
 def main():
     if not harness.is_built():
         sys.exit(1)
@@ -404,6 +417,7 @@ def main():
         tmpl_probe(folder)
         bench_reading(folder)
         bench_renders(folder)
+        bench_library(folder)
 
 
 if __name__ == "__main__":
