@@ -1,5 +1,5 @@
 //! Laws of the machine that the definitions describe.
-ghost use Rattle.tmpl_run.specs.Laws.{ComesToMeaning, DepthAlike, EachTurnLessens, HasOneEnd};
+ghost use Rattle.tmpl_run.specs.Laws.{ComesToMeaning, DepthAlike, DepthByChains, EachTurnLessens, HasOneEnd};
 ghost use Rattle.tmpl_run.specs.Laws.{MarkStays, OnlyAdds, StaysWithin, TextIsNamed};
 
 /// The law that the code of a set comes to the meaning of each of its templates, on a stack with the cells that each
@@ -11,6 +11,11 @@ pub fn comes_to_meaning()
 /// The law that a run comes to the same whatever depth is allowed beyond that to which the set's calls can go.
 pub fn depth_alike()
     ensures { DepthAlike }
+{}
+
+/// The law that a run comes to the same whatever depth is allowed beyond the longest chain of calls.
+pub fn depth_by_chains()
+    ensures { DepthByChains }
 {}
 
 /// The law that a run keeps within the cells of its stack.
