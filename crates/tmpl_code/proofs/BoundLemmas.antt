@@ -17,7 +17,7 @@ use Rattle.tmpl_code.specs.computed.Weights.{Hold, HoldsOf, IsBound, heaviest_of
 
 module _ (name : List ℕ) where
   mutual
-    node-called : (n : NodeKind) → NodeNames name n → node_calls n ≡ true
+    pub node-called : (n : NodeKind) → NodeNames name n → node_calls n ≡ true
     node-called (text bytes) h = absurd h
     node-called (action a) h = absurd h
     node-called (control_node c a body other) (inl h) = ap (λ b. b || nodes_call other) (nodes-called body h)
@@ -26,7 +26,7 @@ module _ (name : List ℕ) where
     node-called continue_node h = absurd h
     node-called (template_node called given) h = refl
 
-    nodes-called : (ns : Nodes) → NodesName name ns → nodes_call ns ≡ true
+    pub nodes-called : (ns : Nodes) → NodesName name ns → nodes_call ns ≡ true
     nodes-called tree.none h = absurd h
     nodes-called (tree.then line n ns) (inl h) = ap (λ b. b || nodes_call ns) (node-called n h)
     nodes-called (tree.then line n ns) (inr h) = ap (λ b. node_calls n || b) (nodes-called ns h) ∙ or-true (node_calls n)

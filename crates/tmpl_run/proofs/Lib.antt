@@ -1,3 +1,4 @@
+pub mod DepthLemmas
 pub mod ExecLemmas
 pub mod PipelineLemmas
 pub mod PlaceLemmas

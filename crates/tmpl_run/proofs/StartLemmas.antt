@@ -1,5 +1,5 @@
 -- For `run` and `Machine::start`: the state at the start comes to the meaning of its template.
-use Rattle.std.proofs.Common.{arith, ◌≡◌, ◌∙◌, ◌+◌, ◌<◌, ◌≤◌, ℕ, [], length, get_or, ap, sym, subst, Option, Some}
+use Rattle.std.proofs.Common.{arith, ◌≡◌, ◌<◌, ◌≤◌, ℕ, [], length, get_or, ap, sym, subst, Option, Some}
 use Rattle.std.specs.Prelude.{IfSome, slice_get}
 use Rattle.std.proofs.lemmas.Option.{slice_get-get_or, slice_get_within}
 use Rattle.tmpl_values.specs.Value.{Value}

@@ -7,14 +7,14 @@ use Rattle.tmpl_grammar.specs.declared.tree.Control.TheVariants as control
 use Rattle.tmpl_values.specs.Value.{Value, nothing}
 use Rattle.tmpl_syntax.specs.Tree as tree
 use Rattle.tmpl_syntax.specs.Tree.{NodeKind, Nodes}
-use Rattle.tmpl_syntax.specs.Need.{need, need_of_nodes}
+use Rattle.tmpl_syntax.specs.Need.{need}
 use Rattle.tmpl_syntax.specs.Set.{Template}
 use Rattle.tmpl_meaning.specs.Meaning as meaning
 use Rattle.tmpl_meaning.specs.Meaning.{Calls, End, Next, Ran, Run, Setting, calls_within, meanings, ran_of, ran_with, setting_of, started, stepped}
 use Rattle.tmpl_code.specs.Instruction as code
 use Rattle.tmpl_code.specs.Layout.{declared_in, first_layout, grown}
 use Rattle.tmpl_code.specs.Calls.{NodeNames, NodesName}
-use Rattle.tmpl_code.specs.Room.{Suffices, need_at}
+use Rattle.tmpl_code.specs.Room.{Suffices}
 use Rattle.tmpl_code.specs.Code.{Code, NodesAt, Starts}
 use Rattle.tmpl_run.specs.Cell.{cell}
 use Rattle.tmpl_run.specs.State.{Plan, State, starting}

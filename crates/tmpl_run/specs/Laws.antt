@@ -3,6 +3,7 @@ use Rattle.std.specs.Prelude.{◌≡◌, ◌<◌, ◌≤◌, ◌⊎◌, ℕ, Boo
 use Rattle.tmpl_values.specs.Value.{Value}
 use Rattle.tmpl_syntax.specs.Set.{Template}
 use Rattle.tmpl_meaning.specs.Meaning.{Ran, Rules, ran, starting_dot}
+use Rattle.tmpl_code.specs.Calls.{IsChain}
 use Rattle.tmpl_code.specs.Code.{Starts}
 use Rattle.tmpl_code.specs.Instruction.{Instruction, act}
 use Rattle.tmpl_code.specs.MakesText.{set_makes_text}
@@ -26,6 +27,14 @@ ComesToMeaning =
     → Suffices plan.rules.depth_limit plan.templates number size
     → slice_get plan.templates number ≡ Some t → slice_get plan.starts number ≡ Some start
     → Ends plan size (starting plan number start (starting_dot input)) (ran plan.rules plan.templates t.0 t.1 input)
+
+-- where no chain of calls from a template is longer than a depth, no greater depth makes a difference
+abbrev pub DepthByChains : Type 0
+DepthByChains =
+    (rules : Rules) (ts : List Template) (depth number : ℕ) (t : Template) (input : Option Value)
+    → slice_get ts number ≡ Some t → ((rest : List ℕ) → IsChain ts number rest → length rest < depth)
+    → depth ≤ rules.depth_limit
+    → ran (record rules { depth_limit = depth }) ts t.0 t.1 input ≡ ran rules ts t.0 t.1 input
 
 -- of a state that comes to an end there are never more cells than that
 abbrev pub StaysWithin : Type 0

@@ -1,11 +1,16 @@
 //! Laws of the machine that the definitions describe.
-ghost use Rattle.tmpl_run.specs.Laws.{ComesToMeaning, EachTurnLessens, HasOneEnd};
+ghost use Rattle.tmpl_run.specs.Laws.{ComesToMeaning, DepthByChains, EachTurnLessens, HasOneEnd};
 ghost use Rattle.tmpl_run.specs.Laws.{MarkStays, OnlyAdds, StaysWithin, TextIsNamed};
 
 /// The law that the code of a set comes to the meaning of each of its templates, on a stack with the cells that each
 /// chain of its calls needs.
 pub fn comes_to_meaning()
     ensures { ComesToMeaning }
+{}
+
+/// The law that a run comes to the same whatever depth is allowed beyond the longest chain of calls.
+pub fn depth_by_chains()
+    ensures { DepthByChains }
 {}
 
 /// The law that a run keeps within the cells of its stack.

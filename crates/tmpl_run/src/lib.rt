@@ -22,8 +22,8 @@ mod variable;
 
 pub use fault::RunError;
 pub use laws::{
-    comes_to_meaning, each_turn_lessens, mark_stays, one_end, only_adds, stays_within,
-    text_is_named,
+    comes_to_meaning, depth_by_chains, each_turn_lessens, mark_stays, one_end, only_adds,
+    stays_within, text_is_named,
 };
 pub use runner::run;
 pub use tmpl_meaning::{
