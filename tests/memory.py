@@ -10,7 +10,7 @@ import harness
 
 MEMORY = f"{harness.TOP}/crates/tmpl_memory/out/tmpl_memory"
 MOSTS = (1, 3, 4096)  # bytes that a put takes at most
-WHOLE = 9000  # bytes of output up to which each put of a row fails in turn; of a longer one only some do
+WHOLE = 12000  # bytes of output up to which each put of a row fails in turn; of a longer one only some do
 SMALL = 1 << 16  # bytes in the files and the output of a row that is run often
 SPARE = 1 << 23  # bytes of files that one process may read again and again, which it keeps, and trees of them
 MANY = 1 << 30  # more runs than there are puts

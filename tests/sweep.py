@@ -13,7 +13,7 @@ from harness import build_shim
 
 SMALL = 65536  # bytes in the files and the output of a row
 MOST = 100000  # allocations of one run
-LITTLE = 60  # bytes in the files of a set that is printed
+LITTLE = 150  # bytes in the files of a set that is printed
 LEAST = {"rows": 150000, "printed sets": 25000}  # allocations of all
 
 
