@@ -1,7 +1,7 @@
 """Runs what the documents show: each block `console` of README.md and docs/, in order, those below one heading `##` in one folder and
 one shell. A line that begins with `$ ` is a command, one with `> ` goes on with it, and the others are what it must put out, to its
 output and its errors. A comment `<!-- needs: NAME .. -->` before a block names programs; where one is not there all blocks of that
-heading are left out, and this is told. A comment `<!-- not run: WHY -->` before a block says why it is not run. The program is
+heading are left out, and it says so. A comment `<!-- not run: WHY -->` before a block says why it is not run. The program is
 `tmpl`, and `$QUOTES` the folder of the templates for quoting. TMPL=PATH names another build.
 
 A comment `<!-- file: PATH -->` before a block of any kind says that the block shows the whole of this file: they must be equal."""
