@@ -1,8 +1,11 @@
 """Runs what the documents show: each block `console` of README.md and docs/, in order, those below one heading `##` in one folder and
 one shell. A line that begins with `$ ` is a command, one with `> ` goes on with it, and the others are what it must put out, to its
 output and its errors. A comment `<!-- needs: NAME .. -->` before a block names programs; where one is not there all blocks of that
-heading are left out, and this is told. A comment `<!-- not run: WHY -->` before a block says why it is not run. The program is
-`tmpl`, and `$QUOTES` the folder of the templates for quoting. TMPL=PATH names another build."""
+heading are left out, and it says so. A comment `<!-- not run: WHY -->` before a block says why it is not run. The program is
+`tmpl`, and `$QUOTES` the folder of the templates for quoting. TMPL=PATH names another build.
+
+A comment `<!-- file: PATH -->` before a block of any kind says that the block shows the whole of this file: they must be equal."""
+import itertools
 import os
 import re
 import shutil
@@ -13,8 +16,11 @@ import tempfile
 import harness
 
 LEAST = 80  # commands, where jq, yq and nginx are not there
+LEAST_SHOWN = 2  # files
 MARK = "\x1e"  # between what two commands put out
 BLOCK = re.compile(r"(?:<!-- (needs|not run): ([^>]*) -->\s*)?^```console\n(.*?)^```$", re.MULTILINE | re.DOTALL)
+
+SHOWN = re.compile(r"^<!-- file: (\S+) -->\s*^```\w*\n(.*?)^```$", re.MULTILINE | re.DOTALL)
 
 
 def documents():
@@ -46,6 +52,23 @@ def sections(document):
         ran = [command for kind, _, block in blocks if kind != "not run" for command in commands(block)]
         if blocks:
             yield part.partition("\n")[0].lstrip("# "), ran, needed, sum(kind == "not run" for kind, _, _ in blocks)
+
+
+def differences(document, path, block):
+    """Where a block differs first from the file that it shows."""
+    with open(f"{harness.TOP}/{path}", encoding="utf-8") as it:
+        pairs = itertools.zip_longest(block.splitlines(keepends=True), it.read().splitlines(keepends=True))
+    for number, (shown, held) in enumerate(pairs, 1):
+        if shown != held:
+            return [f"    {document} shows {path} otherwise, from its line {number} on", f"    shown {shown!r}", f"    held  {held!r}"]
+    return []
+
+
+def shown(document):
+    """The files that a document shows, each with how its block differs."""
+    with open(f"{harness.TOP}/{document}", encoding="utf-8") as it:
+        for path, block in SHOWN.findall(it.read()):
+            yield f"{document}: {path}", 1, differences(document, path, block)
 
 
 def is_there(name):
@@ -94,6 +117,9 @@ def main():
     passed, failed, runs = harness.tally(results)
     print(f"{left_out} blocks are marked as not run")
     failed += harness.too_few("commands were run", runs, LEAST)
+    told = harness.tally([it for document in documents() for it in shown(document)])
+    failed += told[1] + harness.too_few("files were compared with what documents show of them", told[2], LEAST_SHOWN)
+    passed += told[0]
     return harness.closing(passed, failed)
 
 
