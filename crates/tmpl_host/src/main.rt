@@ -2,20 +2,21 @@
 #![tactic(auto)]
 
 use std::io;
-use tmpl_engine::{Data, Engine, MissingKey, Options, RenderError, Renderer, WriterSink};
+use tmpl_engine::{Data, Engine, MissingKey, Options, RenderError, WriterSink};
 
 fn main(rt: HostRuntime) -> io::Result<()> {
     let mut engine = Engine::new(rt.alloc());
-    if let Err(fault) = engine.add(rt.alloc(), "greeting", b"Hello, {{.name}}!\n") {
-        return println!(rt; "{}: line {} is refused", fault.file, fault.line);
+    match engine.add(rt.alloc(), "greeting", b"Hello, {{.name}}!\n") {
+        Ok(()) => {
+            greet(&rt, &engine, b"{\"name\": \"Ada\"}")?;
+            greet(&rt, &engine, b"{\"nam\": \"Bob\"}")
+        }
+        Err(fault) => println!(rt; "{}: line {} is refused", fault.file, fault.line),
     }
-    let renderer = Renderer::new(rt.alloc(), engine.templates())?;
-    greet(&rt, &renderer, b"{\"name\": \"Ada\"}")?;
-    greet(&rt, &renderer, b"{\"nam\": \"Bob\"}")
 }
 
 /// Renders the greeting with these data, and says where that stops.
-fn greet(rt: &HostRuntime, renderer: &Renderer<'_>, json: &[u8]) -> io::Result<()> {
+fn greet(rt: &HostRuntime, engine: &Engine, json: &[u8]) -> io::Result<()> {
     let Ok(data) = Data::from_json(rt.alloc(), json) else {
         return println!(rt; "the data are refused");
     };
@@ -25,7 +26,7 @@ fn greet(rt: &HostRuntime, renderer: &Renderer<'_>, json: &[u8]) -> io::Result<(
         steps: 10_000,
     };
     let mut out = WriterSink::new(rt.stdout());
-    match renderer.render(rt.alloc(), b"greeting", Some(&data), &options, &mut out) {
+    match engine.render(rt.alloc(), b"greeting", Some(&data), &options, &mut out) {
         Ok(()) => Ok(()),
         Err(RenderError::Fault(fault)) => println!(rt; "\nstopped at line {}", fault.line),
         Err(_) => println!(rt; "\nstopped"),
