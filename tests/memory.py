@@ -10,13 +10,13 @@ import harness
 
 MEMORY = f"{harness.TOP}/crates/tmpl_memory/out/tmpl_memory"
 MOSTS = (1, 3, 4096)  # bytes that a put takes at most
-WHOLE = 12000  # bytes of output up to which each put of a row fails in turn; of a longer one only some do
+WORK = 10**9  # puts of a row times its bytes, up to which each put fails in turn; beyond that only some do
 SMALL = 1 << 16  # bytes in the files and the output of a row that is run often
 SPARE = 1 << 23  # bytes of files that one process may read again and again, which it keeps, and trees of them
 MANY = 1 << 30  # more runs than there are puts
 ALL = 1 << 62  # more bytes than there are
 ROWS = 1200  # rows
-LEAST = {"output": 55000, "errors": 18000, "reads": 3000}  # runs
+LEAST = {"output": 150000, "errors": 18000, "reads": 3000}  # runs
 LINES = set()  # those of which each byte was put alone
 WRITE_FAILED = b"tmpl: write failed\n"
 
@@ -178,21 +178,21 @@ def is_small(row):
 
 def of_output(row, words, files):
     """The sweeps over the puts of output of a row."""
-    length = len(row.out)
     for most in MOSTS if is_small(row) else MOSTS[-1:]:
-        puts = -(-length // most)
+        puts = -(-len(row.out) // most)
         its = [(1, 1, MANY, True)]
-        if length > WHOLE:
+        whole = puts * row.size() <= WORK
+        if not whole:
             few = 10 if is_small(row) else 1
             its = [(1, 1, few, None), (few + 1, max(1, (puts - few) // few), few, None), (max(1, puts), 1, MANY, True)]
         for first, step, count, ends in its:
-            for alone in (True, False) if length <= WHOLE and most == 3 else (True,):
+            for alone in (True, False) if whole and most == 3 else (True,):
                 yield Sweep(words, files, b"output", first, step, count, Limits(most=most, once=alone), wanted=row.out, ends=ends)
 
 
 def of_errors(row, words, files):
     """The sweeps over the puts of errors of a row, a byte a put where no row before it has the line."""
-    if not is_small(row) or len(row.err) > WHOLE:
+    if not is_small(row) or len(row.err) * row.size() > WORK:
         yield Sweep(words, files, b"errors", 2, 2, 2, err=Limits(most=3), wanted=row.out, ends=None)
         return
     mosts = MOSTS[1:] if row.err in LINES else MOSTS
