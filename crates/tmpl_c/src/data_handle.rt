@@ -25,6 +25,7 @@ pub struct DataHandle {
 impl Model for DataHandle {
     ghost use Rattle.tmpl_values.specs.contracts.data.Data.{the_row};
     ghost use Rattle.tmpl_c.specs.Handles.{kept};
+
     ghost also_owns = { λ h. kept the_row h.at h.held };
 }
 

@@ -26,7 +26,7 @@ fn render_with(
 ) -> Filled
     ensures outcome { Rendered
         (held_answer (rules_in settings.now) (eqb settings.now.print 1) (templates_in set.old.held) name.now
-            (option_map (λ d. value_of d.now) «data».entry))
+        (option_map (λ d. value_of d.now) «data».entry))
         (length out.old) (extent_seen out.new result.text) (length err.old) (extent_seen err.new result.line)
         result.status }
     ensures set { set.new.held ≡ set.old.held }
@@ -53,7 +53,7 @@ pub(crate) fn render(
 ) -> Filled
     ensures outcome { Rendered
         (held_answer (rules_in settings.now) (eqb settings.now.print 1) (templates_in set.old.held) name.now
-            (value_in «data».old.held))
+        (value_in «data».old.held))
         (length out.old) (extent_seen out.new result.text) (length err.old) (extent_seen err.new result.line)
         result.status }
     ensures set { set.new.held ≡ set.old.held }

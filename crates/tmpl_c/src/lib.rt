@@ -59,7 +59,12 @@ pub extern "C" fn tmpl_render(
 /// Adds the templates of a file to a set that the caller keeps, or says why not: with status 0 nothing is said, and else
 /// the set is as it was. The statuses are those of a render whose files are the set's and this one.
 #[unsafe(no_mangle)]
-pub extern "C" fn tmpl_set_add(alloc: Global, set: &mut SetHandle, file: &File<'_>, err: &mut Buffer<'_>) -> u8
+pub extern "C" fn tmpl_set_add(
+    alloc: Global,
+    set: &mut SetHandle,
+    file: &File<'_>,
+    err: &mut Buffer<'_>,
+) -> u8
     ensures { (parse : Parse) → IsParse parse → Keeps (with_lent parse (templates_in set.old.held) (pair_of file.now))
         (templates_in set.old.held) (templates_in set.new.held) (room err.old) (seen err.new) result }
 {
@@ -117,15 +122,15 @@ pub extern "C" fn tmpl_render_set(
 ) -> u8
     ensures outcome { Rendered
         (held_answer (rules_in settings.now) (eqb settings.now.print 1) (templates_in set.old.held) name.now
-            (value_in kept.old.held))
+        (value_in kept.old.held))
         (room out.old) (seen out.new) (room err.old) (seen err.new) result }
     ensures set { set.new.held ≡ set.old.held }
     ensures kept { kept.new.held ≡ kept.old.held }
 {
-    let told = held::render(alloc, settings, set, kept, name, out.bytes, err.bytes);
-    out.taken = told.text.taken;
-    out.needed = told.text.needed;
-    err.taken = told.line.taken;
-    err.needed = told.line.needed;
-    told.status
+    let came = held::render(alloc, settings, set, kept, name, out.bytes, err.bytes);
+    out.taken = came.text.taken;
+    out.needed = came.text.needed;
+    err.taken = came.line.taken;
+    err.needed = came.line.needed;
+    came.status
 }

@@ -128,7 +128,7 @@ pub(crate) fn say_refused(err: &mut [u8]) -> Extent
 fn hand_over(code: u8, text: &Gathered, line: &Gathered, out: &mut [u8], err: &mut [u8]) -> Filled
     ensures { (a : Answer) → Outcome a (sunk untouched (told_of text.now)) (sunk untouched (told_of line.now)) code
         → Rendered a (length out.old) (extent_seen out.new result.text) (length err.old) (extent_seen err.new result.line)
-            result.status }
+        result.status }
 {
     let room = out.len();
     let put = copy_to(out, text.bytes.as_slice());
@@ -188,13 +188,13 @@ fn render_held(
     requires err { err.old.failures < 2 ^ 64 - 1 }
     ensures outcome { Outcome
         (held_answer (rules_in settings.now) (eqb settings.now.print 1) (set_view set.now) name.now
-            (option_map (λ d. value_of d.now) «data».entry))
+        (option_map (λ d. value_of d.now) «data».entry))
         (sunk (told_of out.old) (told_of out.new)) (sunk (told_of err.old) (told_of err.new)) result }
 {
-    if settings.print == 1 {
-        return print(alloc, set, out, err).code;
+    match settings.print {
+        1 => print(alloc, set, out, err).code,
+        _ => render_named(alloc, &options_in(settings), set, name, data, out, err).code,
     }
-    render_named(alloc, &options_in(settings), set, name, data, out, err).code
 }
 
 /// Renders what is kept into lent memory, and says why the text is not all there.
@@ -209,7 +209,7 @@ pub(crate) fn fill_held(
 ) -> Filled
     ensures { Rendered
         (held_answer (rules_in settings.now) (eqb settings.now.print 1) (set_view set.now) name.now
-            (option_map (λ d. value_of d.now) «data».entry))
+        (option_map (λ d. value_of d.now) «data».entry))
         (length out.old) (extent_seen out.new result.text) (length err.old) (extent_seen err.new result.line)
         result.status }
 {

@@ -25,6 +25,7 @@ pub struct SetHandle {
 impl Model for SetHandle {
     ghost use Rattle.tmpl_syntax.specs.contracts.set.Set.{the_row};
     ghost use Rattle.tmpl_c.specs.Handles.{kept};
+
     ghost also_owns = { λ h. kept the_row h.at h.held };
 }
 
