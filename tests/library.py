@@ -132,7 +132,7 @@ def judge_kept(call):
 def judge_refusals():
     """What is refused leaves what was kept as it was, and what is freed is empty."""
     templates = tmpl.Templates({"a": "one {{.}}"})
-    nothing = (0, b"one <nil>", "")
+    nothing = (0, b"one <no value>", "")
     cases = [
         ("a file is refused", lambda: templates.add("b", '{{define "a"}}two{{end}}{{'), (4, b"", "tmpl: b:1: unclosed or unreadable action")),
         ("the set is as it was", lambda: templates.render_bytes(data=b"1"), (0, b"one 1", "")),

@@ -56,8 +56,8 @@ pub extern "C" fn tmpl_render(
     told.status
 }
 
-/// Adds the templates of a file to a set that the caller keeps, or says why not: with status 0 nothing is said, and else
-/// the set is as it was. The statuses are those of a render whose files are the set's and this one.
+/// Adds the templates of a file to a set that the caller keeps, or says why not: with status 0 nothing is said, and
+/// else the set is as it was. The statuses are those of a render whose files are the set's and this one.
 #[unsafe(no_mangle)]
 pub extern "C" fn tmpl_set_add(
     alloc: Global,

@@ -32,7 +32,8 @@ pub(crate) enum Halt<'a> {
 
 /// Adds the templates of a file to the set.
 pub(crate) fn add_file<'a>(alloc: Global, set: &mut Set, file: &'a File<'a>) -> Result<(), Halt<'a>>
-    ensures comes { ComesTo (λ u. set_view set.new) (with_lent parsed (set_view set.old) (pair_of file.entry.now)) result }
+    ensures comes { ComesTo (λ u. set_view set.new) (with_lent parsed (set_view set.old) (pair_of file.entry.now))
+        result }
     ensures kept { IfErr result (λ h. set_view set.new ≡ set_view set.old) }
 {
     let Ok(name) = str::from_utf8(file.name) else {

@@ -127,8 +127,8 @@ pub(crate) fn say_refused(err: &mut [u8]) -> Extent
 /// Copies what was gathered to lent memory, and says why the text is not all there.
 fn hand_over(code: u8, text: &Gathered, line: &Gathered, out: &mut [u8], err: &mut [u8]) -> Filled
     ensures { (a : Answer) → Outcome a (sunk untouched (told_of text.now)) (sunk untouched (told_of line.now)) code
-        → Rendered a (length out.old) (extent_seen out.new result.text) (length err.old) (extent_seen err.new result.line)
-        result.status }
+        → Rendered a (length out.old) (extent_seen out.new result.text)
+            (length err.old) (extent_seen err.new result.line) result.status }
 {
     let room = out.len();
     let put = copy_to(out, text.bytes.as_slice());

@@ -1,4 +1,4 @@
-use Rattle.std.proofs.Common.{◌<◌, ◌≤◌, List, [], length, rules, subst, refl}
+use Rattle.std.proofs.Common.{◌<◌, ◌≤◌, [], length, rules, subst, refl}
 use Rattle.tmpl_tool.specs.Source.{Bytes}
 use Rattle.tmpl_c.specs.Filled.{Fills}
 use Rattle.tmpl_c.specs.computed.Extents.{extent_seen}
