@@ -1,4 +1,4 @@
-"""Looks at the definitions that a reader has to believe: those that the contracts of `tool` and of `tmpl_render` come to by the names that
+"""Looks at the definitions that a reader has to believe: those that the contracts of `tool` and of the C library come to by the names that
 they and these import. Specs outside `computed/` may import nothing from `proofs/`, and nothing from `computed/` but in files of the name Laws.
 docs/BELIEVED.md has to name the files of what is believed, and no others. Then the lines of it are counted, without blank lines,
 comments and imports, by crate. They may not be more than stand in MOST: a crate that needs more has to say so here."""
@@ -15,18 +15,21 @@ ROOTS = (
     ("tmpl_tool", "src/command.rt", "pub fn tool"),
     ("tmpl_tool", "src/files/source.rt", "pub trait Source"),
     ("tmpl_meaning", "src/sink.rt", "pub trait Sink"),
-    ("tmpl_c", "src/lib.rt", 'pub extern "C" fn tmpl_render'),
+    ("tmpl_c", "src/lib.rt", 'pub extern "C" fn tmpl_render('),
+    ("tmpl_c", "src/lib.rt", 'pub extern "C" fn tmpl_set_add('),
+    ("tmpl_c", "src/lib.rt", 'pub extern "C" fn tmpl_data_read('),
+    ("tmpl_c", "src/lib.rt", 'pub extern "C" fn tmpl_render_set('),
 )
 # the lines of each crate that are believed, at most
 MOST = {
     "tmpl_values": 244,
     "tmpl_funcs": 380,
     "tmpl_lex": 111,
-    "tmpl_grammar": 333,
-    "tmpl_syntax": 475,
+    "tmpl_grammar": 368,
+    "tmpl_syntax": 502,
     "tmpl_meaning": 311,
     "tmpl_tool": 292,
-    "tmpl_c": 59,
+    "tmpl_c": 77,
 }
 
 WORD = r"[^\s(){}.,;]+"

@@ -74,6 +74,21 @@ static void render(const struct row *row, size_t size, size_t line_size, struct 
     told->status = tmpl_render(&settings, &file, 1, "t", 1, row->data, strlen(row->data), &told->text, &told->said);
 }
 
+/* The same by what is kept: the file is added, the data read, and both rendered twice; or what stopped it. All is freed, twice. */
+static void keep(const struct row *row, size_t size, size_t line_size, struct told *told) {
+    tmpl_settings settings = {.print = (uint8_t)row->print};
+    tmpl_file file = {"t", 1, row->template, strlen(row->template)};
+    tmpl_set set = {0};
+    tmpl_data data = {0};
+    told->text = (tmpl_buffer){told->out, size, 0, 0};
+    told->said = (tmpl_buffer){told->line, line_size, 99, 99};
+    told->status = tmpl_set_add(&set, &file, &told->said);
+    if (told->status == TMPL_OK && !row->print) told->status = tmpl_data_read(&data, row->data, strlen(row->data), &told->said);
+    for (int i = 0; told->status == TMPL_OK && i < 2; i++)
+        told->status = tmpl_render_set(&settings, &set, &data, "t", 1, &told->text, &told->said);
+    for (int i = 0; i < 2; i++) tmpl_set_free(&set), tmpl_data_free(&data);
+}
+
 static int begins(const tmpl_buffer *it, const char *text) {
     return it->taken <= it->size && it->taken <= strlen(text) && !memcmp(it->bytes, text, it->taken);
 }
@@ -95,8 +110,10 @@ static int is_refused(const struct row *row, const struct told *told) {
     return told->status == TMPL_MEMORY && begins(&told->text, row->text) && holds(&told->said, "tmpl: out of memory\n");
 }
 
+typedef void way(const struct row *row, size_t size, size_t line_size, struct told *told);
+
 /* Refuses each allocation of a render in turn; tells how many were refused. */
-static long refuse_each(const struct row *row, size_t size, size_t line_size) {
+static long refuse_each(way *render, const struct row *row, size_t size, size_t line_size) {
     struct told told;
     for (long number = 0;; number++) {
         asked = 0, refused = number, live = 0;
@@ -131,9 +148,15 @@ int main(int argc, char **argv) {
         judge(is_right(rows + i, &told), rows[i].template, -2);
     }
     for (int i = 0; i < ROWS && argc == 1; i++) {
-        refusals += refuse_each(rows + i, sizeof told.out, sizeof told.line);
-        refusals += refuse_each(rows + i, 3, 5);
-        refusals += refuse_each(rows + i, 0, 0);
+        refusals += refuse_each(render, rows + i, sizeof told.out, sizeof told.line);
+        refusals += refuse_each(render, rows + i, 3, 5);
+        refusals += refuse_each(render, rows + i, 0, 0);
+        refusals += refuse_each(keep, rows + i, sizeof told.out, sizeof told.line);
+    }
+    live = 0;
+    for (int i = 0; i < (argc == 1 ? 1000 : 10) * ROWS; i++) {
+        keep(rows + i % ROWS, sizeof told.out, sizeof told.line, &told);
+        judge(is_right(rows + i % ROWS, &told) && live == 0, "made and freed", i);
     }
     judge(argc > 1 || refusals > 100, "too few allocations were refused", refusals);
     pthread_t threads[2];

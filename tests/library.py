@@ -1,6 +1,7 @@
 """Tries the engine as a C library, bindings/out/libtmpl.so and libtmpl.a, which `make lib` builds of what was proved. The rows of
 tests/rows that need no words and no files of the system go through one call each, by the Python wrapper, and through its `render_bytes`:
-text, line and status must be those of the row, but that lines call the data `data`. Rows with short texts and lines are called with room of
+text, line and status must be those of the row, but that lines call the data `data`. So must those of two renders of a set and data that
+are kept. Rows with short texts and lines are called with room of
 each size. tests/library.c refuses each allocation of calls in turn, runs two threads, and runs under valgrind where that is there. The
 header is compiled as C and as C++, what is installed is used by pkg-config, and the programs of docs/EMBEDDING.md for C and Python are run.
 With --bindings it runs those for Go and Rust, and the tests of these two bindings, where Go and Cargo are installed, and nothing else."""
@@ -23,6 +24,7 @@ LEAST_CASES = 500  # of tests/library.c
 GUARD = b"\xa5" * 8  # behind lent memory
 SWITCHES = {b"--data", b"--missingkey", b"--name", b"--depth", b"--steps"}
 BLOCK = re.compile(r"^```(c|python|go|rust)\n(.*?)^```\n+(?:It puts out\n+)?```text\n(.*?)^```$", re.MULTILINE | re.DOTALL)
+NAMES = ["tmpl_data_free", "tmpl_data_read", "tmpl_render", "tmpl_render_set", "tmpl_set_add", "tmpl_set_free"]
 WARNINGS = ["-Wall", "-Wextra", "-pedantic", "-Werror"]
 
 
@@ -97,6 +99,64 @@ def judge(call):
     if came != (row.status, row.out, call.line.decode("utf-8", "replace").rstrip("\n")):
         wrong.append(f"    the wrapper gives {came[0]} {harness.short(came[1])} {came[2]!r}")
     return row.name, 1, wrong
+
+
+def came_of(call):
+    """The status, text and line of a call of the wrapper."""
+    try:
+        return 0, call() or b"", ""
+    except tmpl.TemplateError as error:
+        return error.status, error.text, error.line
+
+
+def judge_kept(call):
+    """The same by what is kept: the files added once, the data read once, and two renders."""
+    row, wrong = call.row, []
+    steps, depth, mode, is_print = call.settings
+    how = {"missing_key": list(tmpl.MISSING_KEY)[mode], "depth": depth, "steps": steps, "printed": bool(is_print)}
+    wanted = (row.status, row.out, call.line.decode("utf-8", "replace").rstrip("\n"))
+    templates, stop = tmpl.Templates(), None
+    for path, what in call.files:
+        stop = came_of(lambda: templates.add(path, what))
+        if stop[0]:
+            break
+    refused = stop is not None and stop[0] != 0
+    for _ in range(2):
+        came = stop if refused else came_of(lambda: templates.render_bytes(call.name, call.data, **how))
+        if came != wanted:
+            wrong.append(f"    kept, it gives {came[0]} {harness.short(came[1])} {came[2]!r}")
+    templates.close()
+    return f"{row.name}, kept", 1, wrong
+
+
+def judge_refusals():
+    """What is refused leaves what was kept as it was, and what is freed is empty."""
+    templates = tmpl.Templates({"a": "one {{.}}"})
+    nothing = (0, b"one <no value>", "")
+    cases = [
+        ("a file is refused", lambda: templates.add("b", '{{define "a"}}two{{end}}{{'), (4, b"", "tmpl: b:1: unclosed or unreadable action")),
+        ("the set is as it was", lambda: templates.render_bytes(data=b"1"), (0, b"one 1", "")),
+        ("data is refused", lambda: templates.render_bytes(data=b"[1.5]"), (5, b"", "tmpl: data: number not whole or out of range")),
+        ("the data is as it was", lambda: came_with(templates, "a"), (0, b"one 1", "")),
+        ("a name of a file is no text", lambda: templates.add(b"\xff", ""), (2, b"", "tmpl: arguments refused; see tmpl --help")),
+        ("a file behind it", lambda: templates.add("c", '{{define "a"}}three {{.}}{{end}}'), (0, b"", "")),
+        ("it replaces the first", lambda: templates.render_bytes(data=b"1"), (0, b"three 1", "")),
+        ("freed", templates.close, (0, b"", "")),
+        ("freed twice", templates.close, (0, b"", "")),
+        ("the set is empty", lambda: templates.render_bytes(), (4, b"", 'tmpl: no template "a"')),
+        ("the printed set is empty", lambda: templates.render_bytes(printed=True), (0, b"", "")),
+        ("it may be filled again", lambda: templates.add("a", "one {{.}}"), (0, b"", "")),
+        ("there is no data", lambda: templates.render_bytes(), nothing),
+    ]
+    for name, call, wanted in cases:
+        got = came_of(call)
+        yield f"kept: {name}", 1, [] if got == wanted else [f"    got {got}"]
+
+
+def came_with(templates, name):
+    """A render with the data that is there, as no wrapper makes one."""
+    status, out, err = templates.render_into(name.encode(), tmpl._Settings(), 64, 64)
+    return out.output() if status == 0 else err.output()
 
 
 def guarded(size):
@@ -227,7 +287,7 @@ def judge_names_of(path):
     """That the library shows no names but its own."""
     status, said = ran("nm", "-D", "--defined-only", path) if path.endswith(".so") else ran("nm", "-g", "--defined-only", path)
     names = [line.split()[-1] for line in said.splitlines() if len(line.split()) == 3]
-    return f"the names of {os.path.basename(path)}", 1, [] if names == ["tmpl_render"] and not status else [f"    {names}"]
+    return f"the names of {os.path.basename(path)}", 1, [] if sorted(names) == NAMES and not status else [f"    {names}"]
 
 
 # ---- documents and bindings
@@ -241,8 +301,7 @@ def programs():
 
 def judge_program(folder, language, text, wanted):
     """A program of the document, compiled and run."""
-    home = f"{folder}/{language}"
-    os.makedirs(home)
+    home = tempfile.mkdtemp(prefix=f"{language}-", dir=folder)
     run = {"c": run_c, "python": run_python, "go": run_go, "rust": run_rust}[language]
     got = run(home, text)
     lines = sum(bool(line.strip()) for line in text.splitlines())
@@ -317,11 +376,14 @@ def main(words):
         calls = [call for call in map(call_of, harness.read_rows()) if call]
         passed, failed, runs = harness.tally(map(judge, calls))
         failed += harness.too_few("rows went through the library", runs, LEAST)
+        told = harness.tally(map(judge_kept, calls))
+        failed += told[1] + harness.too_few("rows went through what is kept", told[2], LEAST)
+        passed += told[0]
         small = [call for call in calls if len(call.row.out) <= SIZES and len(call.line) <= 2 * SIZES]
         told = harness.tally(map(judge_sizes, small))
         failed += told[1] + harness.too_few("calls with room of some size", told[2], LEAST_SIZES)
         passed += told[0]
-        results = [*judge_names(), *judge_c(folder), *judge_header(folder)]
+        results = [*judge_names(), *judge_refusals(), *judge_c(folder), *judge_header(folder)]
         results += [judge_names_of(f"{OUT}/libtmpl.so"), judge_names_of(f"{OUT}/libtmpl.a")]
         results += [judge_program(folder, *it) for it in programs() if it[0] in ("c", "python")]
         told = harness.tally(results)

@@ -1,7 +1,9 @@
 /* tmpl: templates of the language of Go's text/template over data in JSON, as a library.
  *
- * One call does everything. It keeps nothing from one call to the next: no pointer, no memory, no state. So calls may
- * run in any number of threads, each with buffers of its own. Every call only borrows memory; nothing has to be freed.
+ * One call, tmpl_render, does everything. It keeps nothing from one call to the next: no pointer, no memory, no state. So
+ * calls may run in any number of threads, each with buffers of its own. It only borrows memory; nothing has to be freed.
+ *
+ * To render more than once, keep the templates in a tmpl_set and the data in a tmpl_data: see the end of this file.
  *
  * Strings have a size and no zero at their end. No pointer may be null, also where its size is 0: "" will do.
  *
@@ -71,6 +73,33 @@ typedef struct tmpl_buffer {
 uint8_t tmpl_render(const tmpl_settings *settings, const tmpl_file *files, size_t file_count,
                     const char *name, size_t name_size, const char *data, size_t data_size,
                     tmpl_buffer *out, tmpl_buffer *err);
+
+/* Templates and data that are kept: parsed and read once, and rendered as often as you like.
+ *
+ * All zeros are an empty one, as in `tmpl_set set = {0};`. Leave what is behind the pointer alone, make no copies, and
+ * give one of them to one call at a time, all on one thread. Free it once you are done: its memory is the library's. One
+ * that was freed is an empty one again, so that freeing it twice does no harm. */
+typedef struct tmpl_set { void *held; } tmpl_set;   /* empty: no templates */
+typedef struct tmpl_data { void *held; } tmpl_data; /* empty: no data, and dot is nothing */
+
+/* Adds the templates of a file to a set, behind those of the files before. Gives TMPL_OK, TMPL_NOT_TEXT, TMPL_REFUSED or
+ * TMPL_MEMORY, and `err` takes the line that tmpl_render would say. Where it is not TMPL_OK the set is as it was. */
+uint8_t tmpl_set_add(tmpl_set *set, const tmpl_file *file, tmpl_buffer *err);
+
+/* Frees a set. It is empty then. */
+void tmpl_set_free(tmpl_set *set);
+
+/* Reads one JSON value in the place of the data that was there; of size 0 there is no data. Gives TMPL_OK, TMPL_DATA or
+ * TMPL_MEMORY, and `err` takes the line. Where it is not TMPL_OK the data is as it was. */
+uint8_t tmpl_data_read(tmpl_data *data, const char *bytes, size_t size, tmpl_buffer *err);
+
+/* Frees data. It is empty then. */
+void tmpl_data_free(tmpl_data *data);
+
+/* Renders the template of this name of a set, with data that is kept, as tmpl_render does with the files and the data that
+ * these were made of. Both are as they were then. No two of the arguments are the same. */
+uint8_t tmpl_render_set(const tmpl_settings *settings, tmpl_set *set, tmpl_data *data, const char *name,
+                        size_t name_size, tmpl_buffer *out, tmpl_buffer *err);
 
 #ifdef __cplusplus
 }

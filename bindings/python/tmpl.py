@@ -29,6 +29,12 @@ class _Buffer(ctypes.Structure):
     _fields_ = [("bytes", ctypes.c_char_p), ("size", ctypes.c_size_t), ("taken", ctypes.c_size_t), ("needed", ctypes.c_size_t)]
 
 
+class _Kept(ctypes.Structure):
+    """A tmpl_set or a tmpl_data; all zeros are an empty one."""
+
+    _fields_ = [("held", ctypes.c_void_p)]
+
+
 def _library():
     beside = os.path.join(os.path.dirname(os.path.abspath(__file__)), "libtmpl.so")
     it = ctypes.CDLL(os.environ.get("LIBTMPL") or (beside if os.path.exists(beside) else "libtmpl.so.0"))
@@ -36,6 +42,13 @@ def _library():
     buffers = (ctypes.POINTER(_Buffer), ctypes.POINTER(_Buffer))
     it.tmpl_render.restype = ctypes.c_uint8
     it.tmpl_render.argtypes = [ctypes.POINTER(_Settings), ctypes.POINTER(_File), ctypes.c_size_t, *text, *text, *buffers]
+    kept, err = ctypes.POINTER(_Kept), ctypes.POINTER(_Buffer)
+    it.tmpl_set_add.restype = it.tmpl_data_read.restype = it.tmpl_render_set.restype = ctypes.c_uint8
+    it.tmpl_set_free.restype = it.tmpl_data_free.restype = None
+    it.tmpl_set_add.argtypes = [kept, ctypes.POINTER(_File), err]
+    it.tmpl_data_read.argtypes = [kept, *text, err]
+    it.tmpl_set_free.argtypes = it.tmpl_data_free.argtypes = [kept]
+    it.tmpl_render_set.argtypes = [ctypes.POINTER(_Settings), kept, kept, *text, *buffers]
     return it
 
 
@@ -75,12 +88,11 @@ def render_into(files, name, data, settings, size, line_size):
     return status, out, err
 
 
-def render_bytes(files, name=None, data=None, missing_key="default", depth=0, steps=0, printed=False):
-    """What `render` gives, as bytes, which need be no text."""
-    settings, data = _Settings(steps, depth, MISSING_KEY[missing_key], int(printed)), _json(data)
-    size, line_size = ROOM, ROOM
+def _whole(call, size=ROOM):
+    """The text of a call that is given memory for text and line, and called again with more where one of them does not fit."""
+    line_size = ROOM
     while True:
-        status, out, err = render_into(files, name, data, settings, size, line_size)
+        status, out, err = call(size, line_size)
         if status == MEMORY:
             raise MemoryError(err.output().decode("utf-8", "replace").rstrip("\n"))
         if status == OK:
@@ -90,6 +102,12 @@ def render_bytes(files, name=None, data=None, missing_key="default", depth=0, st
         size, line_size = max(size, out.buffer.needed), max(line_size, err.buffer.needed)
 
 
+def render_bytes(files, name=None, data=None, missing_key="default", depth=0, steps=0, printed=False):
+    """What `render` gives, as bytes, which need be no text."""
+    settings, data = _Settings(steps, depth, MISSING_KEY[missing_key], int(printed)), _json(data)
+    return _whole(lambda size, line_size: render_into(files, name, data, settings, size, line_size))
+
+
 def render(files, name=None, data=None, **options):
     """The text of the template of this name: by default that of the first file.
 
@@ -97,3 +115,60 @@ def render(files, name=None, data=None, **options):
     json.dumps takes. Options: missing_key ("default", "invalid", "zero", "error"), depth, steps (0 for the defaults), and printed=True
     for the printed set. Raises TemplateError, and MemoryError where memory is refused."""
     return render_bytes(files, name, data, **options).decode("utf-8", "replace")
+
+
+class Templates:
+    """Template files that are parsed once, and rendered as often as you like: `Templates(files).render(name, data)`.
+
+    `files` are as those of `render`. Data is read anew where its JSON differs from that of the render before. One object is for one
+    thread. Its memory is given back with it, or by `close`."""
+
+    def __init__(self, files=()):
+        self._set, self._data, self._read, self._first = _Kept(), _Kept(), None, None
+        for path, what in files.items() if hasattr(files, "items") else files:
+            self.add(path, what)
+
+    def add(self, path, what):
+        """Adds the templates of one more file, or raises TemplateError and leaves them as they are."""
+        path, what = _encoded(path), _encoded(what)
+        _whole(lambda size, line_size: self.add_into(path, what, line_size))
+        self._first = path.rpartition(b"/")[2] if self._first is None else self._first
+
+    def render_bytes(self, name=None, data=None, missing_key="default", depth=0, steps=0, printed=False):
+        """What `render` gives, as bytes."""
+        settings = _Settings(steps, depth, MISSING_KEY[missing_key], int(printed))
+        name = _encoded((self._first or b"") if name is None else name)
+        read = _json(data)
+        if read != self._read and not printed:
+            self._read = None
+            _whole(lambda size, line_size: self.read_into(read, line_size))
+            self._read = read
+        return _whole(lambda size, line_size: self.render_into(name, settings, size, line_size))
+
+    def render(self, name=None, data=None, **options):
+        """The text of the template of this name: by default that of the first file. Options and errors are those of `render`."""
+        return self.render_bytes(name, data, **options).decode("utf-8", "replace")
+
+    def add_into(self, path, what, line_size):
+        """One call: its status, and the memory that holds its line, as `render_into` gives it."""
+        err = _Lent(line_size)
+        return _LIBRARY.tmpl_set_add(self._set, _File(path, len(path), what, len(what)), err.buffer), _Lent(0), err
+
+    def read_into(self, data, line_size):
+        """The same of data."""
+        err = _Lent(line_size)
+        return _LIBRARY.tmpl_data_read(self._data, data, len(data), err.buffer), _Lent(0), err
+
+    def render_into(self, name, settings, size, line_size):
+        """The same of a render."""
+        out, err = _Lent(size), _Lent(line_size)
+        return _LIBRARY.tmpl_render_set(settings, self._set, self._data, name, len(name), out.buffer, err.buffer), out, err
+
+    def close(self):
+        """Frees templates and data. It has none then."""
+        _LIBRARY.tmpl_set_free(self._set)
+        _LIBRARY.tmpl_data_free(self._data)
+        self._read = None
+
+    def __del__(self):
+        self.close()

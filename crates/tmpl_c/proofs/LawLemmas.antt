@@ -15,8 +15,8 @@ use Rattle.tmpl_tool.specs.Tool as tool
 use Rattle.tmpl_tool.specs.Tool.{Parse, Stop, added, answer_of, asked_name, bad_words, data_found, data_in, loaded, named_run, no_read, or_stop}
 use Rattle.tmpl_tool.specs.Tool.{stop_answer, stop_if, with_file}
 use Rattle.tmpl_tool.proofs.StageLemmas.{with_words}
-use Rattle.tmpl_c.specs.Laws.{AnswersAsCommand, AnswersButForName, LendsData, LendsFiles, Prints, RefusesName, Runs, SameBut, StopsAtData}
-use Rattle.tmpl_c.specs.Laws.{StopsAtFile, StopsAtTemplate}
+use Rattle.tmpl_c.specs.Laws.{AddsInTurn, AnswersAsCommand, AnswersButForName, LendsData, LendsFiles, Prints, RefusesName, Runs, SameBut, StopsAtData}
+use Rattle.tmpl_c.specs.Laws.{RendersAsKept, StopsAtFile, StopsAtTemplate}
 use Rattle.tmpl_c.specs.Lent.{data_lent, each_added, lent_answer, render_answer, with_lent}
 
 -- a stage behind two is the same as one behind the second
@@ -135,3 +135,19 @@ answers_but_for_name one other parse rules print files name input = go input (ea
     go input (Ok set) true = (refl, refl, inl refl)
     go [] (Ok set) false = (refl, refl, inl refl)
     go (b ∷ bs) (Ok set) false = with_flaw set (data_of (b ∷ bs))
+
+-- ---- what is kept
+
+pub renders_as_kept : RendersAsKept
+renders_as_kept parse rules print files name input set loads value found =
+    ap (behind_files parse rules print name input) loads
+    ∙ ap (λ (r : Result (Option Value) Stop). answer_of (or_stop (stop_if print (tool.printed set)) (λ u. or_stop r (λ v. named_run rules name set v)))) found
+
+-- a stage behind which nothing comes
+or_no_more : (r : Result (List Template) Stop) → or_stop r (λ s. Ok s) ≡ r
+or_no_more (Ok s) = refl
+or_no_more (Err stop) = refl
+
+pub adds_in_turn : AddsInTurn
+adds_in_turn parse before f set loads =
+    each_part parse [] before (f ∷ []) ∙ ap (λ r. or_stop r (λ s. each_added parse s (f ∷ []))) loads ∙ or_no_more (with_lent parse set f)

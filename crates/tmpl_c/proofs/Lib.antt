@@ -1,3 +1,6 @@
+mod BoxValues
+mod DataHandles
 mod GatherLemmas
 mod LawLemmas
 mod LentLemmas
+mod SetHandles

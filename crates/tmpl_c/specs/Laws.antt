@@ -12,7 +12,8 @@ use Rattle.tmpl_tool.specs.Source.{Bytes, Files}
 use Rattle.tmpl_tool.specs.Tool.{Parse, Stop, asked_by, asked_name, bad_words, flawed, no_read, printed, refused}
 use Rattle.tmpl_tool.specs.Tool.{run_answer, stop_answer, tool_answer, unnamed}
 use Rattle.tmpl_tool.specs.Words.{Wanted}
-use Rattle.tmpl_c.specs.Lent.{data_lent, each_added, lent_answer, render_answer}
+use Rattle.tmpl_c.specs.Held.{held_answer}
+use Rattle.tmpl_c.specs.Lent.{data_lent, each_added, lent_answer, render_answer, with_lent}
 
 -- ---- the stages
 
@@ -94,3 +95,18 @@ AnswersButForName = (one other : Bytes) (parse : Parse) (rules : Rules) (print :
     (name input : Bytes) → let a = lent_answer one parse rules print files name input in
     let b = lent_answer other parse rules print files name input in
     (a.text ≡ b.text) × (a.status ≡ b.status) × SameBut one other a b
+
+-- ---- what is kept
+
+-- where every file and the data are accepted, a render of the set and the value that they make is a render of them
+abbrev pub RendersAsKept : Type 0
+RendersAsKept = (parse : Parse) (rules : Rules) (print : Bool) (files : List (Bytes × Bytes)) (name input : Bytes)
+    → (set : List Template) → each_added parse [] files ≡ Ok set
+    → (value : Option Value) → data_lent (codes "data") input ≡ Ok value
+    → render_answer parse rules print files name input ≡ held_answer rules print set name value
+
+-- behind files that are accepted, one more comes to what it comes to when it is added to the set that they make
+abbrev pub AddsInTurn : Type 0
+AddsInTurn = (parse : Parse) (before : List (Bytes × Bytes)) (f : Bytes × Bytes)
+    → (set : List Template) → each_added parse [] before ≡ Ok set
+    → each_added parse [] (before ++ f ∷ []) ≡ with_lent parse set f

@@ -2,3 +2,5 @@ pub mod computed
 pub mod Filled
 pub mod Laws
 pub mod Lent
+pub mod Handles
+pub mod Held

@@ -1,6 +1,6 @@
 //! The laws of the library: its stages, and that it answers as the command does.
-ghost use Rattle.tmpl_c.specs.Laws.{AnswersAsCommand, AnswersButForName, Prints, RefusesName, Runs, StopsAtData};
-ghost use Rattle.tmpl_c.specs.Laws.{StopsAtFile, StopsAtTemplate};
+ghost use Rattle.tmpl_c.specs.Laws.{AddsInTurn, AnswersAsCommand, AnswersButForName, Prints, RefusesName};
+ghost use Rattle.tmpl_c.specs.Laws.{RendersAsKept, Runs, StopsAtData, StopsAtFile, StopsAtTemplate};
 
 /// The laws of the stages: the files in turn, the printed set, the data, the name, and the run.
 pub fn stages()
@@ -16,4 +16,10 @@ pub fn stages()
 pub fn as_command()
     ensures same { AnswersAsCommand }
     ensures named { AnswersButForName }
+{}
+
+/// The laws of what is kept: a render of it is one of the files and the data that it was made of.
+pub fn kept()
+    ensures render { RendersAsKept }
+    ensures files { AddsInTurn }
 {}

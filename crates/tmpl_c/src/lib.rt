@@ -1,22 +1,30 @@
 //! The engine for C: one call over memory that the caller lends, which keeps nothing.
 #![tactic(auto)]
 
-ghost use Rattle.std.specs.Prelude.{eqb};
+ghost use Rattle.std.specs.Prelude.{◌≡◌, None, codes, eqb};
 ghost use Rattle.tmpl_tool.specs.Tool.{IsParse, Parse};
 ghost use Rattle.tmpl_c.specs.Filled.{Rendered, room, seen};
-ghost use Rattle.tmpl_c.specs.Lent.{pairs_of, render_answer, rules_in};
+ghost use Rattle.tmpl_c.specs.Held.{Keeps, held_answer, templates_in, value_in};
+ghost use Rattle.tmpl_c.specs.Lent.{data_lent, pair_of, pairs_of, render_answer, rules_in, with_lent};
 
 mod buffer;
+mod data_handle;
 mod gathered;
+mod held;
+mod keep;
 mod laws;
 mod lent;
 mod load;
+mod loose;
 mod render;
+mod set_handle;
 mod settings;
 
 pub use buffer::Buffer;
-pub use laws::{as_command, stages};
+pub use data_handle::DataHandle;
+pub use laws::{as_command, kept, stages};
 pub use lent::File;
+pub use set_handle::SetHandle;
 pub use settings::Settings;
 use std::alloc::Global;
 
@@ -46,4 +54,83 @@ pub extern "C" fn tmpl_render(
     err.taken = told.line.taken;
     err.needed = told.line.needed;
     told.status
+}
+
+/// Adds the templates of a file to a set that the caller keeps, or says why not: with status 0 nothing is said, and
+/// else the set is as it was. The statuses are those of a render whose files are the set's and this one.
+#[unsafe(no_mangle)]
+pub extern "C" fn tmpl_set_add(
+    alloc: Global,
+    set: &mut SetHandle,
+    file: &File<'_>,
+    err: &mut Buffer<'_>,
+) -> u8
+    ensures { (parse : Parse) → IsParse parse → Keeps (with_lent parse (templates_in set.old.held) (pair_of file.now))
+        (templates_in set.old.held) (templates_in set.new.held) (room err.old) (seen err.new) result }
+{
+    let said = keep::add(alloc, set, file, err.bytes);
+    err.taken = said.line.taken;
+    err.needed = said.line.needed;
+    said.status
+}
+
+/// Frees a set, which has no templates then.
+#[unsafe(no_mangle)]
+pub extern "C" fn tmpl_set_free(alloc: Global, set: &mut SetHandle)
+    ensures { set.new.held ≡ None }
+{
+    drop(set.take(alloc));
+}
+
+/// Reads data in JSON and keeps it, or says why not: with status 0 nothing is said, and else the data is as it was. No
+/// bytes are no data.
+#[unsafe(no_mangle)]
+pub extern "C" fn tmpl_data_read(
+    alloc: Global,
+    kept: &mut DataHandle,
+    input: &[u8],
+    err: &mut Buffer<'_>,
+) -> u8
+    ensures { Keeps (data_lent (codes "data") input.now) (value_in kept.old.held) (value_in kept.new.held)
+        (room err.old) (seen err.new) result }
+{
+    let said = keep::read(alloc, kept, input, err.bytes);
+    err.taken = said.line.taken;
+    err.needed = said.line.needed;
+    said.status
+}
+
+/// Frees data, which is none then.
+#[unsafe(no_mangle)]
+pub extern "C" fn tmpl_data_free(alloc: Global, kept: &mut DataHandle)
+    ensures { kept.new.held ≡ None }
+{
+    drop(kept.take(alloc));
+}
+
+/// Renders the template of this name of a set that the caller keeps, with data that it keeps, as `tmpl_render` does of
+/// the files and the data that these were made of. Both stay as they are.
+#[unsafe(no_mangle)]
+pub extern "C" fn tmpl_render_set(
+    alloc: Global,
+    settings: &Settings,
+    set: &mut SetHandle,
+    kept: &mut DataHandle,
+    name: &[u8],
+    out: &mut Buffer<'_>,
+    err: &mut Buffer<'_>,
+) -> u8
+    ensures outcome { Rendered
+        (held_answer (rules_in settings.now) (eqb settings.now.print 1) (templates_in set.old.held) name.now
+        (value_in kept.old.held))
+        (room out.old) (seen out.new) (room err.old) (seen err.new) result }
+    ensures set { set.new.held ≡ set.old.held }
+    ensures kept { kept.new.held ≡ kept.old.held }
+{
+    let came = held::render(alloc, settings, set, kept, name, out.bytes, err.bytes);
+    out.taken = came.text.taken;
+    out.needed = came.text.needed;
+    err.taken = came.line.taken;
+    err.needed = came.line.needed;
+    came.status
 }

@@ -1,5 +1,5 @@
 //! The files added and the data read, or why they are not.
-ghost use Rattle.std.specs.Prelude.{◌≡◌, ◌<◌, ◌^◌, ◌-◌, codes, option_map};
+ghost use Rattle.std.specs.Prelude.{◌≡◌, ◌<◌, ◌^◌, ◌-◌, IfErr, codes, option_map};
 ghost use Rattle.tmpl_values.specs.View.{value_of};
 ghost use Rattle.tmpl_syntax.specs.View.{set_view};
 ghost use Rattle.tmpl_syntax.specs.computed.Parse.{parsed};
@@ -31,8 +31,10 @@ pub(crate) enum Halt<'a> {
 }
 
 /// Adds the templates of a file to the set.
-fn add_file<'a>(alloc: Global, set: &mut Set, file: &'a File<'a>) -> Result<(), Halt<'a>>
-    ensures { ComesTo (λ u. set_view set.new) (with_lent parsed (set_view set.old) (pair_of file.entry.now)) result }
+pub(crate) fn add_file<'a>(alloc: Global, set: &mut Set, file: &'a File<'a>) -> Result<(), Halt<'a>>
+    ensures comes { ComesTo (λ u. set_view set.new) (with_lent parsed (set_view set.old) (pair_of file.entry.now))
+        result }
+    ensures kept { IfErr result (λ h. set_view set.new ≡ set_view set.old) }
 {
     let Ok(name) = str::from_utf8(file.name) else {
         return Err(Halt::NotText);

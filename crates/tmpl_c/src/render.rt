@@ -1,12 +1,15 @@
 //! A render into lent memory.
-ghost use Rattle.std.specs.Prelude.{◌≡◌, ◌≢◌, ◌<◌, ◌^◌, ◌-◌, eqb, false, length};
+ghost use Rattle.std.specs.Prelude.{◌≡◌, ◌≢◌, ◌<◌, ◌^◌, ◌-◌, eqb, false, length, option_map};
+ghost use Rattle.tmpl_values.specs.View.{value_of};
+ghost use Rattle.tmpl_syntax.specs.View.{set_view};
 ghost use Rattle.tmpl_meaning.specs.Sink.{sunk};
-ghost use Rattle.tmpl_tool.specs.Outcome.{Outcome, memory_line, write_line};
+ghost use Rattle.tmpl_tool.specs.Outcome.{Answer, Outcome, memory_line, write_line};
 ghost use Rattle.tmpl_tool.specs.Tool.{IsParse, Parse};
 ghost use Rattle.tmpl_c.specs.Filled.{Fills, Rendered};
+ghost use Rattle.tmpl_c.specs.Held.{held_answer};
 ghost use Rattle.tmpl_c.specs.Lent.{pairs_of, render_answer, rules_in};
 ghost use Rattle.tmpl_c.specs.computed.Extents.{extent_seen};
-ghost use Rattle.tmpl_c.specs.computed.Gathering.{told_of};
+ghost use Rattle.tmpl_c.specs.computed.Gathering.{told_of, untouched};
 
 use crate::gathered::Gathered;
 use crate::lent::File;
@@ -15,6 +18,7 @@ use crate::settings::{Settings, options_in};
 use std::alloc::Global;
 use tmpl_syntax::Set;
 use tmpl_tool::{print, render_named};
+use tmpl_values::Data;
 
 /// The line where the text does not fit.
 static FULL: &[u8] = b"tmpl: write failed\n";
@@ -77,6 +81,16 @@ fn render_to(
     .code
 }
 
+/// Nothing yet.
+fn gathered(alloc: Global) -> Gathered
+    ensures { told_of result ≡ untouched }
+{
+    Gathered {
+        bytes: Vec::new(alloc),
+        failures: 0,
+    }
+}
+
 /// Whether memory was refused, by the status or by a sink.
 fn is_refused(code: u8, text: &Gathered, line: &Gathered) -> bool
     ensures { result ≡ false → (code ≢ 7) × (text.now.failures ≡ 0) × (line.now.failures ≡ 0) }
@@ -85,7 +99,7 @@ fn is_refused(code: u8, text: &Gathered, line: &Gathered) -> bool
 }
 
 /// Copies as many of the bytes to memory as there is room for.
-fn copy_to(memory: &mut [u8], bytes: &[u8]) -> Extent
+pub(crate) fn copy_to(memory: &mut [u8], bytes: &[u8]) -> Extent
     ensures { Fills bytes.now (length memory.old) (extent_seen memory.new result) }
 {
     let taken = memory.len().min(bytes.len());
@@ -104,39 +118,21 @@ fn say_full(err: &mut [u8]) -> Extent
 }
 
 /// Says in lent memory that memory was refused.
-fn say_refused(err: &mut [u8]) -> Extent
+pub(crate) fn say_refused(err: &mut [u8]) -> Extent
     ensures { Fills memory_line (length err.old) (extent_seen err.new result) }
 {
     copy_to(err, REFUSED)
 }
 
-/// Renders into lent memory, and says why the text is not all there.
-pub(crate) fn fill(
-    alloc: Global,
-    settings: &Settings,
-    files: &[File<'_>],
-    name: &[u8],
-    input: &[u8],
-    out: &mut [u8],
-    err: &mut [u8],
-) -> Filled
-    ensures { (parse : Parse) → IsParse parse → Rendered
-        (render_answer parse (rules_in settings.now) (eqb settings.now.print 1) (pairs_of files.now) name.now input.now)
-        (length out.old) (extent_seen out.new result.text) (length err.old) (extent_seen err.new result.line)
-        result.status }
+/// Copies what was gathered to lent memory, and says why the text is not all there.
+fn hand_over(code: u8, text: &Gathered, line: &Gathered, out: &mut [u8], err: &mut [u8]) -> Filled
+    ensures { (a : Answer) → Outcome a (sunk untouched (told_of text.now)) (sunk untouched (told_of line.now)) code
+        → Rendered a (length out.old) (extent_seen out.new result.text)
+        (length err.old) (extent_seen err.new result.line) result.status }
 {
-    let mut text = Gathered {
-        bytes: Vec::new(alloc),
-        failures: 0,
-    };
-    let mut line = Gathered {
-        bytes: Vec::new(alloc),
-        failures: 0,
-    };
-    let code = render_to(alloc, settings, files, name, input, &mut text, &mut line);
     let room = out.len();
     let put = copy_to(out, text.bytes.as_slice());
-    if is_refused(code, &text, &line) {
+    if is_refused(code, text, line) {
         return Filled {
             status: 7,
             text: put,
@@ -155,4 +151,70 @@ pub(crate) fn fill(
         text: put,
         line: copy_to(err, line.bytes.as_slice()),
     }
+}
+
+/// Renders into lent memory, and says why the text is not all there.
+pub(crate) fn fill(
+    alloc: Global,
+    settings: &Settings,
+    files: &[File<'_>],
+    name: &[u8],
+    input: &[u8],
+    out: &mut [u8],
+    err: &mut [u8],
+) -> Filled
+    ensures { (parse : Parse) → IsParse parse → Rendered
+        (render_answer parse (rules_in settings.now) (eqb settings.now.print 1) (pairs_of files.now) name.now input.now)
+        (length out.old) (extent_seen out.new result.text) (length err.old) (extent_seen err.new result.line)
+        result.status }
+{
+    let mut text = gathered(alloc);
+    let mut line = gathered(alloc);
+    let code = render_to(alloc, settings, files, name, input, &mut text, &mut line);
+    hand_over(code, &text, &line, out, err)
+}
+
+/// Prints a set, or runs the template of this name of it.
+fn render_held(
+    alloc: Global,
+    settings: &Settings,
+    set: &Set,
+    name: &[u8],
+    data: Option<&Data>,
+    out: &mut Gathered,
+    err: &mut Gathered,
+) -> u8
+    requires out { out.old.failures < 2 ^ 64 - 1 }
+    requires err { err.old.failures < 2 ^ 64 - 1 }
+    ensures outcome { Outcome
+        (held_answer (rules_in settings.now) (eqb settings.now.print 1) (set_view set.now) name.now
+        (option_map (λ d. value_of d.now) «data».entry))
+        (sunk (told_of out.old) (told_of out.new)) (sunk (told_of err.old) (told_of err.new)) result }
+{
+    match settings.print {
+        1 => print(alloc, set, out, err).code,
+        _ => render_named(alloc, &options_in(settings), set, name, data, out, err).code,
+    }
+}
+
+/// Renders what is kept into lent memory, and says why the text is not all there.
+pub(crate) fn fill_held(
+    alloc: Global,
+    settings: &Settings,
+    set: &Set,
+    name: &[u8],
+    data: Option<&Data>,
+    out: &mut [u8],
+    err: &mut [u8],
+) -> Filled
+    ensures { Rendered
+        (held_answer (rules_in settings.now) (eqb settings.now.print 1) (set_view set.now) name.now
+        (option_map (λ d. value_of d.now) «data».entry))
+        (length out.old) (extent_seen out.new result.text) (length err.old) (extent_seen err.new result.line)
+        result.status }
+{
+    let mut text = gathered(alloc);
+    let mut line = gathered(alloc);
+    let code = render_held(alloc, settings, set, name, data, &mut text, &mut line);
+    hand_over(code, &text, &line, out, err)
 }

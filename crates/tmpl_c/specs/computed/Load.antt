@@ -1,7 +1,9 @@
 -- What the stages of a call answer.
-use Rattle.std.specs.Prelude.{◌≡◌, Option, Some, Result, Ok, Err, IfSome}
+use Rattle.std.specs.Prelude.{◌≡◌, ◌⊎◌, ℕ, Option, Some, Result, Ok, Err, IfSome}
 use Rattle.tmpl_tool.specs.Inputs.{stop_seen}
+use Rattle.tmpl_tool.specs.Outcome.{Answer, memory_line}
 use Rattle.tmpl_tool.specs.Tool.{Stop, bad_words}
+use Rattle.tmpl_c.specs.Filled.{Fills, Seen}
 use Rattle.tmpl_c.specs.declared.load.Halt.{Halt}
 use Rattle.tmpl_c.specs.declared.load.Halt.TheVariants as halt
 
@@ -13,3 +15,7 @@ halt_seen (halt.Stop s) = stop_seen s
 abbrev pub ComesTo : {T U : Type 0} → (T → U) → Result U Stop → Result T Halt → Type 0
 ComesTo seen stage (Ok t) = stage ≡ Ok (seen t)
 ComesTo seen stage (Err h) = IfSome (halt_seen h) (λ s. stage ≡ Err s)
+
+-- a stop is said, or want of memory is
+abbrev pub IsSaid : Answer → ℕ → Seen → ℕ → Type 0
+IsSaid a room err code = (Fills a.line room err × (code ≡ a.status)) ⊎ (Fills memory_line room err × (code ≡ 7))

@@ -1,4 +1,4 @@
-use Rattle.std.proofs.Common.{Bor, ap, false}
+use Rattle.std.proofs.Common.{Bor, ap, false, refl}
 use Rattle.std.proofs.lemmas.Bool.{false_from_ne_true}
 use Rattle.std.proofs.lemmas.Str.{IsUtf8-from_is_utf8}
 use Rattle.tmpl_syntax.specs.View.{set_view}
@@ -11,16 +11,21 @@ use Rattle.tmpl_c.proofs.LentLemmas.{file_added, file_refused, text_added}
 use Rattle.tmpl_c.proofs.load.add_file.Goals as goal
 
 pub returns-in_default : goal.returns-in_default
-returns-in_default c =
-    named_by parsed (set_view c.args.set.now) (pair_of c.args.file.now) false
-    (false_from_ne_true _ (λ e. c.in_default.ensures.cases.0 (IsUtf8-from_is_utf8 _ e)))
+returns-in_default c = record {
+  comes = named_by parsed (set_view c.args.set.now) (pair_of c.args.file.now) false
+      (false_from_ne_true _ (λ e. c.in_default.ensures.cases.0 (IsUtf8-from_is_utf8 _ e)));
+  kept = refl;
+}
 
 pub returns-in-Ok-parse_file : goal.returns-in-Ok-parse_file
 returns-in-Ok-parse_file c =
     let old = set_view c.args.set.now in
     let f = pair_of c.args.file.now in
     let is = c.in-Ok.ensures.cases in
-    file_added old f c.in-Ok.name.now _ (text_added old f c.in-Ok.name.now is.0 is.1) c.in-Ok-parse_file.ensures.value
+    record {
+      comes = file_added old f c.in-Ok.name.now _ (text_added old f c.in-Ok.name.now is.0 is.1) c.in-Ok-parse_file.ensures.value;
+      kept = tt;
+    }
 
 pub returns-in-Err : goal.returns-in-Err
 returns-in-Err c =
@@ -28,5 +33,8 @@ returns-in-Err c =
     let f = pair_of c.args.file.now in
     let is = c.in-Ok.ensures.cases in
     let told = c.in-Err.ensures.value in
-    file_refused old f c.in-Ok.name.now c.in-Err.fault (reason_of c.in-Err.fault.kind) (ap (λ (n : Bor Bytes). n.now) told.0)
-    (text_added old f c.in-Ok.name.now is.0 is.1) told.2
+    record {
+      comes = file_refused old f c.in-Ok.name.now c.in-Err.fault (reason_of c.in-Err.fault.kind) (ap (λ (n : Bor Bytes). n.now) told.0)
+          (text_added old f c.in-Ok.name.now is.0 is.1) told.2;
+      kept = told.1;
+    }

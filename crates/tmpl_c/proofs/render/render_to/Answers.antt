@@ -5,7 +5,6 @@ use Rattle.tmpl_values.specs.View.{value_of}
 use Rattle.tmpl_syntax.specs.View.{set_view}
 use Rattle.tmpl_meaning.specs.Meaning.{Rules}
 use Rattle.tmpl_meaning.specs.Sink.{sunk}
-use Rattle.tmpl_meaning.specs.View.{rules_of}
 use Rattle.tmpl_tool.specs.Outcome.{Outcome}
 use Rattle.tmpl_tool.specs.Tool.{answer_of, named_run}
 use Rattle.tmpl_c.specs.Lent.{pairs_of, rules_in}

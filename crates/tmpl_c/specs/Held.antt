@@ -1,0 +1,51 @@
+-- What is kept by handles, and a call that keeps or renders it.
+use Rattle.std.specs.Prelude.{◌≡◌, ◌⊎◌, ℕ, Bool, List, [], Option, Some, None, Result, Ok, Err, option_map}
+use Rattle.tmpl_values.specs.Value.{Value}
+use Rattle.tmpl_values.specs.View.{value_of}
+use Rattle.tmpl_values.specs.declared.data.Data.{Data}
+use Rattle.tmpl_syntax.specs.Set.{Template}
+use Rattle.tmpl_syntax.specs.View.{set_view}
+use Rattle.tmpl_syntax.specs.declared.set.Set.{Set}
+use Rattle.tmpl_meaning.specs.Meaning.{Rules}
+use Rattle.tmpl_tool.specs.Outcome.{Answer, memory_line}
+use Rattle.tmpl_tool.specs.Source.{Bytes}
+use Rattle.tmpl_tool.specs.Tool.{Stop, answer_of, named_run, or_stop, printed, stop_answer, stop_if}
+use Rattle.tmpl_c.specs.Filled.{Fills, Seen}
+
+-- ---- what is kept
+
+-- the templates of a set that is kept; none before the first file
+abbrev pub templates_in : Option Set → List Template
+templates_in None = []
+templates_in (Some set) = set_view set
+
+-- the value of data that is kept, if any is
+abbrev pub value_in : Option Data → Option Value
+value_in kept = option_map value_of kept
+
+-- ---- an offer
+
+-- what was offered was accepted, and is kept: no line, and status 0
+abbrev pub Accepted : {T : Type 0} → Result T Stop → T → ℕ → Seen → ℕ → Type 0
+Accepted offered new room err code = (offered ≡ Ok new) × Fills [] room err × (code ≡ 0)
+
+-- it is refused, what was kept before is kept, and the line and the status are those of why
+abbrev pub Declined : {T : Type 0} → Result T Stop → T → T → ℕ → Seen → ℕ → Type 0
+Declined offered old new room err code = (stop : Stop) × (offered ≡ Err stop) × (new ≡ old)
+    × Fills (stop_answer stop).line room err × (code ≡ (stop_answer stop).status)
+
+-- memory was refused, and what was kept before is kept
+abbrev pub Unmade : {T : Type 0} → T → T → ℕ → Seen → ℕ → Type 0
+Unmade old new room err code = (new ≡ old) × Fills memory_line room err × (code ≡ 7)
+
+-- one of the three
+abbrev pub Keeps : {T : Type 0} → Result T Stop → T → T → ℕ → Seen → ℕ → Type 0
+Keeps offered old new room err code =
+    Accepted offered new room err code ⊎ (Declined offered old new room err code ⊎ Unmade old new room err code)
+
+-- ---- a render
+
+-- the printed set, or else the name, and the run
+abbrev pub held_answer : Rules → Bool → List Template → Bytes → Option Value → Answer
+held_answer rules print set name value = answer_of
+    (or_stop (stop_if print (printed set)) (λ u. named_run rules name set value))

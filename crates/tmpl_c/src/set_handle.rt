@@ -1,0 +1,83 @@
+//! A set of templates that the caller keeps: none where it is all zeros.
+ghost use Rattle.std.specs.Prelude.{◌≡◌, option_map};
+ghost use Rattle.std.specs.Coded.{coded_option};
+ghost use Rattle.std.specs.declared.option.Option.{Option};
+ghost use Rattle.std.specs.declared.option.Option.TheVariants.{None, Some};
+ghost use Rattle.tmpl_syntax.specs.declared.set.Set.{Set};
+ghost use Rattle.tmpl_syntax.specs.contracts.set.Set.{the_row};
+
+use crate::loose::Loose;
+use std::alloc::Global;
+use std::marker::Model;
+use std::mem;
+use std::ptr::null_mut;
+use tmpl_syntax::Set;
+
+/// A set of templates that the caller keeps: none where it is all zeros.
+///
+/// C keeps it as one pointer. What is behind the pointer is the library's.
+#[repr(C)]
+pub struct SetHandle {
+    at: *mut u8,
+    pub ghost held: { Option Set } by { coded_option the_row.coded },
+}
+
+impl Model for SetHandle {
+    ghost use Rattle.tmpl_syntax.specs.contracts.set.Set.{the_row};
+    ghost use Rattle.tmpl_c.specs.Handles.{kept};
+
+    ghost also_owns = { λ h. kept the_row h.at h.held };
+}
+
+impl SetHandle {
+    fn empty() -> SetHandle
+        ensures { result.held ≡ None }
+    {
+        SetHandle { at: null_mut() }
+    }
+
+    fn of(loose: Loose<Set, Global>) -> SetHandle
+        ensures { result.held ≡ Some loose.value }
+    {
+        let Loose { at, alloc: _ } = loose;
+        SetHandle { at: at as *mut u8 }
+    }
+
+    fn open(self, alloc: Global) -> Option<Loose<Set, Global>>
+        ensures { option_map (λ l. l.value) result ≡ self.held }
+    {
+        let SetHandle { at } = self;
+        if at.is_null() {
+            None
+        } else {
+            Some(Loose {
+                at: at as *mut Set,
+                alloc,
+            })
+        }
+    }
+
+    fn into_box(self, alloc: Global) -> Option<Box<Set>>
+        ensures { option_map (λ b. b.value) result ≡ self.held }
+    {
+        match self.open(alloc) {
+            None => None,
+            Some(loose) => Some(loose.into_box()),
+        }
+    }
+
+    /// Takes out what is kept.
+    pub(crate) fn take(&mut self, alloc: Global) -> Option<Box<Set>>
+        ensures taken { option_map (λ b. b.value) result ≡ self.old.held }
+        ensures left { self.new.held ≡ None }
+    {
+        mem::replace(self, SetHandle::empty()).into_box(alloc)
+    }
+
+    /// Keeps this, and frees what was kept.
+    pub(crate) fn put(&mut self, alloc: Global, value: Box<Set>)
+        ensures { self.new.held ≡ Some value.value }
+    {
+        drop(mem::replace(self, SetHandle::of(Loose::of(value))).into_box(alloc));
+    }
+}
