@@ -26,8 +26,7 @@ use Rattle.std.specs.declared.option.Option.TheVariants.{None, Some}
 use Rattle.std.specs.declared.alloc.Global.{Global}
 use Rattle.std.specs.contracts.impls.GlobalAllocator.TheImpl.{ghosts}
 use Rattle.std.proofs.GlobalToken.{dealloc_token-Testable}
-use Rattle.libc.specs.Heap.{chunk}
-use Rattle.tmpl_c.specs.Handles.{kept}
+use Rattle.tmpl_c.specs.Handles.{chunk, kept}
 use Rattle.tmpl_c.specs.contracts.set_handle.SetHandle as handle
 use Rattle.tmpl_syntax.specs.contracts.set.Set as held
 
