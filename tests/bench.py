@@ -385,16 +385,51 @@ def bench_renders(folder):
             judge("tmpl to Go", ours[0] / theirs[0][0], most)
 
 
+JINJA = {
+    "examples/hello": "Hello, {{ data.user.name }}!\n",
+    "a table of 20,000 rows": "{% for row in data %}<tr><td>{{ row.id }}</td><td>{{ row.name }}</td>"
+    "<td>{% if row.ok %}yes{% else %}no{% endif %}</td></tr>\n{% endfor %}",
+}
+
+
+def tell_library(who, least, middle, size):
+    print(f"    {who}: the least of 31 {least / 1000:.2f} µs, the median {middle / 1000:.2f} µs, {size} bytes of text")
+
+
+def time_jinja(source, held, count):
+    """Renders by Jinja2 of what was parsed and read once, or none where it is not there."""
+    try:
+        import jinja2
+    except ImportError:
+        return None
+    template, times = jinja2.Environment().from_string(source), []
+    with open(held, "rb") as file:
+        data = json.load(file)
+    for _ in range(31):
+        start = time.perf_counter()
+        for _ in range(count):
+            text = template.render(data=data)
+        times.append((time.perf_counter() - start) / count * 1e9)
+    return min(times), statistics.median(times), len(text.encode())
+
+
 def bench_library(folder):
-    """Renders by the C library in one process, with the parse of the template and the read of the data each time."""
-    print("Renders by the C library, the template parsed and the data read each time")
-    speed, out = f"{folder}/speed", f"{harness.TOP}/bindings/out/libtmpl.a"
-    subprocess.run(["cc", "-O2", f"-I{harness.TOP}/bindings/c", f"{harness.TESTS}/speed.c", out, "-o", speed], check=True)
+    """Renders in one process by the C library, beside Go's and Jinja2 where they are there."""
+    print("Renders in one process")
+    go, speed, library = go_renderer(folder), f"{folder}/speed", f"{harness.TOP}/bindings/out/libtmpl.a"
+    subprocess.run(["cc", "-O2", f"-I{harness.TOP}/bindings/c", f"{harness.TESTS}/speed.c", library, "-o", speed], check=True)
     for name, pieces, held, _ in renders(folder):
-        if name in ("examples/hello", "a table of 20,000 rows"):
-            file, count = write(f"{folder}/template", pieces), 10_000 if name == "examples/hello" else 1
-            least, middle, size = map(int, subprocess.run([speed, file, held, str(count)], stdout=subprocess.PIPE, check=True).stdout.split())
-            print(f"  {name}, {size} bytes of text: the least of 31 {least / 1e6:.4f} ms, the median {middle / 1e6:.4f} ms")
+        if name not in JINJA:
+            continue
+        file, count = write(f"{folder}/template", pieces), 10_000 if name == "examples/hello" else 1
+        for how, kept in (("parsed and read each time", []), ("parsed and read once", ["kept"])):
+            print(f"  {name}, {how}")
+            for who, words in (("tmpl", [speed]), ("Go", [go, "times"])):
+                if words[0]:
+                    told = subprocess.run([*words, file, held, str(count), *kept], stdout=subprocess.PIPE, check=True).stdout
+                    tell_library(who, *map(int, told.split()))
+            if kept and (told := time_jinja(JINJA[name], held, count)):
+                tell_library("Jinja2", *told)
 
 
 def main():

@@ -2,6 +2,9 @@
 //
 //	main render TEMPLATE [DATA]   renders one file, with the data of a JSON file, to standard output
 //	main cases < CASES            renders each case of a JSON list, and puts out what came of each
+//	main times TEMPLATE DATA COUNT [kept]
+//	                              renders so often, and tells the least and the middle time of one render in nanoseconds and
+//	                              the bytes of its text, with the parse and the read of the data each time, or once
 package main
 
 import (
@@ -12,7 +15,10 @@ import (
 	"io"
 	"os"
 	"path/filepath"
+	"sort"
+	"strconv"
 	"text/template"
+	"time"
 )
 
 type File struct {
@@ -129,6 +135,53 @@ func renderFile(file string, rest []string) error {
 	return out.Flush()
 }
 
+func timeRenders(template, held, times string, kept bool) error {
+	text, err := os.ReadFile(template)
+	if err != nil {
+		return err
+	}
+	bytes, err := os.ReadFile(held)
+	if err != nil {
+		return err
+	}
+	count, err := strconv.Atoi(times)
+	if err != nil {
+		return err
+	}
+	return tellTimes(string(text), bytes, count, kept)
+}
+
+func tellTimes(text string, held []byte, count int, kept bool) error {
+	var out bytes.Buffer
+	set, data, err := parsed(text, held)
+	each := make([]float64, 31)
+	for i := range each {
+		start := time.Now()
+		for k := 0; k < count && err == nil; k++ {
+			if !kept {
+				set, data, err = parsed(text, held)
+			}
+			if err == nil {
+				out.Reset()
+				err = set.Execute(&out, data)
+			}
+		}
+		each[i] = float64(time.Since(start).Nanoseconds()) / float64(count)
+	}
+	sort.Float64s(each)
+	fmt.Printf("%.0f %.0f %d\n", each[0], each[len(each)/2], out.Len())
+	return err
+}
+
+func parsed(text string, held []byte) (*template.Template, any, error) {
+	data, err := read(held)
+	if err != nil {
+		return nil, nil, err
+	}
+	set, err := template.New("m").Parse(text)
+	return set, data, err
+}
+
 func main() {
 	var err error
 	switch words := os.Args[1:]; {
@@ -136,8 +189,10 @@ func main() {
 		err = answerAll()
 	case len(words) >= 2 && words[0] == "render":
 		err = renderFile(words[1], words[2:])
+	case len(words) >= 4 && words[0] == "times":
+		err = timeRenders(words[1], words[2], words[3], len(words) == 5)
 	default:
-		err = fmt.Errorf("words: render TEMPLATE [DATA], or cases")
+		err = fmt.Errorf("words: render TEMPLATE [DATA], times TEMPLATE DATA COUNT [kept], or cases")
 	}
 	if err != nil {
 		fmt.Fprintln(os.Stderr, err)
