@@ -4,7 +4,10 @@ use Rattle.std.specs.Prelude.{ℕ, Bool, true, false, ◌&&◌, List, [], ◌∷
 use Rattle.std.specs.Prelude.{if◌then◌else◌}
 use Rattle.std.specs.List.{list_all}
 use Rattle.std.specs.Str.{bytes_eq}
+use Rattle.core.specs.declared.hash.sip.DefaultHasher.{DefaultHasher}
+use Rattle.core.specs.Hash.DefaultHasher.{with_keys}
 use Rattle.tmpl_lex.specs.Bytes.{is_space}
+use Rattle.tmpl_syntax.specs.declared.name_hash.NameHash.{NameHash}
 use Rattle.tmpl_syntax.specs.Tree as tree
 use Rattle.tmpl_syntax.specs.Tree.{NodeKind, text}
 use Rattle.tmpl_syntax.specs.Tree.{Nodes, Tree}
@@ -47,3 +50,7 @@ defined (t ∷ ts) name tree =
 abbrev pub defined_each : List Template → List Template → List Template
 defined_each set [] = set
 defined_each set (t ∷ ts) = defined_each (defined set t.0 t.1) ts
+
+-- what a set writes each name to, from its two keys
+abbrev pub first_hasher : NameHash → DefaultHasher
+first_hasher h = with_keys h.first h.second

@@ -1,5 +1,10 @@
 //! How a set hashes names.
-use std::hash::{BuildHasher, DefaultHasher, Hasher};
+ghost use Rattle.std.specs.Prelude.{◌≡◌};
+ghost use Rattle.core.specs.Hash.DefaultHasher.{with_keys};
+ghost use Rattle.tmpl_syntax.specs.Set.{first_hasher};
+
+use core::hash::keyed_hasher;
+use std::hash::{BuildHasher, DefaultHasher};
 
 /// How a set hashes the names of its templates. What it holds, and in which order, is the same for every choice.
 ///
@@ -7,33 +12,32 @@ use std::hash::{BuildHasher, DefaultHasher, Hasher};
 /// host that takes templates from strangers gives keys that they cannot know.
 #[derive(Clone, Copy)]
 pub struct NameHash {
-    /// What each name is written to.
-    start: DefaultHasher,
+    first: u64,
+    second: u64,
 }
 
 impl NameHash {
     /// By keys that everyone knows.
-    pub fn fixed() -> NameHash {
-        NameHash {
-            start: DefaultHasher::new(),
-        }
+    pub fn fixed() -> NameHash
+        ensures { first_hasher result ≡ with_keys 0 0 }
+    {
+        NameHash::keyed(0, 0)
     }
 
     /// By these keys, as two random numbers.
-    pub fn keyed(first: u64, second: u64) -> NameHash {
-        let mut start = DefaultHasher::new();
-        start.write_u64(first);
-        start.write_u64(second);
-        NameHash { start }
+    pub fn keyed(first: u64, second: u64) -> NameHash
+        ensures { first_hasher result ≡ with_keys first second }
+    {
+        NameHash { first, second }
     }
 }
 
 impl BuildHasher for NameHash {
     type Hasher = DefaultHasher;
 
-    ghost build_hasher = { λ h. h.start };
+    ghost build_hasher = { first_hasher };
 
     fn build_hasher(&self) -> DefaultHasher {
-        self.start
+        keyed_hasher(self.first, self.second)
     }
 }
