@@ -20,6 +20,9 @@ use tmpl_syntax::Set;
 use tmpl_tool::{print, render_named};
 use tmpl_values::Data;
 
+/// How many bytes of the text wait until they are gathered together.
+const PIECE_SIZE: usize = 256;
+
 /// The line where the text does not fit.
 static FULL: &[u8] = b"tmpl: write failed\n";
 
@@ -69,12 +72,14 @@ fn render_to(
         Ok(data) => data,
         Err(why) => return tell(err, &why),
     };
+    let mut piece = [0; PIECE_SIZE];
     render_named(
         alloc,
         &options_in(settings),
         &set,
         name,
         data.as_ref(),
+        piece.as_mut_slice(),
         out,
         err,
     )
@@ -191,10 +196,13 @@ fn render_held(
         (option_map (λ d. value_of d.now) «data».entry))
         (sunk (told_of out.old) (told_of out.new)) (sunk (told_of err.old) (told_of err.new)) result }
 {
-    match settings.print {
-        1 => print(alloc, set, out, err).code,
-        _ => render_named(alloc, &options_in(settings), set, name, data, out, err).code,
+    if settings.print == 1 {
+        return print(alloc, set, out, err).code;
     }
+    let options = options_in(settings);
+    let mut piece = [0; PIECE_SIZE];
+    let piece = piece.as_mut_slice();
+    render_named(alloc, &options, set, name, data, piece, out, err).code
 }
 
 /// Renders what is kept into lent memory, and says why the text is not all there.

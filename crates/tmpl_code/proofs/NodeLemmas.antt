@@ -1,7 +1,7 @@
 -- For `put_nodes` and what it calls: layouts and weights of nodes one level at a time, by which the recursion ends and its scope fits.
 use Rattle.std.proofs.Common.{arith, ◌≡◌, ◌∙◌, ◌+◌, ◌<◌, ◌≤◌, ℕ, zero, suc, List, [], ◌∷◌, length, take, drop, get_or, refl, ap, sym, subst}
 use Rattle.std.proofs.lemmas.List.{at_drop_more}
-use Rattle.tmpl_grammar.specs.Tree.{Binding, unbound, declare, assign, declare_pair}
+use Rattle.tmpl_grammar.specs.Tree.{Binding, unbound}
 use Rattle.tmpl_syntax.specs.Tree as tree
 use Rattle.tmpl_syntax.specs.Tree.{NodeKind, Node, Nodes, text, action, control_node, break_node, continue_node, template_node}
 use Rattle.tmpl_syntax.specs.Set.{Template}

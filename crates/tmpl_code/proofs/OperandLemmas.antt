@@ -1,6 +1,6 @@
 -- For `put_operand` and `cost_of_operand`: the weight of operands one level at a time, by which their recursion ends.
 use Rattle.std.proofs.Common.{arith, ◌≡◌, ◌+◌, ◌<◌, ◌≤◌, ℕ, zero, suc, Bool, true, false, not, List, [], ◌∷◌, length, get_or, refl, ap, sym, subst}
-use Rattle.tmpl_grammar.specs.Tree.{Operand, dot, fields, variable, bool_constant, number_constant, text_constant, nil, function, group, Operands, no_operand, operand, Commands, no_command, command}
+use Rattle.tmpl_grammar.specs.Tree.{Operand, group, Operands, no_operand, operand, Commands, no_command, command}
 use Rattle.tmpl_grammar.specs.View.{operand_of, operands_in, command_of, commands_in}
 use Rattle.tmpl_grammar.specs.declared.tree.Operand as held
 use Rattle.tmpl_grammar.specs.declared.tree.Command as held_command

@@ -1,11 +1,14 @@
 //! The code so far. It is put from the last instruction to the first, so what stands behind an instruction is known
 //! when it is put, and no jump is ever written back.
-ghost use Rattle.std.specs.Prelude.{◌≡◌, ◌∷◌, [], OnOk, length};
+ghost use Rattle.std.specs.Prelude.{◌≡◌, ◌∷◌, [], IfOk, OnOk, length};
 ghost use Rattle.tmpl_code.specs.View.{instruction_of, instructions_of};
 ghost use Rattle.tmpl_code.specs.computed.Held.{code_of};
 
 use crate::instruction::Instruction;
 use std::alloc::{AllocError, Global};
+
+/// How many instructions a short template has.
+const SHORT: usize = 16;
 
 /// Instructions, the first one last.
 #[derive(Drop)]
@@ -14,14 +17,14 @@ pub(crate) struct Code<'s> {
 }
 
 impl<'s> Code<'s> {
-    /// No code.
+    /// No code, with room for that of a short template.
     #[tactic(auto, unfolding(crate::specs::computed::Held::code_of))]
-    pub(crate) fn new(alloc: Global) -> Self
-        ensures { code_of result ≡ [] }
+    pub(crate) fn new(alloc: Global) -> Result<Self, AllocError>
+        ensures { IfOk result (λ c. code_of c ≡ []) }
     {
-        Code {
-            instructions: Vec::new(alloc),
-        }
+        Ok(Code {
+            instructions: Vec::with_capacity(alloc, SHORT)?,
+        })
     }
 
     /// How many instructions there are.

@@ -26,11 +26,12 @@ pub fn compile<'s>(alloc: Global, set: &'s Set) -> Result<Program<'s>, AllocErro
     ensures linked { IfOk result (λ p. IsLinked p) }
     ensures set { IfOk result (λ p. set_view p.set.now ≡ set_view set.now) }
 {
-    let mut code = Code::new(alloc);
-    let mut lengths = Vec::new(alloc);
-    let mut needs = Vec::new(alloc);
+    let count = set.len();
+    let mut code = Code::new(alloc)?;
+    let mut lengths = Vec::with_capacity(alloc, count)?;
+    let mut needs = Vec::with_capacity(alloc, count)?;
     let mut survey = Survey::nothing();
-    let mut i = set.len();
+    let mut i = count;
     while i > 0 {
         i -= 1;
         let (_, tree) = set.template(i);

@@ -4,7 +4,7 @@ use Rattle.std.specs.Prelude.{slice_get}
 use Rattle.std.specs.Option.{option_map}
 use Rattle.std.specs.Result.{result_map_both}
 use Rattle.tmpl_values.specs.Value.{Value}
-use Rattle.tmpl_syntax.specs.Set.{Template, number_of, tree_named}
+use Rattle.tmpl_syntax.specs.Set.{Template, number_of}
 use Rattle.tmpl_syntax.proofs.NamedLemmas.{Named, numbered, unnumbered}
 use Rattle.tmpl_meaning.specs.Meaning.{Ran, Rules, ran}
 use Rattle.tmpl_meaning.specs.Sink.{Sunk, Told, sunk}

@@ -19,13 +19,14 @@ use tmpl_values::Data;
 /// How many bytes of the text wait until they are put out together.
 const PIECE_SIZE: usize = 4096;
 
-/// Runs the template of this number over a stack and a piece that are taken before.
+/// Runs the template of this number over a stack that is taken before, and a piece that is lent.
 fn run_numbered<'a, S: Sink>(
     alloc: Global,
     program: &Program<'a>,
     number: usize,
     data: Option<&'a Data>,
     options: &Options,
+    piece: &mut [u8],
     out: &mut S,
 ) -> Result<(), RenderError<'a>>
     requires number { number < length (set_view program.now.set.now) }
@@ -37,7 +38,6 @@ fn run_numbered<'a, S: Sink>(
     let Ok(mut cells) = empty_cells(alloc, program.cells(options.depth)) else {
         return Err(RenderError::OutOfMemory);
     };
-    let mut piece = [0; PIECE_SIZE];
     let end = run(
         alloc,
         program,
@@ -45,7 +45,7 @@ fn run_numbered<'a, S: Sink>(
         data,
         options,
         cells.as_mut_slice(),
-        piece.as_mut_slice(),
+        piece,
         out,
     );
     match end {
@@ -92,7 +92,12 @@ impl<'s> Renderer<'s> {
             (sunk (S.so_far out.old) (S.so_far out.new)) result }
     {
         match self.program.entry(name) {
-            Some(entry) => run_numbered(alloc, &self.program, entry.number, data, options, out),
+            Some(entry) => {
+                let mut piece = [0; PIECE_SIZE];
+                let piece = piece.as_mut_slice();
+                let program = &self.program;
+                run_numbered(alloc, program, entry.number, data, options, piece, out)
+            }
             None => Err(RenderError::NoTemplate),
         }
     }
@@ -105,6 +110,7 @@ fn run_once<'a, S: Sink>(
     number: usize,
     data: Option<&'a Data>,
     options: &Options,
+    piece: &mut [u8],
     out: &mut S,
 ) -> Result<(), RenderError<'a>>
     requires number { number < length (set_view set.now) }
@@ -116,7 +122,7 @@ fn run_once<'a, S: Sink>(
     let Ok(program) = compile(alloc, set) else {
         return Err(RenderError::OutOfMemory);
     };
-    run_numbered(alloc, &program, number, data, options, out)
+    run_numbered(alloc, &program, number, data, options, piece, out)
 }
 
 /// Renders the template of this name of a set, as a [`Renderer`] of the set does. The name is looked up first, so nothing
@@ -138,8 +144,32 @@ pub fn render<'a, S: Sink>(
         IsRender (ran_named (rules_of options.now) (set_view set.now) name.now input)
         (sunk (S.so_far out.old) (S.so_far out.new)) result }
 {
+    let mut piece = [0; PIECE_SIZE];
+    render_through(alloc, set, name, data, options, piece.as_mut_slice(), out)
+}
+
+/// Does what [`render`] does, with a piece that is lent, in which output waits until it is full. Its size is how many bytes
+/// most puts have, and changes nothing else.
+///
+/// # Errors
+///
+/// Those of [`Renderer::render`].
+pub fn render_through<'a, S: Sink>(
+    alloc: Global,
+    set: &'a Set,
+    name: &[u8],
+    data: Option<&'a Data>,
+    options: &Options,
+    piece: &mut [u8],
+    out: &mut S,
+) -> Result<(), RenderError<'a>>
+    requires { (S.so_far out.old).failures < 2 ^ 64 - 1 }
+    ensures { let input = option_map (λ d. value_of d.now) «data».entry in
+        IsRender (ran_named (rules_of options.now) (set_view set.now) name.now input)
+        (sunk (S.so_far out.old) (S.so_far out.new)) result }
+{
     match set.number(name) {
-        Some(number) => run_once(alloc, set, number, data, options, out),
+        Some(number) => run_once(alloc, set, number, data, options, piece, out),
         None => Err(RenderError::NoTemplate),
     }
 }

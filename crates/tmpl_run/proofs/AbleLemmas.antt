@@ -7,7 +7,7 @@ use Rattle.tmpl_funcs.specs.declared.func.Func.TheVariants.{And, Or}
 use Rattle.tmpl_grammar.specs.Tree.{Operand, dot, fields, variable, bool_constant, number_constant, text_constant, nil, function, group}
 use Rattle.tmpl_grammar.specs.Tree.{Operands, no_operand, operand, Commands, no_command, command, Pipeline, pipeline}
 use Rattle.tmpl_grammar.specs.Need.{need_of_operand, need_of_arguments, need_of_command, need_of_commands, need_of_pipeline}
-use Rattle.tmpl_code.specs.Instruction.{Operation, push_nothing, push_bool, push_number, push_text, push_dot, push_fields, push_slot}
+use Rattle.tmpl_code.specs.Instruction.{Operation}
 use Rattle.tmpl_code.specs.Instruction.{chained, call_with, decide, settle, refuse, act}
 use Rattle.tmpl_code.specs.Layout.{Layout, slot_named, found_at, is_named}
 use Rattle.tmpl_code.specs.Code.{Code, Part, chain_before, OperandAt, OperandsAt, JunctionAt, CommandAt, CommandsAt, PipelineAt, DecideAt}

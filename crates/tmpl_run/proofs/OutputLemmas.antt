@@ -6,7 +6,7 @@ use Rattle.std.proofs.lemmas.List.{take-append-drop}
 use Rattle.tmpl_values.specs.Item.{bytes_of}
 use Rattle.tmpl_values.specs.Put.{Puts, Took, appended}
 use Rattle.tmpl_values.specs.Text.{text_of}
-use Rattle.tmpl_values.specs.Value.{Value, nothing, null, boolean, number, string, sequence, mapping}
+use Rattle.tmpl_values.specs.Value.{Value, string}
 use Rattle.tmpl_meaning.specs.Sink.{IsPut, Told, as_puts, with_bytes}
 use Rattle.tmpl_values.proofs.PutLemmas.{IsPut-append, IsPut-nil, IsPut-stop, appended-append, appended-nil}
 use Rattle.tmpl_meaning.specs.declared.sink.SinkFault.{SinkFault}

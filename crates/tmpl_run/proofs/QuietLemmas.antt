@@ -21,8 +21,8 @@ use Rattle.tmpl_meaning.specs.Fault.{Cause}
 use Rattle.tmpl_meaning.specs.Pipeline as meaning
 use Rattle.tmpl_meaning.specs.Pipeline.{Given, Place, command_value, commands_value, decided, decides, given, given_then, go_on, junction}
 use Rattle.tmpl_meaning.specs.Pipeline.{operand_value, operand_values, pipeline_value}
-use Rattle.tmpl_meaning.specs.Meaning.{Calls, End, Next, Rules, Run, Setting, after, after_turn, alone, broke, calls_within, choosing}
-use Rattle.tmpl_meaning.specs.Meaning.{continued, controlled, done, faulted, handing, meanings, one_of, over, ran, ranging, scope}
+use Rattle.tmpl_meaning.specs.Meaning.{Calls, End, Next, Rules, Run, Setting, after, after_turn, alone, broke, calls_within}
+use Rattle.tmpl_meaning.specs.Meaning.{controlled, done, faulted, handing, meanings, one_of, over, ran, scope}
 use Rattle.tmpl_meaning.specs.Meaning.{setting_of, shown, spend, spend_if, started, starting_dot, stepped, turn, turns, uncalled, called}
 use Rattle.tmpl_meaning.specs.Meaning.{apart, visited, with_bound, with_pipeline, with_value}
 use Rattle.tmpl_code.specs.MakesText.{commands_make_text, given_makes_text, node_makes_text, nodes_make_text, operand_makes_text}

@@ -8,11 +8,11 @@ use Rattle.tmpl_syntax.specs.Fault.{Reason, nested_too_deeply, not_an_action, op
 use Rattle.tmpl_syntax.specs.Fault.{undeclared_variable, unreadable}
 use Rattle.tmpl_funcs.specs.declared.func.Func.TheVariants.{Eq, Index, Len, Printf}
 use Rattle.tmpl_funcs.specs.declared.fault.CallFault.TheVariants.{FormatRefused, NotComparable, OutOfRange, WrongCount, WrongKind}
-use Rattle.tmpl_meaning.specs.Meaning.{Cause, Ran, calls_too_deep, call_failed, lacks_entry, lacks_field, nil_command, no_template}
+use Rattle.tmpl_meaning.specs.Meaning.{Cause, calls_too_deep, call_failed, lacks_entry, lacks_field, nil_command, no_template}
 use Rattle.tmpl_meaning.specs.Meaning.{not_a_function, not_a_range, steps_spent}
-use Rattle.tmpl_tool.specs.Outcome.{Answer, memory_line, write_line}
+use Rattle.tmpl_tool.specs.Outcome.{memory_line, write_line}
 use Rattle.tmpl_tool.specs.Source.{Bytes}
-use Rattle.tmpl_tool.specs.Tool.{Stop, bad_words, fault_line, flawed, help, not_found, refused, run_answer, stop_answer, unnamed, unread}
+use Rattle.tmpl_tool.specs.Tool.{Stop, bad_words, fault_line, flawed, help, not_found, refused, stop_answer, unnamed, unread}
 
 -- ---- where nothing is run
 

@@ -16,7 +16,7 @@ use Rattle.tmpl_syntax.proofs.FileLemmas.{parsed-long}
 use Rattle.tmpl_tool.specs.Source.{Asked, Bytes, Files, TellsFront}
 use Rattle.tmpl_tool.specs.Tool as tool
 use Rattle.tmpl_tool.specs.Tool.{Failing, Stop, file_reads, loaded, no_read, or_stop, reads_behind, with_file}
-use Rattle.tmpl_tool.specs.Inputs.{Adds, ComesOf, StopsAt, refusal_seen}
+use Rattle.tmpl_tool.specs.Inputs.{Adds, ComesOf, StopsAt}
 use Rattle.tmpl_tool.specs.declared.stop.Stop as held
 use Rattle.tmpl_tool.specs.declared.stop.Stop.TheVariants as stop
 

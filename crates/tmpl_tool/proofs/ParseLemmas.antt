@@ -1,5 +1,5 @@
 -- For `tool`: what accepts and refuses each file by the rules is what the parser computes, so its files may be told by that.
-use Rattle.std.proofs.Common.{◌≡◌, ◌∙◌, subst, sym}
+use Rattle.std.proofs.Common.{subst}
 use Rattle.tmpl_syntax.specs.computed.Parse.{parsed}
 use Rattle.tmpl_syntax.proofs.ReadingLemmas.{has-one-outcome, has-outcome}
 use Rattle.tmpl_tool.specs.Laws.{HasOneParse, HasParse}

@@ -8,10 +8,9 @@ use Rattle.std.specs.Result.{result_map_both}
 use Rattle.tmpl_values.specs.Value.{Value}
 use Rattle.tmpl_values.specs.Json.{not_json, not_whole}
 use Rattle.tmpl_syntax.specs.Fault.{Reason, reason_of}
-use Rattle.tmpl_syntax.specs.Set.{Template, tree_named}
+use Rattle.tmpl_syntax.specs.Set.{Template}
 use Rattle.tmpl_syntax.specs.computed.Parse.{parsed}
 use Rattle.tmpl_syntax.specs.declared.fault.ParseFault.{ParseFault}
-use Rattle.tmpl_meaning.specs.Meaning.{Rules, ran}
 use Rattle.tmpl_meaning.specs.Sink.{Told, Sunk, Whole, sunk}
 use Rattle.tmpl_tool.specs.Words.{Wanted, wanted}
 use Rattle.tmpl_tool.specs.Help.{asks_help}
@@ -24,7 +23,7 @@ use Rattle.tmpl_tool.specs.Inputs.{Counts, StopsAt, inputs_of, inputs_reads, ref
 use Rattle.tmpl_tool.specs.computed.Load.{after_set, after_words, finished, rendered}
 use Rattle.tmpl_tool.specs.declared.stop.Stop as held
 use Rattle.tmpl_tool.specs.declared.stop.Stop.TheVariants as stop
-use Rattle.tmpl_tool.proofs.LoadLemmas.{all_read, all_succeed, asked-append, asked-nothing, nat_eq-add, other-above}
+use Rattle.tmpl_tool.proofs.LoadLemmas.{all_read, all_succeed, asked-append, nat_eq-add, other-above}
 use Rattle.tmpl_tool.proofs.MessageLemmas.{nothing_out, nothing_put}
 use Rattle.tmpl_tool.proofs.StageLemmas.{with_words}
 

@@ -35,6 +35,9 @@ pub fn print<O: Sink, E: Sink>(alloc: Global, set: &Set, out: &mut O, err: &mut 
     }
 }
 
+/// How many bytes of the output wait until they are written together.
+const PIECE_SIZE: usize = 4096;
+
 /// Prints the set where the words ask for that, and else runs the template that they ask for.
 pub(crate) fn answer<O: Sink, E: Sink>(
     alloc: Global,
@@ -58,6 +61,8 @@ pub(crate) fn answer<O: Sink, E: Sink>(
         print(alloc, set, out, err)
     } else {
         let name = asked_name(request);
-        render_named(alloc, &request.options, set, name, data, out, err)
+        let mut piece = [0; PIECE_SIZE];
+        let piece = piece.as_mut_slice();
+        render_named(alloc, &request.options, set, name, data, piece, out, err)
     }
 }

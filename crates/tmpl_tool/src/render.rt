@@ -15,7 +15,7 @@ use crate::messages::lines::{out_of_memory, run_failed, template_missing, write_
 use crate::status::Status;
 use crate::words::request::Request;
 use std::alloc::Global;
-use tmpl_engine::{RenderError, render};
+use tmpl_engine::{RenderError, render_through};
 use tmpl_run::{Options, Sink, put_all};
 use tmpl_syntax::{Set, base_name};
 use tmpl_values::Data;
@@ -91,13 +91,15 @@ pub fn asked_name<'a>(request: &Request<'a>) -> &'a [u8]
 /// Looks the name up, and runs its template.
 ///
 /// The text goes to the output, up to the end or the fault of the run, and what else there is to say to the error sink, as
-/// one line. Where a write fails or memory is refused the output is a beginning of the text.
+/// one line. Where a write fails or memory is refused the output is a beginning of the text. It waits in the piece, of any
+/// size, until that is full.
 pub fn render_named<O: Sink, E: Sink>(
     alloc: Global,
     options: &Options,
     set: &Set,
     name: &[u8],
     data: Option<&Data>,
+    piece: &mut [u8],
     out: &mut O,
     err: &mut E,
 ) -> Status
@@ -111,6 +113,6 @@ pub fn render_named<O: Sink, E: Sink>(
         (sunk (E.so_far err.old) (E.so_far err.new))
         result.code }
 {
-    let end = render(alloc, set, name, data, options, out);
+    let end = render_through(alloc, set, name, data, options, piece, out);
     tell_end(end, name, err)
 }

@@ -1,4 +1,4 @@
-use Rattle.std.proofs.Common.{arith, ◌≡◌, Result, Ok, Err, IfSome, ap, length, option_map, slice_get, subst, sym}
+use Rattle.std.proofs.Common.{arith, ◌≡◌, Ok, Err, IfSome, ap, length, option_map, slice_get, subst, sym}
 use Rattle.tmpl_values.specs.View.{value_of}
 use Rattle.tmpl_syntax.specs.View.{set_view}
 use Rattle.tmpl_meaning.specs.Meaning.{ran}

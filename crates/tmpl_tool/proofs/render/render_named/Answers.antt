@@ -16,7 +16,7 @@ returns-clause-outcome g c =
     let set = set_view c.args.set.now in
     let input = option_map (λ d. value_of d.now) c.args.data in
     let before = g.O.Sink.so_far c.args.out.now in
-    let after = g.O.Sink.so_far c.render-end.new.out in
+    let after = g.O.Sink.so_far c.render_through-end.new.out in
     outcome_as (sunk (g.E.Sink.so_far c.args.err.now) (g.E.Sink.so_far c.tell_end.new.err)) c.tell_end.result.code (sunk before after) _ _
     (sym (ap answer_of (ok_or-ran_named rules name set input)))
-    (c.tell_end.ensures.outcome (ran_named rules set name input) before after c.render-end.ensures)
+    (c.tell_end.ensures.outcome (ran_named rules set name input) before after c.render_through-end.ensures)

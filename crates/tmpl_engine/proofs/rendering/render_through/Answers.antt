@@ -4,7 +4,7 @@ use Rattle.tmpl_syntax.specs.View.{set_view}
 use Rattle.tmpl_meaning.specs.Sink.{sunk}
 use Rattle.tmpl_meaning.specs.View.{rules_of}
 use Rattle.tmpl_engine.proofs.RenderLemmas.{named_render, unnamed_render}
-use Rattle.tmpl_engine.proofs.rendering.render.Goals as goal
+use Rattle.tmpl_engine.proofs.rendering.render_through.Goals as goal
 
 pub returns-in-Some : goal.returns-in-Some
 returns-in-Some g c =
