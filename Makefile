@@ -98,6 +98,7 @@ uninstall:
 
 # packs what `make install` copies as a tar, with its SHA-256, and what `make install-lib` copies where the library is built
 dist: $(PROGRAM)
+	@$(NEEDS_RT)
 	python3 packaging/make.py tar
 
 # packs the same as a Debian package; then installs it into a root of its own, runs it and removes it
