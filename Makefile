@@ -14,12 +14,11 @@ SOURCES = crates.txt HANDLES $(shell find $(wildcard crates/*/src crates/*/specs
 HELLO = ../../examples/hello
 OBJCOPY ?= objcopy
 QUOTES = $(addprefix examples/quotes/,quotes.tmpl data.tmpl texts.tmpl)
-DOCUMENTS = README.md CHANGELOG.md $(wildcard docs/*.md)
 # the first line of each recipe that needs the toolchain
 NEEDS_RT = command -v rt > /dev/null || { echo "rt is missing: it is the command of the toolchain of Rattle, with which the \
 program is proved and built. Put it on the PATH, or install a package that was made where it is." >&2; false; }
 
-# proves the program and what it stands on, over what earlier runs kept in out/, and builds it
+# proves the program and the crates that it uses, over what earlier runs kept in out/, and builds it
 build: $(PROGRAM)
 
 # builds the program without proofs, and renders examples/hello
@@ -33,6 +32,7 @@ demo:
 
 # the gate: every proof from nothing, then the tests over the program that it left, as each of the two compilers built it
 test:
+	@$(NEEDS_RT)
 	python3 tests/gate.py "rt ci" "python3 tests/edits.py --apply" "python3 tests/believed.py" "python3 tests/run.py" \
 		"env TMPL=$(PROGRAM).by-rattle python3 tests/run.py" "python3 tests/places.py" "python3 tests/tables.py" \
 		"python3 tests/fronts.py" "python3 tests/print.py" "python3 tests/draws.py" "python3 tests/calls.py" \
@@ -49,11 +49,13 @@ test-bindings:
 
 # proves one crate, CRATE=NAME, over what earlier runs kept in out/
 check:
+	@$(NEEDS_RT)
 	@test -n "$$CRATE" || { echo "name a crate: make check CRATE=tmpl_lex" >&2; false; }
 	cd "crates/$$CRATE" && rt check
 
 # tries the wrong bodies in crates/NAME/edits, each of which the prover must refuse: of every crate, or of CRATE=NAME
 edits:
+	@$(NEEDS_RT)
 	python3 tests/edits.py $${CRATE:+"$$CRATE"}
 
 # times the program and the C library beside others
@@ -74,7 +76,8 @@ install: $(PROGRAM)
 	install -D -m 644 -t "$$DESTDIR$$PREFIX/share/zsh/site-functions" completions/_tmpl
 	install -D -m 644 -t "$$DESTDIR$$PREFIX/share/fish/vendor_completions.d" completions/tmpl.fish
 	install -D -m 644 -t "$$DESTDIR$$PREFIX/share/tmpl/quotes" $(QUOTES)
-	install -D -m 644 -t "$$DESTDIR$$PREFIX/share/doc/tmpl" $(DOCUMENTS)
+	install -D -m 644 -t "$$DESTDIR$$PREFIX/share/doc/tmpl" README.md CHANGELOG.md
+	install -D -m 644 -t "$$DESTDIR$$PREFIX/share/doc/tmpl/docs" docs/*.md
 
 # copies the C library, its header and what pkg-config reads to PREFIX
 install-lib: lib
@@ -93,15 +96,16 @@ uninstall:
 		include/tmpl.h lib/libtmpl.a lib/libtmpl.so lib/$(SONAME) lib/pkgconfig/tmpl.pc
 	rm -rf "$$DESTDIR$$PREFIX/share/tmpl" "$$DESTDIR$$PREFIX/share/doc/tmpl"
 
-# packs the program and what `make install` copies as a tar, with its SHA-256
+# packs what `make install` copies as a tar, with its SHA-256, and what `make install-lib` copies where the library is built
 dist: $(PROGRAM)
+	@$(NEEDS_RT)
 	python3 packaging/make.py tar
 
 # packs the same as a Debian package; then installs it into a root of its own, runs it and removes it
 deb: $(PROGRAM)
 	package=$$(python3 packaging/make.py deb) && echo "$$package" && packaging/try.sh "$$package"
 
-# tells what there is to make
+# lists the targets
 help:
 	@awk '/^# / { said = substr($$0, 3) } /^[a-z-]+:/ && said { split($$1, name, ":"); \
 		printf "make %-13s %s\n", name[1], said } !/^#/ { said = "" }' Makefile
@@ -113,6 +117,7 @@ $(PROGRAM): $(SOURCES)
 	@touch $@
 
 $(PROBE): $(SOURCES)
+	@$(NEEDS_RT)
 	cd crates/tmpl_probe && rt run -- text data/numbers.json > /dev/null
 	@touch $@
 

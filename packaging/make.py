@@ -1,5 +1,5 @@
 """Packs the program that is built, with man pages, completions, templates for quoting and documents: `make.py tar` as a tar with its
-SHA-256, `make.py deb` as a Debian package. Both go to `packaging/out`, and are named by the commit and by the logic that the
+SHA-256, and with the C library and its header where these are built; `make.py deb` as a Debian package. Both go to `packaging/out`, and are named by the commit and by the logic that the
 program is proved with. `make dist` and `make deb` call it once the program is proved. The same tree gives the same bytes."""
 import gzip
 import hashlib
@@ -68,13 +68,29 @@ def logic():
     return re.search(r"logic ([0-9a-f]+)", told("rt", "version"))[1]
 
 
+def make(*words):
+    return ["make", "--no-print-directory", "-s", *words]
+
+
 def place(folder, prefix):
     """Installs into a folder, under a prefix, as `make install` does."""
-    subprocess.run(["make", "--no-print-directory", "-s", "install", f"DESTDIR={folder}", f"PREFIX={prefix}"], cwd=TOP, check=True)
+    subprocess.run(make("install", f"DESTDIR={folder}", f"PREFIX={prefix}"), cwd=TOP, check=True)
     program = f"{folder}{prefix}/bin/tmpl"
     if not shutil.which("strip"):
         sys.exit("strip is not there: install binutils")
     subprocess.run(["strip", "--strip-all", "--remove-section=.comment", program], check=True)
+
+
+def place_library(folder, prefix):
+    """The same with the C library, its header and what pkg-config reads, where `make lib` has nothing to do."""
+    if subprocess.run([*make("lib"), "-q"], cwd=TOP, stderr=subprocess.DEVNULL, check=False).returncode:
+        return
+    subprocess.run(make("install-lib", f"DESTDIR={folder}", f"PREFIX={prefix}"), cwd=TOP, check=True)
+    path = f"{folder}{prefix}/lib/pkgconfig/tmpl.pc"
+    with open(path, encoding="utf-8") as it:
+        text = it.read()
+    with open(path, "w", encoding="utf-8") as it:  # wherever the tar is unpacked
+        it.write(text.replace(f"prefix={prefix}\n", "prefix=${pcfiledir}/../..\n"))
 
 
 def settle(folder):
@@ -82,8 +98,9 @@ def settle(folder):
     when = seconds()
     for at, folders, files in os.walk(folder, topdown=False):
         for it in files:
-            os.chmod(f"{at}/{it}", 0o755 if at.endswith("/bin") else 0o644)
-            os.utime(f"{at}/{it}", (when, when))
+            if not os.path.islink(f"{at}/{it}"):
+                os.chmod(f"{at}/{it}", 0o755 if at.endswith("/bin") else 0o644)
+            os.utime(f"{at}/{it}", (when, when), follow_symlinks=False)
         os.chmod(at, 0o755)
         os.utime(at, (when, when))
 
@@ -99,6 +116,7 @@ def tar():
     name = f"tmpl-{version().replace('0~git', '')}-{logic()}-x86_64-linux"
     with tempfile.TemporaryDirectory() as room:
         place(room, f"/{name}")
+        place_library(room, f"/{name}")
         settle(f"{room}/{name}")
         path = f"{OUT}/{name}.tar.gz"
         with open(path, "wb") as it, gzip.GzipFile("", "wb", 9, it, seconds()) as packed:

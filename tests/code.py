@@ -1,7 +1,8 @@
 """Lists the code of small templates by the probe, and compares it with lists
-written by hand, also with each allocation refused in turn. The proofs say which code is that of a tree; these lists show
+written by hand, also with each allocation refused in turn; one of them is in docs/ARCHITECTURE.md. The proofs say which code is that of a tree; these lists show
 that what they say was meant. A jump is listed by the place where it ends. How many bytes code takes no proof says."""
 import os
+import re
 import subprocess
 import sys
 import tempfile
@@ -232,6 +233,13 @@ ROWS = [
 ]
 
 
+def shown():
+    """The template whose code docs/ARCHITECTURE.md shows, and that code, without what is said of each line."""
+    with open(f"{harness.TOP}/docs/ARCHITECTURE.md", encoding="utf-8") as it:
+        template, *code = re.findall(r"^    ( *[0-9]+ .*|\{\{.*)$", it.read(), re.MULTILINE)
+    return template, "\n".join(['template "m"', *(re.split("  +", line.strip())[0] for line in code)])
+
+
 def listed(folder, template, more, keep):
     """The status, and the list of the code of a template file of the name m."""
     with open(f"{folder}/m", "w", newline="", encoding="utf-8") as file:
@@ -276,7 +284,8 @@ def main():
     with tempfile.TemporaryDirectory() as folder:
         shim = f"{folder}/shim.so"
         sweep.build_shim("fail_alloc.c", shim)
-        judged = [judge(shim, folder, *row) for row in ROWS] + [judge_size(folder, *row) for row in ROWS]
+        rows = [*ROWS, shown()]
+        judged = [judge(shim, folder, *row) for row in rows] + [judge_size(folder, *row) for row in rows]
         passed, failed, runs = harness.tally(judged)
     print(f"{runs} allocations were refused, one in each run")
     return harness.closing(passed, failed)

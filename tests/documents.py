@@ -1,10 +1,17 @@
-"""Runs what the documents show: each block `console` of README.md and docs/, in order, those below one heading `##` in one folder and
+"""Runs what the documents show: each block `console` of each document, in order, those below one heading `##` in one folder and
 one shell. A line that begins with `$ ` is a command, one with `> ` goes on with it, and the others are what it must put out, to its
-output and its errors. A comment `<!-- needs: NAME .. -->` before a block names programs; where one is not there all blocks of that
-heading are left out, and it says so. A comment `<!-- not run: WHY -->` before a block says why it is not run. The program is
-`tmpl`, and `$QUOTES` the folder of the templates for quoting. TMPL=PATH names another build.
+output and its errors. The program is `tmpl`, and `$QUOTES` the folder of the templates for quoting. TMPL=PATH names another build.
 
-A comment `<!-- file: PATH -->` before a block of any kind says that the block shows the whole of this file: they must be equal."""
+A comment before a block says what else is done with it; a block without one that is no `console` fails:
+
+- `<!-- needs: NAME .. -->` names programs. Where one is not there all blocks of that heading are left out, and it says so.
+- `<!-- file: PATH -->`: the block shows the whole of this file, and they must be equal.
+- `<!-- tried by: PATH -->`: this test tries it, and what a block `text` directly after it says that it puts out.
+- `<!-- not run: WHY -->`: it is not run.
+
+`documents.py --list` lists the blocks, by document and line, with what is done with each, and runs nothing."""
+import collections
+import glob
 import itertools
 import os
 import re
@@ -18,15 +25,59 @@ import harness
 LEAST = 80  # commands, where jq, yq and nginx are not there
 LEAST_SHOWN = 2  # files
 MARK = "\x1e"  # between what two commands put out
-BLOCK = re.compile(r"(?:<!-- (needs|not run): ([^>]*) -->\s*)?^```console\n(.*?)^```$", re.MULTILINE | re.DOTALL)
-
-SHOWN = re.compile(r"^<!-- file: (\S+) -->\s*^```\w*\n(.*?)^```$", re.MULTILINE | re.DOTALL)
+COMMENT = re.compile(r"<!-- (needs|file|tried by|not run): (.*) -->")
+DOCUMENTS = ["*.md", "docs/*.md", "*/README.md", "*/*/README.md"]
+# a block: its heading `##`, its line, its language, the comment before it as kind and text, and its own text
+Block = collections.namedtuple("Block", "heading line language kind said text")
 
 
 def documents():
-    yield "README.md"
-    for name in sorted(os.listdir(f"{harness.TOP}/docs")):
-        yield f"docs/{name}"
+    return [os.path.relpath(it, harness.TOP) for pattern in DOCUMENTS for it in sorted(glob.glob(f"{harness.TOP}/{pattern}"))]
+
+
+def read(document):
+    with open(f"{harness.TOP}/{document}", encoding="utf-8") as it:
+        return it.read()
+
+
+def blocks(document):
+    """The blocks of a document: between fences, or indented by four spaces after a blank line outside of a list."""
+    heading, kind, said, fence, is_list, held, at = "", "", "", None, False, [], 0
+    for number, line in enumerate([*read(document).splitlines(), ""], 1):
+        if fence is not None:
+            if line.startswith("```"):
+                yield Block(heading, at, fence, kind, said, "".join(f"{it}\n" for it in held))
+                fence, kind, held = None, "", []
+            else:
+                held.append(line)
+        elif line.startswith("```"):
+            fence, at = line[3:], number
+        elif line.startswith("    ") and not is_list:
+            at = at if held else number
+            held.append(line[4:])
+        elif held:
+            yield Block(heading, at, "", kind, said, "".join(f"{it}\n" for it in held))
+            kind, held = "", []
+        if fence is None and not held and line.strip():
+            found = COMMENT.fullmatch(line)
+            kind, said = found.groups() if found else ("", "")
+            is_list = bool(re.match(r"- |[0-9]+\. ", line)) or is_list and line.startswith(" ")
+            heading = line[3:] if line.startswith("## ") else heading
+
+
+def handled(document):
+    """The blocks of a document, each with how it is handled; "" where nothing says so."""
+    before = ""
+    for it in blocks(document):
+        how = f"{it.kind} {it.said}".strip()
+        if it.language == "console" and it.kind in ("", "needs"):
+            how = f"run {how}".strip()
+        elif it.language == "text" and not it.kind and before.startswith("tried by"):
+            how = before
+        elif it.kind == "tried by" and not os.path.isfile(f"{harness.TOP}/{it.said}"):
+            how = ""
+        yield it, how
+        before = how
 
 
 def commands(block):
@@ -43,21 +94,17 @@ def commands(block):
 
 
 def sections(document):
-    """The headings of a document with their commands, what they need, and how many blocks are not run."""
-    with open(f"{harness.TOP}/{document}", encoding="utf-8") as it:
-        text = it.read()
-    for part in re.split(r"^(?=## )", text, flags=re.MULTILINE):
-        blocks = BLOCK.findall(part)
-        needed = [name for kind, names, _ in blocks if kind == "needs" for name in names.split()]
-        ran = [command for kind, _, block in blocks if kind != "not run" for command in commands(block)]
-        if blocks:
-            yield part.partition("\n")[0].lstrip("# "), ran, needed, sum(kind == "not run" for kind, _, _ in blocks)
+    """The headings of a document with their commands, and what they need."""
+    for heading, its in itertools.groupby(handled(document), lambda found: found[0].heading):
+        ran = [it for it, how in its if how.startswith("run")]
+        needed = [name for it in ran if it.kind == "needs" for name in it.said.split()]
+        if ran:
+            yield heading, [command for it in ran for command in commands(it.text)], needed
 
 
 def differences(document, path, block):
     """Where a block differs first from the file that it shows."""
-    with open(f"{harness.TOP}/{path}", encoding="utf-8") as it:
-        pairs = itertools.zip_longest(block.splitlines(keepends=True), it.read().splitlines(keepends=True))
+    pairs = itertools.zip_longest(block.splitlines(keepends=True), read(path).splitlines(keepends=True))
     for number, (shown, held) in enumerate(pairs, 1):
         if shown != held:
             return [f"    {document} shows {path} otherwise, from its line {number} on", f"    shown {shown!r}", f"    held  {held!r}"]
@@ -66,13 +113,19 @@ def differences(document, path, block):
 
 def shown(document):
     """The files that a document shows, each with how its block differs."""
-    with open(f"{harness.TOP}/{document}", encoding="utf-8") as it:
-        for path, block in SHOWN.findall(it.read()):
-            yield f"{document}: {path}", 1, differences(document, path, block)
+    for it in blocks(document):
+        if it.kind == "file":
+            yield f"{document}: {it.said}", 1, differences(document, it.said, it.text)
+
+
+def strays(document):
+    """The blocks of which nothing says how they are handled."""
+    for it, how in handled(document):
+        yield f"{document}, line {it.line}", 1, [] if how else ["    a block that is not run: a comment has to say why"]
 
 
 def is_there(name):
-    """Whether a program is there; of yq the one that stands on jq, since another of that name takes other words."""
+    """Whether a program is there; of yq the one that uses jq, since another of that name takes other words."""
     if name != "yq" or not shutil.which(name):
         return bool(shutil.which(name))
     return b"mikefarah" not in subprocess.run([name, "--version"], stdout=subprocess.PIPE, check=False).stdout
@@ -102,26 +155,31 @@ def check(name, said):
         yield f"{name}: {command.splitlines()[0]}", 1, wrong
 
 
-def main():
+def main(words):
+    if words == ["--list"]:
+        for document in documents():
+            for it, how in handled(document):
+                print(f"{document}:{it.line}: {how or 'NOT HANDLED'}")
+        return 0
     if not harness.is_built():
         return harness.closing(0, 1)
-    results, left_out = [], 0
+    results = []
     for document in documents():
-        for heading, said, needed, others in sections(document):
+        for heading, said, needed in sections(document):
             missing = [it for it in dict.fromkeys(needed) if not is_there(it)]
-            left_out += others
             if missing:
                 print(f"{document}, {heading}: left out, since {' and '.join(missing)} is not there")
             else:
                 results += check(f"{document}, {heading}", said)
     passed, failed, runs = harness.tally(results)
-    print(f"{left_out} blocks are marked as not run")
     failed += harness.too_few("commands were run", runs, LEAST)
     told = harness.tally([it for document in documents() for it in shown(document)])
     failed += told[1] + harness.too_few("files were compared with what documents show of them", told[2], LEAST_SHOWN)
-    passed += told[0]
-    return harness.closing(passed, failed)
+    handlings = harness.tally([it for document in documents() for it in strays(document)])
+    others = sum(how.startswith("not run") for document in documents() for _, how in handled(document))
+    print(f"{handlings[2]} blocks, {others} of them marked as not run")
+    return harness.closing(passed + told[0] + handlings[0], failed + handlings[1])
 
 
 if __name__ == "__main__":
-    sys.exit(main())
+    sys.exit(main(sys.argv[1:]))

@@ -1,6 +1,6 @@
 """Quotes texts by the templates of examples/quotes, and has each quote read by the real reader of its format: a shell, sqlite3,
 Python's csv, json and html.parser, and tomllib, PyYAML and nginx where they are there; for nginx and systemd also by their rules,
-told below. What is read must be the text again, to the byte. The texts are hostile: quotes, newlines, each byte, random ones,
+written below. What is read must be the text again, to the byte. The texts are hostile: quotes, newlines, each byte, random ones,
 ill-formed ones where the format takes any bytes, and one of 600 kB, in a time that grows as its length. What has no quote must be
 refused with its reason. TMPL=PATH names another build."""
 import csv
@@ -86,7 +86,9 @@ def by_toml(quoted):
 
 
 def by_yaml(quoted):
-    return yaml.safe_load(f"x: {quoted.decode()}\n")["x"].encode()
+    """As PyYAML reads it; the long ones by its quicker reader, where it has that."""
+    quick = len(quoted) > LONG // 10 and hasattr(yaml, "CSafeLoader")
+    return yaml.load(f"x: {quoted.decode()}\n", yaml.CSafeLoader if quick else yaml.SafeLoader)["x"].encode()
 
 
 def by_html(quoted):
@@ -98,7 +100,7 @@ def by_html(quoted):
 
 
 def unquoted(quoted, escape, told):
-    """What stands between double quotes, each escape as `told` has it."""
+    """What is between double quotes, each escape as `told` has it."""
     if not re.fullmatch(rb'"(?:[^"\\]|\\.)*"', quoted, re.DOTALL):
         raise ValueError("no quoted word")
     return re.sub(escape, told, quoted[1:-1], flags=re.DOTALL)
@@ -142,14 +144,31 @@ QUOTES = {
     "systemd command": (by_command, True, "systemd has no word with a NUL"),
     "attribute": (by_html, False, None),
 }
-# what each other template makes of a text, and what stands before the text
+# what each other template makes of a text, and what is put before the text
 OTHERS = {
-    "upper": (lambda it: re.sub("[a-z]+", lambda found: found[0].upper(), it), ""),
-    "lower": (lambda it: re.sub("[A-Z]+", lambda found: found[0].lower(), it), ""),
-    "trim": (lambda it: it.strip(" \t\r\n"), ""),
+    "upper": (lambda it: it.upper(), ""),
+    "lower": (lambda it: it.lower(), ""),
+    "trim": (lambda it: it.strip(b" \t\r\n"), ""),
     "repeat": (lambda it: it * 12, "12:"),
-    "indent": (lambda it: re.sub("(?m)^(?=[^\n])", "    ", it), "4:"),
-    "replace": (lambda it: it.replace("é", "<é>"), "/é/<é>/"),
+    "indent": (lambda it: re.sub(rb"(?m)^(?=[^\n])", b"    ", it), "4:"),
+    "replace": (lambda it: it.replace("é".encode(), "<é>".encode()), "/é/<é>/"),
+    "default": (lambda it: it or b"\"no'", "|\"no'|"),
+}
+# a number or texts that stand before the text, the text, and what is made of both
+FORMS = [
+    *[("repeat", "0:ab", b""), ("repeat", "3:", b""), ("repeat", "2:1:", b"1:1:"), ("repeat", "9999:a", b"a" * 9999)],
+    *[("indent", "0:a\nb", b"a\nb"), ("indent", "2:\n\na:b\n", b"\n\n  a:b\n"), ("indent", "12:a", b" " * 12 + b"a")],
+    *[("replace", "//x/a/b", b"a/b"), ("replace", "/a//banana/", b"bnn/"), ("replace", "|aa|a|aaaaa", b"aaa")],
+    *[("replace", "/ab/x/aab", b"ax"), ("replace", b"/\x80/<>/a\x80\xff", b"a<>\xff"), ("replace", b"/\xff\xa9/e/\xff\xff\xa9", b"\xffe")],
+    *[("default", "/a/", b"a"), ("default", "//", b""), ("default", "/a/0", b"0"), ("default", "/a/<nil>", b"a")],
+    *[("default", "/a/b/c", b"b/c"), ("default", b"/\xff/", b"\xff")],
+]
+# what has no meaning, and the reason
+WRONG = {
+    "repeat wants a number, a colon and a text": ["", "a", "4", ":a", "-4:a", "a:b"],
+    "indent wants a number, a colon and a text": ["", "a", "4", ":a", "-4:a", "a:b"],
+    "replace wants /old/new/ and a text": ["", "/", "/a/b"],
+    "default wants /other/ and a text": ["", "/", "/a"],
 }
 
 
@@ -165,6 +184,10 @@ def rendered(name, text):
 
 def fault(why):
     return lambda got: got[0] == 1 and got[2].endswith(f': no template "{why}"\n'.encode())
+
+
+def gives(made):
+    return lambda got: got == (0, made, b"")
 
 
 def is_read(name, text):
@@ -194,9 +217,14 @@ def cases():
                 yield name, text, is_read(name, text)
     for name, (makes, before) in OTHERS.items():
         for text in texts():
-            yield name, before + text, lambda got, wanted=makes(text).encode(): got == (0, wanted, b"")
-    for wrong, why in (("4", "indent wants a number, a colon and a text"), ("/a/b", "replace wants /old/new/ and a text")):
-        yield why.partition(" ")[0], wrong, fault(why)
+            yield name, before + text, gives(makes(text.encode()))
+        for text in ill_formed():
+            yield name, before.encode() + text, gives(makes(text))
+    for name, text, made in FORMS:
+        yield name, text, gives(made)
+    for why, them in WRONG.items():
+        for text in them:
+            yield why.partition(" ")[0], text, fault(why)
 
 
 NGINX = b"""daemon off; master_process off; pid pid; error_log stderr crit; events {}
@@ -247,38 +275,61 @@ def data_cases():
     random_ = random.Random(3)
     for _ in range(200):
         data = drawn(random_, 4)
-        RUNNER.lay(b"d", json.dumps(data).encode())
-        RUNNER.lay(b"m", b'{{template "to json" .}}')
-        got = RUNNER.run([b"--data", b"d", b"m", *FILES])
+        got = of_data('{{template "to json" .}}', data)
         yield f"to json {data!r}", [] if got[0] == 0 and json.loads(got[1]) == data else [f"    it comes to {got}"]
+    for data in ([], ["\0"], [1, True, False, -5], [*texts()], *([*texts()][at : at + 3] for at in range(40))):
+        wanted = ", ".join(it if isinstance(it, str) else json.dumps(it) for it in data).encode()
+        got = of_data('{{template "join" .}}', data)
+        yield f"join {data!r}", [] if got == (0, wanted, b"") else [f"    it comes to {got}"]
+    for data, wanted in (({}, b"d d"), ({"x": None}, b"d d"), ({"x": ""}, b"d d"), ({"x": 0}, b"0 d"), ({"x": False}, b"false d")):
+        got = of_data('{{template "default" (print "/d/" .x)}} {{or .x "d"}}', data)
+        yield f"default of {data!r}", [] if got == (0, wanted, b"") else [f"    it comes to {got}"]
 
 
-def seconds(name, text, runs):
-    """The least processor time of so many runs, and what came of the last."""
+def of_data(template, data):
+    """What a template gives of data."""
+    RUNNER.lay(b"d", json.dumps(data).encode())
+    RUNNER.lay(b"m", template.encode())
+    return RUNNER.run([b"--data", b"d", b"m", *FILES])
+
+
+def seconds(run, runs):
+    """The least processor time of a number of runs, and what came of the last."""
     least = []
     for _ in range(runs):
         before = resource.getrusage(resource.RUSAGE_CHILDREN)
-        got = rendered(name, text)
+        got = run()
         after = resource.getrusage(resource.RUSAGE_CHILDREN)
         least.append(after.ru_utime + after.ru_stime - before.ru_utime - before.ru_stime)
     return min(least), got
 
 
+def too_slow(run, short_run):
+    """What a run gives, and whether it takes far more than eight times as long as one of an eighth."""
+    took, got = seconds(run, 1)
+    short, _ = seconds(short_run, 2)
+    slow = [f"    it takes {took:.2f} s, and {short:.2f} s for an eighth"] * (took > 8 * SLOWER * max(short, 0.01))
+    return got, slow + [f"    it comes to {got[0]}, {got[2]}"] * bool(got[0])
+
+
 def long_cases():
-    """Each template over a long text, whose quote is read too where its reader is quick, beside one an eighth as long."""
+    """Each template over a long text, whose quote is read too, beside one an eighth as long; and a list of as many bytes."""
+    text = "it's \"é\"\\ 100%\n"
+    text *= LONG // len(text.encode())
     for name in [*QUOTES, *OTHERS]:
         before = OTHERS[name][1] if name in OTHERS else ""
-        text = "it's \"é\"\\ 100%\n"
-        text *= LONG // len(text.encode())
-        took, got = seconds(name, before + text, 1)
-        short, _ = seconds(name, before + text[: len(text) // 8], 2)
-        slow = [f"    it takes {took:.2f} s, and {short:.2f} s for an eighth"] * (took > 8 * SLOWER * max(short, 0.01))
-        wrong = [f"    it comes to {got[0]}, {got[2]}"] * bool(got[0])
-        if name in QUOTES and QUOTES[name][0] and name != "yaml":
+        got, wrong = too_slow(lambda: rendered(name, before + text), lambda: rendered(name, before + text[: len(text) // 8]))
+        if name in QUOTES and QUOTES[name][0]:
             wrong += [] if is_read(name, text)(got) else ["    what is read is not the text"]
         elif name in OTHERS:
-            wrong += [] if got[1] == OTHERS[name][0](text).encode() else ["    it is another text"]
-        yield f"{name} of {LONG} bytes", wrong + slow
+            wrong += [] if got[1] == OTHERS[name][0](text.encode()) else ["    it is another text"]
+        yield f"{name} of {LONG} bytes", wrong
+    items = text.splitlines(keepends=True)
+    wanted = {"to json": lambda got: json.loads(got) == items, "join": lambda got: got == ", ".join(items).encode()}
+    for name, fits in wanted.items():
+        said = f'{{{{template "{name}" .}}}}'
+        got, wrong = too_slow(lambda: of_data(said, items), lambda: of_data(said, items[: len(items) // 8]))
+        yield f"{name} of a list of {LONG} bytes", wrong or ([] if fits(got[1]) else ["    it is another text"])
 
 
 def main():

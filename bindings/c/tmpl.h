@@ -19,7 +19,7 @@
 extern "C" {
 #endif
 
-/* What a call comes to: the statuses of the command `tmpl`. */
+/* How a call ends: the statuses of the command `tmpl`. */
 enum {
     TMPL_OK = 0,       /* the whole text is in `out`, and `err` is empty */
     TMPL_FAULT = 1,    /* the run stopped at a fault: `out` has the text before it */
@@ -40,8 +40,8 @@ typedef struct tmpl_file {
 
 /* How to run a template. All zeros are the defaults. */
 typedef struct tmpl_settings {
-    uint64_t steps;      /* at most so many steps; 0: 1,000,000,000 */
-    uint32_t depth;      /* calls of templates at most so deep; 0: 1,000; above 100,000: 100,000 */
+    uint64_t steps;      /* how many steps a run may take; 0: 1,000,000,000 */
+    uint32_t depth;      /* how deep calls of templates may be nested; 0: 1,000; above 100,000: 100,000 */
     uint8_t missing_key; /* what a missing key gives: 0 default, 1 invalid, 2 zero, 3 error, as the option --missingkey */
     uint8_t print;       /* 1: print the set of templates, and run nothing; the name and the data are not looked at */
 } tmpl_settings;
@@ -76,13 +76,13 @@ uint8_t tmpl_render(const tmpl_settings *settings, const tmpl_file *files, size_
 
 /* Templates and data that are kept: parsed and read once, and rendered as often as you like.
  *
- * All zeros are an empty one, as in `tmpl_set set = {0};`. Leave what is behind the pointer alone, make no copies, and
+ * All zeros are an empty one, as in `tmpl_set set = {0};`. Leave what the pointer points to alone, make no copies, and
  * give one of them to one call at a time, all on one thread. Free it once you are done: its memory is the library's. One
  * that was freed is an empty one again, so that freeing it twice does no harm. */
 typedef struct tmpl_set { void *held; } tmpl_set;   /* empty: no templates */
 typedef struct tmpl_data { void *held; } tmpl_data; /* empty: no data, and dot is nothing */
 
-/* Adds the templates of a file to a set, behind those of the files before. Gives TMPL_OK, TMPL_NOT_TEXT, TMPL_REFUSED or
+/* Adds the templates of a file to a set, after those of earlier files. Gives TMPL_OK, TMPL_NOT_TEXT, TMPL_REFUSED or
  * TMPL_MEMORY, and `err` takes the line that tmpl_render would say. Where it is not TMPL_OK the set is as it was. */
 uint8_t tmpl_set_add(tmpl_set *set, const tmpl_file *file, tmpl_buffer *err);
 
