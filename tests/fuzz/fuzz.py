@@ -166,23 +166,22 @@ def lay_seeds():
 
 
 class Input:
-    """What an input says, with names of files that the command can be given; `is_told` tells whether there are such."""
+    """What an input says, where it has files. A base name that the command can't be given is `m` in its place."""
 
     def __init__(self, whole):
-        missing, steps, depth = whole[:3]
-        name, data, *parts = (whole[4:].split(CUT, 7) + [b""])[: 9]
-        count = (whole[4:].count(CUT, 0) + 1 - 2) // 2 if CUT in whole[4:] else 0
-        count = min(max(count, 0), 3)
-        bases = [parts[2 * it].rpartition(b"/")[2] for it in range(count)]
-        self.files = [(b"%d/%s" % (it, base), parts[2 * it + 1]) for it, base in enumerate(bases)]
+        mode, steps, depth, _ = whole[:4]
+        name, data, *parts = [*whole[4:].split(CUT, 7), b""][:8]
+        bases = [path.rpartition(b"/")[2] for path in parts[: len(parts) // 2 * 2 : 2]]
+        bases = [base if is_name(base) else b"m" for base in bases]
+        self.files = [(b"%d/%s" % (place, base), what) for place, (base, what) in enumerate(zip(bases, parts[1::2]))]
         self.data = (b"data", data) if data else None
-        told = {"steps": 1 + steps * steps // 16, "depth": 1000 if missing & 4 else 1 + depth % 64}
-        told |= {"missingkey": MODES[missing & 3], "name": name or None}
+        name = name if is_word(name) else b""
+        told = {"steps": 1 + steps * steps // 16, "depth": 1000 if mode & 4 else 1 + depth % 64}
+        told |= {"missingkey": MODES[mode & 3], "name": name or None}
         self.options = meaning.Options(**told)
         said = [b"--steps", b"%d" % told["steps"], b"--depth", b"%d" % told["depth"], b"--missingkey", told["missingkey"]]
         self.words = said + [b"--name=" + name] * bool(name) + [b"--data", b"data"] * bool(data)
         self.words += [b"--", *(path for path, _ in self.files)]
-        self.is_told = bool(count) and all(map(is_name, bases)) and is_word(name)
 
     def case(self, name):
         """The same for print.py."""
@@ -248,7 +247,7 @@ def check(path):
     """How the command ended over an input, and what is wrong; None where it could not be compared."""
     with open(path, "rb") as it:
         given = Input(it.read())
-    if not given.is_told:
+    if not given.files:
         return None, []
     draws.Case.lay(given, draws.RUNNER)
     got = draws.RUNNER.run(given.words)
