@@ -62,6 +62,10 @@ edits:
 bench: $(PROGRAM) $(PROBE) lib
 	python3 tests/bench.py
 
+# fuzzes the C library by coverage, 10,000,000 inputs, and holds what was kept against meaning.py; it needs clang with libFuzzer
+fuzz: $(PROGRAM) $(PROVED_LIBRARY)
+	python3 tests/fuzz/fuzz.py
+
 # renders random templates by the program and by Go's own text/template; it needs Go
 compare: $(PROGRAM)
 	python3 tests/go/compare.py
@@ -140,4 +144,4 @@ $(SHARED_LIBRARY): $(STATIC_LIBRARY) bindings/c/tmpl.map
 		-Wl,--version-script=bindings/c/tmpl.map -Wl,-z,defs
 	ln -sf libtmpl.so bindings/out/$(SONAME)
 
-.PHONY: build demo test lib test-bindings install-lib check edits bench compare install uninstall dist deb help
+.PHONY: build demo test lib test-bindings install-lib check edits bench fuzz compare install uninstall dist deb help

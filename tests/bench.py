@@ -1,5 +1,6 @@
 """Times the built program beside other programs, in one run: each pair turn by turn, and of each the median.
 TMPL=PATH names another build."""
+import glob
 import json
 import os
 import shutil
@@ -385,6 +386,7 @@ def bench_renders(folder):
             judge("tmpl to Go", ours[0] / theirs[0][0], most)
 
 
+# The same templates in the language that Jinja2 and Tera share.
 JINJA = {
     "examples/hello": "Hello, {{ data.user.name }}!\n",
     "a table of 20,000 rows": "{% for row in data %}<tr><td>{{ row.id }}</td><td>{{ row.name }}</td>"
@@ -413,20 +415,46 @@ def time_jinja(source, held, count):
     return min(times), statistics.median(times), len(text.encode())
 
 
+CRATES = "/usr/share/cargo/registry"  # where Debian's packages of Rust keep their sources
+SOURCES = f"""[source.crates-io]
+replace-with = "packaged"
+[source.packaged]
+directory = "{CRATES}"
+"""
+
+
+def tera_renderer(folder):
+    """A program over Tera, a template engine in Rust, built of the sources of Debian's package; none where they or Cargo are not there."""
+    if not shutil.which("cargo") or not glob.glob(f"{CRATES}/tera-*"):
+        print("  Tera is left out: it needs Cargo and the package librust-tera-dev")
+        return None
+    at = f"{folder}/rust_peer"
+    shutil.copytree(f"{harness.TESTS}/rust_peer", at, ignore=shutil.ignore_patterns("target", "Cargo.lock"))
+    os.mkdir(f"{at}/.cargo")
+    write(f"{at}/.cargo/config.toml", [SOURCES.encode()])
+    built = subprocess.run(["cargo", "build", "--quiet", "--release", "--offline"], cwd=at, stderr=subprocess.PIPE, text=True)
+    if built.returncode:
+        print("  Tera is left out, since it could not be built:", *built.stderr.splitlines()[:1])
+        return None
+    return f"{at}/target/release/rust_peer"
+
+
 def bench_library(folder):
-    """Renders in one process by the C library, beside Go's and Jinja2 where they are there."""
+    """Renders in one process by the C library, beside Go's, Tera and Jinja2 where they are there."""
     print("Renders in one process")
     go, speed, library = go_renderer(folder), f"{folder}/speed", f"{harness.TOP}/bindings/out/libtmpl.a"
+    tera = tera_renderer(folder)
     subprocess.run(["cc", "-O2", f"-I{harness.TOP}/bindings/c", f"{harness.TESTS}/speed.c", library, "-o", speed], check=True)
     for name, pieces, held, _ in renders(folder):
         if name not in JINJA:
             continue
         file, count = write(f"{folder}/template", pieces), 10_000 if name == "examples/hello" else 1
+        other = write(f"{folder}/other", [JINJA[name].encode()])
         for how, kept in (("parsed and read each time", []), ("parsed and read once", ["kept"])):
             print(f"  {name}, {how}")
-            for who, words in (("tmpl", [speed]), ("Go", [go, "times"])):
+            for who, words in (("tmpl", [speed, file]), ("Go", [go, "times", file]), ("Tera", [tera, other])):
                 if words[0]:
-                    told = subprocess.run([*words, file, held, str(count), *kept], stdout=subprocess.PIPE, check=True).stdout
+                    told = subprocess.run([*words, held, str(count), *kept], stdout=subprocess.PIPE, check=True).stdout
                     tell_library(who, *map(int, told.split()))
             if kept and (told := time_jinja(JINJA[name], held, count)):
                 tell_library("Jinja2", *told)

@@ -2,9 +2,16 @@
 from 1 until none is, once and for good, by an error, by an interrupt, and by taking no byte; to its output, and to its
 errors. A short write must change nothing. A refused write of output must leave a beginning of it, status 6 and its line;
 one of errors a beginning of the line, and nothing else changed; and no write may follow it. TMPL=PATH names another
-build."""
+build.
+
+`writes.py --long [WORD]` runs the rows that are not small, and those of which not each write is refused above, with every write of
+output refused by an error, by writes of 4,096 bytes, of 3, once and for good, and of 1. It takes hours of one processor, and says of
+each row how many writes were refused. With a WORD it is the rows alone in whose name that is, and `writes.py --long -WORD` the others."""
+import os
+import struct
 import sys
 import tempfile
+import time
 
 import harness
 import sweep
@@ -63,10 +70,63 @@ def start():
     RUNNER = harness.Runner()
 
 
-def main():
+# ---- the long ones
+
+# bytes of a write at most, and the way in which each is refused
+LONG_WAYS = ((4096, 1), (3, 2), (3, 1), (1, 1))
+COUNT = struct.Struct("l")
+ALL = 1 << 30  # seconds that a run may take
+TOLD = 6, b"", LINE  # of a copy whose write was refused: it puts nothing more out, and the line
+
+
+def check_long(row, most, way):
+    """How many writes were refused, and what is wrong. The shim tells how many copies it made, and what of one differs from the one
+    before; what the copies had put out is the beginning of what the program puts out."""
+    how = {"LD_PRELOAD": SHIM, "WRITE_TO": "1", "WRITE_MOST": str(most), "WRITE_EACH": str(RUNNER.told), "WRITE_WAY": str(way)}
+    wrong = harness.differences(row, RUNNER.run_row(row, how))
+    (count,) = COUNT.unpack(os.pread(RUNNER.told, COUNT.size, 0))
+    told = harness.taken_from(RUNNER.told)[COUNT.size :]
+    os.write(RUNNER.told, told)
+    for number, got, writes in RUNNER.turns():
+        if got != TOLD or writes != b"f":
+            wrong.append(f"    write {number // len(WAYS)} refused {WAYS[way - 1]}: {got}, {len(writes) - 1} writes after it")
+    least = -(-len(row.out) // most)
+    if count < least or most == 1 and count != least:
+        wrong.append(f"    {count} writes")
+    return count, wrong
+
+
+def is_long(row):
+    """Whether not each write of the row is refused by the tests of the gate."""
+    is_asked = row.stdout == row.stderr == "pipe" and row.is_again() and row.stdin is None and row.status < 6
+    return is_asked and len(row.out) > FEW and (row.size() > sweep.SMALL or len(row.out) * row.size() > 10**9)
+
+
+def main_long(word=""):
+    global SHIM
+    harness.SECONDS = ALL
+    start()
+    rows = [it for it in harness.read_rows() if is_long(it) and (word[1:] not in it.name if word[:1] == "-" else word in it.name)]
+    refused = failed = 0
+    with tempfile.TemporaryDirectory() as folder:
+        SHIM = f"{folder}/fail_write.so"
+        sweep.build_shim("fail_write.c", SHIM)
+        for row in sorted(rows, key=lambda it: len(it.out)):
+            RUNNER.lay_row(row)
+            for most, way in LONG_WAYS:
+                begun = time.monotonic()
+                count, wrong = check_long(row, most, way)
+                print(f"{row.name}: {count} writes of {most} bytes refused {WAYS[way - 1]}, {time.monotonic() - begun:.0f} s", *wrong, sep="\n", flush=True)
+                refused, failed = refused + count, failed + bool(wrong)
+    return harness.closing(refused, failed)
+
+
+def main(*words):
     global SHIM
     if not harness.is_built():
         return harness.closing(0, 1)
+    if words[:1] == ("--long",):
+        return main_long(*words[1:])
     rows = [it for it in harness.read_rows() if it.stdout == it.stderr == "pipe" and it.is_again() and it.size() <= sweep.SMALL]
     with tempfile.TemporaryDirectory() as folder:
         SHIM = f"{folder}/fail_write.so"
@@ -77,4 +137,4 @@ def main():
 
 
 if __name__ == "__main__":
-    sys.exit(main())
+    sys.exit(main(*sys.argv[1:]))
