@@ -12,6 +12,7 @@ name that is run, the data, and the path and the text of up to three files. What
 Then each input that was kept, and each seed, is given to the command: its text, line and status must be those of meaning.py, and what
 `--print` puts out those of reading.py; that is read, printed and rendered again, as print.py does. All is kept in bindings/out/fuzz.
 `fuzz.py 0` makes no inputs, and holds those against meaning.py that are there. It needs clang with its runtime libraries."""
+import collections
 import glob
 import hashlib
 import os
@@ -21,6 +22,7 @@ import shlex
 import shutil
 import subprocess
 import sys
+import unicodedata
 
 HERE = os.path.dirname(os.path.abspath(__file__))
 TESTS = os.path.dirname(HERE)
@@ -34,6 +36,7 @@ COUNT = 10_000_000
 DRAWS = 3000  # random sets among the seeds
 LONGEST = 1024  # bytes of an input
 MEMORY = 1 << 30  # bytes that a process may have, and the command in it
+LARGE = 1 << 20  # bytes of text that are compared at most
 CUT = b"\xff"
 MODES = (b"default", b"invalid", b"zero", b"error")
 HELD = f"{harness.TOP}/bindings/out/fuzz"
@@ -243,32 +246,42 @@ def start():
     printing.RUNNER = draws.RUNNER
 
 
+def is_known(told):
+    """Whether Python's tables give each rune a category. The program's are those of the toolchain, which know more runes, and a quote has
+    what they know as it is."""
+    return all(unicodedata.category(rune) != "Cn" for rune in told.decode(errors="ignore"))
+
+
 def check(path):
-    """How the command ended over an input, and what is wrong; None where it could not be compared."""
+    """How the command ended over an input, and what is wrong; or why it could not be compared."""
     with open(path, "rb") as it:
         given = Input(it.read())
     if not given.files:
-        return None, []
+        return "no files", []
     draws.Case.lay(given, draws.RUNNER)
     got = draws.RUNNER.run(given.words)
-    if got[0] == 7 or len(got[1]) > 1 << 20:
-        return None, []
+    if got[0] == 7 or len(got[1]) > LARGE:
+        return "a large text", []
+    printed = draws.RUNNER.run([b"--print", *given.words])
     wanted = meaning.outcome(given.files, given.data, given.options)
-    if got != wanted:
-        return got[0], [f"FAILED {path}, with the words {given.words}", *draws.shown("got", got), *draws.shown("wanted", wanted)]
-    wrong, _ = printing.check(given.case(path))
-    return got[0], [f"FAILED {path}, printed", *wrong] if wrong else []
+    if got == wanted:
+        wrong, _ = printing.check(given.case(path))
+    else:
+        wrong = [*draws.shown("got", got), *draws.shown("wanted", wanted)]
+    if wrong and not is_known(got[1] + got[2] + printed[1]):
+        return "runes that Python's tables lack", []
+    return f"status {got[0]}", [f"FAILED {path}, with the words {given.words}", *wrong] if wrong else []
 
 
 def compare():
     """Holds the command against meaning.py and reading.py over all inputs that are there."""
-    paths, came, failed = glob.glob(f"{CORPUS}/*") + glob.glob(f"{SEEDS}/*"), {}, 0
-    for status, wrong in harness.in_processes(check, paths, start, 20):
+    paths, came, failed = glob.glob(f"{CORPUS}/*") + glob.glob(f"{SEEDS}/*"), collections.Counter(), 0
+    for how, wrong in harness.in_processes(check, paths, start, 20):
         print(*wrong, sep="\n", end="\n" * bool(wrong))
-        came[status], failed = came.get(status, 0) + 1, failed + bool(wrong)
-    for status, number in sorted(came.items(), key=str):
-        print(f"{number:6} " + ("could not be compared" if status is None else f"came to status {status}"))
-    return len(paths) - failed, failed
+        came[how], failed = came[how] + 1, failed + bool(wrong)
+    for how, number in sorted(came.items()):
+        print(f"{number:6} {'came to' if how.startswith('status') else 'were not compared:'} {how}")
+    return sum(number for how, number in came.items() if how.startswith("status")) - failed, failed
 
 
 def main(count=COUNT):
