@@ -1,8 +1,15 @@
-"""Times the built program beside other programs, in one run: each pair turn by turn, and of each the median.
-TMPL=PATH names another build."""
+"""Times the built program and the C library beside other programs, and writes the table of docs/SPEED.md. TMPL=PATH names another build.
+
+    bench.py [--dry]
+
+Each pair runs turn by turn, and of each the median is told. A factor is ours over theirs. Go, the newest that is there, Jinja2 and Tera are
+left out where they are not there; `--dry` only puts the table out."""
+import datetime
 import glob
 import json
 import os
+import platform
+import re
 import shutil
 import statistics
 import subprocess
@@ -19,7 +26,61 @@ MIB = 1 << 20
 LINE = b"All the world's a stage, and all the men and women merely players.\n"
 PROBE = calls.PROBE
 SMALL_ACTIONS = b"{{if .a}}{{$x := .b}}{{$x}}{{else}}{{range .c}}{{.}}{{end}}{{end}}\n"
-LOAD = "import json, sys; json.load(open(sys.argv[1], 'rb'))"
+PAGE = f"{harness.TOP}/docs/SPEED.md"
+BEGIN, END = "<!-- made by `make bench`: begin -->\n", "<!-- made by `make bench`: end -->\n"
+
+
+# ---- what was measured
+
+
+def shown(seconds):
+    for unit, scale in (("s", 1), ("ms", 1e3), ("µs", 1e6)):
+        if seconds * scale >= 1:
+            break
+    else:
+        unit, scale = "ns", 1e9
+    return f"{seconds * scale:.{0 if seconds * scale >= 100 else 1 if seconds * scale >= 10 else 2}f} {unit}"
+
+
+def with_memory(told):
+    """Seconds and KiB, as a cell of the table."""
+    return f"{shown(told[0])}, {told[1] / 1024:.0f} MiB"
+
+
+class Figures:
+    """The rows of the table, each told as it is measured."""
+
+    def __init__(self):
+        self.rows, self.rises = [], []
+
+    def part(self, title):
+        print(title, flush=True)
+        self.rows.append(f"| **{title}** | | | | | |")
+
+    def row(self, what, ours, beside="", time=None, memory=None, most_time=None, most_memory=None):
+        """A row with the factors of time and memory, and how much each may be, where that is set."""
+        wanted = []
+        for factor, most, name in ((time, most_time, "time"), (memory, most_memory, "memory")):
+            if factor is not None and most is not None:
+                wanted.append(f"{name} {most:g}: {'holds' if factor <= most else 'does not hold'}")
+        cells = [what, ours, beside, *("" if it is None else f"{it:.2f}" for it in (time, memory)), "; ".join(wanted)]
+        self.rows.append(f"| {' | '.join(cells)} |")
+        print(f"  {', '.join(it for it in cells if it)}", flush=True)
+
+    def rise(self, what, points):
+        """What a byte costs more in a long file than in one of a quarter of its length, start-up aside: by the rise from the first of
+        three sizes, each with its seconds. A cost that grows by the square shows as 3 or more."""
+        near, far = ((seconds - points[0][1]) / (size - points[0][0]) for size, seconds in points[1:])
+        self.rises.append((far / max(near, 1e-12), what))
+
+    def table(self):
+        worst, what = max(self.rises)
+        self.part("Growth")
+        self.row(f"a byte more, beside one in a file of a quarter of the size; the most of {len(self.rises)}", what, "", worst, None, 2)
+        return ["| What | `tmpl` | Beside | Time | Memory | Wanted, at most |", "|---|---|---|---|---|---|", *self.rows]
+
+
+# ---- processes
 
 
 def once(words, to_pipe=False):
@@ -52,78 +113,6 @@ def medians(rounds, *runs, to_pipe=False):
     return [[statistics.median(which) for which in zip(*column)] for column in zip(*told)]
 
 
-def milliseconds(seconds):
-    return f"{seconds * 1000:.2f} ms"
-
-
-def judge(what, factor, most):
-    """Says whether a factor is at most what is wanted."""
-    print(f"  {what}: {factor:.2f} times, at most {most:g} wanted: {'holds' if factor <= most else 'DOES NOT HOLD'}")
-
-
-def judge_linear(points):
-    """Whether a byte costs as much in a long file as in one of a quarter of its length, start-up aside: by the
-    rise from the first of three sizes, each with its seconds. A cost that grows by the square shows as 3 or more."""
-    rises = [(seconds - points[0][1]) / (size - points[0][0]) for size, seconds in points[1:]]
-    judge("tmpl's further bytes to those of a quarter of the length", rises[-1] / max(rises[0], 1e-12), 2)
-
-
-def write(path, pieces):
-    """Writes in pieces, since a child's peak memory counts from what its parent held."""
-    with open(path, "wb") as it:
-        for piece in pieces:
-            it.write(piece)
-    return path
-
-
-def bench_start():
-    at = f"{harness.TOP}/examples/hello"
-    whole = [harness.PROGRAM, "--data", f"{at}/data.json", f"{at}/hello.tmpl"]
-    once(whole)
-    ours, bare = medians(201, whole, ["/bin/true"])
-    print("A whole render of examples/hello")
-    print(f"  tmpl {milliseconds(ours[0])}, /bin/true {milliseconds(bare[0])}")
-    judge("tmpl to /bin/true", ours[0] / bare[0], 1.5)
-
-
-def bench_text(folder):
-    print("A file of plain text")
-    for name, to_pipe in (("to /dev/null", False), ("to a pipe that is read", True)):
-        points = []
-        for size in (1, 2, 4, 8, 16):
-            chunk = (LINE * (MIB // len(LINE) + 1))[: MIB - 1] + b"\n"
-            file = write(f"{folder}/text", [chunk] * size)
-            ours, cat = medians(21, [harness.PROGRAM, file], ["cat", file], to_pipe=to_pipe)
-            points.append((size * MIB, ours[0]))
-            print(f"  {size:2} MiB {name}: tmpl {milliseconds(ours[0])} in {ours[1] // 1024:.0f} MiB, cat {milliseconds(cat[0])}")
-        judge("tmpl to cat at 16 MiB", ours[0] / cat[0], 10)
-        judge_linear([points[0], points[2], points[4]])
-
-
-def bench_actions(folder):
-    print("A file of actions, to /dev/null")
-    data = write(f"{folder}/data", [b'{"user":{"name":"Ada"},"n":7}'])
-    points = []
-    for size in (0.5, 2, 8):
-        file = write(f"{folder}/actions", [b"{{.user.name}} has {{ .n }}.\n" * (MIB // 58)] * int(2 * size))
-        (ours,) = medians(11, [harness.PROGRAM, "--data", data, file])
-        points.append((size * MIB, ours[0]))
-        print(f"  {size:3} MiB: tmpl {milliseconds(ours[0])} in {ours[1] // 1024:.0f} MiB")
-    judge_linear(points)
-
-
-def members(size):
-    """A JSON list of that many bytes, nearly: members as an export of accounts has them."""
-    written, number = 1, 0
-    yield b"["
-    while written < size:
-        it = b'%s{"id":%d,"name":"account %d","is_open":%s,"owner":null,"tags":["a","b","%d"],"sums":[%d,-%d,0]}' % (
-            b"," * (number > 0), number, number, b"true" if number % 3 else b"false", number % 97, number * 17, number + 1)
-        yield it
-        written, number = written + len(it), number + 1
-    yield b"]"
-
-
 def answered(part, file, *more):
     """The number that the probe puts out for a part, and peak KiB of its process."""
     read, write = os.pipe()
@@ -144,124 +133,66 @@ def timed(part, file, *more):
     return nanoseconds / 1e9, peak
 
 
-def bench_cut(folder):
-    """The cut alone, beside whole processes of cat and wc over the same file."""
-    print("The cut of a file")
-    for name, piece in (("plain text", LINE), ("a newline at every second byte", b"a\n"), ("short actions", b"{{.a}}")):
-        points = []
-        for size in (1, 4, 16):
-            file = write(f"{folder}/cut", [(piece * (MIB // len(piece) + 1))[: MIB // len(piece) * len(piece)]] * size)
-            rounds = [(timed("cut", file), once(["wc", "-l", file]), once(["cat", file])) for _ in range(11)]
-            ours, lines, cat = ([statistics.median(which) for which in zip(*column)] for column in zip(*rounds))
-            points.append((size * MIB, ours[0]))
-            print(f"  {size:2} MiB of {name}: {size * MIB / 1e6 / ours[0]:.0f} MB/s ({milliseconds(ours[0])} in {ours[1] // 1024:.0f} MiB), wc -l {milliseconds(lines[0])}, cat {milliseconds(cat[0])}")
-        if piece == LINE:
-            judge("the cut to wc -l at 16 MiB of plain text", ours[0] / lines[0], 3)
-            judge("its memory to the file, all of the process", ours[1] / 1024 / 16, 3)
-        judge_linear(points)
+def parts(rounds, *runs):
+    """The median seconds and peak KiB of each part, run turn by turn."""
+    told = [[timed(*it) if it[0] in ("cut", "parse", "compile", "read", "data") else once(it) for it in runs] for _ in range(rounds)]
+    return [[statistics.median(which) for which in zip(*column)] for column in zip(*told)]
 
 
-def bench_parsing(folder):
-    """Files that are parsed and not run: the template that is run has one byte."""
-    tiny = write(f"{folder}/tiny", [b"x"])
-    for name, piece in (
-        ("small actions", SMALL_ACTIONS),
-        ("constants, strings and parentheses", b'{{print 12 -0x1F (len "a\\tb") (or (eq .a `c`) \'d\')}}\n'),
-    ):
-        print(f"The parsing of {name}")
-        points = []
-        for size in (10_000, 250_000, 1_000_000):
-            file = write(f"{folder}/parsed", [piece * (size // len(piece))])
-            ours, bare = medians(21, [harness.PROGRAM, tiny, file], [harness.PROGRAM, tiny])
-            points.append((size, ours[0]))
-            speed = size / 1e6 / max(ours[0] - bare[0], 1e-9)
-            print(f"  {size:7} bytes: tmpl {milliseconds(ours[0])} in {ours[1] // 1024:.0f} MiB, without the file {milliseconds(bare[0])}: {speed:.0f} MB/s")
-        judge_linear(points)
+# ---- files
 
 
-def bench_compiling(folder):
-    """The compiling of a set to flat code, beside the parsing of the same file, and how many bytes the code takes."""
-    for name, piece in (
-        ("small actions", SMALL_ACTIONS),
-        ("actions of one field", b"{{.a}}\n"),
-        ("actions of dot alone", b"{{.}}"),
-    ):
-        print(f"The compiling of {name}")
-        points = []
-        for size in (10_000, 1_000_000, 4_000_000):
-            file = write(f"{folder}/compiled", [piece * (size // len(piece))])
-            rounds = [(timed("parse", file), timed("compile", file)) for _ in range(11)]
-            parsed, compiled = ([statistics.median(which) for which in zip(*column)] for column in zip(*rounds))
-            code = answered("code", file)[0] / os.path.getsize(file)
-            points.append((size, compiled[0]))
-            print(f"  {size:7} bytes: compiled in {milliseconds(compiled[0])} in {compiled[1] // 1024:.0f} MiB, parsed in {milliseconds(parsed[0])}, {code:.1f} bytes of code a byte")
-            if size == 1_000_000:
-                judge("compiling to parsing", compiled[0] / parsed[0], 0.25)
-                judge("the code to its template, in bytes", code, 40)
-        judge_linear(points)
+def write(path, pieces):
+    """Writes in pieces, since a child's peak memory counts from what its parent held."""
+    with open(path, "wb") as it:
+        for piece in pieces:
+            it.write(piece)
+    return path
 
 
-def bench_printing(folder):
-    """What printing costs beside reading: what a process takes longer that prints the set, where the other runs a template of
-    one byte."""
-    tiny = write(f"{folder}/tiny", [b"x"])
-    for name, piece in (("small actions", SMALL_ACTIONS), ("actions of one field", b"{{.a}}\n"), ("definitions", None)):
-        print(f"The printing of {name}")
-        points = []
-        for size in (10_000, 250_000, 1_000_000):
-            pieces = [piece * (size // len(piece))] if piece else definitions(size // 42)
-            file = write(f"{folder}/printed", pieces)
-            runs = [[harness.PROGRAM, "--print", tiny, file], [harness.PROGRAM, tiny, file], [harness.PROGRAM, tiny]]
-            printed, read, bare = (it[0] for it in medians(21, *runs))
-            points.append((size, printed))
-            print(f"  {size:7} bytes: printed in {milliseconds(printed)}, read alone in {milliseconds(read)}, without the file {milliseconds(bare)}")
-        judge("printing to reading", (printed - read) / max(read - bare, 1e-9), 0.25)
-        judge_linear(points)
+def repeated(path, piece, size):
+    """A file of that many bytes or a few less, the same piece over and over."""
+    whole, rest = divmod(size // len(piece), 1000)
+    return write(path, (*(piece * 1000 for _ in range(whole)), piece * rest))
 
 
-def bench_call_template(folder):
-    print("A template of function calls, to /dev/null")
-    points = []
-    for count in (1_000, 2_500, 10_000):
-        file = write(f"{folder}/called", [b'{{printf "%5d" (len "ab")}}\n' * count])
-        (ours,) = medians(11, [harness.PROGRAM, file])
-        points.append((count, ours[0]))
-        print(f"  {count:5} calls of printf and len: tmpl {milliseconds(ours[0])} in {ours[1] // 1024:.0f} MiB")
-    judge_linear(points)
+def listed(items):
+    """A JSON list, item by item."""
+    yield b"["
+    for number, it in enumerate(items):
+        yield b"," * (number > 0) + it
+    yield b"]"
 
 
-def bench_memory(folder):
-    """The peak memory of renders of many small actions, of which trees are made."""
-    print("Peak memory of a render, to /dev/null")
-    go = go_renderer(folder)
-    data = write(f"{folder}/data", [b'{"a":1,"b":"x","c":[1,2]}'])
-    for name, piece, size, most in (
-        ("16 MiB of {{.}}", b"{{.}}", 16 * MIB, 1100),
-        (f"2 MB of lines {SMALL_ACTIONS.decode().strip()}", SMALL_ACTIONS, 2_000_000, 263),
-    ):
-        file = write(f"{folder}/template", [piece * (size // len(piece) // 16)] * 16)
-        runs = [[harness.PROGRAM, "--data", data, file]] + [[go, "render", file, data]] * bool(go)
-        peaks = [kibibytes * 1024 / 1e6 for _, kibibytes in medians(3, *runs)]
-        beside = f", Go {peaks[1]:.0f} MB" if go else ""
-        print(f"  {name}: tmpl {peaks[0]:.0f} MB{beside}")
-        print(f"  tmpl: at most {most} MB wanted: {'holds' if peaks[0] <= most else 'DOES NOT HOLD'}")
+def members(size):
+    """A JSON list of that many bytes, nearly: members as an export of accounts has them."""
+
+    def account(number):
+        return b'{"id":%d,"name":"account %d","is_open":%s,"owner":null,"tags":["a","b","%d"],"sums":[%d,-%d,0]}' % (
+            number, number, b"true" if number % 3 else b"false", number % 97, number * 17, number + 1)
+
+    def whole():
+        written, number = 1, 0
+        while written < size:
+            it = account(number)
+            yield it
+            written, number = written + len(it) + 1, number + 1
+
+    return listed(whole())
 
 
-def bench_range(folder):
-    print("A range over elements with an if inside, to /dev/null")
-    file = write(f"{folder}/range", [b"{{range .}}{{if .}}{{.}},{{end}}{{end}}"])
-    points = []
-    for count in (10_000, 25_000, 100_000):
-        data = write(f"{folder}/elements", [b"[7", b",7" * (count - 1), b"]"])
-        (ours,) = medians(11, [harness.PROGRAM, "--data", data, file])
-        points.append((count, ours[0]))
-        print(f"  {count:6} elements: tmpl {milliseconds(ours[0])} in {ours[1] // 1024:.0f} MiB")
-    judge_linear(points)
+def rows(count):
+    return listed(json.dumps({"id": it, "name": f"<name> & {it}", "ok": it % 2 == 0}).encode() for it in range(count))
+
+
+def tree(levels):
+    """A tree with two branches at each level, as data."""
+    return {"n": levels, "l": tree(levels - 1), "r": tree(levels - 1)} if levels else None
 
 
 def definitions(count):
     """So many definitions, each called once."""
-    return [b'{{define "t%d"}}%d{{end}}{{template "t%d"}}\n' % (n, n, n) for n in range(count)]
+    return (b'{{define "t%d"}}%d{{end}}{{template "t%d"}}\n' % (n, n, n) for n in range(count))
 
 
 def doubling(levels):
@@ -270,136 +201,192 @@ def doubling(levels):
     return [*calls, b'{{define "t%d"}}{{end}}{{template "t0"}}' % levels]
 
 
-def bench_templates(folder):
-    print("Definitions and a call of each, to /dev/null")
-    points = []
-    for count in (1_000, 2_500, 10_000):
-        file = write(f"{folder}/defined", definitions(count))
-        (ours,) = medians(11, [harness.PROGRAM, file])
-        points.append((count, ours[0]))
-        print(f"  {count:6} definitions: tmpl {milliseconds(ours[0])} in {ours[1] // 1024:.0f} MiB")
-    judge_linear(points)
-    print("Levels of two calls each, to /dev/null")
-    points = []
-    for levels in (14, 16, 18):
-        file = write(f"{folder}/doubled", doubling(levels))
-        (ours,) = medians(11, [harness.PROGRAM, file])
-        points.append((2**levels, ours[0]))
-        print(f"  {levels} levels: tmpl {milliseconds(ours[0])} in {ours[1] // 1024:.0f} MiB, {ours[0] / 2 ** (levels + 1) * 1e9:.0f} ns a call")
-    judge_linear(points)
-
-
-def bench_calls(folder):
-    print("Calls of functions, a million each")
-    shim = f"{folder}/shim.so"
-    sweep.build_shim("fail_alloc.c", shim)
-    for function, arguments, most in calls.TIMED:
-        file = write(f"{folder}/arguments", [json.dumps(arguments).encode()])
-        seconds = statistics.median(timed("call", file, function, "1000000")[0] for _ in range(3))
-        print(f"  {function}: {seconds * 1000:.0f} ns a call")
-        judge("allocations a call", calls.a_call(shim, folder, function, arguments), most)
-
-
-def bench_reading(folder):
-    """What it costs to read a file to data, beside serde_json's own tree of the same file."""
-    print("A JSON file of 10 MB, by parts")
-    file = write(f"{folder}/data", members(10_000_000))
-    rounds = [(timed("read", file), timed("data", file)) for _ in range(21)]
-    read, data = ([statistics.median(which) for which in zip(*column)] for column in zip(*rounds))
-    least_read, least_data = (min(told[0] for told in column) for column in zip(*rounds))
-    text, python = medians(7, [PROBE, "text", file], [sys.executable, "-c", LOAD, file])
-    print(f"  serde_json's read {milliseconds(read[0])} in {read[1] // 1024:.0f} MiB, from_json {milliseconds(data[0])} in {data[1] // 1024:.0f} MiB")
-    print(f"  a process that puts its text {milliseconds(text[0])} in {text[1] // 1024:.0f} MiB, one of python3's json.load {milliseconds(python[0])} in {python[1] // 1024:.0f} MiB")
-    print(f"  by the least of each: {least_data / least_read:.2f} times")
-    judge("data to serde_json's tree, which it is made of", data[0] / read[0], 2)
-
-
-def tmpl_probe(folder):
-    print("Data put as text, to /dev/null")
-    file = write(f"{folder}/dot", [b"{{.}}"])
-    points = []
-    for size in (1_000_000, 2_500_000, 10_000_000):
-        data = write(f"{folder}/data", members(size))
-        ours, python = medians(7, [harness.PROGRAM, "--data", data, file], [sys.executable, "-c", LOAD, data])
-        points.append((size, ours[0]))
-        print(f"  {size / 1e6:4.1f} MB of JSON: tmpl {milliseconds(ours[0])} in {ours[1] // 1024:.0f} MiB, python3's json.load alone {milliseconds(python[0])} in {python[1] // 1024:.0f} MiB")
-    judge_linear(points)
+# ---- whole processes, beside Go
 
 
 def go_renderer(folder):
     """A program over Go's own text/template, built once, or none where Go is not there."""
     program = f"{folder}/gotemplate"
-    if not shutil.which("go"):
+    if not shutil.which(compare.newest_go()):
         return None
     if not os.path.exists(program):
         compare.build(program)
     return program
 
 
-def tree(levels):
-    """A tree with two branches at each level, as data."""
-    return {"n": levels, "l": tree(levels - 1), "r": tree(levels - 1)} if levels else None
-
-
 def renders(folder):
-    """Whole renders: what each is, its template and its data, and how much of Go's time it may take, if that is set."""
-    data = write(f"{folder}/user", [b'{"user":{"name":"Ada"},"n":7}'])
-    numbers = write(f"{folder}/numbers", [b"[7", b",7" * 99_999, b"]"])
-    million = write(f"{folder}/million", [json.dumps([*range(1_000_000)]).encode()])
-    rows = [{"id": it, "name": f"<name> & {it}", "ok": it % 2 == 0} for it in range(30_000)]
-    table, many = (write(f"{folder}/rows{it}", [json.dumps(rows[:it]).encode()]) for it in (20_000, 30_000))
-    members_file = write(f"{folder}/members", members(10_000_000))
+    """Whole renders: what each is, its template and its data, and how much of Go's time and memory it may take."""
+    data = write(f"{folder}/user", [b'{"user":{"name":"Ada"},"n":7,"a":1,"b":"x","c":[1,2]}'])
+    numbers = write(f"{folder}/numbers", listed(b"7" for _ in range(100_000)))
+    million = write(f"{folder}/million", listed(b"%d" % it for it in range(1_000_000)))
+    table, many = (write(f"{folder}/rows{it}", rows(it)) for it in (20_000, 30_000))
+    accounts = write(f"{folder}/members", members(10_000_000))
+    branches = write(f"{folder}/tree", [json.dumps(tree(14)).encode()])
     recursion = b'{{define "t"}}{{if .}}{{.n}}{{template "t" .l}}{{template "t" .r}}{{end}}{{end}}{{template "t" .}}'
     cells = b"<tr><td>{{.id}}</td><td>{{.name}}</td><td>{{if .ok}}yes{{else}}no{{end}}</td></tr>\n"
     return (
-        ("examples/hello", [b"Hello, {{.user.name}}!\n"], data, None),
-        ("2 MiB of short actions", [b"{{.user.name}} has {{ .n }}.\n" * (2 * MIB // 29)], data, None),
-        ("a range over 100,000 elements with an if inside", [b"{{range .}}{{if .}}{{.}},{{end}}{{end}}"], numbers, None),
-        ("a range over 1,000,000 elements", [b"{{range .}}{{.}}\n{{end}}"], million, 0.4),
-        ("a table of 20,000 rows", [b"{{range .}}", cells, b"{{end}}"], table, 0.4),
-        ("10,000 calls of printf and len", [b'{{printf "%5d" (len "ab")}}\n' * 10_000], data, None),
-        ("a range of printf, 100,000 times", [b'{{range $i, $e := .}}{{printf "%5d %-10d|" $i $e}}{{end}}'], numbers, None),
-        ("printf over 30,000 rows", [b'{{range .}}{{printf "%5d %s" .id .name}}\n{{end}}'], many, 0.4),
-        ("html and urlquery over 30,000 rows", [b"{{range .}}{{html .name}} {{urlquery .name}}\n{{end}}"], many, 0.4),
-        ("a tree of 16,383 nodes by recursion", [recursion], write(f"{folder}/tree", [json.dumps(tree(14)).encode()]), 0.4),
-        ("10 MB of JSON put as text", [b"{{.}}"], members_file, None),
-        ("10 MB of JSON and a small template", [b"{{len .}}\n"], members_file, 0.7),
-        ("10,000 definitions and a call of each", definitions(10_000), data, None),
-        ("18 levels of two calls each", doubling(18), data, None),
-        ("10 MB of text", [LINE * (10_000_000 // len(LINE))], data, 0.4),
-        ("16 MiB of text", [LINE * (16 * MIB // len(LINE))], data, None),
+        ("`examples/hello`", [b"Hello, {{.user.name}}!\n"], data, 0.4, 1),
+        ("2 MiB of short actions", [b"{{.user.name}} has {{ .n }}.\n" * (2 * MIB // 29)], data, 0.4, 1),
+        ("2 MB of lines of six actions", [SMALL_ACTIONS * (2_000_000 // len(SMALL_ACTIONS))], data, 0.4, 1),
+        ("a range over 100,000 elements with an `if` inside", [b"{{range .}}{{if .}}{{.},{{end}}{{end}}"], numbers, 0.4, 1),
+        ("a range over a list of 1,000,000 elements", [b"{{range .}}{{.}}\n{{end}}"], million, 0.4, 1),
+        ("a table of 20,000 rows", [b"{{range .}}", cells, b"{{end}}"], table, 0.4, 1),
+        ("10,000 calls of `printf` and `len`", [b'{{printf "%5d" (len "ab")}}\n' * 10_000], data, 0.4, 1),
+        ("a range of `printf`, 100,000 times", [b'{{range $i, $e := .}}{{printf "%5d %-10d|" $i $e}}{{end}}'], numbers, 0.4, 1),
+        ("`printf` over 30,000 rows", [b'{{range .}}{{printf "%5d %s" .id .name}}\n{{end}}'], many, 0.4, 1),
+        ("`html` and `urlquery` over 30,000 rows", [b"{{range .}}{{html .name}} {{urlquery .name}}\n{{end}}"], many, 0.4, 1),
+        ("a tree of 16,383 nodes by recursion", [recursion], branches, 0.4, 1),
+        ("10 MB of JSON put as text", [b"{{.}}"], accounts, 0.4, 1),
+        ("10 MB of JSON and a small template", [b"{{len .}}\n"], accounts, 0.6, 1.2),
+        ("10,000 definitions and a call of each", definitions(10_000), data, 0.4, 1),
+        ("18 levels of two calls each", doubling(18), data, 0.4, 1),
+        ("10 MB of text", [LINE * 1000] * (10_000_000 // len(LINE) // 1000), data, 0.45, 1),
+        ("16 MiB of text", [LINE * 1000] * (16 * MIB // len(LINE) // 1000), data, 0.45, 1),
     )
 
 
-def bench_renders(folder):
-    """Whole renders, beside a program over Go's own text/template where Go is there."""
+def bench_renders(figures, folder):
     go = go_renderer(folder)
-    print("Whole renders, to /dev/null" + ("" if go else "; Go is not there to compare with"))
-    for name, pieces, held, most in renders(folder):
+    figures.part("Whole processes" + (f", beside {go_name()}" if go else ""))
+    for name, pieces, held, *most in renders(folder):
         file = write(f"{folder}/template", pieces)
-        ours, *theirs = medians(11, [harness.PROGRAM, "--data", held, file], *([[go, "render", file, held]] if go else []))
-        print(f"  {name}: tmpl {milliseconds(ours[0])} in {ours[1] // 1024:.0f} MiB", end="")
-        for seconds, peak in theirs:
-            print(f", Go {milliseconds(seconds)} in {peak // 1024:.0f} MiB: {seconds / ours[0]:.1f} times as fast", end="")
-        print()
-        if most and theirs:
-            judge("tmpl to Go", ours[0] / theirs[0][0], most)
+        ours, *theirs = medians(15, [harness.PROGRAM, "--data", held, file], *([[go, "render", file, held]] if go else []))
+        factors = [mine / its for mine, its in zip(ours, *theirs)] if theirs else [None, None]
+        figures.row(name, with_memory(ours), *(with_memory(it) for it in theirs), *([] if theirs else [""]), *factors, *most)
+    file = write(f"{folder}/template", [b"{{range 10000000}}{{.}}\n{{end}}"])
+    (ours,) = medians(5, [harness.PROGRAM, "--steps", "100000000", file])
+    figures.row("a range over 10,000,000 whole numbers", f"{with_memory(ours)}, {ours[0] / 1e7 * 1e9:.0f} ns an element")
 
+
+# ---- the program, part by part
+
+
+def bench_program(figures, folder):
+    figures.part("The program, by whole processes")
+    at = f"{harness.TOP}/examples/hello"
+    whole = [harness.PROGRAM, "--data", f"{at}/data.json", f"{at}/hello.tmpl"]
+    once(whole)
+    ours, bare = medians(201, whole, ["/bin/true"])
+    figures.row("a whole render of `examples/hello`", with_memory(ours), f"`/bin/true` {shown(bare[0])}", ours[0] / bare[0], None, 1.5)
+    for where, to_pipe in (("to /dev/null", False), ("to a pipe that is read", True)):
+        points = []
+        for size in (1, 4, 16):
+            file = repeated(f"{folder}/text", LINE, size * MIB)
+            ours, cat = medians(21, [harness.PROGRAM, file], ["cat", file], to_pipe=to_pipe)
+            points.append((size * MIB, ours[0]))
+        figures.row(f"16 MiB of text {where}", with_memory(ours), f"`cat` {shown(cat[0])}", ours[0] / cat[0], None, 10)
+        figures.rise(f"text {where}", points)
+    file = repeated(f"{folder}/template", b"{{.}}", 16 * MIB)
+    (ours,) = medians(3, [harness.PROGRAM, file])
+    figures.row("16 MiB of `{{.}}`", with_memory(ours), "1,100 MB", None, ours[1] * 1024 / 1e6 / 1100, None, 1)
+
+
+def bench_growth(figures, folder):
+    """Rows that have no other beside them: how the time grows with the size."""
+
+    def grow(what, sizes, command):
+        figures.rise(what, [(size, medians(11, command(size))[0][0]) for size in sizes])
+
+    data = write(f"{folder}/data", [b'{"user":{"name":"Ada"},"n":7}'])
+    dot = write(f"{folder}/dot", [b"{{.}}"])
+    each = write(f"{folder}/range", [b"{{range .}}{{if .}}{{.}},{{end}}{{end}}"])
+    ours = harness.PROGRAM
+    grow("short actions", (MIB // 2, 2 * MIB, 8 * MIB),
+         lambda size: [ours, "--data", data, repeated(f"{folder}/actions", b"{{.user.name}} has {{ .n }}.\n", size)])
+    grow("elements of a range", (10_000, 25_000, 100_000),
+         lambda size: [ours, "--data", write(f"{folder}/elements", listed(b"7" for _ in range(size))), each])
+    grow("calls of printf", (1_000, 2_500, 10_000), lambda size: [ours, write(f"{folder}/called", [b'{{printf "%5d" (len "ab")}}\n' * size])])
+    grow("definitions", (1_000, 2_500, 10_000), lambda size: [ours, write(f"{folder}/defined", definitions(size))])
+    grow("calls", (2**14, 2**16, 2**18), lambda size: [ours, write(f"{folder}/doubled", doubling(size.bit_length() - 1))])
+    grow("data put as text", (1_000_000, 2_500_000, 10_000_000),
+         lambda size: [ours, "--data", write(f"{folder}/accounts", members(size)), dot])
+
+
+def bench_cut(figures, folder):
+    for name, piece in (("text", LINE), ("lines of one letter", b"a\n"), ("short actions", b"{{.a}}")):
+        points = []
+        for size in (MIB, 4 * MIB, 16 * MIB):
+            file = repeated(f"{folder}/cut", piece, size)
+            ours, lines = parts(11, ("cut", file), ["wc", "-l", file])
+            points.append((size, ours[0]))
+        most = (3, 3) if piece == LINE else ()
+        figures.row(f"the cut of 16 MiB of {name}", f"{with_memory(ours)}, {16 * MIB / 1e6 / ours[0]:.0f} MB/s",
+                    f"`wc -l`, a whole process, {shown(lines[0])}; memory beside the file", ours[0] / lines[0], ours[1] / 1024 / 16, *most)
+        figures.rise(f"the cut of {name}", points)
+
+
+def bench_reading(figures, folder):
+    tiny = write(f"{folder}/tiny", [b"x"])
+    for name, piece in (
+        ("lines of six actions", SMALL_ACTIONS),
+        ("constants, strings and parentheses", b'{{print 12 -0x1F (len "a\\tb") (or (eq .a `c`) \'d\')}}\n'),
+    ):
+        points = []
+        for size in (10_000, 250_000, 1_000_000):
+            file = repeated(f"{folder}/parsed", piece, size)
+            ours, bare = medians(21, [harness.PROGRAM, tiny, file], [harness.PROGRAM, tiny])
+            points.append((size, ours[0]))
+        spent = max(ours[0] - bare[0], 1e-9)
+        figures.row(f"the reading of 1 MB of {name}", f"{shown(spent)}, {1 / spent:.0f} MB/s")
+        figures.rise(f"the reading of {name}", points)
+    for name, piece in (("lines of six actions", SMALL_ACTIONS), ("actions of one field", b"{{.a}}\n"), ("definitions", None)):
+        points = []
+        for size in (10_000, 250_000, 1_000_000):
+            file = repeated(f"{folder}/printed", piece, size) if piece else write(f"{folder}/printed", definitions(size // 42))
+            runs = [[harness.PROGRAM, "--print", tiny, file], [harness.PROGRAM, tiny, file], [harness.PROGRAM, tiny]]
+            printed, read, bare = (it[0] for it in medians(21, *runs))
+            points.append((size, printed))
+        spent, beside = printed - read, max(read - bare, 1e-9)
+        figures.row(f"the printing of 1 MB of {name}", shown(max(spent, 0)), f"the reading of them {shown(beside)}", spent / beside, None, 0.25)
+        figures.rise(f"the printing of {name}", points)
+
+
+def bench_compiling(figures, folder):
+    for name, piece in (("lines of six actions", SMALL_ACTIONS), ("actions of one field", b"{{.a}}\n"), ("`{{.}}`", b"{{.}}")):
+        points = []
+        for size in (10_000, 1_000_000, 4_000_000):
+            file = repeated(f"{folder}/compiled", piece, size)
+            parsed, compiled = parts(15, ("parse", file), ("compile", file))
+            points.append((size, compiled[0]))
+            if size == 1_000_000:
+                code = answered("code", file)[0] / os.path.getsize(file)
+                figures.row(f"the compiling of 1 MB of {name}", f"{shown(compiled[0])}, {code:.0f} bytes of code a byte (at most 40 wanted)",
+                            f"parsing it {shown(parsed[0])}", compiled[0] / parsed[0], None, 0.25)
+        figures.rise(f"the compiling of {name}", points)
+
+
+def bench_calls(figures, folder):
+    shim = f"{folder}/shim.so"
+    sweep.build_shim("fail_alloc.c", shim)
+    for function, arguments, most in calls.TIMED:
+        file = write(f"{folder}/arguments", [json.dumps(arguments).encode()])
+        seconds = statistics.median(timed("call", file, function, "1000000")[0] for _ in range(3)) / 1e6
+        size = " over 1 kB" if arguments == [calls.LONG] else ""
+        taken = calls.a_call(shim, folder, function, arguments)
+        figures.row(f"a call of `{function}`{size}", f"{shown(seconds)}, {taken:g} allocations (at most {most} wanted)")
+
+
+def bench_data(figures, folder):
+    """What it costs to read a file to data, beside serde_json's own tree of the same file, of which it is made."""
+    for name, pieces in (("10 MB of accounts", members(10_000_000)), ("a table of 20,000 rows", rows(20_000))):
+        file = write(f"{folder}/data", pieces)
+        read, data = parts(15, ("read", file), ("data", file))
+        figures.row(f"`from_json` of {name}", with_memory(data), f"`serde_json`'s reading in it {with_memory(read)}", data[0] / read[0], data[1] / read[1])
+
+
+# ---- the library, in one process
 
 # The same templates in the language that Jinja2 and Tera share.
 JINJA = {
-    "examples/hello": "Hello, {{ data.user.name }}!\n",
+    "`examples/hello`": "Hello, {{ data.user.name }}!\n",
     "a table of 20,000 rows": "{% for row in data %}<tr><td>{{ row.id }}</td><td>{{ row.name }}</td>"
     "<td>{% if row.ok %}yes{% else %}no{% endif %}</td></tr>\n{% endfor %}",
 }
-
-
-def tell_library(who, least, middle, size):
-    print(f"    {who}: the least of 31 {least / 1000:.2f} µs, the median {middle / 1000:.2f} µs, {size} bytes of text")
+MOST = {("`examples/hello`", True): 1, ("a table of 20,000 rows", True): 0.4}
 
 
 def time_jinja(source, held, count):
-    """Renders by Jinja2 of what was parsed and read once, or none where it is not there."""
+    """Nanoseconds of a render by Jinja2 of what was parsed and read once, the least and the median of 31; none where it is not there."""
     try:
         import jinja2
     except ImportError:
@@ -410,9 +397,9 @@ def time_jinja(source, held, count):
     for _ in range(31):
         start = time.perf_counter()
         for _ in range(count):
-            text = template.render(data=data)
+            template.render(data=data)
         times.append((time.perf_counter() - start) / count * 1e9)
-    return min(times), statistics.median(times), len(text.encode())
+    return min(times), statistics.median(times)
 
 
 CRATES = "/usr/share/cargo/registry"  # where Debian's packages of Rust keep their sources
@@ -439,49 +426,92 @@ def tera_renderer(folder):
     return f"{at}/target/release/rust_peer"
 
 
-def bench_library(folder):
-    """Renders in one process by the C library, beside Go's, Tera and Jinja2 where they are there."""
-    print("Renders in one process")
+def turns(programs, held, count, kept):
+    """Of each program the least time and the median of the medians, in nanoseconds, over three turns of 31 times each."""
+    told = {who: [] for who in programs}
+    for _ in range(3):
+        for who, words in programs.items():
+            ran = subprocess.run([*words, held, str(count), *kept], stdout=subprocess.PIPE, check=True)
+            told[who].append([int(it) for it in ran.stdout.split()][:2])
+    return {who: (min(it[0] for it in times), statistics.median(it[1] for it in times)) for who, times in told.items()}
+
+
+def bench_library(figures, folder):
+    figures.part("The C library, in one process: the least, the median of 31 renders")
     go, speed, library = go_renderer(folder), f"{folder}/speed", f"{harness.TOP}/bindings/out/libtmpl.a"
     tera = tera_renderer(folder)
     subprocess.run(["cc", "-O2", f"-I{harness.TOP}/bindings/c", f"{harness.TESTS}/speed.c", library, "-o", speed], check=True)
-    for name, pieces, held, _ in renders(folder):
+    for name, pieces, held, *_ in renders(folder):
         if name not in JINJA:
             continue
-        file, count = write(f"{folder}/template", pieces), 10_000 if name == "examples/hello" else 1
+        file, count = write(f"{folder}/template", pieces), 10_000 if "hello" in name else 1
         other = write(f"{folder}/other", [JINJA[name].encode()])
+        programs = {"tmpl": [speed, file], **({"Go": [go, "times", file]} if go else {}), **({"Tera": [tera, other]} if tera else {})}
         for how, kept in (("parsed and read each time", []), ("parsed and read once", ["kept"])):
-            print(f"  {name}, {how}")
-            for who, words in (("tmpl", [speed, file]), ("Go", [go, "times", file]), ("Tera", [tera, other])):
-                if words[0]:
-                    told = subprocess.run([*words, held, str(count), *kept], stdout=subprocess.PIPE, check=True).stdout
-                    tell_library(who, *map(int, told.split()))
-            if kept and (told := time_jinja(JINJA[name], held, count)):
-                tell_library("Jinja2", *told)
+            told = turns(programs, held, count, kept)
+            if kept and (theirs := time_jinja(JINJA[name], held, count)):
+                told["Jinja2"] = theirs
+            spelled = {who: f"{shown(least / 1e9)}, {shown(middle / 1e9)}" for who, (least, middle) in told.items()}
+            beside = "; ".join(f"{who} {it}" for who, it in spelled.items() if who != "tmpl")
+            factor = told["tmpl"][1] / told["Go"][1] if go else None
+            figures.row(f"{name}, {how}", spelled["tmpl"], beside, factor, None, MOST.get((name, bool(kept))))
 
 
-def main():
+# ---- the page
+
+
+def go_name():
+    said = subprocess.run([compare.newest_go(), "version"], stdout=subprocess.PIPE, check=True, text=True).stdout
+    return "Go " + re.search(r"go(\d+(\.\d+)*)", said)[1]
+
+
+def machine():
+    with open("/proc/cpuinfo", encoding="utf-8") as it:
+        name = re.search(r"model name\s*: (.*)", it.read())
+    return f"{os.cpu_count()} processors ({name[1] if name else platform.machine()}), Linux {platform.release().split('-')[0]}"
+
+
+def peers(folder):
+    found = [go_name()] if go_renderer(folder) else []
+    try:
+        import jinja2
+
+        found.append(f"Jinja2 {jinja2.__version__}")
+    except ImportError:
+        pass
+    return ", ".join([*found, *(f"Tera {it.rsplit('-', 1)[1]}" for it in glob.glob(f"{CRATES}/tera-*"))]) or "none"
+
+
+def commit():
+    said = subprocess.run(["git", "-C", harness.TOP, "describe", "--always", "--dirty=, changed"], stdout=subprocess.PIPE, text=True)
+    return said.stdout.strip() or "unknown"
+
+
+def publish(lines):
+    """Writes the table between its two marks."""
+    with open(PAGE, encoding="utf-8") as it:
+        head, rest = it.read().split(BEGIN)
+    with open(PAGE, "w", encoding="utf-8") as it:
+        it.write(head + BEGIN + "".join(f"{line}\n" for line in lines) + END + rest.split(END)[1])
+
+
+def main(words):
     if not harness.is_built():
-        sys.exit(1)
-    print(f"Peak memory is told from {once(['/bin/true'])[1] / 1024:.0f} MiB on: a new process counts what this script held")
-    bench_start()
+        return 1
+    figures, floor = Figures(), once(["/bin/true"])[1] / 1024
     with tempfile.TemporaryDirectory() as folder:
-        bench_text(folder)
-        bench_cut(folder)
-        bench_parsing(folder)
-        bench_compiling(folder)
-        bench_printing(folder)
-        bench_actions(folder)
-        bench_memory(folder)
-        bench_range(folder)
-        bench_call_template(folder)
-        bench_templates(folder)
-        bench_calls(folder)
-        tmpl_probe(folder)
-        bench_reading(folder)
-        bench_renders(folder)
-        bench_library(folder)
+        beside = peers(folder)
+        for bench in (bench_renders, bench_library, bench_program, bench_cut, bench_reading, bench_compiling, bench_calls, bench_data, bench_growth):
+            bench(figures, folder)
+    day = datetime.datetime.now(datetime.timezone.utc)
+    head = f"Measured on {day:%-d %B %Y} of the tree `{commit()}`, on {machine()}, beside {beside}. Memory is known only above {floor:.0f} MiB."
+    lines = [head, "", *figures.table()]
+    if "--dry" in words:
+        print(*lines, sep="\n")
+    else:
+        publish(lines)
+    return 0
 
 
 if __name__ == "__main__":
-    main()
+    sys.exit(main(sys.argv[1:]))
