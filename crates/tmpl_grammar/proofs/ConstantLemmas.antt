@@ -73,16 +73,21 @@ function-token : (o : Option Func) → IsToken (option_map tree.function o)
 function-token None = tt
 function-token (Some f) = tt
 
-cond-token : (b : Bool) (o p : Option Operand) → IsToken o → IsToken p → IsToken (cond b o p)
-cond-token true o p x y = x
-cond-token false o p x y = y
+by-cond : (P : Option Operand → Type 0) (b : Bool) (o p : Option Operand) → P o → P p → P (cond b o p)
+by-cond P true o p x y = x
+by-cond P false o p x y = y
+
+-- what holds of each operand that a word may be, holds of that of a word
+pub by-word : (P : Option Operand → Type 0) → ((b : Bool) → P (Some (tree.bool_constant b))) → P (Some tree.nil)
+    → ((f : Option Func) → P (option_map tree.function f)) → (name : List ℕ) → P (word_operand name)
+unfolding word_operand
+by-word P of_bool of_nil of_function name =
+    by-cond P (bytes_eq name (codes "true")) _ _ (of_bool true)
+    (by-cond P (bytes_eq name (codes "false")) _ _ (of_bool false)
+    (by-cond P (bytes_eq name (codes "nil")) _ _ of_nil (of_function (func_named name))))
 
 word-token : (name : List ℕ) → IsToken (word_operand name)
-unfolding word_operand
-word-token name =
-    cond-token (bytes_eq name (codes "true")) (Some (tree.bool_constant true)) _ tt
-    (cond-token (bytes_eq name (codes "false")) (Some (tree.bool_constant false)) _ tt
-    (cond-token (bytes_eq name (codes "nil")) (Some tree.nil) _ tt (function-token (func_named name))))
+word-token name = by-word IsToken (λ b. tt) tt function-token name
 
 field-token : (b : Bool) (name : List ℕ) → IsToken (field_operand b name)
 field-token true name = (name, refl)

@@ -72,26 +72,21 @@ pub signed-within : (negative : Bool) (o : Option ℕ) → option_and_then (sign
 signed-within negative None = refl
 signed-within negative (Some n) = signed-fits _ negative n refl
 
-minus : (bs : List ℕ) → integer (45 ∷ bs) ≡ option_and_then (signed true) (magnitude bs)
+-- the byte of a sign
+abbrev pub sign_byte : Bool → ℕ
+sign_byte true = 45
+sign_byte false = 43
+
+behind-sign : (negative : Bool) (bs : List ℕ) → integer (sign_byte negative ∷ bs) ≡ option_and_then (signed negative) (magnitude bs)
 unfolding integer
-minus bs = refl
+behind-sign true bs = refl
+behind-sign false bs = refl
 
-plus : (bs : List ℕ) → integer (43 ∷ bs) ≡ option_and_then (signed false) (magnitude bs)
-unfolding integer
-plus bs = refl
-
-pub integer-minus : (bs : List ℕ) → 1 ≤ length bs → get_or bs 0 0 ≡ 45
-    → option_and_then (signed true) (within (magnitude (take (length bs - 1) (drop 1 bs)))) ≡ integer bs
-integer-minus [] h is = absurd (omega arith)
-integer-minus (b ∷ bs) h is =
-    ap (λ t. option_and_then (signed true) (within (magnitude t))) (take-rest (b ∷ bs) 1 (length (b ∷ bs) - 1) (omega arith) refl)
-    ∙ signed-within true (magnitude bs) ∙ sym (ap (λ x. integer (x ∷ bs)) is ∙ minus bs)
-
-pub integer-plus : (bs : List ℕ) → 1 ≤ length bs → get_or bs 0 0 ≡ 43
-    → option_and_then (signed false) (within (magnitude (take (length bs - 1) (drop 1 bs)))) ≡ integer bs
-integer-plus [] h is = absurd (omega arith)
-integer-plus (b ∷ bs) h is =
-    ap (λ t. option_and_then (signed false) (within (magnitude t))) (take-rest (b ∷ bs) 1 (length (b ∷ bs) - 1) (omega arith) refl)
-    ∙ signed-within false (magnitude bs) ∙ sym (ap (λ x. integer (x ∷ bs)) is ∙ plus bs)
+pub integer-signed : (negative : Bool) (bs : List ℕ) → 1 ≤ length bs → get_or bs 0 0 ≡ sign_byte negative
+    → option_and_then (signed negative) (within (magnitude (take (length bs - 1) (drop 1 bs)))) ≡ integer bs
+integer-signed negative [] h is = absurd (omega arith)
+integer-signed negative (b ∷ bs) h is =
+    ap (λ t. option_and_then (signed negative) (within (magnitude t))) (take-rest (b ∷ bs) 1 (length (b ∷ bs) - 1) (omega arith) refl)
+    ∙ signed-within negative (magnitude bs) ∙ sym (ap (λ x. integer (x ∷ bs)) is ∙ behind-sign negative bs)
 
 pub ruleset signs = (signed-within)

@@ -1,6 +1,6 @@
 -- For the law that what a file defines can be printed: what holds of the actions that its tokens spell.
-use Rattle.std.proofs.Common.{◌≡◌, ◌∙◌, ℕ, ◌-◌, ◌≤◌, Bool, true, false, cond, List, [], ◌∷◌, ◌++◌, Option, Some, None, refl, sym, ap, subst}
-use Rattle.std.proofs.Common.{length, take, drop, pos, bytes_eq, codes, if◌then◌else◌}
+use Rattle.std.proofs.Common.{◌≡◌, ◌∙◌, ℕ, ◌-◌, ◌≤◌, Bool, true, false, List, [], ◌∷◌, ◌++◌, Option, Some, None, refl, sym, ap, subst}
+use Rattle.std.proofs.Common.{length, take, drop, pos, if◌then◌else◌}
 use Rattle.std.specs.Option.{option_map, option_and_then}
 use lib.IntN.{ℤ}
 use Rattle.tmpl_values.specs.Bytes.{AreBytes}
@@ -21,11 +21,12 @@ use Rattle.tmpl_grammar.specs.Pipeline.{IsChain, SpellsOperand, SpellsMore, Spel
 use Rattle.tmpl_grammar.specs.Constant.Integer.{integer}
 use Rattle.tmpl_grammar.specs.computed.Quoted.{between, unquoted, rune_code}
 use Rattle.tmpl_grammar.specs.Operand.{IsOperand}
-use Rattle.tmpl_grammar.specs.computed.Operand.{operand_at, operand_by, word_operand, func_named, field_operand}
+use Rattle.tmpl_grammar.specs.computed.Operand.{operand_at, operand_by, word_operand, field_operand}
 use Rattle.tmpl_grammar.specs.Printable.{AreFieldNames, OfOperand, OfMore, OfCommand, OfLater, OfCommands, OfPipeline, OfVariable}
 use Rattle.tmpl_grammar.specs.Printable.{OfBinding, OfAction, OfHeader}
 use Rattle.tmpl_grammar.specs.declared.action.HeaderShape.{HeaderShape}
 use Rattle.tmpl_grammar.specs.declared.action.HeaderShape.TheVariants as shape
+use Rattle.tmpl_grammar.proofs.ConstantLemmas.{by-word}
 use Rattle.tmpl_grammar.proofs.IsOperandLemmas.{computes-operand}
 use Rattle.tmpl_grammar.proofs.IsConstantLemmas.{computes-constant}
 use Rattle.tmpl_grammar.proofs.PrintableTokenLemmas.{IsRead, AreRead, bytes-drop, bytes-take}
@@ -79,20 +80,12 @@ pub constant-maybe : (t : Token) → AreBytes t.bytes → OfMaybe (constant_of t
 unfolding constant_of
 constant-maybe t h = constant-is t.kind t.bytes h
 
-cond-of : (b : Bool) (o p : Option Operand) → OfMaybe o → OfMaybe p → OfMaybe (cond b o p)
-cond-of true o p x y = x
-cond-of false o p x y = y
-
 function-of : (o : Option Func) → OfMaybe (option_map tree.function o)
 function-of None = tt
 function-of (Some f) = tt
 
 word-of : (name : List ℕ) → OfMaybe (word_operand name)
-unfolding word_operand
-word-of name =
-    cond-of (bytes_eq name (codes "true")) (Some (tree.bool_constant true)) _ tt
-    (cond-of (bytes_eq name (codes "false")) (Some (tree.bool_constant false)) _ tt
-    (cond-of (bytes_eq name (codes "nil")) (Some tree.nil) _ tt (function-of (func_named name))))
+word-of name = by-word OfMaybe (λ b. tt) tt function-of name
 
 field-of : (b : Bool) (name : List ℕ) → begins_name name ≡ b → IsNamed name → OfMaybe (field_operand b name)
 field-of true name e h = ((e, h), tt)

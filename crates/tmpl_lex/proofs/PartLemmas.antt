@@ -24,10 +24,13 @@ same-test b = grind (arith, nat_tests)
 pub absent-rest : (b : ℕ) (row bs : List ℕ) → Absent row (b ∷ bs) → Absent row bs
 absent-rest b row bs h xs ys e = h (b ∷ xs) ys (ap (λ l. b ∷ l) e)
 
-pub absent-here : (x y a b : ℕ) (bs : List ℕ) → Absent (x ∷ y ∷ []) (a ∷ b ∷ bs) → (nat_eq a x && nat_eq b y) ≡ false
-absent-here x y a b bs h = false_from_ne_true (nat_eq a x && nat_eq b y) (λ e.
+pub same-pair : (x y a b : ℕ) (bs : List ℕ) → (nat_eq a x && nat_eq b y) ≡ true → a ∷ b ∷ bs ≡ x ∷ y ∷ bs
+same-pair x y a b bs e =
     let both = and_parts (nat_eq a x) (nat_eq b y) e in
-    h [] bs (ap (λ k. k ∷ b ∷ bs) (eqb-true a x both.0) ∙ ap (λ k. x ∷ k ∷ bs) (eqb-true b y both.1)))
+    ap (λ k. k ∷ b ∷ bs) (eqb-true a x both.0) ∙ ap (λ k. x ∷ k ∷ bs) (eqb-true b y both.1)
+
+pub absent-here : (x y a b : ℕ) (bs : List ℕ) → Absent (x ∷ y ∷ []) (a ∷ b ∷ bs) → (nat_eq a x && nat_eq b y) ≡ false
+absent-here x y a b bs h = false_from_ne_true (nat_eq a x && nat_eq b y) (λ e. h [] bs (same-pair x y a b bs e))
 
 -- nothing in the bytes, and nothing from one further on
 pub cleared : (t : Bool) (a : ℕ) (bs : List ℕ) (o : Option (List ℕ × List ℕ)) → split_here t a bs o ≡ None → (t ≡ false) × (o ≡ None)
@@ -105,12 +108,8 @@ split-is x y (a ∷ b ∷ bs) p e = go (nat_eq a x && nat_eq b y) refl (split_pa
     go : (t : Bool) → (nat_eq a x && nat_eq b y) ≡ t → (o : Option (List ℕ × List ℕ))
         → ((q : List ℕ × List ℕ) → o ≡ Some q → IsSplit x y (b ∷ bs) q.0 q.1) → split_here t a (b ∷ bs) o ≡ Some p → IsSplit x y (a ∷ b ∷ bs) p.0 p.1
     go true t o ih h =
-        let both = and_parts (nat_eq a x) (nat_eq b y) t in
         let same : ◌≡◌ {A = List ℕ × List ℕ} ([], bs) p = cc in
-        subst (λ (q : List ℕ × List ℕ). IsSplit x y (a ∷ b ∷ bs) q.0 q.1) same (record {
-          is = ap (λ k. k ∷ b ∷ bs) (eqb-true a x both.0) ∙ ap (λ k. x ∷ k ∷ bs) (eqb-true b y both.1);
-          first = absent-one x y;
-        })
+        subst (λ (q : List ℕ × List ℕ). IsSplit x y (a ∷ b ∷ bs) q.0 q.1) same (record { is = same-pair x y a b bs t; first = absent-one x y })
     go false t None ih h = let g : ◌≡◌ {A = Option (List ℕ × List ℕ)} None (Some p) = h in cc
     go false t (Some q) ih h =
         let same : ◌≡◌ {A = List ℕ × List ℕ} (a ∷ q.0, q.1) p = cc in

@@ -18,7 +18,7 @@ use Rattle.tmpl_lex.specs.computed.Cut.{pieces_of, ends_at}
 use Rattle.tmpl_lex.specs.computed.Token.{front_token}
 use Rattle.tmpl_lex.specs.computed.Trim.{End, right_delimiter}
 use Rattle.tmpl_lex.proofs.ActionLemmas.{drop-sub_one, inside-closed, inside-token, IsWithin-front_token}
-use Rattle.tmpl_lex.proofs.PartLemmas.{absent-split, split-is}
+use Rattle.tmpl_lex.proofs.PartLemmas.{same-pair, absent-split, split-is}
 use Rattle.tmpl_lex.proofs.StandLemmas.{found-ends, closes-found, found, stands}
 
 -- ---- tokens and an end
@@ -127,9 +127,7 @@ pub record HasClosed (line : ℕ) (bs : List ℕ) (end : End) (ps : List Piece) 
 slash-is : (bs : List ℕ) → opens_comment bs ≡ true → bs ≡ 47 ∷ 42 ∷ drop 2 bs
 slash-is [] h = cc
 slash-is (a ∷ []) h = cc
-slash-is (a ∷ b ∷ bs) h =
-    let both = and_parts (nat_eq a 47) (nat_eq b 42) h in
-    ap (λ k. k ∷ b ∷ bs) (eqb-true a 47 both.0) ∙ ap (λ k. 47 ∷ k ∷ bs) (eqb-true b 42 both.1)
+slash-is (a ∷ b ∷ bs) h = same-pair 47 42 a b bs h
 
 comment-is : (line : ℕ) (bs : List ℕ) (end : End) → comment_end bs ≡ Some end → HasClosed line bs end []
 unfolding comment_end

@@ -22,7 +22,7 @@ use Rattle.tmpl_lex.specs.computed.Quoted.{with_byte, up_to, unless, through, qu
 use Rattle.tmpl_lex.specs.computed.Token.{Begun, front_of, mark_of, begun, token_from, number, signed, dotted, declare}
 use Rattle.tmpl_lex.specs.computed.Token.{assigned, of_kind, space_run, kept_while, name_run}
 use Rattle.tmpl_lex.specs.computed.Trim.{End, ended_by, has_right_delimiter, has_dashed_delimiter, right_marked, right_delimiter}
-use Rattle.tmpl_lex.proofs.PartLemmas.{same-first, same-rest, same-test, run-taken, taken-run, taken-rest}
+use Rattle.tmpl_lex.proofs.PartLemmas.{same-first, same-rest, same-test, same-pair, run-taken, taken-run, taken-rest}
 
 -- ---- where an action ends
 
@@ -43,9 +43,7 @@ pub record Ends (bs : List ℕ) (e : End) : Type 0 where
 braces-is : (bs : List ℕ) → has_right_delimiter bs ≡ true → bs ≡ 125 ∷ 125 ∷ drop 2 bs
 braces-is [] h = cc
 braces-is (a ∷ []) h = cc
-braces-is (a ∷ b ∷ bs) h =
-    let both = and_parts (nat_eq a 125) (nat_eq b 125) h in
-    ap (λ k. k ∷ b ∷ bs) (eqb-true a 125 both.0) ∙ ap (λ k. 125 ∷ k ∷ bs) (eqb-true b 125 both.1)
+braces-is (a ∷ b ∷ bs) h = same-pair 125 125 a b bs h
 
 dashed-is : (bs : List ℕ) → has_dashed_delimiter bs ≡ true → bs ≡ 45 ∷ 125 ∷ 125 ∷ drop 3 bs
 dashed-is [] h = cc

@@ -51,21 +51,21 @@ count-end bs =
     )
 
 -- the two sides of the place before the white space at the end
+at-seam : (side : ℕ → List ℕ → List ℕ) (bs : List ℕ) → let k = suffix_len is_space bs in let kept = reverse (drop k (reverse bs)) in
+    side (length bs - k) bs ≡ side (length kept) (kept ++ reverse (take k (reverse bs)))
+at-seam side bs =
+    let k = suffix_len is_space bs in
+    ap (side (length bs - k)) (parted-end bs) ∙ ap (λ n. side n (reverse (drop k (reverse bs)) ++ reverse (take k (reverse bs)))) (count-end bs)
+
 kept-end : (bs : List ℕ) → take (length bs - suffix_len is_space bs) bs ≡ reverse (drop (suffix_len is_space bs) (reverse bs))
 kept-end bs =
     let k = suffix_len is_space bs in
-    let r = reverse bs in
-    ap (λ xs. take (length bs - k) xs) (parted-end bs)
-    ∙ ap (λ n. take n (reverse (drop k r) ++ reverse (take k r))) (count-end bs)
-    ∙ take-append_seam (reverse (drop k r)) (reverse (take k r))
+    at-seam take bs ∙ take-append_seam (reverse (drop k (reverse bs))) (reverse (take k (reverse bs)))
 
 taken-end : (bs : List ℕ) → drop (length bs - suffix_len is_space bs) bs ≡ reverse (take (suffix_len is_space bs) (reverse bs))
 taken-end bs =
     let k = suffix_len is_space bs in
-    let r = reverse bs in
-    ap (λ xs. drop (length bs - k) xs) (parted-end bs)
-    ∙ ap (λ n. drop n (reverse (drop k r) ++ reverse (take k r))) (count-end bs)
-    ∙ drop-append_seam (reverse (drop k r)) (reverse (take k r))
+    at-seam drop bs ∙ drop-append_seam (reverse (drop k (reverse bs))) (reverse (take k (reverse bs)))
 
 drop-all : (n : ℕ) (xs : List ℕ) → length xs ≤ n → drop n xs ≡ []
 drop-all zero [] h = refl

@@ -39,3 +39,4 @@ pub mod StandLemmas
 pub mod StepLemmas
 pub mod VerdictLemmas
 pub mod ViewLemmas
+pub mod WithFileLemmas

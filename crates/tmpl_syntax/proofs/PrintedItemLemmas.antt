@@ -1,13 +1,13 @@
 -- For `printed_back` and `set_back`: the pieces of what is printed are read as what its nodes say.
-use Rattle.std.proofs.Common.{arith, ◌≡◌, ◌≤◌, ℕ, List, [], ◌∷◌, Some, refl, sym, subst, map, codes}
+use Rattle.std.proofs.Common.{arith, ◌≡◌, ◌≤◌, ℕ, List, [], ◌∷◌, Some, None, refl, sym, subst, map, codes}
 use Rattle.tmpl_lex.specs.Piece.{Token, Piece, text, action}
 use Rattle.tmpl_grammar.specs.Tree.{Pipeline, pipeline}
 use Rattle.tmpl_grammar.specs.Action.{Action, pipeline_action, opening, else_branch, end_action, template_action, block_action}
 use Rattle.tmpl_grammar.specs.Depth.{depth_of, depth_of_pipeline, most_deep}
 use Rattle.tmpl_syntax.specs.Language.{every_branch}
-use Rattle.tmpl_syntax.specs.Item.{Item, item, text_item, action_item, a_text as text_read, read, AreItems, no_item, an_item}
+use Rattle.tmpl_syntax.specs.Item.{Item, item, text_item, action_item, a_text as text_read, read, AreItems, no_item, an_item, HasItems}
 use Rattle.tmpl_syntax.specs.Set.{Template}
-use Rattle.tmpl_syntax.specs.Print.Join.{Part, a_text, an_action, IsText, AreParts, SamePieces, no_piece, same_text, same_action}
+use Rattle.tmpl_syntax.specs.Print.Join.{Part, a_text, an_action, joined, IsText, AreParts, SamePieces, no_piece, same_text, same_action}
 use Rattle.tmpl_syntax.specs.Print.Printed.{Said, said_text, said, nodes_said, set_said, part_of}
 use Rattle.tmpl_grammar.specs.Printable.{OfPipeline, OfAction}
 use Rattle.tmpl_syntax.specs.Print.Printable.{AreSaid, ArePrintable}
@@ -74,14 +74,25 @@ items-said (said a ∷ ss) qs h s =
     let more = items-said ss f.rest h.1 f.same in
     record { items = item f.line (action_item a) ∷ more.items; are = subst (λ ps. AreItems every_branch ps (item f.line (action_item a) ∷ more.items)) (sym f.is) (an_item (read (spells-tokens a h.0) (has-every a) (within a h.0)) more.are); say = says more.say }
 
+-- a file of what is said has items that say it
+record HasSaid (ss : List Said) : Type 0 where
+  items : List Item
+  has : HasItems every_branch (joined None (map part_of ss)) items
+  say : Says ss items
+
+has-said : (ss : List Said) → AreSaid ss → HasSaid ss
+has-said ss h =
+    let c = cut-back (map part_of ss) (are-parts ss h) [] (absent-nil 123 123) 1 in
+    let i = items-said ss c.pieces h c.same in
+    record { items = i.items; has = record { pieces = c.pieces; cut = c.cuts; read = i.are }; say = i.say }
+
 pub reads-same : ReadsSame
 reads-same ns h =
-    let c = cut-back (map part_of (nodes_said ns)) (are-parts (nodes_said ns) h) [] (absent-nil 123 123) 1 in
-    let i = items-said (nodes_said ns) c.pieces h c.same in
+    let i = has-said (nodes_said ns) h in
     let s = spells-alike ns i.items i.say in
     record {
       items = i.items;
-      has = record { pieces = c.pieces; cut = c.cuts; read = i.are };
+      has = i.has;
       say = i.say;
       nodes = s.nodes;
       spells = s.spells;
@@ -100,13 +111,11 @@ set-is-said (t ∷ ts) h =
 
 pub set-reads-same : SetReadsSame
 set-reads-same ts h =
-    let are = set-is-said ts h in
-    let c = cut-back (map part_of (set_said ts)) (are-parts (set_said ts) are) [] (absent-nil 123 123) 1 in
-    let i = items-said (set_said ts) c.pieces are c.same in
+    let i = has-said (set_said ts) (set-is-said ts h) in
     let s = set-leads ts i.items i.say in
     record {
       items = i.items;
-      has = record { pieces = c.pieces; cut = c.cuts; read = i.are };
+      has = i.has;
       definitions = s.definitions;
       own = s.own;
       spells = s.spells;

@@ -110,30 +110,25 @@ module _ (xs : List Role) (i : ℕ) (known : Known) (p : Names) (fs : List Frame
         subst (λ l. Stands xs i (with_inner known l) fs) (sym (take_at known.inner p.declares (length known.inner) refl)) s,
       )
 
+  template-opened : (c : Opening) → is_template c ≡ true → IsWithin (entered c p (top fs) (length known.inner)) 0
+      → slice_get xs i ≡ Some (act_role (opener c p))
+      → Here xs (i + 1) (Some (entered c p (top fs) (length known.inner))) [] × Stood xs (i + 1) [] (entered c p (top fs) (length known.inner)) i
+  template-opened c own within at =
+      let o : IsOpening (slice_get xs i) c = subst (λ z. IsOpening z c) (sym at) refl in
+      let h = here-of xs i known fs s in (
+        here-template xs i known.inner c p at o (top fs) h own,
+        stood-opened xs i known.inner c p at o (top fs) h [] within
+            (λ none. let g : true ≡ false = sym own ∙ none in cc) (λ none. let g : true ≡ false = sym own ∙ none in cc),
+      )
+
   -- in a template nothing is known, and behind it what is known here
   pub stands-opened : (c : Opening) → slice_get xs i ≡ Some (act_role (opener c p))
       → Stands xs (i + 1) (opened_names c p.declares known) (entered c p (top fs) (length known.inner) ∷ fs)
   stands-opened (opened.control d) at = control-opened d at
   stands-opened opened.define at =
-      let c = opened.define in
-      let o : IsOpening (slice_get xs i) c = subst (λ z. IsOpening z c) (sym at) refl in
-      let h = here-of xs i known fs s in (
-        here-template xs i known.inner c p at o (top fs) h refl,
-        i,
-        stood-opened xs i known.inner c p at o (top fs) h [] (record { started = omega arith; parted = omega arith })
-            (λ own. let g : true ≡ false = own in cc) (λ own. let g : true ≡ false = own in cc),
-        s,
-      )
+      let t = template-opened opened.define refl (record { started = omega arith; parted = omega arith }) at in (t.0, i, t.1, s)
   stands-opened opened.block at =
-      let c = opened.block in
-      let o : IsOpening (slice_get xs i) c = subst (λ z. IsOpening z c) (sym at) refl in
-      let h = here-of xs i known fs s in (
-        here-template xs i known.inner c p at o (top fs) h refl,
-        i,
-        stood-opened xs i known.inner c p at o (top fs) h [] (record { started = omega arith; parted = omega arith })
-            (λ own. let g : true ≡ false = own in cc) (λ own. let g : true ≡ false = own in cc),
-        s,
-      )
+      let t = template-opened opened.block refl (record { started = omega arith; parted = omega arith }) at in (t.0, i, t.1, s)
 
 -- after an else or else if
 abbrev pub changed : Frame → Bool → ℕ → List Name → Frame

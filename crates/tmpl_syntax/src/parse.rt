@@ -5,7 +5,7 @@ ghost use Rattle.tmpl_syntax.specs.View.{set_view, template_of};
 ghost use Rattle.tmpl_syntax.specs.computed.View.{definition_of, item_of};
 ghost use Rattle.tmpl_syntax.specs.Parse as spec;
 ghost use Rattle.tmpl_syntax.specs.Parse.{IsAsBefore, IsReading, template_in};
-ghost use Rattle.tmpl_syntax.specs.computed.Parse.{IsAdded, IsOnce, IsParse, items_of};
+ghost use Rattle.tmpl_syntax.specs.computed.Parse.{IsAdded, IsOnce, IsParse, items_of, with_file};
 
 use crate::blank::is_blank;
 use crate::build::build;
@@ -57,10 +57,7 @@ pub fn parse_file<'f>(
     ensures value { IsParse (set_view set.old) file.entry bytes.now (set_view set.new) result }
     ensures before { IsAsBefore (set_view set.old) file.entry bytes.now (set_view set.new) result }
 {
-    match add_copy(alloc, set, file, bytes) {
-        Ok(()) => Ok(()),
-        Err(refusal) => Err(fault_of(file, refusal)),
-    }
+    with_file(file, add_copy(alloc, set, file, bytes))
 }
 
 /// Does what `parse_file` does, and copies nothing: the texts of the templates stay where the bytes are, in one block
@@ -79,20 +76,16 @@ pub fn parse_owned<'f>(
     ensures value { IsParse (set_view set.old) file.entry bytes.items (set_view set.new) result }
     ensures before { IsAsBefore (set_view set.old) file.entry bytes.items (set_view set.new) result }
 {
-    match add_file(alloc, set, file, bytes) {
-        Ok(()) => Ok(()),
-        Err(refusal) => Err(fault_of(file, refusal)),
-    }
+    with_file(file, add_file(alloc, set, file, bytes))
 }
 
-/// The refusal, with the file that is refused.
-fn fault_of(file: &str, refusal: Refusal) -> ParseFault<'_>
-    ensures { result ≡ record { file = file.entry; line = refusal.line; kind = refusal.kind } }
+/// What comes of a file, a refusal with the path of the file.
+fn with_file(file: &str, added: Result<(), Refusal>) -> Result<(), ParseFault<'_>>
+    ensures { result ≡ with_file file.entry added }
 {
-    ParseFault {
-        file,
-        line: refusal.line,
-        kind: refusal.kind,
+    match added {
+        Ok(()) => Ok(()),
+        Err(Refusal { line, kind }) => Err(ParseFault { file, line, kind }),
     }
 }
 

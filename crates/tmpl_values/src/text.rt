@@ -120,10 +120,20 @@ fn put_parted_entries<P: Put>(entries: &[(Bytes, Data)], out: &mut P) -> Result<
     let mut lead: &[u8] = b"";
     for (key, value) in entries {
         out.put(lead)?;
-        out.put(key.as_slice())?;
-        out.put(b":")?;
-        put_inner(value, out)?;
+        put_entry(key.as_slice(), value, out)?;
         lead = b" ";
     }
     Ok(())
+}
+
+/// Puts an entry.
+#[cycle(put)]
+fn put_entry<P: Put>(key: &[u8], value: &Data, out: &mut P) -> Result<(), P::Fault>
+    requires { (P.so_far out.old).failures < 2 ^ 64 - 1 }
+    ensures { IsPut result (P.so_far out.old) (P.so_far out.new)
+        (key.now ++ (codes ":" ++ inner_text (value_of value.now))) }
+{
+    out.put(key)?;
+    out.put(b":")?;
+    put_inner(value, out)
 }

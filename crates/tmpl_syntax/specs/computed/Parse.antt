@@ -94,6 +94,11 @@ IsParse old file bytes new (Err fault) =
 
 -- ---- the steps from a file to the set
 
+-- what comes of a file, a refusal with the path of the file
+abbrev pub with_file : Bor (List ℕ) → Result (Unit {0}) held.Refusal → Result (Unit {0}) ParseFault
+with_file file (Ok u) = Ok u
+with_file file (Err r) = Err (record { file = file; line = r.line; kind = r.kind })
+
 abbrev pub IsSecondAt : Option ℕ → ℕ → Option Reason → Type 0
 IsSecondAt second line None = line ≡ 1
 IsSecondAt second line (Some reason) = (second ≡ Some line) × (reason ≡ second_definition)
