@@ -41,7 +41,7 @@ use Rattle.std.specs.declared.option.Option.TheVariants.{None, Some}
 use Rattle.std.specs.contracts.impls.GlobalAllocator.TheImpl.{ghosts}
 use Rattle.std.specs.contracts.alloc.Global as heap
 use Rattle.std.proofs.alloc.Global.TheLaws as heap_laws
-use Rattle.tmpl_c.proofs.BoxValues.{both, Loose, loose_good, loose_in, loose_out}
+use Rattle.tmpl_c.proofs.LooseLemmas.{both, Loose, loose_good, loose_in, loose_out}
 use Rattle.tmpl_c.proofs.HandleLemmas.{Handle, Hd, al, word, handle_in, handle_out, either_kept}
 
 module _ (F : Handle) where

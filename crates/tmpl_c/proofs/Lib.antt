@@ -1,7 +1,7 @@
-mod BoxValues
 mod GatherLemmas
 mod HandleForms
 mod HandleLemmas
 mod HandleWalks
 mod LawLemmas
 mod LentLemmas
+mod LooseLemmas
