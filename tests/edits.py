@@ -41,7 +41,7 @@ def unfit(crate):
     told = {it: "its name does not end in .edit" for it in names if not it.endswith(".edit")}
     # what lays out a crate's files also says which edits do not apply
     said = rt(crate, "fmt") if names else ""
-    told.update(re.findall(r"note: must-fail/(\S+) cannot be applied, so rt ci would fail: (.*)", said))
+    told.update(re.findall(r"note: must-fail/(\S+) cannot be applied, so [^:]*: (.*)", said))
     return told
 
 

@@ -1,6 +1,7 @@
-mod BoxValues
-mod DataHandles
 mod GatherLemmas
+mod HandleForms
+mod HandleLemmas
+mod HandleWalks
 mod LawLemmas
 mod LentLemmas
-mod SetHandles
+mod LooseLemmas

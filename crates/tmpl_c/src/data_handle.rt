@@ -6,7 +6,7 @@ ghost use Rattle.std.specs.declared.option.Option.TheVariants.{None, Some};
 ghost use Rattle.tmpl_values.specs.declared.data.Data.{Data};
 ghost use Rattle.tmpl_values.specs.contracts.data.Data.{the_row};
 
-use crate::loose::Loose;
+use crate::loose::{Loose, boxed};
 use std::alloc::Global;
 use std::marker::Model;
 use std::mem;
@@ -57,27 +57,18 @@ impl DataHandle {
         }
     }
 
-    fn into_box(self, alloc: Global) -> Option<Box<Data>>
-        ensures { option_map (λ b. b.value) result ≡ self.held }
-    {
-        match self.open(alloc) {
-            None => None,
-            Some(loose) => Some(loose.into_box()),
-        }
-    }
-
     /// Takes out what is kept.
     pub(crate) fn take(&mut self, alloc: Global) -> Option<Box<Data>>
         ensures taken { option_map (λ b. b.value) result ≡ self.old.held }
         ensures left { self.new.held ≡ None }
     {
-        mem::replace(self, DataHandle::empty()).into_box(alloc)
+        boxed(mem::replace(self, DataHandle::empty()).open(alloc))
     }
 
     /// Keeps this, and frees what was kept.
     pub(crate) fn put(&mut self, alloc: Global, value: Box<Data>)
         ensures { self.new.held ≡ Some value.value }
     {
-        drop(mem::replace(self, DataHandle::of(Loose::of(value))).into_box(alloc));
+        drop(boxed(mem::replace(self, DataHandle::of(Loose::of(value))).open(alloc)));
     }
 }

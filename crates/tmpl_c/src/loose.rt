@@ -1,8 +1,8 @@
 //! A box as its pointer.
-ghost use Rattle.std.specs.Prelude.{◌≡◌};
+ghost use Rattle.std.specs.Prelude.{◌≡◌, option_map};
 ghost use Rattle.std_alloc.specs.Box.Ownership.{box_owns};
 
-use std::alloc::Allocator;
+use std::alloc::{Allocator, Global};
 use std::marker::Model;
 
 pub(crate) struct Loose<T, A: Allocator> {
@@ -29,4 +29,11 @@ impl<T: Drop, A: Allocator> Loose<T, A> {
         let Loose { at, alloc } = self;
         unsafe { Box::from_raw(alloc, at) }
     }
+}
+
+/// The box that is loose, if one is.
+pub(crate) fn boxed<T: Drop>(loose: Option<Loose<T, Global>>) -> Option<Box<T>>
+    ensures { option_map (λ b. b.value) result ≡ option_map (λ l. l.value) loose }
+{
+    loose.map(Loose::into_box)
 }

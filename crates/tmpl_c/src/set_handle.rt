@@ -6,7 +6,7 @@ ghost use Rattle.std.specs.declared.option.Option.TheVariants.{None, Some};
 ghost use Rattle.tmpl_syntax.specs.declared.set.Set.{Set};
 ghost use Rattle.tmpl_syntax.specs.contracts.set.Set.{the_row};
 
-use crate::loose::Loose;
+use crate::loose::{Loose, boxed};
 use std::alloc::Global;
 use std::marker::Model;
 use std::mem;
@@ -57,27 +57,18 @@ impl SetHandle {
         }
     }
 
-    fn into_box(self, alloc: Global) -> Option<Box<Set>>
-        ensures { option_map (λ b. b.value) result ≡ self.held }
-    {
-        match self.open(alloc) {
-            None => None,
-            Some(loose) => Some(loose.into_box()),
-        }
-    }
-
     /// Takes out what is kept.
     pub(crate) fn take(&mut self, alloc: Global) -> Option<Box<Set>>
         ensures taken { option_map (λ b. b.value) result ≡ self.old.held }
         ensures left { self.new.held ≡ None }
     {
-        mem::replace(self, SetHandle::empty()).into_box(alloc)
+        boxed(mem::replace(self, SetHandle::empty()).open(alloc))
     }
 
     /// Keeps this, and frees what was kept.
     pub(crate) fn put(&mut self, alloc: Global, value: Box<Set>)
         ensures { self.new.held ≡ Some value.value }
     {
-        drop(mem::replace(self, SetHandle::of(Loose::of(value))).into_box(alloc));
+        drop(boxed(mem::replace(self, SetHandle::of(Loose::of(value))).open(alloc)));
     }
 }

@@ -50,37 +50,16 @@ no-name = refl
 abbrev Refuses : Reason → Bytes → Type 0
 Refuses reason text = Says (refused (codes "m") (12, reason)) 4 (codes "tmpl: m:12: " ++ text ++ codes "\n")
 
-reason-unreadable : Refuses unreadable (codes "unclosed or unreadable action")
+reasons : Refuses unreadable (codes "unclosed or unreadable action")
+    × Refuses not_an_action (codes "action not understood")
+    × Refuses out_of_place (codes "out of place")
+    × Refuses undeclared_variable (codes "undeclared variable")
+    × Refuses second_definition (codes "second definition")
+    × Refuses open_at_end (codes "file ends inside a control")
+    × Refuses nested_too_deeply (codes "nested too deeply")
+    × Refuses too_long (codes "file longer than 16777216 bytes")
 unfolding digits
-reason-unreadable = refl
-
-reason-unread : Refuses not_an_action (codes "action not understood")
-unfolding digits
-reason-unread = refl
-
-reason-place : Refuses out_of_place (codes "out of place")
-unfolding digits
-reason-place = refl
-
-reason-variable : Refuses undeclared_variable (codes "undeclared variable")
-unfolding digits
-reason-variable = refl
-
-reason-second : Refuses second_definition (codes "second definition")
-unfolding digits
-reason-second = refl
-
-reason-open : Refuses open_at_end (codes "file ends inside a control")
-unfolding digits
-reason-open = refl
-
-reason-deep : Refuses nested_too_deeply (codes "nested too deeply")
-unfolding digits
-reason-deep = refl
-
-reason-long : Refuses too_long (codes "file longer than 16777216 bytes")
-unfolding digits
-reason-long = refl
+reasons = (refl, refl, refl, refl, refl, refl, refl, refl)
 
 -- ---- a run that stops
 
@@ -89,57 +68,21 @@ abbrev Stops : Cause → Bytes → Type 0
 Stops cause text = fault_line (record { file = codes "p/m"; line = 7; template = codes "t"; cause = cause })
     ≡ codes "tmpl: " ++ ((codes "p/m:7: in " ++ (quote (codes "t") ++ (codes ": " ++ text))) ++ codes "\n")
 
-cause-template : Stops (no_template (codes "x y")) (codes "no template " ++ name "x y")
+causes : Stops (no_template (codes "x y")) (codes "no template " ++ name "x y")
+    × Stops (calls_too_deep 1000) (codes "calls deeper than 1000")
+    × Stops (steps_spent 4) (codes "more than 4 steps")
+    × Stops not_a_function (codes "not a function")
+    × Stops nil_command (codes "nil is not a command")
+    × Stops (lacks_field (codes "a\"b")) (codes "no field " ++ (quote (codes "a\"b") ++ codes " here"))
+    × Stops (lacks_entry (codes "x")) (codes "no entry for key " ++ name "x")
+    × Stops not_a_range (codes "can't range over this value")
+    × Stops (call_failed Len WrongCount) (codes "len: wrong number of arguments")
+    × Stops (call_failed Index WrongKind) (codes "index: wrong kind of argument")
+    × Stops (call_failed Index OutOfRange) (codes "index: out of range")
+    × Stops (call_failed Eq NotComparable) (codes "eq: can't be compared")
+    × Stops (call_failed Printf FormatRefused) (codes "printf: format refused")
 unfolding digits
-cause-template = refl
-
-cause-depth : Stops (calls_too_deep 1000) (codes "calls deeper than 1000")
-unfolding digits
-cause-depth = refl
-
-cause-steps : Stops (steps_spent 4) (codes "more than 4 steps")
-unfolding digits
-cause-steps = refl
-
-cause-function : Stops not_a_function (codes "not a function")
-unfolding digits
-cause-function = refl
-
-cause-nil : Stops nil_command (codes "nil is not a command")
-unfolding digits
-cause-nil = refl
-
-cause-field : Stops (lacks_field (codes "a\"b")) (codes "no field " ++ (quote (codes "a\"b") ++ codes " here"))
-unfolding digits
-cause-field = refl
-
-cause-entry : Stops (lacks_entry (codes "x")) (codes "no entry for key " ++ name "x")
-unfolding digits
-cause-entry = refl
-
-cause-range : Stops not_a_range (codes "can't range over this value")
-unfolding digits
-cause-range = refl
-
-cause-count : Stops (call_failed Len WrongCount) (codes "len: wrong number of arguments")
-unfolding digits
-cause-count = refl
-
-cause-kind : Stops (call_failed Index WrongKind) (codes "index: wrong kind of argument")
-unfolding digits
-cause-kind = refl
-
-cause-out : Stops (call_failed Index OutOfRange) (codes "index: out of range")
-unfolding digits
-cause-out = refl
-
-cause-compare : Stops (call_failed Eq NotComparable) (codes "eq: can't be compared")
-unfolding digits
-cause-compare = refl
-
-cause-format : Stops (call_failed Printf FormatRefused) (codes "printf: format refused")
-unfolding digits
-cause-format = refl
+causes = (refl, refl, refl, refl, refl, refl, refl, refl, refl, refl, refl, refl, refl)
 
 -- ---- a failed write, and refused memory
 

@@ -139,37 +139,16 @@ module _ (before between after : Option (List Bytes)) (files : Files) (start : L
         (asked-append before between after so_far.0 (name ∷ []) so_far.1 h.1),
   )
 
--- a stage behind another, where it comes to the same behind each set
-behind_same : (r : Result (List Template) Stop) (f g : List Template → Result (List Template) Stop) → ((s : List Template) → f s ≡ g s)
-    → or_stop r f ≡ or_stop r g
-behind_same (Ok s) f g same = same s
-behind_same (Err stop) f g same = refl
-
--- where no read fails of a list of files, they come to what they come to where none fails at all
+-- where no read fails of a list of files, they come to what they come to where none fails at all, and as many of them are read
 pub all_succeed : (files : Files) (fails : Failing) (k : ℕ) (set : List Template) (names : List Bytes)
     → ((j : ℕ) → j < length names → fails (k + j) ≡ false)
-    → loaded parsed files fails k set names ≡ loaded parsed files no_read k set names
-all_succeed files fails k set [] succeed = refl
+    → (loaded parsed files fails k set names ≡ loaded parsed files no_read k set names)
+    × (file_reads parsed files fails k set names ≡ file_reads parsed files no_read k set names)
+all_succeed files fails k set [] succeed = (refl, refl)
 all_succeed files fails k set (n ∷ ns) succeed =
+    let here : fails k ≡ false = ap fails (sym (add-zero k)) ∙ succeed 0 (omega arith) in
     let moved : (j : ℕ) → suc k + j ≡ k + suc j = λ j. omega arith in
-    ap (λ b. or_stop (with_file parsed files b set n) (λ s. loaded parsed files fails (suc k) s ns))
-    (ap fails (sym (add-zero k)) ∙ succeed 0 (omega arith))
-    ∙ behind_same (with_file parsed files false set n) (λ s. loaded parsed files fails (suc k) s ns) (λ s. loaded parsed files no_read (suc k) s ns)
-    (λ s. all_succeed files fails (suc k) s ns (λ j lt. ap fails (moved j) ∙ succeed (suc j) (omega (arith, lt))))
-
--- .. and as many of them are read
-read_same : (r : Result (List Template) Stop) (f g : List Template → List Bytes) → ((s : List Template) → f s ≡ g s) → reads_behind f r ≡ reads_behind g r
-read_same (Ok s) f g same = same s
-read_same (Err stop) f g same = refl
-
-pub all_read : (files : Files) (fails : Failing) (k : ℕ) (set : List Template) (names : List Bytes)
-    → ((j : ℕ) → j < length names → fails (k + j) ≡ false)
-    → file_reads parsed files fails k set names ≡ file_reads parsed files no_read k set names
-all_read files fails k set [] succeed = refl
-all_read files fails k set (n ∷ ns) succeed =
-    let moved : (j : ℕ) → suc k + j ≡ k + suc j = λ j. omega arith in
-    ap (λ b. n ∷ reads_behind (λ s. file_reads parsed files fails (suc k) s ns) (with_file parsed files b set n))
-    (ap fails (sym (add-zero k)) ∙ succeed 0 (omega arith))
-    ∙ ap (λ (names : List Bytes). n ∷ names)
-    (read_same (with_file parsed files false set n) (λ s. file_reads parsed files fails (suc k) s ns) (λ s. file_reads parsed files no_read (suc k) s ns)
-    (λ s. all_read files fails (suc k) s ns (λ j lt. ap fails (moved j) ∙ succeed (suc j) (omega (arith, lt)))))
+    let behind = λ (s : List Template). all_succeed files fails (suc k) s ns (λ j lt. ap fails (moved j) ∙ succeed (suc j) (omega (arith, lt))) in (
+      λ i. or_stop (with_file parsed files (here i) set n) (λ s. (behind s).0 i),
+      λ i. n ∷ reads_behind (λ s. (behind s).1 i) (with_file parsed files (here i) set n),
+    )

@@ -23,7 +23,7 @@ use Rattle.tmpl_tool.specs.Inputs.{Counts, StopsAt, inputs_of, inputs_reads, ref
 use Rattle.tmpl_tool.specs.computed.Load.{after_set, after_words, finished, rendered}
 use Rattle.tmpl_tool.specs.declared.stop.Stop as held
 use Rattle.tmpl_tool.specs.declared.stop.Stop.TheVariants as stop
-use Rattle.tmpl_tool.proofs.LoadLemmas.{all_read, all_succeed, asked-append, nat_eq-add, other-above}
+use Rattle.tmpl_tool.proofs.LoadLemmas.{all_succeed, asked-append, nat_eq-add, other-above}
 use Rattle.tmpl_tool.proofs.MessageLemmas.{nothing_out, nothing_put}
 use Rattle.tmpl_tool.proofs.StageLemmas.{with_words}
 
@@ -109,11 +109,12 @@ module _ (files : Files) (w : Wanted) where
           let size = length w.files in
           let fails : Failing = nat_eq (k + size) in
           let succeed : (j : ℕ) → j < size → fails (0 + j) ≡ false = λ j lt. other-above (0 + j) k size (subst (λ i. i < size) (sym (zero-add j)) lt) in
-          let all = all_succeed files fails 0 [] w.files succeed ∙ loads in (
+          let same = all_succeed files fails 0 [] w.files succeed in
+          let all = same.0 ∙ loads in (
             k + size,
             data_next fails all w.data_file wanted_data
                 ∙ ap (λ b. with_data set (data_found files b w.data_file)) (nat_eq-add k size) ∙ ap (with_data set) h,
-            asked_next fails all (all_read files fails 0 [] w.files succeed) w.data_file wanted_data more,
+            asked_next fails all same.1 w.data_file wanted_data more,
           )
       data_stops (Some s) h =
           (data_next no_read loads w.data_file wanted_data ∙ ap (with_data set) h.0, asked_next no_read loads refl w.data_file wanted_data h.1)

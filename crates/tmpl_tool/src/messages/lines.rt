@@ -18,15 +18,17 @@ use tmpl_funcs::CallFault;
 use tmpl_run::{RunFault, RunFaultKind, Sink};
 use tmpl_syntax::{ParseFault, ParseKind};
 
-/// Says a line of these parts. A sink that fails cuts it.
+/// Says a line of these parts, and gives this status. A sink that fails cuts the line.
 #[tactic(auto, using(crate::proofs::MessageLemmas::said))]
-fn say<E: Sink>(err: &mut E, parts: &[Part<'_>])
+fn say<E: Sink>(err: &mut E, parts: &[Part<'_>], code: u8) -> Status
     requires { (E.so_far err.old).failures < 2 ^ 64 - 1 }
+    ensures code { result.code ≡ code }
     ensures cuts { Once (E.so_far err.old).failures (E.so_far err.new).failures }
     ensures line { Says (line (pieces_of parts.now))
         (sunk (E.so_far err.old) (E.so_far err.new)) }
 {
     let _ = put_line(err, [].as_slice(), parts);
+    Status { code }
 }
 
 /// Says that the words were refused.
@@ -37,9 +39,11 @@ pub fn words_refused<E: Sink>(err: &mut E) -> Status
     ensures line { Says (stop_answer bad_words).line
         (sunk (E.so_far err.old) (E.so_far err.new)) }
 {
-    let parts = [Part::Text("arguments refused; see tmpl --help")];
-    say(err, parts.as_slice());
-    Status { code: 2 }
+    say(
+        err,
+        [Part::Text("arguments refused; see tmpl --help")].as_slice(),
+        2,
+    )
 }
 
 /// Says that a write failed.
@@ -50,9 +54,7 @@ pub fn write_failed<E: Sink>(err: &mut E) -> Status
     ensures line { Says write_line
         (sunk (E.so_far err.old) (E.so_far err.new)) }
 {
-    let parts = [Part::Text("write failed")];
-    say(err, parts.as_slice());
-    Status { code: 6 }
+    say(err, [Part::Text("write failed")].as_slice(), 6)
 }
 
 /// Says that memory was refused.
@@ -63,9 +65,7 @@ pub fn out_of_memory<E: Sink>(err: &mut E) -> Status
     ensures line { Says memory_line
         (sunk (E.so_far err.old) (E.so_far err.new)) }
 {
-    let parts = [Part::Text("out of memory")];
-    say(err, parts.as_slice());
-    Status { code: 7 }
+    say(err, [Part::Text("out of memory")].as_slice(), 7)
 }
 
 /// Says that there is no template of this name.
@@ -76,9 +76,11 @@ pub(crate) fn template_missing<E: Sink>(err: &mut E, name: &[u8]) -> Status
     ensures line { Says (stop_answer (unnamed name.now)).line
         (sunk (E.so_far err.old) (E.so_far err.new)) }
 {
-    let parts = [Part::Text("no template "), Part::Quoted(name)];
-    say(err, parts.as_slice());
-    Status { code: 4 }
+    say(
+        err,
+        [Part::Text("no template "), Part::Quoted(name)].as_slice(),
+        4,
+    )
 }
 
 /// Why a template file was refused, in words; none where memory was refused.
@@ -117,8 +119,7 @@ fn refuse_template<E: Sink>(err: &mut E, fault: &ParseFault<'_>) -> Status
         Part::Text(": "),
         Part::Text(text),
     ];
-    say(err, parts.as_slice());
-    Status { code: 4 }
+    say(err, parts.as_slice(), 4)
 }
 
 /// Says why a file, of which the name comes first, stops the program, and gives this status.
@@ -129,9 +130,7 @@ fn refuse_file<E: Sink>(err: &mut E, name: &str, why: &str, code: u8) -> Status
     ensures line { Says (line (plain name.now ∷ plain why.now ∷ []))
         (sunk (E.so_far err.old) (E.so_far err.new)) }
 {
-    let parts = [Part::Text(name), Part::Text(why)];
-    say(err, parts.as_slice());
-    Status { code }
+    say(err, [Part::Text(name), Part::Text(why)].as_slice(), code)
 }
 
 /// Says why the command stops, and gives the status of that.

@@ -1,0 +1,35 @@
+-- For the functions of `DataHandle` and `SetHandle`: both are handles.
+use Rattle.std.proofs.Common.{refl}
+use Rattle.tmpl_values.specs.contracts.data.Data as the_data
+use Rattle.tmpl_syntax.specs.contracts.set.Set as the_set
+use Rattle.tmpl_c.specs.contracts.data_handle.DataHandle as data_handle
+use Rattle.tmpl_c.specs.contracts.set_handle.SetHandle as set_handle
+use Rattle.tmpl_c.proofs.HandleLemmas.{Handle}
+
+abbrev pub data_form : Handle
+data_form = record {
+  name = data_handle.struct.name;
+  value = the_data.the_row;
+  D = data_handle.struct.D;
+  at = λ d. d.at;
+  held = λ d. d.held;
+  make = λ p x. record { at = p; held = x };
+  at_made = λ p x. refl;
+  held_made = λ p x. refl;
+  coded = data_handle.the_row.coded;
+  shr_at = data_handle.the_row.shr_at;
+}
+
+abbrev pub set_form : Handle
+set_form = record {
+  name = set_handle.struct.name;
+  value = the_set.the_row;
+  D = set_handle.struct.D;
+  at = λ d. d.at;
+  held = λ d. d.held;
+  make = λ p x. record { at = p; held = x };
+  at_made = λ p x. refl;
+  held_made = λ p x. refl;
+  coded = set_handle.the_row.coded;
+  shr_at = set_handle.the_row.shr_at;
+}
