@@ -88,8 +88,8 @@ impl<'s> Compiler<'s> {
     /// part of the tree is at hand.
     fn put_surveyed(&mut self, site: Site<'_>, nodes: &'s [Node]) -> Result<Survey, AllocError>
         requires { IsOpen site.exit (code_of self.old.code) (layout_of self.old.scope) }
-        ensures code { OnOk result (Put (spec.NodesAt (set_view site.entry.set.now) (nodes_in nodes.now)) site.entry.exit
-            self.old self.new) }
+        ensures code { OnOk result (Put (spec.NodesAt (set_view site.entry.set.now) (nodes_in nodes.now))
+            site.entry.exit self.old self.new) }
         ensures need { IfOk result (λ s. s.need ≡ need_of_nodes (nodes_in nodes.now)) }
         ensures text { IfOk result (λ s. s.makes_text ≡ nodes_make_text (nodes_in nodes.now)) }
         ensures calls { IfOk result (λ s. s.calls ≡ nodes_call (nodes_in nodes.now)) }

@@ -248,7 +248,8 @@ impl<'s> Compiler<'s> {
     #[tactic(auto, using(tmpl_syntax::proofs::ViewLemmas::controls))]
     pub(crate) fn put_node(&mut self, site: Site<'_>, node: &'s Node) -> Result<(), AllocError>
         requires { IsOpen site.exit (code_of self.old.code) (layout_of self.old.scope) }
-        ensures { OnOk result (Put (spec.NodeAt (set_view site.entry.set.now) (node_of node.now).line (node_of node.now).what)
+        ensures { OnOk result (Put
+            (spec.NodeAt (set_view site.entry.set.now) (node_of node.now).line (node_of node.now).what)
             site.entry.exit self.old self.new) }
     {
         match &node.what {
@@ -277,8 +278,8 @@ impl<'s> Compiler<'s> {
         node: &'s ControlNode,
     ) -> Result<(), AllocError>
         requires { IsOpen site.exit (code_of self.old.code) (layout_of self.old.scope) }
-        ensures { OnOk result (Put (spec.NodeAt (set_view site.entry.set.now) line (control_of node.now)) site.entry.exit
-            self.old self.new) }
+        ensures { OnOk result (Put (spec.NodeAt (set_view site.entry.set.now) line (control_of node.now))
+            site.entry.exit self.old self.new) }
     {
         let header = &node.header;
         let body = node.body.as_slice();
@@ -391,7 +392,8 @@ impl<'s> Compiler<'s> {
         skip: u32,
     ) -> Result<(), AllocError>
         requires { IsOpen site.exit (code_of self.old.code) (layout_of self.old.scope) }
-        ensures { OnOk result (Put (EndedPart (set_view site.entry.set.now) (binding_of binding.now) (nodes_in nodes.now) skip)
+        ensures { OnOk result (Put
+            (EndedPart (set_view site.entry.set.now) (binding_of binding.now) (nodes_in nodes.now) skip)
             site.entry.exit self.old self.new) }
     {
         put_end(&mut self.code, declared_by(binding, nodes)?, skip)?;
@@ -408,7 +410,8 @@ impl<'s> Compiler<'s> {
         nodes: &'s [Node],
     ) -> Result<(), AllocError>
         requires { IsOpen site.exit (code_of self.old.code) (layout_of self.old.scope) }
-        ensures { OnOk result (Put (BoundPart (set_view site.entry.set.now) (binding_of binding.now) (nodes_in nodes.now))
+        ensures { OnOk result (Put
+            (BoundPart (set_view site.entry.set.now) (binding_of binding.now) (nodes_in nodes.now))
             site.entry.exit self.old self.new) }
     {
         open(&mut self.scope, binding)?;
@@ -427,7 +430,8 @@ impl<'s> Compiler<'s> {
         nodes: &'s [Node],
     ) -> Result<(), AllocError>
         requires { IsOpen site.exit (code_of self.old.code) (layout_of self.old.scope) }
-        ensures { OnOk result (Put (DottedPart (set_view site.entry.set.now) (binding_of binding.now) (nodes_in nodes.now))
+        ensures { OnOk result (Put
+            (DottedPart (set_view site.entry.set.now) (binding_of binding.now) (nodes_in nodes.now))
             site.entry.exit self.old self.new) }
     {
         open(&mut self.scope, binding)?;

@@ -1,7 +1,7 @@
 -- What the compiler holds, apart from how it is held. Code is held from its last instruction to its first, cells from
 -- the oldest to the newest.
-use Rattle.std.specs.Prelude.{◌≡◌, ℕ, ◌+◌, ◌-◌, ◌≤◌, Bool, true, false, List, [], ◌∷◌, length, drop, Option, Some, None, map}
-use Rattle.std.specs.Prelude.{reverse}
+use Rattle.std.specs.Prelude.{◌≡◌, ℕ, ◌+◌, ◌-◌, ◌≤◌, Bool, true, false, List, [], ◌∷◌, length, drop, Option, Some, None}
+use Rattle.std.specs.Prelude.{map, reverse}
 use Rattle.tmpl_grammar.specs.Need.{declared_count}
 use Rattle.tmpl_grammar.specs.Tree.{Binding, unbound, declare, assign, declare_pair}
 use Rattle.tmpl_syntax.specs.Tree as tree
@@ -64,8 +64,8 @@ abbrev pub shrunk : NodeKind → Layout → Layout
 shrunk (action h) cells = bound_off h.binding cells
 shrunk n cells = cells
 
--- nodes behind a header that binds variables; with a saved dot too; with what ends them; and above the cells of a range,
--- behind what binds the variables to its element
+-- nodes behind a header that binds variables; with a saved dot too; with what ends them; and above the cells of a
+-- range, behind what binds the variables to its element
 abbrev pub BoundPart : List Template → Binding → Nodes → NodesPart
 BoundPart ts b ns cells exit = NodesAt ts ns (bound_on b cells) exit
 
@@ -83,7 +83,8 @@ TurnsPart ts b ns cells exit code rest =
 
 -- such a part was put before the code, and the cells are as they were
 pub record Put (P : NodesPart) (exit : Option held_around.Around) (before after : held_compiler.Compiler) : Type 0 where
-  pub code : P (layout_of before.scope) (exit_seen exit (code_of before.code)) (code_of after.code) (code_of before.code)
+  pub code :
+      P (layout_of before.scope) (exit_seen exit (code_of before.code)) (code_of after.code) (code_of before.code)
   pub scope : layout_of after.scope ≡ layout_of before.scope
 
 -- the places in code of this size from which on there is so much code
