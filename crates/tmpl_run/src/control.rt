@@ -108,7 +108,8 @@ impl<'m, 'a> Machine<'m, 'a> {
         ghost run: { Told }
         requires place { self.old.place + 1 + skip < 2 ^ 64 }
         requires found { count + 1 + variables ≤ length (cells_of self.old.stack) }
-        ensures step { Executed run (code.end_with count variables skip) (state_of run self.old) (state_of run self.new) (Ok result) }
+        ensures step { Executed run (code.end_with count variables skip) (state_of run self.old)
+            (state_of run self.new) (Ok result) }
         ensures plain { IsPlain self.old → IsPlain self.new }
         ensures size { size_of self.new.stack ≡ size_of self.old.stack }
     {
