@@ -1,9 +1,9 @@
 -- For `bound_of` and `Program::cells`: how many cells are enough for every chain of calls.
-use Rattle.std.proofs.Common.{arith, ◌≡◌, ◌∙◌, ◌||◌, ◌+◌, ◌*◌, ◌≤◌, ◌<◌, ◌⊎◌, inl, inr, ℕ, zero, suc, Bool, true, false, List, [], ◌∷◌, length, map, get_or}
+use Rattle.std.proofs.Common.{arith, ◌≡◌, ◌∙◌, ◌||◌, ◌+◌, ◌*◌, ◌≤◌, ◌<◌, inl, inr, ℕ, zero, suc, Bool, true, false, List, [], ◌∷◌, length, get_or}
 use Rattle.std.proofs.Common.{refl, ap, sym, subst, Option, Some, None}
 use Rattle.std.specs.Prelude.{slice_get}
 use Rattle.std.proofs.Math.Bool.{or-true}
-use Rattle.std.proofs.Math.Nat.{eq-or-lt_of_le, mul-le-mul_right, suc-mul}
+use Rattle.std.proofs.Math.Nat.{mul-le-mul_right, suc-mul}
 use Rattle.tmpl_syntax.specs.Tree as tree
 use Rattle.tmpl_syntax.specs.Tree.{NodeKind, Nodes, text, action, control_node, break_node, continue_node, template_node}
 use Rattle.tmpl_syntax.specs.Need.{need}
@@ -11,7 +11,7 @@ use Rattle.tmpl_syntax.specs.Set.{Template, number_of}
 use Rattle.tmpl_syntax.proofs.NamedLemmas.{Named, numbered}
 use Rattle.tmpl_code.specs.Calls.{Calls, IsChain, NodeNames, NodesName, node_calls, nodes_call, set_calls}
 use Rattle.tmpl_code.specs.Room.{Suffices, largest_need, need_at, need_found, needs_along, room}
-use Rattle.tmpl_code.specs.computed.Weights.{Hold, HoldsOf, IsBound, heaviest_of_node, heaviest_of_nodes, weight_found}
+use Rattle.tmpl_code.specs.computed.Weights.{Hold, IsBound, heaviest_of_node, heaviest_of_nodes, weight_found}
 
 -- ---- a set in which none calls one
 
@@ -125,21 +125,4 @@ module _ (ts : List Template) (weights : List ℕ) where
             let most = (hold first t e).most in
             let more : suc (length rest) * each ≤ depth * each = mul-le-mul_right each (omega arith) in
             omega arith
-
-  -- ---- the look at each template
-
-  pub held-more : (each fixed n : ℕ) → ((k : ℕ) (t : Template) → k < n → slice_get ts k ≡ Some t → HoldsOf ts weights each fixed k t)
-      → ((t : Template) → slice_get ts n ≡ Some t → HoldsOf ts weights each fixed n t)
-      → (k : ℕ) (t : Template) → k < n + 1 → slice_get ts k ≡ Some t → HoldsOf ts weights each fixed k t
-  held-more each fixed n before here k t below at = by (eq-or-lt_of_le (omega arith))
-    where
-      by : (k ≡ n) ⊎ (k < n) → HoldsOf ts weights each fixed k t
-      by (inr less) = before k t less at
-      by (inl same) =
-          subst (λ m. HoldsOf ts weights each fixed m t) (sym same) (here t (ap (slice_get ts) (sym same) ∙ at))
-
--- what templates need, in order
-pub need-of : (ts : List Template) (i : ℕ) (t : Template) → slice_get ts i ≡ Some t → get_or (map (λ (t : Template). need t.1) ts) i 0 ≡ need t.1
-need-of [] i t at = cc
-need-of (u ∷ ts) zero t at = let same : u ≡ t = cc in ap (λ (v : Template). need v.1) same
-need-of (u ∷ ts) (suc i) t at = need-of ts i t at
+        -- ---- the look at each template

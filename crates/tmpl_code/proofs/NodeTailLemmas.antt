@@ -1,5 +1,5 @@
--- For `put_range`: the code of nodes ends with what stands behind it, so a jump out of the range still leads behind it.
-use Rattle.std.proofs.Common.{arith, ◌≡◌, ◌∙◌, ◌+◌, ◌-◌, ◌≤◌, ℕ, zero, suc, Bool, false, List, [], ◌∷◌, ◌++◌, length, drop, refl, ap, subst, Option, Some, None, Result, Ok, Err, OnOk, length-append}
+-- For `Compiler::put_nodes` and what it calls: the code of nodes ends with what stands behind it, so a jump out of a range still leads behind it; controls from their parts, and nodes one by one.
+use Rattle.std.proofs.Common.{arith, ◌≡◌, ◌∙◌, ◌+◌, ◌-◌, ◌<◌, ◌≤◌, ℕ, zero, suc, Bool, false, List, [], ◌∷◌, ◌++◌, length, drop, take, get_or, refl, ap, sym, subst, Option, Some, None, Result, Ok, Err, OnOk, length-append}
 use Rattle.tmpl_grammar.specs.Need.{declared_count}
 use Rattle.tmpl_grammar.specs.Tree.{Pipeline, pipeline, Binding, unbound, declare, assign, declare_pair, Header}
 use Rattle.tmpl_grammar.specs.declared.tree.Control.{Control}
@@ -7,11 +7,15 @@ use Rattle.tmpl_grammar.specs.declared.tree.Control.TheVariants as control
 use Rattle.tmpl_syntax.specs.Tree as tree
 use Rattle.tmpl_syntax.specs.Tree.{NodeKind, text, action, control_node, break_node, continue_node, template_node, Nodes}
 use Rattle.tmpl_syntax.specs.Set.{Template, number_of}
+use Rattle.tmpl_syntax.specs.View.{node_of, nodes_in}
+use Rattle.tmpl_syntax.specs.declared.tree.Node as held_node
 use Rattle.tmpl_code.specs.Instruction.{unless, enter_with, end_with, cut, enter, next, invoke}
 use Rattle.tmpl_code.specs.Layout.{Layout, slot_named, bound_on, declares, declares_key, grown, declared_in}
 use Rattle.tmpl_code.specs.Code.{Code, Part, NodesPart, Exit, PipelineAt, SetAt, BindAt, ShownAt, SetDotAt, TurnAt, BreakAt, ContinueAt, GivenAt, CallAt, HeaderAt, EndAt, Ended, IfAt, WithAt, RangeAt, ControlAt, NodeAt, NodesAt, step_of}
-use Rattle.tmpl_code.specs.computed.Held.{exit_seen, last_of, IsOpen, TurnsAt}
+use Rattle.tmpl_code.specs.computed.Held.{BoundPart, DottedPart, EndedPart, IsOpen, Put, TurnsPart, all_grown, code_of, exit_seen, last_of, layout_of, shrunk}
 use Rattle.tmpl_code.specs.declared.node.Around as held_around
+use Rattle.tmpl_code.specs.declared.node.Compiler as held_compiler
+use Rattle.tmpl_code.proofs.NodeLemmas.{all_grown-longer, grows, nodes_more, shrinks}
 use Rattle.tmpl_code.proofs.TailLemmas.{Ends, PartEnds, ends_same, ends_on, ends_one, ends_both, ends_under, longer, passes, commands_ends}
 
 -- ---- what a node is made of
@@ -153,117 +157,210 @@ open_on (Some a) old new lay more t g h =
     let below = h.1 in
     (omega arith, omega arith)
 
--- nodes behind what stands behind the old code, in which the range around is known
-pub record Behind (ts : List Template) (e : Option held_around.Around) (ns : Nodes) (lay : Layout) (old mid new : Code) : Type 0 where
-  pub lies : NodesAt ts ns lay (exit_seen e old) new mid
-  pub ends : Ends old new
-  pub over : drop (length new - length old) new ≡ old
+-- ---- what was put, and what stands behind it
 
-pub behind : (ts : List Template) (e : Option held_around.Around) (ns : Nodes) (lay around : Layout) (old mid new : Code) → IsOpen e old around → Ends old mid
-    → NodesAt ts ns lay (exit_seen e mid) new mid → Behind ts e ns lay old mid new
-behind ts e ns lay around old mid new h before l =
-    let at = subst (λ (x : Exit). NodesAt ts ns lay x new mid) (exit_on e old mid around h before) l in
-    let ends = ends_both new mid old (nodes_ends ts ns lay (exit_seen e old) new mid at) before in
-    record { lies = at; ends = ends; over = passes old new ends }
+abbrev Compiler : Type 0
+Compiler = held_compiler.Compiler
 
--- nodes behind what stands behind other nodes
-pub record Both (ts : List Template) (e : Option held_around.Around) (body : Nodes) (lay : Layout) (old second mid first : Code) : Type 0 where
-  pub lies : NodesAt ts body lay (exit_seen e old) first mid
-  pub over : drop (length first - length second) first ≡ second
-  pub longer : length second ≤ length first
+module _ {P : NodesPart} {e : Option held_around.Around} {old mid : Compiler} (ends : AllEnd P) (p : Put P e old mid) where
+  pub tail : Ends (code_of old.code) (code_of mid.code)
+  tail = ends (layout_of old.scope) (exit_seen e (code_of old.code)) (code_of mid.code) (code_of old.code) p.code
 
-pub both : (ts : List Template) (e : Option held_around.Around) (body : Nodes) (lay around : Layout) (old second mid first : Code) → IsOpen e old around → Ends old second → Ends second mid
-    → NodesAt ts body lay (exit_seen e mid) first mid → Both ts e body lay old second mid first
-both ts e body lay around old second mid first h ends before l =
-    let q = behind ts e body lay around second mid first (open_on e old second around around ends (omega arith) h) before l in
-    record {
-      lies = subst (λ (x : Exit). NodesAt ts body lay x first mid) (exit_on e old second around h ends) q.lies;
-      over = q.over;
-      longer = longer second first q.ends;
-    }
+  pub more_code : length (code_of old.code) ≤ length (code_of mid.code)
+  more_code = longer (code_of old.code) (code_of mid.code) tail
 
--- the body of a range, whose end is the old code, behind what binds its variables
-pub record Turned (ts : List Template) (b : Binding) (body : Nodes) (outer lay : Layout) (line below : ℕ) (old second mid start : Code) : Type 0 where
-  pub first : Code
-  pub turn : TurnAt b outer start first
-  pub lies : NodesAt ts body lay (Some (record { out = old; line = line; below = below })) first mid
-  pub longer : length second ≤ length start
-  pub over : drop (length start - length second) start ≡ second
+  pub skips : (n : ℕ) → n ≡ length (code_of mid.code) - length (code_of old.code) → drop n (code_of mid.code) ≡ code_of old.code
+  skips n is = ap (λ n. drop n (code_of mid.code)) is ∙ passes (code_of old.code) (code_of mid.code) tail
 
-pub turned : (ts : List Template) (b : Binding) (body : Nodes) (outer lay : Layout) (a : held_around.Around) (line below : ℕ) (old second mid start : Code)
-    → a.after ≡ length old → a.line ≡ line → a.below ≡ below → Ends old second → Ends second mid
-    → TurnsAt (TurnAt b outer) (NodesAt ts body lay (exit_seen (Some a) mid)) start mid → Turned ts b body outer lay line below old second mid start
-turned ts b body outer lay a line below old second mid start after lines belows ends before l =
-    let first = l.0 in
-    let out : last_of a.after mid ≡ old = ap (λ n. last_of n mid) after ∙ passes old mid (ends_both mid second old before ends) in
-    let tail = ends_both start first second (turn_ends b outer start first l.1) (ends_both first mid second (nodes_ends ts body lay (exit_seen (Some a) mid) first mid l.2) before) in
-    let same : exit_seen (Some a) mid ≡ Some (record { out = old; line = line; below = below }) = (λ j. Some (record { out = out j; line = lines j; below = belows j })) in
-    record {
-      first = first;
-      turn = l.1;
-      lies = subst (λ (x : Exit). NodesAt ts body lay x first mid) same l.2;
-      longer = longer second start tail;
-      over = passes second start tail;
-    }
+  pub still_open : IsOpen e (code_of old.code) (layout_of old.scope) → IsOpen e (code_of mid.code) (layout_of mid.scope)
+  still_open h =
+      let same = ap (λ (l : Layout). length l) p.scope in
+      open_on e (code_of old.code) (code_of mid.code) (layout_of old.scope) (layout_of mid.scope) tail (omega (arith, same)) h
 
--- ---- a control from its parts
+-- a part that is put behind code which ends with the old one
+put_on : {P : NodesPart} {e : Option held_around.Around} (old : Compiler) {mid new : Compiler} → IsOpen e (code_of old.code) (layout_of old.scope) → Ends (code_of old.code) (code_of mid.code)
+    → layout_of mid.scope ≡ layout_of old.scope → Put P e mid new
+    → P (layout_of old.scope) (exit_seen e (code_of old.code)) (code_of new.code) (code_of mid.code)
+put_on {P} {e} old {mid} {new} h t same p =
+    subst (λ (l : Layout). P l (exit_seen e (code_of old.code)) (code_of new.code) (code_of mid.code)) same
+    (subst (λ (x : Exit). P (layout_of mid.scope) x (code_of new.code) (code_of mid.code)) (exit_on e (code_of old.code) (code_of mid.code) (layout_of old.scope) h t) p.code)
+
+pub nodes_part : (ts : List Template) (ns : Nodes) → AllEnd (NodesAt ts ns)
+nodes_part ts ns lay exit code rest l = nodes_ends ts ns lay exit code rest l
+
+pub dotted_part : (ts : List Template) (b : Binding) (ns : Nodes) → AllEnd (DottedPart ts b ns)
+dotted_part ts b ns lay exit code rest l = nodes_ends ts ns (None ∷ bound_on b lay) exit code rest l
+
+pub ended_part : (ts : List Template) (b : Binding) (ns : Nodes) (skip : ℕ) → AllEnd (EndedPart ts b ns skip)
+ended_part ts b ns skip lay exit code rest l =
+    ends_both code l.0 rest (nodes_ends ts ns (bound_on b lay) exit code l.0 l.1) (end_ends (declared_count b + declared_in ns) skip l.0 rest l.2)
+
+pub turns_part : (ts : List Template) (b : Binding) (ns : Nodes) → AllEnd (TurnsPart ts b ns)
+turns_part ts b ns lay exit code rest l =
+    ends_both code l.0 rest (turn_ends b (None ∷ None ∷ lay) code l.0 l.1) (nodes_ends ts ns (bound_on b (None ∷ None ∷ lay)) exit l.0 rest l.2)
 
 pub on_ok : {T E : Type 0} (r : Result T E) (P Q : Type 0) → (P → Q) → OnOk r P → OnOk r Q
 on_ok (Ok x) P Q f p = f p
 on_ok (Err e) P Q f p = tt
 
-module _ (Body Other : Part) (first second old mid end new : Code) (skip to : ℕ) (skips : skip ≡ length first - length second) (tos : to ≡ length second - length old)
-    (over_first : drop (length first - length second) first ≡ second) (over_second : drop (length second - length old) second ≡ old) where
-  passed : drop skip first ≡ second
-  passed = ap (λ n. drop n first) skips ∙ over_first
+-- ---- a part with its end, and controls
 
-  passed_on : drop to second ≡ old
-  passed_on = ap (λ n. drop n second) tos ∙ over_second
+module _ (ts : List Template) {e : Option held_around.Around} {old : Compiler} (h : IsOpen e (code_of old.code) (layout_of old.scope)) where
+  pub put_ended : (b : Binding) (ns : Nodes) (skip n : ℕ) {mid new : Compiler} → layout_of mid.scope ≡ layout_of old.scope → n ≡ declared_count b + declared_in ns
+      → EndAt n skip (code_of mid.code) (code_of old.code) → Put (BoundPart ts b ns) e mid new → Put (EndedPart ts b ns skip) e old new
+  put_ended b ns skip n {mid} {new} same count end p = record {
+    code = (code_of mid.code, put_on {P = BoundPart ts b ns} old h (end_ends n skip (code_of mid.code) (code_of old.code) end) same p, subst (λ k. EndAt k skip (code_of mid.code) (code_of old.code)) count end);
+    scope = p.scope ∙ same;
+  }
 
-  ended : (n m : ℕ) → n ≡ m → Other second end → EndAt n 0 end old → Ended m 0 Other second old
-  ended n m is other close = (end, other, subst (λ k. EndAt k 0 end old) is close)
+  module _ (head : Header) (body others : Nodes) where
+    pub put_if : {second first new : Compiler} {start : Code} (to skip : ℕ) (kept : Bool) → Put (EndedPart ts head.binding others 0) e old second → Put (EndedPart ts head.binding body to) e second first
+        → to ≡ length (code_of second.code) - length (code_of old.code) → skip ≡ length (code_of first.code) - length (code_of second.code)
+        → kept ≡ declares head.binding → start ≡ unless kept skip ∷ code_of first.code → layout_of new.scope ≡ layout_of first.scope → HeaderAt head (layout_of first.scope) (code_of new.code) start
+        → Put (NodeAt ts 0 (control_node control.If head body others)) e old new
+    put_if {second} {first} {new} {start} to skip kept p q tos skipped keeps is same headed =
+        let scope = q.scope ∙ p.scope in
+        let part = put_on {P = EndedPart ts head.binding body to} old h (tail (ended_part ts head.binding others 0) p) p.scope q in
+        record {
+          code = (
+            start,
+            subst (λ (l : Layout). HeaderAt head l (code_of new.code) start) scope headed,
+            (
+              code_of first.code,
+              code_of second.code,
+              skip,
+              to,
+              is ∙ ap (λ k. unless k skip ∷ code_of first.code) keeps,
+              part,
+              p.code,
+              skips (ended_part ts head.binding body to) q skip skipped,
+              skips (ended_part ts head.binding others 0) p to tos,
+            ),
+          );
+          scope = same ∙ scope;
+        }
 
-  pub if_at : (b : Binding) (bs os n m : ℕ) (kept : Bool) → kept ≡ declares b → n ≡ declared_count b + bs → m ≡ declared_count b + os
-      → Body first mid → EndAt n to mid second → Other second end → EndAt m 0 end old → new ≡ unless kept skip ∷ first → IfAt b bs os Body Other new old
-  if_at b bs os n m kept keep ns ms body goes other close is = (
-    first,
-    second,
-    skip,
-    to,
-    is ∙ ap (λ k. unless k skip ∷ first) keep,
-    (mid, body, subst (λ k. EndAt k to mid second) ns goes),
-    ended m (declared_count b + os) ms other close,
-    passed,
-    passed_on,
-  )
+    pub put_with : {second mid first new : Compiler} {start : Code} (to skip n v : ℕ) (kept : Bool) → Put (EndedPart ts head.binding others 0) e old second
+        → layout_of mid.scope ≡ layout_of second.scope → code_of mid.code ≡ end_with n v to ∷ code_of second.code → Put (DottedPart ts head.binding body) e mid first
+        → n ≡ declared_in body → v ≡ declared_count head.binding → to ≡ length (code_of second.code) - length (code_of old.code) → skip ≡ length (code_of first.code) - length (code_of second.code)
+        → kept ≡ declares head.binding → start ≡ enter_with kept skip ∷ code_of first.code → layout_of new.scope ≡ layout_of first.scope → HeaderAt head (layout_of first.scope) (code_of new.code) start
+        → Put (NodeAt ts 0 (control_node control.With head body others)) e old new
+    put_with {second} {mid} {first} {new} {start} to skip n v kept p saved goes q ns vs tos skipped keeps is same headed =
+        let scope = q.scope ∙ saved ∙ p.scope in
+        let one = ends_one (end_with n v to) (code_of mid.code) (code_of second.code) goes in
+        let behind = ends_both (code_of first.code) (code_of mid.code) (code_of second.code) (tail (dotted_part ts head.binding body) q) one in
+        let before = ends_both (code_of mid.code) (code_of second.code) (code_of old.code) one (tail (ended_part ts head.binding others 0) p) in
+        let part = put_on {P = DottedPart ts head.binding body} old h before (saved ∙ p.scope) q in
+        record {
+          code = (
+            start,
+            subst (λ (l : Layout). HeaderAt head l (code_of new.code) start) scope headed,
+            (
+              code_of first.code,
+              code_of second.code,
+              skip,
+              to,
+              is ∙ ap (λ k. enter_with k skip ∷ code_of first.code) keeps,
+              subst (λ (c : Code). DottedPart ts head.binding body (layout_of old.scope) (exit_seen e (code_of old.code)) (code_of first.code) c) (goes ∙ (λ j. end_with (ns j) (vs j) to ∷ code_of second.code)) part,
+              p.code,
+              ap (λ k. drop k (code_of first.code)) skipped ∙ passes (code_of second.code) (code_of first.code) behind,
+              skips (ended_part ts head.binding others 0) p to tos,
+            ),
+          );
+          scope = same ∙ scope;
+        }
 
-  pub with_at : (b : Binding) (bs os n m v : ℕ) (kept : Bool) → kept ≡ declares b → v ≡ declared_count b → n ≡ bs → m ≡ declared_count b + os
-      → Body first mid → mid ≡ end_with n v to ∷ second → Other second end → EndAt m 0 end old → new ≡ enter_with kept skip ∷ first → WithAt b bs os Body Other new old
-  with_at b bs os n m v kept keep vs ns ms body goes other close is = (
-    first,
-    second,
-    skip,
-    to,
-    is ∙ ap (λ k. enter_with k skip ∷ first) keep,
-    subst (λ (c : Code). Body first c) (goes ∙ (λ j. end_with (ns j) (vs j) to ∷ second)) body,
-    ended m (declared_count b + os) ms other close,
-    passed,
-    passed_on,
-  )
+    pub put_range : {end second mid first new : Compiler} {start : Code} (line to skip n m : ℕ) (key : Bool) (a : held_around.Around)
+        → layout_of end.scope ≡ layout_of old.scope → m ≡ declared_in others → EndAt m 0 (code_of end.code) (code_of old.code) → Put (NodesAt ts others) e end second
+        → layout_of mid.scope ≡ layout_of second.scope → code_of mid.code ≡ next n to line ∷ code_of second.code
+        → a.after ≡ length (code_of old.code) → a.line ≡ line → a.below ≡ length (layout_of mid.scope) → Put (TurnsPart ts head.binding body) (Some a) mid first
+        → n ≡ declared_count head.binding + declared_in body → to ≡ length (code_of second.code) - length (code_of old.code) → skip ≡ length (code_of first.code) - length (code_of second.code)
+        → key ≡ declares_key head.binding → start ≡ enter key skip ∷ code_of first.code → layout_of new.scope ≡ layout_of first.scope → PipelineAt head.pipeline (layout_of first.scope) (code_of new.code) start
+        → Put (NodeAt ts line (control_node control.Range head body others)) e old new
+    put_range {end} {second} {mid} {first} {new} {start} line to skip n m key a ended ms close p saved goes after lines below q ns tos skipped keys is same piped =
+        let scope = q.scope ∙ saved ∙ p.scope ∙ ended in
+        let closed = end_ends m 0 (code_of end.code) (code_of old.code) close in
+        let before = ends_both (code_of second.code) (code_of end.code) (code_of old.code) (tail (nodes_part ts others) p) closed in
+        let one = ends_one (next n to line) (code_of mid.code) (code_of second.code) goes in
+        let all = ends_both (code_of mid.code) (code_of second.code) (code_of old.code) one before in
+        let behind = ends_both (code_of first.code) (code_of mid.code) (code_of second.code) (tail (turns_part ts head.binding body) q) one in
+        let out : last_of a.after (code_of mid.code) ≡ code_of old.code = ap (λ n. last_of n (code_of mid.code)) after ∙ passes (code_of old.code) (code_of mid.code) all in
+        let lay = saved ∙ p.scope ∙ ended in
+        let around : exit_seen (Some a) (code_of mid.code) ≡ Some (record { out = code_of old.code; line = line; below = length (layout_of old.scope) }) =
+        (λ j. Some (record { out = out j; line = lines j; below = (below ∙ ap (λ (l : Layout). length l) lay) j })) in
+        let inner : Exit = Some (record { out = code_of old.code; line = line; below = length (layout_of old.scope) }) in
+        let turns = subst (λ (l : Layout). TurnsPart ts head.binding body l inner (code_of first.code) (code_of mid.code)) lay
+        (subst (λ (x : Exit). TurnsPart ts head.binding body (layout_of mid.scope) x (code_of first.code) (code_of mid.code)) around q.code) in
+        record {
+          code = (
+            start,
+            subst (λ (l : Layout). PipelineAt head.pipeline l (code_of new.code) start) scope piped,
+            (
+              code_of first.code,
+              turns.0,
+              code_of second.code,
+              skip,
+              to,
+              is ∙ ap (λ k. enter k skip ∷ code_of first.code) keys,
+              turns.1,
+              subst (λ (c : Code). NodesAt ts body (bound_on head.binding (None ∷ None ∷ layout_of old.scope)) inner turns.0 c) (goes ∙ ap (λ k. next k to line ∷ code_of second.code) ns) turns.2,
+              (code_of end.code, put_on {P = NodesAt ts others} old h closed ended p, subst (λ k. EndAt k 0 (code_of end.code) (code_of old.code)) ms close),
+              ap (λ k. drop k (code_of first.code)) skipped ∙ passes (code_of second.code) (code_of first.code) behind,
+              ap (λ k. drop k (code_of second.code)) tos ∙ passes (code_of old.code) (code_of second.code) before,
+            ),
+          );
+          scope = same ∙ scope;
+        }
 
-  -- here the code of the first part begins with what binds the variables
-  pub range_at : (line : ℕ) (b : Binding) (bs os n m : ℕ) (key : Bool) (Turn : Part) (inner : Code) → key ≡ declares_key b → n ≡ declared_count b + bs → m ≡ os
-      → Turn first inner → Body inner mid → mid ≡ next n to line ∷ second → Other second end → EndAt m 0 end old → new ≡ enter key skip ∷ first → RangeAt line b bs os Turn Body Other new old
-  range_at line b bs os n m key Turn inner keys ns ms turned_on body goes other close is = (
-    first,
-    inner,
-    second,
-    skip,
-    to,
-    is ∙ ap (λ k. enter k skip ∷ first) keys,
-    turned_on,
-    subst (λ (c : Code). Body inner c) (goes ∙ (λ j. next (ns j) to line ∷ second)) body,
-    ended m os ms other close,
-    passed,
-    passed_on,
-  )
+-- ---- nodes, from the last to the first
+
+-- those from a place on are put, and the variables that those before it leave are in scope
+pub record Putting (ts : List Template) (e : Option held_around.Around) (ns : List held_node.Node) (i : ℕ) (old now : Compiler) : Type 0 where
+  pub within : i ≤ length ns
+  pub layout : layout_of now.scope ≡ all_grown (nodes_in (take i ns)) (layout_of old.scope)
+  pub put : NodesAt ts (nodes_in (drop i ns)) (layout_of now.scope) (exit_seen e (code_of old.code)) (code_of now.code) (code_of old.code)
+
+pub put_all : {ts : List Template} {e : Option held_around.Around} {ns : List held_node.Node} {i : ℕ} {old now : Compiler} → i ≡ 0 → Putting ts e ns i old now
+    → Put (NodesAt ts (nodes_in ns)) e old now
+put_all {ts} {e} {ns} {i} {old} {now} none l =
+    let scope : layout_of now.scope ≡ layout_of old.scope = l.layout ∙ ap (λ k. all_grown (nodes_in (take k ns)) (layout_of old.scope)) none in
+    record {
+      code = subst (λ (y : Layout). NodesAt ts (nodes_in ns) y (exit_seen e (code_of old.code)) (code_of now.code) (code_of old.code)) scope
+          (subst (λ k. NodesAt ts (nodes_in (drop k ns)) (layout_of now.scope) (exit_seen e (code_of old.code)) (code_of now.code) (code_of old.code)) none l.put);
+      scope = scope;
+    }
+
+-- a node more, whose variables went out of scope
+module _ {ts : List Template} {e : Option held_around.Around} {ns : List held_node.Node} {i : ℕ} {old now : Compiler} (start : Compiler)
+    (h : IsOpen e (code_of old.code) (layout_of old.scope)) (l : Putting ts e ns i old now) (j : ℕ) (n : held_node.Node) (here : j < length ns) (next : i ≡ j + 1) (is : n ≡ get_or ns j n)
+    (same : code_of start.code ≡ code_of now.code) (fewer : layout_of start.scope ≡ shrunk (node_of n).what (layout_of now.scope)) where
+  layout : layout_of start.scope ≡ all_grown (nodes_in (take j ns)) (layout_of old.scope)
+  layout = fewer ∙ shrinks ns i j n (layout_of old.scope) (layout_of now.scope) here next is l.layout
+
+  behind : Ends (code_of old.code) (code_of start.code)
+  behind = subst (Ends (code_of old.code)) (sym same) (nodes_ends ts (nodes_in (drop i ns)) (layout_of now.scope) (exit_seen e (code_of old.code)) (code_of now.code) (code_of old.code) l.put)
+
+  pub node_open : IsOpen e (code_of start.code) (layout_of start.scope)
+  node_open =
+      let more = all_grown-longer (nodes_in (take j ns)) (layout_of old.scope) in
+      let long = ap (λ (x : Layout). length x) layout in
+      open_on e (code_of old.code) (code_of start.code) (layout_of old.scope) (layout_of start.scope) behind (omega (arith, more, long)) h
+
+  pub put_more : {mid new : Compiler} → Put (NodeAt ts (node_of n).line (node_of n).what) e start mid
+      → code_of new.code ≡ step_of ts (node_of n).line (node_of n).what ∷ code_of mid.code → layout_of new.scope ≡ layout_of mid.scope → Putting ts e ns j old new
+  put_more {mid} {new} p step kept =
+      let line = (node_of n).line in
+      let what = (node_of n).what in
+      let x = exit_seen e (code_of old.code) in
+      let before = all_grown (nodes_in (take j ns)) (layout_of old.scope) in
+      let seen = subst (λ (y : Exit). NodeAt ts line what (layout_of start.scope) y (code_of mid.code) (code_of start.code)) (exit_on e (code_of old.code) (code_of start.code) (layout_of old.scope) h behind) p.code in
+      let one = subst (λ (y : Layout). NodeAt ts line what y x (code_of mid.code) (code_of now.code)) layout
+      (subst (λ (c : Code). NodeAt ts line what (layout_of start.scope) x (code_of mid.code) c) same seen) in
+      let put = nodes_more ts ns i j n x before (layout_of now.scope) (code_of new.code) (code_of mid.code) (code_of now.code) (code_of old.code) here next is
+      (grows ns i j n (layout_of old.scope) (layout_of now.scope) here next is l.layout) step one l.put in
+      let scope = kept ∙ p.scope ∙ layout in
+      record {
+        within = omega arith;
+        layout = scope;
+        put = subst (λ (y : Layout). NodesAt ts (nodes_in (drop j ns)) y x (code_of new.code) (code_of old.code)) (sym scope) put;
+      }

@@ -67,10 +67,6 @@ slot-of-place q (c ∷ cells) = go (is_named q c) (slot-of-place q cells)
     go true e = let first : 0 ≡ suc (length cells) - 1 - length cells = omega arith in ap (λ n. Some n) first
     go false e = deeper (place_named q cells) (slot_named q cells) (below-top q cells) e
 
--- a variable more
-pub placed-more : (name q : List ℕ) (cells : Layout) → cond (bytes_eq name q) (Some (length cells)) (place_named q cells) ≡ place_named q (Some name ∷ cells)
-placed-more name q cells = refl
-
 -- a variable less
 pub placed-less : (name q : List ℕ) (cells : Layout) (hidden old : Option ℕ) → hidden ≡ place_named name cells → old ≡ place_named q (Some name ∷ cells)
     → cond (bytes_eq name q) hidden old ≡ place_named q cells

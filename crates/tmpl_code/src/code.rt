@@ -1,10 +1,11 @@
 //! The code so far. It is put from the last instruction to the first, so what stands behind an instruction is known
 //! when it is put, and no jump is ever written back.
-ghost use Rattle.std.specs.Prelude.{◌≡◌, ◌∷◌, [], IfOk, OnOk, length};
+ghost use Rattle.std.specs.Prelude.{◌≡◌, ◌-◌, ◌≤◌, ◌∷◌, [], IfOk, OnOk, length};
 ghost use Rattle.tmpl_code.specs.View.{instruction_of, instructions_of};
 ghost use Rattle.tmpl_code.specs.computed.Held.{code_of};
 
 use crate::instruction::Instruction;
+use crate::pipeline::short;
 use std::alloc::{AllocError, Global};
 
 /// How many instructions a short template has.
@@ -33,6 +34,14 @@ impl<'s> Code<'s> {
         ensures { result ≡ length (code_of self.now) }
     {
         self.instructions.len()
+    }
+
+    /// How many instructions were put since there were so many.
+    pub(crate) fn since(&self, count: usize) -> Result<u32, AllocError>
+        requires { count ≤ length (code_of self.now) }
+        ensures { IfOk result (λ n. n ≡ length (code_of self.now) - count) }
+    {
+        short(self.len() - count)
     }
 
     /// Puts an instruction before the others.

@@ -1,5 +1,5 @@
 //! Sets to programs.
-ghost use Rattle.std.specs.Prelude.{◌≡◌, ◌+◌, IfOk, None, OnOk, reverse};
+ghost use Rattle.std.specs.Prelude.{◌≡◌, ◌+◌, IfOk, OnOk, reverse};
 ghost use Rattle.tmpl_syntax.specs.Need.{need_of_nodes};
 ghost use Rattle.tmpl_syntax.specs.View.{nodes_in, set_view};
 ghost use Rattle.tmpl_code.specs.Calls.{nodes_call};
@@ -7,12 +7,12 @@ ghost use Rattle.tmpl_code.specs.Code as spec;
 ghost use Rattle.tmpl_code.specs.Layout.{first_layout};
 ghost use Rattle.tmpl_code.specs.MakesText.{nodes_make_text};
 ghost use Rattle.tmpl_code.specs.Program.{IsLinked};
-ghost use Rattle.tmpl_code.specs.computed.Held.{code_of, layout_of, places};
+ghost use Rattle.tmpl_code.specs.computed.Held.{IsOpen, Put, code_of, layout_of, places};
 
 use crate::bound::bound_of;
 use crate::code::Code;
 use crate::instruction::Instruction;
-use crate::node::{declared_in, first_instruction, grow_all, left_behind, put_node, shrink};
+use crate::node::{Compiler, Site, declared_in, first_instruction, grow_all, left_behind, shrink};
 use crate::pipeline::short;
 use crate::program::{Parts, Program};
 use crate::scope::Scope;
@@ -27,7 +27,10 @@ pub fn compile<'s>(alloc: Global, set: &'s Set) -> Result<Program<'s>, AllocErro
     ensures set { IfOk result (λ p. set_view p.set.now ≡ set_view set.now) }
 {
     let count = set.len();
-    let mut code = Code::new(alloc)?;
+    let mut compiler = Compiler {
+        code: Code::new(alloc)?,
+        scope: Scope::new(alloc),
+    };
     let mut lengths = Vec::with_capacity(alloc, count)?;
     let mut needs = Vec::with_capacity(alloc, count)?;
     let mut survey = Survey::nothing();
@@ -36,13 +39,14 @@ pub fn compile<'s>(alloc: Global, set: &'s Set) -> Result<Program<'s>, AllocErro
         i -= 1;
         let (_, tree) = set.template(i);
         let nodes = tree.nodes.as_slice();
-        let own = put_tree(alloc, &mut code, set, nodes)?;
-        lengths.push(code.len())?;
+        let own = compiler.put_tree(alloc, set, nodes)?;
+        lengths.push(compiler.code.len())?;
         needs.push(own.need)?;
         survey = own.with(survey);
     }
     lengths.reverse();
     needs.reverse();
+    let code = compiler.code;
     to_places(lengths.as_mut_slice(), code.len());
     let parts = Parts {
         set,
@@ -59,51 +63,50 @@ pub fn compile<'s>(alloc: Global, set: &'s Set) -> Result<Program<'s>, AllocErro
     })
 }
 
-/// Puts the code of a template before that of the others, and tells what the template needs, with three cells of its
-/// own, and does.
-fn put_tree<'s>(
-    alloc: Global,
-    code: &mut Code<'s>,
-    set: &Set,
-    nodes: &'s [Node],
-) -> Result<Survey, AllocError>
-    ensures code { OnOk result
-        (spec.TreeAt (set_view set.now) (nodes_in nodes.now) (code_of code.new) (code_of code.old)) }
-    ensures need { IfOk result (λ s. s.need ≡ 3 + need_of_nodes (nodes_in nodes.now)) }
-    ensures text { IfOk result (λ s. s.makes_text ≡ nodes_make_text (nodes_in nodes.now)) }
-    ensures calls { IfOk result (λ s. s.calls ≡ nodes_call (nodes_in nodes.now)) }
-{
-    let mut scope = first_scope(alloc)?;
-    code.push(Instruction::Return(short(declared_in(nodes)?)?))?;
-    put_surveyed(code, &mut scope, set, nodes)?.above(3)
-}
-
-/// Puts the nodes of a template, and tells what they need and do. Each is surveyed as soon as it is put, while its part of
-/// the tree is at hand.
-fn put_surveyed<'s>(
-    code: &mut Code<'s>,
-    scope: &mut Scope<'s>,
-    set: &Set,
-    nodes: &'s [Node],
-) -> Result<Survey, AllocError>
-    ensures code { OnOk result (spec.NodesAt (set_view set.now) (nodes_in nodes.now) (layout_of scope.old) None
-        (code_of code.new) (code_of code.old)) }
-    ensures need { IfOk result (λ s. s.need ≡ need_of_nodes (nodes_in nodes.now)) }
-    ensures text { IfOk result (λ s. s.makes_text ≡ nodes_make_text (nodes_in nodes.now)) }
-    ensures calls { IfOk result (λ s. s.calls ≡ nodes_call (nodes_in nodes.now)) }
-{
-    grow_all(scope, nodes)?;
-    let mut survey = Survey::nothing();
-    let mut i = nodes.len();
-    while i > 0 {
-        i -= 1;
-        let node = &nodes[i];
-        shrink(scope, node);
-        put_node(code, scope, set, None, node)?;
-        code.push(first_instruction(set, node))?;
-        survey = survey_node(node)?.with(survey.above(left_behind(node))?);
+impl<'s> Compiler<'s> {
+    /// Puts the code of a template before that of the others, and tells what the template needs, with three cells of its
+    /// own, and does.
+    fn put_tree(
+        &mut self,
+        alloc: Global,
+        set: &Set,
+        nodes: &'s [Node],
+    ) -> Result<Survey, AllocError>
+        ensures code { OnOk result
+            (spec.TreeAt (set_view set.now) (nodes_in nodes.now) (code_of self.new.code) (code_of self.old.code)) }
+        ensures need { IfOk result (λ s. s.need ≡ 3 + need_of_nodes (nodes_in nodes.now)) }
+        ensures text { IfOk result (λ s. s.makes_text ≡ nodes_make_text (nodes_in nodes.now)) }
+        ensures calls { IfOk result (λ s. s.calls ≡ nodes_call (nodes_in nodes.now)) }
+    {
+        self.scope = first_scope(alloc)?;
+        self.code
+            .push(Instruction::Return(short(declared_in(nodes)?)?))?;
+        self.put_surveyed(Site { set, exit: None }, nodes)?.above(3)
     }
-    Ok(survey)
+
+    /// Puts the nodes of a template, and tells what they need and do. Each is surveyed as soon as it is put, while its
+    /// part of the tree is at hand.
+    fn put_surveyed(&mut self, site: Site<'_>, nodes: &'s [Node]) -> Result<Survey, AllocError>
+        requires { IsOpen site.exit (code_of self.old.code) (layout_of self.old.scope) }
+        ensures code { OnOk result (Put (spec.NodesAt (set_view site.entry.set.now) (nodes_in nodes.now))
+            site.entry.exit self.old self.new) }
+        ensures need { IfOk result (λ s. s.need ≡ need_of_nodes (nodes_in nodes.now)) }
+        ensures text { IfOk result (λ s. s.makes_text ≡ nodes_make_text (nodes_in nodes.now)) }
+        ensures calls { IfOk result (λ s. s.calls ≡ nodes_call (nodes_in nodes.now)) }
+    {
+        grow_all(&mut self.scope, nodes)?;
+        let mut survey = Survey::nothing();
+        let mut i = nodes.len();
+        while i > 0 {
+            i -= 1;
+            let node = &nodes[i];
+            shrink(&mut self.scope, node);
+            self.put_node(site, node)?;
+            self.code.push(first_instruction(site.set, node))?;
+            survey = survey_node(node)?.with(survey.above(left_behind(node))?);
+        }
+        Ok(survey)
+    }
 }
 
 /// The cells of a template at its start.

@@ -1,13 +1,16 @@
 //! Nodes to code, each from its last part to its first.
-ghost use Rattle.std.specs.Prelude.{◌≡◌, ◌+◌, ◌≤◌, ◌∷◌, IfOk, OnOk, Some, None, length, option_map};
+ghost use Rattle.std.specs.Prelude.{◌≡◌, ◌+◌, ◌≤◌, IfOk, OnOk, Some, length, option_map};
 ghost use Rattle.tmpl_grammar.specs.Need.{declared_count};
-ghost use Rattle.tmpl_grammar.specs.View.{binding_of, pipeline_of};
+ghost use Rattle.tmpl_grammar.specs.View.{binding_of, header_of, pipeline_of};
+ghost use Rattle.tmpl_grammar.specs.declared.tree.Control.TheVariants as control;
 ghost use Rattle.tmpl_syntax.specs.Need.{left_behind};
+ghost use Rattle.tmpl_syntax.specs.Tree.{control_node};
 ghost use Rattle.tmpl_syntax.specs.View.{control_of, node_of, nodes_in, set_view};
 ghost use Rattle.tmpl_code.specs.Code as spec;
-ghost use Rattle.tmpl_code.specs.Layout.{bound_on, declared_in, grown};
+ghost use Rattle.tmpl_code.specs.Layout.{declared_in, grown};
 ghost use Rattle.tmpl_code.specs.View.{instruction_of};
-ghost use Rattle.tmpl_code.specs.computed.Held.{IsOpen, TurnsAt, all_grown, code_of, exit_seen, layout_of, shrunk};
+ghost use Rattle.tmpl_code.specs.computed.Held.{BoundPart, DottedPart, EndedPart, IsOpen, Put, TurnsPart, all_grown};
+ghost use Rattle.tmpl_code.specs.computed.Held.{code_of, exit_seen, layout_of, shrunk};
 
 use crate::binding::{
     close, declared_count, declares, declares_key, open, put_header, put_shown, put_turn,
@@ -29,6 +32,20 @@ pub(crate) struct Around {
     pub(crate) line: u32,
     /// How many cells lie below its own.
     pub(crate) below: usize,
+}
+
+/// What nodes are put by: the set whose templates they call, and the range around them, if there is one.
+#[derive(Clone, Copy)]
+pub(crate) struct Site<'t> {
+    pub(crate) set: &'t Set,
+    pub(crate) exit: Option<Around>,
+}
+
+/// The code so far, and the cells where more of it is put.
+#[derive(Drop)]
+pub(crate) struct Compiler<'s> {
+    pub(crate) code: Code<'s>,
+    pub(crate) scope: Scope<'s>,
 }
 
 /// How many variables the nodes leave.
@@ -178,32 +195,6 @@ fn put_given<'s>(
     }
 }
 
-/// Puts nodes, each of which costs a step.
-#[cycle(nodes)]
-pub(crate) fn put_nodes<'s>(
-    code: &mut Code<'s>,
-    scope: &mut Scope<'s>,
-    set: &Set,
-    exit: Option<Around>,
-    nodes: &'s [Node],
-) -> Result<(), AllocError>
-    requires { IsOpen exit (code_of code.old) (layout_of scope.old) }
-    ensures code { OnOk result (spec.NodesAt (set_view set.now) (nodes_in nodes.now) (layout_of scope.old)
-        (exit_seen exit (code_of code.old)) (code_of code.new) (code_of code.old)) }
-    ensures scope { OnOk result (layout_of scope.new ≡ layout_of scope.old) }
-{
-    grow_all(scope, nodes)?;
-    let mut i = nodes.len();
-    while i > 0 {
-        i -= 1;
-        let node = &nodes[i];
-        shrink(scope, node);
-        put_node(code, scope, set, exit, node)?;
-        code.push(first_instruction(set, node))?;
-    }
-    Ok(())
-}
-
 /// What takes the step of a node, or, for a call of a template that is there, looks whether one is left.
 pub(crate) fn first_instruction<'s>(set: &Set, node: &Node) -> Instruction<'s>
     ensures { instruction_of result ≡ spec.step_of (set_view set.now) (node_of node.now).line (node_of node.now).what }
@@ -220,72 +211,6 @@ pub(crate) fn first_instruction<'s>(set: &Set, node: &Node) -> Instruction<'s>
     }
 }
 
-/// Puts a node whose step is taken.
-#[cycle(nodes)]
-#[tactic(auto, using(tmpl_syntax::proofs::ViewLemmas::controls))]
-pub(crate) fn put_node<'s>(
-    code: &mut Code<'s>,
-    scope: &mut Scope<'s>,
-    set: &Set,
-    exit: Option<Around>,
-    node: &'s Node,
-) -> Result<(), AllocError>
-    requires { IsOpen exit (code_of code.old) (layout_of scope.old) }
-    ensures code { OnOk result (spec.NodeAt (set_view set.now) (node_of node.now).line (node_of node.now).what
-        (layout_of scope.old) (exit_seen exit (code_of code.old)) (code_of code.new) (code_of code.old)) }
-    ensures scope { OnOk result (layout_of scope.new ≡ layout_of scope.old) }
-{
-    match &node.what {
-        NodeKind::Text(text) => code.push(Instruction::Put(text)),
-        NodeKind::Action(header) => {
-            put_shown(code, &header.binding)?;
-            put_header(code, scope, header)
-        }
-        NodeKind::Control(control) => put_control(code, scope, set, exit, node.line, control),
-        NodeKind::Break => put_break(code, scope, exit),
-        NodeKind::Continue => put_continue(code, scope, exit),
-        NodeKind::Template(name, given) => {
-            put_template(code, scope, name, set.number(name.as_slice()), given)
-        }
-    }
-}
-
-/// Puts a control.
-#[cycle(nodes)]
-#[tactic(auto, using(tmpl_syntax::proofs::ViewLemmas::controls))]
-fn put_control<'s>(
-    code: &mut Code<'s>,
-    scope: &mut Scope<'s>,
-    set: &Set,
-    exit: Option<Around>,
-    line: u64,
-    node: &'s ControlNode,
-) -> Result<(), AllocError>
-    requires { IsOpen exit (code_of code.old) (layout_of scope.old) }
-    ensures code { OnOk result (spec.NodeAt (set_view set.now) line (control_of node.now)
-        (layout_of scope.old) (exit_seen exit (code_of code.old)) (code_of code.new) (code_of code.old)) }
-    ensures scope { OnOk result (layout_of scope.new ≡ layout_of scope.old) }
-{
-    let binding = &node.header.binding;
-    let body = node.body.as_slice();
-    let other = node.other.as_slice();
-    match node.control {
-        Control::If => {
-            put_if(code, scope, set, exit, binding, body, other)?;
-            put_header(code, scope, &node.header)
-        }
-        Control::With => {
-            put_with(code, scope, set, exit, binding, body, other)?;
-            put_header(code, scope, &node.header)
-        }
-        Control::Range => {
-            let line = short(line as usize)?;
-            put_range(code, scope, set, exit, line, binding, body, other)?;
-            put_pipeline(code, scope, &node.header.pipeline)
-        }
-    }
-}
-
 /// Puts what ends a part: it forgets so many cells and passes over so many instructions. Where there is none of
 /// either, nothing ends it.
 #[tactic(auto, using(crate::proofs::NodeTailLemmas::end_at))]
@@ -298,201 +223,254 @@ fn put_end(code: &mut Code<'_>, count: u32, skip: u32) -> Result<(), AllocError>
     }
 }
 
-/// Puts the parts of an `if`.
-#[cycle(nodes)]
-fn put_if<'s>(
-    code: &mut Code<'s>,
-    scope: &mut Scope<'s>,
-    set: &Set,
-    exit: Option<Around>,
-    binding: &'s Binding,
-    body: &'s [Node],
-    other: &'s [Node],
-) -> Result<(), AllocError>
-    requires { IsOpen exit (code_of code.old) (layout_of scope.old) }
-    ensures code { OnOk result (spec.IfAt (binding_of binding.now)
-        (declared_in (nodes_in body.now)) (declared_in (nodes_in other.now))
-        (spec.NodesAt (set_view set.now) (nodes_in body.now) (bound_on (binding_of binding.now) (layout_of scope.old))
-        (exit_seen exit (code_of code.old)))
-        (spec.NodesAt (set_view set.now) (nodes_in other.now) (bound_on (binding_of binding.now) (layout_of scope.old))
-        (exit_seen exit (code_of code.old)))
-        (code_of code.new) (code_of code.old)) }
-    ensures scope { OnOk result (layout_of scope.new ≡ layout_of scope.old) }
-{
-    let end = code.len();
-    put_end(code, declared_by(binding, other)?, 0)?;
-    put_part(code, scope, set, exit, binding, other)?;
-    let second = code.len();
-    put_end(code, declared_by(binding, body)?, short(second - end)?)?;
-    put_part(code, scope, set, exit, binding, body)?;
-    let first = code.len();
-    code.push(Instruction::Unless {
-        kept: declares(binding),
-        skip: short(first - second)?,
-    })
-}
+impl<'s> Compiler<'s> {
+    /// Puts nodes, each of which costs a step.
+    #[cycle(nodes)]
+    pub(crate) fn put_nodes(&mut self, site: Site<'_>, nodes: &'s [Node]) -> Result<(), AllocError>
+        requires { IsOpen site.exit (code_of self.old.code) (layout_of self.old.scope) }
+        ensures { OnOk result (Put (spec.NodesAt (set_view site.entry.set.now) (nodes_in nodes.now)) site.entry.exit
+            self.old self.new) }
+    {
+        grow_all(&mut self.scope, nodes)?;
+        let mut i = nodes.len();
+        while i > 0 {
+            i -= 1;
+            let node = &nodes[i];
+            shrink(&mut self.scope, node);
+            self.put_node(site, node)?;
+            self.code.push(first_instruction(site.set, node))?;
+        }
+        Ok(())
+    }
 
-/// Puts a part behind a header.
-#[cycle(nodes)]
-#[tactic(auto, using(crate::proofs::NodeLemmas::offs))]
-fn put_part<'s>(
-    code: &mut Code<'s>,
-    scope: &mut Scope<'s>,
-    set: &Set,
-    exit: Option<Around>,
-    binding: &'s Binding,
-    nodes: &'s [Node],
-) -> Result<(), AllocError>
-    requires { IsOpen exit (code_of code.old) (layout_of scope.old) }
-    ensures code { OnOk result (spec.NodesAt (set_view set.now) (nodes_in nodes.now)
-        (bound_on (binding_of binding.now) (layout_of scope.old)) (exit_seen exit (code_of code.old))
-        (code_of code.new) (code_of code.old)) }
-    ensures scope { OnOk result (layout_of scope.new ≡ layout_of scope.old) }
-{
-    open(scope, binding)?;
-    put_nodes(code, scope, set, exit, nodes)?;
-    close(scope, binding);
-    Ok(())
-}
+    /// Puts a node whose step is taken.
+    #[cycle(nodes)]
+    #[tactic(auto, using(tmpl_syntax::proofs::ViewLemmas::controls))]
+    pub(crate) fn put_node(&mut self, site: Site<'_>, node: &'s Node) -> Result<(), AllocError>
+        requires { IsOpen site.exit (code_of self.old.code) (layout_of self.old.scope) }
+        ensures { OnOk result (Put
+            (spec.NodeAt (set_view site.entry.set.now) (node_of node.now).line (node_of node.now).what)
+            site.entry.exit self.old self.new) }
+    {
+        match &node.what {
+            NodeKind::Text(text) => self.code.push(Instruction::Put(text)),
+            NodeKind::Action(header) => {
+                put_shown(&mut self.code, &header.binding)?;
+                put_header(&mut self.code, &self.scope, header)
+            }
+            NodeKind::Control(control) => self.put_control(site, node.line, control),
+            NodeKind::Break => put_break(&mut self.code, &self.scope, site.exit),
+            NodeKind::Continue => put_continue(&mut self.code, &self.scope, site.exit),
+            NodeKind::Template(name, given) => {
+                let number = site.set.number(name.as_slice());
+                put_template(&mut self.code, &self.scope, name, number, given)
+            }
+        }
+    }
 
-/// Puts the parts of a `with`.
-#[cycle(nodes)]
-fn put_with<'s>(
-    code: &mut Code<'s>,
-    scope: &mut Scope<'s>,
-    set: &Set,
-    exit: Option<Around>,
-    binding: &'s Binding,
-    body: &'s [Node],
-    other: &'s [Node],
-) -> Result<(), AllocError>
-    requires { IsOpen exit (code_of code.old) (layout_of scope.old) }
-    ensures code { OnOk result (spec.WithAt (binding_of binding.now)
-        (declared_in (nodes_in body.now)) (declared_in (nodes_in other.now))
-        (spec.NodesAt (set_view set.now) (nodes_in body.now)
-        (None ∷ bound_on (binding_of binding.now) (layout_of scope.old)) (exit_seen exit (code_of code.old)))
-        (spec.NodesAt (set_view set.now) (nodes_in other.now) (bound_on (binding_of binding.now) (layout_of scope.old))
-        (exit_seen exit (code_of code.old)))
-        (code_of code.new) (code_of code.old)) }
-    ensures scope { OnOk result (layout_of scope.new ≡ layout_of scope.old) }
-{
-    let end = code.len();
-    put_end(code, declared_by(binding, other)?, 0)?;
-    put_part(code, scope, set, exit, binding, other)?;
-    let second = code.len();
-    code.push(Instruction::EndWith {
-        count: short(declared_in(body)?)?,
-        variables: short(declared_count(binding))?,
-        skip: short(second - end)?,
-    })?;
-    put_dotted_part(code, scope, set, exit, binding, body)?;
-    let first = code.len();
-    code.push(Instruction::With {
-        kept: declares(binding),
-        skip: short(first - second)?,
-    })
-}
+    /// Puts a control.
+    #[cycle(nodes)]
+    #[tactic(auto, using(tmpl_syntax::proofs::ViewLemmas::controls))]
+    fn put_control(
+        &mut self,
+        site: Site<'_>,
+        line: u64,
+        node: &'s ControlNode,
+    ) -> Result<(), AllocError>
+        requires { IsOpen site.exit (code_of self.old.code) (layout_of self.old.scope) }
+        ensures { OnOk result (Put (spec.NodeAt (set_view site.entry.set.now) line (control_of node.now))
+            site.entry.exit self.old self.new) }
+    {
+        let header = &node.header;
+        let body = node.body.as_slice();
+        let other = node.other.as_slice();
+        match node.control {
+            Control::If => self.put_if(site, header, body, other),
+            Control::With => self.put_with(site, header, body, other),
+            Control::Range => self.put_range(site, short(line as usize)?, header, body, other),
+        }
+    }
 
-/// Puts a part behind a header and a saved dot.
-#[cycle(nodes)]
-#[tactic(auto, using(crate::proofs::NodeLemmas::offs))]
-fn put_dotted_part<'s>(
-    code: &mut Code<'s>,
-    scope: &mut Scope<'s>,
-    set: &Set,
-    exit: Option<Around>,
-    binding: &'s Binding,
-    nodes: &'s [Node],
-) -> Result<(), AllocError>
-    requires { IsOpen exit (code_of code.old) (layout_of scope.old) }
-    ensures code { OnOk result (spec.NodesAt (set_view set.now) (nodes_in nodes.now)
-        (None ∷ bound_on (binding_of binding.now) (layout_of scope.old)) (exit_seen exit (code_of code.old))
-        (code_of code.new) (code_of code.old)) }
-    ensures scope { OnOk result (layout_of scope.new ≡ layout_of scope.old) }
-{
-    open(scope, binding)?;
-    scope.save()?;
-    put_nodes(code, scope, set, exit, nodes)?;
-    scope.forget();
-    close(scope, binding);
-    Ok(())
-}
+    /// Puts an `if`.
+    #[cycle(nodes)]
+    fn put_if(
+        &mut self,
+        site: Site<'_>,
+        header: &'s Header,
+        body: &'s [Node],
+        other: &'s [Node],
+    ) -> Result<(), AllocError>
+        requires { IsOpen site.exit (code_of self.old.code) (layout_of self.old.scope) }
+        ensures { OnOk result (Put (spec.NodeAt (set_view site.entry.set.now) 0
+            (control_node control.If (header_of header.now) (nodes_in body.now) (nodes_in other.now)))
+            site.entry.exit self.old self.new) }
+    {
+        let end = self.code.len();
+        self.put_ended(site, &header.binding, other, 0)?;
+        let second = self.code.len();
+        let to = self.code.since(end)?;
+        self.put_ended(site, &header.binding, body, to)?;
+        let kept = declares(&header.binding);
+        let skip = self.code.since(second)?;
+        self.code.push(Instruction::Unless { kept, skip })?;
+        put_header(&mut self.code, &self.scope, header)
+    }
 
-/// Puts the parts of a range.
-#[cycle(nodes)]
-fn put_range<'s>(
-    code: &mut Code<'s>,
-    scope: &mut Scope<'s>,
-    set: &Set,
-    exit: Option<Around>,
-    line: u32,
-    binding: &'s Binding,
-    body: &'s [Node],
-    other: &'s [Node],
-) -> Result<(), AllocError>
-    requires { IsOpen exit (code_of code.old) (layout_of scope.old) }
-    ensures code { OnOk result (spec.RangeAt line (binding_of binding.now)
-        (declared_in (nodes_in body.now)) (declared_in (nodes_in other.now))
-        (spec.TurnAt (binding_of binding.now) (None ∷ None ∷ layout_of scope.old))
-        (spec.NodesAt (set_view set.now) (nodes_in body.now)
-        (bound_on (binding_of binding.now) (None ∷ None ∷ layout_of scope.old))
-        (Some (record { out = code_of code.old; line = line; below = length (layout_of scope.old) })))
-        (spec.NodesAt (set_view set.now) (nodes_in other.now) (layout_of scope.old) (exit_seen exit (code_of code.old)))
-        (code_of code.new) (code_of code.old)) }
-    ensures scope { OnOk result (layout_of scope.new ≡ layout_of scope.old) }
-{
-    let after = code.len();
-    put_end(code, short(declared_in(other)?)?, 0)?;
-    put_nodes(code, scope, set, exit, other)?;
-    let second = code.len();
-    code.push(Instruction::Next {
-        count: declared_by(binding, body)?,
-        skip: short(second - after)?,
-        line,
-    })?;
-    let below = scope.len();
-    put_turns(
-        code,
-        scope,
-        set,
-        Around { after, line, below },
-        binding,
-        body,
-    )?;
-    let skip = short(code.len() - second)?;
-    code.push(Instruction::Enter {
-        key: declares_key(binding),
-        skip,
-    })
-}
+    /// Puts a `with`.
+    #[cycle(nodes)]
+    fn put_with(
+        &mut self,
+        site: Site<'_>,
+        header: &'s Header,
+        body: &'s [Node],
+        other: &'s [Node],
+    ) -> Result<(), AllocError>
+        requires { IsOpen site.exit (code_of self.old.code) (layout_of self.old.scope) }
+        ensures { OnOk result (Put (spec.NodeAt (set_view site.entry.set.now) 0
+            (control_node control.With (header_of header.now) (nodes_in body.now) (nodes_in other.now)))
+            site.entry.exit self.old self.new) }
+    {
+        let end = self.code.len();
+        self.put_ended(site, &header.binding, other, 0)?;
+        let second = self.code.len();
+        let skip = self.code.since(end)?;
+        self.code.push(Instruction::EndWith {
+            count: short(declared_in(body)?)?,
+            variables: short(declared_count(&header.binding))?,
+            skip,
+        })?;
+        self.put_dotted_part(site, &header.binding, body)?;
+        let kept = declares(&header.binding);
+        let skip = self.code.since(second)?;
+        self.code.push(Instruction::With { kept, skip })?;
+        put_header(&mut self.code, &self.scope, header)
+    }
 
-/// Puts the body of a range, and before it what binds the variables.
-#[cycle(nodes)]
-#[tactic(auto, using(crate::proofs::NodeLemmas::offs))]
-fn put_turns<'s>(
-    code: &mut Code<'s>,
-    scope: &mut Scope<'s>,
-    set: &Set,
-    around: Around,
-    binding: &'s Binding,
-    body: &'s [Node],
-) -> Result<(), AllocError>
-    requires after { around.after ≤ length (code_of code.old) }
-    requires below { around.below ≡ length (layout_of scope.old) }
-    ensures code { OnOk result (TurnsAt (spec.TurnAt (binding_of binding.now) (None ∷ None ∷ layout_of scope.old))
-        (spec.NodesAt (set_view set.now) (nodes_in body.now)
-        (bound_on (binding_of binding.now) (None ∷ None ∷ layout_of scope.old))
-        (exit_seen (Some around) (code_of code.old)))
-        (code_of code.new) (code_of code.old)) }
-    ensures scope { OnOk result (layout_of scope.new ≡ layout_of scope.old) }
-{
-    scope.save()?;
-    scope.save()?;
-    open(scope, binding)?;
-    put_nodes(code, scope, set, Some(around), body)?;
-    close(scope, binding);
-    put_turn(code, scope, binding)?;
-    scope.forget();
-    scope.forget();
-    Ok(())
+    /// Puts a range.
+    #[cycle(nodes)]
+    fn put_range(
+        &mut self,
+        site: Site<'_>,
+        line: u32,
+        header: &'s Header,
+        body: &'s [Node],
+        other: &'s [Node],
+    ) -> Result<(), AllocError>
+        requires { IsOpen site.exit (code_of self.old.code) (layout_of self.old.scope) }
+        ensures { OnOk result (Put (spec.NodeAt (set_view site.entry.set.now) line
+            (control_node control.Range (header_of header.now) (nodes_in body.now) (nodes_in other.now)))
+            site.entry.exit self.old self.new) }
+    {
+        let after = self.code.len();
+        put_end(&mut self.code, short(declared_in(other)?)?, 0)?;
+        self.put_nodes(site, other)?;
+        let second = self.code.len();
+        let count = declared_by(&header.binding, body)?;
+        let skip = self.code.since(after)?;
+        self.code.push(Instruction::Next { count, skip, line })?;
+        let below = self.scope.len();
+        self.put_turns(
+            site.set,
+            Around { after, line, below },
+            &header.binding,
+            body,
+        )?;
+        let key = declares_key(&header.binding);
+        let skip = self.code.since(second)?;
+        self.code.push(Instruction::Enter { key, skip })?;
+        put_pipeline(&mut self.code, &self.scope, &header.pipeline)
+    }
+
+    /// Puts a part behind a header, and what ends it: it forgets the part's variables and passes over so many
+    /// instructions.
+    #[cycle(nodes)]
+    fn put_ended(
+        &mut self,
+        site: Site<'_>,
+        binding: &'s Binding,
+        nodes: &'s [Node],
+        skip: u32,
+    ) -> Result<(), AllocError>
+        requires { IsOpen site.exit (code_of self.old.code) (layout_of self.old.scope) }
+        ensures { OnOk result (Put
+            (EndedPart (set_view site.entry.set.now) (binding_of binding.now) (nodes_in nodes.now) skip)
+            site.entry.exit self.old self.new) }
+    {
+        put_end(&mut self.code, declared_by(binding, nodes)?, skip)?;
+        self.put_part(site, binding, nodes)
+    }
+
+    /// Puts a part behind a header.
+    #[cycle(nodes)]
+    #[tactic(auto, using(crate::proofs::NodeLemmas::offs))]
+    fn put_part(
+        &mut self,
+        site: Site<'_>,
+        binding: &'s Binding,
+        nodes: &'s [Node],
+    ) -> Result<(), AllocError>
+        requires { IsOpen site.exit (code_of self.old.code) (layout_of self.old.scope) }
+        ensures { OnOk result (Put
+            (BoundPart (set_view site.entry.set.now) (binding_of binding.now) (nodes_in nodes.now))
+            site.entry.exit self.old self.new) }
+    {
+        open(&mut self.scope, binding)?;
+        self.put_nodes(site, nodes)?;
+        close(&mut self.scope, binding);
+        Ok(())
+    }
+
+    /// Puts a part behind a header and a saved dot.
+    #[cycle(nodes)]
+    #[tactic(auto, using(crate::proofs::NodeLemmas::offs))]
+    fn put_dotted_part(
+        &mut self,
+        site: Site<'_>,
+        binding: &'s Binding,
+        nodes: &'s [Node],
+    ) -> Result<(), AllocError>
+        requires { IsOpen site.exit (code_of self.old.code) (layout_of self.old.scope) }
+        ensures { OnOk result (Put
+            (DottedPart (set_view site.entry.set.now) (binding_of binding.now) (nodes_in nodes.now))
+            site.entry.exit self.old self.new) }
+    {
+        open(&mut self.scope, binding)?;
+        self.scope.save()?;
+        self.put_nodes(site, nodes)?;
+        self.scope.forget();
+        close(&mut self.scope, binding);
+        Ok(())
+    }
+
+    /// Puts the body of a range, and before it what binds the variables.
+    #[cycle(nodes)]
+    #[tactic(auto, using(crate::proofs::NodeLemmas::offs))]
+    fn put_turns(
+        &mut self,
+        set: &Set,
+        around: Around,
+        binding: &'s Binding,
+        body: &'s [Node],
+    ) -> Result<(), AllocError>
+        requires after { around.after ≤ length (code_of self.old.code) }
+        requires below { around.below ≡ length (layout_of self.old.scope) }
+        ensures { OnOk result (Put (TurnsPart (set_view set.now) (binding_of binding.now) (nodes_in body.now))
+            (Some around) self.old self.new) }
+    {
+        self.scope.save()?;
+        self.scope.save()?;
+        open(&mut self.scope, binding)?;
+        self.put_nodes(
+            Site {
+                set,
+                exit: Some(around),
+            },
+            body,
+        )?;
+        close(&mut self.scope, binding);
+        put_turn(&mut self.code, &self.scope, binding)?;
+        self.scope.forget();
+        self.scope.forget();
+        Ok(())
+    }
 }

@@ -106,14 +106,6 @@ module _ (most last : ℕ) where
   needs-some no_command piped = omega arith
   needs-some (command os cs) piped = let rest = needs-some cs 1 in omega arith
 
-  need-some : (o : Operand) → 1 ≤ need_of_operand o
-  need-some (group cs names) = needs-some cs 0
-  need-some _ = omega arith
-
-  arguments-all : (os : Operands) (n : ℕ) → n + operand_count os ≤ need_of_arguments n os
-  arguments-all no_operand n = omega arith
-  arguments-all (operand o os) n = let rest = arguments-all os (suc n) in omega arith
-
   -- behind an operand of `and` or `or`, over so many cells and one more
   decide-able : (os : Operands) (piped stop : Bool) (n : ℕ) (lay : Layout) (mid rest : Code) (m : ℕ) → piped_count piped ≤ m
       → DecideAt (is_last os piped) stop piped (JunctionAt stop os piped n lay) mid rest

@@ -1,6 +1,6 @@
 -- For `Stack::call`: the cells that a call takes are the values of its arguments, and those below stay.
-use Rattle.std.proofs.Common.{arith, ◌≡◌, ◌∙◌, ◌+◌, ◌≤◌, ◌++◌, ◌||◌, ℕ, zero, suc, Bool, true, false, List, [], ◌∷◌, length, drop, take}
-use Rattle.std.proofs.Common.{map, reverse, refl, ap, sym, subst, Result, Err}
+use Rattle.std.proofs.Common.{arith, ◌≡◌, ◌∙◌, ◌+◌, ◌≤◌, ◌++◌, ℕ, zero, suc, Bool, true, false, List, [], ◌∷◌, length, drop, take}
+use Rattle.std.proofs.Common.{map, reverse, refl, ap, sym, subst, Result}
 use Rattle.std.proofs.lemmas.List.{drop_at, length-drop, length-map, length-reverse, length-take-le, map-append, reverse-append}
 use Rattle.std.proofs.lemmas.List.{reverse-reverse, take-map, take_at}
 use Rattle.std.proofs.lemmas.Simd.{map-map}
@@ -8,14 +8,11 @@ use Rattle.std.specs.List.{drop-map}
 use Rattle.std.proofs.Math.Seq.{take-add}
 use Rattle.tmpl_values.specs.declared.value.Cell as held
 use Rattle.tmpl_values.specs.declared.value.Val.{Val}
-use Rattle.tmpl_values.specs.Value.{Value}
 use Rattle.tmpl_funcs.specs.Answer.{AreBorrowed}
 use Rattle.tmpl_funcs.specs.Dispatch.{IsCall}
-use Rattle.tmpl_funcs.specs.Func.{makes_text}
 use Rattle.tmpl_funcs.specs.View.{values_of}
 use Rattle.tmpl_funcs.specs.declared.func.Func.{Func}
 use Rattle.tmpl_funcs.specs.declared.fault.CallError.{CallError}
-use Rattle.tmpl_funcs.specs.declared.fault.CallError.TheVariants as error
 use Rattle.tmpl_code.specs.Code.{piped_count}
 use Rattle.tmpl_run.specs.Cell.{Cell, values_in}
 use Rattle.tmpl_run.specs.computed.Held.{cell_of, cells_in}
@@ -109,11 +106,3 @@ pub borrowed-turned : (from n top below : ℕ) (l : List held.Cell) → from + n
 borrowed-turned from n top below l e h =
     let part = borrowed-part from n l (subst (λ k. AreBorrowed (take k l)) (sym e) h) in
     borrowed-append (drop below (take n (drop from l))) (take below (take n (drop from l))) (borrowed-drop below (take n (drop from l)) part) (borrowed-take below (take n (drop from l)) part)
-
--- only a function that makes a text wants memory
-pub refusal-is : (f : Func) (vs : List Value) → IsCall f vs (Err error.OutOfMemory) → makes_text f ≡ false → ⊥
-refusal-is f vs call none = let made : makes_text f ≡ true = call.0 in cc
-
-pub either-not : (made makes : Bool) → (made || makes) ≡ false → makes ≡ false
-either-not true makes h = cc
-either-not false makes h = h

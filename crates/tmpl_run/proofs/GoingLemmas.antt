@@ -1,38 +1,42 @@
--- For `turns`: what the loop of a run keeps from turn to turn, and what it comes to where it ends.
-use Rattle.std.proofs.Common.{arith, inl, inr, ◌≡◌, ◌∙◌, ◌+◌, ◌||◌, ◌++◌, ◌^◌, ◌<◌, ◌≤◌, ℕ, suc, Bool, true, false, List, [], ◌∷◌, length}
-use Rattle.std.proofs.Common.{get_or, refl, ap, sym, subst, Some, Ok, Err}
+-- For `turns`: what the loop of a run keeps from turn to turn, said of a machine and of what was put out, and what it comes to where it ends.
+use Rattle.std.proofs.Common.{arith, inl, inr, ◌≡◌, ◌∙◌, ◌+◌, ◌||◌, ◌++◌, ◌-◌, ◌^◌, ◌<◌, ◌≤◌, ℕ, suc, Bool, true, false, List, [], ◌∷◌, length}
+use Rattle.std.proofs.Common.{get_or, refl, ap, sym, subst, Option, Some, Ok, Err}
 use Rattle.std.specs.Prelude.{option_map, slice_get}
+use Rattle.std.proofs.lemmas.List.{length-map}
 use Rattle.std.proofs.lemmas.Option.{get_or_from_slice_get, slice_get-get_or, slice_get-map}
 use Rattle.tmpl_values.specs.Put.{Puts, IsPut}
-use Rattle.tmpl_values.proofs.PutLemmas.{IsPut-along, IsPut-append, IsPut-stop}
+use Rattle.tmpl_values.proofs.PutLemmas.{IsPut-along, IsPut-append, IsPut-nil, IsPut-stop}
 use Rattle.tmpl_syntax.specs.Set.{Template}
+use Rattle.tmpl_meaning.specs.Fault.{Fault}
 use Rattle.tmpl_meaning.specs.Meaning.{Ran}
+use Rattle.tmpl_meaning.specs.View.{cause_of}
 use Rattle.tmpl_meaning.specs.declared.sink.SinkFault.{SinkFault}
 use Rattle.tmpl_code.specs.Instruction as code
 use Rattle.tmpl_code.specs.Instruction.{Instruction}
-use Rattle.tmpl_run.specs.Cell.{Cell}
-use Rattle.tmpl_run.specs.State.{Plan, State}
-use Rattle.tmpl_run.specs.Machine.{Turn, done, ended, failed, fault_at, goes, ran_so, stuck, top}
-use Rattle.tmpl_run.specs.computed.Machines.{Told}
-use Rattle.tmpl_run.specs.declared.machine.Machine.{Machine}
-use Rattle.tmpl_run.specs.Ready.{Has, Lands}
-use Rattle.tmpl_run.specs.Ends.{Ends}
-use Rattle.tmpl_run.specs.Laws.{Begins, Lessens, mark_behind}
-use Rattle.tmpl_meaning.specs.View.{cause_of}
-use Rattle.tmpl_run.specs.computed.Came.{Came, IsStopped}
-use Rattle.tmpl_run.specs.computed.Plain.{SparedOr}
-use Rattle.tmpl_run.specs.computed.Turned.{Executed, added, put_by, told_behind}
-use Rattle.tmpl_run.specs.declared.flow.Flow.{Flow}
-use Rattle.tmpl_run.specs.declared.fault.RunError.{RunError}
-use Rattle.tmpl_run.specs.declared.fault.RunError.TheVariants as error
-use Rattle.tmpl_run.specs.declared.halt.Halt.{Halt}
-use Rattle.tmpl_run.specs.declared.halt.Halt.TheVariants as stop
 use Rattle.tmpl_code.specs.View.{instruction_of, instructions_of}
 use Rattle.tmpl_code.specs.declared.instruction.Instruction as held
-use Rattle.tmpl_run.proofs.LoopLemmas.{ends-so, falls, finds, goes-on, is-next, ready, within-code, work}
+use Rattle.tmpl_run.specs.Cell.{Cell}
+use Rattle.tmpl_run.specs.Ends.{Ends}
+use Rattle.tmpl_run.specs.Laws.{Lessens, mark_behind}
+use Rattle.tmpl_run.specs.Machine.{Turn, done, ended, fault_at, goes, next_of, stuck, top}
+use Rattle.tmpl_run.specs.Ready.{Has, Lands}
+use Rattle.tmpl_run.specs.State.{Plan, State}
+use Rattle.tmpl_run.specs.computed.Came.{Came, IsStopped}
+use Rattle.tmpl_run.specs.computed.Machines.{Told, state_of}
+use Rattle.tmpl_run.specs.computed.Plain.{IsPlain, SparedOr}
+use Rattle.tmpl_run.specs.computed.Turned.{Executed, added, put_by, told_behind}
+use Rattle.tmpl_run.specs.computed.View.{cells_of, size_of}
+use Rattle.tmpl_run.specs.declared.fault.RunError.{RunError}
+use Rattle.tmpl_run.specs.declared.fault.RunError.TheVariants as error
+use Rattle.tmpl_run.specs.declared.flow.Flow.{Flow}
+use Rattle.tmpl_run.specs.declared.flow.Flow.TheVariants as flow
+use Rattle.tmpl_run.specs.declared.halt.Halt.{Halt}
+use Rattle.tmpl_run.specs.declared.halt.Halt.TheVariants as stop
+use Rattle.tmpl_run.specs.declared.machine.Machine.{Machine}
+use Rattle.tmpl_run.proofs.LoopLemmas.{ends-so, falls, finds, goes-on, is-next, ready, some-template, within-code, work}
 use Rattle.tmpl_run.proofs.MoveLemmas.{each-lessens, mark-stays, mark_next, next-depth, text-begins}
-use Rattle.tmpl_run.proofs.RoomLemmas.{next-within}
 use Rattle.tmpl_run.proofs.PastLemmas.{after_past, done-past, past-again, with_past}
+use Rattle.tmpl_run.proofs.RoomLemmas.{next-within}
 
 -- what is told of a run that has put nothing out yet, in the template that a machine runs
 abbrev pub told_at : Told → Machine → Told
@@ -76,110 +80,156 @@ ended-quiet plan t code.show s r e = by s.cells e
     by (c ∷ cs) e = cc
 ended-quiet plan t _ s r e = refl
 
--- ---- one turn
+-- ---- the loop
 
-module _ (plan : Plan) (size : ℕ) (end : Ran) (x : List ℕ) (m : Bool) (s : State) (i : Instruction) (t : Template) (here : slice_get plan.code s.place ≡ Some i) (runs : slice_get plan.templates s.template ≡ Some t) (h : Ends plan size (with_past x m s) end) where
+-- what the loop keeps: behind what was put out so far and the mark, the machine comes to the end
+pub record Stands (run : Told) (end : Ran) (m : Machine) (before now : Puts) : Type 0 where
+  pub within : length (cells_of m.stack) ≤ size_of m.stack
+  pub depth : m.depth + m.left < 2 ^ 64 - 1
+  pub text : List ℕ
+  pub made : Bool
+  pub given : IsPut {F = SinkFault} (Ok tt) before now text
+  pub ends : Ends run.plan (size_of m.stack) (with_past text made (state_of (told_at run m) m)) end
+  pub plain : made ≡ false → IsPlain m
+
+pub starts : (run : Told) (end : Ran) (m : Machine) (now : Puts) → run.text ≡ [] → run.made_text ≡ false → Ends run.plan (size_of m.stack) (state_of run m) end
+    → length (cells_of m.stack) ≤ size_of m.stack → IsPlain m → m.depth + m.left < 2 ^ 64 - 1 → Stands run end m now now
+starts run end m now text made h within plain depth = record {
+  within = within;
+  depth = depth;
+  text = [];
+  made = false;
+  given = IsPut-nil now;
+  ends = subst (λ b. Ends run.plan (size_of m.stack) (record (state_of run m) { text = []; made_text = b }) end) made
+      (subst (λ (l : List ℕ). Ends run.plan (size_of m.stack) (record (state_of run m) { text = l }) end) text h);
+  plain = λ e. plain;
+}
+
+module _ {run : Told} {end : Ran} {m : Machine} {before now : Puts} (inv : Stands run end m before now) where
+  abbrev told : Told
+  told = told_at run m
+
+  abbrev s : State
+  s = state_of told m
+
   abbrev past : State
-  past = with_past x m s
+  past = with_past inv.text inv.made s
 
-  shifted : (u : Turn) → done plan t i s ≡ u → done plan t i past ≡ after_past x m u
-  shifted u e = done-past x m plan t i s ∙ ap (after_past x m) e
+  abbrev room : ℕ
+  room = size_of m.stack
 
-  pub has : Has i (length s.cells) size
-  has = ready plan size end i t past here runs h
+  pub inside : (items : List held.Instruction) → run.plan.code ≡ instructions_of items → m.place < length items
+  inside items code =
+      let within = within-code run.plan room end past inv.ends in
+      let same = ap (λ (is : List Instruction). length is) code ∙ length-map items instruction_of in
+      omega (arith, within, same)
 
-  pub next-ends : (u : State) → done plan t i s ≡ goes u → Ends plan size (with_past x m u) end
-  next-ends u e = goes-on plan size end i t past here runs h (with_past x m u) (shifted (goes u) e)
+  -- there is the template that runs
+  pub runs : slice_get run.plan.templates m.template ≡ Some told.template
+  runs = runs-at run.plan.templates m.template run.template (some-template run.plan room end past inv.ends)
 
-  pub lands : length plan.code < 2 ^ 64 → Lands (done plan t i s)
-  lands fits = by (done plan t i s) refl
-    where
-      by : (u : Turn) → done plan t i s ≡ u → Lands u
-      by (goes v) e = let within = within-code plan size end (with_past x m v) (next-ends v e) in omega arith
-      by (ended r) e = tt
-      by stuck e = finds plan size end i t past here runs h (shifted stuck e)
+  module _ (items : List held.Instruction) {item : held.Instruction} (code : run.plan.code ≡ instructions_of items) (is : item ≡ get_or items m.place item) where
+    abbrev i : Instruction
+    i = instruction_of item
 
-  pub over : (r : Ran) → done plan t i s ≡ ended r → record r { text = x ++ r.text; made_text = m || r.made_text } ≡ end
-  over r e = ends-so plan size end i t past here runs h (record r { text = x ++ r.text; made_text = m || r.made_text }) (shifted (ended r) e)
+    here : slice_get run.plan.code m.place ≡ Some i
+    here = ap (λ is. slice_get is m.place) code ∙ code-at items m.place item item (inside items code) is
 
-  pub less : (u : State) → done plan t i s ≡ goes u → work (length plan.code) u < work (length plan.code) s
-  less u e = falls plan size end i t past here runs h (with_past x m u) (shifted (goes u) e)
+    shifted : (u : Turn) → done run.plan told.template i s ≡ u → done run.plan told.template i past ≡ after_past inv.text inv.made u
+    shifted u e = done-past inv.text inv.made run.plan told.template i s ∙ ap (after_past inv.text inv.made) e
 
-  pub within : (u : State) → done plan t i s ≡ goes u → length s.cells ≤ size → length u.cells ≤ size
-  within u e fits = next-within size plan past (with_past x m u) end h fits (is-next plan size end i t past here runs h ∙ shifted (goes u) e)
+    next : (u : State) → done run.plan told.template i s ≡ goes u → next_of run.plan past ≡ goes (with_past inv.text inv.made u)
+    next u e = is-next run.plan room end i told.template past here runs inv.ends ∙ shifted (goes u) e
 
-  pub no-deeper : (u : State) → done plan t i s ≡ goes u → u.depth + u.left ≤ s.depth + s.left
-  no-deeper u e = by (each-lessens plan past (with_past x m u) (is-next plan size end i t past here runs h ∙ shifted (goes u) e))
-    where
-      deep : u.depth ≤ suc s.depth
-      deep = next-depth plan past (with_past x m u) (is-next plan size end i t past here runs h ∙ shifted (goes u) e)
+    next-ends : (u : State) → done run.plan told.template i s ≡ goes u → Ends run.plan room (with_past inv.text inv.made u) end
+    next-ends u e = goes-on run.plan room end i told.template past here runs inv.ends (with_past inv.text inv.made u) (shifted (goes u) e)
 
-      by : Lessens past (with_past x m u) → u.depth + u.left ≤ s.depth + s.left
-      by (inl less) = let d = deep in omega arith
-      by (inr (left, inl less)) = omega arith
-      by (inr (left, inr (depth, place))) = omega arith
+    pub has : Has i (length s.cells) room
+    has = ready run.plan room end i told.template past here runs inv.ends
 
-  -- the run goes on, with what was put out and the mark told apart again
-  pub keeps : (u : State) → done plan t i s ≡ goes u
-      → Ends plan size (with_past (x ++ u.text) (m || u.made_text) (record u { text = []; made_text = false })) end
-  keeps u e = subst (λ v. Ends plan size v end) (past-again x u.text m u.made_text u) (next-ends u e)
+    pub lands : length items < 2 ^ 64 → Lands (done run.plan told.template i s)
+    lands fits = by (done run.plan told.template i s) refl
+      where
+        by : (u : Turn) → done run.plan told.template i s ≡ u → Lands u
+        by (goes v) e =
+            let within = within-code run.plan room end (with_past inv.text inv.made v) (next-ends v e) in
+            let same = ap (λ (is : List Instruction). length is) code ∙ length-map items instruction_of in
+            omega (arith, within, same)
+        by (ended r) e = tt
+        by stuck e = finds run.plan room end i told.template past here runs inv.ends (shifted stuck e)
 
-  -- memory is refused only where the end bears the mark
-  pub marked : {P : Type 0} → s.made_text ≡ false → (m ≡ false → P) → (mark_behind i false ≡ false → P → ⊥) → end.made_text ≡ true
-  marked fresh plain never = by m refl
-    where
-      by : (b : Bool) → m ≡ b → end.made_text ≡ true
-      by true e = mark-stays plan size past end h (ap (λ b. b || s.made_text) e)
-      by false e = by-mark (mark_behind i false) refl
-        where
-          by-mark : (c : Bool) → mark_behind i false ≡ c → end.made_text ≡ true
-          by-mark true f = mark_next plan size past end i h here (ap (λ b. mark_behind i (b || s.made_text)) e ∙ ap (mark_behind i) fresh ∙ f)
-          by-mark false f = absurd (never f (plain e))
+    pub less : (u : State) → done run.plan told.template i s ≡ goes u → work (length run.plan.code) u < work (length run.plan.code) s
+    less u e = falls run.plan room end i told.template past here runs inv.ends (with_past inv.text inv.made u) (shifted (goes u) e)
 
-  module _ (before now next : Puts) (empty : s.text ≡ []) (given : IsPut {F = SinkFault} (Ok tt) before now x) where
-    both : IsPut {F = SinkFault} (Ok tt) now next (added i s) → IsPut {F = SinkFault} (Ok tt) before next (x ++ added i s)
-    both more = IsPut-append given more
+    no-deeper : (u : State) → done run.plan told.template i s ≡ goes u → u.depth + u.left ≤ s.depth + s.left
+    no-deeper u e = by (each-lessens run.plan past (with_past inv.text inv.made u) (next u e))
+      where
+        deep : u.depth ≤ suc s.depth
+        deep = next-depth run.plan past (with_past inv.text inv.made u) (next u e)
 
-    -- the run is over, or stops at a fault
-    pub came-over : (r : Ran) → done plan t i s ≡ ended r → r.text ≡ s.text → IsPut {F = SinkFault} (Ok tt) now next (added i s)
-        → IsPut {F = SinkFault} (Ok tt) before next end.text
-    came-over r e same more =
-        IsPut-along (both more) (ap (λ l. x ++ l) (ended-quiet plan t i s r e ∙ sym empty ∙ sym same) ∙ ap (λ (q : Ran). q.text) (over r e))
+        by : Lessens past (with_past inv.text inv.made u) → u.depth + u.left ≤ s.depth + s.left
+        by (inl less) = let d = deep in omega arith
+        by (inr (left, inl less)) = omega arith
+        by (inr (left, inr (depth, place))) = omega arith
 
-    pub fault-over : (r : Ran) → done plan t i s ≡ ended r → end.fault ≡ r.fault
-    fault-over r e = sym (ap (λ (q : Ran). q.fault) (over r e))
+    -- the run goes on, with what was put out and the mark told apart again
+    pub onward : (n : Machine) (after : Puts) → Executed told i s (state_of (told_behind i s told) n) (Ok flow.On) → IsPut {F = SinkFault} (Ok tt) now after (added i s)
+        → size_of n.stack ≡ room → (mark_behind i false ≡ false → IsPlain m → IsPlain n) → Stands run end n before after
+    onward n after step more size plain = record {
+      within = subst (λ k. length (cells_of n.stack) ≤ k) (sym size) (next-within room run.plan past (with_past inv.text inv.made u) end inv.ends inv.within (next u step));
+      depth = let deeper = no-deeper u step in let deep = inv.depth in omega arith;
+      text = inv.text ++ u.text;
+      made = inv.made || u.made_text;
+      given = IsPut-along (IsPut-append inv.given more) (ap (λ l. inv.text ++ l) (sym (text-behind i s told refl)));
+      ends = subst (λ k. Ends run.plan k (with_past (inv.text ++ u.text) (inv.made || u.made_text) (record u { text = []; made_text = false })) end) (sym size)
+          (subst (λ v. Ends run.plan room v end) (past-again inv.text u.text inv.made u.made_text u) (next-ends u step));
+      plain = λ e. let both = neither inv.made u.made_text e in plain (sym (mark-behind-told i s told) ∙ both.1) (inv.plain both.0);
+    }
+      where
+        u : State
+        u = state_of (told_behind i s told) n
 
-    -- a put fails
-    pub came-cut : (u : State) → done plan t i s ≡ goes u → u.text ≡ added i s → IsPut {F = SinkFault} (Err (record {})) now next (added i s)
-        → IsPut {F = SinkFault} (Err (record {})) before next end.text
-    came-cut u e same more =
-        let begins = text-begins plan size (with_past x m u) end (next-ends u e) in
-        IsPut-along (IsPut-stop {r = Err (record {})} begins.0 refl (IsPut-append given more)) (ap (λ l. (x ++ l) ++ begins.0) (sym same) ∙ sym begins.1)
+    -- memory is refused only where the end bears the mark
+    marked : (mark_behind i false ≡ false → IsPlain m → ⊥) → end.made_text ≡ true
+    marked never = by inv.made refl
+      where
+        by : (b : Bool) → inv.made ≡ b → end.made_text ≡ true
+        by true e = mark-stays run.plan room past end inv.ends (ap (λ b. b || false) e)
+        by false e = by-mark (mark_behind i false) refl
+          where
+            by-mark : (c : Bool) → mark_behind i false ≡ c → end.made_text ≡ true
+            by-mark true f = mark_next run.plan room past end i inv.ends here (ap (λ b. mark_behind i (b || false)) e ∙ f)
+            by-mark false f = absurd (never f (inv.plain e))
 
-    -- memory is refused
-    pub came-refused : added i s ≡ [] → IsPut {F = SinkFault} (Ok tt) now next (added i s)
-        → (text : List ℕ) × Begins text end.text × IsPut {F = SinkFault} (Ok tt) before next text
-    came-refused quiet more = (x ++ s.text, text-begins plan size past end h, IsPut-along (both more) (ap (λ l. x ++ l) (quiet ∙ sym empty)))
+    module _ (after : Puts) where
+      both : IsPut {F = SinkFault} (Ok tt) now after (added i s) → IsPut {F = SinkFault} (Ok tt) before after (inv.text ++ added i s)
+      both more = IsPut-append inv.given more
 
-    -- a stop
-    module _ (u : State) (P Q : Type 0) (fresh : s.made_text ≡ false) (plain : m ≡ false → P) (told : u.text ≡ added i s) where
-      pub came-stopped : (r : Told) → r.plan ≡ plan → r.template ≡ t → (stop : Halt) (e : RunError) → Executed r i s u (Err stop)
-          → IsPut (put_by {A = Flow} (Err stop)) now next (added i s)
-          → (mark_behind i false ≡ false → P → SparedOr {A = Flow} (Err stop) Q) → IsStopped (slice_get plan.templates s.template) u.line stop e
-          → Came end before next (Err e)
-      came-stopped r same-plan same-template (stop.Fault kind) (error.Fault fault) step more spared is = (
-        came-over (ran_so (record s { made_text = u.made_text }) (Some (fault_at t u.line (cause_of kind)))) step' refl more,
-        fault-over (ran_so (record s { made_text = u.made_text }) (Some (fault_at t u.line (cause_of kind)))) step'
-            ∙ sym (is ∙ ap (option_map (λ t. fault_at t u.line (cause_of kind))) runs),
+      -- the run is over, or stops at a fault
+      pub over : (fault : Option Fault) (made : Bool) → done run.plan told.template i s ≡ ended (record { text = []; fault = fault; made_text = made })
+          → IsPut {F = SinkFault} (Ok tt) now after (added i s) → IsPut {F = SinkFault} (Ok tt) before after end.text × (end.fault ≡ fault)
+      over fault made e more = (
+        IsPut-along (both more) (ap (λ l. inv.text ++ l) (ended-quiet run.plan told.template i s _ e) ∙ ap (λ (q : Ran). q.text) so),
+        sym (ap (λ (q : Ran). q.fault) so),
       )
         where
-          step' : done plan t i s ≡ failed t u.line (cause_of kind) (record s { made_text = u.made_text })
-          step' = subst (λ p. done p t i s ≡ failed t u.line (cause_of kind) (record s { made_text = u.made_text })) same-plan (subst (λ y. done r.plan y i s ≡ failed y u.line (cause_of kind) (record s { made_text = u.made_text })) same-template step)
-      came-stopped r same-plan same-template (stop.Fault kind) error.WriteFailed step more spared is = absurd is
-      came-stopped r same-plan same-template (stop.Fault kind) error.OutOfMemory step more spared is = absurd is
-      came-stopped r same-plan same-template stop.WriteFailed e step more spared is =
-          subst (λ f. Came end before next (Err f)) (sym is)
-          (came-cut u (subst (λ p. done p t i s ≡ goes u) same-plan (subst (λ y. done r.plan y i s ≡ goes u) same-template step)) told more)
-      came-stopped r same-plan same-template stop.OutOfMemory e step more spared is =
-          let refused = came-refused step more in
-          subst (λ f. Came end before next (Err f)) (sym is) (refused.0, refused.1, refused.2, marked {P = P} fresh plain spared)
+          so : record { text = inv.text ++ []; fault = fault; made_text = inv.made || made } ≡ end
+          so = ends-so run.plan room end i told.template past here runs inv.ends _ (shifted _ e)
+
+      -- a stop
+      pub stops : (u : State) (Q : Type 0) → u.text ≡ added i s → (stop : Halt) (e : RunError) → Executed told i s u (Err stop)
+          → IsPut (put_by {A = Flow} (Err stop)) now after (added i s)
+          → (mark_behind i false ≡ false → IsPlain m → SparedOr {A = Flow} (Err stop) Q) → IsStopped (slice_get run.plan.templates m.template) u.line stop e
+          → Came end before after (Err e)
+      stops u Q same (stop.Fault kind) (error.Fault fault) step more spared is =
+          let came = over (Some (fault_at told.template u.line (cause_of kind))) u.made_text step more in
+          (came.0, came.1 ∙ sym (is ∙ ap (option_map (λ t. fault_at t u.line (cause_of kind))) runs))
+      stops u Q same (stop.Fault kind) error.WriteFailed step more spared is = absurd is
+      stops u Q same (stop.Fault kind) error.OutOfMemory step more spared is = absurd is
+      stops u Q same stop.WriteFailed e step more spared is =
+          let begins = text-begins run.plan room (with_past inv.text inv.made u) end (next-ends u step) in
+          subst (λ f. Came end before after (Err f)) (sym is)
+          (IsPut-along (IsPut-stop {r = Err (record {})} begins.0 refl (IsPut-append inv.given more)) (ap (λ l. (inv.text ++ l) ++ begins.0) (sym same) ∙ sym begins.1))
+      stops u Q same stop.OutOfMemory e step more spared is =
+          subst (λ f. Came end before after (Err f)) (sym is)
+          (inv.text ++ [], text-begins run.plan room past end inv.ends, IsPut-along (both more) (ap (λ l. inv.text ++ l) step), marked spared)

@@ -1,7 +1,7 @@
 -- For the law `comes_to_meaning`: the pipeline of a header and what is bound to its value, which actions and controls share.
 use Rattle.std.proofs.Common.{arith, ◌≡◌, ◌∙◌, ◌+◌, ◌≤◌, ◌||◌, ℕ, Bool, true, false, List, [], ◌∷◌, length, drop, refl, ap, sym, subst}
 use Rattle.std.proofs.Common.{Option, Some, None, Result, Ok, Err}
-use Rattle.std.specs.Prelude.{slice_get, slice_set}
+use Rattle.std.specs.Prelude.{slice_set}
 use Rattle.std.proofs.lemmas.List.{length-set}
 use Rattle.tmpl_values.specs.Value.{Value, nothing}
 use Rattle.tmpl_grammar.specs.Tree.{Binding, unbound, declare, assign, declare_pair, Header, Pipeline}
@@ -9,20 +9,19 @@ use Rattle.tmpl_grammar.specs.Need.{declared_count, need_of_pipeline}
 use Rattle.tmpl_syntax.specs.Set.{Template}
 use Rattle.tmpl_meaning.specs.Fault.{Cause}
 use Rattle.tmpl_meaning.specs.Pipeline.{Environment, Given, pipeline_value}
-use Rattle.tmpl_meaning.specs.Meaning.{Calls, Next, Ran, Run, alone, assigned, setting_of, with_bound, with_pipeline, with_value}
+use Rattle.tmpl_meaning.specs.Meaning.{Calls, Next, Ran, Run, alone, assigned, with_bound, with_pipeline, with_value}
 use Rattle.tmpl_code.specs.Instruction as code
 use Rattle.tmpl_code.specs.Layout.{Layout, bound_on, declares, slot_named}
 use Rattle.tmpl_code.specs.Code.{BindAt, Code, HeaderAt, PipelineAt, SetAt}
 use Rattle.tmpl_run.specs.Cell.{Cell, fresh}
 use Rattle.tmpl_run.specs.State.{Plan, State}
 use Rattle.tmpl_run.specs.Machine.{fault_at, kept_on, ran_so}
-use Rattle.tmpl_run.specs.Ends.{Ends}
 use Rattle.tmpl_run.proofs.ExecLemmas.{op_in}
 use Rattle.tmpl_run.proofs.AbleLemmas.{found-within}
 use Rattle.tmpl_run.proofs.PlaceLemmas.{ahead-one}
 use Rattle.tmpl_run.proofs.SlotLemmas.{Frame, bound_in, env_of, frame-set, frame_of, length-frame, run_of, stored, stored-none}
 use Rattle.tmpl_run.proofs.WayLemmas as ways
-use Rattle.tmpl_run.proofs.WayLemmas.{Ring, Stands, Who, seen, who_of}
+use Rattle.tmpl_run.proofs.WayLemmas.{Ring, Stands, Way, Who, seen, who_of}
 
 -- no step of a pipeline stands first
 abbrev pub Plain : Code → Type 0
@@ -48,11 +47,11 @@ abbrev pub given_in : Plan → Layout → State → Pipeline → Given Value
 given_in plan lay s p = pipeline_value (record { missing_key = plan.rules.missing_key; dot = s.dot; env = env_of lay s.cells }) p
 
 -- what pipelines do
-abbrev pub Pipelines : Plan → ℕ → Ran → Who → Template → Type 0
-Pipelines plan room f who me =
-    (p : Pipeline) (lay : Layout) (start rest : Code) (s : State) → who_of s ≡ who → PipelineAt p lay start rest → drop s.place plan.code ≡ start
-    → length lay ≤ length s.cells → length s.cells + need_of_pipeline p ≤ room → Plain rest
-    → Gives plan me (λ t. Ends plan room t f) f rest s (given_in plan lay s p).result (s.made_text || (given_in plan lay s p).made_text) → Ends plan room s f
+abbrev pub Pipelines : Way → Type 0
+Pipelines way =
+    (p : Pipeline) (lay : Layout) (start rest : Code) (s : State) → who_of s ≡ way.who → PipelineAt p lay start rest → drop s.place way.plan.code ≡ start
+    → length lay ≤ length s.cells → length s.cells + need_of_pipeline p ≤ way.room → Plain rest
+    → Gives way.plan way.me (ways.Leading way) way.end rest s (given_in way.plan lay s p).result (s.made_text || (given_in way.plan lay s p).made_text) → ways.Leading way s
 
 -- what a binding does to the variables that are there
 abbrev pub written : Binding → Value → Environment → Environment
@@ -82,32 +81,32 @@ with_left left r = record r { left = left }
 pub plain-is : (a b : Code) → a ≡ b → Plain b → Plain a
 plain-is a b e p = subst Plain (sym e) p
 
-module _ (plan : Plan) (room : ℕ) (f : Ran) (who : Who) (me : Template) (is-me : slice_get plan.templates who.number ≡ Some me) (home : Frame) (calls : Calls) (pipes : Pipelines plan room f who me) where
+module _ (way : Way) (calls : Calls) (pipes : Pipelines way) where
   -- with a value on the stack goes on behind what binds it
-  set-leads : (x : List ℕ) (o : Option ℕ) (lay : Layout) (fr : Frame) (v : Value) (mid rest : Code) (s : State) (m : Bool) (place : ℕ) → who_of s ≡ who
-      → slot_named x lay ≡ o → SetAt o mid rest → drop place plan.code ≡ mid
+  set-leads : (x : List ℕ) (o : Option ℕ) (lay : Layout) (fr : Frame) (v : Value) (mid rest : Code) (s : State) (m : Bool) (place : ℕ) → who_of s ≡ way.who
+      → slot_named x lay ≡ o → SetAt o mid rest → drop place way.plan.code ≡ mid
       → frame_of lay s.cells ≡ fr → length lay ≤ length s.cells
-      → ((cs : List Cell) (place : ℕ) → drop place plan.code ≡ rest → frame_of lay cs ≡ fr → length lay ≤ length cs → env_of lay cs ≡ assigned x v (env_of lay s.cells) → Ends plan room (record s { cells = fresh v ∷ cs; made_text = m; place = place }) f)
-      → Ends plan room (record s { cells = fresh v ∷ s.cells; made_text = m; place = place }) f
+      → ((cs : List Cell) (place : ℕ) → drop place way.plan.code ≡ rest → frame_of lay cs ≡ fr → length lay ≤ length cs → env_of lay cs ≡ assigned x v (env_of lay s.cells) → ways.Leading way (record s { cells = fresh v ∷ cs; made_text = m; place = place }))
+      → ways.Leading way (record s { cells = fresh v ∷ s.cells; made_text = m; place = place })
   set-leads x None lay fr v mid rest s m place same e l at frame deep more = more s.cells place (at ∙ l) frame deep (sym (stored-none x lay s.cells v e))
   set-leads x (Some k) lay fr v mid rest s m place same e l at frame deep more =
-      ways.takes plan room f who me is-me home (record s { cells = fresh v ∷ s.cells; made_text = m; place = place }) (code.set k) rest same (at ∙ l) (let below = found-within x lay k e in omega arith)
-      (more (slice_set s.cells k (fresh v)) (place + 1) (ahead-one plan.code rest place (code.set k) (at ∙ l)) (frame-set x lay s.cells k (fresh v) e deep ∙ frame) (omega (arith, length-set s.cells k (fresh v))) (stored x lay s.cells k v e deep))
+      ways.takes way (record s { cells = fresh v ∷ s.cells; made_text = m; place = place }) (code.set k) rest same (at ∙ l) (let below = found-within x lay k e in omega arith)
+      (more (slice_set s.cells k (fresh v)) (place + 1) (ahead-one way.plan.code rest place (code.set k) (at ∙ l)) (frame-set x lay s.cells k (fresh v) e deep ∙ frame) (omega (arith, length-set s.cells k (fresh v))) (stored x lay s.cells k v e deep))
 
-  bind-leads : (b : Binding) (lay : Layout) (fr : Frame) (v : Value) (mid rest : Code) (s : State) (m : Bool) (place : ℕ) → who_of s ≡ who
-      → BindAt b lay mid rest → drop place plan.code ≡ mid
-      → frame_of lay s.cells ≡ fr → length lay ≤ length s.cells → length s.cells + declared_count b ≤ room
-      → ((cs : List Cell) (place : ℕ) → drop place plan.code ≡ rest → frame_of lay cs ≡ fr → length lay ≤ length cs → env_of lay cs ≡ written b v (env_of lay s.cells) → Ends plan room (headed b v cs m place s) f)
-      → Ends plan room (valued v m place s) f
+  bind-leads : (b : Binding) (lay : Layout) (fr : Frame) (v : Value) (mid rest : Code) (s : State) (m : Bool) (place : ℕ) → who_of s ≡ way.who
+      → BindAt b lay mid rest → drop place way.plan.code ≡ mid
+      → frame_of lay s.cells ≡ fr → length lay ≤ length s.cells → length s.cells + declared_count b ≤ way.room
+      → ((cs : List Cell) (place : ℕ) → drop place way.plan.code ≡ rest → frame_of lay cs ≡ fr → length lay ≤ length cs → env_of lay cs ≡ written b v (env_of lay s.cells) → ways.Leading way (headed b v cs m place s))
+      → ways.Leading way (valued v m place s)
   bind-leads unbound lay fr v mid rest s m place same l at frame deep fits more = more s.cells place (at ∙ l) frame deep refl
   bind-leads (declare x) lay fr v mid rest s m place same l at frame deep fits more =
-      ways.takes plan room f who me is-me home (valued v m place s) (code.hold false) rest same (at ∙ l) tt
-      (more s.cells (place + 1) (ahead-one plan.code rest place (code.hold false) (at ∙ l)) frame deep refl)
+      ways.takes way (valued v m place s) (code.hold false) rest same (at ∙ l) tt
+      (more s.cells (place + 1) (ahead-one way.plan.code rest place (code.hold false) (at ∙ l)) frame deep refl)
   bind-leads (assign x) lay fr v mid rest s m place same l at frame deep fits more =
       set-leads x (slot_named x lay) lay fr v mid rest s m place same refl l at frame deep more
   bind-leads (declare_pair k x) lay fr v mid rest s m place same l at frame deep fits more =
-      ways.takes plan room f who me is-me home (valued v m place s) (code.hold true) rest same (at ∙ l) (omega arith)
-      (more s.cells (place + 1) (ahead-one plan.code rest place (code.hold true) (at ∙ l)) frame deep refl)
+      ways.takes way (valued v m place s) (code.hold true) rest same (at ∙ l) (omega arith)
+      (more s.cells (place + 1) (ahead-one way.plan.code rest place (code.hold true) (at ∙ l)) frame deep refl)
 
   bind-plain : (b : Binding) (lay : Layout) (mid rest : Code) → BindAt b lay mid rest → PlainFor b rest → Plain mid
   bind-plain unbound lay mid rest l p = plain-is mid rest l p
@@ -121,28 +120,28 @@ module _ (plan : Plan) (room : ℕ) (f : Ran) (who : Who) (me : Template) (is-me
 
   -- a pipeline, behind whose value the meaning goes on
   pub value-leads : (A : Run → Type 0) (g : Option Ring) (line left : ℕ) (p : Pipeline) (lay : Layout) (fr : Frame) (start mid : Code) (s : State) (go : Value → Next)
-      → PipelineAt p lay start mid → Stands plan who start lay fr s → s.line ≡ line → Plain mid → length fr + need_of_pipeline p ≤ room
-      → ways.After plan room f who me is-me home A g (with_pipeline (setting_of plan.rules calls me.0 me.1) line p s.dot go (with_left left (run_of lay s)))
-      → ((v : Value) (m : Bool) (place : ℕ) → drop place plan.code ≡ mid → ways.After plan room f who me is-me home A g (go v (with_left left (run_at lay m s))) → Ends plan room (valued v m place s) f)
-      → Ends plan room s f
+      → PipelineAt p lay start mid → Stands way.plan way.who start lay fr s → s.line ≡ line → Plain mid → length fr + need_of_pipeline p ≤ way.room
+      → ways.After way A g (with_pipeline (ways.setting way calls) line p s.dot go (with_left left (run_of lay s)))
+      → ((v : Value) (m : Bool) (place : ℕ) → drop place way.plan.code ≡ mid → ways.After way A g (go v (with_left left (run_at lay m s))) → ways.Leading way (valued v m place s))
+      → ways.Leading way s
   value-leads A g line left p lay fr start mid s go l st same-line plain fits k more =
       pipes p lay start mid s st.runs l st.at st.deep (let long = length-frame lay s.cells st.deep in let same = ap length st.frame in omega arith) plain
-      (by (given_in plan lay s p).result (s.made_text || (given_in plan lay s p).made_text) k)
+      (by (given_in way.plan lay s p).result (s.made_text || (given_in way.plan lay s p).made_text) k)
     where
       by : (r : Result Value Cause) (m : Bool)
-          → ways.After plan room f who me is-me home A g (with_value (setting_of plan.rules calls me.0 me.1) line r go (with_left left (run_at lay m s)))
-          → Gives plan me (λ t. Ends plan room t f) f mid s r m
+          → ways.After way A g (with_value (ways.setting way calls) line r go (with_left left (run_at lay m s)))
+          → Gives way.plan way.me (ways.Leading way) way.end mid s r m
       by (Ok v) m k = λ place at. more v m place at k
-      by (Err cause) m k = ap (λ n. ran_so (record s { made_text = m }) (Some (fault_at me n cause))) same-line ∙ k
+      by (Err cause) m k = ap (λ n. ran_so (record s { made_text = m }) (Some (fault_at way.me n cause))) same-line ∙ k
 
   -- a header
   pub header-leads : (A : Run → Type 0) (g : Option Ring) (line : ℕ) (h : Header) (lay : Layout) (fr : Frame) (start mid : Code) (s : State) (go : Value → Next)
-      → HeaderAt h lay start mid → Stands plan who start lay fr s → s.line ≡ line → PlainFor h.binding mid → length fr + need_of_pipeline h.pipeline ≤ room
-      → length fr + declared_count h.binding ≤ room
-      → ways.After plan room f who me is-me home A g (with_pipeline (setting_of plan.rules calls me.0 me.1) line h.pipeline s.dot go (run_of lay s))
-      → ((v : Value) (cs : List Cell) (m : Bool) (place : ℕ) → drop place plan.code ≡ mid → frame_of lay cs ≡ fr → length lay ≤ length cs → env_of lay cs ≡ written h.binding v (env_of lay s.cells)
-      → ways.After plan room f who me is-me home A g (go v (run_at lay m s)) → Ends plan room (headed h.binding v cs m place s) f)
-      → Ends plan room s f
+      → HeaderAt h lay start mid → Stands way.plan way.who start lay fr s → s.line ≡ line → PlainFor h.binding mid → length fr + need_of_pipeline h.pipeline ≤ way.room
+      → length fr + declared_count h.binding ≤ way.room
+      → ways.After way A g (with_pipeline (ways.setting way calls) line h.pipeline s.dot go (run_of lay s))
+      → ((v : Value) (cs : List Cell) (m : Bool) (place : ℕ) → drop place way.plan.code ≡ mid → frame_of lay cs ≡ fr → length lay ≤ length cs → env_of lay cs ≡ written h.binding v (env_of lay s.cells)
+      → ways.After way A g (go v (run_at lay m s)) → ways.Leading way (headed h.binding v cs m place s))
+      → ways.Leading way s
   header-leads A g line h lay fr start mid s go l st same-line plain fits more-fits k more =
       value-leads A g line s.left h.pipeline lay fr start l.0 s go l.1 st same-line (bind-plain h.binding lay l.0 mid l.2 plain) fits k
       (λ v m place at k. bind-leads h.binding lay fr v l.0 mid s m place st.runs l.2 at st.frame st.deep (let long = length-frame lay s.cells st.deep in let same = ap length st.frame in omega arith)

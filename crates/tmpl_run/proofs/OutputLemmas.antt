@@ -59,11 +59,6 @@ put-behind-none r a b text waiting name e h = subst (λ l. IsPut r (behind a l n
   through = refl;
 })
 
-pub put-along-waiting : {F : Type 0} (r : Result (Unit {0}) F) (t : Told) (old waiting : List ℕ) (name : ℕ) (new : Puts) (text : List ℕ) → old ≡ waiting
-    → IsPut r (behind t old name) new text
-    → IsPut r (behind t waiting name) new text
-put-along-waiting r t old waiting name new text e h = subst (λ l. IsPut r (behind t l name) new text) e h
-
 -- the text of a value that has bytes
 pub text_of_bytes : (v : Value) (bytes : List ℕ) → Some bytes ≡ bytes_of v → text_of v ≡ bytes
 text_of_bytes (string s) bytes h = let same : bytes ≡ s = cc in sym same
@@ -79,9 +74,6 @@ module _ {S : Type 0} (so_far : S → Told) (old new : S) (p q : Piece) (same : 
   quiet-grows = subst (λ o. Grows (so_far old) (so_far o)) (sym same) (grows-same (so_far old))
 
 -- ---- texts through a piece
-
-pub passes-none : (a : Told) (p : Piece) → Passes (Ok tt) a p a p []
-passes-none a p = record { given = IsPut-nil (given_of a p); taken = grows-same a }
 
 pub passes-append : {r : Result (Unit {0}) SinkFault} {a b c : Told} {p q w : Piece} {s t : List ℕ} → Passes (Ok tt) a p b q s → Passes r b q c w t
     → Passes r a p c w (s ++ t)

@@ -1,7 +1,7 @@
 -- For the law `comes_to_meaning`: the code of ranges, breaks and continues.
 use Rattle.std.proofs.Common.{arith, ◌≡◌, ◌∙◌, ◌+◌, ◌-◌, ◌≤◌, nat_eq, ℕ, zero, suc, Bool, true, false, List, [], ◌∷◌, length, drop, refl}
 use Rattle.std.proofs.Common.{ap, sym, subst, Option, Some, None, length-drop}
-use Rattle.std.specs.Prelude.{slice_get, slice_set}
+use Rattle.std.specs.Prelude.{slice_set}
 use Rattle.std.proofs.lemmas.List.{length-set}
 use Rattle.tmpl_values.specs.Value.{Value, nothing, null, boolean, number, string, sequence, mapping}
 use Rattle.tmpl_values.specs.Elements.{Element, elements}
@@ -11,7 +11,6 @@ use Rattle.tmpl_grammar.specs.declared.tree.Control.TheVariants as control
 use Rattle.tmpl_syntax.specs.Tree as tree
 use Rattle.tmpl_syntax.specs.Tree.{Nodes}
 use Rattle.tmpl_syntax.specs.Need.{need_of_nodes}
-use Rattle.tmpl_syntax.specs.Set.{Template}
 use Rattle.tmpl_meaning.specs.Fault.{not_a_range}
 use Rattle.tmpl_meaning.specs.Pipeline.{Environment}
 use Rattle.tmpl_meaning.specs.Meaning as meaning
@@ -21,9 +20,9 @@ use Rattle.tmpl_code.specs.Instruction as code
 use Rattle.tmpl_code.specs.Layout.{Layout, bound_on, declared_in, declares_key, slot_named}
 use Rattle.tmpl_code.specs.Code.{Code, Ended, NodesAt, SetDotAt, TurnAt}
 use Rattle.tmpl_run.specs.Cell.{Cell, cell, fresh}
-use Rattle.tmpl_run.specs.State.{Plan, State}
+use Rattle.tmpl_run.specs.State.{State}
 use Rattle.tmpl_run.specs.Machine.{again, elements_for, elements_in, fault_at, goes, left_in, onto, opened, paid_if, ran_so, ring, turned, variables_on}
-use Rattle.tmpl_run.specs.Ends.{Comes, Ends}
+use Rattle.tmpl_run.specs.Ends.{Comes}
 use Rattle.tmpl_run.proofs.AbleLemmas.{found-within}
 use Rattle.tmpl_run.proofs.HeaderLemmas.{Pipelines, Plain, run_at, value-leads, valued}
 use Rattle.tmpl_run.proofs.NodeLemmas as nodes
@@ -33,7 +32,7 @@ use Rattle.tmpl_run.proofs.SlotLemmas.{First, Frame, all_grown, all_grown_in, bo
 use Rattle.tmpl_run.proofs.SlotLemmas.{frame-bound, frame-drop, frame-set, frame_of, length-env, length-frame, named, over-binding}
 use Rattle.tmpl_run.proofs.SlotLemmas.{over-bound, over-none, run_of, stored, stored-none}
 use Rattle.tmpl_run.proofs.WayLemmas as ways
-use Rattle.tmpl_run.proofs.WayLemmas.{Inside, Ring, Rooted, Stands, Who, Within, bare, cut_to, exit_of}
+use Rattle.tmpl_run.proofs.WayLemmas.{Inside, Ring, Rooted, Stands, Way, Who, Within, bare, cut_to, exit_of}
 use Rattle.tmpl_code.specs.Layout.{first_layout}
 
 -- ---- elements
@@ -65,21 +64,9 @@ elements-are true (string s) es e = cc
 elements-are true (sequence vs) es e = ap elements_in e
 elements-are true (mapping entries) es e = ap elements_in e
 
-module _ (plan : Plan) (room : ℕ) (f : Ran) (who : Who) (me : Template) (is-me : slice_get plan.templates who.number ≡ Some me) (home : Frame) (calls : Calls) (spare : ℕ) (pipes : Pipelines plan room f who me) where
-  abbrev Onward : Code → Layout → Frame → Value → Run → Type 0
-  Onward = ways.Onward plan room f who me is-me home
-
-  abbrev After : (Run → Type 0) → Option Ring → Run × End → Type 0
-  After = ways.After plan room f who me is-me home
-
-  abbrev Leading : State → Type 0
-  Leading s = Ends plan room s f
-
-  abbrev set : Setting
-  set = setting_of plan.rules calls me.0 me.1
-
+module _ (way : Way) (calls : Calls) (spare : ℕ) (pipes : Pipelines way) where
   abbrev NodesLead : Nodes → Type 0
-  NodesLead = nodes.NodesLead plan room f who me is-me home calls spare pipes
+  NodesLead = nodes.NodesLead way calls spare pipes
 
   -- ---- the cells of the range around
 
@@ -88,7 +75,7 @@ module _ (plan : Plan) (room : ℕ) (f : Ran) (who : Who) (me : Template) (is-me
       (es : List Cell) × (drop n s.cells ≡ cell g.dot g.place ∷ cell g.value g.index ∷ es) × (frame_of g.lay es ≡ g.frame) × (length g.lay ≤ length es)
       × (env_of g.lay es ≡ oldest (named g.lay) (env_of lay s.cells))
 
-  ring-first : (g : Ring) (lay : Layout) (fr : Frame) (here : Code) (s : State) (w : Within g lay fr) → Stands plan who here lay fr s → Ringed g lay w.n s
+  ring-first : (g : Ring) (lay : Layout) (fr : Frame) (here : Code) (s : State) (w : Within g lay fr) → Stands way.plan way.who here lay fr s → Ringed g lay w.n s
   ring-first g lay fr here s w st = (
     two.rest,
     one.cells ∙ ap (λ l. cell g.dot g.place ∷ l) two.cells,
@@ -106,8 +93,8 @@ module _ (plan : Plan) (room : ℕ) (f : Ran) (who : Who) (me : Template) (is-me
       two = first-saved g.lay one.rest (cell g.value g.index) g.frame one.frame one.deep
 
   -- the end of the template
-  returning : (lay : Layout) (fr : Frame) (here rest : Code) (s : State) → here ≡ code.return_from (length lay - 3) ∷ rest → Stands plan who here lay fr s
-      → Rooted home lay fr → ways.Returning plan room f who me is-me home s
+  returning : (lay : Layout) (fr : Frame) (here rest : Code) (s : State) → here ≡ code.return_from (length lay - 3) ∷ rest → Stands way.plan way.who here lay fr s
+      → Rooted way.home lay fr → ways.Returning way s
   returning lay fr here rest s l st w = record {
     n = length lay - 3;
     more = rest;
@@ -120,12 +107,12 @@ module _ (plan : Plan) (room : ℕ) (f : Ran) (who : Who) (me : Template) (is-me
       count : length lay - 3 ≡ w.n
       count = let size = w.over.size in omega arith
 
-  pub break-leads : (line : ℕ) → nodes.NodeLeads plan room f who me is-me home calls spare pipes line tree.break_node
+  pub break-leads : (line : ℕ) → nodes.NodeLeads way calls spare pipes line tree.break_node
   break-leads line None lay fr here rest s l st same-line w fits more-fits k = k s (returning lay fr here rest s l st w) refl
   break-leads line (Some g) lay fr here rest s l st same-line w fits more-fits k =
-      ways.takes plan room f who me is-me home s (code.leave l.0 l.1) rest st.runs (st.at ∙ l.3) tt
-      (subst (λ cs. Comes Leading (ring cs (λ d v cs. goes (record s { cells = cs; dot = d.val; place = s.place + 1 + l.1 }))) f) (sym (ap (λ n. drop n s.cells) count ∙ cells.1))
-      (k _ (record { at = ahead plan.code rest s.place l.1 (code.leave l.0 l.1) (st.at ∙ l.3) ∙ l.4; runs = st.runs; frame = cells.2; deep = cells.3 }) refl
+      ways.takes way s (code.leave l.0 l.1) rest st.runs (st.at ∙ l.3) tt
+      (subst (λ cs. Comes (ways.Leading way) (ring cs (λ d v cs. goes (record s { cells = cs; dot = d.val; place = s.place + 1 + l.1 }))) way.end) (sym (ap (λ n. drop n s.cells) count ∙ cells.1))
+      (k _ (record { at = ahead way.plan.code rest s.place l.1 (code.leave l.0 l.1) (st.at ∙ l.3) ∙ l.4; runs = st.runs; frame = cells.2; deep = cells.3 }) refl
       (ap (λ (v : Environment). let r : Run = record { env = v; text = s.text; left = s.left; made_text = s.made_text } in r) cells.4)))
     where
       cells : Ringed g lay w.n s
@@ -134,7 +121,7 @@ module _ (plan : Plan) (room : ℕ) (f : Ran) (who : Who) (me : Template) (is-me
       count : l.0 ≡ w.n
       count = let size = w.over.size in let depth = w.depth in let above = l.2 in omega arith
 
-  pub continue-leads : (line : ℕ) → nodes.NodeLeads plan room f who me is-me home calls spare pipes line tree.continue_node
+  pub continue-leads : (line : ℕ) → nodes.NodeLeads way calls spare pipes line tree.continue_node
   continue-leads line None lay fr here rest s l st same-line w fits more-fits k = k s (returning lay fr here rest s l st w) refl
   continue-leads line (Some g) lay fr here rest s l st same-line w fits more-fits k =
       k s (record {
@@ -159,9 +146,9 @@ module _ (plan : Plan) (room : ℕ) (f : Ran) (who : Who) (me : Template) (is-me
 
   -- ---- the turns of a range over a value, whose code begins at a place
 
-  module _ (b : Binding) (line : ℕ) (body : Nodes) (g : Option Ring) (lay : Layout) (fr : Frame) (start first second rest : Code) (to : ℕ) (d v : Value) (place : ℕ) (far : drop to second ≡ rest) (fits : length fr + (2 + declared_count b + need_of_nodes body) + spare ≤ room) (begin : drop place plan.code ≡ start)
+  module _ (b : Binding) (line : ℕ) (body : Nodes) (g : Option Ring) (lay : Layout) (fr : Frame) (start first second rest : Code) (to : ℕ) (d v : Value) (place : ℕ) (far : drop to second ≡ rest) (fits : length fr + (2 + declared_count b + need_of_nodes body) + spare ≤ way.room) (begin : drop place way.plan.code ≡ start)
       (turn-at : TurnAt b (None ∷ None ∷ lay) start first)
-      (laid : NodesAt plan.templates body (bound_on b (None ∷ None ∷ lay)) (Some (record { out = rest; line = line; below = length lay })) first (code.next (declared_count b + declared_in body) to line ∷ second)) where
+      (laid : NodesAt way.plan.templates body (bound_on b (None ∷ None ∷ lay)) (Some (record { out = rest; line = line; below = length lay })) first (code.next (declared_count b + declared_in body) to line ∷ second)) where
     abbrev saved : Cell
     saved = cell d place
 
@@ -176,37 +163,37 @@ module _ (plan : Plan) (room : ℕ) (f : Ran) (who : Who) (me : Template) (is-me
     outer k = Some saved ∷ Some (cell v k) ∷ fr
 
     abbrev B : Run → Type 0
-    B r = Onward rest lay fr d (cut_to (named lay) r)
+    B r = ways.Onward way rest lay fr d (cut_to (named lay) r)
 
     -- the body for one element
     abbrev part : Element → Run → Run × End
-    part e r = meanings set body e.1 (with_bound b e r)
+    part e r = meanings (ways.setting way calls) body e.1 (with_bound b e r)
 
     abbrev others : List Element → Next
-    others es = turns set line b (λ v. meanings set body v) es
+    others es = turns (ways.setting way calls) line b (λ v. meanings (ways.setting way calls) body v) es
 
     abbrev behind : ℕ → Run → State → Type 0
-    behind k r t = ways.Turning plan room f who me is-me home (turning k) r t
+    behind k r t = ways.Turning way (turning k) r t
 
     -- behind the range
-    leaves : (r : Run) (t : State) → B r → Stands plan who rest lay fr t → t.dot ≡ d → run_of lay t ≡ r → Leading t
+    leaves : (r : Run) (t : State) → B r → Stands way.plan way.who rest lay fr t → t.dot ≡ d → run_of lay t ≡ r → ways.Leading way t
     leaves r t k st dot run = k t st dot (ap (λ (v : Environment). record (run_of lay t) { env = v }) (sym (cut-drop 0 lay lay t.cells (over-none lay) st.deep)) ∙ ap (cut_to (named lay)) run)
 
-    on-turn : (es : List Element) (k : ℕ) (x : Run × End) (n : ℕ) → n ≡ named lay → After B g (after_turn (scoped n x) (others es))
-        → ((r : Run) → After B g (others es r) → (t : State) → behind k r t → Leading t)
-        → After (λ r. (t : State) → behind k (cut_to (named lay) r) t → Leading t) (Some (turning k)) x
-    on-turn es k x n e h next = by x.1 (subst (λ m. After B g (after_turn (scoped m x) (others es))) e h)
+    on-turn : (es : List Element) (k : ℕ) (x : Run × End) (n : ℕ) → n ≡ named lay → ways.After way B g (after_turn (scoped n x) (others es))
+        → ((r : Run) → ways.After way B g (others es r) → (t : State) → behind k r t → ways.Leading way t)
+        → ways.After way (λ r. (t : State) → behind k (cut_to (named lay) r) t → ways.Leading way t) (Some (turning k)) x
+    on-turn es k x n e h next = by x.1 (subst (λ m. ways.After way B g (after_turn (scoped m x) (others es))) e h)
       where
-        by : (w : End) → After B g (on_turn w (cut_to (named lay) x.0) (others es))
-            → ways.Then plan room f who me is-me home (λ r. (t : State) → behind k (cut_to (named lay) r) t → Leading t) (Some (turning k)) x.0 w
+        by : (w : End) → ways.After way B g (on_turn w (cut_to (named lay) x.0) (others es))
+            → ways.Then way (λ r. (t : State) → behind k (cut_to (named lay) r) t → ways.Leading way t) (Some (turning k)) x.0 w
         by meaning.done h = next (cut_to (named lay) x.0) h
         by meaning.broke h = λ t st dot run. leaves (cut_to (named lay) x.0) t h st dot run
         by meaning.continued h = next (cut_to (named lay) x.0) h
         by (meaning.faulted w) h = h
 
     -- the instruction behind a turn is the end of the turn
-    body-ends : (k : ℕ) (dot : Value) (r : Run) → ((t : State) → behind k (cut_to (named lay) r) t → Leading t)
-        → Onward (code.next (declared_count b + declared_in body) to line ∷ second) (all_grown body inner) (all_grown_in body (bound_in b (outer k))) dot r
+    body-ends : (k : ℕ) (dot : Value) (r : Run) → ((t : State) → behind k (cut_to (named lay) r) t → ways.Leading way t)
+        → ways.Onward way (code.next (declared_count b + declared_in body) to line ∷ second) (all_grown body inner) (all_grown_in body (bound_in b (outer k))) dot r
     body-ends k dot r h t st same run =
         let w : Within (turning k) (all_grown body inner) (all_grown_in body (bound_in b (outer k))) = record {
           n = declared_count b + declared_in body;
@@ -230,61 +217,61 @@ module _ (plan : Plan) (room : ℕ) (f : Ran) (who : Who) (me : Template) (is-me
         })
 
     -- what a turn binds
-    begins-turn : (e : Element) (es : List Element) (k : ℕ) (cs : List Cell) (s : State) → ways.who_of s ≡ who → drop k (elements_in (elements v)) ≡ e ∷ es
-        → drop s.place plan.code ≡ start
+    begins-turn : (e : Element) (es : List Element) (k : ℕ) (cs : List Cell) (s : State) → ways.who_of s ≡ way.who → drop k (elements_in (elements v)) ≡ e ∷ es
+        → drop s.place way.plan.code ≡ start
         → frame_of lay cs ≡ fr → length lay ≤ length cs
-        → ((ds : List Cell) (there : ℕ) → drop there plan.code ≡ first → frame_of inner ds ≡ bound_in b (outer k) → length inner ≤ length ds → env_of inner ds ≡ bound b e (env_of lay cs) → Leading (record s { cells = ds; dot = e.1; place = there }))
-        → Leading (record s { cells = saved ∷ cell v k ∷ cs })
+        → ((ds : List Cell) (there : ℕ) → drop there way.plan.code ≡ first → frame_of inner ds ≡ bound_in b (outer k) → length inner ≤ length ds → env_of inner ds ≡ bound b e (env_of lay cs) → ways.Leading way (record s { cells = ds; dot = e.1; place = there }))
+        → ways.Leading way (record s { cells = saved ∷ cell v k ∷ cs })
     begins-turn e es k cs s same here at frame deep more = by b turn-at fits more
       where
         now : State
         now = record s { cells = saved ∷ cell v k ∷ cs }
 
-        turns-by : (n : ℕ) (is : Code) → start ≡ code.turn n ∷ is → suc (suc (length cs)) + n ≤ room
-            → Leading (record s { cells = variables_on n e (saved ∷ cell v k ∷ cs); dot = e.1; place = s.place + 1 }) → Leading now
+        turns-by : (n : ℕ) (is : Code) → start ≡ code.turn n ∷ is → suc (suc (length cs)) + n ≤ way.room
+            → ways.Leading way (record s { cells = variables_on n e (saved ∷ cell v k ∷ cs); dot = e.1; place = s.place + 1 }) → ways.Leading way now
         turns-by n is l fits h =
-            ways.takes plan room f who me is-me home now (code.turn n) is same (at ∙ l) fits
-            (subst (λ l. Comes Leading (turned n l now) f) (sym here) h)
+            ways.takes way now (code.turn n) is same (at ∙ l) fits
+            (subst (λ l. Comes (ways.Leading way) (turned n l now) way.end) (sym here) h)
 
         long : length cs ≡ length fr
         long = sym (length-frame lay cs deep) ∙ ap length frame
 
-        by : (b : Binding) → TurnAt b (None ∷ None ∷ lay) start first → length fr + (2 + declared_count b + need_of_nodes body) + spare ≤ room
-            → ((ds : List Cell) (there : ℕ) → drop there plan.code ≡ first → frame_of (bound_on b (None ∷ None ∷ lay)) ds ≡ bound_in b (outer k) → length (bound_on b (None ∷ None ∷ lay)) ≤ length ds
-            → env_of (bound_on b (None ∷ None ∷ lay)) ds ≡ bound b e (env_of lay cs) → Leading (record s { cells = ds; dot = e.1; place = there }))
-            → Leading now
+        by : (b : Binding) → TurnAt b (None ∷ None ∷ lay) start first → length fr + (2 + declared_count b + need_of_nodes body) + spare ≤ way.room
+            → ((ds : List Cell) (there : ℕ) → drop there way.plan.code ≡ first → frame_of (bound_on b (None ∷ None ∷ lay)) ds ≡ bound_in b (outer k) → length (bound_on b (None ∷ None ∷ lay)) ≤ length ds
+            → env_of (bound_on b (None ∷ None ∷ lay)) ds ≡ bound b e (env_of lay cs) → ways.Leading way (record s { cells = ds; dot = e.1; place = there }))
+            → ways.Leading way now
         by unbound l fits more =
             turns-by 0 first l (let same = long in omega arith)
-            (more (saved ∷ cell v k ∷ cs) (s.place + 1) (ahead-one plan.code first s.place (code.turn 0) (at ∙ l)) (ap (λ l. Some saved ∷ Some (cell v k) ∷ l) frame) (omega arith) refl)
+            (more (saved ∷ cell v k ∷ cs) (s.place + 1) (ahead-one way.plan.code first s.place (code.turn 0) (at ∙ l)) (ap (λ l. Some saved ∷ Some (cell v k) ∷ l) frame) (omega arith) refl)
         by (declare x) l fits more =
             turns-by 1 first l (let same = long in omega arith)
-            (more (fresh e.1 ∷ saved ∷ cell v k ∷ cs) (s.place + 1) (ahead-one plan.code first s.place (code.turn 1) (at ∙ l)) (ap (λ l. None ∷ Some saved ∷ Some (cell v k) ∷ l) frame) (omega arith) refl)
+            (more (fresh e.1 ∷ saved ∷ cell v k ∷ cs) (s.place + 1) (ahead-one way.plan.code first s.place (code.turn 1) (at ∙ l)) (ap (λ l. None ∷ Some saved ∷ Some (cell v k) ∷ l) frame) (omega arith) refl)
         by (declare_pair i x) l fits more =
             turns-by 2 first l (let same = long in omega arith)
-            (more (fresh e.1 ∷ fresh e.0 ∷ saved ∷ cell v k ∷ cs) (s.place + 1) (ahead-one plan.code first s.place (code.turn 2) (at ∙ l)) (ap (λ l. None ∷ None ∷ Some saved ∷ Some (cell v k) ∷ l) frame) (omega arith) refl)
+            (more (fresh e.1 ∷ fresh e.0 ∷ saved ∷ cell v k ∷ cs) (s.place + 1) (ahead-one way.plan.code first s.place (code.turn 2) (at ∙ l)) (ap (λ l. None ∷ None ∷ Some saved ∷ Some (cell v k) ∷ l) frame) (omega arith) refl)
         by (assign x) l fits more =
             turns-by 0 l.0 l.1 (let same = long in omega arith)
             (sets (slot_named x (None ∷ None ∷ lay)) refl l.2)
           where
-            there : drop (s.place + 1) plan.code ≡ l.0
-            there = ahead-one plan.code l.0 s.place (code.turn 0) (at ∙ l.1)
+            there : drop (s.place + 1) way.plan.code ≡ l.0
+            there = ahead-one way.plan.code l.0 s.place (code.turn 0) (at ∙ l.1)
 
             sets : (o : Option ℕ) → slot_named x (None ∷ None ∷ lay) ≡ o → SetDotAt o l.0 first
-                → Leading (record s { cells = saved ∷ cell v k ∷ cs; dot = e.1; place = s.place + 1 })
+                → ways.Leading way (record s { cells = saved ∷ cell v k ∷ cs; dot = e.1; place = s.place + 1 })
             sets None is-slot l = more (saved ∷ cell v k ∷ cs) (s.place + 1) (there ∙ l) (ap (λ l. Some saved ∷ Some (cell v k) ∷ l) frame) (omega arith) (sym (stored-none x (None ∷ None ∷ lay) (saved ∷ cell v k ∷ cs) e.1 is-slot))
             sets (Some i) is-slot l =
-                ways.takes plan room f who me is-me home (record s { cells = saved ∷ cell v k ∷ cs; dot = e.1; place = s.place + 1 }) (code.set_dot i) first same (there ∙ l) (let below = found-within x (None ∷ None ∷ lay) i is-slot in omega arith)
-                (more (slice_set (saved ∷ cell v k ∷ cs) i (fresh e.1)) (s.place + 1 + 1) (ahead-one plan.code first (s.place + 1) (code.set_dot i) (there ∙ l))
+                ways.takes way (record s { cells = saved ∷ cell v k ∷ cs; dot = e.1; place = s.place + 1 }) (code.set_dot i) first same (there ∙ l) (let below = found-within x (None ∷ None ∷ lay) i is-slot in omega arith)
+                (more (slice_set (saved ∷ cell v k ∷ cs) i (fresh e.1)) (s.place + 1 + 1) (ahead-one way.plan.code first (s.place + 1) (code.set_dot i) (there ∙ l))
                 (frame-set x (None ∷ None ∷ lay) (saved ∷ cell v k ∷ cs) i (fresh e.1) is-slot (omega arith) ∙ ap (λ l. Some saved ∷ Some (cell v k) ∷ l) frame) (omega (arith, length-set (saved ∷ cell v k ∷ cs) i (fresh e.1)))
                 (stored x (None ∷ None ∷ lay) (saved ∷ cell v k ∷ cs) i e.1 is-slot (omega arith)))
 
     -- a turn from its first instruction on
-    turn-leads : NodesLead body → (e : Element) (es : List Element) (k : ℕ) (cs : List Cell) (s : State) → ways.who_of s ≡ who
-        → drop k (elements_in (elements v)) ≡ e ∷ es → drop s.place plan.code ≡ start
+    turn-leads : NodesLead body → (e : Element) (es : List Element) (k : ℕ) (cs : List Cell) (s : State) → ways.who_of s ≡ way.who
+        → drop k (elements_in (elements v)) ≡ e ∷ es → drop s.place way.plan.code ≡ start
         → frame_of lay cs ≡ fr → length lay ≤ length cs
-        → After B g (after_turn (scoped (length (env_of lay cs)) (part e (run_of lay (record s { cells = cs })))) (others es))
-        → ((r : Run) → After B g (others es r) → (t : State) → behind k r t → Leading t)
-        → Leading (record s { cells = saved ∷ cell v k ∷ cs })
+        → ways.After way B g (after_turn (scoped (length (env_of lay cs)) (part e (run_of lay (record s { cells = cs })))) (others es))
+        → ((r : Run) → ways.After way B g (others es r) → (t : State) → behind k r t → ways.Leading way t)
+        → ways.Leading way (record s { cells = saved ∷ cell v k ∷ cs })
     turn-leads ih e es k cs s same here at frame deep h next =
         begins-turn e es k cs s same here at frame deep
         (λ ds there at-first is-frame is-deep is-env.
@@ -293,18 +280,18 @@ module _ (plan : Plan) (room : ℕ) (f : Ran) (who : Who) (me : Template) (is-me
         (record { at = at-first; runs = same; frame = is-frame; deep = is-deep })
         inside
         (let long = length-bound b (outer k) in omega arith)
-        (subst (λ (w : Environment). let r : Run = record { env = w; text = s.text; left = s.left; made_text = s.made_text } in After goal (Some (turning k)) (meanings set body e.1 r)) (sym is-env)
-        (ways.then-map plan room f who me is-me home C goal (Some (turning k)) x.0 x.1 (λ r h. body-ends k e.1 r h)
+        (subst (λ (w : Environment). let r : Run = record { env = w; text = s.text; left = s.left; made_text = s.made_text } in ways.After way goal (Some (turning k)) (meanings (ways.setting way calls) body e.1 r)) (sym is-env)
+        (ways.then-map way C goal (Some (turning k)) x.0 x.1 (λ r h. body-ends k e.1 r h)
         (on-turn es k x (length (env_of lay cs)) (length-env lay cs deep) h next))))
       where
         x : Run × End
         x = part e (run_of lay (record s { cells = cs }))
 
         goal : Run → Type 0
-        goal = Onward (code.next (declared_count b + declared_in body) to line ∷ second) (all_grown body inner) (all_grown_in body (bound_in b (outer k))) e.1
+        goal = ways.Onward way (code.next (declared_count b + declared_in body) to line ∷ second) (all_grown body inner) (all_grown_in body (bound_in b (outer k))) e.1
 
         C : Run → Type 0
-        C r = (t : State) → behind k (cut_to (named lay) r) t → Leading t
+        C r = (t : State) → behind k (cut_to (named lay) r) t → ways.Leading way t
 
         inside : Within (turning k) inner (bound_in b (outer k))
         inside = record {
@@ -316,24 +303,24 @@ module _ (plan : Plan) (room : ℕ) (f : Ran) (who : Who) (me : Template) (is-me
 
     -- the instruction behind a turn, by the elements that are left
     nexts : (es : List Element) (k : ℕ) → drop (suc k) (elements_in (elements v)) ≡ es → (r : Run) (t : State) (tu : behind k r t)
-        → Comes Leading (again plan me tu.skip line saved (cell v k) tu.cs es t) f → Leading t
+        → Comes (ways.Leading way) (again way.plan way.me tu.skip line saved (cell v k) tu.cs es t) way.end → ways.Leading way t
     nexts es k here r t tu h =
-        ways.takes plan room f who me is-me home t (code.next tu.n tu.skip line) tu.more tu.runs tu.at tt
-        (subst (λ cs. Comes Leading (ring cs (λ d v cs. again plan me tu.skip line d v cs (drop 1 (left_in v)) t)) f) (sym tu.cells)
-        (subst (λ l. Comes Leading (again plan me tu.skip line saved (cell v k) tu.cs l t) f) (sym (drop-one (elements_in (elements v)) k ∙ here)) h))
+        ways.takes way t (code.next tu.n tu.skip line) tu.more tu.runs tu.at tt
+        (subst (λ cs. Comes (ways.Leading way) (ring cs (λ d v cs. again way.plan way.me tu.skip line d v cs (drop 1 (left_in v)) t)) way.end) (sym tu.cells)
+        (subst (λ l. Comes (ways.Leading way) (again way.plan way.me tu.skip line saved (cell v k) tu.cs l t) way.end) (sym (drop-one (elements_in (elements v)) k ∙ here)) h))
 
     -- behind a turn
-    next-leads : NodesLead body → (es : List Element) (k : ℕ) → drop (suc k) (elements_in (elements v)) ≡ es → (r : Run) → After B g (others es r)
-        → (t : State) → behind k r t → Leading t
+    next-leads : NodesLead body → (es : List Element) (k : ℕ) → drop (suc k) (elements_in (elements v)) ≡ es → (r : Run) → ways.After way B g (others es r)
+        → (t : State) → behind k r t → ways.Leading way t
     next-leads ih [] k here r h t tu =
         nexts [] k here r t tu
-        (leaves r (record t { cells = tu.cs; dot = d; place = t.place + 1 + tu.skip }) h (record { at = ahead plan.code tu.more t.place tu.skip (code.next tu.n tu.skip line) tu.at ∙ tu.far; runs = tu.runs; frame = tu.frame; deep = tu.deep }) refl tu.run)
+        (leaves r (record t { cells = tu.cs; dot = d; place = t.place + 1 + tu.skip }) h (record { at = ahead way.plan.code tu.more t.place tu.skip (code.next tu.n tu.skip line) tu.at ∙ tu.far; runs = tu.runs; frame = tu.frame; deep = tu.deep }) refl tu.run)
     next-leads ih (e ∷ es) k here r h t tu =
-        nexts (e ∷ es) k here r t tu (on (λ r h t tu. next-leads ih es (suc k) (one-less (elements_in (elements v)) (suc k) e es here) r h t tu) (nat_eq t.left 0) (subst (λ r. After B g (others (e ∷ es) r)) (sym tu.run) h))
+        nexts (e ∷ es) k here r t tu (on (λ r h t tu. next-leads ih es (suc k) (one-less (elements_in (elements v)) (suc k) e es here) r h t tu) (nat_eq t.left 0) (subst (λ r. ways.After way B g (others (e ∷ es) r)) (sym tu.run) h))
       where
-        on : ((r : Run) → After B g (others es r) → (t : State) → behind (suc k) r t → Leading t)
-            → (c : Bool) → After B g (after_turn (spend_if c set line (scope (λ r. part e r)) (run_of lay (record t { cells = tu.cs }))) (others es))
-            → Comes Leading (paid_if c plan me line t (λ s. onto (saved ∷ cell v (suc k) ∷ tu.cs) place s)) f
+        on : ((r : Run) → ways.After way B g (others es r) → (t : State) → behind (suc k) r t → ways.Leading way t)
+            → (c : Bool) → ways.After way B g (after_turn (spend_if c (ways.setting way calls) line (scope (λ r. part e r)) (run_of lay (record t { cells = tu.cs }))) (others es))
+            → Comes (ways.Leading way) (paid_if c way.plan way.me line t (λ s. onto (saved ∷ cell v (suc k) ∷ tu.cs) place s)) way.end
         on next true h = h
         on next false h =
             turn-leads ih e es (suc k) tu.cs (record t { left = t.left - 1; line = line; place = place }) tu.runs here begin tu.frame tu.deep h next
@@ -341,49 +328,49 @@ module _ (plan : Plan) (room : ℕ) (f : Ran) (who : Who) (me : Template) (is-me
   -- ---- ranges
 
   pub range-leads : (line : ℕ) (h : Header) (body other : Nodes) → NodesLead body → NodesLead other
-      → nodes.NodeLeads plan room f who me is-me home calls spare pipes line (tree.control_node control.Range h body other)
+      → nodes.NodeLeads way calls spare pipes line (tree.control_node control.Range h body other)
   range-leads line h body other ih-body ih-other g lay fr here rest s l st same-line inside fits more-fits k =
-      value-leads plan room f who me is-me home calls pipes B g line s.left h.pipeline lay fr here l.0 s go
+      value-leads way calls pipes B g line s.left h.pipeline lay fr here l.0 s go
       l.1 st same-line (subst Plain (sym l.2.5) refl) (omega arith)
-      (ways.unscope plan room f who me is-me home A g lay fr (length (env_of lay s.cells)) (ranging set line h s.dot (λ v. meanings set body v) (meanings set other s.dot) (run_of lay s)) (length-env lay s.cells st.deep) inside k)
-      (λ v m place at k. ways.takes plan room f who me is-me home (valued v m place s) (code.enter (declares_key h.binding) l.2.3) l.2.0 st.runs (at ∙ l.2.5)
+      (ways.unscope way A g lay fr (length (env_of lay s.cells)) (ranging (ways.setting way calls) line h s.dot (λ v. meanings (ways.setting way calls) body v) (meanings (ways.setting way calls) other s.dot) (run_of lay s)) (length-env lay s.cells st.deep) inside k)
+      (λ v m place at k. ways.takes way (valued v m place s) (code.enter (declares_key h.binding) l.2.3) l.2.0 st.runs (at ∙ l.2.5)
       (let long = length-frame lay s.cells st.deep in let same = ap length st.frame in omega arith)
-      (by v m place (at ∙ l.2.5) (elements_for (declares_key h.binding) v) refl (subst (λ o. After B g (over set line h.binding (λ v. meanings set body v) (meanings set other s.dot) o (run_at lay m s))) (visited-is h.binding v) k)))
+      (by v m place (at ∙ l.2.5) (elements_for (declares_key h.binding) v) refl (subst (λ o. ways.After way B g (over (ways.setting way calls) line h.binding (λ v. meanings (ways.setting way calls) body v) (meanings (ways.setting way calls) other s.dot) o (run_at lay m s))) (visited-is h.binding v) k)))
     where
       A : Run → Type 0
-      A = Onward rest lay fr s.dot
+      A = ways.Onward way rest lay fr s.dot
 
       B : Run → Type 0
       B = λ r. A (cut_to (named lay) r)
 
       go : Value → Next
-      go v = over set line h.binding (λ v. meanings set body v) (meanings set other s.dot) (visited h.binding v)
+      go v = over (ways.setting way calls) line h.binding (λ v. meanings (ways.setting way calls) body v) (meanings (ways.setting way calls) other s.dot) (visited h.binding v)
 
-      by : (v : Value) (m : Bool) (place : ℕ) → drop place plan.code ≡ code.enter (declares_key h.binding) l.2.3 ∷ l.2.0
+      by : (v : Value) (m : Bool) (place : ℕ) → drop place way.plan.code ≡ code.enter (declares_key h.binding) l.2.3 ∷ l.2.0
           → (o : Option (List Element)) → elements_for (declares_key h.binding) v ≡ o
-          → After B g (over set line h.binding (λ v. meanings set body v) (meanings set other s.dot) o (run_at lay m s))
-          → Comes Leading (opened plan me l.2.3 (fresh v) s.cells o (valued v m place s)) f
-      by v m place at None e k = ap (λ n. ran_so (valued v m place s) (Some (fault_at me n not_a_range))) same-line ∙ k
+          → ways.After way B g (over (ways.setting way calls) line h.binding (λ v. meanings (ways.setting way calls) body v) (meanings (ways.setting way calls) other s.dot) o (run_at lay m s))
+          → Comes (ways.Leading way) (opened way.plan way.me l.2.3 (fresh v) s.cells o (valued v m place s)) way.end
+      by v m place at None e k = ap (λ n. ran_so (valued v m place s) (Some (fault_at way.me n not_a_range))) same-line ∙ k
       by v m place at (Some []) e k =
-          nodes.part-leads plan room f who me is-me home calls spare pipes other ih-other unbound g lay fr l.2.2 rest rest 0 s.dot (run_at lay m s) _ (subst (λ n. Ended n 0 (NodesAt plan.templates other lay (exit_of g)) l.2.2 rest) zero-more l.2.8) refl inside (omega arith)
-          (record { at = ahead plan.code l.2.0 place l.2.3 (code.enter (declares_key h.binding) l.2.3) at ∙ l.2.9; runs = st.runs; frame = st.frame; deep = st.deep }) refl refl k
+          nodes.part-leads way calls spare pipes other ih-other unbound g lay fr l.2.2 rest rest 0 s.dot (run_at lay m s) _ (subst (λ n. Ended n 0 (NodesAt way.plan.templates other lay (exit_of g)) l.2.2 rest) zero-more l.2.8) refl inside (omega arith)
+          (record { at = ahead way.plan.code l.2.0 place l.2.3 (code.enter (declares_key h.binding) l.2.3) at ∙ l.2.9; runs = st.runs; frame = st.frame; deep = st.deep }) refl refl k
         where
           zero-more : declared_in other ≡ 0 + declared_in other
           zero-more = omega arith
       by v m place at (Some (e ∷ es)) is k = on (nat_eq s.left 0) k
         where
-          begin : drop (place + 1) plan.code ≡ l.2.0
-          begin = ahead-one plan.code l.2.0 place (code.enter (declares_key h.binding) l.2.3) at
+          begin : drop (place + 1) way.plan.code ≡ l.2.0
+          begin = ahead-one way.plan.code l.2.0 place (code.enter (declares_key h.binding) l.2.3) at
 
-          more : length fr + (2 + declared_count h.binding + need_of_nodes body) + spare ≤ room
+          more : length fr + (2 + declared_count h.binding + need_of_nodes body) + spare ≤ way.room
           more = omega arith
 
           here-es : elements_in (elements v) ≡ e ∷ es
           here-es = elements-are (declares_key h.binding) v (e ∷ es) is
 
-          on : (c : Bool) → After B g (after_turn (spend_if c set line (scope (λ r. meanings set body e.1 (with_bound h.binding e r))) (run_at lay m s)) (turns set line h.binding (λ v. meanings set body v) es))
-              → Comes Leading (paid_if c plan me s.line (valued v m place s) (λ t. goes (record t { cells = cell t.dot (t.place + 1) ∷ fresh v ∷ s.cells; dot = nothing; place = t.place + 1 }))) f
-          on true h = ap (λ n. ran_so (valued v m place s) (Some (fault_at me n (meaning.steps_spent plan.rules.step_limit)))) same-line ∙ h
+          on : (c : Bool) → ways.After way B g (after_turn (spend_if c (ways.setting way calls) line (scope (λ r. meanings (ways.setting way calls) body e.1 (with_bound h.binding e r))) (run_at lay m s)) (turns (ways.setting way calls) line h.binding (λ v. meanings (ways.setting way calls) body v) es))
+              → Comes (ways.Leading way) (paid_if c way.plan way.me s.line (valued v m place s) (λ t. goes (record t { cells = cell t.dot (t.place + 1) ∷ fresh v ∷ s.cells; dot = nothing; place = t.place + 1 }))) way.end
+          on true h = ap (λ n. ran_so (valued v m place s) (Some (fault_at way.me n (meaning.steps_spent way.plan.rules.step_limit)))) same-line ∙ h
           on false hk =
               turn-leads h.binding line body g lay fr l.2.0 l.2.1 l.2.2 rest l.2.4 s.dot v (place + 1) l.2.10 more begin l.2.6 l.2.7 ih-body e es 0 s.cells
               (record (valued v m place s) { dot = nothing; left = s.left - 1; place = place + 1 }) st.runs here-es begin st.frame st.deep hk

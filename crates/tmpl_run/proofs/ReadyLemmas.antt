@@ -1,16 +1,15 @@
 -- For `execute`: what an instruction asks for is there in a state that comes to an end, so it does not get stuck, and its place can be counted.
 use Rattle.std.proofs.lemmas.Bool.Decides.{nat_tests}
-use Rattle.std.proofs.Common.{arith, nat_lt, ◌≡◌, ◌+◌, ◌-◌, ◌^◌, ◌<◌, ◌≤◌, ℕ, zero, suc, Bool, true, false, List, [], ◌∷◌, length, drop}
+use Rattle.std.proofs.Common.{arith, nat_lt, ◌≡◌, ◌+◌, ◌-◌, ◌^◌, ◌<◌, ◌≤◌, ℕ, zero, suc, true, false, List, [], ◌∷◌, length, drop}
 use Rattle.std.proofs.Common.{refl, subst, Option, Some, None, length-drop}
 use Rattle.std.specs.Prelude.{slice_get}
 use Rattle.tmpl_values.specs.Elements.{Element, element_at, elements, item_at}
-use Rattle.tmpl_values.specs.Truth.{truth}
 use Rattle.tmpl_syntax.specs.Set.{Template}
 use Rattle.tmpl_code.specs.Instruction as code
-use Rattle.tmpl_run.specs.Cell.{Cell, slot, slot_cell}
+use Rattle.tmpl_run.specs.Cell.{Cell, slot_cell}
 use Rattle.tmpl_run.specs.State.{Plan, State}
-use Rattle.tmpl_run.specs.Machine.{Turn, again, branch, done, elements_for, elements_in, has_more, invoked, left_in, opened, returned_if}
-use Rattle.tmpl_run.specs.Machine.{ring, top, turned, with_dot}
+use Rattle.tmpl_run.specs.Machine.{Turn, again, done, elements_in, has_more, invoked, left_in, returned_if}
+use Rattle.tmpl_run.specs.Machine.{ring, top, turned}
 use Rattle.tmpl_run.specs.Ready.{Lands}
 use Rattle.tmpl_run.proofs.TurnLemmas.{none-left}
 
@@ -40,34 +39,6 @@ module _ (plan : Plan) (t : Template) (s : State) where
   -- the place to which an instruction jumps
   abbrev Jumps : ℕ → Type 0
   Jumps skip = s.place + 1 + skip < 2 ^ 64
-
-  pub cut-jumps : (n skip : ℕ) → Lands (done plan t (code.cut n skip) s) → s.place + 1 + skip < 2 ^ 64
-  cut-jumps n skip h = h
-
-  pub unless-jumps : (kept : Bool) (skip : ℕ) → Lands (done plan t (code.unless kept skip) s) → truth (slot 0 s.cells) ≡ false → s.place + 1 + skip < 2 ^ 64
-  unless-jumps kept skip h e = by s.cells h e
-    where
-      by : (cs : List Cell) → Lands (top cs (λ c cs. branch (truth c.val) kept skip c cs s)) → truth (slot 0 cs) ≡ false → Jumps skip
-      by [] h e = absurd h
-      by (c ∷ cs) h e = subst (λ b. Lands (branch b kept skip c cs s)) e h
-
-  pub with-jumps : (kept : Bool) (skip : ℕ) → Lands (done plan t (code.enter_with kept skip) s) → truth (slot 0 s.cells) ≡ false → s.place + 1 + skip < 2 ^ 64
-  with-jumps kept skip h e = by s.cells h e
-    where
-      by : (cs : List Cell) → Lands (top cs (λ c cs. with_dot (truth c.val) kept skip c cs s)) → truth (slot 0 cs) ≡ false → Jumps skip
-      by [] h e = absurd h
-      by (c ∷ cs) h e = subst (λ b. Lands (with_dot b kept skip c cs s)) e h
-
-  pub end-with-jumps : (n variables skip : ℕ) → Lands (done plan t (code.end_with n variables skip) s) → s.place + 1 + skip < 2 ^ 64
-  end-with-jumps n variables skip h = top-lands (Jumps skip) (drop n s.cells) _ (λ c cs l. l) h
-
-  pub enter-jumps : (key : Bool) (skip : ℕ) → Lands (done plan t (code.enter key skip) s) → elements_for key (slot 0 s.cells) ≡ Some []
-      → s.place + 1 + skip < 2 ^ 64
-  enter-jumps key skip h e = by s.cells h e
-    where
-      by : (cs : List Cell) → Lands (top cs (λ c cs. opened plan t skip c cs (elements_for key c.val) s)) → elements_for key (slot 0 cs) ≡ Some [] → Jumps skip
-      by [] h e = absurd h
-      by (c ∷ cs) h e = subst (λ o. Lands (opened plan t skip c cs o s)) e h
 
   none-here : (es : List Element) (i : ℕ) → slice_get es i ≡ None → drop i es ≡ []
   none-here [] zero h = refl

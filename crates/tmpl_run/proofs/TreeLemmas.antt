@@ -29,110 +29,110 @@ use Rattle.tmpl_run.proofs.RangeLemmas.{break-leads, continue-leads, range-leads
 use Rattle.tmpl_run.proofs.SlotLemmas.{Frame, all_grown, all_grown_in, frame-drop, frame-grown, frame_of, grown_in, over-grown, over-none, run_of}
 use Rattle.tmpl_run.proofs.StepLemmas.{pipelines-lead}
 use Rattle.tmpl_run.proofs.WayLemmas as ways
-use Rattle.tmpl_run.proofs.WayLemmas.{Ring, Stands, Who, bare, exit_of, seen, who_of}
+use Rattle.tmpl_run.proofs.WayLemmas.{Ring, Stands, Way, Who, bare, exit_of, seen, way_of, who_of}
 
-module _ (plan : Plan) (room : ℕ) (f : Ran) (who : Who) (me : Template) (is-me : slice_get plan.templates who.number ≡ Some me) (home : Frame) (first : 1 ≤ who.depth) (linked : Starts plan.templates plan.templates plan.starts plan.code)
-    (n : ℕ) (deeper : Deeper plan room f n) (depth : who.depth + n ≡ plan.rules.depth_limit) (base : ℕ) (tall : length home ≡ 3 + base) (left : Left plan.templates room n who.number base) where
-  abbrev pipes : Pipelines plan room f who me
-  pipes = pipelines-lead plan room f who me is-me home
+module _ (way : Way) (first : 1 ≤ way.who.depth) (linked : Starts way.plan.templates way.plan.templates way.plan.starts way.plan.code)
+    (n : ℕ) (deeper : Deeper way.plan way.room way.end n) (depth : way.who.depth + n ≡ way.plan.rules.depth_limit) (base : ℕ) (tall : length way.home ≡ 3 + base) (left : Left way.plan.templates way.room n way.who.number base) where
+  abbrev pipes : Pipelines way
+  pipes = pipelines-lead way
 
   abbrev calls : Calls
-  calls = calls_within plan.rules plan.templates n
+  calls = calls_within way.plan.rules way.plan.templates n
 
   -- what is left above the template's own cells
   abbrev spare : ℕ
-  spare = room - (base + need me.1)
+  spare = way.room - (base + need way.me.1)
 
-  fits-here : base + need me.1 ≤ room
-  fits-here = let own = left [] tt (omega arith) in let mine = need-is plan.templates who.number me is-me in omega arith
+  fits-here : base + need way.me.1 ≤ way.room
+  fits-here = let own = left [] tt (omega arith) in let mine = need-is way.plan.templates way.who.number way.me way.is-me in omega arith
 
   -- the template names what these name
   abbrev Mine : (List ℕ → Type 0) → Type 0
-  Mine Names = (name : List ℕ) → Names name → NodesName name me.1.nodes
+  Mine Names = (name : List ℕ) → Names name → NodesName name way.me.1.nodes
 
   abbrev set : Setting
-  set = setting_of plan.rules calls me.0 me.1
+  set = setting_of way.plan.rules calls way.me.0 way.me.1
 
-  control-leads : (line : ℕ) (c : Control) (h : Header) (body other : Nodes) → nodes.NodesLead plan room f who me is-me home calls spare pipes body
-      → nodes.NodesLead plan room f who me is-me home calls spare pipes other
-      → nodes.NodeLeads plan room f who me is-me home calls spare pipes line (tree.control_node c h body other)
-  control-leads line control.If h body other ih-body ih-other = if-leads plan room f who me is-me home calls spare pipes line h body other ih-body ih-other
-  control-leads line control.With h body other ih-body ih-other = with-leads plan room f who me is-me home calls spare pipes line h body other ih-body ih-other
+  control-leads : (line : ℕ) (c : Control) (h : Header) (body other : Nodes) → nodes.NodesLead way calls spare pipes body
+      → nodes.NodesLead way calls spare pipes other
+      → nodes.NodeLeads way calls spare pipes line (tree.control_node c h body other)
+  control-leads line control.If h body other ih-body ih-other = if-leads way calls spare pipes line h body other ih-body ih-other
+  control-leads line control.With h body other ih-body ih-other = with-leads way calls spare pipes line h body other ih-body ih-other
   control-leads line control.Range h body other ih-body ih-other =
-      range-leads plan room f who me is-me home calls spare pipes line h body other ih-body ih-other
+      range-leads way calls spare pipes line h body other ih-body ih-other
 
-  text-leads : (line : ℕ) (bytes : List ℕ) → nodes.NodeLeads plan room f who me is-me home calls spare pipes line (tree.text bytes)
+  text-leads : (line : ℕ) (bytes : List ℕ) → nodes.NodeLeads way calls spare pipes line (tree.text bytes)
   text-leads line bytes g lay fr here rest s l st same-line inside fits more-fits k =
-      ways.takes plan room f who me is-me home s (code.put bytes) rest st.runs (st.at ∙ l) tt
-      (k _ (record { at = ahead-one plan.code rest s.place (code.put bytes) (st.at ∙ l); runs = st.runs; frame = st.frame; deep = st.deep }) refl refl)
+      ways.takes way s (code.put bytes) rest st.runs (st.at ∙ l) tt
+      (k _ (record { at = ahead-one way.plan.code rest s.place (code.put bytes) (st.at ∙ l); runs = st.runs; frame = st.frame; deep = st.deep }) refl refl)
 
   mutual
-    step-leads : (line : ℕ) (n : NodeKind) → Mine (λ name. NodeNames name n) → nodes.StepLeads plan room f who me is-me home calls spare pipes line n
+    step-leads : (line : ℕ) (n : NodeKind) → Mine (λ name. NodeNames name n) → nodes.StepLeads way calls spare pipes line n
     step-leads line (tree.text bytes) mine g lay fr here start rest s l at-node st inside fits more-fits k =
-        spent plan room f who me is-me home calls spare pipes line (tree.text bytes) refl (text-leads line bytes) g lay fr here start rest s l at-node st inside fits more-fits k
+        spent way calls spare pipes line (tree.text bytes) refl (text-leads line bytes) g lay fr here start rest s l at-node st inside fits more-fits k
     step-leads line (tree.action h) mine g lay fr here start rest s l at-node st inside fits more-fits k =
-        spent plan room f who me is-me home calls spare pipes line (tree.action h) refl (action-leads plan room f who me is-me home calls spare pipes line h) g lay fr here start rest s l at-node st inside fits more-fits k
+        spent way calls spare pipes line (tree.action h) refl (action-leads way calls spare pipes line h) g lay fr here start rest s l at-node st inside fits more-fits k
     step-leads line (tree.control_node c h body other) mine g lay fr here start rest s l at-node st inside fits more-fits k =
-        spent plan room f who me is-me home calls spare pipes line (tree.control_node c h body other) refl
+        spent way calls spare pipes line (tree.control_node c h body other) refl
         (control-leads line c h body other (λ g lay fr here rest s l st inside fits k. nodes-lead body (λ name names. mine name (inl names)) g lay fr here rest s l st inside fits k)
         (λ g lay fr here rest s l st inside fits k. nodes-lead other (λ name names. mine name (inr names)) g lay fr here rest s l st inside fits k)) g lay fr here start rest s l at-node st inside fits more-fits k
-    step-leads line tree.break_node mine g lay fr here start rest s l at-node st inside fits more-fits k = spent plan room f who me is-me home calls spare pipes line tree.break_node refl (break-leads plan room f who me is-me home calls spare pipes line) g lay fr here start rest s l at-node st inside fits more-fits k
-    step-leads line tree.continue_node mine g lay fr here start rest s l at-node st inside fits more-fits k = spent plan room f who me is-me home calls spare pipes line tree.continue_node refl (continue-leads plan room f who me is-me home calls spare pipes line) g lay fr here start rest s l at-node st inside fits more-fits k
+    step-leads line tree.break_node mine g lay fr here start rest s l at-node st inside fits more-fits k = spent way calls spare pipes line tree.break_node refl (break-leads way calls spare pipes line) g lay fr here start rest s l at-node st inside fits more-fits k
+    step-leads line tree.continue_node mine g lay fr here start rest s l at-node st inside fits more-fits k = spent way calls spare pipes line tree.continue_node refl (continue-leads way calls spare pipes line) g lay fr here start rest s l at-node st inside fits more-fits k
     step-leads line (tree.template_node name given) mine g lay fr here start rest s l at-node st inside fits more-fits k =
-        call-leads plan room f who me is-me home pipes first linked n deeper depth base spare left (let own = fits-here in omega arith) line name given (mine name refl) g lay fr here start rest s l at-node st inside fits more-fits k
+        call-leads way pipes first linked n deeper depth base spare left (let own = fits-here in omega arith) line name given (mine name refl) g lay fr here start rest s l at-node st inside fits more-fits k
 
-    nodes-lead : (ns : Nodes) → Mine (λ name. NodesName name ns) → nodes.NodesLead plan room f who me is-me home calls spare pipes ns
+    nodes-lead : (ns : Nodes) → Mine (λ name. NodesName name ns) → nodes.NodesLead way calls spare pipes ns
     nodes-lead tree.none mine g lay fr here rest s l st inside fits k = k s (record { at = st.at ∙ l; runs = st.runs; frame = st.frame; deep = st.deep }) refl refl
     nodes-lead (tree.then line n ns) mine g lay fr here rest s l st inside fits k =
         step-leads line n (λ name names. mine name (inl names)) g lay fr here l.0 l.1 s l.2 l.3 st inside (omega arith) (omega arith)
-        (ways.then-map plan room f who me is-me home (λ r. ways.After plan room f who me is-me home A g (meanings set ns s.dot r)) (ways.Onward plan room f who me is-me home l.1 (grown n lay) (grown_in n fr) s.dot) g x.0 x.1
-        (λ r k t stands dot run. nodes-lead ns (λ name names. mine name (inr names)) g (grown n lay) (grown_in n fr) l.1 rest t l.4 stands (inside-grown home g n lay fr inside) (let long = length-grown n fr in omega arith)
-        (subst (λ d. ways.After plan room f who me is-me home (ways.Onward plan room f who me is-me home rest (all_grown ns (grown n lay)) (all_grown_in ns (grown_in n fr)) d) g (meanings set ns d (run_of (grown n lay) t))) (sym dot)
-        (subst (λ r. ways.After plan room f who me is-me home A g (meanings set ns s.dot r)) (sym run) k)))
-        (ways.then-on plan room f who me is-me home A g x.0 x.1 (meanings set ns s.dot) k))
+        (ways.then-map way (λ r. ways.After way A g (meanings set ns s.dot r)) (ways.Onward way l.1 (grown n lay) (grown_in n fr) s.dot) g x.0 x.1
+        (λ r k t stands dot run. nodes-lead ns (λ name names. mine name (inr names)) g (grown n lay) (grown_in n fr) l.1 rest t l.4 stands (inside-grown way.home g n lay fr inside) (let long = length-grown n fr in omega arith)
+        (subst (λ d. ways.After way (ways.Onward way rest (all_grown ns (grown n lay)) (all_grown_in ns (grown_in n fr)) d) g (meanings set ns d (run_of (grown n lay) t))) (sym dot)
+        (subst (λ r. ways.After way A g (meanings set ns s.dot r)) (sym run) k)))
+        (ways.then-on way A g x.0 x.1 (meanings set ns s.dot) k))
       where
         A : Run → Type 0
-        A = ways.Onward plan room f who me is-me home rest (all_grown ns (grown n lay)) (all_grown_in ns (grown_in n fr)) s.dot
+        A = ways.Onward way rest (all_grown ns (grown n lay)) (all_grown_in ns (grown_in n fr)) s.dot
 
         x : Run × End
         x = meaning.spend set line (stepped set line n s.dot) (run_of lay s)
 
   -- a whole template
-  template-leads : (s : State) → who_of s ≡ who → slice_get plan.starts who.number ≡ Some s.place → frame_of first_layout s.cells ≡ home → 3 ≤ length s.cells
-      → ways.After plan room f who me is-me home (ways.Leaves plan room f who me is-me home) None (meanings set me.1.nodes s.dot (run_of first_layout s))
-      → Ends plan room s f
+  template-leads : (s : State) → who_of s ≡ way.who → slice_get way.plan.starts way.who.number ≡ Some s.place → frame_of first_layout s.cells ≡ way.home → 3 ≤ length s.cells
+      → ways.After way (ways.Leaves way) None (meanings set way.me.1.nodes s.dot (run_of first_layout s))
+      → ways.Leading way s
   template-leads s same at-start frame deep k =
-      nodes-lead me.1.nodes (λ name names. names) None first_layout home (drop s.place plan.code) end s (subst (λ p. NodesAt plan.templates me.1.nodes first_layout None (drop p plan.code) end) place start.laid) (record { at = refl; runs = same; frame = frame; deep = deep }) (record { n = 0; over = over-none first_layout; cells = refl }) (let own = fits-here in let high = tall in omega arith)
-      (ways.then-map plan room f who me is-me home (ways.Leaves plan room f who me is-me home) (ways.Onward plan room f who me is-me home end (all_grown me.1.nodes first_layout) (all_grown_in me.1.nodes home) s.dot) None x.0 x.1
+      nodes-lead way.me.1.nodes (λ name names. names) None first_layout way.home (drop s.place way.plan.code) end s (subst (λ p. NodesAt way.plan.templates way.me.1.nodes first_layout None (drop p way.plan.code) end) place start.laid) (record { at = refl; runs = same; frame = frame; deep = deep }) (record { n = 0; over = over-none first_layout; cells = refl }) (let own = fits-here in let high = tall in omega arith)
+      (ways.then-map way (ways.Leaves way) (ways.Onward way end (all_grown way.me.1.nodes first_layout) (all_grown_in way.me.1.nodes way.home) s.dot) None x.0 x.1
       (λ r k t st dot run. k t (record {
-        n = declared_in me.1.nodes;
+        n = declared_in way.me.1.nodes;
         more = start.rest;
         at = st.at;
         runs = st.runs;
         frame =
-            frame-drop (declared_in me.1.nodes) (all_grown me.1.nodes first_layout) first_layout t.cells (over-grown me.1.nodes first_layout) st.deep
-            ∙ ap (drop (declared_in me.1.nodes)) st.frame ∙ frame-grown me.1.nodes home;
-        deep = (let size = (over-grown me.1.nodes first_layout).size in let deep = st.deep in omega arith);
+            frame-drop (declared_in way.me.1.nodes) (all_grown way.me.1.nodes first_layout) first_layout t.cells (over-grown way.me.1.nodes first_layout) st.deep
+            ∙ ap (drop (declared_in way.me.1.nodes)) st.frame ∙ frame-grown way.me.1.nodes way.home;
+        deep = (let size = (over-grown way.me.1.nodes first_layout).size in let deep = st.deep in omega arith);
       }) (ap bare run)) k)
     where
-      start : Started plan.templates me plan.starts plan.code who.number
-      start = starts-at plan.templates plan.templates plan.starts plan.code who.number me linked is-me
+      start : Started way.plan.templates way.me way.plan.starts way.plan.code way.who.number
+      start = starts-at way.plan.templates way.plan.templates way.plan.starts way.plan.code way.who.number way.me linked way.is-me
 
       end : Code
-      end = code.return_from (declared_in me.1.nodes) ∷ start.rest
+      end = code.return_from (declared_in way.me.1.nodes) ∷ start.rest
 
       place : start.place ≡ s.place
       place = let both : Some start.place ≡ Some s.place = sym start.at ∙ at-start in cc
 
       x : Run × End
-      x = meanings set me.1.nodes s.dot (run_of first_layout s)
+      x = meanings set way.me.1.nodes s.dot (run_of first_layout s)
 
 -- each template, however many calls may still be made
 pub templates-lead : (plan : Plan) (room : ℕ) (f : Ran) → Starts plan.templates plan.templates plan.starts plan.code → (n : ℕ) → TemplateLeads plan room f n
 templates-lead plan room f linked zero who me is-me first depth home s same at-start frame deep base tall left k =
-    template-leads plan room f who me is-me home first linked zero tt depth base tall left s same at-start frame deep k
+    template-leads (way_of plan room f who me is-me home) first linked zero tt depth base tall left s same at-start frame deep k
 templates-lead plan room f linked (suc n) who me is-me first depth home s same at-start frame deep base tall left k =
-    template-leads plan room f who me is-me home first linked (suc n) (λ who me is-me first depth home s same at-start frame deep base tall left k. templates-lead plan room f linked n who me is-me first depth home s same at-start frame deep base tall left k)
+    template-leads (way_of plan room f who me is-me home) first linked (suc n) (λ who me is-me first depth home s same at-start frame deep base tall left k. templates-lead plan room f linked n who me is-me first depth home s same at-start frame deep base tall left k)
     depth base tall left s same at-start frame deep k
 
 -- the first template ends the run
@@ -155,12 +155,12 @@ module _ (plan : Plan) (room : ℕ) (linked : Starts plan.templates plan.templat
       f : Ran
       f = ran_of x
 
-      leaves : seen x.0 None ≡ f → ways.Leaves plan room f who me is-me home x.0
+      leaves : seen x.0 None ≡ f → ways.Leaves (way_of plan room f who me is-me home) x.0
       leaves is t ret same =
-          ways.takes plan room f who me is-me home t (code.return_from ret.n) ret.more ret.runs ret.at tt
+          ways.takes (way_of plan room f who me is-me home) t (code.return_from ret.n) ret.more ret.runs ret.at tt
           (subst (λ n. Comes (λ t. Ends plan room t f) (returned_if (nat_lt 1 n) (drop ret.n t.cells) t) f) (sym (ap (λ (w : Who). w.depth) ret.runs)) (ap (λ (r : Run). seen r None) same ∙ is))
 
-      by : (e : End) → x.1 ≡ e → ways.Then plan room f who me is-me home (ways.Leaves plan room f who me is-me home) None x.0 e
+      by : (e : End) → x.1 ≡ e → ways.Then (way_of plan room f who me is-me home) (ways.Leaves (way_of plan room f who me is-me home)) None x.0 e
       by meaning.done e = leaves (λ j. ran_of (x.0, sym e j))
       by meaning.broke e = leaves (λ j. ran_of (x.0, sym e j))
       by meaning.continued e = leaves (λ j. ran_of (x.0, sym e j))

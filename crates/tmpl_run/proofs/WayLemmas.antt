@@ -111,15 +111,35 @@ taken plan room f me s i is-me there ready more = by (done plan me i s) refl mor
     by (ended r) e h = (1, (able, subst (λ x. Comes (λ t. Leads plan room 0 t f) x f) (sym (next ∙ e)) h))
     by stuck e h = absurd h
 
-module _ (plan : Plan) (room : ℕ) (f : Ran) (who : Who) (me : Template) (is-me : slice_get plan.templates who.number ≡ Some me) (home : Frame) where
-  pub takes : (s : State) (i : Instruction) (is : Code) → who_of s ≡ who → drop s.place plan.code ≡ i ∷ is → Has i (length s.cells) room
-      → Comes (λ t. Ends plan room t f) (done plan me i s) f → Ends plan room s f
+-- a run inside a template, on its way to an end over so many cells: what it goes by, the template that runs, and the cells at its start
+pub record Way : Type 0 where
+  pub plan : Plan
+  pub room : ℕ
+  pub end : Ran
+  pub who : Who
+  pub me : Template
+  pub is-me : slice_get plan.templates who.number ≡ Some me
+  pub home : Frame
+
+abbrev pub way_of : (plan : Plan) (room : ℕ) (end : Ran) (who : Who) (me : Template) → slice_get plan.templates who.number ≡ Some me → Frame → Way
+way_of plan room end who me is-me home = record { plan = plan; room = room; end = end; who = who; me = me; is-me = is-me; home = home }
+
+module _ (way : Way) where
+  abbrev pub Leading : State → Type 0
+  Leading s = Ends way.plan way.room s way.end
+
+  -- what its template means, by what names call
+  abbrev pub setting : Calls → Setting
+  setting calls = setting_of way.plan.rules calls way.me.0 way.me.1
+
+  pub takes : (s : State) (i : Instruction) (is : Code) → who_of s ≡ way.who → drop s.place way.plan.code ≡ i ∷ is → Has i (length s.cells) way.room
+      → Comes (λ t. Leading t) (done way.plan way.me i s) way.end → Leading s
   takes s i is same at ready more =
-      taken plan room f me s i (ap (λ (w : Who). slice_get plan.templates w.number) same ∙ is-me) (here plan.code is s.place i at) ready more
+      taken way.plan way.room way.end way.me s i (ap (λ (w : Who). slice_get way.plan.templates w.number) same ∙ way.is-me) (here way.plan.code is s.place i at) ready more
 
   -- where a part that is done goes on
   abbrev pub Onward : Code → Layout → Frame → Value → Run → Type 0
-  Onward rest lay fr d r = (t : State) → Stands plan who rest lay fr t → t.dot ≡ d → run_of lay t ≡ r → Ends plan room t f
+  Onward rest lay fr d r = (t : State) → Stands way.plan way.who rest lay fr t → t.dot ≡ d → run_of lay t ≡ r → Leading t
 
   -- the end of a turn: at an instruction that goes to the next
   pub record Turning (g : Ring) (r : Run) (t : State) : Type 0 where
@@ -127,8 +147,8 @@ module _ (plan : Plan) (room : ℕ) (f : Ran) (who : Who) (me : Template) (is-me
     pub skip : ℕ
     pub more : Code
     pub cs : List Cell
-    pub at : drop t.place plan.code ≡ code.next n skip g.around.line ∷ more
-    pub runs : who_of t ≡ who
+    pub at : drop t.place way.plan.code ≡ code.next n skip g.around.line ∷ more
+    pub runs : who_of t ≡ way.who
     pub far : drop skip more ≡ g.around.out
     pub cells : drop n t.cells ≡ cell g.dot g.place ∷ cell g.value g.index ∷ cs
     pub frame : frame_of g.lay cs ≡ g.frame
@@ -139,13 +159,13 @@ module _ (plan : Plan) (room : ℕ) (f : Ran) (who : Who) (me : Template) (is-me
   pub record Returning (t : State) : Type 0 where
     pub n : ℕ
     pub more : Code
-    pub at : drop t.place plan.code ≡ code.return_from n ∷ more
-    pub runs : who_of t ≡ who
-    pub frame : frame_of first_layout (drop n t.cells) ≡ home
+    pub at : drop t.place way.plan.code ≡ code.return_from n ∷ more
+    pub runs : who_of t ≡ way.who
+    pub frame : frame_of first_layout (drop n t.cells) ≡ way.home
     pub deep : n + 3 ≤ length t.cells
 
   abbrev pub Leaves : Run → Type 0
-  Leaves r = (t : State) → Returning t → run_of [] t ≡ bare r → Ends plan room t f
+  Leaves r = (t : State) → Returning t → run_of [] t ≡ bare r → Leading t
 
   abbrev pub Broke : Option Ring → Run → Type 0
   Broke None r = Leaves r
@@ -153,13 +173,13 @@ module _ (plan : Plan) (room : ℕ) (f : Ran) (who : Who) (me : Template) (is-me
 
   abbrev pub Continues : Option Ring → Run → Type 0
   Continues None r = Leaves r
-  Continues (Some g) r = (t : State) → Turning g (cut_to (named g.lay) r) t → Ends plan room t f
+  Continues (Some g) r = (t : State) → Turning g (cut_to (named g.lay) r) t → Leading t
 
   abbrev pub Then : (Run → Type 0) → Option Ring → Run → End → Type 0
   Then Done g r meaning.done = Done r
   Then Done g r meaning.broke = Broke g r
   Then Done g r meaning.continued = Continues g r
-  Then Done g r (meaning.faulted w) = seen r (Some w) ≡ f
+  Then Done g r (meaning.faulted w) = seen r (Some w) ≡ way.end
 
   -- the meaning leads to this end, where what follows it does
   abbrev pub After : (Run → Type 0) → Option Ring → Run × End → Type 0
@@ -179,52 +199,52 @@ module _ (plan : Plan) (room : ℕ) (f : Ran) (who : Who) (me : Template) (is-me
   within-less g lay fr w = named-less w.n lay (None ∷ None ∷ g.lay) w.over
 
   -- out of a scope
-  pub unscope : (A : Run → Type 0) (g : Option Ring) (lay : Layout) (fr : Frame) (n : ℕ) (x : Run × End) → n ≡ named lay → Inside home g lay fr
+  pub unscope : (A : Run → Type 0) (g : Option Ring) (lay : Layout) (fr : Frame) (n : ℕ) (x : Run × End) → n ≡ named lay → Inside way.home g lay fr
       → After A g (scoped n x) → After (λ r. A (cut_to (named lay) r)) g x
   unscope A g lay fr n x e inside k = by g x.1 inside (subst (λ m. After A g (scoped m x)) e k)
     where
-      by : (g : Option Ring) (w : End) → Inside home g lay fr → Then A g (cut_to (named lay) x.0) w → Then (λ r. A (cut_to (named lay) r)) g x.0 w
+      by : (g : Option Ring) (w : End) → Inside way.home g lay fr → Then A g (cut_to (named lay) x.0) w → Then (λ r. A (cut_to (named lay) r)) g x.0 w
       by g meaning.done inside k = k
       by None meaning.broke inside k = k
       by (Some g) meaning.broke inside k =
           subst (λ r. Onward g.around.out g.lay g.frame g.dot r) (cut-twice (named g.lay) (named lay) x.0 (within-less g lay fr inside)) k
       by None meaning.continued inside k = k
       by (Some g) meaning.continued inside k =
-          subst (λ r. (t : State) → Turning g r t → Ends plan room t f) (cut-twice (named g.lay) (named lay) x.0 (within-less g lay fr inside)) k
+          subst (λ r. (t : State) → Turning g r t → Leading t) (cut-twice (named g.lay) (named lay) x.0 (within-less g lay fr inside)) k
       by g (meaning.faulted w) inside k = k
 
   -- the step of a node
-  pub spends : (calls : Calls) (A : Run → Type 0) (g : Option Ring) (lay : Layout) (line : ℕ) (is : Code) (s : State) (go : Next) → who_of s ≡ who
-      → drop s.place plan.code ≡ code.spend line ∷ is
-      → After A g (meaning.spend (setting_of plan.rules calls me.0 me.1) line go (run_of lay s))
-      → (drop (s.place + 1) plan.code ≡ is → After A g (go (run_of lay (step_taken line s))) → Ends plan room (step_taken line s) f) → Ends plan room s f
+  pub spends : (calls : Calls) (A : Run → Type 0) (g : Option Ring) (lay : Layout) (line : ℕ) (is : Code) (s : State) (go : Next) → who_of s ≡ way.who
+      → drop s.place way.plan.code ≡ code.spend line ∷ is
+      → After A g (meaning.spend (setting calls) line go (run_of lay s))
+      → (drop (s.place + 1) way.plan.code ≡ is → After A g (go (run_of lay (step_taken line s))) → Leading (step_taken line s)) → Leading s
   spends calls A g lay line is s go same at k more = takes s (code.spend line) is same at tt (by (nat_eq s.left 0) k)
     where
-      by : (b : Bool) → After A g (spend_if b (setting_of plan.rules calls me.0 me.1) line go (run_of lay s))
-          → Comes (λ t. Ends plan room t f) (paid_if b plan me line s (λ s. onto s.cells (s.place + 1) s)) f
+      by : (b : Bool) → After A g (spend_if b (setting calls) line go (run_of lay s))
+          → Comes (λ t. Leading t) (paid_if b way.plan way.me line s (λ s. onto s.cells (s.place + 1) s)) way.end
       by true k = k
-      by false k = more (ahead-one plan.code is s.place (code.spend line) at) k
+      by false k = more (ahead-one way.plan.code is s.place (code.spend line) at) k
 
   -- so many cells are forgotten, and a part goes on at this place
-  closed : (n place : ℕ) (end rest : Code) (big lay : Layout) (fr gr : Frame) (d : Value) (r : Run) (s : State) → drop place plan.code ≡ rest
-      → Stands plan who end big gr s → Over n big lay → drop n gr ≡ fr
-      → s.dot ≡ d → run_of big s ≡ r → Onward rest lay fr d (cut_to (named lay) r) → Ends plan room (record s { cells = drop n s.cells; place = place }) f
+  closed : (n place : ℕ) (end rest : Code) (big lay : Layout) (fr gr : Frame) (d : Value) (r : Run) (s : State) → drop place way.plan.code ≡ rest
+      → Stands way.plan way.who end big gr s → Over n big lay → drop n gr ≡ fr
+      → s.dot ≡ d → run_of big s ≡ r → Onward rest lay fr d (cut_to (named lay) r) → Leading (record s { cells = drop n s.cells; place = place })
   closed n place end rest big lay fr gr d r s at st over under same is k = k (record s { cells = drop n s.cells; place = place })
       (record { at = at; runs = st.runs; frame = frame-drop n big lay s.cells over st.deep ∙ ap (drop n) st.frame ∙ under; deep = (let size = over.size in let d = st.deep in let l = length-drop n s.cells in omega arith) })
       same
       (ap (λ (v : Environment). record (run_of big s) { env = v }) (sym (cut-drop n big lay s.cells over st.deep)) ∙ ap (cut_to (named lay)) is)
 
   forgets : (n skip : ℕ) (end more rest : Code) (big lay : Layout) (fr gr : Frame) (d : Value) (r : Run) (s : State) → end ≡ code.cut n skip ∷ more
-      → Stands plan who end big gr s → Over n big lay → drop n gr ≡ fr
-      → drop skip more ≡ rest → s.dot ≡ d → run_of big s ≡ r → Onward rest lay fr d (cut_to (named lay) r) → Ends plan room s f
+      → Stands way.plan way.who end big gr s → Over n big lay → drop n gr ≡ fr
+      → drop skip more ≡ rest → s.dot ≡ d → run_of big s ≡ r → Onward rest lay fr d (cut_to (named lay) r) → Leading s
   forgets n skip end more rest big lay fr gr d r s e st over under far same is k =
       takes s (code.cut n skip) more st.runs (st.at ∙ e) (omega (arith, over.size, st.deep))
-      (closed n (s.place + 1 + skip) end rest big lay fr gr d r s (ahead plan.code more s.place skip (code.cut n skip) (st.at ∙ e) ∙ far) st over under same is k)
+      (closed n (s.place + 1 + skip) end rest big lay fr gr d r s (ahead way.plan.code more s.place skip (code.cut n skip) (st.at ∙ e) ∙ far) st over under same is k)
 
   -- the end of a part
   pub closes : (n skip : ℕ) (end more rest : Code) (big lay : Layout) (fr gr : Frame) (d : Value) (r : Run) (s : State) → EndAt n skip end more
-      → Stands plan who end big gr s → Over n big lay → drop n gr ≡ fr
-      → drop skip more ≡ rest → s.dot ≡ d → run_of big s ≡ r → Onward rest lay fr d (cut_to (named lay) r) → Ends plan room s f
+      → Stands way.plan way.who end big gr s → Over n big lay → drop n gr ≡ fr
+      → drop skip more ≡ rest → s.dot ≡ d → run_of big s ≡ r → Onward rest lay fr d (cut_to (named lay) r) → Leading s
   closes zero zero end more rest big lay fr gr d r s e st over under far same is k =
       closed 0 s.place end rest big lay fr gr d r s (st.at ∙ e ∙ far) st over under same is k
   closes zero (suc skip) end more rest big lay fr gr d r s e st over under far same is k =

@@ -1,12 +1,12 @@
 //! Calls of templates.
-ghost use Rattle.std.specs.Prelude.{◌≡◌, ◌+◌, ◌<◌, ◌≤◌, ◌^◌, None, Some, if◌then◌else◌, length, slice_get};
+ghost use Rattle.std.specs.Prelude.{◌≡◌, ◌+◌, ◌<◌, ◌≤◌, ◌^◌, Ok, Some, length, slice_get};
 ghost use Rattle.tmpl_code.specs.Instruction as code;
-ghost use Rattle.tmpl_run.specs.Machine.{done, ended, goes, ran_so};
 ghost use Rattle.tmpl_run.specs.computed.Machines.{Told, state_of};
 ghost use Rattle.tmpl_run.specs.computed.Plain.{IsPlain, SparedOr};
-ghost use Rattle.tmpl_run.specs.computed.Turned.{Turned, TurnedOr};
+ghost use Rattle.tmpl_run.specs.computed.Turned.{Executed, Turned, TurnedOr};
 ghost use Rattle.tmpl_run.specs.computed.View.{cells_of, size_of};
 
+use crate::flow::Flow;
 use crate::halt::Halt;
 use crate::machine::Machine;
 use std::mem;
@@ -21,7 +21,7 @@ impl<'m, 'a> Machine<'m, 'a> {
         step_limit: u64,
         depth_limit: u32,
         line: u64,
-    ) -> Result<(), RunFaultKind<'a>>
+    ) -> Result<Flow, RunFaultKind<'a>>
         ghost run: { Told }
         requires steps { run.plan.rules.step_limit ≡ step_limit }
         requires depths { run.plan.rules.depth_limit ≡ depth_limit }
@@ -38,7 +38,7 @@ impl<'m, 'a> Machine<'m, 'a> {
             return Err(RunFaultKind::CallsTooDeep(depth_limit));
         }
         self.place += 1;
-        Ok(())
+        Ok(Flow::On)
     }
 
     /// Takes a step and runs the template of this number, whose code starts here, over the newest value.
@@ -48,7 +48,7 @@ impl<'m, 'a> Machine<'m, 'a> {
         step_limit: u64,
         number: usize,
         start: usize,
-    ) -> Result<(), Halt<'a>>
+    ) -> Result<Flow, Halt<'a>>
         ghost run: { Told }
         requires steps { run.plan.rules.step_limit ≡ step_limit }
         requires starts { slice_get run.plan.starts number ≡ Some start }
@@ -72,22 +72,22 @@ impl<'m, 'a> Machine<'m, 'a> {
         self.template = number;
         self.depth += 1;
         self.place = start;
-        Ok(())
+        Ok(Flow::On)
     }
 
-    /// Ends a template: forgets so many cells and its own, and goes on where its caller does. Whether the run is over,
-    /// as there is no caller.
+    /// Ends a template: forgets so many cells and its own, and goes on where its caller does. The run is over where
+    /// there is no caller.
     #[tactic(auto, using(crate::proofs::CallingLemmas::returns))]
-    pub(crate) fn return_from(&mut self, count: usize) -> bool
+    pub(crate) fn return_from(&mut self, count: usize) -> Flow
         ghost run: { Told }
         requires found { 1 < self.old.depth → count + 3 ≤ length (cells_of self.old.stack) }
-        ensures step { done run.plan run.template (code.return_from count) (state_of run self.old)
-            ≡ (if result then ended (ran_so (state_of run self.old) None) else goes (state_of run self.new)) }
+        ensures step { Executed run (code.return_from count) (state_of run self.old) (state_of run self.new)
+            (Ok result) }
         ensures plain { IsPlain self.old → IsPlain self.new }
         ensures size { size_of self.new.stack ≡ size_of self.old.stack }
     {
         if self.depth <= 1 {
-            return true;
+            return Flow::Over;
         }
         self.stack.pop(count);
         self.stack.pop(1);
@@ -97,6 +97,6 @@ impl<'m, 'a> Machine<'m, 'a> {
         self.template = num as usize;
         self.depth -= 1;
         self.place = back as usize;
-        false
+        Flow::On
     }
 }

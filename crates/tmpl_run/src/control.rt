@@ -1,15 +1,15 @@
 //! Steps, `if` and `with`.
-ghost use Rattle.std.specs.Prelude.{◌≡◌, ◌+◌, ◌<◌, ◌≤◌, ◌^◌, false, length, if◌then◌else◌, OnOk};
+ghost use Rattle.std.specs.Prelude.{◌≡◌, ◌+◌, ◌<◌, ◌≤◌, ◌^◌, false, length, if◌then◌else◌, IfOk, Ok};
 ghost use Rattle.tmpl_values.specs.Truth.{truth};
 ghost use Rattle.tmpl_code.specs.Instruction as code;
 ghost use Rattle.tmpl_run.specs.Cell.{slot};
-ghost use Rattle.tmpl_run.specs.Machine.{done, goes};
 ghost use Rattle.tmpl_run.specs.computed.Machines.{Told, state_of};
 ghost use Rattle.tmpl_run.specs.computed.Plain.{IsPlain, Spared};
 ghost use Rattle.tmpl_run.specs.Ready.{RoomIf};
-ghost use Rattle.tmpl_run.specs.computed.Turned.{Turned};
+ghost use Rattle.tmpl_run.specs.computed.Turned.{Executed, Turned};
 ghost use Rattle.tmpl_run.specs.computed.View.{cells_of, size_of};
 
+use crate::flow::Flow;
 use crate::machine::Machine;
 use std::alloc::AllocError;
 use std::mem;
@@ -18,7 +18,7 @@ use tmpl_values::Cell;
 
 impl<'m, 'a> Machine<'m, 'a> {
     /// Takes a step at this line.
-    pub(crate) fn spend(&mut self, limit: u64, line: u64) -> Result<(), RunFaultKind<'a>>
+    pub(crate) fn spend(&mut self, limit: u64, line: u64) -> Result<Flow, RunFaultKind<'a>>
         ghost run: { Told }
         requires limit { run.plan.rules.step_limit ≡ limit }
         requires place { self.old.place + 1 < 2 ^ 64 }
@@ -32,32 +32,31 @@ impl<'m, 'a> Machine<'m, 'a> {
         }
         self.left -= 1;
         self.place += 1;
-        Ok(())
+        Ok(Flow::On)
     }
 
     /// Forgets so many cells and goes to where a jump ends.
-    pub(crate) fn forget(&mut self, count: usize, skip: usize)
+    pub(crate) fn forget(&mut self, count: usize, skip: usize) -> Flow
         ghost run: { Told }
         requires place { self.old.place + 1 + skip < 2 ^ 64 }
         requires found { count ≤ length (cells_of self.old.stack) }
-        ensures step { done run.plan run.template (code.cut count skip) (state_of run self.old)
-            ≡ goes (state_of run self.new) }
+        ensures step { Executed run (code.cut count skip) (state_of run self.old) (state_of run self.new) (Ok result) }
         ensures plain { IsPlain self.old → IsPlain self.new }
         ensures size { size_of self.new.stack ≡ size_of self.old.stack }
     {
         self.stack.pop(count);
         self.place += 1 + skip;
+        Flow::On
     }
 
     /// Goes on with the body of an `if` where the newest value is not empty, and with its other part else.
     #[tactic(auto, using(crate::proofs::StackLemmas::tops))]
-    pub(crate) fn branch(&mut self, kept: bool, skip: usize)
+    pub(crate) fn branch(&mut self, kept: bool, skip: usize) -> Flow
         ghost run: { Told }
         requires found { 1 ≤ length (cells_of self.old.stack) }
         requires body { self.old.place + 1 < 2 ^ 64 }
         requires other { truth (slot 0 (cells_of self.old.stack)) ≡ false → self.old.place + 1 + skip < 2 ^ 64 }
-        ensures step { done run.plan run.template (code.unless kept skip) (state_of run self.old)
-            ≡ goes (state_of run self.new) }
+        ensures step { Executed run (code.unless kept skip) (state_of run self.old) (state_of run self.new) (Ok result) }
         ensures plain { IsPlain self.old → IsPlain self.new }
         ensures size { size_of self.new.stack ≡ size_of self.old.stack }
     {
@@ -68,19 +67,20 @@ impl<'m, 'a> Machine<'m, 'a> {
         if !kept {
             self.stack.pop(1);
         }
+        Flow::On
     }
 
     /// Where the newest value is not empty it becomes dot, and the dot from outside is saved; else goes on with the
     /// other part.
-    pub(crate) fn open_with(&mut self, kept: bool, skip: usize) -> Result<(), AllocError>
+    pub(crate) fn open_with(&mut self, kept: bool, skip: usize) -> Result<Flow, AllocError>
         ghost run: { Told }
         requires found { 1 ≤ length (cells_of self.old.stack) }
         requires within { length (cells_of self.old.stack) ≤ size_of self.old.stack }
         requires room { RoomIf kept (length (cells_of self.old.stack)) (size_of self.old.stack) }
         requires body { self.old.place + 1 < 2 ^ 64 }
         requires other { truth (slot 0 (cells_of self.old.stack)) ≡ false → self.old.place + 1 + skip < 2 ^ 64 }
-        ensures step { OnOk result (done run.plan run.template (code.enter_with kept skip) (state_of run self.old)
-            ≡ goes (state_of run self.new)) }
+        ensures step { IfOk result (λ f. Executed run (code.enter_with kept skip) (state_of run self.old)
+            (state_of run self.new) (Ok f)) }
         ensures plain { IsPlain self.old → Spared result (IsPlain self.new) }
         ensures size { size_of self.new.stack ≡ size_of self.old.stack }
     {
@@ -91,7 +91,7 @@ impl<'m, 'a> Machine<'m, 'a> {
             if kept {
                 self.stack.push(val, num);
             }
-            return Ok(());
+            return Ok(Flow::On);
         }
         let val = val.into_shared(self.alloc)?;
         if kept {
@@ -99,17 +99,17 @@ impl<'m, 'a> Machine<'m, 'a> {
         }
         let outer = mem::replace(&mut self.dot, val);
         self.stack.push(outer, 0);
-        Ok(())
+        Ok(Flow::On)
     }
 
     /// Ends the body of a `with`: takes dot back from the cell below so many, and forgets the variables of the header.
     #[tactic(auto, using(crate::proofs::StackLemmas::tops))]
-    pub(crate) fn close_with(&mut self, count: usize, variables: usize, skip: usize)
+    pub(crate) fn close_with(&mut self, count: usize, variables: usize, skip: usize) -> Flow
         ghost run: { Told }
         requires place { self.old.place + 1 + skip < 2 ^ 64 }
         requires found { count + 1 + variables ≤ length (cells_of self.old.stack) }
-        ensures step { done run.plan run.template (code.end_with count variables skip) (state_of run self.old)
-            ≡ goes (state_of run self.new) }
+        ensures step { Executed run (code.end_with count variables skip) (state_of run self.old)
+            (state_of run self.new) (Ok result) }
         ensures plain { IsPlain self.old → IsPlain self.new }
         ensures size { size_of self.new.stack ≡ size_of self.old.stack }
     {
@@ -118,5 +118,6 @@ impl<'m, 'a> Machine<'m, 'a> {
         self.replace_dot(outer);
         self.stack.pop(variables);
         self.place += 1 + skip;
+        Flow::On
     }
 }

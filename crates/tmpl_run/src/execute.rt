@@ -52,54 +52,73 @@ impl<'m, 'a> Machine<'m, 'a> {
         ensures size { size_of self.new.stack ≡ size_of self.old.stack }
     {
         match instruction {
-            Instruction::Spend(line) => self.spend(options.steps, line)?,
-            Instruction::Put(text) => self.put_text(text, piece, sink)?,
-            Instruction::PushNothing => self.give(Val::Nothing),
-            Instruction::PushBool(truth) => self.give(Val::Bool(truth)),
-            Instruction::PushNumber(number) => self.give(Val::Num(number)),
-            Instruction::PushText(text) => self.give(Val::Text(text.as_slice())),
-            Instruction::PushDot => self.push_dot()?,
+            Instruction::Spend(line) => Ok(self.spend(options.steps, line)?),
+            Instruction::Put(text) => {
+                self.put_text(text, piece, sink)?;
+                Ok(Flow::On)
+            }
+            Instruction::PushNothing => {
+                self.give(Val::Nothing);
+                Ok(Flow::On)
+            }
+            Instruction::PushBool(truth) => {
+                self.give(Val::Bool(truth));
+                Ok(Flow::On)
+            }
+            Instruction::PushNumber(number) => {
+                self.give(Val::Num(number));
+                Ok(Flow::On)
+            }
+            Instruction::PushText(text) => {
+                self.give(Val::Text(text.as_slice()));
+                Ok(Flow::On)
+            }
+            Instruction::PushDot => Ok(self.push_dot()?),
             Instruction::PushFields(names) => {
-                self.push_fields(options.missing_key, names.as_slice())?
+                Ok(self.push_fields(options.missing_key, names.as_slice())?)
             }
-            Instruction::PushSlot(slot) => self.push_slot(slot as usize)?,
-            Instruction::Chain(names) => self.chain(options.missing_key, names.as_slice())?,
-            Instruction::Call { func, count, piped } => self.call(func, count as usize, piped)?,
-            Instruction::Decide { is_or, piped, skip } => self.decide(is_or, piped, skip as usize),
-            Instruction::Settle => self.settle(),
-            Instruction::Refuse(why) => return Err(Halt::Fault(fault_for(why))),
+            Instruction::PushSlot(slot) => Ok(self.push_slot(slot as usize)?),
+            Instruction::Chain(names) => Ok(self.chain(options.missing_key, names.as_slice())?),
+            Instruction::Call { func, count, piped } => {
+                Ok(self.call(func, count as usize, piped)?)
+            }
+            Instruction::Decide { is_or, piped, skip } => {
+                Ok(self.decide(is_or, piped, skip as usize))
+            }
+            Instruction::Settle => Ok(self.settle()),
+            Instruction::Refuse(why) => Err(Halt::Fault(fault_for(why))),
             Instruction::RefuseTemplate(name) => {
-                return Err(Halt::Fault(RunFaultKind::NoTemplate(name.as_slice())));
+                Err(Halt::Fault(RunFaultKind::NoTemplate(name.as_slice())))
             }
-            Instruction::Show => self.show(piece, sink)?,
-            Instruction::Hold { key } => self.hold(key)?,
-            Instruction::Set(slot) => self.set(slot as usize)?,
-            Instruction::SetDot(slot) => self.set_dot(slot as usize)?,
-            Instruction::Unless { kept, skip } => self.branch(kept, skip as usize),
-            Instruction::With { kept, skip } => self.open_with(kept, skip as usize)?,
+            Instruction::Show => {
+                self.show(piece, sink)?;
+                Ok(Flow::On)
+            }
+            Instruction::Hold { key } => Ok(self.hold(key)?),
+            Instruction::Set(slot) => Ok(self.set(slot as usize)?),
+            Instruction::SetDot(slot) => Ok(self.set_dot(slot as usize)?),
+            Instruction::Unless { kept, skip } => Ok(self.branch(kept, skip as usize)),
+            Instruction::With { kept, skip } => Ok(self.open_with(kept, skip as usize)?),
             Instruction::EndWith {
                 count,
                 variables,
                 skip,
-            } => self.close_with(count as usize, variables as usize, skip as usize),
-            Instruction::Drop { count, skip } => self.forget(count as usize, skip as usize),
-            Instruction::Enter { key, skip } => self.open_range(options.steps, key, skip as usize)?,
-            Instruction::Turn(count) => self.turn(count as usize)?,
-            Instruction::Next { count, skip, line } => {
-                self.next(options.steps, count as usize, skip as usize, line as u64)?
+            } => Ok(self.close_with(count as usize, variables as usize, skip as usize)),
+            Instruction::Drop { count, skip } => Ok(self.forget(count as usize, skip as usize)),
+            Instruction::Enter { key, skip } => {
+                Ok(self.open_range(options.steps, key, skip as usize)?)
             }
-            Instruction::Leave { count, skip } => self.leave(count as usize, skip as usize),
-            Instruction::Deepen(line) => self.deepen(options.steps, options.depth, line)?,
+            Instruction::Turn(count) => Ok(self.turn(count as usize)?),
+            Instruction::Next { count, skip, line } => {
+                Ok(self.next(options.steps, count as usize, skip as usize, line as u64)?)
+            }
+            Instruction::Leave { count, skip } => Ok(self.leave(count as usize, skip as usize)),
+            Instruction::Deepen(line) => Ok(self.deepen(options.steps, options.depth, line)?),
             Instruction::Invoke(number) => {
                 let number = number as usize;
-                self.invoke(options.steps, number, program.starts.as_slice()[number])?
+                Ok(self.invoke(options.steps, number, program.starts.as_slice()[number])?)
             }
-            Instruction::Return(count) => {
-                if self.return_from(count as usize) {
-                    return Ok(Flow::Over);
-                }
-            }
+            Instruction::Return(count) => Ok(self.return_from(count as usize)),
         }
-        Ok(Flow::On)
     }
 }

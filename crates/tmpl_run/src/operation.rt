@@ -1,5 +1,5 @@
 //! Steps of pipelines.
-ghost use Rattle.std.specs.Prelude.{◌≡◌, ◌+◌, ◌-◌, ◌<◌, ◌≤◌, ◌∷◌, ◌^◌, false, length, true};
+ghost use Rattle.std.specs.Prelude.{◌≡◌, ◌+◌, ◌-◌, ◌<◌, ◌≤◌, ◌∷◌, ◌^◌, Ok, false, length, true};
 ghost use Rattle.tmpl_values.specs.View.{is_made, val_of};
 ghost use Rattle.tmpl_funcs.specs.Func.{is_called, makes_text};
 ghost use Rattle.tmpl_meaning.specs.Pipeline.{decides};
@@ -9,15 +9,15 @@ ghost use Rattle.tmpl_code.specs.Instruction.{act, call_with, chained, decide, p
 ghost use Rattle.tmpl_code.specs.Instruction.{settle};
 ghost use Rattle.tmpl_code.specs.View.{refusal_of};
 ghost use Rattle.tmpl_run.specs.Cell.{fresh, slot};
-ghost use Rattle.tmpl_run.specs.Machine.{done, goes};
 ghost use Rattle.tmpl_run.specs.computed.Machines.{Told, state_of};
 ghost use Rattle.tmpl_run.specs.computed.Plain.{IsPlain, SparedOr};
 ghost use Rattle.tmpl_run.specs.Ready.{Fits};
 ghost use Rattle.tmpl_run.specs.State.{State};
 ghost use Rattle.tmpl_run.specs.Step as pipe;
-ghost use Rattle.tmpl_run.specs.computed.Turned.{TurnedOr, behind};
+ghost use Rattle.tmpl_run.specs.computed.Turned.{Executed, TurnedOr, behind};
 ghost use Rattle.tmpl_run.specs.computed.View.{cells_of, size_of};
 
+use crate::flow::Flow;
 use crate::halt::Halt;
 use crate::machine::Machine;
 use crate::stack::piped_count;
@@ -55,7 +55,7 @@ impl<'m, 'a> Machine<'m, 'a> {
     }
 
     /// Puts dot.
-    pub(crate) fn push_dot(&mut self) -> Result<(), Halt<'a>>
+    pub(crate) fn push_dot(&mut self) -> Result<Flow, Halt<'a>>
         ghost run: { Told }
         requires room { length (cells_of self.old.stack) < size_of self.old.stack }
         requires place { self.old.place + 1 < 2 ^ 64 }
@@ -66,7 +66,7 @@ impl<'m, 'a> Machine<'m, 'a> {
     {
         let val = self.dot.share()?;
         self.give(val);
-        Ok(())
+        Ok(Flow::On)
     }
 
     /// Puts the field of the field of .. of dot, by these names.
@@ -75,7 +75,7 @@ impl<'m, 'a> Machine<'m, 'a> {
         &mut self,
         missing_key: MissingKey,
         names: &'a [Bytes],
-    ) -> Result<(), Halt<'a>>
+    ) -> Result<Flow, Halt<'a>>
         ghost run: { Told }
         requires mode { run.plan.rules.missing_key ≡ missing_key }
         requires room { length (cells_of self.old.stack) < size_of self.old.stack }
@@ -88,11 +88,11 @@ impl<'m, 'a> Machine<'m, 'a> {
         let dot = self.dot.share()?;
         let val = missing_key.chain(dot, names)?;
         self.give(val);
-        Ok(())
+        Ok(Flow::On)
     }
 
     /// Puts the value of a slot once more.
-    pub(crate) fn push_slot(&mut self, slot: usize) -> Result<(), Halt<'a>>
+    pub(crate) fn push_slot(&mut self, slot: usize) -> Result<Flow, Halt<'a>>
         ghost run: { Told }
         requires found { slot < length (cells_of self.old.stack) }
         requires room { length (cells_of self.old.stack) < size_of self.old.stack }
@@ -104,7 +104,7 @@ impl<'m, 'a> Machine<'m, 'a> {
     {
         let val = self.stack.share(slot)?;
         self.give(val);
-        Ok(())
+        Ok(Flow::On)
     }
 
     /// Takes the newest value for its field of a field of .., by these names.
@@ -113,7 +113,7 @@ impl<'m, 'a> Machine<'m, 'a> {
         &mut self,
         missing_key: MissingKey,
         names: &'a [Bytes],
-    ) -> Result<(), Halt<'a>>
+    ) -> Result<Flow, Halt<'a>>
         ghost run: { Told }
         requires mode { run.plan.rules.missing_key ≡ missing_key }
         requires found { 1 ≤ length (cells_of self.old.stack) }
@@ -127,12 +127,12 @@ impl<'m, 'a> Machine<'m, 'a> {
         let whole = self.stack.take().val;
         let val = missing_key.chain(whole, names)?;
         self.give(val);
-        Ok(())
+        Ok(Flow::On)
     }
 
     /// Calls a function over the newest so many values, and a piped one, if it lies below them.
     #[tactic(auto, using(crate::proofs::OperationLemmas::operations))]
-    pub(crate) fn call(&mut self, func: Func, count: usize, piped: bool) -> Result<(), Halt<'a>>
+    pub(crate) fn call(&mut self, func: Func, count: usize, piped: bool) -> Result<Flow, Halt<'a>>
         ghost run: { Told }
         requires called { is_called func ≡ true }
         requires found { count + piped_count piped ≤ length (cells_of self.old.stack) }
@@ -147,7 +147,7 @@ impl<'m, 'a> Machine<'m, 'a> {
         match self.stack.call(alloc, func, count, piped) {
             Ok(val) => {
                 self.give(val);
-                Ok(())
+                Ok(Flow::On)
             }
             Err(CallError::Fault(fault)) => Err(Halt::Fault(RunFaultKind::Call(func, fault))),
             Err(CallError::OutOfMemory) => Err(Halt::OutOfMemory),
@@ -157,39 +157,41 @@ impl<'m, 'a> Machine<'m, 'a> {
     /// A value that decides an `or`, or else an `and`, stays, and so many instructions are passed over; a piped one
     /// below it goes. Another goes.
     #[tactic(auto, using(crate::proofs::OperationLemmas::operations))]
-    pub(crate) fn decide(&mut self, is_or: bool, piped: bool, skip: usize)
+    pub(crate) fn decide(&mut self, is_or: bool, piped: bool, skip: usize) -> Flow
         ghost run: { Told }
         requires found { 1 + piped_count piped ≤ length (cells_of self.old.stack) }
         requires within { length (cells_of self.old.stack) ≤ size_of self.old.stack }
         requires place { self.old.place + 1 < 2 ^ 64 }
         requires over { decides is_or (slot 0 (cells_of self.old.stack)) ≡ true → self.old.place + 1 + skip < 2 ^ 64 }
-        ensures step { done run.plan run.template (act (decide is_or piped skip)) (state_of run self.old)
-            ≡ goes (state_of run self.new) }
+        ensures step { Executed run (act (decide is_or piped skip)) (state_of run self.old)
+            (state_of run self.new) (Ok result) }
         ensures plain { IsPlain self.old → IsPlain self.new }
         ensures size { size_of self.new.stack ≡ size_of self.old.stack }
     {
         let val = self.stack.take().val;
         self.place += 1;
         if !decides(is_or, &val) {
-            return;
+            return Flow::On;
         }
         self.place += skip;
         self.stack.pop(piped_count(piped));
         self.stack.push(val, 0);
+        Flow::On
     }
 
     /// A null on top becomes nothing.
     #[tactic(auto, using(crate::proofs::OperationLemmas::operations))]
-    pub(crate) fn settle(&mut self)
+    pub(crate) fn settle(&mut self) -> Flow
         ghost run: { Told }
         requires found { 1 ≤ length (cells_of self.old.stack) }
         requires within { length (cells_of self.old.stack) ≤ size_of self.old.stack }
         requires place { self.old.place + 1 < 2 ^ 64 }
-        ensures step { done run.plan run.template (act settle) (state_of run self.old) ≡ goes (state_of run self.new) }
+        ensures step { Executed run (act settle) (state_of run self.old) (state_of run self.new) (Ok result) }
         ensures plain { IsPlain self.old → IsPlain self.new }
         ensures size { size_of self.new.stack ≡ size_of self.old.stack }
     {
         self.stack.settle();
         self.place += 1;
+        Flow::On
     }
 }

@@ -1,16 +1,17 @@
 //! Ranges.
-ghost use Rattle.std.specs.Prelude.{◌≡◌, ◌+◌, ◌-◌, ◌<◌, ◌≤◌, ◌^◌, [], drop, false, length, option_map, OnOk};
-ghost use Rattle.std.specs.Prelude.{Some, None};
+ghost use Rattle.std.specs.Prelude.{◌≡◌, ◌+◌, ◌-◌, ◌<◌, ◌≤◌, ◌^◌, [], drop, false, length, option_map, IfOk, OnOk};
+ghost use Rattle.std.specs.Prelude.{Some, None, Ok};
 ghost use Rattle.tmpl_values.specs.Elements.{item_at};
 ghost use Rattle.tmpl_values.specs.View.{is_made, val_of};
 ghost use Rattle.tmpl_code.specs.Instruction as code;
 ghost use Rattle.tmpl_run.specs.Cell.{cell, slot, slot_cell};
-ghost use Rattle.tmpl_run.specs.Machine.{done, elements_for, goes, has_more, variables_on};
+ghost use Rattle.tmpl_run.specs.Machine.{elements_for, has_more, variables_on};
 ghost use Rattle.tmpl_run.specs.computed.Machines.{Told, state_of};
 ghost use Rattle.tmpl_run.specs.computed.Plain.{IsPlain, Spared};
-ghost use Rattle.tmpl_run.specs.computed.Turned.{Turned};
+ghost use Rattle.tmpl_run.specs.computed.Turned.{Executed, Turned};
 ghost use Rattle.tmpl_run.specs.computed.View.{cells_of, size_of};
 
+use crate::flow::Flow;
 use crate::machine::Machine;
 use std::alloc::AllocError;
 use std::mem;
@@ -37,7 +38,7 @@ impl<'m, 'a> Machine<'m, 'a> {
         limit: u64,
         key: bool,
         skip: usize,
-    ) -> Result<(), RunFaultKind<'a>>
+    ) -> Result<Flow, RunFaultKind<'a>>
         ghost run: { Told }
         requires limit { run.plan.rules.step_limit ≡ limit }
         requires found { 1 ≤ length (cells_of self.old.stack) }
@@ -54,7 +55,7 @@ impl<'m, 'a> Machine<'m, 'a> {
             None => Err(RunFaultKind::NotARange),
             Some(0) => {
                 self.place += 1 + skip;
-                Ok(())
+                Ok(Flow::On)
             }
             Some(_) => {
                 if self.left == 0 {
@@ -65,22 +66,22 @@ impl<'m, 'a> Machine<'m, 'a> {
                 self.stack.push(val, 0);
                 let outer = mem::replace(&mut self.dot, Val::Nothing);
                 self.stack.push(outer, self.place as u64);
-                Ok(())
+                Ok(Flow::On)
             }
         }
     }
 
     /// The element that the range visits becomes dot, and the values of so many variables.
     #[tactic(auto, using(crate::proofs::TurnLemmas::turns))]
-    pub(crate) fn turn(&mut self, count: usize) -> Result<(), AllocError>
+    pub(crate) fn turn(&mut self, count: usize) -> Result<Flow, AllocError>
         ghost run: { Told }
         requires found { 2 ≤ length (cells_of self.old.stack) }
         requires element { item_at (slot_cell 1 (cells_of self.old.stack)).num
             (slot_cell 1 (cells_of self.old.stack)).val ≡ None → ⊥ }
         requires room { length (cells_of self.old.stack) + count ≤ size_of self.old.stack }
         requires place { self.old.place + 1 < 2 ^ 64 }
-        ensures step { OnOk result (done run.plan run.template (code.turn count) (state_of run self.old)
-            ≡ goes (state_of run self.new)) }
+        ensures step { IfOk result (λ f. Executed run (code.turn count) (state_of run self.old)
+            (state_of run self.new) (Ok f)) }
         ensures plain { IsPlain self.old → Spared result (IsPlain self.new) }
         ensures size { size_of self.new.stack ≡ size_of self.old.stack }
     {
@@ -90,7 +91,7 @@ impl<'m, 'a> Machine<'m, 'a> {
         self.place += 1;
         self.declare(count, key, &element)?;
         self.replace_dot(element);
-        Ok(())
+        Ok(Flow::On)
     }
 
     /// Puts the values of so many variables, the element above its index or key.
@@ -124,7 +125,7 @@ impl<'m, 'a> Machine<'m, 'a> {
         count: usize,
         skip: usize,
         line: u64,
-    ) -> Result<(), RunFaultKind<'a>>
+    ) -> Result<Flow, RunFaultKind<'a>>
         ghost run: { Told }
         requires limit { run.plan.rules.step_limit ≡ limit }
         requires found { count + 2 ≤ length (cells_of self.old.stack) }
@@ -141,7 +142,7 @@ impl<'m, 'a> Machine<'m, 'a> {
             self.stack.pop(1);
             self.replace_dot(outer);
             self.place += 1 + skip;
-            return Ok(());
+            return Ok(Flow::On);
         }
         self.line = line;
         if self.left == 0 {
@@ -151,17 +152,16 @@ impl<'m, 'a> Machine<'m, 'a> {
         self.place = self.stack.counted(0) as usize;
         let number = self.stack.counted(1);
         self.stack.recount(1, number + 1);
-        Ok(())
+        Ok(Flow::On)
     }
 
     /// Ends the range: forgets so many cells and its own, and takes dot back.
     #[tactic(auto, using(crate::proofs::StackLemmas::tops))]
-    pub(crate) fn leave(&mut self, count: usize, skip: usize)
+    pub(crate) fn leave(&mut self, count: usize, skip: usize) -> Flow
         ghost run: { Told }
         requires found { count + 2 ≤ length (cells_of self.old.stack) }
         requires place { self.old.place + 1 + skip < 2 ^ 64 }
-        ensures step { done run.plan run.template (code.leave count skip) (state_of run self.old)
-            ≡ goes (state_of run self.new) }
+        ensures step { Executed run (code.leave count skip) (state_of run self.old) (state_of run self.new) (Ok result) }
         ensures plain { IsPlain self.old → IsPlain self.new }
         ensures size { size_of self.new.stack ≡ size_of self.old.stack }
     {
@@ -170,5 +170,6 @@ impl<'m, 'a> Machine<'m, 'a> {
         self.stack.pop(1);
         self.replace_dot(outer);
         self.place += 1 + skip;
+        Flow::On
     }
 }

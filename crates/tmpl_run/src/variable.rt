@@ -1,26 +1,27 @@
 //! Variables.
-ghost use Rattle.std.specs.Prelude.{◌≡◌, ◌+◌, ◌<◌, ◌≤◌, ◌^◌, length, OnOk};
+ghost use Rattle.std.specs.Prelude.{◌≡◌, ◌+◌, ◌<◌, ◌≤◌, ◌^◌, length, IfOk, Ok};
 ghost use Rattle.tmpl_code.specs.Instruction as code;
-ghost use Rattle.tmpl_run.specs.Machine.{done, goes};
 ghost use Rattle.tmpl_run.specs.computed.Machines.{Told, state_of};
 ghost use Rattle.tmpl_run.specs.computed.Plain.{IsPlain, Spared};
 ghost use Rattle.tmpl_run.specs.Ready.{RoomIf};
+ghost use Rattle.tmpl_run.specs.computed.Turned.{Executed};
 ghost use Rattle.tmpl_run.specs.computed.View.{cells_of, size_of};
 
+use crate::flow::Flow;
 use crate::machine::Machine;
 use std::alloc::AllocError;
 use tmpl_values::{Cell, Val};
 
 impl<'m, 'a> Machine<'m, 'a> {
     /// The newest value becomes a variable; where an index or key is declared too, nothing becomes one below it.
-    pub(crate) fn hold(&mut self, key: bool) -> Result<(), AllocError>
+    pub(crate) fn hold(&mut self, key: bool) -> Result<Flow, AllocError>
         ghost run: { Told }
         requires found { 1 ≤ length (cells_of self.old.stack) }
         requires within { length (cells_of self.old.stack) ≤ size_of self.old.stack }
         requires room { RoomIf key (length (cells_of self.old.stack)) (size_of self.old.stack) }
         requires place { self.old.place + 1 < 2 ^ 64 }
-        ensures step { OnOk result (done run.plan run.template (code.hold key) (state_of run self.old)
-            ≡ goes (state_of run self.new)) }
+        ensures step { IfOk result (λ f. Executed run (code.hold key) (state_of run self.old)
+            (state_of run self.new) (Ok f)) }
         ensures plain { IsPlain self.old → Spared result (IsPlain self.new) }
         ensures size { size_of self.new.stack ≡ size_of self.old.stack }
     {
@@ -31,17 +32,17 @@ impl<'m, 'a> Machine<'m, 'a> {
         }
         self.stack.push(val, num);
         self.place += 1;
-        Ok(())
+        Ok(Flow::On)
     }
 
     /// Copies the newest value to a slot, which counts from below it.
-    pub(crate) fn set(&mut self, slot: usize) -> Result<(), AllocError>
+    pub(crate) fn set(&mut self, slot: usize) -> Result<Flow, AllocError>
         ghost run: { Told }
         requires found { slot + 1 < length (cells_of self.old.stack) }
         requires within { length (cells_of self.old.stack) ≤ size_of self.old.stack }
         requires place { self.old.place + 1 < 2 ^ 64 }
-        ensures step { OnOk result (done run.plan run.template (code.set slot) (state_of run self.old)
-            ≡ goes (state_of run self.new)) }
+        ensures step { IfOk result (λ f. Executed run (code.set slot) (state_of run self.old)
+            (state_of run self.new) (Ok f)) }
         ensures plain { IsPlain self.old → Spared result (IsPlain self.new) }
         ensures size { size_of self.new.stack ≡ size_of self.old.stack }
     {
@@ -50,21 +51,21 @@ impl<'m, 'a> Machine<'m, 'a> {
         self.stack.set(slot, val.share()?);
         self.stack.push(val, num);
         self.place += 1;
-        Ok(())
+        Ok(Flow::On)
     }
 
     /// Copies dot to a slot.
-    pub(crate) fn set_dot(&mut self, slot: usize) -> Result<(), AllocError>
+    pub(crate) fn set_dot(&mut self, slot: usize) -> Result<Flow, AllocError>
         ghost run: { Told }
         requires found { slot < length (cells_of self.old.stack) }
         requires place { self.old.place + 1 < 2 ^ 64 }
-        ensures step { OnOk result (done run.plan run.template (code.set_dot slot) (state_of run self.old)
-            ≡ goes (state_of run self.new)) }
+        ensures step { IfOk result (λ f. Executed run (code.set_dot slot) (state_of run self.old)
+            (state_of run self.new) (Ok f)) }
         ensures plain { IsPlain self.old → Spared result (IsPlain self.new) }
         ensures size { size_of self.new.stack ≡ size_of self.old.stack }
     {
         self.stack.set(slot, self.dot.share()?);
         self.place += 1;
-        Ok(())
+        Ok(Flow::On)
     }
 }

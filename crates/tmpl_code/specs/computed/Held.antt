@@ -1,20 +1,22 @@
 -- What the compiler holds, apart from how it is held. Code is held from its last instruction to its first, cells from
 -- the oldest to the newest.
-use Rattle.std.specs.Prelude.{ℕ, ◌+◌, ◌-◌, ◌≤◌, Bool, true, false, List, [], ◌∷◌, length, drop, Option, Some, None, map}
-use Rattle.std.specs.Prelude.{reverse}
+use Rattle.std.specs.Prelude.{◌≡◌, ℕ, ◌+◌, ◌-◌, ◌≤◌, Bool, true, false, List, [], ◌∷◌, length, drop, Option, Some, None}
+use Rattle.std.specs.Prelude.{map, reverse}
+use Rattle.tmpl_grammar.specs.Need.{declared_count}
 use Rattle.tmpl_grammar.specs.Tree.{Binding, unbound, declare, assign, declare_pair}
 use Rattle.tmpl_syntax.specs.Tree as tree
 use Rattle.tmpl_syntax.specs.Tree.{NodeKind, text, action, control_node, break_node, continue_node, template_node}
 use Rattle.tmpl_syntax.specs.Tree.{Nodes}
 use Rattle.tmpl_syntax.specs.Set.{Template}
-use Rattle.tmpl_code.specs.Code.{Code, Part, Exit, TreeAt}
+use Rattle.tmpl_code.specs.Code.{Code, Ended, Exit, NodesAt, NodesPart, TreeAt, TurnAt}
 use Rattle.tmpl_code.specs.Instruction.{act, decide}
-use Rattle.tmpl_code.specs.Layout.{Layout, grown}
+use Rattle.tmpl_code.specs.Layout.{Layout, bound_on, declared_in, grown}
 use Rattle.tmpl_code.specs.View.{instruction_of}
 use Rattle.tmpl_code.specs.computed.Cells.{layout_in}
 use Rattle.tmpl_code.specs.declared.code.Code as held_code
 use Rattle.tmpl_code.specs.declared.instruction.Instruction as held_instruction
 use Rattle.tmpl_code.specs.declared.node.Around as held_around
+use Rattle.tmpl_code.specs.declared.node.Compiler as held_compiler
 use Rattle.tmpl_code.specs.declared.scope.Scope as held_scope
 
 abbrev pub code_in : List held_instruction.Instruction → Code
@@ -62,9 +64,28 @@ abbrev pub shrunk : NodeKind → Layout → Layout
 shrunk (action h) cells = bound_off h.binding cells
 shrunk n cells = cells
 
--- what binds the variables of a range, and then its body
-abbrev pub TurnsAt : Part → Part → Part
-TurnsAt Turn Body code rest = (first : Code) × Turn code first × Body first rest
+-- nodes behind a header that binds variables; with a saved dot too; with what ends them; and above the cells of a
+-- range, behind what binds the variables to its element
+abbrev pub BoundPart : List Template → Binding → Nodes → NodesPart
+BoundPart ts b ns cells exit = NodesAt ts ns (bound_on b cells) exit
+
+abbrev pub DottedPart : List Template → Binding → Nodes → NodesPart
+DottedPart ts b ns cells exit = NodesAt ts ns (None ∷ bound_on b cells) exit
+
+abbrev pub EndedPart : List Template → Binding → Nodes → ℕ → NodesPart
+EndedPart ts b ns skip cells exit =
+    Ended (declared_count b + declared_in ns) skip (NodesAt ts ns (bound_on b cells) exit)
+
+abbrev pub TurnsPart : List Template → Binding → Nodes → NodesPart
+TurnsPart ts b ns cells exit code rest =
+    (first : Code) × TurnAt b (None ∷ None ∷ cells) code first
+    × NodesAt ts ns (bound_on b (None ∷ None ∷ cells)) exit first rest
+
+-- such a part was put before the code, and the cells are as they were
+pub record Put (P : NodesPart) (exit : Option held_around.Around) (before after : held_compiler.Compiler) : Type 0 where
+  pub code :
+      P (layout_of before.scope) (exit_seen exit (code_of before.code)) (code_of after.code) (code_of before.code)
+  pub scope : layout_of after.scope ≡ layout_of before.scope
 
 -- the places in code of this size from which on there is so much code
 abbrev pub places : ℕ → List ℕ → List ℕ

@@ -16,26 +16,9 @@ use Rattle.tmpl_run.specs.computed.Machines.{Told}
 use Rattle.tmpl_run.specs.declared.halt.Halt.{Halt}
 use Rattle.tmpl_run.specs.declared.halt.Halt.TheVariants as stop
 
--- the instruction was carried out, or stops for this reason at the line that there is then
-abbrev pub Turned : Told → Instruction → State → State → Result (Unit {0}) RunFaultKind → Type 0
-Turned told i s t (Ok u) = done told.plan told.template i s ≡ goes t
-Turned told i s t (Err kind) =
-    done told.plan told.template i s ≡ failed told.template t.line (cause_of kind) s
-
--- .. unless memory was refused; no bytes are put, so no put fails
-abbrev pub TurnedOr : Told → Instruction → State → State → Result (Unit {0}) Halt → Type 0
-TurnedOr told i s t (Ok u) = done told.plan told.template i s ≡ goes t
-TurnedOr told i s t (Err (stop.Fault kind)) =
-    done told.plan told.template i s
-    ≡ failed told.template t.line (cause_of kind) (record s { made_text = t.made_text })
-TurnedOr told i s t (Err stop.WriteFailed) = ⊥
-TurnedOr told i s t (Err stop.OutOfMemory) = Unit {0}
-
 -- what is told behind a step of a pipeline
 abbrev pub behind : Operation → Told → Told
 behind o told = record told { made_text = made_by o told.made_text }
-
--- ---- any instruction
 
 -- what it puts out in a state
 abbrev pub added : Instruction → State → List ℕ
@@ -59,6 +42,19 @@ Executed told i s t (Err (stop.Fault kind)) =
     ≡ failed told.template t.line (cause_of kind) (record s { made_text = t.made_text })
 Executed told i s t (Err stop.WriteFailed) = done told.plan told.template i s ≡ goes t
 Executed told i s t (Err stop.OutOfMemory) = added i s ≡ []
+
+-- .. by an instruction that puts nothing out and takes no memory
+abbrev pub Turned : Told → Instruction → State → State → Result Flow RunFaultKind → Type 0
+Turned told i s t (Ok f) = Executed told i s t (Ok f)
+Turned told i s t (Err kind) =
+    done told.plan told.template i s ≡ failed told.template t.line (cause_of kind) s
+
+-- .. by one that may stop where memory is refused
+abbrev pub TurnedOr : Told → Instruction → State → State → Result Flow Halt → Type 0
+TurnedOr told i s t (Ok f) = Executed told i s t (Ok f)
+TurnedOr told i s t (Err (stop.Fault kind)) = Executed told i s t (Err (stop.Fault kind))
+TurnedOr told i s t (Err stop.WriteFailed) = ⊥
+TurnedOr told i s t (Err stop.OutOfMemory) = Unit {0}
 
 -- whether a put failed
 abbrev pub put_by : {A : Type 0} → Result A Halt → Result (Unit {0}) SinkFault

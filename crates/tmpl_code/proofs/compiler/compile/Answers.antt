@@ -21,8 +21,8 @@ loop-i-preserved c =
     let i = l.i - 1 in
     let next : l.i ≡ suc i = omega arith in
     let t : Template = (c.template.result.0.now, tree_of c.template.result.1.now) in
-    let old = code_of l.code in
-    let new = code_of c.put_tree.new.code in
+    let old = code_of l.compiler.code in
+    let new = code_of c.put_tree.new.self.code in
     let nodes : nodes_in c.as_slice-nodes.result.now ≡ t.1.nodes = ap nodes_in c.as_slice-nodes.ensures.value in
     let here : t ∷ drop (suc i) ts ≡ drop i ts = sym (from-number ts i t c.template.ensures.value) in
     let starts = subst (λ n. LastStarts ts (drop n ts) (reverse l.lengths.items) old) next l.invariant.starts in
@@ -84,7 +84,7 @@ invariant_of-result c =
     let kept = with_items_is c.reverse.new.self c.to_places.new.counts (omega (arith, many, long)) in
     record {
       linked =
-          linked-so ts l.i c.len-2.result l.lengths.items c.reverse.new.self.items c.as_mut_slice.result.now (with_items c.reverse.new.self c.to_places.new.counts).items (code_of l.code)
+          linked-so ts l.i c.len-2.result l.lengths.items c.reverse.new.self.items c.as_mut_slice.result.now (with_items c.reverse.new.self c.to_places.new.counts).items (code_of l.compiler.code)
           (instructions_of c.into_instructions.result.items) none l.invariant.starts (kept ∙ c.to_places.ensures) c.len-2.ensures c.as_mut_slice.ensures.value c.reverse.ensures.items c.into_instructions.ensures;
       need = l.invariant.most ∙ ap (λ n. largest_need (drop n ts)) none;
       enough = c.in_ok-bound.ensures.bound;
@@ -99,5 +99,5 @@ returns-clause-linked c =
     let many = c.to_places.auto.counts in
     let long = c.as_mut_slice.ensures.len in
     let kept = with_items_is c.reverse.new.self c.to_places.new.counts (omega (arith, many, long)) in
-    linked-so ts l.i c.len-2.result l.lengths.items c.reverse.new.self.items c.as_mut_slice.result.now (with_items c.reverse.new.self c.to_places.new.counts).items (code_of l.code)
+    linked-so ts l.i c.len-2.result l.lengths.items c.reverse.new.self.items c.as_mut_slice.result.now (with_items c.reverse.new.self c.to_places.new.counts).items (code_of l.compiler.code)
     (instructions_of c.into_instructions.result.items) none l.invariant.starts (kept ∙ c.to_places.ensures) c.len-2.ensures c.as_mut_slice.ensures.value c.reverse.ensures.items c.into_instructions.ensures

@@ -12,7 +12,7 @@ invariant-loop-i l =
     let ts = set_view l.set in
     record {
       within : l.i ≤ length ts;
-      starts : LastStarts ts (drop l.i ts) (reverse l.lengths.items) (code_of l.code);
+      starts : LastStarts ts (drop l.i ts) (reverse l.lengths.items) (code_of l.compiler.code);
       needs : reverse l.needs.items ≡ map (λ t. need t.1) (drop l.i ts);
       most : l.survey.need ≡ largest_need (drop l.i ts);
       bounded : l.survey.need ≤ most_need;

@@ -1,0 +1,46 @@
+use Rattle.std.proofs.Common.{◌≡◌, ◌∙◌, ◌+◌, ◌-◌, ◌∷◌, ◌||◌, max, drop, refl, ap, arith}
+use Rattle.tmpl_syntax.specs.Need.{need_of_nodes}
+use Rattle.tmpl_syntax.specs.View.{nodes_in}
+use Rattle.tmpl_code.specs.Calls.{nodes_call}
+use Rattle.tmpl_code.specs.MakesText.{nodes_make_text}
+use Rattle.tmpl_code.specs.computed.Held.{code_of}
+use Rattle.tmpl_code.proofs.NodeLemmas.{nodes_from}
+use Rattle.tmpl_code.proofs.NodeTailLemmas as tail
+use Rattle.tmpl_code.proofs.node.Compiler.put_surveyed.Goals as goal
+
+pub put_node-requires : goal.put_node-requires
+put_node-requires c =
+    let l = c.loop-i in
+    tail.node_open (record { code = l.self.code; scope = c.shrink.new.scope }) c.requires l.invariant.nodes (l.i - 1) c.index-nodes-i.result (omega arith) (omega arith) c.index-nodes-i.is refl c.shrink.ensures
+
+pub loop-i-preserved : goal.loop-i-preserved
+loop-i-preserved c =
+    let l = c.loop-i in
+    let ns = c.args.nodes.now in
+    let item = c.index-nodes-i.result in
+    let here = nodes_from ns l.i (l.i - 1) item (omega arith) (omega arith) c.index-nodes-i.is in
+    let found = c.in_ok-survey_node.ensures in
+    let above = c.in_ok-above.ensures in
+    let joined = c.with-survey.ensures in
+    record {
+      nodes =
+          tail.put_more (record { code = l.self.code; scope = c.shrink.new.scope }) c.requires l.invariant.nodes (l.i - 1) item (omega arith) (omega arith) c.index-nodes-i.is refl c.shrink.ensures c.in_ok-put_node.ensures
+          (c.in_ok-push.ensures ∙ ap (λ i. i ∷ code_of c.put_node.new.self.code) c.first_instruction.ensures) refl;
+      need = joined.need ∙ (λ j. max (found.need j) ((above.need ∙ (λ k. c.left_behind.ensures k + l.invariant.need k)) j)) ∙ ap need_of_nodes here;
+      text = joined.text ∙ (λ j. found.text j || (above.text ∙ l.invariant.text) j) ∙ ap nodes_make_text here;
+      calls = joined.calls ∙ (λ j. found.calls j || (above.calls ∙ l.invariant.calls) j) ∙ ap nodes_call here;
+    }
+
+-- the loop ends at the first node
+pub returns-clause-code : goal.returns-clause-code
+returns-clause-code c = tail.put_all (omega arith) c.loop-i.invariant.nodes
+
+pub returns-clause-text : goal.returns-clause-text
+returns-clause-text c =
+    let first : c.loop-i.i ≡ 0 = omega arith in
+    c.loop-i.invariant.text ∙ ap (λ k. nodes_make_text (nodes_in (drop k c.args.nodes.now))) first
+
+pub returns-clause-calls : goal.returns-clause-calls
+returns-clause-calls c =
+    let first : c.loop-i.i ≡ 0 = omega arith in
+    c.loop-i.invariant.calls ∙ ap (λ k. nodes_call (nodes_in (drop k c.args.nodes.now))) first
