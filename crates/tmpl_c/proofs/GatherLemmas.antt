@@ -44,7 +44,8 @@ module _ (a : Answer) (all line start line_start : Bytes) (f g code : ℕ) (noth
     (o : Outcome a (sunk (holding start 0) (holding all f)) (sunk (holding line_start 0) (holding line g)) code)
     (room line_room : ℕ) (out err : Seen) (puts : Fills all room out) where
   from_empty : Outcome a (sunk (holding [] 0) (holding all f)) (sunk (holding [] 0) (holding line g)) code
-  from_empty = subst (λ (x : Bytes × Bytes). Outcome a (sunk (holding x.0 0) (holding all f)) (sunk (holding x.1 0) (holding line g)) code) (λ i. (nothing i, no_line i)) o
+  from_empty = subst (λ (x : Bytes × Bytes). Outcome a (sunk (holding x.0 0) (holding all f)) (sunk (holding x.1 0) (holding line g)) code)
+      (λ i. (nothing i, no_line i)) o
 
   -- memory was refused
   pub refused_rendered : Fills memory_line line_room err → Rendered a room out line_room err 7
@@ -64,7 +65,8 @@ module _ (a : Answer) (all line start line_start : Bytes) (f g code : ℕ) (noth
     full_rendered more says =
         let same : length all ≡ length a.text = ap length is.0 in
         let no : fits room a ≡ false = lt-leb (length a.text) room (omega (arith, same, more)) in
-        inl (fills_text, subst (λ (b : Bool). Fills (if b then a.line else write_line) line_room err) (sym no) says, ap (λ (b : Bool). if b then a.status else 6) (sym no))
+        inl (fills_text, subst (λ (b : Bool). Fills (if b then a.line else write_line) line_room err) (sym no) says, ap
+            (λ (b : Bool). if b then a.status else 6) (sym no))
 
     -- it fits
     pub exact_rendered : length all ≤ room → Fills line line_room err → Rendered a room out line_room err code

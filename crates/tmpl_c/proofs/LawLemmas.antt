@@ -75,12 +75,14 @@ stops_at_data parse rules files name input set loads stop is =
 
 pub stops_at_template : StopsAtTemplate
 stops_at_template parse rules files name input set loads value found none =
-    ap (behind_files parse rules false name input) loads ∙ ap (λ (r : Result (Option Value) Stop). answer_of (or_stop r (λ v. named_run rules name set v))) found
+    ap (behind_files parse rules false name input) loads ∙ ap (λ (r : Result (Option Value) Stop). answer_of (or_stop r (λ v. named_run rules name set v)))
+        found
     ∙ ap (λ o. answer_of (or_stop (ok_or o (tool.unnamed name)) (λ tree. Ok (ran rules set name tree value)))) none
 
 pub runs : Runs
 runs parse rules files name input set loads value found tree is =
-    ap (behind_files parse rules false name input) loads ∙ ap (λ (r : Result (Option Value) Stop). answer_of (or_stop r (λ v. named_run rules name set v))) found
+    ap (behind_files parse rules false name input) loads ∙ ap (λ (r : Result (Option Value) Stop). answer_of (or_stop r (λ v. named_run rules name set v)))
+        found
     ∙ ap (λ o. answer_of (or_stop (ok_or o (tool.unnamed name)) (λ tree. Ok (ran rules set name tree value)))) is
 
 -- ---- as the command
@@ -125,7 +127,8 @@ answers_but_for_name one other parse rules print files name input = go input (ea
     Same : Answer → Answer → Type 0
     Same a b = (a.text ≡ b.text) × (a.status ≡ b.status) × SameBut one other a b
 
-    with_flaw : (set : List Template) (d : Result Value Flaw) → Same (answer_of (or_stop (result_map_both Some (tool.flawed one) d) (λ v. named_run rules name set v)))
+    with_flaw : (set : List Template) (d : Result Value Flaw) → Same (answer_of (or_stop (result_map_both Some (tool.flawed one) d)
+        (λ v. named_run rules name set v)))
         (answer_of (or_stop (result_map_both Some (tool.flawed other) d) (λ v. named_run rules name set v)))
     with_flaw set (Ok v) = (refl, refl, inl refl)
     with_flaw set (Err flaw) = (refl, refl, inr (flaw, refl, refl))

@@ -77,7 +77,8 @@ abbrev pub LendsData : Files → Option Bytes → Bytes → Bytes → Type 0
 LendsData files None called input = input ≡ []
 LendsData files (Some name) called input = (called ≡ name) × (files name ≡ Some input) × (input ≢ [])
 
--- over the same files, data, options and name it is the answer of the command, where its lines call the data as the words do
+-- over the same files, data, options and name it is the answer of the command, where its lines call the data as the
+-- words do
 abbrev pub AnswersAsCommand : Type 0
 AnswersAsCommand = (parse : Parse) (words : List Bytes) (files : Files) (w : Wanted) → asked_by words ≡ Ok w
     → (lent : List (Bytes × Bytes)) → LendsFiles files w.files lent

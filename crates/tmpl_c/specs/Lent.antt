@@ -1,5 +1,6 @@
 -- The engine as one function of what the caller lends.
-use Rattle.std.specs.Prelude.{ℕ, Bool, not, List, [], ◌∷◌, Option, None, Result, Ok, codes, eqb, ltb, map, if◌then◌else◌}
+use Rattle.std.specs.Prelude.{ℕ, Bool, not, List, [], ◌∷◌, Option, None, Result, Ok, codes, eqb, ltb, map}
+use Rattle.std.specs.Prelude.{if◌then◌else◌}
 use Rattle.std.specs.Str.{is_utf8}
 use Rattle.tmpl_values.specs.Value.{Value}
 use Rattle.tmpl_syntax.specs.Set.{Template}
@@ -8,7 +9,8 @@ use Rattle.tmpl_meaning.specs.declared.missing_key.MissingKey.{MissingKey}
 use Rattle.tmpl_meaning.specs.declared.missing_key.MissingKey.TheVariants.{Default, Invalid, Zero, Error}
 use Rattle.tmpl_tool.specs.Outcome.{Answer}
 use Rattle.tmpl_tool.specs.Source.{Bytes}
-use Rattle.tmpl_tool.specs.Tool.{Parse, Stop, added, answer_of, bad_words, data_in, named_run, or_stop, printed, stop_if}
+use Rattle.tmpl_tool.specs.Tool.{Parse, Stop, added, answer_of, bad_words, data_in, named_run, or_stop, printed}
+use Rattle.tmpl_tool.specs.Tool.{stop_if}
 use Rattle.tmpl_c.specs.declared.lent.File.{File}
 use Rattle.tmpl_c.specs.declared.settings.Settings.{Settings}
 

@@ -32,12 +32,14 @@ pub junction_more : (lay : Layout) (above : ℕ) (is_or piped : Bool) (os : List
 junction_more lay above is_or piped os i o last new mid more old h is e put at others =
     subst (λ (x : Operands). JunctionAt is_or x piped above lay new old) (sym (operands_from os i o h is)) (mid, at, decides)
   where
-    go : (os : Operands) (piped b last : Bool) → last ≡ b → mid ≡ decided last is_or piped (length old) more → JunctionAt is_or os piped above lay more old → (b ≡ true → more ≡ old)
+    go : (os : Operands) (piped b last : Bool) → last ≡ b → mid ≡ decided last is_or piped (length old) more → JunctionAt is_or os piped above lay more old
+        → (b ≡ true → more ≡ old)
         → DecideAt b is_or piped (JunctionAt is_or os piped above lay) mid old
     go os piped true true e put others none = put ∙ none refl
     go os piped true false e put others none = cc
     go os piped false true e put others none = cc
-    go os piped false false e put others none = (length more - length old, more, put, others, passes old more (junction_ends is_or os piped above lay more old others))
+    go os piped false false e put others none = (length more - length old, more, put, others, passes old more
+        (junction_ends is_or os piped above lay more old others))
 
     none : (os : Operands) (piped : Bool) → is_last os piped ≡ true → JunctionAt is_or os piped above lay more old → more ≡ old
     none no_operand false e l = l
@@ -45,4 +47,5 @@ junction_more lay above is_or piped os i o last new mid more old h is e put at o
     none (operand o os) piped e l = cc
 
     decides : DecideAt (is_last (operands_in (drop (i + 1) os)) piped) is_or piped (JunctionAt is_or (operands_in (drop (i + 1) os)) piped above lay) mid old
-    decides = go (operands_in (drop (i + 1) os)) piped (is_last (operands_in (drop (i + 1) os)) piped) last e put others (λ t. none (operands_in (drop (i + 1) os)) piped t others)
+    decides = go (operands_in (drop (i + 1) os)) piped (is_last (operands_in (drop (i + 1) os)) piped) last e put others
+        (λ t. none (operands_in (drop (i + 1) os)) piped t others)

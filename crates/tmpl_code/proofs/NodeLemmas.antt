@@ -24,7 +24,8 @@ abbrev mutual
 pub weight-at : (ns : List held.Node) (i : ℕ) (d : held.Node) → i < length ns → node_weight (node_of (get_or ns i d)).what < nodes_weight (nodes_in ns)
 weight-at [] i d h = absurd (omega arith)
 weight-at (n ∷ ns) zero d h = omega arith
-weight-at (n ∷ ns) (suc i) d h = let below : node_weight (node_of (get_or ns i d)).what < nodes_weight (nodes_in ns) = weight-at ns i d (omega arith) in omega (arith, below)
+weight-at (n ∷ ns) (suc i) d h = let below : node_weight (node_of (get_or ns i d)).what < nodes_weight (nodes_in ns) = weight-at ns i d (omega arith) in
+    omega (arith, below)
 
 pub item-weight : (ns : List held.Node) (i : ℕ) (n : held.Node) → i < length ns → n ≡ get_or ns i n → node_weight (node_of n).what < nodes_weight (nodes_in ns)
 item-weight ns i n h is = subst (λ (m : held.Node). node_weight (node_of m).what < nodes_weight (nodes_in ns)) (sym is) (weight-at ns i n h)
@@ -55,14 +56,16 @@ pub ruleset offs = (bound_off-on, bound-longer)
 pub all_grown-longer : (ns : Nodes) (lay : Layout) → length lay ≤ length (all_grown ns lay)
 all_grown-longer tree.none lay = omega arith
 all_grown-longer (tree.then line (text bytes) ns) lay = all_grown-longer ns lay
-all_grown-longer (tree.then line (action h) ns) lay = let one = bound-longer h.binding lay in let rest = all_grown-longer ns (bound_on h.binding lay) in omega arith
+all_grown-longer (tree.then line (action h) ns) lay = let one = bound-longer h.binding lay in let rest = all_grown-longer ns (bound_on h.binding lay) in
+    omega arith
 all_grown-longer (tree.then line (control_node c h body other) ns) lay = all_grown-longer ns lay
 all_grown-longer (tree.then line break_node ns) lay = all_grown-longer ns lay
 all_grown-longer (tree.then line continue_node ns) lay = all_grown-longer ns lay
 all_grown-longer (tree.then line (template_node name given) ns) lay = all_grown-longer ns lay
 
 -- the layout before a node, and behind it
-module _ (ns : List held.Node) (i j : ℕ) (n : held.Node) (lay now : Layout) (h : j < length ns) (next : i ≡ j + 1) (is : n ≡ get_or ns j n) (grew : now ≡ all_grown (nodes_in (take i ns)) lay) where
+module _ (ns : List held.Node) (i j : ℕ) (n : held.Node) (lay now : Layout) (h : j < length ns) (next : i ≡ j + 1) (is : n ≡ get_or ns j n)
+    (grew : now ≡ all_grown (nodes_in (take i ns)) lay) where
   pub grows : now ≡ grown (node_of n).what (all_grown (nodes_in (take j ns)) lay)
   grows = grew ∙ ap (λ k. all_grown (nodes_in (take k ns)) lay) next ∙ grown-next ns j n lay h is
 

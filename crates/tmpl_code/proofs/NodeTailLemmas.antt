@@ -1,5 +1,7 @@
--- For `Compiler::put_nodes` and what it calls: the code of nodes ends with what stands behind it, so a jump out of a range still leads behind it; controls from their parts, and nodes one by one.
-use Rattle.std.proofs.Common.{arith, ◌≡◌, ◌∙◌, ◌+◌, ◌-◌, ◌<◌, ◌≤◌, ℕ, zero, suc, Bool, false, List, [], ◌∷◌, ◌++◌, length, drop, take, get_or, refl, ap, sym, subst, Option, Some, None, Result, Ok, Err, OnOk, length-append}
+-- For `Compiler::put_nodes` and what it calls: the code of nodes ends with what stands behind it, so a jump out of a range
+-- still leads behind it; controls from their parts, and nodes one by one.
+use Rattle.std.proofs.Common.{arith, ◌≡◌, ◌∙◌, ◌+◌, ◌-◌, ◌<◌, ◌≤◌, ℕ, zero, suc, Bool, false, List, [], ◌∷◌, ◌++◌, length, drop, take, get_or, refl, ap, sym}
+use Rattle.std.proofs.Common.{subst, Option, Some, None, Result, Ok, Err, OnOk, length-append}
 use Rattle.tmpl_grammar.specs.Need.{declared_count}
 use Rattle.tmpl_grammar.specs.Tree.{Pipeline, pipeline, Binding, unbound, declare, assign, declare_pair, Header}
 use Rattle.tmpl_grammar.specs.declared.tree.Control.{Control}
@@ -11,7 +13,8 @@ use Rattle.tmpl_syntax.specs.View.{node_of, nodes_in}
 use Rattle.tmpl_syntax.specs.declared.tree.Node as held_node
 use Rattle.tmpl_code.specs.Instruction.{unless, enter_with, end_with, cut, enter, next, invoke}
 use Rattle.tmpl_code.specs.Layout.{Layout, slot_named, bound_on, declares, declares_key, grown, declared_in}
-use Rattle.tmpl_code.specs.Code.{Code, Part, NodesPart, Exit, PipelineAt, SetAt, BindAt, ShownAt, SetDotAt, TurnAt, BreakAt, ContinueAt, GivenAt, CallAt, HeaderAt, EndAt, Ended, IfAt, WithAt, RangeAt, ControlAt, NodeAt, NodesAt, step_of}
+use Rattle.tmpl_code.specs.Code.{Code, Part, NodesPart, Exit, PipelineAt, SetAt, BindAt, ShownAt, SetDotAt, TurnAt, BreakAt, ContinueAt, GivenAt, CallAt}
+use Rattle.tmpl_code.specs.Code.{HeaderAt, EndAt, Ended, IfAt, WithAt, RangeAt, ControlAt, NodeAt, NodesAt, step_of}
 use Rattle.tmpl_code.specs.computed.Held.{BoundPart, DottedPart, EndedPart, IsOpen, Put, TurnsPart, all_grown, code_of, exit_seen, last_of, layout_of, shrunk}
 use Rattle.tmpl_code.specs.declared.node.Around as held_around
 use Rattle.tmpl_code.specs.declared.node.Compiler as held_compiler
@@ -87,13 +90,16 @@ parts n to P first second rest a p l = ends_both first second rest a (ends_both 
 
 if_ends : (b : Binding) (n m : ℕ) (Body Other : Part) → PartEnds Body → PartEnds Other → PartEnds (IfAt b n m Body Other)
 if_ends b n m Body Other f g code rest i =
-    ends_on _ code i.0 rest i.4 (parts (declared_count b + m) 0 Other i.0 i.1 rest (parts (declared_count b + n) i.3 Body i.0 i.0 i.1 (ends_same i.0 i.0 refl) f i.5) g i.6)
+    ends_on _ code i.0 rest i.4 (parts (declared_count b + m) 0 Other i.0 i.1 rest
+        (parts (declared_count b + n) i.3 Body i.0 i.0 i.1 (ends_same i.0 i.0 refl) f i.5) g i.6)
 
 with_ends : (b : Binding) (n m : ℕ) (Body Other : Part) → PartEnds Body → PartEnds Other → PartEnds (WithAt b n m Body Other)
 with_ends b n m Body Other f g code rest i =
-    ends_on _ code i.0 rest i.4 (parts (declared_count b + m) 0 Other i.0 i.1 rest (ends_under _ i.0 i.1 (f i.0 (end_with n (declared_count b) i.3 ∷ i.1) i.5)) g i.6)
+    ends_on _ code i.0 rest i.4 (parts (declared_count b + m) 0 Other i.0 i.1 rest (ends_under _ i.0 i.1 (f i.0 (end_with n (declared_count b) i.3 ∷ i.1) i.5))
+        g i.6)
 
-range_ends : (line : ℕ) (b : Binding) (n m : ℕ) (Turn Body Other : Part) → PartEnds Turn → PartEnds Body → PartEnds Other → PartEnds (RangeAt line b n m Turn Body Other)
+range_ends : (line : ℕ) (b : Binding) (n m : ℕ) (Turn Body Other : Part) → PartEnds Turn → PartEnds Body → PartEnds Other
+    → PartEnds (RangeAt line b n m Turn Body Other)
 range_ends line b n m Turn Body Other t f g code rest i =
     ends_on _ code i.0 rest i.5 (ends_both i.0 i.1 rest (t i.0 i.1 i.6)
     (parts m 0 Other i.1 i.2 rest (ends_under _ i.1 i.2 (f i.1 (next (declared_count b + n) i.4 line ∷ i.2) i.7)) g i.8))
@@ -101,7 +107,8 @@ range_ends line b n m Turn Body Other t f g code rest i =
 abbrev AllEnd : NodesPart → Type 0
 AllEnd P = (lay : Layout) (exit : Exit) → PartEnds (P lay exit)
 
-control_ends : (line : ℕ) (c : Control) (h : Header) (n m : ℕ) (Body Other : NodesPart) → AllEnd Body → AllEnd Other → AllEnd (ControlAt line c h n m Body Other)
+control_ends : (line : ℕ) (c : Control) (h : Header) (n m : ℕ) (Body Other : NodesPart) → AllEnd Body → AllEnd Other
+    → AllEnd (ControlAt line c h n m Body Other)
 control_ends line control.If h n m Body Other f g lay exit code rest l =
     ends_both code l.0 rest (header_ends h lay code l.0 l.1)
     (if_ends h.binding n m (Body (bound_on h.binding lay) exit) (Other (bound_on h.binding lay) exit)
@@ -118,7 +125,8 @@ control_ends line control.Range h n m Body Other f g lay exit code rest l =
     (turn_ends h.binding (None ∷ None ∷ lay)) (f within inner) (g lay exit) l.0 rest l.2)
 
 mutual
-  pub node_ends : (ts : List Template) (line : ℕ) (n : NodeKind) (lay : Layout) (exit : Exit) (code rest : Code) → NodeAt ts line n lay exit code rest → Ends rest code
+  pub node_ends : (ts : List Template) (line : ℕ) (n : NodeKind) (lay : Layout) (exit : Exit) (code rest : Code) → NodeAt ts line n lay exit code rest
+      → Ends rest code
   node_ends ts line (text bytes) lay exit code rest l = ends_one _ code rest l
   node_ends ts line (action h) lay exit code rest l = ends_both code l.0 rest (header_ends h lay code l.0 l.1) (shown_ends h.binding l.0 rest l.2)
   node_ends ts line (control_node c h body other) lay exit code rest l =
@@ -149,7 +157,8 @@ exit_on (Some a) old new lay h t =
     ap (λ (c : Code). exit_seen (Some a) c) t.is
     ∙ ap (λ (out : Code). Some (record { out = out; line = a.line; below = a.below })) (last-on t.front old a.after h.0)
 
-pub open_on : (e : Option held_around.Around) (old new : Code) (lay more : Layout) → Ends old new → length lay ≤ length more → IsOpen e old lay → IsOpen e new more
+pub open_on : (e : Option held_around.Around) (old new : Code) (lay more : Layout) → Ends old new → length lay ≤ length more → IsOpen e old lay
+    → IsOpen e new more
 open_on None old new lay more t g h = tt
 open_on (Some a) old new lay more t g h =
     let l = longer old new t in
@@ -178,12 +187,14 @@ module _ {P : NodesPart} {e : Option held_around.Around} {old mid : Compiler} (e
       open_on e (code_of old.code) (code_of mid.code) (layout_of old.scope) (layout_of mid.scope) tail (omega (arith, same)) h
 
 -- a part that is put behind code which ends with the old one
-put_on : {P : NodesPart} {e : Option held_around.Around} (old : Compiler) {mid new : Compiler} → IsOpen e (code_of old.code) (layout_of old.scope) → Ends (code_of old.code) (code_of mid.code)
+put_on : {P : NodesPart} {e : Option held_around.Around} (old : Compiler) {mid new : Compiler} → IsOpen e (code_of old.code) (layout_of old.scope)
+    → Ends (code_of old.code) (code_of mid.code)
     → layout_of mid.scope ≡ layout_of old.scope → Put P e mid new
     → P (layout_of old.scope) (exit_seen e (code_of old.code)) (code_of new.code) (code_of mid.code)
 put_on {P} {e} old {mid} {new} h t same p =
     subst (λ (l : Layout). P l (exit_seen e (code_of old.code)) (code_of new.code) (code_of mid.code)) same
-    (subst (λ (x : Exit). P (layout_of mid.scope) x (code_of new.code) (code_of mid.code)) (exit_on e (code_of old.code) (code_of mid.code) (layout_of old.scope) h t) p.code)
+    (subst (λ (x : Exit). P (layout_of mid.scope) x (code_of new.code) (code_of mid.code))
+        (exit_on e (code_of old.code) (code_of mid.code) (layout_of old.scope) h t) p.code)
 
 pub nodes_part : (ts : List Template) (ns : Nodes) → AllEnd (NodesAt ts ns)
 nodes_part ts ns lay exit code rest l = nodes_ends ts ns lay exit code rest l
@@ -206,17 +217,21 @@ on_ok (Err e) P Q f p = tt
 -- ---- a part with its end, and controls
 
 module _ (ts : List Template) {e : Option held_around.Around} {old : Compiler} (h : IsOpen e (code_of old.code) (layout_of old.scope)) where
-  pub put_ended : (b : Binding) (ns : Nodes) (skip n : ℕ) {mid new : Compiler} → layout_of mid.scope ≡ layout_of old.scope → n ≡ declared_count b + declared_in ns
+  pub put_ended : (b : Binding) (ns : Nodes) (skip n : ℕ) {mid new : Compiler} → layout_of mid.scope ≡ layout_of old.scope
+      → n ≡ declared_count b + declared_in ns
       → EndAt n skip (code_of mid.code) (code_of old.code) → Put (BoundPart ts b ns) e mid new → Put (EndedPart ts b ns skip) e old new
   put_ended b ns skip n {mid} {new} same count end p = record {
-    code = (code_of mid.code, put_on {P = BoundPart ts b ns} old h (end_ends n skip (code_of mid.code) (code_of old.code) end) same p, subst (λ k. EndAt k skip (code_of mid.code) (code_of old.code)) count end);
+    code = (code_of mid.code, put_on {P = BoundPart ts b ns} old h (end_ends n skip (code_of mid.code) (code_of old.code) end) same p, subst
+        (λ k. EndAt k skip (code_of mid.code) (code_of old.code)) count end);
     scope = p.scope ∙ same;
   }
 
   module _ (head : Header) (body others : Nodes) where
-    pub put_if : {second first new : Compiler} {start : Code} (to skip : ℕ) (kept : Bool) → Put (EndedPart ts head.binding others 0) e old second → Put (EndedPart ts head.binding body to) e second first
+    pub put_if : {second first new : Compiler} {start : Code} (to skip : ℕ) (kept : Bool) → Put (EndedPart ts head.binding others 0) e old second
+        → Put (EndedPart ts head.binding body to) e second first
         → to ≡ length (code_of second.code) - length (code_of old.code) → skip ≡ length (code_of first.code) - length (code_of second.code)
-        → kept ≡ declares head.binding → start ≡ unless kept skip ∷ code_of first.code → layout_of new.scope ≡ layout_of first.scope → HeaderAt head (layout_of first.scope) (code_of new.code) start
+        → kept ≡ declares head.binding → start ≡ unless kept skip ∷ code_of first.code → layout_of new.scope ≡ layout_of first.scope
+        → HeaderAt head (layout_of first.scope) (code_of new.code) start
         → Put (NodeAt ts 0 (control_node control.If head body others)) e old new
     put_if {second} {first} {new} {start} to skip kept p q tos skipped keeps is same headed =
         let scope = q.scope ∙ p.scope in
@@ -241,9 +256,12 @@ module _ (ts : List Template) {e : Option held_around.Around} {old : Compiler} (
         }
 
     pub put_with : {second mid first new : Compiler} {start : Code} (to skip n v : ℕ) (kept : Bool) → Put (EndedPart ts head.binding others 0) e old second
-        → layout_of mid.scope ≡ layout_of second.scope → code_of mid.code ≡ end_with n v to ∷ code_of second.code → Put (DottedPart ts head.binding body) e mid first
-        → n ≡ declared_in body → v ≡ declared_count head.binding → to ≡ length (code_of second.code) - length (code_of old.code) → skip ≡ length (code_of first.code) - length (code_of second.code)
-        → kept ≡ declares head.binding → start ≡ enter_with kept skip ∷ code_of first.code → layout_of new.scope ≡ layout_of first.scope → HeaderAt head (layout_of first.scope) (code_of new.code) start
+        → layout_of mid.scope ≡ layout_of second.scope → code_of mid.code ≡ end_with n v to ∷ code_of second.code
+        → Put (DottedPart ts head.binding body) e mid first
+        → n ≡ declared_in body → v ≡ declared_count head.binding → to ≡ length (code_of second.code) - length (code_of old.code)
+        → skip ≡ length (code_of first.code) - length (code_of second.code)
+        → kept ≡ declares head.binding → start ≡ enter_with kept skip ∷ code_of first.code → layout_of new.scope ≡ layout_of first.scope
+        → HeaderAt head (layout_of first.scope) (code_of new.code) start
         → Put (NodeAt ts 0 (control_node control.With head body others)) e old new
     put_with {second} {mid} {first} {new} {start} to skip n v kept p saved goes q ns vs tos skipped keeps is same headed =
         let scope = q.scope ∙ saved ∙ p.scope in
@@ -261,7 +279,8 @@ module _ (ts : List Template) {e : Option held_around.Around} {old : Compiler} (
               skip,
               to,
               is ∙ ap (λ k. enter_with k skip ∷ code_of first.code) keeps,
-              subst (λ (c : Code). DottedPart ts head.binding body (layout_of old.scope) (exit_seen e (code_of old.code)) (code_of first.code) c) (goes ∙ (λ j. end_with (ns j) (vs j) to ∷ code_of second.code)) part,
+              subst (λ (c : Code). DottedPart ts head.binding body (layout_of old.scope) (exit_seen e (code_of old.code)) (code_of first.code) c)
+                  (goes ∙ (λ j. end_with (ns j) (vs j) to ∷ code_of second.code)) part,
               p.code,
               ap (λ k. drop k (code_of first.code)) skipped ∙ passes (code_of second.code) (code_of first.code) behind,
               skips (ended_part ts head.binding others 0) p to tos,
@@ -271,20 +290,25 @@ module _ (ts : List Template) {e : Option held_around.Around} {old : Compiler} (
         }
 
     pub put_range : {end second mid first new : Compiler} {start : Code} (line to skip n m : ℕ) (key : Bool) (a : held_around.Around)
-        → layout_of end.scope ≡ layout_of old.scope → m ≡ declared_in others → EndAt m 0 (code_of end.code) (code_of old.code) → Put (NodesAt ts others) e end second
+        → layout_of end.scope ≡ layout_of old.scope → m ≡ declared_in others → EndAt m 0 (code_of end.code) (code_of old.code)
+        → Put (NodesAt ts others) e end second
         → layout_of mid.scope ≡ layout_of second.scope → code_of mid.code ≡ next n to line ∷ code_of second.code
         → a.after ≡ length (code_of old.code) → a.line ≡ line → a.below ≡ length (layout_of mid.scope) → Put (TurnsPart ts head.binding body) (Some a) mid first
-        → n ≡ declared_count head.binding + declared_in body → to ≡ length (code_of second.code) - length (code_of old.code) → skip ≡ length (code_of first.code) - length (code_of second.code)
-        → key ≡ declares_key head.binding → start ≡ enter key skip ∷ code_of first.code → layout_of new.scope ≡ layout_of first.scope → PipelineAt head.pipeline (layout_of first.scope) (code_of new.code) start
+        → n ≡ declared_count head.binding + declared_in body → to ≡ length (code_of second.code) - length (code_of old.code)
+        → skip ≡ length (code_of first.code) - length (code_of second.code)
+        → key ≡ declares_key head.binding → start ≡ enter key skip ∷ code_of first.code → layout_of new.scope ≡ layout_of first.scope
+        → PipelineAt head.pipeline (layout_of first.scope) (code_of new.code) start
         → Put (NodeAt ts line (control_node control.Range head body others)) e old new
-    put_range {end} {second} {mid} {first} {new} {start} line to skip n m key a ended ms close p saved goes after lines below q ns tos skipped keys is same piped =
+    put_range {end} {second} {mid} {first} {new} {start} line to skip n m key a ended ms close p saved goes after lines below q ns tos skipped keys is same
+        piped =
         let scope = q.scope ∙ saved ∙ p.scope ∙ ended in
         let closed = end_ends m 0 (code_of end.code) (code_of old.code) close in
         let before = ends_both (code_of second.code) (code_of end.code) (code_of old.code) (tail (nodes_part ts others) p) closed in
         let one = ends_one (next n to line) (code_of mid.code) (code_of second.code) goes in
         let all = ends_both (code_of mid.code) (code_of second.code) (code_of old.code) one before in
         let behind = ends_both (code_of first.code) (code_of mid.code) (code_of second.code) (tail (turns_part ts head.binding body) q) one in
-        let out : last_of a.after (code_of mid.code) ≡ code_of old.code = ap (λ n. last_of n (code_of mid.code)) after ∙ passes (code_of old.code) (code_of mid.code) all in
+        let out : last_of a.after (code_of mid.code) ≡ code_of old.code = ap (λ n. last_of n (code_of mid.code)) after
+            ∙ passes (code_of old.code) (code_of mid.code) all in
         let lay = saved ∙ p.scope ∙ ended in
         let around : exit_seen (Some a) (code_of mid.code) ≡ Some (record { out = code_of old.code; line = line; below = length (layout_of old.scope) }) =
         (λ j. Some (record { out = out j; line = lines j; below = (below ∙ ap (λ (l : Layout). length l) lay) j })) in
@@ -303,7 +327,8 @@ module _ (ts : List Template) {e : Option held_around.Around} {old : Compiler} (
               to,
               is ∙ ap (λ k. enter k skip ∷ code_of first.code) keys,
               turns.1,
-              subst (λ (c : Code). NodesAt ts body (bound_on head.binding (None ∷ None ∷ layout_of old.scope)) inner turns.0 c) (goes ∙ ap (λ k. next k to line ∷ code_of second.code) ns) turns.2,
+              subst (λ (c : Code). NodesAt ts body (bound_on head.binding (None ∷ None ∷ layout_of old.scope)) inner turns.0 c)
+                  (goes ∙ ap (λ k. next k to line ∷ code_of second.code) ns) turns.2,
               (code_of end.code, put_on {P = NodesAt ts others} old h closed ended p, subst (λ k. EndAt k 0 (code_of end.code) (code_of old.code)) ms close),
               ap (λ k. drop k (code_of first.code)) skipped ∙ passes (code_of second.code) (code_of first.code) behind,
               ap (λ k. drop k (code_of second.code)) tos ∙ passes (code_of old.code) (code_of second.code) before,
@@ -326,19 +351,22 @@ put_all {ts} {e} {ns} {i} {old} {now} none l =
     let scope : layout_of now.scope ≡ layout_of old.scope = l.layout ∙ ap (λ k. all_grown (nodes_in (take k ns)) (layout_of old.scope)) none in
     record {
       code = subst (λ (y : Layout). NodesAt ts (nodes_in ns) y (exit_seen e (code_of old.code)) (code_of now.code) (code_of old.code)) scope
-          (subst (λ k. NodesAt ts (nodes_in (drop k ns)) (layout_of now.scope) (exit_seen e (code_of old.code)) (code_of now.code) (code_of old.code)) none l.put);
+          (subst (λ k. NodesAt ts (nodes_in (drop k ns)) (layout_of now.scope) (exit_seen e (code_of old.code)) (code_of now.code) (code_of old.code)) none
+              l.put);
       scope = scope;
     }
 
 -- a node more, whose variables went out of scope
 module _ {ts : List Template} {e : Option held_around.Around} {ns : List held_node.Node} {i : ℕ} {old now : Compiler} (start : Compiler)
-    (h : IsOpen e (code_of old.code) (layout_of old.scope)) (l : Putting ts e ns i old now) (j : ℕ) (n : held_node.Node) (here : j < length ns) (next : i ≡ j + 1) (is : n ≡ get_or ns j n)
+    (h : IsOpen e (code_of old.code) (layout_of old.scope)) (l : Putting ts e ns i old now) (j : ℕ) (n : held_node.Node) (here : j < length ns)
+        (next : i ≡ j + 1) (is : n ≡ get_or ns j n)
     (same : code_of start.code ≡ code_of now.code) (fewer : layout_of start.scope ≡ shrunk (node_of n).what (layout_of now.scope)) where
   layout : layout_of start.scope ≡ all_grown (nodes_in (take j ns)) (layout_of old.scope)
   layout = fewer ∙ shrinks ns i j n (layout_of old.scope) (layout_of now.scope) here next is l.layout
 
   behind : Ends (code_of old.code) (code_of start.code)
-  behind = subst (Ends (code_of old.code)) (sym same) (nodes_ends ts (nodes_in (drop i ns)) (layout_of now.scope) (exit_seen e (code_of old.code)) (code_of now.code) (code_of old.code) l.put)
+  behind = subst (Ends (code_of old.code)) (sym same) (nodes_ends ts (nodes_in (drop i ns)) (layout_of now.scope) (exit_seen e (code_of old.code))
+      (code_of now.code) (code_of old.code) l.put)
 
   pub node_open : IsOpen e (code_of start.code) (layout_of start.scope)
   node_open =
@@ -347,13 +375,15 @@ module _ {ts : List Template} {e : Option held_around.Around} {ns : List held_no
       open_on e (code_of old.code) (code_of start.code) (layout_of old.scope) (layout_of start.scope) behind (omega (arith, more, long)) h
 
   pub put_more : {mid new : Compiler} → Put (NodeAt ts (node_of n).line (node_of n).what) e start mid
-      → code_of new.code ≡ step_of ts (node_of n).line (node_of n).what ∷ code_of mid.code → layout_of new.scope ≡ layout_of mid.scope → Putting ts e ns j old new
+      → code_of new.code ≡ step_of ts (node_of n).line (node_of n).what ∷ code_of mid.code → layout_of new.scope ≡ layout_of mid.scope
+      → Putting ts e ns j old new
   put_more {mid} {new} p step kept =
       let line = (node_of n).line in
       let what = (node_of n).what in
       let x = exit_seen e (code_of old.code) in
       let before = all_grown (nodes_in (take j ns)) (layout_of old.scope) in
-      let seen = subst (λ (y : Exit). NodeAt ts line what (layout_of start.scope) y (code_of mid.code) (code_of start.code)) (exit_on e (code_of old.code) (code_of start.code) (layout_of old.scope) h behind) p.code in
+      let seen = subst (λ (y : Exit). NodeAt ts line what (layout_of start.scope) y (code_of mid.code) (code_of start.code))
+          (exit_on e (code_of old.code) (code_of start.code) (layout_of old.scope) h behind) p.code in
       let one = subst (λ (y : Layout). NodeAt ts line what y x (code_of mid.code) (code_of now.code)) layout
       (subst (λ (c : Code). NodeAt ts line what (layout_of start.scope) x (code_of mid.code) c) same seen) in
       let put = nodes_more ts ns i j n x before (layout_of now.scope) (code_of new.code) (code_of mid.code) (code_of now.code) (code_of old.code) here next is

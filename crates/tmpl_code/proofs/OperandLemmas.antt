@@ -37,15 +37,19 @@ abbrev mutual
 pub weight-at : (os : List held.Operand) (i : ℕ) (d : held.Operand) → i < length os → weight (operand_of (get_or os i d)) < weights (operands_in os)
 weight-at [] i d h = absurd (omega arith)
 weight-at (o ∷ os) zero d h = omega arith
-weight-at (o ∷ os) (suc i) d h = let below : weight (operand_of (get_or os i d)) < weights (operands_in os) = weight-at os i d (omega arith) in omega (arith, below)
+weight-at (o ∷ os) (suc i) d h = let below : weight (operand_of (get_or os i d)) < weights (operands_in os) = weight-at os i d (omega arith) in
+    omega (arith, below)
 
-pub weights-at : (cs : List held_command.Command) (i : ℕ) (d : held_command.Command) → i < length cs → weights (command_of (get_or cs i d)) < all_weight (commands_in cs)
+pub weights-at : (cs : List held_command.Command) (i : ℕ) (d : held_command.Command) → i < length cs
+    → weights (command_of (get_or cs i d)) < all_weight (commands_in cs)
 weights-at [] i d h = absurd (omega arith)
 weights-at (c ∷ cs) zero d h = omega arith
-weights-at (c ∷ cs) (suc i) d h = let below : weights (command_of (get_or cs i d)) < all_weight (commands_in cs) = weights-at cs i d (omega arith) in omega (arith, below)
+weights-at (c ∷ cs) (suc i) d h = let below : weights (command_of (get_or cs i d)) < all_weight (commands_in cs) = weights-at cs i d (omega arith) in
+    omega (arith, below)
 
 pub item-weight : (os : List held.Operand) (i : ℕ) (o : held.Operand) → i < length os → o ≡ get_or os i o → weight (operand_of o) < weights (operands_in os)
 item-weight os i o h is = subst (λ (p : held.Operand). weight (operand_of p) < weights (operands_in os)) (sym is) (weight-at os i o h)
 
-pub item-weights : (cs : List held_command.Command) (i : ℕ) (c : held_command.Command) → i < length cs → c ≡ get_or cs i c → weights (command_of c) < all_weight (commands_in cs)
+pub item-weights : (cs : List held_command.Command) (i : ℕ) (c : held_command.Command) → i < length cs → c ≡ get_or cs i c
+    → weights (command_of c) < all_weight (commands_in cs)
 item-weights cs i c h is = subst (λ (p : held_command.Command). weights (command_of p) < all_weight (commands_in cs)) (sym is) (weights-at cs i c h)

@@ -11,7 +11,8 @@ use Rattle.tmpl_code.proofs.TailLemmas.{Ends, ends_under, longer}
 use Rattle.tmpl_code.proofs.NodeTailLemmas.{nodes_ends, last-on}
 
 tree_ends : (all : List Template) (ns : Nodes) (code rest : Code) → TreeAt all ns code rest → Ends rest code
-tree_ends all ns code rest l = ends_under (return_from (declared_in ns)) code rest (nodes_ends all ns first_layout None code (return_from (declared_in ns) ∷ rest) l)
+tree_ends all ns code rest l = ends_under (return_from (declared_in ns)) code rest
+    (nodes_ends all ns first_layout None code (return_from (declared_in ns) ∷ rest) l)
 
 -- where code stands that is put before other code, the others stand as before
 starts_on : (all ts : List Template) (ns : List ℕ) (old new : Code) → Ends old new → LastStarts all ts ns old → LastStarts all ts ns new
@@ -41,7 +42,8 @@ starts_more all i t ns more n old new at put len lies s =
     let begins : last_of n new ≡ new = ap (λ k. last_of k new) len ∙ whole new in
     subst (λ (ts : List Template). LastStarts all ts (reverse more) new) (sym (from-number all i t at))
     (subst (λ (ks : List ℕ). LastStarts all (t ∷ drop (suc i) all) ks new) (sym first)
-    (omega (arith, len), (old, subst (λ (c : Code). TreeAt all t.1.nodes c old) (sym begins) lies), starts_on all (drop (suc i) all) (reverse ns) old new (tree_ends all t.1.nodes new old lies) s))
+    (omega (arith, len), (old, subst (λ (c : Code). TreeAt all t.1.nodes c old) (sym begins) lies), starts_on all (drop (suc i) all) (reverse ns) old new
+        (tree_ends all t.1.nodes new old lies) s))
 
 -- so much code is left from its place on
 pub starts : (all ts : List Template) (ns : List ℕ) (code : Code) → LastStarts all ts ns code → Starts all ts (places (length code) ns) code

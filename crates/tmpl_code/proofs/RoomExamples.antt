@@ -1,7 +1,8 @@
 -- Not needed by any proof: the room of some templates is computed, so that a reader sees what the definition says.
 use Rattle.std.proofs.Common.{◌≡◌, ℕ, List, [], ◌∷◌, refl, codes, pos}
 use Rattle.tmpl_funcs.specs.declared.func.Func.TheVariants.{And, Eq, Index, Len, Printf}
-use Rattle.tmpl_grammar.specs.Tree.{Operand, dot, fields, variable, number_constant, text_constant, function, group, Operands, operands_from, commands_from, pipeline, Binding, unbound, declare_pair, Header}
+use Rattle.tmpl_grammar.specs.Tree.{Operand, dot, fields, variable, number_constant, text_constant, function, group, Operands, operands_from, commands_from}
+use Rattle.tmpl_grammar.specs.Tree.{pipeline, Binding, unbound, declare_pair, Header}
 use Rattle.tmpl_grammar.specs.declared.tree.Control.TheVariants.{If, With, Range}
 use Rattle.tmpl_syntax.specs.Tree.{NodeKind, Nodes, none, then, text, action, control_node, break_node}
 use Rattle.tmpl_syntax.specs.Set.{Template}

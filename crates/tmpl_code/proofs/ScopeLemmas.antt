@@ -1,5 +1,6 @@
 -- For `Scope`: its cells with one more or one less, and the newest place of a name, which its map and its links keep.
-use Rattle.std.proofs.Common.{arith, ◌≡◌, ◌∙◌, ◌-◌, ◌<◌, ℕ, suc, Bool, true, false, cond, List, [], ◌∷◌, ◌++◌, length, map, reverse, drop, refl, ap, sym, Option, Some, None, Bor}
+use Rattle.std.proofs.Common.{arith, ◌≡◌, ◌∙◌, ◌-◌, ◌<◌, ℕ, suc, Bool, true, false, cond, List, [], ◌∷◌, ◌++◌, length, map, reverse, drop, refl, ap, sym}
+use Rattle.std.proofs.Common.{Option, Some, None, Bor}
 use Rattle.std.specs.Option.{unwrap_or, option_map, is_some}
 use Rattle.std.specs.Str.{bytes_eq}
 use Rattle.std.specs.BTreeMap as tree

@@ -1,13 +1,16 @@
 -- For `put_junction`: code of operands ends with what stands behind it, so a jump over them is as long as what was put.
-use Rattle.std.proofs.Common.{arith, ◌≡◌, ◌∙◌, ◌+◌, ◌-◌, ◌≤◌, ℕ, suc, Bool, true, false, List, [], ◌∷◌, ◌++◌, length, drop, refl, ap, sym, Option, Some, None, append_assoc, length-append}
+use Rattle.std.proofs.Common.{arith, ◌≡◌, ◌∙◌, ◌+◌, ◌-◌, ◌≤◌, ℕ, suc, Bool, true, false, List, [], ◌∷◌, ◌++◌, length, drop, refl, ap, sym, Option, Some, None}
+use Rattle.std.proofs.Common.{append_assoc, length-append}
 use Rattle.std.proofs.Math.Seq.{drop-append_seam}
 use Rattle.tmpl_funcs.specs.Func.{takes}
 use Rattle.tmpl_funcs.specs.declared.func.Func.{Func}
 use Rattle.tmpl_funcs.specs.declared.func.Func.TheVariants.{And, Or}
-use Rattle.tmpl_grammar.specs.Tree.{Operand, dot, fields, variable, bool_constant, number_constant, text_constant, nil, function, group, Operands, no_operand, operand, Commands, no_command, command}
+use Rattle.tmpl_grammar.specs.Tree.{Operand, dot, fields, variable, bool_constant, number_constant, text_constant, nil, function, group, Operands, no_operand}
+use Rattle.tmpl_grammar.specs.Tree.{operand, Commands, no_command, command}
 use Rattle.tmpl_code.specs.Instruction.{Instruction, act, settle, call_with}
 use Rattle.tmpl_code.specs.Layout.{Layout, slot_named}
-use Rattle.tmpl_code.specs.Code.{Code, Part, chain_before, VariableAt, BareAt, is_last, FirstAt, CountedAt, CallBy, DecideAt, OperandAt, OperandsAt, JunctionAt, CommandAt, CommandsAt, argument_count, operand_count, piped_count}
+use Rattle.tmpl_code.specs.Code.{Code, Part, chain_before, VariableAt, BareAt, is_last, FirstAt, CountedAt, CallBy, DecideAt, OperandAt, OperandsAt, JunctionAt}
+use Rattle.tmpl_code.specs.Code.{CommandAt, CommandsAt, argument_count, operand_count, piped_count}
 
 -- the code ends with this
 pub record Ends (rest code : Code) : Type 0 where
@@ -93,11 +96,13 @@ mutual
   operands_ends no_operand n lay code rest l = ends_same code rest l
   operands_ends (operand o os) n lay code rest l = ends_both code l.0 rest (operand_ends o n lay code l.0 l.1) (operands_ends os (suc n) lay l.0 rest l.2)
 
-  pub junction_ends : (is_or : Bool) (os : Operands) (piped : Bool) (n : ℕ) (lay : Layout) (code rest : Code) → JunctionAt is_or os piped n lay code rest → Ends rest code
+  pub junction_ends : (is_or : Bool) (os : Operands) (piped : Bool) (n : ℕ) (lay : Layout) (code rest : Code) → JunctionAt is_or os piped n lay code rest
+      → Ends rest code
   junction_ends is_or no_operand piped n lay code rest l = ends_same code rest l
   junction_ends is_or (operand o os) piped n lay code rest l =
       ends_both code l.0 rest (operand_ends o n lay code l.0 l.1)
-      (decide_ends (is_last os piped) is_or piped (JunctionAt is_or os piped n lay) (λ code rest l. junction_ends is_or os piped n lay code rest l) l.0 rest l.2)
+      (decide_ends (is_last os piped) is_or piped (JunctionAt is_or os piped n lay) (λ code rest l. junction_ends is_or os piped n lay code rest l) l.0 rest
+          l.2)
 
   pub command_ends : (os : Operands) (piped : Bool) (n : ℕ) (lay : Layout) (code rest : Code) → CommandAt os piped n lay code rest → Ends rest code
   command_ends no_operand piped n lay code rest l = ends_one _ code rest l
@@ -109,7 +114,8 @@ mutual
       (call_ends f All Both Either
       (λ code rest l. ends_under _ code rest (operands_ends os n lay code (act (call_with f (operand_count os) piped) ∷ rest) l))
       (λ code rest l. junction_ends false os piped n lay code rest l) (λ code rest l. junction_ends true os piped n lay code rest l)) code rest l
-  command_ends (operand o os) piped n lay code rest l = first_ends (is_last os piped) o (OperandAt o n lay) (λ code rest l. operand_ends o n lay code rest l) code rest l
+  command_ends (operand o os) piped n lay code rest l = first_ends (is_last os piped) o (OperandAt o n lay) (λ code rest l. operand_ends o n lay code rest l)
+      code rest l
 
   pub commands_ends : (cs : Commands) (piped : Bool) (n : ℕ) (lay : Layout) (code rest : Code) → CommandsAt cs piped n lay code rest → Ends rest code
   commands_ends no_command false n lay code rest l = ends_one _ code rest l

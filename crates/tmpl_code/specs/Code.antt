@@ -2,7 +2,8 @@
 -- instructions from a place on, and `rest` is what stands behind the code of the tree; so nothing hangs on where it
 -- stands. Each case says what that of the tree's meaning says, and each tree has code: a variable that is not in scope
 -- is nothing, and a break out of no range ends the template.
-use Rattle.std.specs.Prelude.{◌≡◌, ℕ, zero, suc, ◌+◌, ◌-◌, Bool, true, false, List, [], ◌∷◌, length, drop, Option, Some, None}
+use Rattle.std.specs.Prelude.{◌≡◌, ℕ, zero, suc, ◌+◌, ◌-◌, Bool, true, false, List, [], ◌∷◌, length, drop, Option, Some}
+use Rattle.std.specs.Prelude.{None}
 use Rattle.tmpl_funcs.specs.Func.{takes}
 use Rattle.tmpl_funcs.specs.declared.func.Func.{Func}
 use Rattle.tmpl_funcs.specs.declared.func.Func.TheVariants.{And, Or}
@@ -235,8 +236,8 @@ abbrev pub CallAt : List ℕ → Option ℕ → Option Pipeline → Layout → P
 CallAt name None given cells code rest = One (refuse (no_template name)) code rest
 CallAt name (Some number) given cells code rest = GivenAt given cells code (invoke number ∷ rest)
 
--- what takes the step of a node; that of a call of a template which is there is only looked for, and then how deep calls
--- are, before its pipeline, and is taken where the template begins
+-- what takes the step of a node; that of a call of a template which is there is only looked for, and then how deep
+-- calls are, before its pipeline, and is taken where the template begins
 abbrev pub step_of_call : ℕ → Option ℕ → Instruction
 step_of_call line None = spend line
 step_of_call line (Some number) = deepen line
@@ -247,7 +248,8 @@ step_of ts line n = spend line
 
 -- ---- controls
 
--- what ends a part: so many cells are forgotten, and so many instructions passed over; where that is none, nothing is there
+-- what ends a part: so many cells are forgotten, and so many instructions passed over; where that is none, nothing is
+-- there
 abbrev pub EndAt : ℕ → ℕ → Part
 EndAt zero zero code rest = code ≡ rest
 EndAt zero (suc to) code rest = code ≡ cut 0 (suc to) ∷ rest

@@ -64,8 +64,8 @@ pub fn compile<'s>(alloc: Global, set: &'s Set) -> Result<Program<'s>, AllocErro
 }
 
 impl<'s> Compiler<'s> {
-    /// Puts the code of a template before that of the others, and tells what the template needs, with three cells of its
-    /// own, and does.
+    /// Puts the code of a template before that of the others, and tells what the template needs, with three cells of
+    /// its own, and does.
     fn put_tree(
         &mut self,
         alloc: Global,

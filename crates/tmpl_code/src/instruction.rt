@@ -15,8 +15,8 @@ pub enum Refusal {
 }
 
 /// An instruction. What is passed over counts from the next instruction on, slots and counts of cells from the newest
-/// cell on. A variable that a header declares stays below what its node puts on the stack. Counts have 32 bits, and what
-/// is borrowed is one pointer wide, so that an instruction takes 16 bytes.
+/// cell on. A variable that a header declares stays below what its node puts on the stack. Counts have 32 bits, and
+/// what is borrowed is one pointer wide, so that an instruction takes 16 bytes.
 #[derive(Clone, Copy)]
 pub enum Instruction<'s> {
     /// Takes a step at this line, which the faults from here on bear, or stops where none is left.
@@ -114,11 +114,11 @@ pub enum Instruction<'s> {
         count: u32,
         skip: u32,
     },
-    /// Stops at this line, which the faults from here on bear, where no step is left, or where as many templates are inside
-    /// one another as there may be.
+    /// Stops at this line, which the faults from here on bear, where no step is left, or where as many templates are
+    /// inside one another as there may be.
     Deepen(u64),
-    /// Takes a step, saves dot and the place of the next instruction, and runs the template of this number with the newest
-    /// value as dot and `$`.
+    /// Takes a step, saves dot and the place of the next instruction, and runs the template of this number with the
+    /// newest value as dot and `$`.
     Invoke(u32),
     /// Forgets so many cells and the three of the template below them, takes dot back and goes to where the caller goes
     /// on; ends the run where there is none.

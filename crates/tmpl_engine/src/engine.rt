@@ -15,8 +15,8 @@ use tmpl_run::{Options, Sink};
 use tmpl_syntax::{NameHash, ParseFault, Set, parse_file, parse_owned};
 use tmpl_values::Data;
 
-/// Templates that a host adds once and renders as often as it likes. It owns them, and gives back their memory when it is
-/// dropped.
+/// Templates that a host adds once and renders as often as it likes. It owns them, and gives back their memory when it
+/// is dropped.
 #[derive(Drop)]
 pub struct Engine {
     set: Set,
@@ -83,8 +83,8 @@ impl Engine {
         &self.set
     }
 
-    /// Renders the template of this name with data, if there are any, by these options, and puts its text out. It compiles
-    /// the templates first; who renders them often does that once, by a [`Renderer`] of `templates`.
+    /// Renders the template of this name with data, if there are any, by these options, and puts its text out. It
+    /// compiles the templates first; who renders them often does that once, by a [`Renderer`] of `templates`.
     ///
     /// # Errors
     ///

@@ -71,8 +71,8 @@ impl<'s> Renderer<'s> {
 
     /// Renders the template of this name with data, if there are any, by these options, and puts its text out.
     ///
-    /// The memory of the run is taken here: its cells, and a piece of 4,096 bytes in which output waits. `tmpl_run::run`
-    /// does the same over memory that is lent.
+    /// The memory of the run is taken here: its cells, and a piece of 4,096 bytes in which output waits.
+    /// `tmpl_run::run` does the same over memory that is lent.
     ///
     /// # Errors
     ///
@@ -125,8 +125,8 @@ fn run_once<'a, S: Sink>(
     run_numbered(alloc, &program, number, data, options, piece, out)
 }
 
-/// Renders the template of this name of a set, as a [`Renderer`] of the set does. The name is looked up first, so nothing
-/// is compiled where there is no template of it.
+/// Renders the template of this name of a set, as a [`Renderer`] of the set does. The name is looked up first, so
+/// nothing is compiled where there is no template of it.
 ///
 /// # Errors
 ///
@@ -148,8 +148,8 @@ pub fn render<'a, S: Sink>(
     render_through(alloc, set, name, data, options, piece.as_mut_slice(), out)
 }
 
-/// Does what [`render`] does, with a piece that is lent, in which output waits until it is full. Its size is how many bytes
-/// most puts have, and changes nothing else.
+/// Does what [`render`] does, with a piece that is lent, in which output waits until it is full. Its size is how many
+/// bytes most puts have, and changes nothing else.
 ///
 /// # Errors
 ///

@@ -5,8 +5,8 @@ ghost use Rattle.tmpl_engine.specs.Writer.{taken};
 use std::io::{self, Write};
 use tmpl_run::{Sink, SinkFault};
 
-/// A writer, such as standard output, as a sink. A write of no byte is a failure. What it took is not told, since nothing
-/// says what a writer does with its bytes.
+/// A writer, such as standard output, as a sink. A write of no byte is a failure. What it took is not told, since
+/// nothing says what a writer does with its bytes.
 #[derive(Drop)]
 pub struct WriterSink<W: Drop> {
     writer: W,

@@ -39,7 +39,8 @@ abbrev Nothing : List Token → Type 0
 Nothing ts = (x : Action) → SpellsAction x ts → ⊥
 
 -- `{{ $x:=1 }}`
-a-declaration : SpellsAction (pipeline_action (headed (declare (codes "x")) (pipeline (single (number_constant (pos 1)))))) (space ∷ variable (codes "x") ∷ declares ∷ one ∷ space ∷ [])
+a-declaration : SpellsAction (pipeline_action (headed (declare (codes "x")) (pipeline (single (number_constant (pos 1))))))
+    (space ∷ variable (codes "x") ∷ declares ∷ one ∷ space ∷ [])
 unfolding integer
 a-declaration = (
   refl,
@@ -63,7 +64,8 @@ a-declaration = (
 )
 
 -- `{{if $x = .a}}`
-an-assignment : SpellsAction (opening control.If (headed (assign (codes "x")) (pipeline (single (fields (a ∷ [])))))) (word (codes "if") ∷ space ∷ variable (codes "x") ∷ space ∷ equals ∷ space ∷ field a ∷ [])
+an-assignment : SpellsAction (opening control.If (headed (assign (codes "x")) (pipeline (single (fields (a ∷ []))))))
+    (word (codes "if") ∷ space ∷ variable (codes "x") ∷ space ∷ equals ∷ space ∷ field a ∷ [])
 unfolding operand_at
 an-assignment = (
   [],
@@ -95,7 +97,8 @@ an-assignment = (
 )
 
 -- `{{range $i , $e := .}}`
-a-range : SpellsAction (opening control.Range (headed (declare_pair (codes "i") (codes "e")) dots)) (word (codes "range") ∷ space ∷ variable (codes "i") ∷ space ∷ comma ∷ space ∷ variable (codes "e") ∷ space ∷ declares ∷ space ∷ period ∷ [])
+a-range : SpellsAction (opening control.Range (headed (declare_pair (codes "i") (codes "e")) dots))
+    (word (codes "range") ∷ space ∷ variable (codes "i") ∷ space ∷ comma ∷ space ∷ variable (codes "e") ∷ space ∷ declares ∷ space ∷ period ∷ [])
 unfolding operand_at
 a-range = (
   [],

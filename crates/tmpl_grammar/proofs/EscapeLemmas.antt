@@ -183,9 +183,12 @@ has-char quote head count bs made = go (code 16 count bs) (code-has 16 count bs)
 
 has-coded : (quote e : ℕ) (bs : List ℕ) → HasEscape quote (92 ∷ e ∷ bs) (coded e bs)
 has-coded quote e bs =
-    if-escape quote _ (nat_eq e 120) _ _ (λ h. subst (λ x. HasEscape quote (92 ∷ x ∷ bs) (option_and_then (as_byte 4) (code 16 2 bs))) (same e 120 h) (has-hex quote bs))
-    (if-escape quote _ (nat_eq e 117) _ _ (λ h. subst (λ x. HasEscape quote (92 ∷ x ∷ bs) (option_and_then (as_char 6) (code 16 4 bs))) (same e 117 h) (has-char quote 117 4 bs (λ ds are s. four_digits are s)))
-    (if-escape quote _ (nat_eq e 85) _ _ (λ h. subst (λ x. HasEscape quote (92 ∷ x ∷ bs) (option_and_then (as_char 10) (code 16 8 bs))) (same e 85 h) (has-char quote 85 8 bs (λ ds are s. eight_digits are s)))
+    if-escape quote _ (nat_eq e 120) _ _ (λ h. subst (λ x. HasEscape quote (92 ∷ x ∷ bs) (option_and_then (as_byte 4) (code 16 2 bs))) (same e 120 h)
+        (has-hex quote bs))
+    (if-escape quote _ (nat_eq e 117) _ _ (λ h. subst (λ x. HasEscape quote (92 ∷ x ∷ bs) (option_and_then (as_char 6) (code 16 4 bs))) (same e 117 h)
+        (has-char quote 117 4 bs (λ ds are s. four_digits are s)))
+    (if-escape quote _ (nat_eq e 85) _ _ (λ h. subst (λ x. HasEscape quote (92 ∷ x ∷ bs) (option_and_then (as_char 10) (code 16 8 bs))) (same e 85 h)
+        (has-char quote 85 8 bs (λ ds are s. eight_digits are s)))
     (has-octal quote (e ∷ bs))))
 
 pub has-escape : (quote : ℕ) (bs : List ℕ) → HasEscape quote (92 ∷ bs) (escape quote bs)

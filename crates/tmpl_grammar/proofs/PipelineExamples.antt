@@ -60,7 +60,8 @@ a-chain : pipeline_in (space ∷ field a ∷ field b ∷ space ∷ []) ≡ Some 
 unfolding pipeline_in step finished operand_at
 a-chain = refl
 
-two-fields : pipeline_in (field a ∷ space ∷ field b ∷ []) ≡ Some (pipeline (command (operand (fields (a ∷ [])) (operand (fields (b ∷ [])) no_operand)) no_command))
+two-fields : pipeline_in (field a ∷ space ∷ field b ∷ []) ≡ Some (pipeline (command (operand (fields (a ∷ [])) (operand (fields (b ∷ [])) no_operand))
+    no_command))
 unfolding pipeline_in step finished operand_at
 two-fields = refl
 
@@ -70,7 +71,8 @@ unfolding pipeline_in step finished operand_at word_operand func_named
 a-bar = refl
 
 -- `print 1 .`
-a-call : pipeline_in (word (codes "print") ∷ space ∷ one ∷ space ∷ period ∷ []) ≡ Some (pipeline (command (operand (function Print) (operand (number_constant (pos 1)) (operand dot no_operand))) no_command))
+a-call : pipeline_in (word (codes "print") ∷ space ∷ one ∷ space ∷ period ∷ [])
+    ≡ Some (pipeline (command (operand (function Print) (operand (number_constant (pos 1)) (operand dot no_operand))) no_command))
 unfolding pipeline_in step finished operand_at word_operand func_named constant_of integer
 a-call = refl
 
@@ -79,7 +81,8 @@ a-group : pipeline_in (left ∷ space ∷ period ∷ space ∷ right ∷ field a
 unfolding pipeline_in step finished operand_at
 a-group = refl
 
-a-later-group : pipeline_in (field a ∷ bar ∷ left ∷ one ∷ right ∷ []) ≡ Some (pipeline (command (operand (fields (a ∷ [])) no_operand) (single (group (single (number_constant (pos 1))) []))))
+a-later-group : pipeline_in (field a ∷ bar ∷ left ∷ one ∷ right ∷ []) ≡ Some (pipeline
+    (command (operand (fields (a ∷ [])) no_operand) (single (group (single (number_constant (pos 1))) []))))
 unfolding pipeline_in step finished operand_at constant_of integer
 a-later-group = refl
 

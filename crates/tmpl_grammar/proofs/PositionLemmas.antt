@@ -232,18 +232,22 @@ module _ (n : ℕ) (ls : List Partial) (cs : List Operands) (os : List Operand) 
   placed-place None None = refl
   placed-place None (Some o) = by cs os
     where
-      by : (cs : List Operands) (os : List Operand) → option_map (place_of n) (kept (may_stand cs os o) (parser_at ls cs os (Some o))) ≡ kept_at (allows (begun cs os) o) (place_of n (parser_at ls cs os None)) (behind o)
+      by : (cs : List Operands) (os : List Operand) → option_map (place_of n) (kept (may_stand cs os o) (parser_at ls cs os (Some o)))
+          ≡ kept_at (allows (begun cs os) o) (place_of n (parser_at ls cs os None)) (behind o)
       by [] [] = refl
       by (c ∷ cs) [] = kept-place n (begins_later o) _ _ _ refl
       by [] (p ∷ ps) = refl
       by (c ∷ cs) (p ∷ ps) = refl
   placed-place (Some p) o = sym (none-placed (may_chain p) o (more n (length ls)))
 
-  apart-place : (last : Option Operand) → option_map (place_of n) (Some (parser.apart (parser_at ls cs os last))) ≡ Some (at (place_of n (parser_at ls cs os last)) (spaced (position_in last (record { commands = cs; operands = os }))))
+  apart-place : (last : Option Operand) → option_map (place_of n) (Some (parser.apart (parser_at ls cs os last)))
+      ≡ Some (at (place_of n (parser_at ls cs os last)) (spaced (position_in last (record { commands = cs; operands = os }))))
   apart-place None = ap (λ p. Some (record { position = p; depth = more n (length ls) })) (sym (spaced-begun cs os))
   apart-place (Some o) = ap (λ p. Some (record { position = p; depth = more n (length ls) })) (begun-more cs os o ∙ sym (spaced-touching (may_chain o)))
 
-  barred-place : (last : Option Operand) → Closes last cs os → option_map (place_of n) (option_map (parser.barred (parser_at ls cs os last)) (closed (parser_at ls cs os last))) ≡ barred (has_operand (position_in last (record { commands = cs; operands = os }))) (place_of n (parser_at ls cs os last))
+  barred-place : (last : Option Operand) → Closes last cs os → option_map (place_of n)
+      (option_map (parser.barred (parser_at ls cs os last)) (closed (parser_at ls cs os last)))
+      ≡ barred (has_operand (position_in last (record { commands = cs; operands = os }))) (place_of n (parser_at ls cs os last))
   barred-place last (open_end lacks e) =
       ap (λ c. option_map (place_of n) (option_map (parser.barred (parser_at ls cs os last)) c)) e
       ∙ sym (ap (λ b. barred b (place_of n (parser_at ls cs os last))) lacks)
@@ -252,13 +256,16 @@ module _ (n : ℕ) (ls : List Partial) (cs : List Operands) (os : List Operand) 
       ∙ ap (λ p. Some (record { position = p; depth = more n (length ls) })) (begun-later cs x)
       ∙ sym (ap (λ b. barred b (place_of n (parser_at ls cs os last))) has)
 
-  opened-place : (last : Option Operand) → option_map (place_of n) (parser.opened last (parser_at ls cs os last)) ≡ opened (may_open (position_in last (record { commands = cs; operands = os }))) (place_of n (parser_at ls cs os last))
+  opened-place : (last : Option Operand) → option_map (place_of n) (parser.opened last (parser_at ls cs os last))
+      ≡ opened (may_open (position_in last (record { commands = cs; operands = os }))) (place_of n (parser_at ls cs os last))
   opened-place None =
       ap (λ m. Some (record { position = First; depth = m })) (more-suc n (length ls))
       ∙ sym (ap (λ b. opened b (place_of n (parser_at ls cs os None))) (may-open-begun cs os))
   opened-place (Some o) = sym (ap (λ b. opened b (place_of n (parser_at ls cs os (Some o)))) (no-opening (may_chain o)))
 
-  left-place : (outer : List Partial) (last : Option Operand) → IsHeld outer n → Closes last cs os → option_map (place_of n) (parser.left_with outer (more_commands cs (settled last os))) ≡ left (has_operand (position_in last (record { commands = cs; operands = os }))) (more n (length outer))
+  left-place : (outer : List Partial) (last : Option Operand) → IsHeld outer n → Closes last cs os
+      → option_map (place_of n) (parser.left_with outer (more_commands cs (settled last os)))
+      ≡ left (has_operand (position_in last (record { commands = cs; operands = os }))) (more n (length outer))
   left-place [] last held c = none n held
     where
       none : (n : ℕ) → IsHeld [] n → None ≡ left (has_operand (position_in last (record { commands = cs; operands = os }))) (more n 0)
@@ -266,10 +273,12 @@ module _ (n : ℕ) (ls : List Partial) (cs : List Operands) (os : List Operand) 
       none (suc n) held = absurd held
   left-place (l ∷ ls) last held (open_end lacks e) =
       ap (λ c. option_map (place_of n) (parser.left_with (l ∷ ls) c)) e
-      ∙ sym (ap (left (has_operand (position_in last (record { commands = cs; operands = os })))) (more-suc n (length ls)) ∙ ap (λ b. left b (suc (more n (length ls)))) lacks)
+      ∙ sym (ap (left (has_operand (position_in last (record { commands = cs; operands = os })))) (more-suc n (length ls))
+      ∙ ap (λ b. left b (suc (more n (length ls)))) lacks)
   left-place (l ∷ ls) last held (whole_end x has e) =
       ap (λ c. option_map (place_of n) (parser.left_with (l ∷ ls) c)) e
-      ∙ sym (ap (left (has_operand (position_in last (record { commands = cs; operands = os })))) (more-suc n (length ls)) ∙ ap (λ b. left b (suc (more n (length ls)))) has)
+      ∙ sym (ap (left (has_operand (position_in last (record { commands = cs; operands = os })))) (more-suc n (length ls))
+      ∙ ap (λ b. left b (suc (more n (length ls)))) has)
 
   abbrev fields_on : Option Operand → Option Place
   fields_on o = option_map (place_of n) (option_map (parser.ending_with (parser_at ls cs os None)) o)
@@ -305,7 +314,8 @@ module _ (n : ℕ) (ls : List Partial) (cs : List Operands) (os : List Operand) 
   plain-field [] (o ∷ os) t = refl
   plain-field (c ∷ cs) (o ∷ os) t = refl
 
-  fielded-place : (last : Option Operand) (t : Token) → option_map (place_of n) (parser.fielded last t (parser_at ls cs os last)) ≡ fielded (position_in last (record { commands = cs; operands = os })) t (place_of n (parser_at ls cs os last))
+  fielded-place : (last : Option Operand) (t : Token) → option_map (place_of n) (parser.fielded last t (parser_at ls cs os last))
+      ≡ fielded (position_in last (record { commands = cs; operands = os })) t (place_of n (parser_at ls cs os last))
   fielded-place None t = placed-place None (operand_at t) ∙ sym (plain-field cs os t)
   fielded-place (Some o) t = linked-place o t
 

@@ -128,22 +128,26 @@ mutual
   more-spells : (os : Operands) (rest : List ℕ) → OfMore os → EndsToken rest → Spells (more_tokens os) rest
   more-spells tree.no_operand rest h stop = tt
   more-spells (tree.operand o os) rest h stop =
-      let r = reads-append (operand_tokens o) (more_tokens os) rest (operand-reads o (bytes_of (more_tokens os) ++ rest) h.0 (more-stops os rest stop)) (more-spells os rest h.1 stop) in
+      let r = reads-append (operand_tokens o) (more_tokens os) rest (operand-reads o (bytes_of (more_tokens os) ++ rest) h.0 (more-stops os rest stop))
+          (more-spells os rest h.1 stop) in
       (space-front _ r.firm, r.spells)
 
   command-reads : (os : Operands) (rest : List ℕ) → OfCommand os → EndsToken rest → Reads (command_tokens os) rest
   command-reads tree.no_operand rest h stop = absurd h
-  command-reads (tree.operand o os) rest h stop = reads-append (operand_tokens o) (more_tokens os) rest (operand-reads o (bytes_of (more_tokens os) ++ rest) h.0 (more-stops os rest stop)) (more-spells os rest h.1 stop)
+  command-reads (tree.operand o os) rest h stop = reads-append (operand_tokens o) (more_tokens os) rest
+      (operand-reads o (bytes_of (more_tokens os) ++ rest) h.0 (more-stops os rest stop)) (more-spells os rest h.1 stop)
 
   later-spells : (cs : Commands) (rest : List ℕ) → OfLater cs → EndsToken rest → Spells (later_tokens cs) rest
   later-spells tree.no_command rest h stop = tt
   later-spells (tree.command os cs) rest h stop =
-      let r = reads-append (command_tokens os) (later_tokens cs) rest (command-reads os (bytes_of (later_tokens cs) ++ rest) h.1 (later-stops cs rest stop)) (later-spells cs rest h.2 stop) in
+      let r = reads-append (command_tokens os) (later_tokens cs) rest (command-reads os (bytes_of (later_tokens cs) ++ rest) h.1 (later-stops cs rest stop))
+          (later-spells cs rest h.2 stop) in
       (space-front _ (solid refl refl), (row.pipe, (space-front _ r.firm, r.spells)))
 
   commands-reads : (cs : Commands) (rest : List ℕ) → OfCommands cs → EndsToken rest → Reads (commands_tokens cs) rest
   commands-reads tree.no_command rest h stop = absurd h
-  commands-reads (tree.command os cs) rest h stop = reads-append (command_tokens os) (later_tokens cs) rest (command-reads os (bytes_of (later_tokens cs) ++ rest) h.0 (later-stops cs rest stop)) (later-spells cs rest h.1 stop)
+  commands-reads (tree.command os cs) rest h stop = reads-append (command_tokens os) (later_tokens cs) rest
+      (command-reads os (bytes_of (later_tokens cs) ++ rest) h.0 (later-stops cs rest stop)) (later-spells cs rest h.1 stop)
 
 pub pipeline-reads : (p : Pipeline) (rest : List ℕ) → OfPipeline p → EndsToken rest → Reads (pipeline_tokens p) rest
 pipeline-reads (pipeline cs) rest h stop = commands-reads cs rest h.0 stop
@@ -160,14 +164,17 @@ header-reads : (b : Binding) (p : Pipeline) (rest : List ℕ) → OfBinding b �
 header-reads unbound p rest h k stop = pipeline-reads p rest k stop
 header-reads (declare name) p rest h k stop =
     let r = pipeline-reads p rest k stop in
-    behind 36 name _ _ rest refl (solid refl refl) (variable-front name _ h.1 refl) (space-front _ (solid refl refl), (row.declare, (space-front _ r.firm, r.spells)))
+    behind 36 name _ _ rest refl (solid refl refl) (variable-front name _ h.1 refl)
+        (space-front _ (solid refl refl), (row.declare, (space-front _ r.firm, r.spells)))
 header-reads (assign name) p rest h k stop =
     let r = pipeline-reads p rest k stop in
-    behind 36 name _ _ rest refl (solid refl refl) (variable-front name _ h.1 refl) (space-front _ (solid refl refl), (row.assign, (space-front _ r.firm, r.spells)))
+    behind 36 name _ _ rest refl (solid refl refl) (variable-front name _ h.1 refl)
+        (space-front _ (solid refl refl), (row.assign, (space-front _ r.firm, r.spells)))
 header-reads (declare_pair key name) p rest h k stop =
     let r = pipeline-reads p rest k stop in
     behind 36 key _ _ rest refl (solid refl refl) (variable-front key _ h.0.1 refl)
-    (row.comma, (space-front _ (solid refl refl), (variable-front name _ h.1.1 refl, (space-front _ (solid refl refl), (row.declare, (space-front _ r.firm, r.spells))))))
+    (row.comma, (space-front _ (solid refl refl), (variable-front name _ h.1.1 refl,
+        (space-front _ (solid refl refl), (row.declare, (space-front _ r.firm, r.spells))))))
 
 -- a keyword, and tokens behind it and a space
 pub keyword-reads : (b : ℕ) (bs : List ℕ) (ts : List Token) (rest : List ℕ) → Solid (b ∷ (bs ++ (32 ∷ (bytes_of ts ++ rest))))
@@ -188,7 +195,8 @@ given-reads name (Some p) rest h stop =
     let s = string-reads name (32 ∷ (bytes_of (pipeline_tokens p) ++ rest)) in
     record {
       spells = (s.spells.0, (space-front _ r.firm, r.spells));
-      firm = subst Solid (ap (λ bs. bs ++ 32 ∷ (bytes_of (pipeline_tokens p) ++ rest)) (append-nil (quote name)) ∙ sym (append_assoc (quote name) (32 ∷ bytes_of (pipeline_tokens p)) rest)) s.firm;
+      firm = subst Solid (ap (λ bs. bs ++ 32 ∷ (bytes_of (pipeline_tokens p) ++ rest)) (append-nil (quote name))
+          ∙ sym (append_assoc (quote name) (32 ∷ bytes_of (pipeline_tokens p)) rest)) s.firm;
     }
 
 pub action-reads : (a : Action) (rest : List ℕ) → OfAction a → EndsToken rest → Reads (action_tokens a) rest
@@ -201,8 +209,10 @@ action-reads break_action rest of stop = one (word _) rest (word-front 98 _ rest
 action-reads continue_action rest of stop = one (word _) rest (word-front 99 _ rest refl refl (stops-name rest stop)) (solid refl refl)
 action-reads (define_action name) rest of stop =
     keyword-reads 100 _ (token kind.String (quote name) ∷ []) rest (solid refl refl) (word-front 100 _ _ refl refl refl) (string-reads name rest)
-action-reads (template_action name given) rest of stop = keyword-reads 116 _ (token kind.String (quote name) ∷ given_tokens given) rest (solid refl refl) (word-front 116 _ _ refl refl refl) (given-reads name given rest of.1 stop)
-action-reads (block_action name p) rest of stop = keyword-reads 98 _ (token kind.String (quote name) ∷ given_tokens (Some p)) rest (solid refl refl) (word-front 98 _ _ refl refl refl) (given-reads name (Some p) rest of.1 stop)
+action-reads (template_action name given) rest of stop = keyword-reads 116 _ (token kind.String (quote name) ∷ given_tokens given) rest (solid refl refl)
+    (word-front 116 _ _ refl refl refl) (given-reads name given rest of.1 stop)
+action-reads (block_action name p) rest of stop = keyword-reads 98 _ (token kind.String (quote name) ∷ given_tokens (Some p)) rest (solid refl refl)
+    (word-front 98 _ _ refl refl refl) (given-reads name (Some p) rest of.1 stop)
 action-reads _ rest of stop = one (word _) rest (word-front 101 _ rest refl refl (stops-name rest stop)) (solid refl refl)
 
 pub action-inside : (a : Action) → OfAction a → IsInside (action_tokens a)

@@ -79,7 +79,8 @@ an-if-that-does-not : run 9 (then 1 (if_dot (then 1 (text (codes "A")) none) (th
 an-if-that-does-not = refl
 
 -- {{with .a}}{{.}}{{end}}{{.b}}
-a-with-moves-dot : run 9 (then 1 (with (fields (a ∷ [])) (then 1 (put dot) none) none) (then 1 (put (fields (b ∷ []))) none)) (mapping (entry a (string (codes "A")) (entry b (string (codes "B")) no_entry))) ≡ puts (codes "AB")
+a-with-moves-dot : run 9 (then 1 (with (fields (a ∷ [])) (then 1 (put dot) none) none) (then 1 (put (fields (b ∷ []))) none))
+    (mapping (entry a (string (codes "A")) (entry b (string (codes "B")) no_entry))) ≡ puts (codes "AB")
 a-with-moves-dot = refl
 
 -- {{range .}}{{.}}{{end}}
@@ -87,7 +88,8 @@ each-element : run 9 (then 1 (range_dot unbound (then 1 (put dot) none) none) no
 each-element = refl
 
 -- {{range $a, $b := .}}{{$a}}{{$b}}{{end}}
-keys : run 9 (then 1 (range_dot (declare_pair a b) (then 1 (put (variable a [])) (then 1 (put (variable b [])) none)) none) none) (mapping (entry a (string (codes "v")) no_entry)) ≡ puts (codes "av")
+keys : run 9 (then 1 (range_dot (declare_pair a b) (then 1 (put (variable a [])) (then 1 (put (variable b [])) none)) none) none)
+    (mapping (entry a (string (codes "v")) no_entry)) ≡ puts (codes "av")
 keys = refl
 
 -- {{range .}}x{{else}}y{{end}}
@@ -135,7 +137,8 @@ steps-of-a-range : run 4 (then 1 (range_dot unbound (then 2 (text (codes "x")) n
 steps-of-a-range = refl
 
 -- {{$x := .}}{{range .}}{{$x = .}}{{break}}{{end}}{{$x}}: a break keeps what was assigned
-break-keeps-assignments : run 20 (then 1 (set (declare x) dot) (then 1 (range_dot unbound (then 1 (set (assign x) dot) (then 1 break_node none)) none) (then 1 (put (variable x [])) none))) three ≡ puts (codes "1")
+break-keeps-assignments : run 20 (then 1 (set (declare x) dot) (then 1 (range_dot unbound (then 1 (set (assign x) dot) (then 1 break_node none)) none)
+    (then 1 (put (variable x [])) none))) three ≡ puts (codes "1")
 break-keeps-assignments = refl
 
 -- {{range .}}{{with .}}{{break}}{{end}}{{end}}{{.}}: a break leaves dot as it was
@@ -144,15 +147,18 @@ break-keeps-dot : run 20 (then 1 (range_dot unbound (then 1 (with dot (then 1 br
 break-keeps-dot = refl
 
 -- {{range .}}{{range .}}{{else}}{{break}}{{end}}z{{end}}: in the else part of an inner range it ends the outer one
-break-in-an-else-part : run 20 (then 1 (range_dot unbound (then 1 (range_dot unbound none (then 1 break_node none)) (then 1 (text (codes "z")) none)) none) none) (sequence (item (sequence no_item) (item (sequence no_item) no_item))) ≡ puts []
+break-in-an-else-part : run 20 (then 1 (range_dot unbound (then 1 (range_dot unbound none (then 1 break_node none)) (then 1 (text (codes "z")) none)) none)
+    none) (sequence (item (sequence no_item) (item (sequence no_item) no_item))) ≡ puts []
 break-in-an-else-part = refl
 
 -- {{range .}}{{if .}}{{continue}}{{end}}z{{end}}
-continues : run 20 (then 1 (range_dot unbound (then 1 (if_dot (then 1 continue_node none) none) (then 1 (text (codes "z")) none)) none) none) (sequence (item (boolean true) (item (boolean false) no_item))) ≡ puts (codes "z")
+continues : run 20 (then 1 (range_dot unbound (then 1 (if_dot (then 1 continue_node none) none) (then 1 (text (codes "z")) none)) none) none)
+    (sequence (item (boolean true) (item (boolean false) no_item))) ≡ puts (codes "z")
 continues = refl
 
 -- {{$x := .a}}{{if .}}{{$x := .b}}{{end}}{{$x}}: what a part declares is gone behind it
-declared-in-a-part : run 20 (then 1 (set (declare x) (fields (a ∷ []))) (then 1 (if_dot (then 1 (set (declare x) (fields (b ∷ []))) none) none) (then 1 (put (variable x [])) none))) (mapping (entry a (string (codes "1")) (entry b (string (codes "2")) no_entry))) ≡ puts (codes "1")
+declared-in-a-part : run 20 (then 1 (set (declare x) (fields (a ∷ []))) (then 1 (if_dot (then 1 (set (declare x) (fields (b ∷ []))) none) none)
+    (then 1 (put (variable x [])) none))) (mapping (entry a (string (codes "1")) (entry b (string (codes "2")) no_entry))) ≡ puts (codes "1")
 declared-in-a-part = refl
 
 -- ---- pipelines
@@ -170,15 +176,18 @@ abbrev call : Operands → Pipeline
 call os = pipeline (command os no_command)
 
 -- and 0 (.a.b): the deciding operand is the last that is evaluated
-and-stops : pipeline_value (here (mapping (entry a null no_entry))) (call (operand (function And) (operand (number_constant (pos 0)) (operand (fields (a ∷ b ∷ [])) no_operand)))) ≡ gives (one 0)
+and-stops : pipeline_value (here (mapping (entry a null no_entry))) (call (operand (function And)
+    (operand (number_constant (pos 0)) (operand (fields (a ∷ b ∷ [])) no_operand)))) ≡ gives (one 0)
 and-stops = refl
 
 -- or 0 (.a.b)
-or-goes-on : pipeline_value (here (mapping (entry a null no_entry))) (call (operand (function Or) (operand (number_constant (pos 0)) (operand (fields (a ∷ b ∷ [])) no_operand)))) ≡ refuses (lacks_field b)
+or-goes-on : pipeline_value (here (mapping (entry a null no_entry))) (call (operand (function Or)
+    (operand (number_constant (pos 0)) (operand (fields (a ∷ b ∷ [])) no_operand)))) ≡ refuses (lacks_field b)
 or-goes-on = refl
 
 -- (.a).b and .a.b: a null that a command gives is nothing
-null-of-a-command : pipeline_value (here (mapping (entry a null no_entry))) (only (group (command (operand (fields (a ∷ [])) no_operand) no_command) (b ∷ []))) ≡ gives nothing
+null-of-a-command : pipeline_value (here (mapping (entry a null no_entry))) (only (group (command (operand (fields (a ∷ [])) no_operand) no_command) (b ∷ [])))
+    ≡ gives nothing
 null-of-a-command = refl
 
 null-in-a-chain : pipeline_value (here (mapping (entry a null no_entry))) (only (fields (a ∷ b ∷ []))) ≡ refuses (lacks_field b)
@@ -245,11 +254,13 @@ print-of-a-fault : runs (then 1 (calls (operand (function Print) (operand (field
 print-of-a-fault = refl
 
 -- {{and "" (print "a")}}: the call behind the deciding operand is none
-cut-off-by-and : runs (then 1 (calls (operand (function And) (operand (text_constant []) (operand (group (command (operand (function Print) (operand letter no_operand)) no_command) []) no_operand)))) none) nothing ≡ puts []
+cut-off-by-and : runs (then 1 (calls (operand (function And) (operand (text_constant [])
+    (operand (group (command (operand (function Print) (operand letter no_operand)) no_command) []) no_operand)))) none) nothing ≡ puts []
 cut-off-by-and = refl
 
 -- {{print "a"}}{{.a.b}}: the mark stays
-made-before-a-fault : runs (then 1 (calls (operand (function Print) (operand letter no_operand))) (then 2 (put (fields (a ∷ b ∷ []))) none)) (mapping (entry a null no_entry)) ≡ stops_made (codes "a") 2 (lacks_field b)
+made-before-a-fault : runs (then 1 (calls (operand (function Print) (operand letter no_operand))) (then 2 (put (fields (a ∷ b ∷ []))) none))
+    (mapping (entry a null no_entry)) ≡ stops_made (codes "a") 2 (lacks_field b)
 made-before-a-fault = refl
 
 -- {{if .}}{{print "a"}}{{end}}, which is not taken
@@ -336,7 +347,9 @@ a-call-without-a-pipeline : run_with 9 9 (beside a (then 1 (put (variable [] [])
 a-call-without-a-pipeline = refl
 
 -- .. and with one, its value, as dot and as `$`; behind it the caller has its own dot and variables again
-a-call-with-a-pipeline : run_with 9 9 (beside a (then 1 (put (variable [] [])) (then 1 (set (declare x) dot) none)) ∷ []) (then 1 (set (declare x) (text_constant (codes "1"))) (then 1 (template_node a (Some (only (text_constant b)))) (then 1 (put (variable x [])) (then 1 (put dot) none)))) (string a) ≡ puts (codes "b1a")
+a-call-with-a-pipeline : run_with 9 9 (beside a (then 1 (put (variable [] [])) (then 1 (set (declare x) dot) none)) ∷ [])
+    (then 1 (set (declare x) (text_constant (codes "1"))) (then 1 (template_node a (Some (only (text_constant b))))
+    (then 1 (put (variable x [])) (then 1 (put dot) none)))) (string a) ≡ puts (codes "b1a")
 a-call-with-a-pipeline = refl
 
 -- {{define "a"}}x{{template "a"}}{{end}}{{template "a"}} with depth 3: each inside the other, up to three

@@ -14,7 +14,8 @@ use Rattle.tmpl_syntax.specs.Set.{Template, number_of, tree_named}
 use Rattle.tmpl_syntax.proofs.NamedLemmas.{Named, numbered, unnumbered}
 use Rattle.tmpl_meaning.specs.Fault as fault
 use Rattle.tmpl_meaning.specs.Pipeline.{pipeline_value}
-use Rattle.tmpl_meaning.specs.Meaning.{Calls, Cause, Next, Rules, Run, Setting, after, after_turn, alone, apart, called, calls_within, choosing, controlled, handing}
+use Rattle.tmpl_meaning.specs.Meaning.{Calls, Cause, Next, Rules, Run, Setting, after, after_turn, alone, apart, called, calls_within, choosing, controlled}
+use Rattle.tmpl_meaning.specs.Meaning.{handing}
 use Rattle.tmpl_meaning.specs.Meaning.{meanings, one_of, over, ran_of, ranging, scope, scoped, setting_of, shown, spend, spend_if}
 use Rattle.tmpl_meaning.specs.Meaning.{started, starting_dot, stepped, turn, turns, uncalled, visited, with_bound, with_pipeline, with_value}
 use Rattle.tmpl_code.specs.Calls.{IsChain, NodeNames, NodesName}
@@ -145,12 +146,14 @@ module _ (rules : Rules) (ts : List Template) (depth : ℕ) where
       by (Some m) e same =
           let named : Named name ts m = numbered name ts m e in
           ap (called fewer (calls_within fewer ts k) name) named.tree
-          ∙ (λ i. Ok (λ v. apart v (λ r. meanings-same (setting_of rules (calls_within rules ts j) name named.t.1) depth (calls_within fewer ts k) named.t.1.nodes
+          ∙ (λ i. Ok (λ v. apart v (λ r. meanings-same (setting_of rules (calls_within rules ts j) name named.t.1) depth (calls_within fewer ts k)
+              named.t.1.nodes
           (λ inner is. same m named.t named.at (further number m k t name at names e in-k) (further number m j t name at names e in-j) inner is) v r i)))
           ∙ sym (ap (called rules (calls_within rules ts j) name) named.tree)
 
 pub depth_by_chains : DepthByChains
 depth_by_chains rules ts depth number t input at short within = λ i.
-    ran_of (meanings-same (setting_of rules (calls_within rules ts (rules.depth_limit - 1)) t.0 t.1) depth (calls_within (record rules { depth_limit = depth }) ts (depth - 1)) t.1.nodes
+    ran_of (meanings-same (setting_of rules (calls_within rules ts (rules.depth_limit - 1)) t.0 t.1) depth
+        (calls_within (record rules { depth_limit = depth }) ts (depth - 1)) t.1.nodes
     (λ name names. names-same rules ts depth (depth - 1) (rules.depth_limit - 1) number t at (λ rest chain. let s = short rest chain in omega arith)
     (λ rest chain. let s = short rest chain in omega arith) name names) (starting_dot input) (started rules.step_limit (starting_dot input)) i)

@@ -75,7 +75,8 @@ pub ended-quiet : (plan : Plan) (t : Template) (i : Instruction) (s : State) (r 
 ended-quiet plan t (code.put bytes) s r e = cc
 ended-quiet plan t code.show s r e = by s.cells e
   where
-    by : (cs : List Cell) → top cs (λ c cs. goes (record s { cells = cs; text = s.text ++ added code.show (record s { cells = c ∷ cs }); place = s.place + 1 })) ≡ ended r → added code.show s ≡ []
+    by : (cs : List Cell) → top cs (λ c cs. goes (record s { cells = cs; text = s.text ++ added code.show (record s { cells = c ∷ cs }); place = s.place + 1 }))
+        ≡ ended r → added code.show s ≡ []
     by [] e = cc
     by (c ∷ cs) e = cc
 ended-quiet plan t _ s r e = refl
@@ -128,7 +129,8 @@ module _ {run : Told} {end : Ran} {m : Machine} {before now : Puts} (inv : Stand
   pub runs : slice_get run.plan.templates m.template ≡ Some told.template
   runs = runs-at run.plan.templates m.template run.template (some-template run.plan room end past inv.ends)
 
-  module _ (items : List held.Instruction) {item : held.Instruction} (code : run.plan.code ≡ instructions_of items) (is : item ≡ get_or items m.place item) where
+  module _ (items : List held.Instruction) {item : held.Instruction} (code : run.plan.code ≡ instructions_of items) (is : item ≡ get_or items m.place item)
+      where
     abbrev i : Instruction
     i = instruction_of item
 
@@ -173,10 +175,12 @@ module _ {run : Told} {end : Ran} {m : Machine} {before now : Puts} (inv : Stand
         by (inr (left, inr (depth, place))) = omega arith
 
     -- the run goes on, with what was put out and the mark told apart again
-    pub onward : (n : Machine) (after : Puts) → Executed told i s (state_of (told_behind i s told) n) (Ok flow.On) → IsPut {F = SinkFault} (Ok tt) now after (added i s)
+    pub onward : (n : Machine) (after : Puts) → Executed told i s (state_of (told_behind i s told) n) (Ok flow.On)
+        → IsPut {F = SinkFault} (Ok tt) now after (added i s)
         → size_of n.stack ≡ room → (mark_behind i false ≡ false → IsPlain m → IsPlain n) → Stands run end n before after
     onward n after step more size plain = record {
-      within = subst (λ k. length (cells_of n.stack) ≤ k) (sym size) (next-within room run.plan past (with_past inv.text inv.made u) end inv.ends inv.within (next u step));
+      within = subst (λ k. length (cells_of n.stack) ≤ k) (sym size) (next-within room run.plan past (with_past inv.text inv.made u) end inv.ends inv.within
+          (next u step));
       depth = let deeper = no-deeper u step in let deep = inv.depth in omega arith;
       text = inv.text ++ u.text;
       made = inv.made || u.made_text;
@@ -229,7 +233,8 @@ module _ {run : Told} {end : Ran} {m : Machine} {before now : Puts} (inv : Stand
       stops u Q same stop.WriteFailed e step more spared is =
           let begins = text-begins run.plan room (with_past inv.text inv.made u) end (next-ends u step) in
           subst (λ f. Came end before after (Err f)) (sym is)
-          (IsPut-along (IsPut-stop {r = Err (record {})} begins.0 refl (IsPut-append inv.given more)) (ap (λ l. (inv.text ++ l) ++ begins.0) (sym same) ∙ sym begins.1))
+          (IsPut-along (IsPut-stop {r = Err (record {})} begins.0 refl (IsPut-append inv.given more))
+              (ap (λ l. (inv.text ++ l) ++ begins.0) (sym same) ∙ sym begins.1))
       stops u Q same stop.OutOfMemory e step more spared is =
           subst (λ f. Came end before after (Err f)) (sym is)
           (inv.text ++ [], text-begins run.plan room past end inv.ends, IsPut-along (both more) (ap (λ l. inv.text ++ l) step), marked spared)

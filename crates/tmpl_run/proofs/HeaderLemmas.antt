@@ -51,7 +51,8 @@ abbrev pub Pipelines : Way → Type 0
 Pipelines way =
     (p : Pipeline) (lay : Layout) (start rest : Code) (s : State) → who_of s ≡ way.who → PipelineAt p lay start rest → drop s.place way.plan.code ≡ start
     → length lay ≤ length s.cells → length s.cells + need_of_pipeline p ≤ way.room → Plain rest
-    → Gives way.plan way.me (ways.Leading way) way.end rest s (given_in way.plan lay s p).result (s.made_text || (given_in way.plan lay s p).made_text) → ways.Leading way s
+    → Gives way.plan way.me (ways.Leading way) way.end rest s (given_in way.plan lay s p).result (s.made_text || (given_in way.plan lay s p).made_text)
+    → ways.Leading way s
 
 -- what a binding does to the variables that are there
 abbrev pub written : Binding → Value → Environment → Environment
@@ -86,17 +87,21 @@ module _ (way : Way) (calls : Calls) (pipes : Pipelines way) where
   set-leads : (x : List ℕ) (o : Option ℕ) (lay : Layout) (fr : Frame) (v : Value) (mid rest : Code) (s : State) (m : Bool) (place : ℕ) → who_of s ≡ way.who
       → slot_named x lay ≡ o → SetAt o mid rest → drop place way.plan.code ≡ mid
       → frame_of lay s.cells ≡ fr → length lay ≤ length s.cells
-      → ((cs : List Cell) (place : ℕ) → drop place way.plan.code ≡ rest → frame_of lay cs ≡ fr → length lay ≤ length cs → env_of lay cs ≡ assigned x v (env_of lay s.cells) → ways.Leading way (record s { cells = fresh v ∷ cs; made_text = m; place = place }))
+      → ((cs : List Cell) (place : ℕ) → drop place way.plan.code ≡ rest → frame_of lay cs ≡ fr → length lay ≤ length cs
+      → env_of lay cs ≡ assigned x v (env_of lay s.cells) → ways.Leading way (record s { cells = fresh v ∷ cs; made_text = m; place = place }))
       → ways.Leading way (record s { cells = fresh v ∷ s.cells; made_text = m; place = place })
   set-leads x None lay fr v mid rest s m place same e l at frame deep more = more s.cells place (at ∙ l) frame deep (sym (stored-none x lay s.cells v e))
   set-leads x (Some k) lay fr v mid rest s m place same e l at frame deep more =
-      ways.takes way (record s { cells = fresh v ∷ s.cells; made_text = m; place = place }) (code.set k) rest same (at ∙ l) (let below = found-within x lay k e in omega arith)
-      (more (slice_set s.cells k (fresh v)) (place + 1) (ahead-one way.plan.code rest place (code.set k) (at ∙ l)) (frame-set x lay s.cells k (fresh v) e deep ∙ frame) (omega (arith, length-set s.cells k (fresh v))) (stored x lay s.cells k v e deep))
+      ways.takes way (record s { cells = fresh v ∷ s.cells; made_text = m; place = place }) (code.set k) rest same (at ∙ l)
+          (let below = found-within x lay k e in omega arith)
+      (more (slice_set s.cells k (fresh v)) (place + 1) (ahead-one way.plan.code rest place (code.set k) (at ∙ l))
+          (frame-set x lay s.cells k (fresh v) e deep ∙ frame) (omega (arith, length-set s.cells k (fresh v))) (stored x lay s.cells k v e deep))
 
   bind-leads : (b : Binding) (lay : Layout) (fr : Frame) (v : Value) (mid rest : Code) (s : State) (m : Bool) (place : ℕ) → who_of s ≡ way.who
       → BindAt b lay mid rest → drop place way.plan.code ≡ mid
       → frame_of lay s.cells ≡ fr → length lay ≤ length s.cells → length s.cells + declared_count b ≤ way.room
-      → ((cs : List Cell) (place : ℕ) → drop place way.plan.code ≡ rest → frame_of lay cs ≡ fr → length lay ≤ length cs → env_of lay cs ≡ written b v (env_of lay s.cells) → ways.Leading way (headed b v cs m place s))
+      → ((cs : List Cell) (place : ℕ) → drop place way.plan.code ≡ rest → frame_of lay cs ≡ fr → length lay ≤ length cs
+      → env_of lay cs ≡ written b v (env_of lay s.cells) → ways.Leading way (headed b v cs m place s))
       → ways.Leading way (valued v m place s)
   bind-leads unbound lay fr v mid rest s m place same l at frame deep fits more = more s.cells place (at ∙ l) frame deep refl
   bind-leads (declare x) lay fr v mid rest s m place same l at frame deep fits more =
@@ -119,10 +124,12 @@ module _ (way : Way) (calls : Calls) (pipes : Pipelines way) where
   bind-plain (declare_pair k x) lay mid rest l p = plain-is mid (code.hold true ∷ rest) l refl
 
   -- a pipeline, behind whose value the meaning goes on
-  pub value-leads : (A : Run → Type 0) (g : Option Ring) (line left : ℕ) (p : Pipeline) (lay : Layout) (fr : Frame) (start mid : Code) (s : State) (go : Value → Next)
+  pub value-leads : (A : Run → Type 0) (g : Option Ring) (line left : ℕ) (p : Pipeline) (lay : Layout) (fr : Frame) (start mid : Code) (s : State)
+      (go : Value → Next)
       → PipelineAt p lay start mid → Stands way.plan way.who start lay fr s → s.line ≡ line → Plain mid → length fr + need_of_pipeline p ≤ way.room
       → ways.After way A g (with_pipeline (ways.setting way calls) line p s.dot go (with_left left (run_of lay s)))
-      → ((v : Value) (m : Bool) (place : ℕ) → drop place way.plan.code ≡ mid → ways.After way A g (go v (with_left left (run_at lay m s))) → ways.Leading way (valued v m place s))
+      → ((v : Value) (m : Bool) (place : ℕ) → drop place way.plan.code ≡ mid → ways.After way A g (go v (with_left left (run_at lay m s)))
+      → ways.Leading way (valued v m place s))
       → ways.Leading way s
   value-leads A g line left p lay fr start mid s go l st same-line plain fits k more =
       pipes p lay start mid s st.runs l st.at st.deep (let long = length-frame lay s.cells st.deep in let same = ap length st.frame in omega arith) plain
@@ -136,15 +143,18 @@ module _ (way : Way) (calls : Calls) (pipes : Pipelines way) where
 
   -- a header
   pub header-leads : (A : Run → Type 0) (g : Option Ring) (line : ℕ) (h : Header) (lay : Layout) (fr : Frame) (start mid : Code) (s : State) (go : Value → Next)
-      → HeaderAt h lay start mid → Stands way.plan way.who start lay fr s → s.line ≡ line → PlainFor h.binding mid → length fr + need_of_pipeline h.pipeline ≤ way.room
+      → HeaderAt h lay start mid → Stands way.plan way.who start lay fr s → s.line ≡ line → PlainFor h.binding mid
+      → length fr + need_of_pipeline h.pipeline ≤ way.room
       → length fr + declared_count h.binding ≤ way.room
       → ways.After way A g (with_pipeline (ways.setting way calls) line h.pipeline s.dot go (run_of lay s))
-      → ((v : Value) (cs : List Cell) (m : Bool) (place : ℕ) → drop place way.plan.code ≡ mid → frame_of lay cs ≡ fr → length lay ≤ length cs → env_of lay cs ≡ written h.binding v (env_of lay s.cells)
+      → ((v : Value) (cs : List Cell) (m : Bool) (place : ℕ) → drop place way.plan.code ≡ mid → frame_of lay cs ≡ fr → length lay ≤ length cs
+      → env_of lay cs ≡ written h.binding v (env_of lay s.cells)
       → ways.After way A g (go v (run_at lay m s)) → ways.Leading way (headed h.binding v cs m place s))
       → ways.Leading way s
   header-leads A g line h lay fr start mid s go l st same-line plain fits more-fits k more =
       value-leads A g line s.left h.pipeline lay fr start l.0 s go l.1 st same-line (bind-plain h.binding lay l.0 mid l.2 plain) fits k
-      (λ v m place at k. bind-leads h.binding lay fr v l.0 mid s m place st.runs l.2 at st.frame st.deep (let long = length-frame lay s.cells st.deep in let same = ap length st.frame in omega arith)
+      (λ v m place at k. bind-leads h.binding lay fr v l.0 mid s m place st.runs l.2 at st.frame st.deep
+          (let long = length-frame lay s.cells st.deep in let same = ap length st.frame in omega arith)
       (λ cs place at frame deep env. more v cs m place at frame deep env k))
 
 -- what a control keeps of its header

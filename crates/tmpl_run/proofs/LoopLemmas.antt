@@ -49,7 +49,8 @@ module _ (plan : Plan) (room : ℕ) (f : Ran) where
       by None e c = absurd c
       by (Some t) e c = (t, e)
 
-  module _ (i : Instruction) (t : Template) (s : State) (here : slice_get plan.code s.place ≡ Some i) (runs : slice_get plan.templates s.template ≡ Some t) (h : Ends plan room s f) where
+  module _ (i : Instruction) (t : Template) (s : State) (here : slice_get plan.code s.place ≡ Some i) (runs : slice_get plan.templates s.template ≡ Some t)
+      (h : Ends plan room s f) where
     pub is-next : next_of plan s ≡ done plan t i s
     is-next = ap (λ o. done_in plan o (slice_get plan.code s.place) s) runs ∙ ap (λ o. done_in plan (Some t) o s) here
 
@@ -81,9 +82,12 @@ module _ (plan : Plan) (room : ℕ) (f : Ran) where
         there-within = within-code u (goes-on u e)
 
         fewer : 2 * u.left + u.depth < 2 * s.left + s.depth → work size u < work size s
-        fewer less = let m : suc (2 * u.left + u.depth) * suc size ≤ (2 * s.left + s.depth) * suc size = mul-le-mul_right (suc size) less in let d : suc (2 * u.left + u.depth) * suc size ≡ (2 * u.left + u.depth) * suc size + suc size = suc-mul (2 * u.left + u.depth) (suc size) in omega arith
+        fewer less = let m : suc (2 * u.left + u.depth) * suc size ≤ (2 * s.left + s.depth) * suc size = mul-le-mul_right (suc size) less in
+            let d : suc (2 * u.left + u.depth) * suc size ≡ (2 * u.left + u.depth) * suc size + suc size = suc-mul (2 * u.left + u.depth) (suc size) in
+            omega arith
 
         by : Lessens s u → work size u < work size s
         by (inl less) = let deep = next-depth plan s u (is-next ∙ e) in fewer (omega arith)
         by (inr (left, inl less)) = fewer (omega arith)
-        by (inr (left, inr (depth, place))) = let x = here-within in let y = there-within in let m : (2 * u.left + u.depth) * suc size ≡ (2 * s.left + s.depth) * suc size = ap (λ n. n * suc size) (omega arith) in omega arith
+        by (inr (left, inr (depth, place))) = let x = here-within in let y = there-within in
+            let m : (2 * u.left + u.depth) * suc size ≡ (2 * s.left + s.depth) * suc size = ap (λ n. n * suc size) (omega arith) in omega arith

@@ -103,7 +103,8 @@ module _ (plan : Plan) (me : Template) (s : State) where
   invoked-moves number (Some start) c cs = by (nat_eq s.left 0) refl
     where
       enters : State → Turn
-      enters t = goes (record t { cells = fresh c.val ∷ cell nothing (t.place + 1) ∷ cell t.dot t.template ∷ cs; dot = c.val; template = number; depth = suc t.depth; place = start })
+      enters t = goes (record t { cells = fresh c.val ∷ cell nothing (t.place + 1) ∷ cell t.dot t.template ∷ cs; dot = c.val; template = number; depth =
+          suc t.depth; place = start })
 
       by : (b : Bool) → nat_eq s.left 0 ≡ b → Moves s (paid_if b plan me s.line s enters)
       by true e = same
@@ -272,7 +273,8 @@ mark-on (code.act o) = made-on o
 mark-on _ = refl
 
 next-marks : (plan : Plan) (s : State) (i : Instruction) → slice_get plan.code s.place ≡ Some i → Marks (mark_behind i s.made_text) (next_of plan s)
-next-marks plan s i is = subst (λ (o : Option Instruction). Marks (mark_behind i s.made_text) (done_in plan (slice_get plan.templates s.template) o s)) (sym is) (by (slice_get plan.templates s.template))
+next-marks plan s i is = subst (λ (o : Option Instruction). Marks (mark_behind i s.made_text) (done_in plan (slice_get plan.templates s.template) o s)) (sym is)
+    (by (slice_get plan.templates s.template))
   where
     by : (t : Option Template) → Marks (mark_behind i s.made_text) (done_in plan t (Some i) s)
     by None = tt
@@ -307,4 +309,5 @@ mark_next plan size s end i ends is marked = by ends.0 ends.1
   where
     by : (n : ℕ) → Leads plan size n s end → end.made_text ≡ true
     by zero h = absurd h
-    by (suc n) h = comes-marked (λ t. Leads plan size n t end) end (λ t. leads-marked plan size n t end) (next_of plan s) (subst (λ b. Marks b (next_of plan s)) marked (next-marks plan s i is)) h.1
+    by (suc n) h = comes-marked (λ t. Leads plan size n t end) end (λ t. leads-marked plan size n t end) (next_of plan s)
+        (subst (λ b. Marks b (next_of plan s)) marked (next-marks plan s i is)) h.1

@@ -75,7 +75,8 @@ module _ (way : Way) (calls : Calls) (spare : ℕ) (pipes : Pipelines way) where
       (es : List Cell) × (drop n s.cells ≡ cell g.dot g.place ∷ cell g.value g.index ∷ es) × (frame_of g.lay es ≡ g.frame) × (length g.lay ≤ length es)
       × (env_of g.lay es ≡ oldest (named g.lay) (env_of lay s.cells))
 
-  ring-first : (g : Ring) (lay : Layout) (fr : Frame) (here : Code) (s : State) (w : Within g lay fr) → Stands way.plan way.who here lay fr s → Ringed g lay w.n s
+  ring-first : (g : Ring) (lay : Layout) (fr : Frame) (here : Code) (s : State) (w : Within g lay fr) → Stands way.plan way.who here lay fr s
+      → Ringed g lay w.n s
   ring-first g lay fr here s w st = (
     two.rest,
     one.cells ∙ ap (λ l. cell g.dot g.place ∷ l) two.cells,
@@ -93,7 +94,8 @@ module _ (way : Way) (calls : Calls) (spare : ℕ) (pipes : Pipelines way) where
       two = first-saved g.lay one.rest (cell g.value g.index) g.frame one.frame one.deep
 
   -- the end of the template
-  returning : (lay : Layout) (fr : Frame) (here rest : Code) (s : State) → here ≡ code.return_from (length lay - 3) ∷ rest → Stands way.plan way.who here lay fr s
+  returning : (lay : Layout) (fr : Frame) (here rest : Code) (s : State) → here ≡ code.return_from (length lay - 3) ∷ rest
+      → Stands way.plan way.who here lay fr s
       → Rooted way.home lay fr → ways.Returning way s
   returning lay fr here rest s l st w = record {
     n = length lay - 3;
@@ -111,7 +113,8 @@ module _ (way : Way) (calls : Calls) (spare : ℕ) (pipes : Pipelines way) where
   break-leads line None lay fr here rest s l st same-line w fits more-fits k = k s (returning lay fr here rest s l st w) refl
   break-leads line (Some g) lay fr here rest s l st same-line w fits more-fits k =
       ways.takes way s (code.leave l.0 l.1) rest st.runs (st.at ∙ l.3) tt
-      (subst (λ cs. Comes (ways.Leading way) (ring cs (λ d v cs. goes (record s { cells = cs; dot = d.val; place = s.place + 1 + l.1 }))) way.end) (sym (ap (λ n. drop n s.cells) count ∙ cells.1))
+      (subst (λ cs. Comes (ways.Leading way) (ring cs (λ d v cs. goes (record s { cells = cs; dot = d.val; place = s.place + 1 + l.1 }))) way.end)
+          (sym (ap (λ n. drop n s.cells) count ∙ cells.1))
       (k _ (record { at = ahead way.plan.code rest s.place l.1 (code.leave l.0 l.1) (st.at ∙ l.3) ∙ l.4; runs = st.runs; frame = cells.2; deep = cells.3 }) refl
       (ap (λ (v : Environment). let r : Run = record { env = v; text = s.text; left = s.left; made_text = s.made_text } in r) cells.4)))
     where
@@ -146,9 +149,12 @@ module _ (way : Way) (calls : Calls) (spare : ℕ) (pipes : Pipelines way) where
 
   -- ---- the turns of a range over a value, whose code begins at a place
 
-  module _ (b : Binding) (line : ℕ) (body : Nodes) (g : Option Ring) (lay : Layout) (fr : Frame) (start first second rest : Code) (to : ℕ) (d v : Value) (place : ℕ) (far : drop to second ≡ rest) (fits : length fr + (2 + declared_count b + need_of_nodes body) + spare ≤ way.room) (begin : drop place way.plan.code ≡ start)
+  module _ (b : Binding) (line : ℕ) (body : Nodes) (g : Option Ring) (lay : Layout) (fr : Frame) (start first second rest : Code) (to : ℕ) (d v : Value)
+      (place : ℕ) (far : drop to second ≡ rest) (fits : length fr + (2 + declared_count b + need_of_nodes body) + spare ≤ way.room)
+      (begin : drop place way.plan.code ≡ start)
       (turn-at : TurnAt b (None ∷ None ∷ lay) start first)
-      (laid : NodesAt way.plan.templates body (bound_on b (None ∷ None ∷ lay)) (Some (record { out = rest; line = line; below = length lay })) first (code.next (declared_count b + declared_in body) to line ∷ second)) where
+      (laid : NodesAt way.plan.templates body (bound_on b (None ∷ None ∷ lay)) (Some (record { out = rest; line = line; below = length lay })) first
+          (code.next (declared_count b + declared_in body) to line ∷ second)) where
     abbrev saved : Cell
     saved = cell d place
 
@@ -177,7 +183,8 @@ module _ (way : Way) (calls : Calls) (spare : ℕ) (pipes : Pipelines way) where
 
     -- behind the range
     leaves : (r : Run) (t : State) → B r → Stands way.plan way.who rest lay fr t → t.dot ≡ d → run_of lay t ≡ r → ways.Leading way t
-    leaves r t k st dot run = k t st dot (ap (λ (v : Environment). record (run_of lay t) { env = v }) (sym (cut-drop 0 lay lay t.cells (over-none lay) st.deep)) ∙ ap (cut_to (named lay)) run)
+    leaves r t k st dot run = k t st dot (ap (λ (v : Environment). record (run_of lay t) { env = v }) (sym (cut-drop 0 lay lay t.cells (over-none lay) st.deep))
+        ∙ ap (cut_to (named lay)) run)
 
     on-turn : (es : List Element) (k : ℕ) (x : Run × End) (n : ℕ) → n ≡ named lay → ways.After way B g (after_turn (scoped n x) (others es))
         → ((r : Run) → ways.After way B g (others es r) → (t : State) → behind k r t → ways.Leading way t)
@@ -193,7 +200,8 @@ module _ (way : Way) (calls : Calls) (spare : ℕ) (pipes : Pipelines way) where
 
     -- the instruction behind a turn is the end of the turn
     body-ends : (k : ℕ) (dot : Value) (r : Run) → ((t : State) → behind k (cut_to (named lay) r) t → ways.Leading way t)
-        → ways.Onward way (code.next (declared_count b + declared_in body) to line ∷ second) (all_grown body inner) (all_grown_in body (bound_in b (outer k))) dot r
+        → ways.Onward way (code.next (declared_count b + declared_in body) to line ∷ second) (all_grown body inner) (all_grown_in body (bound_in b (outer k)))
+            dot r
     body-ends k dot r h t st same run =
         let w : Within (turning k) (all_grown body inner) (all_grown_in body (bound_in b (outer k))) = record {
           n = declared_count b + declared_in body;
@@ -201,7 +209,8 @@ module _ (way : Way) (calls : Calls) (spare : ℕ) (pipes : Pipelines way) where
           cells = frame-bound b body (outer k);
           depth = refl;
         } in
-        let cells = ring-first (turning k) (all_grown body inner) (all_grown_in body (bound_in b (outer k))) (code.next (declared_count b + declared_in body) to line ∷ second) t w st in
+        let cells = ring-first (turning k) (all_grown body inner) (all_grown_in body (bound_in b (outer k)))
+            (code.next (declared_count b + declared_in body) to line ∷ second) t w st in
         h t (record {
           n = declared_count b + declared_in body;
           skip = to;
@@ -220,7 +229,8 @@ module _ (way : Way) (calls : Calls) (spare : ℕ) (pipes : Pipelines way) where
     begins-turn : (e : Element) (es : List Element) (k : ℕ) (cs : List Cell) (s : State) → ways.who_of s ≡ way.who → drop k (elements_in (elements v)) ≡ e ∷ es
         → drop s.place way.plan.code ≡ start
         → frame_of lay cs ≡ fr → length lay ≤ length cs
-        → ((ds : List Cell) (there : ℕ) → drop there way.plan.code ≡ first → frame_of inner ds ≡ bound_in b (outer k) → length inner ≤ length ds → env_of inner ds ≡ bound b e (env_of lay cs) → ways.Leading way (record s { cells = ds; dot = e.1; place = there }))
+        → ((ds : List Cell) (there : ℕ) → drop there way.plan.code ≡ first → frame_of inner ds ≡ bound_in b (outer k) → length inner ≤ length ds
+        → env_of inner ds ≡ bound b e (env_of lay cs) → ways.Leading way (record s { cells = ds; dot = e.1; place = there }))
         → ways.Leading way (record s { cells = saved ∷ cell v k ∷ cs })
     begins-turn e es k cs s same here at frame deep more = by b turn-at fits more
       where
@@ -237,18 +247,22 @@ module _ (way : Way) (calls : Calls) (spare : ℕ) (pipes : Pipelines way) where
         long = sym (length-frame lay cs deep) ∙ ap length frame
 
         by : (b : Binding) → TurnAt b (None ∷ None ∷ lay) start first → length fr + (2 + declared_count b + need_of_nodes body) + spare ≤ way.room
-            → ((ds : List Cell) (there : ℕ) → drop there way.plan.code ≡ first → frame_of (bound_on b (None ∷ None ∷ lay)) ds ≡ bound_in b (outer k) → length (bound_on b (None ∷ None ∷ lay)) ≤ length ds
+            → ((ds : List Cell) (there : ℕ) → drop there way.plan.code ≡ first → frame_of (bound_on b (None ∷ None ∷ lay)) ds ≡ bound_in b (outer k)
+            → length (bound_on b (None ∷ None ∷ lay)) ≤ length ds
             → env_of (bound_on b (None ∷ None ∷ lay)) ds ≡ bound b e (env_of lay cs) → ways.Leading way (record s { cells = ds; dot = e.1; place = there }))
             → ways.Leading way now
         by unbound l fits more =
             turns-by 0 first l (let same = long in omega arith)
-            (more (saved ∷ cell v k ∷ cs) (s.place + 1) (ahead-one way.plan.code first s.place (code.turn 0) (at ∙ l)) (ap (λ l. Some saved ∷ Some (cell v k) ∷ l) frame) (omega arith) refl)
+            (more (saved ∷ cell v k ∷ cs) (s.place + 1) (ahead-one way.plan.code first s.place (code.turn 0) (at ∙ l))
+                (ap (λ l. Some saved ∷ Some (cell v k) ∷ l) frame) (omega arith) refl)
         by (declare x) l fits more =
             turns-by 1 first l (let same = long in omega arith)
-            (more (fresh e.1 ∷ saved ∷ cell v k ∷ cs) (s.place + 1) (ahead-one way.plan.code first s.place (code.turn 1) (at ∙ l)) (ap (λ l. None ∷ Some saved ∷ Some (cell v k) ∷ l) frame) (omega arith) refl)
+            (more (fresh e.1 ∷ saved ∷ cell v k ∷ cs) (s.place + 1) (ahead-one way.plan.code first s.place (code.turn 1) (at ∙ l))
+                (ap (λ l. None ∷ Some saved ∷ Some (cell v k) ∷ l) frame) (omega arith) refl)
         by (declare_pair i x) l fits more =
             turns-by 2 first l (let same = long in omega arith)
-            (more (fresh e.1 ∷ fresh e.0 ∷ saved ∷ cell v k ∷ cs) (s.place + 1) (ahead-one way.plan.code first s.place (code.turn 2) (at ∙ l)) (ap (λ l. None ∷ None ∷ Some saved ∷ Some (cell v k) ∷ l) frame) (omega arith) refl)
+            (more (fresh e.1 ∷ fresh e.0 ∷ saved ∷ cell v k ∷ cs) (s.place + 1) (ahead-one way.plan.code first s.place (code.turn 2) (at ∙ l))
+                (ap (λ l. None ∷ None ∷ Some saved ∷ Some (cell v k) ∷ l) frame) (omega arith) refl)
         by (assign x) l fits more =
             turns-by 0 l.0 l.1 (let same = long in omega arith)
             (sets (slot_named x (None ∷ None ∷ lay)) refl l.2)
@@ -258,11 +272,15 @@ module _ (way : Way) (calls : Calls) (spare : ℕ) (pipes : Pipelines way) where
 
             sets : (o : Option ℕ) → slot_named x (None ∷ None ∷ lay) ≡ o → SetDotAt o l.0 first
                 → ways.Leading way (record s { cells = saved ∷ cell v k ∷ cs; dot = e.1; place = s.place + 1 })
-            sets None is-slot l = more (saved ∷ cell v k ∷ cs) (s.place + 1) (there ∙ l) (ap (λ l. Some saved ∷ Some (cell v k) ∷ l) frame) (omega arith) (sym (stored-none x (None ∷ None ∷ lay) (saved ∷ cell v k ∷ cs) e.1 is-slot))
+            sets None is-slot l = more (saved ∷ cell v k ∷ cs) (s.place + 1) (there ∙ l) (ap (λ l. Some saved ∷ Some (cell v k) ∷ l) frame) (omega arith)
+                (sym (stored-none x (None ∷ None ∷ lay) (saved ∷ cell v k ∷ cs) e.1 is-slot))
             sets (Some i) is-slot l =
-                ways.takes way (record s { cells = saved ∷ cell v k ∷ cs; dot = e.1; place = s.place + 1 }) (code.set_dot i) first same (there ∙ l) (let below = found-within x (None ∷ None ∷ lay) i is-slot in omega arith)
-                (more (slice_set (saved ∷ cell v k ∷ cs) i (fresh e.1)) (s.place + 1 + 1) (ahead-one way.plan.code first (s.place + 1) (code.set_dot i) (there ∙ l))
-                (frame-set x (None ∷ None ∷ lay) (saved ∷ cell v k ∷ cs) i (fresh e.1) is-slot (omega arith) ∙ ap (λ l. Some saved ∷ Some (cell v k) ∷ l) frame) (omega (arith, length-set (saved ∷ cell v k ∷ cs) i (fresh e.1)))
+                ways.takes way (record s { cells = saved ∷ cell v k ∷ cs; dot = e.1; place = s.place + 1 }) (code.set_dot i) first same (there ∙ l)
+                    (let below = found-within x (None ∷ None ∷ lay) i is-slot in omega arith)
+                (more (slice_set (saved ∷ cell v k ∷ cs) i (fresh e.1)) (s.place + 1 + 1)
+                    (ahead-one way.plan.code first (s.place + 1) (code.set_dot i) (there ∙ l))
+                (frame-set x (None ∷ None ∷ lay) (saved ∷ cell v k ∷ cs) i (fresh e.1) is-slot (omega arith) ∙ ap (λ l. Some saved ∷ Some (cell v k) ∷ l) frame)
+                    (omega (arith, length-set (saved ∷ cell v k ∷ cs) i (fresh e.1)))
                 (stored x (None ∷ None ∷ lay) (saved ∷ cell v k ∷ cs) i e.1 is-slot (omega arith)))
 
     -- a turn from its first instruction on
@@ -275,12 +293,14 @@ module _ (way : Way) (calls : Calls) (spare : ℕ) (pipes : Pipelines way) where
     turn-leads ih e es k cs s same here at frame deep h next =
         begins-turn e es k cs s same here at frame deep
         (λ ds there at-first is-frame is-deep is-env.
-        ih (Some (turning k)) inner (bound_in b (outer k)) first (code.next (declared_count b + declared_in body) to line ∷ second) (record s { cells = ds; dot = e.1; place = there })
+        ih (Some (turning k)) inner (bound_in b (outer k)) first (code.next (declared_count b + declared_in body) to line ∷ second)
+            (record s { cells = ds; dot = e.1; place = there })
         laid
         (record { at = at-first; runs = same; frame = is-frame; deep = is-deep })
         inside
         (let long = length-bound b (outer k) in omega arith)
-        (subst (λ (w : Environment). let r : Run = record { env = w; text = s.text; left = s.left; made_text = s.made_text } in ways.After way goal (Some (turning k)) (meanings (ways.setting way calls) body e.1 r)) (sym is-env)
+        (subst (λ (w : Environment). let r : Run = record { env = w; text = s.text; left = s.left; made_text = s.made_text } in
+            ways.After way goal (Some (turning k)) (meanings (ways.setting way calls) body e.1 r)) (sym is-env)
         (ways.then-map way C goal (Some (turning k)) x.0 x.1 (λ r h. body-ends k e.1 r h)
         (on-turn es k x (length (env_of lay cs)) (length-env lay cs deep) h next))))
       where
@@ -288,7 +308,8 @@ module _ (way : Way) (calls : Calls) (spare : ℕ) (pipes : Pipelines way) where
         x = part e (run_of lay (record s { cells = cs }))
 
         goal : Run → Type 0
-        goal = ways.Onward way (code.next (declared_count b + declared_in body) to line ∷ second) (all_grown body inner) (all_grown_in body (bound_in b (outer k))) e.1
+        goal = ways.Onward way (code.next (declared_count b + declared_in body) to line ∷ second) (all_grown body inner)
+            (all_grown_in body (bound_in b (outer k))) e.1
 
         C : Run → Type 0
         C r = (t : State) → behind k (cut_to (named lay) r) t → ways.Leading way t
@@ -307,19 +328,24 @@ module _ (way : Way) (calls : Calls) (spare : ℕ) (pipes : Pipelines way) where
     nexts es k here r t tu h =
         ways.takes way t (code.next tu.n tu.skip line) tu.more tu.runs tu.at tt
         (subst (λ cs. Comes (ways.Leading way) (ring cs (λ d v cs. again way.plan way.me tu.skip line d v cs (drop 1 (left_in v)) t)) way.end) (sym tu.cells)
-        (subst (λ l. Comes (ways.Leading way) (again way.plan way.me tu.skip line saved (cell v k) tu.cs l t) way.end) (sym (drop-one (elements_in (elements v)) k ∙ here)) h))
+        (subst (λ l. Comes (ways.Leading way) (again way.plan way.me tu.skip line saved (cell v k) tu.cs l t) way.end)
+            (sym (drop-one (elements_in (elements v)) k ∙ here)) h))
 
     -- behind a turn
     next-leads : NodesLead body → (es : List Element) (k : ℕ) → drop (suc k) (elements_in (elements v)) ≡ es → (r : Run) → ways.After way B g (others es r)
         → (t : State) → behind k r t → ways.Leading way t
     next-leads ih [] k here r h t tu =
         nexts [] k here r t tu
-        (leaves r (record t { cells = tu.cs; dot = d; place = t.place + 1 + tu.skip }) h (record { at = ahead way.plan.code tu.more t.place tu.skip (code.next tu.n tu.skip line) tu.at ∙ tu.far; runs = tu.runs; frame = tu.frame; deep = tu.deep }) refl tu.run)
+        (leaves r (record t { cells = tu.cs; dot = d; place = t.place + 1 + tu.skip }) h
+            (record { at = ahead way.plan.code tu.more t.place tu.skip (code.next tu.n tu.skip line) tu.at
+            ∙ tu.far; runs = tu.runs; frame = tu.frame; deep = tu.deep }) refl tu.run)
     next-leads ih (e ∷ es) k here r h t tu =
-        nexts (e ∷ es) k here r t tu (on (λ r h t tu. next-leads ih es (suc k) (one-less (elements_in (elements v)) (suc k) e es here) r h t tu) (nat_eq t.left 0) (subst (λ r. ways.After way B g (others (e ∷ es) r)) (sym tu.run) h))
+        nexts (e ∷ es) k here r t tu (on (λ r h t tu. next-leads ih es (suc k) (one-less (elements_in (elements v)) (suc k) e es here) r h t tu)
+            (nat_eq t.left 0) (subst (λ r. ways.After way B g (others (e ∷ es) r)) (sym tu.run) h))
       where
         on : ((r : Run) → ways.After way B g (others es r) → (t : State) → behind (suc k) r t → ways.Leading way t)
-            → (c : Bool) → ways.After way B g (after_turn (spend_if c (ways.setting way calls) line (scope (λ r. part e r)) (run_of lay (record t { cells = tu.cs }))) (others es))
+            → (c : Bool) → ways.After way B g (after_turn (spend_if c (ways.setting way calls) line (scope (λ r. part e r))
+                (run_of lay (record t { cells = tu.cs }))) (others es))
             → Comes (ways.Leading way) (paid_if c way.plan way.me line t (λ s. onto (saved ∷ cell v (suc k) ∷ tu.cs) place s)) way.end
         on next true h = h
         on next false h =
@@ -332,10 +358,13 @@ module _ (way : Way) (calls : Calls) (spare : ℕ) (pipes : Pipelines way) where
   range-leads line h body other ih-body ih-other g lay fr here rest s l st same-line inside fits more-fits k =
       value-leads way calls pipes B g line s.left h.pipeline lay fr here l.0 s go
       l.1 st same-line (subst Plain (sym l.2.5) refl) (omega arith)
-      (ways.unscope way A g lay fr (length (env_of lay s.cells)) (ranging (ways.setting way calls) line h s.dot (λ v. meanings (ways.setting way calls) body v) (meanings (ways.setting way calls) other s.dot) (run_of lay s)) (length-env lay s.cells st.deep) inside k)
+      (ways.unscope way A g lay fr (length (env_of lay s.cells)) (ranging (ways.setting way calls) line h s.dot (λ v. meanings (ways.setting way calls) body v)
+          (meanings (ways.setting way calls) other s.dot) (run_of lay s)) (length-env lay s.cells st.deep) inside k)
       (λ v m place at k. ways.takes way (valued v m place s) (code.enter (declares_key h.binding) l.2.3) l.2.0 st.runs (at ∙ l.2.5)
       (let long = length-frame lay s.cells st.deep in let same = ap length st.frame in omega arith)
-      (by v m place (at ∙ l.2.5) (elements_for (declares_key h.binding) v) refl (subst (λ o. ways.After way B g (over (ways.setting way calls) line h.binding (λ v. meanings (ways.setting way calls) body v) (meanings (ways.setting way calls) other s.dot) o (run_at lay m s))) (visited-is h.binding v) k)))
+      (by v m place (at ∙ l.2.5) (elements_for (declares_key h.binding) v) refl (subst
+          (λ o. ways.After way B g (over (ways.setting way calls) line h.binding (λ v. meanings (ways.setting way calls) body v)
+          (meanings (ways.setting way calls) other s.dot) o (run_at lay m s))) (visited-is h.binding v) k)))
     where
       A : Run → Type 0
       A = ways.Onward way rest lay fr s.dot
@@ -344,16 +373,20 @@ module _ (way : Way) (calls : Calls) (spare : ℕ) (pipes : Pipelines way) where
       B = λ r. A (cut_to (named lay) r)
 
       go : Value → Next
-      go v = over (ways.setting way calls) line h.binding (λ v. meanings (ways.setting way calls) body v) (meanings (ways.setting way calls) other s.dot) (visited h.binding v)
+      go v = over (ways.setting way calls) line h.binding (λ v. meanings (ways.setting way calls) body v) (meanings (ways.setting way calls) other s.dot)
+          (visited h.binding v)
 
       by : (v : Value) (m : Bool) (place : ℕ) → drop place way.plan.code ≡ code.enter (declares_key h.binding) l.2.3 ∷ l.2.0
           → (o : Option (List Element)) → elements_for (declares_key h.binding) v ≡ o
-          → ways.After way B g (over (ways.setting way calls) line h.binding (λ v. meanings (ways.setting way calls) body v) (meanings (ways.setting way calls) other s.dot) o (run_at lay m s))
+          → ways.After way B g (over (ways.setting way calls) line h.binding (λ v. meanings (ways.setting way calls) body v)
+              (meanings (ways.setting way calls) other s.dot) o (run_at lay m s))
           → Comes (ways.Leading way) (opened way.plan way.me l.2.3 (fresh v) s.cells o (valued v m place s)) way.end
       by v m place at None e k = ap (λ n. ran_so (valued v m place s) (Some (fault_at way.me n not_a_range))) same-line ∙ k
       by v m place at (Some []) e k =
-          nodes.part-leads way calls spare pipes other ih-other unbound g lay fr l.2.2 rest rest 0 s.dot (run_at lay m s) _ (subst (λ n. Ended n 0 (NodesAt way.plan.templates other lay (exit_of g)) l.2.2 rest) zero-more l.2.8) refl inside (omega arith)
-          (record { at = ahead way.plan.code l.2.0 place l.2.3 (code.enter (declares_key h.binding) l.2.3) at ∙ l.2.9; runs = st.runs; frame = st.frame; deep = st.deep }) refl refl k
+          nodes.part-leads way calls spare pipes other ih-other unbound g lay fr l.2.2 rest rest 0 s.dot (run_at lay m s) _
+              (subst (λ n. Ended n 0 (NodesAt way.plan.templates other lay (exit_of g)) l.2.2 rest) zero-more l.2.8) refl inside (omega arith)
+          (record { at = ahead way.plan.code l.2.0 place l.2.3 (code.enter (declares_key h.binding) l.2.3) at
+              ∙ l.2.9; runs = st.runs; frame = st.frame; deep = st.deep }) refl refl k
         where
           zero-more : declared_in other ≡ 0 + declared_in other
           zero-more = omega arith
@@ -368,10 +401,14 @@ module _ (way : Way) (calls : Calls) (spare : ℕ) (pipes : Pipelines way) where
           here-es : elements_in (elements v) ≡ e ∷ es
           here-es = elements-are (declares_key h.binding) v (e ∷ es) is
 
-          on : (c : Bool) → ways.After way B g (after_turn (spend_if c (ways.setting way calls) line (scope (λ r. meanings (ways.setting way calls) body e.1 (with_bound h.binding e r))) (run_at lay m s)) (turns (ways.setting way calls) line h.binding (λ v. meanings (ways.setting way calls) body v) es))
-              → Comes (ways.Leading way) (paid_if c way.plan way.me s.line (valued v m place s) (λ t. goes (record t { cells = cell t.dot (t.place + 1) ∷ fresh v ∷ s.cells; dot = nothing; place = t.place + 1 }))) way.end
+          on : (c : Bool) → ways.After way B g (after_turn (spend_if c (ways.setting way calls) line
+              (scope (λ r. meanings (ways.setting way calls) body e.1 (with_bound h.binding e r))) (run_at lay m s))
+              (turns (ways.setting way calls) line h.binding (λ v. meanings (ways.setting way calls) body v) es))
+              → Comes (ways.Leading way) (paid_if c way.plan way.me s.line (valued v m place s)
+                  (λ t. goes (record t { cells = cell t.dot (t.place + 1) ∷ fresh v ∷ s.cells; dot = nothing; place = t.place + 1 }))) way.end
           on true h = ap (λ n. ran_so (valued v m place s) (Some (fault_at way.me n (meaning.steps_spent way.plan.rules.step_limit)))) same-line ∙ h
           on false hk =
               turn-leads h.binding line body g lay fr l.2.0 l.2.1 l.2.2 rest l.2.4 s.dot v (place + 1) l.2.10 more begin l.2.6 l.2.7 ih-body e es 0 s.cells
               (record (valued v m place s) { dot = nothing; left = s.left - 1; place = place + 1 }) st.runs here-es begin st.frame st.deep hk
-              (λ r hr t tu. next-leads h.binding line body g lay fr l.2.0 l.2.1 l.2.2 rest l.2.4 s.dot v (place + 1) l.2.10 more begin l.2.6 l.2.7 ih-body es 0 (one-less (elements_in (elements v)) 0 e es here-es) r hr t tu)
+              (λ r hr t tu. next-leads h.binding line body g lay fr l.2.0 l.2.1 l.2.2 rest l.2.4 s.dot v (place + 1) l.2.10 more begin l.2.6 l.2.7 ih-body es 0
+                  (one-less (elements_in (elements v)) 0 e es here-es) r hr t tu)

@@ -93,7 +93,8 @@ module _ (plan : Plan) (t : Template) (s : State) where
       by (Some start) c cs e h = (start, e)
 
   pub return-found : (n : ℕ) → Lands (done plan t (code.return_from n) s) → 1 < s.depth → n + 3 ≤ length s.cells
-  return-found n h deep = by (drop n s.cells) (let left = length-drop n s.cells in left) (subst (λ b. Lands (returned_if b (drop n s.cells) s)) (let inside : nat_lt 1 s.depth ≡ true = grind (arith, nat_tests) in inside) h)
+  return-found n h deep = by (drop n s.cells) (let left = length-drop n s.cells in left)
+      (subst (λ b. Lands (returned_if b (drop n s.cells) s)) (let inside : nat_lt 1 s.depth ≡ true = grind (arith, nat_tests) in inside) h)
     where
       by : (cs : List Cell) → length cs ≡ length s.cells - n → Lands (returned_if true cs s) → n + 3 ≤ length s.cells
       by [] e h = absurd h

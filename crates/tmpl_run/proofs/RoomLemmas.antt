@@ -154,7 +154,8 @@ module _ (size : ℕ) where
     invoked-within number (Some start) c cs e h = by (nat_eq s.left 0)
       where
         enters : State → Turn
-        enters t = goes (record t { cells = fresh c.val ∷ cell nothing (t.place + 1) ∷ cell t.dot t.template ∷ cs; dot = c.val; template = number; depth = suc t.depth; place = start })
+        enters t = goes (record t { cells = fresh c.val ∷ cell nothing (t.place + 1) ∷ cell t.dot t.template ∷ cs; dot = c.val; template = number; depth =
+            suc t.depth; place = start })
 
         by : (b : Bool) → Within (paid_if b plan me s.line s enters)
         by true = tt
@@ -171,7 +172,8 @@ module _ (size : ℕ) where
         by true = tt
         by false = within
     done-within (code.put bytes) h = within
-    done-within (code.act o) h = piped-within o (step (record { missing_key = plan.rules.missing_key; dot = s.dot; env = [] }) o s.cells) (step-within o (record { missing_key = plan.rules.missing_key; dot = s.dot; env = [] }) s.cells h within)
+    done-within (code.act o) h = piped-within o (step (record { missing_key = plan.rules.missing_key; dot = s.dot; env = [] }) o s.cells)
+        (step-within o (record { missing_key = plan.rules.missing_key; dot = s.dot; env = [] }) s.cells h within)
     done-within code.show h = top-within s.cells _ (λ c cs e. omega arith)
     done-within (code.hold key) h = top-within s.cells _ (λ c cs e. held-within key c cs e h)
     done-within (code.set slot) h = top-within s.cells _ (λ c cs e. omega (arith, length-set cs slot (fresh c.val)))

@@ -40,7 +40,8 @@ module _ (plan : Plan) (size number : ℕ) (linked : Starts plan.templates plan.
         let own = fits [] tt (omega arith) in
         omega arith
 
-    pub leads : (v : Value) → Ends plan size (starting plan number (get_or plan.starts number 0) v) (ran_with plan.rules plan.templates (get_or plan.templates number no_template).0 (get_or plan.templates number no_template).1 v)
+    pub leads : (v : Value) → Ends plan size (starting plan number (get_or plan.starts number 0) v)
+        (ran_with plan.rules plan.templates (get_or plan.templates number no_template).0 (get_or plan.templates number no_template).1 v)
     leads v = run-leads plan size linked some number me fits is-me (get_or plan.starts number 0) (slice_get-get_or plan.starts number 0 has-start) v
 
     -- .. of a state that is so, over so many cells

@@ -46,17 +46,22 @@ module _ (plan : Plan) (t : Template) (key : Bool) (skip : ℕ) (s : State) (c :
       by : (o : Option (List Element)) → Some n ≡ option_map length o → opened plan t skip c cs o s ≡ failed t s.line (steps_spent plan.rules.step_limit) s
       by None e = cc
       by (Some []) e = let same : n ≡ 0 = cc in absurd (some same)
-      by (Some (x ∷ xs)) e = ap (λ b. paid_if b plan t s.line s (λ s. goes (record s { cells = cell s.dot (s.place + 1) ∷ fresh c.val ∷ cs; dot = nothing; place = s.place + 1 }))) (let z : nat_eq s.left 0 ≡ true = grind (arith, nat_tests) in z)
+      by (Some (x ∷ xs)) e = ap (λ b. paid_if b plan t s.line s (λ s. goes (record s
+          { cells = cell s.dot (s.place + 1) ∷ fresh c.val ∷ cs; dot = nothing; place = s.place + 1 })))
+          (let z : nat_eq s.left 0 ≡ true = grind (arith, nat_tests) in z)
 
   pub enter-some : (n : ℕ) → Some n ≡ option_map length (elements_for key c.val) → n ≢ 0 → s.left ≢ 0
       → done plan t (code.enter key skip) s
       ≡ goes (record s { cells = cell s.dot (s.place + 1) ∷ fresh c.val ∷ cs; dot = nothing; left = s.left - 1; place = s.place + 1 })
   enter-some n e some left = ap (λ l. top l (λ c cs. opened plan t skip c cs (elements_for key c.val) s)) is ∙ by (elements_for key c.val) e
     where
-      by : (o : Option (List Element)) → Some n ≡ option_map length o → opened plan t skip c cs o s ≡ goes (record s { cells = cell s.dot (s.place + 1) ∷ fresh c.val ∷ cs; dot = nothing; left = s.left - 1; place = s.place + 1 })
+      by : (o : Option (List Element)) → Some n ≡ option_map length o → opened plan t skip c cs o s
+          ≡ goes (record s { cells = cell s.dot (s.place + 1) ∷ fresh c.val ∷ cs; dot = nothing; left = s.left - 1; place = s.place + 1 })
       by None e = cc
       by (Some []) e = let same : n ≡ 0 = cc in absurd (some same)
-      by (Some (x ∷ xs)) e = ap (λ b. paid_if b plan t s.line s (λ s. goes (record s { cells = cell s.dot (s.place + 1) ∷ fresh c.val ∷ cs; dot = nothing; place = s.place + 1 }))) (let z : nat_eq s.left 0 ≡ false = grind (arith, nat_tests) in z)
+      by (Some (x ∷ xs)) e = ap (λ b. paid_if b plan t s.line s (λ s. goes (record s
+          { cells = cell s.dot (s.place + 1) ∷ fresh c.val ∷ cs; dot = nothing; place = s.place + 1 })))
+          (let z : nat_eq s.left 0 ≡ false = grind (arith, nat_tests) in z)
 
 pub ruleset opens = (enter-not, enter-none, enter-other, enter-spent, enter-some)
 
@@ -74,7 +79,8 @@ left-at v e h = by (elements v.val) h
     by (Some es) h = got es v.num e (sym h)
 
 -- a turn over the cells of a range
-module _ (plan : Plan) (t : Template) (n : ℕ) (s : State) (e : Element) (some : 2 ≤ length s.cells) (is : Some e ≡ item_at (slot_cell 1 s.cells).num (slot_cell 1 s.cells).val) where
+module _ (plan : Plan) (t : Template) (n : ℕ) (s : State) (e : Element) (some : 2 ≤ length s.cells)
+    (is : Some e ≡ item_at (slot_cell 1 s.cells).num (slot_cell 1 s.cells).val) where
   pub turn-is : done plan t (code.turn n) s ≡ goes (record s { cells = variables_on n e s.cells; dot = e.1; place = s.place + 1 })
   turn-is = ring-is s.cells (λ d v cs. turned n (left_in v) s) some ∙ ap (λ l. turned n l s) (left-at (slot_cell 1 s.cells) e is)
 
@@ -128,13 +134,18 @@ module _ (plan : Plan) (t : Template) (n skip line : ℕ) (s : State) (some : 2 
   pub next-spent : has_more (slot_cell 1 (drop n s.cells)) ≡ true → s.left ≡ 0
       → done plan t (code.next n skip line) s ≡ failed t line (steps_spent plan.rules.step_limit) s
   next-spent h left = let more = more-left v h in
-      turn-by (more.0 ∷ more.1) more.2 ∙ ap (λ b. paid_if b plan t line s (λ u. onto (d ∷ cell v.val (suc v.num) ∷ drop 2 (drop n s.cells)) d.num u)) (let z : nat_eq s.left 0 ≡ true = grind (arith, nat_tests) in z)
+      turn-by (more.0 ∷ more.1) more.2 ∙ ap (λ b. paid_if b plan t line s (λ u. onto (d ∷ cell v.val (suc v.num) ∷ drop 2 (drop n s.cells)) d.num u))
+          (let z : nat_eq s.left 0 ≡ true = grind (arith, nat_tests) in z)
 
   pub next-more : has_more (slot_cell 1 (drop n s.cells)) ≡ true → s.left ≢ 0
-      → done plan t (code.next n skip line) s ≡ goes (record s { cells = slice_set (drop n s.cells) 1 (cell (slot 1 (drop n s.cells)) ((slot_cell 1 (drop n s.cells)).num + 1)); left = s.left - 1; line = line; place = (slot_cell 0 (drop n s.cells)).num })
+      → done plan t (code.next n skip line) s ≡ goes (record s { cells = slice_set (drop n s.cells) 1
+          (cell (slot 1 (drop n s.cells)) ((slot_cell 1 (drop n s.cells)).num + 1)); left = s.left - 1; line = line; place =
+          (slot_cell 0 (drop n s.cells)).num })
   next-more h left = let more = more-left v h in let one : suc v.num ≡ v.num + 1 = omega arith in
-      turn-by (more.0 ∷ more.1) more.2 ∙ ap (λ b. paid_if b plan t line s (λ u. onto (d ∷ cell v.val (suc v.num) ∷ drop 2 (drop n s.cells)) d.num u)) (let z : nat_eq s.left 0 ≡ false = grind (arith, nat_tests) in z)
+      turn-by (more.0 ∷ more.1) more.2 ∙ ap (λ b. paid_if b plan t line s (λ u. onto (d ∷ cell v.val (suc v.num) ∷ drop 2 (drop n s.cells)) d.num u))
+          (let z : nat_eq s.left 0 ≡ false = grind (arith, nat_tests) in z)
       ∙ ap (λ k. goes (record s { cells = d ∷ cell v.val k ∷ drop 2 (drop n s.cells); left = s.left - 1; line = line; place = d.num })) one
-      ∙ ap (λ (cs : List Cell). goes (record s { cells = cs; left = s.left - 1; line = line; place = d.num })) (sym (recounted (drop n s.cells) (v.num + 1) some))
+      ∙ ap (λ (cs : List Cell). goes (record s { cells = cs; left = s.left - 1; line = line; place = d.num }))
+          (sym (recounted (drop n s.cells) (v.num + 1) some))
 
 pub ruleset nexts = (next-over, next-spent, next-more)

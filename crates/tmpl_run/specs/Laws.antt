@@ -18,8 +18,8 @@ abbrev pub IsLinked : Plan → Type 0
 IsLinked plan = Starts plan.templates plan.templates plan.starts plan.code
 
 -- over a stack of as many cells as each chain of calls from it needs that is no longer than the depth, a run that
--- starts at a template comes to just the text, the fault and the mark that the template means: each turn is ready, and none
--- gets stuck
+-- starts at a template comes to just the text, the fault and the mark that the template means: each turn is ready, and
+-- none gets stuck
 abbrev pub ComesToMeaning : Type 0
 ComesToMeaning =
     (plan : Plan) (size : ℕ) → IsLinked plan → 1 ≤ plan.rules.depth_limit

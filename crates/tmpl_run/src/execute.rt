@@ -22,8 +22,8 @@ use tmpl_meaning::{Options, RunFaultKind, Sink};
 use tmpl_values::Val;
 
 impl<'m, 'a> Machine<'m, 'a> {
-    /// Carries out an instruction. It is inlined into the loop of a run, so that its answer is not written to memory and
-    /// read back for each instruction.
+    /// Carries out an instruction. It is inlined into the loop of a run, so that its answer is not written to memory
+    /// and read back for each instruction.
     #[inline(always)]
     pub(crate) fn execute<S: Sink>(
         &mut self,

@@ -76,7 +76,9 @@ control-names r names body =
     let ds : List Name = (names_of r).declares in
     take-seen (length names) body (names ++ ds) (omega (arith, length-append names ds)) ∙ take-append_seam names ds
 
-part-seen : (c : Control) (r : Header) (names : List Name) (body : Nodes) → take (part_of c (length names) (length names + length (names_of r).declares)) (seen_behind (names ++ (names_of r).declares) body) ≡ part_names c names (names_of r).declares
+part-seen : (c : Control) (r : Header) (names : List Name) (body : Nodes)
+    → take (part_of c (length names) (length names + length (names_of r).declares)) (seen_behind (names ++ (names_of r).declares) body)
+    ≡ part_names c names (names_of r).declares
 part-seen c r names body = take-seen _ body (names ++ (names_of r).declares) (part-within c names (names_of r).declares)
 
 -- no names are lost
@@ -145,7 +147,8 @@ mutual
       let inside : Known = with_inner known (names ++ (names_of r).declares) in
       let e = and_parts _ (passes (f ∷ fs) inside (roles_of xs)) h in
       let inner = leads-fit b (f ∷ fs) inside e.1 in
-      let behind = closes-fit o f fs (with_inner known (seen_behind inside.inner body)) refl (part-low c (length names) (length (names_of r).declares)) (within-seen c r names body) inner.1 in
+      let behind = closes-fit o f fs (with_inner known (seen_behind inside.inner body)) refl (part-low c (length names) (length (names_of r).declares))
+          (within-seen c r names body) inner.1 in
       let other_fits = subst (λ k. fits other (loops_in c true (in_loop (top fs))) (levels (top fs) + 1) k ≡ true) (part-seen c r names body) behind.0 in
       let here = both_true (sym (opener-test c r (top fs) names) ∙ e.0) (both_true inner.0 other_fits) in
       let more = leads-fit l fs known (subst (λ k. passes fs (with_inner known k) (roles_of zs) ≡ true) (control-names r names body) behind.1) in
@@ -164,7 +167,8 @@ mutual
       let fits_in = length-take f.part known.inner in
       let last = subst (λ t. passes fs (closed_if t (with_inner known (take f.start (seen_behind seen other)))) (roles_of ys) ≡ true) own inner.1 in (
         inner.0,
-        subst (λ k. passes fs (with_inner known k) (roles_of ys) ≡ true) (take-seen f.start other seen (omega arith) ∙ take-take f.start f.part known.inner low) last,
+        subst (λ k. passes fs (with_inner known k) (roles_of ys) ≡ true) (take-seen f.start other seen (omega arith) ∙ take-take f.start f.part known.inner low)
+            last,
         inner.2,
       )
   closes-fit (an_else_branch {line = line} {branch = b} {h = r} {xs = xs} {zs = zs} {body = body} {other = other} l o) f fs known own low high h =
@@ -178,11 +182,15 @@ mutual
       let inner = leads-fit l (g ∷ fs) (with_inner known inside) e.1 in
       let count = length-append seen declares in
       let fits_in = length-take f.part known.inner in
-      let behind = closes-fit o g fs (with_inner known (seen_behind inside body)) own (omega arith) (part-long inside body (length seen + length declares) (omega arith)) inner.1 in
-      let body_fits = subst (λ k. fits body k (f.levels + 1) inside ≡ true) (branch-loops b f.opening f.has_else f.around control_is ∙ sym (branch-loops b f.opening true f.around control_is)) inner.0 in
-      let other_fits = subst (λ k. fits other (loops f.opening true f.around) (f.levels + 1) k ≡ true) (take-seen (length seen + length declares) body inside (omega arith)) behind.0 in (
+      let behind = closes-fit o g fs (with_inner known (seen_behind inside body)) own (omega arith)
+          (part-long inside body (length seen + length declares) (omega arith)) inner.1 in
+      let body_fits = subst (λ k. fits body k (f.levels + 1) inside ≡ true) (branch-loops b f.opening f.has_else f.around control_is
+          ∙ sym (branch-loops b f.opening true f.around control_is)) inner.0 in
+      let other_fits = subst (λ k. fits other (loops f.opening true f.around) (f.levels + 1) k ≡ true)
+          (take-seen (length seen + length declares) body inside (omega arith)) behind.0 in (
         branch-fits b line r body other (loops f.opening true f.around) f.levels seen (both_true (both_true t.1 (both_true body_fits other_fits)) refl),
-        subst (λ k. passes fs (with_inner known k) (roles_of zs) ≡ true) (take-seen f.start body inside (omega arith) ∙ take-append-le f.start seen declares (omega arith) ∙ take-take f.start f.part known.inner low) behind.1,
+        subst (λ k. passes fs (with_inner known k) (roles_of zs) ≡ true) (take-seen f.start body inside (omega arith)
+            ∙ take-append-le f.start seen declares (omega arith) ∙ take-take f.start f.part known.inner low) behind.1,
         λ k. inner.2 (behind.2 k),
       )
 
@@ -214,7 +222,8 @@ mutual
 
 mutual
   leads-pass : {xs ys : List Item} {ds es : List Definition} {ns : Nodes} → Leads xs ds ns ys es → NoBranch xs → (fs : List Frame) (known : Known)
-      → fits ns (in_loop (top fs)) (levels (top fs)) known.inner ≡ true → passes fs (with_inner known (seen_behind known.inner ns)) (roles_of ys) ≡ true → passes fs known (roles_of xs) ≡ true
+      → fits ns (in_loop (top fs)) (levels (top fs)) known.inner ≡ true → passes fs (with_inner known (seen_behind known.inner ns)) (roles_of ys) ≡ true
+      → passes fs known (roles_of xs) ≡ true
   leads-pass nothing n fs known h k = k
   leads-pass (a_text l) n fs known h k = leads-pass l n fs known h k
   leads-pass (an_action {h = r} {ns = ns} l) n fs known h k =
@@ -239,12 +248,15 @@ mutual
       let inside : List Name = names ++ (names_of r).declares in
       let within_body = leads-rest b n in
       let e = and_parts (fits_node (control_node c r body other) loop (levels (top fs)) names) (fits ns loop (levels (top fs)) names) h in
-      let d = and_parts (headed (levels (top fs)) names r) (fits body (loops_in c false loop) (levels (top fs) + 1) inside && fits other (loops_in c true loop) (levels (top fs) + 1) (part_names c names (names_of r).declares))
+      let d = and_parts (headed (levels (top fs)) names r) (fits body (loops_in c false loop) (levels (top fs) + 1) inside && fits other (loops_in c true loop)
+          (levels (top fs) + 1) (part_names c names (names_of r).declares))
       e.0 in
-      let parts = and_parts (fits body (loops_in c false loop) (levels (top fs) + 1) inside) (fits other (loops_in c true loop) (levels (top fs) + 1) (part_names c names (names_of r).declares)) d.1 in
+      let parts = and_parts (fits body (loops_in c false loop) (levels (top fs) + 1) inside)
+          (fits other (loops_in c true loop) (levels (top fs) + 1) (part_names c names (names_of r).declares)) d.1 in
       let others = subst (λ k. fits other (loops_in c true loop) (levels (top fs) + 1) k ≡ true) (sym (part-seen c r names body)) parts.1 in
       let more = leads-pass l (closes-rest o within_body) fs known e.1 k in
-      let behind = closes-pass o within_body f fs (with_inner known (seen_behind inside body)) refl refl (part-low c (length names) (length (names_of r).declares)) (within-seen c r names body) others
+      let behind = closes-pass o within_body f fs (with_inner known (seen_behind inside body)) refl refl
+          (part-low c (length names) (length (names_of r).declares)) (within-seen c r names body) others
       (subst (λ k. passes fs (with_inner known k) (roles_of zs) ≡ true) (sym (control-names r names body)) more) in
       both_true (opener-test c r (top fs) names ∙ d.0) (leads-pass b n (f ∷ fs) (with_inner known inside) parts.0 behind)
   leads-pass _ n fs known h k = absurd n
@@ -252,16 +264,19 @@ mutual
   closes-pass : {xs zs : List Item} {ds es : List Definition} {other : Nodes} → Closes xs ds other zs es → NoBranch xs
       → (f : Frame) (fs : List Frame) (known : Known) → f.has_else ≡ false → is_template f.opening ≡ false → f.start ≤ f.part
       → f.part ≤ length known.inner
-      → fits other (loops f.opening true f.around) f.levels (take f.part known.inner) ≡ true → passes fs (with_inner known (take f.start known.inner)) (roles_of zs) ≡ true → passes (f ∷ fs) known (roles_of xs) ≡ true
+      → fits other (loops f.opening true f.around) f.levels (take f.part known.inner) ≡ true
+      → passes fs (with_inner known (take f.start known.inner)) (roles_of zs) ≡ true → passes (f ∷ fs) known (roles_of xs) ≡ true
   closes-pass (an_end {xs = xs}) n f fs known first own low high h k =
       subst (λ t. passes fs (closed_if t (with_inner known (take f.start known.inner))) (roles_of xs) ≡ true) (sym own) k
   closes-pass (an_else {ys = ys} {other = other} l) n f fs known first own low high h k =
       let seen : List Name = take f.part known.inner in
       let fits_in = length-take f.part known.inner in
       let placed : takes_else (Some f) ≡ true = ap (λ t. not t && not f.has_else) own ∙ ap not first in
-      let at_end = subst (λ k. passes fs (with_inner known k) (roles_of ys) ≡ true) (sym (take-seen f.start other seen (omega arith) ∙ take-take f.start f.part known.inner low)) k in
+      let at_end = subst (λ k. passes fs (with_inner known k) (roles_of ys) ≡ true)
+          (sym (take-seen f.start other seen (omega arith) ∙ take-take f.start f.part known.inner low)) k in
       both_true (ap (λ t. no_fault (first_fault t false true)) placed)
-      (leads-pass l n (elsed f ∷ fs) (with_inner known seen) h (subst (λ t. passes fs (closed_if t (with_inner known (take f.start (seen_behind seen other)))) (roles_of ys) ≡ true) (sym own) at_end))
+      (leads-pass l n (elsed f ∷ fs) (with_inner known seen) h (subst (λ t. passes fs (closed_if t (with_inner known (take f.start (seen_behind seen other))))
+          (roles_of ys) ≡ true) (sym own) at_end))
   closes-pass (an_else_branch l o) n f fs known first own low high h k = absurd n
 
 -- ---- what nodes say has no such item
@@ -289,7 +304,8 @@ plain-append _ ts h k = absurd h
 control-plain : (c : Control) (h : Header) (body : List Said) (other : Nodes) → Plain body → Plain (nodes_said other)
     → Plain (control_said c h body (else_said other (nodes_said other)))
 control-plain c h body none p k = plain-append body (said end_action ∷ []) p tt
-control-plain c h body (then line n ns) p k = plain-append body (else_said (then line n ns) (nodes_said (then line n ns)) ++ said end_action ∷ []) p (plain-append (nodes_said (then line n ns)) (said end_action ∷ []) k tt)
+control-plain c h body (then line n ns) p k = plain-append body (else_said (then line n ns) (nodes_said (then line n ns)) ++ said end_action ∷ []) p
+    (plain-append (nodes_said (then line n ns)) (said end_action ∷ []) k tt)
 
 mutual
   node-plain : (n : NodeKind) → Plain (node_said n)

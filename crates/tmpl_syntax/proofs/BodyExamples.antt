@@ -244,7 +244,8 @@ no-name-from-outside-a-define : Says (declares x ∷ define_it ∷ uses x ∷ en
 unfolding verdict_of
 no-name-from-outside-a-define = says (declares x ∷ define_it ∷ uses x ∷ end_it 1 ∷ []) (refused 2 reason.undeclared_variable) refl
 
-a-block-in-a-first-part : Says (if_it 1 ∷ declares x ∷ block_it ∷ declares y ∷ end_it 1 ∷ uses x ∷ else_it 1 ∷ uses x ∷ end_it 1 ∷ []) (refused 7 reason.undeclared_variable)
+a-block-in-a-first-part : Says (if_it 1 ∷ declares x ∷ block_it ∷ declares y ∷ end_it 1 ∷ uses x ∷ else_it 1 ∷ uses x ∷ end_it 1 ∷ [])
+    (refused 7 reason.undeclared_variable)
 unfolding verdict_of
 a-block-in-a-first-part =
     says (if_it 1 ∷ declares x ∷ block_it ∷ declares y ∷ end_it 1 ∷ uses x ∷ else_it 1 ∷ uses x ∷ end_it 1 ∷ []) (refused 7 reason.undeclared_variable) refl
@@ -284,7 +285,8 @@ an-else-if-is-the-whole-else-part = spells-fine chain refl
 abbrev inner_break : List Item
 inner_break = range_it 1 ∷ range_it 1 ∷ else_it 1 ∷ break_it 1 ∷ end_it 1 ∷ end_it 1 ∷ []
 
-an-inner-else-part : Spells inner_break [] (then 1 (control_node control.Range (headed unbound dot) (then 1 (control_node control.Range (headed unbound dot) none (then 1 break_node none)) none) none) none)
+an-inner-else-part : Spells inner_break [] (then 1 (control_node control.Range (headed unbound dot)
+    (then 1 (control_node control.Range (headed unbound dot) none (then 1 break_node none)) none) none) none)
 unfolding verdict_of nodes_from definitions_from
 an-inner-else-part = spells-fine inner_break refl
 

@@ -53,7 +53,10 @@ swapped a b = go (bytes_eq a b) (bytes_eq b a) refl refl
 pub is-there : (name : List ℕ) (names : List (Bor (List ℕ)))
     → ltb 0 (count_by (λ n. bytes_eq n.now name) names) ≡ list_any (bytes_eq name) (map (λ (n : Bor (List ℕ)). n.now) names)
 is-there name [] = refl
-is-there name (n ∷ ns) = ap (ltb 0) (sum_by-append (λ (m : Bor (List ℕ)). cond (bytes_eq m.now name) 1 0) (n ∷ []) ns ∙ ap (λ k. k + count_by (λ (m : Bor (List ℕ)). bytes_eq m.now name) ns) (zero-add (cond (bytes_eq n.now name) 1 0))) ∙ go (bytes_eq n.now name) (count_by (λ n. bytes_eq n.now name) ns) (is-there name ns) ∙ ap (λ b. b || list_any (bytes_eq name) (map (λ (n : Bor (List ℕ)). n.now) ns)) (swapped n.now name)
+is-there name (n ∷ ns) = ap (ltb 0) (sum_by-append (λ (m : Bor (List ℕ)). cond (bytes_eq m.now name) 1 0) (n ∷ []) ns
+    ∙ ap (λ k. k + count_by (λ (m : Bor (List ℕ)). bytes_eq m.now name) ns) (zero-add (cond (bytes_eq n.now name) 1 0)))
+    ∙ go (bytes_eq n.now name) (count_by (λ n. bytes_eq n.now name) ns) (is-there name ns)
+    ∙ ap (λ b. b || list_any (bytes_eq name) (map (λ (n : Bor (List ℕ)). n.now) ns)) (swapped n.now name)
   where
     go : (b : Bool) (k : ℕ) → ltb 0 k ≡ list_any (bytes_eq name) (map (λ (n : Bor (List ℕ)). n.now) ns)
         → ltb 0 (cond b 1 0 + k) ≡ (b || list_any (bytes_eq name) (map (λ (n : Bor (List ℕ)). n.now) ns))

@@ -145,7 +145,8 @@ left-of-it : needed (controls control.If (declare x) (dot ∷ []) (acts (declare
 left-of-it = refl
 
 -- `{{$x := .}}{{with $x := .}}{{$x := .}}{{range .}}{{print 1 1 1}}{{end}}{{end}}`
-one-in-another : needed (acts (declare x) (dot ∷ []) ∷ controls control.With (declare x) (dot ∷ []) (acts (declare x) (dot ∷ []) ∷ controls control.Range unbound (dot ∷ []) (acts unbound three ∷ []) [] ∷ []) [] ∷ []) ≡ 12
+one-in-another : needed (acts (declare x) (dot ∷ []) ∷ controls control.With (declare x) (dot ∷ [])
+    (acts (declare x) (dot ∷ []) ∷ controls control.Range unbound (dot ∷ []) (acts unbound three ∷ []) [] ∷ []) [] ∷ []) ≡ 12
 one-in-another = refl
 
 -- `{{range $i, $e := .}}{{if eq $e 3}}{{break}}{{end}}{{$i}}={{$e}};{{else}}none{{end}}`

@@ -45,7 +45,8 @@ mutual
   one-leads (a_continue {line = l} d) (a_continue e) s t = same-then l continue_node _ _ _ _ _ _ _ _ (one-leads d e s t)
   one-leads (a_template {line = l} {name = name} {given = given} d) (a_template e) s t =
       same-then l (template_node name given) _ _ _ _ _ _ _ _ (one-leads d e s t)
-  one-leads (a_control {line = l} {c = c} {h = r} {body = b} {other = o} {ns = ns} d f g) (a_control {zs = zs} {ws = ws} {es = es} {fs = fs} {gs = gs} {body = b'} {other = o'} {ns = ns'} e h k) s t =
+  one-leads (a_control {line = l} {c = c} {h = r} {body = b} {other = o} {ns = ns} d f g)
+      (a_control {zs = zs} {ws = ws} {es = es} {fs = fs} {gs = gs} {body = b'} {other = o'} {ns = ns'} e h k) s t =
       let p = one-leads d e (closes-stops f) (closes-stops h) in
       let q = one-closes f (subst (λ y. Closes y es o' zs fs) (sym p.1) h) in
       let n = one-leads g (subst (λ z. Leads z fs ns' ws gs) (sym q.1) k) s t in (

@@ -26,7 +26,8 @@ same-rank reason.second_definition reason.second_definition e = refl
 same-rank f g e = absurd (omega arith)
 
 same-fault : (xs : List Role) (i : ℕ) (f g : Reason) → IsRefused xs i f → IsRefused xs i g → f ≡ g
-same-fault xs i f g a b = ⊎_elim (λ e. same-rank f g e) (λ o. ⊎_elim (λ lt. absurd (b.first_reason f lt a.applies)) (λ gt. absurd (a.first_reason g gt b.applies)) o) (cases_order (rank f) (rank g))
+same-fault xs i f g a b = ⊎_elim (λ e. same-rank f g e) (λ o. ⊎_elim (λ lt. absurd (b.first_reason f lt a.applies))
+    (λ gt. absurd (a.first_reason g gt b.applies)) o) (cases_order (rank f) (rank g))
 
 same-refused : (xs : List Role) (i j : ℕ) (f g : Reason) → IsRefused xs i f → IsRefused xs j g → refused i f ≡ refused j g
 same-refused xs i j f g a b = ⊎_elim

@@ -33,7 +33,8 @@ count-split p xs a m n low high =
     let at : a + u ≡ m = omega arith in
     let front : take u (take (u + v) ys) ≡ take u ys = take-take u (u + v) ys (omega arith) in
     let back : drop u (take (u + v) ys) ≡ take v (drop m xs) = drop-take u v ys ∙ ap (take v) (drop-drop u a xs ∙ ap (λ k. drop k xs) at) in
-    let cut : take (n - a) ys ≡ take u ys ++ take v (drop m xs) = ap (λ k. take k ys) whole ∙ sym (take-append-drop u (take (u + v) ys)) ∙ ap (λ l. l ++ drop u (take (u + v) ys)) front ∙ ap (λ l. take u ys ++ l) back in
+    let cut : take (n - a) ys ≡ take u ys ++ take v (drop m xs) = ap (λ k. take k ys) whole ∙ sym (take-append-drop u (take (u + v) ys))
+        ∙ ap (λ l. l ++ drop u (take (u + v) ys)) front ∙ ap (λ l. take u ys ++ l) back in
     ap (count_by p) cut ∙ sum_by-append (λ y. cond (p y) 1 0) (take u ys) (take v (drop m xs))
 
 pub count-none : (p : Role → Bool) (xs : List Role) (n : ℕ) → count_by p (slice_range xs n n) ≡ 0
@@ -103,7 +104,8 @@ through xs k j i a b = record {
       let e2 = count-more opens xs p.piece (k + 1) j (omega arith) p.at in
       let z : one_if (ends p.piece) ≡ 0 = ap one_if no_end in
       let o : one_if (opens p.piece) ≡ 1 = ap one_if rises in
-      omega (arith, e1, e2, z, o, first, second, count-split ends xs (k + 1) (j + 1) n (omega arith) (omega arith), count-split opens xs (k + 1) (j + 1) n (omega arith) (omega arith)))
+      omega (arith, e1, e2, z, o, first, second, count-split ends xs (k + 1) (j + 1) n (omega arith) (omega arith), count-split opens xs (k + 1) (j + 1) n
+          (omega arith) (omega arith)))
       (λ le. a.fronts n from le)
       (cases_lt j n);
 }
@@ -146,7 +148,8 @@ even-step xs x i at o e =
             (λ below. h.fronts n from (omega arith))
             (λ ge. let s : i + 1 ≡ n = omega arith in
             let f = h.fronts i lt (omega arith) in
-            subst (λ m. downs xs (k + 1) m ≤ ups xs (k + 1) m) s (omega (arith, f, zo, ze, count-more ends xs x (k + 1) i (omega arith) at, count-more opens xs x (k + 1) i (omega arith) at)))
+            subst (λ m. downs xs (k + 1) m ≤ ups xs (k + 1) m) s (omega (arith, f, zo, ze, count-more ends xs x (k + 1) i (omega arith) at, count-more opens xs
+                x (k + 1) i (omega arith) at)))
             (cases_lt n (i + 1));
       };
       only = λ k h. ⊎_elim
@@ -168,7 +171,8 @@ same-ended xs j i l over at =
     record {
       even = record {
         le = omega arith;
-        balance = omega (arith, over, zo, oo, me, mo, count-one ends xs p.piece j p.at, count-one opens xs p.piece j p.at, count-split ends xs j (j + 1) (i + 1) (omega arith) (omega arith), count-split opens xs j (j + 1) (i + 1) (omega arith) (omega arith));
+        balance = omega (arith, over, zo, oo, me, mo, count-one ends xs p.piece j p.at, count-one opens xs p.piece j p.at, count-split ends xs j (j + 1) (i + 1)
+            (omega arith) (omega arith), count-split opens xs j (j + 1) (i + 1) (omega arith) (omega arith));
         keeps = λ k h. let on = through xs k j i h l.is_open in record {
           opened = on.opened;
           at = on.at;
@@ -180,7 +184,8 @@ same-ended xs j i l over at =
               let ce = count-more ends xs p.piece (k + 1) j (omega arith) p.at in
               let co = count-more opens xs p.piece (k + 1) j (omega arith) p.at in
               subst (λ m. downs xs (k + 1) m ≤ ups xs (k + 1) m) s
-              (omega (arith, f, over, zo, oo, me, mo, ce, co, count-split ends xs (k + 1) (j + 1) (i + 1) (omega arith) (omega arith), count-split opens xs (k + 1) (j + 1) (i + 1) (omega arith) (omega arith))))
+              (omega (arith, f, over, zo, oo, me, mo, ce, co, count-split ends xs (k + 1) (j + 1) (i + 1) (omega arith) (omega arith), count-split opens xs
+                  (k + 1) (j + 1) (i + 1) (omega arith) (omega arith))))
               (cases_lt n (i + 1));
         };
         only = λ k h. ⊎_elim
@@ -194,8 +199,15 @@ same-ended xs j i l over at =
             (cases_lt k i)))
             (cases_lt k j);
       };
-      no_else = λ q h from to o e. inner q h from to o e.belongs (λ s. let g : act_role bare_else ≡ act_role closer = same-piece xs i (act_role bare_else) (act_role closer) (subst (λ n. slice_get xs n ≡ Some (act_role bare_else)) s e.at) at in cc) (λ s. let u : ends (act_role bare_else) ≡ false = refl in not-opening (act_role bare_else) (subst (λ n. slice_get xs n ≡ Some (act_role bare_else)) s e.at) refl);
-      no_branch = λ q h from to o e. inner q h from to o e.belongs (λ s. let g : act_role (branch_else e.branch e.names) ≡ act_role closer = same-piece xs i (act_role (branch_else e.branch e.names)) (act_role closer) (subst (λ n. slice_get xs n ≡ Some (act_role (branch_else e.branch e.names))) s e.at) at in cc) (λ s. not-opening (act_role (branch_else e.branch e.names)) (subst (λ n. slice_get xs n ≡ Some (act_role (branch_else e.branch e.names))) s e.at) refl);
+      no_else = λ q h from to o e. inner q h from to o e.belongs (λ s. let g : act_role bare_else ≡ act_role closer =
+          same-piece xs i (act_role bare_else) (act_role closer) (subst (λ n. slice_get xs n ≡ Some (act_role bare_else)) s e.at) at in cc)
+          (λ s. let u : ends (act_role bare_else) ≡ false = refl in not-opening (act_role bare_else)
+          (subst (λ n. slice_get xs n ≡ Some (act_role bare_else)) s e.at) refl);
+      no_branch = λ q h from to o e. inner q h from to o e.belongs (λ s. let g : act_role (branch_else e.branch e.names) ≡ act_role closer =
+          same-piece xs i (act_role (branch_else e.branch e.names)) (act_role closer)
+          (subst (λ n. slice_get xs n ≡ Some (act_role (branch_else e.branch e.names))) s e.at) at in cc)
+          (λ s. not-opening (act_role (branch_else e.branch e.names)) (subst (λ n. slice_get xs n ≡ Some (act_role (branch_else e.branch e.names))) s e.at)
+          refl);
     }
   where
     closed : (k : ℕ) → k ≡ j → IsOpen xs k (i + 1) → ⊥
@@ -203,7 +215,8 @@ same-ended xs j i l over at =
         let o : IsOpen xs j (i + 1) = subst (λ n. IsOpen xs n (i + 1)) e h in
         let lt = l.is_open.before in
         let f = o.fronts (i + 1) (omega arith) (omega arith) in
-        omega (arith, f, over, count-more ends xs (act_role closer) (j + 1) i (omega arith) at, count-more opens xs (act_role closer) (j + 1) i (omega arith) at)
+        omega (arith, f, over, count-more ends xs (act_role closer) (j + 1) i (omega arith) at, count-more opens xs (act_role closer) (j + 1) i (omega arith)
+            at)
 
     not-opening : (x : Role) → slice_get xs j ≡ Some x → opens x ≡ false → ⊥
     not-opening x a shut = shut-at xs x j i a shut l.is_open
@@ -222,8 +235,11 @@ pub same-still : (xs : List Role) (x : Role) (i : ℕ) → slice_get xs i ≡ So
     → ((b : Branch) (p : Names) → x ≢ act_role (branch_else b p)) → Same xs i (i + 1)
 same-still xs x i at o e ne nt = record {
   even = even-step xs x i at o e;
-  no_else = λ q h from to open_q el. let s : h ≡ i = omega arith in ne (same-piece xs i x (act_role bare_else) at (subst (λ n. slice_get xs n ≡ Some (act_role bare_else)) s el.at));
-  no_branch = λ q h from to open_q tu. let s : h ≡ i = omega arith in nt tu.branch tu.names (same-piece xs i x (act_role (branch_else tu.branch tu.names)) at (subst (λ n. slice_get xs n ≡ Some (act_role (branch_else tu.branch tu.names))) s tu.at));
+  no_else = λ q h from to open_q el. let s : h ≡ i = omega arith in ne (same-piece xs i x (act_role bare_else) at
+      (subst (λ n. slice_get xs n ≡ Some (act_role bare_else)) s el.at));
+  no_branch = λ q h from to open_q tu. let s : h ≡ i = omega arith in nt tu.branch tu.names
+      (same-piece xs i x (act_role (branch_else tu.branch tu.names)) at (subst (λ n. slice_get xs n ≡ Some (act_role (branch_else tu.branch tu.names))) s
+      tu.at));
 }
 
 -- what an opening adds
@@ -239,7 +255,8 @@ opened-keeps xs x i k at e h =
           (λ below. h.fronts n from (omega arith))
           (λ ge. let s : i + 1 ≡ n = omega arith in
           let f = h.fronts i lt (omega arith) in
-          subst (λ m. downs xs (k + 1) m ≤ ups xs (k + 1) m) s (omega (arith, f, ze, count-more ends xs x (k + 1) i (omega arith) at, count-more opens xs x (k + 1) i (omega arith) at)))
+          subst (λ m. downs xs (k + 1) m ≤ ups xs (k + 1) m) s (omega (arith, f, ze, count-more ends xs x (k + 1) i (omega arith) at, count-more opens xs x
+              (k + 1) i (omega arith) at)))
           (cases_lt n (i + 1));
     }
 
@@ -248,5 +265,6 @@ opened_new xs i c at = record {
   opened = c;
   at = at;
   before = omega arith;
-  fronts = λ n from to. let s : i + 1 ≡ n = omega arith in subst (λ m. downs xs (i + 1) m ≤ ups xs (i + 1) m) s (omega (arith, count-none ends xs (i + 1), count-none opens xs (i + 1)));
+  fronts = λ n from to. let s : i + 1 ≡ n = omega arith in subst (λ m. downs xs (i + 1) m ≤ ups xs (i + 1) m) s
+      (omega (arith, count-none ends xs (i + 1), count-none opens xs (i + 1)));
 }

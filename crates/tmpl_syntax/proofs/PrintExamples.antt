@@ -43,13 +43,18 @@ least : printed (put (number_constant (negsuc 9223372036854775807)) none) ≡ co
 unfolding digits
 least = refl
 
-a-header : printed (then 1 (control_node control.If (headed (declare (codes "y")) (group (command (operand (function Len) (operand dot no_operand)) no_command) [])) (put (variable (codes "y") []) none) none) none) ≡ codes "{{if $y := (len .)}}{{$y}}{{end}}"
+a-header : printed (then 1 (control_node control.If (headed (declare (codes "y"))
+    (group (command (operand (function Len) (operand dot no_operand)) no_command) [])) (put (variable (codes "y") []) none) none) none)
+    ≡ codes "{{if $y := (len .)}}{{$y}}{{end}}"
 a-header = refl
 
-a-pipeline : printed (then 1 (action (record { binding = unbound; pipeline = pipeline (command (operand (fields (codes "a" ∷ codes "b" ∷ [])) no_operand) (command (operand (function Len) no_operand) no_command)) })) none) ≡ codes "{{.a.b | len}}"
+a-pipeline : printed (then 1 (action (record { binding = unbound; pipeline =
+    pipeline (command (operand (fields (codes "a" ∷ codes "b" ∷ [])) no_operand) (command (operand (function Len) no_operand) no_command)) })) none)
+    ≡ codes "{{.a.b | len}}"
 a-pipeline = refl
 
-an_else : printed (then 1 (control_node control.Range (headed (declare_pair (codes "i") (codes "e")) dot) (then 1 break_node none) (then 1 (text (codes "none")) none)) none) ≡ codes "{{range $i, $e := .}}{{break}}{{else}}none{{end}}"
+an_else : printed (then 1 (control_node control.Range (headed (declare_pair (codes "i") (codes "e")) dot) (then 1 break_node none)
+    (then 1 (text (codes "none")) none)) none) ≡ codes "{{range $i, $e := .}}{{break}}{{else}}none{{end}}"
 an_else = refl
 
 -- ---- calls and sets

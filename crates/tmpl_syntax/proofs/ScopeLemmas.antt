@@ -77,7 +77,8 @@ brought-same xs j m n s b = record {
   by = b.by;
   before = let lt = b.before in let le = s.even.le in omega arith;
   template = one-moves xs b.by j m (alike-even xs j m s.even) b.template;
-  reaches = reaches-moves xs b.by j j m m n (λ q le. s.even.keeps q) (λ q h lt o from to. s.no_else q h from to o) (λ q h lt o from to. s.no_branch q h from to o) (λ o. else-same xs b.by j m s o) b.reaches;
+  reaches = reaches-moves xs b.by j j m m n (λ q le. s.even.keeps q) (λ q h lt o from to. s.no_else q h from to o)
+      (λ q h lt o from to. s.no_branch q h from to o) (λ o. else-same xs b.by j m s o) b.reaches;
 }
 
 pub brought-same-back : (xs : List Role) (j m : ℕ) (n : Name) → Same xs j m → (b : Brought xs m m n) → b.by < j → Brought xs j j n
@@ -85,7 +86,8 @@ brought-same-back xs j m n s b lt = record {
   by = b.by;
   before = lt;
   template = one-moves xs b.by m j (alike-back xs j m (alike-even xs j m s.even)) b.template;
-  reaches = let le = s.even.le in reaches-moves xs b.by m m j j n (λ q le2. s.even.only q) (λ q h lt2 o from to e. omega arith) (λ q h lt2 o from to e. omega arith) (λ o. else_before xs b.by j m le) b.reaches;
+  reaches = let le = s.even.le in reaches-moves xs b.by m m j j n (λ q le2. s.even.only q) (λ q h lt2 o from to e. omega arith)
+      (λ q h lt2 o from to e. omega arith) (λ o. else_before xs b.by j m le) b.reaches;
 }
 
 -- a header or an else if between brings nothing; an action does where it stands in what is open
@@ -131,7 +133,8 @@ brought-opened xs i n c p at o nt b =
           (λ q le. opened-keeps xs x i q at refl)
           (λ q m lt2 oq from to e. let s : m ≡ i = omega arith in no-else-at q (subst (IsElseOf xs q) s e))
           (λ q m lt2 oq from to e. let s : m ≡ i = omega arith in no-else_branch xs x i q at (λ d r g. cc) (subst (IsElseBranchOf xs q) s e))
-          (λ ok h. ⊎_elim (λ low. (h.0, low, h.2)) (λ high. let g = h.1 in let s : h.0 ≡ i = omega arith in absurd (no-else-at b.by (subst (IsElseOf xs b.by) s h.2))) (cases_lt h.0 i))
+          (λ ok h. ⊎_elim (λ low. (h.0, low, h.2)) (λ high. let g = h.1 in let s : h.0 ≡ i = omega arith in
+              absurd (no-else-at b.by (subst (IsElseOf xs b.by) s h.2))) (cases_lt h.0 i))
           b.reaches;
     }
   where

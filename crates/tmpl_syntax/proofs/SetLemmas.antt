@@ -25,7 +25,9 @@ pub lookup-view : (name : List ℕ) (es : List Entry)
 lookup-view name [] = refl
 lookup-view name (e ∷ es) = go (bytes_eq name e.0.items) (lookup-view name es)
   where
-    go : (same : Bool) → option_map tree_of (lookup (λ (k : Vec ℕ Global). bytes_eq name k.items) es) ≡ tree_named name (map template_of es) → option_map tree_of (cond same (Some e.1) (lookup (λ (k : Vec ℕ Global). bytes_eq name k.items) es)) ≡ option_map (λ (t : Template). t.1) (cond same (Some (template_of e)) (find (has_name name) (map template_of es)))
+    go : (same : Bool) → option_map tree_of (lookup (λ (k : Vec ℕ Global). bytes_eq name k.items) es) ≡ tree_named name (map template_of es)
+        → option_map tree_of (cond same (Some e.1) (lookup (λ (k : Vec ℕ Global). bytes_eq name k.items) es))
+        ≡ option_map (λ (t : Template). t.1) (cond same (Some (template_of e)) (find (has_name name) (map template_of es)))
     go true ih = refl
     go false ih = ih
 
@@ -39,7 +41,8 @@ named same t other = cond same (Some t.1) other
 named-find : (name : List ℕ) (t : Template) (ts : List Template) → tree_named name (t ∷ ts) ≡ named (bytes_eq name t.0) t (tree_named name ts)
 named-find name t ts = go (bytes_eq name t.0)
   where
-    go : (same : Bool) → option_map (λ (t : Template). t.1) (cond same (Some t) (find (has_name name) ts)) ≡ cond same (Some t.1) (option_map (λ (t : Template). t.1) (find (has_name name) ts))
+    go : (same : Bool) → option_map (λ (t : Template). t.1) (cond same (Some t) (find (has_name name) ts))
+        ≡ cond same (Some t.1) (option_map (λ (t : Template). t.1) (find (has_name name) ts))
     go true = refl
     go false = refl
 
@@ -61,9 +64,16 @@ pub defined-insert : (es : List Entry) (k : Vec ℕ Global) (tree : held.Tree)
     → (is_blank (tree_of tree).nodes && is_some (tree_named k.items (map template_of es))) ≡ false
     → map template_of (insert_entry (λ (x y : Vec ℕ Global). bytes_eq x.items y.items) es k tree) ≡ defined (map template_of es) k.items (tree_of tree)
 defined-insert [] k tree e = refl
-defined-insert (d ∷ es) k tree e = go (bytes_eq k.items d.0.items) (is_blank (tree_of tree).nodes) refl (defined-insert es k tree) (sym (ap (λ o. is_blank (tree_of tree).nodes && is_some o) (named-find k.items (template_of d) (map template_of es))) ∙ e)
+defined-insert (d ∷ es) k tree e = go (bytes_eq k.items d.0.items) (is_blank (tree_of tree).nodes) refl (defined-insert es k tree)
+    (sym (ap (λ o. is_blank (tree_of tree).nodes && is_some o) (named-find k.items (template_of d) (map template_of es))) ∙ e)
   where
-    go : (same blank : Bool) → is_blank (tree_of tree).nodes ≡ blank → ((is_blank (tree_of tree).nodes && is_some (tree_named k.items (map template_of es))) ≡ false → map template_of (insert_entry (λ (x y : Vec ℕ Global). bytes_eq x.items y.items) es k tree) ≡ defined (map template_of es) k.items (tree_of tree)) → (is_blank (tree_of tree).nodes && is_some (named same (template_of d) (tree_named k.items (map template_of es)))) ≡ false → map template_of (cond same ((d.0, tree) ∷ es) (d ∷ insert_entry (λ (x y : Vec ℕ Global). bytes_eq x.items y.items) es k tree)) ≡ cond same ((d.0.items, chosen (tree_of d.1) (tree_of tree)) ∷ map template_of es) (template_of d ∷ defined (map template_of es) k.items (tree_of tree))
+    go : (same blank : Bool) → is_blank (tree_of tree).nodes ≡ blank → ((is_blank (tree_of tree).nodes && is_some (tree_named k.items (map template_of es)))
+        ≡ false → map template_of (insert_entry (λ (x y : Vec ℕ Global). bytes_eq x.items y.items) es k tree)
+        ≡ defined (map template_of es) k.items (tree_of tree)) → (is_blank (tree_of tree).nodes && is_some
+        (named same (template_of d) (tree_named k.items (map template_of es)))) ≡ false
+        → map template_of (cond same ((d.0, tree) ∷ es) (d ∷ insert_entry (λ (x y : Vec ℕ Global). bytes_eq x.items y.items) es k tree))
+        ≡ cond same ((d.0.items, chosen (tree_of d.1) (tree_of tree)) ∷ map template_of es)
+        (template_of d ∷ defined (map template_of es) k.items (tree_of tree))
     go true true is ih h = let g : true ≡ false = ap (λ b. b && true) (sym is) ∙ h in cc
     go true false is ih h = ap (λ b. (d.0.items, cond b (tree_of d.1) (tree_of tree)) ∷ map template_of es) (sym is)
     go false blank is ih h = ap (λ ts. template_of d ∷ ts) (ih h)

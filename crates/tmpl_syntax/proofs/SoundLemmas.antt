@@ -124,8 +124,10 @@ module _ (xs : List Role) (i : ℕ) (known : Known) (fs : List Frame) (s : Sound
       → TellsRole x (top fs) (seen_at x (top fs) known.inner) (Some fault) → IsRefused xs i fault
   refused-here text_role fault at e = let g : Some fault ≡ None = e in cc
   refused-here (act_role a) fault at e = refused-action a at fault e
-  refused-here unreadable_role fault at e = let g : fault ≡ reason.unreadable = cc in subst (IsRefused xs i) (sym g) (record { applies = unreadable at; first_reason = none-before; first_item = s.none_refused })
-  refused-here unread_role fault at e = let g : fault ≡ reason.not_an_action = cc in subst (IsRefused xs i) (sym g) (record { applies = unread at; first_reason = first; first_item = s.none_refused })
+  refused-here unreadable_role fault at e = let g : fault ≡ reason.unreadable = cc in
+      subst (IsRefused xs i) (sym g) (record { applies = unreadable at; first_reason = none-before; first_item = s.none_refused })
+  refused-here unread_role fault at e = let g : fault ≡ reason.not_an_action = cc in
+      subst (IsRefused xs i) (sym g) (record { applies = unread at; first_reason = first; first_item = s.none_refused })
     where
       first : (f : Reason) → rank f < rank reason.not_an_action → Applies xs i f → ⊥
       first _ lt (unreadable h) = no-unreadable xs i unread_role at (λ g. cc) (unreadable h)
@@ -141,7 +143,9 @@ module _ (xs : List Role) (i : ℕ) (known : Known) (fs : List Frame) (s : Sound
   more x at e k f lt a =
       ⊎_elim (λ low. s.none_refused k f low a) (λ ge. let g : k ≡ i = omega arith in fine-here x at e f (subst (λ n. Applies xs n f) g a)) (cases_lt k i)
 
-after : (xs : List Role) (i : ℕ) (known : Known) (fs : List Frame) (a : Act) → slice_get xs i ≡ Some (act_role a) → is_placed a (top fs) ≡ true → Stands xs i known fs → Stands xs (i + 1) (known_after a (top fs) (with_inner known (names_at a (top fs) known.inner))) (frames_after a fs (length (names_at a (top fs) known.inner)))
+after : (xs : List Role) (i : ℕ) (known : Known) (fs : List Frame) (a : Act) → slice_get xs i ≡ Some (act_role a) → is_placed a (top fs) ≡ true
+    → Stands xs i known fs → Stands xs (i + 1) (known_after a (top fs) (with_inner known (names_at a (top fs) known.inner)))
+    (frames_after a fs (length (names_at a (top fs) known.inner)))
 after xs i known fs (plain p) at e s = stands-declared xs i known p fs at s
 after xs i known fs (opener c p) at e s = stands-opened xs i known p fs s c at
 after xs i known (f ∷ fs) bare_else at e s = stands-elsed xs i known f fs at e s
@@ -149,7 +153,8 @@ after xs i known (f ∷ fs) (branch_else b p) at e s =
     let names = take f.part known.inner in
     let k = and_parts (takes_else (Some f)) (joins b f.opening) e in
     let l = length-take-le f.part known.inner s.2.within.parted in
-    subst (λ n. Stands xs (i + 1) (with_inner known (names ++ p.declares)) (branched f (n + length p.declares) ∷ fs)) (sym l) (stands-branched xs i known f fs b p at k.0 k.1 s)
+    subst (λ n. Stands xs (i + 1) (with_inner known (names ++ p.declares)) (branched f (n + length p.declares) ∷ fs)) (sym l)
+        (stands-branched xs i known f fs b p at k.0 k.1 s)
 after xs i known (f ∷ fs) closer at e s = stands-ended xs i known f fs at s
 after xs i known fs jump at e s = stands-still xs i known (act_role jump) fs at refl refl (λ g. cc) (λ q g. cc) (λ c q g. cc) (λ b q g. cc) s
 after xs i known [] _ at e s = let g : false ≡ true = e in cc
@@ -158,7 +163,8 @@ after xs i known [] _ at e s = let g : false ≡ true = e in cc
 pub sound-past : (xs : List Role) (i : ℕ) (known : Known) (fs : List Frame) (x : Role) → slice_get xs i ≡ Some x
     → TellsRole x (top fs) (seen_at x (top fs) known.inner) None → Sound xs i known fs
     → Sound xs (i + 1) (known_past x (top fs) (with_inner known (seen_at x (top fs) known.inner))) (frames_past x fs (length (seen_at x (top fs) known.inner)))
-sound-past xs i known fs text_role at e s = record { stands = stands-still xs i known text_role fs at refl refl (λ g. cc) (λ q g. cc) (λ c q g. cc) (λ b q g. cc) s.stands; none_refused = more xs i known fs s text_role at e }
+sound-past xs i known fs text_role at e s = record { stands = stands-still xs i known text_role fs at refl refl (λ g. cc) (λ q g. cc) (λ c q g. cc)
+    (λ b q g. cc) s.stands; none_refused = more xs i known fs s text_role at e }
 sound-past xs i known fs unreadable_role at e s = let g : None ≡ Some reason.unreadable = e in cc
 sound-past xs i known fs unread_role at e s = let g : None ≡ Some reason.not_an_action = e in cc
 sound-past xs i known fs (act_role a) at e s = record { stands = after xs i known fs a at e.0 s.stands; none_refused = more xs i known fs s (act_role a) at e }

@@ -111,7 +111,8 @@ module _ (names : List Name) (xs : List Item) (p : build.Parts) where
       let g : ⊥ = cc in
       absurd g
   step (item line (action_item (pipeline_action h))) fs e r = at-node fs _ line (action h) (λ ns ys es d. an_action d) r
-  step (item line (action_item (opening c h))) fs e r = rest-node fs _ r.3 p.definitions r.4 line (control_node c h p.inner.nodes p.inner.other) (first_of p.around) (rest_of p.around) (λ ns ys es d. a_control r.2 r.5 d) r.6
+  step (item line (action_item (opening c h))) fs e r = rest-node fs _ r.3 p.definitions r.4 line (control_node c h p.inner.nodes p.inner.other)
+      (first_of p.around) (rest_of p.around) (λ ns ys es d. a_control r.2 r.5 d) r.6
   step (item line (action_item plain_else)) [] e r = let g : false ≡ true = (placed (item line (action_item plain_else)) None e).0 in cc
   step (item line (action_item plain_else)) (f ∷ fs) e r =
       let takes : takes_else (Some f) ≡ true = (placed (item line (action_item plain_else)) (Some f) e).0 in
@@ -121,7 +122,8 @@ module _ (names : List Name) (xs : List Item) (p : build.Parts) where
         nothing,
         r.3,
         r.4,
-        closing-of f _ _ _ _ _ takes (an_else {last = end.0} (subst (λ es. Leads xs p.definitions p.inner.nodes (item end.0 (action_item end_action) ∷ r.3) es) end.3 (subst (λ ys. Leads xs p.definitions p.inner.nodes ys r.1) end.1 r.2))),
+        closing-of f _ _ _ _ _ takes (an_else {last = end.0} (subst (λ es. Leads xs p.definitions p.inner.nodes (item end.0 (action_item end_action) ∷ r.3) es)
+            end.3 (subst (λ ys. Leads xs p.definitions p.inner.nodes ys r.1) end.1 r.2))),
         r.6,
       )
   step (item line (action_item (else_branch branch h))) [] e r =

@@ -58,7 +58,8 @@ here-of xs i known [] s = s.1
 here-of xs i known (f ∷ fs) s = s.0
 
 -- to a place where the same stands, with what was declared on the way
-module _ (xs : List Role) (j m : ℕ) (s : Same xs j m) (known : Known) (ds : List Name) (new : (n : Name) → Contains ds n → Brought xs m m n) (old : (n : Name) → (b : Brought xs m m n) → j ≤ b.by → Contains ds n) where
+module _ (xs : List Role) (j m : ℕ) (s : Same xs j m) (known : Known) (ds : List Name) (new : (n : Name) → Contains ds n → Brought xs m m n)
+    (old : (n : Name) → (b : Brought xs m m n) → j ≤ b.by → Contains ds n) where
   abbrev names : List Name
   names = known.inner
 
@@ -104,22 +105,26 @@ loops-template (opened.control c) has around own = let g : false ≡ true = own 
 loops-template _ has around own = refl
 
 -- an opening
-module _ (xs : List Role) (i : ℕ) (names : List Name) (c : Opening) (p : Names) (at : slice_get xs i ≡ Some (act_role (opener c p))) (o : IsOpening (slice_get xs i) c) (t : Option Frame) (h : Here xs i t names) where
+module _ (xs : List Role) (i : ℕ) (names : List Name) (c : Opening) (p : Names) (at : slice_get xs i ≡ Some (act_role (opener c p)))
+    (o : IsOpening (slice_get xs i) c) (t : Option Frame) (h : Here xs i t names) where
   no-else-here : (q : ℕ) → IsElseOf xs q i → ⊥
   no-else-here q e = let g : act_role (opener c p) ≡ act_role bare_else = same-piece xs i (act_role (opener c p)) (act_role bare_else) at e.at in cc
 
   has-before : (q : ℕ) → HasElse xs q (i + 1) → HasElse xs q i
-  has-before q e = ⊎_elim (λ lt. (e.0, lt, e.2)) (λ ge. let g = e.1 in let s : e.0 ≡ i = omega arith in absurd (no-else-here q (subst (IsElseOf xs q) s e.2))) (cases_lt e.0 i)
+  has-before q e = ⊎_elim (λ lt. (e.0, lt, e.2)) (λ ge. let g = e.1 in let s : e.0 ≡ i = omega arith in absurd (no-else-here q (subst (IsElseOf xs q) s e.2)))
+      (cases_lt e.0 i)
 
   none-of-it : HasElse xs i (i + 1) → ⊥
   none-of-it e = let a = e.1 in let b = e.2.belongs.is_open.before in omega arith
 
   loop-on : is_template c ≡ false → InLoop xs i → InLoop xs (i + 1)
-  loop-on own l = (l.0, loop-moves xs l.0 i (i + 1) (alike-opened xs (act_role (opener c p)) i c at refl o own) (opened-keeps xs (act_role (opener c p)) i l.0 at refl l.1.is_open) (has-before l.0) l.1)
+  loop-on own l = (l.0, loop-moves xs l.0 i (i + 1) (alike-opened xs (act_role (opener c p)) i c at refl o own)
+      (opened-keeps xs (act_role (opener c p)) i l.0 at refl l.1.is_open) (has-before l.0) l.1)
 
   loop-off : is_template c ≡ false → c ≢ opened.control Range → InLoop xs (i + 1) → InLoop xs i
   loop-off own nr l = ⊎_elim
-      (λ lt. (l.0, loop-moves xs l.0 (i + 1) i (alike-back xs i (i + 1) (alike-opened xs (act_role (opener c p)) i c at refl o own)) (cut xs l.0 i (i + 1) lt (omega arith) l.1.is_open) (else_before xs l.0 i (i + 1) (omega arith)) l.1))
+      (λ lt. (l.0, loop-moves xs l.0 (i + 1) i (alike-back xs i (i + 1) (alike-opened xs (act_role (opener c p)) i c at refl o own))
+          (cut xs l.0 i (i + 1) lt (omega arith) l.1.is_open) (else_before xs l.0 i (i + 1) (omega arith)) l.1))
       (λ ge. let b = l.1.is_open.before in let s : l.0 ≡ i = omega arith in
       let w : IsLoop xs i (i + 1) = subst (λ k. IsLoop xs k (i + 1)) s l.1 in
       absurd (nr (same-opening xs i c w.is_open.opened o w.is_open.at ∙ w.range)))
@@ -149,14 +154,17 @@ module _ (xs : List Role) (i : ℕ) (names : List Name) (c : Opening) (p : Names
       record {
         is_open = opened_new xs i c o;
         range = e;
-        template = (h.template, h.is_template_here, template-moves xs i (i + 1) (alike-opened xs (act_role (opener c p)) i c at refl o own) h.template h.is_template_here);
+        template = (h.template, h.is_template_here, template-moves xs i (i + 1) (alike-opened xs (act_role (opener c p)) i c at refl o own) h.template
+            h.is_template_here);
         bare = none-of-it;
       },
     )
 
     pub here-control : (d : Control) → c ≡ opened.control d → Here xs (i + 1) (Some (entered c p t (length names))) (names ++ p.declares)
-    here-control If e = here-plain (in_loop t) (Decides-like (in_loop t) (loop-on own) (loop-off own (λ r. let g : opened.control If ≡ opened.control Range = sym e ∙ r in cc)) h.looped) (ap (λ z. loops z false (in_loop t)) (sym e))
-    here-control With e = here-plain (in_loop t) (Decides-like (in_loop t) (loop-on own) (loop-off own (λ r. let g : opened.control With ≡ opened.control Range = sym e ∙ r in cc)) h.looped) (ap (λ z. loops z false (in_loop t)) (sym e))
+    here-control If e = here-plain (in_loop t) (Decides-like (in_loop t) (loop-on own)
+        (loop-off own (λ r. let g : opened.control If ≡ opened.control Range = sym e ∙ r in cc)) h.looped) (ap (λ z. loops z false (in_loop t)) (sym e))
+    here-control With e = here-plain (in_loop t) (Decides-like (in_loop t) (loop-on own)
+        (loop-off own (λ r. let g : opened.control With ≡ opened.control Range = sym e ∙ r in cc)) h.looped) (ap (λ z. loops z false (in_loop t)) (sym e))
     here-control Range e = here-plain true (λ g. new-loop e, λ l. refl) (ap (λ z. loops z false (in_loop t)) (sym e))
 
   -- in a template nothing is known, and no loop is around it

@@ -24,7 +24,9 @@ node_of-fields n = search (rules, the_lemmas)
 pub kind_of-Control : (c : Box held_node_control.ControlNode Global) → kind_of (Control c) ≡ control_of c.value
 kind_of-Control c = search (rules, the_lemmas)
 
-pub control_of-ControlNode : (c : held_control.Control) (h : held_header.Header) (body other : Vec held_node.Node Global) → control_of (roll-ControlNode (record { control = c; header = h; body = body; other = other })) ≡ control_node c (header_of h) (nodes_in body.items) (nodes_in other.items)
+pub control_of-ControlNode : (c : held_control.Control) (h : held_header.Header) (body other : Vec held_node.Node Global)
+    → control_of (roll-ControlNode (record { control = c; header = h; body = body; other = other }))
+    ≡ control_node c (header_of h) (nodes_in body.items) (nodes_in other.items)
 control_of-ControlNode c h body other = search (rules, the_lemmas)
 
 -- .. and so by its fields

@@ -23,7 +23,8 @@ module _ (old : List Template) (file : Bor (List ℕ)) (bytes : List ℕ) (new :
   before-with (Ok u) is = λ set go. same-before old file.now bytes set go new is
   before-with (Err r) (same, is) = λ set go. only-memory old file.now bytes set go r.line (reason_of r.kind) is
 
-  module _ (result : Result (Unit {0}) ParseFault) (r : Result (Unit {0}) held.Refusal) (e : result ≡ with_file file r) (is : IsAdded old file.now bytes new r) where
+  module _ (result : Result (Unit {0}) ParseFault) (r : Result (Unit {0}) held.Refusal) (e : result ≡ with_file file r) (is : IsAdded old file.now bytes new r)
+      where
     pub reading-added : IsReading old file bytes new result
     reading-added = subst (IsReading old file bytes new) (sym e) (reading-with r is)
 

@@ -56,7 +56,8 @@ module _ (m n : Modes) where
       (pick (p (placed m)) (placed m) (placed n) _ _ mode (found p e c d rest))
 
   rules_like : AllLike m n (built (tool_app m)).top.rules (built (tool_app n)).top.rules
-  rules_like = both _ _ _ _ (same _) (both _ _ _ _ mode (both _ _ _ _ (same _) (both _ _ _ _ (same _) (both _ _ _ _ (same _) (both _ _ _ _ (same _) (both _ _ _ _ (same _) nil))))))
+  rules_like = both _ _ _ _ (same _) (both _ _ _ _ mode (both _ _ _ _ (same _) (both _ _ _ _ (same _)
+      (both _ _ _ _ (same _) (both _ _ _ _ (same _) (both _ _ _ _ (same _) nil))))))
 
   -- ---- one use of an argument
 
@@ -363,7 +364,8 @@ module _ (m n : Modes) where
         let given = is_some (entered (built (tool_app m)) w.stopped) in
         let checks : check_fault (top m) (finished (top m).rules w.held) given ≡ check_fault (top n) (finished (top n).rules w.held) given =
         ap (λ (rows : List Row). check_fault (top m) rows given) (finished_same _ _ rules_like w.held) in
-        λ i. or_else (entered_fault (built (tool_app m)) w.stopped) (or_else (settle_fault_same _ _ rules_like false w.held i) (or_else (defaults i) (checks i)))
+        λ i. or_else (entered_fault (built (tool_app m)) w.stopped) (or_else (settle_fault_same _ _ rules_like false w.held i)
+            (or_else (defaults i) (checks i)))
 
     -- the faults of the command
     pub faults_same : (words : List Text) → fault_of (tool_app m) words ≡ fault_of (tool_app n) words

@@ -12,7 +12,8 @@ use Rattle.tmpl_syntax.specs.Fault.{reason_of}
 use Rattle.tmpl_syntax.specs.declared.fault.ParseFault.{ParseFault}
 use Rattle.tmpl_tool.specs.Outcome.{Answer, memory_line}
 use Rattle.tmpl_tool.specs.Source.{Bytes, Files}
-use Rattle.tmpl_tool.specs.Tool.{Failing, MadeOf, Parse, Stop, data_found, data_wanted, file_reads, flawed, loaded, no_read}
+use Rattle.tmpl_tool.specs.Tool.{Failing, MadeOf, Parse, Stop, data_found, data_wanted, file_reads, flawed, loaded}
+use Rattle.tmpl_tool.specs.Tool.{no_read}
 use Rattle.tmpl_tool.specs.Tool.{not_found, only_line, or_stop, reads_behind, refused, stop_answer, unread}
 use Rattle.tmpl_tool.specs.Words.{Wanted}
 use Rattle.tmpl_tool.specs.declared.files.inputs.Inputs.{Inputs}
@@ -62,8 +63,8 @@ StopsAt Made stage reads (Some (unread name)) =
 StopsAt Made stage reads (Some s) = (stage no_read ≡ Err s) × Made (reads no_read)
 
 -- the answer is what a stage comes to, or it is a stop of the stage, or memory was refused
-abbrev pub ComesOf : {T U : Type 0} → (List Bytes → Type 0) → (Failing → Result U Stop) → (Failing → List Bytes) → (T → U)
-    → Result T held.Stop → Type 0
+abbrev pub ComesOf : {T U : Type 0} → (List Bytes → Type 0) → (Failing → Result U Stop) → (Failing → List Bytes)
+    → (T → U) → Result T held.Stop → Type 0
 ComesOf Made stage reads seen (Ok t) = (stage no_read ≡ Ok (seen t)) × Made (reads no_read)
 ComesOf Made stage reads seen (Err s) = StopsAt Made stage reads (stop_seen s)
 

@@ -33,7 +33,8 @@ RefusesWords = (parse : Parse) (words : List Bytes) (files : Files) (fails : Fai
 
 -- the first FILE that is missing or refused, or whose read fails, is the end, whatever stands behind it
 abbrev pub StopsAtFile : Type 0
-StopsAtFile = (parse : Parse) (words : List Bytes) (files : Files) (fails : Failing) (w : Wanted) → asked_by words ≡ Ok w
+StopsAtFile = (parse : Parse) (words : List Bytes) (files : Files) (fails : Failing) (w : Wanted)
+    → asked_by words ≡ Ok w
     → (before : List Bytes) (name : Bytes) (behind : List Bytes) → w.files ≡ before ++ name ∷ behind
     → (set : List Template) → loaded parse files fails 0 [] before ≡ Ok set
     → (stop : Stop) → with_file parse files (fails (length before)) set name ≡ Err stop

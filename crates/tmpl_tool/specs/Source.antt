@@ -1,5 +1,6 @@
 -- What a source tells, and what a read answers.
-use Rattle.std.specs.Prelude.{◌≡◌, ◌<◌, ◌⊎◌, ◌+◌, ◌++◌, ℕ, List, [], ◌∷◌, length, Option, Some, None, Result, Ok, Err, Vec, option_map}
+use Rattle.std.specs.Prelude.{◌≡◌, ◌<◌, ◌⊎◌, ◌+◌, ◌++◌, ℕ, List, [], ◌∷◌, length, Option, Some, None, Result, Ok, Err}
+use Rattle.std.specs.Prelude.{Vec, option_map}
 use Rattle.tmpl_tool.specs.declared.files.source.SourceFault.{SourceFault}
 use Rattle.tmpl_tool.specs.declared.files.source.SourceFault.TheVariants as fault
 

@@ -37,8 +37,8 @@ pub struct Ended {
 /// What is put out, the line on the error sink and the status are one function of the words and of what the
 /// files hold. Where a write fails the output is a beginning of that text, and the status 6. Where memory is
 /// refused it is a beginning too, and nothing where no text is made, and the status 7. Words that ask for help
-/// or are refused read no file. One read is made for each FILE and then one for the data of a run, in order, up to where
-/// the command stops. All memory that the call takes it gives back.
+/// or are refused read no file. One read is made for each FILE and then one for the data of a run, in order, up to
+/// where the command stops. All memory that the call takes it gives back.
 pub fn tool<S: Source, O: Sink, E: Sink>(
     alloc: Global,
     words: &[String],

@@ -20,7 +20,9 @@ abbrev pub Grows : Told → Told → Type 0
 Grows before now = (more : List ℕ) × (now.bytes ≡ appended before.bytes more)
 
 -- a text was given through a piece, or a put failed and a beginning was; what the sink had taken begins what it took
-pub record Passes (r : Result (Unit {0}) SinkFault) (before : Told) (p : Piece) (after : Told) (q : Piece) (text : List ℕ) : Type 0 where
+pub record Passes (r : Result (Unit {0}) SinkFault) (before : Told) (p : Piece) (after : Told) (q : Piece)
+    (text : List ℕ)
+    : Type 0 where
   pub given : IsPut r (given_of before p) (given_of after q) text
   pub taken : Grows before after
 

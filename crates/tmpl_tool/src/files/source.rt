@@ -36,8 +36,8 @@ pub trait Source {
         ensures read { IsRead (contents self.old) name.now (failures self.old) (failures self.new) result }
         ensures asked { Asks (asked self.old) name.now result (asked self.new) };
 
-    /// The same, but of a file of more than `most` bytes it may be a beginning that is longer than that: who refuses such a
-    /// file need not have all of it, which may have no end.
+    /// The same, but of a file of more than `most` bytes it may be a beginning that is longer than that: who refuses
+    /// such a file need not have all of it, which may have no end.
     fn read_up_to(&mut self, alloc: Global, name: &str, most: u64) -> Result<Vec<u8>, SourceFault>
         requires { failures self.old < 2 ^ 64 - 1 }
         ensures contents { contents self.new ≡ contents self.old }

@@ -39,9 +39,11 @@ loop-i-preserved c =
     let joined = c.with-survey.ensures in
     record {
       within = omega arith;
-      starts = starts_more ts i t l.lengths.items c.push.new.self.items c.len.result old new c.template.ensures.value c.in_ok-push.ensures.items c.len.ensures lies starts;
+      starts = starts_more ts i t l.lengths.items c.push.new.self.items c.len.result old new c.template.ensures.value c.in_ok-push.ensures.items c.len.ensures
+          lies starts;
       needs =
-          ap reverse c.in_ok-push-2.ensures.items ∙ reverse-append l.needs.items (found.own.need ∷ []) ∙ (λ j. needs j ∷ (l.invariant.needs ∙ ap (λ n. map (λ (t : Template). need t.1) (drop n ts)) next) j)
+          ap reverse c.in_ok-push-2.ensures.items ∙ reverse-append l.needs.items (found.own.need ∷ [])
+              ∙ (λ j. needs j ∷ (l.invariant.needs ∙ ap (λ n. map (λ (t : Template). need t.1) (drop n ts)) next) j)
           ∙ ap (map (λ (t : Template). need t.1)) here;
       most = joined.need ∙ (λ j. max (needs j) (most j)) ∙ ap largest_need here;
       bounded = omega (arith, joined.need, needs, bound);
@@ -50,7 +52,8 @@ loop-i-preserved c =
     }
 
 -- the loop ends at the first template, and its counts are made places
-linked-so : (ts : List Template) (i size : ℕ) (lengths turned counts starts : List ℕ) (code is : Code) → i ≡ 0 → LastStarts ts (drop i ts) (reverse lengths) code
+linked-so : (ts : List Template) (i size : ℕ) (lengths turned counts starts : List ℕ) (code is : Code) → i ≡ 0
+    → LastStarts ts (drop i ts) (reverse lengths) code
     → starts ≡ places size counts → size ≡ length code → counts ≡ turned → turned ≡ reverse lengths → is ≡ code → Starts ts ts starts is
 linked-so ts i size lengths turned counts starts code is none last placed sized same reversed put =
     let last = subst (λ n. LastStarts ts (drop n ts) (reverse lengths) code) none last in
@@ -84,8 +87,10 @@ invariant_of-result c =
     let kept = with_items_is c.reverse.new.self c.to_places.new.counts (omega (arith, many, long)) in
     record {
       linked =
-          linked-so ts l.i c.len-2.result l.lengths.items c.reverse.new.self.items c.as_mut_slice.result.now (with_items c.reverse.new.self c.to_places.new.counts).items (code_of l.compiler.code)
-          (instructions_of c.into_instructions.result.items) none l.invariant.starts (kept ∙ c.to_places.ensures) c.len-2.ensures c.as_mut_slice.ensures.value c.reverse.ensures.items c.into_instructions.ensures;
+          linked-so ts l.i c.len-2.result l.lengths.items c.reverse.new.self.items c.as_mut_slice.result.now
+              (with_items c.reverse.new.self c.to_places.new.counts).items (code_of l.compiler.code)
+          (instructions_of c.into_instructions.result.items) none l.invariant.starts (kept ∙ c.to_places.ensures) c.len-2.ensures c.as_mut_slice.ensures.value
+              c.reverse.ensures.items c.into_instructions.ensures;
       need = l.invariant.most ∙ ap (λ n. largest_need (drop n ts)) none;
       enough = c.in_ok-bound.ensures.bound;
       makes = l.invariant.makes ∙ ap (λ n. set_makes_text (drop n ts)) none;
@@ -99,5 +104,7 @@ returns-clause-linked c =
     let many = c.to_places.auto.counts in
     let long = c.as_mut_slice.ensures.len in
     let kept = with_items_is c.reverse.new.self c.to_places.new.counts (omega (arith, many, long)) in
-    linked-so ts l.i c.len-2.result l.lengths.items c.reverse.new.self.items c.as_mut_slice.result.now (with_items c.reverse.new.self c.to_places.new.counts).items (code_of l.compiler.code)
-    (instructions_of c.into_instructions.result.items) none l.invariant.starts (kept ∙ c.to_places.ensures) c.len-2.ensures c.as_mut_slice.ensures.value c.reverse.ensures.items c.into_instructions.ensures
+    linked-so ts l.i c.len-2.result l.lengths.items c.reverse.new.self.items c.as_mut_slice.result.now
+        (with_items c.reverse.new.self c.to_places.new.counts).items (code_of l.compiler.code)
+    (instructions_of c.into_instructions.result.items) none l.invariant.starts (kept ∙ c.to_places.ensures) c.len-2.ensures c.as_mut_slice.ensures.value
+        c.reverse.ensures.items c.into_instructions.ensures

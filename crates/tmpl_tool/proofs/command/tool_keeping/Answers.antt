@@ -79,5 +79,6 @@ returns-clause-told g c parse is =
     inl (
       refl,
       inr (status, ([], tool_reads parse words files no_read, refl, asked-nothing asked)),
-      nothing_out (tool_answer parse words files no_read) (g.O.Sink.so_far c.args.out.now) err c.stopped-in-Err-OutOfMemory.result.status.code status c.out_of_memory.ensures.line,
+      nothing_out (tool_answer parse words files no_read) (g.O.Sink.so_far c.args.out.now) err c.stopped-in-Err-OutOfMemory.result.status.code status
+          c.out_of_memory.ensures.line,
     ))

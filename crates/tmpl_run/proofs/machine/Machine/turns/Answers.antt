@@ -19,7 +19,8 @@ loop-stop-init g c =
     record {
       taken = grows-same (g.S.Sink.so_far c.args.sink.now);
       stands =
-          going.starts g.run.0 g.run.1 c.args.self.now (given_of (g.S.Sink.so_far c.args.sink.now) c.args.piece.now) r.1.1.0 r.1.1.1.0 r.1.1.1.1.0 r.1.1.1.1.1.0 r.1.1.1.1.1.1.0
+          going.starts g.run.0 g.run.1 c.args.self.now (given_of (g.S.Sink.so_far c.args.sink.now) c.args.piece.now) r.1.1.0 r.1.1.1.0 r.1.1.1.1.0 r.1.1.1.1.1.0
+              r.1.1.1.1.1.1.0
           r.1.1.1.1.1.1.1.0;
     }
 
@@ -53,7 +54,8 @@ execute-requires g c =
         c.requires.1.0,
         (
           omega (arith, inside, fits),
-          (omega (arith, deep), (inv.within, (going.has inv items code item.is, (going.lands inv items code item.is (omega (arith, fits)), omega (arith, count, few))))),
+          (omega (arith, deep), (inv.within, (going.has inv items code item.is, (going.lands inv items code item.is (omega (arith, fits)), omega
+              (arith, count, few))))),
         ),
       ),
     )
@@ -65,7 +67,8 @@ loop-stop-smaller g c =
     let i = instruction_of c.index-as_slice-self.result in
     let code = ap (λ (p : Plan). p.code) c.requires.1.0 ∙ ap instructions_of (sym c.as_slice.ensures.value) in
     let u = state_of (told_behind i s told) c.execute.new.self in
-    going.less c.loop-stop.invariant.stands c.as_slice.result.now code c.index-as_slice-self.is u (subst (λ f. Executed told i s u (Ok f)) c.in-Ok-On.field-0-is c.in-Ok-On.ensures.step)
+    going.less c.loop-stop.invariant.stands c.as_slice.result.now code c.index-as_slice-self.is u
+        (subst (λ f. Executed told i s u (Ok f)) c.in-Ok-On.field-0-is c.in-Ok-On.ensures.step)
 
 pub loop-stop-preserved : goal.loop-stop-preserved
 loop-stop-preserved g c =
@@ -76,9 +79,11 @@ loop-stop-preserved g c =
     let u = state_of (told_behind i s told) c.execute.new.self in
     let did = c.in-Ok-On.ensures in
     record {
-      taken = grows-on (g.S.Sink.so_far c.args.sink.now) (g.S.Sink.so_far c.loop-stop.sink) (g.S.Sink.so_far c.execute.new.sink) c.loop-stop.invariant.taken did.taken;
+      taken = grows-on (g.S.Sink.so_far c.args.sink.now) (g.S.Sink.so_far c.loop-stop.sink) (g.S.Sink.so_far c.execute.new.sink) c.loop-stop.invariant.taken
+          did.taken;
       stands =
-          going.onward c.loop-stop.invariant.stands c.as_slice.result.now code c.index-as_slice-self.is c.execute.new.self (given_of (g.S.Sink.so_far c.execute.new.sink) c.execute.new.piece)
+          going.onward c.loop-stop.invariant.stands c.as_slice.result.now code c.index-as_slice-self.is c.execute.new.self
+              (given_of (g.S.Sink.so_far c.execute.new.sink) c.execute.new.piece)
           (subst (λ f. Executed told i s u (Ok f)) c.in-Ok-On.field-0-is did.step) did.given did.size did.plain;
     }
 
@@ -89,15 +94,18 @@ returns-in-Ok-Over-clause-came g c =
     let i = instruction_of c.index-as_slice-self.result in
     let code = ap (λ (p : Plan). p.code) c.requires.1.0 ∙ ap instructions_of (sym c.as_slice.ensures.value) in
     let u = state_of (told_behind i s told) c.execute.new.self in
-    going.over c.loop-stop.invariant.stands c.as_slice.result.now code c.index-as_slice-self.is (given_of (g.S.Sink.so_far c.execute.new.sink) c.execute.new.piece) None false
+    going.over c.loop-stop.invariant.stands c.as_slice.result.now code c.index-as_slice-self.is
+        (given_of (g.S.Sink.so_far c.execute.new.sink) c.execute.new.piece) None false
     (subst (λ f. Executed told i s u (Ok f)) c.in-Ok-Over.field-0-is c.in-Ok-Over.ensures.step) c.in-Ok-Over.ensures.given
 
 pub returns-in-Ok-Over-clause-taken : goal.returns-in-Ok-Over-clause-taken
-returns-in-Ok-Over-clause-taken g c = grows-on (g.S.Sink.so_far c.args.sink.now) (g.S.Sink.so_far c.loop-stop.sink) (g.S.Sink.so_far c.execute.new.sink) c.loop-stop.invariant.taken c.in-Ok-Over.ensures.taken
+returns-in-Ok-Over-clause-taken g c = grows-on (g.S.Sink.so_far c.args.sink.now) (g.S.Sink.so_far c.loop-stop.sink) (g.S.Sink.so_far c.execute.new.sink)
+    c.loop-stop.invariant.taken c.in-Ok-Over.ensures.taken
 
 pub error_for-requires : goal.error_for-requires
 error_for-requires g c =
-    slice_get_within _ c.loop-stop.self.template _ (ap (λ (p : Plan). slice_get p.templates c.loop-stop.self.template) (sym c.requires.1.0) ∙ going.runs c.loop-stop.invariant.stands)
+    slice_get_within _ c.loop-stop.self.template _ (ap (λ (p : Plan). slice_get p.templates c.loop-stop.self.template) (sym c.requires.1.0)
+        ∙ going.runs c.loop-stop.invariant.stands)
 
 pub returns-in-Err-clause-came : goal.returns-in-Err-clause-came
 returns-in-Err-clause-came g c =
@@ -108,9 +116,11 @@ returns-in-Err-clause-came g c =
     let code = ap (λ (p : Plan). p.code) c.requires.1.0 ∙ ap instructions_of (sym c.as_slice.ensures.value) in
     let u = state_of (told_behind i s told) c.execute.new.self in
     let did = c.in-Err.ensures in
-    going.stops c.loop-stop.invariant.stands c.as_slice.result.now code c.index-as_slice-self.is (given_of (g.S.Sink.so_far c.execute.new.sink) c.execute.new.piece) u (IsPlain c.execute.new.self)
+    going.stops c.loop-stop.invariant.stands c.as_slice.result.now code c.index-as_slice-self.is
+        (given_of (g.S.Sink.so_far c.execute.new.sink) c.execute.new.piece) u (IsPlain c.execute.new.self)
     (going.text-behind i s told refl) c.in-Err.stop c.error_for.result did.step did.given did.plain
     (subst (λ (p : Plan). IsStopped (slice_get p.templates m.template) u.line c.in-Err.stop c.error_for.result) (sym c.requires.1.0) c.error_for.ensures)
 
 pub returns-in-Err-clause-taken : goal.returns-in-Err-clause-taken
-returns-in-Err-clause-taken g c = grows-on (g.S.Sink.so_far c.args.sink.now) (g.S.Sink.so_far c.loop-stop.sink) (g.S.Sink.so_far c.execute.new.sink) c.loop-stop.invariant.taken c.in-Err.ensures.taken
+returns-in-Err-clause-taken g c = grows-on (g.S.Sink.so_far c.args.sink.now) (g.S.Sink.so_far c.loop-stop.sink) (g.S.Sink.so_far c.execute.new.sink)
+    c.loop-stop.invariant.taken c.in-Err.ensures.taken

@@ -14,6 +14,7 @@ loop-sink-preserved g c =
     let shown = c.waiting.result.now in
     let took = c.in_ok-count.ensures.taken in
     record {
-      given = IsPut-append {a = []} c.loop-sink.invariant.given (given-on here next (waiting s) shown (waiting c.pass.new.self) count 0 took c.waiting.ensures c.pass.ensures);
+      given = IsPut-append {a = []} c.loop-sink.invariant.given (given-on here next (waiting s) shown (waiting c.pass.new.self) count 0 took c.waiting.ensures
+          c.pass.ensures);
       taken = grows-on (g.S.Sink.so_far c.args.sink.now) here next c.loop-sink.invariant.taken (take count shown, ap (λ (t : Told). t.bytes) took);
     }
