@@ -65,8 +65,12 @@ module _ (a : Answer) (all line start line_start : Bytes) (f g code : ℕ) (noth
     full_rendered more says =
         let same : length all ≡ length a.text = ap length is.0 in
         let no : fits room a ≡ false = lt-leb (length a.text) room (omega (arith, same, more)) in
-        inl (fills_text, subst (λ (b : Bool). Fills (if b then a.line else write_line) line_room err) (sym no) says, ap
-            (λ (b : Bool). if b then a.status else 6) (sym no))
+        inl (
+          fills_text,
+          subst (λ (b : Bool). Fills (if b then a.line else write_line) line_room err) (sym no) says,
+          ap
+              (λ (b : Bool). if b then a.status else 6) (sym no),
+        )
 
     -- it fits
     pub exact_rendered : length all ≤ room → Fills line line_room err → Rendered a room out line_room err code

@@ -76,13 +76,13 @@ stops_at_data parse rules files name input set loads stop is =
 pub stops_at_template : StopsAtTemplate
 stops_at_template parse rules files name input set loads value found none =
     ap (behind_files parse rules false name input) loads ∙ ap (λ (r : Result (Option Value) Stop). answer_of (or_stop r (λ v. named_run rules name set v)))
-        found
+    found
     ∙ ap (λ o. answer_of (or_stop (ok_or o (tool.unnamed name)) (λ tree. Ok (ran rules set name tree value)))) none
 
 pub runs : Runs
 runs parse rules files name input set loads value found tree is =
     ap (behind_files parse rules false name input) loads ∙ ap (λ (r : Result (Option Value) Stop). answer_of (or_stop r (λ v. named_run rules name set v)))
-        found
+    found
     ∙ ap (λ o. answer_of (or_stop (ok_or o (tool.unnamed name)) (λ tree. Ok (ran rules set name tree value)))) is
 
 -- ---- as the command

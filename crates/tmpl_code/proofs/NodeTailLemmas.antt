@@ -91,12 +91,12 @@ parts n to P first second rest a p l = ends_both first second rest a (ends_both 
 if_ends : (b : Binding) (n m : ℕ) (Body Other : Part) → PartEnds Body → PartEnds Other → PartEnds (IfAt b n m Body Other)
 if_ends b n m Body Other f g code rest i =
     ends_on _ code i.0 rest i.4 (parts (declared_count b + m) 0 Other i.0 i.1 rest
-        (parts (declared_count b + n) i.3 Body i.0 i.0 i.1 (ends_same i.0 i.0 refl) f i.5) g i.6)
+    (parts (declared_count b + n) i.3 Body i.0 i.0 i.1 (ends_same i.0 i.0 refl) f i.5) g i.6)
 
 with_ends : (b : Binding) (n m : ℕ) (Body Other : Part) → PartEnds Body → PartEnds Other → PartEnds (WithAt b n m Body Other)
 with_ends b n m Body Other f g code rest i =
     ends_on _ code i.0 rest i.4 (parts (declared_count b + m) 0 Other i.0 i.1 rest (ends_under _ i.0 i.1 (f i.0 (end_with n (declared_count b) i.3 ∷ i.1) i.5))
-        g i.6)
+    g i.6)
 
 range_ends : (line : ℕ) (b : Binding) (n m : ℕ) (Turn Body Other : Part) → PartEnds Turn → PartEnds Body → PartEnds Other
     → PartEnds (RangeAt line b n m Turn Body Other)
@@ -194,7 +194,7 @@ put_on : {P : NodesPart} {e : Option held_around.Around} (old : Compiler) {mid n
 put_on {P} {e} old {mid} {new} h t same p =
     subst (λ (l : Layout). P l (exit_seen e (code_of old.code)) (code_of new.code) (code_of mid.code)) same
     (subst (λ (x : Exit). P (layout_of mid.scope) x (code_of new.code) (code_of mid.code))
-        (exit_on e (code_of old.code) (code_of mid.code) (layout_of old.scope) h t) p.code)
+    (exit_on e (code_of old.code) (code_of mid.code) (layout_of old.scope) h t) p.code)
 
 pub nodes_part : (ts : List Template) (ns : Nodes) → AllEnd (NodesAt ts ns)
 nodes_part ts ns lay exit code rest l = nodes_ends ts ns lay exit code rest l
@@ -221,8 +221,12 @@ module _ (ts : List Template) {e : Option held_around.Around} {old : Compiler} (
       → n ≡ declared_count b + declared_in ns
       → EndAt n skip (code_of mid.code) (code_of old.code) → Put (BoundPart ts b ns) e mid new → Put (EndedPart ts b ns skip) e old new
   put_ended b ns skip n {mid} {new} same count end p = record {
-    code = (code_of mid.code, put_on {P = BoundPart ts b ns} old h (end_ends n skip (code_of mid.code) (code_of old.code) end) same p, subst
-        (λ k. EndAt k skip (code_of mid.code) (code_of old.code)) count end);
+    code = (
+      code_of mid.code,
+      put_on {P = BoundPart ts b ns} old h (end_ends n skip (code_of mid.code) (code_of old.code) end) same p,
+      subst
+          (λ k. EndAt k skip (code_of mid.code) (code_of old.code)) count end,
+    );
     scope = p.scope ∙ same;
   }
 
@@ -308,7 +312,7 @@ module _ (ts : List Template) {e : Option held_around.Around} {old : Compiler} (
         let all = ends_both (code_of mid.code) (code_of second.code) (code_of old.code) one before in
         let behind = ends_both (code_of first.code) (code_of mid.code) (code_of second.code) (tail (turns_part ts head.binding body) q) one in
         let out : last_of a.after (code_of mid.code) ≡ code_of old.code = ap (λ n. last_of n (code_of mid.code)) after
-            ∙ passes (code_of old.code) (code_of mid.code) all in
+        ∙ passes (code_of old.code) (code_of mid.code) all in
         let lay = saved ∙ p.scope ∙ ended in
         let around : exit_seen (Some a) (code_of mid.code) ≡ Some (record { out = code_of old.code; line = line; below = length (layout_of old.scope) }) =
         (λ j. Some (record { out = out j; line = lines j; below = (below ∙ ap (λ (l : Layout). length l) lay) j })) in
@@ -352,14 +356,14 @@ put_all {ts} {e} {ns} {i} {old} {now} none l =
     record {
       code = subst (λ (y : Layout). NodesAt ts (nodes_in ns) y (exit_seen e (code_of old.code)) (code_of now.code) (code_of old.code)) scope
           (subst (λ k. NodesAt ts (nodes_in (drop k ns)) (layout_of now.scope) (exit_seen e (code_of old.code)) (code_of now.code) (code_of old.code)) none
-              l.put);
+          l.put);
       scope = scope;
     }
 
 -- a node more, whose variables went out of scope
 module _ {ts : List Template} {e : Option held_around.Around} {ns : List held_node.Node} {i : ℕ} {old now : Compiler} (start : Compiler)
     (h : IsOpen e (code_of old.code) (layout_of old.scope)) (l : Putting ts e ns i old now) (j : ℕ) (n : held_node.Node) (here : j < length ns)
-        (next : i ≡ j + 1) (is : n ≡ get_or ns j n)
+    (next : i ≡ j + 1) (is : n ≡ get_or ns j n)
     (same : code_of start.code ≡ code_of now.code) (fewer : layout_of start.scope ≡ shrunk (node_of n).what (layout_of now.scope)) where
   layout : layout_of start.scope ≡ all_grown (nodes_in (take j ns)) (layout_of old.scope)
   layout = fewer ∙ shrinks ns i j n (layout_of old.scope) (layout_of now.scope) here next is l.layout
@@ -383,7 +387,7 @@ module _ {ts : List Template} {e : Option held_around.Around} {ns : List held_no
       let x = exit_seen e (code_of old.code) in
       let before = all_grown (nodes_in (take j ns)) (layout_of old.scope) in
       let seen = subst (λ (y : Exit). NodeAt ts line what (layout_of start.scope) y (code_of mid.code) (code_of start.code))
-          (exit_on e (code_of old.code) (code_of start.code) (layout_of old.scope) h behind) p.code in
+      (exit_on e (code_of old.code) (code_of start.code) (layout_of old.scope) h behind) p.code in
       let one = subst (λ (y : Layout). NodeAt ts line what y x (code_of mid.code) (code_of now.code)) layout
       (subst (λ (c : Code). NodeAt ts line what (layout_of start.scope) x (code_of mid.code) c) same seen) in
       let put = nodes_more ts ns i j n x before (layout_of now.scope) (code_of new.code) (code_of mid.code) (code_of now.code) (code_of old.code) here next is

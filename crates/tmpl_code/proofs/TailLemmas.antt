@@ -102,7 +102,7 @@ mutual
   junction_ends is_or (operand o os) piped n lay code rest l =
       ends_both code l.0 rest (operand_ends o n lay code l.0 l.1)
       (decide_ends (is_last os piped) is_or piped (JunctionAt is_or os piped n lay) (λ code rest l. junction_ends is_or os piped n lay code rest l) l.0 rest
-          l.2)
+      l.2)
 
   pub command_ends : (os : Operands) (piped : Bool) (n : ℕ) (lay : Layout) (code rest : Code) → CommandAt os piped n lay code rest → Ends rest code
   command_ends no_operand piped n lay code rest l = ends_one _ code rest l

@@ -54,8 +54,8 @@ chosen bs k j rest more false is e = more e
 spelled-known : (bs : List ℕ) (k : Keyword) → spells_keyword bs ≡ Some k → bs ≡ spelling k
 spelled-known bs k e =
     at (word.Control control.If) _ (at (word.Control control.With) _ (at (word.Control control.Range) _
-        (at word.Else _ (at word.End _ (at word.Break _ (at word.Continue _ (at word.Define _
-        (at word.Template _ (at word.Block None (λ n. no-value k n)))))))))) e
+    (at word.Else _ (at word.End _ (at word.Break _ (at word.Continue _ (at word.Define _
+    (at word.Template _ (at word.Block None (λ n. no-value k n)))))))))) e
   where
     at : (j : Keyword) (rest : Option Keyword) → (rest ≡ Some k → bs ≡ spelling k) → cond (bytes_eq bs (spelling j)) (Some j) rest ≡ Some k → bs ≡ spelling k
     at j rest more e = chosen bs k j rest more (bytes_eq bs (spelling j)) refl e
@@ -113,7 +113,7 @@ pipeline-plain cs ts s = by (next ts) refl
     by-keyword t us e None is = record { token = t; rest = us; first_is = e; other = is }
     by-keyword t us e (Some k) is =
         spelled-lives ts cs s (dead-read ts (then-stray (IsWord (spelling k)) (IsRest us) ts (word-stray k)
-            (led-then (IsWord (spelling k)) (IsRest us) ts t us e (known-word t k is) refl)))
+        (led-then (IsWord (spelling k)) (IsRest us) ts t us e (known-word t k is) refl)))
 
     by : (o : Option (Token × List Token)) → next ts ≡ o → Plain ts
     by None e = spelled-lives ts cs s (blank-read ts (no-next ts e))
@@ -238,7 +238,7 @@ reads-action ts (else_branch br h) s =
     let Spelled : List Token → Type 0 = SpellsHeader (opens_range (shape.ElseBranch br)) h in
     keyed word.Else (Then (IsWord (spelling (word.Control (control_in br)))) Spelled) (else_branch br h)
     (λ us t. else-read (word.Control (control_in br)) us Spelled (else_branch br h)
-        (λ vs spelled. ap (λ o. else_branched o vs) (branch-known br) ∙ bound-read (shape.ElseBranch br) h vs spelled) t) ts s
+    (λ vs spelled. ap (λ o. else_branched o vs) (branch-known br) ∙ bound-read (shape.ElseBranch br) h vs spelled) t) ts s
 reads-action ts end_action s = keyed word.End IsBlank end_action (alone-read end_action) ts s
 reads-action ts break_action s = keyed word.Break IsBlank break_action (alone-read break_action) ts s
 reads-action ts continue_action s = keyed word.Continue IsBlank continue_action (alone-read continue_action) ts s
@@ -291,7 +291,7 @@ module _ (ts : List Token) (a : Action) where
               let key : Keyword = word.Control (control_in br) in
               led-then (IsWord (spelling word.Else)) (Then (IsWord (spelling key)) Spelled) ts t us n w
               (led-then (IsWord (spelling key)) Spelled us s vs m (subst (λ x. IsWord (spelling x) s) (branch-keyword k br found) (known-word s k is)) spelled))
-                  e
+              e
 
       by : (o : Option (Token × List Token)) → next us ≡ o → else_by o ≡ Some a → SpellsAction a ts
       by None m e = subst (λ x. SpellsAction x ts) (same_Some plain_else a e) (led-then (IsWord (spelling word.Else)) IsBlank ts t us n w (no-next us m))
@@ -306,7 +306,7 @@ module _ (ts : List Token) (a : Action) where
   keyword-spelled : (k : Keyword) (t : Token) (us : List Token) → next ts ≡ Some (t, us) → IsWord (spelling k) t → action_by k us ≡ Some a → SpellsAction a ts
   keyword-spelled (word.Control c) t us n w e =
       bound-spelled (shape.Open c) us (λ h spelled. led-then (IsWord (spelling (word.Control c))) (SpellsHeader (opens_range (shape.Open c)) h) ts t us n w
-          spelled) e
+      spelled) e
   keyword-spelled word.Else t us n w e = else-spelled t us n w e
   keyword-spelled word.End t us n w e = alone-spelled word.End end_action t us n w (λ s. s) e
   keyword-spelled word.Break t us n w e = alone-spelled word.Break break_action t us n w (λ s. s) e
@@ -323,7 +323,7 @@ module _ (ts : List Token) (a : Action) where
       let q = quoted-from block_by us a e in
       let p = mapped (block_action q.name) (pipeline_in q.rest) a q.is in
       subst (λ x. SpellsAction x ts) p.to (named-spelled word.Block q.name (SpellsWhole p.source) t us n w q.token q.rest q.first_is q.quoted
-          (pipeline-spelled p.source q.rest p.is))
+      (pipeline-spelled p.source q.rest p.is))
 
   first-spelled : (o : Option (Token × List Token)) → next ts ≡ o → action_at o ts ≡ Some a → SpellsAction a ts
   first-spelled None n e = no-value a e

@@ -59,7 +59,7 @@ closed-depth h =
     subst (λ n. IsClosed n (closed h))
     (let s = settled-depth h.last h.inner.operands in
     let e : max (deep_commands h.inner.commands) (deep_operands (settled h.last h.inner.operands)) ≡ max (deep_partial h.inner) (deep_last h.last) =
-        omega (arith, s) in
+    omega (arith, s) in
     e)
     (whole-depth h.inner.commands (settled h.last h.inner.operands))
 

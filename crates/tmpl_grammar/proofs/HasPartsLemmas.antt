@@ -35,7 +35,7 @@ char-at quote c rest low s slash other = split (encode_utf8 c ++ rest) refl
     split [] e = absurd (omega (arith, ap length e, length-append (encode_utf8 c) rest, length-encode c, len_utf8_bounds c))
     split (b ∷ bs) e =
         ap (λ t. if t then escape quote bs else (if nat_eq b quote then None else Some (rune_part (first_rune (b ∷ bs)))))
-            (other-first (nat_eq b 92) 92 b c bs rest e (omega arith) slash refl)
+        (other-first (nat_eq b 92) 92 b c bs rest e (omega arith) slash refl)
         ∙ ap (λ t. if t then None else Some (rune_part (first_rune (b ∷ bs)))) (other-first (nat_eq b quote) quote b c bs rest e low other refl)
         ∙ ap (λ r. Some (rune_part r)) (ap first_rune e ∙ first_rune-encode c rest s)
 
@@ -50,7 +50,7 @@ byte-at : (quote b : ℕ) (rest : List ℕ) → quote < 128 → IsScalar quote �
 unfolding part_at
 byte-at quote b rest low s none =
     ap (λ t. if t then escape quote rest else (if nat_eq b quote then None else Some (rune_part (first_rune (b ∷ rest)))))
-        (not-ascii (nat_eq b 92) b 92 rest none (omega arith) refl refl)
+    (not-ascii (nat_eq b 92) b 92 rest none (omega arith) refl refl)
     ∙ ap (λ t. if t then None else Some (rune_part (first_rune (b ∷ rest)))) (not-ascii (nat_eq b quote) b quote rest none low s refl)
     ∙ ap (λ r. Some (rune_part r)) (byte-first b rest none (first_rune (b ∷ rest)) (front (b ∷ rest)))
 
@@ -139,7 +139,7 @@ has-first quote [] low = tt
 has-first quote (b ∷ bs) low =
     if-first quote (b ∷ bs) (nat_eq b 92) _ _
     (λ h. subst (λ x. HasFirst quote (x ∷ bs) (escape quote bs)) (let is : 92 ≡ b = grind (arith, nat_tests) in is)
-        (escape-first quote (92 ∷ bs) _ (has-escape quote bs)))
+    (escape-first quote (92 ∷ bs) _ (has-escape quote bs)))
     (λ slash. if-first quote (b ∷ bs) (nat_eq b quote) _ _ (λ h. tt)
     (λ other. rune-first quote b bs (first_rune (b ∷ bs)) low slash other refl (front (b ∷ bs))))
 

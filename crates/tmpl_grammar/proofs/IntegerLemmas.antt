@@ -28,7 +28,7 @@ pub left-digit : (base n b : ℕ) (bs : List ℕ) → is_plain b ≡ true → is
 left-digit base n b bs p d =
     plain base n b bs p
     ∙ ap (λ t. within (number_if (t && list_all (λ d. is_digit d base) (filter is_plain bs))
-        (digits_value_after base (n * base + digit_value b) (filter is_plain bs)))) d
+    (digits_value_after base (n * base + digit_value b) (filter is_plain bs)))) d
 
 -- more digits only make the number larger
 grown : (base n : ℕ) (ds : List ℕ) → 1 ≤ base → n ≤ digits_value_after base n ds

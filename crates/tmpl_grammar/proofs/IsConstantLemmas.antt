@@ -58,7 +58,7 @@ quotes-round quote bs h =
     let long = and_parts (nat_le 2 (length bs)) (nat_eq (get_or bs 0 0) quote && nat_eq (get_or bs (length bs - 1) 0) quote) h in
     let ends = and_parts (nat_eq (get_or bs 0 0) quote) (nat_eq (get_or bs (length bs - 1) 0) quote) long.1 in
     go bs (length bs - 2) (let two : 2 ≤ length bs = grind (arith, nat_tests) in omega arith) (same (get_or bs 0 0) quote ends.0)
-        (same (get_or bs (length bs - 1) 0) quote ends.1)
+    (same (get_or bs (length bs - 1) 0) quote ends.1)
   where
     go : (bs : List ℕ) (m : ℕ) → length bs ≡ suc (suc m) → get_or bs 0 0 ≡ quote → get_or bs (length bs - 1) 0 ≡ quote
         → quote ∷ (take m (drop 1 bs) ++ quote ∷ []) ≡ bs

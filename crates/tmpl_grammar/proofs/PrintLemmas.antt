@@ -37,7 +37,7 @@ pub group_printed : (cs : Vec Command Global) (names : Vec (List ℕ) Global)
 group_printed cs names =
     ap (λ o. bytes_of (operand_tokens o)) (group_seen cs names) ∙
     ap (λ bs. 40 ∷ bs) (flat_map-append (λ t. t.bytes) (commands_tokens (commands_in cs.items))
-        (token kind.RightParenthesis (41 ∷ []) ∷ chain_tokens names.items))
+    (token kind.RightParenthesis (41 ∷ []) ∷ chain_tokens names.items))
 
 -- four texts added one after the other
 pub four_added : (old a b c d : List ℕ) {one two three four : List ℕ} → one ≡ old ++ a → two ≡ one ++ b → three ≡ two ++ c

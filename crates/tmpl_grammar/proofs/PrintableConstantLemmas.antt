@@ -166,7 +166,7 @@ bytes-append (x ∷ xs) ys h k = (h.0, bytes-append xs ys h.1 k)
 
 encode-by : (a b d : Bool) (c : ℕ) → c < 1114112 → nat_lt c 128 ≡ a → nat_lt c 2048 ≡ b → nat_lt c 65536 ≡ d
     → AreBytes (cond a (c ∷ []) (cond b ((192 + c / 64) ∷ next c ∷ []) (cond d ((224 + c / 4096) ∷ next (c / 64) ∷ next c ∷ [])
-        ((240 + c / 262144) ∷ next (c / 4096) ∷ next (c / 64) ∷ next c ∷ []))))
+    ((240 + c / 262144) ∷ next (c / 4096) ∷ next (c / 64) ∷ next c ∷ []))))
 encode-by true b d c h p q r = (grind (arith, nat_tests), tt)
 encode-by false true d c h p q r = (grind (arith, nat_tests), (omega arith, tt))
 encode-by false false true c h p q r = (grind (arith, nat_tests), (omega arith, (omega arith, tt)))

@@ -101,7 +101,7 @@ integer-plain (d ∷ ds) h =
     let minus_not : nat_eq d 45 ≡ false = grind (arith, nat_tests) in
     let plus_not : nat_eq d 43 ≡ false = grind (arith, nat_tests) in
     ap (λ k. if k then option_and_then (signed true) (magnitude ds) else (if nat_eq d 43 then option_and_then (signed false) (magnitude ds) else option_and_then
-        (signed false) (magnitude (d ∷ ds)))) minus_not
+    (signed false) (magnitude (d ∷ ds)))) minus_not
     ∙ ap (λ k. if k then option_and_then (signed false) (magnitude ds) else option_and_then (signed false) (magnitude (d ∷ ds))) plus_not
 
 pub integer-decimal : (n : ℤ) → mag n < 2 ^ 63 → integer (signed_decimal n) ≡ Some n

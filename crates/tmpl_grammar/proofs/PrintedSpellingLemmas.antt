@@ -73,15 +73,31 @@ mutual
   spells-operand (tree.text_constant bytes) h = (token kind.String (quote bytes), [], refl, operand.a_constant (quoted-constant bytes h), refl)
   spells-operand tree.nil h = (word _, [], refl, operand.nil_word, refl)
   spells-operand (tree.function f) h = (word (name_of f), [], refl, operand.a_function f, refl)
-  spells-operand (tree.group commands names) h = (token kind.LeftParenthesis (40 ∷ []), commands_tokens commands, token kind.RightParenthesis (41 ∷ []),
-      chain_tokens names, refl, refl, refl, spells-commands commands h.0, spells-chain names h.1)
+  spells-operand (tree.group commands names) h = (
+    token kind.LeftParenthesis (40 ∷ []),
+    commands_tokens commands,
+    token kind.RightParenthesis (41 ∷ []),
+    chain_tokens names,
+    refl,
+    refl,
+    refl,
+    spells-commands commands h.0,
+    spells-chain names h.1,
+  )
 
   -- with white space behind it
   spells-more : (os : Operands) (ws : List Token) → OfMore os → IsBlank ws → SpellsMore os (more_tokens os ++ ws)
   spells-more tree.no_operand ws h w = w
-  spells-more (tree.operand o os) ws h w =
-      (space, [], operand_tokens o, more_tokens os ++ ws, ap (λ ts. space ∷ ts) (append_assoc (operand_tokens o) (more_tokens os) ws), (refl, tt),
-          spells-operand o h.0, spells-more os ws h.1 w)
+  spells-more (tree.operand o os) ws h w = (
+    space,
+    [],
+    operand_tokens o,
+    more_tokens os ++ ws,
+    ap (λ ts. space ∷ ts) (append_assoc (operand_tokens o) (more_tokens os) ws),
+    (refl, tt),
+    spells-operand o h.0,
+    spells-more os ws h.1 w,
+  )
 
   spells-command : (os : Operands) (ws : List Token) → OfCommand os → IsBlank ws → SpellsCommand os (command_tokens os ++ ws)
   spells-command tree.no_operand ws h w = h
@@ -115,9 +131,14 @@ mutual
   spells-commands : (cs : Commands) → OfCommands cs → SpellsPipeline cs (commands_tokens cs)
   spells-commands tree.no_command h = h
   spells-commands (tree.command os cs) h =
-      let f = follows cs h.1 in
-      (command_tokens os ++ f.white, f.others, ap (λ us. command_tokens os ++ us) f.tokens_are
-          ∙ sym (append_assoc (command_tokens os) f.white f.others), spells-command os f.white h.0 f.blank, f.spells)
+      let f = follows cs h.1 in (
+        command_tokens os ++ f.white,
+        f.others,
+        ap (λ us. command_tokens os ++ us) f.tokens_are
+            ∙ sym (append_assoc (command_tokens os) f.white f.others),
+        spells-command os f.white h.0 f.blank,
+        f.spells,
+      )
 
 pub spells-pipeline : (cs : Commands) → OfPipeline (pipeline cs) → SpellsPipeline cs (commands_tokens cs)
 spells-pipeline cs h = spells-commands cs h.0
@@ -140,7 +161,7 @@ spaced-whole (pipeline cs) h = spaced-pipeline cs h
 -- a variable, and a sign and a pipeline behind it
 signed : (name : List ℕ) (p : Pipeline) (sign : Token) → IsName name → OfPipeline p
     → (ws : List Token) → IsBlank ws → Then (IsVariable name) (Then (IsSign sign.kind) (SpellsWhole p))
-        (ws ++ token kind.Variable (36 ∷ name) ∷ space ∷ sign ∷ space ∷ pipeline_tokens p)
+    (ws ++ token kind.Variable (36 ∷ name) ∷ space ∷ sign ∷ space ∷ pipeline_tokens p)
 signed name p sign h k ws w = (
   ws,
   token kind.Variable (36 ∷ name),
@@ -154,7 +175,7 @@ signed name p sign h k ws w = (
 -- two variables, and a pipeline behind them
 paired : (key name : List ℕ) (p : Pipeline) → IsName key → IsName name → OfPipeline p
     → (ws : List Token) → IsBlank ws → SpellsBinding (declare_pair key name) (SpellsWhole p)
-        (ws ++ (binding_tokens (declare_pair key name) ++ pipeline_tokens p))
+    (ws ++ (binding_tokens (declare_pair key name) ++ pipeline_tokens p))
 paired key name p h i k ws w = (
   ws,
   token kind.Variable (36 ∷ key),
@@ -168,7 +189,7 @@ paired key name p h i k ws w = (
 -- a header behind a space, and at the front
 spells-bound : (b : Binding) (p : Pipeline) → OfBinding b → OfPipeline p
     → SpellsBinding b (SpellsWhole p) (space ∷ (binding_tokens b ++ pipeline_tokens p))
-        × SpellsBinding b (SpellsWhole p) (binding_tokens b ++ pipeline_tokens p)
+    × SpellsBinding b (SpellsWhole p) (binding_tokens b ++ pipeline_tokens p)
 spells-bound unbound p h k = (spaced-whole p k, spells-whole p k)
 spells-bound (declare name) p h k =
     (signed name p (token kind.Declare (58 ∷ 61 ∷ [])) h.0 k (space ∷ []) (refl, tt), signed name p (token kind.Declare (58 ∷ 61 ∷ [])) h.0 k [] tt)
@@ -190,8 +211,30 @@ spells-tokens (else_branch br h) of =
     ([], word _, _, refl, tt, (refl, refl), (space ∷ [], word _, _, refl, (refl, tt), (refl, refl), spells-header (shape.ElseBranch br) h of))
 spells-tokens (define_action name) of =
     ([], word _, _, refl, tt, (refl, refl), (space ∷ [], token kind.String (quote name), [], refl, (refl, tt), quoted-constant name of, tt))
-spells-tokens (template_action name given) of = ([], word _, _, refl, tt, (refl, refl),
-    (space ∷ [], token kind.String (quote name), given_tokens given, refl, (refl, tt), quoted-constant name of.0, spells-given given of.1))
-spells-tokens (block_action name p) of = ([], word _, _, refl, tt, (refl, refl), (space ∷ [], token kind.String (quote name), given_tokens (Some p), refl,
-    (refl, tt), quoted-constant name of.0, spaced-whole p of.1))
+spells-tokens (template_action name given) of = (
+  [],
+  word _,
+  _,
+  refl,
+  tt,
+  (refl, refl),
+  (space ∷ [], token kind.String (quote name), given_tokens given, refl, (refl, tt), quoted-constant name of.0, spells-given given of.1),
+)
+spells-tokens (block_action name p) of = (
+  [],
+  word _,
+  _,
+  refl,
+  tt,
+  (refl, refl),
+  (
+    space ∷ [],
+    token kind.String (quote name),
+    given_tokens (Some p),
+    refl,
+    (refl, tt),
+    quoted-constant name of.0,
+    spaced-whole p of.1,
+  ),
+)
 spells-tokens _ of = ([], word _, [], refl, tt, (refl, refl), tt)

@@ -129,7 +129,7 @@ mutual
   more-spells tree.no_operand rest h stop = tt
   more-spells (tree.operand o os) rest h stop =
       let r = reads-append (operand_tokens o) (more_tokens os) rest (operand-reads o (bytes_of (more_tokens os) ++ rest) h.0 (more-stops os rest stop))
-          (more-spells os rest h.1 stop) in
+      (more-spells os rest h.1 stop) in
       (space-front _ r.firm, r.spells)
 
   command-reads : (os : Operands) (rest : List ℕ) → OfCommand os → EndsToken rest → Reads (command_tokens os) rest
@@ -141,7 +141,7 @@ mutual
   later-spells tree.no_command rest h stop = tt
   later-spells (tree.command os cs) rest h stop =
       let r = reads-append (command_tokens os) (later_tokens cs) rest (command-reads os (bytes_of (later_tokens cs) ++ rest) h.1 (later-stops cs rest stop))
-          (later-spells cs rest h.2 stop) in
+      (later-spells cs rest h.2 stop) in
       (space-front _ (solid refl refl), (row.pipe, (space-front _ r.firm, r.spells)))
 
   commands-reads : (cs : Commands) (rest : List ℕ) → OfCommands cs → EndsToken rest → Reads (commands_tokens cs) rest
@@ -165,16 +165,23 @@ header-reads unbound p rest h k stop = pipeline-reads p rest k stop
 header-reads (declare name) p rest h k stop =
     let r = pipeline-reads p rest k stop in
     behind 36 name _ _ rest refl (solid refl refl) (variable-front name _ h.1 refl)
-        (space-front _ (solid refl refl), (row.declare, (space-front _ r.firm, r.spells)))
+    (space-front _ (solid refl refl), (row.declare, (space-front _ r.firm, r.spells)))
 header-reads (assign name) p rest h k stop =
     let r = pipeline-reads p rest k stop in
     behind 36 name _ _ rest refl (solid refl refl) (variable-front name _ h.1 refl)
-        (space-front _ (solid refl refl), (row.assign, (space-front _ r.firm, r.spells)))
+    (space-front _ (solid refl refl), (row.assign, (space-front _ r.firm, r.spells)))
 header-reads (declare_pair key name) p rest h k stop =
     let r = pipeline-reads p rest k stop in
-    behind 36 key _ _ rest refl (solid refl refl) (variable-front key _ h.0.1 refl)
-    (row.comma, (space-front _ (solid refl refl), (variable-front name _ h.1.1 refl,
-        (space-front _ (solid refl refl), (row.declare, (space-front _ r.firm, r.spells))))))
+    behind 36 key _ _ rest refl (solid refl refl) (variable-front key _ h.0.1 refl) (
+      row.comma,
+      (
+        space-front _ (solid refl refl),
+        (
+          variable-front name _ h.1.1 refl,
+          (space-front _ (solid refl refl), (row.declare, (space-front _ r.firm, r.spells))),
+        ),
+      ),
+    )
 
 -- a keyword, and tokens behind it and a space
 pub keyword-reads : (b : ℕ) (bs : List ℕ) (ts : List Token) (rest : List ℕ) → Solid (b ∷ (bs ++ (32 ∷ (bytes_of ts ++ rest))))

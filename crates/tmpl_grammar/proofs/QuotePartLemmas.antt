@@ -117,7 +117,7 @@ spelled-code true low bmp c rest s none l b =
 spelled-code false true bmp c rest s none l b =
     let under : c < 128 = grind (arith, nat_tests) in
     count-is 4 (length (92 ∷ 120 ∷ hexes 2 c)) (omega (arith, length-hexes 2 c)) (subst (IsPart (92 ∷ 120 ∷ (hexes 2 c ++ rest)) 4) (sym (encode_ascii c under))
-        (part-x c rest (omega arith)))
+    (part-x c rest (omega arith)))
 spelled-code false false true c rest s none l b =
     let under : c < 65536 = grind (arith, nat_tests) in
     count-is 6 (length (92 ∷ 117 ∷ hexes 4 c)) (omega (arith, length-hexes 4 c)) (part-u c rest under s)

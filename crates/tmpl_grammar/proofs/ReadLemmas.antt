@@ -252,11 +252,11 @@ token-spells t o at = by o (is-computed-operand t o at) (subst IsToken at (token
     by (tree.fields names) at (n, is) = λ ts p e.
         let c = chained tree.fields fields-chain names ts p e in
         subst (λ p. SpellsOperand p (t ∷ ts)) (sym (c.1 ∙ ap (λ ns. tree.fields (ns ++ c.0)) is))
-            (t, ts, refl, subst (λ ns. IsOperand t (tree.fields ns)) is at, c.2)
+        (t, ts, refl, subst (λ ns. IsOperand t (tree.fields ns)) is at, c.2)
     by (tree.variable x names) at is = λ ts p e.
         let c = chained (tree.variable x) (variable-chain x) names ts p e in
         subst (λ p. SpellsOperand p (t ∷ ts)) (sym (c.1 ∙ ap (λ ns. tree.variable x (ns ++ c.0)) is))
-            (t, ts, refl, subst (λ ns. IsOperand t (tree.variable x ns)) is at, c.2)
+        (t, ts, refl, subst (λ ns. IsOperand t (tree.variable x ns)) is at, c.2)
     by (tree.bool_constant b) at form = one-spells (tree.bool_constant b) t at (λ n. refl) (λ ts c. c)
     by (tree.number_constant n) at form = one-spells (tree.number_constant n) t at (λ n. refl) (λ ts c. c)
     by (tree.text_constant bytes) at form = one-spells (tree.text_constant bytes) t at (λ n. refl) (λ ts c. c)
@@ -274,7 +274,7 @@ group-spells cs l r a left right s ts p e =
 partial-spells : (ts : List Token) (all : List Operands) → EndsPartial None [] [] ts all → SpellsPipeline (commands_from all) ts
 partial-spells ts all e =
     let is : commands_from all ≡ tree.command e.more e.later = ap commands_from e.all_are
-        ∙ ap (λ os. tree.command os (commands_from (command_list e.later))) (operands-back e.more) ∙ ap (tree.command e.more) (commands-back e.later) in
+    ∙ ap (λ os. tree.command os (commands_from (command_list e.later))) (operands-back e.more) ∙ ap (tree.command e.more) (commands-back e.later) in
     subst (λ cs. SpellsPipeline cs ts) (sym is) (e.front, e.back, e.tokens_are, e.ends.0, e.spells)
 
 -- ---- ends
@@ -331,8 +331,16 @@ bar-behind t last cs os done is whole ts all e =
       back = t ∷ ts;
       tokens_are = refl;
       ends = n.ends;
-      spells = (t, e.front, e.back, ap (λ us. t ∷ us) e.tokens_are, is, later-of cs _ e.more (subst (λ ds. MayBegin ds e.more) n.done_is e.ends.1), e.ends.0,
-          e.spells);
+      spells = (
+        t,
+        e.front,
+        e.back,
+        ap (λ us. t ∷ us) e.tokens_are,
+        is,
+        later-of cs _ e.more (subst (λ ds. MayBegin ds e.more) n.done_is e.ends.1),
+        e.ends.0,
+        e.spells,
+      );
       all_are = e.all_are
           ∙ ap (λ ds. ds ++ operands_from (operand_list e.more) ∷ command_list e.later) n.done_is
           ∙ append_assoc cs (operands_from (os ++ operand_list n.more) ∷ []) (operands_from (operand_list e.more) ∷ command_list e.later)
@@ -367,7 +375,7 @@ module _ (t : Token) (cs : List Operands) (os : List Operand) (ts : List Token) 
   open-ends ls None is (a, r, b, inner, at, right, partial, rest) =
       subst (λ us. EndsIn ls None cs os us all) (ap (λ us. t ∷ us) (append_assoc a (r ∷ []) b ∙ sym at))
       (operand-within ls (t ∷ a ++ (r ∷ [])) (tree.group (commands_from inner) []) cs os
-          (group-spells (commands_from inner) t r a is right (partial-spells a inner partial)) (group-stands cs os (commands_from inner)) b all rest)
+      (group-spells (commands_from inner) t r a is right (partial-spells a inner partial)) (group-stands cs os (commands_from inner)) b all rest)
   open-ends ls (Some o) is e = absurd e
 
   close-ends : (ls : List Partial) (last : Option Operand) → t.kind ≡ kind.RightParenthesis → (done : Option (List Operands))

@@ -248,9 +248,9 @@ mutual
   more-read tree.no_operand ts s ls cs os o = blank-reached ls cs os o ts s
   more-read (tree.operand p ps) ts (w, ws, a, b, is, blank, spells, rest) ls cs os o =
       reached-along _ (parser_at ls cs (os ++ o ∷ []) None) ts (w ∷ ws) (a ++ b) ls cs _ _ is (white-steps ls cs os o w ws blank)
-          (append_assoc os (o ∷ []) (p ∷ operand_list ps))
+      (append_assoc os (o ∷ []) (p ∷ operand_list ps))
       (reached-along _ (parser_at ls cs (os ++ o ∷ []) (Some p)) (a ++ b) a b ls cs _ _ refl
-          (operand-read p a spells ls cs (os ++ o ∷ []) (stands-behind cs os o p)) refl
+      (operand-read p a spells ls cs (os ++ o ∷ []) (stands-behind cs os o p)) refl
       (more-read ps b rest ls cs (os ++ o ∷ []) p))
 
   command-read : (os : Operands) (ts : List Token) → SpellsCommand os ts → (ls : List Partial) (cs : List Operands) → StandsFirst cs os

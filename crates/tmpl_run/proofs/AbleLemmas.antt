@@ -181,13 +181,13 @@ module _ (most last : ℕ) where
         (λ named k. operands-able os (piped_count piped) n lay code all m base within is (omega arith) k
         ((named, omega arith, omega arith), able-at rest (suc base) (suc (m + operand_count os - (operand_count os + piped_count piped))) (omega arith) h))
         (λ e k. junction-able os (piped_count piped) false piped n lay code rest m base within is (omega arith) (omega arith)
-            (some-both f And count (λ x. cc) e t) k h)
+        (some-both f And count (λ x. cc) e t) k h)
         (λ e k. junction-able os (piped_count piped) true piped n lay code rest m base within is (omega arith) (omega arith)
-            (some-both f Or count (λ x. cc) e t) k h) k) l
+        (some-both f Or count (λ x. cc) e t) k h) k) l
     command-able (operand o os) piped n lay code rest m base within is room l h =
         first-able (is_last os piped) o m code rest (OperandAt o n lay)
         (λ t k. (let none = last-alone os piped t in operand-able o n lay code rest m within (omega arith) k (able-at rest (suc base) (suc m) (omega arith) h)))
-            l
+        l
 
     pub commands-able : (cs : Commands) (piped : Bool) (n : ℕ) (lay : Layout) (code rest : Code) (base : ℕ) → n + length lay ≤ base
         → base + need_of_commands (piped_count piped) cs ≤ most

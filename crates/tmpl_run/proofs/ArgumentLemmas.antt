@@ -71,7 +71,7 @@ table-is f r count top p below n from cs is e m h call =
     let one = one-piped p in
     let whole : from + (count + below) ≡ top = omega arith in
     let values : values_of (drop below (take n (drop from cs)) ++ take below (take n (drop from cs)))
-        ≡ values_in (reverse (take count (cells_in top cs)) ++ take (piped_count p) (drop count (cells_in top cs)))
+    ≡ values_in (reverse (take count (cells_in top cs)) ++ take (piped_count p) (drop count (cells_in top cs)))
     = ap (λ k. values_of (drop below (take k (drop from cs)) ++ take below (take k (drop from cs)))) m
     ∙ sym (map-map (λ (c : Cell). c.val) cell_of (drop below (take (count + below) (drop from cs)) ++ take below (take (count + below) (drop from cs))))
     ∙ ap values_in (turned-is cell_of count below top from cs whole h (omega arith))
@@ -107,4 +107,4 @@ pub borrowed-turned : (from n top below : ℕ) (l : List held.Cell) → from + n
 borrowed-turned from n top below l e h =
     let part = borrowed-part from n l (subst (λ k. AreBorrowed (take k l)) (sym e) h) in
     borrowed-append (drop below (take n (drop from l))) (take below (take n (drop from l))) (borrowed-drop below (take n (drop from l)) part)
-        (borrowed-take below (take n (drop from l)) part)
+    (borrowed-take below (take n (drop from l)) part)

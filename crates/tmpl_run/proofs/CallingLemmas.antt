@@ -36,11 +36,23 @@ module _ (plan : Plan) (t : Template) (s : State) where
         → top s.cells (λ c cs. invoked plan t number (slice_get plan.starts number) c cs s) ≡ invoked plan t number (slice_get plan.starts number) c cs s
         → nat_eq s.left 0 ≡ b
         → done plan t (code.invoke number) s ≡ paid_if b plan t s.line s (λ s. goes
-            (record s { cells = fresh c.val ∷ cell nothing (s.place + 1) ∷ cell s.dot s.template ∷ cs; dot = c.val; template = number; depth =
-            suc s.depth; place = start }))
+        (record s {
+          cells = fresh c.val ∷ cell nothing (s.place + 1) ∷ cell s.dot s.template ∷ cs;
+          dot = c.val;
+          template = number;
+          depth =
+              suc s.depth;
+          place = start;
+        }))
     invoke-by c cs b is e = is ∙ ap (λ o. invoked plan t number o c cs s) starts
-        ∙ ap (λ d. paid_if d plan t s.line s (λ s. goes (record s { cells = fresh c.val ∷ cell nothing (s.place + 1) ∷ cell s.dot s.template ∷ cs; dot =
-            c.val; template = number; depth = suc s.depth; place = start }))) e
+        ∙ ap (λ d. paid_if d plan t s.line s (λ s. goes (record s {
+          cells = fresh c.val ∷ cell nothing (s.place + 1) ∷ cell s.dot s.template ∷ cs;
+          dot =
+              c.val;
+          template = number;
+          depth = suc s.depth;
+          place = start;
+        }))) e
 
     pub invoke-spent : 1 ≤ length s.cells → s.left ≡ 0 → done plan t (code.invoke number) s ≡ failed t s.line (steps_spent plan.rules.step_limit) s
     invoke-spent some e = by s.cells refl
@@ -51,14 +63,28 @@ module _ (plan : Plan) (t : Template) (s : State) where
             (let z : nat_eq s.left 0 ≡ true = grind (arith, nat_tests) in z)
 
     pub invoke-goes : (c : Cell) (cs : List Cell) → s.cells ≡ c ∷ cs → s.left ≢ 0
-        → done plan t (code.invoke number) s ≡ goes (record s { cells = fresh c.val ∷ cell nothing (s.place + 1) ∷ cell s.dot s.template ∷ cs; dot =
-            c.val; left = s.left - 1; template = number; depth = s.depth + 1; place = start })
+        → done plan t (code.invoke number) s ≡ goes (record s {
+          cells = fresh c.val ∷ cell nothing (s.place + 1) ∷ cell s.dot s.template ∷ cs;
+          dot =
+              c.val;
+          left = s.left - 1;
+          template = number;
+          depth = s.depth + 1;
+          place = start;
+        })
     invoke-goes c cs is some =
         let one : suc s.depth ≡ s.depth + 1 = omega arith in
         invoke-by c cs false (ap (λ l. top l (λ c cs. invoked plan t number (slice_get plan.starts number) c cs s)) is)
-            (let z : nat_eq s.left 0 ≡ false = grind (arith, nat_tests) in z)
-        ∙ ap (λ d. goes (record s { cells = fresh c.val ∷ cell nothing (s.place + 1) ∷ cell s.dot s.template ∷ cs; dot = c.val; left = s.left - 1; template =
-            number; depth = d; place = start })) one
+        (let z : nat_eq s.left 0 ≡ false = grind (arith, nat_tests) in z)
+        ∙ ap (λ d. goes (record s {
+          cells = fresh c.val ∷ cell nothing (s.place + 1) ∷ cell s.dot s.template ∷ cs;
+          dot = c.val;
+          left = s.left - 1;
+          template =
+              number;
+          depth = d;
+          place = start;
+        })) one
 
   -- ---- the end of a template
   pub return-ends : (n : ℕ) → s.depth ≤ 1 → done plan t (code.return_from n) s ≡ ended (ran_so s None)
@@ -72,8 +98,14 @@ module _ (plan : Plan) (t : Template) (s : State) where
   pub return-goes : (n : ℕ) (back saved : Cell) (cs : List Cell) → 1 < s.depth → drop 1 (drop n s.cells) ≡ back ∷ saved ∷ cs
       → done plan t (code.return_from n) s ≡ goes (record s { cells = cs; dot = saved.val; template = saved.num; depth = s.depth - 1; place = back.num })
   return-goes n back saved cs h e = ap (λ b. returned_if b (drop n s.cells) s) (let z : nat_lt 1 s.depth ≡ true = grind (arith, nat_tests) in z)
-      ∙ framed (drop n s.cells) back saved cs (λ back saved cs. goes (record s { cells = cs; dot = saved.val; template = saved.num; depth = s.depth - 1; place =
-          back.num })) e
+      ∙ framed (drop n s.cells) back saved cs (λ back saved cs. goes (record s {
+        cells = cs;
+        dot = saved.val;
+        template = saved.num;
+        depth = s.depth - 1;
+        place =
+            back.num;
+      })) e
 
 pub ruleset deepens = (deepen-spent, deepen-deep, deepen-goes)
 

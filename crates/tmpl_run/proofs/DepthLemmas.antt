@@ -147,13 +147,13 @@ module _ (rules : Rules) (ts : List Template) (depth : ℕ) where
           let named : Named name ts m = numbered name ts m e in
           ap (called fewer (calls_within fewer ts k) name) named.tree
           ∙ (λ i. Ok (λ v. apart v (λ r. meanings-same (setting_of rules (calls_within rules ts j) name named.t.1) depth (calls_within fewer ts k)
-              named.t.1.nodes
+          named.t.1.nodes
           (λ inner is. same m named.t named.at (further number m k t name at names e in-k) (further number m j t name at names e in-j) inner is) v r i)))
           ∙ sym (ap (called rules (calls_within rules ts j) name) named.tree)
 
 pub depth_by_chains : DepthByChains
 depth_by_chains rules ts depth number t input at short within = λ i.
     ran_of (meanings-same (setting_of rules (calls_within rules ts (rules.depth_limit - 1)) t.0 t.1) depth
-        (calls_within (record rules { depth_limit = depth }) ts (depth - 1)) t.1.nodes
+    (calls_within (record rules { depth_limit = depth }) ts (depth - 1)) t.1.nodes
     (λ name names. names-same rules ts depth (depth - 1) (rules.depth_limit - 1) number t at (λ rest chain. let s = short rest chain in omega arith)
     (λ rest chain. let s = short rest chain in omega arith) name names) (starting_dot input) (started rules.step_limit (starting_dot input)) i)

@@ -130,111 +130,111 @@ module _ {run : Told} {end : Ran} {m : Machine} {before now : Puts} (inv : Stand
   runs = runs-at run.plan.templates m.template run.template (some-template run.plan room end past inv.ends)
 
   module _ (items : List held.Instruction) {item : held.Instruction} (code : run.plan.code ≡ instructions_of items) (is : item ≡ get_or items m.place item)
-      where
-    abbrev i : Instruction
-    i = instruction_of item
+    where
+      abbrev i : Instruction
+      i = instruction_of item
 
-    here : slice_get run.plan.code m.place ≡ Some i
-    here = ap (λ is. slice_get is m.place) code ∙ code-at items m.place item item (inside items code) is
+      here : slice_get run.plan.code m.place ≡ Some i
+      here = ap (λ is. slice_get is m.place) code ∙ code-at items m.place item item (inside items code) is
 
-    shifted : (u : Turn) → done run.plan told.template i s ≡ u → done run.plan told.template i past ≡ after_past inv.text inv.made u
-    shifted u e = done-past inv.text inv.made run.plan told.template i s ∙ ap (after_past inv.text inv.made) e
+      shifted : (u : Turn) → done run.plan told.template i s ≡ u → done run.plan told.template i past ≡ after_past inv.text inv.made u
+      shifted u e = done-past inv.text inv.made run.plan told.template i s ∙ ap (after_past inv.text inv.made) e
 
-    next : (u : State) → done run.plan told.template i s ≡ goes u → next_of run.plan past ≡ goes (with_past inv.text inv.made u)
-    next u e = is-next run.plan room end i told.template past here runs inv.ends ∙ shifted (goes u) e
+      next : (u : State) → done run.plan told.template i s ≡ goes u → next_of run.plan past ≡ goes (with_past inv.text inv.made u)
+      next u e = is-next run.plan room end i told.template past here runs inv.ends ∙ shifted (goes u) e
 
-    next-ends : (u : State) → done run.plan told.template i s ≡ goes u → Ends run.plan room (with_past inv.text inv.made u) end
-    next-ends u e = goes-on run.plan room end i told.template past here runs inv.ends (with_past inv.text inv.made u) (shifted (goes u) e)
+      next-ends : (u : State) → done run.plan told.template i s ≡ goes u → Ends run.plan room (with_past inv.text inv.made u) end
+      next-ends u e = goes-on run.plan room end i told.template past here runs inv.ends (with_past inv.text inv.made u) (shifted (goes u) e)
 
-    pub has : Has i (length s.cells) room
-    has = ready run.plan room end i told.template past here runs inv.ends
+      pub has : Has i (length s.cells) room
+      has = ready run.plan room end i told.template past here runs inv.ends
 
-    pub lands : length items < 2 ^ 64 → Lands (done run.plan told.template i s)
-    lands fits = by (done run.plan told.template i s) refl
-      where
-        by : (u : Turn) → done run.plan told.template i s ≡ u → Lands u
-        by (goes v) e =
-            let within = within-code run.plan room end (with_past inv.text inv.made v) (next-ends v e) in
-            let same = ap (λ (is : List Instruction). length is) code ∙ length-map items instruction_of in
-            omega (arith, within, same)
-        by (ended r) e = tt
-        by stuck e = finds run.plan room end i told.template past here runs inv.ends (shifted stuck e)
-
-    pub less : (u : State) → done run.plan told.template i s ≡ goes u → work (length run.plan.code) u < work (length run.plan.code) s
-    less u e = falls run.plan room end i told.template past here runs inv.ends (with_past inv.text inv.made u) (shifted (goes u) e)
-
-    no-deeper : (u : State) → done run.plan told.template i s ≡ goes u → u.depth + u.left ≤ s.depth + s.left
-    no-deeper u e = by (each-lessens run.plan past (with_past inv.text inv.made u) (next u e))
-      where
-        deep : u.depth ≤ suc s.depth
-        deep = next-depth run.plan past (with_past inv.text inv.made u) (next u e)
-
-        by : Lessens past (with_past inv.text inv.made u) → u.depth + u.left ≤ s.depth + s.left
-        by (inl less) = let d = deep in omega arith
-        by (inr (left, inl less)) = omega arith
-        by (inr (left, inr (depth, place))) = omega arith
-
-    -- the run goes on, with what was put out and the mark told apart again
-    pub onward : (n : Machine) (after : Puts) → Executed told i s (state_of (told_behind i s told) n) (Ok flow.On)
-        → IsPut {F = SinkFault} (Ok tt) now after (added i s)
-        → size_of n.stack ≡ room → (mark_behind i false ≡ false → IsPlain m → IsPlain n) → Stands run end n before after
-    onward n after step more size plain = record {
-      within = subst (λ k. length (cells_of n.stack) ≤ k) (sym size) (next-within room run.plan past (with_past inv.text inv.made u) end inv.ends inv.within
-          (next u step));
-      depth = let deeper = no-deeper u step in let deep = inv.depth in omega arith;
-      text = inv.text ++ u.text;
-      made = inv.made || u.made_text;
-      given = IsPut-along (IsPut-append inv.given more) (ap (λ l. inv.text ++ l) (sym (text-behind i s told refl)));
-      ends = subst (λ k. Ends run.plan k (with_past (inv.text ++ u.text) (inv.made || u.made_text) (record u { text = []; made_text = false })) end) (sym size)
-          (subst (λ v. Ends run.plan room v end) (past-again inv.text u.text inv.made u.made_text u) (next-ends u step));
-      plain = λ e. let both = neither inv.made u.made_text e in plain (sym (mark-behind-told i s told) ∙ both.1) (inv.plain both.0);
-    }
-      where
-        u : State
-        u = state_of (told_behind i s told) n
-
-    -- memory is refused only where the end bears the mark
-    marked : (mark_behind i false ≡ false → IsPlain m → ⊥) → end.made_text ≡ true
-    marked never = by inv.made refl
-      where
-        by : (b : Bool) → inv.made ≡ b → end.made_text ≡ true
-        by true e = mark-stays run.plan room past end inv.ends (ap (λ b. b || false) e)
-        by false e = by-mark (mark_behind i false) refl
-          where
-            by-mark : (c : Bool) → mark_behind i false ≡ c → end.made_text ≡ true
-            by-mark true f = mark_next run.plan room past end i inv.ends here (ap (λ b. mark_behind i (b || false)) e ∙ f)
-            by-mark false f = absurd (never f (inv.plain e))
-
-    module _ (after : Puts) where
-      both : IsPut {F = SinkFault} (Ok tt) now after (added i s) → IsPut {F = SinkFault} (Ok tt) before after (inv.text ++ added i s)
-      both more = IsPut-append inv.given more
-
-      -- the run is over, or stops at a fault
-      pub over : (fault : Option Fault) (made : Bool) → done run.plan told.template i s ≡ ended (record { text = []; fault = fault; made_text = made })
-          → IsPut {F = SinkFault} (Ok tt) now after (added i s) → IsPut {F = SinkFault} (Ok tt) before after end.text × (end.fault ≡ fault)
-      over fault made e more = (
-        IsPut-along (both more) (ap (λ l. inv.text ++ l) (ended-quiet run.plan told.template i s _ e) ∙ ap (λ (q : Ran). q.text) so),
-        sym (ap (λ (q : Ran). q.fault) so),
-      )
+      pub lands : length items < 2 ^ 64 → Lands (done run.plan told.template i s)
+      lands fits = by (done run.plan told.template i s) refl
         where
-          so : record { text = inv.text ++ []; fault = fault; made_text = inv.made || made } ≡ end
-          so = ends-so run.plan room end i told.template past here runs inv.ends _ (shifted _ e)
+          by : (u : Turn) → done run.plan told.template i s ≡ u → Lands u
+          by (goes v) e =
+              let within = within-code run.plan room end (with_past inv.text inv.made v) (next-ends v e) in
+              let same = ap (λ (is : List Instruction). length is) code ∙ length-map items instruction_of in
+              omega (arith, within, same)
+          by (ended r) e = tt
+          by stuck e = finds run.plan room end i told.template past here runs inv.ends (shifted stuck e)
 
-      -- a stop
-      pub stops : (u : State) (Q : Type 0) → u.text ≡ added i s → (stop : Halt) (e : RunError) → Executed told i s u (Err stop)
-          → IsPut (put_by {A = Flow} (Err stop)) now after (added i s)
-          → (mark_behind i false ≡ false → IsPlain m → SparedOr {A = Flow} (Err stop) Q) → IsStopped (slice_get run.plan.templates m.template) u.line stop e
-          → Came end before after (Err e)
-      stops u Q same (stop.Fault kind) (error.Fault fault) step more spared is =
-          let came = over (Some (fault_at told.template u.line (cause_of kind))) u.made_text step more in
-          (came.0, came.1 ∙ sym (is ∙ ap (option_map (λ t. fault_at t u.line (cause_of kind))) runs))
-      stops u Q same (stop.Fault kind) error.WriteFailed step more spared is = absurd is
-      stops u Q same (stop.Fault kind) error.OutOfMemory step more spared is = absurd is
-      stops u Q same stop.WriteFailed e step more spared is =
-          let begins = text-begins run.plan room (with_past inv.text inv.made u) end (next-ends u step) in
-          subst (λ f. Came end before after (Err f)) (sym is)
-          (IsPut-along (IsPut-stop {r = Err (record {})} begins.0 refl (IsPut-append inv.given more))
-              (ap (λ l. (inv.text ++ l) ++ begins.0) (sym same) ∙ sym begins.1))
-      stops u Q same stop.OutOfMemory e step more spared is =
-          subst (λ f. Came end before after (Err f)) (sym is)
-          (inv.text ++ [], text-begins run.plan room past end inv.ends, IsPut-along (both more) (ap (λ l. inv.text ++ l) step), marked spared)
+      pub less : (u : State) → done run.plan told.template i s ≡ goes u → work (length run.plan.code) u < work (length run.plan.code) s
+      less u e = falls run.plan room end i told.template past here runs inv.ends (with_past inv.text inv.made u) (shifted (goes u) e)
+
+      no-deeper : (u : State) → done run.plan told.template i s ≡ goes u → u.depth + u.left ≤ s.depth + s.left
+      no-deeper u e = by (each-lessens run.plan past (with_past inv.text inv.made u) (next u e))
+        where
+          deep : u.depth ≤ suc s.depth
+          deep = next-depth run.plan past (with_past inv.text inv.made u) (next u e)
+
+          by : Lessens past (with_past inv.text inv.made u) → u.depth + u.left ≤ s.depth + s.left
+          by (inl less) = let d = deep in omega arith
+          by (inr (left, inl less)) = omega arith
+          by (inr (left, inr (depth, place))) = omega arith
+
+      -- the run goes on, with what was put out and the mark told apart again
+      pub onward : (n : Machine) (after : Puts) → Executed told i s (state_of (told_behind i s told) n) (Ok flow.On)
+          → IsPut {F = SinkFault} (Ok tt) now after (added i s)
+          → size_of n.stack ≡ room → (mark_behind i false ≡ false → IsPlain m → IsPlain n) → Stands run end n before after
+      onward n after step more size plain = record {
+        within = subst (λ k. length (cells_of n.stack) ≤ k) (sym size) (next-within room run.plan past (with_past inv.text inv.made u) end inv.ends inv.within
+            (next u step));
+        depth = let deeper = no-deeper u step in let deep = inv.depth in omega arith;
+        text = inv.text ++ u.text;
+        made = inv.made || u.made_text;
+        given = IsPut-along (IsPut-append inv.given more) (ap (λ l. inv.text ++ l) (sym (text-behind i s told refl)));
+        ends = subst (λ k. Ends run.plan k (with_past (inv.text ++ u.text) (inv.made || u.made_text) (record u { text = []; made_text = false })) end) (sym size)
+            (subst (λ v. Ends run.plan room v end) (past-again inv.text u.text inv.made u.made_text u) (next-ends u step));
+        plain = λ e. let both = neither inv.made u.made_text e in plain (sym (mark-behind-told i s told) ∙ both.1) (inv.plain both.0);
+      }
+        where
+          u : State
+          u = state_of (told_behind i s told) n
+
+      -- memory is refused only where the end bears the mark
+      marked : (mark_behind i false ≡ false → IsPlain m → ⊥) → end.made_text ≡ true
+      marked never = by inv.made refl
+        where
+          by : (b : Bool) → inv.made ≡ b → end.made_text ≡ true
+          by true e = mark-stays run.plan room past end inv.ends (ap (λ b. b || false) e)
+          by false e = by-mark (mark_behind i false) refl
+            where
+              by-mark : (c : Bool) → mark_behind i false ≡ c → end.made_text ≡ true
+              by-mark true f = mark_next run.plan room past end i inv.ends here (ap (λ b. mark_behind i (b || false)) e ∙ f)
+              by-mark false f = absurd (never f (inv.plain e))
+
+      module _ (after : Puts) where
+        both : IsPut {F = SinkFault} (Ok tt) now after (added i s) → IsPut {F = SinkFault} (Ok tt) before after (inv.text ++ added i s)
+        both more = IsPut-append inv.given more
+
+        -- the run is over, or stops at a fault
+        pub over : (fault : Option Fault) (made : Bool) → done run.plan told.template i s ≡ ended (record { text = []; fault = fault; made_text = made })
+            → IsPut {F = SinkFault} (Ok tt) now after (added i s) → IsPut {F = SinkFault} (Ok tt) before after end.text × (end.fault ≡ fault)
+        over fault made e more = (
+          IsPut-along (both more) (ap (λ l. inv.text ++ l) (ended-quiet run.plan told.template i s _ e) ∙ ap (λ (q : Ran). q.text) so),
+          sym (ap (λ (q : Ran). q.fault) so),
+        )
+          where
+            so : record { text = inv.text ++ []; fault = fault; made_text = inv.made || made } ≡ end
+            so = ends-so run.plan room end i told.template past here runs inv.ends _ (shifted _ e)
+
+        -- a stop
+        pub stops : (u : State) (Q : Type 0) → u.text ≡ added i s → (stop : Halt) (e : RunError) → Executed told i s u (Err stop)
+            → IsPut (put_by {A = Flow} (Err stop)) now after (added i s)
+            → (mark_behind i false ≡ false → IsPlain m → SparedOr {A = Flow} (Err stop) Q) → IsStopped (slice_get run.plan.templates m.template) u.line stop e
+            → Came end before after (Err e)
+        stops u Q same (stop.Fault kind) (error.Fault fault) step more spared is =
+            let came = over (Some (fault_at told.template u.line (cause_of kind))) u.made_text step more in
+            (came.0, came.1 ∙ sym (is ∙ ap (option_map (λ t. fault_at t u.line (cause_of kind))) runs))
+        stops u Q same (stop.Fault kind) error.WriteFailed step more spared is = absurd is
+        stops u Q same (stop.Fault kind) error.OutOfMemory step more spared is = absurd is
+        stops u Q same stop.WriteFailed e step more spared is =
+            let begins = text-begins run.plan room (with_past inv.text inv.made u) end (next-ends u step) in
+            subst (λ f. Came end before after (Err f)) (sym is)
+            (IsPut-along (IsPut-stop {r = Err (record {})} begins.0 refl (IsPut-append inv.given more))
+            (ap (λ l. (inv.text ++ l) ++ begins.0) (sym same) ∙ sym begins.1))
+        stops u Q same stop.OutOfMemory e step more spared is =
+            subst (λ f. Came end before after (Err f)) (sym is)
+            (inv.text ++ [], text-begins run.plan room past end inv.ends, IsPut-along (both more) (ap (λ l. inv.text ++ l) step), marked spared)

@@ -93,9 +93,9 @@ module _ (way : Way) (calls : Calls) (pipes : Pipelines way) where
   set-leads x None lay fr v mid rest s m place same e l at frame deep more = more s.cells place (at ∙ l) frame deep (sym (stored-none x lay s.cells v e))
   set-leads x (Some k) lay fr v mid rest s m place same e l at frame deep more =
       ways.takes way (record s { cells = fresh v ∷ s.cells; made_text = m; place = place }) (code.set k) rest same (at ∙ l)
-          (let below = found-within x lay k e in omega arith)
+      (let below = found-within x lay k e in omega arith)
       (more (slice_set s.cells k (fresh v)) (place + 1) (ahead-one way.plan.code rest place (code.set k) (at ∙ l))
-          (frame-set x lay s.cells k (fresh v) e deep ∙ frame) (omega (arith, length-set s.cells k (fresh v))) (stored x lay s.cells k v e deep))
+      (frame-set x lay s.cells k (fresh v) e deep ∙ frame) (omega (arith, length-set s.cells k (fresh v))) (stored x lay s.cells k v e deep))
 
   bind-leads : (b : Binding) (lay : Layout) (fr : Frame) (v : Value) (mid rest : Code) (s : State) (m : Bool) (place : ℕ) → who_of s ≡ way.who
       → BindAt b lay mid rest → drop place way.plan.code ≡ mid
@@ -154,7 +154,7 @@ module _ (way : Way) (calls : Calls) (pipes : Pipelines way) where
   header-leads A g line h lay fr start mid s go l st same-line plain fits more-fits k more =
       value-leads A g line s.left h.pipeline lay fr start l.0 s go l.1 st same-line (bind-plain h.binding lay l.0 mid l.2 plain) fits k
       (λ v m place at k. bind-leads h.binding lay fr v l.0 mid s m place st.runs l.2 at st.frame st.deep
-          (let long = length-frame lay s.cells st.deep in let same = ap length st.frame in omega arith)
+      (let long = length-frame lay s.cells st.deep in let same = ap length st.frame in omega arith)
       (λ cs place at frame deep env. more v cs m place at frame deep env k))
 
 -- what a control keeps of its header

@@ -103,8 +103,14 @@ module _ (plan : Plan) (me : Template) (s : State) where
   invoked-moves number (Some start) c cs = by (nat_eq s.left 0) refl
     where
       enters : State → Turn
-      enters t = goes (record t { cells = fresh c.val ∷ cell nothing (t.place + 1) ∷ cell t.dot t.template ∷ cs; dot = c.val; template = number; depth =
-          suc t.depth; place = start })
+      enters t = goes (record t {
+        cells = fresh c.val ∷ cell nothing (t.place + 1) ∷ cell t.dot t.template ∷ cs;
+        dot = c.val;
+        template = number;
+        depth =
+            suc t.depth;
+        place = start;
+      })
 
       by : (b : Bool) → nat_eq s.left 0 ≡ b → Moves s (paid_if b plan me s.line s enters)
       by true e = same

@@ -107,14 +107,14 @@ module _ (way : Way) (calls : Calls) (spare : ℕ) (pipes : Pipelines way) where
       → NodeAt way.plan.templates line n lay (exit_of g) start rest → Stands way.plan way.who here lay fr s → Inside way.home g lay fr
       → length fr + need_of_node n + spare ≤ way.room → length fr + left_behind n ≤ way.room
       → ways.After way (ways.Onward way rest (grown n lay) (grown_in n fr) s.dot) g
-          (meaning.spend (ways.setting way calls) line (stepped (ways.setting way calls) line n s.dot) (run_of lay s)) → ways.Leading way s
+      (meaning.spend (ways.setting way calls) line (stepped (ways.setting way calls) line n s.dot) (run_of lay s)) → ways.Leading way s
 
   pub spent : (line : ℕ) (n : NodeKind) → step_of way.plan.templates line n ≡ code.spend line → NodeLeads line n → StepLeads line n
   spent line n e leads g lay fr here start rest s l at-node st inside fits more-fits k =
       ways.spends way calls (ways.Onward way rest (grown n lay) (grown_in n fr) s.dot) g lay line start s (stepped (ways.setting way calls) line n s.dot)
-          st.runs (st.at ∙ l ∙ ap (λ i. i ∷ start) e) k
+      st.runs (st.at ∙ l ∙ ap (λ i. i ∷ start) e) k
       (λ at k. leads g lay fr start rest (ways.step_taken line s) at-node (record { at = at; runs = st.runs; frame = st.frame; deep = st.deep }) refl inside
-          fits more-fits k)
+      fits more-fits k)
 
   -- ---- actions
 
@@ -125,16 +125,16 @@ module _ (way : Way) (calls : Calls) (spare : ℕ) (pipes : Pipelines way) where
   acted unbound g lay fr mid rest s v cs m place same l at frame deep env k =
       ways.takes way (headed unbound v cs m place s) code.show rest same (at ∙ l) tt
       (k _ (record { at = ahead-one way.plan.code rest place code.show (at ∙ l); runs = same; frame = frame; deep = deep }) refl
-          (ap (λ (w : Environment). let r : Run = record { env = w; text = s.text ++ text_of v; left = s.left; made_text = m } in r) env))
+      (ap (λ (w : Environment). let r : Run = record { env = w; text = s.text ++ text_of v; left = s.left; made_text = m } in r) env))
   acted (declare x) g lay fr mid rest s v cs m place same l at frame deep env k =
       k _ (record { at = at ∙ l; runs = same; frame = ap (λ t. None ∷ t) frame; deep = omega arith }) refl (bound-env (declare x) lay v cs s m env)
   acted (assign x) g lay fr mid rest s v cs m place same l at frame deep env k =
       ways.takes way (headed (assign x) v cs m place s) (code.cut 1 0) rest same (at ∙ l) (omega arith)
       (k _ (record { at = ahead way.plan.code rest place 0 (code.cut 1 0) (at ∙ l); runs = same; frame = frame; deep = deep }) refl
-          (bound-env (assign x) lay v cs s m env))
+      (bound-env (assign x) lay v cs s m env))
   acted (declare_pair y x) g lay fr mid rest s v cs m place same l at frame deep env k =
       k _ (record { at = at ∙ l; runs = same; frame = ap (λ t. None ∷ None ∷ t) frame; deep = omega arith }) refl
-          (bound-env (declare_pair y x) lay v cs s m env)
+      (bound-env (declare_pair y x) lay v cs s m env)
 
   pub action-leads : (line : ℕ) (h : Header) → NodeLeads line (tree.action h)
   action-leads line h g lay fr here rest s l st same-line inside fits more-fits k =
@@ -154,11 +154,11 @@ module _ (way : Way) (calls : Calls) (spare : ℕ) (pipes : Pipelines way) where
   part-leads ns ih b g lay fr first more rest to d r t l far inside fits st dot run k =
       ih g (bound_on b lay) (bound_in b fr) first l.0 t l.1 st (inside-bound way.home g b lay fr inside) (let long = length-bound b fr in omega arith)
       (subst (λ e. ways.After way goal g (meanings (ways.setting way calls) ns e (run_of (bound_on b lay) t))) (sym dot)
-          (subst (λ r. ways.After way goal g (meanings (ways.setting way calls) ns d r)) (sym run)
+      (subst (λ r. ways.After way goal g (meanings (ways.setting way calls) ns d r)) (sym run)
       (ways.then-map way (λ r. ways.Onward way rest lay fr d (cut_to (named lay) r)) goal g (meanings (ways.setting way calls) ns d r).0
-          (meanings (ways.setting way calls) ns d r).1
+      (meanings (ways.setting way calls) ns d r).1
       (λ r k u su du ru. ways.closes way (declared_count b + declared_in ns) to l.0 more rest (all_grown ns (bound_on b lay)) lay fr
-          (all_grown_in ns (bound_in b fr)) d r u l.2 su (over-bound b ns lay) (frame-bound b ns fr) far (du ∙ dot) ru k) k)))
+      (all_grown_in ns (bound_in b fr)) d r u l.2 su (over-bound b ns lay) (frame-bound b ns fr) far (du ∙ dot) ru k) k)))
     where
       goal : Run → Type 0
       goal = ways.Onward way l.0 (all_grown ns (bound_on b lay)) (all_grown_in ns (bound_in b fr)) t.dot
@@ -170,10 +170,10 @@ module _ (way : Way) (calls : Calls) (spare : ℕ) (pipes : Pipelines way) where
       header-leads way calls pipes B g line h lay fr here l.0 s go
       l.1 st same-line (plain-for h.binding l.0 (subst Plain (sym l.2.4) refl)) (omega arith) (omega arith)
       (ways.unscope way A g lay fr (length (env_of lay s.cells)) (choosing (ways.setting way calls) line h s.dot
-          (λ v. meanings (ways.setting way calls) body s.dot) (meanings (ways.setting way calls) other s.dot) (run_of lay s)) (length-env lay s.cells st.deep)
-          inside k)
+      (λ v. meanings (ways.setting way calls) body s.dot) (meanings (ways.setting way calls) other s.dot) (run_of lay s)) (length-env lay s.cells st.deep)
+      inside k)
       (λ v cs m place at frame deep env k. ways.takes way (headed h.binding v cs m place s) (code.unless (declares h.binding) l.2.2) l.2.0 st.runs (at ∙ l.2.4)
-          tt
+      tt
       (by v cs m place (at ∙ l.2.4) frame deep env (truth v) k))
     where
       A : Run → Type 0
@@ -190,19 +190,29 @@ module _ (way : Way) (calls : Calls) (spare : ℕ) (pipes : Pipelines way) where
           → frame_of lay cs ≡ fr
           → length lay ≤ length cs → env_of lay cs ≡ written h.binding v (env_of lay s.cells)
           → (c : Bool) → ways.After way B g (one_of c (meanings (ways.setting way calls) body s.dot) (meanings (ways.setting way calls) other s.dot)
-              (with_bound h.binding (alone v) (run_at lay m s)))
+          (with_bound h.binding (alone v) (run_at lay m s)))
           → Comes (ways.Leading way) (branch c (declares h.binding) l.2.2 (fresh v) (under h.binding cs) (headed h.binding v cs m place s)) way.end
       by v cs m place at frame deep env true k =
           part-leads body ih-body h.binding g lay fr l.2.0 l.2.1 rest l.2.3 s.dot (with_bound h.binding (alone v) (run_at lay m s)) _ l.2.5 l.2.8 inside
-              (omega arith)
-          (record { at = ahead-one way.plan.code l.2.0 place (code.unless (declares h.binding) l.2.2) at; runs = st.runs; frame =
-              bound-frame h.binding lay fr v cs frame; deep = bound-deep h.binding lay v cs deep }) refl (bound-env h.binding lay v cs s m env) k
+          (omega arith)
+          (record {
+            at = ahead-one way.plan.code l.2.0 place (code.unless (declares h.binding) l.2.2) at;
+            runs = st.runs;
+            frame =
+                bound-frame h.binding lay fr v cs frame;
+            deep = bound-deep h.binding lay v cs deep;
+          }) refl (bound-env h.binding lay v cs s m env) k
       by v cs m place at frame deep env false k =
           part-leads other ih-other h.binding g lay fr l.2.1 rest rest 0 s.dot (with_bound h.binding (alone v) (run_at lay m s)) _ l.2.6 refl inside
-              (omega arith)
-          (record { at = ahead way.plan.code l.2.0 place l.2.2 (code.unless (declares h.binding) l.2.2) at
-              ∙ l.2.7; runs = st.runs; frame = bound-frame h.binding lay fr v cs frame; deep = bound-deep h.binding lay v cs deep }) refl
-              (bound-env h.binding lay v cs s m env) k
+          (omega arith)
+          (record {
+            at = ahead way.plan.code l.2.0 place l.2.2 (code.unless (declares h.binding) l.2.2) at
+                ∙ l.2.7;
+            runs = st.runs;
+            frame = bound-frame h.binding lay fr v cs frame;
+            deep = bound-deep h.binding lay v cs deep;
+          }) refl
+          (bound-env h.binding lay v cs s m env) k
 
   -- ---- `with`
 
@@ -213,15 +223,20 @@ module _ (way : Way) (calls : Calls) (spare : ℕ) (pipes : Pipelines way) where
       → ways.Onward way rest lay fr d (cut_to (named lay) r) → ways.Leading way u
   with-closes b n to more rest big lay fr gr d r u st over underneath far is k =
       ways.takes way u (code.end_with n (declared_count b) to) more st.runs st.at
-          (let size = over.size in let deep = st.deep in let less = (over-binding b lay).size in omega arith)
+      (let size = over.size in let deep = st.deep in let less = (over-binding b lay).size in omega arith)
       (subst (λ cs. Comes (ways.Leading way) (top cs (λ c cs. goes (record u { cells = drop (declared_count b) cs; dot = c.val; place = u.place + 1 + to })))
-          way.end) (sym one.cells)
-      (k _ (record { at = ahead way.plan.code more u.place to (code.end_with n (declared_count b) to) st.at
-          ∙ far; runs = st.runs; frame = frame-drop (declared_count b) (bound_on b lay) lay one.rest (over-binding b lay) one.deep
-          ∙ ap (drop (declared_count b)) one.frame ∙ frame-binding b fr; deep = (let size = (over-binding b lay).size in let deep = one.deep in let long =
-          length-drop (declared_count b) one.rest in omega arith) }) refl
+      way.end) (sym one.cells)
+      (k _ (record {
+        at = ahead way.plan.code more u.place to (code.end_with n (declared_count b) to) st.at
+            ∙ far;
+        runs = st.runs;
+        frame = frame-drop (declared_count b) (bound_on b lay) lay one.rest (over-binding b lay) one.deep
+            ∙ ap (drop (declared_count b)) one.frame ∙ frame-binding b fr;
+        deep = (let size = (over-binding b lay).size in let deep = one.deep in let long =
+            length-drop (declared_count b) one.rest in omega arith);
+      }) refl
       (ap (λ (v : Environment). let r : Run = record { env = v; text = u.text; left = u.left; made_text = u.made_text } in r) env
-          ∙ ways.cut-twice (named lay) (named (bound_on b lay)) (run_of big u) (named-bound b lay)
+      ∙ ways.cut-twice (named lay) (named (bound_on b lay)) (run_of big u) (named-bound b lay)
       ∙ ap (cut_to (named lay)) is)))
     where
       one : First (bound_on b lay) (drop n u.cells) (fresh d) (bound_in b fr)
@@ -240,9 +255,9 @@ module _ (way : Way) (calls : Calls) (spare : ℕ) (pipes : Pipelines way) where
       header-leads way calls pipes B g line h lay fr here l.0 s go
       l.1 st same-line (plain-for h.binding l.0 (subst Plain (sym l.2.4) refl)) (omega arith) (omega arith)
       (ways.unscope way A g lay fr (length (env_of lay s.cells)) (choosing (ways.setting way calls) line h s.dot (λ v. meanings (ways.setting way calls) body v)
-          (meanings (ways.setting way calls) other s.dot) (run_of lay s)) (length-env lay s.cells st.deep) inside k)
+      (meanings (ways.setting way calls) other s.dot) (run_of lay s)) (length-env lay s.cells st.deep) inside k)
       (λ v cs m place at frame deep env k. ways.takes way (headed h.binding v cs m place s) (code.enter_with (declares h.binding) l.2.2) l.2.0 st.runs
-          (at ∙ l.2.4)
+      (at ∙ l.2.4)
       (length-under h.binding cs way.room (need_of_nodes body) (let long = length-frame lay cs deep in let same = ap length frame in omega arith))
       (by v cs m place (at ∙ l.2.4) frame deep env (truth v) k))
     where
@@ -258,24 +273,33 @@ module _ (way : Way) (calls : Calls) (spare : ℕ) (pipes : Pipelines way) where
       by : (v : Value) (cs : List Cell) (m : Bool) (place : ℕ) → drop place way.plan.code ≡ code.enter_with (declares h.binding) l.2.2 ∷ l.2.0
           → frame_of lay cs ≡ fr → length lay ≤ length cs → env_of lay cs ≡ written h.binding v (env_of lay s.cells)
           → (c : Bool) → ways.After way B g (one_of c (meanings (ways.setting way calls) body v) (meanings (ways.setting way calls) other s.dot)
-              (with_bound h.binding (alone v) (run_at lay m s)))
+          (with_bound h.binding (alone v) (run_at lay m s)))
           → Comes (ways.Leading way) (with_dot c (declares h.binding) l.2.2 (fresh v) (under h.binding cs) (headed h.binding v cs m place s)) way.end
       by v cs m place at frame deep env true k =
           ih-body g (None ∷ bound_on h.binding lay) (Some (fresh s.dot) ∷ bound_in h.binding fr) l.2.0
-              (code.end_with (declared_in body) (declared_count h.binding) l.2.3 ∷ l.2.1) t l.2.5
-          (record { at = ahead-one way.plan.code l.2.0 place (code.enter_with (declares h.binding) l.2.2) at; runs = st.runs; frame =
-              ap (λ x. Some (fresh s.dot) ∷ x) (bound-frame h.binding lay fr v cs frame); deep = (let h = bound-deep h.binding lay v cs deep in omega arith) })
+          (code.end_with (declared_in body) (declared_count h.binding) l.2.3 ∷ l.2.1) t l.2.5
+          (record {
+            at = ahead-one way.plan.code l.2.0 place (code.enter_with (declares h.binding) l.2.2) at;
+            runs = st.runs;
+            frame =
+                ap (λ x. Some (fresh s.dot) ∷ x) (bound-frame h.binding lay fr v cs frame);
+            deep = (let h = bound-deep h.binding lay v cs deep in omega arith);
+          })
           (inside-more way.home g (bound_on h.binding lay) (bound_in h.binding fr) None (Some (fresh s.dot)) (inside-bound way.home g h.binding lay fr inside))
-              (let long = length-bound h.binding fr in omega arith)
+          (let long = length-bound h.binding fr in omega arith)
           (subst (λ r. ways.After way goal g (meanings (ways.setting way calls) body v r)) (sym (bound-env h.binding lay v cs s m env))
           (ways.then-map way B goal g x.0 x.1
           (λ r k u su du ru. with-closes h.binding (declared_in body) l.2.3 l.2.1 rest (all_grown body (None ∷ bound_on h.binding lay)) lay fr
-              (all_grown_in body (Some (fresh s.dot) ∷ bound_in h.binding fr)) s.dot r u su (over-grown body (None ∷ bound_on h.binding lay))
+          (all_grown_in body (Some (fresh s.dot) ∷ bound_in h.binding fr)) s.dot r u su (over-grown body (None ∷ bound_on h.binding lay))
           (frame-grown body (Some (fresh s.dot) ∷ bound_in h.binding fr)) l.2.8 ru k) k))
         where
           t : State
-          t = record (headed h.binding v cs m place s) { cells = fresh s.dot ∷ kept_on (declares h.binding) (fresh v) (under h.binding cs); dot = v; place =
-              place + 1 }
+          t = record (headed h.binding v cs m place s) {
+            cells = fresh s.dot ∷ kept_on (declares h.binding) (fresh v) (under h.binding cs);
+            dot = v;
+            place =
+                place + 1;
+          }
 
           x : Run × End
           x = meanings (ways.setting way calls) body v (with_bound h.binding (alone v) (run_at lay m s))
@@ -285,7 +309,12 @@ module _ (way : Way) (calls : Calls) (spare : ℕ) (pipes : Pipelines way) where
               (all_grown_in body (Some (fresh s.dot) ∷ bound_in h.binding fr)) v
       by v cs m place at frame deep env false k =
           part-leads other ih-other h.binding g lay fr l.2.1 rest rest 0 s.dot (with_bound h.binding (alone v) (run_at lay m s)) _ l.2.6 refl inside
-              (omega arith)
-          (record { at = ahead way.plan.code l.2.0 place l.2.2 (code.enter_with (declares h.binding) l.2.2) at
-              ∙ l.2.7; runs = st.runs; frame = bound-frame h.binding lay fr v cs frame; deep = bound-deep h.binding lay v cs deep }) refl
-              (bound-env h.binding lay v cs s m env) k
+          (omega arith)
+          (record {
+            at = ahead way.plan.code l.2.0 place l.2.2 (code.enter_with (declares h.binding) l.2.2) at
+                ∙ l.2.7;
+            runs = st.runs;
+            frame = bound-frame h.binding lay fr v cs frame;
+            deep = bound-deep h.binding lay v cs deep;
+          }) refl
+          (bound-env h.binding lay v cs s m env) k

@@ -52,8 +52,12 @@ module _ (plan : Plan) (t : Template) (s : State) where
     pub call-gives : (v : Value) → called f (values_in (reverse (take n s.cells) ++ take (piped_count p) (drop n s.cells))) ≡ Ok v
         → done plan t (act (call_with f n p)) s
         ≡ goes (record s { cells = fresh v ∷ drop (n + piped_count p) s.cells; made_text = s.made_text || makes_text f; place = s.place + 1 })
-    call-gives v e = call-by (Ok v) e ∙ ap (λ k. goes (record s { cells = fresh v ∷ drop (n + piped_count p) s.cells; made_text =
-        s.made_text || makes_text f; place = k })) (add-zero (s.place + 1))
+    call-gives v e = call-by (Ok v) e ∙ ap (λ k. goes (record s {
+      cells = fresh v ∷ drop (n + piped_count p) s.cells;
+      made_text =
+          s.made_text || makes_text f;
+      place = k;
+    })) (add-zero (s.place + 1))
 
     pub call-fails : (fault : CallFault) → called f (values_in (reverse (take n s.cells) ++ take (piped_count p) (drop n s.cells))) ≡ Err fault
         → done plan t (act (call_with f n p)) s ≡ failed t s.line (call_failed f fault) (record s { made_text = s.made_text || makes_text f })

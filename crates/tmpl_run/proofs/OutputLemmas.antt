@@ -69,7 +69,7 @@ module _ {S : Type 0} (so_far : S → Told) (old new : S) (p q : Piece) (same : 
   pub quiet : IsPut {F = SinkFault} (Ok tt) (given_of (so_far old) p) (given_of (so_far new) q) []
   quiet = subst (λ o. IsPut {F = SinkFault} (Ok tt) (given_of (so_far old) p) (given_of (so_far o) q) []) (sym same)
       (subst (λ (o : Piece). IsPut {F = SinkFault} (Ok tt) (given_of (so_far old) p) (given_of (so_far old) o) []) (sym kept)
-          (IsPut-nil (given_of (so_far old) p)))
+      (IsPut-nil (given_of (so_far old) p)))
 
   pub quiet-grows : Grows (so_far old) (so_far new)
   quiet-grows = subst (λ o. Grows (so_far old) (so_far o)) (sym same) (grows-same (so_far old))

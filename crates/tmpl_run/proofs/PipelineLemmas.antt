@@ -98,13 +98,13 @@ chained-runs : (s : Place) (names : List (List ℕ)) (code rest : Code) (vs : Li
 chained-runs s [] code rest vs made g runs =
     runs
     ∙ follow-same g.result (made || g.made_text) (λ v b. exec s 0 rest (fresh v ∷ vs) b)
-        (λ v b. follow (given (Ok v)) b (λ v b. exec s 0 rest (fresh v ∷ vs) b))
+    (λ v b. follow (given (Ok v)) b (λ v b. exec s 0 rest (fresh v ∷ vs) b))
     (λ v b. ap (λ b. exec s 0 rest (fresh v ∷ vs) b) (sym (or-false b)))
     ∙ sym (follow-then g made (λ v. given (chain s.missing_key [] v)) (λ v b. exec s 0 rest (fresh v ∷ vs) b))
 chained-runs s (name ∷ names) code rest vs made g runs =
     runs
     ∙ follow-same g.result (made || g.made_text) (λ v b. exec s 0 (act (chained (name ∷ names)) ∷ rest) (fresh v ∷ vs) b)
-        (λ v b. follow (given (chain s.missing_key (name ∷ names) v)) b (λ v b. exec s 0 rest (fresh v ∷ vs) b))
+    (λ v b. follow (given (chain s.missing_key (name ∷ names) v)) b (λ v b. exec s 0 rest (fresh v ∷ vs) b))
     (λ v b. exec-pushed s (chain s.missing_key (name ∷ names) v) rest vs b)
     ∙ sym (follow-then g made (λ v. given (chain s.missing_key (name ∷ names) v)) (λ v b. exec s 0 rest (fresh v ∷ vs) b))
 
@@ -123,7 +123,7 @@ short s stop piped skip more rest v vs made others far h = by (decides stop v) p
   where
     by : (t : Bool) (piped : Option Value) → exec s 0 more (with piped vs) made ≡ follow others made (λ v b. exec s 0 rest (fresh v ∷ vs) b)
         → (let e : Reached = elim (decided_by t skip (is_some piped) v (with piped vs))
-            [ on skip ws ↦ exec s skip more ws made | halted cause ↦ stops cause made | lacks ↦ lost ] in e)
+        [ on skip ws ↦ exec s skip more ws made | halted cause ↦ stops cause made | lacks ↦ lost ] in e)
         ≡ follow (decided t v others) made (λ v b. exec s 0 rest (fresh v ∷ vs) b)
     by true None h =
         exec-skip s skip more (fresh v ∷ vs) made ∙ code-is s (drop skip more) rest (fresh v ∷ vs) made far
@@ -144,10 +144,10 @@ follow-before : (g : Given Value) (rest : Given (List Value)) (made : Bool) (go 
 follow-before g rest made go =
     follow-then g made (λ v. given_then rest (λ vs. given (Ok (v ∷ vs)))) go
     ∙ follow-same g.result (made || g.made_text) (λ v b. follow (given_then rest (λ vs. given (Ok (v ∷ vs)))) b go)
-        (λ v b. follow rest b (λ ws b. go (v ∷ ws) b)) (λ v b.
+    (λ v b. follow rest b (λ ws b. go (v ∷ ws) b)) (λ v b.
     follow-then rest b (λ vs. given (Ok (v ∷ vs))) go
     ∙ follow-same rest.result (b || rest.made_text) (λ ws b. follow (given (Ok (v ∷ ws))) b go) (λ ws b. go (v ∷ ws) b)
-        (λ ws b. follow-given (Ok (v ∷ ws)) b go))
+    (λ ws b. follow-given (Ok (v ∷ ws)) b go))
 
 -- operands that all have a value have so many
 values-count : (s : Place) (os : Operands) (ws : List Value) → (operand_values s os).result ≡ Ok ws → length ws ≡ operand_count os
@@ -217,7 +217,7 @@ applied-runs : (s : Place) (f : Func) (os : Operands) (piped : Option Value) (re
     ≡ follow_by (or_call_failed f (called f (piped_after ws piped))) (made || makes_text f) (λ v b. exec s 0 rest (fresh v ∷ vs) b)
 applied-runs s f os piped rest vs made ws count =
     (λ j. let e : Reached = elim (called_on f (taken ws (with piped vs) (operand_count os) (sym count) j) (is_some piped)
-        (dropped ws (with piped vs) (operand_count os) (sym count) j)) [
+    (dropped ws (with piped vs) (operand_count os) (sym count) j)) [
       | on skip us ↦ exec s skip rest us (made || makes_text f)
       | halted cause ↦ stops cause (made || makes_text f)
       | lacks ↦ lost
@@ -226,7 +226,7 @@ applied-runs s f os piped rest vs made ws count =
   where
     by : (piped : Option Value)
         → (let e : Reached = elim (called_on f ws (is_some piped) (with piped vs))
-            [ on skip us ↦ exec s skip rest us (made || makes_text f) | halted cause ↦ stops cause (made || makes_text f) | lacks ↦ lost ] in e)
+        [ on skip us ↦ exec s skip rest us (made || makes_text f) | halted cause ↦ stops cause (made || makes_text f) | lacks ↦ lost ] in e)
         ≡ follow_by (or_call_failed f (called f (piped_after ws piped))) (made || makes_text f) (λ v b. exec s 0 rest (fresh v ∷ vs) b)
     by None = call-pushed s (or_call_failed f (called f ws)) rest vs (made || makes_text f)
     by (Some p) = call-pushed s (or_call_failed f (called f (ws ++ p ∷ []))) rest vs (made || makes_text f)
@@ -238,12 +238,12 @@ all-applied s f os piped rest vs made = by (operand_values s os).result (values-
   where
     by : (rs : Result (List Value) Cause) → ((ws : List Value) → rs ≡ Ok ws → length ws ≡ operand_count os)
         → follow_by rs (made || (operand_values s os).made_text) (λ ws b. exec s 0 (act (call_with f (operand_count os) (is_some piped)) ∷ rest)
-            (stacked ws (with piped vs)) b)
+        (stacked ws (with piped vs)) b)
         ≡ follow (go_on rs (operand_values s os).made_text (λ ws. meaning.applied f (piped_after ws piped))) made (λ v b. exec s 0 rest (fresh v ∷ vs) b)
     by (Ok ws) h =
         applied-runs s f os piped rest vs (made || (operand_values s os).made_text) ws (h ws refl)
         ∙ ap (λ b. follow_by (or_call_failed f (called f (piped_after ws piped))) b (λ v b. exec s 0 rest (fresh v ∷ vs) b))
-            (or-assoc made (operand_values s os).made_text (makes_text f))
+        (or-assoc made (operand_values s os).made_text (makes_text f))
     by (Err cause) h = refl
 
 bare-runs : (s : Place) (f : Func) (t : Bool) (code rest : Code) (vs : List Cell) (made : Bool) → BareAt t f code rest
@@ -313,7 +313,7 @@ mutual
   operand-runs (variable x names) s n lay code rest vs made h l =
       chained-runs s names code rest vs made (given (Ok (lookup x s.env)))
       (variable-given s x n lay code (chain_before names rest) vs made h (slot_named x lay) refl l
-          ∙ ap (λ b. exec s 0 (chain_before names rest) (fresh (lookup x s.env) ∷ vs) b) (sym (or-false made)))
+      ∙ ap (λ b. exec s 0 (chain_before names rest) (fresh (lookup x s.env) ∷ vs) b) (sym (or-false made)))
   operand-runs (bool_constant b) s n lay code rest vs made h l = code-is s code _ vs made l ∙ exec-pushed s (Ok (boolean b)) rest vs made
   operand-runs (number_constant k) s n lay code rest vs made h l = code-is s code _ vs made l ∙ exec-pushed s (Ok (number k)) rest vs made
   operand-runs (text_constant bytes) s n lay code rest vs made h l = code-is s code _ vs made l ∙ exec-pushed s (Ok (string bytes)) rest vs made
@@ -329,7 +329,7 @@ mutual
   operands-runs (operand o os) s n lay code rest vs made h l =
       operand-runs o s n lay code l.0 vs made h l.1
       ∙ follow-same (operand_value s o).result (made || (operand_value s o).made_text) (λ v b. exec s 0 l.0 (fresh v ∷ vs) b)
-          (λ v b. follow (operand_values s os) b (λ ws b. exec s 0 rest (stacked ws (fresh v ∷ vs)) b))
+      (λ v b. follow (operand_values s os) b (λ ws b. exec s 0 rest (stacked ws (fresh v ∷ vs)) b))
       (λ v b. operands-runs os s (suc n) lay l.0 rest (fresh v ∷ vs) b (slots-more n lay v vs s.env h) l.2)
       ∙ sym (follow-before (operand_value s o) (operand_values s os) made (λ ws b. exec s 0 rest (stacked ws vs) b))
 
@@ -343,7 +343,7 @@ mutual
   junction-runs (operand o os) s stop piped last n lay code rest vs made h some l =
       operand-runs o s n lay code l.0 (with piped vs) made h l.1
       ∙ follow-same (operand_value s o).result (made || (operand_value s o).made_text) (λ v b. exec s 0 l.0 (fresh v ∷ with piped vs) b)
-          (λ v b. follow (decided (decides stop v) v (junction stop s v os piped)) b (λ v b. exec s 0 rest (fresh v ∷ vs) b))
+      (λ v b. follow (decided (decides stop v) v (junction stop s v os piped)) b (λ v b. exec s 0 rest (fresh v ∷ vs) b))
       (λ v b. decide-runs os piped s stop n lay l.0 rest v vs b l.2 (λ more some k. junction-runs os s stop piped v n lay more rest vs b h some k))
       ∙ sym (follow-then (operand_value s o) made (λ v. decided (decides stop v) v (junction stop s v os piped)) (λ v b. exec s 0 rest (fresh v ∷ vs) b))
 
@@ -360,9 +360,9 @@ mutual
       let count = operand_count os + piped_count (is_some piped) in
       counted-runs (takes f count) f s code rest (with piped vs) made g
       (CallBy f (λ code rest. OperandsAt os n lay code (act (call_with f (operand_count os) (is_some piped)) ∷ rest))
-          (JunctionAt false os (is_some piped) n lay) (JunctionAt true os (is_some piped) n lay)) go
+      (JunctionAt false os (is_some piped) n lay) (JunctionAt true os (is_some piped) n lay)) go
       (λ t k. call-runs f (λ code rest. OperandsAt os n lay code (act (call_with f (operand_count os) (is_some piped)) ∷ rest))
-          (JunctionAt false os (is_some piped) n lay) (JunctionAt true os (is_some piped) n lay) code rest
+      (JunctionAt false os (is_some piped) n lay) (JunctionAt true os (is_some piped) n lay) code rest
       (exec s 0 code (with piped vs) made) applied (junction false s nothing os piped) (junction true s nothing os piped) made go
       (λ k. operands-runs os s n lay code all (with piped vs) made h k ∙ all-applied s f os piped rest vs made)
       (λ e k. junction-runs os s false piped nothing n lay code rest vs made h (some-both f And count (λ x. cc) e t) k)
@@ -380,7 +380,7 @@ mutual
   commands-runs (command os cs) s piped n lay code rest vs made h l =
       command-runs os s piped (n + piped_count (is_some piped)) lay code (act settle ∷ l.0) vs made (slots-with n lay piped vs s.env h) l.1
       ∙ follow-same (command_value s os piped).result (made || (command_value s os piped).made_text) (λ v b. exec s 0 (act settle ∷ l.0) (fresh v ∷ vs) b)
-          (λ v b. follow (commands_value s cs (Some (without_null v))) b (λ v b. exec s 0 rest (fresh v ∷ vs) b))
+      (λ v b. follow (commands_value s cs (Some (without_null v))) b (λ v b. exec s 0 rest (fresh v ∷ vs) b))
       (λ v b. commands-runs cs s (Some (without_null v)) n lay l.0 rest vs b h l.2)
       ∙ sym (follow-then (command_value s os piped) made (λ v. commands_value s cs (Some (without_null v))) (λ v b. exec s 0 rest (fresh v ∷ vs) b))
 

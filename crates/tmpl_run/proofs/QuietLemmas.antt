@@ -99,7 +99,7 @@ mutual
       let n = neither (makes_text f) (operands_make_text os) e in
       let all : Given Value = given_then (operand_values s os) (λ vs. meaning.applied f (meaning.piped_after vs piped)) in
       counted-quiet (takes f (meaning.argument_count os piped)) f (meaning.by_function f all (junction false s nothing os piped)
-          (junction true s nothing os piped))
+      (junction true s nothing os piped))
       (function-quiet f all (junction false s nothing os piped) (junction true s nothing os piped)
       (then-quiet (operand_values s os) (λ vs. meaning.applied f (meaning.piped_after vs piped)) (operands-quiet os s n.1) (λ vs. n.0))
       (junction-quiet os false s nothing piped n.1) (junction-quiet os true s nothing piped n.1))
@@ -137,7 +137,7 @@ with_pipeline-quiet s line p d go named quiet r e =
     let at : Place = record { missing_key = s.rules.missing_key; dot = d; env = r.env } in
     let g = pipeline_value at p in
     value-quiet s line g.result go (λ v is. quiet v) (record r { made_text = r.made_text || g.made_text })
-        (both r.made_text g.made_text e (pipeline-quiet p at named))
+    (both r.made_text g.made_text e (pipeline-quiet p at named))
 
 spend-quiet : (s : Setting) (line : ℕ) (go : Next) → Quiet go → Quiet (spend s line go)
 spend-quiet s line go quiet r e = by (nat_eq r.left 0)
@@ -271,7 +271,7 @@ module _ (rules : Rules) (ts : List Template) (named : set_makes_text ts ≡ fal
   pub run-quiet : (number : ℕ) (t : Template) (input : Option Value) → slice_get ts number ≡ Some t → (ran rules ts t.0 t.1 input).made_text ≡ false
   run-quiet number t input is =
       nodes-quiet (setting_of rules (calls_within rules ts (rules.depth_limit - 1)) t.0 t.1) (calls-quiet (rules.depth_limit - 1)) t.1.nodes
-          (starting_dot input) (at-quiet ts number t is named)
+      (starting_dot input) (at-quiet ts number t is named)
       (started rules.step_limit (starting_dot input)) refl
 
 pub text_is_named : TextIsNamed

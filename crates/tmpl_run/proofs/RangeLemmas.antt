@@ -114,7 +114,7 @@ module _ (way : Way) (calls : Calls) (spare : ℕ) (pipes : Pipelines way) where
   break-leads line (Some g) lay fr here rest s l st same-line w fits more-fits k =
       ways.takes way s (code.leave l.0 l.1) rest st.runs (st.at ∙ l.3) tt
       (subst (λ cs. Comes (ways.Leading way) (ring cs (λ d v cs. goes (record s { cells = cs; dot = d.val; place = s.place + 1 + l.1 }))) way.end)
-          (sym (ap (λ n. drop n s.cells) count ∙ cells.1))
+      (sym (ap (λ n. drop n s.cells) count ∙ cells.1))
       (k _ (record { at = ahead way.plan.code rest s.place l.1 (code.leave l.0 l.1) (st.at ∙ l.3) ∙ l.4; runs = st.runs; frame = cells.2; deep = cells.3 }) refl
       (ap (λ (v : Environment). let r : Run = record { env = v; text = s.text; left = s.left; made_text = s.made_text } in r) cells.4)))
     where
@@ -154,7 +154,7 @@ module _ (way : Way) (calls : Calls) (spare : ℕ) (pipes : Pipelines way) where
       (begin : drop place way.plan.code ≡ start)
       (turn-at : TurnAt b (None ∷ None ∷ lay) start first)
       (laid : NodesAt way.plan.templates body (bound_on b (None ∷ None ∷ lay)) (Some (record { out = rest; line = line; below = length lay })) first
-          (code.next (declared_count b + declared_in body) to line ∷ second)) where
+      (code.next (declared_count b + declared_in body) to line ∷ second)) where
     abbrev saved : Cell
     saved = cell d place
 
@@ -201,7 +201,7 @@ module _ (way : Way) (calls : Calls) (spare : ℕ) (pipes : Pipelines way) where
     -- the instruction behind a turn is the end of the turn
     body-ends : (k : ℕ) (dot : Value) (r : Run) → ((t : State) → behind k (cut_to (named lay) r) t → ways.Leading way t)
         → ways.Onward way (code.next (declared_count b + declared_in body) to line ∷ second) (all_grown body inner) (all_grown_in body (bound_in b (outer k)))
-            dot r
+        dot r
     body-ends k dot r h t st same run =
         let w : Within (turning k) (all_grown body inner) (all_grown_in body (bound_in b (outer k))) = record {
           n = declared_count b + declared_in body;
@@ -210,7 +210,7 @@ module _ (way : Way) (calls : Calls) (spare : ℕ) (pipes : Pipelines way) where
           depth = refl;
         } in
         let cells = ring-first (turning k) (all_grown body inner) (all_grown_in body (bound_in b (outer k)))
-            (code.next (declared_count b + declared_in body) to line ∷ second) t w st in
+        (code.next (declared_count b + declared_in body) to line ∷ second) t w st in
         h t (record {
           n = declared_count b + declared_in body;
           skip = to;
@@ -254,15 +254,15 @@ module _ (way : Way) (calls : Calls) (spare : ℕ) (pipes : Pipelines way) where
         by unbound l fits more =
             turns-by 0 first l (let same = long in omega arith)
             (more (saved ∷ cell v k ∷ cs) (s.place + 1) (ahead-one way.plan.code first s.place (code.turn 0) (at ∙ l))
-                (ap (λ l. Some saved ∷ Some (cell v k) ∷ l) frame) (omega arith) refl)
+            (ap (λ l. Some saved ∷ Some (cell v k) ∷ l) frame) (omega arith) refl)
         by (declare x) l fits more =
             turns-by 1 first l (let same = long in omega arith)
             (more (fresh e.1 ∷ saved ∷ cell v k ∷ cs) (s.place + 1) (ahead-one way.plan.code first s.place (code.turn 1) (at ∙ l))
-                (ap (λ l. None ∷ Some saved ∷ Some (cell v k) ∷ l) frame) (omega arith) refl)
+            (ap (λ l. None ∷ Some saved ∷ Some (cell v k) ∷ l) frame) (omega arith) refl)
         by (declare_pair i x) l fits more =
             turns-by 2 first l (let same = long in omega arith)
             (more (fresh e.1 ∷ fresh e.0 ∷ saved ∷ cell v k ∷ cs) (s.place + 1) (ahead-one way.plan.code first s.place (code.turn 2) (at ∙ l))
-                (ap (λ l. None ∷ None ∷ Some saved ∷ Some (cell v k) ∷ l) frame) (omega arith) refl)
+            (ap (λ l. None ∷ None ∷ Some saved ∷ Some (cell v k) ∷ l) frame) (omega arith) refl)
         by (assign x) l fits more =
             turns-by 0 l.0 l.1 (let same = long in omega arith)
             (sets (slot_named x (None ∷ None ∷ lay)) refl l.2)
@@ -276,11 +276,11 @@ module _ (way : Way) (calls : Calls) (spare : ℕ) (pipes : Pipelines way) where
                 (sym (stored-none x (None ∷ None ∷ lay) (saved ∷ cell v k ∷ cs) e.1 is-slot))
             sets (Some i) is-slot l =
                 ways.takes way (record s { cells = saved ∷ cell v k ∷ cs; dot = e.1; place = s.place + 1 }) (code.set_dot i) first same (there ∙ l)
-                    (let below = found-within x (None ∷ None ∷ lay) i is-slot in omega arith)
+                (let below = found-within x (None ∷ None ∷ lay) i is-slot in omega arith)
                 (more (slice_set (saved ∷ cell v k ∷ cs) i (fresh e.1)) (s.place + 1 + 1)
-                    (ahead-one way.plan.code first (s.place + 1) (code.set_dot i) (there ∙ l))
+                (ahead-one way.plan.code first (s.place + 1) (code.set_dot i) (there ∙ l))
                 (frame-set x (None ∷ None ∷ lay) (saved ∷ cell v k ∷ cs) i (fresh e.1) is-slot (omega arith) ∙ ap (λ l. Some saved ∷ Some (cell v k) ∷ l) frame)
-                    (omega (arith, length-set (saved ∷ cell v k ∷ cs) i (fresh e.1)))
+                (omega (arith, length-set (saved ∷ cell v k ∷ cs) i (fresh e.1)))
                 (stored x (None ∷ None ∷ lay) (saved ∷ cell v k ∷ cs) i e.1 is-slot (omega arith)))
 
     -- a turn from its first instruction on
@@ -294,13 +294,13 @@ module _ (way : Way) (calls : Calls) (spare : ℕ) (pipes : Pipelines way) where
         begins-turn e es k cs s same here at frame deep
         (λ ds there at-first is-frame is-deep is-env.
         ih (Some (turning k)) inner (bound_in b (outer k)) first (code.next (declared_count b + declared_in body) to line ∷ second)
-            (record s { cells = ds; dot = e.1; place = there })
+        (record s { cells = ds; dot = e.1; place = there })
         laid
         (record { at = at-first; runs = same; frame = is-frame; deep = is-deep })
         inside
         (let long = length-bound b (outer k) in omega arith)
         (subst (λ (w : Environment). let r : Run = record { env = w; text = s.text; left = s.left; made_text = s.made_text } in
-            ways.After way goal (Some (turning k)) (meanings (ways.setting way calls) body e.1 r)) (sym is-env)
+        ways.After way goal (Some (turning k)) (meanings (ways.setting way calls) body e.1 r)) (sym is-env)
         (ways.then-map way C goal (Some (turning k)) x.0 x.1 (λ r h. body-ends k e.1 r h)
         (on-turn es k x (length (env_of lay cs)) (length-env lay cs deep) h next))))
       where
@@ -329,7 +329,7 @@ module _ (way : Way) (calls : Calls) (spare : ℕ) (pipes : Pipelines way) where
         ways.takes way t (code.next tu.n tu.skip line) tu.more tu.runs tu.at tt
         (subst (λ cs. Comes (ways.Leading way) (ring cs (λ d v cs. again way.plan way.me tu.skip line d v cs (drop 1 (left_in v)) t)) way.end) (sym tu.cells)
         (subst (λ l. Comes (ways.Leading way) (again way.plan way.me tu.skip line saved (cell v k) tu.cs l t) way.end)
-            (sym (drop-one (elements_in (elements v)) k ∙ here)) h))
+        (sym (drop-one (elements_in (elements v)) k ∙ here)) h))
 
     -- behind a turn
     next-leads : NodesLead body → (es : List Element) (k : ℕ) → drop (suc k) (elements_in (elements v)) ≡ es → (r : Run) → ways.After way B g (others es r)
@@ -337,15 +337,20 @@ module _ (way : Way) (calls : Calls) (spare : ℕ) (pipes : Pipelines way) where
     next-leads ih [] k here r h t tu =
         nexts [] k here r t tu
         (leaves r (record t { cells = tu.cs; dot = d; place = t.place + 1 + tu.skip }) h
-            (record { at = ahead way.plan.code tu.more t.place tu.skip (code.next tu.n tu.skip line) tu.at
-            ∙ tu.far; runs = tu.runs; frame = tu.frame; deep = tu.deep }) refl tu.run)
+        (record {
+          at = ahead way.plan.code tu.more t.place tu.skip (code.next tu.n tu.skip line) tu.at
+              ∙ tu.far;
+          runs = tu.runs;
+          frame = tu.frame;
+          deep = tu.deep;
+        }) refl tu.run)
     next-leads ih (e ∷ es) k here r h t tu =
         nexts (e ∷ es) k here r t tu (on (λ r h t tu. next-leads ih es (suc k) (one-less (elements_in (elements v)) (suc k) e es here) r h t tu)
-            (nat_eq t.left 0) (subst (λ r. ways.After way B g (others (e ∷ es) r)) (sym tu.run) h))
+        (nat_eq t.left 0) (subst (λ r. ways.After way B g (others (e ∷ es) r)) (sym tu.run) h))
       where
         on : ((r : Run) → ways.After way B g (others es r) → (t : State) → behind (suc k) r t → ways.Leading way t)
             → (c : Bool) → ways.After way B g (after_turn (spend_if c (ways.setting way calls) line (scope (λ r. part e r))
-                (run_of lay (record t { cells = tu.cs }))) (others es))
+            (run_of lay (record t { cells = tu.cs }))) (others es))
             → Comes (ways.Leading way) (paid_if c way.plan way.me line t (λ s. onto (saved ∷ cell v (suc k) ∷ tu.cs) place s)) way.end
         on next true h = h
         on next false h =
@@ -359,12 +364,12 @@ module _ (way : Way) (calls : Calls) (spare : ℕ) (pipes : Pipelines way) where
       value-leads way calls pipes B g line s.left h.pipeline lay fr here l.0 s go
       l.1 st same-line (subst Plain (sym l.2.5) refl) (omega arith)
       (ways.unscope way A g lay fr (length (env_of lay s.cells)) (ranging (ways.setting way calls) line h s.dot (λ v. meanings (ways.setting way calls) body v)
-          (meanings (ways.setting way calls) other s.dot) (run_of lay s)) (length-env lay s.cells st.deep) inside k)
+      (meanings (ways.setting way calls) other s.dot) (run_of lay s)) (length-env lay s.cells st.deep) inside k)
       (λ v m place at k. ways.takes way (valued v m place s) (code.enter (declares_key h.binding) l.2.3) l.2.0 st.runs (at ∙ l.2.5)
       (let long = length-frame lay s.cells st.deep in let same = ap length st.frame in omega arith)
       (by v m place (at ∙ l.2.5) (elements_for (declares_key h.binding) v) refl (subst
-          (λ o. ways.After way B g (over (ways.setting way calls) line h.binding (λ v. meanings (ways.setting way calls) body v)
-          (meanings (ways.setting way calls) other s.dot) o (run_at lay m s))) (visited-is h.binding v) k)))
+      (λ o. ways.After way B g (over (ways.setting way calls) line h.binding (λ v. meanings (ways.setting way calls) body v)
+      (meanings (ways.setting way calls) other s.dot) o (run_at lay m s))) (visited-is h.binding v) k)))
     where
       A : Run → Type 0
       A = ways.Onward way rest lay fr s.dot
@@ -379,14 +384,19 @@ module _ (way : Way) (calls : Calls) (spare : ℕ) (pipes : Pipelines way) where
       by : (v : Value) (m : Bool) (place : ℕ) → drop place way.plan.code ≡ code.enter (declares_key h.binding) l.2.3 ∷ l.2.0
           → (o : Option (List Element)) → elements_for (declares_key h.binding) v ≡ o
           → ways.After way B g (over (ways.setting way calls) line h.binding (λ v. meanings (ways.setting way calls) body v)
-              (meanings (ways.setting way calls) other s.dot) o (run_at lay m s))
+          (meanings (ways.setting way calls) other s.dot) o (run_at lay m s))
           → Comes (ways.Leading way) (opened way.plan way.me l.2.3 (fresh v) s.cells o (valued v m place s)) way.end
       by v m place at None e k = ap (λ n. ran_so (valued v m place s) (Some (fault_at way.me n not_a_range))) same-line ∙ k
       by v m place at (Some []) e k =
           nodes.part-leads way calls spare pipes other ih-other unbound g lay fr l.2.2 rest rest 0 s.dot (run_at lay m s) _
-              (subst (λ n. Ended n 0 (NodesAt way.plan.templates other lay (exit_of g)) l.2.2 rest) zero-more l.2.8) refl inside (omega arith)
-          (record { at = ahead way.plan.code l.2.0 place l.2.3 (code.enter (declares_key h.binding) l.2.3) at
-              ∙ l.2.9; runs = st.runs; frame = st.frame; deep = st.deep }) refl refl k
+          (subst (λ n. Ended n 0 (NodesAt way.plan.templates other lay (exit_of g)) l.2.2 rest) zero-more l.2.8) refl inside (omega arith)
+          (record {
+            at = ahead way.plan.code l.2.0 place l.2.3 (code.enter (declares_key h.binding) l.2.3) at
+                ∙ l.2.9;
+            runs = st.runs;
+            frame = st.frame;
+            deep = st.deep;
+          }) refl refl k
         where
           zero-more : declared_in other ≡ 0 + declared_in other
           zero-more = omega arith
@@ -405,10 +415,10 @@ module _ (way : Way) (calls : Calls) (spare : ℕ) (pipes : Pipelines way) where
               (scope (λ r. meanings (ways.setting way calls) body e.1 (with_bound h.binding e r))) (run_at lay m s))
               (turns (ways.setting way calls) line h.binding (λ v. meanings (ways.setting way calls) body v) es))
               → Comes (ways.Leading way) (paid_if c way.plan way.me s.line (valued v m place s)
-                  (λ t. goes (record t { cells = cell t.dot (t.place + 1) ∷ fresh v ∷ s.cells; dot = nothing; place = t.place + 1 }))) way.end
+              (λ t. goes (record t { cells = cell t.dot (t.place + 1) ∷ fresh v ∷ s.cells; dot = nothing; place = t.place + 1 }))) way.end
           on true h = ap (λ n. ran_so (valued v m place s) (Some (fault_at way.me n (meaning.steps_spent way.plan.rules.step_limit)))) same-line ∙ h
           on false hk =
               turn-leads h.binding line body g lay fr l.2.0 l.2.1 l.2.2 rest l.2.4 s.dot v (place + 1) l.2.10 more begin l.2.6 l.2.7 ih-body e es 0 s.cells
               (record (valued v m place s) { dot = nothing; left = s.left - 1; place = place + 1 }) st.runs here-es begin st.frame st.deep hk
               (λ r hr t tu. next-leads h.binding line body g lay fr l.2.0 l.2.1 l.2.2 rest l.2.4 s.dot v (place + 1) l.2.10 more begin l.2.6 l.2.7 ih-body es 0
-                  (one-less (elements_in (elements v)) 0 e es here-es) r hr t tu)
+              (one-less (elements_in (elements v)) 0 e es here-es) r hr t tu)

@@ -154,8 +154,14 @@ module _ (size : ℕ) where
     invoked-within number (Some start) c cs e h = by (nat_eq s.left 0)
       where
         enters : State → Turn
-        enters t = goes (record t { cells = fresh c.val ∷ cell nothing (t.place + 1) ∷ cell t.dot t.template ∷ cs; dot = c.val; template = number; depth =
-            suc t.depth; place = start })
+        enters t = goes (record t {
+          cells = fresh c.val ∷ cell nothing (t.place + 1) ∷ cell t.dot t.template ∷ cs;
+          dot = c.val;
+          template = number;
+          depth =
+              suc t.depth;
+          place = start;
+        })
 
         by : (b : Bool) → Within (paid_if b plan me s.line s enters)
         by true = tt

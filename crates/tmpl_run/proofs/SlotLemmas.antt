@@ -201,7 +201,7 @@ cut-drop (suc n) (Some x ∷ big) lay (c ∷ cs) o h =
     let size = o.size in
     let less : Over n big lay = record { rest = o.rest; size = omega arith } in
     let one : suc (length (env_of big cs)) - named lay ≡ suc (length (env_of big cs) - named lay) =
-        (let long = length-env big cs (omega arith) in let few = named-less n big lay less in omega arith) in
+    (let long = length-env big cs (omega arith) in let few = named-less n big lay less in omega arith) in
     ap (λ n. drop n ((x, c.val) ∷ env_of big cs)) one ∙ cut-drop n big lay cs less (omega arith)
 
 pub frame-drop : (n : ℕ) (big lay : Layout) (cs : List Cell) → Over n big lay → length big ≤ length cs → frame_of lay (drop n cs) ≡ drop n (frame_of big cs)

@@ -102,10 +102,16 @@ module _ (way : Way) where
       by : ((k : ℕ) (t : State) → who_of t ≡ way.who → drop t.place way.plan.code ≡ drop k is → Able way.room last is k (length t.cells)
           → Arrives t (exec (spot e t) k is t.cells t.made_text) → ways.Leading way t)
           → (w : Option Operation) → op_in i ≡ w
-          → (let A : Type 0 = elim w [ None ↦ length s.cells ≡ last | Some o ↦ Fits o (length s.cells) way.room
-              × Follows o (length s.cells) (λ k m. Able way.room last is k m) ] in A)
-          → Arrives s (let r : Reached = elim w [ None ↦ at (i ∷ is) s.cells s.made_text | Some o ↦ elim (step (spot e s) o s.cells)
-              [ on k us ↦ exec (spot e s) k is us (made_by o s.made_text) | halted cause ↦ stops cause (made_by o s.made_text) | lacks ↦ lost ] ] in r)
+          → (let A : Type 0 = elim w [
+            | None ↦ length s.cells ≡ last
+            | Some o ↦ Fits o (length s.cells) way.room
+                × Follows o (length s.cells) (λ k m. Able way.room last is k m)
+          ] in A)
+          → Arrives s (let r : Reached = elim w [
+            | None ↦ at (i ∷ is) s.cells s.made_text
+            | Some o ↦ elim (step (spot e s) o s.cells)
+                [ on k us ↦ exec (spot e s) k is us (made_by o s.made_text) | halted cause ↦ stops cause (made_by o s.made_text) | lacks ↦ lost ]
+          ] in r)
           → ways.Leading way s
       by ih None is-op able h = h s.place here
       by ih (Some o) is-op able h =
@@ -117,8 +123,12 @@ module _ (way : Way) where
           there = here ∙ ap (λ j. j ∷ is) (op-is i o is-op)
 
           goes-by : (w : Went) → Leaves (λ k m. Able way.room last is k m) w
-              → Arrives s (let r : Reached = elim w [ on k us ↦ exec (spot e s) k is us (made_by o s.made_text) | halted cause ↦ stops cause
-              (made_by o s.made_text) | lacks ↦ lost ] in r)
+              → Arrives s (let r : Reached = elim w [
+                | on k us ↦ exec (spot e s) k is us (made_by o s.made_text)
+                | halted cause ↦ stops cause
+                    (made_by o s.made_text)
+                | lacks ↦ lost
+              ] in r)
               → Comes (ways.Leading way) (piped way.me o w s) way.end
           goes-by (on k us) able h = ih k (record s { cells = us; made_text = made_by o s.made_text; place = s.place + 1 + k }) same
               (ahead way.plan.code is s.place k (act o) there) able h
@@ -132,8 +142,11 @@ module _ (way : Way) where
 
   plain-exec : (rest : Code) (q : Place) (cs : List Cell) (m : Bool) → Plain rest → exec q 0 rest cs m ≡ at rest cs m
   plain-exec [] q cs m p = refl
-  plain-exec (i ∷ is) q cs m p = ap (λ w. let r : Reached = elim w [ None ↦ at (i ∷ is) cs m | Some o ↦ elim (step q o cs)
-      [ on k us ↦ exec q k is us (made_by o m) | halted cause ↦ stops cause (made_by o m) | lacks ↦ lost ] ] in r) p
+  plain-exec (i ∷ is) q cs m p = ap (λ w. let r : Reached = elim w [
+    | None ↦ at (i ∷ is) cs m
+    | Some o ↦ elim (step q o cs)
+        [ on k us ↦ exec q k is us (made_by o m) | halted cause ↦ stops cause (made_by o m) | lacks ↦ lost ]
+  ] in r) p
 
   -- a pipeline comes to its value, or to its fault
   pub pipelines-lead : Pipelines way

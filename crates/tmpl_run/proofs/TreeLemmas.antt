@@ -33,7 +33,7 @@ use Rattle.tmpl_run.proofs.WayLemmas.{Ring, Stands, Way, Who, bare, exit_of, see
 
 module _ (way : Way) (first : 1 ≤ way.who.depth) (linked : Starts way.plan.templates way.plan.templates way.plan.starts way.plan.code)
     (n : ℕ) (deeper : Deeper way.plan way.room way.end n) (depth : way.who.depth + n ≡ way.plan.rules.depth_limit) (base : ℕ)
-        (tall : length way.home ≡ 3 + base) (left : Left way.plan.templates way.room n way.who.number base) where
+    (tall : length way.home ≡ 3 + base) (left : Left way.plan.templates way.room n way.who.number base) where
   abbrev pipes : Pipelines way
   pipes = pipelines-lead way
 
@@ -73,13 +73,13 @@ module _ (way : Way) (first : 1 ≤ way.who.depth) (linked : Starts way.plan.tem
         spent way calls spare pipes line (tree.text bytes) refl (text-leads line bytes) g lay fr here start rest s l at-node st inside fits more-fits k
     step-leads line (tree.action h) mine g lay fr here start rest s l at-node st inside fits more-fits k =
         spent way calls spare pipes line (tree.action h) refl (action-leads way calls spare pipes line h) g lay fr here start rest s l at-node st inside fits
-            more-fits k
+        more-fits k
     step-leads line (tree.control_node c h body other) mine g lay fr here start rest s l at-node st inside fits more-fits k =
         spent way calls spare pipes line (tree.control_node c h body other) refl
         (control-leads line c h body other (λ g lay fr here rest s l st inside fits k. nodes-lead body (λ name names. mine name (inl names)) g lay fr here rest
-            s l st inside fits k)
+        s l st inside fits k)
         (λ g lay fr here rest s l st inside fits k. nodes-lead other (λ name names. mine name (inr names)) g lay fr here rest s l st inside fits k)) g lay fr
-            here start rest s l at-node st inside fits more-fits k
+        here start rest s l at-node st inside fits more-fits k
     step-leads line tree.break_node mine g lay fr here start rest s l at-node st inside fits more-fits k =
         spent way calls spare pipes line tree.break_node refl (break-leads way calls spare pipes line) g lay fr here start rest s l at-node st inside fits
         more-fits k
@@ -88,7 +88,7 @@ module _ (way : Way) (first : 1 ≤ way.who.depth) (linked : Starts way.plan.tem
         more-fits k
     step-leads line (tree.template_node name given) mine g lay fr here start rest s l at-node st inside fits more-fits k =
         call-leads way pipes first linked n deeper depth base spare left (let own = fits-here in omega arith) line name given (mine name refl) g lay fr here
-            start rest s l at-node st inside fits more-fits k
+        start rest s l at-node st inside fits more-fits k
 
     nodes-lead : (ns : Nodes) → Mine (λ name. NodesName name ns) → nodes.NodesLead way calls spare pipes ns
     nodes-lead tree.none mine g lay fr here rest s l st inside fits k = k s (record { at = st.at ∙ l; runs = st.runs; frame = st.frame; deep = st.deep }) refl
@@ -97,9 +97,9 @@ module _ (way : Way) (first : 1 ≤ way.who.depth) (linked : Starts way.plan.tem
         step-leads line n (λ name names. mine name (inl names)) g lay fr here l.0 l.1 s l.2 l.3 st inside (omega arith) (omega arith)
         (ways.then-map way (λ r. ways.After way A g (meanings set ns s.dot r)) (ways.Onward way l.1 (grown n lay) (grown_in n fr) s.dot) g x.0 x.1
         (λ r k t stands dot run. nodes-lead ns (λ name names. mine name (inr names)) g (grown n lay) (grown_in n fr) l.1 rest t l.4 stands
-            (inside-grown way.home g n lay fr inside) (let long = length-grown n fr in omega arith)
+        (inside-grown way.home g n lay fr inside) (let long = length-grown n fr in omega arith)
         (subst (λ d. ways.After way (ways.Onward way rest (all_grown ns (grown n lay)) (all_grown_in ns (grown_in n fr)) d) g
-            (meanings set ns d (run_of (grown n lay) t))) (sym dot)
+        (meanings set ns d (run_of (grown n lay) t))) (sym dot)
         (subst (λ r. ways.After way A g (meanings set ns s.dot r)) (sym run) k)))
         (ways.then-on way A g x.0 x.1 (meanings set ns s.dot) k))
       where
@@ -116,11 +116,11 @@ module _ (way : Way) (first : 1 ≤ way.who.depth) (linked : Starts way.plan.tem
       → ways.Leading way s
   template-leads s same at-start frame deep k =
       nodes-lead way.me.1.nodes (λ name names. names) None first_layout way.home (drop s.place way.plan.code) end s
-          (subst (λ p. NodesAt way.plan.templates way.me.1.nodes first_layout None (drop p way.plan.code) end) place start.laid)
-          (record { at = refl; runs = same; frame = frame; deep = deep }) (record { n = 0; over = over-none first_layout; cells = refl })
-          (let own = fits-here in let high = tall in omega arith)
+      (subst (λ p. NodesAt way.plan.templates way.me.1.nodes first_layout None (drop p way.plan.code) end) place start.laid)
+      (record { at = refl; runs = same; frame = frame; deep = deep }) (record { n = 0; over = over-none first_layout; cells = refl })
+      (let own = fits-here in let high = tall in omega arith)
       (ways.then-map way (ways.Leaves way) (ways.Onward way end (all_grown way.me.1.nodes first_layout) (all_grown_in way.me.1.nodes way.home) s.dot) None x.0
-          x.1
+      x.1
       (λ r k t st dot run. k t (record {
         n = declared_in way.me.1.nodes;
         more = start.rest;
@@ -128,7 +128,7 @@ module _ (way : Way) (first : 1 ≤ way.who.depth) (linked : Starts way.plan.tem
         runs = st.runs;
         frame =
             frame-drop (declared_in way.me.1.nodes) (all_grown way.me.1.nodes first_layout) first_layout t.cells (over-grown way.me.1.nodes first_layout)
-                st.deep
+            st.deep
             ∙ ap (drop (declared_in way.me.1.nodes)) st.frame ∙ frame-grown way.me.1.nodes way.home;
         deep = (let size = (over-grown way.me.1.nodes first_layout).size in let deep = st.deep in omega arith);
       }) (ap bare run)) k)
@@ -151,7 +151,7 @@ templates-lead plan room f linked zero who me is-me first depth home s same at-s
     template-leads (way_of plan room f who me is-me home) first linked zero tt depth base tall left s same at-start frame deep k
 templates-lead plan room f linked (suc n) who me is-me first depth home s same at-start frame deep base tall left k =
     template-leads (way_of plan room f who me is-me home) first linked (suc n) (λ who me is-me first depth home s same at-start frame deep base tall left k.
-        templates-lead plan room f linked n who me is-me first depth home s same at-start frame deep base tall left k)
+    templates-lead plan room f linked n who me is-me first depth home s same at-start frame deep base tall left k)
     depth base tall left s same at-start frame deep k
 
 -- the first template ends the run
@@ -161,7 +161,7 @@ module _ (plan : Plan) (room : ℕ) (linked : Starts plan.templates plan.templat
       → Ends plan room (starting plan number start d) (ran_with plan.rules plan.templates t.0 t.1 d)
   run-leads number me fits is-me start at-start d =
       templates-lead plan room f linked (plan.rules.depth_limit - 1) who me is-me (omega arith) (omega arith) home (starting plan number start d) refl at-start
-          refl (omega arith)
+      refl (omega arith)
       0 refl (λ rest chain short. let all = fits rest chain (omega arith) in omega arith) (by x.1 refl)
     where
       who : Who
@@ -181,7 +181,7 @@ module _ (plan : Plan) (room : ℕ) (linked : Starts plan.templates plan.templat
       leaves is t ret same =
           ways.takes (way_of plan room f who me is-me home) t (code.return_from ret.n) ret.more ret.runs ret.at tt
           (subst (λ n. Comes (λ t. Ends plan room t f) (returned_if (nat_lt 1 n) (drop ret.n t.cells) t) f) (sym (ap (λ (w : Who). w.depth) ret.runs))
-              (ap (λ (r : Run). seen r None) same ∙ is))
+          (ap (λ (r : Run). seen r None) same ∙ is))
 
       by : (e : End) → x.1 ≡ e → ways.Then (way_of plan room f who me is-me home) (ways.Leaves (way_of plan room f who me is-me home)) None x.0 e
       by meaning.done e = leaves (λ j. ran_of (x.0, sym e j))

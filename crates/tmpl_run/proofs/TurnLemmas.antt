@@ -135,17 +135,22 @@ module _ (plan : Plan) (t : Template) (n skip line : ℕ) (s : State) (some : 2 
       → done plan t (code.next n skip line) s ≡ failed t line (steps_spent plan.rules.step_limit) s
   next-spent h left = let more = more-left v h in
       turn-by (more.0 ∷ more.1) more.2 ∙ ap (λ b. paid_if b plan t line s (λ u. onto (d ∷ cell v.val (suc v.num) ∷ drop 2 (drop n s.cells)) d.num u))
-          (let z : nat_eq s.left 0 ≡ true = grind (arith, nat_tests) in z)
+      (let z : nat_eq s.left 0 ≡ true = grind (arith, nat_tests) in z)
 
   pub next-more : has_more (slot_cell 1 (drop n s.cells)) ≡ true → s.left ≢ 0
-      → done plan t (code.next n skip line) s ≡ goes (record s { cells = slice_set (drop n s.cells) 1
-          (cell (slot 1 (drop n s.cells)) ((slot_cell 1 (drop n s.cells)).num + 1)); left = s.left - 1; line = line; place =
-          (slot_cell 0 (drop n s.cells)).num })
+      → done plan t (code.next n skip line) s ≡ goes (record s {
+        cells = slice_set (drop n s.cells) 1
+            (cell (slot 1 (drop n s.cells)) ((slot_cell 1 (drop n s.cells)).num + 1));
+        left = s.left - 1;
+        line = line;
+        place =
+            (slot_cell 0 (drop n s.cells)).num;
+      })
   next-more h left = let more = more-left v h in let one : suc v.num ≡ v.num + 1 = omega arith in
       turn-by (more.0 ∷ more.1) more.2 ∙ ap (λ b. paid_if b plan t line s (λ u. onto (d ∷ cell v.val (suc v.num) ∷ drop 2 (drop n s.cells)) d.num u))
-          (let z : nat_eq s.left 0 ≡ false = grind (arith, nat_tests) in z)
+      (let z : nat_eq s.left 0 ≡ false = grind (arith, nat_tests) in z)
       ∙ ap (λ k. goes (record s { cells = d ∷ cell v.val k ∷ drop 2 (drop n s.cells); left = s.left - 1; line = line; place = d.num })) one
       ∙ ap (λ (cs : List Cell). goes (record s { cells = cs; left = s.left - 1; line = line; place = d.num }))
-          (sym (recounted (drop n s.cells) (v.num + 1) some))
+      (sym (recounted (drop n s.cells) (v.num + 1) some))
 
 pub ruleset nexts = (next-over, next-spent, next-more)

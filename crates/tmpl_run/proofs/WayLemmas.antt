@@ -136,7 +136,7 @@ module _ (way : Way) where
       → Comes (λ t. Leading t) (done way.plan way.me i s) way.end → Leading s
   takes s i is same at ready more =
       taken way.plan way.room way.end way.me s i (ap (λ (w : Who). slice_get way.plan.templates w.number) same ∙ way.is-me) (here way.plan.code is s.place i at)
-          ready more
+      ready more
 
   -- where a part that is done goes on
   abbrev pub Onward : Code → Layout → Frame → Value → Run → Type 0
@@ -231,8 +231,13 @@ module _ (way : Way) where
       → Stands way.plan way.who end big gr s → Over n big lay → drop n gr ≡ fr
       → s.dot ≡ d → run_of big s ≡ r → Onward rest lay fr d (cut_to (named lay) r) → Leading (record s { cells = drop n s.cells; place = place })
   closed n place end rest big lay fr gr d r s at st over under same is k = k (record s { cells = drop n s.cells; place = place })
-      (record { at = at; runs = st.runs; frame = frame-drop n big lay s.cells over st.deep ∙ ap (drop n) st.frame
-          ∙ under; deep = (let size = over.size in let d = st.deep in let l = length-drop n s.cells in omega arith) })
+      (record {
+        at = at;
+        runs = st.runs;
+        frame = frame-drop n big lay s.cells over st.deep ∙ ap (drop n) st.frame
+            ∙ under;
+        deep = (let size = over.size in let d = st.deep in let l = length-drop n s.cells in omega arith);
+      })
       same
       (ap (λ (v : Environment). record (run_of big s) { env = v }) (sym (cut-drop n big lay s.cells over st.deep)) ∙ ap (cut_to (named lay)) is)
 
@@ -242,7 +247,7 @@ module _ (way : Way) where
   forgets n skip end more rest big lay fr gr d r s e st over under far same is k =
       takes s (code.cut n skip) more st.runs (st.at ∙ e) (omega (arith, over.size, st.deep))
       (closed n (s.place + 1 + skip) end rest big lay fr gr d r s (ahead way.plan.code more s.place skip (code.cut n skip) (st.at ∙ e) ∙ far) st over under same
-          is k)
+      is k)
 
   -- the end of a part
   pub closes : (n skip : ℕ) (end more rest : Code) (big lay : Layout) (fr gr : Frame) (d : Value) (r : Run) (s : State) → EndAt n skip end more

@@ -148,7 +148,7 @@ mutual
       let e = and_parts _ (passes (f ∷ fs) inside (roles_of xs)) h in
       let inner = leads-fit b (f ∷ fs) inside e.1 in
       let behind = closes-fit o f fs (with_inner known (seen_behind inside.inner body)) refl (part-low c (length names) (length (names_of r).declares))
-          (within-seen c r names body) inner.1 in
+      (within-seen c r names body) inner.1 in
       let other_fits = subst (λ k. fits other (loops_in c true (in_loop (top fs))) (levels (top fs) + 1) k ≡ true) (part-seen c r names body) behind.0 in
       let here = both_true (sym (opener-test c r (top fs) names) ∙ e.0) (both_true inner.0 other_fits) in
       let more = leads-fit l fs known (subst (λ k. passes fs (with_inner known k) (roles_of zs) ≡ true) (control-names r names body) behind.1) in
@@ -183,11 +183,11 @@ mutual
       let count = length-append seen declares in
       let fits_in = length-take f.part known.inner in
       let behind = closes-fit o g fs (with_inner known (seen_behind inside body)) own (omega arith)
-          (part-long inside body (length seen + length declares) (omega arith)) inner.1 in
+      (part-long inside body (length seen + length declares) (omega arith)) inner.1 in
       let body_fits = subst (λ k. fits body k (f.levels + 1) inside ≡ true) (branch-loops b f.opening f.has_else f.around control_is
-          ∙ sym (branch-loops b f.opening true f.around control_is)) inner.0 in
+      ∙ sym (branch-loops b f.opening true f.around control_is)) inner.0 in
       let other_fits = subst (λ k. fits other (loops f.opening true f.around) (f.levels + 1) k ≡ true)
-          (take-seen (length seen + length declares) body inside (omega arith)) behind.0 in (
+      (take-seen (length seen + length declares) body inside (omega arith)) behind.0 in (
         branch-fits b line r body other (loops f.opening true f.around) f.levels seen (both_true (both_true t.1 (both_true body_fits other_fits)) refl),
         subst (λ k. passes fs (with_inner known k) (roles_of zs) ≡ true) (take-seen f.start body inside (omega arith)
             ∙ take-append-le f.start seen declares (omega arith) ∙ take-take f.start f.part known.inner low) behind.1,
@@ -249,14 +249,14 @@ mutual
       let within_body = leads-rest b n in
       let e = and_parts (fits_node (control_node c r body other) loop (levels (top fs)) names) (fits ns loop (levels (top fs)) names) h in
       let d = and_parts (headed (levels (top fs)) names r) (fits body (loops_in c false loop) (levels (top fs) + 1) inside && fits other (loops_in c true loop)
-          (levels (top fs) + 1) (part_names c names (names_of r).declares))
+      (levels (top fs) + 1) (part_names c names (names_of r).declares))
       e.0 in
       let parts = and_parts (fits body (loops_in c false loop) (levels (top fs) + 1) inside)
-          (fits other (loops_in c true loop) (levels (top fs) + 1) (part_names c names (names_of r).declares)) d.1 in
+      (fits other (loops_in c true loop) (levels (top fs) + 1) (part_names c names (names_of r).declares)) d.1 in
       let others = subst (λ k. fits other (loops_in c true loop) (levels (top fs) + 1) k ≡ true) (sym (part-seen c r names body)) parts.1 in
       let more = leads-pass l (closes-rest o within_body) fs known e.1 k in
       let behind = closes-pass o within_body f fs (with_inner known (seen_behind inside body)) refl refl
-          (part-low c (length names) (length (names_of r).declares)) (within-seen c r names body) others
+      (part-low c (length names) (length (names_of r).declares)) (within-seen c r names body) others
       (subst (λ k. passes fs (with_inner known k) (roles_of zs) ≡ true) (sym (control-names r names body)) more) in
       both_true (opener-test c r (top fs) names ∙ d.0) (leads-pass b n (f ∷ fs) (with_inner known inside) parts.0 behind)
   leads-pass _ n fs known h k = absurd n
@@ -273,10 +273,10 @@ mutual
       let fits_in = length-take f.part known.inner in
       let placed : takes_else (Some f) ≡ true = ap (λ t. not t && not f.has_else) own ∙ ap not first in
       let at_end = subst (λ k. passes fs (with_inner known k) (roles_of ys) ≡ true)
-          (sym (take-seen f.start other seen (omega arith) ∙ take-take f.start f.part known.inner low)) k in
+      (sym (take-seen f.start other seen (omega arith) ∙ take-take f.start f.part known.inner low)) k in
       both_true (ap (λ t. no_fault (first_fault t false true)) placed)
       (leads-pass l n (elsed f ∷ fs) (with_inner known seen) h (subst (λ t. passes fs (closed_if t (with_inner known (take f.start (seen_behind seen other))))
-          (roles_of ys) ≡ true) (sym own) at_end))
+      (roles_of ys) ≡ true) (sym own) at_end))
   closes-pass (an_else_branch l o) n f fs known first own low high h k = absurd n
 
 -- ---- what nodes say has no such item

@@ -58,14 +58,14 @@ stands-elsed xs i known f fs at takes s =
     let el : IsElseOf xs s.1 i = record { at = at; belongs = s.2.last } in
     let has : HasElse xs s.1 (i + 1) = (i, omega arith, el) in
     let r : Stands xs (i + 1) (with_inner known (take f.part known.inner ++ [])) (changed f true f.levels [] ∷ fs) =
-        stands-parted xs i known f fs s (act_role bare_else) at refl refl (by_else el) own true f.levels []
+    stands-parted xs i known f fs s (act_role bare_else) at refl refl (by_else el) own true f.levels []
     (levels-else xs i f.levels (even-step xs (act_role bare_else) i at refl refl) at s.0.levels_are)
     (λ e. has, λ h. refl) (λ e. has) (loops-else f.opening f.around own)
     (λ n c. in-nothing n c)
     (λ n c. absurd (wrong-piece xs i (i + 1) (i + 1) n (act_role bare_else) at (λ p e. cc) (λ c p e. cc) (λ b p e. cc) c))
     (λ n c. in-nothing n c)
     (λ n k. inl (part-sooner xs s.1 i (i + 1) n (λ m from to t. let e : m ≡ i = omega arith in
-        no-else_branch xs (act_role bare_else) i s.1 at (λ b p g. cc) (subst (IsElseBranchOf xs s.1) e t)) k)) in
+    no-else_branch xs (act_role bare_else) i s.1 at (λ b p g. cc) (subst (IsElseBranchOf xs s.1) e t)) k)) in
     let frame : changed f true f.levels [] ≡ elsed f = ap (λ k. record f { has_else = true; part = k }) (add-zero f.part) in
     subst (λ g. Stands xs (i + 1) (with_inner known (take f.part known.inner)) (g ∷ fs)) frame
     (subst (λ l. Stands xs (i + 1) (with_inner known l) (changed f true f.levels [] ∷ fs)) (append-nil (take f.part known.inner)) r)
@@ -90,13 +90,13 @@ module _ (xs : List Role) (i : ℕ) (b : Branch) (p : Names) (at : slice_get xs 
   else_branch-part j n (branch_header {k = k} {b = d} {p = q} lt e c l) = ⊎_elim
       (λ low. inl (branch_header low e c l))
       (λ high. let s : k ≡ i = omega arith in inr (subst (λ z. Contains z.declares n)
-          (sym (same-pipe d q (subst (λ z. slice_get xs z ≡ Some (act_role (branch_else d q))) s e))) c))
+      (sym (same-pipe d q (subst (λ z. slice_get xs z ≡ Some (act_role (branch_else d q))) s e))) c))
       (cases_lt k i)
 
   else_branch-no-else : (j : ℕ) → HasElse xs j (i + 1) → HasElse xs j i
   else_branch-no-else j h = ⊎_elim (λ lt. (h.0, lt, h.2))
       (λ ge. let u = h.1 in let s : h.0 ≡ i = omega arith in let g : act_role (branch_else b p) ≡ act_role bare_else =
-          same-piece xs i (act_role (branch_else b p)) (act_role bare_else) at (subst (λ z. slice_get xs z ≡ Some (act_role bare_else)) s h.2.at) in cc)
+      same-piece xs i (act_role (branch_else b p)) (act_role bare_else) at (subst (λ z. slice_get xs z ≡ Some (act_role bare_else)) s h.2.at) in cc)
       (cases_lt h.0 i)
 
 pub stands-branched : (xs : List Role) (i : ℕ) (known : Known) (f : Frame) (fs : List Frame) (b : Branch) (p : Names)
@@ -109,7 +109,7 @@ stands-branched xs i known f fs b p at takes joined s =
     let tu : IsElseBranchOf xs s.1 i = record { branch = b; names = p; at = at; belongs = s.2.last } in
     stands-parted xs i known f fs s (act_role (branch_else b p)) at refl refl (by_else_branch tu) own f.has_else (f.levels + 1) p.declares
     (levels-else_branch xs i s.1 f.levels even tu (ap is_level (same-opening xs s.1 s.2.last.is_open.opened f.opening s.2.last.is_open.at s.2.opened)
-        ∙ level-there f.opening own) s.0.levels_are)
+    ∙ level-there f.opening own) s.0.levels_are)
     (Decides-like f.has_else (else_before xs s.1 i (i + 1) (omega arith)) (else_branch-no-else xs i b p at s.1) s.2.has)
     (λ e. absurd (joins-no-range b f.opening joined e))
     (loops-other f.opening f.has_else f.around own (joins-no-range b f.opening joined))
@@ -129,7 +129,7 @@ stands-ended xs i known f fs at s =
     (λ lt. let open_at = cut xs s.1 b.by i lt (let u = b.before in omega arith) s.2.last.is_open in
     ⊎_elim (λ z. z s.1 open_at) (λ q. q.1.last s.1 q.2.before open_at) o)
     (λ le. let m : b.by ≡ s.1 = omega arith in shut-at xs (act_role (plain p)) s.1 i (subst (λ z. slice_get xs z ≡ Some (act_role (plain p))) m e) refl
-        s.2.last.is_open)
+    s.2.last.is_open)
     (cases_lt s.1 b.by))))
     fs s.3)
 
@@ -154,8 +154,17 @@ stands-declared xs i known p fs at s = stands-moves xs i (i + 1) same known p.de
         (λ m from to e. omega arith)) (last-of xs i known fs s)
 
     new : (n : Name) → Contains p.declares n → Brought xs (i + 1) (i + 1) n
-    new n c = record { by = i; before = omega arith; template = (h.template, h.is_template_here, template-moves xs i (i + 1) (alike-even xs i (i + 1) same.even)
-        h.template h.is_template_here); reaches = reaches n c }
+    new n c = record {
+      by = i;
+      before = omega arith;
+      template = (
+        h.template,
+        h.is_template_here,
+        template-moves xs i (i + 1) (alike-even xs i (i + 1) same.even)
+            h.template h.is_template_here,
+      );
+      reaches = reaches n c;
+    }
 
     same-pipe : (q : Names) → slice_get xs i ≡ Some (act_role (plain q)) → p ≡ q
     same-pipe q e = let g : act_role (plain p) ≡ act_role (plain q) = same-piece xs i (act_role (plain p)) (act_role (plain q)) at e in cc
@@ -176,5 +185,5 @@ stands-still xs i known x fs at o e ne np nopen nt s =
     subst (λ l. Stands xs (i + 1) (with_inner known l) fs) (append-nil known.inner)
     (stands-moves xs i (i + 1) (same-still xs x i at o e ne nt) known [] (λ n c. in-nothing n c)
     (λ n b ge. let u = b.before in let m : b.by ≡ i = omega arith in absurd (wrong-piece xs i (i + 1) (i + 1) n x at np nopen nt
-        (subst (λ k. Reaches xs k (i + 1) (i + 1) n) m b.reaches)))
+    (subst (λ k. Reaches xs k (i + 1) (i + 1) n) m b.reaches)))
     fs s)

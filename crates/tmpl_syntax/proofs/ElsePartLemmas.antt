@@ -105,12 +105,12 @@ module _ (xs : List Role) (j h a b : ℕ) (l : IsLast xs j a) (own : is_template
     reaches = let lt = e.before in reaches-moves xs e.by j j a b n
         (λ q le o. through xs q j a o l.is_open)
         (λ q m lq o from to el. late m q from (omega arith) o.before el.belongs (λ s. at-opening (act_role bare_else)
-            (subst (λ z. slice_get xs z ≡ Some (act_role bare_else)) s el.at) refl))
+        (subst (λ z. slice_get xs z ≡ Some (act_role bare_else)) s el.at) refl))
         (λ q m lq o from to tu. late m q from (omega arith) o.before tu.belongs (λ s. at-opening (act_role (branch_else tu.branch tu.names))
-            (subst (λ z. slice_get xs z ≡ Some (act_role (branch_else tu.branch tu.names))) s tu.at) refl))
+        (subst (λ z. slice_get xs z ≡ Some (act_role (branch_else tu.branch tu.names))) s tu.at) refl))
         (λ o has. ⊎_elim (λ low. (has.0, low, has.2))
         (λ high. absurd (late has.0 e.by high (let g = has.1 in omega arith) lt has.2.belongs
-            (λ s. at-opening (act_role bare_else) (subst (λ z. slice_get xs z ≡ Some (act_role bare_else)) s has.2.at) refl)))
+        (λ s. at-opening (act_role bare_else) (subst (λ z. slice_get xs z ≡ Some (act_role bare_else)) s has.2.at) refl)))
         (cases_lt has.0 j))
         e.reaches;
   }
@@ -129,8 +129,12 @@ module _ (xs : List Role) (j h a b : ℕ) (l : IsLast xs j a) (own : is_template
       record {
         by = k;
         before = kh;
-        template = (t, template-moves xs j k (alike-last xs j k lk (ap is_template
-            (same-opening xs j lk.is_open.opened l.is_open.opened lk.is_open.at l.is_open.at) ∙ own)) t is, template-moves xs j a (alike-last xs j a l own) t
-            is);
+        template = (
+          t,
+          template-moves xs j k (alike-last xs j k lk (ap is_template
+              (same-opening xs j lk.is_open.opened l.is_open.opened lk.is_open.at l.is_open.at) ∙ own)) t is,
+          template-moves xs j a (alike-last xs j a l own) t
+              is,
+        );
         reaches = from_else_branch e c lk l.is_open;
       }

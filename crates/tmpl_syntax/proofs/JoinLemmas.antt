@@ -132,7 +132,7 @@ cut-back (an_action ts ∷ ps) h t clear line =
       pieces = action here ts ∷ more.pieces;
       cuts = subst (λ (bs : List ℕ). Cuts false line bs (text_piece line t ++ action here ts ∷ more.pieces)) file
           (subst (λ (qs : List Piece). Cuts false line (o.before ++ o.delimiter ++ body ++ rest) qs)
-              (append_assoc (text_piece line t) (action here ts ∷ []) more.pieces)
+          (append_assoc (text_piece line t) (action here ts ∷ []) more.pieces)
           (closed o.leads (tokens_closed (h.0.spells rest) closes) more.cuts));
       same = same_action more.same;
     }

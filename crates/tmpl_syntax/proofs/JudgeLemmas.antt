@@ -32,7 +32,7 @@ no-part : (xs : List Role) (i : ℕ) (known : Known) (fs : List Frame) → Stand
 no-part xs i known [] s e = nothing_open s.0
 no-part xs i known (f ∷ fs) s e = ⊎_elim
     (λ t. of_a_template s.2.last (ap is_template (same-opening xs s.1 s.2.last.is_open.opened f.opening s.2.last.is_open.at s.2.opened)
-        ∙ not-false (is_template f.opening) t))
+    ∙ not-false (is_template f.opening) t))
     (λ h. after_an_else s.2.last (s.2.has.0 (not-false f.has_else h)))
     (and_cases (not (is_template f.opening)) (not f.has_else) e)
 
@@ -126,7 +126,7 @@ shallow xs i a t names h e (in_levels {n = n} is count le) =
     let same : n ≡ levels t = levels-unique count h.levels_are in
     let full : leb most_levels (levels t) ≡ true = le-leb most_levels (levels t) (subst (λ k. most_levels ≤ k) same le) in
     ⊎_elim (λ no_level. both_ways (opens_level a) no_level is) (λ room. both_ways (leb most_levels (levels t)) room full)
-        (and_cases (opens_level a) (leb most_levels (levels t)) ((or_parts (is_nested (names_in a)) _ e).1))
+    (and_cases (opens_level a) (leb most_levels (levels t)) ((or_parts (is_nested (names_in a)) _ e).1))
 
 -- names
 
@@ -157,7 +157,7 @@ module _ (xs : List Role) (i : ℕ) (known : Known) where
     narrow n k =
         let low = s.2.last.is_open.before in
         let v = from-part xs s.1 i i (i + 1) s.2.last own (by_else_branch (record { branch = b; names = p; at = at; belongs = s.2.last })) low (omega arith)
-            (omega arith) (omega arith) not-ranged below.template below.is_template_here n
+        (omega arith) (omega arith) not-ranged below.template below.is_template_here n
         (s.2.to (else-parts f takes).0 n k) in
         to-scope xs i n (record { by = v.by; before = v.before; template = v.template; reaches = v.reaches })
 
@@ -167,7 +167,7 @@ module _ (xs : List Role) (i : ℕ) (known : Known) where
         let v = from-scope xs i n k in
         s.2.back (else-parts f takes).0 n
         (to-part xs s.1 i i (i + 1) s.2.last own (by_else_branch (record { branch = b; names = p; at = at; belongs = s.2.last })) low (omega arith)
-            (omega arith) (omega arith) not-ranged n
+        (omega arith) (omega arith) not-ranged n
         (record { by = v.by; before = v.before; template = v.template; reaches = v.reaches }))
 
   pub in-scope : (fs : List Frame) → Stands xs i known fs → (a : Act) → slice_get xs i ≡ Some (act_role a) → is_placed a (top fs) ≡ true

@@ -18,8 +18,13 @@ pub record Named (name : List ℕ) (ts : List Template) (k : ℕ) : Type 0 where
   pub tree : tree_named name ts ≡ Some t.1
 
 pub numbered : (name : List ℕ) (ts : List Template) (k : ℕ) → number_of name ts ≡ Some k → Named name ts k
-numbered name ts k e = record { t = get_or ts k some; at = at; same = (bytes_eq-Decides name (get_or ts k some).0).0 found.1; tree =
-    ap (λ o. option_map (λ (t : Template). t.1) o) (find_at (has_name name) ts ∙ ap (slice_get ts) index ∙ at) }
+numbered name ts k e = record {
+  t = get_or ts k some;
+  at = at;
+  same = (bytes_eq-Decides name (get_or ts k some).0).0 found.1;
+  tree =
+      ap (λ o. option_map (λ (t : Template). t.1) o) (find_at (has_name name) ts ∙ ap (slice_get ts) index ∙ at);
+}
   where
     some : Template
     some = ([], record { file = []; nodes = tree.none })

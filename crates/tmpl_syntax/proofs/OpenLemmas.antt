@@ -34,7 +34,7 @@ count-split p xs a m n low high =
     let front : take u (take (u + v) ys) ≡ take u ys = take-take u (u + v) ys (omega arith) in
     let back : drop u (take (u + v) ys) ≡ take v (drop m xs) = drop-take u v ys ∙ ap (take v) (drop-drop u a xs ∙ ap (λ k. drop k xs) at) in
     let cut : take (n - a) ys ≡ take u ys ++ take v (drop m xs) = ap (λ k. take k ys) whole ∙ sym (take-append-drop u (take (u + v) ys))
-        ∙ ap (λ l. l ++ drop u (take (u + v) ys)) front ∙ ap (λ l. take u ys ++ l) back in
+    ∙ ap (λ l. l ++ drop u (take (u + v) ys)) front ∙ ap (λ l. take u ys ++ l) back in
     ap (count_by p) cut ∙ sum_by-append (λ y. cond (p y) 1 0) (take u ys) (take v (drop m xs))
 
 pub count-none : (p : Role → Bool) (xs : List Role) (n : ℕ) → count_by p (slice_range xs n n) ≡ 0
@@ -104,8 +104,18 @@ through xs k j i a b = record {
       let e2 = count-more opens xs p.piece (k + 1) j (omega arith) p.at in
       let z : one_if (ends p.piece) ≡ 0 = ap one_if no_end in
       let o : one_if (opens p.piece) ≡ 1 = ap one_if rises in
-      omega (arith, e1, e2, z, o, first, second, count-split ends xs (k + 1) (j + 1) n (omega arith) (omega arith), count-split opens xs (k + 1) (j + 1) n
-          (omega arith) (omega arith)))
+      omega (
+        arith,
+        e1,
+        e2,
+        z,
+        o,
+        first,
+        second,
+        count-split ends xs (k + 1) (j + 1) n (omega arith) (omega arith),
+        count-split opens xs (k + 1) (j + 1) n
+            (omega arith) (omega arith),
+      ))
       (λ le. a.fronts n from le)
       (cases_lt j n);
 }
@@ -148,8 +158,15 @@ even-step xs x i at o e =
             (λ below. h.fronts n from (omega arith))
             (λ ge. let s : i + 1 ≡ n = omega arith in
             let f = h.fronts i lt (omega arith) in
-            subst (λ m. downs xs (k + 1) m ≤ ups xs (k + 1) m) s (omega (arith, f, zo, ze, count-more ends xs x (k + 1) i (omega arith) at, count-more opens xs
-                x (k + 1) i (omega arith) at)))
+            subst (λ m. downs xs (k + 1) m ≤ ups xs (k + 1) m) s (omega (
+              arith,
+              f,
+              zo,
+              ze,
+              count-more ends xs x (k + 1) i (omega arith) at,
+              count-more opens xs
+                  x (k + 1) i (omega arith) at,
+            )))
             (cases_lt n (i + 1));
       };
       only = λ k h. ⊎_elim
@@ -171,8 +188,19 @@ same-ended xs j i l over at =
     record {
       even = record {
         le = omega arith;
-        balance = omega (arith, over, zo, oo, me, mo, count-one ends xs p.piece j p.at, count-one opens xs p.piece j p.at, count-split ends xs j (j + 1) (i + 1)
-            (omega arith) (omega arith), count-split opens xs j (j + 1) (i + 1) (omega arith) (omega arith));
+        balance = omega (
+          arith,
+          over,
+          zo,
+          oo,
+          me,
+          mo,
+          count-one ends xs p.piece j p.at,
+          count-one opens xs p.piece j p.at,
+          count-split ends xs j (j + 1) (i + 1)
+              (omega arith) (omega arith),
+          count-split opens xs j (j + 1) (i + 1) (omega arith) (omega arith),
+        );
         keeps = λ k h. let on = through xs k j i h l.is_open in record {
           opened = on.opened;
           at = on.at;
@@ -184,8 +212,20 @@ same-ended xs j i l over at =
               let ce = count-more ends xs p.piece (k + 1) j (omega arith) p.at in
               let co = count-more opens xs p.piece (k + 1) j (omega arith) p.at in
               subst (λ m. downs xs (k + 1) m ≤ ups xs (k + 1) m) s
-              (omega (arith, f, over, zo, oo, me, mo, ce, co, count-split ends xs (k + 1) (j + 1) (i + 1) (omega arith) (omega arith), count-split opens xs
-                  (k + 1) (j + 1) (i + 1) (omega arith) (omega arith))))
+              (omega (
+                arith,
+                f,
+                over,
+                zo,
+                oo,
+                me,
+                mo,
+                ce,
+                co,
+                count-split ends xs (k + 1) (j + 1) (i + 1) (omega arith) (omega arith),
+                count-split opens xs
+                    (k + 1) (j + 1) (i + 1) (omega arith) (omega arith),
+              )))
               (cases_lt n (i + 1));
         };
         only = λ k h. ⊎_elim
@@ -215,8 +255,14 @@ same-ended xs j i l over at =
         let o : IsOpen xs j (i + 1) = subst (λ n. IsOpen xs n (i + 1)) e h in
         let lt = l.is_open.before in
         let f = o.fronts (i + 1) (omega arith) (omega arith) in
-        omega (arith, f, over, count-more ends xs (act_role closer) (j + 1) i (omega arith) at, count-more opens xs (act_role closer) (j + 1) i (omega arith)
-            at)
+        omega (
+          arith,
+          f,
+          over,
+          count-more ends xs (act_role closer) (j + 1) i (omega arith) at,
+          count-more opens xs (act_role closer) (j + 1) i (omega arith)
+              at,
+        )
 
     not-opening : (x : Role) → slice_get xs j ≡ Some x → opens x ≡ false → ⊥
     not-opening x a shut = shut-at xs x j i a shut l.is_open
@@ -255,8 +301,14 @@ opened-keeps xs x i k at e h =
           (λ below. h.fronts n from (omega arith))
           (λ ge. let s : i + 1 ≡ n = omega arith in
           let f = h.fronts i lt (omega arith) in
-          subst (λ m. downs xs (k + 1) m ≤ ups xs (k + 1) m) s (omega (arith, f, ze, count-more ends xs x (k + 1) i (omega arith) at, count-more opens xs x
-              (k + 1) i (omega arith) at)))
+          subst (λ m. downs xs (k + 1) m ≤ ups xs (k + 1) m) s (omega (
+            arith,
+            f,
+            ze,
+            count-more ends xs x (k + 1) i (omega arith) at,
+            count-more opens xs x
+                (k + 1) i (omega arith) at,
+          )))
           (cases_lt n (i + 1));
     }
 

@@ -20,13 +20,13 @@ joined-append before [] qs = refl
 joined-append before (a_text t ∷ ps) qs =
     ap (λ bs. parting before ++ (t ++ bs)) (joined-append (Some t) ps qs) ∙
     sym (append_assoc (parting before) (t ++ joined (Some t) ps) (joined (last_text (Some t) ps) qs)
-        ∙ ap (λ bs. parting before ++ bs) (append_assoc t (joined (Some t) ps) (joined (last_text (Some t) ps) qs)))
+    ∙ ap (λ bs. parting before ++ bs) (append_assoc t (joined (Some t) ps) (joined (last_text (Some t) ps) qs)))
 joined-append before (an_action ts ∷ ps) qs =
     let rest = joined None ps in
     let more = joined (last_text None ps) qs in
     ap (λ bs. opening before ++ (bytes_of ts ++ (codes "}}" ++ bs))) (joined-append None ps qs) ∙
     sym (append_assoc (opening before) (bytes_of ts ++ (codes "}}" ++ rest)) more
-        ∙ ap (λ bs. opening before ++ bs) (append_assoc (bytes_of ts) (codes "}}" ++ rest) more))
+    ∙ ap (λ bs. opening before ++ bs) (append_assoc (bytes_of ts) (codes "}}" ++ rest) more))
 
 last-append : (before : Option (List ℕ)) (ps qs : List Part) → last_text before (ps ++ qs) ≡ last_text (last_text before ps) qs
 last-append before [] qs = refl
@@ -40,9 +40,9 @@ page_append p ss rs =
     let qs = map part_of rs in
     let bytes : (p.0 ++ joined p.1 ps) ++ joined (last_text p.1 ps) qs ≡ p.0 ++ joined p.1 (map part_of (ss ++ rs)) =
     append_assoc p.0 (joined p.1 ps) (joined (last_text p.1 ps) qs) ∙ ap (λ bs. p.0 ++ bs)
-        (sym (joined-append p.1 ps qs) ∙ ap (joined p.1) (sym (map-append part_of ss rs))) in
+    (sym (joined-append p.1 ps qs) ∙ ap (joined p.1) (sym (map-append part_of ss rs))) in
     let end : last_text (last_text p.1 ps) qs ≡ last_text p.1 (map part_of (ss ++ rs)) = sym (last-append p.1 ps qs)
-        ∙ ap (last_text p.1) (sym (map-append part_of ss rs)) in
+    ∙ ap (last_text p.1) (sym (map-append part_of ss rs)) in
     ap (λ bs. (bs, last_text (last_text p.1 ps) qs)) bytes ∙ ap (λ (b : Option (List ℕ)). (p.0 ++ joined p.1 (map part_of (ss ++ rs)), b)) end
 
 pub page_nothing : (p : Page) → page_with p [] ≡ p
@@ -69,7 +69,7 @@ pub text-put : (before : Option (List ℕ)) (t old : List ℕ) {parted ended : L
 unfolding page_with
 text-put before t old {parted} {ended} h i =
     ap (λ (bs : List ℕ). (bs, Some t)) (i ∙ ap (λ bs. bs ++ t) h ∙ append_assoc old (parting before) t
-        ∙ ap (λ bs. old ++ (parting before ++ bs)) (sym (append-nil t)))
+    ∙ ap (λ bs. old ++ (parting before ++ bs)) (sym (append-nil t)))
 
 same-flipped : (a b : ℕ) → nat_eq a b ≡ true → nat_eq b a ≡ nat_eq a b
 same-flipped a b e = let same = eqb-true a b e in ap (λ x. nat_eq x a) (sym same) ∙ ap (nat_eq a) same

@@ -137,7 +137,7 @@ pub levels-else_branch : (xs : List Role) (i j n : ℕ) → Even xs i (i + 1) �
 levels-else_branch xs i j n e t nt r =
     let o = e.keeps j t.belongs.is_open in
     levels-yes xs (i + 1) i n (levels-even xs i n e r) (of_else_branch t o (ap is_level
-        (same-opening xs j o.opened t.belongs.is_open.opened o.at t.belongs.is_open.at) ∙ nt))
+    (same-opening xs j o.opened t.belongs.is_open.opened o.at t.belongs.is_open.at) ∙ nt))
 
 pub levels-opened : (xs : List Role) (i n : ℕ) (c : Opening) (p : Names) → slice_get xs i ≡ Some (act_role (opener c p))
     → IsOpening (slice_get xs i) c → Levels xs i i n → Levels xs (i + 1) (i + 1) (n + level_of c)

@@ -48,8 +48,11 @@ a-header : printed (then 1 (control_node control.If (headed (declare (codes "y")
     ≡ codes "{{if $y := (len .)}}{{$y}}{{end}}"
 a-header = refl
 
-a-pipeline : printed (then 1 (action (record { binding = unbound; pipeline =
-    pipeline (command (operand (fields (codes "a" ∷ codes "b" ∷ [])) no_operand) (command (operand (function Len) no_operand) no_command)) })) none)
+a-pipeline : printed (then 1 (action (record {
+  binding = unbound;
+  pipeline =
+      pipeline (command (operand (fields (codes "a" ∷ codes "b" ∷ [])) no_operand) (command (operand (function Len) no_operand) no_command));
+})) none)
     ≡ codes "{{.a.b | len}}"
 a-pipeline = refl
 

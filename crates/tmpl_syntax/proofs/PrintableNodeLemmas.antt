@@ -100,8 +100,11 @@ mutual
       let i = leads-of l h.1 in
       let e = closes-of o i.behind_them in
       record {
-        nodes = (tt, said-append (node_said (control_node (control_in br) r body other)) []
-            (control-of (control_in br) r (nodes_said body) (else_said other (nodes_said other)) (branch-of br r h.0) i.nodes e.nodes) tt);
+        nodes = (
+          tt,
+          said-append (node_said (control_node (control_in br) r body other)) []
+              (control-of (control_in br) r (nodes_said body) (else_said other (nodes_said other)) (branch-of br r h.0) i.nodes e.nodes) tt,
+        );
         behind_them = e.behind_them;
         definitions = λ path k. i.definitions path (e.definitions path k);
       }

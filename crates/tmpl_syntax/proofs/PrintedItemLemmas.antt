@@ -68,13 +68,21 @@ items-said [] qs h s = record { items = []; are = subst (λ ps. AreItems every_b
 items-said (said_text t ∷ ss) qs h s =
     let f = text-first s in
     let more = items-said ss f.rest h.1 f.same in
-    record { items = item f.line (text_item t) ∷ more.items; are = subst (λ ps. AreItems every_branch ps (item f.line (text_item t) ∷ more.items)) (sym f.is)
-        (an_item text_read more.are); say = says_text more.say }
+    record {
+      items = item f.line (text_item t) ∷ more.items;
+      are = subst (λ ps. AreItems every_branch ps (item f.line (text_item t) ∷ more.items)) (sym f.is)
+          (an_item text_read more.are);
+      say = says_text more.say;
+    }
 items-said (said a ∷ ss) qs h s =
     let f = action-first s in
     let more = items-said ss f.rest h.1 f.same in
-    record { items = item f.line (action_item a) ∷ more.items; are = subst (λ ps. AreItems every_branch ps (item f.line (action_item a) ∷ more.items))
-        (sym f.is) (an_item (read (spells-tokens a h.0) (has-every a) (within a h.0)) more.are); say = says more.say }
+    record {
+      items = item f.line (action_item a) ∷ more.items;
+      are = subst (λ ps. AreItems every_branch ps (item f.line (action_item a) ∷ more.items))
+          (sym f.is) (an_item (read (spells-tokens a h.0) (has-every a) (within a h.0)) more.are);
+      say = says more.say;
+    }
 
 -- a file of what is said has items that say it
 record HasSaid (ss : List Said) : Type 0 where

@@ -91,7 +91,7 @@ control-leads c h body other in_body in_other ss xs s =
     let f = first-said s in
     let b = in_body (ends ++ said end_action ∷ ss) f.rest (subst (λ ts. Says ts f.rest)
     (append_assoc (nodes_said body) (ends ++ said end_action ∷ []) ss ∙ ap (λ ts. nodes_said body ++ ts) (append_assoc ends (said end_action ∷ []) ss))
-        f.says_rest) in
+    f.says_rest) in
     let e = else-leads other in_other ss b.rest b.says_rest in
     record {
       line = f.line;
@@ -107,27 +107,62 @@ mutual
   node-leads : (n : NodeKind) (ss : List Said) (xs : List Item) → Says (node_said n ++ ss) xs → LeadsNode n ss xs
   node-leads (text bytes) ss xs s =
       let f = first-text s in
-      record { line = f.line; node = text bytes; rest = f.rest; leads = λ {ms} {zs} {ds} {es} l. subst (λ ys. Leads ys ds (then f.line (text bytes) ms) zs es)
-          (sym f.is) (a_text l); alike = refl; says_rest = f.says_rest }
+      record {
+        line = f.line;
+        node = text bytes;
+        rest = f.rest;
+        leads = λ {ms} {zs} {ds} {es} l. subst (λ ys. Leads ys ds (then f.line (text bytes) ms) zs es)
+            (sym f.is) (a_text l);
+        alike = refl;
+        says_rest = f.says_rest;
+      }
   node-leads (action h) ss xs s =
       let f = first-said s in
-      record { line = f.line; node = action h; rest = f.rest; leads = λ {ms} {zs} {ds} {es} l. subst (λ ys. Leads ys ds (then f.line (action h) ms) zs es)
-          (sym f.is) (an_action l); alike = refl; says_rest = f.says_rest }
+      record {
+        line = f.line;
+        node = action h;
+        rest = f.rest;
+        leads = λ {ms} {zs} {ds} {es} l. subst (λ ys. Leads ys ds (then f.line (action h) ms) zs es)
+            (sym f.is) (an_action l);
+        alike = refl;
+        says_rest = f.says_rest;
+      }
   node-leads (control_node c h body other) ss xs s = control-leads c h body other (nodes-leads body) (nodes-leads other) ss xs s
   node-leads break_node ss xs s =
       let f = first-said s in
-      record { line = f.line; node = break_node; rest = f.rest; leads = λ {ms} {zs} {ds} {es} l. subst (λ ys. Leads ys ds (then f.line break_node ms) zs es)
-          (sym f.is) (a_break l); alike = refl; says_rest = f.says_rest }
+      record {
+        line = f.line;
+        node = break_node;
+        rest = f.rest;
+        leads = λ {ms} {zs} {ds} {es} l. subst (λ ys. Leads ys ds (then f.line break_node ms) zs es)
+            (sym f.is) (a_break l);
+        alike = refl;
+        says_rest = f.says_rest;
+      }
   node-leads continue_node ss xs s =
       let f = first-said s in
-      record { line = f.line; node = continue_node; rest = f.rest; leads =
-          λ {ms} {zs} {ds} {es} l. subst (λ ys. Leads ys ds (then f.line continue_node ms) zs es) (sym f.is) (a_continue l); alike = refl; says_rest =
-          f.says_rest }
+      record {
+        line = f.line;
+        node = continue_node;
+        rest = f.rest;
+        leads =
+            λ {ms} {zs} {ds} {es} l. subst (λ ys. Leads ys ds (then f.line continue_node ms) zs es) (sym f.is) (a_continue l);
+        alike = refl;
+        says_rest =
+            f.says_rest;
+      }
   node-leads (template_node name given) ss xs s =
       let f = first-said s in
-      record { line = f.line; node = template_node name given; rest = f.rest; leads =
-          λ {ms} {zs} {ds} {es} l. subst (λ ys. Leads ys ds (then f.line (template_node name given) ms) zs es) (sym f.is) (a_template l); alike =
-          refl; says_rest = f.says_rest }
+      record {
+        line = f.line;
+        node = template_node name given;
+        rest = f.rest;
+        leads =
+            λ {ms} {zs} {ds} {es} l. subst (λ ys. Leads ys ds (then f.line (template_node name given) ms) zs es) (sym f.is) (a_template l);
+        alike =
+            refl;
+        says_rest = f.says_rest;
+      }
 
   nodes-leads : (ns : Nodes) (ss : List Said) (xs : List Item) → Says (nodes_said ns ++ ss) xs → LeadsNodes ns ss xs
   nodes-leads none ss xs s = record { nodes = none; rest = xs; leads = nothing; alike = refl; says_rest = s }
@@ -136,8 +171,14 @@ mutual
       let m = nodes-leads ns ss f.rest f.says_rest in
       let e = f.alike in
       let g = m.alike in
-      record { nodes = then f.line f.node m.nodes; rest = m.rest; leads = f.leads m.leads; alike = ap (λ x. then 0 x (unlined m.nodes)) e
-          ∙ ap (then 0 (unlined_node n)) g; says_rest = m.says_rest }
+      record {
+        nodes = then f.line f.node m.nodes;
+        rest = m.rest;
+        leads = f.leads m.leads;
+        alike = ap (λ x. then 0 x (unlined m.nodes)) e
+            ∙ ap (then 0 (unlined_node n)) g;
+        says_rest = m.says_rest;
+      }
 
 -- ---- all of them
 

@@ -96,7 +96,7 @@ module _ (set : List Template) (file bytes : List ℕ) where
       → IsRefusedAt (items_of bytes) line why
   refused-there i why line e j =
       let lt : i < length (items_of bytes) = let n = within (roles_of (items_of bytes)) i why j.applies in
-          omega (arith, n, length-map (items_of bytes) role_of) in
+      omega (arith, n, length-map (items_of bytes) role_of) in
       let x = item-there (items_of bytes) i lt in
       let it = named-item (slice_get (items_of bytes) i) x.0 line x.1 (e ∙ ap line_in x.1) in
       record { place = i; first = j; what = it.0; at = it.1 }
@@ -119,7 +119,7 @@ module _ (set : List Template) (file bytes : List ℕ) where
       once short v None o = no-value _ (line, reason) (sym (short-by fine short v ∙ ap (λ second. placed set file (unless_second second ds)) o) ∙ e)
       once short v (Some at) o =
           let s = same-refusal (line, reason) (at, second_definition) (sym e ∙ short-by fine short v
-              ∙ ap (λ second. placed set file (unless_second second ds)) o) in
+          ∙ ap (λ second. placed set file (unless_second second ds)) o) in
           subst (IsRefusedBy every_branch file bytes line) (sym (ap (λ (r : Refusal). r.1) s)) (
             short,
             items_of bytes,
@@ -140,7 +140,7 @@ module _ (set : List Template) (file bytes : List ℕ) where
       by short left_open v =
           let s = same-refusal (line, reason) (last_line bytes, open_at_end) (sym e ∙ short-by left_open short v) in
           subst (IsRefusedBy every_branch file bytes line) (sym (ap (λ (r : Refusal). r.1) s))
-              (short, items_of bytes, has-items bytes, judged-by left_open v, ap (λ (r : Refusal). r.0) s)
+          (short, items_of bytes, has-items bytes, judged-by left_open v, ap (λ (r : Refusal). r.0) s)
 
   -- .. where memory may run out
   pub refusal-for : (line : ℕ) (o : Option Reason) → IsRefusal (parsed set file bytes) line o → ParsesUnless set file bytes line o
@@ -178,7 +178,7 @@ module _ (set : List Template) (file bytes : List ℕ) where
   pub parsed-accepted : (new : List Template) → IsAccepted every_branch set file bytes new → parsed set file bytes ≡ Ok new
   parsed-accepted new h =
       fine-as h.items h.has h.definitions h.own h.judged h.spells h.short None (second-none (all_defined file h.definitions h.own) h.once)
-          ∙ ap (λ ts. Ok ts) (sym h.set)
+      ∙ ap (λ ts. Ok ts) (sym h.set)
 
   refused-there-as : (line : ℕ) (why : Reason) → length bytes ≤ most_bytes → (items : List Item) → HasItems every_branch bytes items
       → IsRefusedAt items line why → parsed set file bytes ≡ Err (line, why)

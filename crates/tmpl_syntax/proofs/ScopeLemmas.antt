@@ -134,7 +134,7 @@ brought-opened xs i n c p at o nt b =
           (λ q m lt2 oq from to e. let s : m ≡ i = omega arith in no-else-at q (subst (IsElseOf xs q) s e))
           (λ q m lt2 oq from to e. let s : m ≡ i = omega arith in no-else_branch xs x i q at (λ d r g. cc) (subst (IsElseBranchOf xs q) s e))
           (λ ok h. ⊎_elim (λ low. (h.0, low, h.2)) (λ high. let g = h.1 in let s : h.0 ≡ i = omega arith in
-              absurd (no-else-at b.by (subst (IsElseOf xs b.by) s h.2))) (cases_lt h.0 i))
+          absurd (no-else-at b.by (subst (IsElseOf xs b.by) s h.2))) (cases_lt h.0 i))
           b.reaches;
     }
   where

@@ -199,7 +199,7 @@ module _ (names : List Name) (held_ds : List held.Definition) (i : ℕ) (d : hel
   next : second_from names (drop i ds) ≡ second_if (is_blank (nodes_in d.nodes.items)) (is_known names d.name) d.line without with_it
   next =
       let at : slice_get ds i ≡ Some (definition_of d) = slice_get-map definition_of held_ds i
-          ∙ ap (option_map definition_of) (slice_get_read held_ds (length held_ds) i d refl lt is) in
+      ∙ ap (option_map definition_of) (slice_get_read held_ds (length held_ds) i d refl lt is) in
       ap (second_from names) (drop-next ds i (definition_of d) at)
 
   pub next-blank : is_blank (nodes_in d.nodes.items) ≡ true → second_from names (drop i ds) ≡ without

@@ -154,7 +154,7 @@ after xs i known (f ∷ fs) (branch_else b p) at e s =
     let k = and_parts (takes_else (Some f)) (joins b f.opening) e in
     let l = length-take-le f.part known.inner s.2.within.parted in
     subst (λ n. Stands xs (i + 1) (with_inner known (names ++ p.declares)) (branched f (n + length p.declares) ∷ fs)) (sym l)
-        (stands-branched xs i known f fs b p at k.0 k.1 s)
+    (stands-branched xs i known f fs b p at k.0 k.1 s)
 after xs i known (f ∷ fs) closer at e s = stands-ended xs i known f fs at s
 after xs i known fs jump at e s = stands-still xs i known (act_role jump) fs at refl refl (λ g. cc) (λ q g. cc) (λ c q g. cc) (λ b q g. cc) s
 after xs i known [] _ at e s = let g : false ≡ true = e in cc
@@ -163,8 +163,11 @@ after xs i known [] _ at e s = let g : false ≡ true = e in cc
 pub sound-past : (xs : List Role) (i : ℕ) (known : Known) (fs : List Frame) (x : Role) → slice_get xs i ≡ Some x
     → TellsRole x (top fs) (seen_at x (top fs) known.inner) None → Sound xs i known fs
     → Sound xs (i + 1) (known_past x (top fs) (with_inner known (seen_at x (top fs) known.inner))) (frames_past x fs (length (seen_at x (top fs) known.inner)))
-sound-past xs i known fs text_role at e s = record { stands = stands-still xs i known text_role fs at refl refl (λ g. cc) (λ q g. cc) (λ c q g. cc)
-    (λ b q g. cc) s.stands; none_refused = more xs i known fs s text_role at e }
+sound-past xs i known fs text_role at e s = record {
+  stands = stands-still xs i known text_role fs at refl refl (λ g. cc) (λ q g. cc) (λ c q g. cc)
+      (λ b q g. cc) s.stands;
+  none_refused = more xs i known fs s text_role at e;
+}
 sound-past xs i known fs unreadable_role at e s = let g : None ≡ Some reason.unreadable = e in cc
 sound-past xs i known fs unread_role at e s = let g : None ≡ Some reason.not_an_action = e in cc
 sound-past xs i known fs (act_role a) at e s = record { stands = after xs i known fs a at e.0 s.stands; none_refused = more xs i known fs s (act_role a) at e }

@@ -118,13 +118,19 @@ module _ (xs : List Role) (i : ℕ) (names : List Name) (c : Opening) (p : Names
   none-of-it e = let a = e.1 in let b = e.2.belongs.is_open.before in omega arith
 
   loop-on : is_template c ≡ false → InLoop xs i → InLoop xs (i + 1)
-  loop-on own l = (l.0, loop-moves xs l.0 i (i + 1) (alike-opened xs (act_role (opener c p)) i c at refl o own)
-      (opened-keeps xs (act_role (opener c p)) i l.0 at refl l.1.is_open) (has-before l.0) l.1)
+  loop-on own l = (
+    l.0,
+    loop-moves xs l.0 i (i + 1) (alike-opened xs (act_role (opener c p)) i c at refl o own)
+        (opened-keeps xs (act_role (opener c p)) i l.0 at refl l.1.is_open) (has-before l.0) l.1,
+  )
 
   loop-off : is_template c ≡ false → c ≢ opened.control Range → InLoop xs (i + 1) → InLoop xs i
   loop-off own nr l = ⊎_elim
-      (λ lt. (l.0, loop-moves xs l.0 (i + 1) i (alike-back xs i (i + 1) (alike-opened xs (act_role (opener c p)) i c at refl o own))
-          (cut xs l.0 i (i + 1) lt (omega arith) l.1.is_open) (else_before xs l.0 i (i + 1) (omega arith)) l.1))
+      (λ lt. (
+        l.0,
+        loop-moves xs l.0 (i + 1) i (alike-back xs i (i + 1) (alike-opened xs (act_role (opener c p)) i c at refl o own))
+            (cut xs l.0 i (i + 1) lt (omega arith) l.1.is_open) (else_before xs l.0 i (i + 1) (omega arith)) l.1,
+      ))
       (λ ge. let b = l.1.is_open.before in let s : l.0 ≡ i = omega arith in
       let w : IsLoop xs i (i + 1) = subst (λ k. IsLoop xs k (i + 1)) s l.1 in
       absurd (nr (same-opening xs i c w.is_open.opened o w.is_open.at ∙ w.range)))
@@ -154,8 +160,12 @@ module _ (xs : List Role) (i : ℕ) (names : List Name) (c : Opening) (p : Names
       record {
         is_open = opened_new xs i c o;
         range = e;
-        template = (h.template, h.is_template_here, template-moves xs i (i + 1) (alike-opened xs (act_role (opener c p)) i c at refl o own) h.template
-            h.is_template_here);
+        template = (
+          h.template,
+          h.is_template_here,
+          template-moves xs i (i + 1) (alike-opened xs (act_role (opener c p)) i c at refl o own) h.template
+              h.is_template_here,
+        );
         bare = none-of-it;
       },
     )

@@ -51,14 +51,14 @@ module _ (xs : List Role) (i : ℕ) (names : List Name) (c : Opening) (p : Names
   part-wide : c ≢ opened.control Range → (n : Name) → Contains (take (length names + length p.declares) (names ++ p.declares)) n → Part xs i (i + 1) n
   part-wide nr n k =
       let e : take (length names + length p.declares) (names ++ p.declares) ≡ names ++ p.declares =
-          take_all (length names + length p.declares) (names ++ p.declares) (omega (arith, length-append names p.declares)) in
+      take_all (length names + length p.declares) (names ++ p.declares) (omega (arith, length-append names p.declares)) in
       ⊎_elim (λ l. earlier (h.to n l)) (λ r. header at r nr)
       (Contains-append_cases names p.declares n (subst (λ l. Contains l n) e k))
 
   part-wide-back : (n : Name) → Part xs i (i + 1) n → Contains (take (length names + length p.declares) (names ++ p.declares)) n
   part-wide-back n k =
       let e : take (length names + length p.declares) (names ++ p.declares) ≡ names ++ p.declares =
-          take_all (length names + length p.declares) (names ++ p.declares) (omega (arith, length-append names p.declares)) in
+      take_all (length names + length p.declares) (names ++ p.declares) (omega (arith, length-append names p.declares)) in
       subst (λ l. Contains l n) (sym e) (⊎_elim
       (λ b. Contains-append_left names p.declares n (h.back n b))
       (λ r. Contains-append_right names p.declares n r.0)
@@ -166,7 +166,7 @@ module _ (xs : List Role) (i : ℕ) (known : Known) (f : Frame) (fs : List Frame
         (λ ge. absurd (⊎_elim
         (λ gt. has.2.belongs.last s.1 lt (cut xs s.1 has.0 (i + 1) gt (let u = has.1 in omega arith) last-after.is_open))
         (λ le. let e : has.0 ≡ s.1 = omega arith in shut-at xs (act_role bare_else) s.1 i (subst (λ z. slice_get xs z ≡ Some (act_role bare_else)) e has.2.at)
-            refl s.2.last.is_open)
+        refl s.2.last.is_open)
         (cases_lt s.1 has.0)))
         (cases_lt has.0 s.1)) l.1,
   )
@@ -176,8 +176,11 @@ module _ (xs : List Role) (i : ℕ) (known : Known) (f : Frame) (fs : List Frame
       (λ e. let w : IsLoop xs s.1 (i + 1) = subst (λ k. IsLoop xs k (i + 1)) e l.1 in
       absurd (w.bare (ranged (same-opening xs s.1 f.opening w.is_open.opened s.2.opened w.is_open.at ∙ w.range))))
       (λ o. ⊎_elim
-      (λ lt. (l.0, loop-moves xs l.0 (i + 1) s.1 (alike-back xs s.1 (i + 1) (alike-last xs s.1 (i + 1) last-after own-after))
-          (cut xs l.0 s.1 (i + 1) lt (let z = low in omega arith) l.1.is_open) (else_before xs l.0 s.1 (i + 1) (let z = low in omega arith)) l.1))
+      (λ lt. (
+        l.0,
+        loop-moves xs l.0 (i + 1) s.1 (alike-back xs s.1 (i + 1) (alike-last xs s.1 (i + 1) last-after own-after))
+            (cut xs l.0 s.1 (i + 1) lt (let z = low in omega arith) l.1.is_open) (else_before xs l.0 s.1 (i + 1) (let z = low in omega arith)) l.1,
+      ))
       (λ gt. absurd (last-after.last l.0 gt l.1.is_open)) o)
       (cases_order l.0 s.1)
 
@@ -203,15 +206,24 @@ module _ (xs : List Role) (i : ℕ) (known : Known) (f : Frame) (fs : List Frame
       looped = subst (λ b. Decides b (InLoop xs (i + 1))) (sym looped) (Decides-like f.around loop-in (loop-out ranged) s.2.around);
       to = λ n k. ⊎_elim
           (λ l. let b = seen n (s.2.to own n l) in record { by = b.by; before = let lt = b.before in omega arith; template = b.template; reaches = b.reaches })
-          (λ r. record { by = i; before = omega arith; template = (s.0.template, s.0.is_template_here, template-moves xs i (i + 1)
-              (alike-even xs i (i + 1) even) s.0.template s.0.is_template_here); reaches = new n r })
+          (λ r. record {
+            by = i;
+            before = omega arith;
+            template = (
+              s.0.template,
+              s.0.is_template_here,
+              template-moves xs i (i + 1)
+                  (alike-even xs i (i + 1) even) s.0.template s.0.is_template_here,
+            );
+            reaches = new n r;
+          })
           (Contains-append_cases (take f.part names) ds n k);
       back = λ n b. ⊎_elim
           (λ lt. Contains-append_left (take f.part names) ds n (s.2.back own n
           (to-part xs s.1 i (i + 1) (i + 1) last-after own-after part low (omega arith) (omega arith) (omega arith) ranged-last n
-              (record { by = b.by; before = lt; template = b.template; reaches = b.reaches }))))
+          (record { by = b.by; before = lt; template = b.template; reaches = b.reaches }))))
           (λ ge. let u = b.before in let e : b.by ≡ i = omega arith in Contains-append_right (take f.part names) ds n
-              (old n (subst (λ k. Reaches xs k (i + 1) (i + 1) n) e b.reaches)))
+          (old n (subst (λ k. Reaches xs k (i + 1) (i + 1) n) e b.reaches)))
           (cases_lt b.by i);
     }
 
@@ -222,8 +234,14 @@ module _ (xs : List Role) (i : ℕ) (known : Known) (f : Frame) (fs : List Frame
     stood-parted = record {
       opened = s.2.opened;
       last = last-after;
-      over = let z = low in omega (arith, s.2.over, even.balance, count-split opens xs (s.1 + 1) i (i + 1) (omega arith) (omega arith), count-split ends xs
-          (s.1 + 1) i (i + 1) (omega arith) (omega arith));
+      over = let z = low in omega (
+        arith,
+        s.2.over,
+        even.balance,
+        count-split opens xs (s.1 + 1) i (i + 1) (omega arith) (omega arith),
+        count-split ends xs
+            (s.1 + 1) i (i + 1) (omega arith) (omega arith),
+      );
       has = has_is;
       around = s.2.around;
       within = record { started = let a = s.2.within.started in omega arith; parted = omega (arith, front, length-append (take f.part names) ds) };

@@ -365,7 +365,7 @@ module _ (m n : Modes) where
         let checks : check_fault (top m) (finished (top m).rules w.held) given ≡ check_fault (top n) (finished (top n).rules w.held) given =
         ap (λ (rows : List Row). check_fault (top m) rows given) (finished_same _ _ rules_like w.held) in
         λ i. or_else (entered_fault (built (tool_app m)) w.stopped) (or_else (settle_fault_same _ _ rules_like false w.held i)
-            (or_else (defaults i) (checks i)))
+        (or_else (defaults i) (checks i)))
 
     -- the faults of the command
     pub faults_same : (words : List Text) → fault_of (tool_app m) words ≡ fault_of (tool_app n) words

@@ -12,5 +12,5 @@ returns c parse is =
     let new = templates_in c.add-said.new.kept.held in
     let said = c.add-said.result in
     for_each (λ (p : Parse). Keeps (with_lent p old (pair_of c.args.file.now)) old new (room c.args.err.now) (extent_seen c.add-said.new.err said.line)
-        said.status)
+    said.status)
     c.add-said.ensures parse is

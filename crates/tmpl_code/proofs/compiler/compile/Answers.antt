@@ -43,7 +43,7 @@ loop-i-preserved c =
           lies starts;
       needs =
           ap reverse c.in_ok-push-2.ensures.items ∙ reverse-append l.needs.items (found.own.need ∷ [])
-              ∙ (λ j. needs j ∷ (l.invariant.needs ∙ ap (λ n. map (λ (t : Template). need t.1) (drop n ts)) next) j)
+          ∙ (λ j. needs j ∷ (l.invariant.needs ∙ ap (λ n. map (λ (t : Template). need t.1) (drop n ts)) next) j)
           ∙ ap (map (λ (t : Template). need t.1)) here;
       most = joined.need ∙ (λ j. max (needs j) (most j)) ∙ ap largest_need here;
       bounded = omega (arith, joined.need, needs, bound);
@@ -88,9 +88,9 @@ invariant_of-result c =
     record {
       linked =
           linked-so ts l.i c.len-2.result l.lengths.items c.reverse.new.self.items c.as_mut_slice.result.now
-              (with_items c.reverse.new.self c.to_places.new.counts).items (code_of l.compiler.code)
+          (with_items c.reverse.new.self c.to_places.new.counts).items (code_of l.compiler.code)
           (instructions_of c.into_instructions.result.items) none l.invariant.starts (kept ∙ c.to_places.ensures) c.len-2.ensures c.as_mut_slice.ensures.value
-              c.reverse.ensures.items c.into_instructions.ensures;
+          c.reverse.ensures.items c.into_instructions.ensures;
       need = l.invariant.most ∙ ap (λ n. largest_need (drop n ts)) none;
       enough = c.in_ok-bound.ensures.bound;
       makes = l.invariant.makes ∙ ap (λ n. set_makes_text (drop n ts)) none;
@@ -105,6 +105,6 @@ returns-clause-linked c =
     let long = c.as_mut_slice.ensures.len in
     let kept = with_items_is c.reverse.new.self c.to_places.new.counts (omega (arith, many, long)) in
     linked-so ts l.i c.len-2.result l.lengths.items c.reverse.new.self.items c.as_mut_slice.result.now
-        (with_items c.reverse.new.self c.to_places.new.counts).items (code_of l.compiler.code)
+    (with_items c.reverse.new.self c.to_places.new.counts).items (code_of l.compiler.code)
     (instructions_of c.into_instructions.result.items) none l.invariant.starts (kept ∙ c.to_places.ensures) c.len-2.ensures c.as_mut_slice.ensures.value
-        c.reverse.ensures.items c.into_instructions.ensures
+    c.reverse.ensures.items c.into_instructions.ensures

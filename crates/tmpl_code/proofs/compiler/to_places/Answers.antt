@@ -19,7 +19,7 @@ loop-count-preserved c =
     let f : ℕ → ℕ = λ n. c.args.size - n in
     ap (λ n. set l.counts l.count-index n) c.saturating_sub.ensures
     ∙ map_over_more f c.args.counts.now l.counts l.count-index (get_or l.counts l.count-index 0) (omega arith) l.invariant
-        (any-default l.counts l.count-index 0)
+    (any-default l.counts l.count-index 0)
 
 pub returns : goal.returns
 returns c = c.loop-count.invariant ∙ all-done (λ n. c.args.size - n) c.args.counts.now c.loop-count.count-index (omega arith)

@@ -14,5 +14,5 @@ returns g c =
     let out = sunk (g.S.Sink.so_far c.args.out.now) (g.S.Sink.so_far c.run_numbered.new.out) in
     subst
     (λ (set : List Template). IfSome (slice_get set c.args.number) (λ t. IsRunOf (ran (rules_of c.args.options.now) set t.0 t.1 input) out
-        c.run_numbered.result))
+    c.run_numbered.result))
     c.in-Ok.ensures.set c.run_numbered.ensures

@@ -9,8 +9,10 @@ use Rattle.tmpl_grammar.proofs.pipeline.pipeline.Goals as goal
 
 pub loop-token-init : goal.loop-token-init
 loop-token-init c =
-    record { follows = subst (λ l. Follows (map token_of c.args.tokens.now) l (map token_of c.args.tokens.now)) (sym c.new-parser.ensures)
-        (follows-start (map token_of c.args.tokens.now)) }
+    record {
+      follows = subst (λ l. Follows (map token_of c.args.tokens.now) l (map token_of c.args.tokens.now)) (sym c.new-parser.ensures)
+          (follows-start (map token_of c.args.tokens.now));
+    }
 
 pub returns-in-None : goal.returns-in-None
 returns-in-None c =
@@ -34,5 +36,5 @@ returns c =
     let end = ap (map token_of) (drop_all c.loop-token.token-index c.args.tokens.now (omega arith)) in
     subst (λ p. IfOk c.finish.result (λ r. pipeline_reading r ≡ p))
     (follows-end c.args.shape (map token_of c.args.tokens.now) (limited_of c.loop-token.parser)
-        (subst (Follows (map token_of c.args.tokens.now) (limited_of c.loop-token.parser)) end c.loop-token.invariant.follows))
+    (subst (Follows (map token_of c.args.tokens.now) (limited_of c.loop-token.parser)) end c.loop-token.invariant.follows))
     c.finish.ensures

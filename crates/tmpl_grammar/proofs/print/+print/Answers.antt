@@ -13,7 +13,7 @@ print_operand-returns-in_ok-extend_from_slice-in-Group-2 t c =
     on_ok_weaker c.print_chain-in-Group.result
     (λ e. four_added c.args.bytes.now.items _ _ _ _ c.in_ok-extend_from_slice-in-Group.ensures.items
     (c.in_ok-print_commands-in-Group.ensures ∙ ap (λ cs. c.extend_from_slice-in-Group.new.self.items ++ bytes_of (commands_tokens (commands_in cs)))
-        c.as_slice-in-Group.ensures.value)
+    c.as_slice-in-Group.ensures.value)
     c.in_ok-extend_from_slice-in-Group-2.ensures.items
     (e ∙ ap (λ ns. c.extend_from_slice-in-Group-2.new.self.items ++ bytes_of (chain_tokens ns)) c.as_slice-in-Group-2.ensures.value)
     ∙ ap (λ bs. c.args.bytes.now.items ++ bs) (sym printed ∙ ap (λ o. bytes_of (operand_tokens (operand_of o))) (sym group.is)))

@@ -103,7 +103,7 @@ returns-clause-runs g c =
     let grows : Grows before after = grows-on before middle after c.turns-end.ensures.taken c.close.ensures.taken in
     let inside = entry-of c.args.entry.number p c.args.program.now c.parts-parts.ensures.value c.requires.entry in
     subst (λ (q : Parts). IfSome (slice_get (set_view q.set.now) c.args.entry.number)
-        (λ t. IsRun (ran (rules_of c.args.options.now) (set_view q.set.now) t.0 t.1 input) (sunk before after) c.close.result))
+    (λ t. IsRun (ran (rules_of c.args.options.now) (set_view q.set.now) t.0 t.1 input) (sunk before after) c.close.result))
     c.parts-parts.ensures.value
     (start.meant-so plan (length c.args.cells.now) c.args.entry.number c.parts-parts.ensures.linked inside
     (λ (r : Ran). IsRun r (sunk before after) c.close.result) input s c.start-machine.ensures.state

@@ -6,4 +6,4 @@ use Rattle.tmpl_run.proofs.stack.call_between.Goals as goal
 pub returns-clause-borrowed : goal.returns-clause-borrowed
 returns-clause-borrowed c = λ none plain.
     c.call.ensures.borrowed none (subst AreBorrowed (sym c.rotate_left.ensures.after)
-        (borrowed-turned c.args.from (c.args.to - c.args.from) c.args.to c.args.below c.args.cells.now (omega arith) plain))
+    (borrowed-turned c.args.from (c.args.to - c.args.from) c.args.to c.args.below c.args.cells.now (omega arith) plain))

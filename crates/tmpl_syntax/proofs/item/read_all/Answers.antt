@@ -27,19 +27,19 @@ loop-piece-init c =
 pub loop-piece-preserved-in_ok-push : goal.loop-piece-preserved-in_ok-push
 loop-piece-preserved-in_ok-push c =
     one-more c.args.pieces.items _ _ c.in_ok-read_piece.field-0 c.in-Some.piece _ _ c.loop-piece.invariant c.in-Some.ensures.steps.0 c.in_ok-read_piece.ensures
-        c.in_ok-push.ensures.items
+    c.in_ok-push.ensures.items
 
 pub loop-piece-preserved : goal.loop-piece-preserved
 loop-piece-preserved c =
     one-more c.args.pieces.items _ _ c.in_ok-read_piece.field-0 c.in-Some.piece _ _ c.loop-piece.invariant c.in-Some.ensures.steps.0 c.in_ok-read_piece.ensures
-        c.in_ok-push.ensures.items
+    c.in_ok-push.ensures.items
 
 pub returns : goal.returns
 returns c =
     let none_left = c.in-None.ensures.steps.0 in
     let counted = c.loop-piece.piece-iterator.rest.ok.0 in
     let past : into_iter_items c.loop-piece.piece-iterator ≡ [] = drop_all 0 (into_iter_items c.loop-piece.piece-iterator) (omega (arith, none_left, counted))
-        in
+    in
     sym (append-nil (map item_of c.loop-piece.items.items))
     ∙ ap (λ ps. map item_of c.loop-piece.items.items ++ items_in (map piece_of ps)) (sym past)
     ∙ c.loop-piece.invariant

@@ -39,7 +39,7 @@ returns-in_err-refuse_second c =
     let name : c.new-name.result ≡ base_name file = c.new-name.ensures ∙ c.in_ok-copy_of.ensures ∙ c.base_name.ensures in
     let built : map definition_of c.as_slice-2.result.now ≡ all_from (base_name file) (items_of bytes) =
     ap (map definition_of) c.as_slice-2.ensures.value ∙ c.in_ok-definitions.ensures ∙ ap (λ n. all_from n (map item_of c.args.items.items)) name
-        ∙ ap (all_from (base_name file)) read in
+    ∙ ap (all_from (base_name file)) read in
     adding-ends (set_view c.args.set.now) file bytes c.from_residual-in_err-refuse_second.result refusal c.from_residual-in_err-refuse_second.ensures.1
     (second-placed (set_view c.args.set.now) file bytes refusal.line (reason_of refusal.kind) c.requires.within passed
     (subst (λ (ds : List Definition). IsSecondAt (second_in ds) refusal.line (reason_of refusal.kind)) built c.in_err-refuse_second.ensures))
@@ -54,7 +54,7 @@ define_all-requires c =
     let built : map definition_of c.in_ok-definitions.definitions.items ≡ all_from (base_name file) (items_of bytes) =
     c.in_ok-definitions.ensures ∙ ap (λ n. all_from n (map item_of c.args.items.items)) name ∙ ap (all_from (base_name file)) read in
     file-kept file bytes (map template_of c.in_ok-templates_of.field-0.items) (bytes-drop _ file (are_bytes file c.type_inv.file))
-        (are_bytes bytes c.type_inv.bytes)
+    (are_bytes bytes c.type_inv.bytes)
     (omega (arith, c.requires.within)) passed
     (c.in_ok-templates_of.ensures ∙ in-file file c.in_ok-definitions.definitions.items ∙ ap (map (template_in file)) built)
 

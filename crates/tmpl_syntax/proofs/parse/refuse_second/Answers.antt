@@ -18,9 +18,9 @@ pub loop-definition-preserved-then-is_blank : goal.loop-definition-preserved-the
 loop-definition-preserved-then-is_blank c =
     let d = c.definition-item.result in
     let blank : is_blank (nodes_in d.nodes.items) ≡ true = ap (λ ns. is_blank (nodes_in ns)) (sym c.as_slice.ensures.value) ∙ sym c.is_blank.ensures
-        ∙ c.if-is_blank.true in
+    ∙ c.if-is_blank.true in
     sym (next-blank (known_names c.loop-definition.names) c.args.definitions.now c.loop-definition.definition-index d c.loop-definition-test.true
-        c.definition-item.is blank)
+    c.definition-item.is blank)
     ∙ c.loop-definition.invariant
 
 pub returns-then-knows : goal.returns-then-knows
@@ -28,10 +28,12 @@ returns-then-knows c =
     let d = c.definition-item.result in
     let names = known_names c.loop-definition.names in
     let blank : is_blank (nodes_in d.nodes.items) ≡ false = ap (λ ns. is_blank (nodes_in ns)) (sym c.as_slice.ensures.value) ∙ sym c.is_blank.ensures
-        ∙ c.if-is_blank.false in
-    let known : is_known names d.name ≡ true = ap (is_known names) (sym c.as_slice-name.ensures) ∙ sym c.knows.ensures ∙ c.if-knows.true in
-    (sym c.loop-definition.invariant ∙ next-known names c.args.definitions.now c.loop-definition.definition-index d c.loop-definition-test.true
-        c.definition-item.is blank known, refl)
+    ∙ c.if-is_blank.false in
+    let known : is_known names d.name ≡ true = ap (is_known names) (sym c.as_slice-name.ensures) ∙ sym c.knows.ensures ∙ c.if-knows.true in (
+      sym c.loop-definition.invariant ∙ next-known names c.args.definitions.now c.loop-definition.definition-index d c.loop-definition-test.true
+          c.definition-item.is blank known,
+      refl,
+    )
 
 pub loop-definition-preserved : goal.loop-definition-preserved
 loop-definition-preserved c =
@@ -39,7 +41,7 @@ loop-definition-preserved c =
     let names = known_names c.loop-definition.names in
     let rest = drop (c.loop-definition.definition-index + 1) (map definition_of c.args.definitions.now) in
     let blank : is_blank (nodes_in d.nodes.items) ≡ false = ap (λ ns. is_blank (nodes_in ns)) (sym c.as_slice.ensures.value) ∙ sym c.is_blank.ensures
-        ∙ c.if-is_blank.false in
+    ∙ c.if-is_blank.false in
     let known : is_known names d.name ≡ false = ap (is_known names) (sym c.as_slice-name.ensures) ∙ sym c.knows.ensures ∙ c.if-knows.false in
     ap (λ (ns : List Name). second_from ns rest) (c.in_ok-push.ensures ∙ ap (λ name. names ++ name ∷ []) c.as_slice-name.ensures)
     ∙ sym (next-new names c.args.definitions.now c.loop-definition.definition-index d c.loop-definition-test.true c.definition-item.is blank known)
@@ -49,5 +51,5 @@ pub returns : goal.returns
 returns c =
     let ds = map definition_of c.args.definitions.now in
     let past : drop c.loop-definition.definition-index ds ≡ [] = drop_all c.loop-definition.definition-index ds
-        (omega (arith, c.loop-definition-test.false, length-map c.args.definitions.now definition_of)) in
+    (omega (arith, c.loop-definition-test.false, length-map c.args.definitions.now definition_of)) in
     sym c.loop-definition.invariant ∙ ap (second_from (known_names c.loop-definition.names)) past

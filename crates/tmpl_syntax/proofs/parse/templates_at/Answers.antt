@@ -33,7 +33,7 @@ loop-definition-init c =
 pub loop-definition-preserved : goal.loop-definition-preserved
 loop-definition-preserved c =
     one-more (in_file c.args.path.now.value) c.args.definitions.items _ _ c.in_ok-template.field-0 c.in-Some.definition _ _ c.loop-definition.invariant
-        c.in-Some.ensures.steps.0 c.in_ok-template.ensures c.in_ok-push.ensures.items
+    c.in-Some.ensures.steps.0 c.in_ok-template.ensures c.in_ok-push.ensures.items
 
 pub returns : goal.returns
 returns c =
@@ -41,7 +41,7 @@ returns c =
     let none_left = c.in-None.ensures.steps.0 in
     let counted = c.loop-definition.definition-iterator.rest.ok.0 in
     let past : into_iter_items c.loop-definition.definition-iterator ≡ [] =
-        drop_all 0 (into_iter_items c.loop-definition.definition-iterator) (omega (arith, none_left, counted)) in
+    drop_all 0 (into_iter_items c.loop-definition.definition-iterator) (omega (arith, none_left, counted)) in
     sym (append-nil (map template_of c.loop-definition.templates.items))
     ∙ ap (λ ds. map template_of c.loop-definition.templates.items ++ map f ds) (sym past)
     ∙ c.loop-definition.invariant

@@ -69,7 +69,7 @@ put_parted_entries-returns-in_err-put_entry g t c =
     let all = parted-at entry_text c.args.entries.now l.key-index x.result c.loop-key-test.true x.is l.lead.now l.invariant.lead in
     IsPut-along (IsPut-append l.invariant.put (IsPut-append c.in_ok-put.ensures
     (IsPut-stop _ c.from_residual-in_err-put_entry.ensures.0 (IsPut-along c.in_err-put_entry.ensures
-        (ap (λ k. k ++ 58 ∷ inner_text (value_of x.result.1)) c.as_slice.ensures)))))
+    (ap (λ k. k ++ 58 ∷ inner_text (value_of x.result.1)) c.as_slice.ensures)))))
     (all ∙ sym (ap parted (entry_texts-map c.args.entries.now)))
 
 pub put_parted_entries-loop-key-preserved : goal.put_parted_entries-loop-key-preserved

@@ -12,16 +12,18 @@ pub put_nodes-put_node-requires : goal.put_nodes-put_node-requires
 put_nodes-put_node-requires t c =
     let l = c.loop-i in
     let item = c.index-nodes-i.result in
-    let below = item-weight c.args.nodes.now (l.i - 1) item (omega arith) c.index-nodes-i.is in
-    (omega (arith, below), tail.node_open (record { code = l.self.code; scope = c.shrink.new.scope }) c.requires l.invariant (l.i - 1) item (omega arith)
-        (omega arith) c.index-nodes-i.is refl c.shrink.ensures)
+    let below = item-weight c.args.nodes.now (l.i - 1) item (omega arith) c.index-nodes-i.is in (
+      omega (arith, below),
+      tail.node_open (record { code = l.self.code; scope = c.shrink.new.scope }) c.requires l.invariant (l.i - 1) item (omega arith)
+          (omega arith) c.index-nodes-i.is refl c.shrink.ensures,
+    )
 
 pub put_nodes-loop-i-preserved : goal.put_nodes-loop-i-preserved
 put_nodes-loop-i-preserved t c =
     let l = c.loop-i in
     let item = c.index-nodes-i.result in
     tail.put_more (record { code = l.self.code; scope = c.shrink.new.scope }) c.requires l.invariant (l.i - 1) item (omega arith) (omega arith)
-        c.index-nodes-i.is refl c.shrink.ensures c.in_ok-put_node.ensures
+    c.index-nodes-i.is refl c.shrink.ensures c.in_ok-put_node.ensures
     (c.in_ok-push.ensures ∙ ap (λ i. i ∷ code_of c.put_node.new.self.code) c.first_instruction.ensures) refl
 
 pub put_nodes-returns : goal.put_nodes-returns
@@ -30,15 +32,17 @@ put_nodes-returns t c = tail.put_all (omega arith) c.loop-i.invariant
 pub put_ended-put_part-requires : goal.put_ended-put_part-requires
 put_ended-put_part-requires t c =
     let a = c.args in
-    let lay = layout_of a.self.now.scope in
-    (omega arith, open_on a.site.exit (code_of a.self.now.code) (code_of c.put_end.new.code) lay lay (end_ends _ _ _ _ c.in_ok-put_end.ensures) (omega arith)
-        c.requires)
+    let lay = layout_of a.self.now.scope in (
+      omega arith,
+      open_on a.site.exit (code_of a.self.now.code) (code_of c.put_end.new.code) lay lay (end_ends _ _ _ _ c.in_ok-put_end.ensures) (omega arith)
+          c.requires,
+    )
 
 pub put_ended-returns : goal.put_ended-returns
 put_ended-returns t c =
     let a = c.args in
     on_ok _ _ _ (λ p. tail.put_ended (set_view a.site.set.now) c.requires (binding_of a.binding.now) (nodes_in a.nodes.now) a.skip _ refl
-        c.in_ok-declared_by.ensures c.in_ok-put_end.ensures p) c.put_part.ensures
+    c.in_ok-declared_by.ensures c.in_ok-put_end.ensures p) c.put_part.ensures
 
 pub put_if-since-requires : goal.put_if-since-requires
 put_if-since-requires t c =
@@ -48,25 +52,27 @@ put_if-since-requires t c =
 
 pub put_if-put_ended-requires-2 : goal.put_if-put_ended-requires-2
 put_if-put_ended-requires-2 t c =
-    let a = c.args in
-    (omega arith, tail.still_open (ended_part (set_view a.site.set.now) (binding_of a.header.now.binding) (nodes_in a.other.now) 0) c.in_ok-put_ended.ensures
-        c.requires)
+    let a = c.args in (
+      omega arith,
+      tail.still_open (ended_part (set_view a.site.set.now) (binding_of a.header.now.binding) (nodes_in a.other.now) 0) c.in_ok-put_ended.ensures
+          c.requires,
+    )
 
 pub put_if-since-requires-2 : goal.put_if-since-requires-2
 put_if-since-requires-2 t c =
     let a = c.args in
     let more = tail.more_code (ended_part (set_view a.site.set.now) (binding_of a.header.now.binding) (nodes_in a.body.now) c.in_ok-to.to)
-        c.in_ok-put_ended-2.ensures in
+    c.in_ok-put_ended-2.ensures in
     omega (arith, more, c.len-second.ensures)
 
 pub put_if-returns : goal.put_if-returns
 put_if-returns t c =
     let a = c.args in
     on_ok _ _ _ (λ headed. tail.put_if (set_view a.site.set.now) c.requires (header_of a.header.now) (nodes_in a.body.now) (nodes_in a.other.now) c.in_ok-to.to
-        c.in_ok-skip.skip c.declares-kept.result c.in_ok-put_ended.ensures c.in_ok-put_ended-2.ensures
-        (c.in_ok-to.ensures ∙ ap (λ n. length (code_of c.put_ended.new.self.code) - n) c.len-end.ensures)
+    c.in_ok-skip.skip c.declares-kept.result c.in_ok-put_ended.ensures c.in_ok-put_ended-2.ensures
+    (c.in_ok-to.ensures ∙ ap (λ n. length (code_of c.put_ended.new.self.code) - n) c.len-end.ensures)
     (c.in_ok-skip.ensures ∙ ap (λ n. length (code_of c.put_ended-2.new.self.code) - n) c.len-second.ensures) c.declares-kept.ensures c.in_ok-push.ensures refl
-        headed) c.put_header.ensures
+    headed) c.put_header.ensures
 
 pub put_with-since-requires : goal.put_with-since-requires
 put_with-since-requires t c =
@@ -79,7 +85,7 @@ put_with-put_dotted_part-requires t c =
     let a = c.args in
     let s = c.put_ended.new.self in
     let still = tail.still_open (ended_part (set_view a.site.set.now) (binding_of a.header.now.binding) (nodes_in a.other.now) 0) c.in_ok-put_ended.ensures
-        c.requires in
+    c.requires in
     let lay = layout_of s.scope in
     (omega arith, open_on a.site.exit (code_of s.code) (code_of c.push.new.self) lay lay (ends_one _ _ _ c.in_ok-push.ensures) (omega arith) still)
 
@@ -94,11 +100,11 @@ pub put_with-returns : goal.put_with-returns
 put_with-returns t c =
     let a = c.args in
     on_ok _ _ _ (λ headed. tail.put_with (set_view a.site.set.now) c.requires (header_of a.header.now) (nodes_in a.body.now) (nodes_in a.other.now)
-        c.in_ok-skip.skip c.in_ok-skip-2.skip _ _ c.declares-kept.result c.in_ok-put_ended.ensures refl c.in_ok-push.ensures c.in_ok-put_dotted_part.ensures
-        (c.in_ok-short.ensures.value ∙ c.in_ok-declared_in.ensures) (c.in_ok-short-2.ensures.value ∙ c.declared_count.ensures)
-        (c.in_ok-skip.ensures ∙ ap (λ n. length (code_of c.put_ended.new.self.code) - n) c.len-end.ensures)
+    c.in_ok-skip.skip c.in_ok-skip-2.skip _ _ c.declares-kept.result c.in_ok-put_ended.ensures refl c.in_ok-push.ensures c.in_ok-put_dotted_part.ensures
+    (c.in_ok-short.ensures.value ∙ c.in_ok-declared_in.ensures) (c.in_ok-short-2.ensures.value ∙ c.declared_count.ensures)
+    (c.in_ok-skip.ensures ∙ ap (λ n. length (code_of c.put_ended.new.self.code) - n) c.len-end.ensures)
     (c.in_ok-skip-2.ensures ∙ ap (λ n. length (code_of c.put_dotted_part.new.self.code) - n) c.len-second.ensures) c.declares-kept.ensures
-        c.in_ok-push-2.ensures refl headed) c.put_header.ensures
+    c.in_ok-push-2.ensures refl headed) c.put_header.ensures
 
 pub put_range-since-requires : goal.put_range-since-requires
 put_range-since-requires t c =
@@ -126,8 +132,8 @@ pub put_range-returns : goal.put_range-returns
 put_range-returns t c =
     let a = c.args in
     on_ok _ _ _ (λ piped. tail.put_range (set_view a.site.set.now) c.requires (header_of a.header.now) (nodes_in a.body.now) (nodes_in a.other.now) a.line
-        c.in_ok-skip.skip c.in_ok-skip-2.skip _ _ c.declares_key-key.result _ refl (c.in_ok-short.ensures.value ∙ c.in_ok-declared_in.ensures)
-        c.in_ok-put_end.ensures c.in_ok-put_nodes.ensures refl c.in_ok-push.ensures c.len-after.ensures refl c.len-below.ensures c.in_ok-put_turns.ensures
-        c.in_ok-count.ensures (c.in_ok-skip.ensures ∙ ap (λ n. length (code_of c.put_nodes.new.self.code) - n) c.len-after.ensures)
+    c.in_ok-skip.skip c.in_ok-skip-2.skip _ _ c.declares_key-key.result _ refl (c.in_ok-short.ensures.value ∙ c.in_ok-declared_in.ensures)
+    c.in_ok-put_end.ensures c.in_ok-put_nodes.ensures refl c.in_ok-push.ensures c.len-after.ensures refl c.len-below.ensures c.in_ok-put_turns.ensures
+    c.in_ok-count.ensures (c.in_ok-skip.ensures ∙ ap (λ n. length (code_of c.put_nodes.new.self.code) - n) c.len-after.ensures)
     (c.in_ok-skip-2.ensures ∙ ap (λ n. length (code_of c.put_turns.new.self.code) - n) c.len-second.ensures) c.declares_key-key.ensures c.in_ok-push-2.ensures
-        refl piped) c.put_pipeline.ensures
+    refl piped) c.put_pipeline.ensures

@@ -13,7 +13,7 @@ take_place-requires c =
     let v = c.in-Some-Variable in
     let name = v.name.now in
     ap is_some (old.placed name ∙ ap (place_named name) (top-is old.cells.items rest (Variable v.name v.hidden)
-        (v.ensures.items ∙ ap (λ (c : held.Cell). rest ++ c ∷ []) v.field-0-is)))
+    (v.ensures.items ∙ ap (λ (c : held.Cell). rest ++ c ∷ []) v.field-0-is)))
     ∙ is-placed name (layout_in rest)
 
 pub invariant_of-self : goal.invariant_of-self

@@ -8,4 +8,4 @@ pub returns-then-are_digits : goal.returns-then-are_digits
 returns-then-are_digits c =
     c.number_without.ensures
     ∙ ap (λ ds. within (number_in c.args.base ds)) (digits-plain c.args.base c.args.digits.now c.requires.high
-        (sym c.are_digits.ensures ∙ c.if-are_digits.true))
+    (sym c.are_digits.ensures ∙ c.if-are_digits.true))

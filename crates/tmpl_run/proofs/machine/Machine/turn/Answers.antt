@@ -12,8 +12,12 @@ pub returns-clause-step : goal.returns-clause-step
 returns-clause-step g c =
     let s : State = state_of g.run c.args.self.now in
     let element = val_of c.in-Some.element in
-    let behind : Value → List Cell → State = λ v cs. record s { cells = variables_on c.args.count (val_of c.in-Some.key, v) cs; dot = element; place =
-        s.place + 1 } in
+    let behind : Value → List Cell → State = λ v cs. record s {
+      cells = variables_on c.args.count (val_of c.in-Some.key, v) cs;
+      dot = element;
+      place =
+          s.place + 1;
+    } in
     turn-is g.run.plan g.run.template c.args.count s (val_of c.in-Some.key, element) c.requires.0 c.in-Some.ensures.element
     ∙ ap goes (sym (ap (state_of g.run) c.replace_dot.ensures ∙ ap (λ (t : State). record t { dot = element }) c.in_ok-declare.ensures.step
     ∙ ap (λ cs. behind element cs) c.element.ensures.cells))

@@ -20,7 +20,7 @@ loop-stop-init g c =
       taken = grows-same (g.S.Sink.so_far c.args.sink.now);
       stands =
           going.starts g.run.0 g.run.1 c.args.self.now (given_of (g.S.Sink.so_far c.args.sink.now) c.args.piece.now) r.1.1.0 r.1.1.1.0 r.1.1.1.1.0 r.1.1.1.1.1.0
-              r.1.1.1.1.1.1.0
+          r.1.1.1.1.1.1.0
           r.1.1.1.1.1.1.1.0;
     }
 
@@ -54,8 +54,20 @@ execute-requires g c =
         c.requires.1.0,
         (
           omega (arith, inside, fits),
-          (omega (arith, deep), (inv.within, (going.has inv items code item.is, (going.lands inv items code item.is (omega (arith, fits)), omega
-              (arith, count, few))))),
+          (
+            omega (arith, deep),
+            (
+              inv.within,
+              (
+                going.has inv items code item.is,
+                (
+                  going.lands inv items code item.is (omega (arith, fits)),
+                  omega
+                      (arith, count, few),
+                ),
+              ),
+            ),
+          ),
         ),
       ),
     )
@@ -68,7 +80,7 @@ loop-stop-smaller g c =
     let code = ap (λ (p : Plan). p.code) c.requires.1.0 ∙ ap instructions_of (sym c.as_slice.ensures.value) in
     let u = state_of (told_behind i s told) c.execute.new.self in
     going.less c.loop-stop.invariant.stands c.as_slice.result.now code c.index-as_slice-self.is u
-        (subst (λ f. Executed told i s u (Ok f)) c.in-Ok-On.field-0-is c.in-Ok-On.ensures.step)
+    (subst (λ f. Executed told i s u (Ok f)) c.in-Ok-On.field-0-is c.in-Ok-On.ensures.step)
 
 pub loop-stop-preserved : goal.loop-stop-preserved
 loop-stop-preserved g c =
@@ -83,7 +95,7 @@ loop-stop-preserved g c =
           did.taken;
       stands =
           going.onward c.loop-stop.invariant.stands c.as_slice.result.now code c.index-as_slice-self.is c.execute.new.self
-              (given_of (g.S.Sink.so_far c.execute.new.sink) c.execute.new.piece)
+          (given_of (g.S.Sink.so_far c.execute.new.sink) c.execute.new.piece)
           (subst (λ f. Executed told i s u (Ok f)) c.in-Ok-On.field-0-is did.step) did.given did.size did.plain;
     }
 
@@ -95,7 +107,7 @@ returns-in-Ok-Over-clause-came g c =
     let code = ap (λ (p : Plan). p.code) c.requires.1.0 ∙ ap instructions_of (sym c.as_slice.ensures.value) in
     let u = state_of (told_behind i s told) c.execute.new.self in
     going.over c.loop-stop.invariant.stands c.as_slice.result.now code c.index-as_slice-self.is
-        (given_of (g.S.Sink.so_far c.execute.new.sink) c.execute.new.piece) None false
+    (given_of (g.S.Sink.so_far c.execute.new.sink) c.execute.new.piece) None false
     (subst (λ f. Executed told i s u (Ok f)) c.in-Ok-Over.field-0-is c.in-Ok-Over.ensures.step) c.in-Ok-Over.ensures.given
 
 pub returns-in-Ok-Over-clause-taken : goal.returns-in-Ok-Over-clause-taken
@@ -105,7 +117,7 @@ returns-in-Ok-Over-clause-taken g c = grows-on (g.S.Sink.so_far c.args.sink.now)
 pub error_for-requires : goal.error_for-requires
 error_for-requires g c =
     slice_get_within _ c.loop-stop.self.template _ (ap (λ (p : Plan). slice_get p.templates c.loop-stop.self.template) (sym c.requires.1.0)
-        ∙ going.runs c.loop-stop.invariant.stands)
+    ∙ going.runs c.loop-stop.invariant.stands)
 
 pub returns-in-Err-clause-came : goal.returns-in-Err-clause-came
 returns-in-Err-clause-came g c =
@@ -117,7 +129,7 @@ returns-in-Err-clause-came g c =
     let u = state_of (told_behind i s told) c.execute.new.self in
     let did = c.in-Err.ensures in
     going.stops c.loop-stop.invariant.stands c.as_slice.result.now code c.index-as_slice-self.is
-        (given_of (g.S.Sink.so_far c.execute.new.sink) c.execute.new.piece) u (IsPlain c.execute.new.self)
+    (given_of (g.S.Sink.so_far c.execute.new.sink) c.execute.new.piece) u (IsPlain c.execute.new.self)
     (going.text-behind i s told refl) c.in-Err.stop c.error_for.result did.step did.given did.plain
     (subst (λ (p : Plan). IsStopped (slice_get p.templates m.template) u.line c.in-Err.stop c.error_for.result) (sym c.requires.1.0) c.error_for.ensures)
 

@@ -11,7 +11,7 @@ pub returns-then-bytes-room-2-clause-given : goal.returns-then-bytes-room-2-clau
 returns-then-bytes-room-2-clause-given g c =
     let flushed = c.flush.new.self in
     IsPut-append {a = []} c.in_ok-flush.ensures.given (put-behind-none _ (g.S.Sink.so_far c.flush.new.sink) (g.S.Sink.so_far c.put_all.new.sink)
-        c.args.bytes.now (waiting flushed) 0 c.in_ok-flush.ensures.rest c.put_all.ensures)
+    c.args.bytes.now (waiting flushed) 0 c.in_ok-flush.ensures.rest c.put_all.ensures)
 
 pub returns-then-bytes-room-2-clause-taken : goal.returns-then-bytes-room-2-clause-taken
 returns-then-bytes-room-2-clause-taken g c =

@@ -16,12 +16,14 @@ returns-clause-table c =
     let is = c.piped_count-below.ensures in
     let found = c.requires.found in
     table-is c.args.func c.call_between-result.result c.args.count s.top c.args.piped below (s.top - from) from s.cells.now is (omega arith) (omega arith)
-        s.within c.call_between-result.ensures.table
+    s.within c.call_between-result.ensures.table
 
 pub returns-clause-plain : goal.returns-clause-plain
 unfolding IsPlainStack
 returns-clause-plain c = λ none plain.
     let s = c.args.self.now in
-    let from = s.top - (c.args.count + c.piped_count-below.result) in
-    (c.call_between-result.ensures.borrowed none plain, borrowed-popped from s.top s.cells.now c.clear.new.cells (omega arith)
-        (c.clear.ensures.left ∙ c.call_between-result.ensures.left) plain)
+    let from = s.top - (c.args.count + c.piped_count-below.result) in (
+      c.call_between-result.ensures.borrowed none plain,
+      borrowed-popped from s.top s.cells.now c.clear.new.cells (omega arith)
+          (c.clear.ensures.left ∙ c.call_between-result.ensures.left) plain,
+    )

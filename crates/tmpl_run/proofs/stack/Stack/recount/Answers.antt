@@ -16,4 +16,4 @@ returns-clause-plain c = λ plain.
     let within : at < length cells = omega (arith, below, stack.within) in
     let was = get_or cells at c.index-self-at.result in
     borrowed-set stack.top at cells (record { val = was.val; num = c.args.num }) (sym (made_at-is cells at c.index-self-at.result within)
-        ∙ borrowed-at stack.top at cells below plain) plain
+    ∙ borrowed-at stack.top at cells below plain) plain

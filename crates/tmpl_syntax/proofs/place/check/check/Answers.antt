@@ -22,9 +22,9 @@ returns-in-Some c =
     let at = item-at items i x c.loop-item-test.true c.item-item.is in
     checked-refused c.args.bytes.now (map item_of items) i (item_of x) (of_action c.in-Some.fault) x.line (reason_of c.kind.result) at
     (checking-refused (roles_of (map item_of items)) i (scopes_of c.loop-item.scopes) (frames_in c.loop-item.stack.items) (role_of (item_of x))
-        (role-at (map item_of items) i (item_of x) at) c.loop-item.invariant
+    (role-at (map item_of items) i (item_of x) at) c.loop-item.invariant
     (option_map frame_of c.newest-outside.result) (known_names c.forget.new.names) c.newest-outside.ensures c.forget.ensures (of_action c.in-Some.fault)
-        (sym c.in-Some.ensures))
+    (sym c.in-Some.ensures))
     refl c.kind.ensures
 
 pub loop-item-preserved : goal.loop-item-preserved
@@ -35,7 +35,7 @@ loop-item-preserved c =
     let x = c.item-item.result in
     let at = item-at items i x c.loop-item-test.true c.item-item.is in
     checking-past (roles_of (map item_of items)) i (scopes_of c.loop-item.scopes) (frames_in c.loop-item.stack.items) (role_of (item_of x))
-        (role-at (map item_of items) i (item_of x) at) c.loop-item.invariant
+    (role-at (map item_of items) i (item_of x) at) c.loop-item.invariant
     (option_map frame_of c.newest-outside.result) (known_names c.forget.new.names) c.newest-outside.ensures c.forget.ensures
     _ _ c.in_ok-take_in.ensures.names c.in_ok-take_in.ensures.frames (sym c.in_default.ensures)
 
@@ -44,9 +44,9 @@ returns-then-is_empty c =
     let items = c.args.items.now in
     let none : length c.loop-item.stack.items ≡ 0 = grind (arith, common_steps) in
     let ended : length (roles_of (map item_of items)) ≤ c.loop-item.item-index =
-        omega (arith, length-map (map item_of items) role_of, length-map items item_of) in
+    omega (arith, length-map (map item_of items) role_of, length-map items item_of) in
     checked-fine c.args.bytes.now (map item_of items) (frames_in c.loop-item.stack.items)
-        (length-map (reverse c.loop-item.stack.items) frame_of ∙ length-reverse c.loop-item.stack.items ∙ none)
+    (length-map (reverse c.loop-item.stack.items) frame_of ∙ length-reverse c.loop-item.stack.items ∙ none)
     (checking-ended (roles_of (map item_of items)) c.loop-item.item-index _ _ ended c.loop-item.invariant)
 
 pub returns : goal.returns
@@ -54,8 +54,8 @@ returns c =
     let items = c.args.items.now in
     let some : length c.loop-item.stack.items ≢ 0 = grind (arith, common_steps) in
     let ended : length (roles_of (map item_of items)) ≤ c.loop-item.item-index =
-        omega (arith, length-map (map item_of items) role_of, length-map items item_of) in
+    omega (arith, length-map (map item_of items) role_of, length-map items item_of) in
     checked-open c.args.bytes.now (map item_of items) (frames_in c.loop-item.stack.items)
-        (λ e. some (sym (length-map (reverse c.loop-item.stack.items) frame_of ∙ length-reverse c.loop-item.stack.items) ∙ e))
+    (λ e. some (sym (length-map (reverse c.loop-item.stack.items) frame_of ∙ length-reverse c.loop-item.stack.items) ∙ e))
     (checking-ended (roles_of (map item_of items)) c.loop-item.item-index _ _ ended c.loop-item.invariant)
     ∙ ap (λ n. Err (n, open_at_end)) (sym c.last_line.ensures)

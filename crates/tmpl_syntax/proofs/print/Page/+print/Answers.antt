@@ -17,7 +17,7 @@ control-returns t c =
     (λ e. control-put p _ _ _ _ c.in_ok-action.ensures
     (c.in_ok-nodes.ensures ∙ ap (λ ns. page_with (page_of c.action.new.self) (nodes_said (nodes_in ns))) c.as_slice.ensures.value)
     (c.in_ok-else_part.ensures ∙ ap (λ ns. page_with (page_of c.nodes.new.self) (else_said (nodes_in ns) (nodes_said (nodes_in ns))))
-        c.as_slice-2.ensures.value)
+    c.as_slice-2.ensures.value)
     e ∙ ap (λ k. page_with p (node_said k)) (sym (control_of-fields c.args.control.now)))
     c.action-2.ensures
 
@@ -30,7 +30,7 @@ else_part-returns t c =
     let ss = nodes_said (nodes_in c.args.nodes.now) in
     on_ok_weaker c.nodes.result
     (λ e. e ∙ ap (λ q. page_with q ss) c.in_ok-action.ensures ∙ page_append p (said plain_else ∷ []) ss
-        ∙ ap (λ rs. page_with p rs) (sym (some_else c.args.nodes.now ss c.if-is_empty.ensures)))
+    ∙ ap (λ rs. page_with p rs) (sym (some_else c.args.nodes.now ss c.if-is_empty.ensures)))
     c.nodes.ensures
 
 pub nodes-loop-node-preserved : goal.nodes-loop-node-preserved

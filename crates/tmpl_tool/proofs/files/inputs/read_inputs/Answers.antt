@@ -21,16 +21,16 @@ all_loaded : (Made : List Bytes → Type 0) (files : Files) (old : List Template
     → (loaded parsed files no_read 0 [] (map (λ s. s.now) names) ≡ Ok set) × Made (file_reads parsed files no_read 0 [] (map (λ s. s.now) names))
 all_loaded Made files old names given set none same h =
     subst (λ (ns : List (Bor Bytes)). (loaded parsed files no_read 0 [] (map (λ s. s.now) ns) ≡ Ok set)
-        × Made (file_reads parsed files no_read 0 [] (map (λ s. s.now) ns))) (sym same)
+    × Made (file_reads parsed files no_read 0 [] (map (λ s. s.now) ns))) (sym same)
     (subst (λ (old : List Template). (loaded parsed files no_read 0 old (map (λ s. s.now) given) ≡ Ok set)
-        × Made (file_reads parsed files no_read 0 old (map (λ s. s.now) given))) (sym none) h)
+    × Made (file_reads parsed files no_read 0 old (map (λ s. s.now) given))) (sym none) h)
 
 pub returns-in_err-load_files-clause-reads : goal.returns-in_err-load_files-clause-reads
 returns-in_err-load_files-clause-reads g c =
     let w = seen c.args.request.now in
     let Made = Asked (g.S.Source.asked c.args.source.now) (g.S.Source.asked c.load_files.new.source) in
     for_each (λ parse. IfSome (g.S.Source.contents c.args.source.now) (λ files. ComesOf Made (inputs_of parse files w) (inputs_reads parse files w) inputs_seen
-        _)) (
+    _)) (
     let stop = c.in_err-load_files.field-0.0 in
     if_told _ (g.S.Source.contents c.args.source.now) (λ files told.
     let stops = of_told _ _ files told c.in_err-load_files.ensures.loads in
@@ -54,10 +54,10 @@ returns-in_err-data-clause-reads g c =
     let stop = c.in_err-data.field-0.0 in
     if_told _ (g.S.Source.contents c.args.source.now) (λ files told.
     let loads = all_loaded (Asked before between) files _ _ _ set (sym c.with_hash-set.ensures) (sym c.as_slice.ensures.value)
-        (of_told _ _ files told c.in_ok-load_files.ensures.loads) in
+    (of_told _ _ files told c.in_ok-load_files.ensures.loads) in
     let stops = of_told _ _ files (c.in_ok-load_files.ensures.contents ∙ told) c.in_err-data.ensures.reads in
     err_up (ComesOf (Asked before after) (inputs_of parsed files w) (inputs_reads parsed files w) inputs_seen) c.from_residual-in_err-data.result _
-        c.from_residual-in_err-data.ensures.1
+    c.from_residual-in_err-data.ensures.1
     (data_stops files w before between after set loads.0 loads.1 (search rules) (stop_seen stop) stops)))
 
 pub returns-clause-reads : goal.returns-clause-reads
@@ -70,7 +70,7 @@ returns-clause-reads g c parse is =
     let after = g.S.Source.asked c.read_data.new.source in
     if_told _ (g.S.Source.contents c.args.source.now) (λ files told.
     let loads = all_loaded (Asked before between) files _ _ _ set (sym c.with_hash-set.ensures) (sym c.as_slice.ensures.value)
-        (of_told _ _ files told c.in_ok-load_files.ensures.loads) in
+    (of_told _ _ files told c.in_ok-load_files.ensures.loads) in
     let found = of_told _ _ files (c.in_ok-load_files.ensures.contents ∙ told) c.in_ok-data.ensures.reads in
     for_each (λ (p : Parse). (inputs_of p files w no_read ≡ Ok (set, input)) × Asked before after (inputs_reads p files w no_read))
     (nothing_stops files w before between after set loads.0 loads.1 (search rules) input found.0 found.1)
@@ -84,7 +84,7 @@ returns-then-request-clause-reads g c parse is =
     let between = g.S.Source.asked c.load_files.new.source in
     if_told _ (g.S.Source.contents c.args.source.now) (λ files told.
     let loads = all_loaded (Asked before between) files _ _ _ set (sym c.with_hash-set.ensures) (sym c.as_slice.ensures.value)
-        (of_told _ _ files told c.in_ok-load_files.ensures.loads) in
+    (of_told _ _ files told c.in_ok-load_files.ensures.loads) in
     for_each (λ (p : Parse). (inputs_of p files w no_read ≡ Ok (set, None)) × Asked before between (inputs_reads p files w no_read))
     (printed_next files w before between between set loads.0 loads.1 (search rules) (asked-nothing between))
     parse is)

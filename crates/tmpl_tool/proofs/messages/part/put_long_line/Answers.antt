@@ -12,6 +12,6 @@ returns g c =
     let same : c.err-1.given.0 ≡ c.write_line.new.put.sink.now = c.err-1.given.1 (sym put.through) in
     subst
     (λ (s : g.row.E.Denot). IsPut c.write_line.result (as_puts (g.E.Sink.so_far c.args.err.now)) (as_puts (g.E.Sink.so_far s))
-        (line (pieces_of c.args.place.now ++ pieces_of c.args.parts.now)))
+    (line (pieces_of c.args.place.now ++ pieces_of c.args.parts.now)))
     (sym same)
     (record { count = put.count; bytes = put.bytes; through = refl })

@@ -23,4 +23,4 @@ loop-word-preserved c =
     ∙ at_drop_more (λ ws. helps_in (map (λ w. string_bytes w) ws)) c.args.words.now c.loop-word.word-index word c.loop-word-test.true
     ∙ ap (λ w. helps_in (string_bytes w ∷ map (λ w. string_bytes w) (drop (c.loop-word.word-index + 1) c.args.words.now))) (sym c.word-item.is)
     ∙ passed (string_bytes word) (map (λ w. string_bytes w) (drop (c.loop-word.word-index + 1) c.args.words.now)) (λ e. c.in_default.not-text (is ∙ e))
-        (λ e. c.in_default.not-text-2 (is ∙ e)) (λ e. c.in_default.not-text-3 (is ∙ e))
+    (λ e. c.in_default.not-text-2 (is ∙ e)) (λ e. c.in_default.not-text-3 (is ∙ e))
