@@ -228,7 +228,7 @@ def renders(folder):
         ("`examples/hello`", [b"Hello, {{.user.name}}!\n"], data, 0.4, 1),
         ("2 MiB of short actions", [b"{{.user.name}} has {{ .n }}.\n" * (2 * MIB // 29)], data, 0.4, 1),
         ("2 MB of lines of six actions", [SMALL_ACTIONS * (2_000_000 // len(SMALL_ACTIONS))], data, 0.4, 1),
-        ("a range over 100,000 elements with an `if` inside", [b"{{range .}}{{if .}}{{.},{{end}}{{end}}"], numbers, 0.4, 1),
+        ("a range over 100,000 elements with an `if` inside", [b"{{range .}}{{if .}}{{.}},{{end}}{{end}}"], numbers, 0.4, 1),
         ("a range over a list of 1,000,000 elements", [b"{{range .}}{{.}}\n{{end}}"], million, 0.4, 1),
         ("a table of 20,000 rows", [b"{{range .}}", cells, b"{{end}}"], table, 0.4, 1),
         ("10,000 calls of `printf` and `len`", [b'{{printf "%5d" (len "ab")}}\n' * 10_000], data, 0.4, 1),
