@@ -1,18 +1,21 @@
 """Runs each command that it is given, one after the other, whatever the others came to, and adds up their
 last lines 'N passed, N failed'. A command without such a line, or with a status that it does not
-explain, counts as one failure. It also tells the minutes of processors that the proofs took, by crate."""
+explain, counts as one failure. It also tells the minutes of processors that the proofs took, by crate. The libraries
+that `rt ci` proved are marked for `rt lib`."""
 import re
 import shlex
 import subprocess
 import sys
+import time
 
 import processors
+import proved
 
 
 def run(command):
     """Runs the command, shows its output as it comes, and returns what passed and what failed."""
     print(f"== {command}", flush=True)
-    last = ""
+    begun, last = time.time(), ""
     with subprocess.Popen(shlex.split(command), stdout=subprocess.PIPE) as ran:
         for line in ran.stdout:
             sys.stdout.buffer.write(line)
@@ -22,6 +25,8 @@ def run(command):
     passed, failed = map(int, told.groups()) if told else (0, 1)
     if not failed and (ran.returncode or not passed):
         failed = 1
+    if command == "rt ci" and not failed:
+        proved.mark(begun)
     return passed, failed
 
 
