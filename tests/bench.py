@@ -42,9 +42,9 @@ def shown(seconds):
     return f"{seconds * scale:.{0 if seconds * scale >= 100 else 1 if seconds * scale >= 10 else 2}f} {unit}"
 
 
-def with_memory(told):
-    """Seconds and KiB, as a cell of the table."""
-    return f"{shown(told[0])}, {told[1] / 1024:.0f} MiB"
+def with_memory(told, floor=0):
+    """Seconds and KiB, as a cell of the table. What a process held is not known up to the floor."""
+    return f"{shown(told[0])}, {'up to ' if told[1] <= floor else ''}{told[1] / 1024:.0f} MiB"
 
 
 class Figures:
@@ -105,6 +105,11 @@ def once(words, to_pipe=False):
     if status:
         sys.exit(f"{words[0]} did not end well: wait status {status:#x}")
     return seconds, usage.ru_maxrss
+
+
+def held_by_all():
+    """KiB that the system counts for each process, however little it holds: what this one held when it was started, and some more."""
+    return once(["/bin/true"])[1] * 1.02
 
 
 def medians(rounds, *runs, to_pipe=False):
@@ -249,10 +254,12 @@ def bench_renders(figures, folder):
     go = go_renderer(folder)
     figures.part("Whole processes" + (f", beside {go_name()}" if go else ""))
     for name, pieces, held, *most in renders(folder):
-        file = write(f"{folder}/template", pieces)
+        file, floor = write(f"{folder}/template", pieces), held_by_all()
         ours, *theirs = medians(15, [harness.PROGRAM, "--data", held, file], *([[go, "render", file, held]] if go else []))
-        factors = [mine / its for mine, its in zip(ours, *theirs)] if theirs else [None, None]
-        figures.row(name, with_memory(ours), *(with_memory(it) for it in theirs), *([] if theirs else [""]), *factors, *most)
+        time = ours[0] / theirs[0][0] if theirs else None
+        memory = ours[1] / theirs[0][1] if theirs and min(ours[1], theirs[0][1]) > floor else None
+        beside = with_memory(theirs[0], floor) if theirs else ""
+        figures.row(name, with_memory(ours, floor), beside, time, memory, *most)
     file = write(f"{folder}/template", [b"{{range 10000000}}{{.}}\n{{end}}"])
     (ours,) = medians(5, [harness.PROGRAM, "--steps", "100000000", file])
     figures.row("a range over 10,000,000 whole numbers", f"{with_memory(ours)}, {ours[0] / 1e7 * 1e9:.0f} ns an element")
@@ -333,11 +340,10 @@ def bench_reading(figures, folder):
         points = []
         for size in (10_000, 250_000, 1_000_000):
             file = repeated(f"{folder}/printed", piece, size) if piece else write(f"{folder}/printed", definitions(size // 42))
-            runs = [[harness.PROGRAM, "--print", tiny, file], [harness.PROGRAM, tiny, file], [harness.PROGRAM, tiny]]
-            printed, read, bare = (it[0] for it in medians(21, *runs))
-            points.append((size, printed))
-        spent, beside = printed - read, max(read - bare, 1e-9)
-        figures.row(f"the printing of 1 MB of {name}", shown(max(spent, 0)), f"the reading of them {shown(beside)}", spent / beside, None, 0.25)
+            whole, bare, parsed = parts(21, [harness.PROGRAM, "--print", tiny, file], [harness.PROGRAM, "--print", tiny], ("parse", file))
+            points.append((size, whole[0]))
+        spent = whole[0] - bare[0] - parsed[0]
+        figures.row(f"the printing of 1 MB of {name}", shown(max(spent, 0)), f"parsing it {shown(parsed[0])}", spent / parsed[0], None, 0.25)
         figures.rise(f"the printing of {name}", points)
 
 
@@ -498,13 +504,13 @@ def publish(lines):
 def main(words):
     if not harness.is_built():
         return 1
-    figures, floor = Figures(), once(["/bin/true"])[1] / 1024
+    figures = Figures()
     with tempfile.TemporaryDirectory() as folder:
         beside = peers(folder)
         for bench in (bench_renders, bench_library, bench_program, bench_cut, bench_reading, bench_compiling, bench_calls, bench_data, bench_growth):
             bench(figures, folder)
     day = datetime.datetime.now(datetime.timezone.utc)
-    head = f"Measured on {day:%-d %B %Y} of the tree `{commit()}`, on {machine()}, beside {beside}. Memory is known only above {floor:.0f} MiB."
+    head = f"Measured on {day:%-d %B %Y} of the tree `{commit()}`, on {machine()}, beside {beside}."
     lines = [head, "", *figures.table()]
     if "--dry" in words:
         print(*lines, sep="\n")
