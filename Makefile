@@ -109,6 +109,10 @@ dist: $(PROGRAM)
 deb: $(PROGRAM)
 	package=$$(python3 packaging/make.py deb) && echo "$$package" && packaging/try.sh "$$package"
 
+# packs the binding for Python with the C library as a wheel; then installs it into a folder of its own, runs it and removes it
+wheel: lib
+	package=$$(python3 packaging/make.py wheel) && echo "$$package" && packaging/try_wheel.sh "$$package"
+
 # lists the targets
 help:
 	@awk '/^# / { said = substr($$0, 3) } /^[a-z-]+:/ && said { split($$1, name, ":"); \
@@ -144,4 +148,4 @@ $(SHARED_LIBRARY): $(STATIC_LIBRARY) bindings/c/tmpl.map
 		-Wl,--version-script=bindings/c/tmpl.map -Wl,-z,defs
 	ln -sf libtmpl.so bindings/out/$(SONAME)
 
-.PHONY: build demo test lib test-bindings install-lib check edits bench fuzz compare install uninstall dist deb help
+.PHONY: build demo test lib test-bindings install-lib check edits bench fuzz compare install uninstall dist deb wheel help

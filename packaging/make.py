@@ -1,6 +1,8 @@
 """Packs the program that is built, with man pages, completions, templates for quoting and documents: `make.py tar` as a tar with its
-SHA-256, and with the C library and its header where these are built; `make.py deb` as a Debian package. Both go to `packaging/out`, and are named by the commit and by the logic that the
-program is proved with. `make dist` and `make deb` call it once the program is proved. The same tree gives the same bytes."""
+SHA-256, and with the C library and its header where these are built; `make.py deb` as a Debian package. `make.py wheel` packs the
+binding for Python with the C library. All go to `packaging/out`, and are named by the commit, the tar also by the logic that the program
+is proved with. `make dist`, `make deb` and `make wheel` call it once what they pack is proved. The same tree gives the same bytes."""
+import base64
 import gzip
 import hashlib
 import os
@@ -10,6 +12,8 @@ import subprocess
 import sys
 import tarfile
 import tempfile
+import time
+import zipfile
 
 HERE = os.path.dirname(os.path.abspath(__file__))
 TOP = os.path.dirname(HERE)
@@ -31,6 +35,23 @@ Files: *
 Copyright: 2026 the Rilphong maintainers
 License: none-chosen
  No licence is chosen yet. That is for the owner to do.
+"""
+
+METADATA = """\
+Metadata-Version: 2.1
+Name: tmpl
+Version: {version}
+Summary: {about}
+Requires-Python: >=3.8
+Description-Content-Type: text/markdown
+
+"""
+
+WHEEL = """\
+Wheel-Version: 1.0
+Generator: rilphong
+Root-Is-Purelib: false
+Tag: {tag}
 """
 
 CHANGES = """\
@@ -127,8 +148,7 @@ def tar():
                     made.add(at, inside, recursive=False, filter=owned_by_root)
                     for file in sorted(files):
                         made.add(f"{at}/{file}", f"{inside}/{file}", filter=owned_by_root)
-    with open(path, "rb") as it:
-        total = hashlib.sha256(it.read()).hexdigest()
+    total = hashlib.sha256(bytes_of(path)).hexdigest()
     with open(f"{path}.sha256", "w", encoding="ascii") as it:
         it.write(f"{total}  {name}.tar.gz\n")
     return path
@@ -184,10 +204,43 @@ def deb():
     return path
 
 
+def recorded(name, held):
+    """The line of a file in the list of what a wheel holds."""
+    total = base64.urlsafe_b64encode(hashlib.sha256(held).digest()).rstrip(b"=").decode()
+    return f"{name},sha256={total},{len(held)}\n"
+
+
+def bytes_of(path):
+    with open(path, "rb") as it:
+        return it.read()
+
+
+def wheel():
+    """The binding for Python with the C library, as pip installs it."""
+    day, number, changed = re.fullmatch(r"0~git(\d+)\.([0-9a-f]+)(\+changed)?", version()).groups()
+    name = f"0.dev{day}+{number}{'.changed' * bool(changed)}"
+    tag = f"py3-none-manylinux_{LIBC.replace('.', '_')}_x86_64"
+    about = f"tmpl-{name}.dist-info"
+    page = bytes_of(f"{TOP}/bindings/python/README.md")
+    files = {
+        "tmpl/__init__.py": bytes_of(f"{TOP}/bindings/python/tmpl.py"),
+        "tmpl/libtmpl.so": bytes_of(f"{TOP}/bindings/out/libtmpl.so"),
+        f"{about}/METADATA": METADATA.format(version=name, about=ABOUT).encode() + page,
+        f"{about}/WHEEL": WHEEL.format(tag=tag).encode(),
+    }
+    record = f"{about}/RECORD"
+    files[record] = ("".join(recorded(*it) for it in files.items()) + f"{record},,\n").encode()
+    path = f"{OUT}/tmpl-{name}-{tag}.whl"
+    with zipfile.ZipFile(path, "w", zipfile.ZIP_DEFLATED) as made:
+        for file, held in files.items():
+            made.writestr(zipfile.ZipInfo(file, time.gmtime(seconds())[:6]), held, zipfile.ZIP_DEFLATED)
+    return path
+
+
 def main(words):
-    kinds = {"tar": tar, "deb": deb}
+    kinds = {"tar": tar, "deb": deb, "wheel": wheel}
     if len(words) != 1 or words[0] not in kinds:
-        sys.exit("usage: make.py tar|deb")
+        sys.exit("usage: make.py tar|deb|wheel")
     os.makedirs(OUT, exist_ok=True)
     print(kinds[words[0]]())
 

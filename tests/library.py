@@ -1,10 +1,12 @@
 """Tries the engine as a C library, bindings/out/libtmpl.so and libtmpl.a, which `make lib` builds of what was proved. The rows of
 tests/rows that need no words and no files of the system go through one call each, by the Python wrapper, and through its `render_bytes`:
 text, line and status must be those of the row, but that lines call the data `data`. So must those of two renders of a set and data that
-are kept. Rows with short texts and lines are called with room of
-each size. tests/library.c refuses each allocation of calls in turn, runs two threads, and runs under valgrind where that is there. The
-header is compiled as C and as C++, what is installed is used by pkg-config, and the programs of docs/EMBEDDING.md for C and Python are run.
-With --bindings it runs those for Go and Rust, and the tests of these two bindings, where Go and Cargo are installed, and nothing else."""
+are kept. Rows with short texts and lines are called with room of each size. tests/library.c refuses each allocation of calls in turn,
+runs two threads, and runs under valgrind where that is there. The header is compiled as C and as C++, what is installed is used by
+pkg-config, the wheel for Python is unpacked and used, and the programs of docs/EMBEDDING.md for C and Python are run. With --bindings it
+runs those for Go and Rust, and the tests of these two bindings, where Go and Cargo are installed, and nothing else."""
+import base64
+import hashlib
 import json
 import os
 import re
@@ -12,6 +14,7 @@ import shutil
 import subprocess
 import sys
 import tempfile
+import zipfile
 
 import harness
 
@@ -283,6 +286,31 @@ def judge_header(folder):
     yield "make uninstall", 1, [f"    {said} {left}"] if status or left else []
 
 
+RECORDED = re.compile(r"(.+),sha256=(.+),(\d+)")
+
+
+def judge_wheel(folder):
+    """The wheel of the binding for Python: that it holds what its list says, and that a program runs by it."""
+    status, path = ran(sys.executable, f"{harness.TOP}/packaging/make.py", "wheel")
+    if status:
+        return "the wheel", 1, [f"    {path}"]
+    home, wrong = f"{folder}/wheel", []
+    with zipfile.ZipFile(path.strip()) as held:
+        held.extractall(home)
+        names = held.namelist()
+        lines = held.read(next(it for it in names if it.endswith("/RECORD"))).decode().splitlines()
+        for name, total, size in (it.groups() for it in map(RECORDED.fullmatch, lines) if it):
+            what = held.read(name)
+            is_right = total == base64.urlsafe_b64encode(hashlib.sha256(what).digest()).rstrip(b"=").decode() and int(size) == len(what)
+            wrong += [] if is_right else [f"    its list is wrong of {name}"]
+    if sorted(names) != sorted(it.rsplit(",", 2)[0] for it in lines):
+        wrong.append(f"    its list names {lines}, and it holds {names}")
+    program = 'import tmpl; print(tmpl.__file__, tmpl.render({"m": "{{.}}"}, "m", [1, 2]))'
+    environment = {key: value for key, value in os.environ.items() if key != "LIBTMPL"}
+    got = ran(sys.executable, "-c", program, env={**environment, "PYTHONPATH": home}, cwd=folder)
+    return "the wheel", 1, wrong + ([] if got == (0, f"{home}/tmpl/__init__.py [1 2]\n") else [f"    got {got}"])
+
+
 def judge_names_of(path):
     """That the library shows no names but its own."""
     status, said = ran("nm", "-D", "--defined-only", path) if path.endswith(".so") else ran("nm", "-g", "--defined-only", path)
@@ -385,6 +413,7 @@ def main(words):
         passed += told[0]
         results = [*judge_names(), *judge_refusals(), *judge_c(folder), *judge_header(folder)]
         results += [judge_names_of(f"{OUT}/libtmpl.so"), judge_names_of(f"{OUT}/libtmpl.a")]
+        results += [judge_wheel(folder)]
         results += [judge_program(folder, *it) for it in programs() if it[0] in ("c", "python")]
         told = harness.tally(results)
         return harness.closing(passed + told[0], failed + told[1])
