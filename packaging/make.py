@@ -19,6 +19,7 @@ HERE = os.path.dirname(os.path.abspath(__file__))
 TOP = os.path.dirname(HERE)
 OUT = f"{HERE}/out"
 LIBC = "2.34"  # the oldest C library on which the program runs
+OLDEST = 2, 17  # the oldest for which there are wheels
 ABOUT = "renders templates in the language of Go's text/template"
 DESCRIPTION = f"""\
 Description: {ABOUT}
@@ -215,16 +216,23 @@ def bytes_of(path):
         return it.read()
 
 
+def platform_of(library):
+    """What a wheel says of where it runs: with the oldest C library that has all that this one takes of it."""
+    taken = [tuple(map(int, it)) for it in re.findall(rb"GLIBC_(\d+)\.(\d+)", library)]
+    return "manylinux_{}_{}_x86_64".format(*max(taken + [OLDEST]))
+
+
 def wheel():
     """The binding for Python with the C library, as pip installs it."""
     day, number, changed = re.fullmatch(r"0~git(\d+)\.([0-9a-f]+)(\+changed)?", version()).groups()
     name = f"0.dev{day}+{number}{'.changed' * bool(changed)}"
-    tag = f"py3-none-manylinux_{LIBC.replace('.', '_')}_x86_64"
     about = f"tmpl-{name}.dist-info"
     page = bytes_of(f"{TOP}/bindings/python/README.md")
+    library = bytes_of(f"{TOP}/bindings/out/libtmpl.so")
+    tag = f"py3-none-{platform_of(library)}"
     files = {
         "tmpl/__init__.py": bytes_of(f"{TOP}/bindings/python/tmpl.py"),
-        "tmpl/libtmpl.so": bytes_of(f"{TOP}/bindings/out/libtmpl.so"),
+        "tmpl/libtmpl.so": library,
         f"{about}/METADATA": METADATA.format(version=name, about=ABOUT).encode() + page,
         f"{about}/WHEEL": WHEEL.format(tag=tag).encode(),
     }
