@@ -83,32 +83,45 @@ class Figures:
 # ---- processes
 
 
+def watched(words, actions):
+    """Starts a program by peak.c, and returns where that tells of it, and its process."""
+    read, write = os.pipe()
+    os.set_inheritable(write, True)
+    child = os.posix_spawn(PEAK, [PEAK, str(write), *words], os.environ, file_actions=actions)
+    os.close(write)
+    return read, child
+
+
+def told_of(words, read, child):
+    """Seconds and peak KiB of a program that peak.c was to run, once it has ended."""
+    with os.fdopen(read) as it:
+        told = it.read().split()
+    os.waitpid(child, 0)
+    if len(told) != 3 or int(told[0]):
+        sys.exit(f"{words[0]} did not end well: {' '.join(told[:1])}")
+    return int(told[1]) / 1e9, int(told[2])
+
+
 def once(words, to_pipe=False):
     """Seconds and peak KiB of one process, from its start until it has ended, with its output to /dev/null,
     or read from a pipe as it comes."""
-    actions = [(os.POSIX_SPAWN_OPEN, 0, os.devnull, os.O_RDONLY, 0)]
-    read = None
-    begun = time.perf_counter()
+    actions, out = [(os.POSIX_SPAWN_OPEN, 0, os.devnull, os.O_RDONLY, 0)], None
     if to_pipe:
-        read, write = os.pipe()
-        actions += [(os.POSIX_SPAWN_DUP2, write, 1), (os.POSIX_SPAWN_CLOSE, read)]
+        out, into = os.pipe()
+        actions += [(os.POSIX_SPAWN_DUP2, into, 1), (os.POSIX_SPAWN_CLOSE, out)]
     else:
         actions += [(os.POSIX_SPAWN_OPEN, 1, os.devnull, os.O_WRONLY, 0)]
-    child = os.posix_spawnp(words[0], words, os.environ, file_actions=actions)
+    read, child = watched(words, actions)
     if to_pipe:
-        os.close(write)
-        while os.read(read, MIB):
+        os.close(into)
+        while os.read(out, MIB):
             pass
-        os.close(read)
-    _, status, usage = os.wait4(child, 0)
-    seconds = time.perf_counter() - begun
-    if status:
-        sys.exit(f"{words[0]} did not end well: wait status {status:#x}")
-    return seconds, usage.ru_maxrss
+        os.close(out)
+    return told_of(words, read, child)
 
 
 def held_by_all():
-    """KiB that the system counts for each process, however little it holds: what this one held when it was started, and some more."""
+    """KiB that the system counts for each process, however little it holds."""
     return once(["/bin/true"])[1] * 1.02
 
 
@@ -120,16 +133,14 @@ def medians(rounds, *runs, to_pipe=False):
 
 def answered(part, file, *more):
     """The number that the probe puts out for a part, and peak KiB of its process."""
-    read, write = os.pipe()
-    actions = [(os.POSIX_SPAWN_DUP2, write, 1), (os.POSIX_SPAWN_CLOSE, read)]
-    child = os.posix_spawn(PROBE, [PROBE, part, file, *more], os.environ, file_actions=actions)
-    os.close(write)
-    with os.fdopen(read) as it:
-        told = int(it.read())
-    _, status, usage = os.wait4(child, 0)
-    if status:
-        sys.exit(f"{PROBE} did not end well: wait status {status:#x}")
-    return told, usage.ru_maxrss
+    out, into = os.pipe()
+    words = [PROBE, part, file, *more]
+    read, child = watched(words, [(os.POSIX_SPAWN_DUP2, into, 1), (os.POSIX_SPAWN_CLOSE, out)])
+    os.close(into)
+    with os.fdopen(out) as it:
+        told = it.read()
+    _, peak = told_of(words, read, child)
+    return int(told), peak
 
 
 def timed(part, file, *more):
@@ -148,7 +159,7 @@ def parts(rounds, *runs):
 
 
 def write(path, pieces):
-    """Writes in pieces, since a child's peak memory counts from what its parent held."""
+    """Writes a file, and returns its path."""
     with open(path, "wb") as it:
         for piece in pieces:
             it.write(piece)
@@ -502,10 +513,13 @@ def publish(lines):
 
 
 def main(words):
+    global PEAK
     if not harness.is_built():
         return 1
     figures = Figures()
     with tempfile.TemporaryDirectory() as folder:
+        PEAK = f"{folder}/peak"
+        subprocess.run(["cc", "-O2", f"{harness.TESTS}/peak.c", "-o", PEAK], check=True)
         beside = peers(folder)
         for bench in (bench_renders, bench_library, bench_program, bench_cut, bench_reading, bench_compiling, bench_calls, bench_data, bench_growth):
             bench(figures, folder)
