@@ -1,5 +1,8 @@
-use Rattle.tmpl_grammar.proofs.IsConstantLemmas.{computes-constant, is-computed-constant, has-one-constant}
+use Rattle.tmpl_grammar.specs.Constant.{IsConstant}
+use Rattle.tmpl_grammar.specs.computed.Constant.{constant_of}
+use Rattle.tmpl_grammar.proofs.OptionLemmas.{one-at-most}
+use Rattle.tmpl_grammar.proofs.IsConstantLemmas.{computes-constant, is-computed-constant}
 use Rattle.tmpl_grammar.proofs.laws.one_constant.Goals as goal
 
 pub returns : goal.returns
-returns c = record { computed = computes-constant; admitted = is-computed-constant; one = has-one-constant }
+returns c = record { computed = computes-constant; admitted = is-computed-constant; one = one-at-most IsConstant constant_of computes-constant }
