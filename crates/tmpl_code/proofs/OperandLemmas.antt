@@ -54,3 +54,5 @@ item-weight os i o h is = subst (λ (p : held.Operand). weight (operand_of p) < 
 pub slice-weights : (cs : List held_command.Command) (i : ℕ) (c : held_command.Command) (os : List held.Operand) → i < length cs
     → os ≡ (get_or cs i c).operands.items → weights (operands_in os) < all_weight (commands_in cs)
 slice-weights cs i c os h is = subst (λ (ps : List held.Operand). weights (operands_in ps) < all_weight (commands_in cs)) (sym is) (weights-at cs i c h)
+
+pub ruleset lighter = (item-weight, slice-weights)

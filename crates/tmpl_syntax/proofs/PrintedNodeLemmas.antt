@@ -31,12 +31,16 @@ no-rest says_nothing = refl
 -- ---- nodes
 
 -- the first items spell the nodes, apart from lines, with no definition among them, and the others say the rest
-record LeadsNodes (ns : Nodes) (ss : List Said) (xs : List Item) : Type 0 where
+record LeadsBy (Spell : List Item → List Definition → Nodes → List Item → List Definition → Type 0) (ns : Nodes) (ss : List Said) (xs : List Item)
+    : Type 0 where
   nodes : Nodes
   rest : List Item
-  leads : {ds : List Definition} → Leads xs ds nodes rest ds
+  leads : {ds : List Definition} → Spell xs ds nodes rest ds
   alike : unlined nodes ≡ unlined ns
   says_rest : Says ss rest
+
+abbrev LeadsNodes : Nodes → List Said → List Item → Type 0
+LeadsNodes = LeadsBy Leads
 
 -- .. a node, behind which they go on
 record LeadsNode (n : NodeKind) (ss : List Said) (xs : List Item) : Type 0 where
@@ -47,18 +51,11 @@ record LeadsNode (n : NodeKind) (ss : List Said) (xs : List Item) : Type 0 where
   alike : unlined_node node ≡ unlined_node n
   says_rest : Says ss rest
 
-record LeadsElse (other : Nodes) (ss : List Said) (xs : List Item) : Type 0 where
-  nodes : Nodes
-  rest : List Item
-  closes : {ds : List Definition} → Closes xs ds nodes rest ds
-  alike : unlined nodes ≡ unlined other
-  says_rest : Says ss rest
-
 else-leads : (other : Nodes) → ((ss : List Said) (xs : List Item) → Says (nodes_said other ++ ss) xs → LeadsNodes other ss xs)
-    → (ss : List Said) (xs : List Item) → Says (else_said other (nodes_said other) ++ said end_action ∷ ss) xs → LeadsElse other ss xs
+    → (ss : List Said) (xs : List Item) → Says (else_said other (nodes_said other) ++ said end_action ∷ ss) xs → LeadsBy Closes other ss xs
 else-leads none ih ss xs s =
     let f = first-said s in
-    record { nodes = none; rest = f.rest; closes = λ {ds}. subst (λ ys. Closes ys ds none f.rest ds) (sym f.is) an_end; alike = refl; says_rest = f.says_rest }
+    record { nodes = none; rest = f.rest; leads = λ {ds}. subst (λ ys. Closes ys ds none f.rest ds) (sym f.is) an_end; alike = refl; says_rest = f.says_rest }
 else-leads (then line n ns) ih ss xs s =
     let f = first-said s in
     let l = ih (said end_action ∷ ss) f.rest f.says_rest in
@@ -66,7 +63,7 @@ else-leads (then line n ns) ih ss xs s =
     record {
       nodes = l.nodes;
       rest = e.rest;
-      closes = λ {ds}. subst (λ ys. Closes ys ds l.nodes e.rest ds) (sym f.is) (an_else (subst (λ ys. Leads f.rest ds l.nodes ys ds) e.is l.leads));
+      leads = λ {ds}. subst (λ ys. Closes ys ds l.nodes e.rest ds) (sym f.is) (an_else (subst (λ ys. Leads f.rest ds l.nodes ys ds) e.is l.leads));
       alike = l.alike;
       says_rest = e.says_rest;
     }
@@ -92,7 +89,7 @@ control-leads c h body other in_body in_other ss xs s =
       node = control_node c h b.nodes e.nodes;
       rest = e.rest;
       leads = λ {ms} {zs} {ds} {es} l. subst (λ ys. Leads ys ds (then f.line (control_node c h b.nodes e.nodes) ms) zs es) (sym f.is)
-          (a_control b.leads e.closes l);
+          (a_control b.leads e.leads l);
       alike = control-alike c h b.nodes e.nodes body other b.alike e.alike;
       says_rest = e.says_rest;
     }

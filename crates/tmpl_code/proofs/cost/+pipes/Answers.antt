@@ -1,18 +1,9 @@
-use Rattle.std.proofs.Common.{◌≡◌, ◌∙◌, ◌+◌, ◌-◌, add-zero, ap, arith, drop}
+use Rattle.std.proofs.Common.{◌≡◌, ◌∙◌, ◌+◌, add-zero, ap, arith, drop}
 use Rattle.tmpl_grammar.specs.Need.{need_of_arguments, need_of_commands}
 use Rattle.tmpl_grammar.specs.View.{commands_in, operands_in}
 use Rattle.tmpl_code.specs.MakesText.{operands_make_text}
 use Rattle.tmpl_code.proofs.BackwardLemmas.{at-first}
-use Rattle.tmpl_code.proofs.OperandLemmas.{item-weight, slice-weights}
 use Rattle.tmpl_code.proofs.cost.+pipes.Goals as goal
-
-pub cost_of_arguments-cost_of_operand-requires : goal.cost_of_arguments-cost_of_operand-requires
-cost_of_arguments-cost_of_operand-requires t c =
-    (omega (arith, item-weight c.args.operands.now (c.loop-i.i - 1) c.index-operands-i.result (omega arith) c.index-operands-i.is), tt)
-
-pub cost_of_piped-cost_of_command-requires : goal.cost_of_piped-cost_of_command-requires
-cost_of_piped-cost_of_command-requires t c =
-    (omega (arith, slice-weights c.args.commands.now (c.loop-i.i - 1) c.index-commands-i.result c.as_slice.result.now (omega arith) c.as_slice.ensures.value), tt)
 
 pub cost_of_arguments-returns-clause-need : goal.cost_of_arguments-returns-clause-need
 cost_of_arguments-returns-clause-need t c =

@@ -1,13 +1,8 @@
-use Rattle.std.proofs.Common.{◌-◌, arith}
+use Rattle.std.proofs.Common.{arith}
 use Rattle.tmpl_syntax.specs.View.{nodes_in, set_view}
 use Rattle.tmpl_code.specs.computed.Weights.{heaviest_of_nodes}
 use Rattle.tmpl_code.proofs.BackwardLemmas.{at-first}
-use Rattle.tmpl_code.proofs.NodeLemmas.{item-weight}
 use Rattle.tmpl_code.proofs.heaviest.+heaviest.Goals as goal
-
-pub heaviest_of_nodes-heaviest_of_node-requires : goal.heaviest_of_nodes-heaviest_of_node-requires
-heaviest_of_nodes-heaviest_of_node-requires t c =
-    (omega (arith, item-weight c.args.nodes.now (c.loop-i.i - 1) c.index-nodes-i.result (omega arith) c.index-nodes-i.is), tt)
 
 pub heaviest_of_nodes-returns : goal.heaviest_of_nodes-returns
 heaviest_of_nodes-returns t c =

@@ -3,7 +3,6 @@ use Rattle.tmpl_grammar.specs.View.{operands_in}
 use Rattle.tmpl_code.specs.computed.Held.{code_of, decided, layout_of}
 use Rattle.tmpl_code.specs.Code.{Code, is_last, JunctionAt}
 use Rattle.tmpl_code.proofs.BackwardLemmas.{junction_more, operands_from}
-use Rattle.tmpl_code.proofs.OperandLemmas.{item-weight, slice-weights}
 use Rattle.tmpl_code.proofs.TailLemmas.{junction_ends, longer}
 use Rattle.tmpl_code.proofs.pipeline.+pipeline.Goals as goal
 
@@ -13,18 +12,6 @@ put_junction-put_decide-requires t c =
     let more = longer _ _ (junction_ends a.is_or (operands_in (drop c.loop-i.i a.operands.now)) a.piped a.above (layout_of a.scope.now) (code_of c.loop-i.code)
     (code_of a.code.now) c.loop-i.invariant.put) in
     omega (arith, more)
-
-pub put_junction-put_operand-requires : goal.put_junction-put_operand-requires
-put_junction-put_operand-requires t c =
-    (omega (arith, item-weight c.args.operands.now (c.loop-i.i - 1) c.index-operands-i.result (omega arith) c.index-operands-i.is), tt)
-
-pub put_operands-put_operand-requires : goal.put_operands-put_operand-requires
-put_operands-put_operand-requires t c =
-    (omega (arith, item-weight c.args.operands.now (c.loop-i.i - 1) c.index-operands-i.result (omega arith) c.index-operands-i.is), tt)
-
-pub put_piped-put_command-requires : goal.put_piped-put_command-requires
-put_piped-put_command-requires t c =
-    (omega (arith, slice-weights c.args.commands.now (c.loop-i.i - 1) c.index-commands-i.result c.as_slice.result.now (omega arith) c.as_slice.ensures.value), tt)
 
 pub put_junction-loop-i-preserved : goal.put_junction-loop-i-preserved
 put_junction-loop-i-preserved t c =

@@ -1,15 +1,10 @@
-use Rattle.std.proofs.Common.{◌-◌, arith}
+use Rattle.std.proofs.Common.{arith}
 use Rattle.tmpl_syntax.specs.Need.{need_of_nodes}
 use Rattle.tmpl_syntax.specs.View.{nodes_in}
 use Rattle.tmpl_code.specs.Calls.{nodes_call}
 use Rattle.tmpl_code.specs.MakesText.{nodes_make_text}
 use Rattle.tmpl_code.proofs.BackwardLemmas.{at-first}
-use Rattle.tmpl_code.proofs.NodeLemmas.{item-weight}
 use Rattle.tmpl_code.proofs.survey.+nodes.Goals as goal
-
-pub survey_nodes-survey_node-requires : goal.survey_nodes-survey_node-requires
-survey_nodes-survey_node-requires t c =
-    (omega (arith, item-weight c.args.nodes.now (c.loop-i.i - 1) c.index-nodes-i.result (omega arith) c.index-nodes-i.is), tt)
 
 pub survey_nodes-returns-clause-need : goal.survey_nodes-returns-clause-need
 survey_nodes-returns-clause-need t c =
