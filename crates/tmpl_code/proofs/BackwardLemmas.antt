@@ -16,6 +16,10 @@ drop-all [] (suc i) h = refl
 drop-all (x ∷ xs) zero h = absurd (omega arith)
 drop-all (x ∷ xs) (suc i) h = drop-all xs i (omega arith)
 
+-- a loop to the first that ended there says of all what it kept
+pub at-first : {A B : Type 0} (f : List A → B) (xs : List A) {i : ℕ} {v : B} → v ≡ f (drop i xs) → i ≡ 0 → v ≡ f xs
+at-first f xs kept first = kept ∙ ap (λ k. f (drop k xs)) first
+
 pub commands_from : (cs : List held_command.Command) (i : ℕ) (c : held_command.Command) → i < length cs → c ≡ get_or cs i c
     → commands_in (drop i cs) ≡ commands_in (c ∷ drop (i + 1) cs)
 commands_from cs i c h is = at_drop_more commands_in cs i c h ∙ ap (λ (d : held_command.Command). commands_in (d ∷ drop (i + 1) cs)) (sym is)

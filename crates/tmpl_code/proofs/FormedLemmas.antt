@@ -1,5 +1,5 @@
 -- For the law `formed_slots`: where a tree is formed, each name in scope has a slot.
-use Rattle.std.proofs.Common.{◌≡◌, ◌∙◌, ◌+◌, ◌&&◌, ◌||◌, ℕ, nat_lt, Bool, true, false, List, [], ◌∷◌, Option, Some, None, refl, ap}
+use Rattle.std.proofs.Common.{◌≡◌, ◌∙◌, ◌+◌, ◌||◌, ℕ, Bool, true, false, List, [], ◌∷◌, Option, Some, None, refl, ap}
 use Rattle.std.specs.Option.{is_some}
 use Rattle.std.specs.Str.{bytes_eq}
 use Rattle.std.specs.Cmp.Lexicographic.{nat_list_eq_equiv}
@@ -11,8 +11,8 @@ use Rattle.tmpl_grammar.specs.declared.tree.Control.TheVariants as control
 use Rattle.tmpl_syntax.specs.Tree as tree
 use Rattle.tmpl_syntax.specs.Tree.{NodeKind, Nodes, text, action, control_node, break_node, continue_node, template_node}
 use Rattle.tmpl_syntax.specs.Place.Role.{Name, names_of, names_given}
-use Rattle.tmpl_syntax.specs.Place.Body.{most_levels}
 use Rattle.tmpl_syntax.specs.Formed.{is_among, are_among, declared_to, else_scope, is_looped, scope_behind, is_formed, are_formed}
+use Rattle.tmpl_syntax.proofs.FormedLemmas.{control-formed}
 use Rattle.tmpl_code.specs.Layout.{Layout, is_named, found_at, slot_named, bound_on, grown, first_layout}
 use Rattle.tmpl_code.specs.Laws.{have_each, have_slots, body_layout, other_layout, is_placed, are_placed, PlacesFormed}
 
@@ -84,15 +84,11 @@ mutual
   node-placed (text bytes) scope cells loop levels h e = refl
   node-placed (action a) scope cells loop levels h e = all-slots (names_of a).uses scope cells h e
   node-placed (control_node c a body other) scope cells loop levels h e =
-      let inside = declared_to a.binding scope in
-      let others = else_scope c a.binding scope in
-      let first = are_among scope (names_of a).uses && nat_lt levels most_levels in
-      let p = and_parts (first && are_formed body inside (is_looped c loop) (levels + 1)) (are_formed other others loop (levels + 1)) e in
-      let q = and_parts first (are_formed body inside (is_looped c loop) (levels + 1)) p.0 in
-      let t = and_parts (are_among scope (names_of a).uses) (nat_lt levels most_levels) q.0 in
-      both_true (both_true (all-slots (names_of a).uses scope cells h t.0)
-      (nodes-placed body inside (body_layout c a.binding cells) (is_looped c loop) (levels + 1) (body-slots c a.binding scope cells h) q.1))
-      (nodes-placed other others (other_layout c a.binding cells) loop (levels + 1) (other-slots c a.binding scope cells h) p.1)
+      let parts = control-formed c a body other scope loop levels e in
+      let inside = body-slots c a.binding scope cells h in
+      both_true (both_true (all-slots (names_of a).uses scope cells h parts.uses)
+      (nodes-placed body (declared_to a.binding scope) (body_layout c a.binding cells) (is_looped c loop) (levels + 1) inside parts.in_body))
+      (nodes-placed other (else_scope c a.binding scope) (other_layout c a.binding cells) loop (levels + 1) (other-slots c a.binding scope cells h) parts.in_other)
   node-placed break_node scope cells loop levels h e = e
   node-placed continue_node scope cells loop levels h e = e
   node-placed (template_node name given) scope cells loop levels h e = all-slots (names_given given).uses scope cells h e

@@ -30,6 +30,8 @@ weight-at (n ∷ ns) (suc i) d h = let below : node_weight (node_of (get_or ns i
 pub item-weight : (ns : List held.Node) (i : ℕ) (n : held.Node) → i < length ns → n ≡ get_or ns i n → node_weight (node_of n).what < nodes_weight (nodes_in ns)
 item-weight ns i n h is = subst (λ (m : held.Node). node_weight (node_of m).what < nodes_weight (nodes_in ns)) (sym is) (weight-at ns i n h)
 
+pub ruleset lighter = (item-weight)
+
 pub bound_off-on : (b : Binding) (lay : Layout) → bound_off b (bound_on b lay) ≡ lay
 bound_off-on unbound lay = refl
 bound_off-on _ lay = refl

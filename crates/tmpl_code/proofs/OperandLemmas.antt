@@ -50,6 +50,9 @@ weights-at (c ∷ cs) (suc i) d h = let below : weights (command_of (get_or cs i
 pub item-weight : (os : List held.Operand) (i : ℕ) (o : held.Operand) → i < length os → o ≡ get_or os i o → weight (operand_of o) < weights (operands_in os)
 item-weight os i o h is = subst (λ (p : held.Operand). weight (operand_of p) < weights (operands_in os)) (sym is) (weight-at os i o h)
 
-pub item-weights : (cs : List held_command.Command) (i : ℕ) (c : held_command.Command) → i < length cs → c ≡ get_or cs i c
-    → weights (command_of c) < all_weight (commands_in cs)
-item-weights cs i c h is = subst (λ (p : held_command.Command). weights (command_of p) < all_weight (commands_in cs)) (sym is) (weights-at cs i c h)
+-- the operands of a command, as a slice has them
+pub slice-weights : (cs : List held_command.Command) (i : ℕ) (c : held_command.Command) (os : List held.Operand) → i < length cs
+    → os ≡ (get_or cs i c).operands.items → weights (operands_in os) < all_weight (commands_in cs)
+slice-weights cs i c os h is = subst (λ (ps : List held.Operand). weights (operands_in ps) < all_weight (commands_in cs)) (sym is) (weights-at cs i c h)
+
+pub ruleset lighter = (item-weight, slice-weights)

@@ -73,6 +73,7 @@ fn put_commands<'s>(
 
 /// Puts commands to each of which a value is piped.
 #[cycle(pipeline)]
+#[tactic(auto, using(crate::proofs::OperandLemmas::lighter))]
 fn put_piped<'s>(
     code: &mut Code<'s>,
     scope: &Scope<'s>,
@@ -194,6 +195,7 @@ fn put_call<'s>(
 
 /// Puts the operands of a call.
 #[cycle(pipeline)]
+#[tactic(auto, using(crate::proofs::OperandLemmas::lighter))]
 fn put_operands<'s>(
     code: &mut Code<'s>,
     scope: &Scope<'s>,
@@ -213,6 +215,7 @@ fn put_operands<'s>(
 
 /// Puts the operands of an `or`, or else of an `and`.
 #[cycle(pipeline)]
+#[tactic(auto, using(crate::proofs::OperandLemmas::lighter))]
 fn put_junction<'s>(
     code: &mut Code<'s>,
     scope: &Scope<'s>,

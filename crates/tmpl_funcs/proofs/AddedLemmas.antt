@@ -155,7 +155,7 @@ module _ (format rest behind : List ℕ) (cells : List Cell) (used taken : ℕ) 
 module _ (format rest : List ℕ) (vs left : List Value) (front old new : List ℕ) (so_far : new ≡ old ++ front)
     (all : formatted format vs ≡ both (Some front) (formatted rest left)) (past : length rest ≤ 0) where
   -- nothing is left
-  pub formatted-all : length left ≤ 0 → option_map (λ text. old ++ text) (formatted format vs) ≡ Some new
+  formatted-all : length left ≤ 0 → option_map (λ text. old ++ text) (formatted format vs) ≡ Some new
   formatted-all none = go left none all
     where
       go : (ws : List Value) → length ws ≤ 0 → formatted format vs ≡ both (Some front) (formatted rest ws)
@@ -167,10 +167,22 @@ module _ (format rest : List ℕ) (vs left : List Value) (front old new : List �
       go (w ∷ ws) h is = absurd (omega arith)
 
   -- values are left
-  pub formatted-too_many : 0 < length left → formatted format vs ≡ None
+  formatted-too_many : 0 < length left → formatted format vs ≡ None
   formatted-too_many some = go left some all
     where
       go : (ws : List Value) → 0 < length ws → formatted format vs ≡ both (Some front) (formatted rest ws) → formatted format vs ≡ None
       go [] h is = absurd (omega arith)
       go (w ∷ ws) h is = is ∙ ap (λ r. both (Some front) (formatted r (w ∷ ws))) (nil_from_length rest (omega arith))
           ∙ ap (both (Some front)) (formatted-over w ws)
+
+-- a format of which nothing is left, over these cells, of which so many were used
+pub formatted-end : (format rest : List ℕ) (cells : List Cell) (used : ℕ) (front old new : List ℕ) → new ≡ old ++ front
+    → formatted format (values_of cells) ≡ both (Some front) (formatted rest (drop used (values_of cells))) → length rest ≤ 0 → used ≤ length cells
+    → (used ≡ length cells → option_map (λ text. old ++ text) (formatted format (values_of cells)) ≡ Some new)
+    × (used < length cells → formatted format (values_of cells) ≡ None)
+formatted-end format rest cells used front old new so_far all past within =
+    let vs = values_of cells in
+    let left : length (drop used vs) ≡ length cells - used = length-drop used vs ∙ ap (λ n. n - used) (length-values_of cells) in (
+      λ e. formatted-all format rest vs (drop used vs) front old new so_far all past (omega (arith, left)),
+      λ e. formatted-too_many format rest vs (drop used vs) front old new so_far all past (omega (arith, left)),
+    )

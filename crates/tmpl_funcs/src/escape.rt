@@ -36,7 +36,8 @@ pub(crate) fn urlquery<'a>(alloc: Global, operands: &[Cell<'_>]) -> Result<Val<'
     escape_operands(alloc, operands, Escape::Query)
 }
 
-/// The operands joined and escaped.
+/// The operands joined and escaped. Where they are not one text alone they are joined first, and behind that, in the same
+/// memory, stands their escape, which alone is the answer.
 fn escape_operands<'a>(
     alloc: Global,
     operands: &[Cell<'_>],
@@ -44,29 +45,9 @@ fn escape_operands<'a>(
 ) -> Result<Val<'a>, CallError>
     ensures { IsMade (escaped_of escape (values_of operands.now)) result }
 {
-    match sole_text(operands) {
-        Some(text) => escape_text(alloc, text, escape),
-        None => escape_joined(alloc, operands, escape),
+    if let Some(text) = sole_text(operands) {
+        return escape_text(alloc, text, escape);
     }
-}
-
-/// The escape of a text.
-fn escape_text<'a>(alloc: Global, text: &[u8], escape: Escape) -> Result<Val<'a>, CallError>
-    ensures { IsMade (Ok (string (flat_map (escaped_byte escape) text.now))) result }
-{
-    let mut bytes = reserve(alloc, escape.escaped_len(text));
-    add_escaped(text, escape, &mut bytes)?;
-    Ok(Val::buffer(bytes))
-}
-
-/// The operands joined, and behind that, in the same memory, their escape, which alone is the answer.
-fn escape_joined<'a>(
-    alloc: Global,
-    operands: &[Cell<'_>],
-    escape: Escape,
-) -> Result<Val<'a>, CallError>
-    ensures { IsMade (escaped_of escape (values_of operands.now)) result }
-{
     let capacity = joined_capacity(operands, None).saturating_add(joined_capacity(
         operands,
         Some(escape),
@@ -77,6 +58,15 @@ fn escape_joined<'a>(
     add_escape_of_all(escape, &mut bytes)?;
     let end = bytes.len();
     Ok(Val::buffer(bytes).part(plain as u64, end as u64))
+}
+
+/// The escape of a text.
+fn escape_text<'a>(alloc: Global, text: &[u8], escape: Escape) -> Result<Val<'a>, CallError>
+    ensures { IsMade (Ok (string (flat_map (escaped_byte escape) text.now))) result }
+{
+    let mut bytes = reserve(alloc, escape.escaped_len(text));
+    add_escaped(text, escape, &mut bytes)?;
+    Ok(Val::buffer(bytes))
 }
 
 /// The text that is the only operand, which needs no joining.

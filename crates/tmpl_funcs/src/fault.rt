@@ -1,4 +1,8 @@
 //! Why a call has no value.
+ghost use Rattle.std.specs.Prelude.{◌≡◌};
+ghost use Rattle.tmpl_funcs.specs.declared.fault.CallFault.TheVariants as fault;
+ghost use Rattle.tmpl_funcs.specs.declared.fault.CallError.TheVariants as error;
+
 use std::alloc::{AllocError, AllocFailed};
 use tmpl_values::CompareFault;
 
@@ -29,10 +33,7 @@ pub enum CallError {
 }
 
 impl From<CompareFault> for CallFault {
-    ghost use Rattle.std.specs.Prelude.{◌≡◌};
-    ghost use Rattle.tmpl_funcs.specs.declared.fault.CallFault.{CallFault};
-
-    ghost from_gives = { λ _ e. e ≡ CallFault.NotComparable };
+    ghost from_gives = { λ _ e. e ≡ fault.NotComparable };
 
     fn from(_: CompareFault) -> CallFault {
         CallFault::NotComparable
@@ -40,10 +41,7 @@ impl From<CompareFault> for CallFault {
 }
 
 impl From<CallFault> for CallError {
-    ghost use Rattle.std.specs.Prelude.{◌≡◌};
-    ghost use Rattle.tmpl_funcs.specs.declared.fault.CallError.{CallError};
-
-    ghost from_gives = { λ f e. e ≡ CallError.Fault f };
+    ghost from_gives = { λ f e. e ≡ error.Fault f };
 
     fn from(fault: CallFault) -> CallError {
         CallError::Fault(fault)
@@ -51,10 +49,7 @@ impl From<CallFault> for CallError {
 }
 
 impl From<AllocError> for CallError {
-    ghost use Rattle.std.specs.Prelude.{◌≡◌};
-    ghost use Rattle.tmpl_funcs.specs.declared.fault.CallError.{CallError};
-
-    ghost from_gives = { λ _ e. e ≡ CallError.OutOfMemory };
+    ghost from_gives = { λ _ e. e ≡ error.OutOfMemory };
 
     fn from(_: AllocError) -> CallError {
         CallError::OutOfMemory
@@ -62,10 +57,7 @@ impl From<AllocError> for CallError {
 }
 
 impl<T: Drop> From<AllocFailed<T>> for CallError {
-    ghost use Rattle.std.specs.Prelude.{◌≡◌};
-    ghost use Rattle.tmpl_funcs.specs.declared.fault.CallError.{CallError};
-
-    ghost from_gives = { λ _ e. e ≡ CallError.OutOfMemory };
+    ghost from_gives = { λ _ e. e ≡ error.OutOfMemory };
 
     fn from(_: AllocFailed<T>) -> CallError {
         CallError::OutOfMemory

@@ -20,7 +20,7 @@ use Rattle.tmpl_grammar.specs.computed.Reading.{header_in, spells_keyword, keywo
 use Rattle.tmpl_grammar.specs.computed.Reading.{quoted_at, with_name, named_action, define_by, called, template_by, block_by, pipeline_in}
 use Rattle.tmpl_grammar.specs.computed.Reading.{else_branched, else_keyword, else_by, action_by, action_behind, action_at, action_in}
 use Rattle.tmpl_grammar.specs.computed.Constant.{constant_by, constant_of}
-use Rattle.tmpl_grammar.specs.Laws.{ReadsSpelledAction, SpellsReadAction, SpellsOneAction}
+use Rattle.tmpl_grammar.specs.Laws.{ReadsSpelledAction, SpellsReadAction}
 use Rattle.tmpl_grammar.specs.declared.tree.Control.TheVariants as control
 use Rattle.tmpl_grammar.specs.declared.action.Branch.{Branch}
 use Rattle.tmpl_grammar.specs.declared.action.Branch.TheVariants as branch
@@ -336,9 +336,6 @@ module _ (ts : List Token) (a : Action) where
 pub spells-action : SpellsReadAction
 unfolding action_in
 spells-action ts a e = first-spelled ts a (next ts) refl e
-
-pub spells-one-action : SpellsOneAction
-spells-one-action ts a b s t = same_Some a b (sym (reads-action ts a s) ∙ reads-action ts b t)
 
 -- tokens that are not read spell no action
 pub none-spelled : (ts : List Token) → action_in ts ≡ None → (a : Action) → SpellsAction a ts → ⊥

@@ -16,7 +16,7 @@ use Rattle.tmpl_grammar.specs.Constant as constant
 use Rattle.tmpl_grammar.specs.Constant.{IsConstant}
 use Rattle.tmpl_grammar.specs.Constant.Integer.{integer}
 use Rattle.tmpl_grammar.specs.Constant.Quoted.{SpellsRunes, code_of}
-use Rattle.tmpl_grammar.specs.Laws.{ComputesConstant, IsComputedConstant, HasOneConstant}
+use Rattle.tmpl_grammar.specs.Laws.{ComputesConstant, IsComputedConstant}
 use Rattle.tmpl_grammar.specs.computed.Constant.{constant_of, constant_by, string_in, raw_string_in, character_in}
 use Rattle.tmpl_grammar.specs.computed.Quoted.{between, parts, unquoted, one_code, rune_code}
 use Rattle.tmpl_grammar.proofs.EscapeLemmas.{double, single}
@@ -136,6 +136,3 @@ is-constant _ bs o e = no-value o e
 pub is-computed-constant : IsComputedConstant
 unfolding constant_of
 is-computed-constant t o e = is-constant t.kind t.bytes o e
-
-pub has-one-constant : HasOneConstant
-has-one-constant t o p is other = same_Some o p (sym (computes-constant t o is) ∙ computes-constant t p other)

@@ -16,7 +16,7 @@ use Rattle.tmpl_grammar.specs.Constant as constant
 use Rattle.tmpl_grammar.specs.Constant.{IsConstant}
 use Rattle.tmpl_grammar.specs.Operand as operand
 use Rattle.tmpl_grammar.specs.Operand.{IsOperand}
-use Rattle.tmpl_grammar.specs.Laws.{ComputesOperand, IsComputedOperand, HasOneOperand}
+use Rattle.tmpl_grammar.specs.Laws.{ComputesOperand, IsComputedOperand}
 use Rattle.tmpl_grammar.specs.computed.Constant.{constant_of}
 use Rattle.tmpl_grammar.specs.computed.Operand.{funcs, func_named, word_operand, field_operand, operand_by, operand_at}
 use Rattle.tmpl_grammar.proofs.IsConstantLemmas.{computes-constant, is-computed-constant}
@@ -98,6 +98,3 @@ is-operand _ bs o e = no-value o e
 pub is-computed-operand : IsComputedOperand
 unfolding operand_at
 is-computed-operand t o e = is-operand t.kind t.bytes o e
-
-pub has-one-operand : HasOneOperand
-has-one-operand t o p is other = same_Some o p (sym (computes-operand t o is) ∙ computes-operand t p other)

@@ -52,9 +52,7 @@ allows _ o = true
 abbrev pub spaced : Position → Position
 spaced First = First
 spaced Later = Later
-spaced Linkable = Apart
-spaced Touching = Apart
-spaced Apart = Apart
+spaced _ = Apart
 
 -- an operand may have a chain
 abbrev pub may_chain : Operand → Bool

@@ -6,6 +6,7 @@ use Rattle.std.proofs.lemmas.List.{length-map, drop-map, drop-append-le}
 use Rattle.std.proofs.lemmas.List.Folds.{list_any-append, list_all-append}
 use Rattle.std.proofs.Math.Seq.{drop-append_seam}
 use Rattle.std.specs.Cmp.Lexicographic.{nat_list_eq_equiv}
+use Rattle.std.specs.Cmp.Derive.{both_true}
 use Rattle.std.specs.Str.{bytes_eq}
 use Rattle.tmpl_values.specs.Value.{Value, nothing}
 use Rattle.tmpl_values.specs.Elements.{Element}
@@ -19,6 +20,7 @@ use Rattle.tmpl_syntax.specs.Set.{Template, tree_named}
 use Rattle.tmpl_syntax.specs.Place.Role.{Name, assigned_by, names_of, names_given, used_by}
 use Rattle.tmpl_syntax.specs.Place.Body.{most_levels}
 use Rattle.tmpl_syntax.specs.Formed.{is_among, are_among, declared_to, else_scope, is_looped, scope_behind, is_formed, are_formed}
+use Rattle.tmpl_syntax.proofs.FormedLemmas.{control-formed, or-left, or-right}
 use Rattle.tmpl_meaning.specs.Fault.{Cause}
 use Rattle.tmpl_meaning.specs.Meaning.{Calls, End, Next, Rules, Run, Setting, after, alone, assigned, bound, broke, called, oldest}
 use Rattle.tmpl_meaning.specs.Meaning.{calls_within, choosing, continued, controlled, done, faulted, handing, left_by, meanings, on_end}
@@ -34,25 +36,13 @@ use Rattle.tmpl_meaning.proofs.PlaceLemmas.{names, pipeline-same}
 abbrev full : List Name → List Name
 full ns = ns ++ [] ∷ []
 
-or-left : (a b : Bool) → a ≡ true → (a || b) ≡ true
-or-left true b e = refl
-or-left false b e = absurd (false≢true e)
-
-or-right : (a b : Bool) → b ≡ true → (a || b) ≡ true
-or-right true b e = refl
-or-right false b e = e
-
-both : (a b : Bool) → a ≡ true → b ≡ true → (a && b) ≡ true
-both true b e f = f
-both false b e f = e
-
 among-full : (ns : List Name) (x : Name) → is_among ns x ≡ true → is_among (full ns) x ≡ true
 among-full ns x e = list_any-append (bytes_eq x) ns ([] ∷ []) ∙ or-left (is_among ns x) (is_among ([] ∷ []) x) e
 
 all-full : (ns uses : List Name) → are_among ns uses ≡ true → are_among (full ns) uses ≡ true
 all-full ns [] e = refl
 all-full ns (x ∷ xs) e =
-    let p = and_parts (is_among ns x) (are_among ns xs) e in both _ _ (among-full ns x p.0) (all-full ns xs p.1)
+    let p = and_parts (is_among ns x) (are_among ns xs) e in both_true (among-full ns x p.0) (all-full ns xs p.1)
 
 start-full : (ns : List Name) → is_among (full ns) [] ≡ true
 start-full ns = list_any-append (bytes_eq []) ns ([] ∷ []) ∙ or-right (is_among ns []) true refl
@@ -409,17 +399,12 @@ module _ (s : Setting) (calls : CallsEnd s.calls) where
         leaves-full loop (declared_to h.binding (names q.env)) (full (declared_to h.binding ns)) (shown h.binding v) q
         (ap (declared_to h.binding) (f ∙ same) ∙ declared-full h.binding ns) (shown-leaves loop h.binding v q start assigns))
     stepped-leaves line (control_node c h body other) d ns loop levels r e same =
-        let inside = declared_to h.binding ns in
-        let others = else_scope c h.binding ns in
-        let first = are_among ns (names_of h).uses && nat_lt levels most_levels in
-        let p = and_parts (first && are_formed body inside (is_looped c loop) (levels + 1)) (are_formed other others loop (levels + 1)) e in
-        let q = and_parts first (are_formed body inside (is_looped c loop) (levels + 1)) p.0 in
-        let t = and_parts (are_among ns (names_of h).uses) (nat_lt levels most_levels) q.0 in
+        let parts = control-formed c h body other ns loop levels e in
         leaves-full loop (names r.env) (full ns) (stepped s line (control_node c h body other) d) r same
         (scope-leaves loop (controlled s line c h d (λ v. meanings s body v) (meanings s other d)) r
-        (controlled-holds s line c h d loop (λ v. meanings s body v) (meanings s other d) r (known-in h ns r.env t.0 same)
-        (λ v u f. (nodes-leave body v inside (is_looped c loop) (levels + 1) u q.1 (f ∙ ap (declared_to h.binding) same ∙ declared-full h.binding ns)).0)
-        (λ u f. (nodes-leave other d others loop (levels + 1) u p.1 (f ∙ ap (else_scope c h.binding) same ∙ else-full c h.binding ns)).0)))
+        (controlled-holds s line c h d loop (λ v. meanings s body v) (meanings s other d) r (known-in h ns r.env parts.uses same)
+        (λ v u f. (nodes-leave body v (declared_to h.binding ns) (is_looped c loop) (levels + 1) u parts.in_body (f ∙ ap (declared_to h.binding) same ∙ declared-full h.binding ns)).0)
+        (λ u f. (nodes-leave other d (else_scope c h.binding ns) loop (levels + 1) u parts.in_other (f ∙ ap (else_scope c h.binding) same ∙ else-full c h.binding ns)).0)))
     stepped-leaves line break_node d ns loop levels r e same = ((([], refl), λ f. absurd (false≢true (sym f ∙ e)), λ older. refl), λ f. absurd f)
     stepped-leaves line continue_node d ns loop levels r e same = ((([], refl), λ f. absurd (false≢true (sym f ∙ e)), λ older. refl), λ f. absurd f)
     stepped-leaves line (template_node name given) d ns loop levels r e same =

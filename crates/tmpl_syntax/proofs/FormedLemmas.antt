@@ -1,5 +1,5 @@
 -- For `formed`: what an accepted list spells is formed, its definitions and its own template.
-use Rattle.std.proofs.Common.{arith, ◌≡◌, ◌∙◌, ℕ, ◌+◌, Bool, true, false, ◌||◌, List, [], ◌∷◌, ◌++◌, length, take}
+use Rattle.std.proofs.Common.{arith, ◌≡◌, ◌∙◌, ℕ, ◌+◌, Bool, true, false, ◌||◌, ◌&&◌, List, [], ◌∷◌, ◌++◌, length, take}
 use Rattle.std.proofs.Common.{refl, sym, ap, subst, length-append, leb, nat_lt}
 use Rattle.std.proofs.lemmas.Bool.{false≢true, and_parts, lt-ltb, leb-false, not-true}
 use Rattle.std.proofs.lemmas.List.{take_all}
@@ -32,11 +32,11 @@ or-cases : (a b c : Bool) → (a ≡ true → c ≡ true) → (b ≡ true → c 
 or-cases true b c f g e = f refl
 or-cases false b c f g e = g e
 
-or-left : (a b : Bool) → a ≡ true → (a || b) ≡ true
+pub or-left : (a b : Bool) → a ≡ true → (a || b) ≡ true
 or-left true b e = refl
 or-left false b e = absurd (false≢true e)
 
-or-right : (a b : Bool) → b ≡ true → (a || b) ≡ true
+pub or-right : (a b : Bool) → b ≡ true → (a || b) ≡ true
 or-right true b e = refl
 or-right false b e = e
 
@@ -128,3 +128,17 @@ pub spells-formed : SpellsFormed
 spells-formed items ds own judged spells =
     let fit = all-fit items ds own judged spells in
     (each-formed ds fit.1, all-formed own false 0 [] [] (λ x e. e) fit.0)
+
+-- what a formed control says of its parts
+pub record FormedControl (c : Control) (h : Header) (body other : Nodes) (scope : List Name) (loop : Bool) (levels : ℕ) : Type 0 where
+  pub uses : are_among scope (names_of h).uses ≡ true
+  pub in_body : are_formed body (declared_to h.binding scope) (is_looped c loop) (levels + 1) ≡ true
+  pub in_other : are_formed other (else_scope c h.binding scope) loop (levels + 1) ≡ true
+
+pub control-formed : (c : Control) (h : Header) (body other : Nodes) (scope : List Name) (loop : Bool) (levels : ℕ)
+    → is_formed (control_node c h body other) scope loop levels ≡ true → FormedControl c h body other scope loop levels
+control-formed c h body other scope loop levels e =
+    let first = are_among scope (names_of h).uses && nat_lt levels most_levels in
+    let p = and_parts (first && are_formed body (declared_to h.binding scope) (is_looped c loop) (levels + 1)) _ e in
+    let q = and_parts first _ p.0 in
+    record { uses = (and_parts (are_among scope (names_of h).uses) _ q.0).0; in_body = q.1; in_other = p.1 }

@@ -1,5 +1,5 @@
 -- For the reader of `Need`: what some templates need, computed.
-use Rattle.std.proofs.Common.{◌≡◌, ℕ, List, [], ◌∷◌, refl, codes, pos}
+use Rattle.std.proofs.Common.{◌≡◌, ℕ, List, [], ◌∷◌, refl, codes, pos, map}
 use Rattle.tmpl_funcs.specs.declared.func.Func.TheVariants.{Eq, Print}
 use Rattle.tmpl_grammar.specs.Tree.{Operand, dot, variable, number_constant, function, operands_from, commands_from, pipeline, Binding}
 use Rattle.tmpl_grammar.specs.Tree.{unbound, declare, assign, declare_pair, Header}
@@ -13,9 +13,13 @@ abbrev listed : List NodeKind → Nodes
 listed [] = none
 listed (n ∷ ns) = then 1 n (listed ns)
 
--- the template of these
-abbrev needed : List NodeKind → ℕ
-needed ns = need (record { file = []; nodes = listed ns })
+-- the nodes of a template, and what it needs
+record Example : Type 0 where
+  nodes : List NodeKind
+  cells : ℕ
+
+abbrev needs : ℕ → List NodeKind → Example
+needs cells nodes = record { nodes = nodes; cells = cells }
 
 abbrev headed : Binding → List Operand → Header
 headed b os = record { binding = b; pipeline = pipeline (commands_from (operands_from os ∷ [])) }
@@ -50,108 +54,57 @@ three = function Print ∷ one ∷ one ∷ one ∷ []
 abbrev five : List Operand
 five = function Print ∷ one ∷ one ∷ one ∷ one ∷ one ∷ []
 
--- ---- lists
-
--- ``, `word`, `{{.}}`
-nothing-at-all : needed [] ≡ 3
-nothing-at-all = refl
-
-a-text : needed (word ∷ []) ≡ 3
-a-text = refl
-
-an-action : needed (word ∷ acts unbound (dot ∷ []) ∷ []) ≡ 4
-an-action = refl
-
--- `{{print 1 1 1}}{{.}}`: nothing is left of one action for the next
-one-by-one : needed (acts unbound three ∷ acts unbound (dot ∷ []) ∷ []) ≡ 6
-one-by-one = refl
-
--- `{{$x := .}}`, `{{$x := .}}{{$x}}`: the variable counts behind its action
-declared-last : needed (acts (declare x) (dot ∷ []) ∷ []) ≡ 4
-declared-last = refl
-
-declared-before : needed (acts (declare x) (dot ∷ []) ∷ acts unbound (the x ∷ []) ∷ []) ≡ 5
-declared-before = refl
-
--- `{{$x := .}}word{{$x := .}}{{$x := .}}{{print 1 1 1}}`: one of the same name too
-declared-each : needed (acts (declare x) (dot ∷ []) ∷ word ∷ acts (declare x) (dot ∷ []) ∷ acts (declare x) (dot ∷ []) ∷ acts unbound three ∷ []) ≡ 9
-declared-each = refl
-
--- `{{$x := .}}{{$x = .}}{{$x = .}}{{$x}}`: one that is assigned is there already
-assigned : needed (acts (declare x) (dot ∷ []) ∷ acts (assign x) (dot ∷ []) ∷ acts (assign x) (dot ∷ []) ∷ acts unbound (the x ∷ []) ∷ []) ≡ 5
-assigned = refl
-
--- `{{print 1 1 1}}{{$x := .}}{{.}}`, `{{$x := .}}{{.}}{{print 1 1 1}}`
-before-it : needed (acts unbound three ∷ acts (declare x) (dot ∷ []) ∷ acts unbound (dot ∷ []) ∷ []) ≡ 6
-before-it = refl
-
-behind-it : needed (acts (declare x) (dot ∷ []) ∷ acts unbound (dot ∷ []) ∷ acts unbound three ∷ []) ≡ 7
-behind-it = refl
-
--- ---- controls
-
--- `{{if .}}{{end}}`, `{{if print 1 1 1}}{{.}}{{end}}`, `{{if $x := print 1 1 1}}{{end}}`
-empty-if : needed (controls control.If unbound (dot ∷ []) [] [] ∷ []) ≡ 4
-empty-if = refl
-
-header-most : needed (controls control.If unbound three (acts unbound (dot ∷ []) ∷ []) [] ∷ []) ≡ 6
-header-most = refl
-
-header-declares : needed (controls control.If (declare x) three [] [] ∷ []) ≡ 6
-header-declares = refl
-
--- `{{if .}}{{print 1 1 1}}{{end}}`, `{{if $x := .}}{{print 1 1 1}}{{end}}`, in the else part, and in both
-if-body : needed (controls control.If unbound (dot ∷ []) (acts unbound three ∷ []) [] ∷ []) ≡ 6
-if-body = refl
-
-if-declares : needed (controls control.If (declare x) (dot ∷ []) (acts unbound three ∷ []) [] ∷ []) ≡ 7
-if-declares = refl
-
-if-else : needed (controls control.If (declare x) (dot ∷ []) [] (acts unbound three ∷ []) ∷ []) ≡ 7
-if-else = refl
-
-if-both : needed (controls control.If (declare x) (dot ∷ []) (acts unbound three ∷ []) (acts unbound three ∷ []) ∷ []) ≡ 7
-if-both = refl
-
--- the same of a `with`, whose body has one more
-with-body : needed (controls control.With unbound (dot ∷ []) (acts unbound three ∷ []) [] ∷ []) ≡ 7
-with-body = refl
-
-with-declares : needed (controls control.With (declare x) (dot ∷ []) (acts unbound three ∷ []) [] ∷ []) ≡ 8
-with-declares = refl
-
-with-else : needed (controls control.With (declare x) (dot ∷ []) [] (acts unbound three ∷ []) ∷ []) ≡ 7
-with-else = refl
-
--- the same of a `range`, whose body has two more, and whose else part has no variable
-range-body : needed (controls control.Range unbound (dot ∷ []) (acts unbound three ∷ []) [] ∷ []) ≡ 8
-range-body = refl
-
-range-declares : needed (controls control.Range (declare x) (dot ∷ []) (acts unbound three ∷ []) [] ∷ []) ≡ 9
-range-declares = refl
-
-range-pair : needed (controls control.Range (declare_pair k x) (dot ∷ []) (acts unbound three ∷ []) [] ∷ []) ≡ 10
-range-pair = refl
-
-range-else : needed (controls control.Range (declare_pair k x) (dot ∷ []) [] (acts unbound five ∷ []) ∷ []) ≡ 8
-range-else = refl
-
--- `{{range $k, $x := .}}{{end}}`: the cells are there, whether or not the body needs more
-empty-range : needed (controls control.Range (declare_pair k x) (dot ∷ []) [] [] ∷ []) ≡ 7
-empty-range = refl
-
--- `{{if $x := .}}{{$x := .}}{{end}}{{print 1 1 1}}`: no variable is left of a control
-left-of-it : needed (controls control.If (declare x) (dot ∷ []) (acts (declare x) (dot ∷ []) ∷ []) [] ∷ acts unbound three ∷ []) ≡ 6
-left-of-it = refl
-
--- `{{$x := .}}{{with $x := .}}{{$x := .}}{{range .}}{{print 1 1 1}}{{end}}{{end}}`
-one-in-another : needed (acts (declare x) (dot ∷ []) ∷ controls control.With (declare x) (dot ∷ [])
-    (acts (declare x) (dot ∷ []) ∷ controls control.Range unbound (dot ∷ []) (acts unbound three ∷ []) [] ∷ []) [] ∷ []) ≡ 12
-one-in-another = refl
-
--- `{{range $i, $e := .}}{{if eq $e 3}}{{break}}{{end}}{{$i}}={{$e}};{{else}}none{{end}}`
-a-row : needed (controls control.Range (declare_pair (codes "i") (codes "e")) (dot ∷ [])
+abbrev examples : List Example
+examples =
+    -- ---- lists
+    -- ``, `word`, `{{.}}`
+    needs 3 []
+    ∷ needs 3 (word ∷ [])
+    ∷ needs 4 (word ∷ acts unbound (dot ∷ []) ∷ [])
+    -- `{{print 1 1 1}}{{.}}`: nothing is left of one action for the next
+    ∷ needs 6 (acts unbound three ∷ acts unbound (dot ∷ []) ∷ [])
+    -- `{{$x := .}}`, `{{$x := .}}{{$x}}`: the variable counts behind its action
+    ∷ needs 4 (acts (declare x) (dot ∷ []) ∷ [])
+    ∷ needs 5 (acts (declare x) (dot ∷ []) ∷ acts unbound (the x ∷ []) ∷ [])
+    -- `{{$x := .}}word{{$x := .}}{{$x := .}}{{print 1 1 1}}`: one of the same name too
+    ∷ needs 9 (acts (declare x) (dot ∷ []) ∷ word ∷ acts (declare x) (dot ∷ []) ∷ acts (declare x) (dot ∷ []) ∷ acts unbound three ∷ [])
+    -- `{{$x := .}}{{$x = .}}{{$x = .}}{{$x}}`: one that is assigned is there already
+    ∷ needs 5 (acts (declare x) (dot ∷ []) ∷ acts (assign x) (dot ∷ []) ∷ acts (assign x) (dot ∷ []) ∷ acts unbound (the x ∷ []) ∷ [])
+    -- `{{print 1 1 1}}{{$x := .}}{{.}}`, `{{$x := .}}{{.}}{{print 1 1 1}}`
+    ∷ needs 6 (acts unbound three ∷ acts (declare x) (dot ∷ []) ∷ acts unbound (dot ∷ []) ∷ [])
+    ∷ needs 7 (acts (declare x) (dot ∷ []) ∷ acts unbound (dot ∷ []) ∷ acts unbound three ∷ [])
+    -- ---- controls
+    -- `{{if .}}{{end}}`, `{{if print 1 1 1}}{{.}}{{end}}`, `{{if $x := print 1 1 1}}{{end}}`
+    ∷ needs 4 (controls control.If unbound (dot ∷ []) [] [] ∷ [])
+    ∷ needs 6 (controls control.If unbound three (acts unbound (dot ∷ []) ∷ []) [] ∷ [])
+    ∷ needs 6 (controls control.If (declare x) three [] [] ∷ [])
+    -- `{{if .}}{{print 1 1 1}}{{end}}`, `{{if $x := .}}{{print 1 1 1}}{{end}}`, in the else part, and in both
+    ∷ needs 6 (controls control.If unbound (dot ∷ []) (acts unbound three ∷ []) [] ∷ [])
+    ∷ needs 7 (controls control.If (declare x) (dot ∷ []) (acts unbound three ∷ []) [] ∷ [])
+    ∷ needs 7 (controls control.If (declare x) (dot ∷ []) [] (acts unbound three ∷ []) ∷ [])
+    ∷ needs 7 (controls control.If (declare x) (dot ∷ []) (acts unbound three ∷ []) (acts unbound three ∷ []) ∷ [])
+    -- the same of a `with`, whose body has one more
+    ∷ needs 7 (controls control.With unbound (dot ∷ []) (acts unbound three ∷ []) [] ∷ [])
+    ∷ needs 8 (controls control.With (declare x) (dot ∷ []) (acts unbound three ∷ []) [] ∷ [])
+    ∷ needs 7 (controls control.With (declare x) (dot ∷ []) [] (acts unbound three ∷ []) ∷ [])
+    -- the same of a `range`, whose body has two more, and whose else part has no variable
+    ∷ needs 8 (controls control.Range unbound (dot ∷ []) (acts unbound three ∷ []) [] ∷ [])
+    ∷ needs 9 (controls control.Range (declare x) (dot ∷ []) (acts unbound three ∷ []) [] ∷ [])
+    ∷ needs 10 (controls control.Range (declare_pair k x) (dot ∷ []) (acts unbound three ∷ []) [] ∷ [])
+    ∷ needs 8 (controls control.Range (declare_pair k x) (dot ∷ []) [] (acts unbound five ∷ []) ∷ [])
+    -- `{{range $k, $x := .}}{{end}}`: the cells are there, whether or not the body needs more
+    ∷ needs 7 (controls control.Range (declare_pair k x) (dot ∷ []) [] [] ∷ [])
+    -- `{{if $x := .}}{{$x := .}}{{end}}{{print 1 1 1}}`: no variable is left of a control
+    ∷ needs 6 (controls control.If (declare x) (dot ∷ []) (acts (declare x) (dot ∷ []) ∷ []) [] ∷ acts unbound three ∷ [])
+    -- `{{$x := .}}{{with $x := .}}{{$x := .}}{{range .}}{{print 1 1 1}}{{end}}{{end}}`
+    ∷ needs 12 (acts (declare x) (dot ∷ []) ∷ controls control.With (declare x) (dot ∷ [])
+    (acts (declare x) (dot ∷ []) ∷ controls control.Range unbound (dot ∷ []) (acts unbound three ∷ []) [] ∷ []) [] ∷ [])
+    -- `{{range $i, $e := .}}{{if eq $e 3}}{{break}}{{end}}{{$i}}={{$e}};{{else}}none{{end}}`
+    ∷ needs 9 (controls control.Range (declare_pair (codes "i") (codes "e")) (dot ∷ [])
     (controls control.If unbound (function Eq ∷ the (codes "e") ∷ number_constant (pos 3) ∷ []) (break_node ∷ []) []
     ∷ acts unbound (the (codes "i") ∷ []) ∷ text (codes "=") ∷ acts unbound (the (codes "e") ∷ []) ∷ text (codes ";") ∷ [])
-    (text (codes "none") ∷ []) ∷ []) ≡ 9
-a-row = refl
+    (text (codes "none") ∷ []) ∷ [])
+    ∷ []
+
+each-needs : map (λ e. need (record { file = []; nodes = listed e.nodes })) examples ≡ map (λ e. e.cells) examples
+each-needs = refl

@@ -143,6 +143,26 @@ shut-at xs x i m at shut h =
     let e : p.piece ≡ x = same-piece xs i p.piece x p.at at in
     let t : true ≡ false = sym (opening-opens p.piece h.opened p.is) ∙ ap opens e ∙ shut in cc
 
+-- what is open is open past one place more, where that ends no more than was opened since
+open-past : (xs : List Role) (k i : ℕ) → IsOpen xs k i → downs xs (k + 1) (i + 1) ≤ ups xs (k + 1) (i + 1) → IsOpen xs k (i + 1)
+open-past xs k i h past = record {
+  opened = h.opened;
+  at = h.at;
+  before = let lt = h.before in omega arith;
+  fronts = λ n from to. ⊎_elim
+      (λ below. h.fronts n from (omega arith))
+      (λ ge. let s : i + 1 ≡ n = omega arith in subst (λ m. downs xs (k + 1) m ≤ ups xs (k + 1) m) s past)
+      (cases_lt n (i + 1));
+}
+
+-- what ends nothing leaves open what is open
+pub opened-keeps : (xs : List Role) (x : Role) (i k : ℕ) → slice_get xs i ≡ Some x → ends x ≡ false → IsOpen xs k i → IsOpen xs k (i + 1)
+opened-keeps xs x i k at e h =
+    let ze : one_if (ends x) ≡ 0 = ap one_if e in
+    let lt = h.before in
+    let f = h.fronts i lt (omega arith) in
+    open-past xs k i h (omega (arith, f, ze, count-more ends xs x (k + 1) i (omega arith) at, count-more opens xs x (k + 1) i (omega arith) at))
+
 pub even-step : (xs : List Role) (x : Role) (i : ℕ) → slice_get xs i ≡ Some x → opens x ≡ false → ends x ≡ false → Even xs i (i + 1)
 even-step xs x i at o e =
     let zo : one_if (opens x) ≡ 0 = ap one_if o in
@@ -150,25 +170,7 @@ even-step xs x i at o e =
     record {
       le = omega arith;
       balance = omega (arith, zo, ze, count-one ends xs x i at, count-one opens xs x i at);
-      keeps = λ k h. record {
-        opened = h.opened;
-        at = h.at;
-        before = let lt = h.before in omega arith;
-        fronts = λ n from to. let lt = h.before in ⊎_elim
-            (λ below. h.fronts n from (omega arith))
-            (λ ge. let s : i + 1 ≡ n = omega arith in
-            let f = h.fronts i lt (omega arith) in
-            subst (λ m. downs xs (k + 1) m ≤ ups xs (k + 1) m) s (omega (
-              arith,
-              f,
-              zo,
-              ze,
-              count-more ends xs x (k + 1) i (omega arith) at,
-              count-more opens xs
-                  x (k + 1) i (omega arith) at,
-            )))
-            (cases_lt n (i + 1));
-      };
+      keeps = λ k h. opened-keeps xs x i k at e h;
       only = λ k h. ⊎_elim
           (λ lt. cut xs k i (i + 1) lt (omega arith) h)
           (λ ge. let lt = h.before in let s : k ≡ i = omega arith in absurd (shut-at xs x i (i + 1) at o (subst (λ n. IsOpen xs n (i + 1)) s h)))
@@ -201,33 +203,14 @@ same-ended xs j i l over at =
               (omega arith) (omega arith),
           count-split opens xs j (j + 1) (i + 1) (omega arith) (omega arith),
         );
-        keeps = λ k h. let on = through xs k j i h l.is_open in record {
-          opened = on.opened;
-          at = on.at;
-          before = let kt = on.before in omega arith;
-          fronts = λ n from to. let kt = h.before in ⊎_elim
-              (λ below. on.fronts n from (omega arith))
-              (λ ge. let s : i + 1 ≡ n = omega arith in
-              let f = h.fronts j kt (omega arith) in
-              let ce = count-more ends xs p.piece (k + 1) j (omega arith) p.at in
-              let co = count-more opens xs p.piece (k + 1) j (omega arith) p.at in
-              subst (λ m. downs xs (k + 1) m ≤ ups xs (k + 1) m) s
-              (omega (
-                arith,
-                f,
-                over,
-                zo,
-                oo,
-                me,
-                mo,
-                ce,
-                co,
-                count-split ends xs (k + 1) (j + 1) (i + 1) (omega arith) (omega arith),
-                count-split opens xs
-                    (k + 1) (j + 1) (i + 1) (omega arith) (omega arith),
-              )))
-              (cases_lt n (i + 1));
-        };
+        keeps = λ k h.
+            let kt = h.before in
+            let f = h.fronts j kt (omega arith) in
+            let ce = count-more ends xs p.piece (k + 1) j (omega arith) p.at in
+            let co = count-more opens xs p.piece (k + 1) j (omega arith) p.at in
+            let se = count-split ends xs (k + 1) (j + 1) (i + 1) (omega arith) (omega arith) in
+            let so = count-split opens xs (k + 1) (j + 1) (i + 1) (omega arith) (omega arith) in
+            open-past xs k i (through xs k j i h l.is_open) (omega (arith, f, over, zo, oo, me, mo, ce, co, se, so));
         only = λ k h. ⊎_elim
             (λ below. cut xs k j (i + 1) below (omega arith) h)
             (λ ge. absurd (⊎_elim
@@ -289,29 +272,6 @@ same-still xs x i at o e ne nt = record {
 }
 
 -- what an opening adds
-pub opened-keeps : (xs : List Role) (x : Role) (i k : ℕ) → slice_get xs i ≡ Some x → ends x ≡ false → IsOpen xs k i → IsOpen xs k (i + 1)
-opened-keeps xs x i k at e h =
-    let ze : one_if (ends x) ≡ 0 = ap one_if e in
-    let lt = h.before in
-    record {
-      opened = h.opened;
-      at = h.at;
-      before = omega arith;
-      fronts = λ n from to. ⊎_elim
-          (λ below. h.fronts n from (omega arith))
-          (λ ge. let s : i + 1 ≡ n = omega arith in
-          let f = h.fronts i lt (omega arith) in
-          subst (λ m. downs xs (k + 1) m ≤ ups xs (k + 1) m) s (omega (
-            arith,
-            f,
-            ze,
-            count-more ends xs x (k + 1) i (omega arith) at,
-            count-more opens xs x
-                (k + 1) i (omega arith) at,
-          )))
-          (cases_lt n (i + 1));
-    }
-
 abbrev pub opened_new : (xs : List Role) (i : ℕ) (c : Opening) → IsOpening (slice_get xs i) c → IsOpen xs i (i + 1)
 opened_new xs i c at = record {
   opened = c;

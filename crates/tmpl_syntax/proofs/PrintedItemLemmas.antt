@@ -42,22 +42,17 @@ record ItemsSaid (ss : List Said) (ps : List Piece) : Type 0 where
   are : AreItems every_branch ps items
   say : Says ss items
 
-record TextFirst (t : List ℕ) (ps : List Part) (qs : List Piece) : Type 0 where
+-- the first of the pieces
+record First (what : ℕ → Piece) (ps : List Part) (qs : List Piece) : Type 0 where
   line : ℕ
   rest : List Piece
-  is : qs ≡ text line t ∷ rest
+  is : qs ≡ what line ∷ rest
   same : SamePieces ps rest
 
-text-first : {t : List ℕ} {ps : List Part} {qs : List Piece} → SamePieces (a_text t ∷ ps) qs → TextFirst t ps qs
+text-first : {t : List ℕ} {ps : List Part} {qs : List Piece} → SamePieces (a_text t ∷ ps) qs → First (λ line. text line t) ps qs
 text-first (same_text {line = line} {qs = qs} s) = record { line = line; rest = qs; is = refl; same = s }
 
-record ActionFirst (ts : List Token) (ps : List Part) (qs : List Piece) : Type 0 where
-  line : ℕ
-  rest : List Piece
-  is : qs ≡ action line ts ∷ rest
-  same : SamePieces ps rest
-
-action-first : {ts : List Token} {ps : List Part} {qs : List Piece} → SamePieces (an_action ts ∷ ps) qs → ActionFirst ts ps qs
+action-first : {ts : List Token} {ps : List Part} {qs : List Piece} → SamePieces (an_action ts ∷ ps) qs → First (λ line. action line ts) ps qs
 action-first (same_action {line = line} {qs = qs} s) = record { line = line; rest = qs; is = refl; same = s }
 
 none-first : {qs : List Piece} → SamePieces [] qs → qs ≡ []

@@ -4,7 +4,7 @@ use Rattle.tmpl_grammar.specs.Tree.{Header}
 use Rattle.tmpl_grammar.specs.declared.tree.Control.{Control}
 use Rattle.tmpl_grammar.specs.Action.{Action, end_action}
 use Rattle.tmpl_syntax.specs.Tree.{NodeKind, text, action, control_node, break_node, continue_node, template_node, Nodes, none, then, Definition}
-use Rattle.tmpl_syntax.specs.Item.{Item, item, text_item, action_item}
+use Rattle.tmpl_syntax.specs.Item.{Item, ItemKind, item, text_item, action_item}
 use Rattle.tmpl_syntax.specs.Set.{Template}
 use Rattle.tmpl_syntax.specs.Spelling.{definition, Leads, nothing, a_text, an_action, a_break, a_continue, a_control, a_template, a_define}
 use Rattle.tmpl_syntax.specs.Spelling.{Closes, an_end, an_else, Spells}
@@ -13,22 +13,16 @@ use Rattle.tmpl_syntax.specs.Print.Laws.{Says, says_nothing, says_text, says, un
 
 -- ---- the first of the items
 
-record First (a : Action) (ss : List Said) (xs : List Item) : Type 0 where
+record First (what : ItemKind) (ss : List Said) (xs : List Item) : Type 0 where
   line : ℕ
   rest : List Item
-  is : xs ≡ item line (action_item a) ∷ rest
+  is : xs ≡ item line what ∷ rest
   says_rest : Says ss rest
 
-first-said : {a : Action} {ss : List Said} {xs : List Item} → Says (said a ∷ ss) xs → First a ss xs
+first-said : {a : Action} {ss : List Said} {xs : List Item} → Says (said a ∷ ss) xs → First (action_item a) ss xs
 first-said (says {line = line} {xs = xs} s) = record { line = line; rest = xs; is = refl; says_rest = s }
 
-record FirstText (t : List ℕ) (ss : List Said) (xs : List Item) : Type 0 where
-  line : ℕ
-  rest : List Item
-  is : xs ≡ item line (text_item t) ∷ rest
-  says_rest : Says ss rest
-
-first-text : {t : List ℕ} {ss : List Said} {xs : List Item} → Says (said_text t ∷ ss) xs → FirstText t ss xs
+first-text : {t : List ℕ} {ss : List Said} {xs : List Item} → Says (said_text t ∷ ss) xs → First (text_item t) ss xs
 first-text (says_text {line = line} {xs = xs} s) = record { line = line; rest = xs; is = refl; says_rest = s }
 
 no-rest : {xs : List Item} → Says [] xs → xs ≡ []
@@ -37,12 +31,16 @@ no-rest says_nothing = refl
 -- ---- nodes
 
 -- the first items spell the nodes, apart from lines, with no definition among them, and the others say the rest
-record LeadsNodes (ns : Nodes) (ss : List Said) (xs : List Item) : Type 0 where
+record LeadsBy (Spell : List Item → List Definition → Nodes → List Item → List Definition → Type 0) (ns : Nodes) (ss : List Said) (xs : List Item)
+    : Type 0 where
   nodes : Nodes
   rest : List Item
-  leads : {ds : List Definition} → Leads xs ds nodes rest ds
+  leads : {ds : List Definition} → Spell xs ds nodes rest ds
   alike : unlined nodes ≡ unlined ns
   says_rest : Says ss rest
+
+abbrev LeadsNodes : Nodes → List Said → List Item → Type 0
+LeadsNodes = LeadsBy Leads
 
 -- .. a node, behind which they go on
 record LeadsNode (n : NodeKind) (ss : List Said) (xs : List Item) : Type 0 where
@@ -53,18 +51,11 @@ record LeadsNode (n : NodeKind) (ss : List Said) (xs : List Item) : Type 0 where
   alike : unlined_node node ≡ unlined_node n
   says_rest : Says ss rest
 
-record LeadsElse (other : Nodes) (ss : List Said) (xs : List Item) : Type 0 where
-  nodes : Nodes
-  rest : List Item
-  closes : {ds : List Definition} → Closes xs ds nodes rest ds
-  alike : unlined nodes ≡ unlined other
-  says_rest : Says ss rest
-
 else-leads : (other : Nodes) → ((ss : List Said) (xs : List Item) → Says (nodes_said other ++ ss) xs → LeadsNodes other ss xs)
-    → (ss : List Said) (xs : List Item) → Says (else_said other (nodes_said other) ++ said end_action ∷ ss) xs → LeadsElse other ss xs
+    → (ss : List Said) (xs : List Item) → Says (else_said other (nodes_said other) ++ said end_action ∷ ss) xs → LeadsBy Closes other ss xs
 else-leads none ih ss xs s =
     let f = first-said s in
-    record { nodes = none; rest = f.rest; closes = λ {ds}. subst (λ ys. Closes ys ds none f.rest ds) (sym f.is) an_end; alike = refl; says_rest = f.says_rest }
+    record { nodes = none; rest = f.rest; leads = λ {ds}. subst (λ ys. Closes ys ds none f.rest ds) (sym f.is) an_end; alike = refl; says_rest = f.says_rest }
 else-leads (then line n ns) ih ss xs s =
     let f = first-said s in
     let l = ih (said end_action ∷ ss) f.rest f.says_rest in
@@ -72,7 +63,7 @@ else-leads (then line n ns) ih ss xs s =
     record {
       nodes = l.nodes;
       rest = e.rest;
-      closes = λ {ds}. subst (λ ys. Closes ys ds l.nodes e.rest ds) (sym f.is) (an_else (subst (λ ys. Leads f.rest ds l.nodes ys ds) e.is l.leads));
+      leads = λ {ds}. subst (λ ys. Closes ys ds l.nodes e.rest ds) (sym f.is) (an_else (subst (λ ys. Leads f.rest ds l.nodes ys ds) e.is l.leads));
       alike = l.alike;
       says_rest = e.says_rest;
     }
@@ -98,71 +89,34 @@ control-leads c h body other in_body in_other ss xs s =
       node = control_node c h b.nodes e.nodes;
       rest = e.rest;
       leads = λ {ms} {zs} {ds} {es} l. subst (λ ys. Leads ys ds (then f.line (control_node c h b.nodes e.nodes) ms) zs es) (sym f.is)
-          (a_control b.leads e.closes l);
+          (a_control b.leads e.leads l);
       alike = control-alike c h b.nodes e.nodes body other b.alike e.alike;
       says_rest = e.says_rest;
     }
 
+-- an item that spells a node, whatever stands behind
+record Leaf (n : NodeKind) (what : ItemKind) : Type 0 where
+  leads : {line : ℕ} {rest : List Item} {ms : Nodes} {zs : List Item} {ds es : List Definition} → Leads rest ds ms zs es
+      → Leads (item line what ∷ rest) ds (then line n ms) zs es
+
+leaf-leads : {n : NodeKind} {what : ItemKind} {ss : List Said} {xs : List Item} → First what ss xs → Leaf n what → LeadsNode n ss xs
+leaf-leads {n} f leaf = record {
+  line = f.line;
+  node = n;
+  rest = f.rest;
+  leads = λ {ms} {zs} {ds} {es} l. subst (λ ys. Leads ys ds (then f.line n ms) zs es) (sym f.is) (leaf.leads l);
+  alike = refl;
+  says_rest = f.says_rest;
+}
+
 mutual
   node-leads : (n : NodeKind) (ss : List Said) (xs : List Item) → Says (node_said n ++ ss) xs → LeadsNode n ss xs
-  node-leads (text bytes) ss xs s =
-      let f = first-text s in
-      record {
-        line = f.line;
-        node = text bytes;
-        rest = f.rest;
-        leads = λ {ms} {zs} {ds} {es} l. subst (λ ys. Leads ys ds (then f.line (text bytes) ms) zs es)
-            (sym f.is) (a_text l);
-        alike = refl;
-        says_rest = f.says_rest;
-      }
-  node-leads (action h) ss xs s =
-      let f = first-said s in
-      record {
-        line = f.line;
-        node = action h;
-        rest = f.rest;
-        leads = λ {ms} {zs} {ds} {es} l. subst (λ ys. Leads ys ds (then f.line (action h) ms) zs es)
-            (sym f.is) (an_action l);
-        alike = refl;
-        says_rest = f.says_rest;
-      }
+  node-leads (text bytes) ss xs s = leaf-leads (first-text s) (record { leads = a_text })
+  node-leads (action h) ss xs s = leaf-leads (first-said s) (record { leads = an_action })
   node-leads (control_node c h body other) ss xs s = control-leads c h body other (nodes-leads body) (nodes-leads other) ss xs s
-  node-leads break_node ss xs s =
-      let f = first-said s in
-      record {
-        line = f.line;
-        node = break_node;
-        rest = f.rest;
-        leads = λ {ms} {zs} {ds} {es} l. subst (λ ys. Leads ys ds (then f.line break_node ms) zs es)
-            (sym f.is) (a_break l);
-        alike = refl;
-        says_rest = f.says_rest;
-      }
-  node-leads continue_node ss xs s =
-      let f = first-said s in
-      record {
-        line = f.line;
-        node = continue_node;
-        rest = f.rest;
-        leads =
-            λ {ms} {zs} {ds} {es} l. subst (λ ys. Leads ys ds (then f.line continue_node ms) zs es) (sym f.is) (a_continue l);
-        alike = refl;
-        says_rest =
-            f.says_rest;
-      }
-  node-leads (template_node name given) ss xs s =
-      let f = first-said s in
-      record {
-        line = f.line;
-        node = template_node name given;
-        rest = f.rest;
-        leads =
-            λ {ms} {zs} {ds} {es} l. subst (λ ys. Leads ys ds (then f.line (template_node name given) ms) zs es) (sym f.is) (a_template l);
-        alike =
-            refl;
-        says_rest = f.says_rest;
-      }
+  node-leads break_node ss xs s = leaf-leads (first-said s) (record { leads = a_break })
+  node-leads continue_node ss xs s = leaf-leads (first-said s) (record { leads = a_continue })
+  node-leads (template_node name given) ss xs s = leaf-leads (first-said s) (record { leads = a_template })
 
   nodes-leads : (ns : Nodes) (ss : List Said) (xs : List Item) → Says (nodes_said ns ++ ss) xs → LeadsNodes ns ss xs
   nodes-leads none ss xs s = record { nodes = none; rest = xs; leads = nothing; alike = refl; says_rest = s }

@@ -1,8 +1,8 @@
 -- For `load_files`: the files read so far, and those that are left.
 use Rattle.std.proofs.Common.{◌≡◌, ◌∙◌, ◌+◌, ◌++◌, ◌<◌, ℕ, zero, suc, false, List, [], ◌∷◌, length, Option, Some, None, Result, Ok, Err, add-zero}
-use Rattle.std.proofs.Common.{IfSome, ap, append_assoc, arith, eq-eqb, inl, inr, refl, subst, sym, zero-add}
+use Rattle.std.proofs.Common.{IfSome, Bor, drop, map, ◌≤◌, ap, append_assoc, arith, eq-eqb, inl, inr, refl, subst, sym, zero-add}
 use Rattle.std.specs.Prelude.{nat_eq, option_map}
-use Rattle.std.proofs.lemmas.List.{append-nil, length-append}
+use Rattle.std.proofs.lemmas.List.{append-nil, drop_all, length-append}
 use Rattle.std.specs.Option.{ok_or}
 use Rattle.std.specs.Result.{result_map_both}
 use Rattle.std.proofs.Math.Dec.{eqb-suc-zero}
@@ -138,6 +138,17 @@ module _ (before between after : Option (List Bytes)) (files : Files) (start : L
     subst (Asked before after) (sym (one_read no_read (λ j lt. refl) (Err s) h.0))
         (asked-append before between after so_far.0 (name ∷ []) so_far.1 h.1),
   )
+
+-- nothing is left
+pub all_come : (before between : Option (List Bytes)) (files : Files) (start : List Template) (names : List (Bor Bytes)) (i : ℕ) (set : List Template)
+    → length names ≤ i → ComesTo (Asked before between) files start (map (λ s. s.now) names) i set (map (λ s. s.now) (drop i names))
+    → (loaded parsed files no_read 0 start (map (λ s. s.now) names) ≡ Ok set)
+    × Asked before between (file_reads parsed files no_read 0 start (map (λ s. s.now) names))
+all_come before between files start names i set past comes =
+    let all =
+    subst (λ (ns : List (Bor Bytes)). ComesTo (Asked before between) files start (map (λ s. s.now) names) i set (map (λ s. s.now) ns)) (drop_all i names past)
+    comes in
+    let none = all.2 no_read (λ k lt. refl) in (none.0, subst (Asked before between) (sym (none.1 ∙ append-nil all.0)) all.1)
 
 -- where no read fails of a list of files, they come to what they come to where none fails at all, and as many of them are read
 pub all_succeed : (files : Files) (fails : Failing) (k : ℕ) (set : List Template) (names : List Bytes)

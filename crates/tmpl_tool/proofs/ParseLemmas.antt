@@ -15,3 +15,5 @@ has_parse = (parsed, has-outcome)
 -- what a file comes to by the parser it comes to by each such function
 pub for_each : (P : Parse → Type 0) → P parsed → (parse : Parse) → IsParse parse → P parse
 for_each P h parse is = subst P (has_one_parse parsed parse has-outcome is) h
+
+pub ruleset one_parse = (has_parse, has_one_parse)

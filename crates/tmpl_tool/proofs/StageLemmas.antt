@@ -53,7 +53,7 @@ refuses_words parse words files fails helps none =
     (ap (λ b. or_stop (stop_if b tool.help) (λ u. ok_or (wanted words) tool.bad_words)) helps ∙ ap (λ o. ok_or o tool.bad_words) none)
 
 -- a stage behind two is the same as one behind the second
-or_stop-or_stop : (r : Result (List Template) Stop) (f g h : List Template → Result (List Template) Stop) → ((s : List Template) → f s ≡ or_stop (g s) h)
+pub or_stop-or_stop : (r : Result (List Template) Stop) (f g h : List Template → Result (List Template) Stop) → ((s : List Template) → f s ≡ or_stop (g s) h)
     → or_stop r f ≡ or_stop (or_stop r g) h
 or_stop-or_stop (Ok s) f g h same = same s
 or_stop-or_stop (Err stop) f g h same = refl
@@ -128,3 +128,17 @@ tells_refused_memory parse words files fails out err code (inr (inl cut)) is = a
     six : ◌≢◌ {A = ℕ} 6 7
     six e = omega (arith, e)
 tells_refused_memory parse words files fails out err code (inr (inr refused)) is = (refused.0, refused.2)
+
+pub ruleset stages = (
+  gives_help,
+  refuses_words,
+  stops_at_file,
+  stops_at_read,
+  prints,
+  stops_at_data,
+  stops_at_data_read,
+  stops_at_name,
+  runs,
+)
+
+pub ruleset ends = (tells_failed_write, tells_refused_memory)

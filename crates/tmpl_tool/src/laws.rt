@@ -4,12 +4,14 @@ ghost use Rattle.tmpl_tool.specs.Laws.{StopsAtDataRead, StopsAtFile, StopsAtName
 ghost use Rattle.tmpl_tool.specs.Laws.{TellsFailedWrite, TellsRefusedMemory};
 
 /// The law that just one function accepts and refuses each file by the rules.
+#[tactic(auto, using(crate::proofs::ParseLemmas::one_parse))]
 pub fn one_parse()
     ensures some { HasParse }
     ensures one { HasOneParse }
 {}
 
 /// The laws of the stages: help, the words, the FILEs in turn, the printed set, the data, the name, and the run.
+#[tactic(auto, using(crate::proofs::StageLemmas::stages))]
 pub fn stages()
     ensures help { GivesHelp }
     ensures words { RefusesWords }
@@ -23,6 +25,7 @@ pub fn stages()
 {}
 
 /// The laws of the ends that are not the function's: a write that failed, and refused memory.
+#[tactic(auto, using(crate::proofs::StageLemmas::ends))]
 pub fn ends()
     ensures write { TellsFailedWrite }
     ensures memory { TellsRefusedMemory }

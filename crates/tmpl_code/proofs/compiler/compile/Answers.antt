@@ -1,4 +1,4 @@
-use Rattle.std.proofs.Common.{◌≡◌, ◌∙◌, ◌+◌, ◌-◌, ℕ, suc, ◌||◌, List, [], ◌∷◌, max, drop, length, map, reverse, ap, sym, subst, arith}
+use Rattle.std.proofs.Common.{◌≡◌, ◌∙◌, ◌+◌, ◌-◌, ℕ, suc, ◌||◌, List, [], ◌∷◌, max, drop, length, map, reverse, ap, sym, subst, arith, Vec, Global}
 use Rattle.std.specs.Vec.{with_items}
 use Rattle.std.proofs.lemmas.List.{reverse-append, with_items_is}
 use Rattle.tmpl_syntax.specs.Need.{need, need_of_nodes}
@@ -11,6 +11,7 @@ use Rattle.tmpl_code.specs.MakesText.{nodes_make_text, set_makes_text}
 use Rattle.tmpl_code.specs.Room.{largest_need}
 use Rattle.tmpl_code.specs.View.{instructions_of}
 use Rattle.tmpl_code.specs.computed.Held.{LastStarts, code_of, places}
+use Rattle.tmpl_code.proofs.BackwardLemmas.{at-first}
 use Rattle.tmpl_code.proofs.ProgramLemmas.{from-number, starts as starts_of, starts_more}
 use Rattle.tmpl_code.proofs.compiler.compile.Goals as goal
 
@@ -52,59 +53,46 @@ loop-i-preserved c =
     }
 
 -- the loop ends at the first template, and its counts are made places
-linked-so : (ts : List Template) (i size : ℕ) (lengths turned counts starts : List ℕ) (code is : Code) → i ≡ 0
-    → LastStarts ts (drop i ts) (reverse lengths) code
-    → starts ≡ places size counts → size ≡ length code → counts ≡ turned → turned ≡ reverse lengths → is ≡ code → Starts ts ts starts is
-linked-so ts i size lengths turned counts starts code is none last placed sized same reversed put =
+linked-so : (ts : List Template) (i size : ℕ) (lengths : List ℕ) (turned : Vec ℕ Global) (counts starts : List ℕ) (code is : Code) → i ≡ 0
+    → LastStarts ts (drop i ts) (reverse lengths) code → length starts ≡ length counts → counts ≡ turned.items
+    → starts ≡ places size counts → size ≡ length code → turned.items ≡ reverse lengths → is ≡ code → Starts ts ts (with_items turned starts).items is
+linked-so ts i size lengths turned counts starts code is none last many same placed sized reversed put =
     let last = subst (λ n. LastStarts ts (drop n ts) (reverse lengths) code) none last in
-    let at : places (length code) (reverse lengths) ≡ starts = sym (placed ∙ (λ j. places (sized j) ((same ∙ reversed) j))) in
-    subst (λ (is : Code). Starts ts ts starts is) (sym put) (subst (λ (ns : List ℕ). Starts ts ts ns code) at (starts_of ts ts (reverse lengths) code last))
+    let kept = with_items_is turned starts (omega (arith, many, ap length same)) in
+    let at : places (length code) (reverse lengths) ≡ (with_items turned starts).items =
+    sym (kept ∙ placed ∙ (λ j. places (sized j) ((same ∙ reversed) j))) in
+    subst (λ (is : Code). Starts ts ts (with_items turned starts).items is) (sym put)
+    (subst (λ (ns : List ℕ). Starts ts ts ns code) at (starts_of ts ts (reverse lengths) code last))
 
 pub bound_of-requires-clause-needs : goal.bound_of-requires-clause-needs
 bound_of-requires-clause-needs c =
-    let l = c.loop-i in
-    let ts = set_view c.args.set.now in
-    let none : l.i ≡ 0 = omega arith in
-    c.as_slice.ensures.value ∙ c.reverse-2.ensures.items ∙ l.invariant.needs ∙ ap (λ n. map (λ (t : Template). need t.1) (drop n ts)) none
+    c.as_slice.ensures.value ∙ c.reverse-2.ensures.items
+    ∙ at-first (map (λ (t : Template). need t.1)) (set_view c.args.set.now) c.loop-i.invariant.needs (omega arith)
 
 pub bound_of-requires-clause-most : goal.bound_of-requires-clause-most
 bound_of-requires-clause-most c =
-    let none : c.loop-i.i ≡ 0 = omega arith in
-    c.loop-i.invariant.most ∙ ap (λ n. largest_need (drop n (set_view c.args.set.now))) none
+    at-first largest_need (set_view c.args.set.now) c.loop-i.invariant.most (omega arith)
 
 pub bound_of-requires-clause-calls : goal.bound_of-requires-clause-calls
 bound_of-requires-clause-calls c =
-    let none : c.loop-i.i ≡ 0 = omega arith in
-    c.loop-i.invariant.calling ∙ ap (λ n. set_calls (drop n (set_view c.args.set.now))) none
+    at-first set_calls (set_view c.args.set.now) c.loop-i.invariant.calling (omega arith)
 
 pub invariant_of-result : goal.invariant_of-result
 invariant_of-result c =
     let l = c.loop-i in
-    let ts = set_view c.args.set.now in
-    let none : l.i ≡ 0 = omega arith in
-    let many = c.to_places.auto.counts in
-    let long = c.as_mut_slice.ensures.len in
-    let kept = with_items_is c.reverse.new.self c.to_places.new.counts (omega (arith, many, long)) in
-    record {
+    let ts = set_view c.args.set.now in record {
       linked =
-          linked-so ts l.i c.len-2.result l.lengths.items c.reverse.new.self.items c.as_mut_slice.result.now
-          (with_items c.reverse.new.self c.to_places.new.counts).items (code_of l.compiler.code)
-          (instructions_of c.into_instructions.result.items) none l.invariant.starts (kept ∙ c.to_places.ensures) c.len-2.ensures c.as_mut_slice.ensures.value
-          c.reverse.ensures.items c.into_instructions.ensures;
-      need = l.invariant.most ∙ ap (λ n. largest_need (drop n ts)) none;
+          linked-so ts l.i c.len-2.result l.lengths.items c.reverse.new.self c.as_mut_slice.result.now c.to_places.new.counts (code_of l.compiler.code)
+          (instructions_of c.into_instructions.result.items) (omega arith) l.invariant.starts c.to_places.auto.counts c.as_mut_slice.ensures.value
+          c.to_places.ensures c.len-2.ensures c.reverse.ensures.items c.into_instructions.ensures;
+      need = at-first largest_need ts l.invariant.most (omega arith);
       enough = c.in_ok-bound.ensures.bound;
-      makes = l.invariant.makes ∙ ap (λ n. set_makes_text (drop n ts)) none;
+      makes = at-first set_makes_text ts l.invariant.makes (omega arith);
     }
 
 pub returns-clause-linked : goal.returns-clause-linked
 returns-clause-linked c =
     let l = c.loop-i in
-    let ts = set_view c.args.set.now in
-    let none : l.i ≡ 0 = omega arith in
-    let many = c.to_places.auto.counts in
-    let long = c.as_mut_slice.ensures.len in
-    let kept = with_items_is c.reverse.new.self c.to_places.new.counts (omega (arith, many, long)) in
-    linked-so ts l.i c.len-2.result l.lengths.items c.reverse.new.self.items c.as_mut_slice.result.now
-    (with_items c.reverse.new.self c.to_places.new.counts).items (code_of l.compiler.code)
-    (instructions_of c.into_instructions.result.items) none l.invariant.starts (kept ∙ c.to_places.ensures) c.len-2.ensures c.as_mut_slice.ensures.value
-    c.reverse.ensures.items c.into_instructions.ensures
+    linked-so (set_view c.args.set.now) l.i c.len-2.result l.lengths.items c.reverse.new.self c.as_mut_slice.result.now c.to_places.new.counts
+    (code_of l.compiler.code) (instructions_of c.into_instructions.result.items) (omega arith) l.invariant.starts c.to_places.auto.counts
+    c.as_mut_slice.ensures.value c.to_places.ensures c.len-2.ensures c.reverse.ensures.items c.into_instructions.ensures

@@ -1,10 +1,8 @@
 use Rattle.std.proofs.Common.{◌≡◌, ◌∙◌, ◌+◌, ◌-◌, drop, length, ap, sym, subst, arith}
 use Rattle.tmpl_grammar.specs.View.{operands_in}
-use Rattle.tmpl_grammar.specs.declared.tree.Command as held_command
 use Rattle.tmpl_code.specs.computed.Held.{code_of, decided, layout_of}
 use Rattle.tmpl_code.specs.Code.{Code, is_last, JunctionAt}
 use Rattle.tmpl_code.proofs.BackwardLemmas.{junction_more, operands_from}
-use Rattle.tmpl_code.proofs.OperandLemmas.{item-weight, item-weights, weights}
 use Rattle.tmpl_code.proofs.TailLemmas.{junction_ends, longer}
 use Rattle.tmpl_code.proofs.pipeline.+pipeline.Goals as goal
 
@@ -14,23 +12,6 @@ put_junction-put_decide-requires t c =
     let more = longer _ _ (junction_ends a.is_or (operands_in (drop c.loop-i.i a.operands.now)) a.piped a.above (layout_of a.scope.now) (code_of c.loop-i.code)
     (code_of a.code.now) c.loop-i.invariant.put) in
     omega (arith, more)
-
-pub put_junction-put_operand-requires : goal.put_junction-put_operand-requires
-put_junction-put_operand-requires t c =
-    let below = item-weight c.args.operands.now (c.loop-i.i - 1) c.index-operands-i.result (omega arith) c.index-operands-i.is in
-    (omega (arith, below), tt)
-
-pub put_operands-put_operand-requires : goal.put_operands-put_operand-requires
-put_operands-put_operand-requires t c =
-    let below = item-weight c.args.operands.now (c.loop-i.i - 1) c.index-operands-i.result (omega arith) c.index-operands-i.is in
-    (omega (arith, below), tt)
-
-pub put_piped-put_command-requires : goal.put_piped-put_command-requires
-put_piped-put_command-requires t c =
-    let below = item-weights c.args.commands.now (c.loop-i.i - 1) c.index-commands-i.result (omega arith) c.index-commands-i.is in
-    let same = ap (λ os. weights (operands_in os)) c.as_slice.ensures.value in
-    let item = ap (λ (x : held_command.Command). weights (operands_in x.operands.items)) c.index-commands-i.is in
-    (omega (arith, below, same, item), tt)
 
 pub put_junction-loop-i-preserved : goal.put_junction-loop-i-preserved
 put_junction-loop-i-preserved t c =

@@ -1,11 +1,8 @@
-use Rattle.tmpl_grammar.proofs.ActionLemmas.{reads-action, spells-action, spells-one-action}
+use Rattle.tmpl_grammar.specs.Action.{SpellsAction}
+use Rattle.tmpl_grammar.specs.computed.Reading.{action_in}
+use Rattle.tmpl_grammar.proofs.OptionLemmas.{one-at-most}
+use Rattle.tmpl_grammar.proofs.ActionLemmas.{reads-action, spells-action}
 use Rattle.tmpl_grammar.proofs.laws.one_action.Goals as goal
 
-pub returns-clause-read : goal.returns-clause-read
-returns-clause-read c = reads-action
-
-pub returns-clause-spelled : goal.returns-clause-spelled
-returns-clause-spelled c = spells-action
-
-pub returns-clause-one : goal.returns-clause-one
-returns-clause-one c = spells-one-action
+pub returns : goal.returns
+returns c = record { read = reads-action; spelled = spells-action; one = one-at-most (λ ts a. SpellsAction a ts) action_in reads-action }

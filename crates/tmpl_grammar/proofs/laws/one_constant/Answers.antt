@@ -1,11 +1,8 @@
-use Rattle.tmpl_grammar.proofs.IsConstantLemmas.{computes-constant, is-computed-constant, has-one-constant}
+use Rattle.tmpl_grammar.specs.Constant.{IsConstant}
+use Rattle.tmpl_grammar.specs.computed.Constant.{constant_of}
+use Rattle.tmpl_grammar.proofs.OptionLemmas.{one-at-most}
+use Rattle.tmpl_grammar.proofs.IsConstantLemmas.{computes-constant, is-computed-constant}
 use Rattle.tmpl_grammar.proofs.laws.one_constant.Goals as goal
 
-pub returns-clause-computed : goal.returns-clause-computed
-returns-clause-computed c = computes-constant
-
-pub returns-clause-admitted : goal.returns-clause-admitted
-returns-clause-admitted c = is-computed-constant
-
-pub returns-clause-one : goal.returns-clause-one
-returns-clause-one c = has-one-constant
+pub returns : goal.returns
+returns c = record { computed = computes-constant; admitted = is-computed-constant; one = one-at-most IsConstant constant_of computes-constant }

@@ -1,9 +1,10 @@
-use Rattle.std.proofs.Common.{◌≡◌, ◌∙◌, ◌+◌, ◌-◌, ◌∷◌, ◌||◌, max, drop, refl, ap, arith}
+use Rattle.std.proofs.Common.{◌∙◌, ◌+◌, ◌-◌, ◌∷◌, ◌||◌, max, refl, ap, arith}
 use Rattle.tmpl_syntax.specs.Need.{need_of_nodes}
 use Rattle.tmpl_syntax.specs.View.{nodes_in}
 use Rattle.tmpl_code.specs.Calls.{nodes_call}
 use Rattle.tmpl_code.specs.MakesText.{nodes_make_text}
 use Rattle.tmpl_code.specs.computed.Held.{code_of}
+use Rattle.tmpl_code.proofs.BackwardLemmas.{at-first}
 use Rattle.tmpl_code.proofs.NodeLemmas.{nodes_from}
 use Rattle.tmpl_code.proofs.NodeTailLemmas as tail
 use Rattle.tmpl_code.proofs.node.Compiler.put_surveyed.Goals as goal
@@ -39,10 +40,8 @@ returns-clause-code c = tail.put_all (omega arith) c.loop-i.invariant.nodes
 
 pub returns-clause-text : goal.returns-clause-text
 returns-clause-text c =
-    let first : c.loop-i.i ≡ 0 = omega arith in
-    c.loop-i.invariant.text ∙ ap (λ k. nodes_make_text (nodes_in (drop k c.args.nodes.now))) first
+    at-first (λ ns. nodes_make_text (nodes_in ns)) c.args.nodes.now c.loop-i.invariant.text (omega arith)
 
 pub returns-clause-calls : goal.returns-clause-calls
 returns-clause-calls c =
-    let first : c.loop-i.i ≡ 0 = omega arith in
-    c.loop-i.invariant.calls ∙ ap (λ k. nodes_call (nodes_in (drop k c.args.nodes.now))) first
+    at-first (λ ns. nodes_call (nodes_in ns)) c.args.nodes.now c.loop-i.invariant.calls (omega arith)

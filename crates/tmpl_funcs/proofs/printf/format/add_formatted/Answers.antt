@@ -3,8 +3,8 @@ use Rattle.tmpl_values.specs.Value.{Value}
 use Rattle.tmpl_funcs.specs.View.{values_of}
 use Rattle.tmpl_funcs.specs.printf.Format.{formatted}
 use Rattle.tmpl_funcs.specs.computed.Format.{IsAdded, IsSegmentAdded}
-use Rattle.tmpl_funcs.proofs.AddedLemmas.{IsErrAnd-along, IsAdded-refused, formatted-segment, formatted-all}
-use Rattle.tmpl_funcs.proofs.AddedLemmas.{formatted-too_many, values_of-behind, length-values_of}
+use Rattle.tmpl_funcs.proofs.AddedLemmas.{IsErrAnd-along, IsAdded-refused, formatted-segment, formatted-end}
+use Rattle.tmpl_funcs.proofs.AddedLemmas.{values_of-behind, length-values_of}
 use Rattle.tmpl_funcs.proofs.printf.format.add_formatted.Goals as goal
 
 pub returns-in_err-behind : goal.returns-in_err-behind
@@ -39,13 +39,11 @@ loop-rest-preserved c =
 pub returns-then-used-operands : goal.returns-then-used-operands
 returns-then-used-operands c =
     let l = c.loop-rest in
-    let vs : List Value = values_of c.args.operands.now in
-    formatted-all c.args.format.now l.rest.now vs (drop l.used vs) l.invariant.0 c.args.bytes.now.items l.bytes.items l.invariant.1 l.invariant.2
-    (omega arith) (omega (arith, length-drop l.used vs, length-values_of c.args.operands.now))
+    (formatted-end c.args.format.now l.rest.now c.args.operands.now l.used l.invariant.0 c.args.bytes.now.items l.bytes.items l.invariant.1 l.invariant.2
+    (omega arith) l.invariant.3).0 (omega arith)
 
 pub returns-else-used-operands : goal.returns-else-used-operands
 returns-else-used-operands c =
     let l = c.loop-rest in
-    let vs : List Value = values_of c.args.operands.now in
-    formatted-too_many c.args.format.now l.rest.now vs (drop l.used vs) l.invariant.0 c.args.bytes.now.items l.bytes.items l.invariant.1 l.invariant.2
-    (omega arith) (omega (arith, length-drop l.used vs, length-values_of c.args.operands.now))
+    (formatted-end c.args.format.now l.rest.now c.args.operands.now l.used l.invariant.0 c.args.bytes.now.items l.bytes.items l.invariant.1 l.invariant.2
+    (omega arith) l.invariant.3).1 (omega arith)

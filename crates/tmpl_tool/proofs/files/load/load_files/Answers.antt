@@ -6,7 +6,7 @@ use Rattle.tmpl_meaning.proofs.ToldLemmas.{err_up, if_told, of_told}
 use Rattle.tmpl_tool.specs.Source.{Asked, Bytes}
 use Rattle.tmpl_tool.specs.Tool.{file_reads, loaded, no_read}
 use Rattle.tmpl_tool.specs.Inputs.{ComesOf, stop_seen}
-use Rattle.tmpl_tool.proofs.LoadLemmas.{ComesTo, one_more, stops_there}
+use Rattle.tmpl_tool.proofs.LoadLemmas.{ComesTo, all_come, one_more, stops_there}
 use Rattle.tmpl_tool.proofs.files.load.load_files.Goals as goal
 
 pub returns-in_err-load_file-clause-loads : goal.returns-in_err-load_file-clause-loads
@@ -52,16 +52,6 @@ loop-name-preserved g c =
 
 pub returns-clause-loads : goal.returns-clause-loads
 returns-clause-loads g c =
-    let names = c.args.names.now in
-    let i = c.loop-name.name-index in
-    let start = set_view c.args.set.now in
-    let set = set_view c.loop-name.set in
-    let inv = c.loop-name.invariant in
-    let before = g.S.Source.asked c.args.source.now in
-    let between = g.S.Source.asked c.loop-name.source in
     if_told _ (g.S.Source.contents c.args.source.now) (λ files is.
-    let comes =
-    subst (λ (ns : List (Bor Bytes)). ComesTo (Asked before between) files start (map (λ s. s.now) names) i set (map (λ s. s.now) ns))
-    (drop_all i names c.loop-name-test.false) (of_told _ _ files is inv.comes) in
-    let none = comes.2 no_read (λ k lt. refl) in
-    (none.0, subst (Asked before between) (sym (none.1 ∙ append-nil comes.0)) comes.1))
+    all_come (g.S.Source.asked c.args.source.now) (g.S.Source.asked c.loop-name.source) files (set_view c.args.set.now) c.args.names.now
+    c.loop-name.name-index (set_view c.loop-name.set) c.loop-name-test.false (of_told _ _ files is c.loop-name.invariant.comes))
