@@ -9,7 +9,7 @@ use Rattle.tmpl_grammar.specs.Tree as tree
 use Rattle.tmpl_grammar.specs.Tree.{Operand, Operands, operands_from, commands_from}
 use Rattle.tmpl_grammar.specs.computed.Operand.{operand_at}
 use Rattle.tmpl_grammar.specs.computed.Parser as parser
-use Rattle.tmpl_grammar.specs.computed.Parser.{Parser, Partial, settled, more_commands, closed, kept, linked_by, step, step_by, steps, finished, commands_after}
+use Rattle.tmpl_grammar.specs.computed.Parser.{Parser, Partial, settled, more_commands, closed, kept_if, linked_by, step, step_by, steps, finished, commands_after}
 use Rattle.tmpl_grammar.proofs.ConstantLemmas.{IsFlat, flat-at}
 use Rattle.tmpl_grammar.specs.Depth.{depth_of_operand, depth_of_operands, depth_of_commands}
 
@@ -68,7 +68,7 @@ abbrev pub Steps : Parser → Option Parser → Type 0
 Steps h None = Unit {0}
 Steps h (Some r) = parser_depth r ≡ max (parser_depth h) (length r.outer)
 
-kept-steps : (b : Bool) (h r : Parser) → Steps h (Some r) → Steps h (kept b r)
+kept-steps : (b : Bool) (h r : Parser) → Steps h (Some r) → Steps h (kept_if b r)
 kept-steps true h r s = s
 kept-steps false h r s = tt
 

@@ -11,7 +11,7 @@ use Rattle.tmpl_grammar.specs.Tree.{Operand, Operands, operands_from}
 use Rattle.tmpl_grammar.specs.Operand.{begins_later}
 use Rattle.tmpl_grammar.specs.computed.Operand.{operand_at}
 use Rattle.tmpl_grammar.specs.computed.Parser as parser
-use Rattle.tmpl_grammar.specs.computed.Parser.{Parser, Partial, settled, more_commands, closed, may_stand, kept, linked_by, step, step_by}
+use Rattle.tmpl_grammar.specs.computed.Parser.{Parser, Partial, settled, more_commands, closed, may_stand, kept_if, linked_by, step, step_by}
 use Rattle.tmpl_grammar.specs.computed.Parser.{steps, finished, commands_after}
 use Rattle.tmpl_grammar.proofs.SpelledLemmas.{parser_at}
 
@@ -216,7 +216,7 @@ pub held-none : (ls : List Partial) → IsHeld ls 0
 held-none [] = tt
 held-none (l ∷ ls) = tt
 
-kept-place : (n : ℕ) (b : Bool) (h : Parser) (s : Place) (p : Position) → place_of n h ≡ at s p → option_map (place_of n) (kept b h) ≡ kept_at b s p
+kept-place : (n : ℕ) (b : Bool) (h : Parser) (s : Place) (p : Position) → place_of n h ≡ at s p → option_map (place_of n) (kept_if b h) ≡ kept_at b s p
 kept-place n true h s p e = ap Some e
 kept-place n false h s p e = refl
 
@@ -230,7 +230,7 @@ module _ (n : ℕ) (ls : List Partial) (cs : List Operands) (os : List Operand) 
   placed-place None None = refl
   placed-place None (Some o) = by cs os
     where
-      by : (cs : List Operands) (os : List Operand) → option_map (place_of n) (kept (may_stand cs os o) (parser_at ls cs os (Some o)))
+      by : (cs : List Operands) (os : List Operand) → option_map (place_of n) (kept_if (may_stand cs os o) (parser_at ls cs os (Some o)))
           ≡ kept_at (allows (begun cs os) o) (place_of n (parser_at ls cs os None)) (behind o)
       by [] [] = refl
       by (c ∷ cs) [] = kept-place n (begins_later o) _ _ _ refl

@@ -12,7 +12,7 @@ use Rattle.tmpl_grammar.specs.Tree.{Operand, Operands, Commands, operands_from, 
 use Rattle.tmpl_grammar.specs.Operand.{IsOperand, begins_later}
 use Rattle.tmpl_grammar.specs.computed.Operand.{operand_at}
 use Rattle.tmpl_grammar.specs.computed.Parser as parser
-use Rattle.tmpl_grammar.specs.computed.Parser.{Parser, Partial, settled, more_commands, may_stand, kept, linked, linked_by, step, step_by}
+use Rattle.tmpl_grammar.specs.computed.Parser.{Parser, Partial, settled, more_commands, may_stand, kept_if, linked, linked_by, step, step_by}
 use Rattle.tmpl_grammar.specs.computed.Parser.{steps, finished, finished_with, commands_after}
 use Rattle.tmpl_grammar.specs.Pipeline.{IsBlank, IsChain, IsChained, MayBeLater, SpellsOperand, SpellsMore, SpellsCommand, SpellsLater, SpellsPipeline}
 use Rattle.tmpl_grammar.proofs.IsOperandLemmas.{is-computed-operand}
@@ -385,7 +385,7 @@ module _ (t : Token) (cs : List Operands) (os : List Operand) (ts : List Token) 
   close-ends (l ∷ ls) last is (Some done) whole e = ([], t, ts, done, refl, is, partial-end last cs os done whole, e)
 
   kept-ends : (ls : List Partial) (o : Operand) → operand_at t ≡ Some o → (b : Bool) → may_stand cs os o ≡ b
-      → EndsOpt (kept b (parser_at ls cs os (Some o))) ts all → EndsIn ls None cs os (t ∷ ts) all
+      → EndsOpt (kept_if b (parser_at ls cs os (Some o))) ts all → EndsIn ls None cs os (t ∷ ts) all
   kept-ends ls o at true may e = operand-within ls (t ∷ []) o cs os (token-spells t o at) may ts all e
   kept-ends ls o at false may e = absurd e
 

@@ -11,7 +11,7 @@ use Rattle.tmpl_grammar.specs.Tree.{Operand, Operands, Commands, operands_from, 
 use Rattle.tmpl_grammar.specs.Operand.{IsOperand, begins_later}
 use Rattle.tmpl_grammar.specs.computed.Operand.{operand_at, operand_by}
 use Rattle.tmpl_grammar.specs.computed.Parser as parser
-use Rattle.tmpl_grammar.specs.computed.Parser.{Parser, Partial, settled, more_commands, closed, may_stand, kept, linked, linked_by, step, step_by, steps}
+use Rattle.tmpl_grammar.specs.computed.Parser.{Parser, Partial, settled, more_commands, closed, may_stand, kept_if, linked, linked_by, step, step_by, steps}
 use Rattle.tmpl_grammar.specs.Pipeline.{IsBlank, IsChain, IsChained, MayBeLater, SpellsOperand, SpellsMore, SpellsCommand, SpellsLater, SpellsPipeline}
 use Rattle.tmpl_grammar.proofs.IsOperandLemmas.{computes-operand}
 
@@ -69,7 +69,7 @@ placed-step t o ls cs os admitted may = by t.kind refl
     is = computes-operand t o admitted
 
     same : parser.placed None (operand_at t) (parser_at ls cs os None) ≡ Some (parser_at ls cs os (Some o))
-    same = ap (λ p. parser.placed None p (parser_at ls cs os None)) is ∙ ap (λ b. kept b (parser_at ls cs os (Some o))) may
+    same = ap (λ p. parser.placed None p (parser_at ls cs os None)) is ∙ ap (λ b. kept_if b (parser_at ls cs os (Some o))) may
 
     none : {A : Type 0} → ◌≡◌ {A = Option Operand} None (Some o) → A
     none e = absurd (let g : ⊥ = cc in g)

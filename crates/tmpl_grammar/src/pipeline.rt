@@ -1,9 +1,9 @@
 //! The reading of pipelines.
-ghost use Rattle.std.specs.Prelude.{◌≡◌, ◌+◌, ◌<◌, ◌^◌, IfOk, map, option_map};
+ghost use Rattle.std.specs.Prelude.{◌≡◌, ◌+◌, ◌-◌, ◌<◌, ◌^◌, IfOk, map, option_map};
 ghost use Rattle.tmpl_lex.specs.View.{token_of};
 ghost use Rattle.tmpl_grammar.specs.computed.Reading as spec;
 ghost use Rattle.tmpl_grammar.specs.computed.Limited as limited;
-ghost use Rattle.tmpl_grammar.specs.computed.Parser.{finished};
+ghost use Rattle.tmpl_grammar.specs.computed.Parser.{finished, kept_if};
 ghost use Rattle.tmpl_grammar.specs.View.{operand_of};
 ghost use Rattle.tmpl_grammar.specs.computed.View.{parser_of, limited_of, pipeline_reading};
 
@@ -38,12 +38,12 @@ pub(crate) fn pipeline(
 {
     let mut parser = LimitedParser::new(alloc);
     for token in tokens {
-        match parser.step(alloc, token)? {
-            Some(next) => parser = next,
-            None => return Ok(Reading::Unread),
+        let stands = parser.step(alloc, token)?;
+        if !stands {
+            return Ok(Reading::Unread);
         }
     }
-    parser.finish(shape)
+    parser.finish(alloc, shape)
 }
 
 impl LimitedParser {
@@ -57,64 +57,51 @@ impl LimitedParser {
         }
     }
 
-    /// What this token makes of it; `None` where the token may not stand.
+    /// Takes in this token; `false` where it may not stand.
     #[tactic(auto, unfolding(crate::specs::computed::Limited::limited_step))]
-    fn step(self, alloc: Global, token: &Token<'_>) -> Result<Option<LimitedParser>, AllocError>
-        ensures { IfOk result (λ o. option_map limited_of o
-            ≡ limited.limited_step (token_of token.now) (limited_of self)) }
+    fn step(&mut self, alloc: Global, token: &Token<'_>) -> Result<bool, AllocError>
+        ensures { IfOk result (λ b. kept_if b (limited_of self.new)
+            ≡ limited.limited_step (token_of token.now) (limited_of self.old)) }
     {
-        let LimitedParser { parser, beyond } = self.restore(alloc)?;
-        match parser.step(alloc, token)? {
-            Some(parser) => Ok(Some(LimitedParser { parser, beyond }.forget())),
-            None => Ok(None),
-        }
+        self.restore(alloc)?;
+        let stands = self.parser.step(alloc, token)?;
+        self.forget();
+        Ok(stands)
     }
 
-    /// Before a token: with an empty pipeline in place of the innermost that is forgotten.
-    fn restore(self, alloc: Global) -> Result<LimitedParser, AllocError>
-        ensures parser { IfOk result (λ l. limited_of l ≡ limited.restored (limited_of self)) }
-        ensures room { IfOk result (λ l. limited.count l.beyond + 1 < 2 ^ 64) }
+    /// Before a token: puts an empty pipeline in place of the innermost that is forgotten.
+    fn restore(&mut self, alloc: Global) -> Result<(), AllocError>
+        ensures parser { IfOk result (λ u. limited_of self.new ≡ limited.restored (limited_of self.old)) }
+        ensures room { IfOk result (λ u. limited.count self.new.beyond + 1 < 2 ^ 64) }
     {
         let Some(count) = self.beyond else {
-            return Ok(self);
+            return Ok(());
         };
-        let PipelineParser {
-            mut outer,
-            inner,
-            last,
-        } = self.parser;
         if count > 0 {
-            outer.push(PartialPipeline::new(alloc))?;
+            self.parser.outer.push(PartialPipeline::new(alloc))?;
         }
-        let last = empty(alloc, last);
-        Ok(LimitedParser {
-            parser: PipelineParser { outer, inner, last },
-            beyond: Some(count.saturating_sub(1)),
-        })
+        empty(alloc, &mut self.parser.last);
+        self.beyond = Some(one_less(count));
+        Ok(())
     }
 
-    /// Behind a token: without the innermost of the pipelines around it, where that is one too many.
-    fn forget(self) -> LimitedParser
-        requires { limited.count self.beyond + 1 < 2 ^ 64 }
-        ensures { limited_of result ≡ limited.forgotten (limited_of self) }
+    /// Behind a token: lets go of the innermost of the pipelines around it, where that is one too many.
+    fn forget(&mut self)
+        requires { limited.count self.old.beyond + 1 < 2 ^ 64 }
+        ensures { limited_of self.new ≡ limited.forgotten (limited_of self.old) }
     {
-        if self.parser.outer.len() <= MOST_DEEP {
-            return self;
-        }
-        let mut parser = self.parser;
-        parser.outer.pop();
-        LimitedParser {
-            parser,
-            beyond: Some(self.beyond.unwrap_or(0) + 1),
+        if self.parser.outer.len() > MOST_DEEP {
+            self.parser.outer.pop();
+            self.beyond = Some(self.beyond.unwrap_or(0) + 1);
         }
     }
 
     /// What is read in an action of this shape, where the tokens end here.
-    fn finish(self, shape: Shape) -> Result<Reading<Pipeline>, AllocError>
+    fn finish(self, alloc: Global, shape: Shape) -> Result<Reading<Pipeline>, AllocError>
         ensures { IfOk result (λ p. pipeline_reading p
             ≡ limited.reading_by shape self.beyond (finished (parser_of self.parser))) }
     {
-        match (self.parser.finish()?, self.beyond) {
+        match (self.parser.finish(alloc)?, self.beyond) {
             (Some(commands), None) => Ok(Reading::Read(Pipeline { commands })),
             (Some(_), Some(0)) => Ok(Reading::TooDeep(shape)),
             _ => Ok(Reading::Unread),
@@ -122,15 +109,22 @@ impl LimitedParser {
     }
 }
 
-/// The operand, without what stands in it if it is a group: else trees would be as deep as the parentheses.
-fn empty(alloc: Global, last: Option<Operand>) -> Option<Operand>
-    ensures { option_map operand_of result ≡ option_map limited.emptied (option_map operand_of last) }
+/// The number before, or 0.
+fn one_less(count: usize) -> usize
+    ensures value { result ≡ count - 1 }
+    ensures room { result + 1 < 2 ^ 64 }
 {
-    match last {
-        Some(Operand::Group { .. }) => Some(Operand::Group {
+    count.saturating_sub(1)
+}
+
+/// Empties the operand if it is a group: else trees would be as deep as the parentheses.
+fn empty(alloc: Global, last: &mut Option<Operand>)
+    ensures { option_map operand_of last.new ≡ option_map limited.emptied (option_map operand_of last.old) }
+{
+    if matches!(last, Some(Operand::Group { .. })) {
+        *last = Some(Operand::Group {
             commands: Vec::new(alloc),
             fields: Vec::new(alloc),
-        }),
-        last => last,
+        });
     }
 }

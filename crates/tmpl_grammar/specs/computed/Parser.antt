@@ -81,14 +81,15 @@ may_stand (c ∷ cs) (p ∷ ps) o = true
 abbrev pub ending_with : Parser → Operand → Parser
 ending_with h o = record { outer = h.outer; inner = h.inner; last = Some o }
 
-abbrev pub kept : Bool → Parser → Option Parser
-kept true h = Some h
-kept false h = None
+-- a value where this is so, else none
+abbrev pub kept_if : {A : Type 0} → Bool → A → Option A
+kept_if true x = Some x
+kept_if false x = None
 
 -- behind a token that is an operand, where one may stand
 abbrev pub placed : Option Operand → Option Operand → Parser → Option Parser
 placed None None h = None
-placed None (Some o) h = kept (may_stand h.inner.commands h.inner.operands o) (ending_with h o)
+placed None (Some o) h = kept_if (may_stand h.inner.commands h.inner.operands o) (ending_with h o)
 placed (Some p) o h = None
 
 abbrev pub linked_by : Bool → Operand → List ℕ → Option Operand

@@ -1,5 +1,5 @@
 //! A parser of pipelines, token by token.
-ghost use Rattle.std.specs.Prelude.{◌≡◌, ◌++◌, ◌∷◌, [], IfOk, OnOk, map, option_map};
+ghost use Rattle.std.specs.Prelude.{◌≡◌, ◌++◌, ◌∷◌, [], IfOk, OnOk, None, map, option_map};
 ghost use Rattle.tmpl_lex.specs.View.{token_of};
 ghost use Rattle.tmpl_grammar.specs.computed.Parser as spec;
 ghost use Rattle.tmpl_grammar.specs.computed.View.{parser_of, partial_of};
@@ -10,6 +10,7 @@ ghost use Rattle.tmpl_grammar.specs.Operand as word;
 use crate::operand::{begins_name, name_in, operand_at};
 use crate::tree::{Command, Operand};
 use std::alloc::{AllocError, Global};
+use std::mem;
 use tmpl_lex::{Token, TokenKind};
 use tmpl_values::Bytes;
 
@@ -55,69 +56,36 @@ fn add<T: Drop>(items: &mut Vec<T>, item: T) -> Result<(), AllocError>
     Ok(())
 }
 
-/// The operands with the last one, if there is one.
-fn settle(last: Option<Operand>, mut operands: Vec<Operand>) -> Result<Vec<Operand>, AllocError>
-    ensures { IfOk result (λ v. map operand_of v.items
-        ≡ spec.settled (option_map operand_of last) (map operand_of operands.items)) }
+/// Puts the last operand, if there is one, behind the others.
+fn settle(last: &mut Option<Operand>, operands: &mut Vec<Operand>) -> Result<(), AllocError>
+    ensures operands { OnOk result (map operand_of operands.new.items
+        ≡ spec.settled (option_map operand_of last.old) (map operand_of operands.old.items)) }
+    ensures last { last.new ≡ None }
 {
-    if let Some(operand) = last {
-        add(&mut operands, operand)?;
-    }
-    Ok(operands)
-}
-
-/// The commands with one more of these operands, if there are any.
-fn more_commands(
-    mut commands: Vec<Command>,
-    operands: Vec<Operand>,
-) -> Result<Option<Vec<Command>>, AllocError>
-    ensures { IfOk result (λ o. option_map (λ v. map command_of v.items) o
-        ≡ spec.more_commands (map command_of commands.items) (map operand_of operands.items)) }
-{
-    if operands.len() > 0 {
-        add(&mut commands, Command { operands })?;
-        Ok(Some(commands))
-    } else {
-        Ok(None)
+    match last.take() {
+        Some(operand) => add(operands, operand),
+        None => Ok(()),
     }
 }
 
-/// The commands of a pipeline that ends here.
-fn close(inner: PartialPipeline, last: Option<Operand>) -> Result<Option<Vec<Command>>, AllocError>
-    ensures { IfOk result (λ o. option_map (λ v. map command_of v.items) o
-        ≡ spec.more_commands (partial_of inner).commands
-        (spec.settled (option_map operand_of last) (partial_of inner).operands)) }
-{
-    more_commands(inner.commands, settle(last, inner.operands)?)
-}
-
-/// The operand with one more field in its chain, if it may have a chain.
-fn link(operand: Operand, name: Bytes) -> Result<Option<Operand>, AllocError>
-    ensures { IfOk result (λ o. option_map operand_of o ≡ spec.linked (operand_of operand) name) }
+/// Adds one more field to the chain of the operand; `false` where it may have no chain.
+fn link(operand: &mut Operand, name: Bytes) -> Result<bool, AllocError>
+    ensures { IfOk result (λ b. spec.kept_if b (operand_of operand.new) ≡ spec.linked (operand_of operand.old) name) }
 {
     match operand {
-        Operand::Fields(mut fields) => {
+        Operand::Fields(fields) => {
             fields.push(name)?;
-            Ok(Some(Operand::Fields(fields)))
+            Ok(true)
         }
-        Operand::Variable {
-            name: variable,
-            mut fields,
-        } => {
+        Operand::Variable { fields, .. } => {
             fields.push(name)?;
-            Ok(Some(Operand::Variable {
-                name: variable,
-                fields,
-            }))
+            Ok(true)
         }
-        Operand::Group {
-            commands,
-            mut fields,
-        } => {
+        Operand::Group { fields, .. } => {
             fields.push(name)?;
-            Ok(Some(Operand::Group { commands, fields }))
+            Ok(true)
         }
-        _ => Ok(None),
+        _ => Ok(false),
     }
 }
 
@@ -154,177 +122,131 @@ impl PipelineParser {
         }
     }
 
-    /// What this token makes of it; `None` where the token may not stand.
+    /// Takes in this token; `false` where it may not stand.
     #[tactic(auto, unfolding(crate::specs::computed::Parser::step))]
-    pub(crate) fn step(
-        self,
-        alloc: Global,
-        token: &Token<'_>,
-    ) -> Result<Option<PipelineParser>, AllocError>
-        ensures { IfOk result (λ o. option_map parser_of o ≡ spec.step (token_of token.now) (parser_of self)) }
+    pub(crate) fn step(&mut self, alloc: Global, token: &Token<'_>) -> Result<bool, AllocError>
+        ensures { IfOk result (λ b. spec.kept_if b (parser_of self.new)
+            ≡ spec.step (token_of token.now) (parser_of self.old)) }
     {
         match token.kind {
-            TokenKind::Space => Ok(Some(self.pass_space()?)),
-            TokenKind::Pipe => self.pass_bar(alloc),
+            TokenKind::Space => {
+                settle(&mut self.last, &mut self.inner.operands)?;
+                Ok(true)
+            }
+            TokenKind::Pipe => self.close(alloc),
             TokenKind::LeftParenthesis => self.open_group(alloc),
             TokenKind::RightParenthesis => self.close_group(alloc),
             TokenKind::Field => self.pass_field(alloc, token),
-            _ => self.place(operand_at(alloc, token)?),
+            _ => {
+                let operand = operand_at(alloc, token)?;
+                Ok(self.place(operand))
+            }
         }
     }
 
-    /// Behind white space.
-    fn pass_space(self) -> Result<PipelineParser, AllocError>
-        ensures { IfOk result (λ h. parser_of h ≡ spec.apart (parser_of self)) }
+    /// Ends the newest command; `false` where it has no operand.
+    fn close(&mut self, alloc: Global) -> Result<bool, AllocError>
+        ensures { IfOk result (λ b. spec.kept_if b (parser_of self.new)
+            ≡ option_map (spec.barred (parser_of self.old)) (spec.closed (parser_of self.old))) }
     {
-        let PipelineParser { outer, inner, last } = self;
-        let PartialPipeline { commands, operands } = inner;
-        let operands = settle(last, operands)?;
-        Ok(PipelineParser {
-            outer,
-            inner: PartialPipeline { commands, operands },
-            last: None,
-        })
-    }
-
-    /// Behind a bar; `None` where no command ends.
-    fn pass_bar(self, alloc: Global) -> Result<Option<PipelineParser>, AllocError>
-        ensures { IfOk result (λ o. option_map parser_of o
-            ≡ option_map (spec.barred (parser_of self)) (spec.closed (parser_of self))) }
-    {
-        match close(self.inner, self.last)? {
-            Some(commands) => Ok(Some(PipelineParser {
-                outer: self.outer,
-                inner: PartialPipeline {
-                    commands,
-                    operands: Vec::new(alloc),
-                },
-                last: None,
-            })),
-            None => Ok(None),
+        settle(&mut self.last, &mut self.inner.operands)?;
+        if self.inner.operands.len() == 0 {
+            return Ok(false);
         }
+        let operands = mem::replace(&mut self.inner.operands, Vec::new(alloc));
+        add(&mut self.inner.commands, Command { operands })?;
+        Ok(true)
     }
 
-    /// Behind `(`; `None` where it touches an operand.
-    fn open_group(self, alloc: Global) -> Result<Option<PipelineParser>, AllocError>
-        ensures { IfOk result (λ o. option_map parser_of o
-            ≡ spec.opened (option_map operand_of self.last) (parser_of self)) }
+    /// Behind `(`; `false` where it touches an operand.
+    fn open_group(&mut self, alloc: Global) -> Result<bool, AllocError>
+        ensures { IfOk result (λ b. spec.kept_if b (parser_of self.new)
+            ≡ spec.opened (option_map operand_of self.old.last) (parser_of self.old)) }
     {
         if self.last.is_some() {
-            return Ok(None);
+            return Ok(false);
         }
-        let mut outer = self.outer;
-        outer.push(self.inner)?;
-        Ok(Some(PipelineParser {
-            outer,
-            inner: PartialPipeline::new(alloc),
-            last: None,
-        }))
+        let around = mem::replace(&mut self.inner, PartialPipeline::new(alloc));
+        self.outer.push(around)?;
+        Ok(true)
     }
 
-    /// Behind `)`; `None` where none is open or no command ends.
-    fn close_group(self, alloc: Global) -> Result<Option<PipelineParser>, AllocError>
-        ensures { IfOk result (λ o. option_map parser_of o
-            ≡ spec.left_with (parser_of self).outer (spec.closed (parser_of self))) }
+    /// Behind `)`; `false` where none is open or no command ends.
+    fn close_group(&mut self, alloc: Global) -> Result<bool, AllocError>
+        ensures { IfOk result (λ b. spec.kept_if b (parser_of self.new)
+            ≡ spec.left_with (parser_of self.old).outer (spec.closed (parser_of self.old))) }
     {
-        let mut outer = self.outer;
-        let Some(inner) = outer.pop() else {
-            return Ok(None);
+        let Some(around) = self.outer.pop() else {
+            return Ok(false);
         };
-        match close(self.inner, self.last)? {
-            Some(commands) => Ok(Some(PipelineParser {
-                outer,
-                inner,
-                last: Some(Operand::Group {
-                    commands,
-                    fields: Vec::new(alloc),
-                }),
-            })),
-            None => Ok(None),
+        if !self.close(alloc)? {
+            return Ok(false);
         }
+        let inner = mem::replace(&mut self.inner, around);
+        self.last = Some(Operand::Group {
+            commands: inner.commands,
+            fields: Vec::new(alloc),
+        });
+        Ok(true)
     }
 
-    /// Behind an operand; `None` where it may not stand.
-    fn place(self, operand: Option<Operand>) -> Result<Option<PipelineParser>, AllocError>
-        ensures { IfOk result (λ o. option_map parser_of o
-            ≡ spec.placed (option_map operand_of self.last) (option_map operand_of operand) (parser_of self)) }
+    /// Behind an operand; `false` where it may not stand.
+    fn place(&mut self, operand: Option<Operand>) -> bool
+        ensures { spec.kept_if result (parser_of self.new)
+            ≡ spec.placed (option_map operand_of self.old.last) (option_map operand_of operand) (parser_of self.old) }
     {
         if self.last.is_some() {
-            return Ok(None);
+            return false;
         }
         match operand {
             Some(operand) => {
-                if may_stand(&self.inner, &operand) {
-                    Ok(Some(self.end_with(operand)))
-                } else {
-                    Ok(None)
+                if !may_stand(&self.inner, &operand) {
+                    return false;
                 }
+                self.last = Some(operand);
+                true
             }
-            None => Ok(None),
-        }
-    }
-
-    /// With this operand last.
-    fn end_with(self, operand: Operand) -> PipelineParser
-        ensures { parser_of result ≡ spec.ending_with (parser_of self) (operand_of operand) }
-    {
-        PipelineParser {
-            outer: self.outer,
-            inner: self.inner,
-            last: Some(operand),
+            None => false,
         }
     }
 
     /// Behind a field: in a chain, or an operand of its own.
-    fn pass_field(
-        self,
-        alloc: Global,
-        token: &Token<'_>,
-    ) -> Result<Option<PipelineParser>, AllocError>
-        ensures { IfOk result (λ o. option_map parser_of o
-            ≡ spec.fielded (option_map operand_of self.last) (token_of token.now) (parser_of self)) }
+    fn pass_field(&mut self, alloc: Global, token: &Token<'_>) -> Result<bool, AllocError>
+        ensures { IfOk result (λ b. spec.kept_if b (parser_of self.new)
+            ≡ spec.fielded (option_map operand_of self.old.last) (token_of token.now) (parser_of self.old)) }
     {
-        let PipelineParser { outer, inner, last } = self;
-        match last {
-            None => {
-                let parser = PipelineParser {
-                    outer,
-                    inner,
-                    last: None,
-                };
-                parser.place(operand_at(alloc, token)?)
-            }
-            Some(operand) => match link_named(alloc, operand, name_in(token))? {
-                Some(operand) => Ok(Some(PipelineParser {
-                    outer,
-                    inner,
-                    last: Some(operand),
-                })),
-                None => Ok(None),
-            },
+        if let Some(operand) = &mut self.last {
+            return link_named(alloc, operand, name_in(token));
         }
+        let operand = operand_at(alloc, token)?;
+        Ok(self.place(operand))
     }
 
     /// The commands of the pipeline, where no parenthesis is open.
     #[tactic(auto, unfolding(crate::specs::computed::Parser::finished))]
-    pub(crate) fn finish(self) -> Result<Option<Vec<Command>>, AllocError>
+    pub(crate) fn finish(self, alloc: Global) -> Result<Option<Vec<Command>>, AllocError>
         ensures { IfOk result (λ o. option_map (λ v. map command_of v.items) o ≡ spec.finished (parser_of self)) }
     {
-        if self.outer.len() > 0 {
+        let mut parser = self;
+        if parser.outer.len() > 0 {
             return Ok(None);
         }
-        close(self.inner, self.last)
+        if !parser.close(alloc)? {
+            return Ok(None);
+        }
+        let PipelineParser { inner, .. } = parser;
+        Ok(Some(inner.commands))
     }
 }
 
-/// The operand with one more field of this name, if both may be.
-fn link_named(alloc: Global, operand: Operand, name: &[u8]) -> Result<Option<Operand>, AllocError>
-    ensures { IfOk result (λ o. option_map operand_of o
-        ≡ spec.linked_by (token.begins_name name.now) (operand_of operand) name.now) }
+/// Adds one more field of this name to the chain of the operand; `false` where either may not be.
+fn link_named(alloc: Global, operand: &mut Operand, name: &[u8]) -> Result<bool, AllocError>
+    ensures { IfOk result (λ b. spec.kept_if b (operand_of operand.new)
+        ≡ spec.linked_by (token.begins_name name.now) (operand_of operand.old) name.now) }
 {
     if begins_name(name) {
         link(operand, Bytes::new(name.to_vec(alloc)?))
     } else {
-        Ok(None)
+        Ok(false)
     }
 }

@@ -1,7 +1,7 @@
 use Rattle.std.proofs.Common.{arith, ◌≡◌, ◌∙◌, IfOk, sym, ap, subst, map}
 use Rattle.std.proofs.lemmas.List.{drop_all}
-use Rattle.std.specs.Option.{option_map}
 use Rattle.tmpl_lex.specs.View.{token_of}
+use Rattle.tmpl_grammar.specs.computed.Parser.{kept_if}
 use Rattle.tmpl_grammar.specs.computed.View.{limited_of, pipeline_reading}
 use Rattle.std.proofs.lemmas.List.{drop_more}
 use Rattle.tmpl_grammar.proofs.LimitLemmas.{Follows, follows-start, follows-none, follows-step, follows-end}
@@ -14,11 +14,11 @@ loop-token-init c =
           (follows-start (map token_of c.args.tokens.now));
     }
 
-pub returns-in-None : goal.returns-in-None
-returns-in-None c =
+pub returns-then-not-stands : goal.returns-then-not-stands
+returns-then-not-stands c =
     let one = ap (map token_of) (drop_more c.args.tokens.now c.loop-token.token-index _ (omega arith)) in
     follows-none c.args.shape (map token_of c.args.tokens.now) _ _ (limited_of c.loop-token.parser)
-    (sym c.in_ok-next.ensures ∙ ap (option_map limited_of) c.in-None.is)
+    (sym c.in_ok-stands.ensures ∙ ap (λ b. kept_if b (limited_of c.step.new.self)) c.if-not-stands.true)
     (subst (Follows (map token_of c.args.tokens.now) (limited_of c.loop-token.parser)) one c.loop-token.invariant.follows)
 
 pub loop-token-preserved : goal.loop-token-preserved
@@ -26,8 +26,8 @@ loop-token-preserved c =
     let one = ap (map token_of) (drop_more c.args.tokens.now c.loop-token.token-index _ (omega arith)) in
     record {
       follows =
-          follows-step (map token_of c.args.tokens.now) _ _ (limited_of c.loop-token.parser) (limited_of c.in-Some.next)
-          (sym c.in_ok-next.ensures ∙ ap (option_map limited_of) c.in-Some.is)
+          follows-step (map token_of c.args.tokens.now) _ _ (limited_of c.loop-token.parser) (limited_of c.step.new.self)
+          (sym c.in_ok-stands.ensures ∙ ap (λ b. kept_if b (limited_of c.step.new.self)) c.if-not-stands.false)
           (subst (Follows (map token_of c.args.tokens.now) (limited_of c.loop-token.parser)) one c.loop-token.invariant.follows);
     }
 
