@@ -5,8 +5,9 @@ one of errors a beginning of the line, and nothing else changed; and no write ma
 build.
 
 `writes.py --long [WORD]` runs the rows that are not small, and those of which not each write is refused above, with every write of
-output refused by an error, by writes of 4,096 bytes, of 3, once and for good, and of 1. It takes hours of one processor, and says of
-each row how many writes were refused. With a WORD it is the rows alone in whose name that is, and `writes.py --long -WORD` the others."""
+output refused by an error, by writes of 4,096 bytes, of 3, once and for good, and of 1, on all processors. The two rows of 16 MiB take
+hours, the others some ten minutes. It says of each row how many writes were refused. With a WORD it is the rows alone in whose name that
+is, and `writes.py --long -WORD` the others."""
 import os
 import struct
 import sys
@@ -102,22 +103,25 @@ def is_long(row):
     return is_asked and len(row.out) > FEW and (row.size() > sweep.SMALL or len(row.out) * row.size() > 10**9)
 
 
+def judge_long(case):
+    """One row with writes of some length, in a process of its own."""
+    row, most, way = case
+    begun = time.monotonic()
+    RUNNER.lay_row(row)
+    count, wrong = check_long(row, most, way)
+    print(f"{row.name}: {count} writes of {most} bytes refused {WAYS[way - 1]}, {time.monotonic() - begun:.0f} s", flush=True)
+    return row.name, count, wrong
+
+
 def main_long(word=""):
     global SHIM
     harness.SECONDS = ALL
-    start()
     rows = [it for it in harness.read_rows() if is_long(it) and (word[1:] not in it.name if word[:1] == "-" else word in it.name)]
-    refused = failed = 0
+    cases = [(row, *way) for row in sorted(rows, key=lambda it: -len(it.out)) for way in reversed(LONG_WAYS)]
     with tempfile.TemporaryDirectory() as folder:
         SHIM = f"{folder}/fail_write.so"
         sweep.build_shim("fail_write.c", SHIM)
-        for row in sorted(rows, key=lambda it: len(it.out)):
-            RUNNER.lay_row(row)
-            for most, way in LONG_WAYS:
-                begun = time.monotonic()
-                count, wrong = check_long(row, most, way)
-                print(f"{row.name}: {count} writes of {most} bytes refused {WAYS[way - 1]}, {time.monotonic() - begun:.0f} s", *wrong, sep="\n", flush=True)
-                refused, failed = refused + count, failed + bool(wrong)
+        _, failed, refused = harness.tally(harness.in_processes(judge_long, cases, start, 1))
     return harness.closing(refused, failed)
 
 

