@@ -1,7 +1,7 @@
 -- For `empty`, `of` and `open` of the handles: the walks, which are the same for both.
-use Rattle.std.proofs.Common.{◌≡◌, List, [], ◌∷◌, ◌++◌, refl, sym, ap, ◌∙◌, subst, lit<}
+use Rattle.std.proofs.Common.{◌≡◌, ℕ, List, [], ◌∷◌, ◌++◌, refl, sym, ap, ◌∙◌, subst, lit<}
 use seplogic.Ra.Ura.{Ura}
-use mir.Syntax.{Callee, Fn, Local, local, value_local, ty_ptr, ty_bool, place, field}
+use mir.Syntax.{Body, Callee, Fn, Local, local, value_local, ty_ptr, ty_bool, place, field}
 use mir.Syntax.{copy, int, rv_opd, op2, ptr_eq, aggregate, assign, cond, seq, return, w8, w64}
 use mir.Val.{Val, vptr, vcons, vnil}
 use base.Logic.{SProp, ent, emp, id⊢}
@@ -64,48 +64,31 @@ module _ (F : Handle) where
   a_pointer = local ty_ptr value_local
 
   -- ---- the code of both, as it is compiled
+  abbrev plain_code : ℕ → List Local → Body → Fn
+  plain_code params locals body =
+      record { lifetimes = 0; outlives = []; ty_params = []; givens = 0; params = params; locals = locals; body = body }
+
   abbrev empty_code : Fn
-  empty_code = record {
-    lifetimes = 0;
-    outlives = [];
-    ty_params = [];
-    givens = 0;
-    params = 0;
-    locals = by_value H ∷ [];
-    body = seq (assign (place 0 []) (aggregate (int w64 0 ∷ []))) return;
-  }
+  empty_code = plain_code 0 (by_value H ∷ []) (seq (assign (place 0 []) (aggregate (int w64 0 ∷ []))) return)
 
   abbrev of_code : Fn
-  of_code = record {
-    lifetimes = 0;
-    outlives = [];
-    ty_params = [];
-    givens = 0;
-    params = 1;
-    locals = by_value H ∷ by_value Lr ∷ a_pointer ∷ a_pointer ∷ [];
-    body = seq (assign (place 2 []) (rv_opd (copy (place 1 (field 0 ∷ [])))))
-        (seq (assign (place 3 []) (rv_opd (copy (place 2 []))))
-        (seq (assign (place 0 []) (aggregate (copy (place 3 []) ∷ []))) return));
-  }
+  of_code = plain_code 1 (by_value H ∷ by_value Lr ∷ a_pointer ∷ a_pointer ∷ [])
+      (seq (assign (place 2 []) (rv_opd (copy (place 1 (field 0 ∷ [])))))
+      (seq (assign (place 3 []) (rv_opd (copy (place 2 []))))
+      (seq (assign (place 0 []) (aggregate (copy (place 3 []) ∷ []))) return)))
 
   abbrev open_code : Fn
-  open_code = record {
-    lifetimes = 0;
-    outlives = [];
-    ty_params = [];
-    givens = 0;
-    params = 2;
-    locals = by_value (option.the_row Lr) ∷ by_value H ∷ by_value Z ∷ a_pointer ∷ local ty_bool value_local ∷ by_value (option.the_row Lr)
-        ∷ a_pointer ∷ by_value Lr ∷ [];
-    body = seq (assign (place 3 []) (rv_opd (copy (place 1 (field 0 ∷ [])))))
-        (seq (assign (place 4 []) (op2 ptr_eq (copy (place 3 [])) (int w64 0)))
-        (seq (cond (copy (place 4 []))
-        (assign (place 5 []) (aggregate (int w8 0 ∷ [])))
-        (seq (assign (place 6 []) (rv_opd (copy (place 3 []))))
-        (seq (assign (place 7 []) (aggregate (copy (place 6 []) ∷ copy (place 2 []) ∷ [])))
-        (assign (place 5 []) (aggregate (int w8 1 ∷ copy (place 7 []) ∷ []))))))
-        (seq (assign (place 0 []) (rv_opd (copy (place 5 [])))) return)));
-  }
+  open_code = plain_code 2
+      (by_value (option.the_row Lr) ∷ by_value H ∷ by_value Z ∷ a_pointer ∷ local ty_bool value_local ∷ by_value (option.the_row Lr)
+      ∷ a_pointer ∷ by_value Lr ∷ [])
+      (seq (assign (place 3 []) (rv_opd (copy (place 1 (field 0 ∷ [])))))
+      (seq (assign (place 4 []) (op2 ptr_eq (copy (place 3 [])) (int w64 0)))
+      (seq (cond (copy (place 4 []))
+      (assign (place 5 []) (aggregate (int w8 0 ∷ [])))
+      (seq (assign (place 6 []) (rv_opd (copy (place 3 []))))
+      (seq (assign (place 7 []) (aggregate (copy (place 6 []) ∷ copy (place 2 []) ∷ [])))
+      (assign (place 5 []) (aggregate (int w8 1 ∷ copy (place 7 []) ∷ []))))))
+      (seq (assign (place 0 []) (rv_opd (copy (place 5 [])))) return))))
 
   -- ---- the walks
   abbrev empty_ended : Ended

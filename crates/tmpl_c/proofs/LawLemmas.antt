@@ -14,16 +14,10 @@ use Rattle.tmpl_tool.specs.Source.{Bytes, Files}
 use Rattle.tmpl_tool.specs.Tool as tool
 use Rattle.tmpl_tool.specs.Tool.{Parse, Stop, added, answer_of, asked_name, bad_words, data_found, data_in, loaded, named_run, no_read, or_stop}
 use Rattle.tmpl_tool.specs.Tool.{stop_answer, stop_if, with_file}
-use Rattle.tmpl_tool.proofs.StageLemmas.{with_words}
+use Rattle.tmpl_tool.proofs.StageLemmas.{or_stop-or_stop, with_words}
 use Rattle.tmpl_c.specs.Laws.{AddsInTurn, AnswersAsCommand, AnswersButForName, LendsData, LendsFiles, Prints, RefusesName, Runs, SameBut, StopsAtData}
 use Rattle.tmpl_c.specs.Laws.{RendersAsKept, StopsAtFile, StopsAtTemplate}
 use Rattle.tmpl_c.specs.Lent.{data_lent, each_added, lent_answer, render_answer, with_lent}
-
--- a stage behind two is the same as one behind the second
-behind_two : (r : Result (List Template) Stop) (f g h : List Template → Result (List Template) Stop) → ((s : List Template) → f s ≡ or_stop (g s) h)
-    → or_stop r f ≡ or_stop (or_stop r g) h
-behind_two (Ok s) f g h same = same s
-behind_two (Err stop) f g h same = refl
 
 same_behind : (r : Result (List Template) Stop) (f g : List Template → Result (List Template) Stop) → ((s : List Template) → f s ≡ g s)
     → or_stop r f ≡ or_stop r g
@@ -35,7 +29,7 @@ each_part : (parse : Parse) (set : List Template) (before rest : List (Bytes × 
     → each_added parse set (before ++ rest) ≡ or_stop (each_added parse set before) (λ s. each_added parse s rest)
 each_part parse set [] rest = refl
 each_part parse set (f ∷ before) rest =
-    behind_two (with_lent parse set f) (λ s. each_added parse s (before ++ rest)) (λ s. each_added parse s before) (λ s. each_added parse s rest)
+    or_stop-or_stop (with_lent parse set f) (λ s. each_added parse s (before ++ rest)) (λ s. each_added parse s before) (λ s. each_added parse s rest)
     (λ s. each_part parse s before rest)
 
 module _ (parse : Parse) (rules : Rules) (print : Bool) (name input : Bytes) where
@@ -154,3 +148,9 @@ or_no_more (Err stop) = refl
 pub adds_in_turn : AddsInTurn
 adds_in_turn parse before f set loads =
     each_part parse [] before (f ∷ []) ∙ ap (λ r. or_stop r (λ s. each_added parse s (f ∷ []))) loads ∙ or_no_more (with_lent parse set f)
+
+pub ruleset stages = (refuses_name, stops_at_file, prints, stops_at_data, stops_at_template, runs)
+
+pub ruleset as_command = (answers_as_command, answers_but_for_name)
+
+pub ruleset kept = (renders_as_kept, adds_in_turn)

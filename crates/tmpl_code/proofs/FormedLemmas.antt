@@ -103,3 +103,5 @@ mutual
 
 pub places-formed : PlacesFormed
 places-formed ns e = nodes-placed ns [] first_layout false 0 (refl, λ name f. absurd (false≢true f)) e
+
+pub ruleset placed = (places-formed)

@@ -1,12 +1,12 @@
 //! The heaviest of the templates that nodes call.
 ghost use Rattle.std.specs.Prelude.{◌≡◌};
 ghost use Rattle.tmpl_syntax.specs.Set.{number_of};
-ghost use Rattle.tmpl_syntax.specs.View.{control_of, node_of, nodes_in, set_view};
+ghost use Rattle.tmpl_syntax.specs.View.{node_of, nodes_in, set_view};
 ghost use Rattle.tmpl_code.specs.computed.Weights as spec;
 
 use crate::cost::larger;
 use crate::ties::at;
-use tmpl_syntax::{ControlNode, Node, NodeKind, Set};
+use tmpl_syntax::{Node, NodeKind, Set};
 
 /// The weight of the heaviest template that is called, by the weights of all templates in the order of the set; 0 where
 /// none is called that is there.
@@ -31,20 +31,12 @@ fn heaviest_of_node(set: &Set, weights: &[usize], node: &Node) -> usize
 {
     match &node.what {
         NodeKind::Text(_) | NodeKind::Action(_) | NodeKind::Break | NodeKind::Continue => 0,
-        NodeKind::Control(control) => heaviest_of_control(set, weights, control),
+        NodeKind::Control(control) => larger(
+            heaviest_of_nodes(set, weights, control.body.as_slice()),
+            heaviest_of_nodes(set, weights, control.other.as_slice()),
+        ),
         NodeKind::Template(name, _) => weight_of(weights, set.number(name.as_slice())),
     }
-}
-
-#[cycle(heaviest)]
-#[tactic(auto, using(tmpl_syntax::proofs::ViewLemmas::controls))]
-fn heaviest_of_control(set: &Set, weights: &[usize], node: &ControlNode) -> usize
-    ensures { result ≡ spec.heaviest_of_node (set_view set.now) weights.now (control_of node.now) }
-{
-    larger(
-        heaviest_of_nodes(set, weights, node.body.as_slice()),
-        heaviest_of_nodes(set, weights, node.other.as_slice()),
-    )
 }
 
 /// The weight of the template of a number, and 0 where there is none.

@@ -108,3 +108,5 @@ form_at-read bytes n read is h =
     IsRead-along read h
     (ap (width_behind (take n bytes)) (take-tail bytes n) ∙ ap (λ k. width_behind (take k bytes) (drop k bytes)) is)
     (ap (λ t. take n bytes ++ t) (take-tail bytes n) ∙ take-append-drop n bytes)
+
+pub ruleset forms = (form_at-read)

@@ -6,9 +6,9 @@ abbrev pub most : ℕ → ℕ
 most zero = 0
 most (suc i) = 10 * most i + 207
 
-pub most-few : (i : ℕ) → i < 4 → most i ≤ 22977
-most-few zero h = omega arith
-most-few (suc zero) h = omega arith
-most-few (suc (suc zero)) h = omega arith
-most-few (suc (suc (suc zero))) h = omega arith
-most-few (suc (suc (suc (suc i)))) h = absurd (omega arith)
+pub most_few : (i : ℕ) → i < 4 → most i ≤ 22977
+most_few zero h = omega arith
+most_few (suc zero) h = omega arith
+most_few (suc (suc zero)) h = omega arith
+most_few (suc (suc (suc zero))) h = omega arith
+most_few (suc (suc (suc (suc i)))) h = absurd (omega arith)

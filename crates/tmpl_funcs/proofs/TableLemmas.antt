@@ -81,3 +81,5 @@ counts-first Lt = of-pair order
 counts-first Le = of-pair at_most
 counts-first Gt = of-pair above
 counts-first Ge = of-pair at_least
+
+pub ruleset counts = (counts-first)

@@ -64,9 +64,6 @@ with_pipeline-adds : (s : Setting) (line : ℕ) (p : Pipeline) (d : Value) (go :
     → OnlyAdds (with_pipeline s line p d go)
 with_pipeline-adds s line p d go h r = with_value-adds s line _ go (every _ go h) _
 
-scope-adds : (part : Next) → OnlyAdds part → OnlyAdds (scope part)
-scope-adds part h r = h r
-
 shown-adds : (b : Binding) (v : Value) → OnlyAdds (shown b v)
 shown-adds unbound v r = (text_of v, refl)
 shown-adds (declare name) v r = begins-same r.text

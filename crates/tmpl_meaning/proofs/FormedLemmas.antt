@@ -1,5 +1,5 @@
 -- For the law `formed_runs`: what never comes in a run of formed nodes.
-use Rattle.std.proofs.Common.{arith, ◌≡◌, ◌∙◌, ◌++◌, ◌+◌, ◌-◌, ◌≤◌, ◌&&◌, ◌||◌, ℕ, zero, suc, nat_eq, nat_lt, Bool, true, false, List, [], ◌∷◌}
+use Rattle.std.proofs.Common.{arith, ◌≡◌, ◌∙◌, ◌++◌, ◌+◌, ◌-◌, ◌≤◌, ◌||◌, ℕ, zero, suc, nat_eq, Bool, true, false, List, [], ◌∷◌}
 use Rattle.std.proofs.Common.{Option, Some, None, Result, Ok, Err, IfOk, length, drop, ap, refl, sym, subst, append_assoc, length-append, if◌then◌else◌}
 use Rattle.std.proofs.lemmas.Bool.{false≢true, and_parts}
 use Rattle.std.proofs.lemmas.List.{length-map, drop-map, drop-append-le}
@@ -18,7 +18,6 @@ use Rattle.tmpl_syntax.specs.Tree as tree
 use Rattle.tmpl_syntax.specs.Tree.{NodeKind, Nodes, Tree, text, action, control_node, break_node, continue_node, template_node}
 use Rattle.tmpl_syntax.specs.Set.{Template, tree_named}
 use Rattle.tmpl_syntax.specs.Place.Role.{Name, assigned_by, names_of, names_given, used_by}
-use Rattle.tmpl_syntax.specs.Place.Body.{most_levels}
 use Rattle.tmpl_syntax.specs.Formed.{is_among, are_among, declared_to, else_scope, is_looped, scope_behind, is_formed, are_formed}
 use Rattle.tmpl_syntax.proofs.FormedLemmas.{control-formed, or-left, or-right}
 use Rattle.tmpl_meaning.specs.Fault.{Cause}

@@ -2,6 +2,7 @@
 ghost use Rattle.tmpl_meaning.specs.Laws.{EndsInRange, FindsNames, JoinsByTable, NodeAdds, NodesAdd, StaysInScope};
 
 /// The law that an `and` or an `or` all of whose operands have values gives what the function table says of these.
+#[tactic(auto, using(crate::proofs::JoinLemmas::joins))]
 pub fn joins_by_table()
     ensures { JoinsByTable }
 {}

@@ -33,6 +33,16 @@ struct Loan {
     times: u64,
 }
 
+/// What is run, and over what.
+#[derive(Clone, Copy)]
+struct Job<'a, 'j> {
+    program: &'j Program<'a>,
+    entry: Entry,
+    data: Option<&'a Data>,
+    request: &'j Request<'j>,
+    loan: Loan,
+}
+
 /// What six words say of the loan, if they are numbers where there have to be some.
 fn loan_in(words: &[String; 6]) -> Option<Loan> {
     let [piece, most, left, fails, spare, times] = words;
@@ -108,37 +118,31 @@ fn run_template(
     requires { number < length (set_view inputs.now.set) }
 {
     let program = compile(rt.alloc(), &inputs.set)?;
-    let data = inputs.data.as_ref();
-    let entry = Entry { number };
+    let job = Job {
+        program: &program,
+        entry: Entry { number },
+        data: inputs.data.as_ref(),
+        request,
+        loan,
+    };
     if in_arrays {
-        run_in_arrays(rt, &program, entry, data, request, loan)
+        run_in_arrays(rt, &job)
     } else {
-        run_in_vecs(rt, &program, entry, data, request, loan)
+        run_in_vecs(rt, &job)
     }
 }
 
 /// Runs over as many cells as are enough and those beyond them.
-fn run_in_vecs<'a>(
-    rt: &HostRuntime,
-    program: &Program<'a>,
-    entry: Entry,
-    data: Option<&'a Data>,
-    request: &Request<'_>,
-    loan: Loan,
-) -> io::Result<bool>
-    requires { entry.number < length (set_view program.now.set.now) }
+fn run_in_vecs(rt: &HostRuntime, job: &Job<'_, '_>) -> io::Result<bool>
+    requires { job.now.entry.number < length (set_view job.now.program.now.set.now) }
 {
     let alloc = rt.alloc();
-    let least = program.cells(request.options.depth);
-    let mut cells = blank_cells(alloc, (least as usize).saturating_add(loan.spare))?;
-    let mut piece = blank_bytes(alloc, loan.piece)?;
+    let least = job.program.cells(job.request.options.depth);
+    let mut cells = blank_cells(alloc, (least as usize).saturating_add(job.loan.spare))?;
+    let mut piece = blank_bytes(alloc, job.loan.piece)?;
     run_often(
         alloc,
-        program,
-        entry,
-        data,
-        request,
-        loan,
+        job,
         cells.as_mut_slice(),
         piece.as_mut_slice(),
         &mut rt.stdout(),
@@ -147,30 +151,19 @@ fn run_in_vecs<'a>(
 }
 
 /// Runs over arrays, to a sink that keeps its bytes in one, which is then put out. So it takes no memory of its own.
-fn run_in_arrays<'a>(
-    rt: &HostRuntime,
-    program: &Program<'a>,
-    entry: Entry,
-    data: Option<&'a Data>,
-    request: &Request<'_>,
-    loan: Loan,
-) -> io::Result<bool>
-    requires { entry.number < length (set_view program.now.set.now) }
+fn run_in_arrays(rt: &HostRuntime, job: &Job<'_, '_>) -> io::Result<bool>
+    requires { job.now.entry.number < length (set_view job.now.program.now.set.now) }
 {
-    let (name, _) = program.parts().set.template(entry.number);
+    let (name, _) = job.program.parts().set.template(job.entry.number);
     let mut cells = filled_array(name);
     let mut piece = [0; BYTES];
     let mut kept = [0; BYTES];
     let mut rest = kept.as_mut_slice();
     let done = run_often(
         rt.alloc(),
-        program,
-        entry,
-        data,
-        request,
-        loan,
+        job,
         cells.as_mut_slice(),
-        &mut piece[..loan.piece.min(BYTES)],
+        &mut piece[..job.loan.piece.min(BYTES)],
         &mut rest,
         &mut rt.stderr(),
     )?;
@@ -210,29 +203,25 @@ fn blank_bytes(alloc: Global, count: usize) -> Result<Vec<u8>, AllocError> {
 /// the command, if it has one, its status, and how many puts there were behind one that failed, if there were some.
 fn run_often<'a, W: Write, E: Write>(
     alloc: Global,
-    program: &Program<'a>,
-    entry: Entry,
-    data: Option<&'a Data>,
-    request: &Request<'_>,
-    loan: Loan,
+    job: &Job<'a, '_>,
     cells: &mut [Cell<'a>],
     piece: &mut [u8],
     out: &mut W,
     err: &mut E,
 ) -> io::Result<bool>
-    requires { entry.number < length (set_view program.now.set.now) }
+    requires { job.now.entry.number < length (set_view job.now.program.now.set.now) }
 {
-    for _ in 0..loan.times {
-        if (cells.len() as u64) < program.cells(request.options.depth) {
+    let options = &job.request.options;
+    for _ in 0..job.loan.times {
+        if (cells.len() as u64) < job.program.cells(options.depth) {
             return Ok(false);
         }
-        let mut sink = LimitedSink::new(&mut *out, loan.limits);
-        let options = &request.options;
+        let mut sink = LimitedSink::new(&mut *out, job.loan.limits);
         let end = match run(
             alloc,
-            program,
-            entry,
-            data,
+            job.program,
+            job.entry,
+            job.data,
             options,
             &mut *cells,
             &mut *piece,
@@ -242,7 +231,7 @@ fn run_often<'a, W: Write, E: Write>(
             Err(error) => Err(RenderError::from(error)),
         };
         let mut line = LimitedSink::new(&mut *err, Limits::NONE);
-        let status = tell_end(end, asked_name(request), &mut line);
+        let status = tell_end(end, asked_name(job.request), &mut line);
         put_status(err, status, sink.behind())?;
     }
     Ok(true)

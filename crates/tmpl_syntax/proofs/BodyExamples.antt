@@ -1,5 +1,5 @@
 -- For the reader of places: what the definitions say of some lists of actions.
-use Rattle.std.proofs.Common.{◌≡◌, ℕ, List, [], ◌∷◌, ◌++◌, refl, subst, replicate, Some}
+use Rattle.std.proofs.Common.{◌≡◌, ℕ, List, [], ◌∷◌, ◌++◌, refl, subst, replicate, Some, map}
 use Rattle.tmpl_grammar.specs.declared.action.Branch.TheVariants.{If as if_branch}
 use Rattle.tmpl_syntax.specs.Fault as reason
 use Rattle.tmpl_grammar.specs.Tree.{Operand, dot, variable, operand, no_operand, command, no_command, Pipeline, pipeline, Binding, unbound}
@@ -92,180 +92,112 @@ block_given name = item 1 (action_item (block_action x (single (variable name []
 abbrev runs_given : List ℕ → Item
 runs_given name = item 1 (action_item (template_action x (Some (single (variable name [])))))
 
-abbrev Says : List Item → Verdict → Type 0
-Says items v = Judged (roles_of items) v
+-- the items of a file, and what is judged of them
+record Example : Type 0 where
+  items : List Item
+  verdict : Verdict
 
--- the definition says so where the computed verdict does
-says : (items : List Item) (v : Verdict) → verdict_of (roles_of items) ≡ v → Says items v
-says items v e = subst (Judged (roles_of items)) e (judged-all (roles_of items))
+abbrev judges : Verdict → List Item → Example
+judges v items = record { items = items; verdict = v }
 
-nothing-at-all : Says [] fine
+abbrev examples : List Example
+examples =
+    -- nothing at all
+    judges fine []
+    -- if and end
+    ∷ judges fine (if_it 1 ∷ puts 1 ∷ end_it 1 ∷ [])
+    -- an end too many
+    ∷ judges (refused 3 reason.out_of_place) (if_it 1 ∷ end_it 1 ∷ word 1 ∷ end_it 1 ∷ [])
+    -- a second else
+    ∷ judges (refused 2 reason.out_of_place) (if_it 1 ∷ else_it 1 ∷ else_it 1 ∷ end_it 1 ∷ [])
+    -- else if of a with
+    ∷ judges (refused 1 reason.out_of_place) (with_it 1 ∷ else_if 1 ∷ end_it 1 ∷ [])
+    -- break in an if
+    ∷ judges (refused 1 reason.out_of_place) (if_it 1 ∷ break_it 1 ∷ end_it 1 ∷ [])
+    -- break in the else part
+    ∷ judges (refused 2 reason.out_of_place) (range_it 1 ∷ else_it 1 ∷ break_it 1 ∷ end_it 1 ∷ [])
+    -- .. but an outer range's body may hold it
+    ∷ judges fine (range_it 1 ∷ range_it 1 ∷ else_it 1 ∷ break_it 1 ∷ end_it 1 ∷ end_it 1 ∷ [])
+    -- no such name
+    ∷ judges (refused 1 reason.undeclared_variable) (declares y ∷ uses x ∷ [])
+    -- assigned before it is there
+    ∷ judges (refused 0 reason.undeclared_variable) (assigns x ∷ declares x ∷ [])
+    -- the variable of no name is always there
+    ∷ judges fine (uses [] ∷ [])
+    -- a name of the header is seen in both parts, one of the first part only there, and none after the end
+    ∷ judges fine (if_new x ∷ uses x ∷ else_if_uses x ∷ else_it 1 ∷ uses x ∷ end_it 1 ∷ [])
+    -- first part alone
+    ∷ judges (refused 4 reason.undeclared_variable) (if_it 1 ∷ declares x ∷ uses x ∷ else_it 1 ∷ uses x ∷ end_it 1 ∷ [])
+    -- gone after the end
+    ∷ judges (refused 2 reason.undeclared_variable) (if_new x ∷ end_it 1 ∷ uses x ∷ [])
+    -- a range's own are not seen in its else part
+    ∷ judges (refused 4 reason.undeclared_variable) (range_new y x ∷ uses y ∷ uses x ∷ else_it 1 ∷ uses y ∷ end_it 1 ∷ [])
+    -- out of place comes before an unknown name, and the first action before a later one
+    ∷ judges (refused 0 reason.out_of_place) (else_if_uses x ∷ item 1 unreadable_item ∷ [])
+    -- no reading
+    ∷ judges (refused 1 reason.not_an_action) (if_it 1 ∷ item 1 unread_item ∷ end_it 1 ∷ end_it 1 ∷ [])
+    -- open at the end
+    ∷ judges left_open (if_it 1 ∷ else_if 1 ∷ with_it 1 ∷ end_it 1 ∷ [])
+    -- only at the top may a define stand
+    ∷ judges fine (define_it ∷ puts 1 ∷ end_it 1 ∷ word 1 ∷ define_it ∷ end_it 1 ∷ [])
+    -- a define inside an if
+    ∷ judges (refused 1 reason.out_of_place) (if_it 1 ∷ define_it ∷ end_it 1 ∷ end_it 1 ∷ [])
+    -- a define inside a define
+    ∷ judges (refused 1 reason.out_of_place) (define_it ∷ define_it ∷ end_it 1 ∷ end_it 1 ∷ [])
+    -- a define inside a block
+    ∷ judges (refused 1 reason.out_of_place) (block_it ∷ define_it ∷ end_it 1 ∷ end_it 1 ∷ [])
+    -- .. and a block anywhere
+    ∷ judges fine (define_it ∷ if_it 1 ∷ block_it ∷ puts 1 ∷ end_it 1 ∷ end_it 1 ∷ end_it 1 ∷ [])
+    -- an else of a define
+    ∷ judges (refused 1 reason.out_of_place) (define_it ∷ else_it 1 ∷ end_it 1 ∷ [])
+    -- an else if of a block
+    ∷ judges (refused 2 reason.out_of_place) (if_it 1 ∷ block_it ∷ else_if 1 ∷ end_it 1 ∷ end_it 1 ∷ [])
+    -- a break inside a block needs a range inside it
+    ∷ judges (refused 2 reason.out_of_place) (range_it 1 ∷ block_it ∷ break_it 1 ∷ end_it 1 ∷ end_it 1 ∷ [])
+    -- break in a range in a block
+    ∷ judges fine (block_it ∷ range_it 1 ∷ break_it 1 ∷ end_it 1 ∷ end_it 1 ∷ [])
+    -- break behind a block
+    ∷ judges fine (range_it 1 ∷ block_it ∷ end_it 1 ∷ break_it 1 ∷ end_it 1 ∷ [])
+    -- a block sees no name from outside, its own pipeline does, and behind it the name is known again
+    ∷ judges (refused 2 reason.undeclared_variable) (declares x ∷ block_it ∷ uses x ∷ end_it 1 ∷ [])
+    -- a header s name outside a block
+    ∷ judges (refused 2 reason.undeclared_variable) (if_new x ∷ block_it ∷ uses x ∷ end_it 1 ∷ end_it 1 ∷ [])
+    -- the pipeline of a block
+    ∷ judges fine (declares x ∷ block_given x ∷ end_it 1 ∷ [])
+    -- known again behind a block
+    ∷ judges fine (declares x ∷ block_it ∷ declares y ∷ uses y ∷ end_it 1 ∷ uses x ∷ [])
+    -- gone behind a block
+    ∷ judges (refused 3 reason.undeclared_variable) (block_it ∷ declares y ∷ end_it 1 ∷ uses y ∷ [])
+    -- no name from outside a define
+    ∷ judges (refused 2 reason.undeclared_variable) (declares x ∷ define_it ∷ uses x ∷ end_it 1 ∷ [])
+    -- a block in a first part
+    ∷ judges (refused 7 reason.undeclared_variable) (if_it 1 ∷ declares x ∷ block_it ∷ declares y ∷ end_it 1 ∷ uses x ∷ else_it 1 ∷ uses x ∷ end_it 1 ∷ [])
+    -- the pipeline of a template
+    ∷ judges (refused 0 reason.undeclared_variable) (runs_given x ∷ [])
+    -- a define open at the end
+    ∷ judges left_open (define_it ∷ if_it 1 ∷ end_it 1 ∷ [])
+    -- a block is a level, and a define none
+    ∷ judges fine (define_it ∷ replicate 500 block_it ++ replicate 501 (end_it 1))
+    -- a level too many
+    ∷ judges (refused 501 reason.nested_too_deeply) (define_it ∷ replicate 501 block_it)
+    ∷ []
+
+-- what the definition says of each
+abbrev AreJudged : List Example → Type 0
+AreJudged [] = Unit {0}
+AreJudged (e ∷ es) = Judged (roles_of e.items) e.verdict × AreJudged es
+
+-- .. is what the computed verdict says
+are-judged : (es : List Example) → map (λ e. verdict_of (roles_of e.items)) es ≡ map (λ e. e.verdict) es → AreJudged es
+are-judged [] h = tt
+are-judged (e ∷ es) h =
+    let first : verdict_of (roles_of e.items) ≡ e.verdict = cc in
+    let others : map (λ e. verdict_of (roles_of e.items)) es ≡ map (λ e. e.verdict) es = cc in
+    (subst (Judged (roles_of e.items)) first (judged-all (roles_of e.items)), are-judged es others)
+
+each-judged : AreJudged examples
 unfolding verdict_of
-nothing-at-all = says [] fine refl
-
-if-and-end : Says (if_it 1 ∷ puts 1 ∷ end_it 1 ∷ []) fine
-unfolding verdict_of
-if-and-end = says (if_it 1 ∷ puts 1 ∷ end_it 1 ∷ []) fine refl
-
-an-end-too-many : Says (if_it 1 ∷ end_it 1 ∷ word 1 ∷ end_it 1 ∷ []) (refused 3 reason.out_of_place)
-unfolding verdict_of
-an-end-too-many = says (if_it 1 ∷ end_it 1 ∷ word 1 ∷ end_it 1 ∷ []) (refused 3 reason.out_of_place) refl
-
-a-second-else : Says (if_it 1 ∷ else_it 1 ∷ else_it 1 ∷ end_it 1 ∷ []) (refused 2 reason.out_of_place)
-unfolding verdict_of
-a-second-else = says (if_it 1 ∷ else_it 1 ∷ else_it 1 ∷ end_it 1 ∷ []) (refused 2 reason.out_of_place) refl
-
-else-if-of-a-with : Says (with_it 1 ∷ else_if 1 ∷ end_it 1 ∷ []) (refused 1 reason.out_of_place)
-unfolding verdict_of
-else-if-of-a-with = says (with_it 1 ∷ else_if 1 ∷ end_it 1 ∷ []) (refused 1 reason.out_of_place) refl
-
-break-in-an-if : Says (if_it 1 ∷ break_it 1 ∷ end_it 1 ∷ []) (refused 1 reason.out_of_place)
-unfolding verdict_of
-break-in-an-if = says (if_it 1 ∷ break_it 1 ∷ end_it 1 ∷ []) (refused 1 reason.out_of_place) refl
-
-break-in-the-else-part : Says (range_it 1 ∷ else_it 1 ∷ break_it 1 ∷ end_it 1 ∷ []) (refused 2 reason.out_of_place)
-unfolding verdict_of
-break-in-the-else-part = says (range_it 1 ∷ else_it 1 ∷ break_it 1 ∷ end_it 1 ∷ []) (refused 2 reason.out_of_place) refl
-
--- .. but an outer range's body may hold it
-break-in-an-inner-else-part : Says (range_it 1 ∷ range_it 1 ∷ else_it 1 ∷ break_it 1 ∷ end_it 1 ∷ end_it 1 ∷ []) fine
-unfolding verdict_of
-break-in-an-inner-else-part = says (range_it 1 ∷ range_it 1 ∷ else_it 1 ∷ break_it 1 ∷ end_it 1 ∷ end_it 1 ∷ []) fine refl
-
-no-such-name : Says (declares y ∷ uses x ∷ []) (refused 1 reason.undeclared_variable)
-unfolding verdict_of
-no-such-name = says (declares y ∷ uses x ∷ []) (refused 1 reason.undeclared_variable) refl
-
-assigned-before-it-is-there : Says (assigns x ∷ declares x ∷ []) (refused 0 reason.undeclared_variable)
-unfolding verdict_of
-assigned-before-it-is-there = says (assigns x ∷ declares x ∷ []) (refused 0 reason.undeclared_variable) refl
-
--- the variable of no name is always there
-dollar-alone : Says (uses [] ∷ []) fine
-unfolding verdict_of
-dollar-alone = says (uses [] ∷ []) fine refl
-
--- a name of the header is seen in both parts, one of the first part only there, and none after the end
-header-in-both-parts : Says (if_new x ∷ uses x ∷ else_if_uses x ∷ else_it 1 ∷ uses x ∷ end_it 1 ∷ []) fine
-unfolding verdict_of
-header-in-both-parts = says (if_new x ∷ uses x ∷ else_if_uses x ∷ else_it 1 ∷ uses x ∷ end_it 1 ∷ []) fine refl
-
-first-part-alone : Says (if_it 1 ∷ declares x ∷ uses x ∷ else_it 1 ∷ uses x ∷ end_it 1 ∷ []) (refused 4 reason.undeclared_variable)
-unfolding verdict_of
-first-part-alone = says (if_it 1 ∷ declares x ∷ uses x ∷ else_it 1 ∷ uses x ∷ end_it 1 ∷ []) (refused 4 reason.undeclared_variable) refl
-
-gone-after-the-end : Says (if_new x ∷ end_it 1 ∷ uses x ∷ []) (refused 2 reason.undeclared_variable)
-unfolding verdict_of
-gone-after-the-end = says (if_new x ∷ end_it 1 ∷ uses x ∷ []) (refused 2 reason.undeclared_variable) refl
-
--- a range's own are not seen in its else part
-range-names : Says (range_new y x ∷ uses y ∷ uses x ∷ else_it 1 ∷ uses y ∷ end_it 1 ∷ []) (refused 4 reason.undeclared_variable)
-unfolding verdict_of
-range-names = says (range_new y x ∷ uses y ∷ uses x ∷ else_it 1 ∷ uses y ∷ end_it 1 ∷ []) (refused 4 reason.undeclared_variable) refl
-
--- out of place comes before an unknown name, and the first action before a later one
-the-first-of-two : Says (else_if_uses x ∷ item 1 unreadable_item ∷ []) (refused 0 reason.out_of_place)
-unfolding verdict_of
-the-first-of-two = says (else_if_uses x ∷ item 1 unreadable_item ∷ []) (refused 0 reason.out_of_place) refl
-
-no-reading : Says (if_it 1 ∷ item 1 unread_item ∷ end_it 1 ∷ end_it 1 ∷ []) (refused 1 reason.not_an_action)
-unfolding verdict_of
-no-reading = says (if_it 1 ∷ item 1 unread_item ∷ end_it 1 ∷ end_it 1 ∷ []) (refused 1 reason.not_an_action) refl
-
-open-at-the-end : Says (if_it 1 ∷ else_if 1 ∷ with_it 1 ∷ end_it 1 ∷ []) left_open
-unfolding verdict_of
-open-at-the-end = says (if_it 1 ∷ else_if 1 ∷ with_it 1 ∷ end_it 1 ∷ []) left_open refl
-
--- only at the top may a define stand
-defines-beside-one-another : Says (define_it ∷ puts 1 ∷ end_it 1 ∷ word 1 ∷ define_it ∷ end_it 1 ∷ []) fine
-unfolding verdict_of
-defines-beside-one-another = says (define_it ∷ puts 1 ∷ end_it 1 ∷ word 1 ∷ define_it ∷ end_it 1 ∷ []) fine refl
-
-a-define-inside-an-if : Says (if_it 1 ∷ define_it ∷ end_it 1 ∷ end_it 1 ∷ []) (refused 1 reason.out_of_place)
-unfolding verdict_of
-a-define-inside-an-if = says (if_it 1 ∷ define_it ∷ end_it 1 ∷ end_it 1 ∷ []) (refused 1 reason.out_of_place) refl
-
-a-define-inside-a-define : Says (define_it ∷ define_it ∷ end_it 1 ∷ end_it 1 ∷ []) (refused 1 reason.out_of_place)
-unfolding verdict_of
-a-define-inside-a-define = says (define_it ∷ define_it ∷ end_it 1 ∷ end_it 1 ∷ []) (refused 1 reason.out_of_place) refl
-
-a-define-inside-a-block : Says (block_it ∷ define_it ∷ end_it 1 ∷ end_it 1 ∷ []) (refused 1 reason.out_of_place)
-unfolding verdict_of
-a-define-inside-a-block = says (block_it ∷ define_it ∷ end_it 1 ∷ end_it 1 ∷ []) (refused 1 reason.out_of_place) refl
-
--- .. and a block anywhere
-a-block-inside-a-define : Says (define_it ∷ if_it 1 ∷ block_it ∷ puts 1 ∷ end_it 1 ∷ end_it 1 ∷ end_it 1 ∷ []) fine
-unfolding verdict_of
-a-block-inside-a-define = says (define_it ∷ if_it 1 ∷ block_it ∷ puts 1 ∷ end_it 1 ∷ end_it 1 ∷ end_it 1 ∷ []) fine refl
-
-an-else-of-a-define : Says (define_it ∷ else_it 1 ∷ end_it 1 ∷ []) (refused 1 reason.out_of_place)
-unfolding verdict_of
-an-else-of-a-define = says (define_it ∷ else_it 1 ∷ end_it 1 ∷ []) (refused 1 reason.out_of_place) refl
-
-an-else-if-of-a-block : Says (if_it 1 ∷ block_it ∷ else_if 1 ∷ end_it 1 ∷ end_it 1 ∷ []) (refused 2 reason.out_of_place)
-unfolding verdict_of
-an-else-if-of-a-block = says (if_it 1 ∷ block_it ∷ else_if 1 ∷ end_it 1 ∷ end_it 1 ∷ []) (refused 2 reason.out_of_place) refl
-
--- a break inside a block needs a range inside it
-break-in-a-block : Says (range_it 1 ∷ block_it ∷ break_it 1 ∷ end_it 1 ∷ end_it 1 ∷ []) (refused 2 reason.out_of_place)
-unfolding verdict_of
-break-in-a-block = says (range_it 1 ∷ block_it ∷ break_it 1 ∷ end_it 1 ∷ end_it 1 ∷ []) (refused 2 reason.out_of_place) refl
-
-break-in-a-range-in-a-block : Says (block_it ∷ range_it 1 ∷ break_it 1 ∷ end_it 1 ∷ end_it 1 ∷ []) fine
-unfolding verdict_of
-break-in-a-range-in-a-block = says (block_it ∷ range_it 1 ∷ break_it 1 ∷ end_it 1 ∷ end_it 1 ∷ []) fine refl
-
-break-behind-a-block : Says (range_it 1 ∷ block_it ∷ end_it 1 ∷ break_it 1 ∷ end_it 1 ∷ []) fine
-unfolding verdict_of
-break-behind-a-block = says (range_it 1 ∷ block_it ∷ end_it 1 ∷ break_it 1 ∷ end_it 1 ∷ []) fine refl
-
--- a block sees no name from outside, its own pipeline does, and behind it the name is known again
-no-name-from-outside-a-block : Says (declares x ∷ block_it ∷ uses x ∷ end_it 1 ∷ []) (refused 2 reason.undeclared_variable)
-unfolding verdict_of
-no-name-from-outside-a-block = says (declares x ∷ block_it ∷ uses x ∷ end_it 1 ∷ []) (refused 2 reason.undeclared_variable) refl
-
-a-header-s-name-outside-a-block : Says (if_new x ∷ block_it ∷ uses x ∷ end_it 1 ∷ end_it 1 ∷ []) (refused 2 reason.undeclared_variable)
-unfolding verdict_of
-a-header-s-name-outside-a-block = says (if_new x ∷ block_it ∷ uses x ∷ end_it 1 ∷ end_it 1 ∷ []) (refused 2 reason.undeclared_variable) refl
-
-the-pipeline-of-a-block : Says (declares x ∷ block_given x ∷ end_it 1 ∷ []) fine
-unfolding verdict_of
-the-pipeline-of-a-block = says (declares x ∷ block_given x ∷ end_it 1 ∷ []) fine refl
-
-known-again-behind-a-block : Says (declares x ∷ block_it ∷ declares y ∷ uses y ∷ end_it 1 ∷ uses x ∷ []) fine
-unfolding verdict_of
-known-again-behind-a-block = says (declares x ∷ block_it ∷ declares y ∷ uses y ∷ end_it 1 ∷ uses x ∷ []) fine refl
-
-gone-behind-a-block : Says (block_it ∷ declares y ∷ end_it 1 ∷ uses y ∷ []) (refused 3 reason.undeclared_variable)
-unfolding verdict_of
-gone-behind-a-block = says (block_it ∷ declares y ∷ end_it 1 ∷ uses y ∷ []) (refused 3 reason.undeclared_variable) refl
-
-no-name-from-outside-a-define : Says (declares x ∷ define_it ∷ uses x ∷ end_it 1 ∷ []) (refused 2 reason.undeclared_variable)
-unfolding verdict_of
-no-name-from-outside-a-define = says (declares x ∷ define_it ∷ uses x ∷ end_it 1 ∷ []) (refused 2 reason.undeclared_variable) refl
-
-a-block-in-a-first-part : Says (if_it 1 ∷ declares x ∷ block_it ∷ declares y ∷ end_it 1 ∷ uses x ∷ else_it 1 ∷ uses x ∷ end_it 1 ∷ [])
-    (refused 7 reason.undeclared_variable)
-unfolding verdict_of
-a-block-in-a-first-part =
-    says (if_it 1 ∷ declares x ∷ block_it ∷ declares y ∷ end_it 1 ∷ uses x ∷ else_it 1 ∷ uses x ∷ end_it 1 ∷ []) (refused 7 reason.undeclared_variable) refl
-
-the-pipeline-of-a-template : Says (runs_given x ∷ []) (refused 0 reason.undeclared_variable)
-unfolding verdict_of
-the-pipeline-of-a-template = says (runs_given x ∷ []) (refused 0 reason.undeclared_variable) refl
-
-a-define-open-at-the-end : Says (define_it ∷ if_it 1 ∷ end_it 1 ∷ []) left_open
-unfolding verdict_of
-a-define-open-at-the-end = says (define_it ∷ if_it 1 ∷ end_it 1 ∷ []) left_open refl
-
--- a block is a level, and a define none
-as-many-levels-as-may-stand : Says (define_it ∷ replicate 500 block_it ++ replicate 501 (end_it 1)) fine
-unfolding verdict_of
-as-many-levels-as-may-stand = says (define_it ∷ replicate 500 block_it ++ replicate 501 (end_it 1)) fine refl
-
-a-level-too-many : Says (define_it ∷ replicate 501 block_it) (refused 501 reason.nested_too_deeply)
-unfolding verdict_of
-a-level-too-many = says (define_it ∷ replicate 501 block_it) (refused 501 reason.nested_too_deeply) refl
+each-judged = are-judged examples refl
 
 -- `{{if .}}w{{else if .}}{{.}}{{else}}w{{end}}{{.}}`, each on a line of its own
 abbrev chain : List Item

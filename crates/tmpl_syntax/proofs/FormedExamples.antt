@@ -1,5 +1,5 @@
 -- For the reader of `Formed`: which templates are formed, computed.
-use Rattle.std.proofs.Common.{◌≡◌, ℕ, zero, suc, Bool, true, false, List, [], ◌∷◌, Some, refl, codes}
+use Rattle.std.proofs.Common.{◌≡◌, ℕ, zero, suc, Bool, true, false, List, [], ◌∷◌, Some, refl, codes, map}
 use Rattle.tmpl_grammar.specs.Tree.{Operand, dot, variable, group, operands_from, commands_from, Pipeline, pipeline, Binding}
 use Rattle.tmpl_grammar.specs.Tree.{unbound, declare, assign, declare_pair, Header}
 use Rattle.tmpl_grammar.specs.declared.tree.Control.{Control}
@@ -12,9 +12,13 @@ abbrev listed : List NodeKind → Nodes
 listed [] = none
 listed (n ∷ ns) = then 1 n (listed ns)
 
--- whether the template of these is formed
-abbrev formed : List NodeKind → Bool
-formed ns = are_formed (listed ns) [] false 0
+-- the nodes of a template, and whether it is formed
+record Example : Type 0 where
+  nodes : List NodeKind
+  formed : Bool
+
+abbrev says : Bool → List NodeKind → Example
+says formed nodes = record { nodes = nodes; formed = formed }
 
 abbrev value : Operand → Pipeline
 value o = pipeline (commands_from (operands_from (o ∷ []) ∷ []))
@@ -49,123 +53,6 @@ make = acts (declare x) dot
 abbrev change : NodeKind
 change = acts (assign x) dot
 
--- ---- names
-
--- ``, `word`, `{{$}}`
-nothing-at-all : formed [] ≡ true
-nothing-at-all = refl
-
-a-text : formed (text (codes "word") ∷ []) ≡ true
-a-text = refl
-
-the-start : formed (acts unbound (the []) ∷ []) ≡ true
-the-start = refl
-
--- `{{$x}}`, `{{$x = .}}`, `{{($x).y}}`, `{{template "y" $x}}`
-undeclared : formed (show ∷ []) ≡ false
-undeclared = refl
-
-unassigned : formed (change ∷ []) ≡ false
-unassigned = refl
-
-in-parentheses : formed (acts unbound (group (commands_from (operands_from (the x ∷ []) ∷ [])) (y ∷ [])) ∷ []) ≡ false
-in-parentheses = refl
-
-given : formed (template_node y (Some (value (the x))) ∷ []) ≡ false
-given = refl
-
--- `{{$x := .}}{{$x}}{{$x = .}}`, `{{$x}}{{$x := .}}`, `{{$x := $x}}`, `{{$x := .}}{{$x := $x}}`
-declared : formed (make ∷ show ∷ change ∷ []) ≡ true
-declared = refl
-
-too-early : formed (show ∷ make ∷ []) ≡ false
-too-early = refl
-
-of-itself : formed (acts (declare x) (the x) ∷ []) ≡ false
-of-itself = refl
-
-of-the-earlier : formed (make ∷ acts (declare x) (the x) ∷ []) ≡ true
-of-the-earlier = refl
-
--- `{{$y := .}}{{$x}}`, `{{$y := .}}{{$x := .}}{{$y}}{{$x}}`
-another : formed (acts (declare y) dot ∷ show ∷ []) ≡ false
-another = refl
-
-both : formed (acts (declare y) dot ∷ make ∷ acts unbound (the y) ∷ show ∷ []) ≡ true
-both = refl
-
--- ---- controls
-
--- `{{if .}}{{$x := .}}{{$x}}{{end}}`, `{{if .}}{{$x := .}}{{end}}{{$x}}`, `{{if .}}{{$x := .}}{{else}}{{$x}}{{end}}`
-inside : formed (controls control.If unbound (make ∷ show ∷ []) [] ∷ []) ≡ true
-inside = refl
-
-behind-the-end : formed (controls control.If unbound (make ∷ []) [] ∷ show ∷ []) ≡ false
-behind-the-end = refl
-
-in-the-else-part : formed (controls control.If unbound (make ∷ []) (show ∷ []) ∷ []) ≡ false
-in-the-else-part = refl
-
--- `{{$x := .}}{{with .}}{{$x}}{{else}}{{$x = .}}{{end}}{{$x}}`
-from-outside : formed (make ∷ controls control.With unbound (show ∷ []) (change ∷ []) ∷ show ∷ []) ≡ true
-from-outside = refl
-
--- `{{if $x := .}}{{$x}}{{else}}{{$x}}{{end}}`, and behind it; the same of a `with`
-in-its-header : formed (controls control.If (declare x) (show ∷ []) (show ∷ []) ∷ []) ≡ true
-in-its-header = refl
-
-behind-its-end : formed (controls control.If (declare x) [] [] ∷ show ∷ []) ≡ false
-behind-its-end = refl
-
-of-a-with : formed (controls control.With (declare x) (show ∷ []) (show ∷ []) ∷ []) ≡ true
-of-a-with = refl
-
--- `{{if $x = .}}{{end}}`, `{{$x := .}}{{if $x = .}}{{end}}`
-assigns-none : formed (controls control.If (assign x) [] [] ∷ []) ≡ false
-assigns-none = refl
-
-assigns-one : formed (make ∷ controls control.If (assign x) [] [] ∷ []) ≡ true
-assigns-one = refl
-
--- `{{range $x := .}}{{$x}}{{end}}`, with two variables, and in the else part
-of-a-range : formed (controls control.Range (declare x) (show ∷ []) [] ∷ []) ≡ true
-of-a-range = refl
-
-first-of-a-pair : formed (controls control.Range (declare_pair x y) (show ∷ []) [] ∷ []) ≡ true
-first-of-a-pair = refl
-
-second-of-a-pair : formed (controls control.Range (declare_pair y x) (show ∷ []) [] ∷ []) ≡ true
-second-of-a-pair = refl
-
-not-in-its-else : formed (controls control.Range (declare_pair y x) [] (show ∷ []) ∷ []) ≡ false
-not-in-its-else = refl
-
--- ---- breaks
-
--- `{{break}}`, `{{if .}}{{continue}}{{end}}`
-a-break : formed (break_node ∷ []) ≡ false
-a-break = refl
-
-in-an-if : formed (controls control.If unbound (continue_node ∷ []) [] ∷ []) ≡ false
-in-an-if = refl
-
--- `{{range .}}{{if .}}{{break}}{{else}}{{continue}}{{end}}{{end}}`
-in-a-range : formed (controls control.Range unbound (controls control.If unbound (break_node ∷ []) (continue_node ∷ []) ∷ []) [] ∷ []) ≡ true
-in-a-range = refl
-
--- `{{range .}}{{else}}{{break}}{{end}}`, and inside another range
-in-the-else : formed (controls control.Range unbound [] (break_node ∷ []) ∷ []) ≡ false
-in-the-else = refl
-
-of-the-outer : formed (controls control.Range unbound (controls control.Range unbound [] (break_node ∷ []) ∷ []) [] ∷ []) ≡ true
-of-the-outer = refl
-
--- `{{range .}}{{end}}{{continue}}`
-behind-a-range : formed (controls control.Range unbound [] [] ∷ continue_node ∷ []) ≡ false
-behind-a-range = refl
-
--- ---- levels
-
 -- so many controls inside one another, in bodies and in else parts
 abbrev bodies : ℕ → List NodeKind
 bodies zero = []
@@ -175,14 +62,62 @@ abbrev others : ℕ → List NodeKind
 others zero = []
 others (suc n) = controls control.With unbound [] (others n) ∷ []
 
-as-many-as-may : formed (bodies 500) ≡ true
-as-many-as-may = refl
+abbrev examples : List Example
+examples =
+    -- ---- names
+    -- ``, `word`, `{{$}}`
+    says true []
+    ∷ says true (text (codes "word") ∷ [])
+    ∷ says true (acts unbound (the []) ∷ [])
+    -- `{{$x}}`, `{{$x = .}}`, `{{($x).y}}`, `{{template "y" $x}}`
+    ∷ says false (show ∷ [])
+    ∷ says false (change ∷ [])
+    ∷ says false (acts unbound (group (commands_from (operands_from (the x ∷ []) ∷ [])) (y ∷ [])) ∷ [])
+    ∷ says false (template_node y (Some (value (the x))) ∷ [])
+    -- `{{$x := .}}{{$x}}{{$x = .}}`, `{{$x}}{{$x := .}}`, `{{$x := $x}}`, `{{$x := .}}{{$x := $x}}`
+    ∷ says true (make ∷ show ∷ change ∷ [])
+    ∷ says false (show ∷ make ∷ [])
+    ∷ says false (acts (declare x) (the x) ∷ [])
+    ∷ says true (make ∷ acts (declare x) (the x) ∷ [])
+    -- `{{$y := .}}{{$x}}`, `{{$y := .}}{{$x := .}}{{$y}}{{$x}}`
+    ∷ says false (acts (declare y) dot ∷ show ∷ [])
+    ∷ says true (acts (declare y) dot ∷ make ∷ acts unbound (the y) ∷ show ∷ [])
+    -- ---- controls
+    -- `{{if .}}{{$x := .}}{{$x}}{{end}}`, `{{if .}}{{$x := .}}{{end}}{{$x}}`, `{{if .}}{{$x := .}}{{else}}{{$x}}{{end}}`
+    ∷ says true (controls control.If unbound (make ∷ show ∷ []) [] ∷ [])
+    ∷ says false (controls control.If unbound (make ∷ []) [] ∷ show ∷ [])
+    ∷ says false (controls control.If unbound (make ∷ []) (show ∷ []) ∷ [])
+    -- `{{$x := .}}{{with .}}{{$x}}{{else}}{{$x = .}}{{end}}{{$x}}`
+    ∷ says true (make ∷ controls control.With unbound (show ∷ []) (change ∷ []) ∷ show ∷ [])
+    -- `{{if $x := .}}{{$x}}{{else}}{{$x}}{{end}}`, and behind it; the same of a `with`
+    ∷ says true (controls control.If (declare x) (show ∷ []) (show ∷ []) ∷ [])
+    ∷ says false (controls control.If (declare x) [] [] ∷ show ∷ [])
+    ∷ says true (controls control.With (declare x) (show ∷ []) (show ∷ []) ∷ [])
+    -- `{{if $x = .}}{{end}}`, `{{$x := .}}{{if $x = .}}{{end}}`
+    ∷ says false (controls control.If (assign x) [] [] ∷ [])
+    ∷ says true (make ∷ controls control.If (assign x) [] [] ∷ [])
+    -- `{{range $x := .}}{{$x}}{{end}}`, with two variables, and in the else part
+    ∷ says true (controls control.Range (declare x) (show ∷ []) [] ∷ [])
+    ∷ says true (controls control.Range (declare_pair x y) (show ∷ []) [] ∷ [])
+    ∷ says true (controls control.Range (declare_pair y x) (show ∷ []) [] ∷ [])
+    ∷ says false (controls control.Range (declare_pair y x) [] (show ∷ []) ∷ [])
+    -- ---- breaks
+    -- `{{break}}`, `{{if .}}{{continue}}{{end}}`
+    ∷ says false (break_node ∷ [])
+    ∷ says false (controls control.If unbound (continue_node ∷ []) [] ∷ [])
+    -- `{{range .}}{{if .}}{{break}}{{else}}{{continue}}{{end}}{{end}}`
+    ∷ says true (controls control.Range unbound (controls control.If unbound (break_node ∷ []) (continue_node ∷ []) ∷ []) [] ∷ [])
+    -- `{{range .}}{{else}}{{break}}{{end}}`, and inside another range
+    ∷ says false (controls control.Range unbound [] (break_node ∷ []) ∷ [])
+    ∷ says true (controls control.Range unbound (controls control.Range unbound [] (break_node ∷ []) ∷ []) [] ∷ [])
+    -- `{{range .}}{{end}}{{continue}}`
+    ∷ says false (controls control.Range unbound [] [] ∷ continue_node ∷ [])
+    -- ---- levels
+    ∷ says true (bodies 500)
+    ∷ says false (bodies 501)
+    ∷ says true (others 500)
+    ∷ says false (others 501)
+    ∷ []
 
-one-more : formed (bodies 501) ≡ false
-one-more = refl
-
-as-many-else-parts : formed (others 500) ≡ true
-as-many-else-parts = refl
-
-one-more-else-part : formed (others 501) ≡ false
-one-more-else-part = refl
+each-formed : map (λ e. are_formed (listed e.nodes) [] false 0) examples ≡ map (λ e. e.formed) examples
+each-formed = refl

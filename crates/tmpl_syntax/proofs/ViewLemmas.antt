@@ -17,10 +17,6 @@ pub node_of-Node : (line : ℕ) (what : held_kind.NodeKind)
     → node_of (roll-Node (record { line = line; what = what })) ≡ record { line = line; what = kind_of what }
 node_of-Node line what = search (rules, the_lemmas)
 
--- .. and so by its fields
-pub node_of-fields : (n : held_node.Node) → let node = out-Node n in node_of n ≡ record { line = node.line; what = kind_of node.what }
-node_of-fields n = search (rules, the_lemmas)
-
 pub kind_of-Control : (c : Box held_node_control.ControlNode Global) → kind_of (Control c) ≡ control_of c.value
 kind_of-Control c = search (rules, the_lemmas)
 

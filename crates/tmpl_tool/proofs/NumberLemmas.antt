@@ -1,4 +1,5 @@
 -- For `parsed_in`: a number that `parse` reads is the text's own number.
+use Rattle.clap.proofs.WalkLemmas.{first_value-rows}
 use Rattle.std.proofs.Common.{◌≡◌, ◌<◌, ◌≤◌, ◌^◌, ℕ, true, false, refl, arith}
 use Rattle.std.specs.Prelude.{Err, Some}
 use Rattle.std.proofs.lemmas.Bool.{false_from_ne_true}
@@ -26,3 +27,5 @@ pub read-none : (default low high : ℕ) (E : Type 0) (t : Text) (e : E) → Par
     → default ≡ number_in default low high (Some t)
 read-none default low high E t e got =
     rw (false_from_ne_true (is_unsigned_in low high t) (λ e. let p = passes low high t e in got (p.0, p.1))) refl
+
+pub ruleset rows = (first_value-rows)

@@ -35,6 +35,7 @@ fn mode_named(word: &str) -> MissingKey
 }
 
 /// What `--missingkey` asks for.
+#[tactic(auto, using(crate::proofs::NumberLemmas::rows))]
 fn mode_of(matches: &ArgMatches<'_>) -> MissingKey
     ensures { result ≡ mode_of (first_of (codes "missingkey") (rows_of (found_of matches.now))) }
 {
@@ -71,6 +72,7 @@ fn parsed_in(text: &str, default: u64, low: u64, high: u64) -> u64
 }
 
 /// What `--depth` asks for.
+#[tactic(auto, using(crate::proofs::NumberLemmas::rows))]
 fn depth_of(matches: &ArgMatches<'_>) -> u32
     ensures value { result ≡ number_in 1000 1 100000 (first_of (codes "depth") (rows_of (found_of matches.now))) }
     ensures least { 1 ≤ result }
@@ -80,6 +82,7 @@ fn depth_of(matches: &ArgMatches<'_>) -> u32
 }
 
 /// What `--steps` asks for.
+#[tactic(auto, using(crate::proofs::NumberLemmas::rows))]
 fn steps_of(matches: &ArgMatches<'_>) -> u64
     ensures value { result ≡ number_in 1000000000 1 4611686018427387904
         (first_of (codes "steps") (rows_of (found_of matches.now))) }
@@ -95,6 +98,7 @@ fn steps_of(matches: &ArgMatches<'_>) -> u64
 }
 
 /// Whether `--print` is given.
+#[tactic(auto, using(crate::proofs::NumberLemmas::rows))]
 fn print_of(matches: &ArgMatches<'_>) -> bool
     ensures { result ≡ is_set (first_of (codes "print") (rows_of (found_of matches.now))) }
 {

@@ -13,6 +13,7 @@ use super::form::{Form, Verb};
 const MOST_DIGITS: usize = 4;
 
 /// Reads the form at the front of what stands behind a `%`, and gives what stands behind it.
+#[tactic(auto, using(crate::proofs::FormLemmas::forms))]
 pub(crate) fn read_form(bytes: &[u8]) -> Option<(Form, &[u8])>
     ensures { IsRead (form_at bytes.now) bytes.now result }
 {
@@ -112,6 +113,7 @@ impl Verb {
 }
 
 /// The number that a few decimal digits write.
+#[tactic(auto, using(crate::proofs::NumberLemmas::most_few))]
 fn number(digits: &[u8]) -> usize
     requires { length digits.now ≤ 4 }
     ensures { result ≡ number_in digits.now }

@@ -1,17 +1,14 @@
 use Rattle.std.proofs.Common.{◌≡◌, ◌≤◌, ◌+◌, ◌*◌, drop, length}
-use Rattle.tmpl_syntax.specs.View.{control_of, node_of, nodes_in, set_view}
+use Rattle.tmpl_syntax.specs.View.{node_of, nodes_in, set_view}
 use Rattle.tmpl_code.specs.computed.Weights.{heaviest_of_nodes}
 use Rattle.tmpl_code.proofs.NodeLemmas.{node_weight, nodes_weight}
 use Rattle.tmpl_code.proofs.heaviest.+heaviest.Given as goal
 
 abbrev pub decreases-heaviest_of_nodes : goal.decreases-heaviest_of_nodes
-decreases-heaviest_of_nodes l = 3 * nodes_weight (nodes_in l.nodes.now)
+decreases-heaviest_of_nodes l = 2 * nodes_weight (nodes_in l.nodes.now)
 
 abbrev pub decreases-heaviest_of_node : goal.decreases-heaviest_of_node
-decreases-heaviest_of_node l = 3 * node_weight (node_of l.node.now).what + 2
-
-abbrev pub decreases-heaviest_of_control : goal.decreases-heaviest_of_control
-decreases-heaviest_of_control l = 3 * node_weight (control_of l.node.now) + 1
+decreases-heaviest_of_node l = 2 * node_weight (node_of l.node.now).what + 1
 
 abbrev pub decreases-heaviest_of_nodes-loop-i : goal.decreases-heaviest_of_nodes-loop-i
 decreases-heaviest_of_nodes-loop-i l = l.i
