@@ -97,7 +97,7 @@ impl<'m, 'a> Machine<'m, 'a> {
     {
         loop {
             let number = self.template;
-            let instruction = program.instructions.as_slice()[self.place];
+            let instruction = &program.instructions.as_slice()[self.place];
             match self.execute(program, options, instruction, piece, sink) {
                 Ok(Flow::On) => {}
                 Ok(Flow::Over) => return Ok(()),

@@ -399,14 +399,26 @@ fn take_at<'a>(cells: &mut [Cell<'a>], at: usize) -> Cell<'a>
     )
 }
 
-/// Leaves nothing in the cells from a place to before another.
+/// Leaves no made text in the cells from a place to before another. What owns nothing is left as it is, since most
+/// cells own nothing and it costs more to write them than to look.
 fn clear(cells: &mut [Cell<'_>], from: usize, to: usize)
     requires { to ≤ length cells.old }
     ensures left { take from cells.new ≡ take from cells.old }
-    ensures cleared { AllWithin (λ cell. cell.val ≡ Val.Nothing) cells.new from to }
+    ensures cleared { AllWithin (λ cell. is_made cell.val ≡ false) cells.new from to }
     ensures size { length cells.new ≡ length cells.old }
 {
     for i in from..to {
-        cells[i].val = Val::Nothing;
+        if is_made(&cells[i].val) {
+            cells[i].val = Val::Nothing;
+        }
+    }
+}
+
+fn is_made(value: &Val<'_>) -> bool
+    ensures { result ≡ is_made value.now }
+{
+    match value {
+        Val::Made(_) => true,
+        _ => false,
     }
 }
