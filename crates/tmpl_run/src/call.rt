@@ -65,10 +65,10 @@ impl<'m, 'a> Machine<'m, 'a> {
         }
         self.left -= 1;
         let val = self.stack.take().val.into_shared(self.alloc)?;
-        let outer = mem::replace(&mut self.dot, val.share()?);
+        let outer = mem::replace(&mut self.dot, val);
         self.stack.push(outer, self.template as u64);
         self.stack.push(Val::Nothing, self.place as u64 + 1);
-        self.stack.push(val, 0);
+        self.stack.push_shared(&self.dot)?;
         self.template = number;
         self.depth += 1;
         self.place = start;

@@ -96,14 +96,19 @@ impl<'m> Piece<'m> {
     }
 }
 
-/// Copies the bytes to behind those before `end`.
+/// Copies the bytes to behind those before `end`. A single one, as the end of a line, is worth no call.
 fn copy_behind(all: &mut [u8], end: usize, bytes: &[u8])
     requires { end + length bytes.now ≤ length all.old }
     ensures copied { take (end + length bytes.now) all.new ≡ take end all.old ++ bytes.now }
     ensures size { length all.new ≡ length all.old }
 {
-    let behind = end + bytes.len();
-    all[end..behind].copy_from_slice(bytes);
+    match bytes {
+        [byte] => all[end] = *byte,
+        _ => {
+            let behind = end + bytes.len();
+            all[end..behind].copy_from_slice(bytes);
+        }
+    }
 }
 
 /// Copies the text of a value to behind the bytes before `end`, and says where it ends, if it fits.
