@@ -3,7 +3,7 @@ ghost use Rattle.std.specs.Prelude.{◌≡◌, ◌-◌, ◌<◌, ◌^◌, [], On
 ghost use Rattle.std.specs.Fmt.{signed_decimal};
 ghost use Rattle.tmpl_meaning.specs.Sink.{IsPut};
 
-use crate::piece::Piece;
+use crate::piece::{MOST_DIGITS, Piece};
 use itoa::Buffer;
 use tmpl_meaning::{Sink, SinkFault, put_all};
 
@@ -64,6 +64,10 @@ impl Piece<'_> {
             (signed_decimal number) }
         ensures taken { Grows (S.so_far sink.old) (S.so_far sink.new) }
     {
+        if number >= 0 && self.room() >= MOST_DIGITS {
+            self.keep_number(number as u64);
+            return Ok(());
+        }
         let mut buffer = Buffer::new();
         self.put(sink, buffer.format(number).as_bytes())
     }
