@@ -32,6 +32,9 @@ made_at-is [] i d h = absurd (omega arith)
 made_at-is (c ∷ cs) zero d h = refl
 made_at-is (c ∷ cs) (suc i) d h = made_at-is cs i d (omega arith)
 
+pub made-at : (cs : List held.Cell) (i : ℕ) (d : held.Cell) → i < length cs → is_made (get_or cs i d).val ≡ true → made_at cs i ≡ false → ⊥
+made-at cs i d h made plain = let same : true ≡ false = sym made ∙ sym (made_at-is cs i d h) ∙ plain in cc
+
 -- the newest one is taken
 pub borrowed-taken : (top : ℕ) (old new : List held.Cell) (c : held.Cell) → 1 ≤ top → top ≤ length old → c ≡ get_or old (top - 1) c
     → take (top - 1) new ≡ take (top - 1) old

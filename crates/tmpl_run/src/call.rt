@@ -3,7 +3,7 @@ ghost use Rattle.std.specs.Prelude.{◌≡◌, ◌+◌, ◌<◌, ◌≤◌, ◌^
 ghost use Rattle.tmpl_code.specs.Instruction as code;
 ghost use Rattle.tmpl_run.specs.computed.Machines.{Told, state_of};
 ghost use Rattle.tmpl_run.specs.computed.Plain.{IsPlain, SparedOr};
-ghost use Rattle.tmpl_run.specs.computed.Turned.{Executed, Turned, TurnedOr};
+ghost use Rattle.tmpl_run.specs.computed.Turned.{Executed, TurnedOr};
 ghost use Rattle.tmpl_run.specs.computed.View.{cells_of, size_of};
 
 use crate::flow::Flow;
@@ -21,21 +21,21 @@ impl<'m, 'a> Machine<'m, 'a> {
         step_limit: u64,
         depth_limit: u32,
         line: u64,
-    ) -> Result<Flow, RunFaultKind<'a>>
+    ) -> Result<Flow, Halt<'a>>
         ghost run: { Told }
         requires steps { run.plan.rules.step_limit ≡ step_limit }
         requires depths { run.plan.rules.depth_limit ≡ depth_limit }
         requires place { self.old.place + 1 < 2 ^ 64 }
-        ensures step { Turned run (code.deepen line) (state_of run self.old) (state_of run self.new) result }
-        ensures plain { IsPlain self.old → IsPlain self.new }
+        ensures step { TurnedOr run (code.deepen line) (state_of run self.old) (state_of run self.new) result }
+        ensures plain { IsPlain self.old → SparedOr result (IsPlain self.new) }
         ensures size { size_of self.new.stack ≡ size_of self.old.stack }
     {
         self.line = line;
         if self.left == 0 {
-            return Err(RunFaultKind::StepsSpent(step_limit));
+            return Err(Halt::Fault(RunFaultKind::StepsSpent(step_limit)));
         }
         if self.depth >= depth_limit as u64 {
-            return Err(RunFaultKind::CallsTooDeep(depth_limit));
+            return Err(Halt::Fault(RunFaultKind::CallsTooDeep(depth_limit)));
         }
         self.place += 1;
         Ok(Flow::On)
@@ -65,10 +65,10 @@ impl<'m, 'a> Machine<'m, 'a> {
         }
         self.left -= 1;
         let val = self.stack.take().val.into_shared(self.alloc)?;
-        let outer = mem::replace(&mut self.dot, val.share()?);
+        let outer = mem::replace(&mut self.dot, val);
         self.stack.push(outer, self.template as u64);
         self.stack.push(Val::Nothing, self.place as u64 + 1);
-        self.stack.push(val, 0);
+        self.stack.push_shared(&self.dot)?;
         self.template = number;
         self.depth += 1;
         self.place = start;

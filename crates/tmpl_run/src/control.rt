@@ -4,12 +4,13 @@ ghost use Rattle.tmpl_values.specs.Truth.{truth};
 ghost use Rattle.tmpl_code.specs.Instruction as code;
 ghost use Rattle.tmpl_run.specs.Cell.{slot};
 ghost use Rattle.tmpl_run.specs.computed.Machines.{Told, state_of};
-ghost use Rattle.tmpl_run.specs.computed.Plain.{IsPlain, Spared};
+ghost use Rattle.tmpl_run.specs.computed.Plain.{IsPlain, Spared, SparedOr};
 ghost use Rattle.tmpl_run.specs.Ready.{RoomIf};
-ghost use Rattle.tmpl_run.specs.computed.Turned.{Executed, Turned};
+ghost use Rattle.tmpl_run.specs.computed.Turned.{Executed, TurnedOr};
 ghost use Rattle.tmpl_run.specs.computed.View.{cells_of, size_of};
 
 use crate::flow::Flow;
+use crate::halt::Halt;
 use crate::machine::Machine;
 use std::alloc::AllocError;
 use std::mem;
@@ -18,17 +19,17 @@ use tmpl_values::Cell;
 
 impl<'m, 'a> Machine<'m, 'a> {
     /// Takes a step at this line.
-    pub(crate) fn spend(&mut self, limit: u64, line: u64) -> Result<Flow, RunFaultKind<'a>>
+    pub(crate) fn spend(&mut self, limit: u64, line: u64) -> Result<Flow, Halt<'a>>
         ghost run: { Told }
         requires limit { run.plan.rules.step_limit ≡ limit }
         requires place { self.old.place + 1 < 2 ^ 64 }
-        ensures step { Turned run (code.spend line) (state_of run self.old) (state_of run self.new) result }
-        ensures plain { IsPlain self.old → IsPlain self.new }
+        ensures step { TurnedOr run (code.spend line) (state_of run self.old) (state_of run self.new) result }
+        ensures plain { IsPlain self.old → SparedOr result (IsPlain self.new) }
         ensures size { size_of self.new.stack ≡ size_of self.old.stack }
     {
         self.line = line;
         if self.left == 0 {
-            return Err(RunFaultKind::StepsSpent(limit));
+            return Err(Halt::Fault(RunFaultKind::StepsSpent(limit)));
         }
         self.left -= 1;
         self.place += 1;

@@ -29,7 +29,7 @@ impl<'m, 'a> Machine<'m, 'a> {
         &mut self,
         program: &Parts<'a>,
         options: &Options,
-        instruction: Instruction<'a>,
+        instruction: &Instruction<'a>,
         piece: &mut Piece<'_>,
         sink: &mut S,
     ) -> Result<Flow, Halt<'a>>
@@ -38,21 +38,22 @@ impl<'m, 'a> Machine<'m, 'a> {
         requires place { self.old.place + 1 < 2 ^ 64 }
         requires depth { self.old.depth + 1 < 2 ^ 64 }
         requires within { length (cells_of self.old.stack) ≤ size_of self.old.stack }
-        requires ready { Has (instruction_of instruction) (length (cells_of self.old.stack)) (size_of self.old.stack) }
-        requires lands { Lands (done run.plan run.template (instruction_of instruction) (state_of run self.old)) }
+        requires ready { Has (instruction_of instruction.now) (length (cells_of self.old.stack))
+            (size_of self.old.stack) }
+        requires lands { Lands (done run.plan run.template (instruction_of instruction.now) (state_of run self.old)) }
         requires countable { (S.so_far sink.old).failures < 2 ^ 64 - 1 }
-        ensures step { let i = instruction_of instruction.entry in let s = state_of run self.old in
+        ensures step { let i = instruction_of instruction.now in let s = state_of run self.old in
             Executed run i s (state_of (told_behind i s run) self.new) result }
         ensures given { IsPut (put_by result) (given_of (S.so_far sink.old) piece.old)
             (given_of (S.so_far sink.new) piece.new)
-            (added (instruction_of instruction.entry) (state_of run self.old)) }
+            (added (instruction_of instruction.now) (state_of run self.old)) }
         ensures taken { Grows (S.so_far sink.old) (S.so_far sink.new) }
-        ensures plain { mark_behind (instruction_of instruction.entry) run.made_text ≡ false
+        ensures plain { mark_behind (instruction_of instruction.now) run.made_text ≡ false
             → IsPlain self.old → SparedOr result (IsPlain self.new) }
         ensures size { size_of self.new.stack ≡ size_of self.old.stack }
     {
-        match instruction {
-            Instruction::Spend(line) => Ok(self.spend(options.steps, line)?),
+        match *instruction {
+            Instruction::Spend(line) => self.spend(options.steps, line),
             Instruction::Put(text) => {
                 self.put_text(text, piece, sink)?;
                 Ok(Flow::On)
@@ -73,15 +74,13 @@ impl<'m, 'a> Machine<'m, 'a> {
                 self.give(Val::Text(text.as_slice()));
                 Ok(Flow::On)
             }
-            Instruction::PushDot => Ok(self.push_dot()?),
+            Instruction::PushDot => self.push_dot(),
             Instruction::PushFields(names) => {
-                Ok(self.push_fields(options.missing_key, names.as_slice())?)
+                self.push_fields(options.missing_key, names.as_slice())
             }
-            Instruction::PushSlot(slot) => Ok(self.push_slot(slot as usize)?),
-            Instruction::Chain(names) => Ok(self.chain(options.missing_key, names.as_slice())?),
-            Instruction::Call { func, count, piped } => {
-                Ok(self.call(func, count as usize, piped)?)
-            }
+            Instruction::PushSlot(slot) => self.push_slot(slot as usize),
+            Instruction::Chain(names) => self.chain(options.missing_key, names.as_slice()),
+            Instruction::Call { func, count, piped } => { self.call(func, count as usize, piped) }
             Instruction::Decide { is_or, piped, skip } => {
                 Ok(self.decide(is_or, piped, skip as usize))
             }
@@ -106,17 +105,17 @@ impl<'m, 'a> Machine<'m, 'a> {
             } => Ok(self.close_with(count as usize, variables as usize, skip as usize)),
             Instruction::Drop { count, skip } => Ok(self.forget(count as usize, skip as usize)),
             Instruction::Enter { key, skip } => {
-                Ok(self.open_range(options.steps, key, skip as usize)?)
+                self.open_range(options.steps, key, skip as usize)
             }
             Instruction::Turn(count) => Ok(self.turn(count as usize)?),
             Instruction::Next { count, skip, line } => {
-                Ok(self.next(options.steps, count as usize, skip as usize, line as u64)?)
+                self.next(options.steps, count as usize, skip as usize, line as u64)
             }
             Instruction::Leave { count, skip } => Ok(self.leave(count as usize, skip as usize)),
-            Instruction::Deepen(line) => Ok(self.deepen(options.steps, options.depth, line)?),
+            Instruction::Deepen(line) => self.deepen(options.steps, options.depth, line),
             Instruction::Invoke(number) => {
                 let number = number as usize;
-                Ok(self.invoke(options.steps, number, program.starts.as_slice()[number])?)
+                self.invoke(options.steps, number, program.starts.as_slice()[number])
             }
             Instruction::Return(count) => Ok(self.return_from(count as usize)),
         }

@@ -64,8 +64,8 @@ impl<'m, 'a> Machine<'m, 'a> {
         ensures plain { IsPlain self.old → SparedOr result (IsPlain self.new) }
         ensures size { size_of self.new.stack ≡ size_of self.old.stack }
     {
-        let val = self.dot.share()?;
-        self.give(val);
+        self.stack.push_shared(&self.dot)?;
+        self.place += 1;
         Ok(Flow::On)
     }
 
@@ -85,8 +85,10 @@ impl<'m, 'a> Machine<'m, 'a> {
         ensures plain { IsPlain self.old → SparedOr result (IsPlain self.new) }
         ensures size { size_of self.new.stack ≡ size_of self.old.stack }
     {
-        let dot = self.dot.share()?;
-        let val = missing_key.chain(dot, names)?;
+        let val = match names {
+            [name] => missing_key.field(&self.dot, name.as_slice())?,
+            _ => missing_key.chain(self.dot.share()?, names)?,
+        };
         self.give(val);
         Ok(Flow::On)
     }
@@ -102,8 +104,8 @@ impl<'m, 'a> Machine<'m, 'a> {
         ensures plain { IsPlain self.old → SparedOr result (IsPlain self.new) }
         ensures size { size_of self.new.stack ≡ size_of self.old.stack }
     {
-        let val = self.stack.share(slot)?;
-        self.give(val);
+        self.stack.push_slot(slot)?;
+        self.place += 1;
         Ok(Flow::On)
     }
 

@@ -1,11 +1,16 @@
 //! Memory in which bytes wait for a sink.
 ghost use Rattle.std.specs.Prelude.{◌≡◌, ◌+◌, ◌-◌, ◌<◌, ◌≤◌, ◌++◌, [], drop, false, length, take, true};
 ghost use Rattle.std.specs.Prelude.{MatchOption};
+ghost use Rattle.std.specs.Fmt.{decimal};
 ghost use Rattle.tmpl_values.specs.Text.{text_of};
 ghost use Rattle.tmpl_values.specs.View.{val_of};
 
+use itoa::write_digits;
 use tmpl_meaning::{Fixed, Full};
 use tmpl_values::{Val, put_text};
+
+/// How many digits a number of 64 bits has at most.
+pub(crate) const MOST_DIGITS: usize = 20;
 
 /// Memory in which bytes wait for a sink, so that it is given many at once.
 #[derive(Drop)]
@@ -65,6 +70,15 @@ impl<'m> Piece<'m> {
         self.end += bytes.len();
     }
 
+    /// The digits of a number wait behind what does. There is room for the most digits that one has.
+    pub(crate) fn keep_number(&mut self, number: u64)
+        requires { 20 ≤ length self.old.bytes.now - self.old.end }
+        ensures { waiting self.new ≡ waiting self.old ++ decimal number }
+    {
+        let end = self.end;
+        self.end = copy_number(self.bytes, end, number);
+    }
+
     /// The text of a value waits behind what does, or it does not fit, and what waits is the same.
     pub(crate) fn keep_text(&mut self, value: &Val<'_>) -> bool
         ensures kept { result ≡ true → waiting self.new ≡ waiting self.old ++ text_of (val_of value.now) }
@@ -96,14 +110,34 @@ impl<'m> Piece<'m> {
     }
 }
 
-/// Copies the bytes to behind those before `end`.
+/// Copies the bytes to behind those before `end`. A single one, as the end of a line, is worth no call.
+#[inline(always)]
 fn copy_behind(all: &mut [u8], end: usize, bytes: &[u8])
     requires { end + length bytes.now ≤ length all.old }
     ensures copied { take (end + length bytes.now) all.new ≡ take end all.old ++ bytes.now }
     ensures size { length all.new ≡ length all.old }
 {
-    let behind = end + bytes.len();
-    all[end..behind].copy_from_slice(bytes);
+    match bytes {
+        [byte] => all[end] = *byte,
+        _ => {
+            let behind = end + bytes.len();
+            all[end..behind].copy_from_slice(bytes);
+        }
+    }
+}
+
+/// Writes the digits of a number behind the bytes before `end`, and says where they end. As many bytes are copied as
+/// the most digits take, since a copy of a known length is no call; what lies behind the digits is free.
+fn copy_number(all: &mut [u8], end: usize, number: u64) -> usize
+    requires { end + 20 ≤ length all.old }
+    ensures copied { take result all.new ≡ take end all.old ++ decimal number }
+    ensures order { end ≤ result }
+    ensures within { result ≤ length all.new }
+{
+    let mut digits = [0; 2 * MOST_DIGITS];
+    let start = write_digits(number, &mut digits, MOST_DIGITS);
+    copy_behind(all, end, &digits[start..start + MOST_DIGITS]);
+    end + (MOST_DIGITS - start)
 }
 
 /// Copies the text of a value to behind the bytes before `end`, and says where it ends, if it fits.

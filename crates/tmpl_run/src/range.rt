@@ -7,11 +7,12 @@ ghost use Rattle.tmpl_code.specs.Instruction as code;
 ghost use Rattle.tmpl_run.specs.Cell.{cell, slot, slot_cell};
 ghost use Rattle.tmpl_run.specs.Machine.{elements_for, has_more, variables_on};
 ghost use Rattle.tmpl_run.specs.computed.Machines.{Told, state_of};
-ghost use Rattle.tmpl_run.specs.computed.Plain.{IsPlain, Spared};
-ghost use Rattle.tmpl_run.specs.computed.Turned.{Executed, Turned};
+ghost use Rattle.tmpl_run.specs.computed.Plain.{IsPlain, Spared, SparedOr};
+ghost use Rattle.tmpl_run.specs.computed.Turned.{Executed, TurnedOr};
 ghost use Rattle.tmpl_run.specs.computed.View.{cells_of, size_of};
 
 use crate::flow::Flow;
+use crate::halt::Halt;
 use crate::machine::Machine;
 use std::alloc::AllocError;
 use std::mem;
@@ -38,7 +39,7 @@ impl<'m, 'a> Machine<'m, 'a> {
         limit: u64,
         key: bool,
         skip: usize,
-    ) -> Result<Flow, RunFaultKind<'a>>
+    ) -> Result<Flow, Halt<'a>>
         ghost run: { Told }
         requires limit { run.plan.rules.step_limit ≡ limit }
         requires found { 1 ≤ length (cells_of self.old.stack) }
@@ -46,20 +47,20 @@ impl<'m, 'a> Machine<'m, 'a> {
         requires body { self.old.place + 1 < 2 ^ 64 }
         requires other { elements_for key (slot 0 (cells_of self.old.stack)) ≡ Some []
             → self.old.place + 1 + skip < 2 ^ 64 }
-        ensures step { Turned run (code.enter key skip) (state_of run self.old) (state_of run self.new) result }
-        ensures plain { IsPlain self.old → IsPlain self.new }
+        ensures step { TurnedOr run (code.enter key skip) (state_of run self.old) (state_of run self.new) result }
+        ensures plain { IsPlain self.old → SparedOr result (IsPlain self.new) }
         ensures size { size_of self.new.stack ≡ size_of self.old.stack }
     {
         let val = self.stack.take().val;
         match visited_count(key, &val) {
-            None => Err(RunFaultKind::NotARange),
+            None => Err(Halt::Fault(RunFaultKind::NotARange)),
             Some(0) => {
                 self.place += 1 + skip;
                 Ok(Flow::On)
             }
             Some(_) => {
                 if self.left == 0 {
-                    return Err(RunFaultKind::StepsSpent(limit));
+                    return Err(Halt::Fault(RunFaultKind::StepsSpent(limit)));
                 }
                 self.left -= 1;
                 self.place += 1;
@@ -125,15 +126,15 @@ impl<'m, 'a> Machine<'m, 'a> {
         count: usize,
         skip: usize,
         line: u64,
-    ) -> Result<Flow, RunFaultKind<'a>>
+    ) -> Result<Flow, Halt<'a>>
         ghost run: { Told }
         requires limit { run.plan.rules.step_limit ≡ limit }
         requires found { count + 2 ≤ length (cells_of self.old.stack) }
         requires within { length (cells_of self.old.stack) ≤ size_of self.old.stack }
         requires behind { has_more (slot_cell 1 (drop count (cells_of self.old.stack))) ≡ false
             → self.old.place + 1 + skip < 2 ^ 64 }
-        ensures step { Turned run (code.next count skip line) (state_of run self.old) (state_of run self.new) result }
-        ensures plain { IsPlain self.old → IsPlain self.new }
+        ensures step { TurnedOr run (code.next count skip line) (state_of run self.old) (state_of run self.new) result }
+        ensures plain { IsPlain self.old → SparedOr result (IsPlain self.new) }
         ensures size { size_of self.new.stack ≡ size_of self.old.stack }
     {
         self.stack.pop(count);
@@ -146,7 +147,7 @@ impl<'m, 'a> Machine<'m, 'a> {
         }
         self.line = line;
         if self.left == 0 {
-            return Err(RunFaultKind::StepsSpent(limit));
+            return Err(Halt::Fault(RunFaultKind::StepsSpent(limit)));
         }
         self.left -= 1;
         self.place = self.stack.counted(0) as usize;

@@ -95,10 +95,10 @@ impl<'m, 'a> Machine<'m, 'a> {
             (given_of (S.so_far sink.new) piece.new) result }
         ensures taken { Grows (S.so_far sink.old) (S.so_far sink.new) }
     {
+        let code = program.instructions.as_slice();
         loop {
             let number = self.template;
-            let instruction = program.instructions.as_slice()[self.place];
-            match self.execute(program, options, instruction, piece, sink) {
+            match self.execute(program, options, &code[self.place], piece, sink) {
                 Ok(Flow::On) => {}
                 Ok(Flow::Over) => return Ok(()),
                 Err(stop) => return Err(error_for(program, number, self.line, stop)),

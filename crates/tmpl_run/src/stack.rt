@@ -1,7 +1,8 @@
 //! The stack of a run, in cells that are lent to it.
 ghost use Rattle.std.specs.List.{AllWithin};
 ghost use Rattle.std.specs.Prelude.{◌≡◌, ◌+◌, ◌-◌, ◌<◌, ◌≤◌, ◌∷◌, ◌++◌, [], drop, get_or, length, option_map, reverse};
-ghost use Rattle.std.specs.Prelude.{take, false, true, ◌^◌, slice_set, if◌then◌else◌, IfOk, IfSome, IsOkAnd};
+ghost use Rattle.std.specs.Prelude.{take, false, true, ◌^◌, slice_set, if◌then◌else◌, IfSome, IsOkAnd, OnOk};
+ghost use Rattle.std.specs.Prelude.{MatchOption};
 ghost use Rattle.tmpl_values.specs.Elements.{item_at};
 ghost use Rattle.tmpl_values.specs.Value.{nothing};
 ghost use Rattle.tmpl_values.specs.View.{element_of, is_made, val_of};
@@ -16,7 +17,7 @@ ghost use Rattle.tmpl_meaning.specs.Sink.{IsPut};
 ghost use Rattle.tmpl_code.specs.Code.{piped_count};
 ghost use Rattle.tmpl_run.specs.Cell.{cell};
 ghost use Rattle.tmpl_run.specs.Machine.{has_more};
-ghost use Rattle.tmpl_run.specs.computed.Held.{cell_at, cell_of, made_at};
+ghost use Rattle.tmpl_run.specs.computed.Held.{cell_at, cell_of, cells_in, made_at};
 ghost use Rattle.tmpl_run.specs.computed.Output.{Grows, given_of};
 
 use crate::piece::Piece;
@@ -88,17 +89,34 @@ impl<'s, 'a> Stack<'s, 'a> {
         clear(self.cells, self.top, old);
     }
 
-    /// The value of a slot once more.
-    #[tactic(auto, using(crate::proofs::StackLemmas::stacks), unfolding(crate::specs::computed::View::cells_of))]
-    pub(crate) fn share(&mut self, index: usize) -> Result<Val<'a>, AllocError>
-        requires { index < length (cells_of self.old) }
-        ensures cells { cells_of self.new ≡ cells_of self.old }
+    /// Puts a value once more.
+    #[inline(always)]
+    pub(crate) fn push_shared(&mut self, val: &Val<'a>) -> Result<(), AllocError>
+        requires { length (cells_of self.old) < size_of self.old }
+        ensures cells { OnOk result (cells_of self.new ≡ cell (val_of val.now) 0 ∷ cells_of self.old) }
         ensures size { size_of self.new ≡ size_of self.old }
-        ensures shared { IfOk result (λ v. val_of v ≡ slot index (cells_of self.old)) }
-        ensures plain { IsPlainStack self.old → Spared result (IsPlainStack self.new) }
-        ensures borrowed { IsPlainStack self.old → IfOk result (λ v. is_made v ≡ false) }
+        ensures plain { is_made val.now ≡ false → IsPlainStack self.old → Spared result (IsPlainStack self.new) }
     {
-        share_at(self.cells, self.top - 1 - index)
+        match unowned(val) {
+            Some(val) => self.push(val, 0),
+            None => self.push(val.share()?, 0),
+        }
+        Ok(())
+    }
+
+    /// Puts the value of a slot once more.
+    #[tactic(auto, using(crate::proofs::StackLemmas::stacks), unfolding(crate::specs::computed::View::cells_of))]
+    #[inline(always)]
+    pub(crate) fn push_slot(&mut self, index: usize) -> Result<(), AllocError>
+        requires found { index < length (cells_of self.old) }
+        requires room { length (cells_of self.old) < size_of self.old }
+        ensures cells { OnOk result (cells_of self.new ≡ cell (slot index (cells_of self.old)) 0 ∷ cells_of self.old) }
+        ensures size { size_of self.new ≡ size_of self.old }
+        ensures plain { IsPlainStack self.old → Spared result (IsPlainStack self.new) }
+    {
+        copy_value(self.cells, self.top - 1 - index, self.top)?;
+        self.top += 1;
+        Ok(())
     }
 
     /// Whether the newest value is not empty.
@@ -284,15 +302,46 @@ fn call_between<'a>(
     call(alloc, func, arguments)
 }
 
-/// The value of a cell once more.
-#[tactic(auto, using(crate::proofs::StackLemmas::cells))]
-fn share_at<'a>(cells: &mut [Cell<'a>], at: usize) -> Result<Val<'a>, AllocError>
-    requires { at < length cells.old }
-    ensures same { cells.new ≡ cells.old }
-    ensures shared { IfOk result (λ v. val_of v ≡ (cell_at cells.old at).val) }
-    ensures borrowed { made_at cells.old at ≡ false → IsOkAnd result (λ v. is_made v ≡ false) }
+/// Puts the value of a cell once more into another.
+#[tactic(auto, using(crate::proofs::StackLemmas::cells, crate::proofs::StackLemmas::stacks))]
+#[inline(always)]
+fn copy_value<'a>(cells: &mut [Cell<'a>], from: usize, to: usize) -> Result<(), AllocError>
+    requires found { from < length cells.old }
+    requires room { to < length cells.old }
+    ensures cells { OnOk result (cells_in (to + 1) cells.new
+        ≡ cell (cell_at cells.old from).val 0 ∷ cells_in to cells.old) }
+    ensures size { length cells.new ≡ length cells.old }
+    ensures plain { AreBorrowed (take to cells.old) → made_at cells.old from ≡ false
+        → IsOkAnd result (λ _. AreBorrowed (take (to + 1) cells.new)) }
 {
-    cells[at].val.share()
+    let whole = &cells[..];
+    let val = &whole[from].val;
+    match unowned(val) {
+        Some(val) => cells[to] = Cell { val, num: 0 },
+        None => {
+            let val = val.share()?;
+            cells[to] = Cell { val, num: 0 };
+        }
+    }
+    Ok(())
+}
+
+/// The same value once more, unless it is a made text. That is wider than all others, so it is copied by itself.
+#[inline(always)]
+fn unowned<'a>(val: &Val<'a>) -> Option<Val<'a>>
+    ensures same { MatchOption result (is_made val.now ≡ true) (λ v. val_of v ≡ val_of val.now) }
+    ensures borrowed { IfSome result (λ v. is_made v ≡ false) }
+{
+    match val {
+        Val::Nothing => Some(Val::Nothing),
+        Val::Null => Some(Val::Null),
+        Val::Bool(truth) => Some(Val::Bool(*truth)),
+        Val::Num(number) => Some(Val::Num(*number)),
+        Val::Text(text) => Some(Val::Text(text)),
+        Val::Made(_) => None,
+        Val::List(items) => Some(Val::List(items)),
+        Val::Map(table) => Some(Val::Map(table)),
+    }
 }
 
 /// Puts out the text of the value of a cell.
@@ -399,14 +448,26 @@ fn take_at<'a>(cells: &mut [Cell<'a>], at: usize) -> Cell<'a>
     )
 }
 
-/// Leaves nothing in the cells from a place to before another.
+/// Leaves no made text in the cells from a place to before another. What owns nothing is left as it is, since most
+/// cells own nothing and it costs more to write them than to look.
 fn clear(cells: &mut [Cell<'_>], from: usize, to: usize)
     requires { to ≤ length cells.old }
     ensures left { take from cells.new ≡ take from cells.old }
-    ensures cleared { AllWithin (λ cell. cell.val ≡ Val.Nothing) cells.new from to }
+    ensures cleared { AllWithin (λ cell. is_made cell.val ≡ false) cells.new from to }
     ensures size { length cells.new ≡ length cells.old }
 {
     for i in from..to {
-        cells[i].val = Val::Nothing;
+        if is_made(&cells[i].val) {
+            cells[i].val = Val::Nothing;
+        }
+    }
+}
+
+fn is_made(value: &Val<'_>) -> bool
+    ensures { result ≡ is_made value.now }
+{
+    match value {
+        Val::Made(_) => true,
+        _ => false,
     }
 }

@@ -1,5 +1,7 @@
 //! Data: what a JSON file holds.
-ghost use Rattle.std.specs.Prelude.{◌≡◌};
+ghost use Rattle.std.specs.Prelude.{◌≡◌, MatchOption};
+ghost use Rattle.tmpl_values.specs.Field.{found, missing, entry_at};
+ghost use Rattle.tmpl_values.specs.row.View.{value_of, entries_of};
 
 use crate::bytes::Bytes;
 use std::marker::Model;
@@ -15,6 +17,9 @@ pub enum Data {
     List(Row),
     Map(Table),
 }
+
+/// Among so many entries a key is found sooner by a look at each than by halves.
+const FEW: usize = 8;
 
 /// The items of a list, in order.
 #[cycle(data)]
@@ -93,9 +98,6 @@ impl Row {
 }
 
 impl Table {
-    ghost use Rattle.std.specs.Prelude.{MatchOption};
-    ghost use Rattle.tmpl_values.specs.row.View.{value_of, entries_of};
-    ghost use Rattle.tmpl_values.specs.Field.{found, missing, entry_at};
     ghost use Rattle.tmpl_values.specs.Value.{AreRising};
 
     /// The map of these entries, whose keys rise.
@@ -114,16 +116,33 @@ impl Table {
         self.entries.as_slice()
     }
 
-    /// The value of this key, found by halves.
+    /// The value of this key, found by a look at each of few entries, and by halves in more.
     pub fn get(&self, key: &[u8]) -> Option<&Data>
         ensures { MatchOption result
             (entry_at key.now self.now ≡ missing)
             (λ d. entry_at key.now self.now ≡ found (value_of d.now)) }
     {
         let entries = self.as_slice();
+        if entries.len() <= FEW {
+            return first_of(entries, key);
+        }
         match entries.binary_search_by(|entry| entry.0.as_slice().cmp(&key)) {
             Ok(place) => Some(&entries[place].1),
             Err(_) => None,
         }
     }
+}
+
+/// The value of the first entry of this key.
+fn first_of<'d>(entries: &'d [(Bytes, Data)], key: &[u8]) -> Option<&'d Data>
+    ensures { MatchOption result
+        (entry_at key.now (entries_of entries.now) ≡ missing)
+        (λ d. entry_at key.now (entries_of entries.now) ≡ found (value_of d.now)) }
+{
+    for (name, value) in entries {
+        if name.as_slice() == key {
+            return Some(value);
+        }
+    }
+    None
 }

@@ -3,7 +3,6 @@ use Rattle.std.specs.Prelude.{◌≡◌, List, ℕ, [], ◌++◌, None, Result, 
 use Rattle.tmpl_values.specs.Text.{text_of}
 use Rattle.tmpl_meaning.specs.declared.sink.SinkFault.{SinkFault}
 use Rattle.tmpl_meaning.specs.View.{cause_of}
-use Rattle.tmpl_meaning.specs.declared.fault.RunFaultKind.{RunFaultKind}
 use Rattle.tmpl_code.specs.Instruction as code
 use Rattle.tmpl_code.specs.Instruction.{Instruction, Operation}
 use Rattle.tmpl_run.specs.Cell.{slot}
@@ -43,13 +42,7 @@ Executed told i s t (Err (stop.Fault kind)) =
 Executed told i s t (Err stop.WriteFailed) = done told.plan told.template i s ≡ goes t
 Executed told i s t (Err stop.OutOfMemory) = added i s ≡ []
 
--- .. by an instruction that puts nothing out and takes no memory
-abbrev pub Turned : Told → Instruction → State → State → Result Flow RunFaultKind → Type 0
-Turned told i s t (Ok f) = Executed told i s t (Ok f)
-Turned told i s t (Err kind) =
-    done told.plan told.template i s ≡ failed told.template t.line (cause_of kind) s
-
--- .. by one that may stop where memory is refused
+-- .. by an instruction that puts nothing out, and may stop where memory is refused
 abbrev pub TurnedOr : Told → Instruction → State → State → Result Flow Halt → Type 0
 TurnedOr told i s t (Ok f) = Executed told i s t (Ok f)
 TurnedOr told i s t (Err (stop.Fault kind)) = Executed told i s t (Err (stop.Fault kind))

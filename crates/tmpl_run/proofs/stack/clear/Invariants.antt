@@ -1,10 +1,10 @@
-use Rattle.std.proofs.Common.{◌≡◌, take}
+use Rattle.std.proofs.Common.{◌≡◌, false, take}
 use Rattle.std.specs.List.{AllWithin}
-use Rattle.tmpl_values.specs.declared.value.Val.TheVariants.{Nothing}
+use Rattle.tmpl_values.specs.View.{is_made}
 use Rattle.tmpl_run.proofs.stack.clear.Given as goal
 
 abbrev pub invariant-loop-i : goal.invariant-loop-i
 invariant-loop-i l = record {
   left : take l.from l.cells ≡ take l.from l.initial.cells;
-  cleared : AllWithin (λ cell. cell.val ≡ Nothing) l.cells l.from l.i;
+  cleared : AllWithin (λ cell. is_made cell.val ≡ false) l.cells l.from l.i;
 }

@@ -24,27 +24,27 @@ loop-stop-init g c =
           r.1.1.1.1.1.1.1.0;
     }
 
-pub bounds-as_slice-self : goal.bounds-as_slice-self
-bounds-as_slice-self g c =
-    let items = c.as_slice.result.now in
-    let code = ap (λ (p : Plan). p.code) c.requires.1.0 ∙ ap instructions_of (sym c.as_slice.ensures.value) in
+pub bounds-code-self : goal.bounds-code-self
+bounds-code-self g c =
+    let items = c.as_slice-code.result.now in
+    let code = ap (λ (p : Plan). p.code) c.requires.1.0 ∙ ap instructions_of (sym c.as_slice-code.ensures.value) in
     going.inside c.loop-stop.invariant.stands items code
 
-pub offset_bounds-as_slice-self : goal.offset_bounds-as_slice-self
-offset_bounds-as_slice-self g c =
-    let items = c.as_slice.result.now in
-    let code = ap (λ (p : Plan). p.code) c.requires.1.0 ∙ ap instructions_of (sym c.as_slice.ensures.value) in
+pub offset_bounds-code-self : goal.offset_bounds-code-self
+offset_bounds-code-self g c =
+    let items = c.as_slice-code.result.now in
+    let code = ap (λ (p : Plan). p.code) c.requires.1.0 ∙ ap instructions_of (sym c.as_slice-code.ensures.value) in
     let inside = going.inside c.loop-stop.invariant.stands items code in
-    omega (arith, inside, c.as_slice.type_inv.0, c.as_slice.type_inv.1)
+    omega (arith, inside, c.as_slice-code.type_inv.0, c.as_slice-code.type_inv.1)
 
 pub execute-requires : goal.execute-requires
 execute-requires g c =
     let inv = c.loop-stop.invariant.stands in
-    let item = c.index-as_slice-self in
-    let items = c.as_slice.result.now in
-    let code = ap (λ (p : Plan). p.code) c.requires.1.0 ∙ ap instructions_of (sym c.as_slice.ensures.value) in
+    let item = c.index-code-self in
+    let items = c.as_slice-code.result.now in
+    let code = ap (λ (p : Plan). p.code) c.requires.1.0 ∙ ap instructions_of (sym c.as_slice-code.ensures.value) in
     let inside = going.inside inv items code in
-    let fits = c.as_slice.type_inv.0 in
+    let fits = c.as_slice-code.type_inv.0 in
     let deep = inv.depth in
     let count = inv.given.count in
     let few = c.requires.1.1.1.1.1.1.1.1 in
@@ -76,25 +76,25 @@ pub loop-stop-smaller : goal.loop-stop-smaller
 loop-stop-smaller g c =
     let told = told_at g.run.0 c.loop-stop.self in
     let s = state_of told c.loop-stop.self in
-    let i = instruction_of c.index-as_slice-self.result in
-    let code = ap (λ (p : Plan). p.code) c.requires.1.0 ∙ ap instructions_of (sym c.as_slice.ensures.value) in
+    let i = instruction_of c.index-code-self.result in
+    let code = ap (λ (p : Plan). p.code) c.requires.1.0 ∙ ap instructions_of (sym c.as_slice-code.ensures.value) in
     let u = state_of (told_behind i s told) c.execute.new.self in
-    going.less c.loop-stop.invariant.stands c.as_slice.result.now code c.index-as_slice-self.is u
+    going.less c.loop-stop.invariant.stands c.as_slice-code.result.now code c.index-code-self.is u
     (subst (λ f. Executed told i s u (Ok f)) c.in-Ok-On.field-0-is c.in-Ok-On.ensures.step)
 
 pub loop-stop-preserved : goal.loop-stop-preserved
 loop-stop-preserved g c =
     let told = told_at g.run.0 c.loop-stop.self in
     let s = state_of told c.loop-stop.self in
-    let i = instruction_of c.index-as_slice-self.result in
-    let code = ap (λ (p : Plan). p.code) c.requires.1.0 ∙ ap instructions_of (sym c.as_slice.ensures.value) in
+    let i = instruction_of c.index-code-self.result in
+    let code = ap (λ (p : Plan). p.code) c.requires.1.0 ∙ ap instructions_of (sym c.as_slice-code.ensures.value) in
     let u = state_of (told_behind i s told) c.execute.new.self in
     let did = c.in-Ok-On.ensures in
     record {
       taken = grows-on (g.S.Sink.so_far c.args.sink.now) (g.S.Sink.so_far c.loop-stop.sink) (g.S.Sink.so_far c.execute.new.sink) c.loop-stop.invariant.taken
           did.taken;
       stands =
-          going.onward c.loop-stop.invariant.stands c.as_slice.result.now code c.index-as_slice-self.is c.execute.new.self
+          going.onward c.loop-stop.invariant.stands c.as_slice-code.result.now code c.index-code-self.is c.execute.new.self
           (given_of (g.S.Sink.so_far c.execute.new.sink) c.execute.new.piece)
           (subst (λ f. Executed told i s u (Ok f)) c.in-Ok-On.field-0-is did.step) did.given did.size did.plain;
     }
@@ -103,10 +103,10 @@ pub returns-in-Ok-Over-clause-came : goal.returns-in-Ok-Over-clause-came
 returns-in-Ok-Over-clause-came g c =
     let told = told_at g.run.0 c.loop-stop.self in
     let s = state_of told c.loop-stop.self in
-    let i = instruction_of c.index-as_slice-self.result in
-    let code = ap (λ (p : Plan). p.code) c.requires.1.0 ∙ ap instructions_of (sym c.as_slice.ensures.value) in
+    let i = instruction_of c.index-code-self.result in
+    let code = ap (λ (p : Plan). p.code) c.requires.1.0 ∙ ap instructions_of (sym c.as_slice-code.ensures.value) in
     let u = state_of (told_behind i s told) c.execute.new.self in
-    going.over c.loop-stop.invariant.stands c.as_slice.result.now code c.index-as_slice-self.is
+    going.over c.loop-stop.invariant.stands c.as_slice-code.result.now code c.index-code-self.is
     (given_of (g.S.Sink.so_far c.execute.new.sink) c.execute.new.piece) None false
     (subst (λ f. Executed told i s u (Ok f)) c.in-Ok-Over.field-0-is c.in-Ok-Over.ensures.step) c.in-Ok-Over.ensures.given
 
@@ -124,11 +124,11 @@ returns-in-Err-clause-came g c =
     let m = c.loop-stop.self in
     let told = told_at g.run.0 m in
     let s = state_of told m in
-    let i = instruction_of c.index-as_slice-self.result in
-    let code = ap (λ (p : Plan). p.code) c.requires.1.0 ∙ ap instructions_of (sym c.as_slice.ensures.value) in
+    let i = instruction_of c.index-code-self.result in
+    let code = ap (λ (p : Plan). p.code) c.requires.1.0 ∙ ap instructions_of (sym c.as_slice-code.ensures.value) in
     let u = state_of (told_behind i s told) c.execute.new.self in
     let did = c.in-Err.ensures in
-    going.stops c.loop-stop.invariant.stands c.as_slice.result.now code c.index-as_slice-self.is
+    going.stops c.loop-stop.invariant.stands c.as_slice-code.result.now code c.index-code-self.is
     (given_of (g.S.Sink.so_far c.execute.new.sink) c.execute.new.piece) u (IsPlain c.execute.new.self)
     (going.text-behind i s told refl) c.in-Err.stop c.error_for.result did.step did.given did.plain
     (subst (λ (p : Plan). IsStopped (slice_get p.templates m.template) u.line c.in-Err.stop c.error_for.result) (sym c.requires.1.0) c.error_for.ensures)
