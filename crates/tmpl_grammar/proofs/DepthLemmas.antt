@@ -9,7 +9,8 @@ use Rattle.tmpl_grammar.specs.Tree as tree
 use Rattle.tmpl_grammar.specs.Tree.{Operand, Operands, operands_from, commands_from}
 use Rattle.tmpl_grammar.specs.computed.Operand.{operand_at}
 use Rattle.tmpl_grammar.specs.computed.Parser as parser
-use Rattle.tmpl_grammar.specs.computed.Parser.{Parser, Partial, settled, more_commands, closed, kept_if, linked_by, step, step_by, steps, finished, commands_after}
+use Rattle.tmpl_grammar.specs.computed.Parser.{Parser, Partial, settled, more_commands, closed, kept_if, linked_by, step, step_by}
+use Rattle.tmpl_grammar.specs.computed.Parser.{steps, finished, commands_after}
 use Rattle.tmpl_grammar.proofs.ConstantLemmas.{IsFlat, flat-at}
 use Rattle.tmpl_grammar.specs.Depth.{depth_of_operand, depth_of_operands, depth_of_commands}
 

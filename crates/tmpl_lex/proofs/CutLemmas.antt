@@ -1,7 +1,7 @@
 -- For `cut` and the law `one_cut`: the pieces of a whole file, from action to action.
 use Rattle.std.proofs.Common.{arith, ◌≡◌, ℕ, zero, suc, ◌+◌, ◌-◌, ◌<◌, ◌≤◌, Bool, true, false, ◌&&◌, List, [], ◌∷◌}
 use Rattle.std.proofs.Common.{◌++◌, Option, Some, None, refl, sym, ap, subst, ◌∙◌, length, take, drop, cond}
-use Rattle.std.proofs.Common.{append_assoc, append-nil, length-take, length-drop, length-append, nat_eq}
+use Rattle.std.proofs.Common.{append_assoc, length-take, length-drop, length-append, nat_eq}
 use Rattle.std.proofs.lemmas.Bool.{eqb-true, and_parts, both_ways, false_from_ne_true}
 use Rattle.std.proofs.lemmas.List.{take_all}
 use Rattle.std.proofs.lemmas.List.Sums.{count_by-le-length, sum_by-take-drop, sum_by-append, sum_by-cons}
@@ -230,49 +230,6 @@ cuts-closed right line bs before after o end ps e n at cuts =
     (subst (Opens (left_marked after) opening) c.is m.opens)) c.closed
     (subst (λ (n : ℕ). Cuts end.trims n end.rest ps) (lines-is line before m.marker c.body end.rest after after_is) cuts))
 
--- ---- the pieces so far
-
--- these pieces, with those that the rest is cut into, are what the whole is cut into
-pub record Completed (file : List ℕ) (pieces : List Piece) (right : Bool) (line : ℕ) (rest : List ℕ) : Type 0 where
-  pub completes : (more : List Piece) → Cuts right line rest more → Cuts false 1 file (pieces ++ more)
-
-pub Completed-start : (file : List ℕ) (pieces : List Piece) → pieces ≡ [] → Completed file pieces false 1 file
-Completed-start file pieces e = record { completes = λ more h. subst (λ d. Cuts false 1 file (d ++ more)) (sym e) h }
-
-module _ (file : List ℕ) (old mid new : List Piece) (right : Bool) (line : ℕ) (bs before after : List ℕ) (so_far : Completed file old right line bs)
-    (here : Some (before, after) ≡ split_open bs) (put : mid ≡ old ++ texts right (left_marked after) line before) where
-  append-joined : (now more : List Piece) → new ≡ mid ++ now → new ++ more ≡ old ++ (texts right (left_marked after) line before ++ now ++ more)
-  append-joined now more grown =
-      ap (λ d. d ++ more) (grown ∙ ap (λ d. d ++ now) put)
-      ∙ append_assoc (old ++ texts right (left_marked after) line before) now more
-      ∙ append_assoc old (texts right (left_marked after) line before) (now ++ more)
-      ∙ ap (λ d. old ++ d) (sym (append_assoc (texts right (left_marked after) line before) now more))
-
-  pub Completed-more : (o : Opened) (e : End) (next : ℕ) → o ≡ opened (past_left after) → Some e ≡ ends_at o
-      → new ≡ mid ++ pieces_of (line + newlines before) o → next ≡ line + newlines before + newlines (stretch after e.rest)
-      → Completed file new e.trims next e.rest
-  Completed-more o e next is at grown n = record {
-    completes = λ more cuts.
-        subst (λ d. Cuts false 1 file d) (sym (append-joined (pieces_of (line + newlines before) o) more grown))
-        (so_far.completes (texts right (left_marked after) line before ++ pieces_of (line + newlines before) o ++ more)
-        (cuts-closed right line bs before after o e more (sym here) (sym is) (sym at) (subst (λ (k : ℕ). Cuts e.trims k e.rest more) n cuts)));
-  }
-
-  pub Completed-unclosed : (o : Opened) → o ≡ opened (past_left after) → None ≡ ends_at o → new ≡ mid ++ pieces_of (line + newlines before) o
-      → Cuts false 1 file new
-  Completed-unclosed (comment end) is at grown = let g : ◌≡◌ {A = Option End} None (Some end) = at in cc
-  Completed-unclosed (tokens ts end) is at grown = let g : ◌≡◌ {A = Option End} None (Some end) = at in cc
-  Completed-unclosed neither is at grown =
-      subst (λ d. Cuts false 1 file d) (sym (sym (append-nil new) ∙ append-joined (unreadable (line + newlines before) ∷ []) [] grown
-      ∙ ap (λ d. old ++ d) (append-nil (texts right (left_marked after) line before ++ unreadable (line + newlines before) ∷ []))))
-      (so_far.completes (texts right (left_marked after) line before ++ unreadable (line + newlines before) ∷ [])
-      (cuts-unclosed right line bs before after (sym here) (sym is)))
-
-pub Completed-last : (file : List ℕ) (old new : List Piece) (right : Bool) (line : ℕ) (bs : List ℕ) → Completed file old right line bs
-    → None ≡ split_open bs → new ≡ old ++ texts right false line bs → Cuts false 1 file new
-Completed-last file old new right line bs so_far e g = subst (λ d. Cuts false 1 file d) (sym g)
-    (so_far.completes (texts right false line bs) (cuts-last right line bs (sym e)))
-
 -- ---- one list of pieces
 
 -- the pieces of what a `{{` begins, and those behind it
@@ -379,7 +336,5 @@ cut_of-Cuts bs = cut_within-Cuts (length bs + 1) false 1 bs (omega arith)
 pub Cuts-cut_of : (bs : List ℕ) (ps : List Piece) → Cuts false 1 bs ps → ps ≡ cut_of bs
 unfolding cut_of
 Cuts-cut_of bs ps cuts = Cuts-cut_within (length bs + 1) false 1 bs ps cuts (omega arith)
-
-pub ruleset cutting = (Completed-start, Completed-more, Completed-unclosed, Completed-last, split_open-shorter)
 
 pub ruleset laws = (cut_of-Cuts, Cuts-cut_of)

@@ -1,6 +1,7 @@
 pub mod ActionLemmas
 pub mod CutExamples
 pub mod CutLemmas
+pub mod FirstPartLemmas
 pub mod NameLemmas
 pub mod PartLemmas
 pub mod PairLemmas

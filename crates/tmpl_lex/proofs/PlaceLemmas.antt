@@ -1,8 +1,8 @@
 -- For `cut`: where the texts of a file stand in it.
-use Rattle.std.proofs.Common.{arith, ◌≡◌, ◌∙◌, ℕ, ◌+◌, ◌-◌, ◌≤◌, Bool, false, List, [], ◌∷◌, ◌++◌, Some, refl, sym, ap, length, take, drop}
+use Rattle.std.proofs.Common.{arith, ◌≡◌, ◌∙◌, ℕ, ◌+◌, ◌-◌, Bool, false, List, [], ◌∷◌, ◌++◌, Some, refl, sym, ap, length, take, drop}
 use Rattle.std.proofs.Common.{append_assoc, append-nil, length-append}
 use Rattle.std.proofs.lemmas.List.{take-append-drop}
-use Rattle.tmpl_lex.specs.Place.{StandsAt}
+use Rattle.tmpl_lex.specs.Place.{EndsWith, StandsAt}
 use Rattle.tmpl_lex.specs.computed.Action.{opened}
 use Rattle.tmpl_lex.specs.computed.Cut.{split_open, ends_at}
 use Rattle.tmpl_lex.specs.computed.Text.{leading, without_leading, trailing, without_trailing}
@@ -11,18 +11,7 @@ use Rattle.tmpl_lex.proofs.CutLemmas.{has-marker}
 use Rattle.tmpl_lex.proofs.PartLemmas.{split-is}
 use Rattle.tmpl_lex.proofs.SpellsLemmas.{opened-closed}
 
--- the file ends with this rest
-pub record EndsWith (file rest : List ℕ) : Type 0 where
-  pub front : List ℕ
-  pub is : file ≡ front ++ rest
-
-pub EndsWith-all : (file rest : List ℕ) → rest ≡ file → EndsWith file rest
-EndsWith-all file rest e = record { front = []; is = sym e }
-
-pub EndsWith-within : (file rest : List ℕ) → EndsWith file rest → length rest ≤ length file
-EndsWith-within file rest h = omega (arith, length-append h.front rest, ap length h.is)
-
--- and with what is behind an action or comment of it
+-- a file ends with what is behind an action or comment of it
 pub EndsWith-behind : (file bs before after : List ℕ) (e : End) → EndsWith file bs → Some (before, after) ≡ split_open bs
     → Some e ≡ ends_at (opened (past_left after)) → EndsWith file e.rest
 EndsWith-behind file bs before after e h split at =
@@ -72,5 +61,3 @@ pub StandsAt-last : (file bs taken kept : List ℕ) (right : Bool) (start : ℕ)
     → kept ≡ without_leading right bs → kept ≡ without_trailing false kept → start ≡ length file - length bs + length taken → StandsAt file start kept
 StandsAt-last file bs taken kept right start h t k e n =
     StandsAt-trimmed file bs bs [] taken kept kept right false start h (sym (append-nil bs)) t k e n
-
-pub ruleset placing = (EndsWith-all, EndsWith-within)

@@ -10,6 +10,11 @@ pub record StandsAt (file : List ℕ) (start : ℕ) (bytes : List ℕ) : Type 0 
   pub parts : file ≡ before ++ bytes ++ behind
   pub count : length before ≡ start
 
+-- the file ends with this rest
+pub record EndsWith (file rest : List ℕ) : Type 0 where
+  pub front : List ℕ
+  pub is : file ≡ front ++ rest
+
 -- the bytes of a text stand at its start
 abbrev pub IsPlaced : List ℕ → declared_piece.Piece → Type 0
 IsPlaced file (variant.Text line start bytes) = StandsAt file start bytes.now

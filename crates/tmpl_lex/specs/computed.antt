@@ -1,6 +1,7 @@
 pub mod Action
 pub mod Bytes
 pub mod Cut
+pub mod Part
 pub mod Quoted
 pub mod Text
 pub mod Token

@@ -7,53 +7,33 @@ use crate::bytes::{skip, split_pair};
 use crate::piece::Token;
 use crate::token::front_token;
 use crate::trim::{End, right_delimiter};
-use std::alloc::{AllocError, Global};
-use std::mem;
-
-/// So many tokens are copied out of the scratch vector that they were read into.
-const COPIED: usize = 64;
+use std::alloc::AllocError;
 
 /// What begins behind a `{{` or its left trim marker.
-#[derive(Drop)]
+#[derive(Clone, Copy)]
 pub(crate) enum Opened<'b> {
     /// A closed comment, and its end.
     Comment(End<'b>),
-    /// The tokens of a closed action, and its end.
-    Action(Vec<Token<'b>>, End<'b>),
+    /// A closed action, whose tokens were read, and its end.
+    Action(End<'b>),
     /// Neither of them: it is not closed, or has a place where no token begins.
     Neither,
 }
 
-/// Reads what begins behind a `{{` or its left trim marker. The tokens are read into a scratch
-/// vector that is used again, so that an action holds no more memory than its tokens take.
+/// Reads what begins behind a `{{` or its left trim marker, and its tokens in place of those that were there.
 #[tactic(auto, unfolding(crate::specs::computed::Action::opened))]
 pub(crate) fn read_opened<'b>(
-    alloc: Global,
-    scratch: &mut Vec<Token<'b>>,
+    tokens: &mut Vec<Token<'b>>,
     bytes: &'b [u8],
 ) -> Result<Opened<'b>, AllocError>
-    ensures { IfOk result (λ o. opened_of o ≡ computed.opened bytes.now) }
+    ensures { IfOk result (λ o. opened_of tokens.new.items o ≡ computed.opened bytes.now) }
 {
     if let Some(end) = comment_end(bytes) {
         return Ok(Opened::Comment(end));
     }
-    match read_inside(scratch, bytes)? {
-        Some(end) => Ok(Opened::Action(move_out(alloc, scratch)?, end)),
+    match read_inside(tokens, bytes)? {
+        Some(end) => Ok(Opened::Action(end)),
         None => Ok(Opened::Neither),
-    }
-}
-
-/// The tokens that were read, in a vector of just their number: a copy of a few, which leaves the
-/// scratch vector for the next action, and the scratch vector itself where they are many.
-fn move_out<'b>(alloc: Global, scratch: &mut Vec<Token<'b>>) -> Result<Vec<Token<'b>>, AllocError>
-    ensures { IfOk result (λ v. v.items ≡ scratch.old.items) }
-{
-    if scratch.len() <= COPIED {
-        scratch.to_vec(alloc)
-    } else {
-        let mut tokens = mem::replace(scratch, Vec::new(alloc));
-        tokens.shrink_to_fit();
-        Ok(tokens)
     }
 }
 

@@ -1,18 +1,14 @@
 //! The cut of a file into pieces.
-ghost use Rattle.std.specs.Prelude.{◌≡◌, ◌++◌, ◌≤◌, ℕ, All, IfOk, OnOk, List, false, length, map, option_map};
+ghost use Rattle.std.specs.Prelude.{◌≡◌, ◌++◌, ℕ, All, IfOk, OnOk, List, false, map};
 ghost use Rattle.tmpl_lex.specs.View.{piece_of};
 ghost use Rattle.tmpl_lex.specs.Cut as spec;
+ghost use Rattle.tmpl_lex.specs.Part.{pieces_behind, pieces_in};
 ghost use Rattle.tmpl_lex.specs.computed.Cut as computed;
 ghost use Rattle.tmpl_lex.specs.Place.{IsPlaced, StandsAt};
 ghost use Rattle.tmpl_lex.specs.Text.{text_piece};
-ghost use Rattle.tmpl_lex.specs.computed.Cut.{ends_at, pieces_of};
-ghost use Rattle.tmpl_lex.specs.computed.View.{end_of, opened_of};
 
-use crate::action::{Opened, read_opened};
-use crate::bytes::split_pair;
-use crate::piece::Piece;
-use crate::text::{newlines, split_leading, trim_end};
-use crate::trim::{End, has_left_marker, skip_left_marker};
+use crate::part::{Behind, Part, Rest, first_part};
+use crate::piece::{Piece, Token};
 use std::alloc::{AllocError, Global};
 
 /// The pieces of a file in order: its texts and its actions, each with its line, counted from 1.
@@ -25,36 +21,38 @@ use std::alloc::{AllocError, Global};
 /// # Errors
 ///
 /// Where memory ran out.
-#[tactic(auto, using(crate::proofs::CutLemmas::cutting, crate::proofs::PlaceLemmas::placing))]
 pub fn cut(alloc: Global, bytes: &[u8]) -> Result<Vec<Piece<'_>>, AllocError>
     ensures cuts { IfOk result (λ v. spec.Cuts false 1 bytes.now (map piece_of v.items)) }
     ensures value { IfOk result (λ v. map piece_of v.items ≡ computed.cut_of bytes.now) }
     ensures placed { IfOk result (λ v. All (IsPlaced bytes.now) v.items) }
 {
     let mut pieces = Vec::new(alloc);
-    let mut scratch = Vec::new(alloc);
-    let mut rest = bytes;
-    let mut line = 1;
-    let mut trims = false;
-    while let Some((before, after)) = split_pair(rest, b'{', b'{') {
-        let (taken, text) = split_leading(before, trims);
-        line += newlines(taken);
-        let start = bytes.len() - rest.len() + taken.len();
-        let kept = trim_end(text, has_left_marker(after));
-        push_text(&mut pieces, line, start, kept)?;
-        line += newlines(text);
-        let opened = read_opened(alloc, &mut scratch, skip_left_marker(after))?;
-        let Some(end) = push_opened(&mut pieces, line, opened)? else {
-            return Ok(pieces);
-        };
-        line += newlines(stretch(after, end.rest));
-        trims = end.trims;
-        rest = end.rest;
+    let mut tokens = Vec::new(alloc);
+    let mut rest = Rest::of(bytes);
+    loop {
+        let part = first_part(bytes, rest, &mut tokens)?;
+        push_part(alloc, &mut pieces, tokens.as_slice(), part)?;
+        match part.rest {
+            Some(next) => rest = next,
+            None => return Ok(pieces),
+        }
     }
-    let (taken, text) = split_leading(rest, trims);
-    let start = bytes.len() - rest.len() + taken.len();
-    push_text(&mut pieces, line + newlines(taken), start, text)?;
-    Ok(pieces)
+}
+
+/// Adds the pieces of a part with these tokens.
+fn push_part<'b>(
+    alloc: Global,
+    pieces: &mut Vec<Piece<'b>>,
+    tokens: &[Token<'b>],
+    part: Part<'b>,
+) -> Result<(), AllocError>
+    ensures pieces { OnOk result (map piece_of pieces.new.items
+        ≡ map piece_of pieces.old.items ++ pieces_in tokens.now part.entry) }
+    ensures placed { (file : List ℕ) → StandsAt file part.entry.start part.entry.text.now
+        → All (IsPlaced file) pieces.old.items → OnOk result (All (IsPlaced file) pieces.new.items) }
+{
+    push_text(pieces, part.line, part.start, part.text)?;
+    push_behind(alloc, pieces, tokens, part.behind)
 }
 
 /// Adds a text, unless it is empty.
@@ -75,36 +73,24 @@ fn push_text<'b>(
     Ok(())
 }
 
-/// Adds the piece that begins with a `{{` on this line, unless it is a comment, and says where it
-/// ends; `None` where it is unreadable.
-fn push_opened<'b>(
+/// Adds what stands behind a text, with a copy of its tokens, unless it is nothing.
+fn push_behind<'b>(
+    alloc: Global,
     pieces: &mut Vec<Piece<'b>>,
-    line: u64,
-    opened: Opened<'b>,
-) -> Result<Option<End<'b>>, AllocError>
+    tokens: &[Token<'b>],
+    behind: Behind,
+) -> Result<(), AllocError>
     ensures pieces { OnOk result (map piece_of pieces.new.items
-        ≡ map piece_of pieces.old.items ++ pieces_of line (opened_of opened.entry)) }
-    ensures end { IfOk result (λ e. option_map end_of e ≡ ends_at (opened_of opened.entry)) }
+        ≡ map piece_of pieces.old.items ++ pieces_behind tokens.now behind) }
     ensures placed { (file : List ℕ) → All (IsPlaced file) pieces.old.items
         → OnOk result (All (IsPlaced file) pieces.new.items) }
 {
-    match opened {
-        Opened::Comment(end) => Ok(Some(end)),
-        Opened::Action(tokens, end) => {
-            pieces.push(Piece::Action { line, tokens })?;
-            Ok(Some(end))
+    match behind {
+        Behind::Nothing => Ok(()),
+        Behind::Action(line) => {
+            let tokens = tokens.to_vec(alloc)?;
+            Ok(pieces.push(Piece::Action { line, tokens })?)
         }
-        Opened::Neither => {
-            pieces.push(Piece::Unreadable { line })?;
-            Ok(None)
-        }
+        Behind::Unreadable(line) => Ok(pieces.push(Piece::Unreadable { line })?),
     }
-}
-
-/// The bytes that stand before this rest of them.
-fn stretch<'b>(bytes: &'b [u8], rest: &[u8]) -> &'b [u8]
-    requires { length rest.now ≤ length bytes.now }
-    ensures { result.now ≡ computed.stretch bytes.now rest.now }
-{
-    &bytes[..bytes.len() - rest.len()]
 }

@@ -11,6 +11,7 @@ pub mod FitLemmas
 pub mod FormedExamples
 pub mod FormedLemmas
 pub mod ItemLemmas
+pub mod ItemPartLemmas
 pub mod JoinLemmas
 pub mod JudgeLemmas
 pub mod KeptLemmas

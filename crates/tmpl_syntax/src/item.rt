@@ -1,16 +1,18 @@
-//! The pieces of a file with each action read.
-ghost use Rattle.std.specs.Prelude.{◌≡◌, ◌≤◌, All, IfOk, length, map};
-ghost use Rattle.tmpl_lex.specs.Place.{IsPlaced};
-ghost use Rattle.tmpl_lex.specs.View.{piece_of};
+//! The parts of a file with each action read.
+ghost use Rattle.std.specs.Prelude.{◌≡◌, ◌≤◌, ◌++◌, IfOk, OnOk, length, map};
+ghost use Rattle.tmpl_lex.specs.Part.{pieces_behind};
+ghost use Rattle.tmpl_lex.specs.Place.{StandsAt};
+ghost use Rattle.tmpl_lex.specs.Text.{text_piece};
 ghost use Rattle.tmpl_grammar.specs.View.{action_reading};
 ghost use Rattle.tmpl_syntax.specs.computed.View.{item_kind, item_of};
-ghost use Rattle.tmpl_syntax.specs.computed.Item.{item_in, items_in, read_item};
+ghost use Rattle.tmpl_syntax.specs.computed.Item.{items_in, read_item};
+ghost use Rattle.tmpl_syntax.specs.computed.Parse.{items_of};
 
 use crate::text::Text;
 use std::alloc::{AllocError, Global};
 use std::rc::Rc;
 use tmpl_grammar::{Action, Reading, Shape, read_action};
-use tmpl_lex::Piece;
+use tmpl_lex::{Behind, Part, Rest, Token, first_part};
 use tmpl_values::Bytes;
 
 /// A piece of a file, with its line.
@@ -33,42 +35,62 @@ pub(crate) enum ItemKind {
     Action(Action),
 }
 
-/// The items of the pieces of a file with these contents, each of which is let go as it is read.
-pub(crate) fn read_all(
-    alloc: Global,
-    contents: &Rc<Bytes>,
-    pieces: Vec<Piece<'_>>,
-) -> Result<Vec<Item>, AllocError>
-    requires placed { All (IsPlaced contents.now.value) pieces.items }
-    requires within { length contents.now.value ≤ 16777216 }
-    ensures { IfOk result (λ v. map item_of v.items ≡ items_in (map piece_of pieces.entry.items)) }
+/// The items of a file with these contents, of which each part is read as it is cut.
+pub(crate) fn read_all(alloc: Global, contents: &Rc<Bytes>) -> Result<Vec<Item>, AllocError>
+    requires { length contents.now.value ≤ 16777216 }
+    ensures { IfOk result (λ v. map item_of v.items ≡ items_of contents.now.value) }
 {
-    let mut items = Vec::with_capacity(alloc, pieces.len())?;
-    for piece in pieces {
-        items.push(read_piece(alloc, contents, &piece)?)?;
+    let file = contents.as_slice();
+    let mut items = Vec::new(alloc);
+    let mut tokens = Vec::new(alloc);
+    let mut rest = Rest::of(file);
+    loop {
+        let part = first_part(file, rest, &mut tokens)?;
+        push_text(contents, &mut items, &part)?;
+        push_behind(alloc, &mut items, tokens.as_slice(), part.behind)?;
+        match part.rest {
+            Some(next) => rest = next,
+            None => return Ok(items),
+        }
     }
-    Ok(items)
 }
 
-/// The item that a piece of a file with these contents is read as.
-fn read_piece(alloc: Global, contents: &Rc<Bytes>, piece: &Piece<'_>) -> Result<Item, AllocError>
-    requires placed { IsPlaced contents.now.value piece.now }
+/// Adds the text of a part of a file with these contents, unless it is empty.
+fn push_text(contents: &Rc<Bytes>, items: &mut Vec<Item>, part: &Part<'_>) -> Result<(), AllocError>
+    requires placed { StandsAt contents.now.value part.now.start part.now.text.now }
     requires within { length contents.now.value ≤ 16777216 }
-    ensures { IfOk result (λ x. item_of x ≡ item_in (piece_of piece.now)) }
+    ensures { OnOk result (map item_of items.new.items
+        ≡ map item_of items.old.items ++ items_in (text_piece part.now.line part.now.text.now)) }
 {
-    match piece {
-        Piece::Text { line, start, bytes } => Ok(Item {
-            line: *line,
-            what: ItemKind::Text(Text::new(contents, *start, bytes)?),
-        }),
-        Piece::Action { line, tokens } => Ok(Item {
-            line: *line,
-            what: item_read(read_action(alloc, tokens.as_slice())?),
-        }),
-        Piece::Unreadable { line } => Ok(Item {
-            line: *line,
+    if !part.text.is_empty() {
+        items.push(Item {
+            line: part.line,
+            what: ItemKind::Text(Text::new(contents, part.start, part.text)?),
+        })?;
+    }
+    Ok(())
+}
+
+/// Adds what stands behind a text, with these tokens, unless it is nothing.
+fn push_behind(
+    alloc: Global,
+    items: &mut Vec<Item>,
+    tokens: &[Token<'_>],
+    behind: Behind,
+) -> Result<(), AllocError>
+    ensures { OnOk result (map item_of items.new.items
+        ≡ map item_of items.old.items ++ items_in (pieces_behind tokens.now behind)) }
+{
+    match behind {
+        Behind::Nothing => Ok(()),
+        Behind::Action(line) => {
+            let what = item_read(read_action(alloc, tokens)?);
+            Ok(items.push(Item { line, what })?)
+        }
+        Behind::Unreadable(line) => Ok(items.push(Item {
+            line,
             what: ItemKind::Unreadable,
-        }),
+        })?),
     }
 }
 

@@ -17,7 +17,6 @@ use crate::set::Set;
 use crate::tree::{Definition, Tree};
 use std::alloc::{AllocError, Global};
 use std::rc::Rc;
-use tmpl_lex::cut;
 use tmpl_values::Bytes;
 
 /// The most bytes that a file may have (our own limit).
@@ -107,7 +106,7 @@ fn add_file(alloc: Global, set: &mut Set, file: &str, bytes: Vec<u8>) -> Result<
         return Err(TOO_LONG);
     }
     let contents = shared(alloc, bytes)?;
-    let items = read_file(alloc, &contents)?;
+    let items = read_all(alloc, &contents)?;
     add_items(alloc, set, file, items, contents.as_slice())
 }
 
@@ -195,15 +194,6 @@ fn template(path: &Rc<Bytes>, definition: Definition) -> Result<(Vec<u8>, Tree),
     let Definition { name, nodes, .. } = definition;
     let file = Rc::clone(path)?;
     Ok((name.into_vec(), Tree { file, nodes }))
-}
-
-/// The items of a file with these contents.
-fn read_file(alloc: Global, contents: &Rc<Bytes>) -> Result<Vec<Item>, AllocError>
-    requires { length contents.now.value ≤ 16777216 }
-    ensures { IfOk result (λ v. map item_of v.items ≡ items_of contents.now.value) }
-{
-    let pieces = cut(alloc, contents.as_slice())?;
-    read_all(alloc, contents, pieces)
 }
 
 /// These bytes, in a list of their own.

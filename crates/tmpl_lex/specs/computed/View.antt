@@ -3,11 +3,13 @@ use Rattle.std.specs.Prelude.{ℕ, List, map, take, Option, Some, None}
 use Rattle.std.specs.Borrow.{Bor}
 use Rattle.tmpl_lex.specs.declared.action.Opened as declared_opened
 use Rattle.tmpl_lex.specs.declared.action.Opened.TheVariants as variant
+use Rattle.tmpl_lex.specs.declared.part.Rest as declared_rest
 use Rattle.tmpl_lex.specs.declared.piece.Token as declared_token
 use Rattle.tmpl_lex.specs.declared.piece.TokenKind.{TokenKind}
 use Rattle.tmpl_lex.specs.declared.trim.End as declared_end
 use Rattle.tmpl_lex.specs.View.{token_of}
 use Rattle.tmpl_lex.specs.computed.Action.{Inside, Opened, comment, tokens, neither}
+use Rattle.tmpl_lex.specs.computed.Part.{Rest}
 use Rattle.tmpl_lex.specs.computed.Token.{Begun}
 use Rattle.tmpl_lex.specs.computed.Trim.{End}
 
@@ -35,8 +37,12 @@ abbrev pub inside_of : List declared_token.Token → Option declared_end.End →
 inside_of ts None = None
 inside_of ts (Some e) = Some (map token_of ts, end_of e)
 
--- what was found behind a `{{`
-abbrev pub opened_of : declared_opened.Opened → Opened
-opened_of (variant.Comment e) = comment (end_of e)
-opened_of (variant.Action ts e) = tokens (map token_of ts.items) (end_of e)
-opened_of variant.Neither = neither
+-- what was found behind a `{{`, with the tokens that were read
+abbrev pub opened_of : List declared_token.Token → declared_opened.Opened → Opened
+opened_of ts (variant.Comment e) = comment (end_of e)
+opened_of ts (variant.Action e) = tokens (map token_of ts) (end_of e)
+opened_of ts variant.Neither = neither
+
+-- what is left of a file
+abbrev pub rest_of : declared_rest.Rest → Rest
+rest_of r = record { trims = r.trims; line = r.line; bytes = r.bytes.now }

@@ -1,0 +1,4 @@
+use Rattle.tmpl_lex.proofs.part.first_part.Goals as goal
+
+pub returns-in-None-clause-cuts : goal.returns-in-None-clause-cuts
+returns-in-None-clause-cuts c = c.last_part.ensures.cuts c.args.tokens.now.items

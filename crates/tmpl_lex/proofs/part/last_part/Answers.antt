@@ -1,0 +1,16 @@
+use Rattle.std.proofs.Common.{refl}
+use Rattle.tmpl_lex.proofs.CutLemmas.{without_trailing-unmarked}
+use Rattle.tmpl_lex.proofs.FirstPartLemmas.{last-cuts}
+use Rattle.tmpl_lex.proofs.PlaceLemmas.{StandsAt-last}
+use Rattle.tmpl_lex.proofs.part.last_part.Goals as goal
+
+pub returns-clause-cuts : goal.returns-clause-cuts
+returns-clause-cuts c = λ tokens.
+    last-cuts c.args.rest.trims c.args.rest.line c.newlines.result c.args.rest.bytes.now c.split_leading.result.0.now c.split_leading.result.1.now
+    c.requires.last c.split_leading.ensures.taken c.split_leading.ensures.kept c.newlines.ensures.value
+
+pub returns-clause-placed : goal.returns-clause-placed
+returns-clause-placed c =
+    let kept = c.split_leading.result.1.now in
+    StandsAt-last c.args.file.now c.args.rest.bytes.now c.split_leading.result.0.now kept c.args.rest.trims _ c.requires.left.ends
+    c.split_leading.ensures.taken c.split_leading.ensures.kept (without_trailing-unmarked kept) refl

@@ -1,0 +1,181 @@
+//! The parts of a file, one after the other: a text, and what stands behind it.
+ghost use Rattle.std.specs.Prelude.{◌≡◌, ◌≤◌, ◌<◌, ◌+◌, ◌^◌, ℕ, [], IfOk, List, None, Some, false, length, option_map};
+ghost use Rattle.tmpl_lex.specs.Part.{IsCutBy, IsLeft, IsLeftBehind, pieces_behind, pieces_in};
+ghost use Rattle.tmpl_lex.specs.Place.{StandsAt};
+ghost use Rattle.tmpl_lex.specs.Text as count;
+ghost use Rattle.tmpl_lex.specs.declared.piece.Token as held;
+ghost use Rattle.tmpl_lex.specs.computed.Cut as computed;
+ghost use Rattle.tmpl_lex.specs.computed.Cut.{ends_at, pieces_of, split_open};
+ghost use Rattle.tmpl_lex.specs.computed.Part.{IsEndWithin, rest_behind};
+ghost use Rattle.tmpl_lex.specs.computed.View.{end_of, opened_of, rest_of};
+
+use crate::action::{Opened, read_opened};
+use crate::bytes::split_pair;
+use crate::piece::Token;
+use crate::text::{newlines, split_leading, trim_end};
+use crate::trim::{End, has_left_marker, skip_left_marker};
+use std::alloc::AllocError;
+
+/// What is left of a file to be cut.
+#[derive(Clone, Copy, Debug)]
+pub struct Rest<'b> {
+    pub bytes: &'b [u8],
+    /// The line of the first byte that is left, counted from 1.
+    pub line: u64,
+    /// Whether a right trim marker stands before it.
+    pub trims: bool,
+}
+
+/// What stands behind a text, up to the end of an action or a comment, or of the file.
+#[derive(Clone, Copy, Debug, PartialEq, Eq)]
+pub enum Behind {
+    /// Nothing of the file, or a comment.
+    Nothing,
+    /// An action whose `{{` is on this line.
+    Action(u64),
+    /// An action on this line that is not closed or has a place where no token begins.
+    Unreadable(u64),
+}
+
+/// The first part of what is left of a file.
+#[derive(Clone, Copy, Debug)]
+pub struct Part<'b> {
+    /// The line of the first byte of the text, and how many bytes of the file stand before it.
+    pub line: u64,
+    pub start: usize,
+    /// The text, which may be empty.
+    pub text: &'b [u8],
+    pub behind: Behind,
+    /// What is left behind it, if anything is to be cut there.
+    pub rest: Option<Rest<'b>>,
+}
+
+impl<'b> Rest<'b> {
+    /// The whole of a file.
+    pub fn of(file: &'b [u8]) -> Rest<'b>
+        ensures bytes { result.bytes.now ≡ file.now }
+        ensures line { result.line ≡ 1 }
+        ensures trims { result.trims ≡ false }
+        ensures left { IsLeft file.now result }
+    {
+        Rest {
+            bytes: file,
+            line: 1,
+            trims: false,
+        }
+    }
+}
+
+/// Cuts the first part off what is left of a file, and reads the tokens of its action in place of those that were
+/// there. What `cut` gives at once, this gives part by part.
+///
+/// # Errors
+///
+/// Where memory ran out.
+pub fn first_part<'b>(
+    file: &'b [u8],
+    rest: Rest<'b>,
+    tokens: &mut Vec<Token<'b>>,
+) -> Result<Part<'b>, AllocError>
+    requires { IsLeft file.now rest }
+    ensures cuts { IfOk result (λ p. IsCutBy rest.entry (pieces_in tokens.new.items p) p.rest) }
+    ensures placed { IfOk result (λ p. StandsAt file.now p.start p.text.now) }
+    ensures left { IfOk result (λ p. IsLeftBehind file.now rest.entry p.rest) }
+{
+    match split_pair(rest.bytes, b'{', b'{') {
+        Some((before, after)) => part_before(file, rest, before, after, tokens),
+        None => Ok(last_part(file, rest)),
+    }
+}
+
+/// The part up to the end of what begins with the first `{{`, between these bytes.
+fn part_before<'b>(
+    file: &'b [u8],
+    rest: Rest<'b>,
+    before: &'b [u8],
+    after: &'b [u8],
+    tokens: &mut Vec<Token<'b>>,
+) -> Result<Part<'b>, AllocError>
+    requires left { IsLeft file.now rest }
+    requires first { Some (before.now, after.now) ≡ split_open rest.bytes.now }
+    ensures cuts { IfOk result (λ p. IsCutBy rest.entry (pieces_in tokens.new.items p) p.rest) }
+    ensures placed { IfOk result (λ p. StandsAt file.now p.start p.text.now) }
+    ensures left { IfOk result (λ p. IsLeftBehind file.now rest.entry p.rest) }
+{
+    let (taken, kept) = split_leading(before, rest.trims);
+    let line = rest.line + newlines(taken);
+    let start = file.len() - rest.bytes.len() + taken.len();
+    let text = trim_end(kept, has_left_marker(after));
+    let here = line + newlines(kept);
+    let opened = read_opened(tokens, skip_left_marker(after))?;
+    Ok(Part {
+        line,
+        start,
+        text,
+        behind: behind_of(here, opened),
+        rest: rest_after(after, here, opened),
+    })
+}
+
+/// The part where there is no `{{` any more.
+fn last_part<'b>(file: &'b [u8], rest: Rest<'b>) -> Part<'b>
+    requires left { IsLeft file.now rest }
+    requires last { None ≡ split_open rest.bytes.now }
+    ensures cuts { (tokens : List held.Token) → IsCutBy rest.entry (pieces_in tokens result) result.rest }
+    ensures placed { StandsAt file.now result.start result.text.now }
+    ensures left { IsLeftBehind file.now rest.entry result.rest }
+{
+    let (taken, text) = split_leading(rest.bytes, rest.trims);
+    Part {
+        line: rest.line + newlines(taken),
+        start: file.len() - rest.bytes.len() + taken.len(),
+        text,
+        behind: Behind::Nothing,
+        rest: None,
+    }
+}
+
+/// What something behind a `{{` on this line is.
+fn behind_of(line: u64, opened: Opened<'_>) -> Behind
+    ensures { (tokens : List held.Token)
+        → pieces_behind tokens result ≡ pieces_of line (opened_of tokens opened.entry) }
+{
+    match opened {
+        Opened::Comment(_) => Behind::Nothing,
+        Opened::Action(_) => Behind::Action(line),
+        Opened::Neither => Behind::Unreadable(line),
+    }
+}
+
+/// What is left behind something that these bytes, behind a `{{` on this line, begin with.
+fn rest_after<'b>(after: &'b [u8], line: u64, opened: Opened<'b>) -> Option<Rest<'b>>
+    requires { IsEndWithin after.now line (ends_at (opened_of [] opened)) }
+    ensures { option_map rest_of result
+        ≡ option_map (rest_behind after.now line) (ends_at (opened_of [] opened.entry)) }
+{
+    match opened {
+        Opened::Comment(end) | Opened::Action(end) => Some(rest_at(after, line, end)),
+        Opened::Neither => None,
+    }
+}
+
+/// What is left behind this end.
+fn rest_at<'b>(after: &'b [u8], line: u64, end: End<'b>) -> Rest<'b>
+    requires within { length end.rest.now ≤ length after.now }
+    requires fits { line + count.newlines (computed.stretch after.now end.rest.now) < 2 ^ 64 }
+    ensures { rest_of result ≡ rest_behind after.now line (end_of end.entry) }
+{
+    Rest {
+        bytes: end.rest,
+        line: line + newlines(stretch(after, end.rest)),
+        trims: end.trims,
+    }
+}
+
+/// The bytes that stand before this rest of them.
+fn stretch<'b>(bytes: &'b [u8], rest: &[u8]) -> &'b [u8]
+    requires { length rest.now ≤ length bytes.now }
+    ensures { result.now ≡ computed.stretch bytes.now rest.now }
+{
+    &bytes[..bytes.len() - rest.len()]
+}
