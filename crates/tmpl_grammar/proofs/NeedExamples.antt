@@ -19,43 +19,36 @@ inside cs = group (commands_from cs) []
 abbrev one : Operand
 one = number_constant (pos 1)
 
--- the commands of a pipeline, and what it needs
-record Example : Type 0 where
-  commands : List Operands
-  cells : ℕ
-
-abbrev needs : ℕ → List Operands → Example
-needs cells commands = record { commands = commands; cells = cells }
-
-abbrev examples : List Example
+-- what a pipeline needs, and its commands
+abbrev examples : List (ℕ × List Operands)
 examples =
     -- `.`, `.a.b`
-    needs 1 (alone dot ∷ [])
-    ∷ needs 1 (alone (fields (codes "a" ∷ codes "b" ∷ [])) ∷ [])
+    (1, alone dot ∷ [])
+    ∷ (1, alone (fields (codes "a" ∷ codes "b" ∷ [])) ∷ [])
     -- `print`, `len .`, `print 1 1 1`: a call of no argument has what it gives, and one of three holds all three
-    ∷ needs 1 (call Print [] ∷ [])
-    ∷ needs 1 (call Len (dot ∷ []) ∷ [])
-    ∷ needs 3 (call Print (one ∷ one ∷ one ∷ []) ∷ [])
+    ∷ (1, call Print [] ∷ [])
+    ∷ (1, call Len (dot ∷ []) ∷ [])
+    ∷ (3, call Print (one ∷ one ∷ one ∷ []) ∷ [])
     -- `. | len`, `. | print`, `1 | print 1 1`: what is piped is held below the arguments
-    ∷ needs 1 (alone dot ∷ call Len [] ∷ [])
-    ∷ needs 3 (alone one ∷ call Print (one ∷ one ∷ []) ∷ [])
+    ∷ (1, alone dot ∷ call Len [] ∷ [])
+    ∷ (3, alone one ∷ call Print (one ∷ one ∷ []) ∷ [])
     -- `1 | print 1 | print 1`: one value is piped from each to the next, not all of them
-    ∷ needs 2 (alone one ∷ call Print (one ∷ []) ∷ call Print (one ∷ []) ∷ [])
+    ∷ (2, alone one ∷ call Print (one ∷ []) ∷ call Print (one ∷ []) ∷ [])
     -- `((.))`, `(print 1 1)`: parentheses add none
-    ∷ needs 1 (alone (inside (alone (inside (alone dot ∷ [])) ∷ [])) ∷ [])
-    ∷ needs 2 (alone (inside (call Print (one ∷ one ∷ []) ∷ [])) ∷ [])
+    ∷ (1, alone (inside (alone (inside (alone dot ∷ [])) ∷ [])) ∷ [])
+    ∷ (2, alone (inside (call Print (one ∷ one ∷ []) ∷ [])) ∷ [])
     -- `and 1 (index . 1)`, `and (index . 1) 1`: what is held already is below the parentheses
-    ∷ needs 3 (call And (one ∷ inside (call Index (dot ∷ one ∷ []) ∷ []) ∷ []) ∷ [])
-    ∷ needs 2 (call And (inside (call Index (dot ∷ one ∷ []) ∷ []) ∷ one ∷ []) ∷ [])
+    ∷ (3, call And (one ∷ inside (call Index (dot ∷ one ∷ []) ∷ []) ∷ []) ∷ [])
+    ∷ (2, call And (inside (call Index (dot ∷ one ∷ []) ∷ []) ∷ one ∷ []) ∷ [])
     -- `1 | print 1 (print 1 (print 1 1))`
-    ∷ needs 5 (alone one ∷ call Print (one ∷ inside (call Print (one ∷ inside (call Print (one ∷ one ∷ []) ∷ []) ∷ []) ∷ []) ∷ []) ∷ [])
+    ∷ (5, alone one ∷ call Print (one ∷ inside (call Print (one ∷ inside (call Print (one ∷ one ∷ []) ∷ []) ∷ []) ∷ []) ∷ []) ∷ [])
     -- `. 1 1`, `1 | .a`, `(print 1 1) 1 1 1`: what is no function takes no argument, so none is computed
-    ∷ needs 1 (operands_from (dot ∷ one ∷ one ∷ []) ∷ [])
-    ∷ needs 1 (alone one ∷ alone (fields (codes "a" ∷ [])) ∷ [])
-    ∷ needs 2 (operands_from (inside (call Print (one ∷ one ∷ []) ∷ []) ∷ one ∷ one ∷ one ∷ []) ∷ [])
+    ∷ (1, operands_from (dot ∷ one ∷ one ∷ []) ∷ [])
+    ∷ (1, alone one ∷ alone (fields (codes "a" ∷ [])) ∷ [])
+    ∷ (2, operands_from (inside (call Print (one ∷ one ∷ []) ∷ []) ∷ one ∷ one ∷ one ∷ []) ∷ [])
     -- a function as an argument is a call without arguments
-    ∷ needs 2 (call Print (function Print ∷ function Print ∷ []) ∷ [])
+    ∷ (2, call Print (function Print ∷ function Print ∷ []) ∷ [])
     ∷ []
 
-each-needs : map (λ e. need_of_pipeline (pipeline (commands_from e.commands))) examples ≡ map (λ e. e.cells) examples
+each-needs : map (λ e. need_of_pipeline (pipeline (commands_from e.1))) examples ≡ map (λ e. e.0) examples
 each-needs = refl

@@ -1,4 +1,4 @@
--- For what is printed operand by operand: what is left to be printed in the midst of commands or operands.
+-- For what is printed operand by operand: a pipeline in parentheses by its parts, and texts added one after the other.
 use Rattle.std.proofs.Common.{◌≡◌, ◌∙◌, ℕ, ◌∷◌, ◌++◌, List, [], codes, ap, append_assoc, Vec, Global}
 use Rattle.std.proofs.lemmas.List.Concat.{flat_map-append}
 use Rattle.tmpl_lex.specs.declared.piece.TokenKind.TheVariants as kind

@@ -12,14 +12,6 @@ abbrev listed : List NodeKind → Nodes
 listed [] = none
 listed (n ∷ ns) = then 1 n (listed ns)
 
--- the nodes of a template, and whether it is formed
-record Example : Type 0 where
-  nodes : List NodeKind
-  formed : Bool
-
-abbrev says : Bool → List NodeKind → Example
-says formed nodes = record { nodes = nodes; formed = formed }
-
 abbrev value : Operand → Pipeline
 value o = pipeline (commands_from (operands_from (o ∷ []) ∷ []))
 
@@ -62,62 +54,63 @@ abbrev others : ℕ → List NodeKind
 others zero = []
 others (suc n) = controls control.With unbound [] (others n) ∷ []
 
-abbrev examples : List Example
+-- whether a template is formed, and its nodes
+abbrev examples : List (Bool × List NodeKind)
 examples =
     -- ---- names
     -- ``, `word`, `{{$}}`
-    says true []
-    ∷ says true (text (codes "word") ∷ [])
-    ∷ says true (acts unbound (the []) ∷ [])
+    (true, [])
+    ∷ (true, text (codes "word") ∷ [])
+    ∷ (true, acts unbound (the []) ∷ [])
     -- `{{$x}}`, `{{$x = .}}`, `{{($x).y}}`, `{{template "y" $x}}`
-    ∷ says false (show ∷ [])
-    ∷ says false (change ∷ [])
-    ∷ says false (acts unbound (group (commands_from (operands_from (the x ∷ []) ∷ [])) (y ∷ [])) ∷ [])
-    ∷ says false (template_node y (Some (value (the x))) ∷ [])
+    ∷ (false, show ∷ [])
+    ∷ (false, change ∷ [])
+    ∷ (false, acts unbound (group (commands_from (operands_from (the x ∷ []) ∷ [])) (y ∷ [])) ∷ [])
+    ∷ (false, template_node y (Some (value (the x))) ∷ [])
     -- `{{$x := .}}{{$x}}{{$x = .}}`, `{{$x}}{{$x := .}}`, `{{$x := $x}}`, `{{$x := .}}{{$x := $x}}`
-    ∷ says true (make ∷ show ∷ change ∷ [])
-    ∷ says false (show ∷ make ∷ [])
-    ∷ says false (acts (declare x) (the x) ∷ [])
-    ∷ says true (make ∷ acts (declare x) (the x) ∷ [])
+    ∷ (true, make ∷ show ∷ change ∷ [])
+    ∷ (false, show ∷ make ∷ [])
+    ∷ (false, acts (declare x) (the x) ∷ [])
+    ∷ (true, make ∷ acts (declare x) (the x) ∷ [])
     -- `{{$y := .}}{{$x}}`, `{{$y := .}}{{$x := .}}{{$y}}{{$x}}`
-    ∷ says false (acts (declare y) dot ∷ show ∷ [])
-    ∷ says true (acts (declare y) dot ∷ make ∷ acts unbound (the y) ∷ show ∷ [])
+    ∷ (false, acts (declare y) dot ∷ show ∷ [])
+    ∷ (true, acts (declare y) dot ∷ make ∷ acts unbound (the y) ∷ show ∷ [])
     -- ---- controls
     -- `{{if .}}{{$x := .}}{{$x}}{{end}}`, `{{if .}}{{$x := .}}{{end}}{{$x}}`, `{{if .}}{{$x := .}}{{else}}{{$x}}{{end}}`
-    ∷ says true (controls control.If unbound (make ∷ show ∷ []) [] ∷ [])
-    ∷ says false (controls control.If unbound (make ∷ []) [] ∷ show ∷ [])
-    ∷ says false (controls control.If unbound (make ∷ []) (show ∷ []) ∷ [])
+    ∷ (true, controls control.If unbound (make ∷ show ∷ []) [] ∷ [])
+    ∷ (false, controls control.If unbound (make ∷ []) [] ∷ show ∷ [])
+    ∷ (false, controls control.If unbound (make ∷ []) (show ∷ []) ∷ [])
     -- `{{$x := .}}{{with .}}{{$x}}{{else}}{{$x = .}}{{end}}{{$x}}`
-    ∷ says true (make ∷ controls control.With unbound (show ∷ []) (change ∷ []) ∷ show ∷ [])
+    ∷ (true, make ∷ controls control.With unbound (show ∷ []) (change ∷ []) ∷ show ∷ [])
     -- `{{if $x := .}}{{$x}}{{else}}{{$x}}{{end}}`, and behind it; the same of a `with`
-    ∷ says true (controls control.If (declare x) (show ∷ []) (show ∷ []) ∷ [])
-    ∷ says false (controls control.If (declare x) [] [] ∷ show ∷ [])
-    ∷ says true (controls control.With (declare x) (show ∷ []) (show ∷ []) ∷ [])
+    ∷ (true, controls control.If (declare x) (show ∷ []) (show ∷ []) ∷ [])
+    ∷ (false, controls control.If (declare x) [] [] ∷ show ∷ [])
+    ∷ (true, controls control.With (declare x) (show ∷ []) (show ∷ []) ∷ [])
     -- `{{if $x = .}}{{end}}`, `{{$x := .}}{{if $x = .}}{{end}}`
-    ∷ says false (controls control.If (assign x) [] [] ∷ [])
-    ∷ says true (make ∷ controls control.If (assign x) [] [] ∷ [])
+    ∷ (false, controls control.If (assign x) [] [] ∷ [])
+    ∷ (true, make ∷ controls control.If (assign x) [] [] ∷ [])
     -- `{{range $x := .}}{{$x}}{{end}}`, with two variables, and in the else part
-    ∷ says true (controls control.Range (declare x) (show ∷ []) [] ∷ [])
-    ∷ says true (controls control.Range (declare_pair x y) (show ∷ []) [] ∷ [])
-    ∷ says true (controls control.Range (declare_pair y x) (show ∷ []) [] ∷ [])
-    ∷ says false (controls control.Range (declare_pair y x) [] (show ∷ []) ∷ [])
+    ∷ (true, controls control.Range (declare x) (show ∷ []) [] ∷ [])
+    ∷ (true, controls control.Range (declare_pair x y) (show ∷ []) [] ∷ [])
+    ∷ (true, controls control.Range (declare_pair y x) (show ∷ []) [] ∷ [])
+    ∷ (false, controls control.Range (declare_pair y x) [] (show ∷ []) ∷ [])
     -- ---- breaks
     -- `{{break}}`, `{{if .}}{{continue}}{{end}}`
-    ∷ says false (break_node ∷ [])
-    ∷ says false (controls control.If unbound (continue_node ∷ []) [] ∷ [])
+    ∷ (false, break_node ∷ [])
+    ∷ (false, controls control.If unbound (continue_node ∷ []) [] ∷ [])
     -- `{{range .}}{{if .}}{{break}}{{else}}{{continue}}{{end}}{{end}}`
-    ∷ says true (controls control.Range unbound (controls control.If unbound (break_node ∷ []) (continue_node ∷ []) ∷ []) [] ∷ [])
+    ∷ (true, controls control.Range unbound (controls control.If unbound (break_node ∷ []) (continue_node ∷ []) ∷ []) [] ∷ [])
     -- `{{range .}}{{else}}{{break}}{{end}}`, and inside another range
-    ∷ says false (controls control.Range unbound [] (break_node ∷ []) ∷ [])
-    ∷ says true (controls control.Range unbound (controls control.Range unbound [] (break_node ∷ []) ∷ []) [] ∷ [])
+    ∷ (false, controls control.Range unbound [] (break_node ∷ []) ∷ [])
+    ∷ (true, controls control.Range unbound (controls control.Range unbound [] (break_node ∷ []) ∷ []) [] ∷ [])
     -- `{{range .}}{{end}}{{continue}}`
-    ∷ says false (controls control.Range unbound [] [] ∷ continue_node ∷ [])
+    ∷ (false, controls control.Range unbound [] [] ∷ continue_node ∷ [])
     -- ---- levels
-    ∷ says true (bodies 500)
-    ∷ says false (bodies 501)
-    ∷ says true (others 500)
-    ∷ says false (others 501)
+    ∷ (true, bodies 500)
+    ∷ (false, bodies 501)
+    ∷ (true, others 500)
+    ∷ (false, others 501)
     ∷ []
 
-each-formed : map (λ e. are_formed (listed e.nodes) [] false 0) examples ≡ map (λ e. e.formed) examples
+each-formed : map (λ e. are_formed (listed e.1) [] false 0) examples ≡ map (λ e. e.0) examples
 each-formed = refl

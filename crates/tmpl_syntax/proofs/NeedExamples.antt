@@ -13,14 +13,6 @@ abbrev listed : List NodeKind → Nodes
 listed [] = none
 listed (n ∷ ns) = then 1 n (listed ns)
 
--- the nodes of a template, and what it needs
-record Example : Type 0 where
-  nodes : List NodeKind
-  cells : ℕ
-
-abbrev needs : ℕ → List NodeKind → Example
-needs cells nodes = record { nodes = nodes; cells = cells }
-
 abbrev headed : Binding → List Operand → Header
 headed b os = record { binding = b; pipeline = pipeline (commands_from (operands_from os ∷ [])) }
 
@@ -54,57 +46,64 @@ three = function Print ∷ one ∷ one ∷ one ∷ []
 abbrev five : List Operand
 five = function Print ∷ one ∷ one ∷ one ∷ one ∷ one ∷ []
 
-abbrev examples : List Example
+-- what a template needs, and its nodes
+abbrev examples : List (ℕ × List NodeKind)
 examples =
     -- ---- lists
     -- ``, `word`, `{{.}}`
-    needs 3 []
-    ∷ needs 3 (word ∷ [])
-    ∷ needs 4 (word ∷ acts unbound (dot ∷ []) ∷ [])
+    (3, [])
+    ∷ (3, word ∷ [])
+    ∷ (4, word ∷ acts unbound (dot ∷ []) ∷ [])
     -- `{{print 1 1 1}}{{.}}`: nothing is left of one action for the next
-    ∷ needs 6 (acts unbound three ∷ acts unbound (dot ∷ []) ∷ [])
+    ∷ (6, acts unbound three ∷ acts unbound (dot ∷ []) ∷ [])
     -- `{{$x := .}}`, `{{$x := .}}{{$x}}`: the variable counts behind its action
-    ∷ needs 4 (acts (declare x) (dot ∷ []) ∷ [])
-    ∷ needs 5 (acts (declare x) (dot ∷ []) ∷ acts unbound (the x ∷ []) ∷ [])
+    ∷ (4, acts (declare x) (dot ∷ []) ∷ [])
+    ∷ (5, acts (declare x) (dot ∷ []) ∷ acts unbound (the x ∷ []) ∷ [])
     -- `{{$x := .}}word{{$x := .}}{{$x := .}}{{print 1 1 1}}`: one of the same name too
-    ∷ needs 9 (acts (declare x) (dot ∷ []) ∷ word ∷ acts (declare x) (dot ∷ []) ∷ acts (declare x) (dot ∷ []) ∷ acts unbound three ∷ [])
+    ∷ (9, acts (declare x) (dot ∷ []) ∷ word ∷ acts (declare x) (dot ∷ []) ∷ acts (declare x) (dot ∷ []) ∷ acts unbound three ∷ [])
     -- `{{$x := .}}{{$x = .}}{{$x = .}}{{$x}}`: one that is assigned is there already
-    ∷ needs 5 (acts (declare x) (dot ∷ []) ∷ acts (assign x) (dot ∷ []) ∷ acts (assign x) (dot ∷ []) ∷ acts unbound (the x ∷ []) ∷ [])
+    ∷ (5, acts (declare x) (dot ∷ []) ∷ acts (assign x) (dot ∷ []) ∷ acts (assign x) (dot ∷ []) ∷ acts unbound (the x ∷ []) ∷ [])
     -- `{{print 1 1 1}}{{$x := .}}{{.}}`, `{{$x := .}}{{.}}{{print 1 1 1}}`
-    ∷ needs 6 (acts unbound three ∷ acts (declare x) (dot ∷ []) ∷ acts unbound (dot ∷ []) ∷ [])
-    ∷ needs 7 (acts (declare x) (dot ∷ []) ∷ acts unbound (dot ∷ []) ∷ acts unbound three ∷ [])
+    ∷ (6, acts unbound three ∷ acts (declare x) (dot ∷ []) ∷ acts unbound (dot ∷ []) ∷ [])
+    ∷ (7, acts (declare x) (dot ∷ []) ∷ acts unbound (dot ∷ []) ∷ acts unbound three ∷ [])
     -- ---- controls
     -- `{{if .}}{{end}}`, `{{if print 1 1 1}}{{.}}{{end}}`, `{{if $x := print 1 1 1}}{{end}}`
-    ∷ needs 4 (controls control.If unbound (dot ∷ []) [] [] ∷ [])
-    ∷ needs 6 (controls control.If unbound three (acts unbound (dot ∷ []) ∷ []) [] ∷ [])
-    ∷ needs 6 (controls control.If (declare x) three [] [] ∷ [])
+    ∷ (4, controls control.If unbound (dot ∷ []) [] [] ∷ [])
+    ∷ (6, controls control.If unbound three (acts unbound (dot ∷ []) ∷ []) [] ∷ [])
+    ∷ (6, controls control.If (declare x) three [] [] ∷ [])
     -- `{{if .}}{{print 1 1 1}}{{end}}`, `{{if $x := .}}{{print 1 1 1}}{{end}}`, in the else part, and in both
-    ∷ needs 6 (controls control.If unbound (dot ∷ []) (acts unbound three ∷ []) [] ∷ [])
-    ∷ needs 7 (controls control.If (declare x) (dot ∷ []) (acts unbound three ∷ []) [] ∷ [])
-    ∷ needs 7 (controls control.If (declare x) (dot ∷ []) [] (acts unbound three ∷ []) ∷ [])
-    ∷ needs 7 (controls control.If (declare x) (dot ∷ []) (acts unbound three ∷ []) (acts unbound three ∷ []) ∷ [])
+    ∷ (6, controls control.If unbound (dot ∷ []) (acts unbound three ∷ []) [] ∷ [])
+    ∷ (7, controls control.If (declare x) (dot ∷ []) (acts unbound three ∷ []) [] ∷ [])
+    ∷ (7, controls control.If (declare x) (dot ∷ []) [] (acts unbound three ∷ []) ∷ [])
+    ∷ (7, controls control.If (declare x) (dot ∷ []) (acts unbound three ∷ []) (acts unbound three ∷ []) ∷ [])
     -- the same of a `with`, whose body has one more
-    ∷ needs 7 (controls control.With unbound (dot ∷ []) (acts unbound three ∷ []) [] ∷ [])
-    ∷ needs 8 (controls control.With (declare x) (dot ∷ []) (acts unbound three ∷ []) [] ∷ [])
-    ∷ needs 7 (controls control.With (declare x) (dot ∷ []) [] (acts unbound three ∷ []) ∷ [])
+    ∷ (7, controls control.With unbound (dot ∷ []) (acts unbound three ∷ []) [] ∷ [])
+    ∷ (8, controls control.With (declare x) (dot ∷ []) (acts unbound three ∷ []) [] ∷ [])
+    ∷ (7, controls control.With (declare x) (dot ∷ []) [] (acts unbound three ∷ []) ∷ [])
     -- the same of a `range`, whose body has two more, and whose else part has no variable
-    ∷ needs 8 (controls control.Range unbound (dot ∷ []) (acts unbound three ∷ []) [] ∷ [])
-    ∷ needs 9 (controls control.Range (declare x) (dot ∷ []) (acts unbound three ∷ []) [] ∷ [])
-    ∷ needs 10 (controls control.Range (declare_pair k x) (dot ∷ []) (acts unbound three ∷ []) [] ∷ [])
-    ∷ needs 8 (controls control.Range (declare_pair k x) (dot ∷ []) [] (acts unbound five ∷ []) ∷ [])
+    ∷ (8, controls control.Range unbound (dot ∷ []) (acts unbound three ∷ []) [] ∷ [])
+    ∷ (9, controls control.Range (declare x) (dot ∷ []) (acts unbound three ∷ []) [] ∷ [])
+    ∷ (10, controls control.Range (declare_pair k x) (dot ∷ []) (acts unbound three ∷ []) [] ∷ [])
+    ∷ (8, controls control.Range (declare_pair k x) (dot ∷ []) [] (acts unbound five ∷ []) ∷ [])
     -- `{{range $k, $x := .}}{{end}}`: the cells are there, whether or not the body needs more
-    ∷ needs 7 (controls control.Range (declare_pair k x) (dot ∷ []) [] [] ∷ [])
+    ∷ (7, controls control.Range (declare_pair k x) (dot ∷ []) [] [] ∷ [])
     -- `{{if $x := .}}{{$x := .}}{{end}}{{print 1 1 1}}`: no variable is left of a control
-    ∷ needs 6 (controls control.If (declare x) (dot ∷ []) (acts (declare x) (dot ∷ []) ∷ []) [] ∷ acts unbound three ∷ [])
+    ∷ (6, controls control.If (declare x) (dot ∷ []) (acts (declare x) (dot ∷ []) ∷ []) [] ∷ acts unbound three ∷ [])
     -- `{{$x := .}}{{with $x := .}}{{$x := .}}{{range .}}{{print 1 1 1}}{{end}}{{end}}`
-    ∷ needs 12 (acts (declare x) (dot ∷ []) ∷ controls control.With (declare x) (dot ∷ [])
-    (acts (declare x) (dot ∷ []) ∷ controls control.Range unbound (dot ∷ []) (acts unbound three ∷ []) [] ∷ []) [] ∷ [])
+    ∷ (
+      12,
+      acts (declare x) (dot ∷ []) ∷ controls control.With (declare x) (dot ∷ [])
+          (acts (declare x) (dot ∷ []) ∷ controls control.Range unbound (dot ∷ []) (acts unbound three ∷ []) [] ∷ []) [] ∷ [],
+    )
     -- `{{range $i, $e := .}}{{if eq $e 3}}{{break}}{{end}}{{$i}}={{$e}};{{else}}none{{end}}`
-    ∷ needs 9 (controls control.Range (declare_pair (codes "i") (codes "e")) (dot ∷ [])
-    (controls control.If unbound (function Eq ∷ the (codes "e") ∷ number_constant (pos 3) ∷ []) (break_node ∷ []) []
-    ∷ acts unbound (the (codes "i") ∷ []) ∷ text (codes "=") ∷ acts unbound (the (codes "e") ∷ []) ∷ text (codes ";") ∷ [])
-    (text (codes "none") ∷ []) ∷ [])
+    ∷ (
+      9,
+      controls control.Range (declare_pair (codes "i") (codes "e")) (dot ∷ [])
+          (controls control.If unbound (function Eq ∷ the (codes "e") ∷ number_constant (pos 3) ∷ []) (break_node ∷ []) []
+          ∷ acts unbound (the (codes "i") ∷ []) ∷ text (codes "=") ∷ acts unbound (the (codes "e") ∷ []) ∷ text (codes ";") ∷ [])
+          (text (codes "none") ∷ []) ∷ [],
+    )
     ∷ []
 
-each-needs : map (λ e. need (record { file = []; nodes = listed e.nodes })) examples ≡ map (λ e. e.cells) examples
+each-needs : map (λ e. need (record { file = []; nodes = listed e.1 })) examples ≡ map (λ e. e.0) examples
 each-needs = refl
