@@ -1,5 +1,5 @@
 //! The definitions of a file.
-ghost use Rattle.std.specs.Prelude.{◌≡◌, IfOk, map, reverse};
+ghost use Rattle.std.specs.Prelude.{◌≡◌, ◌++◌, ◌∷◌, [], IfOk, OnOk, map, reverse};
 ghost use Rattle.tmpl_grammar.specs.Action.{block_action};
 ghost use Rattle.tmpl_grammar.specs.View.{action_of, header_of, pipeline_of};
 ghost use Rattle.tmpl_syntax.specs.Item.{action_item, item};
@@ -12,6 +12,7 @@ ghost use Rattle.tmpl_syntax.specs.computed.Build as spec;
 use crate::item::{Item, ItemKind};
 use crate::tree::{ControlNode, Definition, Node, NodeKind};
 use std::alloc::{AllocError, Global};
+use std::mem;
 use tmpl_grammar::{Action, Branch, Control, Header, Pipeline};
 use tmpl_values::Bytes;
 
@@ -70,7 +71,7 @@ fn parts_before(alloc: Global, items: Vec<Item>) -> Result<Parts, AllocError>
         definitions: Vec::new(alloc),
     };
     while let Some(item) = items.pop() {
-        parts = put(alloc, parts, item)?;
+        put(alloc, &mut parts, item)?;
     }
     Ok(parts)
 }
@@ -87,36 +88,41 @@ impl Level {
     }
 }
 
-/// The nodes of a part, of which the last one came first.
+/// The nodes of a part, of which the last one came first, with no more room than they take: many parts have a node or
+/// two, and a file has many parts.
 fn in_order(nodes: Vec<Node>) -> Vec<Node>
     ensures { result.items ≡ reverse nodes.items }
 {
     let mut nodes = nodes;
     nodes.reverse();
+    nodes.shrink_to_fit();
     nodes
 }
 
-/// The parts from an item on, by those behind it.
-fn put(alloc: Global, parts: Parts, item: Item) -> Result<Parts, AllocError>
-    ensures { IfOk result (λ p. parts_of p ≡ spec.parts_with (item_of item) (parts_of parts)) }
+/// Puts an item before those that are behind it.
+fn put(alloc: Global, parts: &mut Parts, item: Item) -> Result<(), AllocError>
+    ensures { IfOk result (λ u. parts_of parts.new ≡ spec.parts_with (item_of item) (parts_of parts.old)) }
 {
     let Item { line, what } = item;
     match what {
         ItemKind::Text(text) => put_node(parts, line, NodeKind::Text(text)),
-        ItemKind::Unreadable | ItemKind::Unread | ItemKind::TooDeep(_) => Ok(parts),
+        ItemKind::Unreadable | ItemKind::Unread | ItemKind::TooDeep(_) => Ok(()),
         ItemKind::Action(action) => put_action(alloc, parts, line, action),
     }
 }
 
-/// The parts from an action on, by those behind it.
-fn put_action(alloc: Global, parts: Parts, line: u64, action: Action) -> Result<Parts, AllocError>
-    ensures { IfOk result (λ p. parts_of p
-        ≡ spec.parts_with (item line (action_item (action_of action))) (parts_of parts)) }
+/// Puts an action before the items that are behind it.
+fn put_action(alloc: Global, parts: &mut Parts, line: u64, action: Action) -> Result<(), AllocError>
+    ensures { IfOk result (λ u. parts_of parts.new
+        ≡ spec.parts_with (item line (action_item (action_of action))) (parts_of parts.old)) }
 {
     match action {
         Action::Pipeline(header) => put_node(parts, line, NodeKind::Action(header)),
         Action::Open(control, header) => put_control(alloc, parts, line, control, header),
-        Action::Else => Ok(begin_else(alloc, parts)),
+        Action::Else => {
+            begin_else(alloc, parts);
+            Ok(())
+        }
         Action::ElseBranch(branch, header) => begin_branch(alloc, parts, line, branch, header),
         Action::End => end(alloc, parts),
         Action::Break => put_node(parts, line, NodeKind::Break),
@@ -128,75 +134,73 @@ fn put_action(alloc: Global, parts: Parts, line: u64, action: Action) -> Result<
 }
 
 /// Puts a definition before the others: its body is the innermost part.
-fn put_definition(alloc: Global, parts: Parts, line: u64, name: Bytes) -> Result<Parts, AllocError>
-    ensures { IfOk result (λ p. parts_of p ≡ spec.definition_before line name (parts_of parts)) }
+fn put_definition(
+    alloc: Global,
+    parts: &mut Parts,
+    line: u64,
+    name: Bytes,
+) -> Result<(), AllocError>
+    ensures { IfOk result (λ u. parts_of parts.new ≡ spec.definition_before line name (parts_of parts.old)) }
 {
-    let Parts {
-        inner,
-        mut around,
-        mut definitions,
-    } = parts;
-    definitions.push(Definition {
+    let around = outer(alloc, &mut parts.around);
+    let inner = mem::replace(&mut parts.inner, around);
+    parts.definitions.push(Definition {
         line,
         name,
         nodes: in_order(inner.nodes),
     })?;
-    let inner = outer(alloc, &mut around);
-    Ok(Parts {
-        inner,
-        around,
-        definitions,
-    })
+    Ok(())
 }
 
 /// Puts a definition, and a call of it before the nodes of the part around.
 fn put_block(
     alloc: Global,
-    parts: Parts,
+    parts: &mut Parts,
     line: u64,
     name: Bytes,
     pipeline: Pipeline,
-) -> Result<Parts, AllocError>
-    ensures { IfOk result (λ p. parts_of p
-        ≡ spec.parts_with (item line (action_item (block_action name (pipeline_of pipeline)))) (parts_of parts)) }
+) -> Result<(), AllocError>
+    ensures { IfOk result (λ u. parts_of parts.new
+        ≡ spec.parts_with (item line (action_item (block_action name (pipeline_of pipeline)))) (parts_of parts.old)) }
 {
     let called = Bytes::new(name.as_slice().to_vec(alloc)?);
-    let parts = put_definition(alloc, parts, line, name)?;
+    put_definition(alloc, parts, line, name)?;
     put_node(parts, line, NodeKind::Template(called, Some(pipeline)))
 }
 
 /// Puts a node before those of the innermost part.
-fn put_node(parts: Parts, line: u64, what: NodeKind) -> Result<Parts, AllocError>
-    ensures { IfOk result (λ p. parts_of p ≡ spec.put_before line (kind_of what) (parts_of parts)) }
+fn put_node(parts: &mut Parts, line: u64, what: NodeKind) -> Result<(), AllocError>
+    ensures { IfOk result (λ u. parts_of parts.new ≡ spec.put_before line (kind_of what) (parts_of parts.old)) }
 {
-    let mut parts = parts;
-    parts.inner.nodes.push(Node { line, what })?;
-    Ok(parts)
+    add_node(&mut parts.inner.nodes, Node { line, what })?;
+    Ok(())
+}
+
+/// Adds a node. The first one takes room for itself alone, since many parts have no other.
+fn add_node(nodes: &mut Vec<Node>, node: Node) -> Result<(), AllocError>
+    ensures { OnOk result (nodes.new.items ≡ nodes.old.items ++ node ∷ []) }
+{
+    if nodes.is_empty() {
+        nodes.reserve_exact(1)?;
+    }
+    nodes.push(node)?;
+    Ok(())
 }
 
 /// Puts a control before those of the part around: its body is the innermost part, behind which its else part stands.
 fn put_control(
     alloc: Global,
-    parts: Parts,
+    parts: &mut Parts,
     line: u64,
     control: Control,
     header: Header,
-) -> Result<Parts, AllocError>
-    ensures { IfOk result (λ p. parts_of p
-        ≡ spec.control_before line control (header_of header) (parts_of parts)) }
+) -> Result<(), AllocError>
+    ensures { IfOk result (λ u. parts_of parts.new
+        ≡ spec.control_before line control (header_of header) (parts_of parts.old)) }
 {
-    let Parts {
-        inner,
-        mut around,
-        definitions,
-    } = parts;
+    let around = outer(alloc, &mut parts.around);
+    let inner = mem::replace(&mut parts.inner, around);
     let what = control_kind(alloc, control, header, inner)?;
-    let inner = outer(alloc, &mut around);
-    let parts = Parts {
-        inner,
-        around,
-        definitions,
-    };
     put_node(parts, line, what)
 }
 
@@ -231,55 +235,35 @@ fn outer(alloc: Global, around: &mut Vec<Level>) -> Level
 }
 
 /// Begins a part before an else part.
-fn begin_else(alloc: Global, parts: Parts) -> Parts
-    ensures { parts_of result ≡ spec.else_before (parts_of parts) }
+fn begin_else(alloc: Global, parts: &mut Parts)
+    ensures { parts_of parts.new ≡ spec.else_before (parts_of parts.old) }
 {
-    let Parts {
-        inner,
-        around,
-        definitions,
-    } = parts;
-    let inner = Level {
-        nodes: Vec::new(alloc),
-        other: in_order(inner.nodes),
-    };
-    Parts {
-        inner,
-        around,
-        definitions,
-    }
+    let nodes = mem::replace(&mut parts.inner.nodes, Vec::new(alloc));
+    parts.inner.other = in_order(nodes);
 }
 
 /// Begins a part before an else part that is a control of its own.
 fn begin_branch(
     alloc: Global,
-    parts: Parts,
+    parts: &mut Parts,
     line: u64,
     branch: Branch,
     header: Header,
-) -> Result<Parts, AllocError>
-    ensures { IfOk result (λ p. parts_of p ≡ spec.branch_before line branch (header_of header) (parts_of parts)) }
+) -> Result<(), AllocError>
+    ensures { IfOk result (λ u. parts_of parts.new
+        ≡ spec.branch_before line branch (header_of header) (parts_of parts.old)) }
 {
-    let what = control_kind(alloc, branch.control(), header, parts.inner)?;
-    Ok(Parts {
-        inner: Level {
-            nodes: Vec::new(alloc),
-            other: vec![in alloc; Node { line, what }]?,
-        },
-        around: parts.around,
-        definitions: parts.definitions,
-    })
+    let inner = mem::replace(&mut parts.inner, Level::new(alloc));
+    let what = control_kind(alloc, branch.control(), header, inner)?;
+    parts.inner.other = vec![in alloc; Node { line, what }]?;
+    Ok(())
 }
 
 /// Begins a part before an `end`.
-fn end(alloc: Global, parts: Parts) -> Result<Parts, AllocError>
-    ensures { IfOk result (λ p. parts_of p ≡ spec.end_before (parts_of parts)) }
+fn end(alloc: Global, parts: &mut Parts) -> Result<(), AllocError>
+    ensures { IfOk result (λ u. parts_of parts.new ≡ spec.end_before (parts_of parts.old)) }
 {
-    let mut around = parts.around;
-    around.push(parts.inner)?;
-    Ok(Parts {
-        inner: Level::new(alloc),
-        around,
-        definitions: parts.definitions,
-    })
+    let inner = mem::replace(&mut parts.inner, Level::new(alloc));
+    parts.around.push(inner)?;
+    Ok(())
 }

@@ -100,6 +100,11 @@ impl Set {
         }
     }
 
+    /// How the names are hashed.
+    pub(crate) fn name_hash(&self) -> NameHash {
+        *self.templates.hasher()
+    }
+
     /// Adds templates, one by one: a new name goes last, and a name that is there keeps its place and gets
     /// the new body, unless that is blank. All of them are added, or the set is as it was.
     pub(crate) fn define_all(&mut self, templates: Vec<(Vec<u8>, Tree)>) -> Result<(), AllocError>

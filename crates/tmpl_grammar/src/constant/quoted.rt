@@ -44,7 +44,8 @@ pub(crate) fn between(quote: u8, bytes: &[u8]) -> Option<&[u8]>
 pub(crate) fn unquote(alloc: Global, quote: u8, bytes: &[u8]) -> Result<Option<Vec<u8>>, AllocError>
     ensures { IfOk result (λ o. option_map (λ v. v.items) o ≡ spec.unquoted quote bytes.now) }
 {
-    let mut text = Vec::new(alloc);
+    // most texts take as many bytes as spell them
+    let mut text = Vec::with_capacity(alloc, bytes.len())?;
     let mut rest = bytes;
     while rest.len() > 0 {
         let Some((part, len)) = part_at(quote, rest) else {
@@ -126,6 +127,10 @@ fn rune_part(bytes: &[u8]) -> Spelled
     ensures value { spelled_of result ≡ spec.rune_part (first_rune bytes.now) }
     ensures within { (0 < result.1) × (result.1 ≤ length bytes.now) }
 {
+    let first = bytes[0];
+    if first < 0x80 {
+        return (Part::Char(char::from(first)), 1);
+    }
     match first_char(bytes) {
         Some(c) => (Part::Char(c), c.len_utf8()),
         None => (Part::Char('\u{fffd}'), 1),

@@ -74,19 +74,30 @@ fn link(operand: &mut Operand, name: Bytes) -> Result<bool, AllocError>
 {
     match operand {
         Operand::Fields(fields) => {
-            fields.push(name)?;
+            extend(fields, name)?;
             Ok(true)
         }
         Operand::Variable { fields, .. } => {
-            fields.push(name)?;
+            extend(fields, name)?;
             Ok(true)
         }
         Operand::Group { fields, .. } => {
-            fields.push(name)?;
+            extend(fields, name)?;
             Ok(true)
         }
         _ => Ok(false),
     }
+}
+
+/// Adds a field to a chain. The first two take room for themselves alone, since most chains have no more.
+fn extend(fields: &mut Vec<Bytes>, name: Bytes) -> Result<(), AllocError>
+    ensures { OnOk result (fields.new.items ≡ fields.old.items ++ name ∷ []) }
+{
+    if fields.len() < 2 {
+        fields.reserve_exact(1)?;
+    }
+    fields.push(name)?;
+    Ok(())
 }
 
 /// Whether this operand may begin a command behind a bar: a constant, `nil` and dot may not.

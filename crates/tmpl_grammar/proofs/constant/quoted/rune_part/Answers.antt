@@ -1,0 +1,22 @@
+use Rattle.std.proofs.Common.{arith, ◌≡◌, ◌∙◌, ℕ, ◌<◌, List, [], ◌∷◌, ◌++◌, ap, sym, length, get_or}
+use Rattle.std.specs.Char.{IsScalar}
+use Rattle.std.proofs.lemmas.Str.{encode_ascii, len_utf8_ascii}
+use lib.Utf8.{low_scalar}
+use Rattle.tmpl_values.specs.Rune.{char, first_rune}
+use Rattle.tmpl_values.proofs.RuneLemmas.{first_rune-encode}
+use Rattle.tmpl_grammar.specs.computed.Quoted.{Spelled, rune_part}
+use Rattle.tmpl_grammar.proofs.constant.quoted.rune_part.Goals as goal
+
+-- a byte of ASCII is a character
+ascii-first : (bs : List ℕ) (c : ℕ) → 0 < length bs → c ≡ get_or bs 0 0 → c < 128 → IsScalar c
+    → ◌≡◌ {A = Spelled} (char c, 1) (rune_part (first_rune bs))
+ascii-first [] c some is low s = absurd (omega (arith, some))
+ascii-first (b ∷ bs) c some is low s =
+    let first : first_rune (b ∷ bs) ≡ char c =
+    ap (λ (x : ℕ). first_rune (x ∷ bs)) (sym is) ∙ ap (λ (t : List ℕ). first_rune (t ++ bs)) (sym (encode_ascii c low)) ∙ first_rune-encode c bs s in
+    sym (ap rune_part first ∙ ap (λ (n : ℕ). (char c, n)) (len_utf8_ascii c low))
+
+pub returns-then-first-lt128-clause-value : goal.returns-then-first-lt128-clause-value
+returns-then-first-lt128-clause-value c =
+    let low : c.from.result < 128 = omega (arith, c.from.ensures, c.if-first-lt128.true) in
+    ascii-first c.args.bytes.now c.from.result c.requires c.from.ensures low (low_scalar c.from.result (omega (arith, low)))
