@@ -2,8 +2,8 @@
 
     bench.py [--dry]
 
-Each pair runs turn by turn, and of each the median is told. A factor is ours over theirs. Go, the newest that is there, Jinja2 and Tera are
-left out where they are not there; `--dry` only puts the table out."""
+Each pair runs turn by turn, and of each the median is told. A factor is ours over theirs. Go, the newest that is there, Jinja2, Tera and
+ctemplate are left out where they are not there; `--dry` only puts the table out."""
 import datetime
 import glob
 import json
@@ -400,6 +400,14 @@ JINJA = {
     "<td>{% if row.ok %}yes{% else %}no{% endif %}</td></tr>\n{% endfor %}",
 }
 MOST = {("`examples/hello`", True): 1, ("a table of 20,000 rows", True): 0.4}
+# And in that of ctemplate, with the lines of which each fills the section ROW, as cpp_peer.cc reads them.
+CTEMPLATE = {
+    "`examples/hello`": ("{{#ROW}}Hello, {{NAME}}!\n{{/ROW}}", [b"NAME=Ada\n"]),
+    "a table of 20,000 rows": (
+        "{{#ROW}}<tr><td>{{ID}}</td><td>{{NAME}}</td><td>{{#OK}}yes{{/OK}}{{#NOT_OK}}no{{/NOT_OK}}</td></tr>\n{{/ROW}}",
+        [b"ID=%d\tNAME=<name> & %d\t%s\n" % (it, it, b"NOT_OK" if it % 2 else b"OK") for it in range(20_000)],
+    ),
+}
 
 
 def time_jinja(source, held, count):
@@ -443,12 +451,22 @@ def tera_renderer(folder):
     return f"{at}/target/release/rust_peer"
 
 
-def turns(programs, held, count, kept):
+def cpp_renderer(folder):
+    """A program over ctemplate, an engine in C++; none where its library or a compiler is not there."""
+    program = f"{folder}/cpp_peer"
+    words = ["c++", "-O2", f"{harness.TESTS}/cpp_peer.cc", "-lctemplate_nothreads", "-o", program]
+    if shutil.which("c++") and subprocess.run(words, stderr=subprocess.DEVNULL).returncode == 0:
+        return program
+    print("  ctemplate is left out: it needs a compiler for C++ and the package libctemplate-dev")
+    return None
+
+
+def turns(programs, count):
     """Of each program the least time and the median of the medians, in nanoseconds, over three turns of 31 times each."""
     told = {who: [] for who in programs}
     for _ in range(3):
-        for who, words in programs.items():
-            ran = subprocess.run([*words, held, str(count), *kept], stdout=subprocess.PIPE, check=True)
+        for who, (words, kept) in programs.items():
+            ran = subprocess.run([*words, str(count), *kept], stdout=subprocess.PIPE, check=True)
             told[who].append([int(it) for it in ran.stdout.split()][:2])
     return {who: (min(it[0] for it in times), statistics.median(it[1] for it in times)) for who, times in told.items()}
 
@@ -456,16 +474,20 @@ def turns(programs, held, count, kept):
 def bench_library(figures, folder):
     figures.part("The C library, in one process: the least, the median of 31 renders")
     go, speed, library = go_renderer(folder), f"{folder}/speed", f"{harness.TOP}/bindings/out/libtmpl.a"
-    tera = tera_renderer(folder)
+    tera, cpp = tera_renderer(folder), cpp_renderer(folder)
     subprocess.run(["cc", "-O2", f"-I{harness.TOP}/bindings/c", f"{harness.TESTS}/speed.c", library, "-o", speed], check=True)
     for name, pieces, held, *_ in renders(folder):
         if name not in JINJA:
             continue
         file, count = write(f"{folder}/template", pieces), 10_000 if "hello" in name else 1
         other = write(f"{folder}/other", [JINJA[name].encode()])
-        programs = {"tmpl": [speed, file], **({"Go": [go, "times", file]} if go else {}), **({"Tera": [tera, other]} if tera else {})}
+        third, filled = write(f"{folder}/third", [CTEMPLATE[name][0].encode()]), write(f"{folder}/filled", CTEMPLATE[name][1])
         for how, kept in (("parsed and read each time", []), ("parsed and read once", ["kept"])):
-            told = turns(programs, held, count, kept)
+            programs = {"tmpl": ([speed, file, held], kept)}
+            programs |= {"Go": ([go, "times", file, held], kept)} if go else {}
+            programs |= {"Tera": ([tera, other, held], kept)} if tera else {}
+            programs |= {"ctemplate": ([cpp, third, filled], [])} if cpp and kept else {}
+            told = turns(programs, count)
             if kept and (theirs := time_jinja(JINJA[name], held, count)):
                 told["Jinja2"] = theirs
             spelled = {who: f"{shown(least / 1e9)}, {shown(middle / 1e9)}" for who, (least, middle) in told.items()}
@@ -496,7 +518,12 @@ def peers(folder):
         found.append(f"Jinja2 {jinja2.__version__}")
     except ImportError:
         pass
-    return ", ".join([*found, *(f"Tera {it.rsplit('-', 1)[1]}" for it in glob.glob(f"{CRATES}/tera-*"))]) or "none"
+    found += [f"Tera {it.rsplit('-', 1)[1]}" for it in glob.glob(f"{CRATES}/tera-*")]
+    if shutil.which("dpkg-query"):
+        asked = ["dpkg-query", "--show", "--showformat=${Version}", "libctemplate-dev"]
+        told = subprocess.run(asked, stdout=subprocess.PIPE, stderr=subprocess.DEVNULL, text=True)
+        found += [f"ctemplate {told.stdout.split('-')[0]}"] if told.returncode == 0 else []
+    return ", ".join(found) or "none"
 
 
 def commit():
