@@ -88,7 +88,8 @@ mutual
       let inside = body-slots c a.binding scope cells h in
       both_true (both_true (all-slots (names_of a).uses scope cells h parts.uses)
       (nodes-placed body (declared_to a.binding scope) (body_layout c a.binding cells) (is_looped c loop) (levels + 1) inside parts.in_body))
-      (nodes-placed other (else_scope c a.binding scope) (other_layout c a.binding cells) loop (levels + 1) (other-slots c a.binding scope cells h) parts.in_other)
+      (nodes-placed other (else_scope c a.binding scope) (other_layout c a.binding cells) loop (levels + 1) (other-slots c a.binding scope cells h)
+      parts.in_other)
   node-placed break_node scope cells loop levels h e = e
   node-placed continue_node scope cells loop levels h e = e
   node-placed (template_node name given) scope cells loop levels h e = all-slots (names_given given).uses scope cells h e

@@ -36,8 +36,8 @@ pub(crate) fn urlquery<'a>(alloc: Global, operands: &[Cell<'_>]) -> Result<Val<'
     escape_operands(alloc, operands, Escape::Query)
 }
 
-/// The operands joined and escaped. Where they are not one text alone they are joined first, and behind that, in the same
-/// memory, stands their escape, which alone is the answer.
+/// The operands joined and escaped. Where they are not one text alone they are joined first, and after that, in the
+/// same memory, comes their escape, which alone is the answer.
 fn escape_operands<'a>(
     alloc: Global,
     operands: &[Cell<'_>],

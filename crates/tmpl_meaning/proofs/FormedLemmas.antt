@@ -402,8 +402,10 @@ module _ (s : Setting) (calls : CallsEnd s.calls) where
         leaves-full loop (names r.env) (full ns) (stepped s line (control_node c h body other) d) r same
         (scope-leaves loop (controlled s line c h d (λ v. meanings s body v) (meanings s other d)) r
         (controlled-holds s line c h d loop (λ v. meanings s body v) (meanings s other d) r (known-in h ns r.env parts.uses same)
-        (λ v u f. (nodes-leave body v (declared_to h.binding ns) (is_looped c loop) (levels + 1) u parts.in_body (f ∙ ap (declared_to h.binding) same ∙ declared-full h.binding ns)).0)
-        (λ u f. (nodes-leave other d (else_scope c h.binding ns) loop (levels + 1) u parts.in_other (f ∙ ap (else_scope c h.binding) same ∙ else-full c h.binding ns)).0)))
+        (λ v u f. (nodes-leave body v (declared_to h.binding ns) (is_looped c loop) (levels + 1) u parts.in_body
+        (f ∙ ap (declared_to h.binding) same ∙ declared-full h.binding ns)).0)
+        (λ u f. (nodes-leave other d (else_scope c h.binding ns) loop (levels + 1) u parts.in_other
+        (f ∙ ap (else_scope c h.binding) same ∙ else-full c h.binding ns)).0)))
     stepped-leaves line break_node d ns loop levels r e same = ((([], refl), λ f. absurd (false≢true (sym f ∙ e)), λ older. refl), λ f. absurd f)
     stepped-leaves line continue_node d ns loop levels r e same = ((([], refl), λ f. absurd (false≢true (sym f ∙ e)), λ older. refl), λ f. absurd f)
     stepped-leaves line (template_node name given) d ns loop levels r e same =
