@@ -23,7 +23,8 @@ use Rattle.clap.specs.Faults.{walk_fault, word_fault}
 use Rattle.clap.specs.Words.{matches_of, same_text}
 use Rattle.clap.specs.declared.builder.ValueParser.TheVariants as vp
 use Rattle.clap.proofs.WalkLemmas.{list_any-map}
-use Rattle.tmpl_tool.specs.Words.{HasModeNames, Modes, mode_rule, tool_app}
+use Rattle.tmpl_tool.specs.Laws.{LiesAnywhere}
+use Rattle.tmpl_tool.specs.Words.{HasModeNames, Modes, here, mode_rule, tool_app, words_fault, words_rows}
 
 -- the argument as the command has it once it is built
 abbrev placed : Modes → Rule
@@ -378,3 +379,7 @@ pub alike : (m n : Modes) → HasModeNames m → HasModeNames n → (t : Text) �
 alike m n is_m is_n t =
     let passes = λ (word : Text). same_text false word t in
     list_any-map passes (λ w. w.now) m.now ∙ ap (list_any passes) (is_m ∙ sym is_n) ∙ sym (list_any-map passes (λ w. w.now) n.now)
+
+pub lies_anywhere : LiesAnywhere
+unfolding words_fault words_rows
+lies_anywhere modes is words = (faults_same modes here (alike modes here is refl) words, matches_same modes here words)

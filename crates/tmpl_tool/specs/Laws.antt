@@ -1,13 +1,14 @@
 -- Laws of the command: its stages, and its ends.
 use Rattle.std.specs.Prelude.{◌≡◌, ◌≢◌, ◌+◌, ℕ, true, false, List, [], ◌∷◌, ◌++◌, length, Option, Some, None}
 use Rattle.std.specs.Prelude.{Ok, Err}
+use Rattle.clap.specs.Words.{Text, fault_of, matches_of}
 use Rattle.tmpl_values.specs.Value.{Value}
 use Rattle.tmpl_syntax.specs.Tree.{Tree}
 use Rattle.tmpl_syntax.specs.Set.{Template, tree_named}
 use Rattle.tmpl_meaning.specs.Meaning.{ran}
 use Rattle.tmpl_meaning.specs.Sink.{Cut, Sunk}
 use Rattle.tmpl_tool.specs.Help.{asks_help}
-use Rattle.tmpl_tool.specs.Words.{Wanted, wanted}
+use Rattle.tmpl_tool.specs.Words.{HasModeNames, Modes, Wanted, tool_app, wanted, words_fault, words_rows}
 use Rattle.tmpl_tool.specs.Source.{Bytes, Files}
 use Rattle.tmpl_tool.specs.Outcome.{Answer, BegunIf, Outcome, Says, memory_line, write_line}
 use Rattle.tmpl_tool.specs.Tool.{Failing, IsParse, Parse, Stop, asked_by, asked_name, bad_words, data_found, help}
@@ -20,6 +21,11 @@ HasParse = (parse : Parse) × IsParse parse
 -- .. and no other does
 abbrev pub HasOneParse : Type 0
 HasOneParse = (parse other : Parse) → IsParse parse → IsParse other → parse ≡ other
+
+-- wherever the four words of `--missingkey` lie, clap's definition has the same faults for words, and the same matches
+abbrev pub LiesAnywhere : Type 0
+LiesAnywhere = (modes : Modes) → HasModeNames modes → (words : List Text)
+    → (fault_of (tool_app modes) words ≡ words_fault words) × (matches_of (tool_app modes) words ≡ words_rows words)
 
 -- words that ask for help get the usage, with status 0
 abbrev pub GivesHelp : Type 0

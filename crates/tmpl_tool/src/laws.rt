@@ -1,7 +1,14 @@
-//! The laws of the command: what parses its files, its stages, and its ends.
-ghost use Rattle.tmpl_tool.specs.Laws.{GivesHelp, HasOneParse, HasParse, Prints, RefusesWords, Runs, StopsAtData};
-ghost use Rattle.tmpl_tool.specs.Laws.{StopsAtDataRead, StopsAtFile, StopsAtName, StopsAtRead};
+//! The laws of the command: its words, what parses its files, its stages, and its ends.
+ghost use Rattle.tmpl_tool.specs.Laws.{GivesHelp, HasOneParse, HasParse, LiesAnywhere, Prints, RefusesWords, Runs};
+ghost use Rattle.tmpl_tool.specs.Laws.{StopsAtData, StopsAtDataRead, StopsAtFile, StopsAtName, StopsAtRead};
 ghost use Rattle.tmpl_tool.specs.Laws.{TellsFailedWrite, TellsRefusedMemory};
+
+/// The law that clap's definition of the words does not depend on where the four words of `--missingkey` lie in memory,
+/// so that it may be stated at any one place.
+#[tactic(auto, using(crate::proofs::ModeNameLemmas::lies_anywhere))]
+pub fn one_place()
+    ensures { LiesAnywhere }
+{}
 
 /// The law that just one function accepts and refuses each file by the rules.
 #[tactic(auto, using(crate::proofs::ParseLemmas::one_parse))]

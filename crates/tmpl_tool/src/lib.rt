@@ -16,7 +16,7 @@ pub use answer::print;
 pub use command::{Ended, tool, tool_keeping};
 pub use files::inputs::{Inputs, read_inputs};
 pub use files::source::{Source, SourceFault};
-pub use laws::{ends, one_parse, stages};
+pub use laws::{ends, one_parse, one_place, stages};
 pub use messages::lines::{out_of_memory, refuse, words_refused, write_failed};
 pub use render::{asked_name, render_named, tell_end};
 pub use status::Status;
