@@ -1,5 +1,4 @@
 pub mod AddedLemmas
-pub mod CallExamples
 pub mod EscapeLemmas
 pub mod FormLemmas
 pub mod FormatLemmas

@@ -1,6 +1,5 @@
 pub mod BytesLemmas
 pub mod DataLemmas
-pub mod ElementExamples
 pub mod ElementLemmas
 pub mod HasRunesLemmas
 pub mod ItemLemmas
@@ -12,5 +11,6 @@ pub mod RestLemmas
 pub mod RisingLemmas
 pub mod RuneLemmas
 pub mod TreeLemmas
+pub mod TruthExamples
 pub mod TruthLemmas
 pub mod WalkLemmas
