@@ -1,9 +1,14 @@
 -- What a render of a template by its name comes to, as its sink saw it.
 use Rattle.std.specs.Prelude.{◌≡◌, ◌⊎◌, List, ℕ, Option, Some, None, Result, Ok, Err, option_map}
+use Rattle.std.specs.Borrow.{Bor}
 use Rattle.tmpl_values.specs.Value.{Value}
+use Rattle.tmpl_values.specs.View.{value_of}
+use Rattle.tmpl_values.specs.declared.data.Data.{Data}
 use Rattle.tmpl_syntax.specs.Set.{Template, tree_named}
 use Rattle.tmpl_meaning.specs.Meaning.{Ran, Rules, ran}
-use Rattle.tmpl_meaning.specs.Sink.{Sunk, Untouched}
+use Rattle.tmpl_meaning.specs.Sink.{Sunk, Told, Untouched, sunk}
+use Rattle.tmpl_meaning.specs.View.{rules_of}
+use Rattle.tmpl_meaning.specs.declared.options.Options.{Options}
 use Rattle.tmpl_run.specs.Run.{IsRun}
 use Rattle.tmpl_run.specs.declared.fault.RunError.TheVariants as run
 use Rattle.tmpl_engine.specs.declared.error.RenderError.{RenderError}
@@ -25,3 +30,9 @@ IsRunOf r s (Err NoTemplate) = ⊥
 abbrev pub IsRender : Option Ran → Sunk → Result (Unit {0}) RenderError → Type 0
 IsRender None s answer = (answer ≡ Err NoTemplate) × Untouched s
 IsRender (Some r) s answer = IsRunOf r s answer
+
+-- .. of the template of this name, over data if they are given, by these options, between these states of the sink
+abbrev pub Renders : Options → List Template → List ℕ → Option (Bor Data) → Told → Told
+    → Result (Unit {0}) RenderError → Type 0
+Renders options ts name given before after answer =
+    IsRender (ran_named (rules_of options) ts name (option_map (λ d. value_of d.now) given)) (sunk before after) answer

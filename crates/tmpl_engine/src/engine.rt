@@ -1,11 +1,8 @@
 //! An engine: templates that a host adds once and renders as often as it likes.
-ghost use Rattle.std.specs.Prelude.{◌≡◌, ◌<◌, ◌^◌, ◌-◌, [], option_map};
-ghost use Rattle.tmpl_values.specs.View.{value_of};
+ghost use Rattle.std.specs.Prelude.{◌≡◌, ◌<◌, ◌^◌, ◌-◌, []};
 ghost use Rattle.tmpl_syntax.specs.View.{set_view};
 ghost use Rattle.tmpl_syntax.specs.Parse.{IsReading};
-ghost use Rattle.tmpl_meaning.specs.Sink.{sunk};
-ghost use Rattle.tmpl_meaning.specs.View.{rules_of};
-ghost use Rattle.tmpl_engine.specs.Render.{IsRender, ran_named};
+ghost use Rattle.tmpl_engine.specs.Render.{Renders};
 ghost use Rattle.tmpl_engine.specs.View.{templates_of};
 
 use crate::error::RenderError;
@@ -98,9 +95,8 @@ impl Engine {
         out: &mut S,
     ) -> Result<(), RenderError<'a>>
         requires { (S.so_far out.old).failures < 2 ^ 64 - 1 }
-        ensures { let input = option_map (λ d. value_of d.now) «data».entry in
-            IsRender (ran_named (rules_of options.now) (templates_of self.now) name.now input)
-            (sunk (S.so_far out.old) (S.so_far out.new)) result }
+        ensures { Renders options.now (templates_of self.now) name.now «data».entry
+            (S.so_far out.old) (S.so_far out.new) result }
     {
         render(alloc, &self.set, name, data, options, out)
     }

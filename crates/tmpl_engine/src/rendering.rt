@@ -5,7 +5,7 @@ ghost use Rattle.tmpl_syntax.specs.View.{set_view};
 ghost use Rattle.tmpl_meaning.specs.Meaning.{ran};
 ghost use Rattle.tmpl_meaning.specs.Sink.{sunk};
 ghost use Rattle.tmpl_meaning.specs.View.{rules_of};
-ghost use Rattle.tmpl_engine.specs.Render.{IsRender, IsRunOf, ran_named};
+ghost use Rattle.tmpl_engine.specs.Render.{IsRunOf, Renders};
 ghost use Rattle.tmpl_engine.specs.View.{templates_in};
 
 use crate::cells::empty_cells;
@@ -87,9 +87,8 @@ impl<'s> Renderer<'s> {
         out: &mut S,
     ) -> Result<(), RenderError<'s>>
         requires { (S.so_far out.old).failures < 2 ^ 64 - 1 }
-        ensures { let input = option_map (λ d. value_of d.now) «data».entry in
-            IsRender (ran_named (rules_of options.now) (templates_in self.now) name.now input)
-            (sunk (S.so_far out.old) (S.so_far out.new)) result }
+        ensures { Renders options.now (templates_in self.now) name.now «data».entry
+            (S.so_far out.old) (S.so_far out.new) result }
     {
         match self.program.entry(name) {
             Some(entry) => {
@@ -140,9 +139,7 @@ pub fn render<'a, S: Sink>(
     out: &mut S,
 ) -> Result<(), RenderError<'a>>
     requires { (S.so_far out.old).failures < 2 ^ 64 - 1 }
-    ensures { let input = option_map (λ d. value_of d.now) «data».entry in
-        IsRender (ran_named (rules_of options.now) (set_view set.now) name.now input)
-        (sunk (S.so_far out.old) (S.so_far out.new)) result }
+    ensures { Renders options.now (set_view set.now) name.now «data».entry (S.so_far out.old) (S.so_far out.new) result }
 {
     let mut piece = [0; PIECE_SIZE];
     render_through(alloc, set, name, data, options, piece.as_mut_slice(), out)
@@ -164,9 +161,7 @@ pub fn render_through<'a, S: Sink>(
     out: &mut S,
 ) -> Result<(), RenderError<'a>>
     requires { (S.so_far out.old).failures < 2 ^ 64 - 1 }
-    ensures { let input = option_map (λ d. value_of d.now) «data».entry in
-        IsRender (ran_named (rules_of options.now) (set_view set.now) name.now input)
-        (sunk (S.so_far out.old) (S.so_far out.new)) result }
+    ensures { Renders options.now (set_view set.now) name.now «data».entry (S.so_far out.old) (S.so_far out.new) result }
 {
     match set.number(name) {
         Some(number) => run_once(alloc, set, number, data, options, piece, out),
