@@ -8,7 +8,7 @@ use Rattle.std.proofs.lemmas.Str.{length-encode, len_utf8_bounds, encode_ascii}
 use lib.Utf8.{scalar_fits}
 use Rattle.tmpl_values.specs.Rune.{Rune, char, byte, bytes_in}
 use Rattle.tmpl_values.specs.Rune.{runes}
-use Rattle.tmpl_values.specs.Quote.{letters, letter_of, hexes, spelled, spelling, inside}
+use Rattle.tmpl_values.specs.Quote.{letters, letter_of, hexes, rune_spelling, spelling, inside}
 use Rattle.tmpl_values.specs.Bytes.{AreBytes}
 use Rattle.tmpl_values.proofs.RuneLemmas.{IsRune, AreRunes, are_runes, text-runes}
 use Rattle.tmpl_grammar.specs.computed.Quoted.{as_byte, as_char, byte_named, escape_by, part_at, with_part, parts_after, parts, unquoted}
@@ -125,7 +125,7 @@ spelled-code false false false c rest s none l b =
     count-is 10 (length (92 ∷ 85 ∷ hexes 8 c)) (omega (arith, length-hexes 8 c)) (part-U c rest (scalar_fits c s) s)
 
 spelled-char : (prints : ℕ → Bool) (c : ℕ) (o : Option ℕ) (rest : List ℕ) → letter_of c letters ≡ o → IsScalar c
-    → IsPart (spelled prints c o ++ rest) (length (spelled prints c o)) (encode_utf8 c)
+    → IsPart (rune_spelling prints c o ++ rest) (length (rune_spelling prints c o)) (encode_utf8 c)
 spelled-char prints c (Some e) rest is s = part-letter c e rest is
 spelled-char prints c None rest is s = spelled-code (prints c) _ _ c rest s is refl refl
 
@@ -140,7 +140,7 @@ some false true bmp c = omega arith
 some false false true c = omega arith
 some false false false c = omega arith
 
-some-spelled : (prints : ℕ → Bool) (c : ℕ) (o : Option ℕ) → 0 < length (spelled prints c o)
+some-spelled : (prints : ℕ → Bool) (c : ℕ) (o : Option ℕ) → 0 < length (rune_spelling prints c o)
 some-spelled prints c (Some e) = omega arith
 some-spelled prints c None = some _ _ _ c
 

@@ -8,7 +8,7 @@ use Rattle.std.proofs.lemmas.Str.{inside_one}
 use Rattle.tmpl_lex.specs.Token.{IsQuoted, no_byte, a_byte, an_escape}
 use Rattle.tmpl_values.specs.Rune.{Rune, char, byte}
 use Rattle.tmpl_values.specs.Rune.{runes}
-use Rattle.tmpl_values.specs.Quote.{letters, letter_of, hexes, spelled, spelling, inside}
+use Rattle.tmpl_values.specs.Quote.{letters, letter_of, hexes, rune_spelling, spelling, inside}
 use Rattle.tmpl_grammar.proofs.QuotePartLemmas.{letter-no-newline, unlettered}
 
 -- bytes that end no string and begin no escape
@@ -69,7 +69,7 @@ code-within false true bmp c t is k = within-escape 120 (hexes 2 c) t refl (plai
 code-within false false true c t is k = within-escape 117 (hexes 4 c) t refl (plain-hexes 4 c) k
 code-within false false false c t is k = within-escape 85 (hexes 8 c) t refl (plain-hexes 8 c) k
 
-char-within : (prints : ℕ → Bool) (c : ℕ) (o : Option ℕ) (t : List ℕ) → letter_of c letters ≡ o → IsQuoted 34 t → IsQuoted 34 (spelled prints c o ++ t)
+char-within : (prints : ℕ → Bool) (c : ℕ) (o : Option ℕ) (t : List ℕ) → letter_of c letters ≡ o → IsQuoted 34 t → IsQuoted 34 (rune_spelling prints c o ++ t)
 char-within prints c (Some e) t is k = within-escape e [] t (letter-no-newline c e is) tt k
 char-within prints c None t is k = code-within (prints c) _ _ c t is k
 

@@ -32,13 +32,13 @@ plain_or_code prints c =
     else (if nat_lt c 65536 then 92 ∷ 117 ∷ hexes 4 c else 92 ∷ 85 ∷ hexes 8 c))
 
 -- a character by its letter, if it has one
-abbrev pub spelled : (ℕ → Bool) → ℕ → Option ℕ → List ℕ
-spelled prints c (Some e) = 92 ∷ e ∷ []
-spelled prints c None = plain_or_code prints c
+abbrev pub rune_spelling : (ℕ → Bool) → ℕ → Option ℕ → List ℕ
+rune_spelling prints c (Some e) = 92 ∷ e ∷ []
+rune_spelling prints c None = plain_or_code prints c
 
 -- a rune as it stands in a quote
 abbrev pub spelling : (ℕ → Bool) → Rune → List ℕ
-spelling prints (char c) = spelled prints c (letter_of c letters)
+spelling prints (char c) = rune_spelling prints c (letter_of c letters)
 spelling prints (byte b) = 92 ∷ 120 ∷ hexes 2 b
 
 -- what stands between the quotation marks
