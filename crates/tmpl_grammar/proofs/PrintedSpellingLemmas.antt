@@ -7,12 +7,11 @@ use Rattle.tmpl_values.specs.Bytes.{AreBytes}
 use Rattle.tmpl_funcs.specs.Func.{name_of}
 use Rattle.tmpl_lex.specs.Piece.{Token}
 use Rattle.tmpl_lex.specs.declared.piece.TokenKind.TheVariants as kind
-use Rattle.tmpl_grammar.specs.computed.Reading.{opens_range}
 use Rattle.tmpl_grammar.specs.Tree as tree
 use Rattle.tmpl_grammar.specs.Tree.{Operand, Operands, Commands, Pipeline, pipeline, Binding, unbound, declare, assign, Header, declare_pair}
 use Rattle.tmpl_grammar.specs.Action.{Action, pipeline_action, opening, else_branch, define_action, template_action, block_action, SpellsGiven, SpellsAction}
 use Rattle.tmpl_grammar.specs.Pipeline.{IsBlank, IsChain, SpellsOperand, SpellsMore, SpellsCommand, SpellsLater, SpellsPipeline}
-use Rattle.tmpl_grammar.specs.Header.{Then, IsVariable, IsSign, IsName, SpellsHeader, SpellsBinding, SpellsWhole}
+use Rattle.tmpl_grammar.specs.Header.{is_range, Then, IsVariable, IsSign, IsName, SpellsHeader, SpellsBinding, SpellsWhole}
 use Rattle.tmpl_grammar.specs.Constant.{IsConstant}
 use Rattle.tmpl_grammar.specs.computed.Constant.{constant_of, string_in}
 use Rattle.tmpl_grammar.specs.Operand as operand
@@ -22,8 +21,6 @@ use Rattle.tmpl_grammar.specs.Print.{token, space, word, chain_tokens, truth_wor
 use Rattle.tmpl_grammar.specs.Print.{later_tokens, commands_tokens, header_tokens, action_tokens, binding_tokens, pipeline_tokens}
 use Rattle.tmpl_grammar.specs.Print.{given_tokens}
 use Rattle.tmpl_grammar.specs.Printable.{AreFieldNames, OfOperand, OfMore, OfCommand, OfLater, OfCommands, OfPipeline, OfBinding, OfGiven, OfAction, OfHeader}
-use Rattle.tmpl_grammar.specs.declared.action.HeaderShape.{HeaderShape}
-use Rattle.tmpl_grammar.specs.declared.action.HeaderShape.TheVariants as shape
 use Rattle.tmpl_grammar.proofs.IsConstantLemmas.{between-quotes, is-computed-constant}
 use Rattle.tmpl_grammar.proofs.QuotePartLemmas.{unquoted-inside}
 use Rattle.tmpl_grammar.proofs.PrintedNumberLemmas.{integer-decimal}
@@ -197,8 +194,8 @@ spells-bound (assign name) p h k =
     (signed name p (token kind.Assign (61 ∷ [])) h.0 k (space ∷ []) (refl, tt), signed name p (token kind.Assign (61 ∷ [])) h.0 k [] tt)
 spells-bound (declare_pair key name) p h k = (paired key name p h.0.0 h.1.0 k (space ∷ []) (refl, tt), paired key name p h.0.0 h.1.0 k [] tt)
 
-spells-header : (s : HeaderShape) (h : Header) → OfHeader (opens_range s) h → SpellsHeader (opens_range s) h (space ∷ header_tokens h)
-spells-header s h of = (of.0, (spells-bound h.binding h.pipeline of.1 of.2).0)
+spells-header : (in_range : Bool) (h : Header) → OfHeader in_range h → SpellsHeader in_range h (space ∷ header_tokens h)
+spells-header in_range h of = (of.0, (spells-bound h.binding h.pipeline of.1 of.2).0)
 
 spells-given : (given : Option Pipeline) → OfGiven given → SpellsGiven given (given_tokens given)
 spells-given None h = tt
@@ -206,9 +203,9 @@ spells-given (Some p) h = spaced-whole p h
 
 pub spells-tokens : (a : Action) → OfAction a → SpellsAction a (action_tokens a)
 spells-tokens (pipeline_action h) of = (of.0, (spells-bound h.binding h.pipeline of.1 of.2).1)
-spells-tokens (opening c h) of = ([], word _, _, refl, tt, (refl, refl), spells-header (shape.Open c) h of)
+spells-tokens (opening c h) of = ([], word _, _, refl, tt, (refl, refl), spells-header (is_range c) h of)
 spells-tokens (else_branch br h) of =
-    ([], word _, _, refl, tt, (refl, refl), (space ∷ [], word _, _, refl, (refl, tt), (refl, refl), spells-header (shape.ElseBranch br) h of))
+    ([], word _, _, refl, tt, (refl, refl), (space ∷ [], word _, _, refl, (refl, tt), (refl, refl), spells-header false h of))
 spells-tokens (define_action name) of =
     ([], word _, _, refl, tt, (refl, refl), (space ∷ [], token kind.String (quote name), [], refl, (refl, tt), quoted-constant name of, tt))
 spells-tokens (template_action name given) of = (

@@ -10,9 +10,6 @@ use Rattle.tmpl_grammar.specs.Action.{else_branch, end_action, break_action, con
 use Rattle.tmpl_grammar.specs.Action.{template_action, block_action}
 use Rattle.tmpl_syntax.specs.Item.{Item, item, text_item, unreadable_item, unread_item, deep_item, action_item}
 use Rattle.tmpl_grammar.specs.declared.action.Branch.{Branch}
-use Rattle.tmpl_grammar.specs.declared.action.Shape.{Shape}
-use Rattle.tmpl_grammar.specs.declared.action.Shape.TheVariants as piped
-use Rattle.tmpl_grammar.specs.declared.action.HeaderShape.TheVariants as shape
 use Rattle.tmpl_syntax.specs.Place.Opening.{Opening}
 use Rattle.tmpl_syntax.specs.Place.Opening as opening
 
@@ -104,18 +101,16 @@ act_of (block_action name p) = opener opening.block (names_given (Some p))
 abbrev pub deep_names : Names
 deep_names = record { declares = []; uses = []; nested = true }
 
-abbrev pub act_of_shape : Shape → Act
-act_of_shape (piped.Header shape.Pipeline) = plain deep_names
-act_of_shape (piped.Header (shape.Open c)) = opener (opening.control c) deep_names
-act_of_shape (piped.Header (shape.ElseBranch branch)) = branch_else branch deep_names
-act_of_shape piped.Template = plain deep_names
-act_of_shape piped.Block = opener opening.block deep_names
+-- .. and among those with a pipeline an else branch alone may be out of place
+abbrev pub deep_act : Option Branch → Act
+deep_act None = plain deep_names
+deep_act (Some branch) = branch_else branch deep_names
 
 abbrev pub role_of : Item → Role
 role_of (item line (text_item bytes)) = text_role
 role_of (item line unreadable_item) = unreadable_role
 role_of (item line unread_item) = unread_role
-role_of (item line (deep_item shape)) = act_role (act_of_shape shape)
+role_of (item line (deep_item branch)) = act_role (deep_act branch)
 role_of (item line (action_item a)) = act_role (act_of a)
 
 abbrev pub roles_of : List Item → List Role
