@@ -8,11 +8,10 @@ use Rattle.tmpl_syntax.specs.Tree.{NodeKind, text, action, control_node, break_n
 use Rattle.tmpl_grammar.specs.Action.{pipeline_action, opening, plain_else, else_branch, end_action, break_action, continue_action}
 use Rattle.tmpl_grammar.specs.Action.{define_action, template_action, block_action}
 use Rattle.tmpl_syntax.specs.Item.{Item, item, text_item, unreadable_item, unread_item, deep_item, action_item}
-use Rattle.tmpl_syntax.specs.Place.Role.{Name, deep_act, role_of, roles_of}
-use Rattle.tmpl_grammar.specs.declared.action.Branch.{Branch}
+use Rattle.tmpl_syntax.specs.Place.Role.{Name, role_of, roles_of}
 use Rattle.tmpl_syntax.specs.Place.Open.{is_template}
 use Rattle.tmpl_syntax.specs.Place.Body.{Verdict, fine, refused, left_open}
-use Rattle.tmpl_syntax.specs.computed.Frames.{Known, none_known, top, takes_else, elsed, is_too_deep, seen_at, fault_at, frames_past}
+use Rattle.tmpl_syntax.specs.computed.Frames.{Known, none_known, top, takes_else, elsed, seen_at, fault_at, frames_past}
 use Rattle.tmpl_syntax.specs.computed.Frames.{unless_fault, verdict_from, verdict_of}
 use Rattle.tmpl_syntax.specs.Spelling.{Leads, nothing, a_text, an_action, a_break, a_continue, a_control, a_template, a_define, a_block}
 use Rattle.tmpl_syntax.specs.Spelling.{Closes, an_end, an_else, an_else_branch, Spells}
@@ -74,10 +73,6 @@ closes-of : (f : Frame) (ys zs : List Item) (es gs : List Definition) (other : N
     → Closing (ends_only f) ys es other zs gs → Closes ys es other zs gs
 closes-of f ys zs es gs other e c = subst (λ k. Closing k ys es other zs gs) (open-end f e) c
 
-pub too-deep : (branch : Option Branch) (t : Option Frame) → is_too_deep (deep_act branch) t ≡ true
-too-deep None t = refl
-too-deep (Some b) t = refl
-
 -- behind a plain else, and in the body of a template, only the `end` stands
 elsed-closing : (f : Frame) (ys zs : List Item) (es gs : List Definition) (other : Nodes) → Closing (ends_only (elsed f)) ys es other zs gs
     → Closing true ys es other zs gs
@@ -105,9 +100,7 @@ module _ (names : List Name) (xs : List Item) (p : build.Parts) where
   step (item line unreadable_item) fs e r = let g : Some reason.unreadable ≡ None = e in cc
   step (item line unread_item) fs e r = let g : Some reason.not_an_action ≡ None = e in cc
   step (item line (deep_item branch)) fs e r =
-      let deep : true ≡ false = sym (too-deep branch (top fs)) ∙ (placed (item line (deep_item branch)) (top fs) e).1 in
-      let g : ⊥ = cc in
-      absurd g
+      let g : true ≡ false = (placed (item line (deep_item branch)) (top fs) e).1 in cc
   step (item line (action_item (pipeline_action h))) fs e r = at-node fs _ line (action h) (λ ns ys es d. an_action d) r
   step (item line (action_item (opening c h))) fs e r = rest-node fs _ r.3 p.definitions r.4 line (control_node c h p.inner.nodes p.inner.other)
       (first_of p.around) (rest_of p.around) (λ ns ys es d. a_control r.2 r.5 d) r.6

@@ -40,7 +40,6 @@ pub(super) fn forget(names: &mut KnownNames<'_>, item: &Item, outside: Option<Fr
     };
     match &item.what {
         ItemKind::Action(action) => forget_at(names, action, frame),
-        ItemKind::TooDeep(Some(_)) => names.truncate(frame.part),
         _ => {}
     }
 }

@@ -1,13 +1,12 @@
 //! The fault of an action in its place.
-ghost use Rattle.std.specs.Prelude.{◌≡◌, List, Some, option_map};
+ghost use Rattle.std.specs.Prelude.{◌≡◌, Some, option_map, true};
 ghost use Rattle.tmpl_grammar.specs.View.{action_of};
 ghost use Rattle.tmpl_syntax.specs.computed.View.{frame_of, item_of, known_names, opening_of};
-ghost use Rattle.tmpl_syntax.specs.Place.Role as role;
-ghost use Rattle.tmpl_syntax.specs.Place.Role.{act_of, deep_act, role_of};
+ghost use Rattle.tmpl_syntax.specs.Place.Role.{act_of, nested, role_of};
 ghost use Rattle.tmpl_syntax.specs.Place.Body as body;
 ghost use Rattle.tmpl_syntax.specs.computed.Fault.{of_action};
-ghost use Rattle.tmpl_syntax.specs.computed.Frames.{fault_at, fault_in, in_loop, is_placed, is_too_deep, levels};
-ghost use Rattle.tmpl_syntax.specs.computed.Frames.{takes_branch, takes_else};
+ghost use Rattle.tmpl_syntax.specs.computed.Frames.{fault_at, fault_in, first_fault, in_loop, is_placed, is_too_deep};
+ghost use Rattle.tmpl_syntax.specs.computed.Frames.{levels, takes_branch, takes_else};
 
 use crate::fault::Fault;
 use crate::item::{Item, ItemKind};
@@ -52,8 +51,8 @@ fn action_fault(action: &Action, outside: Option<Frame>, names: &KnownNames<'_>)
 /// The fault of an action whose parentheses nest too deep, of an else branch by its control: its place is looked at
 /// first, and only an else branch may be out of place.
 fn deep_fault(branch: Option<Branch>, outside: Option<Frame>) -> Fault
-    ensures { (names : List role.Name)
-        → Some (of_action result) ≡ fault_in (deep_act branch) (option_map frame_of outside) names }
+    ensures { Some (of_action result)
+        ≡ first_fault (is_placed (nested branch) (option_map frame_of outside)) true true }
 {
     if is_branch_in_place(branch, outside) {
         Fault::NestedTooDeeply
@@ -64,7 +63,7 @@ fn deep_fault(branch: Option<Branch>, outside: Option<Frame>) -> Fault
 
 /// Whether an else branch of this control may stand there; any other action may.
 fn is_branch_in_place(branch: Option<Branch>, outside: Option<Frame>) -> bool
-    ensures { result ≡ is_placed (deep_act branch) (option_map frame_of outside) }
+    ensures { result ≡ is_placed (nested branch) (option_map frame_of outside) }
 {
     match branch {
         Some(branch) => may_take_else(outside) && may_take_branch(branch, outside),
