@@ -1,6 +1,6 @@
 -- For `one_action`: the grammar of a header and its reading agree.
 use Rattle.std.specs.Option.{option_map}
-use Rattle.std.proofs.Common.{◌≡◌, ◌∙◌, ℕ, Bool, true, false, List, [], ◌∷◌, Option, Some, None, refl, ap, sym, subst}
+use Rattle.std.proofs.Common.{arith, ◌≡◌, ◌∙◌, ◌<◌, ℕ, Bool, true, false, List, [], ◌∷◌, Option, Some, None, refl, ap, sym, subst, length}
 use Rattle.tmpl_lex.specs.declared.piece.TokenKind.{TokenKind}
 use Rattle.tmpl_lex.specs.declared.piece.TokenKind.TheVariants as kind
 use Rattle.tmpl_lex.specs.Piece.{Token}
@@ -8,7 +8,7 @@ use Rattle.tmpl_grammar.specs.Token.{name_in}
 use Rattle.tmpl_grammar.specs.computed.Token.{is_space_kind, is_white, next}
 use Rattle.tmpl_grammar.specs.Tree.{Commands, Pipeline, pipeline, Binding, unbound, declare, assign, declare_pair, Header}
 use Rattle.tmpl_grammar.specs.Pipeline.{SpellsPipeline}
-use Rattle.tmpl_grammar.specs.Header.{IsSign, IsName, IsVariable, Then, may_bind, SpellsBinding, SpellsWhole, SpellsHeader}
+use Rattle.tmpl_grammar.specs.Header.{IsSign, IsVariable, Then, may_bind, SpellsBinding, SpellsWhole, SpellsHeader}
 use Rattle.tmpl_grammar.specs.computed.Reading.{pipeline_in, named_by, named_kind, named_at, named, Front, plain, bound, second_by}
 use Rattle.tmpl_grammar.specs.computed.Reading.{second_signed, second_named, front_by, front_signed, front_named, front_in, split_by, split}
 use Rattle.tmpl_grammar.specs.computed.Reading.{header_with, header_if, header_by, header_in}
@@ -22,8 +22,8 @@ use Rattle.tmpl_grammar.proofs.StrayLemmas.{IsDead, declare-stray, assign-stray,
 pub variable-other : (name : List ℕ) (t : Token) → IsVariable name t → is_white t ≡ false
 variable-other name t v = ap is_space_kind v.0
 
-has-name : (name : List ℕ) (ts : List Token) → IsName name → named_by name ts ≡ Some (name, ts)
-has-name [] ts h = absurd h
+has-name : (name : List ℕ) (ts : List Token) → 0 < length name → named_by name ts ≡ Some (name, ts)
+has-name [] ts h = absurd (omega (arith, h))
 has-name (b ∷ bs) ts h = refl
 
 -- the tokens behind the variable that comes first
@@ -55,7 +55,7 @@ named-tells ts = by (next ts) refl
   where
     name-tells : (t : Token) (us : List Token) → next ts ≡ Some (t, us) → t.kind ≡ kind.Variable → (n : List ℕ) → name_in t ≡ n → NamedAs ts (named_by n us)
     name-tells t us e k [] is = tt
-    name-tells t us e k (b ∷ bs) is = led-then (IsVariable (b ∷ bs)) (IsRest us) ts t us e (k, is, tt) refl
+    name-tells t us e k (b ∷ bs) is = led-then (IsVariable (b ∷ bs)) (IsRest us) ts t us e (k, is, omega arith) refl
 
     kind-tells : (t : Token) (us : List Token) → next ts ≡ Some (t, us) → (k : TokenKind) → t.kind ≡ k → NamedAs ts (named_kind k t us)
     kind-tells t us e kind.Variable is = name-tells t us e is (name_in t) refl

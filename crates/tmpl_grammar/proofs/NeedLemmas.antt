@@ -44,7 +44,7 @@ joined ts us vs e = ap length e ∙ length-append us vs
 mutual
   operand-within : (o : Operand) (ts : List Token) → SpellsOperand o ts → need_of_operand o ≤ length ts
   operand-within tree.dot ts s = one-token tree.dot [] ts s
-  operand-within (tree.fields []) ts s = absurd s
+  operand-within (tree.fields []) ts s = one-token (tree.fields []) [] ts s
   operand-within (tree.fields (n ∷ ns)) ts s = one-token (tree.fields (n ∷ [])) ns ts s
   operand-within (tree.variable name names) ts s = one-token (tree.variable name []) names ts s
   operand-within (tree.bool_constant b) ts s = one-token (tree.bool_constant b) [] ts s

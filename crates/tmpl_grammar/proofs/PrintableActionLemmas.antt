@@ -117,7 +117,7 @@ of-chain (n ∷ ns) ts r s =
 
 mutual
   of-operand : (o : Operand) (ts : List Token) → AreRead ts → SpellsOperand o ts → OfOperand o
-  of-operand (tree.fields []) ts r s = s
+  of-operand (tree.fields []) ts r s = let h = subst AreRead s.2 r in of-token s.0 (tree.fields []) h.0 s.3
   of-operand (tree.fields (n ∷ ns)) ts r s =
       let h = subst AreRead s.2 r in
       ((of-token s.0 (tree.fields (n ∷ [])) h.0 s.3).0, of-chain ns s.1 h.1 s.4)

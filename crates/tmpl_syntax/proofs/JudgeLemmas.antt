@@ -1,8 +1,8 @@
 -- For `one_verdict`: what frames and names tell at an item is which reasons apply to it.
-use Rattle.std.proofs.Common.{arith, ◌≡◌, ◌≢◌, ℕ, ◌+◌, ◌≤◌, Bool, true, false, not, ◌&&◌, ◌||◌, leb, List, [], ◌∷◌, refl, sym, ap, ◌∙◌}
-use Rattle.std.proofs.Common.{subst, take, Option, Some, None, ⊎_elim}
+use Rattle.std.proofs.Common.{arith, ◌≡◌, ◌≢◌, ℕ, ◌+◌, ◌≤◌, true, false, not, ◌&&◌, leb, List, [], ◌∷◌, refl, sym, ap, ◌∙◌}
+use Rattle.std.proofs.Common.{subst, take, Option, Some, ⊎_elim}
 use Rattle.std.specs.Prelude.{slice_get, Contains}
-use Rattle.std.proofs.lemmas.Bool.{and_parts, both_ways, and_cases, not-false, or_cases, or_parts, le-leb, leb-true}
+use Rattle.std.proofs.lemmas.Bool.{false≢true, and_parts, both_ways, and_cases, not-false, or_cases, or_parts, le-leb, leb-true}
 use Rattle.tmpl_grammar.specs.declared.action.Branch.{Branch}
 use Rattle.tmpl_syntax.specs.computed.Frames.{Frame}
 use Rattle.tmpl_syntax.specs.Place.Open.{IsOpening, IsLast, HasElse, is_template}
@@ -44,7 +44,7 @@ no-part xs i known (f ∷ fs) s e t =
     (and_cases (not (is_template f.opening)) (not f.has_else) e)
 
 abbrev some-part : (xs : List Role) (i : ℕ) (known : Known) (fs : List Frame) → Stands xs i known fs → takes_else (top fs) ≡ true → TakesElse xs i
-some-part xs i known [] s e = absurd (let g : false ≡ true = e in let h : ⊥ = cc in h)
+some-part xs i known [] s e = absurd (false≢true e)
 some-part xs i known (f ∷ fs) s e = record {
   opened = s.1;
   last = s.2.last;
@@ -61,7 +61,7 @@ no-branch xs i known b (f ∷ fs) s e (t, joining) = ⊎_elim (λ no. no-part xs
 
 some-branch : (xs : List Role) (i : ℕ) (known : Known) (b : Branch) (fs : List Frame) → Stands xs i known fs
     → (takes_else (top fs) && takes_branch b (top fs)) ≡ true → TakesBranch xs b i
-some-branch xs i known b [] s e = absurd (let g : false ≡ true = e in let h : ⊥ = cc in h)
+some-branch xs i known b [] s e = absurd (false≢true e)
 some-branch xs i known b (f ∷ fs) s e =
     let p = and_parts (takes_else (Some f)) (joins b f.opening) e in
     (some-part xs i known (f ∷ fs) s p.0, ap (joins b) (top-opening xs i known f fs s s.1 s.2.last) ∙ p.1)

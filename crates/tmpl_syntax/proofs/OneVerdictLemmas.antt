@@ -3,7 +3,6 @@ use Rattle.std.proofs.Common.{arith, ◌≡◌, ℕ, ◌<◌, List, length, refl
 use Rattle.std.proofs.lemmas.Bool.{cases_order}
 use Rattle.std.proofs.lemmas.Option.{slice_get_within}
 use Rattle.tmpl_syntax.specs.Fault.{Reason, rank}
-use Rattle.tmpl_syntax.specs.Fault as reason
 use Rattle.tmpl_syntax.specs.Place.Body.{Applies, unreadable, unread, misplaced, too_deep, undeclared, IsRefused, Verdict, fine, refused, left_open, Judged}
 use Rattle.tmpl_syntax.specs.Place.Role.{Role, unreadable_role, unread_role, act_role}
 

@@ -1,6 +1,6 @@
 -- For `one_verdict`: what is open moves with the place.
 use Rattle.std.proofs.Common.{arith, ◌≡◌, ◌≢◌, ℕ, suc, ◌+◌, ◌-◌, ◌<◌, ◌≤◌, Bool, true, false, cond, List, [], ◌∷◌, ◌++◌, refl, sym, ap, ◌∙◌}
-use Rattle.std.proofs.Common.{subst, length, take, drop, get_or, length-drop, get_or-drop, zero-add, Option, Some, None, ⊎_elim}
+use Rattle.std.proofs.Common.{subst, length, take, drop, get_or, length-drop, get_or-drop, zero-add, Option, Some, ⊎_elim}
 use Rattle.std.specs.Prelude.{slice_get, slice_range}
 use Rattle.std.specs.List.{count_by}
 use Rattle.std.proofs.lemmas.Bool.{cases_order, cases_lt}
