@@ -1,5 +1,5 @@
 -- For the reader of the grammar: what it spells, and what it does not.
-use Rattle.std.proofs.Common.{ℕ, pos, List, [], ◌∷◌, refl, codes}
+use Rattle.std.proofs.Common.{arith, ℕ, pos, List, [], ◌∷◌, refl, codes}
 use Rattle.tmpl_lex.specs.declared.piece.TokenKind.TheVariants as kind
 use Rattle.tmpl_lex.specs.Piece.{Token}
 use Rattle.tmpl_grammar.specs.declared.tree.Control.TheVariants as control
@@ -50,7 +50,7 @@ a-declaration = (
     declares ∷ one ∷ space ∷ [],
     refl,
     (refl, tt),
-    (refl, refl, tt),
+    (refl, refl, omega arith),
     (
       [],
       declares,
@@ -82,7 +82,7 @@ an-assignment = (
       space ∷ equals ∷ space ∷ field a ∷ [],
       refl,
       (refl, tt),
-      (refl, refl, tt),
+      (refl, refl, omega arith),
       (
         space ∷ [],
         equals,
@@ -115,7 +115,7 @@ a-range = (
       space ∷ comma ∷ space ∷ variable (codes "e") ∷ space ∷ declares ∷ space ∷ period ∷ [],
       refl,
       (refl, tt),
-      (refl, refl, tt),
+      (refl, refl, omega arith),
       (
         space ∷ [],
         comma,
@@ -129,7 +129,7 @@ a-range = (
           space ∷ declares ∷ space ∷ period ∷ [],
           refl,
           (refl, tt),
-          (refl, refl, tt),
+          (refl, refl, omega arith),
           (
             space ∷ [],
             declares,

@@ -6,14 +6,12 @@ use lib.Pointwise.{bytes_decides}
 use Rattle.tmpl_lex.specs.declared.piece.TokenKind.{TokenKind}
 use Rattle.tmpl_lex.specs.declared.piece.TokenKind.TheVariants as kind
 use Rattle.tmpl_lex.specs.Piece.{Token}
-use Rattle.tmpl_grammar.specs.computed.Reading.{opens_range}
 use Rattle.tmpl_grammar.specs.computed.Token.{is_space_kind, is_white, is_blank, next}
 use Rattle.tmpl_grammar.specs.Tree.{Operand, text_constant, Commands, Pipeline, pipeline, Binding, unbound, declare, assign, declare_pair, Header}
 use Rattle.tmpl_grammar.specs.Action.{Action, pipeline_action, opening, plain_else, else_branch, end_action, break_action, continue_action}
 use Rattle.tmpl_grammar.specs.Action.{define_action, template_action, block_action, control_in, IsQuoted, SpellsGiven, SpellsAction}
-use Rattle.tmpl_grammar.specs.computed.Reading.{action_with}
 use Rattle.tmpl_grammar.specs.Pipeline.{IsBlank, SpellsPipeline}
-use Rattle.tmpl_grammar.specs.Header.{IsSign, IsVariable, Then, SpellsWhole, SpellsBinding, SpellsHeader}
+use Rattle.tmpl_grammar.specs.Header.{is_range, IsSign, IsVariable, Then, SpellsWhole, SpellsBinding, SpellsHeader}
 use Rattle.tmpl_grammar.specs.Keyword.{IsWord}
 use Rattle.tmpl_grammar.specs.computed.Keyword.{spelling}
 use Rattle.tmpl_grammar.specs.computed.Reading.{header_in, spells_keyword, keyword_by, keyword_of, alone, branch_of, text_in, quoted_before}
@@ -24,8 +22,6 @@ use Rattle.tmpl_grammar.specs.Laws.{ReadsSpelledAction, SpellsReadAction}
 use Rattle.tmpl_grammar.specs.declared.tree.Control.TheVariants as control
 use Rattle.tmpl_grammar.specs.declared.action.Branch.{Branch}
 use Rattle.tmpl_grammar.specs.declared.action.Branch.TheVariants as branch
-use Rattle.tmpl_grammar.specs.declared.action.HeaderShape.{HeaderShape}
-use Rattle.tmpl_grammar.specs.declared.action.HeaderShape.TheVariants as shape
 use Rattle.tmpl_grammar.specs.declared.keyword.Keyword.{Keyword}
 use Rattle.tmpl_grammar.specs.declared.keyword.Keyword.TheVariants as word
 use Rattle.tmpl_grammar.proofs.OptionLemmas.{no-value, mapped}
@@ -129,17 +125,17 @@ header-plain (assign name) p ts s = named-plain name (Then (IsSign kind.Assign) 
 header-plain (declare_pair key name) p ts s =
     named-plain key (Then (IsSign kind.Comma) (Then (IsVariable name) (Then (IsSign kind.Declare) (SpellsWhole p)))) ts s
 
-bound-read : (s : HeaderShape) (h : Header) (ts : List Token) → SpellsHeader (opens_range s) h ts
-    → option_map (action_with s) (header_in s ts) ≡ Some (action_with s h)
-bound-read s h ts spelled = ap (option_map (action_with s)) (header-read s h ts spelled)
+bound-read : (in_range : Bool) (made : Header → Action) (h : Header) (ts : List Token) → SpellsHeader in_range h ts
+    → option_map made (header_in in_range ts) ≡ Some (made h)
+bound-read in_range made h ts spelled = ap (option_map made) (header-read in_range h ts spelled)
 
-plain-read : (h : Header) (ts : List Token) → SpellsHeader (opens_range shape.Pipeline) h ts → action_in ts ≡ Some (pipeline_action h)
+plain-read : (h : Header) (ts : List Token) → SpellsHeader false h ts → action_in ts ≡ Some (pipeline_action h)
 unfolding action_in
 plain-read h ts s =
     let l = header-plain h.binding h.pipeline ts s.1 in
     ap (λ o. action_at o ts) l.first_is
     ∙ ap (λ o. action_behind o l.rest ts) l.other
-    ∙ bound-read shape.Pipeline h ts s
+    ∙ bound-read false pipeline_action h ts s
 
 alone-read : (a : Action) (us : List Token) → IsBlank us → alone a us ≡ Some a
 alone-read a us b = ap (λ w. cond w (Some a) None) (blank-all us b)
@@ -232,13 +228,13 @@ given-spelled name vs a e = by (is_blank vs) refl e
 pub reads-action : ReadsSpelledAction
 reads-action ts (pipeline_action h) s = plain-read h ts s
 reads-action ts (opening c h) s =
-    keyed (word.Control c) (SpellsHeader (opens_range (shape.Open c)) h) (opening c h) (λ us spelled. bound-read (shape.Open c) h us spelled) ts s
+    keyed (word.Control c) (SpellsHeader (is_range c) h) (opening c h) (λ us spelled. bound-read (is_range c) (opening c) h us spelled) ts s
 reads-action ts plain_else s = keyed word.Else IsBlank plain_else (λ us b. ap else_by (blank-next us b)) ts s
 reads-action ts (else_branch br h) s =
-    let Spelled : List Token → Type 0 = SpellsHeader (opens_range (shape.ElseBranch br)) h in
+    let Spelled : List Token → Type 0 = SpellsHeader false h in
     keyed word.Else (Then (IsWord (spelling (word.Control (control_in br)))) Spelled) (else_branch br h)
     (λ us t. else-read (word.Control (control_in br)) us Spelled (else_branch br h)
-    (λ vs spelled. ap (λ o. else_branched o vs) (branch-known br) ∙ bound-read (shape.ElseBranch br) h vs spelled) t) ts s
+    (λ vs spelled. ap (λ o. else_branched o vs) (branch-known br) ∙ bound-read false (else_branch br) h vs spelled) t) ts s
 reads-action ts end_action s = keyed word.End IsBlank end_action (alone-read end_action) ts s
 reads-action ts break_action s = keyed word.Break IsBlank break_action (alone-read break_action) ts s
 reads-action ts continue_action s = keyed word.Continue IsBlank continue_action (alone-read continue_action) ts s
@@ -262,12 +258,12 @@ alone-blank a c us e = by (is_blank us) refl e
 
 module _ (ts : List Token) (a : Action) where
   -- an action with a header, by the tokens of the header
-  bound-spelled : (s : HeaderShape) (us : List Token)
-      → ((h : Header) → SpellsHeader (opens_range s) h us → SpellsAction (action_with s h) ts)
-      → option_map (action_with s) (header_in s us) ≡ Some a → SpellsAction a ts
-  bound-spelled s us f e =
-      let h = mapped (action_with s) (header_in s us) a e in
-      subst (λ x. SpellsAction x ts) h.to (f h.source (header-spelled s h.source us h.is))
+  bound-spelled : (in_range : Bool) (made : Header → Action) (us : List Token)
+      → ((h : Header) → SpellsHeader in_range h us → SpellsAction (made h) ts)
+      → option_map made (header_in in_range us) ≡ Some a → SpellsAction a ts
+  bound-spelled in_range made us f e =
+      let h = mapped made (header_in in_range us) a e in
+      subst (λ x. SpellsAction x ts) h.to (f h.source (header-spelled in_range h.source us h.is))
 
   alone-spelled : (k : Keyword) (c : Action) (t : Token) (us : List Token) → next ts ≡ Some (t, us) → IsWord (spelling k) t
       → (Then (IsWord (spelling k)) IsBlank ts → SpellsAction c ts) → alone c us ≡ Some a → SpellsAction a ts
@@ -286,8 +282,8 @@ module _ (ts : List Token) (a : Action) where
           by-branch : (o : Option Branch) → branch_of k ≡ o → else_branched o vs ≡ Some a → SpellsAction a ts
           by-branch None found e = no-value a e
           by-branch (Some br) found e =
-              bound-spelled (shape.ElseBranch br) vs
-              (λ h spelled. let Spelled : List Token → Type 0 = SpellsHeader (opens_range (shape.ElseBranch br)) h in
+              bound-spelled false (else_branch br) vs
+              (λ h spelled. let Spelled : List Token → Type 0 = SpellsHeader false h in
               let key : Keyword = word.Control (control_in br) in
               led-then (IsWord (spelling word.Else)) (Then (IsWord (spelling key)) Spelled) ts t us n w
               (led-then (IsWord (spelling key)) Spelled us s vs m (subst (λ x. IsWord (spelling x) s) (branch-keyword k br found) (known-word s k is)) spelled))
@@ -305,8 +301,8 @@ module _ (ts : List Token) (a : Action) where
 
   keyword-spelled : (k : Keyword) (t : Token) (us : List Token) → next ts ≡ Some (t, us) → IsWord (spelling k) t → action_by k us ≡ Some a → SpellsAction a ts
   keyword-spelled (word.Control c) t us n w e =
-      bound-spelled (shape.Open c) us (λ h spelled. led-then (IsWord (spelling (word.Control c))) (SpellsHeader (opens_range (shape.Open c)) h) ts t us n w
-      spelled) e
+      bound-spelled (is_range c) (opening c) us
+      (λ h spelled. led-then (IsWord (spelling (word.Control c))) (SpellsHeader (is_range c) h) ts t us n w spelled) e
   keyword-spelled word.Else t us n w e = else-spelled t us n w e
   keyword-spelled word.End t us n w e = alone-spelled word.End end_action t us n w (λ s. s) e
   keyword-spelled word.Break t us n w e = alone-spelled word.Break break_action t us n w (λ s. s) e
@@ -330,7 +326,7 @@ module _ (ts : List Token) (a : Action) where
   first-spelled (Some p) n e = by (keyword_of p.0) refl e
     where
       by : (o : Option Keyword) → keyword_of p.0 ≡ o → action_behind o p.1 ts ≡ Some a → SpellsAction a ts
-      by None is e = bound-spelled shape.Pipeline ts (λ h spelled. spelled) e
+      by None is e = bound-spelled false pipeline_action ts (λ h spelled. spelled) e
       by (Some k) is e = keyword-spelled k p.0 p.1 n (known-word p.0 k is) e
 
 pub spells-action : SpellsReadAction

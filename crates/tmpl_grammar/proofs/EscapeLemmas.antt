@@ -1,12 +1,12 @@
 -- For `one_constant`: the escapes that are computed are those that the relation admits.
 use Rattle.std.proofs.Common.{◌≡◌, ◌∙◌, ℕ, ◌+◌, ◌<◌, ◌≤◌, Bool, true, false, nat_eq, nat_lt, List, [], ◌∷◌, ◌++◌, length, Option, Some}
-use Rattle.std.proofs.Common.{None, option_and_then, refl, ap, subst, arith, if◌then◌else◌}
+use Rattle.std.proofs.Common.{None, option_and_then, drop, refl, ap, sym, subst, arith, if◌then◌else◌}
 use Rattle.std.specs.Str.Parse.{digits_value}
 use Rattle.std.proofs.lemmas.Bool.Decides.{nat_tests}
 use lib.Utf8.{scalar}
 use Rattle.tmpl_values.specs.Rune.{Rune, char, byte}
-use Rattle.tmpl_grammar.specs.Constant.Quoted.{AreDigits, IsEscape, alert, backspace, form_feed, newline, carriage_return, tab}
-use Rattle.tmpl_grammar.specs.Constant.Quoted.{vertical_tab, backslash, the_quote, octal, two_digits, four_digits, eight_digits}
+use Rattle.tmpl_values.specs.Quote.{letters, letter_of}
+use Rattle.tmpl_grammar.specs.Constant.Quoted.{AreDigits, IsEscape, a_letter, the_quote, octal, two_digits, four_digits, eight_digits}
 use Rattle.tmpl_grammar.specs.computed.Quoted.{Spelled, as_byte, as_char, code, byte_named, coded, escape_by, escape, part_at}
 use Rattle.tmpl_grammar.proofs.DigitLemmas.{code-digits, FrontDigits, HasDigits, code-has, octal-digit, hex-byte}
 
@@ -68,17 +68,40 @@ quote-read : (quote : ℕ) (rest : List ℕ) → IsMark quote → escape quote (
 quote-read _ rest double = refl
 quote-read _ rest single = refl
 
+-- the letters of a quote, one after the other
+module _ (quote c e : ℕ) (rest : List ℕ) where
+  abbrev Lettered : Type 0
+  Lettered = escape quote (e ∷ rest) ≡ Some (byte c, 2)
+
+  or-next : (k j : ℕ) (ps : List (ℕ × ℕ)) → escape quote (j ∷ rest) ≡ Some (byte k, 2) → (letter_of c ps ≡ Some e → Lettered)
+      → letter_of c ((k, j) ∷ ps) ≡ Some e → Lettered
+  or-next k j ps here more is = go (nat_eq c k) refl is
+    where
+      go : (t : Bool) → nat_eq c k ≡ t → (if t then Some j else letter_of c ps) ≡ Some e → Lettered
+      go true h is = let same_code : c ≡ k = grind (arith, nat_tests) in let same_letter : j ≡ e = cc in
+          subst (λ x. escape quote (x ∷ rest) ≡ Some (byte c, 2)) same_letter (subst (λ x. escape quote (j ∷ rest) ≡ Some (byte x, 2)) (sym same_code) here)
+      go false h is = more is
+
+  letter-read : letter_of c letters ≡ Some e → (c ≡ 34 → ⊥) → Lettered
+  letter-read is other = go (nat_eq c 34) refl is
+    where
+      go : (t : Bool) → nat_eq c 34 ≡ t → (if t then Some 34 else letter_of c (drop 1 letters)) ≡ Some e → Lettered
+      go true h is = absurd (other (grind (arith, nat_tests)))
+      go false h is =
+          or-next 92 92 (drop 2 letters) refl (or-next 7 97 (drop 3 letters) refl (or-next 8 98 (drop 4 letters) refl (or-next 9 116 (drop 5 letters) refl (or-next 10 110 (drop 6 letters) refl (or-next 11 118 (drop 7 letters) refl
+          (or-next 12 102 (drop 8 letters) refl (or-next 13 114 [] refl (λ none. absurd (let g : ⊥ = cc in g))))))))) is
+
 sized : (p : Rune) (m n : ℕ) (o : Option Spelled) → o ≡ Some (p, m) → m ≡ n → o ≡ Some (p, n)
 sized p m n o is e = is ∙ ap (λ k. Some (p, k)) e
 
 pub escape-at : (quote : ℕ) (s rest : List ℕ) (p : Rune) → IsMark quote → IsEscape quote s p → part_at quote (s ++ rest) ≡ Some (p, length s)
 unfolding part_at
+escape-at quote _ rest _ m (a_letter {c = c} {letter = e} is other) = letter-read quote c e rest is other
 escape-at quote _ rest _ m the_quote = quote-read quote rest m
 escape-at quote _ rest _ m (octal {ds = ds} are h) = sized _ 4 (length (92 ∷ ds)) _ (octal-read quote ds rest m are h) (omega (arith, are.0))
 escape-at quote _ rest _ m (two_digits {ds = ds} are) = sized _ 4 (length (92 ∷ 120 ∷ ds)) _ (hex-read quote ds rest m are) (omega (arith, are.0))
 escape-at quote _ rest _ m (four_digits {ds = ds} are s) = sized _ 6 (length (92 ∷ 117 ∷ ds)) _ (four-read quote ds rest m are s) (omega (arith, are.0))
 escape-at quote _ rest _ m (eight_digits {ds = ds} are s) = sized _ 10 (length (92 ∷ 85 ∷ ds)) _ (eight-read quote ds rest m are s) (omega (arith, are.0))
-escape-at quote _ rest _ m _ = refl
 
 pub escape-some : (quote : ℕ) (s : List ℕ) (p : Rune) → IsEscape quote s p → 0 < length s
 escape-some quote _ _ (octal are h) = omega arith
@@ -118,11 +141,14 @@ letter quote e k b o is more = go (nat_eq e k) refl
     go true h = subst (λ x. IsEscape quote (92 ∷ x ∷ []) (byte b)) (same e k h) is
     go false h = more
 
-letters : (quote e : ℕ) → HasLetter quote e (byte_named quote e)
-letters quote e =
-    letter quote e 97 7 _ alert (letter quote e 98 8 _ backspace (letter quote e 102 12 _ form_feed (letter quote e 110 10 _ newline
-    (letter quote e 114 13 _ carriage_return (letter quote e 116 9 _ tab (letter quote e 118 11 _ vertical_tab
-    (letter quote e 92 92 _ backslash (letter quote e quote quote None the_quote tt))))))))
+lettered : (quote e : ℕ) → HasLetter quote e (byte_named quote e)
+lettered quote e =
+    named 97 7 _ refl (λ h. omega (arith, h)) (named 98 8 _ refl (λ h. omega (arith, h)) (named 102 12 _ refl (λ h. omega (arith, h))
+    (named 110 10 _ refl (λ h. omega (arith, h)) (named 114 13 _ refl (λ h. omega (arith, h)) (named 116 9 _ refl (λ h. omega (arith, h))
+    (named 118 11 _ refl (λ h. omega (arith, h)) (named 92 92 _ refl (λ h. omega (arith, h)) (letter quote e quote quote None the_quote tt))))))))
+  where
+    named : (k c : ℕ) (o : Option ℕ) → letter_of c letters ≡ Some k → (c ≡ 34 → ⊥) → HasLetter quote e o → HasLetter quote e (if nat_eq e k then Some c else o)
+    named k c o is other more = letter quote e k c o (a_letter is other) more
 
 has-octal : (quote : ℕ) (bs : List ℕ) → HasEscape quote (92 ∷ bs) (option_and_then (as_byte 4) (code 8 3 bs))
 has-octal quote bs = go (code 8 3 bs) (code-has 8 3 bs)
@@ -193,7 +219,7 @@ has-coded quote e bs =
 
 pub has-escape : (quote : ℕ) (bs : List ℕ) → HasEscape quote (92 ∷ bs) (escape quote bs)
 has-escape quote [] = tt
-has-escape quote (e ∷ bs) = go (byte_named quote e) (letters quote e)
+has-escape quote (e ∷ bs) = go (byte_named quote e) (lettered quote e)
   where
     go : (o : Option ℕ) → HasLetter quote e o → HasEscape quote (92 ∷ e ∷ bs) (escape_by o e bs)
     go None is = has-coded quote e bs

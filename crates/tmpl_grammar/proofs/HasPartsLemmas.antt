@@ -7,7 +7,7 @@ use Rattle.std.proofs.lemmas.List.{take-append-drop}
 use Rattle.std.proofs.lemmas.Bool.Decides.{nat_tests}
 use Rattle.std.proofs.lemmas.Option.{same_Some}
 use Rattle.std.proofs.lemmas.Str.{length-encode, len_utf8_bounds, char_from_byte, encode_ascii}
-use Rattle.tmpl_values.specs.Rune.{Rune, BeginsNoChar, char, byte}
+use Rattle.tmpl_values.specs.Rune.{Rune, BeginsNoChar, char}
 use Rattle.tmpl_values.specs.Rune.{first_rune}
 use Rattle.tmpl_values.proofs.HasRunesLemmas.{begins-none, byte-first}
 use Rattle.tmpl_values.proofs.RuneLemmas.{first_rune-encode, Front, encoding, lone, front}

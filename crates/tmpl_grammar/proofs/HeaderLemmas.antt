@@ -1,19 +1,17 @@
 -- For `one_action`: the grammar of a header and its reading agree.
 use Rattle.std.specs.Option.{option_map}
-use Rattle.std.proofs.Common.{◌≡◌, ◌∙◌, ℕ, Bool, true, false, List, [], ◌∷◌, Option, Some, None, refl, ap, sym, subst}
+use Rattle.std.proofs.Common.{arith, ◌≡◌, ◌∙◌, ◌<◌, ℕ, Bool, true, false, List, [], ◌∷◌, Option, Some, None, refl, ap, sym, subst, length}
 use Rattle.tmpl_lex.specs.declared.piece.TokenKind.{TokenKind}
 use Rattle.tmpl_lex.specs.declared.piece.TokenKind.TheVariants as kind
 use Rattle.tmpl_lex.specs.Piece.{Token}
-use Rattle.tmpl_grammar.specs.computed.Reading.{opens_range}
 use Rattle.tmpl_grammar.specs.Token.{name_in}
 use Rattle.tmpl_grammar.specs.computed.Token.{is_space_kind, is_white, next}
 use Rattle.tmpl_grammar.specs.Tree.{Commands, Pipeline, pipeline, Binding, unbound, declare, assign, declare_pair, Header}
 use Rattle.tmpl_grammar.specs.Pipeline.{SpellsPipeline}
-use Rattle.tmpl_grammar.specs.Header.{IsSign, IsName, IsVariable, Then, may_bind, SpellsBinding, SpellsWhole, SpellsHeader}
+use Rattle.tmpl_grammar.specs.Header.{IsSign, IsVariable, Then, may_bind, SpellsBinding, SpellsWhole, SpellsHeader}
 use Rattle.tmpl_grammar.specs.computed.Reading.{pipeline_in, named_by, named_kind, named_at, named, Front, plain, bound, second_by}
 use Rattle.tmpl_grammar.specs.computed.Reading.{second_signed, second_named, front_by, front_signed, front_named, front_in, split_by, split}
 use Rattle.tmpl_grammar.specs.computed.Reading.{header_with, header_if, header_by, header_in}
-use Rattle.tmpl_grammar.specs.declared.action.HeaderShape.{HeaderShape}
 use Rattle.tmpl_grammar.proofs.PipelineLemmas.{reads-spelled, spells-read}
 use Rattle.tmpl_grammar.proofs.OptionLemmas.{no-value, mapped}
 use Rattle.tmpl_grammar.proofs.TokenLemmas.{then-led, led-then, then-map}
@@ -24,8 +22,8 @@ use Rattle.tmpl_grammar.proofs.StrayLemmas.{IsDead, declare-stray, assign-stray,
 pub variable-other : (name : List ℕ) (t : Token) → IsVariable name t → is_white t ≡ false
 variable-other name t v = ap is_space_kind v.0
 
-has-name : (name : List ℕ) (ts : List Token) → IsName name → named_by name ts ≡ Some (name, ts)
-has-name [] ts h = absurd h
+has-name : (name : List ℕ) (ts : List Token) → 0 < length name → named_by name ts ≡ Some (name, ts)
+has-name [] ts h = absurd (omega (arith, h))
 has-name (b ∷ bs) ts h = refl
 
 -- the tokens behind the variable that comes first
@@ -57,7 +55,7 @@ named-tells ts = by (next ts) refl
   where
     name-tells : (t : Token) (us : List Token) → next ts ≡ Some (t, us) → t.kind ≡ kind.Variable → (n : List ℕ) → name_in t ≡ n → NamedAs ts (named_by n us)
     name-tells t us e k [] is = tt
-    name-tells t us e k (b ∷ bs) is = led-then (IsVariable (b ∷ bs)) (IsRest us) ts t us e (k, is, tt) refl
+    name-tells t us e k (b ∷ bs) is = led-then (IsVariable (b ∷ bs)) (IsRest us) ts t us e (k, is, omega arith) refl
 
     kind-tells : (t : Token) (us : List Token) → next ts ≡ Some (t, us) → (k : TokenKind) → t.kind ≡ k → NamedAs ts (named_kind k t us)
     kind-tells t us e kind.Variable is = name-tells t us e is (name_in t) refl
@@ -207,10 +205,10 @@ split-bound (declare_pair key name) p ts s =
       behind = q.behind;
     }
 
-pub header-read : (s : HeaderShape) (h : Header) (ts : List Token) → SpellsHeader (opens_range s) h ts → header_in s ts ≡ Some h
-header-read s h ts (may, spelled) =
+pub header-read : (in_range : Bool) (h : Header) (ts : List Token) → SpellsHeader in_range h ts → header_in in_range ts ≡ Some h
+header-read in_range h ts (may, spelled) =
     let r = split-bound h.binding h.pipeline ts spelled in
-    ap (header_by s) r.is
+    ap (header_by in_range) r.is
     ∙ ap (λ b. header_if b h.binding (pipeline_in r.rest)) may
     ∙ ap (option_map (header_with h.binding)) (whole-read h.pipeline r.rest r.behind)
 
@@ -225,27 +223,27 @@ spells-bound (declare_pair key name) rest R r ts a =
     (Then (IsVariable name) (Then (IsSign kind.Declare) R)) (behind-signed (IsVariable name) (IsSign kind.Declare) rest R r) us t) ts a
 
 -- a binding that is allowed, and a pipeline behind it
-record ReadAs (s : HeaderShape) (b : Binding) (o : Option Pipeline) (h : Header) : Type 0 where
+record ReadAs (in_range : Bool) (b : Binding) (o : Option Pipeline) (h : Header) : Type 0 where
   source : Pipeline
-  may : may_bind (opens_range s) b ≡ true
+  may : may_bind in_range b ≡ true
   is : o ≡ Some source
   to : header_with b source ≡ h
 
-if-read : (s : HeaderShape) (b : Binding) (o : Option Pipeline) (h : Header) → header_if (may_bind (opens_range s) b) b o ≡ Some h → ReadAs s b o h
-if-read s b o h e = by (may_bind (opens_range s) b) refl e
+if-read : (in_range : Bool) (b : Binding) (o : Option Pipeline) (h : Header) → header_if (may_bind in_range b) b o ≡ Some h → ReadAs in_range b o h
+if-read in_range b o h e = by (may_bind in_range b) refl e
   where
-    by : (t : Bool) → may_bind (opens_range s) b ≡ t → header_if t b o ≡ Some h → ReadAs s b o h
+    by : (t : Bool) → may_bind in_range b ≡ t → header_if t b o ≡ Some h → ReadAs in_range b o h
     by true may e = let m = mapped (header_with b) o h e in record { source = m.source; may = may; is = m.is; to = m.to }
     by false may e = no-value h e
 
-pub header-spelled : (s : HeaderShape) (h : Header) (ts : List Token) → header_in s ts ≡ Some h → SpellsHeader (opens_range s) h ts
+pub header-spelled : (in_range : Bool) (h : Header) (ts : List Token) → header_in in_range ts ≡ Some h → SpellsHeader in_range h ts
 unfolding split
-header-spelled s h ts e = by (front_in ts) (front-tells ts) e
+header-spelled in_range h ts e = by (front_in ts) (front-tells ts) e
   where
-    by : (f : Front) → FrontAs ts f → header_by s (split_by f ts) ≡ Some h → SpellsHeader (opens_range s) h ts
+    by : (f : Front) → FrontAs ts f → header_by in_range (split_by f ts) ≡ Some h → SpellsHeader in_range h ts
     by plain a e =
-        let r = if-read s unbound (pipeline_in ts) h e in
-        subst (λ x. SpellsHeader (opens_range s) x ts) r.to (r.may, read-whole r.source ts r.is)
+        let r = if-read in_range unbound (pipeline_in ts) h e in
+        subst (λ x. SpellsHeader in_range x ts) r.to (r.may, read-whole r.source ts r.is)
     by (bound b rest) a e =
-        let r = if-read s b (pipeline_in rest) h e in
-        subst (λ x. SpellsHeader (opens_range s) x ts) r.to (r.may, spells-bound b rest (SpellsWhole r.source) (read-whole r.source rest r.is) ts a)
+        let r = if-read in_range b (pipeline_in rest) h e in
+        subst (λ x. SpellsHeader in_range x ts) r.to (r.may, spells-bound b rest (SpellsWhole r.source) (read-whole r.source rest r.is) ts a)

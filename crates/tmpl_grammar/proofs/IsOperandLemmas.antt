@@ -40,6 +40,7 @@ computes-operand t _ (operand.field is begins) = ap (λ k. operand_by k t) is �
 computes-operand t _ (operand.variable is) = ap (λ k. operand_by k t) is
 computes-operand _ _ (operand.a_function f) = function-read f
 computes-operand t o (operand.a_constant is) = constant-kind t o is ∙ computes-constant t o is
+computes-operand _ _ (operand.truth true) = refl
 computes-operand _ _ _ = refl
 
 -- ---- what is computed the relation admits
@@ -80,8 +81,8 @@ is-word name word o p is q more e = go (bytes_eq name word) refl e
 is-named : (name : List ℕ) (o : Operand) → word_operand name ≡ Some o → IsOperand (token kind.Word name) o
 unfolding word_operand
 is-named name o e =
-    is-word name (codes "true") o (tree.bool_constant true) operand.true_word _
-    (λ e. is-word name (codes "false") o (tree.bool_constant false) operand.false_word _
+    is-word name (codes "true") o (tree.bool_constant true) (operand.truth true) _
+    (λ e. is-word name (codes "false") o (tree.bool_constant false) (operand.truth false) _
     (λ e. is-word name (codes "nil") o tree.nil operand.nil_word _ (λ e. is-function name o e) e) e) e
 
 is-operand : (k : TokenKind) (bs : List ℕ) (o : Operand) → operand_by k (token k bs) ≡ Some o → IsOperand (token k bs) o

@@ -32,6 +32,7 @@ pub mod QuotePartLemmas
 pub mod QuoteTokenLemmas
 pub mod QuotedLemmas
 pub mod ReadLemmas
+pub mod ReadingLemmas
 pub mod SliceLemmas
 pub mod SpelledLemmas
 pub mod StrayLemmas

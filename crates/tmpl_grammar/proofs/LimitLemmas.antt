@@ -10,11 +10,10 @@ use Rattle.tmpl_grammar.specs.Tree as tree
 use Rattle.tmpl_grammar.specs.Tree.{Operand, Operands, Pipeline}
 use Rattle.tmpl_grammar.specs.computed.Parser.{Parser, Partial, step, steps, finished, commands_after, start}
 use Rattle.tmpl_grammar.specs.computed.Limited.{Limited, limited_start, count, emptied, restored, restored_by, forgotten_if, behind_step}
-use Rattle.tmpl_grammar.specs.computed.Limited.{limited_step, reading_by}
-use Rattle.tmpl_grammar.specs.Depth.{Reading, unread, most_deep}
-use Rattle.tmpl_grammar.specs.computed.Depth.{limited_to, pipeline_within}
-use Rattle.tmpl_grammar.specs.declared.action.Shape.{Shape}
-use Rattle.tmpl_grammar.specs.computed.Reading.{pipeline_from, pipeline_in, limited_in}
+use Rattle.tmpl_grammar.specs.computed.Limited.{limited_step, pipeline_by}
+use Rattle.tmpl_grammar.specs.Depth.{most_deep}
+use Rattle.tmpl_grammar.specs.computed.Depth.{limited_by, limited_pipeline}
+use Rattle.tmpl_grammar.specs.computed.Reading.{pipeline_from, pipeline_in}
 use Rattle.tmpl_grammar.proofs.DepthLemmas.{parser_depth, deep_commands, Steps, step-steps, IsAtLeast, IsClosed, end-least, less-least, finished-depth}
 use Rattle.tmpl_grammar.proofs.PositionLemmas.{Place, more, more-suc, place_of, position_in, IsHeld, held-none, step-place, passed, passes}
 use Rattle.tmpl_grammar.proofs.PositionLemmas.{ended, ends-as, finished-place, none-passes}
@@ -112,30 +111,25 @@ exact-step all rest t l x = by l.beyond l.parser x
 -- ---- the limit
 
 -- what a list of commands is within the limit
-abbrev limited_commands : Shape → Option (List Operands) → Reading Pipeline
-limited_commands s o = pipeline_within s (option_map pipeline_from o)
+abbrev limited_commands : Option (List Operands) → Option Pipeline
+limited_commands o = option_map limited_pipeline (option_map pipeline_from o)
 
-nat_le-false : (m n : ℕ) → n < m → nat_le m n ≡ false
+pub nat_le-false : (m n : ℕ) → n < m → nat_le m n ≡ false
 nat_le-false m n h = ⊎_elim (λ y. absurd (let a = y.1 in omega (arith, a, h))) (λ e. e.0) (leb_tells m n)
 
-none-limited : (s : Shape) (o : Option (List Operands)) → false ≡ is_some o → unread ≡ limited_commands s o
-none-limited s None e = refl
-none-limited s (Some cs) e = absurd (let g : ⊥ = cc in g)
+none-limited : (o : Option (List Operands)) → false ≡ is_some o → None ≡ limited_commands o
+none-limited None e = refl
+none-limited (Some cs) e = absurd (let g : ⊥ = cc in g)
 
-within-limited : (s : Shape) (n : ℕ) (o : Option (List Operands)) → n ≤ most_deep → IsClosed n o → reading_by s None o ≡ limited_commands s o
-within-limited s n None h c = refl
-within-limited s n (Some cs) h c = sym (ap (λ b. limited_to b s (pipeline_from cs)) (le-leb (deep_commands cs) most_deep (omega (arith, c, h))))
+within-limited : (n : ℕ) (o : Option (List Operands)) → n ≤ most_deep → IsClosed n o → pipeline_by None o ≡ limited_commands o
+within-limited n None h c = refl
+within-limited n (Some cs) h c = sym (ap (λ b. Some (limited_by b (pipeline_from cs))) (le-leb (deep_commands cs) most_deep (omega (arith, c, h))))
 
-deep-limited : (s : Shape) (o all : Option (List Operands)) → is_some o ≡ is_some all → IsAtLeast (1 + most_deep) all
-    → reading_by s (Some 0) o ≡ limited_commands s all
-deep-limited s None None e d = refl
-deep-limited s None (Some cs) e d = absurd (let g : ⊥ = cc in g)
-deep-limited s (Some cs) None e d = absurd (let g : ⊥ = cc in g)
-deep-limited s (Some xs) (Some cs) e d = sym (ap (λ c. limited_to c s (pipeline_from cs)) (nat_le-false (deep_commands cs) most_deep (omega (arith, d))))
-
-open-unread : (s : Shape) (n : ℕ) (o : Option (List Operands)) → reading_by s (Some (suc n)) o ≡ unread
-open-unread s n None = refl
-open-unread s n (Some cs) = refl
+deep-limited : (o all : Option (List Operands)) → is_some o ≡ is_some all → IsAtLeast (1 + most_deep) all → pipeline_by (Some 0) o ≡ limited_commands all
+deep-limited None None e d = refl
+deep-limited None (Some cs) e d = absurd (let g : ⊥ = cc in g)
+deep-limited (Some cs) None e d = absurd (let g : ⊥ = cc in g)
+deep-limited (Some xs) (Some cs) e d = sym (ap (λ c. Some (limited_by c (pipeline_from cs))) (nat_le-false (deep_commands cs) most_deep (omega (arith, d))))
 
 -- ---- from the first token to the last
 
@@ -148,21 +142,22 @@ follows-step all rest t l next e f = (
   subst (IsExact all rest) e (exact-step all rest t l f.1),
 )
 
-pub follows-none : (s : Shape) (all rest : List Token) (t : Token) (l : Limited) → limited_step t l ≡ None → Follows all l (t ∷ rest)
-    → unread ≡ limited_in s all
+pub follows-none : (all rest : List Token) (t : Token) (l : Limited) → limited_step t l ≡ None → Follows all l (t ∷ rest)
+    → None ≡ option_map limited_pipeline (pipeline_in all)
 unfolding pipeline_in
-follows-none s all rest t l e f =
-    none-limited s (commands_after start all)
+follows-none all rest t l e f =
+    none-limited (commands_after start all)
     (sym (ap ended (none-passes rest)) ∙ ap (λ p. ended (passes p rest)) (sym (ap (option_map place) e) ∙ limited-place t l) ∙ f.0)
 
-pub follows-end : (s : Shape) (all : List Token) (l : Limited) → Follows all l [] → reading_by s l.beyond (finished l.parser) ≡ limited_in s all
+pub follows-end : (all : List Token) (l : Limited) → Follows all l []
+    → pipeline_by l.beyond (finished l.parser) ≡ option_map limited_pipeline (pipeline_in all)
 unfolding pipeline_in
-follows-end s all l f = by l.beyond l.parser f.0 f.1
+follows-end all l f = by l.beyond l.parser f.0 f.1
   where
     by : (b : Option ℕ) (h : Parser) → ended (Some (place_of (count b) h)) ≡ is_some (commands_after start all) → Exact all b h []
-        → reading_by s b (finished h) ≡ limited_commands s (commands_after start all)
+        → pipeline_by b (finished h) ≡ limited_commands (commands_after start all)
     by None h e x =
-        within-limited s (parser_depth h) (finished h) x.1 (finished-depth h)
-        ∙ ap (λ o. limited_commands s (option_and_then finished o)) x.0
-    by (Some zero) h e d = deep-limited s (finished h) (commands_after start all) (finished-place h ∙ e) d
-    by (Some (suc n)) h e d = open-unread s n (finished h) ∙ none-limited s (commands_after start all) e
+        within-limited (parser_depth h) (finished h) x.1 (finished-depth h)
+        ∙ ap (λ o. limited_commands (option_and_then finished o)) x.0
+    by (Some zero) h e d = deep-limited (finished h) (commands_after start all) (finished-place h ∙ e) d
+    by (Some (suc n)) h e d = none-limited (commands_after start all) e

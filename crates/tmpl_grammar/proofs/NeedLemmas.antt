@@ -1,16 +1,13 @@
 -- For the bound on what a template needs: an action needs no more than two and one for each of its tokens.
-use Rattle.std.proofs.Common.{arith, ◌≡◌, ◌∙◌, ◌≤◌, ℕ, suc, ◌+◌, max, List, [], ◌∷◌, ◌++◌, Option, Some, None, ap, length, length-append}
+use Rattle.std.proofs.Common.{arith, ◌≡◌, ◌∙◌, ◌≤◌, ℕ, suc, ◌+◌, max, Bool, false, List, [], ◌∷◌, ◌++◌, Option, Some, None, ap, length, length-append}
 use Rattle.tmpl_lex.specs.Piece.{Token}
-use Rattle.tmpl_grammar.specs.computed.Reading.{opens_range}
 use Rattle.tmpl_grammar.specs.Tree as tree
 use Rattle.tmpl_grammar.specs.Tree.{Operand, Operands, Commands, Pipeline, pipeline, Binding, unbound, declare_pair, Header}
 use Rattle.tmpl_grammar.specs.Pipeline.{IsChained, SpellsOperand, SpellsMore, SpellsCommand, SpellsLater, SpellsPipeline}
-use Rattle.tmpl_grammar.specs.Header.{SpellsBinding, SpellsWhole, SpellsHeader}
+use Rattle.tmpl_grammar.specs.Header.{is_range, SpellsBinding, SpellsWhole, SpellsHeader}
 use Rattle.tmpl_grammar.specs.Action.{Action, pipeline_action, opening, else_branch, template_action, block_action, SpellsGiven, SpellsAction}
 use Rattle.tmpl_grammar.specs.Need.{called_or_alone, need_of_operand, need_of_arguments, need_of_command, need_of_commands}
 use Rattle.tmpl_grammar.specs.Need.{need_of_pipeline, need_of_given, declared_count}
-use Rattle.tmpl_grammar.specs.declared.action.HeaderShape.{HeaderShape}
-use Rattle.tmpl_grammar.specs.declared.action.HeaderShape.TheVariants as shape
 
 -- ---- each value has a cell
 
@@ -47,7 +44,7 @@ joined ts us vs e = ap length e ∙ length-append us vs
 mutual
   operand-within : (o : Operand) (ts : List Token) → SpellsOperand o ts → need_of_operand o ≤ length ts
   operand-within tree.dot ts s = one-token tree.dot [] ts s
-  operand-within (tree.fields []) ts s = absurd s
+  operand-within (tree.fields []) ts s = one-token (tree.fields []) [] ts s
   operand-within (tree.fields (n ∷ ns)) ts s = one-token (tree.fields (n ∷ [])) ns ts s
   operand-within (tree.variable name names) ts s = one-token (tree.variable name []) names ts s
   operand-within (tree.bool_constant b) ts s = one-token (tree.bool_constant b) [] ts s
@@ -130,21 +127,21 @@ cells_of (template_action name given) = need_of_given given
 cells_of (block_action name p) = need_of_pipeline p
 cells_of _ = 0
 
-header-within : (s : HeaderShape) (h : Header) (ts : List Token) → SpellsHeader (opens_range s) h ts → header_cells h ≤ length ts
-header-within s h ts spelled = bound-within h.binding h.pipeline ts spelled.1
+header-within : (in_range : Bool) (h : Header) (ts : List Token) → SpellsHeader in_range h ts → header_cells h ≤ length ts
+header-within in_range h ts spelled = bound-within h.binding h.pipeline ts spelled.1
 
 given-within : (given : Option Pipeline) (ts : List Token) → SpellsGiven given ts → need_of_given given ≤ 1 + length ts
 given-within None ts s = omega arith
 given-within (Some p) ts s = let n = whole-within p ts s in omega (arith, n)
 
 pub action-within : (a : Action) (ts : List Token) → SpellsAction a ts → cells_of a ≤ 2 + length ts
-action-within (pipeline_action h) ts s = let n = header-within shape.Pipeline h ts s in omega (arith, n)
+action-within (pipeline_action h) ts s = let n = header-within false h ts s in omega (arith, n)
 action-within (opening c h) ts s =
-    let n = header-within (shape.Open c) h s.2 s.6 in
+    let n = header-within (is_range c) h s.2 s.6 in
     omega (arith, n, behind ts s.0 s.1 s.2 s.3)
 action-within (else_branch br h) ts s =
     let more = s.6 in
-    let n = header-within (shape.ElseBranch br) h more.2 more.6 in
+    let n = header-within false h more.2 more.6 in
     omega (arith, n, behind ts s.0 s.1 s.2 s.3, behind s.2 more.0 more.1 more.2 more.3)
 action-within (template_action name given) ts s =
     let named = s.6 in

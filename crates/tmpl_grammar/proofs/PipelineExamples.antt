@@ -9,10 +9,8 @@ use Rattle.tmpl_grammar.specs.Constant.Integer.{integer}
 use Rattle.tmpl_grammar.specs.computed.Operand.{operand_at, word_operand, func_named}
 use Rattle.tmpl_grammar.specs.computed.Parser.{step, finished}
 use Rattle.tmpl_grammar.specs.Tree.{Operand, dot, fields, number_constant, function, group, no_operand, operand, Commands, no_command, command, pipeline}
-use Rattle.tmpl_grammar.specs.computed.Reading.{pipeline_in, limited_in}
-use Rattle.tmpl_grammar.specs.Depth.{too_deep, unread}
-use Rattle.tmpl_grammar.specs.declared.action.HeaderShape.TheVariants as shape
-use Rattle.tmpl_grammar.specs.declared.action.Shape.TheVariants as piped
+use Rattle.tmpl_grammar.specs.computed.Reading.{keyword_of, split, pipeline_in, action_in, reading_in}
+use Rattle.tmpl_grammar.specs.computed.Depth.{too_deep, unread}
 
 abbrev pub token : TokenKind → List ℕ → Token
 token k bytes = record { kind = k; bytes = bytes }
@@ -125,10 +123,10 @@ unfolding pipeline_in step finished operand_at
 nothing-inside = refl
 
 -- a dot in 101 parentheses, and in 101 of which one is not closed
-too-many : limited_in (piped.Header shape.Pipeline) (replicate 101 left ++ (period ∷ replicate 101 right)) ≡ too_deep (piped.Header shape.Pipeline)
-unfolding pipeline_in step finished operand_at
+too-many : reading_in (replicate 101 left ++ (period ∷ replicate 101 right)) ≡ too_deep None
+unfolding action_in keyword_of split pipeline_in step finished operand_at
 too-many = refl
 
-too-many-open : limited_in (piped.Header shape.Pipeline) (replicate 101 left ++ (period ∷ replicate 100 right)) ≡ unread
-unfolding pipeline_in step finished operand_at
+too-many-open : reading_in (replicate 101 left ++ (period ∷ replicate 100 right)) ≡ unread
+unfolding action_in keyword_of split pipeline_in step finished operand_at
 too-many-open = refl

@@ -9,12 +9,11 @@ use Rattle.tmpl_lex.proofs.NameLemmas.{IsNamed, OfKind}
 use Rattle.tmpl_lex.specs.Piece.{Token}
 use Rattle.tmpl_lex.specs.declared.piece.TokenKind.{TokenKind}
 use Rattle.tmpl_lex.specs.declared.piece.TokenKind.TheVariants as kind
-use Rattle.tmpl_grammar.specs.computed.Reading.{opens_range}
 use Rattle.tmpl_grammar.specs.Token.{begins_name, name_in}
 use Rattle.tmpl_grammar.specs.Tree as tree
 use Rattle.tmpl_grammar.specs.Tree.{Operand, Operands, Commands, Pipeline, pipeline, Binding, unbound, declare, assign, Header, declare_pair}
 use Rattle.tmpl_grammar.specs.Action.{Action, pipeline_action, opening, else_branch, define_action, template_action, block_action, IsQuoted, SpellsAction}
-use Rattle.tmpl_grammar.specs.Header.{IsVariable, SpellsHeader, SpellsBinding, SpellsWhole}
+use Rattle.tmpl_grammar.specs.Header.{is_range, IsVariable, SpellsHeader, SpellsBinding, SpellsWhole}
 use Rattle.tmpl_grammar.specs.computed.Constant.{constant_of, constant_by, string_in, raw_string_in, character_in}
 use Rattle.tmpl_grammar.specs.Depth.{depth_of, depth_of_pipeline, most_deep}
 use Rattle.tmpl_grammar.specs.Pipeline.{IsChain, SpellsOperand, SpellsMore, SpellsCommand, SpellsLater, SpellsPipeline}
@@ -24,8 +23,6 @@ use Rattle.tmpl_grammar.specs.Operand.{IsOperand}
 use Rattle.tmpl_grammar.specs.computed.Operand.{operand_at, operand_by, word_operand, field_operand}
 use Rattle.tmpl_grammar.specs.Printable.{AreFieldNames, OfOperand, OfMore, OfCommand, OfLater, OfCommands, OfPipeline, OfVariable}
 use Rattle.tmpl_grammar.specs.Printable.{OfBinding, OfAction, OfHeader}
-use Rattle.tmpl_grammar.specs.declared.action.HeaderShape.{HeaderShape}
-use Rattle.tmpl_grammar.specs.declared.action.HeaderShape.TheVariants as shape
 use Rattle.tmpl_grammar.proofs.ConstantLemmas.{by-word}
 use Rattle.tmpl_grammar.proofs.IsOperandLemmas.{computes-operand}
 use Rattle.tmpl_grammar.proofs.IsConstantLemmas.{computes-constant}
@@ -120,7 +117,7 @@ of-chain (n ∷ ns) ts r s =
 
 mutual
   of-operand : (o : Operand) (ts : List Token) → AreRead ts → SpellsOperand o ts → OfOperand o
-  of-operand (tree.fields []) ts r s = s
+  of-operand (tree.fields []) ts r s = let h = subst AreRead s.2 r in of-token s.0 (tree.fields []) h.0 s.3
   of-operand (tree.fields (n ∷ ns)) ts r s =
       let h = subst AreRead s.2 r in
       ((of-token s.0 (tree.fields (n ∷ [])) h.0 s.3).0, of-chain ns s.1 h.1 s.4)
@@ -191,9 +188,9 @@ of-bound (declare_pair key name) p ts d r s =
     let j = behind sign.0 sign.1 sign.2 more.2 sign.3 k.1 in
     ((of-variable key s.1 h.0 s.5, of-variable name more.1 k.0 more.5), of-whole p sign.2 d j.1 sign.6)
 
-of-header : (s : HeaderShape) (h : Header) (ts : List Token) → depth_of_pipeline h.pipeline ≤ most_deep → AreRead ts
-    → SpellsHeader (opens_range s) h ts → OfHeader (opens_range s) h
-of-header s h ts d r spelled =
+of-header : (in_range : Bool) (h : Header) (ts : List Token) → depth_of_pipeline h.pipeline ≤ most_deep → AreRead ts
+    → SpellsHeader in_range h ts → OfHeader in_range h
+of-header in_range h ts d r spelled =
     let of = of-bound h.binding h.pipeline ts d r spelled.1 in
     (spelled.0, of.0, of.1)
 
@@ -201,12 +198,12 @@ of-name : (name : List ℕ) (t : Token) → IsRead t → IsQuoted name t → Are
 of-name name t r q = subst OfMaybe (computes-constant t (tree.text_constant name) q) (constant-maybe t r.bytes)
 
 pub of_action : (a : Action) (ts : List Token) → depth_of a ≤ most_deep → AreRead ts → SpellsAction a ts → OfAction a
-of_action (pipeline_action h) ts d r s = of-header shape.Pipeline h ts d r s
-of_action (opening c h) ts d r s = of-header (shape.Open c) h s.2 d (behind s.0 s.1 s.2 ts s.3 r).1 s.6
+of_action (pipeline_action h) ts d r s = of-header false h ts d r s
+of_action (opening c h) ts d r s = of-header (is_range c) h s.2 d (behind s.0 s.1 s.2 ts s.3 r).1 s.6
 of_action (else_branch br h) ts d r s =
     let else_behind = behind s.0 s.1 s.2 ts s.3 r in
     let more = s.6 in
-    of-header (shape.ElseBranch br) h more.2 d (behind more.0 more.1 more.2 s.2 more.3 else_behind.1).1 more.6
+    of-header false h more.2 d (behind more.0 more.1 more.2 s.2 more.3 else_behind.1).1 more.6
 of_action (define_action name) ts d r s =
     let h = behind s.0 s.1 s.2 ts s.3 r in
     let n = s.6 in

@@ -1,5 +1,5 @@
 -- For `printed_spelling`: the tokens of a printed pipeline or action spell it.
-use Rattle.std.proofs.Common.{◌≡◌, ◌∙◌, ℕ, Bool, true, false, List, [], ◌∷◌, ◌++◌, Option, Some, None, refl, sym, ap, append_assoc}
+use Rattle.std.proofs.Common.{◌≡◌, ◌∙◌, ◌<◌, ℕ, Bool, false, List, [], ◌∷◌, ◌++◌, length, Option, Some, None, refl, sym, ap, append_assoc}
 use Rattle.std.specs.Option.{option_map, option_and_then}
 use Rattle.tmpl_values.specs.Quote.{quote, inside}
 use Rattle.tmpl_values.specs.Printable.{printable}
@@ -7,23 +7,20 @@ use Rattle.tmpl_values.specs.Bytes.{AreBytes}
 use Rattle.tmpl_funcs.specs.Func.{name_of}
 use Rattle.tmpl_lex.specs.Piece.{Token}
 use Rattle.tmpl_lex.specs.declared.piece.TokenKind.TheVariants as kind
-use Rattle.tmpl_grammar.specs.computed.Reading.{opens_range}
 use Rattle.tmpl_grammar.specs.Tree as tree
 use Rattle.tmpl_grammar.specs.Tree.{Operand, Operands, Commands, Pipeline, pipeline, Binding, unbound, declare, assign, Header, declare_pair}
 use Rattle.tmpl_grammar.specs.Action.{Action, pipeline_action, opening, else_branch, define_action, template_action, block_action, SpellsGiven, SpellsAction}
 use Rattle.tmpl_grammar.specs.Pipeline.{IsBlank, IsChain, SpellsOperand, SpellsMore, SpellsCommand, SpellsLater, SpellsPipeline}
-use Rattle.tmpl_grammar.specs.Header.{Then, IsVariable, IsSign, IsName, SpellsHeader, SpellsBinding, SpellsWhole}
+use Rattle.tmpl_grammar.specs.Header.{is_range, Then, IsVariable, IsSign, SpellsHeader, SpellsBinding, SpellsWhole}
 use Rattle.tmpl_grammar.specs.Constant.{IsConstant}
 use Rattle.tmpl_grammar.specs.computed.Constant.{constant_of, string_in}
 use Rattle.tmpl_grammar.specs.Operand as operand
 use Rattle.tmpl_grammar.specs.Operand.{IsOperand}
 use Rattle.tmpl_grammar.specs.Constant as constant
-use Rattle.tmpl_grammar.specs.Print.{token, space, word, chain_tokens, truth_word, operand_tokens, more_tokens, command_tokens}
+use Rattle.tmpl_grammar.specs.Print.{token, space, word, chain_tokens, operand_tokens, more_tokens, command_tokens}
 use Rattle.tmpl_grammar.specs.Print.{later_tokens, commands_tokens, header_tokens, action_tokens, binding_tokens, pipeline_tokens}
 use Rattle.tmpl_grammar.specs.Print.{given_tokens}
 use Rattle.tmpl_grammar.specs.Printable.{AreFieldNames, OfOperand, OfMore, OfCommand, OfLater, OfCommands, OfPipeline, OfBinding, OfGiven, OfAction, OfHeader}
-use Rattle.tmpl_grammar.specs.declared.action.HeaderShape.{HeaderShape}
-use Rattle.tmpl_grammar.specs.declared.action.HeaderShape.TheVariants as shape
 use Rattle.tmpl_grammar.proofs.IsConstantLemmas.{between-quotes, is-computed-constant}
 use Rattle.tmpl_grammar.proofs.QuotePartLemmas.{unquoted-inside}
 use Rattle.tmpl_grammar.proofs.PrintedNumberLemmas.{integer-decimal}
@@ -33,10 +30,6 @@ use Rattle.tmpl_grammar.proofs.PrintedNumberLemmas.{integer-decimal}
 spells-chain : (ns : List (List ℕ)) → AreFieldNames ns → IsChain ns (chain_tokens ns)
 spells-chain [] h = refl
 spells-chain (n ∷ ns) h = (token kind.Field (46 ∷ n), chain_tokens ns, refl, refl, h.0.0, refl, spells-chain ns h.1)
-
-truth-at : (b : Bool) → IsOperand (word (truth_word b)) (tree.bool_constant b)
-truth-at true = operand.true_word
-truth-at false = operand.false_word
 
 string-at : (bs : List ℕ) → AreBytes bs → constant_of (token kind.String (quote bs)) ≡ Some (tree.text_constant bs)
 unfolding constant_of quote
@@ -68,7 +61,7 @@ mutual
   spells-operand (tree.fields []) h = absurd h
   spells-operand (tree.fields (n ∷ ns)) h = (token kind.Field (46 ∷ n), chain_tokens ns, refl, operand.field refl h.0.0, spells-chain ns h.1)
   spells-operand (tree.variable name names) h = (token kind.Variable (36 ∷ name), chain_tokens names, refl, operand.variable refl, spells-chain names h.1)
-  spells-operand (tree.bool_constant b) h = (word (truth_word b), [], refl, truth-at b, refl)
+  spells-operand (tree.bool_constant b) h = (word _, [], refl, operand.truth b, refl)
   spells-operand (tree.number_constant n) h = (token kind.Number _, [], refl, operand.a_constant (constant.number (integer-decimal n h)), refl)
   spells-operand (tree.text_constant bytes) h = (token kind.String (quote bytes), [], refl, operand.a_constant (quoted-constant bytes h), refl)
   spells-operand tree.nil h = (word _, [], refl, operand.nil_word, refl)
@@ -159,7 +152,7 @@ spaced-whole : (p : Pipeline) → OfPipeline p → SpellsWhole p (space ∷ pipe
 spaced-whole (pipeline cs) h = spaced-pipeline cs h
 
 -- a variable, and a sign and a pipeline behind it
-signed : (name : List ℕ) (p : Pipeline) (sign : Token) → IsName name → OfPipeline p
+signed : (name : List ℕ) (p : Pipeline) (sign : Token) → 0 < length name → OfPipeline p
     → (ws : List Token) → IsBlank ws → Then (IsVariable name) (Then (IsSign sign.kind) (SpellsWhole p))
     (ws ++ token kind.Variable (36 ∷ name) ∷ space ∷ sign ∷ space ∷ pipeline_tokens p)
 signed name p sign h k ws w = (
@@ -173,7 +166,7 @@ signed name p sign h k ws w = (
 )
 
 -- two variables, and a pipeline behind them
-paired : (key name : List ℕ) (p : Pipeline) → IsName key → IsName name → OfPipeline p
+paired : (key name : List ℕ) (p : Pipeline) → 0 < length key → 0 < length name → OfPipeline p
     → (ws : List Token) → IsBlank ws → SpellsBinding (declare_pair key name) (SpellsWhole p)
     (ws ++ (binding_tokens (declare_pair key name) ++ pipeline_tokens p))
 paired key name p h i k ws w = (
@@ -197,8 +190,8 @@ spells-bound (assign name) p h k =
     (signed name p (token kind.Assign (61 ∷ [])) h.0 k (space ∷ []) (refl, tt), signed name p (token kind.Assign (61 ∷ [])) h.0 k [] tt)
 spells-bound (declare_pair key name) p h k = (paired key name p h.0.0 h.1.0 k (space ∷ []) (refl, tt), paired key name p h.0.0 h.1.0 k [] tt)
 
-spells-header : (s : HeaderShape) (h : Header) → OfHeader (opens_range s) h → SpellsHeader (opens_range s) h (space ∷ header_tokens h)
-spells-header s h of = (of.0, (spells-bound h.binding h.pipeline of.1 of.2).0)
+spells-header : (in_range : Bool) (h : Header) → OfHeader in_range h → SpellsHeader in_range h (space ∷ header_tokens h)
+spells-header in_range h of = (of.0, (spells-bound h.binding h.pipeline of.1 of.2).0)
 
 spells-given : (given : Option Pipeline) → OfGiven given → SpellsGiven given (given_tokens given)
 spells-given None h = tt
@@ -206,9 +199,9 @@ spells-given (Some p) h = spaced-whole p h
 
 pub spells-tokens : (a : Action) → OfAction a → SpellsAction a (action_tokens a)
 spells-tokens (pipeline_action h) of = (of.0, (spells-bound h.binding h.pipeline of.1 of.2).1)
-spells-tokens (opening c h) of = ([], word _, _, refl, tt, (refl, refl), spells-header (shape.Open c) h of)
+spells-tokens (opening c h) of = ([], word _, _, refl, tt, (refl, refl), spells-header (is_range c) h of)
 spells-tokens (else_branch br h) of =
-    ([], word _, _, refl, tt, (refl, refl), (space ∷ [], word _, _, refl, (refl, tt), (refl, refl), spells-header (shape.ElseBranch br) h of))
+    ([], word _, _, refl, tt, (refl, refl), (space ∷ [], word _, _, refl, (refl, tt), (refl, refl), spells-header false h of))
 spells-tokens (define_action name) of =
     ([], word _, _, refl, tt, (refl, refl), (space ∷ [], token kind.String (quote name), [], refl, (refl, tt), quoted-constant name of, tt))
 spells-tokens (template_action name given) of = (

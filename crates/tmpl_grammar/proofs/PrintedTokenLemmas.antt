@@ -14,7 +14,8 @@ use Rattle.tmpl_grammar.specs.Tree.{Operand, Operands, Commands, Pipeline, pipel
 use Rattle.tmpl_grammar.specs.Action.{Action, pipeline_action, opening, else_branch, break_action, continue_action, define_action}
 use Rattle.tmpl_grammar.specs.Action.{template_action, block_action, control_in}
 use Rattle.tmpl_grammar.specs.Keyword.{control_spelling}
-use Rattle.tmpl_grammar.specs.Print.{bytes_of, Spells, IsInside, token, space, word, chain_tokens, truth_word, operand_tokens, more_tokens}
+use Rattle.tmpl_values.specs.Text.{truth_text}
+use Rattle.tmpl_grammar.specs.Print.{bytes_of, Spells, IsInside, token, space, word, chain_tokens, operand_tokens, more_tokens}
 use Rattle.tmpl_grammar.specs.Print.{command_tokens, later_tokens, commands_tokens, pipeline_tokens, header_tokens, action_tokens}
 use Rattle.tmpl_grammar.specs.Print.{binding_tokens, given_tokens}
 use Rattle.tmpl_grammar.specs.Printable.{IsFieldName, AreFieldNames, IsFieldChain, OfOperand, OfMore, OfCommand, OfLater, OfCommands}
@@ -78,9 +79,9 @@ function-reads Le rest stop = one (word (name_of Le)) rest (word-front 108 _ res
 function-reads Gt rest stop = one (word (name_of Gt)) rest (word-front 103 _ rest refl refl stop) (solid refl refl)
 function-reads Ge rest stop = one (word (name_of Ge)) rest (word-front 103 _ rest refl refl stop) (solid refl refl)
 
-truth-reads : (b : Bool) (rest : List ℕ) → Stops is_name_byte rest → Reads (word (truth_word b) ∷ []) rest
-truth-reads true rest stop = one (word (truth_word true)) rest (word-front 116 _ rest refl refl stop) (solid refl refl)
-truth-reads false rest stop = one (word (truth_word false)) rest (word-front 102 _ rest refl refl stop) (solid refl refl)
+truth-reads : (b : Bool) (rest : List ℕ) → Stops is_name_byte rest → Reads (word (truth_text b) ∷ []) rest
+truth-reads true rest stop = one (word (truth_text true)) rest (word-front 116 _ rest refl refl stop) (solid refl refl)
+truth-reads false rest stop = one (word (truth_text false)) rest (word-front 102 _ rest refl refl stop) (solid refl refl)
 
 pub string-reads : (bs rest : List ℕ) → Reads (token kind.String (quote bs) ∷ []) rest
 unfolding quote

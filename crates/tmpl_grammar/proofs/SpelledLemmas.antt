@@ -222,7 +222,7 @@ mutual
   operand-read : (o : Operand) (ts : List Token) → SpellsOperand o ts → (ls : List Partial) (cs : List Operands) (os : List Operand)
       → may_stand cs os o ≡ true → steps (Some (parser_at ls cs os None)) ts ≡ Some (parser_at ls cs os (Some o))
   operand-read tree.dot ts s ls cs os may = one-steps tree.dot ls cs os ts s may
-  operand-read (tree.fields []) ts s ls cs os may = absurd s
+  operand-read (tree.fields []) ts s ls cs os may = one-steps (tree.fields []) ls cs os ts s may
   operand-read (tree.fields (n ∷ ns)) ts s ls cs os may =
       chained-steps tree.fields fields-chain (n ∷ []) ns ls cs os ts s (stands-as cs os _ (tree.fields (n ∷ [])) refl may)
   operand-read (tree.variable x names) ts s ls cs os may =

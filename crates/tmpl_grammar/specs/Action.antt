@@ -10,9 +10,6 @@ use Rattle.tmpl_grammar.specs.declared.tree.Control.{Control}
 use Rattle.tmpl_grammar.specs.declared.tree.Control.TheVariants as control
 use Rattle.tmpl_grammar.specs.declared.action.Branch.{Branch}
 use Rattle.tmpl_grammar.specs.declared.action.Branch.TheVariants as branch
-use Rattle.tmpl_grammar.specs.declared.action.HeaderShape.TheVariants as shape
-use Rattle.tmpl_grammar.specs.declared.action.Shape.{Shape}
-use Rattle.tmpl_grammar.specs.declared.action.Shape.TheVariants as piped
 
 -- an else branch is an else part that begins with a control of its own
 pub data Action : Type 0 where
@@ -59,11 +56,7 @@ SpellsAction (template_action name given) ts =
     Then (IsWord (codes "template")) (Then (IsQuoted name) (SpellsGiven given)) ts
 SpellsAction (block_action name p) ts = Then (IsWord (codes "block")) (Then (IsQuoted name) (SpellsWhole p)) ts
 
--- the shape of an action that has a pipeline
-abbrev pub shape_of : Action → Option Shape
-shape_of (pipeline_action h) = Some (piped.Header shape.Pipeline)
-shape_of (opening c h) = Some (piped.Header (shape.Open c))
-shape_of (else_branch br h) = Some (piped.Header (shape.ElseBranch br))
-shape_of (template_action name (Some p)) = Some piped.Template
-shape_of (block_action name p) = Some piped.Block
-shape_of a = None
+-- the control of an else branch
+abbrev pub branch_in : Action → Option Branch
+branch_in (else_branch br h) = Some br
+branch_in a = None

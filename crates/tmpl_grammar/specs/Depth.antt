@@ -1,11 +1,10 @@
--- How deep parentheses nest, and what is read of an action within the limit (our own).
+-- How deep parentheses nest, and how deep they may (our own limit).
 use Rattle.std.specs.Prelude.{ℕ, ◌+◌, max, Some}
 use Rattle.tmpl_grammar.specs.Tree as tree
 use Rattle.tmpl_grammar.specs.Tree.{Operand, Operands, Commands, Pipeline}
 use Rattle.tmpl_grammar.specs.Action.{Action, pipeline_action, opening}
 use Rattle.tmpl_grammar.specs.Action.{else_branch}
 use Rattle.tmpl_grammar.specs.Action.{template_action, block_action}
-use Rattle.tmpl_grammar.specs.declared.action.Shape.{Shape}
 
 abbrev mutual
   pub depth_of_operand : Operand → ℕ
@@ -34,9 +33,3 @@ depth_of a = 0
 -- our own limit
 abbrev pub most_deep : ℕ
 most_deep = 100
-
--- of tokens: they are nothing of the grammar, or of an action of this shape that is too deep, or within the limit
-pub data Reading (T : Type 0) : Type 0 where
-  unread : Reading T
-  too_deep : Shape → Reading T
-  read : T → Reading T

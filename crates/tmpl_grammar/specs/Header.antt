@@ -1,6 +1,6 @@
 -- The grammar of a header ("Variables" in the documentation of Go's text/template): a pipeline, perhaps behind
 -- variables. White space may stand between any two tokens, also where Go asks for it.
-use Rattle.std.specs.Prelude.{◌≡◌, ℕ, Bool, true, false, not, List, [], ◌∷◌, ◌++◌}
+use Rattle.std.specs.Prelude.{◌≡◌, ◌<◌, ℕ, Bool, true, false, not, List, ◌∷◌, ◌++◌, length}
 use Rattle.tmpl_lex.specs.declared.piece.TokenKind.{TokenKind}
 use Rattle.tmpl_lex.specs.declared.piece.TokenKind.TheVariants as kind
 use Rattle.tmpl_lex.specs.Piece.{Token}
@@ -16,14 +16,9 @@ use Rattle.tmpl_grammar.specs.declared.tree.Control.TheVariants as control
 abbrev pub IsSign : TokenKind → Token → Type 0
 IsSign k t = t.kind ≡ k
 
--- a name of a variable has at least one byte
-abbrev pub IsName : List ℕ → Type 0
-IsName [] = ⊥
-IsName (b ∷ bs) = Unit {0}
-
--- the variable of this name
+-- the variable of this name, which has at least one byte
 abbrev pub IsVariable : List ℕ → Token → Type 0
-IsVariable name t = (t.kind ≡ kind.Variable) × (name_in t ≡ name) × IsName name
+IsVariable name t = (t.kind ≡ kind.Variable) × (name_in t ≡ name) × (0 < length name)
 
 -- perhaps white space, then such a token, and then such tokens
 abbrev pub Then : (Token → Type 0) → (List Token → Type 0) → List Token → Type 0

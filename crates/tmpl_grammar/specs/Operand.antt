@@ -1,5 +1,6 @@
 -- The operands that are one token ("Arguments" and "Functions" in the documentation of Go's text/template).
 use Rattle.std.specs.Prelude.{◌≡◌, ℕ, Bool, true, false, List, [], ◌∷◌, codes}
+use Rattle.tmpl_values.specs.Text.{truth_text}
 use Rattle.tmpl_funcs.specs.Func.{name_of}
 use Rattle.tmpl_funcs.specs.declared.func.Func.{Func}
 use Rattle.tmpl_lex.specs.declared.piece.TokenKind.TheVariants as kind
@@ -15,8 +16,7 @@ pub data IsOperand : Token → Operand → Type 0 where
   field : {t : Token} → t.kind ≡ kind.Field → begins_name (name_in t) ≡ true
       → IsOperand t (tree.fields (name_in t ∷ []))
   variable : {t : Token} → t.kind ≡ kind.Variable → IsOperand t (tree.variable (name_in t) [])
-  true_word : IsOperand (token kind.Word (codes "true")) (tree.bool_constant true)
-  false_word : IsOperand (token kind.Word (codes "false")) (tree.bool_constant false)
+  truth : (b : Bool) → IsOperand (token kind.Word (truth_text b)) (tree.bool_constant b)
   nil_word : IsOperand (token kind.Word (codes "nil")) tree.nil
   a_function : (f : Func) → IsOperand (token kind.Word (name_of f)) (tree.function f)
   a_constant : {t : Token} {o : Operand} → IsConstant t o → IsOperand t o

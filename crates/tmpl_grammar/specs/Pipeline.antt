@@ -24,10 +24,6 @@ IsChain (n ∷ ns) ts =
 abbrev pub IsChained : Operand → List (List ℕ) → List Token → Type 0
 IsChained o names ts = (t : Token) × (us : List Token) × (ts ≡ t ∷ us) × IsOperand t o × IsChain names us
 
-abbrev pub IsFields : List (List ℕ) → List Token → Type 0
-IsFields [] ts = ⊥
-IsFields (n ∷ ns) ts = IsChained (tree.fields (n ∷ [])) ns ts
-
 -- a later command begins with no constant, `nil` or dot
 abbrev pub MayBeLater : Operands → Type 0
 MayBeLater tree.no_operand = ⊥
@@ -36,7 +32,7 @@ MayBeLater (tree.operand o os) = begins_later o ≡ true
 abbrev mutual
   -- an operand
   pub SpellsOperand : Operand → List Token → Type 0
-  SpellsOperand (tree.fields names) ts = IsFields names ts
+  SpellsOperand (tree.fields (n ∷ ns)) ts = IsChained (tree.fields (n ∷ [])) ns ts
   SpellsOperand (tree.variable name names) ts = IsChained (tree.variable name []) names ts
   SpellsOperand (tree.group commands names) ts =
       (l : Token) × (inner : List Token) × (r : Token) × (us : List Token) × (ts ≡ l ∷ inner ++ r ∷ us)

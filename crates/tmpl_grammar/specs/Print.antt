@@ -1,7 +1,8 @@
 -- The tokens by which an action is printed, and how they stand in a file.
-use Rattle.std.specs.Prelude.{ℕ, Bool, true, false, List, [], ◌∷◌, ◌++◌, Option, Some, None, codes}
+use Rattle.std.specs.Prelude.{ℕ, List, [], ◌∷◌, ◌++◌, Option, Some, None, codes}
 use Rattle.std.specs.Fmt.{signed_decimal}
 use Rattle.tmpl_values.specs.Quote.{quote}
+use Rattle.tmpl_values.specs.Text.{truth_text}
 use Rattle.tmpl_funcs.specs.Func.{name_of}
 use Rattle.tmpl_lex.specs.Bytes.{BeginsNone}
 use Rattle.tmpl_lex.specs.Delimiter.{IsLeftMarker}
@@ -32,17 +33,13 @@ abbrev pub chain_tokens : List (List ℕ) → List Token
 chain_tokens [] = []
 chain_tokens (n ∷ ns) = token kind.Field (46 ∷ n) ∷ chain_tokens ns
 
-abbrev pub truth_word : Bool → List ℕ
-truth_word true = codes "true"
-truth_word false = codes "false"
-
 -- operands parted by one space, commands by space, bar, space; whole constants in decimal, texts quoted
 abbrev mutual
   pub operand_tokens : Operand → List Token
   operand_tokens tree.dot = token kind.Dot (46 ∷ []) ∷ []
   operand_tokens (tree.fields names) = chain_tokens names
   operand_tokens (tree.variable name names) = variable_token name ∷ chain_tokens names
-  operand_tokens (tree.bool_constant b) = word (truth_word b) ∷ []
+  operand_tokens (tree.bool_constant b) = word (truth_text b) ∷ []
   operand_tokens (tree.number_constant n) = token kind.Number (signed_decimal n) ∷ []
   operand_tokens (tree.text_constant bytes) = token kind.String (quote bytes) ∷ []
   operand_tokens tree.nil = word (codes "nil") ∷ []

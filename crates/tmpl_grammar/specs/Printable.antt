@@ -1,5 +1,5 @@
 -- What holds of each action that is read from a file, and lets it be printed and read again.
-use Rattle.std.specs.Prelude.{◌≡◌, ◌<◌, ◌≤◌, ◌^◌, ℕ, Bool, false, true, List, [], ◌∷◌, Option, Some, None}
+use Rattle.std.specs.Prelude.{◌≡◌, ◌<◌, ◌≤◌, ◌^◌, ℕ, Bool, false, true, List, [], ◌∷◌, length, Option, Some, None}
 use Rattle.std.specs.List.{list_all}
 use lib.Signed.{mag}
 use Rattle.tmpl_values.specs.Bytes.{AreBytes}
@@ -11,7 +11,7 @@ use Rattle.tmpl_grammar.specs.Tree.{Binding, unbound, declare, assign, declare_p
 use Rattle.tmpl_grammar.specs.Action.{Action, pipeline_action, opening}
 use Rattle.tmpl_grammar.specs.Action.{else_branch, define_action}
 use Rattle.tmpl_grammar.specs.Action.{template_action, block_action}
-use Rattle.tmpl_grammar.specs.Header.{is_range, IsName, may_bind}
+use Rattle.tmpl_grammar.specs.Header.{is_range, may_bind}
 use Rattle.tmpl_grammar.specs.Pipeline.{MayBeLater}
 use Rattle.tmpl_grammar.specs.Depth.{depth_of_pipeline, most_deep}
 
@@ -64,7 +64,7 @@ OfPipeline (pipeline cs) = OfCommands cs × (depth_of_pipeline (pipeline cs) ≤
 -- ---- actions
 
 abbrev pub OfVariable : List ℕ → Type 0
-OfVariable name = IsName name × IsNamed name
+OfVariable name = (0 < length name) × IsNamed name
 
 abbrev pub OfBinding : Binding → Type 0
 OfBinding unbound = Unit {0}

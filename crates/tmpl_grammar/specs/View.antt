@@ -6,7 +6,6 @@ use Rattle.tmpl_grammar.specs.Tree.{function, group, Operands, operands_from, Co
 use Rattle.tmpl_grammar.specs.Tree.{pipeline, Binding, unbound, declare, assign, declare_pair, Header}
 use Rattle.tmpl_grammar.specs.Action.{Action, pipeline_action, opening, plain_else, else_branch, end_action}
 use Rattle.tmpl_grammar.specs.Action.{break_action, continue_action, define_action, template_action, block_action}
-use Rattle.tmpl_grammar.specs.Depth as depth
 use Rattle.tmpl_grammar.specs.declared.tree.Operand as held_operand
 use Rattle.tmpl_grammar.specs.declared.tree.Operand.{fold-Operand}
 use Rattle.tmpl_grammar.specs.declared.tree.Operand.TheOpen.{Operand-F, Command-F}
@@ -17,10 +16,8 @@ use Rattle.tmpl_grammar.specs.declared.tree.Binding.TheVariants as binding
 use Rattle.tmpl_grammar.specs.declared.tree.Header as held_header
 use Rattle.tmpl_grammar.specs.declared.action.Action as held_action
 use Rattle.tmpl_grammar.specs.declared.action.Action.TheVariants as act
-use Rattle.tmpl_grammar.specs.declared.action.Reading as held_reading
 use Rattle.tmpl_grammar.specs.declared.print.PrintedAction.{PrintedAction}
 use Rattle.tmpl_grammar.specs.declared.print.PrintedAction.TheVariants as print
-use Rattle.tmpl_grammar.specs.declared.action.Reading.TheVariants as held
 
 -- ---- trees
 
@@ -91,8 +88,3 @@ printed_of print.Break = break_action
 printed_of print.Continue = continue_action
 printed_of (print.Define name) = define_action name.now
 printed_of (print.Template name given) = template_action name.now (given_of given)
-
-abbrev pub action_reading : held_reading.Reading held_action.Action → depth.Reading Action
-action_reading held.Unread = depth.unread
-action_reading (held.TooDeep s) = depth.too_deep s
-action_reading (held.Read a) = depth.read (action_of a)

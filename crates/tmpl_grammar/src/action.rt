@@ -1,11 +1,10 @@
 //! What one action says.
 ghost use Rattle.std.specs.Prelude.{◌≡◌};
-ghost use Rattle.tmpl_grammar.specs.Action.{control_in};
-ghost use Rattle.tmpl_grammar.specs.computed.Reading.{action_with, opens_range};
-ghost use Rattle.tmpl_grammar.specs.Header.{may_bind};
-ghost use Rattle.tmpl_grammar.specs.View.{action_of, binding_of, header_of};
+ghost use Rattle.tmpl_grammar.specs.Action.{branch_in, control_in};
+ghost use Rattle.tmpl_grammar.specs.computed.Depth.{is_left_out, lacks_pipeline};
+ghost use Rattle.tmpl_grammar.specs.View.{action_of, pipeline_of};
 
-use crate::tree::{Binding, Control, Header, Pipeline};
+use crate::tree::{Control, Header, Pipeline};
 use tmpl_values::Bytes;
 
 /// A control with which an else part begins: `{{else if P}}` ("Actions" in the documentation of Go's text/template) and
@@ -54,53 +53,50 @@ pub enum Action {
     Block(Bytes, Pipeline),
 }
 
-/// Which kind of action one with a header is.
-#[derive(Clone, Copy, Debug, PartialEq, Eq)]
-pub enum HeaderShape {
-    Pipeline,
-    Open(Control),
-    ElseBranch(Branch),
-}
-
-/// Which kind of action one with a pipeline is.
-#[derive(Clone, Copy, Debug, PartialEq, Eq)]
-pub enum Shape {
-    Header(HeaderShape),
-    Template,
-    Block,
-}
-
 /// What tokens are read as.
 #[derive(Drop)]
-pub enum Reading<T> {
+pub enum Reading {
     /// Nothing of the grammar.
     Unread,
-    /// What the grammar has, but for parentheses that nest deeper than 100 (our own limit), in an action of this shape.
-    TooDeep(Shape),
-    Read(T),
+    /// What the grammar has, but for parentheses that nest deeper than 100 (our own limit); of an else branch its
+    /// control.
+    TooDeep(Option<Branch>),
+    Read(Action),
 }
 
-impl HeaderShape {
-    /// The action of this shape with this header.
-    pub(crate) fn with(self, header: Header) -> Action
-        ensures { action_of result ≡ action_with self (header_of header) }
+impl Action {
+    /// The control of an else branch.
+    pub(crate) fn branch(&self) -> Option<Branch>
+        ensures { result ≡ branch_in (action_of self.now) }
     {
         match self {
-            HeaderShape::Pipeline => Action::Pipeline(header),
-            HeaderShape::Open(control) => Action::Open(control, header),
-            HeaderShape::ElseBranch(branch) => Action::ElseBranch(branch, header),
+            Action::ElseBranch(branch, _) => Some(*branch),
+            _ => None,
         }
     }
 
-    /// Whether a header of this shape may bind variables so.
-    pub(crate) fn may_bind(self, binding: &Binding) -> bool
-        ensures { result ≡ may_bind (opens_range self) (binding_of binding.now) }
+    /// Whether it has a pipeline that is left out.
+    pub(crate) fn lacks_pipeline(&self) -> bool
+        ensures { result ≡ lacks_pipeline (action_of self.now) }
     {
-        let is_range = matches!(self, HeaderShape::Open(Control::Range));
-        match binding {
-            Binding::Unbound | Binding::Declare(_) => true,
-            Binding::Assign(_) => !is_range,
-            Binding::DeclarePair(_) => is_range,
+        match self {
+            Action::Pipeline(header) | Action::Open(_, header) | Action::ElseBranch(_, header) => {
+                is_left_out(&header.pipeline)
+            }
+            Action::Template(_, Some(pipeline)) | Action::Block(_, pipeline) => is_left_out(
+                pipeline,
+            ),
+            _ => false,
         }
+    }
+}
+
+/// Whether a pipeline is left out, which no tokens spell: it has no commands.
+fn is_left_out(pipeline: &Pipeline) -> bool
+    ensures { result ≡ is_left_out (pipeline_of pipeline.now) }
+{
+    match pipeline.commands.as_slice() {
+        [] => true,
+        _ => false,
     }
 }

@@ -1,11 +1,15 @@
 //! The reading of headers: a pipeline's tokens, perhaps behind variables.
 ghost use Rattle.std.specs.Prelude.{◌≡◌, IfOk, map, option_map};
 ghost use Rattle.tmpl_lex.specs.View.{token_of};
+ghost use Rattle.tmpl_grammar.specs.Header.{may_bind};
+ghost use Rattle.tmpl_grammar.specs.View.{binding_of, header_of};
+ghost use Rattle.tmpl_grammar.specs.computed.Depth.{limited_header};
 ghost use Rattle.tmpl_grammar.specs.computed.Reading as spec;
 ghost use Rattle.tmpl_grammar.specs.computed.View.{front_of, name_of, split_of};
 
 use crate::operand::{name_in, next};
-use crate::tree::{Binding, Pair};
+use crate::pipeline::pipeline;
+use crate::tree::{Binding, Header, Pair};
 use std::alloc::{AllocError, Global};
 use tmpl_lex::{Token, TokenKind};
 use tmpl_values::Bytes;
@@ -87,9 +91,39 @@ fn copy(alloc: Global, name: &[u8]) -> Result<Bytes, AllocError>
     Ok(Bytes::new(name.to_vec(alloc)?))
 }
 
+/// The header of a range or of another action, with its pipeline left out where that nests too deep.
+pub(crate) fn header(
+    alloc: Global,
+    in_range: bool,
+    tokens: &[Token<'_>],
+) -> Result<Option<Header>, AllocError>
+    ensures { IfOk result (λ o. option_map header_of o
+        ≡ option_map limited_header (spec.header_in in_range (map token_of tokens.now))) }
+{
+    let (binding, rest) = split(alloc, tokens)?;
+    if !may_bind(in_range, &binding) {
+        return Ok(None);
+    }
+    match pipeline(alloc, rest)? {
+        Some(pipeline) => Ok(Some(Header { binding, pipeline })),
+        None => Ok(None),
+    }
+}
+
+/// Whether the header of a range or of another action may bind variables so.
+fn may_bind(in_range: bool, binding: &Binding) -> bool
+    ensures { result ≡ may_bind in_range (binding_of binding.now) }
+{
+    match binding {
+        Binding::Unbound | Binding::Declare(_) => true,
+        Binding::Assign(_) => !in_range,
+        Binding::DeclarePair(_) => in_range,
+    }
+}
+
 /// The binding of a header, and the tokens of its pipeline.
 #[tactic(auto, unfolding(crate::specs::computed::Reading::split))]
-pub(crate) fn split<'t, 'b>(
+fn split<'t, 'b>(
     alloc: Global,
     tokens: &'t [Token<'b>],
 ) -> Result<(Binding, &'t [Token<'b>]), AllocError>

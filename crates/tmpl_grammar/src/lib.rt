@@ -13,7 +13,7 @@ mod print;
 mod read;
 mod tree;
 
-pub use action::{Action, Branch, HeaderShape, Reading, Shape};
+pub use action::{Action, Branch, Reading};
 pub use laws::{
     one_action, one_constant, one_operand, one_reading, printed_spelling, printed_tokens,
 };

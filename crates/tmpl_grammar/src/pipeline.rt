@@ -4,12 +4,12 @@ ghost use Rattle.tmpl_lex.specs.View.{token_of};
 ghost use Rattle.tmpl_grammar.specs.computed.Reading as spec;
 ghost use Rattle.tmpl_grammar.specs.computed.Limited as limited;
 ghost use Rattle.tmpl_grammar.specs.computed.Parser.{finished, kept_if};
-ghost use Rattle.tmpl_grammar.specs.View.{operand_of};
-ghost use Rattle.tmpl_grammar.specs.computed.View.{parser_of, limited_of, pipeline_reading};
+ghost use Rattle.tmpl_grammar.specs.View.{operand_of, pipeline_of};
+ghost use Rattle.tmpl_grammar.specs.computed.Depth.{limited_pipeline};
+ghost use Rattle.tmpl_grammar.specs.computed.View.{parser_of, limited_of};
 
 mod parser;
 
-use crate::action::{Reading, Shape};
 use crate::pipeline::parser::{PartialPipeline, PipelineParser};
 use crate::tree::{Operand, Pipeline};
 use std::alloc::{AllocError, Global};
@@ -28,22 +28,20 @@ struct LimitedParser {
     beyond: Option<usize>,
 }
 
-/// What these tokens, in an action of this shape, are read as. No call is recursive, however deep parentheses nest.
-pub(crate) fn pipeline(
-    alloc: Global,
-    shape: Shape,
-    tokens: &[Token<'_>],
-) -> Result<Reading<Pipeline>, AllocError>
-    ensures { IfOk result (λ p. pipeline_reading p ≡ spec.limited_in shape (map token_of tokens.now)) }
+/// The pipeline that these tokens spell, left out where its parentheses nest too deep. No call is recursive, however
+/// deep they nest.
+pub(crate) fn pipeline(alloc: Global, tokens: &[Token<'_>]) -> Result<Option<Pipeline>, AllocError>
+    ensures { IfOk result (λ o. option_map pipeline_of o
+        ≡ option_map limited_pipeline (spec.pipeline_in (map token_of tokens.now))) }
 {
     let mut parser = LimitedParser::new(alloc);
     for token in tokens {
         let stands = parser.step(alloc, token)?;
         if !stands {
-            return Ok(Reading::Unread);
+            return Ok(None);
         }
     }
-    parser.finish(alloc, shape)
+    parser.finish(alloc)
 }
 
 impl LimitedParser {
@@ -96,15 +94,17 @@ impl LimitedParser {
         }
     }
 
-    /// What is read in an action of this shape, where the tokens end here.
-    fn finish(self, alloc: Global, shape: Shape) -> Result<Reading<Pipeline>, AllocError>
-        ensures { IfOk result (λ p. pipeline_reading p
-            ≡ limited.reading_by shape self.beyond (finished (parser_of self.parser))) }
+    /// What is read where the tokens end here.
+    fn finish(self, alloc: Global) -> Result<Option<Pipeline>, AllocError>
+        ensures { IfOk result (λ o. option_map pipeline_of o
+            ≡ limited.pipeline_by self.beyond (finished (parser_of self.parser))) }
     {
         match (self.parser.finish(alloc)?, self.beyond) {
-            (Some(commands), None) => Ok(Reading::Read(Pipeline { commands })),
-            (Some(_), Some(0)) => Ok(Reading::TooDeep(shape)),
-            _ => Ok(Reading::Unread),
+            (Some(commands), None) => Ok(Some(Pipeline { commands })),
+            (Some(_), Some(0)) => Ok(Some(Pipeline {
+                commands: Vec::new(alloc),
+            })),
+            _ => Ok(None),
         }
     }
 }

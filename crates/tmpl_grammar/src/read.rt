@@ -1,150 +1,177 @@
 //! The reading of one action's tokens.
-ghost use Rattle.std.specs.Prelude.{◌≡◌, IfOk, map, option_map};
+ghost use Rattle.std.specs.Prelude.{◌≡◌, IfOk, Some, map, option_map};
 ghost use Rattle.tmpl_lex.specs.View.{token_of};
-ghost use Rattle.tmpl_grammar.specs.Action.{break_action, continue_action, end_action};
-ghost use Rattle.tmpl_grammar.specs.computed.Reading.{action_with};
-ghost use Rattle.tmpl_grammar.specs.Depth as depth;
-ghost use Rattle.tmpl_grammar.specs.computed.Depth as limit;
-ghost use Rattle.tmpl_grammar.specs.View.{action_of, action_reading};
-ghost use Rattle.tmpl_grammar.specs.computed.View.{quoted_of};
+ghost use Rattle.tmpl_grammar.specs.View.{action_of};
+ghost use Rattle.tmpl_grammar.specs.computed.Depth.{limited_action, reading_held};
+ghost use Rattle.tmpl_grammar.specs.computed.View.{action_reading, quoted_of};
 ghost use Rattle.tmpl_grammar.specs.computed.Reading as spec;
 
-use crate::action::{Action, HeaderShape, Reading, Shape};
+use crate::action::{Action, Branch, Reading};
 use crate::constant::constant;
-use crate::header::split;
+use crate::header::header;
 use crate::keyword::{Keyword, keyword_in};
 use crate::operand::{is_blank, next};
 use crate::pipeline::pipeline;
-use crate::tree::{Header, Operand};
+use crate::tree::{Control, Operand};
 use std::alloc::{AllocError, Global};
 use tmpl_lex::Token;
 use tmpl_values::Bytes;
 
 /// What an action's tokens are read as. Want of memory is the only error.
-#[tactic(auto, unfolding(crate::specs::computed::Reading::action_in))]
-pub fn read_action(alloc: Global, tokens: &[Token<'_>]) -> Result<Reading<Action>, AllocError>
+pub fn read_action(alloc: Global, tokens: &[Token<'_>]) -> Result<Reading, AllocError>
     ensures { IfOk result (λ a. action_reading a ≡ spec.reading_in (map token_of tokens.now)) }
 {
+    Ok(within_limit(action(alloc, tokens)?))
+}
+
+/// What is read of an action whose pipeline is left out where it nests too deep.
+fn within_limit(action: Option<Action>) -> Reading
+    ensures { action_reading result ≡ reading_held (option_map action_of action) }
+{
+    match action {
+        None => Reading::Unread,
+        Some(action) => if action.lacks_pipeline() {
+            Reading::TooDeep(action.branch())
+        } else {
+            Reading::Read(action)
+        },
+    }
+}
+
+/// The action that these tokens spell, with its pipeline left out where that nests too deep.
+#[tactic(auto, unfolding(crate::specs::computed::Reading::action_in))]
+fn action(alloc: Global, tokens: &[Token<'_>]) -> Result<Option<Action>, AllocError>
+    ensures { IfOk result (λ o. option_map action_of o
+        ≡ option_map limited_action (spec.action_in (map token_of tokens.now))) }
+{
     match next(tokens) {
-        None => Ok(Reading::Unread),
+        None => Ok(None),
         Some((first, rest)) => match keyword_in(first) {
-            Some(keyword) => read_behind(alloc, keyword, rest),
-            None => read_bound(alloc, HeaderShape::Pipeline, tokens),
+            Some(keyword) => action_behind(alloc, keyword, rest),
+            None => match header(alloc, false, tokens)? {
+                Some(header) => Ok(Some(Action::Pipeline(header))),
+                None => Ok(None),
+            },
         },
     }
 }
 
 /// The action that begins with this keyword, behind which these tokens stand.
-fn read_behind(
+fn action_behind(
     alloc: Global,
     keyword: Keyword,
     rest: &[Token<'_>],
-) -> Result<Reading<Action>, AllocError>
-    ensures { IfOk result (λ a. action_reading a
-        ≡ limit.reading_of (spec.action_by keyword (map token_of rest.now))) }
+) -> Result<Option<Action>, AllocError>
+    ensures { IfOk result (λ o. option_map action_of o
+        ≡ option_map limited_action (spec.action_by keyword (map token_of rest.now))) }
 {
     match keyword {
-        Keyword::Control(control) => read_bound(alloc, HeaderShape::Open(control), rest),
-        Keyword::Else => read_else(alloc, rest),
-        Keyword::End => Ok(read_alone(Action::End, rest)),
-        Keyword::Break => Ok(read_alone(Action::Break, rest)),
-        Keyword::Continue => Ok(read_alone(Action::Continue, rest)),
-        Keyword::Define => read_define(alloc, rest),
-        Keyword::Template => read_template(alloc, rest),
-        Keyword::Block => read_block(alloc, rest),
+        Keyword::Control(control) => opening(alloc, control, rest),
+        Keyword::Else => else_action(alloc, rest),
+        Keyword::End => Ok(alone(Action::End, rest)),
+        Keyword::Break => Ok(alone(Action::Break, rest)),
+        Keyword::Continue => Ok(alone(Action::Continue, rest)),
+        Keyword::Define => define_action(alloc, rest),
+        Keyword::Template => template_action(alloc, rest),
+        Keyword::Block => block_action(alloc, rest),
     }
 }
 
-/// An action without a header, behind whose keyword nothing may stand.
-fn read_alone(action: Action, rest: &[Token<'_>]) -> Reading<Action>
-    requires { limit.within_limit (action_of action) ≡ depth.read (action_of action) }
-    ensures { action_reading result ≡ limit.reading_of (spec.alone (action_of action) (map token_of rest.now)) }
+/// An action without a pipeline, behind which nothing may stand.
+fn alone(action: Action, rest: &[Token<'_>]) -> Option<Action>
+    requires { limited_action (action_of action) ≡ action_of action }
+    ensures { option_map action_of result
+        ≡ option_map limited_action (spec.alone (action_of action) (map token_of rest.now)) }
 {
-    if is_blank(rest) {
-        Reading::Read(action)
-    } else {
-        Reading::Unread
-    }
+    if is_blank(rest) { Some(action) } else { None }
 }
 
-/// The action of this shape whose header these tokens are.
-fn read_bound(
+/// A control, behind whose keyword a header stands.
+fn opening(
     alloc: Global,
-    shape: HeaderShape,
-    tokens: &[Token<'_>],
-) -> Result<Reading<Action>, AllocError>
-    ensures { IfOk result (λ a. action_reading a
-        ≡ limit.reading_of (option_map (action_with shape) (spec.header_in shape (map token_of tokens.now)))) }
+    control: Control,
+    rest: &[Token<'_>],
+) -> Result<Option<Action>, AllocError>
+    ensures { IfOk result (λ o. option_map action_of o
+        ≡ option_map limited_action (spec.opening_by control (map token_of rest.now))) }
 {
-    let (binding, rest) = split(alloc, tokens)?;
-    if !shape.may_bind(&binding) {
-        return Ok(Reading::Unread);
-    }
-    match pipeline(alloc, Shape::Header(shape), rest)? {
-        Reading::Unread => Ok(Reading::Unread),
-        Reading::TooDeep(shape) => Ok(Reading::TooDeep(shape)),
-        Reading::Read(pipeline) => Ok(Reading::Read(shape.with(Header { binding, pipeline }))),
+    match header(alloc, matches!(control, Control::Range), rest)? {
+        Some(header) => Ok(Some(Action::Open(control, header))),
+        None => Ok(None),
     }
 }
 
 /// An `else`, behind which nothing, an `if` or a `with` stands.
-fn read_else(alloc: Global, rest: &[Token<'_>]) -> Result<Reading<Action>, AllocError>
-    ensures { IfOk result (λ a. action_reading a
-        ≡ limit.reading_of (spec.else_by (spec.next (map token_of rest.now)))) }
+fn else_action(alloc: Global, rest: &[Token<'_>]) -> Result<Option<Action>, AllocError>
+    ensures { IfOk result (λ o. option_map action_of o
+        ≡ option_map limited_action (spec.else_by (spec.next (map token_of rest.now)))) }
 {
     match next(rest) {
-        None => Ok(Reading::Read(Action::Else)),
+        None => Ok(Some(Action::Else)),
         Some((first, rest)) => match keyword_in(first) {
             Some(keyword) => match keyword.branch() {
-                Some(branch) => read_bound(alloc, HeaderShape::ElseBranch(branch), rest),
-                None => Ok(Reading::Unread),
+                Some(branch) => else_branch(alloc, branch, rest),
+                None => Ok(None),
             },
-            None => Ok(Reading::Unread),
+            None => Ok(None),
         },
     }
 }
 
+/// An `else` with an `if` or a `with` behind it, behind which a header stands.
+fn else_branch(
+    alloc: Global,
+    branch: Branch,
+    rest: &[Token<'_>],
+) -> Result<Option<Action>, AllocError>
+    ensures { IfOk result (λ o. option_map action_of o
+        ≡ option_map limited_action (spec.else_branched (Some branch) (map token_of rest.now))) }
+{
+    match header(alloc, false, rest)? {
+        Some(header) => Ok(Some(Action::ElseBranch(branch, header))),
+        None => Ok(None),
+    }
+}
+
 /// A `define`, behind which a name stands alone.
-fn read_define(alloc: Global, rest: &[Token<'_>]) -> Result<Reading<Action>, AllocError>
-    ensures { IfOk result (λ a. action_reading a
-        ≡ limit.reading_of (spec.named_action spec.define_by (map token_of rest.now))) }
+fn define_action(alloc: Global, rest: &[Token<'_>]) -> Result<Option<Action>, AllocError>
+    ensures { IfOk result (λ o. option_map action_of o
+        ≡ option_map limited_action (spec.named_action spec.define_by (map token_of rest.now))) }
 {
     match quoted_name(alloc, rest)? {
-        Some((name, rest)) => Ok(read_alone(Action::Define(name), rest)),
-        None => Ok(Reading::Unread),
+        Some((name, rest)) => Ok(alone(Action::Define(name), rest)),
+        None => Ok(None),
     }
 }
 
 /// A `template`, behind which a name stands, and a pipeline or nothing.
-fn read_template(alloc: Global, rest: &[Token<'_>]) -> Result<Reading<Action>, AllocError>
-    ensures { IfOk result (λ a. action_reading a
-        ≡ limit.reading_of (spec.named_action spec.template_by (map token_of rest.now))) }
+fn template_action(alloc: Global, rest: &[Token<'_>]) -> Result<Option<Action>, AllocError>
+    ensures { IfOk result (λ o. option_map action_of o
+        ≡ option_map limited_action (spec.named_action spec.template_by (map token_of rest.now))) }
 {
     let Some((name, rest)) = quoted_name(alloc, rest)? else {
-        return Ok(Reading::Unread);
+        return Ok(None);
     };
     if is_blank(rest) {
-        return Ok(Reading::Read(Action::Template(name, None)));
+        return Ok(Some(Action::Template(name, None)));
     }
-    match pipeline(alloc, Shape::Template, rest)? {
-        Reading::Unread => Ok(Reading::Unread),
-        Reading::TooDeep(shape) => Ok(Reading::TooDeep(shape)),
-        Reading::Read(pipeline) => Ok(Reading::Read(Action::Template(name, Some(pipeline)))),
+    match pipeline(alloc, rest)? {
+        Some(pipeline) => Ok(Some(Action::Template(name, Some(pipeline)))),
+        None => Ok(None),
     }
 }
 
 /// A `block`, behind which a name and a pipeline stand.
-fn read_block(alloc: Global, rest: &[Token<'_>]) -> Result<Reading<Action>, AllocError>
-    ensures { IfOk result (λ a. action_reading a
-        ≡ limit.reading_of (spec.named_action spec.block_by (map token_of rest.now))) }
+fn block_action(alloc: Global, rest: &[Token<'_>]) -> Result<Option<Action>, AllocError>
+    ensures { IfOk result (λ o. option_map action_of o
+        ≡ option_map limited_action (spec.named_action spec.block_by (map token_of rest.now))) }
 {
     let Some((name, rest)) = quoted_name(alloc, rest)? else {
-        return Ok(Reading::Unread);
+        return Ok(None);
     };
-    match pipeline(alloc, Shape::Block, rest)? {
-        Reading::Unread => Ok(Reading::Unread),
-        Reading::TooDeep(shape) => Ok(Reading::TooDeep(shape)),
-        Reading::Read(pipeline) => Ok(Reading::Read(Action::Block(name, pipeline))),
+    match pipeline(alloc, rest)? {
+        Some(pipeline) => Ok(Some(Action::Block(name, pipeline))),
+        None => Ok(None),
     }
 }
 

@@ -10,7 +10,7 @@ use Rattle.tmpl_syntax.specs.Fault as reason
 use Rattle.tmpl_syntax.specs.computed.Frames.{Frame}
 use Rattle.tmpl_syntax.specs.Place.Role.{Name, Act, Role, text_role, unreadable_role, unread_role, act_role}
 use Rattle.tmpl_syntax.specs.Place.Body.{names_in}
-use Rattle.tmpl_syntax.specs.computed.Frames.{is_placed, is_too_deep, used, is_known, knows, first_fault, fault_at}
+use Rattle.tmpl_syntax.specs.computed.Frames.{is_placed, is_too_deep, is_known, knows, first_fault, fault_at}
 
 -- the places that a frame holds are in order
 pub record IsWithin (f : Frame) (count : ℕ) : Type 0 where
@@ -24,11 +24,11 @@ abbrev pub IsUnknown : List Name → List Name → Type 0
 IsUnknown uses names = (n : Name) × Contains uses n × (Contains names n → ⊥)
 
 abbrev pub Tells : Act → Option Frame → List Name → Option Reason → Type 0
-Tells a t names None = (is_placed a t ≡ true) × (is_too_deep a t ≡ false) × IsKnown (used (names_in a)) names
+Tells a t names None = (is_placed a t ≡ true) × (is_too_deep a t ≡ false) × IsKnown (names_in a).uses names
 Tells a t names (Some reason.out_of_place) = is_placed a t ≡ false
 Tells a t names (Some reason.nested_too_deeply) = (is_placed a t ≡ true) × (is_too_deep a t ≡ true)
 Tells a t names (Some reason.undeclared_variable) =
-    (is_placed a t ≡ true) × (is_too_deep a t ≡ false) × IsUnknown (used (names_in a)) names
+    (is_placed a t ≡ true) × (is_too_deep a t ≡ false) × IsUnknown (names_in a).uses names
 Tells a t names _ = ⊥
 
 abbrev pub TellsRole : Role → Option Frame → List Name → Option Reason → Type 0
@@ -78,13 +78,13 @@ module _ (names : List Name) where
       (and_cases (is_known names u) (knows names us) e)
 
 module _ (a : Act) (t : Option Frame) (names : List Name) where
-  tells-by : (p d k : Bool) → is_placed a t ≡ p → is_too_deep a t ≡ d → knows names (used (names_in a)) ≡ k → Tells a t names (first_fault p d k)
+  tells-by : (p d k : Bool) → is_placed a t ≡ p → is_too_deep a t ≡ d → knows names (names_in a).uses ≡ k → Tells a t names (first_fault p d k)
   tells-by false d k e f g = e
   tells-by true true k e f g = (e, f)
-  tells-by true false false e f g = (e, f, unknown names (used (names_in a)) g)
-  tells-by true false true e f g = (e, f, known names (used (names_in a)) g)
+  tells-by true false false e f g = (e, f, unknown names (names_in a).uses g)
+  tells-by true false true e f g = (e, f, known names (names_in a).uses g)
 
 -- the fault that the definition gives is the one that these facts say
 pub tells : (x : Role) (t : Option Frame) (names : List Name) → TellsRole x t names (fault_at x t names)
-tells (act_role a) t names = tells-by a t names (is_placed a t) (is_too_deep a t) (knows names (used (names_in a))) refl refl refl
+tells (act_role a) t names = tells-by a t names (is_placed a t) (is_too_deep a t) (knows names (names_in a).uses) refl refl refl
 tells _ t names = refl

@@ -1,61 +1,29 @@
 -- For `one_list_of_items`: the pieces of a file are read as the items that are computed.
-use Rattle.std.proofs.Common.{arith, ◌≡◌, ◌∙◌, ◌≤◌, ◌<◌, ℕ, Bool, true, false, List, [], ◌∷◌, map, Option, Some, None, refl, ap, sym, subst, ⊎_elim}
+use Rattle.std.proofs.Common.{◌≡◌, ◌∙◌, ◌≤◌, ◌<◌, ℕ, Bool, true, false, List, [], ◌∷◌, map, Option, Some, None, refl, ap, sym, subst, ⊎_elim}
 use Rattle.std.proofs.lemmas.Bool.{le-leb, cases_lt}
-use Rattle.std.proofs.lemmas.Bool.Decides.{leb_tells}
 use Rattle.std.proofs.lemmas.Option.{same_Some}
 use Rattle.tmpl_lex.specs.computed.Cut.{cut_of}
 use Rattle.tmpl_lex.specs.Piece.{Token, Piece, text, action, unreadable}
 use Rattle.tmpl_lex.proofs.CutLemmas.{cut_of-Cuts, Cuts-cut_of}
-use Rattle.tmpl_grammar.specs.Action.{Action, pipeline_action, opening, else_branch, template_action, block_action, SpellsAction, shape_of}
-use Rattle.tmpl_grammar.specs.Depth.{depth_of_pipeline, depth_of, most_deep, unread as unread_within, too_deep as deep_within, read as read_within}
-use Rattle.tmpl_grammar.specs.computed.Depth.{limited, limited_to, within_limit, reading_of}
+use Rattle.tmpl_grammar.specs.Action.{Action, pipeline_action, branch_in, SpellsAction}
+use Rattle.tmpl_grammar.specs.Depth.{depth_of, most_deep}
+use Rattle.tmpl_grammar.specs.computed.Depth.{unread as unread_within, too_deep as deep_within, read as read_within, reading_by, reading_of}
 use Rattle.tmpl_grammar.specs.computed.Reading.{action_in}
 use Rattle.tmpl_syntax.specs.Item.{Item, item, HasItems, IsItem, a_text, an_unreadable, unread, too_deep, read, AreItems, no_item, an_item}
 use Rattle.tmpl_syntax.specs.computed.Item.{read_item, item_in, items_in}
 use Rattle.tmpl_syntax.specs.Language.{Branches, every_branch, has_action}
 use Rattle.tmpl_syntax.specs.Laws.{HasItemsOf, HasOneList, HasSomeItems}
 use Rattle.tmpl_syntax.specs.computed.Parse.{items_of}
-use Rattle.tmpl_grammar.specs.declared.action.Shape.{Shape}
-use Rattle.tmpl_grammar.specs.declared.action.Shape.TheVariants as piped
-use Rattle.tmpl_grammar.specs.declared.action.HeaderShape.TheVariants as shape
+use Rattle.tmpl_grammar.proofs.LimitLemmas.{nat_le-false}
 use Rattle.tmpl_grammar.proofs.ActionLemmas.{reads-action, spells-action, none-spelled}
 
 -- ---- the limit
 
-limited-within : {T : Type 0} (s : Shape) (n : ℕ) (x : T) → n ≤ most_deep → limited s n x ≡ read_within x
-limited-within s n x le = ap (λ b. limited_to b s x) (le-leb n most_deep le)
+within-read : (a : Action) → depth_of a ≤ most_deep → reading_of (Some a) ≡ read_within a
+within-read a le = ap (λ b. reading_by b a) (le-leb (depth_of a) most_deep le)
 
-limited-deep : {T : Type 0} (s : Shape) (n : ℕ) (x : T) → most_deep < n → limited s n x ≡ deep_within s
-limited-deep s n x lt = ⊎_elim
-    (λ y. absurd (let le = y.1 in omega (arith, lt, le)))
-    (λ m. ap (λ b. limited_to b s x) m.0)
-    (leb_tells n most_deep)
-
-within-read : (a : Action) → depth_of a ≤ most_deep → within_limit a ≡ read_within a
-within-read (pipeline_action h) le = limited-within (piped.Header shape.Pipeline) (depth_of_pipeline h.pipeline) (pipeline_action h) le
-within-read (opening c h) le = limited-within (piped.Header (shape.Open c)) (depth_of_pipeline h.pipeline) (opening c h) le
-within-read (else_branch br h) le = limited-within (piped.Header (shape.ElseBranch br)) (depth_of_pipeline h.pipeline) (else_branch br h) le
-within-read (template_action name (Some p)) le = limited-within piped.Template (depth_of_pipeline p) (template_action name (Some p)) le
-within-read (block_action name p) le = limited-within piped.Block (depth_of_pipeline p) (block_action name p) le
-within-read _ le = refl
-
--- an action that is too deep, by its shape
-pub record Deep (a : Action) : Type 0 where
-  pub shape : Shape
-  pub shape_is : shape_of a ≡ Some shape
-  pub is : within_limit a ≡ deep_within shape
-
--- .. of a pipeline that is too deep
-deep-by : (a : Action) (s : Shape) (n : ℕ) → shape_of a ≡ Some s → within_limit a ≡ limited s n a → most_deep < n → Deep a
-deep-by a s n is e lt = record { shape = s; shape_is = is; is = e ∙ limited-deep s n a lt }
-
-deep-read : (a : Action) → most_deep < depth_of a → Deep a
-deep-read (pipeline_action h) lt = deep-by (pipeline_action h) (piped.Header shape.Pipeline) (depth_of_pipeline h.pipeline) refl refl lt
-deep-read (opening c h) lt = deep-by (opening c h) (piped.Header (shape.Open c)) (depth_of_pipeline h.pipeline) refl refl lt
-deep-read (else_branch br h) lt = deep-by (else_branch br h) (piped.Header (shape.ElseBranch br)) (depth_of_pipeline h.pipeline) refl refl lt
-deep-read (template_action name (Some p)) lt = deep-by (template_action name (Some p)) piped.Template (depth_of_pipeline p) refl refl lt
-deep-read (block_action name p) lt = deep-by (block_action name p) piped.Block (depth_of_pipeline p) refl refl lt
-deep-read _ lt = absurd (omega (arith, lt))
+deep-read : (a : Action) → most_deep < depth_of a → reading_of (Some a) ≡ deep_within (branch_in a)
+deep-read a lt = ap (λ b. reading_by b a) (nat_le-false (depth_of a) most_deep lt)
 
 -- ---- the actions of a language
 
@@ -91,10 +59,9 @@ for-every _ = refl
 
 module _ (branches : Branches) where
   read-item : (line : ℕ) (ts : List Token) (a : Action) → SpellsAction a ts → has_action branches a ≡ true
-      → IsItem branches (action line ts) (item line (read_item (within_limit a)))
+      → IsItem branches (action line ts) (item line (read_item (reading_of (Some a))))
   read-item line ts a s t = ⊎_elim
-      (λ lt. let d = deep-read a lt in
-      subst (λ r. IsItem branches (action line ts) (item line (read_item r))) (sym d.is) (too_deep a s t d.shape_is lt))
+      (λ lt. subst (λ r. IsItem branches (action line ts) (item line (read_item r))) (sym (deep-read a lt)) (too_deep a s t lt))
       (λ le. subst (λ r. IsItem branches (action line ts) (item line (read_item r))) (sym (within-read a le)) (read s t le))
       (cases_lt most_deep (depth_of a))
 
@@ -117,7 +84,7 @@ module _ (branches : Branches) where
   piece-item (unreadable line) = an_unreadable
 
   -- tokens that spell an action of the language
-  spelled-read : (ts : List Token) (a : Action) → SpellsAction a ts → has_action branches a ≡ true → reading_of (kept branches (action_in ts)) ≡ within_limit a
+  spelled-read : (ts : List Token) (a : Action) → SpellsAction a ts → has_action branches a ≡ true → reading_of (kept branches (action_in ts)) ≡ reading_of (Some a)
   spelled-read ts a s t = ap (λ o. reading_of (kept branches o)) (reads-action ts a s) ∙ ap (λ b. reading_of (if_there b a)) t
 
   unread-only : (line : ℕ) (ts : List Token) → ((a : Action) → SpellsAction a ts → has_action branches a ≡ true → ⊥) → (o : Option Action)
@@ -131,11 +98,8 @@ module _ (branches : Branches) where
 
   only-item : {p : Piece} {x : Item} → IsItem branches p x → x ≡ item_for branches p
   only-item (unread {line = line} {ts = ts} none) = unread-only line ts none (action_in ts) refl
-  only-item (too_deep {line = line} {ts = ts} {s = s} a spells t is lt) =
-      let d = deep-read a lt in
-      ap (λ k. item line (read_item (deep_within k))) (same_Some s d.shape (sym is ∙ d.shape_is))
-      ∙ ap (λ r. item line (read_item r)) (sym d.is)
-      ∙ ap (λ r. item line (read_item r)) (sym (spelled-read ts a spells t))
+  only-item (too_deep {line = line} {ts = ts} a spells t lt) =
+      ap (λ r. item line (read_item r)) (sym (deep-read a lt)) ∙ ap (λ r. item line (read_item r)) (sym (spelled-read ts a spells t))
   only-item (read {line = line} {ts = ts} {a = a} spells t le) =
       ap (λ r. item line (read_item r)) (sym (within-read a le)) ∙ ap (λ r. item line (read_item r)) (sym (spelled-read ts a spells t))
   only-item _ = refl

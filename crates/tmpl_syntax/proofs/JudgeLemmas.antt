@@ -1,16 +1,16 @@
 -- For `one_verdict`: what frames and names tell at an item is which reasons apply to it.
-use Rattle.std.proofs.Common.{arith, ◌≡◌, ◌≢◌, ℕ, ◌+◌, ◌≤◌, Bool, true, false, not, ◌&&◌, ◌||◌, leb, List, [], ◌∷◌, refl, sym, ap, ◌∙◌}
-use Rattle.std.proofs.Common.{subst, take, Option, Some, None, inl, inr, ⊎_elim, ◌⊎◌}
+use Rattle.std.proofs.Common.{arith, ◌≡◌, ◌≢◌, ℕ, ◌+◌, ◌≤◌, true, false, not, ◌&&◌, leb, List, [], ◌∷◌, refl, sym, ap, ◌∙◌}
+use Rattle.std.proofs.Common.{subst, take, Option, Some, ⊎_elim}
 use Rattle.std.specs.Prelude.{slice_get, Contains}
-use Rattle.std.proofs.lemmas.Bool.{and_parts, both_ways, and_cases, not-false, or_parts, le-leb, leb-true}
+use Rattle.std.proofs.lemmas.Bool.{false≢true, and_parts, both_ways, and_cases, not-false, or_cases, or_parts, le-leb, leb-true}
 use Rattle.tmpl_grammar.specs.declared.action.Branch.{Branch}
 use Rattle.tmpl_syntax.specs.computed.Frames.{Frame}
 use Rattle.tmpl_syntax.specs.Place.Open.{IsOpening, IsLast, HasElse, is_template}
 use Rattle.tmpl_syntax.specs.Place.Scope.{IsInScope}
-use Rattle.tmpl_syntax.specs.Place.Body.{joins, TakesNoElse, nothing_open, of_a_template, after_an_else, TakesNoBranch, MayNotOpen}
+use Rattle.tmpl_syntax.specs.Place.Body.{joins, TakesElse, TakesBranch}
 use Rattle.tmpl_syntax.specs.Place.Body.{IsMisplaced, names_in, opens_level, most_levels, IsTooDeep, in_levels, in_parentheses}
 use Rattle.tmpl_syntax.specs.Place.Body.{IsUndeclared}
-use Rattle.tmpl_syntax.specs.computed.Frames.{top, in_loop, levels, takes_else, takes_branch, may_open, is_placed, used, is_nested}
+use Rattle.tmpl_syntax.specs.computed.Frames.{top, in_loop, levels, takes_else, takes_branch, may_open, is_placed, is_nested}
 use Rattle.tmpl_syntax.specs.computed.Frames.{is_too_deep, names_at, Known}
 use Rattle.tmpl_syntax.proofs.FaultLemmas.{IsKnown, IsUnknown, in-nothing}
 use Rattle.tmpl_syntax.proofs.OpenLemmas.{same-opening, same-piece, one-last}
@@ -22,34 +22,11 @@ use Rattle.tmpl_syntax.proofs.ElseBranchLemmas.{else-parts, joins-no-range}
 use Rattle.tmpl_syntax.specs.Place.Opening.{Opening}
 use Rattle.tmpl_syntax.specs.Place.Opening as opened
 use Rattle.tmpl_grammar.specs.declared.tree.Control.TheVariants.{Range}
-use Rattle.tmpl_syntax.specs.Place.Role.{Name, Names, Act, plain, opener, bare_else, branch_else, closer, jump, Role, act_role}
+use Rattle.tmpl_syntax.specs.Place.Role.{Name, Names, Act, plain, opener, bare_else, branch_else, closer, jump, nested, Role, act_role}
 
 -- tests
 
 -- places
-
-no-part : (xs : List Role) (i : ℕ) (known : Known) (fs : List Frame) → Stands xs i known fs → takes_else (top fs) ≡ false → TakesNoElse xs i
-no-part xs i known [] s e = nothing_open s.0
-no-part xs i known (f ∷ fs) s e = ⊎_elim
-    (λ t. of_a_template s.2.last (ap is_template (same-opening xs s.1 s.2.last.is_open.opened f.opening s.2.last.is_open.at s.2.opened)
-    ∙ not-false (is_template f.opening) t))
-    (λ h. after_an_else s.2.last (s.2.has.0 (not-false f.has_else h)))
-    (and_cases (not (is_template f.opening)) (not f.has_else) e)
-
-some-part : (xs : List Role) (i : ℕ) (known : Known) (fs : List Frame) → Stands xs i known fs → takes_else (top fs) ≡ true → TakesNoElse xs i → ⊥
-some-part xs i known [] s e h = let g : false ≡ true = e in cc
-some-part xs i known (f ∷ fs) s e (nothing_open z) = z s.1 s.2.last.is_open
-some-part xs i known (f ∷ fs) s e (of_a_template {j = j} l is) =
-    let q : j ≡ s.1 = one-last xs j s.1 i l s.2.last in
-    let w : IsLast xs s.1 i = s.2.last in
-    let c : l.is_open.opened ≡ f.opening = other l q in
-    absurd (both_ways (is_template f.opening) (else-parts f e).0 (ap is_template (sym c) ∙ is))
-  where
-    other : {k : ℕ} (m : IsLast xs k i) → k ≡ s.1 → m.is_open.opened ≡ f.opening
-    other {k} m q = same-opening xs k m.is_open.opened f.opening m.is_open.at (subst (λ z. IsOpening (slice_get xs z) f.opening) (sym q) s.2.opened)
-some-part xs i known (f ∷ fs) s e (after_an_else {j = j} l h) =
-    let q : j ≡ s.1 = one-last xs j s.1 i l s.2.last in
-    absurd (both_ways f.has_else (else-parts f e).1 (s.2.has.1 (subst (λ z. HasElse xs z i) q h)))
 
 top-opening : (xs : List Role) (i : ℕ) (known : Known) (f : Frame) (fs : List Frame) (s : Stands xs i known (f ∷ fs)) (k : ℕ) (m : IsLast xs k i)
     → m.is_open.opened ≡ f.opening
@@ -57,76 +34,88 @@ top-opening xs i known f fs s k m =
     let q : k ≡ s.1 = one-last xs k s.1 i m s.2.last in
     same-opening xs k m.is_open.opened f.opening m.is_open.at (subst (λ z. IsOpening (slice_get xs z) f.opening) (sym q) s.2.opened)
 
-unplaced-else_branch : (xs : List Role) (i : ℕ) (known : Known) (b : Branch) (fs : List Frame) → Stands xs i known fs
-    → (takes_else (top fs) ≡ false) ⊎ (takes_branch b (top fs) ≡ false) → TakesNoElse xs i ⊎ TakesNoBranch xs b i
-unplaced-else_branch xs i known b fs s (inl e) = inl (no-part xs i known fs s e)
-unplaced-else_branch xs i known b [] s (inr e) = inl (nothing_open s.0)
-unplaced-else_branch xs i known b (f ∷ fs) s (inr e) =
-    inr (record { opened = s.1; last = s.2.last; other = ap (joins b) (top-opening xs i known f fs s s.1 s.2.last) ∙ e })
+no-part : (xs : List Role) (i : ℕ) (known : Known) (fs : List Frame) → Stands xs i known fs → takes_else (top fs) ≡ false → TakesElse xs i → ⊥
+no-part xs i known [] s e t = s.0 t.opened t.last.is_open
+no-part xs i known (f ∷ fs) s e t =
+    let q : t.opened ≡ s.1 = one-last xs t.opened s.1 i t.last s.2.last in
+    let own : is_template f.opening ≡ false = ap is_template (sym (top-opening xs i known f fs s t.opened t.last)) ∙ t.own in
+    ⊎_elim (λ no. both_ways (is_template f.opening) own (not-false (is_template f.opening) no))
+    (λ no. t.bare (subst (λ z. HasElse xs z i) (sym q) (s.2.has.0 (not-false f.has_else no))))
+    (and_cases (not (is_template f.opening)) (not f.has_else) e)
 
-unplaced-opener : (xs : List Role) (i : ℕ) (known : Known) (c : Opening) (fs : List Frame) → Stands xs i known fs
-    → may_open c (top fs) ≡ false → MayNotOpen xs i c
-unplaced-opener xs i known opened.define [] s e = let g : true ≡ false = e in cc
-unplaced-opener xs i known opened.define (f ∷ fs) s e = (s.1, s.2.last.is_open)
-unplaced-opener xs i known _ fs s e = let g : true ≡ false = e in cc
+abbrev some-part : (xs : List Role) (i : ℕ) (known : Known) (fs : List Frame) → Stands xs i known fs → takes_else (top fs) ≡ true → TakesElse xs i
+some-part xs i known [] s e = absurd (false≢true e)
+some-part xs i known (f ∷ fs) s e = record {
+  opened = s.1;
+  last = s.2.last;
+  own = ap is_template (top-opening xs i known f fs s s.1 s.2.last) ∙ (else-parts f e).0;
+  bare = λ h. both_ways f.has_else (else-parts f e).1 (s.2.has.1 h);
+}
+
+no-branch : (xs : List Role) (i : ℕ) (known : Known) (b : Branch) (fs : List Frame) → Stands xs i known fs
+    → (takes_else (top fs) && takes_branch b (top fs)) ≡ false → TakesBranch xs b i → ⊥
+no-branch xs i known b [] s e (t, joining) = s.0 t.opened t.last.is_open
+no-branch xs i known b (f ∷ fs) s e (t, joining) = ⊎_elim (λ no. no-part xs i known (f ∷ fs) s no t)
+    (λ no. both_ways (joins b f.opening) no (ap (joins b) (sym (top-opening xs i known f fs s t.opened t.last)) ∙ joining))
+    (and_cases (takes_else (Some f)) (joins b f.opening) e)
+
+some-branch : (xs : List Role) (i : ℕ) (known : Known) (b : Branch) (fs : List Frame) → Stands xs i known fs
+    → (takes_else (top fs) && takes_branch b (top fs)) ≡ true → TakesBranch xs b i
+some-branch xs i known b [] s e = absurd (false≢true e)
+some-branch xs i known b (f ∷ fs) s e =
+    let p = and_parts (takes_else (Some f)) (joins b f.opening) e in
+    (some-part xs i known (f ∷ fs) s p.0, ap (joins b) (top-opening xs i known f fs s s.1 s.2.last) ∙ p.1)
+
+unplaced-opener : (xs : List Role) (i : ℕ) (known : Known) (c : Opening) (p : Names) (fs : List Frame) → Stands xs i known fs
+    → may_open c (top fs) ≡ false → IsMisplaced xs i (opener c p)
+unplaced-opener xs i known opened.define p [] s e = let g : true ≡ false = e in cc
+unplaced-opener xs i known opened.define p (f ∷ fs) s e = (s.1, s.2.last.is_open)
+unplaced-opener xs i known _ p fs s e = let g : true ≡ false = e in cc
 
 pub unplaced : (xs : List Role) (i : ℕ) (known : Known) (fs : List Frame) (a : Act) → Stands xs i known fs → is_placed a (top fs) ≡ false → IsMisplaced xs i a
-unplaced xs i known fs (plain p) s e = let g : true ≡ false = e in cc
-unplaced xs i known fs (opener c p) s e = unplaced-opener xs i known c fs s e
+unplaced xs i known fs (opener c p) s e = unplaced-opener xs i known c p fs s e
 unplaced xs i known fs bare_else s e = no-part xs i known fs s e
-unplaced xs i known fs (branch_else b p) s e = unplaced-else_branch xs i known b fs s (and_cases (takes_else (top fs)) (takes_branch b (top fs)) e)
+unplaced xs i known fs (branch_else b p) s e = no-branch xs i known b fs s e
+unplaced xs i known fs (nested (Some b)) s e = no-branch xs i known b fs s e
 unplaced xs i known [] closer s e = s.0
 unplaced xs i known (f ∷ fs) closer s e = let g : true ≡ false = e in cc
 unplaced xs i known fs jump s e = λ j l. both_ways (in_loop (top fs)) e ((here-of xs i known fs s).looped.1 (j, l))
+unplaced xs i known fs _ s e = let g : true ≡ false = e in cc
 
-placed-opener : (xs : List Role) (i : ℕ) (known : Known) (c : Opening) (fs : List Frame) → Stands xs i known fs → may_open c (top fs) ≡ true
-    → MayNotOpen xs i c → ⊥
-placed-opener xs i known opened.define [] s e h = s.0 h.0 h.1
-placed-opener xs i known opened.define (f ∷ fs) s e h = let g : false ≡ true = e in cc
-placed-opener xs i known _ fs s e h = h
-
-joined : (xs : List Role) (i : ℕ) (known : Known) (b : Branch) (fs : List Frame) → Stands xs i known fs → takes_branch b (top fs) ≡ true
-    → TakesNoBranch xs b i → ⊥
-joined xs i known b [] s e h = let g : false ≡ true = e in cc
-joined xs i known b (f ∷ fs) s e h = absurd (both_ways (joins b f.opening) (ap (joins b) (sym (top-opening xs i known f fs s h.opened h.last)) ∙ h.other) e)
+placed-opener : (xs : List Role) (i : ℕ) (known : Known) (c : Opening) (p : Names) (fs : List Frame) → Stands xs i known fs → may_open c (top fs) ≡ true
+    → IsMisplaced xs i (opener c p) → ⊥
+placed-opener xs i known opened.define p [] s e h = s.0 h.0 h.1
+placed-opener xs i known opened.define p (f ∷ fs) s e h = let g : false ≡ true = e in cc
+placed-opener xs i known _ p fs s e h = h
 
 pub placed : (xs : List Role) (i : ℕ) (known : Known) (fs : List Frame) (a : Act) → Stands xs i known fs → is_placed a (top fs) ≡ true → IsMisplaced xs i a → ⊥
-placed xs i known fs (plain p) s e h = h
-placed xs i known fs (opener c p) s e h = placed-opener xs i known c fs s e h
-placed xs i known fs bare_else s e h = some-part xs i known fs s e h
-placed xs i known fs (branch_else b p) s e h =
-    let a = and_parts (takes_else (top fs)) (takes_branch b (top fs)) e in ⊎_elim (some-part xs i known fs s a.0) (joined xs i known b fs s a.1) h
+placed xs i known fs (opener c p) s e h = placed-opener xs i known c p fs s e h
+placed xs i known fs bare_else s e h = h (some-part xs i known fs s e)
+placed xs i known fs (branch_else b p) s e h = h (some-branch xs i known b fs s e)
+placed xs i known fs (nested (Some b)) s e h = h (some-branch xs i known b fs s e)
 placed xs i known [] closer s e h = let g : false ≡ true = e in cc
 placed xs i known (f ∷ fs) closer s e h = h s.1 s.2.last.is_open
 placed xs i known fs jump s e h = let l = (here-of xs i known fs s).looped.0 e in h l.0 l.1
+placed xs i known fs _ s e h = h
 
 -- depths
 
-nested-or : (xs : List Role) (i : ℕ) (a : Act) (o : Option Names) → names_in a ≡ o → (b : Bool) → (is_nested o || b) ≡ true
-    → (b ≡ true → IsTooDeep xs i a) → IsTooDeep xs i a
-nested-or xs i a None is b e levels = levels e
-nested-or xs i a (Some p) is b e levels = by p.nested refl e
-  where
-    by : (n : Bool) → p.nested ≡ n → (n || b) ≡ true → IsTooDeep xs i a
-    by true nests e = in_parentheses is nests
-    by false nests e = levels e
-
-nested-not : {A : Type 0} (a : Act) (b : Bool) (p : Names) → names_in a ≡ Some p → p.nested ≡ true → (is_nested (names_in a) || b) ≡ false → A
-nested-not a b p is nests e =
-    let nested : is_nested (names_in a) ≡ true = ap is_nested is ∙ nests in
-    absurd (let g : true ≡ false = ap (λ n. n || b) (sym nested) ∙ e in let h : ⊥ = cc in h)
+is-nested : (xs : List Role) (i : ℕ) (a : Act) → is_nested a ≡ true → IsTooDeep xs i a
+is-nested xs i (nested b) e = in_parentheses refl
+is-nested xs i _ e = let g : false ≡ true = e in cc
 
 pub deep : (xs : List Role) (i : ℕ) (a : Act) (t : Option Frame) (names : List Name) → Here xs i t names → is_too_deep a t ≡ true → IsTooDeep xs i a
-deep xs i a t names h e = nested-or xs i a (names_in a) refl (opens_level a && leb most_levels (levels t)) e
+deep xs i a t names h e = ⊎_elim (is-nested xs i a)
     (λ e. let b = and_parts (opens_level a) (leb most_levels (levels t)) e in in_levels b.0 h.levels_are (leb-true most_levels (levels t) b.1))
+    (or_cases (is_nested a) (opens_level a && leb most_levels (levels t)) e)
 
 pub shallow : (xs : List Role) (i : ℕ) (a : Act) (t : Option Frame) (names : List Name) → Here xs i t names → is_too_deep a t ≡ false → IsTooDeep xs i a → ⊥
-shallow xs i a t names h e (in_parentheses {names = p} is nests) = nested-not a (opens_level a && leb most_levels (levels t)) p is nests e
+shallow xs i a t names h e (in_parentheses is) = both_ways (is_nested a) (or_parts (is_nested a) _ e).0 (ap is_nested is)
 shallow xs i a t names h e (in_levels {n = n} is count le) =
     let same : n ≡ levels t = levels-unique count h.levels_are in
     let full : leb most_levels (levels t) ≡ true = le-leb most_levels (levels t) (subst (λ k. most_levels ≤ k) same le) in
     ⊎_elim (λ no_level. both_ways (opens_level a) no_level is) (λ room. both_ways (leb most_levels (levels t)) room full)
-    (and_cases (opens_level a) (leb most_levels (levels t)) ((or_parts (is_nested (names_in a)) _ e).1))
+    (and_cases (opens_level a) (leb most_levels (levels t)) ((or_parts (is_nested a) _ e).1))
 
 -- names
 
@@ -171,28 +160,24 @@ module _ (xs : List Role) (i : ℕ) (known : Known) where
         (record { by = v.by; before = v.before; template = v.template; reaches = v.reaches }))
 
   pub in-scope : (fs : List Frame) → Stands xs i known fs → (a : Act) → slice_get xs i ≡ Some (act_role a) → is_placed a (top fs) ≡ true
-      → (p : Names) → names_in a ≡ Some p → (n : Name) → Contains (names_at a (top fs) names) n → IsInScope xs i n
-  in-scope fs s (plain q) at e p is n k = wide fs s (act_role (plain q)) at (λ g. cc) (λ b r g. cc) n k
-  in-scope fs s (opener c q) at e p is n k = wide fs s (act_role (opener c q)) at (λ g. cc) (λ b r g. cc) n k
-  in-scope [] s (branch_else b q) at e p is n k = let g : false ≡ true = e in cc
-  in-scope (f ∷ fs) s (branch_else b q) at e p is n k = let a = and_parts (takes_else (Some f)) (joins b f.opening) e in narrow f fs s b q at a.0 a.1 n k
-  in-scope fs s _ at e p is n k = let g : None ≡ Some p = is in cc
+      → (n : Name) → Contains (names_in a).uses n → Contains (names_at a (top fs) names) n → IsInScope xs i n
+  in-scope fs s (plain q) at e n c k = wide fs s (act_role (plain q)) at (λ g. cc) (λ b r g. cc) n k
+  in-scope fs s (opener d q) at e n c k = wide fs s (act_role (opener d q)) at (λ g. cc) (λ b r g. cc) n k
+  in-scope [] s (branch_else b q) at e n c k = let g : false ≡ true = e in cc
+  in-scope (f ∷ fs) s (branch_else b q) at e n c k = let a = and_parts (takes_else (Some f)) (joins b f.opening) e in narrow f fs s b q at a.0 a.1 n k
+  in-scope fs s _ at e n c k = in-nothing n c
 
   pub scope-has : (fs : List Frame) → Stands xs i known fs → (a : Act) → slice_get xs i ≡ Some (act_role a) → is_placed a (top fs) ≡ true
-      → (p : Names) → names_in a ≡ Some p → (n : Name) → IsInScope xs i n → Contains (names_at a (top fs) names) n
-  scope-has fs s (plain q) at e p is n k = wide-back fs s n k
-  scope-has fs s (opener c q) at e p is n k = wide-back fs s n k
-  scope-has [] s (branch_else b q) at e p is n k = let g : false ≡ true = e in cc
-  scope-has (f ∷ fs) s (branch_else b q) at e p is n k = let a = and_parts (takes_else (Some f)) (joins b f.opening) e in narrow-back f fs s b q at a.0 a.1 n k
-  scope-has fs s _ at e p is n k = let g : None ≡ Some p = is in cc
+      → (n : Name) → Contains (names_in a).uses n → IsInScope xs i n → Contains (names_at a (top fs) names) n
+  scope-has fs s (plain q) at e n c k = wide-back fs s n k
+  scope-has fs s (opener d q) at e n c k = wide-back fs s n k
+  scope-has [] s (branch_else b q) at e n c k = let g : false ≡ true = e in cc
+  scope-has (f ∷ fs) s (branch_else b q) at e n c k = let a = and_parts (takes_else (Some f)) (joins b f.opening) e in narrow-back f fs s b q at a.0 a.1 n k
+  scope-has fs s _ at e n c k = in-nothing n c
 
   module _ (fs : List Frame) (s : Stands xs i known fs) (a : Act) (at : slice_get xs i ≡ Some (act_role a)) (e : is_placed a (top fs) ≡ true) where
-    pub none-unknown : IsKnown (used (names_in a)) (names_at a (top fs) names) → IsUndeclared xs i a → ⊥
-    none-unknown k u = u.unknown (in-scope fs s a at e u.names u.of_action u.name (k u.name (subst (λ o. Contains (used o) u.name) (sym u.of_action) u.uses)))
+    pub none-unknown : IsKnown (names_in a).uses (names_at a (top fs) names) → IsUndeclared xs i a → ⊥
+    none-unknown k u = u.unknown (in-scope fs s a at e u.name u.uses (k u.name u.uses))
 
-    pub unknown : IsUnknown (used (names_in a)) (names_at a (top fs) names) → IsUndeclared xs i a
-    unknown u = go (names_in a) refl (u.1)
-      where
-        go : (o : Option Names) → names_in a ≡ o → Contains (used o) u.0 → IsUndeclared xs i a
-        go None is c = in-nothing u.0 c
-        go (Some p) is c = record { name = u.0; names = p; of_action = is; uses = c; unknown = λ k. u.2 (scope-has fs s a at e p is u.0 k) }
+    pub unknown : IsUnknown (names_in a).uses (names_at a (top fs) names) → IsUndeclared xs i a
+    unknown u = record { name = u.0; uses = u.1; unknown = λ k. u.2 (scope-has fs s a at e u.0 u.1 k) }

@@ -32,7 +32,7 @@ module _ (large small : Branches) (more : IsLarger large small) where
   same-item a_text h = a_text
   same-item an_unreadable h = an_unreadable
   same-item (unread none) h = absurd (h refl)
-  same-item (too_deep a s t e lt) h = too_deep a s (has-more a t) e lt
+  same-item (too_deep a s t lt) h = too_deep a s (has-more a t) lt
   same-item (read {a = a} s t le) h = read s (has-more a t) le
 
   same-items : {ps : List Piece} {xs : List Item} → AreItems small ps xs → AllRead (roles_of xs) → AreItems large ps xs

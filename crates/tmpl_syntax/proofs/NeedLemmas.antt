@@ -31,7 +31,7 @@ item-within : {branches : Branches} {p : Piece} {x : Item} → IsItem branches p
 item-within text_read = omega arith
 item-within an_unreadable = omega arith
 item-within (unread n) = omega arith
-item-within (too_deep a s has e lt) = omega arith
+item-within (too_deep a s has lt) = omega arith
 item-within (read {ts = ts} {a = a} s has le) = action-within a ts s
 
 items-within : {branches : Branches} {ps : List Piece} {xs : List Item} → AreItems branches ps xs → cells xs ≤ weight ps

@@ -3,7 +3,6 @@ use Rattle.std.proofs.Common.{arith, ◌≡◌, ℕ, ◌<◌, List, length, refl
 use Rattle.std.proofs.lemmas.Bool.{cases_order}
 use Rattle.std.proofs.lemmas.Option.{slice_get_within}
 use Rattle.tmpl_syntax.specs.Fault.{Reason, rank}
-use Rattle.tmpl_syntax.specs.Fault as reason
 use Rattle.tmpl_syntax.specs.Place.Body.{Applies, unreadable, unread, misplaced, too_deep, undeclared, IsRefused, Verdict, fine, refused, left_open, Judged}
 use Rattle.tmpl_syntax.specs.Place.Role.{Role, unreadable_role, unread_role, act_role}
 
@@ -14,19 +13,16 @@ within xs i _ (misplaced {a = a} e m) = slice_get_within xs i (act_role a) e
 within xs i _ (too_deep {a = a} e m) = slice_get_within xs i (act_role a) e
 within xs i _ (undeclared {a = a} e m) = slice_get_within xs i (act_role a) e
 
-same-rank : (f g : Reason) → rank f ≡ rank g → f ≡ g
-same-rank reason.too_long reason.too_long e = refl
-same-rank reason.unreadable reason.unreadable e = refl
-same-rank reason.not_an_action reason.not_an_action e = refl
-same-rank reason.out_of_place reason.out_of_place e = refl
-same-rank reason.nested_too_deeply reason.nested_too_deeply e = refl
-same-rank reason.undeclared_variable reason.undeclared_variable e = refl
-same-rank reason.open_at_end reason.open_at_end e = refl
-same-rank reason.second_definition reason.second_definition e = refl
-same-rank f g e = absurd (omega arith)
+same-rank : (xs : List Role) (i : ℕ) (f g : Reason) → Applies xs i f → Applies xs i g → rank f ≡ rank g → f ≡ g
+same-rank xs i _ _ (unreadable a) (unreadable b) e = refl
+same-rank xs i _ _ (unread a) (unread b) e = refl
+same-rank xs i _ _ (misplaced a m) (misplaced b n) e = refl
+same-rank xs i _ _ (too_deep a m) (too_deep b n) e = refl
+same-rank xs i _ _ (undeclared a m) (undeclared b n) e = refl
+same-rank xs i _ _ _ _ e = absurd (omega arith)
 
 same-fault : (xs : List Role) (i : ℕ) (f g : Reason) → IsRefused xs i f → IsRefused xs i g → f ≡ g
-same-fault xs i f g a b = ⊎_elim (λ e. same-rank f g e) (λ o. ⊎_elim (λ lt. absurd (b.first_reason f lt a.applies))
+same-fault xs i f g a b = ⊎_elim (λ e. same-rank xs i f g a.applies b.applies e) (λ o. ⊎_elim (λ lt. absurd (b.first_reason f lt a.applies))
     (λ gt. absurd (a.first_reason g gt b.applies)) o) (cases_order (rank f) (rank g))
 
 same-refused : (xs : List Role) (i j : ℕ) (f g : Reason) → IsRefused xs i f → IsRefused xs j g → refused i f ≡ refused j g

@@ -1,6 +1,6 @@
 -- For `one_verdict`: what is open moves with the place.
 use Rattle.std.proofs.Common.{arith, ◌≡◌, ◌≢◌, ℕ, suc, ◌+◌, ◌-◌, ◌<◌, ◌≤◌, Bool, true, false, cond, List, [], ◌∷◌, ◌++◌, refl, sym, ap, ◌∙◌}
-use Rattle.std.proofs.Common.{subst, length, take, drop, get_or, length-drop, get_or-drop, zero-add, Option, Some, None, ⊎_elim}
+use Rattle.std.proofs.Common.{subst, length, take, drop, get_or, length-drop, get_or-drop, zero-add, Option, Some, ⊎_elim}
 use Rattle.std.specs.Prelude.{slice_get, slice_range}
 use Rattle.std.specs.List.{count_by}
 use Rattle.std.proofs.lemmas.Bool.{cases_order, cases_lt}
@@ -9,9 +9,9 @@ use Rattle.std.proofs.lemmas.Option.{get_or_from_slice_get, slice_get_within}
 use Rattle.std.proofs.Math.Seq.{take-suc}
 use Rattle.std.proofs.lemmas.List.Sums.{sum_by-append}
 use Rattle.tmpl_grammar.specs.declared.action.Branch.{Branch}
-use Rattle.tmpl_syntax.specs.Place.Open.{opening, there, opens, ends, IsOpening, IsOpen, IsLast, IsElseOf, IsElseBranchOf}
+use Rattle.tmpl_syntax.specs.Place.Open.{opens, ends, IsOpening, IsOpen, IsLast, IsElseOf, IsElseBranchOf}
 use Rattle.tmpl_syntax.specs.Place.Opening.{Opening}
-use Rattle.tmpl_syntax.specs.Place.Role.{Names, bare_else, branch_else, closer, Role, act_role}
+use Rattle.tmpl_syntax.specs.Place.Role.{Names, opener, bare_else, branch_else, closer, Role, act_role}
 
 abbrev pub one_if : Bool → ℕ
 one_if b = cond b 1 0
@@ -57,31 +57,25 @@ count-more p xs x a n le at = count-split p xs a n (n + 1) le (omega arith) ∙ 
 pub record Opens (xs : List Role) (j : ℕ) (c : Opening) : Type 0 where
   pub piece : Role
   pub at : slice_get xs j ≡ Some piece
-  pub is : opening piece ≡ Some c
+  pub no_end : ends piece ≡ false
+  pub rises : opens piece ≡ true
 
 pub piece-of : (xs : List Role) (j : ℕ) (c : Opening) → IsOpening (slice_get xs j) c → Opens xs j c
 piece-of xs j c h = go (slice_get xs j) refl h
   where
     go : (o : Option Role) → slice_get xs j ≡ o → IsOpening o c → Opens xs j c
-    go None e h = absurd h
-    go (Some x) e h = record { piece = x; at = e; is = h }
+    go (Some (act_role (opener d p))) e h = record { piece = act_role (opener d p); at = e; no_end = refl; rises = refl }
+    go o e h = absurd h
 
 pub same-piece : (xs : List Role) (i : ℕ) (a b : Role) → slice_get xs i ≡ Some a → slice_get xs i ≡ Some b → a ≡ b
 same-piece xs i a b e f = let g : Some a ≡ Some b = sym e ∙ f in cc
 
 pub same-opening : (xs : List Role) (j : ℕ) (c d : Opening) → IsOpening (slice_get xs j) c → IsOpening (slice_get xs j) d → c ≡ d
-same-opening xs j c d a b =
-    let p = piece-of xs j c a in
-    let q = piece-of xs j d b in
-    let e : p.piece ≡ q.piece = same-piece xs j p.piece q.piece p.at q.at in
-    let s : Some c ≡ Some d = sym p.is ∙ ap opening e ∙ q.is in cc
-
-pub opening-no-end : (x : Role) (c : Opening) → opening x ≡ Some c → ends x ≡ false
-opening-no-end (act_role closer) c e = let g : None ≡ Some c = e in cc
-opening-no-end _ c e = refl
-
-pub opening-opens : (x : Role) (c : Opening) → opening x ≡ Some c → opens x ≡ true
-opening-opens x c e = ap there e
+same-opening xs j c d a b = go (slice_get xs j) a b
+  where
+    go : (o : Option Role) → IsOpening o c → IsOpening o d → c ≡ d
+    go (Some (act_role (opener k p))) a b = sym a ∙ b
+    go o a b = absurd a
 
 -- a place between
 pub cut : (xs : List Role) (k m i : ℕ) → k < m → m ≤ i → IsOpen xs k i → IsOpen xs k m
@@ -98,12 +92,10 @@ through xs k j i a b = record {
       let lt = a.before in
       let first = a.fronts j lt (omega arith) in
       let second = b.fronts n beyond to in
-      let no_end = opening-no-end p.piece b.opened p.is in
-      let rises = opening-opens p.piece b.opened p.is in
       let e1 = count-more ends xs p.piece (k + 1) j (omega arith) p.at in
       let e2 = count-more opens xs p.piece (k + 1) j (omega arith) p.at in
-      let z : one_if (ends p.piece) ≡ 0 = ap one_if no_end in
-      let o : one_if (opens p.piece) ≡ 1 = ap one_if rises in
+      let z : one_if (ends p.piece) ≡ 0 = ap one_if p.no_end in
+      let o : one_if (opens p.piece) ≡ 1 = ap one_if p.rises in
       omega (
         arith,
         e1,
@@ -141,7 +133,7 @@ pub shut-at : (xs : List Role) (x : Role) (i m : ℕ) → slice_get xs i ≡ Som
 shut-at xs x i m at shut h =
     let p = piece-of xs i h.opened h.at in
     let e : p.piece ≡ x = same-piece xs i p.piece x p.at at in
-    let t : true ≡ false = sym (opening-opens p.piece h.opened p.is) ∙ ap opens e ∙ shut in cc
+    let t : true ≡ false = sym p.rises ∙ ap opens e ∙ shut in cc
 
 -- what is open is open past one place more, where that ends no more than was opened since
 open-past : (xs : List Role) (k i : ℕ) → IsOpen xs k i → downs xs (k + 1) (i + 1) ≤ ups xs (k + 1) (i + 1) → IsOpen xs k (i + 1)
@@ -183,8 +175,8 @@ pub same-ended : (xs : List Role) (j i : ℕ) → IsLast xs j i → ups xs (j + 
 same-ended xs j i l over at =
     let lt = l.is_open.before in
     let p = piece-of xs j l.is_open.opened l.is_open.at in
-    let zo : one_if (ends p.piece) ≡ 0 = ap one_if (opening-no-end p.piece l.is_open.opened p.is) in
-    let oo : one_if (opens p.piece) ≡ 1 = ap one_if (opening-opens p.piece l.is_open.opened p.is) in
+    let zo : one_if (ends p.piece) ≡ 0 = ap one_if p.no_end in
+    let oo : one_if (opens p.piece) ≡ 1 = ap one_if p.rises in
     let me = count-more ends xs (act_role closer) (j + 1) i (omega arith) at in
     let mo = count-more opens xs (act_role closer) (j + 1) i (omega arith) at in
     record {

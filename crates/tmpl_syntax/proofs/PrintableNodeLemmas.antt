@@ -34,7 +34,7 @@ of-item : {branches : Branches} {p : Piece} {x : Item} → IsItem branches p x �
 of-item text_read h = h
 of-item an_unreadable h = tt
 of-item (unread n) h = tt
-of-item (too_deep a s t e lt) h = tt
+of-item (too_deep a s t lt) h = tt
 of-item (read {ts = ts} {a = a} s t le) h = of_action a ts le h s
 
 of-items : {branches : Branches} {ps : List Piece} {xs : List Item} → AreItems branches ps xs → OfPieces ps → OfItems xs

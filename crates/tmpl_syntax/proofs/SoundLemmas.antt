@@ -16,7 +16,7 @@ use Rattle.tmpl_syntax.proofs.StandLemmas.{Here, Stands, here-of}
 use Rattle.tmpl_syntax.proofs.StepLemmas.{stands-opened}
 use Rattle.tmpl_syntax.proofs.ElseBranchLemmas.{stands-elsed, stands-branched, stands-ended, stands-declared, stands-still}
 use Rattle.tmpl_syntax.proofs.JudgeLemmas.{unplaced, placed, deep, shallow, none-unknown, unknown}
-use Rattle.tmpl_syntax.specs.Place.Role.{Act, plain, opener, bare_else, branch_else, closer, jump, Role, text_role, unreadable_role, unread_role, act_role}
+use Rattle.tmpl_syntax.specs.Place.Role.{Act, plain, opener, bare_else, branch_else, closer, jump, nested, Role, text_role, unreadable_role, unread_role, act_role}
 
 pub record Sound (xs : List Role) (i : ℕ) (known : Known) (fs : List Frame) : Type 0 where
   pub stands : Stands xs i known fs
@@ -156,6 +156,7 @@ after xs i known (f ∷ fs) (branch_else b p) at e s =
     subst (λ n. Stands xs (i + 1) (with_inner known (names ++ p.declares)) (branched f (n + length p.declares) ∷ fs)) (sym l)
     (stands-branched xs i known f fs b p at k.0 k.1 s)
 after xs i known (f ∷ fs) closer at e s = stands-ended xs i known f fs at s
+after xs i known fs (nested d) at e s = stands-still xs i known (act_role (nested d)) fs at refl refl (λ g. cc) (λ q g. cc) (λ c q g. cc) (λ b q g. cc) s
 after xs i known fs jump at e s = stands-still xs i known (act_role jump) fs at refl refl (λ g. cc) (λ q g. cc) (λ c q g. cc) (λ b q g. cc) s
 after xs i known [] _ at e s = let g : false ≡ true = e in cc
 

@@ -1,5 +1,5 @@
 -- For `one_spelling`: the items of an accepted file spell what is built from them.
-use Rattle.std.proofs.Common.{◌≡◌, ◌∙◌, ℕ, Bool, true, false, not, ◌&&◌, ◌||◌, List, [], ◌∷◌, refl, sym, subst, length, Option, Some, None}
+use Rattle.std.proofs.Common.{◌≡◌, ℕ, Bool, true, false, not, ◌&&◌, ◌||◌, List, [], ◌∷◌, refl, sym, subst, length, Option, Some, None}
 use Rattle.std.proofs.lemmas.Bool.{false≢true, and_parts}
 use Rattle.tmpl_syntax.specs.Fault.{Reason}
 use Rattle.tmpl_syntax.specs.Fault as reason
@@ -8,13 +8,10 @@ use Rattle.tmpl_syntax.specs.Tree.{NodeKind, text, action, control_node, break_n
 use Rattle.tmpl_grammar.specs.Action.{pipeline_action, opening, plain_else, else_branch, end_action, break_action, continue_action}
 use Rattle.tmpl_grammar.specs.Action.{define_action, template_action, block_action}
 use Rattle.tmpl_syntax.specs.Item.{Item, item, text_item, unreadable_item, unread_item, deep_item, action_item}
-use Rattle.tmpl_syntax.specs.Place.Role.{Name, act_of_shape, role_of, roles_of}
-use Rattle.tmpl_grammar.specs.declared.action.Shape.{Shape}
-use Rattle.tmpl_grammar.specs.declared.action.Shape.TheVariants as piped
-use Rattle.tmpl_grammar.specs.declared.action.HeaderShape.TheVariants as shape
+use Rattle.tmpl_syntax.specs.Place.Role.{Name, role_of, roles_of}
 use Rattle.tmpl_syntax.specs.Place.Open.{is_template}
 use Rattle.tmpl_syntax.specs.Place.Body.{Verdict, fine, refused, left_open}
-use Rattle.tmpl_syntax.specs.computed.Frames.{Known, none_known, top, takes_else, elsed, is_too_deep, seen_at, fault_at, frames_past}
+use Rattle.tmpl_syntax.specs.computed.Frames.{Known, none_known, top, takes_else, elsed, seen_at, fault_at, frames_past}
 use Rattle.tmpl_syntax.specs.computed.Frames.{unless_fault, verdict_from, verdict_of}
 use Rattle.tmpl_syntax.specs.Spelling.{Leads, nothing, a_text, an_action, a_break, a_continue, a_control, a_template, a_define, a_block}
 use Rattle.tmpl_syntax.specs.Spelling.{Closes, an_end, an_else, an_else_branch, Spells}
@@ -76,10 +73,6 @@ closes-of : (f : Frame) (ys zs : List Item) (es gs : List Definition) (other : N
     → Closing (ends_only f) ys es other zs gs → Closes ys es other zs gs
 closes-of f ys zs es gs other e c = subst (λ k. Closing k ys es other zs gs) (open-end f e) c
 
-pub too-deep : (shape : Shape) (t : Option Frame) → is_too_deep (act_of_shape shape) t ≡ true
-too-deep (piped.Header (shape.Open c)) t = refl
-too-deep _ t = refl
-
 -- behind a plain else, and in the body of a template, only the `end` stands
 elsed-closing : (f : Frame) (ys zs : List Item) (es gs : List Definition) (other : Nodes) → Closing (ends_only (elsed f)) ys es other zs gs
     → Closing true ys es other zs gs
@@ -106,10 +99,8 @@ module _ (names : List Name) (xs : List Item) (p : build.Parts) where
   step (item line (text_item bytes)) fs e r = at-node fs _ line (text bytes) (λ ns ys es d. a_text d) r
   step (item line unreadable_item) fs e r = let g : Some reason.unreadable ≡ None = e in cc
   step (item line unread_item) fs e r = let g : Some reason.not_an_action ≡ None = e in cc
-  step (item line (deep_item shape)) fs e r =
-      let deep : true ≡ false = sym (too-deep shape (top fs)) ∙ (placed (item line (deep_item shape)) (top fs) e).1 in
-      let g : ⊥ = cc in
-      absurd g
+  step (item line (deep_item branch)) fs e r =
+      let g : true ≡ false = (placed (item line (deep_item branch)) (top fs) e).1 in cc
   step (item line (action_item (pipeline_action h))) fs e r = at-node fs _ line (action h) (λ ns ys es d. an_action d) r
   step (item line (action_item (opening c h))) fs e r = rest-node fs _ r.3 p.definitions r.4 line (control_node c h p.inner.nodes p.inner.other)
       (first_of p.around) (rest_of p.around) (λ ns ys es d. a_control r.2 r.5 d) r.6

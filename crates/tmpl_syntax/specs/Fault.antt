@@ -15,16 +15,13 @@ pub data Reason : Type 0 where
   open_at_end : Reason
   second_definition : Reason
 
--- the order in which reasons are asked for
+-- the order in which the reasons of an action are asked for
 abbrev pub rank : Reason → ℕ
-rank too_long = 0
-rank unreadable = 1
-rank not_an_action = 2
-rank out_of_place = 3
-rank nested_too_deeply = 4
-rank undeclared_variable = 5
-rank open_at_end = 6
-rank second_definition = 7
+rank unreadable = 0
+rank not_an_action = 1
+rank out_of_place = 2
+rank nested_too_deeply = 3
+rank why = 4
 
 -- the reason that a kind names; want of memory is none
 abbrev pub reason_of : ParseKind → Option Reason

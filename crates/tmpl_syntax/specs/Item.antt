@@ -1,20 +1,20 @@
 -- The pieces of a file with each action read: what they are read as, by the grammar of actions and the limit of
 -- parentheses.
-use Rattle.std.specs.Prelude.{◌≡◌, ◌≤◌, ◌<◌, ℕ, true, false, List, [], ◌∷◌, Some}
+use Rattle.std.specs.Prelude.{◌≡◌, ◌≤◌, ◌<◌, ℕ, true, false, List, [], ◌∷◌, Option}
 use Rattle.tmpl_lex.specs.Cut.{Cuts}
 use Rattle.tmpl_lex.specs.Piece.{Token, Piece, text, action, unreadable}
-use Rattle.tmpl_grammar.specs.Action.{Action, shape_of, SpellsAction}
+use Rattle.tmpl_grammar.specs.Action.{Action, branch_in, SpellsAction}
 use Rattle.tmpl_grammar.specs.Depth.{depth_of, most_deep}
-use Rattle.tmpl_grammar.specs.declared.action.Shape.{Shape}
+use Rattle.tmpl_grammar.specs.declared.action.Branch.{Branch}
 use Rattle.tmpl_syntax.specs.Language.{Branches, has_action}
 
--- a text, an action that is unreadable, one that has no reading, one of this shape whose parentheses nest too deep, or
--- one that is read
+-- a text, an action that is unreadable, one that has no reading, one whose parentheses nest too deep, where it is an
+-- else branch of this control, or one that is read
 pub data ItemKind : Type 0 where
   text_item : List ℕ → ItemKind
   unreadable_item : ItemKind
   unread_item : ItemKind
-  deep_item : Shape → ItemKind
+  deep_item : Option Branch → ItemKind
   action_item : Action → ItemKind
 
 -- with its line
@@ -30,9 +30,9 @@ pub data IsItem (branches : Branches) : Piece → Item → Type 0 where
       → ((a : Action) → SpellsAction a ts → has_action branches a ≡ true → ⊥)
       → IsItem branches (action line ts) (item line unread_item)
   -- tokens that spell one whose parentheses nest too deep
-  too_deep : {line : ℕ} {ts : List Token} {s : Shape} (a : Action)
-      → SpellsAction a ts → has_action branches a ≡ true → shape_of a ≡ Some s → most_deep < depth_of a
-      → IsItem branches (action line ts) (item line (deep_item s))
+  too_deep : {line : ℕ} {ts : List Token} (a : Action)
+      → SpellsAction a ts → has_action branches a ≡ true → most_deep < depth_of a
+      → IsItem branches (action line ts) (item line (deep_item (branch_in a)))
   -- tokens that spell one within the limit
   read : {line : ℕ} {ts : List Token} {a : Action}
       → SpellsAction a ts → has_action branches a ≡ true → depth_of a ≤ most_deep

@@ -28,13 +28,9 @@ base_name path = after_last (λ b. b == 47) path
 abbrev pub most_bytes : ℕ
 most_bytes = 16777216
 
--- the file's own template, which is the last of those that it defines, at line 1
-abbrev pub own_definition : List ℕ → Nodes → Definition
-own_definition file nodes = definition 1 (base_name file) nodes
-
--- the templates of a file whose items spell these definitions and nodes
+-- the templates of a file whose items spell these definitions and nodes: its own is the last one, at line 1
 abbrev pub all_defined : List ℕ → List Definition → Nodes → List Definition
-all_defined file ds own = ds ++ own_definition file own ∷ []
+all_defined file ds own = ds ++ definition 1 (base_name file) own ∷ []
 
 -- a template in this file
 abbrev pub template_in : List ℕ → Definition → Template

@@ -3,7 +3,7 @@ ghost use Rattle.std.specs.Prelude.{◌≡◌, ◌≤◌, ◌++◌, IfOk, OnOk, 
 ghost use Rattle.tmpl_lex.specs.Part.{pieces_behind};
 ghost use Rattle.tmpl_lex.specs.Place.{StandsAt};
 ghost use Rattle.tmpl_lex.specs.Text.{text_piece};
-ghost use Rattle.tmpl_grammar.specs.View.{action_reading};
+ghost use Rattle.tmpl_grammar.specs.computed.View.{action_reading};
 ghost use Rattle.tmpl_syntax.specs.computed.View.{item_kind, item_of};
 ghost use Rattle.tmpl_syntax.specs.computed.Item.{items_in, read_item};
 ghost use Rattle.tmpl_syntax.specs.computed.Parse.{items_of};
@@ -11,7 +11,7 @@ ghost use Rattle.tmpl_syntax.specs.computed.Parse.{items_of};
 use crate::text::Text;
 use std::alloc::{AllocError, Global};
 use std::rc::Rc;
-use tmpl_grammar::{Action, Reading, Shape, read_action};
+use tmpl_grammar::{Action, Branch, Reading, read_action};
 use tmpl_lex::{Behind, Part, Rest, Token, first_part};
 use tmpl_values::Bytes;
 
@@ -30,8 +30,8 @@ pub(crate) enum ItemKind {
     Unreadable,
     /// An action whose tokens have no reading.
     Unread,
-    /// An action of this shape whose parentheses nest deeper than 100.
-    TooDeep(Shape),
+    /// An action whose parentheses nest deeper than 100; of an else branch its control.
+    TooDeep(Option<Branch>),
     Action(Action),
 }
 
@@ -95,12 +95,12 @@ fn push_behind(
 }
 
 /// What an action is that was read so.
-fn item_read(reading: Reading<Action>) -> ItemKind
+fn item_read(reading: Reading) -> ItemKind
     ensures { item_kind result ≡ read_item (action_reading reading) }
 {
     match reading {
         Reading::Unread => ItemKind::Unread,
-        Reading::TooDeep(shape) => ItemKind::TooDeep(shape),
+        Reading::TooDeep(branch) => ItemKind::TooDeep(branch),
         Reading::Read(action) => ItemKind::Action(action),
     }
 }

@@ -1,10 +1,11 @@
 -- What stands between quotes ("Rune literals" and "String literals" in the specification of Go's language). That a text
 -- need not be UTF-8 is our own rule.
-use Rattle.std.specs.Prelude.{◌≡◌, ℕ, ◌<◌, ◌==◌, true, not, List, [], ◌∷◌, ◌++◌, length, filter, codes}
+use Rattle.std.specs.Prelude.{◌≡◌, ℕ, ◌<◌, ◌==◌, true, not, List, [], ◌∷◌, ◌++◌, length, filter, Some, codes}
 use Rattle.std.specs.Char.{encode_utf8}
 use Rattle.std.specs.Str.{byte}
 use Rattle.std.specs.Str.Parse.{AllDigits, digits_value}
 use lib.Utf8.{scalar}
+use Rattle.tmpl_values.specs.Quote.{letters, letter_of}
 use Rattle.tmpl_values.specs.Rune as rune
 use Rattle.tmpl_values.specs.Rune.{Rune, BeginsNoChar}
 
@@ -17,17 +18,12 @@ code_of (rune.char c) = c
 abbrev pub AreDigits : ℕ → ℕ → List ℕ → Type 0
 AreDigits base count ds = (length ds ≡ count) × AllDigits base ds
 
--- the escapes between two such quotes, and the rune that each stands for: a byte by a letter, by three octal digits or
--- by two of base 16; a character, which is no surrogate and at most 10FFFFh, by four or eight of base 16
+-- the escapes between two such quotes, and the rune that each stands for: a byte by the letter that a quote has for it,
+-- and of the marks only that of these quotes; a byte by three octal digits or by two of base 16; a character, which is
+-- no surrogate and at most 10FFFFh, by four or eight of base 16
 pub data IsEscape (quote : ℕ) : List ℕ → Rune → Type 0 where
-  alert : IsEscape quote (codes "\\a") (rune.byte 7)
-  backspace : IsEscape quote (codes "\\b") (rune.byte 8)
-  form_feed : IsEscape quote (codes "\\f") (rune.byte 12)
-  newline : IsEscape quote (codes "\\n") (rune.byte 10)
-  carriage_return : IsEscape quote (codes "\\r") (rune.byte 13)
-  tab : IsEscape quote (codes "\\t") (rune.byte 9)
-  vertical_tab : IsEscape quote (codes "\\v") (rune.byte 11)
-  backslash : IsEscape quote (codes "\\\\") (rune.byte (byte "\\"))
+  a_letter : {c letter : ℕ} → letter_of c letters ≡ Some letter → (c ≡ byte "\"" → ⊥)
+      → IsEscape quote (codes "\\" ++ letter ∷ []) (rune.byte c)
   the_quote : IsEscape quote (codes "\\" ++ quote ∷ []) (rune.byte quote)
   octal : {ds : List ℕ} → AreDigits 8 3 ds → digits_value 8 ds < 256
       → IsEscape quote (codes "\\" ++ ds) (rune.byte (digits_value 8 ds))

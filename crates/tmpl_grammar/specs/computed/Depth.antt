@@ -1,36 +1,62 @@
 -- What is read of an action within the limit of its parentheses, computed.
-use Rattle.std.specs.Prelude.{ℕ, Bool, true, false, nat_le, Option, Some, None}
-use Rattle.tmpl_grammar.specs.Tree.{Pipeline}
+use Rattle.std.specs.Prelude.{Bool, true, false, nat_le, Option, Some, None, option_map}
+use Rattle.tmpl_grammar.specs.Tree.{Pipeline, pipeline, no_command, Header}
 use Rattle.tmpl_grammar.specs.Action.{Action, pipeline_action, opening, else_branch, template_action, block_action}
-use Rattle.tmpl_grammar.specs.Depth.{Reading, unread, too_deep, read, depth_of_pipeline, most_deep}
-use Rattle.tmpl_grammar.specs.declared.action.Shape.{Shape}
-use Rattle.tmpl_grammar.specs.declared.action.Shape.TheVariants as piped
-use Rattle.tmpl_grammar.specs.declared.action.HeaderShape.TheVariants as shape
+use Rattle.tmpl_grammar.specs.Action.{branch_in}
+use Rattle.tmpl_grammar.specs.Depth.{depth_of_pipeline, depth_of, most_deep}
+use Rattle.tmpl_grammar.specs.declared.action.Branch.{Branch}
 
-abbrev pub limited_to : {T : Type 0} → Bool → Shape → T → Reading T
-limited_to true s x = read x
-limited_to false s x = too_deep s
+-- of tokens: they are nothing of the grammar, or an action that is too deep, where it is an else branch of this
+-- control, or one within the limit
+pub data Reading : Type 0 where
+  unread : Reading
+  too_deep : Option Branch → Reading
+  read : Action → Reading
 
--- in an action of this shape, and so deep
-abbrev pub limited : {T : Type 0} → Shape → ℕ → T → Reading T
-limited s n x = limited_to (nat_le n most_deep) s x
+abbrev pub reading_by : Bool → Action → Reading
+reading_by true a = read a
+reading_by false a = too_deep (branch_in a)
 
-abbrev pub pipeline_within : Shape → Option Pipeline → Reading Pipeline
-pipeline_within s None = unread
-pipeline_within s (Some p) = limited s (depth_of_pipeline p) p
-
--- an action within the limit, which only one with a pipeline may pass
-abbrev pub within_limit : Action → Reading Action
-within_limit (pipeline_action h) =
-    limited (piped.Header shape.Pipeline) (depth_of_pipeline h.pipeline) (pipeline_action h)
-within_limit (opening c h) = limited (piped.Header (shape.Open c)) (depth_of_pipeline h.pipeline) (opening c h)
-within_limit (else_branch br h) =
-    limited (piped.Header (shape.ElseBranch br)) (depth_of_pipeline h.pipeline) (else_branch br h)
-within_limit (template_action name (Some p)) =
-    limited piped.Template (depth_of_pipeline p) (template_action name (Some p))
-within_limit (block_action name p) = limited piped.Block (depth_of_pipeline p) (block_action name p)
-within_limit a = read a
-
-abbrev pub reading_of : Option Action → Reading Action
+abbrev pub reading_of : Option Action → Reading
 reading_of None = unread
-reading_of (Some a) = within_limit a
+reading_of (Some a) = reading_by (nat_le (depth_of a) most_deep) a
+
+-- ---- as the code has it: a pipeline that is too deep is left out
+
+abbrev pub limited_by : Bool → Pipeline → Pipeline
+limited_by true p = p
+limited_by false p = pipeline no_command
+
+abbrev pub limited_pipeline : Pipeline → Pipeline
+limited_pipeline p = limited_by (nat_le (depth_of_pipeline p) most_deep) p
+
+abbrev pub limited_header : Header → Header
+limited_header h = record { binding = h.binding; pipeline = limited_pipeline h.pipeline }
+
+abbrev pub limited_action : Action → Action
+limited_action (pipeline_action h) = pipeline_action (limited_header h)
+limited_action (opening c h) = opening c (limited_header h)
+limited_action (else_branch br h) = else_branch br (limited_header h)
+limited_action (template_action name given) = template_action name (option_map limited_pipeline given)
+limited_action (block_action name p) = block_action name (limited_pipeline p)
+limited_action a = a
+
+abbrev pub is_left_out : Pipeline → Bool
+is_left_out (pipeline no_command) = true
+is_left_out p = false
+
+abbrev pub lacks_pipeline : Action → Bool
+lacks_pipeline (pipeline_action h) = is_left_out h.pipeline
+lacks_pipeline (opening c h) = is_left_out h.pipeline
+lacks_pipeline (else_branch br h) = is_left_out h.pipeline
+lacks_pipeline (template_action name (Some p)) = is_left_out p
+lacks_pipeline (block_action name p) = is_left_out p
+lacks_pipeline a = false
+
+abbrev pub reading_unless : Bool → Action → Reading
+reading_unless true a = too_deep (branch_in a)
+reading_unless false a = read a
+
+abbrev pub reading_held : Option Action → Reading
+reading_held None = unread
+reading_held (Some a) = reading_unless (lacks_pipeline a) a

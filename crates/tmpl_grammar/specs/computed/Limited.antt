@@ -4,11 +4,10 @@ use Rattle.std.specs.Prelude.{ℕ, zero, suc, ◌+◌, Bool, true, false, List, 
 use Rattle.std.specs.Prelude.{Some, None, option_map}
 use Rattle.tmpl_lex.specs.Piece.{Token}
 use Rattle.tmpl_grammar.specs.Tree as tree
-use Rattle.tmpl_grammar.specs.Tree.{Operand, Operands, Pipeline}
+use Rattle.tmpl_grammar.specs.Tree.{Operand, Operands, Pipeline, pipeline, no_command}
 use Rattle.tmpl_grammar.specs.computed.Parser.{Parser, empty_partial, start, step}
 use Rattle.tmpl_grammar.specs.computed.Reading.{pipeline_from}
-use Rattle.tmpl_grammar.specs.Depth.{Reading, unread, too_deep, read, most_deep}
-use Rattle.tmpl_grammar.specs.declared.action.Shape.{Shape}
+use Rattle.tmpl_grammar.specs.Depth.{most_deep}
 
 pub record Limited : Type 0 where
   pub parser : Parser
@@ -62,9 +61,8 @@ behind_step b h = forgotten (record { parser = h; beyond = b })
 unfoldable pub limited_step : Token → Limited → Option Limited
 limited_step t l = option_map (behind_step (restored l).beyond) (step t (restored l).parser)
 
--- what is read in an action of this shape, where the parser ends with these commands
-abbrev pub reading_by : Shape → Option ℕ → Option (List Operands) → Reading Pipeline
-reading_by s b None = unread
-reading_by s None (Some cs) = read (pipeline_from cs)
-reading_by s (Some zero) (Some cs) = too_deep s
-reading_by s (Some (suc n)) (Some cs) = unread
+-- what is read, where the parser ends with these commands
+abbrev pub pipeline_by : Option ℕ → Option (List Operands) → Option Pipeline
+pipeline_by None (Some cs) = Some (pipeline_from cs)
+pipeline_by (Some zero) (Some cs) = Some (pipeline no_command)
+pipeline_by b o = None

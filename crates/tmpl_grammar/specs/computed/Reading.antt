@@ -12,19 +12,16 @@ use Rattle.tmpl_grammar.specs.computed.Parser.{start, commands_after}
 use Rattle.tmpl_grammar.specs.Tree.{Operand, Operands, Pipeline, pipeline, Binding, unbound}
 use Rattle.tmpl_grammar.specs.Tree.{declare, assign, declare_pair, Header, commands_from}
 use Rattle.tmpl_grammar.specs.Header.{is_range, may_bind}
-use Rattle.tmpl_grammar.specs.Depth.{Reading}
-use Rattle.tmpl_grammar.specs.computed.Depth.{reading_of, pipeline_within}
+use Rattle.tmpl_grammar.specs.computed.Depth.{Reading, reading_of}
 use Rattle.tmpl_grammar.specs.Action.{Action, pipeline_action, opening, plain_else, else_branch, end_action}
 use Rattle.tmpl_grammar.specs.Action.{break_action, continue_action}
 use Rattle.tmpl_grammar.specs.Action.{define_action, template_action, block_action}
 use Rattle.tmpl_grammar.specs.computed.Constant.{constant_of}
 use Rattle.tmpl_grammar.specs.Tree as tree
+use Rattle.tmpl_grammar.specs.declared.tree.Control.{Control}
 use Rattle.tmpl_grammar.specs.declared.tree.Control.TheVariants as control
 use Rattle.tmpl_grammar.specs.declared.action.Branch.{Branch}
 use Rattle.tmpl_grammar.specs.declared.action.Branch.TheVariants as branch
-use Rattle.tmpl_grammar.specs.declared.action.HeaderShape.{HeaderShape}
-use Rattle.tmpl_grammar.specs.declared.action.Shape.{Shape}
-use Rattle.tmpl_grammar.specs.declared.action.HeaderShape.TheVariants as shape
 use Rattle.tmpl_grammar.specs.declared.keyword.Keyword.{Keyword}
 use Rattle.tmpl_grammar.specs.declared.keyword.Keyword.TheVariants as word
 
@@ -36,10 +33,6 @@ pipeline_from cs = pipeline (commands_from cs)
 -- the pipeline that the tokens spell, if they spell one
 unfoldable pub pipeline_in : List Token → Option Pipeline
 pipeline_in ts = option_map pipeline_from (commands_after start ts)
-
--- .. within the limit of its depth, in an action of this shape
-abbrev pub limited_in : Shape → List Token → Reading Pipeline
-limited_in s ts = pipeline_within s (pipeline_in ts)
 
 -- ---- headers
 
@@ -111,17 +104,12 @@ abbrev pub header_if : Bool → Binding → Option Pipeline → Option Header
 header_if true b o = option_map (header_with b) o
 header_if false b o = None
 
--- whether the header of an action of this shape is that of a range
-abbrev pub opens_range : HeaderShape → Bool
-opens_range (shape.Open c) = is_range c
-opens_range s = false
+abbrev pub header_by : Bool → Binding × List Token → Option Header
+header_by in_range h = header_if (may_bind in_range h.0) h.0 (pipeline_in h.1)
 
-abbrev pub header_by : HeaderShape → Binding × List Token → Option Header
-header_by s h = header_if (may_bind (opens_range s) h.0) h.0 (pipeline_in h.1)
-
--- the header of an action of this shape
-abbrev pub header_in : HeaderShape → List Token → Option Header
-header_in s ts = header_by s (split ts)
+-- the header of a range, or of another action
+abbrev pub header_in : Bool → List Token → Option Header
+header_in in_range ts = header_by in_range (split ts)
 
 -- ---- actions
 
@@ -152,12 +140,6 @@ keyword_by k name = None
 unfoldable pub keyword_of : Token → Option Keyword
 keyword_of t = keyword_by t.kind t.bytes
 
--- the action of this shape with this header
-abbrev pub action_with : HeaderShape → Header → Action
-action_with shape.Pipeline h = pipeline_action h
-action_with (shape.Open c) h = opening c h
-action_with (shape.ElseBranch br) h = else_branch br h
-
 -- an action that stands alone
 abbrev pub alone : Action → List Token → Option Action
 alone a ts = if is_blank ts then Some a else None
@@ -170,8 +152,7 @@ branch_of k = None
 
 abbrev pub else_branched : Option Branch → List Token → Option Action
 else_branched None ts = None
-else_branched (Some br) ts =
-    option_map (action_with (shape.ElseBranch br)) (header_in (shape.ElseBranch br) ts)
+else_branched (Some br) ts = option_map (else_branch br) (header_in false ts)
 
 abbrev pub else_keyword : Option Keyword → List Token → Option Action
 else_keyword None ts = None
@@ -219,8 +200,12 @@ template_by name ts =
 abbrev pub block_by : List ℕ → List Token → Option Action
 block_by name ts = option_map (block_action name) (pipeline_in ts)
 
+-- a control
+abbrev pub opening_by : Control → List Token → Option Action
+opening_by c ts = option_map (opening c) (header_in (is_range c) ts)
+
 abbrev pub action_by : Keyword → List Token → Option Action
-action_by (word.Control c) ts = option_map (action_with (shape.Open c)) (header_in (shape.Open c) ts)
+action_by (word.Control c) ts = opening_by c ts
 action_by word.Else ts = else_by (next ts)
 action_by word.End ts = alone end_action ts
 action_by word.Break ts = alone break_action ts
@@ -231,7 +216,7 @@ action_by word.Block ts = named_action block_by ts
 
 -- by the keyword that comes first, if one does
 abbrev pub action_behind : Option Keyword → List Token → List Token → Option Action
-action_behind None rest ts = option_map (action_with shape.Pipeline) (header_in shape.Pipeline ts)
+action_behind None rest ts = option_map pipeline_action (header_in false ts)
 action_behind (Some k) rest ts = action_by k rest
 
 abbrev pub action_at : Option (Token × List Token) → List Token → Option Action
@@ -243,5 +228,5 @@ unfoldable pub action_in : List Token → Option Action
 action_in ts = action_at (next ts) ts
 
 -- .. where its parentheses are within the limit
-abbrev pub reading_in : List Token → Reading Action
+abbrev pub reading_in : List Token → Reading
 reading_in ts = reading_of (action_in ts)

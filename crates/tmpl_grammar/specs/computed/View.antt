@@ -5,13 +5,12 @@ use Rattle.tmpl_values.specs.Rune.{Rune, char, byte}
 use Rattle.tmpl_lex.specs.declared.piece.Token as held_token
 use Rattle.tmpl_lex.specs.Piece.{Token}
 use Rattle.tmpl_lex.specs.View.{token_of}
-use Rattle.tmpl_grammar.specs.Tree.{Pipeline, Binding, declare, assign, declare_pair}
-use Rattle.tmpl_grammar.specs.Depth as depth
-use Rattle.tmpl_grammar.specs.View.{operand_of, command_of, pipeline_of, binding_of}
+use Rattle.tmpl_grammar.specs.Tree.{Binding, declare, assign, declare_pair}
+use Rattle.tmpl_grammar.specs.computed.Depth as depth
+use Rattle.tmpl_grammar.specs.View.{operand_of, command_of, binding_of, action_of}
 use Rattle.tmpl_grammar.specs.computed.Reading as reading
 use Rattle.tmpl_grammar.specs.computed.Parser as parser
 use Rattle.tmpl_grammar.specs.computed.Limited as limited
-use Rattle.tmpl_grammar.specs.declared.tree.Pipeline as held_pipeline
 use Rattle.tmpl_grammar.specs.declared.tree.Binding as held_binding
 use Rattle.tmpl_grammar.specs.declared.action.Reading as held_reading
 use Rattle.tmpl_grammar.specs.declared.action.Reading.TheVariants as held
@@ -23,10 +22,10 @@ use Rattle.tmpl_grammar.specs.declared.pipeline.parser.PipelineParser.{PipelineP
 use Rattle.tmpl_grammar.specs.declared.pipeline.parser.PartialPipeline.{PartialPipeline}
 use Rattle.tmpl_grammar.specs.declared.pipeline.LimitedParser.{LimitedParser}
 
-abbrev pub pipeline_reading : held_reading.Reading held_pipeline.Pipeline → depth.Reading Pipeline
-pipeline_reading held.Unread = depth.unread
-pipeline_reading (held.TooDeep s) = depth.too_deep s
-pipeline_reading (held.Read p) = depth.read (pipeline_of p)
+abbrev pub action_reading : held_reading.Reading → depth.Reading
+action_reading held.Unread = depth.unread
+action_reading (held.TooDeep branch) = depth.too_deep branch
+action_reading (held.Read a) = depth.read (action_of a)
 
 abbrev pub quoted_of : List ℕ × Bor (List held_token.Token) → List ℕ × List Token
 quoted_of p = (p.0, map token_of p.1.now)

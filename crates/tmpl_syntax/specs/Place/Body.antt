@@ -1,6 +1,6 @@
 -- The first refused action of a file, and why it is refused.
 use Rattle.std.specs.Prelude.{◌≡◌, ℕ, suc, ◌<◌, ◌≤◌, Bool, true, false, List}
-use Rattle.std.specs.Prelude.{length, slice_get, Option, Some, None, ◌⊎◌, Contains}
+use Rattle.std.specs.Prelude.{length, slice_get, Option, Some, Contains}
 use Rattle.tmpl_grammar.specs.declared.action.Branch.{Branch}
 use Rattle.tmpl_grammar.specs.declared.action.Branch.TheVariants.{If as if_branch, With as with_branch}
 use Rattle.tmpl_syntax.specs.Place.Opening.{Opening}
@@ -8,8 +8,8 @@ use Rattle.tmpl_syntax.specs.Place.Opening as opened
 use Rattle.tmpl_grammar.specs.declared.tree.Control.TheVariants.{If, With, Range}
 use Rattle.tmpl_syntax.specs.Fault as reason
 use Rattle.tmpl_syntax.specs.Fault.{Reason, rank}
-use Rattle.tmpl_syntax.specs.Place.Role.{Name, Names, Act, plain, opener, bare_else, branch_else}
-use Rattle.tmpl_syntax.specs.Place.Role.{closer, jump, Role, unreadable_role, unread_role, act_role}
+use Rattle.tmpl_syntax.specs.Place.Role.{Name, Names, no_names, Act, plain, opener, bare_else, branch_else}
+use Rattle.tmpl_syntax.specs.Place.Role.{closer, jump, nested, Role, unreadable_role, unread_role, act_role}
 use Rattle.tmpl_syntax.specs.Place.Open.{IsOpen, NothingOpen, IsLast, IsElseBranchOf}
 use Rattle.tmpl_syntax.specs.Place.Open.{HasElse, is_template, OfOneTemplate}
 use Rattle.tmpl_syntax.specs.Place.Scope.{IsInScope}
@@ -20,17 +20,16 @@ joins if_branch (opened.control If) = true
 joins with_branch (opened.control With) = true
 joins b c = false
 
--- nothing is open at i, or its last opening is a template's body, or has an else already
-pub data TakesNoElse (xs : List Role) (i : ℕ) : Type 0 where
-  nothing_open : NothingOpen xs i → TakesNoElse xs i
-  of_a_template : {j : ℕ} → (l : IsLast xs j i) → is_template l.is_open.opened ≡ true → TakesNoElse xs i
-  after_an_else : {j : ℕ} → IsLast xs j i → HasElse xs j i → TakesNoElse xs i
-
--- the last opening open at i has no else part that begins so
-pub record TakesNoBranch (xs : List Role) (b : Branch) (i : ℕ) : Type 0 where
+-- an else may stand at i: the last opening open there is that of a control, and has no else yet
+pub record TakesElse (xs : List Role) (i : ℕ) : Type 0 where
   pub opened : ℕ
   pub last : IsLast xs opened i
-  pub other : joins b last.is_open.opened ≡ false
+  pub own : is_template last.is_open.opened ≡ false
+  pub bare : HasElse xs opened i → ⊥
+
+-- .. and one that begins so
+abbrev pub TakesBranch : List Role → Branch → ℕ → Type 0
+TakesBranch xs b i = (t : TakesElse xs i) × (joins b t.last.is_open.opened ≡ true)
 
 -- a range of the template of i that is open at i with no else of its own before i
 pub record IsLoop (xs : List Role) (j i : ℕ) : Type 0 where
@@ -39,20 +38,16 @@ pub record IsLoop (xs : List Role) (j i : ℕ) : Type 0 where
   pub template : OfOneTemplate xs j i
   pub bare : HasElse xs j i → ⊥
 
--- a define at which something is open is out of place
-abbrev pub MayNotOpen : List Role → ℕ → Opening → Type 0
-MayNotOpen xs i opened.define = (j : ℕ) × IsOpen xs j i
-MayNotOpen xs i c = ⊥
-
--- .. and an end, else or else branch at which nothing is open; an else or else branch of a define or block, or after an
--- else of the same opening; an else branch of another control; a break or continue in no range's body
+-- out of place is a define at which something is open; an else or else branch that may not stand there; an end at which
+-- nothing is open; a break or continue in no range's body
 abbrev pub IsMisplaced : List Role → ℕ → Act → Type 0
-IsMisplaced xs i (plain p) = ⊥
-IsMisplaced xs i (opener c p) = MayNotOpen xs i c
-IsMisplaced xs i bare_else = TakesNoElse xs i
-IsMisplaced xs i (branch_else b p) = TakesNoElse xs i ⊎ TakesNoBranch xs b i
+IsMisplaced xs i (opener opened.define p) = (j : ℕ) × IsOpen xs j i
+IsMisplaced xs i bare_else = TakesElse xs i → ⊥
+IsMisplaced xs i (branch_else b p) = TakesBranch xs b i → ⊥
+IsMisplaced xs i (nested (Some b)) = TakesBranch xs b i → ⊥
 IsMisplaced xs i closer = NothingOpen xs i
 IsMisplaced xs i jump = (j : ℕ) → IsLoop xs j i → ⊥
+IsMisplaced xs i a = ⊥
 
 -- the openings that are a level while they are open
 abbrev pub is_level : Opening → Bool
@@ -71,11 +66,11 @@ pub data Levels (xs : List Role) (i : ℕ) : ℕ → ℕ → Type 0 where
   other : {m n : ℕ} → Levels xs i m n → (IsLevel xs m i → ⊥) → Levels xs i (suc m) n
 
 -- the names in an action
-abbrev pub names_in : Act → Option Names
-names_in (plain p) = Some p
-names_in (opener c p) = Some p
-names_in (branch_else b p) = Some p
-names_in a = None
+abbrev pub names_in : Act → Names
+names_in (plain p) = p
+names_in (opener c p) = p
+names_in (branch_else b p) = p
+names_in a = no_names
 
 -- an opening that is a level, or an else branch
 abbrev pub opens_level : Act → Bool
@@ -90,14 +85,12 @@ most_levels = 500
 -- a level more where as many stand as may, or parentheses that nest too deep
 pub data IsTooDeep (xs : List Role) (i : ℕ) (a : Act) : Type 0 where
   in_levels : {n : ℕ} → opens_level a ≡ true → Levels xs i i n → most_levels ≤ n → IsTooDeep xs i a
-  in_parentheses : {names : Names} → names_in a ≡ Some names → names.nested ≡ true → IsTooDeep xs i a
+  in_parentheses : {b : Option Branch} → a ≡ nested b → IsTooDeep xs i a
 
 -- a name used or assigned that is not in scope
 pub record IsUndeclared (xs : List Role) (i : ℕ) (a : Act) : Type 0 where
   pub name : Name
-  pub names : Names
-  pub of_action : names_in a ≡ Some names
-  pub uses : Contains names.uses name
+  pub uses : Contains (names_in a).uses name
   pub unknown : IsInScope xs i name → ⊥
 
 -- the reason applies to the item at i

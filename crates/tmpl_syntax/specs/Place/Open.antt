@@ -4,36 +4,21 @@ use Rattle.std.specs.Prelude.{count_by, slice_get, slice_range, Option, Some, No
 use Rattle.tmpl_grammar.specs.declared.action.Branch.{Branch}
 use Rattle.tmpl_syntax.specs.Place.Opening.{Opening}
 use Rattle.tmpl_syntax.specs.Place.Opening as opened
-use Rattle.tmpl_syntax.specs.Place.Role.{Names, Act, opener, bare_else, branch_else, closer}
+use Rattle.tmpl_syntax.specs.Place.Role.{Names, opener, bare_else, branch_else, closer}
 use Rattle.tmpl_syntax.specs.Place.Role.{Role, act_role}
 
-abbrev pub opening_of : Act → Option Opening
-opening_of (opener c p) = Some c
-opening_of a = None
-
 -- an opening is an if, with, range, define or block
-abbrev pub opening : Role → Option Opening
-opening (act_role a) = opening_of a
-opening x = None
-
-abbrev pub there : Option Opening → Bool
-there None = false
-there (Some c) = true
+abbrev pub IsOpening : Option Role → Opening → Type 0
+IsOpening (Some (act_role (opener d p))) c = d ≡ c
+IsOpening x c = ⊥
 
 abbrev pub opens : Role → Bool
-opens x = there (opening x)
-
-abbrev pub is_end : Act → Bool
-is_end closer = true
-is_end a = false
+opens (act_role (opener c p)) = true
+opens x = false
 
 abbrev pub ends : Role → Bool
-ends (act_role a) = is_end a
+ends (act_role closer) = true
 ends x = false
-
-abbrev pub IsOpening : Option Role → Opening → Type 0
-IsOpening None c = ⊥
-IsOpening (Some x) c = opening x ≡ Some c
 
 -- the opening at j is open at a later i if no front of the stretch strictly between them has more ends than openings
 pub record IsOpen (xs : List Role) (j i : ℕ) : Type 0 where

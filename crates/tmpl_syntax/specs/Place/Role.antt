@@ -1,6 +1,6 @@
 -- What counts of an item for the place in which it stands: which kind of action it is, and the names in it. Names
 -- are without their `$`.
-use Rattle.std.specs.Prelude.{ℕ, Bool, true, false, List, [], ◌∷◌, ◌++◌, map, Option, Some, None}
+use Rattle.std.specs.Prelude.{ℕ, List, [], ◌∷◌, ◌++◌, map, Option, Some, None}
 use Rattle.tmpl_grammar.specs.Tree.{Operand, variable}
 use Rattle.tmpl_grammar.specs.Tree.{group, Operands, no_operand, operand, Commands, no_command, command}
 use Rattle.tmpl_grammar.specs.Tree.{Pipeline, pipeline, Binding, declare, assign, declare_pair, Header}
@@ -10,23 +10,20 @@ use Rattle.tmpl_grammar.specs.Action.{else_branch, end_action, break_action, con
 use Rattle.tmpl_grammar.specs.Action.{template_action, block_action}
 use Rattle.tmpl_syntax.specs.Item.{Item, item, text_item, unreadable_item, unread_item, deep_item, action_item}
 use Rattle.tmpl_grammar.specs.declared.action.Branch.{Branch}
-use Rattle.tmpl_grammar.specs.declared.action.Shape.{Shape}
-use Rattle.tmpl_grammar.specs.declared.action.Shape.TheVariants as piped
-use Rattle.tmpl_grammar.specs.declared.action.HeaderShape.TheVariants as shape
 use Rattle.tmpl_syntax.specs.Place.Opening.{Opening}
 use Rattle.tmpl_syntax.specs.Place.Opening as opening
 
 abbrev pub Name : Type 0
 Name = List ℕ
 
--- the names that an action declares, and those that it uses or assigns; whether its parentheses nest too deep
+-- the names that an action declares, and those that it uses or assigns
 pub record Names : Type 0 where
   pub declares : List Name
   pub uses : List Name
-  pub nested : Bool
 
 -- a plain action puts out or binds a value or runs a template, an opener opens a control or a template, a branch_else
--- is an else part that begins with a control of its own, a closer is an `end`, and a jump a break or continue
+-- is an else part that begins with a control of its own, a closer is an `end`, and a jump a break or continue; and
+-- nested are actions whose parentheses nest too deep, of which an else branch alone may be out of place
 pub data Act : Type 0 where
   plain : Names → Act
   opener : Opening → Names → Act
@@ -34,6 +31,7 @@ pub data Act : Type 0 where
   branch_else : Branch → Names → Act
   closer : Act
   jump : Act
+  nested : Option Branch → Act
 
 pub data Role : Type 0 where
   text_role : Role
@@ -74,19 +72,15 @@ declared_by b = []
 
 -- the names in a header
 abbrev pub names_of : Header → Names
-names_of h = record {
-  declares = declared_by h.binding;
-  uses = assigned_by h.binding ++ used_by h.pipeline;
-  nested = false;
-}
+names_of h = record { declares = declared_by h.binding; uses = assigned_by h.binding ++ used_by h.pipeline }
 
 abbrev pub no_names : Names
-no_names = record { declares = []; uses = []; nested = false }
+no_names = record { declares = []; uses = [] }
 
 -- the names in what a template is run with
 abbrev pub names_given : Option Pipeline → Names
 names_given None = no_names
-names_given (Some p) = record { declares = []; uses = used_by p; nested = false }
+names_given (Some p) = record { declares = []; uses = used_by p }
 
 abbrev pub act_of : Action → Act
 act_of (pipeline_action h) = plain (names_of h)
@@ -100,22 +94,11 @@ act_of (define_action name) = opener opening.define no_names
 act_of (template_action name given) = plain (names_given given)
 act_of (block_action name p) = opener opening.block (names_given (Some p))
 
--- parentheses that nest too deep, whose names do not count: they are asked for last
-abbrev pub deep_names : Names
-deep_names = record { declares = []; uses = []; nested = true }
-
-abbrev pub act_of_shape : Shape → Act
-act_of_shape (piped.Header shape.Pipeline) = plain deep_names
-act_of_shape (piped.Header (shape.Open c)) = opener (opening.control c) deep_names
-act_of_shape (piped.Header (shape.ElseBranch branch)) = branch_else branch deep_names
-act_of_shape piped.Template = plain deep_names
-act_of_shape piped.Block = opener opening.block deep_names
-
 abbrev pub role_of : Item → Role
 role_of (item line (text_item bytes)) = text_role
 role_of (item line unreadable_item) = unreadable_role
 role_of (item line unread_item) = unread_role
-role_of (item line (deep_item shape)) = act_role (act_of_shape shape)
+role_of (item line (deep_item branch)) = act_role (nested branch)
 role_of (item line (action_item a)) = act_role (act_of a)
 
 abbrev pub roles_of : List Item → List Role

@@ -77,7 +77,7 @@ abbrev pub parts_with : Item → Parts → Parts
 parts_with (item line (text_item bytes)) p = put_before line (text bytes) p
 parts_with (item line unreadable_item) p = p
 parts_with (item line unread_item) p = p
-parts_with (item line (deep_item shape)) p = p
+parts_with (item line (deep_item branch)) p = p
 parts_with (item line (action_item (pipeline_action h))) p = put_before line (action h) p
 parts_with (item line (action_item (opening c h))) p = control_before line c h p
 parts_with (item line (action_item plain_else)) p = else_before p

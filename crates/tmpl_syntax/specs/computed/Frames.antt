@@ -12,7 +12,7 @@ use Rattle.tmpl_grammar.specs.declared.tree.Control.TheVariants.{Range}
 use Rattle.tmpl_syntax.specs.Fault as reason
 use Rattle.tmpl_syntax.specs.Fault.{Reason}
 use Rattle.tmpl_syntax.specs.Place.Role.{Name, Names, Act, plain, opener, bare_else, branch_else, closer}
-use Rattle.tmpl_syntax.specs.Place.Role.{jump, Role, text_role, unreadable_role, unread_role, act_role}
+use Rattle.tmpl_syntax.specs.Place.Role.{jump, nested, Role, text_role, unreadable_role, unread_role, act_role}
 use Rattle.tmpl_syntax.specs.Place.Open.{is_template}
 use Rattle.tmpl_syntax.specs.Place.Body.{joins, names_in, opens_level, most_levels, Verdict, fine, refused, left_open}
 
@@ -68,17 +68,15 @@ is_placed bare_else t = takes_else t
 is_placed (branch_else b p) t = takes_else t && takes_branch b t
 is_placed closer t = is_inside t
 is_placed jump t = in_loop t
+is_placed (nested None) t = true
+is_placed (nested (Some b)) t = takes_else t && takes_branch b t
 
-abbrev pub used : Option Names → List Name
-used None = []
-used (Some p) = p.uses
-
-abbrev pub is_nested : Option Names → Bool
-is_nested None = false
-is_nested (Some p) = p.nested
+abbrev pub is_nested : Act → Bool
+is_nested (nested b) = true
+is_nested a = false
 
 abbrev pub is_too_deep : Act → Option Frame → Bool
-is_too_deep a t = is_nested (names_in a) || (opens_level a && leb most_levels (levels t))
+is_too_deep a t = is_nested a || (opens_level a && leb most_levels (levels t))
 
 -- of the names before an action, those that it sees: an else or else branch ends the part before it, and an `end` the
 -- control
@@ -103,7 +101,7 @@ first_fault true false true = None
 
 -- the fault of an action that sees these names, if it has one
 abbrev pub fault_in : Act → Option Frame → List Name → Option Reason
-fault_in a t names = first_fault (is_placed a t) (is_too_deep a t) (knows names (used (names_in a)))
+fault_in a t names = first_fault (is_placed a t) (is_too_deep a t) (knows names (names_in a).uses)
 
 -- how many levels an opening adds
 abbrev pub level_of : Opening → ℕ
@@ -162,6 +160,7 @@ frames_after bare_else fs n = elsed_all fs
 frames_after (branch_else b p) fs n = branched_all (n + length p.declares) fs
 frames_after closer fs n = ended_all fs
 frames_after jump fs n = fs
+frames_after (nested b) fs n = fs
 
 -- the names of the template in which a place stands, and those of the templates around it, the nearest first
 pub record Known : Type 0 where
@@ -201,6 +200,7 @@ known_after bare_else t k = k
 known_after (branch_else b p) t k = with_inner k (k.inner ++ p.declares)
 known_after closer t k = closed_names t k
 known_after jump t k = k
+known_after (nested b) t k = k
 
 -- the same for an item
 abbrev pub seen_at : Role → Option Frame → List Name → List Name

@@ -1,15 +1,14 @@
 -- The items of a file's pieces, computed.
 use Rattle.std.specs.Prelude.{List, map}
 use Rattle.tmpl_lex.specs.Piece as piece
-use Rattle.tmpl_grammar.specs.Action.{Action}
-use Rattle.tmpl_grammar.specs.Depth.{Reading, unread, too_deep, read}
+use Rattle.tmpl_grammar.specs.computed.Depth.{Reading, unread, too_deep, read}
 use Rattle.tmpl_grammar.specs.computed.Reading.{reading_in}
 use Rattle.tmpl_syntax.specs.Item.{ItemKind, text_item, unreadable_item}
 use Rattle.tmpl_syntax.specs.Item.{unread_item, deep_item, action_item, Item, item}
 
-abbrev pub read_item : Reading Action → ItemKind
+abbrev pub read_item : Reading → ItemKind
 read_item unread = unread_item
-read_item (too_deep shape) = deep_item shape
+read_item (too_deep branch) = deep_item branch
 read_item (read a) = action_item a
 
 abbrev pub item_in : piece.Piece → Item

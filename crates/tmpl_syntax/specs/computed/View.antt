@@ -33,7 +33,7 @@ abbrev pub item_kind : held_kind.ItemKind → ItemKind
 item_kind (held.Text bytes) = text_item bytes
 item_kind held.Unreadable = unreadable_item
 item_kind held.Unread = unread_item
-item_kind (held.TooDeep shape) = deep_item shape
+item_kind (held.TooDeep branch) = deep_item branch
 item_kind (held.Action a) = action_item (action_of a)
 
 abbrev pub item_of : held_item.Item → Item

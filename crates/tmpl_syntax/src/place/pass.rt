@@ -3,7 +3,7 @@ ghost use Rattle.std.specs.Prelude.{◌≡◌, ◌<◌, ◌++◌, [], ◌∷◌,
 ghost use Rattle.tmpl_grammar.specs.View.{action_of, binding_of, header_of};
 ghost use Rattle.tmpl_syntax.specs.computed.View.{frame_of, frames_in, item_of, known_names, scopes_of, opening_of};
 ghost use Rattle.tmpl_syntax.specs.Place.Role as role;
-ghost use Rattle.tmpl_syntax.specs.Place.Role.{act_of, act_of_shape, names_of, no_names, role_of};
+ghost use Rattle.tmpl_syntax.specs.Place.Role.{act_of, names_of, no_names, role_of};
 ghost use Rattle.tmpl_syntax.specs.Place.Body as body;
 ghost use Rattle.tmpl_syntax.specs.Place.Body.{is_level};
 ghost use Rattle.tmpl_syntax.specs.Place.Open.{is_template};
@@ -20,7 +20,7 @@ use crate::place::names::KnownNames;
 use crate::place::rules::{is_in_loop, levels_in};
 use crate::place::scopes::Scopes;
 use std::alloc::{AllocError, Global};
-use tmpl_grammar::{Action, Binding, Control, Header, HeaderShape, Shape};
+use tmpl_grammar::{Action, Binding, Control, Header};
 
 /// The newest frame.
 pub(super) fn newest(stack: &Vec<Frame>) -> Option<Frame>
@@ -40,17 +40,6 @@ pub(super) fn forget(names: &mut KnownNames<'_>, item: &Item, outside: Option<Fr
     };
     match &item.what {
         ItemKind::Action(action) => forget_at(names, action, frame),
-        ItemKind::TooDeep(shape) => forget_part(names, *shape, frame),
-        _ => {}
-    }
-}
-
-/// Forgets the names that an action of this shape does not see.
-fn forget_part(names: &mut KnownNames<'_>, shape: Shape, frame: Frame)
-    ensures { known_names names.new ≡ names_at (act_of_shape shape) (Some (frame_of frame)) (known_names names.old) }
-{
-    match shape {
-        Shape::Header(HeaderShape::ElseBranch(_)) => names.truncate(frame.part),
         _ => {}
     }
 }

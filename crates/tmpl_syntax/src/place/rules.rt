@@ -1,20 +1,19 @@
 //! The fault of an action in its place.
-ghost use Rattle.std.specs.Prelude.{◌≡◌, List, Some, option_map};
+ghost use Rattle.std.specs.Prelude.{◌≡◌, Some, option_map, true};
 ghost use Rattle.tmpl_grammar.specs.View.{action_of};
 ghost use Rattle.tmpl_syntax.specs.computed.View.{frame_of, item_of, known_names, opening_of};
-ghost use Rattle.tmpl_syntax.specs.Place.Role as role;
-ghost use Rattle.tmpl_syntax.specs.Place.Role.{act_of, act_of_shape, role_of};
+ghost use Rattle.tmpl_syntax.specs.Place.Role.{act_of, nested, role_of};
 ghost use Rattle.tmpl_syntax.specs.Place.Body as body;
 ghost use Rattle.tmpl_syntax.specs.computed.Fault.{of_action};
-ghost use Rattle.tmpl_syntax.specs.computed.Frames.{fault_at, fault_in, in_loop, is_placed, is_too_deep, levels};
-ghost use Rattle.tmpl_syntax.specs.computed.Frames.{takes_branch, takes_else};
+ghost use Rattle.tmpl_syntax.specs.computed.Frames.{fault_at, fault_in, first_fault, in_loop, is_placed, is_too_deep};
+ghost use Rattle.tmpl_syntax.specs.computed.Frames.{levels, takes_branch, takes_else};
 
 use crate::fault::Fault;
 use crate::item::{Item, ItemKind};
 use crate::place::frame::{Frame, Opening};
 use crate::place::names::KnownNames;
 use crate::place::uses::knows_its_names;
-use tmpl_grammar::{Action, Branch, Control, HeaderShape, Shape};
+use tmpl_grammar::{Action, Branch, Control};
 
 /// The most levels that may stand (our own limit): an open control is one, and an else branch up to its `end`.
 const MOST_LEVELS: usize = 500;
@@ -28,7 +27,7 @@ pub(crate) fn fault_of(item: &Item, outside: Option<Frame>, names: &KnownNames<'
         ItemKind::Text(_) => None,
         ItemKind::Unreadable => Some(Fault::Unreadable),
         ItemKind::Unread => Some(Fault::NotAnAction),
-        ItemKind::TooDeep(shape) => Some(deep_fault(*shape, outside)),
+        ItemKind::TooDeep(branch) => Some(deep_fault(*branch, outside)),
         ItemKind::Action(action) => action_fault(action, outside, names),
     }
 }
@@ -49,29 +48,26 @@ fn action_fault(action: &Action, outside: Option<Frame>, names: &KnownNames<'_>)
     }
 }
 
-/// The fault of an action of this shape whose parentheses nest too deep: its place is looked at first.
-fn deep_fault(shape: Shape, outside: Option<Frame>) -> Fault
-    ensures { (names : List role.Name)
-        → Some (of_action result) ≡ fault_in (act_of_shape shape) (option_map frame_of outside) names }
+/// The fault of an action whose parentheses nest too deep, of an else branch by its control: its place is looked at
+/// first, and only an else branch may be out of place.
+fn deep_fault(branch: Option<Branch>, outside: Option<Frame>) -> Fault
+    ensures { Some (of_action result)
+        ≡ first_fault (is_placed (nested branch) (option_map frame_of outside)) true true }
 {
-    if is_shape_in_place(shape, outside) {
+    if is_branch_in_place(branch, outside) {
         Fault::NestedTooDeeply
     } else {
         Fault::OutOfPlace
     }
 }
 
-/// Whether an action of this shape may stand there.
-fn is_shape_in_place(shape: Shape, outside: Option<Frame>) -> bool
-    ensures { result ≡ is_placed (act_of_shape shape) (option_map frame_of outside) }
+/// Whether an else branch of this control may stand there; any other action may.
+fn is_branch_in_place(branch: Option<Branch>, outside: Option<Frame>) -> bool
+    ensures { result ≡ is_placed (nested branch) (option_map frame_of outside) }
 {
-    match shape {
-        Shape::Header(HeaderShape::Pipeline | HeaderShape::Open(_))
-        | Shape::Template
-        | Shape::Block => true,
-        Shape::Header(HeaderShape::ElseBranch(branch)) => {
-            may_take_else(outside) && may_take_branch(branch, outside)
-        }
+    match branch {
+        Some(branch) => may_take_else(outside) && may_take_branch(branch, outside),
+        None => true,
     }
 }
 

@@ -5,14 +5,14 @@ ghost use Rattle.tmpl_grammar.specs.View.{commands_in, operand_of, operands_in};
 ghost use Rattle.tmpl_syntax.specs.computed.View.{known_names};
 ghost use Rattle.tmpl_syntax.specs.Place.Role as role;
 ghost use Rattle.tmpl_syntax.specs.Place.Body as body;
-ghost use Rattle.tmpl_syntax.specs.computed.Frames.{knows, used};
+ghost use Rattle.tmpl_syntax.specs.computed.Frames.{knows};
 
 use crate::place::names::KnownNames;
 use tmpl_grammar::{Action, Binding, Command, Header, Operand, Pipeline};
 
 /// Whether each name that an action uses or assigns is known.
 pub(super) fn knows_its_names(action: &Action, names: &KnownNames<'_>) -> bool
-    ensures { result ≡ knows (known_names names.now) (used (body.names_in (role.act_of (action_of action.now)))) }
+    ensures { result ≡ knows (known_names names.now) (body.names_in (role.act_of (action_of action.now))).uses }
 {
     match action {
         Action::Pipeline(header) | Action::Open(_, header) | Action::ElseBranch(_, header) => {

@@ -2,7 +2,9 @@ use Rattle.std.proofs.Common.{arith, ◌≡◌, ◌∙◌, IfOk, sym, ap, subst,
 use Rattle.std.proofs.lemmas.List.{drop_all}
 use Rattle.tmpl_lex.specs.View.{token_of}
 use Rattle.tmpl_grammar.specs.computed.Parser.{kept_if}
-use Rattle.tmpl_grammar.specs.computed.View.{limited_of, pipeline_reading}
+use Rattle.std.specs.Option.{option_map}
+use Rattle.tmpl_grammar.specs.View.{pipeline_of}
+use Rattle.tmpl_grammar.specs.computed.View.{limited_of}
 use Rattle.std.proofs.lemmas.List.{drop_more}
 use Rattle.tmpl_grammar.proofs.LimitLemmas.{Follows, follows-start, follows-none, follows-step, follows-end}
 use Rattle.tmpl_grammar.proofs.pipeline.pipeline.Goals as goal
@@ -17,7 +19,7 @@ loop-token-init c =
 pub returns-then-not-stands : goal.returns-then-not-stands
 returns-then-not-stands c =
     let one = ap (map token_of) (drop_more c.args.tokens.now c.loop-token.token-index _ (omega arith)) in
-    follows-none c.args.shape (map token_of c.args.tokens.now) _ _ (limited_of c.loop-token.parser)
+    follows-none (map token_of c.args.tokens.now) _ _ (limited_of c.loop-token.parser)
     (sym c.in_ok-stands.ensures ∙ ap (λ b. kept_if b (limited_of c.step.new.self)) c.if-not-stands.true)
     (subst (Follows (map token_of c.args.tokens.now) (limited_of c.loop-token.parser)) one c.loop-token.invariant.follows)
 
@@ -34,7 +36,7 @@ loop-token-preserved c =
 pub returns : goal.returns
 returns c =
     let end = ap (map token_of) (drop_all c.loop-token.token-index c.args.tokens.now (omega arith)) in
-    subst (λ p. IfOk c.finish.result (λ r. pipeline_reading r ≡ p))
-    (follows-end c.args.shape (map token_of c.args.tokens.now) (limited_of c.loop-token.parser)
+    subst (λ p. IfOk c.finish.result (λ r. option_map pipeline_of r ≡ p))
+    (follows-end (map token_of c.args.tokens.now) (limited_of c.loop-token.parser)
     (subst (Follows (map token_of c.args.tokens.now) (limited_of c.loop-token.parser)) end c.loop-token.invariant.follows))
     c.finish.ensures
