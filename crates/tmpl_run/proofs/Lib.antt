@@ -7,7 +7,6 @@ pub mod SlotLemmas
 pub mod WayLemmas
 pub mod HeaderLemmas
 pub mod StepLemmas
-pub mod NestedLemmas
 pub mod NodeLemmas
 pub mod QuietLemmas
 pub mod RangeLemmas
