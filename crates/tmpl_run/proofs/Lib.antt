@@ -12,6 +12,7 @@ pub mod QuietLemmas
 pub mod RangeLemmas
 pub mod CallLemmas
 pub mod TreeLemmas
+pub mod FoundLemmas
 pub mod MoveLemmas
 pub mod RoomLemmas
 pub mod LoopLemmas
