@@ -21,8 +21,9 @@ use Rattle.tmpl_code.specs.Room.{need_at, need_found, needs_along}
 use Rattle.tmpl_code.specs.Code.{CallAt, Code, GivenAt, Starts, TreeAt, step_of_call}
 use Rattle.tmpl_run.specs.Cell.{Cell, cell, fresh}
 use Rattle.tmpl_run.specs.State.{Plan, State}
-use Rattle.tmpl_run.specs.Machine.{Turn, deepened, frame, goes, invoked, paid_if, returned_if}
+use Rattle.tmpl_run.specs.Machine.{deepened, frame, goes, invoked, paid_if, returned_if}
 use Rattle.tmpl_run.specs.Ends.{Comes, Ends}
+use Rattle.tmpl_run.proofs.CallingLemmas.{entered}
 use Rattle.tmpl_run.proofs.HeaderLemmas.{Pipelines, run_at, value-leads, valued, with_left}
 use Rattle.tmpl_run.proofs.NodeLemmas as nodes
 use Rattle.tmpl_run.proofs.PlaceLemmas.{ahead, ahead-one}
@@ -165,7 +166,8 @@ module _ (way : Way) (pipes : Pipelines way) (first : 1 ≤ way.who.depth) (link
         ways.takes way (valued v made place s) (code.invoke number) rest st.runs at
         (let a = own in let b = most in omega arith)
         (subst (λ o. Comes (ways.Leading way) (invoked way.plan way.me number o (fresh v) s.cells (valued v made place s)) way.end) (sym start.at)
-        (subst (λ b. Comes (ways.Leading way) (paid_if b way.plan way.me s.line (valued v made place s) enters) way.end) (sym some)
+        (subst (λ b. Comes (ways.Leading way) (paid_if b way.plan way.me s.line (valued v made place s) (λ t. goes (entered number start.place v s.cells t))) way.end)
+        (sym some)
         (callee (record { number = number; depth = suc s.depth }) named.t named.at (omega arith)
         (let same : s.depth ≡ way.who.depth = ap (λ (w : Who). w.depth) st.runs in omega arith)
         (called_frame (cell nothing (place + 1)) (cell s.dot s.template) s.cells) inside refl start.at refl (omega arith) (length s.cells) length-called left
@@ -179,27 +181,8 @@ module _ (way : Way) (pipes : Pipelines way) (first : 1 ≤ way.who.depth) (link
         start : Started way.plan.templates named.t way.plan.starts way.plan.code number
         start = starts-at way.plan.templates way.plan.templates way.plan.starts way.plan.code number named.t linked named.at
 
-        enters : State → Turn
-        enters t = goes (record t {
-          cells = fresh v ∷ cell nothing (t.place + 1) ∷ cell t.dot t.template ∷ s.cells;
-          dot = v;
-          template = number;
-          depth =
-              suc t.depth;
-          place = start.place;
-        })
-
         inside : State
-        inside = record s {
-          cells = fresh v ∷ cell nothing (place + 1) ∷ cell s.dot s.template ∷ s.cells;
-          dot = v;
-          left = s.left - 1;
-          made_text = made;
-          template =
-              number;
-          depth = suc s.depth;
-          place = start.place;
-        }
+        inside = entered number start.place v s.cells (record s { left = s.left - 1; made_text = made; place = place })
 
         own : length s.cells + need_at way.plan.templates number ≤ way.room
         own = left [] tt (omega arith)

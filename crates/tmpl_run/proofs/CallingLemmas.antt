@@ -3,13 +3,23 @@ use Rattle.std.proofs.lemmas.Bool.Decides.{nat_tests}
 use Rattle.std.proofs.Common.{arith, ◌≡◌, ◌≢◌, ◌∙◌, ◌+◌, ◌-◌, ◌<◌, ◌≤◌, nat_eq, nat_lt, ℕ, suc, Bool, true, false, List, [], ◌∷◌, length}
 use Rattle.std.proofs.Common.{drop, refl, ap, Some, None}
 use Rattle.std.specs.Prelude.{slice_get}
-use Rattle.tmpl_values.specs.Value.{nothing}
+use Rattle.tmpl_values.specs.Value.{Value, nothing}
 use Rattle.tmpl_syntax.specs.Set.{Template}
 use Rattle.tmpl_meaning.specs.Fault.{calls_too_deep, steps_spent}
 use Rattle.tmpl_code.specs.Instruction as code
 use Rattle.tmpl_run.specs.Cell.{Cell, cell, fresh}
 use Rattle.tmpl_run.specs.State.{Plan, State}
 use Rattle.tmpl_run.specs.Machine.{Turn, deepened, done, ended, failed, frame, goes, invoked, paid_if, ran_so, returned_if, top}
+
+-- a state in the template of this number, which starts here, over a value; these cells are below
+abbrev pub entered : ℕ → ℕ → Value → List Cell → State → State
+entered number start v cs s = record s {
+  cells = fresh v ∷ cell nothing (s.place + 1) ∷ cell s.dot s.template ∷ cs;
+  dot = v;
+  template = number;
+  depth = suc s.depth;
+  place = start;
+}
 
 module _ (plan : Plan) (t : Template) (s : State) where
   -- ---- before a call
@@ -35,24 +45,9 @@ module _ (plan : Plan) (t : Template) (s : State) where
     invoke-by : (c : Cell) (cs : List Cell) (b : Bool)
         → top s.cells (λ c cs. invoked plan t number (slice_get plan.starts number) c cs s) ≡ invoked plan t number (slice_get plan.starts number) c cs s
         → nat_eq s.left 0 ≡ b
-        → done plan t (code.invoke number) s ≡ paid_if b plan t s.line s (λ s. goes
-        (record s {
-          cells = fresh c.val ∷ cell nothing (s.place + 1) ∷ cell s.dot s.template ∷ cs;
-          dot = c.val;
-          template = number;
-          depth =
-              suc s.depth;
-          place = start;
-        }))
+        → done plan t (code.invoke number) s ≡ paid_if b plan t s.line s (λ s. goes (entered number start c.val cs s))
     invoke-by c cs b is e = is ∙ ap (λ o. invoked plan t number o c cs s) starts
-        ∙ ap (λ d. paid_if d plan t s.line s (λ s. goes (record s {
-          cells = fresh c.val ∷ cell nothing (s.place + 1) ∷ cell s.dot s.template ∷ cs;
-          dot =
-              c.val;
-          template = number;
-          depth = suc s.depth;
-          place = start;
-        }))) e
+        ∙ ap (λ d. paid_if d plan t s.line s (λ s. goes (entered number start c.val cs s))) e
 
     pub invoke-spent : 1 ≤ length s.cells → s.left ≡ 0 → done plan t (code.invoke number) s ≡ failed t s.line (steps_spent plan.rules.step_limit) s
     invoke-spent some e = by s.cells refl
@@ -63,28 +58,12 @@ module _ (plan : Plan) (t : Template) (s : State) where
             (let z : nat_eq s.left 0 ≡ true = grind (arith, nat_tests) in z)
 
     pub invoke-goes : (c : Cell) (cs : List Cell) → s.cells ≡ c ∷ cs → s.left ≢ 0
-        → done plan t (code.invoke number) s ≡ goes (record s {
-          cells = fresh c.val ∷ cell nothing (s.place + 1) ∷ cell s.dot s.template ∷ cs;
-          dot =
-              c.val;
-          left = s.left - 1;
-          template = number;
-          depth = s.depth + 1;
-          place = start;
-        })
+        → done plan t (code.invoke number) s ≡ goes (record (entered number start c.val cs s) { left = s.left - 1; depth = s.depth + 1 })
     invoke-goes c cs is some =
         let one : suc s.depth ≡ s.depth + 1 = omega arith in
         invoke-by c cs false (ap (λ l. top l (λ c cs. invoked plan t number (slice_get plan.starts number) c cs s)) is)
         (let z : nat_eq s.left 0 ≡ false = grind (arith, nat_tests) in z)
-        ∙ ap (λ d. goes (record s {
-          cells = fresh c.val ∷ cell nothing (s.place + 1) ∷ cell s.dot s.template ∷ cs;
-          dot = c.val;
-          left = s.left - 1;
-          template =
-              number;
-          depth = d;
-          place = start;
-        })) one
+        ∙ ap (λ d. goes (record (entered number start c.val cs s) { left = s.left - 1; depth = d })) one
 
   -- ---- the end of a template
   pub return-ends : (n : ℕ) → s.depth ≤ 1 → done plan t (code.return_from n) s ≡ ended (ran_so s None)

@@ -7,12 +7,12 @@ pub mod SlotLemmas
 pub mod WayLemmas
 pub mod HeaderLemmas
 pub mod StepLemmas
-pub mod NestedLemmas
 pub mod NodeLemmas
 pub mod QuietLemmas
 pub mod RangeLemmas
 pub mod CallLemmas
 pub mod TreeLemmas
+pub mod FoundLemmas
 pub mod MoveLemmas
 pub mod RoomLemmas
 pub mod LoopLemmas

@@ -1,9 +1,8 @@
 -- For the laws `each_turn_lessens`, `only_adds`, `mark_stays` and `one_end`: what each instruction does to steps, depth, place, text and mark.
 use Rattle.std.proofs.lemmas.Bool.Decides.{nat_tests}
-use Rattle.std.proofs.Common.{arith, ◌≢◌, inl, inr, ◌<◌, ◌≤◌, ◌-◌, ◌≡◌, ◌∙◌, ◌+◌, ◌++◌, nat_eq, nat_lt, ℕ, zero, suc, Bool, true, false}
+use Rattle.std.proofs.Common.{arith, ◌≢◌, inl, inr, ◌<◌, ◌≤◌, ◌-◌, ◌≡◌, ◌∙◌, ◌++◌, nat_eq, nat_lt, ℕ, zero, suc, Bool, true, false}
 use Rattle.std.proofs.Common.{List, [], ◌∷◌, drop, refl, ap, sym, subst, Option, Some, None, append-nil, append_assoc}
 use Rattle.std.specs.Prelude.{slice_get}
-use Rattle.tmpl_values.specs.Value.{nothing}
 use Rattle.tmpl_values.specs.Elements.{Element}
 use Rattle.tmpl_values.specs.Text.{text_of}
 use Rattle.tmpl_values.specs.Truth.{truth}
@@ -11,13 +10,14 @@ use Rattle.tmpl_syntax.specs.Set.{Template}
 use Rattle.tmpl_meaning.specs.Meaning.{Ran}
 use Rattle.tmpl_code.specs.Instruction as code
 use Rattle.tmpl_code.specs.Instruction.{Instruction}
-use Rattle.tmpl_run.specs.Cell.{Cell, cell, fresh}
+use Rattle.tmpl_run.specs.Cell.{Cell}
 use Rattle.tmpl_run.specs.State.{Plan, State}
 use Rattle.tmpl_run.specs.Step.{Went, halted, lacks, made_by, on, step}
-use Rattle.tmpl_run.specs.Machine.{Turn, again, branch, deepened, done, done_in, elements_for, ended, frame, goes, invoked, left_in}
-use Rattle.tmpl_run.specs.Machine.{next_of, onto, opened, paid_if, piped, returned_if, ring, stuck, top, turned, with_dot}
+use Rattle.tmpl_run.specs.Machine.{Turn, again, branch, deepened, done, done_in, elements_for, ended, goes, invoked, left_in}
+use Rattle.tmpl_run.specs.Machine.{next_of, opened, piped, returned_if, stuck, turned, with_dot}
 use Rattle.tmpl_run.specs.Ends.{Comes, Ends, Leads}
 use Rattle.tmpl_run.specs.Laws.{Begins, Lessens, mark_behind}
+use Rattle.tmpl_run.proofs.FoundLemmas.{frame-holds, paid-holds, ring-holds, top-holds}
 
 begins-same : (a : List ℕ) → Begins a a
 begins-same a = ([], sym (append-nil a))
@@ -31,34 +31,12 @@ Moves s (goes t) = Lessens s t × Begins s.text t.text × (t.depth ≤ suc s.dep
 Moves s (ended r) = Begins s.text r.text
 Moves s stuck = Unit {0}
 
-top-moves : (s : State) (cs : List Cell) (go : Cell → List Cell → Turn) → ((c : Cell) (cs : List Cell) → Moves s (go c cs)) → Moves s (top cs go)
-top-moves s [] go h = tt
-top-moves s (c ∷ cs) go h = h c cs
-
-ring-moves : (s : State) (cs : List Cell) (go : Cell → Cell → List Cell → Turn) → ((c d : Cell) (cs : List Cell) → Moves s (go c d cs)) → Moves s (ring cs go)
-ring-moves s [] go h = tt
-ring-moves s (c ∷ []) go h = tt
-ring-moves s (c ∷ d ∷ cs) go h = h c d cs
-
-frame-moves : (s : State) (cs : List Cell) (go : Cell → Cell → List Cell → Turn) → ((c d : Cell) (cs : List Cell) → Moves s (go c d cs)) → Moves s (frame cs go)
-frame-moves s [] go h = tt
-frame-moves s (c ∷ []) go h = tt
-frame-moves s (c ∷ d ∷ []) go h = tt
-frame-moves s (c ∷ d ∷ e ∷ cs) go h = h d e cs
-
 module _ (plan : Plan) (me : Template) (s : State) where
   fewer : nat_eq s.left 0 ≡ false → s.left - 1 < s.left
   fewer e = let some : s.left ≢ 0 = (λ z. absurd (grind arith)) in omega arith
 
   same : Begins s.text s.text
   same = begins-same s.text
-
-  paid-moves : (line : ℕ) (cs : State → List Cell) (place : State → ℕ) → Moves s (paid_if (nat_eq s.left 0) plan me line s (λ s. onto (cs s) (place s) s))
-  paid-moves line cs place = by (nat_eq s.left 0) refl
-    where
-      by : (b : Bool) → nat_eq s.left 0 ≡ b → Moves s (paid_if b plan me line s (λ s. onto (cs s) (place s) s))
-      by true e = same
-      by false e = (inl (fewer e), same, omega arith)
 
   piped-moves : (o : code.Operation) (w : Went) → Moves s (piped me o w s)
   piped-moves o (on skip cs) = (inr (refl, inr (refl, omega arith)), same, omega arith)
@@ -76,14 +54,7 @@ module _ (plan : Plan) (me : Template) (s : State) where
   opened-moves : (skip : ℕ) (c : Cell) (cs : List Cell) (o : Option (List Element)) → Moves s (opened plan me skip c cs o s)
   opened-moves skip c cs None = same
   opened-moves skip c cs (Some []) = (inr (refl, inr (refl, omega arith)), same, omega arith)
-  opened-moves skip c cs (Some (e ∷ es)) = by (nat_eq s.left 0) refl
-    where
-      opens : State → Turn
-      opens t = goes (record t { cells = cell t.dot (t.place + 1) ∷ fresh c.val ∷ cs; dot = nothing; place = t.place + 1 })
-
-      by : (b : Bool) → nat_eq s.left 0 ≡ b → Moves s (paid_if b plan me s.line s opens)
-      by true e = same
-      by false e = (inl (fewer e), same, omega arith)
+  opened-moves skip c cs (Some (e ∷ es)) = paid-holds (Moves s) plan me s.line s _ same (λ e. (inl (fewer e), same, omega arith))
 
   turned-moves : (n : ℕ) (es : List Element) → Moves s (turned n es s)
   turned-moves n [] = tt
@@ -91,7 +62,7 @@ module _ (plan : Plan) (me : Template) (s : State) where
 
   again-moves : (skip line : ℕ) (d v : Cell) (cs : List Cell) (es : List Element) → Moves s (again plan me skip line d v cs es s)
   again-moves skip line d v cs [] = (inr (refl, inr (refl, omega arith)), same, omega arith)
-  again-moves skip line d v cs (e ∷ es) = paid-moves line (λ s. d ∷ cell v.val (suc v.num) ∷ cs) (λ s. d.num)
+  again-moves skip line d v cs (e ∷ es) = paid-holds (Moves s) plan me line s _ same (λ e. (inl (fewer e), same, omega arith))
 
   deepened-moves : (b c : Bool) (line : ℕ) → Moves s (deepened b c plan me line s)
   deepened-moves true c line = same
@@ -100,45 +71,31 @@ module _ (plan : Plan) (me : Template) (s : State) where
 
   invoked-moves : (number : ℕ) (o : Option ℕ) (c : Cell) (cs : List Cell) → Moves s (invoked plan me number o c cs s)
   invoked-moves number None c cs = tt
-  invoked-moves number (Some start) c cs = by (nat_eq s.left 0) refl
-    where
-      enters : State → Turn
-      enters t = goes (record t {
-        cells = fresh c.val ∷ cell nothing (t.place + 1) ∷ cell t.dot t.template ∷ cs;
-        dot = c.val;
-        template = number;
-        depth =
-            suc t.depth;
-        place = start;
-      })
-
-      by : (b : Bool) → nat_eq s.left 0 ≡ b → Moves s (paid_if b plan me s.line s enters)
-      by true e = same
-      by false e = (inl (fewer e), same, omega arith)
+  invoked-moves number (Some start) c cs = paid-holds (Moves s) plan me s.line s _ same (λ e. (inl (fewer e), same, omega arith))
 
   returned-moves : (b : Bool) (cs : List Cell) → nat_lt 1 s.depth ≡ b → Moves s (returned_if b cs s)
   returned-moves false cs e = same
   returned-moves true cs e =
-      frame-moves s cs _ (λ back saved cs. (inr (refl, inl (let deep : 1 < s.depth = grind (arith, nat_tests) in omega arith)), same, omega arith))
+      frame-holds (Moves s) tt cs _ (λ back saved ds h. (inr (refl, inl (let deep : 1 < s.depth = grind (arith, nat_tests) in omega arith)), same, omega arith))
 
   moves : (i : Instruction) → Moves s (done plan me i s)
-  moves (code.spend line) = paid-moves line (λ s. s.cells) (λ s. s.place + 1)
+  moves (code.spend line) = paid-holds (Moves s) plan me line s _ same (λ e. (inl (fewer e), same, omega arith))
   moves (code.put bytes) = (inr (refl, inr (refl, omega arith)), (bytes, refl), omega arith)
   moves (code.act o) = piped-moves o (step (record { missing_key = plan.rules.missing_key; dot = s.dot; env = [] }) o s.cells)
-  moves code.show = top-moves s s.cells _ (λ c cs. (inr (refl, inr (refl, omega arith)), (text_of c.val, refl), omega arith))
-  moves (code.hold key) = top-moves s s.cells _ (λ c cs. (inr (refl, inr (refl, omega arith)), same, omega arith))
-  moves (code.set slot) = top-moves s s.cells _ (λ c cs. (inr (refl, inr (refl, omega arith)), same, omega arith))
+  moves code.show = top-holds (Moves s) tt s.cells _ (λ c cs h. (inr (refl, inr (refl, omega arith)), (text_of c.val, refl), omega arith))
+  moves (code.hold key) = top-holds (Moves s) tt s.cells _ (λ c cs h. (inr (refl, inr (refl, omega arith)), same, omega arith))
+  moves (code.set slot) = top-holds (Moves s) tt s.cells _ (λ c cs h. (inr (refl, inr (refl, omega arith)), same, omega arith))
   moves (code.set_dot slot) = (inr (refl, inr (refl, omega arith)), same, omega arith)
-  moves (code.unless kept skip) = top-moves s s.cells _ (λ c cs. branch-moves (truth c.val) kept skip c cs)
-  moves (code.enter_with kept skip) = top-moves s s.cells _ (λ c cs. with-moves (truth c.val) kept skip c cs)
-  moves (code.end_with n variables skip) = top-moves s (drop n s.cells) _ (λ c cs. (inr (refl, inr (refl, omega arith)), same, omega arith))
+  moves (code.unless kept skip) = top-holds (Moves s) tt s.cells _ (λ c cs h. branch-moves (truth c.val) kept skip c cs)
+  moves (code.enter_with kept skip) = top-holds (Moves s) tt s.cells _ (λ c cs h. with-moves (truth c.val) kept skip c cs)
+  moves (code.end_with n variables skip) = top-holds (Moves s) tt (drop n s.cells) _ (λ c cs h. (inr (refl, inr (refl, omega arith)), same, omega arith))
   moves (code.cut n skip) = (inr (refl, inr (refl, omega arith)), same, omega arith)
-  moves (code.enter key skip) = top-moves s s.cells _ (λ c cs. opened-moves skip c cs (elements_for key c.val))
-  moves (code.turn n) = ring-moves s s.cells _ (λ d v cs. turned-moves n (left_in v))
-  moves (code.next n skip line) = ring-moves s (drop n s.cells) _ (λ d v cs. again-moves skip line d v cs (drop 1 (left_in v)))
-  moves (code.leave n skip) = ring-moves s (drop n s.cells) _ (λ d v cs. (inr (refl, inr (refl, omega arith)), same, omega arith))
+  moves (code.enter key skip) = top-holds (Moves s) tt s.cells _ (λ c cs h. opened-moves skip c cs (elements_for key c.val))
+  moves (code.turn n) = ring-holds (Moves s) tt s.cells _ (λ d v cs h. turned-moves n (left_in v))
+  moves (code.next n skip line) = ring-holds (Moves s) tt (drop n s.cells) _ (λ d v cs h. again-moves skip line d v cs (drop 1 (left_in v)))
+  moves (code.leave n skip) = ring-holds (Moves s) tt (drop n s.cells) _ (λ d v cs h. (inr (refl, inr (refl, omega arith)), same, omega arith))
   moves (code.deepen line) = deepened-moves (nat_eq s.left 0) (nat_lt s.depth plan.rules.depth_limit) line
-  moves (code.invoke number) = top-moves s s.cells _ (λ c cs. invoked-moves number (slice_get plan.starts number) c cs)
+  moves (code.invoke number) = top-holds (Moves s) tt s.cells _ (λ c cs h. invoked-moves number (slice_get plan.starts number) c cs)
   moves (code.return_from n) = returned-moves (nat_lt 1 s.depth) (drop n s.cells) refl
 
 next-moves : (plan : Plan) (s : State) → Moves s (next_of plan s)
@@ -190,27 +147,7 @@ Marks b (goes t) = t.made_text ≡ b
 Marks b (ended r) = r.made_text ≡ b
 Marks b stuck = Unit {0}
 
-top-marks : (b : Bool) (cs : List Cell) (go : Cell → List Cell → Turn) → ((c : Cell) (cs : List Cell) → Marks b (go c cs)) → Marks b (top cs go)
-top-marks b [] go h = tt
-top-marks b (c ∷ cs) go h = h c cs
-
-ring-marks : (b : Bool) (cs : List Cell) (go : Cell → Cell → List Cell → Turn) → ((c d : Cell) (cs : List Cell) → Marks b (go c d cs)) → Marks b (ring cs go)
-ring-marks b [] go h = tt
-ring-marks b (c ∷ []) go h = tt
-ring-marks b (c ∷ d ∷ cs) go h = h c d cs
-
-frame-marks : (b : Bool) (cs : List Cell) (go : Cell → Cell → List Cell → Turn) → ((c d : Cell) (cs : List Cell) → Marks b (go c d cs)) → Marks b (frame cs go)
-frame-marks b [] go h = tt
-frame-marks b (c ∷ []) go h = tt
-frame-marks b (c ∷ d ∷ []) go h = tt
-frame-marks b (c ∷ d ∷ e ∷ cs) go h = h d e cs
-
 module _ (plan : Plan) (me : Template) (s : State) where
-  paid-marks : (b : Bool) (line : ℕ) (go : State → Turn) → Marks s.made_text (go (record s { left = s.left - 1; line = line }))
-      → Marks s.made_text (paid_if b plan me line s go)
-  paid-marks true line go h = refl
-  paid-marks false line go h = h
-
   piped-marks : (o : code.Operation) (w : Went) → Marks (made_by o s.made_text) (piped me o w s)
   piped-marks o (on skip cs) = refl
   piped-marks o (halted cause) = refl
@@ -227,7 +164,7 @@ module _ (plan : Plan) (me : Template) (s : State) where
   opened-marks : (skip : ℕ) (c : Cell) (cs : List Cell) (o : Option (List Element)) → Marks s.made_text (opened plan me skip c cs o s)
   opened-marks skip c cs None = refl
   opened-marks skip c cs (Some []) = refl
-  opened-marks skip c cs (Some (e ∷ es)) = paid-marks (nat_eq s.left 0) s.line _ refl
+  opened-marks skip c cs (Some (e ∷ es)) = paid-holds (Marks s.made_text) plan me s.line s _ refl (λ e. refl)
 
   turned-marks : (n : ℕ) (es : List Element) → Marks s.made_text (turned n es s)
   turned-marks n [] = tt
@@ -235,7 +172,7 @@ module _ (plan : Plan) (me : Template) (s : State) where
 
   again-marks : (skip line : ℕ) (d v : Cell) (cs : List Cell) (es : List Element) → Marks s.made_text (again plan me skip line d v cs es s)
   again-marks skip line d v cs [] = refl
-  again-marks skip line d v cs (e ∷ es) = paid-marks (nat_eq s.left 0) line _ refl
+  again-marks skip line d v cs (e ∷ es) = paid-holds (Marks s.made_text) plan me line s _ refl (λ e. refl)
 
   deepened-marks : (b c : Bool) (line : ℕ) → Marks s.made_text (deepened b c plan me line s)
   deepened-marks true c line = refl
@@ -244,30 +181,30 @@ module _ (plan : Plan) (me : Template) (s : State) where
 
   invoked-marks : (number : ℕ) (o : Option ℕ) (c : Cell) (cs : List Cell) → Marks s.made_text (invoked plan me number o c cs s)
   invoked-marks number None c cs = tt
-  invoked-marks number (Some start) c cs = paid-marks (nat_eq s.left 0) s.line _ refl
+  invoked-marks number (Some start) c cs = paid-holds (Marks s.made_text) plan me s.line s _ refl (λ e. refl)
 
   returned-marks : (b : Bool) (cs : List Cell) → Marks s.made_text (returned_if b cs s)
   returned-marks false cs = refl
-  returned-marks true cs = frame-marks s.made_text cs _ (λ back saved cs. refl)
+  returned-marks true cs = frame-holds (Marks s.made_text) tt cs _ (λ back saved ds h. refl)
 
   marks : (i : Instruction) → Marks (mark_behind i s.made_text) (done plan me i s)
-  marks (code.spend line) = paid-marks (nat_eq s.left 0) line _ refl
+  marks (code.spend line) = paid-holds (Marks s.made_text) plan me line s _ refl (λ e. refl)
   marks (code.put bytes) = refl
   marks (code.act o) = piped-marks o (step (record { missing_key = plan.rules.missing_key; dot = s.dot; env = [] }) o s.cells)
-  marks code.show = top-marks s.made_text s.cells _ (λ c cs. refl)
-  marks (code.hold key) = top-marks s.made_text s.cells _ (λ c cs. refl)
-  marks (code.set slot) = top-marks s.made_text s.cells _ (λ c cs. refl)
+  marks code.show = top-holds (Marks s.made_text) tt s.cells _ (λ c cs h. refl)
+  marks (code.hold key) = top-holds (Marks s.made_text) tt s.cells _ (λ c cs h. refl)
+  marks (code.set slot) = top-holds (Marks s.made_text) tt s.cells _ (λ c cs h. refl)
   marks (code.set_dot slot) = refl
-  marks (code.unless kept skip) = top-marks s.made_text s.cells _ (λ c cs. branch-marks (truth c.val) kept skip c cs)
-  marks (code.enter_with kept skip) = top-marks s.made_text s.cells _ (λ c cs. with-marks (truth c.val) kept skip c cs)
-  marks (code.end_with n variables skip) = top-marks s.made_text (drop n s.cells) _ (λ c cs. refl)
+  marks (code.unless kept skip) = top-holds (Marks s.made_text) tt s.cells _ (λ c cs h. branch-marks (truth c.val) kept skip c cs)
+  marks (code.enter_with kept skip) = top-holds (Marks s.made_text) tt s.cells _ (λ c cs h. with-marks (truth c.val) kept skip c cs)
+  marks (code.end_with n variables skip) = top-holds (Marks s.made_text) tt (drop n s.cells) _ (λ c cs h. refl)
   marks (code.cut n skip) = refl
-  marks (code.enter key skip) = top-marks s.made_text s.cells _ (λ c cs. opened-marks skip c cs (elements_for key c.val))
-  marks (code.turn n) = ring-marks s.made_text s.cells _ (λ d v cs. turned-marks n (left_in v))
-  marks (code.next n skip line) = ring-marks s.made_text (drop n s.cells) _ (λ d v cs. again-marks skip line d v cs (drop 1 (left_in v)))
-  marks (code.leave n skip) = ring-marks s.made_text (drop n s.cells) _ (λ d v cs. refl)
+  marks (code.enter key skip) = top-holds (Marks s.made_text) tt s.cells _ (λ c cs h. opened-marks skip c cs (elements_for key c.val))
+  marks (code.turn n) = ring-holds (Marks s.made_text) tt s.cells _ (λ d v cs h. turned-marks n (left_in v))
+  marks (code.next n skip line) = ring-holds (Marks s.made_text) tt (drop n s.cells) _ (λ d v cs h. again-marks skip line d v cs (drop 1 (left_in v)))
+  marks (code.leave n skip) = ring-holds (Marks s.made_text) tt (drop n s.cells) _ (λ d v cs h. refl)
   marks (code.deepen line) = deepened-marks (nat_eq s.left 0) (nat_lt s.depth plan.rules.depth_limit) line
-  marks (code.invoke number) = top-marks s.made_text s.cells _ (λ c cs. invoked-marks number (slice_get plan.starts number) c cs)
+  marks (code.invoke number) = top-holds (Marks s.made_text) tt s.cells _ (λ c cs h. invoked-marks number (slice_get plan.starts number) c cs)
   marks (code.return_from n) = returned-marks (nat_lt 1 s.depth) (drop n s.cells)
 
 made-on : (o : code.Operation) → made_by o true ≡ true

@@ -163,6 +163,20 @@ module _ (way : Way) (calls : Calls) (spare : ℕ) (pipes : Pipelines way) where
       goal : Run → Type 0
       goal = ways.Onward way l.0 (all_grown ns (bound_on b lay)) (all_grown_in ns (bound_in b fr)) t.dot
 
+  -- .. and with its variables made
+  bound-leads : (ns : Nodes) → NodesLead ns → (b : Binding) (g : Option Ring) (lay : Layout) (fr : Frame) (first more rest : Code) (to place : ℕ) (s : State)
+      (v : Value) (cs : List Cell) (m : Bool)
+      → Ended (declared_count b + declared_in ns) to (NodesAt way.plan.templates ns (bound_on b lay) (exit_of g)) first more → drop to more ≡ rest
+      → Inside way.home g lay fr → length fr + (declared_count b + need_of_nodes ns) + spare ≤ way.room
+      → ways.who_of s ≡ way.who → drop place way.plan.code ≡ first → frame_of lay cs ≡ fr → length lay ≤ length cs
+      → env_of lay cs ≡ written b v (env_of lay s.cells)
+      → ways.After way (λ r. ways.Onward way rest lay fr s.dot (cut_to (named lay) r)) g
+      (meanings (ways.setting way calls) ns s.dot (with_bound b (alone v) (run_at lay m s)))
+      → ways.Leading way (record (headed b v cs m place s) { cells = kept_on (declares b) (fresh v) (under b cs) })
+  bound-leads ns ih b g lay fr first more rest to place s v cs m l far inside fits same at frame deep env k =
+      part-leads ns ih b g lay fr first more rest to s.dot (with_bound b (alone v) (run_at lay m s)) _ l far inside fits
+      (record { at = at; runs = same; frame = bound-frame b lay fr v cs frame; deep = bound-deep b lay v cs deep }) refl (bound-env b lay v cs s m env) k
+
   -- ---- `if`
 
   pub if-leads : (line : ℕ) (h : Header) (body other : Nodes) → NodesLead body → NodesLead other → NodeLeads line (tree.control_node control.If h body other)
@@ -193,26 +207,11 @@ module _ (way : Way) (calls : Calls) (spare : ℕ) (pipes : Pipelines way) where
           (with_bound h.binding (alone v) (run_at lay m s)))
           → Comes (ways.Leading way) (branch c (declares h.binding) l.2.2 (fresh v) (under h.binding cs) (headed h.binding v cs m place s)) way.end
       by v cs m place at frame deep env true k =
-          part-leads body ih-body h.binding g lay fr l.2.0 l.2.1 rest l.2.3 s.dot (with_bound h.binding (alone v) (run_at lay m s)) _ l.2.5 l.2.8 inside
-          (omega arith)
-          (record {
-            at = ahead-one way.plan.code l.2.0 place (code.unless (declares h.binding) l.2.2) at;
-            runs = st.runs;
-            frame =
-                bound-frame h.binding lay fr v cs frame;
-            deep = bound-deep h.binding lay v cs deep;
-          }) refl (bound-env h.binding lay v cs s m env) k
+          bound-leads body ih-body h.binding g lay fr l.2.0 l.2.1 rest l.2.3 (place + 1) s v cs m l.2.5 l.2.8 inside (omega arith) st.runs
+          (ahead-one way.plan.code l.2.0 place (code.unless (declares h.binding) l.2.2) at) frame deep env k
       by v cs m place at frame deep env false k =
-          part-leads other ih-other h.binding g lay fr l.2.1 rest rest 0 s.dot (with_bound h.binding (alone v) (run_at lay m s)) _ l.2.6 refl inside
-          (omega arith)
-          (record {
-            at = ahead way.plan.code l.2.0 place l.2.2 (code.unless (declares h.binding) l.2.2) at
-                ∙ l.2.7;
-            runs = st.runs;
-            frame = bound-frame h.binding lay fr v cs frame;
-            deep = bound-deep h.binding lay v cs deep;
-          }) refl
-          (bound-env h.binding lay v cs s m env) k
+          bound-leads other ih-other h.binding g lay fr l.2.1 rest rest 0 (place + 1 + l.2.2) s v cs m l.2.6 refl inside (omega arith) st.runs
+          (ahead way.plan.code l.2.0 place l.2.2 (code.unless (declares h.binding) l.2.2) at ∙ l.2.7) frame deep env k
 
   -- ---- `with`
 
@@ -308,13 +307,5 @@ module _ (way : Way) (calls : Calls) (spare : ℕ) (pipes : Pipelines way) where
           goal = ways.Onward way (code.end_with (declared_in body) (declared_count h.binding) l.2.3 ∷ l.2.1) (all_grown body (None ∷ bound_on h.binding lay))
               (all_grown_in body (Some (fresh s.dot) ∷ bound_in h.binding fr)) v
       by v cs m place at frame deep env false k =
-          part-leads other ih-other h.binding g lay fr l.2.1 rest rest 0 s.dot (with_bound h.binding (alone v) (run_at lay m s)) _ l.2.6 refl inside
-          (omega arith)
-          (record {
-            at = ahead way.plan.code l.2.0 place l.2.2 (code.enter_with (declares h.binding) l.2.2) at
-                ∙ l.2.7;
-            runs = st.runs;
-            frame = bound-frame h.binding lay fr v cs frame;
-            deep = bound-deep h.binding lay v cs deep;
-          }) refl
-          (bound-env h.binding lay v cs s m env) k
+          bound-leads other ih-other h.binding g lay fr l.2.1 rest rest 0 (place + 1 + l.2.2) s v cs m l.2.6 refl inside (omega arith) st.runs
+          (ahead way.plan.code l.2.0 place l.2.2 (code.enter_with (declares h.binding) l.2.2) at ∙ l.2.7) frame deep env k

@@ -1,16 +1,16 @@
 -- For all that put to a piece: what a sink took and what waits, put together, and the texts of values in parts.
-use Rattle.std.proofs.Common.{◌≡◌, ◌∙◌, ℕ, List, [], ◌++◌, take, drop, add-zero, Option, Some, None, Result, Ok, Err, refl, sym, subst, ap}
+use Rattle.std.proofs.Common.{arith, lt_of_not-le, ◌≡◌, ◌∙◌, ◌+◌, ◌*◌, ◌≤◌, ◌<◌, ℕ, List, [], ◌++◌, take, drop, add-zero, Option, Some, None, Result, Ok, Err, refl, sym, subst, ap}
 use Rattle.std.proofs.Common.{append_assoc, append-nil}
-use Rattle.std.specs.Result.{IsErr}
 use Rattle.std.proofs.lemmas.List.{take-append-drop}
+use Rattle.std.proofs.lemmas.Nat.{mul-le}
 use Rattle.tmpl_values.specs.Item.{bytes_of}
 use Rattle.tmpl_values.specs.Put.{Puts, Took, appended}
 use Rattle.tmpl_values.specs.Text.{text_of}
 use Rattle.tmpl_values.specs.Value.{Value, string}
 use Rattle.tmpl_meaning.specs.Sink.{IsPut, Told, as_puts, with_bytes}
-use Rattle.tmpl_values.proofs.PutLemmas.{IsPut-append, IsPut-nil, IsPut-stop, appended-append, appended-nil}
+use Rattle.tmpl_values.proofs.PutLemmas.{IsPut-nil, appended-append, appended-nil}
 use Rattle.tmpl_meaning.specs.declared.sink.SinkFault.{SinkFault}
-use Rattle.tmpl_run.specs.computed.Output.{Grows, Passes, given_of}
+use Rattle.tmpl_run.specs.computed.Output.{Grew, Grows, both, given_of, told_since}
 use Rattle.tmpl_run.specs.declared.piece.Piece.{Piece}
 
 pub grows-same : (a : Told) → Grows a a
@@ -74,15 +74,27 @@ module _ {S : Type 0} (so_far : S → Told) (old new : S) (p q : Piece) (same : 
   pub quiet-grows : Grows (so_far old) (so_far new)
   quiet-grows = subst (λ o. Grows (so_far old) (so_far o)) (sym same) (grows-same (so_far old))
 
--- ---- texts through a piece
+-- ---- a piece and a sink as one that takes bytes
 
-pub passes-append : {r : Result (Unit {0}) SinkFault} {a b c : Told} {p q w : Piece} {s t : List ℕ} → Passes (Ok tt) a p b q s → Passes r b q c w t
-    → Passes r a p c w (s ++ t)
-passes-append {r} {a} {b} {c} first second = record { given = IsPut-append first.given second.given; taken = grows-on a b c first.taken second.taken }
+pub grows-by : (a b c : Told) → a ≡ c → Grew c b → Grows a b
+grows-by a b c e h = subst (λ (t : Told). Grows t b) (sym e) (told_since c.bytes b.bytes, h)
 
-pub passes-stop : {r : Result (Unit {0}) SinkFault} {a b : Told} {p q : Piece} {s : List ℕ} {e : SinkFault} (t : List ℕ) → IsErr r → Passes (Err e) a p b q s
-    → Passes r a p b q (s ++ t)
-passes-stop t err h = record { given = IsPut-stop t err h.given; taken = h.taken }
+-- a square and no more than its root are below the next square
+root-le : (s t a b : ℕ) → b ≤ t → s * s + a ≡ t * t + b → s ≤ t
+root-le s t a b within e =
+    let less : s < t + 1 = lt_of_not-le (λ (above : t + 1 ≤ s). absurd (omega (arith, mul-le (t + 1) (t + 1) s s above above, e, within))) in
+    omega (arith, less)
 
-pub passes-along : {r : Result (Unit {0}) SinkFault} {a b : Told} {p q : Piece} {s t : List ℕ} → Passes r a p b q s → s ≡ t → Passes r a p b q t
-passes-along {r} {a} {b} {p} {q} h e = subst (Passes r a p b q) e h
+pub both-one : (a b c d : ℕ) → both a b ≡ both c d → (a ≡ c) × (b ≡ d)
+both-one a b c d e =
+    let sums : a + b ≡ c + d = omega (arith, root-le (a + b) (c + d) b d (omega arith) e, root-le (c + d) (a + b) d b (omega arith) (sym e)) in
+    let squares : (a + b) * (a + b) ≡ (c + d) * (c + d) = ap (λ n. n * n) sums in
+    let same : b ≡ d = omega (arith, squares, e) in
+    (omega (arith, sums, same), same)
+
+-- what was put through two references is what stands behind them at their ends
+pub put-back : {F : Type 0} (r : Result (Unit {0}) F) (old now told : Told) (p q kept : Piece) (m n : ℕ) (text : List ℕ) → told ≡ now → kept ≡ q
+    → IsPut r (record (given_of old p) { through = m }) (record (given_of now q) { through = n }) text → IsPut r (given_of old p) (given_of told kept) text
+put-back r old now told p q kept m n text told-is kept-is h =
+    subst (λ (t : Told). IsPut r (given_of old p) (given_of t kept) text) (sym told-is)
+    (subst (λ (w : Piece). IsPut r (given_of old p) (given_of now w) text) (sym kept-is) (record { count = h.count; bytes = h.bytes; through = refl }))

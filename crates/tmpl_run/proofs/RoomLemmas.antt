@@ -1,9 +1,9 @@
 -- For the law `stays_within`: the cells stay within the room that there is for them.
 use Rattle.std.proofs.Common.{arith, ◌≡◌, ◌+◌, ◌-◌, ◌≤◌, ◌<◌, nat_eq, nat_lt, ℕ, zero, suc, Bool, true, false, List, [], ◌∷◌, ◌++◌, length}
-use Rattle.std.proofs.Common.{take, drop, reverse, refl, subst, Option, Some, None, Result, Ok, Err, length-drop}
+use Rattle.std.proofs.Common.{take, drop, reverse, subst, Option, Some, None, Result, Ok, Err, length-drop}
 use Rattle.std.specs.Prelude.{slice_get}
 use Rattle.std.proofs.lemmas.List.{length-set}
-use Rattle.tmpl_values.specs.Value.{Value, nothing}
+use Rattle.tmpl_values.specs.Value.{Value}
 use Rattle.tmpl_values.specs.Elements.{Element}
 use Rattle.tmpl_values.specs.Truth.{truth}
 use Rattle.tmpl_funcs.specs.Dispatch.{called}
@@ -15,13 +15,14 @@ use Rattle.tmpl_meaning.specs.Meaning.{Ran}
 use Rattle.tmpl_code.specs.Code.{piped_count}
 use Rattle.tmpl_code.specs.Instruction as code
 use Rattle.tmpl_code.specs.Instruction.{Instruction, Operation}
-use Rattle.tmpl_run.specs.Cell.{Cell, cell, fresh, values_in}
+use Rattle.tmpl_run.specs.Cell.{Cell, fresh, values_in}
 use Rattle.tmpl_run.specs.State.{Plan, State}
 use Rattle.tmpl_run.specs.Step.{Went, called_on, decided_by, halted, lacks, on, pushed, step}
-use Rattle.tmpl_run.specs.Machine.{Turn, again, branch, deepened, done, done_in, elements_for, ended, frame, goes, held, invoked, kept_on}
-use Rattle.tmpl_run.specs.Machine.{left_in, next_of, onto, opened, paid_if, piped, returned_if, ring, stuck, top, turned, with_dot}
+use Rattle.tmpl_run.specs.Machine.{Turn, again, branch, deepened, done, done_in, elements_for, ended, goes, held, invoked, kept_on}
+use Rattle.tmpl_run.specs.Machine.{left_in, next_of, opened, piped, returned_if, stuck, turned, with_dot}
 use Rattle.tmpl_run.specs.Ready.{Fits, Has, RoomIf}
 use Rattle.tmpl_run.specs.Ends.{Ends, IsReady, Leads}
+use Rattle.tmpl_run.proofs.FoundLemmas.{frame-holds, paid-holds, ring-holds, top-holds}
 
 module _ (size : ℕ) where
   abbrev WentWithin : Went → Type 0
@@ -69,33 +70,7 @@ module _ (size : ℕ) where
   Within (ended r) = Unit {0}
   Within stuck = Unit {0}
 
-  top-within : (cs : List Cell) (go : Cell → List Cell → Turn) → ((c : Cell) (ds : List Cell) → length cs ≡ suc (length ds) → Within (go c ds))
-      → Within (top cs go)
-  top-within [] go h = tt
-  top-within (c ∷ cs) go h = h c cs refl
-
-  ring-within : (cs : List Cell) (go : Cell → Cell → List Cell → Turn)
-      → ((c d : Cell) (ds : List Cell) → length cs ≡ suc (suc (length ds)) → Within (go c d ds)) → Within (ring cs go)
-  ring-within [] go h = tt
-  ring-within (c ∷ []) go h = tt
-  ring-within (c ∷ d ∷ cs) go h = h c d cs refl
-
-  frame-within : (cs : List Cell) (go : Cell → Cell → List Cell → Turn) → ((c d : Cell) (ds : List Cell) → length ds ≤ length cs → Within (go c d ds))
-      → Within (frame cs go)
-  frame-within [] go h = tt
-  frame-within (c ∷ []) go h = tt
-  frame-within (c ∷ d ∷ []) go h = tt
-  frame-within (c ∷ d ∷ e ∷ cs) go h = h d e cs (omega arith)
-
   module _ (plan : Plan) (me : Template) (s : State) (within : length s.cells ≤ size) where
-    paid-within : (line : ℕ) (cs : State → List Cell) (place : State → ℕ) → ((t : State) → length (cs t) ≤ size)
-        → Within (paid_if (nat_eq s.left 0) plan me line s (λ s. onto (cs s) (place s) s))
-    paid-within line cs place h = by (nat_eq s.left 0)
-      where
-        by : (b : Bool) → Within (paid_if b plan me line s (λ s. onto (cs s) (place s) s))
-        by true = tt
-        by false = h (record s { left = s.left - 1; line = line })
-
     piped-within : (o : Operation) (w : Went) → WentWithin w → Within (piped me o w s)
     piped-within o (on skip cs) h = h
     piped-within o (halted cause) h = tt
@@ -123,14 +98,7 @@ module _ (size : ℕ) where
         → Within (opened plan me skip c cs o s)
     opened-within skip c cs None e h = tt
     opened-within skip c cs (Some []) e h = omega arith
-    opened-within skip c cs (Some (x ∷ xs)) e h = by (nat_eq s.left 0)
-      where
-        opens : State → Turn
-        opens t = goes (record t { cells = cell t.dot (t.place + 1) ∷ fresh c.val ∷ cs; dot = nothing; place = t.place + 1 })
-
-        by : (b : Bool) → Within (paid_if b plan me s.line s opens)
-        by true = tt
-        by false = omega arith
+    opened-within skip c cs (Some (x ∷ xs)) e h = paid-holds Within plan me s.line s _ tt (λ z. omega arith)
 
     turned-within : (n : ℕ) (es : List Element) → length s.cells + n ≤ size → Within (turned n es s)
     turned-within n [] h = tt
@@ -141,7 +109,7 @@ module _ (size : ℕ) where
     again-within : (skip line : ℕ) (d v : Cell) (cs : List Cell) (es : List Element) → suc (suc (length cs)) ≤ size
         → Within (again plan me skip line d v cs es s)
     again-within skip line d v cs [] h = omega arith
-    again-within skip line d v cs (e ∷ es) h = paid-within line (λ s. d ∷ cell v.val (suc v.num) ∷ cs) (λ s. d.num) (λ t. h)
+    again-within skip line d v cs (e ∷ es) h = paid-holds Within plan me line s _ tt (λ z. h)
 
     deepened-within : (b c : Bool) (line : ℕ) → Within (deepened b c plan me line s)
     deepened-within true c line = tt
@@ -151,51 +119,33 @@ module _ (size : ℕ) where
     invoked-within : (number : ℕ) (o : Option ℕ) (c : Cell) (cs : List Cell) → length s.cells ≡ suc (length cs) → length s.cells + 2 ≤ size
         → Within (invoked plan me number o c cs s)
     invoked-within number None c cs e h = tt
-    invoked-within number (Some start) c cs e h = by (nat_eq s.left 0)
-      where
-        enters : State → Turn
-        enters t = goes (record t {
-          cells = fresh c.val ∷ cell nothing (t.place + 1) ∷ cell t.dot t.template ∷ cs;
-          dot = c.val;
-          template = number;
-          depth =
-              suc t.depth;
-          place = start;
-        })
-
-        by : (b : Bool) → Within (paid_if b plan me s.line s enters)
-        by true = tt
-        by false = omega arith
+    invoked-within number (Some start) c cs e h = paid-holds Within plan me s.line s _ tt (λ z. omega arith)
 
     returned-within : (b : Bool) (cs : List Cell) → length cs ≤ size → Within (returned_if b cs s)
     returned-within false cs h = tt
-    returned-within true cs h = frame-within cs _ (λ back saved ds e. omega arith)
+    returned-within true cs h = frame-holds Within tt cs _ (λ back saved ds e. omega arith)
 
     done-within : (i : Instruction) → Has i (length s.cells) size → Within (done plan me i s)
-    done-within (code.spend line) h = by (nat_eq s.left 0)
-      where
-        by : (b : Bool) → Within (paid_if b plan me line s (λ s. onto s.cells (s.place + 1) s))
-        by true = tt
-        by false = within
+    done-within (code.spend line) h = paid-holds Within plan me line s _ tt (λ z. within)
     done-within (code.put bytes) h = within
     done-within (code.act o) h = piped-within o (step (record { missing_key = plan.rules.missing_key; dot = s.dot; env = [] }) o s.cells)
         (step-within o (record { missing_key = plan.rules.missing_key; dot = s.dot; env = [] }) s.cells h within)
-    done-within code.show h = top-within s.cells _ (λ c cs e. omega arith)
-    done-within (code.hold key) h = top-within s.cells _ (λ c cs e. held-within key c cs e h)
-    done-within (code.set slot) h = top-within s.cells _ (λ c cs e. omega (arith, length-set cs slot (fresh c.val)))
+    done-within code.show h = top-holds Within tt s.cells _ (λ c cs e. omega arith)
+    done-within (code.hold key) h = top-holds Within tt s.cells _ (λ c cs e. held-within key c cs e h)
+    done-within (code.set slot) h = top-holds Within tt s.cells _ (λ c cs e. omega (arith, length-set cs slot (fresh c.val)))
     done-within (code.set_dot slot) h = omega (arith, length-set s.cells slot (fresh s.dot))
-    done-within (code.unless kept skip) h = top-within s.cells _ (λ c cs e. branch-within (truth c.val) kept skip c cs e)
-    done-within (code.enter_with kept skip) h = top-within s.cells _ (λ c cs e. with-within (truth c.val) kept skip c cs e h)
+    done-within (code.unless kept skip) h = top-holds Within tt s.cells _ (λ c cs e. branch-within (truth c.val) kept skip c cs e)
+    done-within (code.enter_with kept skip) h = top-holds Within tt s.cells _ (λ c cs e. with-within (truth c.val) kept skip c cs e h)
     done-within (code.end_with n variables skip) h =
-        top-within (drop n s.cells) _ (λ c cs e. (let a = length-drop n s.cells in let b = length-drop variables cs in omega arith))
+        top-holds Within tt (drop n s.cells) _ (λ c cs e. (let a = length-drop n s.cells in let b = length-drop variables cs in omega arith))
     done-within (code.cut n skip) h = let a = length-drop n s.cells in omega arith
-    done-within (code.enter key skip) h = top-within s.cells _ (λ c cs e. opened-within skip c cs (elements_for key c.val) e h)
-    done-within (code.turn n) h = ring-within s.cells _ (λ d v cs e. turned-within n (left_in v) h)
+    done-within (code.enter key skip) h = top-holds Within tt s.cells _ (λ c cs e. opened-within skip c cs (elements_for key c.val) e h)
+    done-within (code.turn n) h = ring-holds Within tt s.cells _ (λ d v cs e. turned-within n (left_in v) h)
     done-within (code.next n skip line) h =
-        ring-within (drop n s.cells) _ (λ d v cs e. again-within skip line d v cs (drop 1 (left_in v)) (let a = length-drop n s.cells in omega arith))
-    done-within (code.leave n skip) h = ring-within (drop n s.cells) _ (λ d v cs e. (let a = length-drop n s.cells in omega arith))
+        ring-holds Within tt (drop n s.cells) _ (λ d v cs e. again-within skip line d v cs (drop 1 (left_in v)) (let a = length-drop n s.cells in omega arith))
+    done-within (code.leave n skip) h = ring-holds Within tt (drop n s.cells) _ (λ d v cs e. (let a = length-drop n s.cells in omega arith))
     done-within (code.deepen line) h = deepened-within (nat_eq s.left 0) (nat_lt s.depth plan.rules.depth_limit) line
-    done-within (code.invoke number) h = top-within s.cells _ (λ c cs e. invoked-within number (slice_get plan.starts number) c cs e h)
+    done-within (code.invoke number) h = top-holds Within tt s.cells _ (λ c cs e. invoked-within number (slice_get plan.starts number) c cs e h)
     done-within (code.return_from n) h = returned-within (nat_lt 1 s.depth) (drop n s.cells) (let a = length-drop n s.cells in omega arith)
 
   -- a state that comes to an end has its cells within the room, and so have those that follow

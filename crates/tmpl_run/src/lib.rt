@@ -10,7 +10,6 @@ mod flow;
 mod halt;
 mod laws;
 mod machine;
-mod nested;
 mod operation;
 mod output;
 mod piece;

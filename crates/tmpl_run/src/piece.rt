@@ -1,13 +1,8 @@
 //! Memory in which bytes wait for a sink.
 ghost use Rattle.std.specs.Prelude.{◌≡◌, ◌+◌, ◌-◌, ◌<◌, ◌≤◌, ◌++◌, [], drop, false, length, take, true};
-ghost use Rattle.std.specs.Prelude.{MatchOption};
 ghost use Rattle.std.specs.Fmt.{decimal};
-ghost use Rattle.tmpl_values.specs.Text.{text_of};
-ghost use Rattle.tmpl_values.specs.View.{val_of};
 
 use itoa::write_digits;
-use tmpl_meaning::{Fixed, Full};
-use tmpl_values::{Val, put_text};
 
 /// How many digits a number of 64 bits has at most.
 pub(crate) const MOST_DIGITS: usize = 20;
@@ -79,19 +74,6 @@ impl<'m> Piece<'m> {
         self.end = copy_number(self.bytes, end, number);
     }
 
-    /// The text of a value waits behind what does, or it does not fit, and what waits is the same.
-    pub(crate) fn keep_text(&mut self, value: &Val<'_>) -> bool
-        ensures kept { result ≡ true → waiting self.new ≡ waiting self.old ++ text_of (val_of value.now) }
-        ensures same { result ≡ false → waiting self.new ≡ waiting self.old }
-    {
-        let end = self.end;
-        let Some(behind) = copy_text(self.bytes, end, value) else {
-            return false;
-        };
-        self.end = behind;
-        true
-    }
-
     /// So many of the bytes that waited were given.
     #[tactic(auto, using(crate::proofs::PieceLemmas::passed))]
     pub(crate) fn pass(&mut self, count: usize)
@@ -138,23 +120,4 @@ fn copy_number(all: &mut [u8], end: usize, number: u64) -> usize
     let start = write_digits(number, &mut digits, MOST_DIGITS);
     copy_behind(all, end, &digits[start..start + MOST_DIGITS]);
     end + (MOST_DIGITS - start)
-}
-
-/// Copies the text of a value to behind the bytes before `end`, and says where it ends, if it fits.
-fn copy_text(all: &mut [u8], end: usize, value: &Val<'_>) -> Option<usize>
-    requires { end ≤ length all.old }
-    ensures copied { MatchOption result (take end all.new ≡ take end all.old)
-        (λ behind. take behind all.new ≡ take end all.old ++ text_of (val_of value.now)) }
-    ensures order { MatchOption result (end ≤ length all.new) (λ behind. end ≤ behind) }
-    ensures within { MatchOption result (end ≤ length all.new) (λ behind. behind ≤ length all.new) }
-{
-    let mut fixed = Fixed {
-        bytes: all,
-        end,
-        failures: 0,
-    };
-    match put_text(value, &mut fixed) {
-        Ok(()) => Some(fixed.end),
-        Err(Full) => None,
-    }
 }

@@ -1,9 +1,8 @@
 -- What a run puts out, through a piece of memory in which bytes wait for the sink.
-use Rattle.std.specs.Prelude.{◌≡◌, ℕ, true, false, Bool, List, [], Result, Ok, Err}
+use Rattle.std.specs.Prelude.{◌≡◌, ◌+◌, ◌*◌, ℕ, List, [], Option, Some, drop, length}
 use Rattle.std.specs.List.{between}
 use Rattle.tmpl_values.specs.Put.{Puts, appended}
-use Rattle.tmpl_meaning.specs.Sink.{IsPut, Told}
-use Rattle.tmpl_meaning.specs.declared.sink.SinkFault.{SinkFault}
+use Rattle.tmpl_meaning.specs.Sink.{Told}
 use Rattle.tmpl_run.specs.declared.piece.Piece.{Piece}
 
 -- the bytes that wait in a piece, the oldest first
@@ -19,15 +18,15 @@ given_of told p =
 abbrev pub Grows : Told → Told → Type 0
 Grows before now = (more : List ℕ) × (now.bytes ≡ appended before.bytes more)
 
--- a text was given through a piece, or a put failed and a beginning was; what the sink had taken begins what it took
-pub record Passes (r : Result (Unit {0}) SinkFault) (before : Told) (p : Piece) (after : Told) (q : Piece)
-    (text : List ℕ)
-    : Type 0 where
-  pub given : IsPut r (given_of before p) (given_of after q) text
-  pub taken : Grows before after
+-- the bytes that were taken since, where what was taken is told
+abbrev pub told_since : Option (List ℕ) → Option (List ℕ) → List ℕ
+told_since (Some before) (Some now) = drop (length before) now
+told_since _ _ = []
 
--- .. it was given, or nothing was
-abbrev pub Kept : Result Bool SinkFault → Told → Piece → Told → Piece → List ℕ → Type 0
-Kept (Ok true) before p after q text = Passes (Ok tt) before p after q text
-Kept (Ok false) before p after q text = Passes (Ok tt) before p after q []
-Kept (Err e) before p after q text = Passes (Err e) before p after q []
+-- `Grows` as an equation, which a struct can hold
+abbrev pub Grew : Told → Told → Type 0
+Grew before now = now.bytes ≡ appended before.bytes (told_since before.bytes now.bytes)
+
+-- two ghost names in one number
+abbrev pub both : ℕ → ℕ → ℕ
+both a b = (a + b) * (a + b) + b
