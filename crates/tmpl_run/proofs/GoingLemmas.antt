@@ -1,13 +1,15 @@
 -- For `turns`: what the loop of a run keeps from turn to turn, said of a machine and of what was put out, and what it comes to where it ends.
 use Rattle.std.proofs.Common.{arith, inl, inr, ◌≡◌, ◌∙◌, ◌+◌, ◌||◌, ◌++◌, ◌-◌, ◌^◌, ◌<◌, ◌≤◌, ℕ, suc, Bool, true, false, List, [], ◌∷◌, length}
-use Rattle.std.proofs.Common.{get_or, refl, ap, sym, subst, Option, Some, Ok, Err}
+use Rattle.std.proofs.Common.{get_or, refl, ap, sym, subst, append-nil, Option, Some, None, Result, Ok, Err}
 use Rattle.std.specs.Prelude.{option_map, slice_get}
 use Rattle.std.proofs.lemmas.List.{length-map}
 use Rattle.std.proofs.lemmas.Option.{get_or_from_slice_get, slice_get-get_or, slice_get-map}
 use Rattle.tmpl_values.specs.Put.{Puts, IsPut}
+use Rattle.tmpl_values.specs.Text.{text_of}
+use Rattle.tmpl_values.specs.Value.{Value}
 use Rattle.tmpl_values.proofs.PutLemmas.{IsPut-along, IsPut-append, IsPut-nil, IsPut-stop}
 use Rattle.tmpl_syntax.specs.Set.{Template}
-use Rattle.tmpl_meaning.specs.Fault.{Fault}
+use Rattle.tmpl_meaning.specs.Fault.{Cause, Fault}
 use Rattle.tmpl_meaning.specs.Meaning.{Ran}
 use Rattle.tmpl_meaning.specs.View.{cause_of}
 use Rattle.tmpl_meaning.specs.declared.sink.SinkFault.{SinkFault}
@@ -15,7 +17,7 @@ use Rattle.tmpl_code.specs.Instruction as code
 use Rattle.tmpl_code.specs.Instruction.{Instruction}
 use Rattle.tmpl_code.specs.View.{instruction_of, instructions_of}
 use Rattle.tmpl_code.specs.declared.instruction.Instruction as held
-use Rattle.tmpl_run.specs.Cell.{Cell}
+use Rattle.tmpl_run.specs.Cell.{Cell, fresh}
 use Rattle.tmpl_run.specs.Ends.{Ends}
 use Rattle.tmpl_run.specs.Laws.{Lessens, mark_behind}
 use Rattle.tmpl_run.specs.Machine.{Turn, done, ended, fault_at, goes, next_of, stuck, top}
@@ -24,7 +26,7 @@ use Rattle.tmpl_run.specs.State.{Plan, State}
 use Rattle.tmpl_run.specs.computed.Came.{Came, IsStopped}
 use Rattle.tmpl_run.specs.computed.Machines.{Told, state_of}
 use Rattle.tmpl_run.specs.computed.Plain.{IsPlain, SparedOr}
-use Rattle.tmpl_run.specs.computed.Turned.{Executed, added, put_by, told_behind}
+use Rattle.tmpl_run.specs.computed.Turned.{Executed, IsThere, Shown, TurnedBy, added, at_once, is_shown, put_by, put_out, text_in, told_behind, value_by}
 use Rattle.tmpl_run.specs.computed.View.{cells_of, size_of}
 use Rattle.tmpl_run.specs.declared.fault.RunError.{RunError}
 use Rattle.tmpl_run.specs.declared.fault.RunError.TheVariants as error
@@ -37,6 +39,7 @@ use Rattle.tmpl_run.proofs.LoopLemmas.{ends-so, falls, finds, goes-on, is-next, 
 use Rattle.tmpl_run.proofs.MoveLemmas.{each-lessens, mark-stays, mark_next, next-depth, text-begins}
 use Rattle.tmpl_run.proofs.PastLemmas.{after_past, done-past, past-again, with_past}
 use Rattle.tmpl_run.proofs.RoomLemmas.{next-within}
+use Rattle.tmpl_run.proofs.ShownLemmas.{ends-shown, mark-once, puts-once, quiet-once, shown-once, shown-within}
 
 -- what is told of a run that has put nothing out yet, in the template that a machine runs
 abbrev pub told_at : Told → Machine → Told
@@ -238,3 +241,92 @@ module _ {run : Told} {end : Ran} {m : Machine} {before now : Puts} (inv : Stand
         stops u Q same stop.OutOfMemory e step more spared is =
             subst (λ f. Came end before after (Err f)) (sym is)
             (inv.text ++ [], text-begins run.plan room past end inv.ends, IsPut-along (both more) (ap (λ l. inv.text ++ l) step), marked spared)
+
+      -- ---- three instructions that were carried out at once
+
+      module _ (once : at_once run.plan.code m.place i ≡ true) where
+        shown : is_shown run.plan.code m.place ≡ true
+        shown = shown-once run.plan.code m.place i once
+
+        late-ends : (v : Value) → value_by run.plan i s ≡ Ok v → Ends run.plan room (record past { text = past.text ++ text_of v; place = past.place + 3 }) end
+        late-ends v e = ends-shown run.plan room end i told.template past here runs shown v
+            (shifted (goes (record s { cells = fresh v ∷ s.cells; place = s.place + 1 })) (puts-once run.plan.code m.place run.plan told.template i s v once e))
+            inv.ends
+
+        less-shown : (u : State) → u ≡ record s { place = s.place + 3 } → work (length run.plan.code) u < work (length run.plan.code) s
+        less-shown u e = subst (λ v. work (length run.plan.code) v < work (length run.plan.code) s) (sym e)
+            (let inside = shown-within run.plan room end i told.template past here runs shown in omega arith)
+
+        onward-shown : (n : Machine) (after : Puts) → Shown told i s (state_of told n) (Ok flow.On)
+            → IsPut {F = SinkFault} (Ok tt) now after (text_in (value_by run.plan i s))
+            → size_of n.stack ≡ room → (IsPlain m → IsPlain n) → Stands run end n before after
+        onward-shown n after step more size plain = by (value_by run.plan i s) refl step.0 more
+          where
+            by : (r : Result Value Cause) → value_by run.plan i s ≡ r → IsThere r → IsPut {F = SinkFault} (Ok tt) now after (text_in r)
+                → Stands run end n before after
+            by (Err cause) e there more = absurd there
+            by (Ok v) e there more = record {
+              within = let same = ap (λ (u : State). length u.cells) step.1 in let fits = inv.within in omega (arith, same, fits, size);
+              depth =
+                  let deep = ap (λ (u : State). u.depth) step.1 in let left = ap (λ (u : State). u.left) step.1 in
+                  let fits = inv.depth in omega (arith, deep, left, fits);
+              text = inv.text ++ text_of v;
+              made = inv.made;
+              given = IsPut-append inv.given more;
+              ends = subst (λ k. Ends run.plan k (with_past (inv.text ++ text_of v) inv.made (state_of told n)) end) (sym size)
+                  (subst (λ u. Ends run.plan room (with_past (inv.text ++ text_of v) inv.made u) end) (sym step.1)
+                  (subst (λ l. Ends run.plan room (record past { text = l; place = past.place + 3 }) end)
+                  (ap (λ l. l ++ text_of v) (append-nil inv.text) ∙ sym (append-nil (inv.text ++ text_of v))) (late-ends v e)));
+              plain = λ e. plain (inv.plain e);
+            }
+
+        cut-shown : (after : Puts) → IsThere (value_by run.plan i s)
+            → IsPut {F = SinkFault} (Err (record {})) now after (text_in (value_by run.plan i s)) → Came end before after (Err error.WriteFailed)
+        cut-shown after there more = by (value_by run.plan i s) refl there more
+          where
+            by : (r : Result Value Cause) → value_by run.plan i s ≡ r → IsThere r → IsPut {F = SinkFault} (Err (record {})) now after (text_in r)
+                → Came end before after (Err error.WriteFailed)
+            by (Err cause) e there more = absurd there
+            by (Ok v) e there more =
+                let begins = text-begins run.plan room (record past { text = past.text ++ text_of v; place = past.place + 3 }) end (late-ends v e) in
+                IsPut-along (IsPut-stop {r = Err (record {})} begins.0 refl (IsPut-append inv.given more))
+                (ap (λ l. (l ++ text_of v) ++ begins.0) (sym (append-nil inv.text)) ∙ sym begins.1)
+
+        stops-shown : (after : Puts) (u : State) (Q : Type 0) → u.text ≡ [] → (stop : Halt) (e : RunError) → Shown told i s u (Err stop)
+            → IsPut (put_by {A = Flow} (Err stop)) now after (put_out true run.plan i s (Err stop))
+            → (mark_behind i false ≡ false → IsPlain m → SparedOr {A = Flow} (Err stop) Q)
+            → IsStopped (slice_get run.plan.templates m.template) u.line stop e → Came end before after (Err e)
+        stops-shown after u Q same (stop.Fault kind) e step more spared is =
+            let quiet = sym (quiet-once run.plan.code m.place i s once) in
+            stops after u Q (same ∙ quiet) (stop.Fault kind) e step (IsPut-along more quiet) spared is
+        stops-shown after u Q same stop.WriteFailed e step more spared is = subst (λ f. Came end before after (Err f)) (sym is) (cut-shown after step.0 more)
+        stops-shown after u Q same stop.OutOfMemory e step more spared is =
+            let quiet = sym (quiet-once run.plan.code m.place i s once) in
+            stops after u Q (same ∙ quiet) stop.OutOfMemory e (sym quiet) (IsPut-along more quiet) spared is
+
+      -- ---- a turn, whether or not it carries out three
+
+      pub less-by : (b : Bool) → at_once run.plan.code m.place i ≡ b → (n : Machine) → TurnedBy b told i s n (Ok flow.On)
+          → work (length run.plan.code) (state_of told n) < work (length run.plan.code) s
+      less-by false once n step = less (state_of (told_behind i s told) n) step
+      less-by true once n step = less-shown once (state_of told n) step.1
+
+      pub onward-by : (b : Bool) → at_once run.plan.code m.place i ≡ b → (n : Machine) (after : Puts) → TurnedBy b told i s n (Ok flow.On)
+          → IsPut {F = SinkFault} (Ok tt) now after (put_out b run.plan i s (Ok flow.On))
+          → size_of n.stack ≡ room → (mark_behind i false ≡ false → IsPlain m → IsPlain n) → Stands run end n before after
+      onward-by false once n after step more size plain = onward n after step more size plain
+      onward-by true once n after step more size plain = onward-shown once n after step more size (plain (mark-once run.plan.code m.place i once))
+
+      pub over-by : (b : Bool) (n : Machine) (after : Puts) → TurnedBy b told i s n (Ok flow.Over)
+          → IsPut {F = SinkFault} (Ok tt) now after (put_out b run.plan i s (Ok flow.Over))
+          → IsPut {F = SinkFault} (Ok tt) before after end.text × (end.fault ≡ None)
+      over-by false n after step more = over after None false step more
+      over-by true n after step more = absurd step
+
+      pub stops-by : (b : Bool) → at_once run.plan.code m.place i ≡ b → (n : Machine) (after : Puts) (Q : Type 0) (stop : Halt) (e : RunError)
+          → TurnedBy b told i s n (Err stop) → IsPut (put_by {A = Flow} (Err stop)) now after (put_out b run.plan i s (Err stop))
+          → (mark_behind i false ≡ false → IsPlain m → SparedOr {A = Flow} (Err stop) Q) → IsStopped (slice_get run.plan.templates m.template) n.line stop e
+          → Came end before after (Err e)
+      stops-by false once n after Q stop e step more spared is =
+          stops after (state_of (told_behind i s told) n) Q (text-behind i s told refl) stop e step more spared is
+      stops-by true once n after Q stop e step more spared is = stops-shown once after (state_of told n) Q refl stop e step more spared is

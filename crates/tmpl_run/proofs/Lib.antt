@@ -26,6 +26,7 @@ pub mod PieceLemmas
 pub mod OutputLemmas
 pub mod PlainLemmas
 pub mod PastLemmas
+pub mod ShownLemmas
 pub mod GoingLemmas
 pub mod StartLemmas
 pub mod RunLemmas

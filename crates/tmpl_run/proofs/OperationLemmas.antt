@@ -37,7 +37,7 @@ called-is f n true cs h = by (drop n cs) refl
 
 module _ (plan : Plan) (t : Template) (s : State) where
   -- a value is put
-  puts : (o : Operation) (v : Value) (cs : List Cell)
+  pub puts : (o : Operation) (v : Value) (cs : List Cell)
       → step (record { missing_key = plan.rules.missing_key; dot = s.dot; env = [] }) o s.cells ≡ on 0 (fresh v ∷ cs)
       → done plan t (act o) s ≡ goes (record s { cells = fresh v ∷ cs; made_text = made_by o s.made_text; place = s.place + 1 })
   puts o v cs e =

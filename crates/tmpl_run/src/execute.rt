@@ -1,7 +1,7 @@
 //! One instruction, whichever it is.
 ghost use Rattle.std.specs.Prelude.{◌≡◌, ◌+◌, ◌-◌, ◌<◌, ◌≤◌, ◌^◌, false, length};
 ghost use Rattle.tmpl_meaning.specs.Sink.{IsPut};
-ghost use Rattle.tmpl_code.specs.View.{instruction_of};
+ghost use Rattle.tmpl_code.specs.View.{instruction_of, instructions_of};
 ghost use Rattle.tmpl_run.specs.Laws.{mark_behind};
 ghost use Rattle.tmpl_run.specs.Machine.{done};
 ghost use Rattle.tmpl_run.specs.computed.Machines.{Told, state_of};
@@ -9,7 +9,7 @@ ghost use Rattle.tmpl_run.specs.computed.Output.{Grows, given_of};
 ghost use Rattle.tmpl_run.specs.computed.Plain.{IsPlain, SparedOr};
 ghost use Rattle.tmpl_run.specs.Ready.{Has, Lands};
 ghost use Rattle.tmpl_run.specs.computed.Plan.{plan_of};
-ghost use Rattle.tmpl_run.specs.computed.Turned.{Executed, added, put_by, told_behind};
+ghost use Rattle.tmpl_run.specs.computed.Turned.{TurnedBy, at_once, put_by, put_out};
 ghost use Rattle.tmpl_run.specs.computed.View.{cells_of, size_of};
 
 use crate::flow::Flow;
@@ -22,13 +22,14 @@ use tmpl_meaning::{Options, RunFaultKind, Sink};
 use tmpl_values::Val;
 
 impl<'m, 'a> Machine<'m, 'a> {
-    /// Carries out an instruction. It is inlined into the loop of a run, so that its answer is not written to memory
-    /// and read back for each instruction.
+    /// Carries out an instruction, at once with the two behind it where they show the value that it puts. It is inlined
+    /// into the loop of a run, so that its answer is not written to memory and read back for each instruction.
     #[inline(always)]
     pub(crate) fn execute<S: Sink>(
         &mut self,
         program: &Parts<'a>,
         options: &Options,
+        code: &[Instruction<'a>],
         instruction: &Instruction<'a>,
         piece: &mut Piece<'_>,
         sink: &mut S,
@@ -42,11 +43,13 @@ impl<'m, 'a> Machine<'m, 'a> {
             (size_of self.old.stack) }
         requires lands { Lands (done run.plan run.template (instruction_of instruction.now) (state_of run self.old)) }
         requires countable { (S.so_far sink.old).failures < 2 ^ 64 - 1 }
-        ensures step { let i = instruction_of instruction.now in let s = state_of run self.old in
-            Executed run i s (state_of (told_behind i s run) self.new) result }
-        ensures given { IsPut (put_by result) (given_of (S.so_far sink.old) piece.old)
-            (given_of (S.so_far sink.new) piece.new)
-            (added (instruction_of instruction.now) (state_of run self.old)) }
+        requires code { run.plan.code ≡ instructions_of code.now }
+        requires here { self.old.place < length code.now }
+        ensures step { let i = instruction_of instruction.now in
+            TurnedBy (at_once run.plan.code self.old.place i) run i (state_of run self.old) self.new result }
+        ensures given { let i = instruction_of instruction.now in
+            IsPut (put_by result) (given_of (S.so_far sink.old) piece.old) (given_of (S.so_far sink.new) piece.new)
+            (put_out (at_once run.plan.code self.old.place i) run.plan i (state_of run self.old) result) }
         ensures taken { Grows (S.so_far sink.old) (S.so_far sink.new) }
         ensures plain { mark_behind (instruction_of instruction.now) run.made_text ≡ false
             → IsPlain self.old → SparedOr result (IsPlain self.new) }
@@ -74,11 +77,11 @@ impl<'m, 'a> Machine<'m, 'a> {
                 self.give(Val::Text(text.as_slice()));
                 Ok(Flow::On)
             }
-            Instruction::PushDot => self.push_dot(),
+            Instruction::PushDot => self.put_dot(code, piece, sink),
             Instruction::PushFields(names) => {
-                self.push_fields(options.missing_key, names.as_slice())
+                self.put_fields(options.missing_key, names.as_slice(), code, piece, sink)
             }
-            Instruction::PushSlot(slot) => self.push_slot(slot as usize),
+            Instruction::PushSlot(slot) => self.put_slot(slot as usize, code, piece, sink),
             Instruction::Chain(names) => self.chain(options.missing_key, names.as_slice()),
             Instruction::Call { func, count, piped } => { self.call(func, count as usize, piped) }
             Instruction::Decide { is_or, piped, skip } => {

@@ -2,6 +2,7 @@
 //! templates.
 #![tactic(auto)]
 
+mod at_once;
 mod call;
 mod control;
 mod execute;

@@ -25,6 +25,7 @@ impl<'m, 'a> Machine<'m, 'a> {
     ghost use Rattle.std.specs.Prelude.{◌≡◌};
 
     /// Takes a value for dot.
+    #[inline(always)]
     pub(crate) fn replace_dot(&mut self, dot: Val<'a>)
         ensures { self.new ≡ record self.old { dot = dot.entry } }
     {

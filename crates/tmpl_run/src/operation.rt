@@ -1,6 +1,7 @@
 //! Steps of pipelines.
 ghost use Rattle.std.specs.Prelude.{◌≡◌, ◌+◌, ◌-◌, ◌<◌, ◌≤◌, ◌∷◌, ◌^◌, Ok, false, length, true};
 ghost use Rattle.tmpl_values.specs.View.{is_made, val_of};
+ghost use Rattle.tmpl_funcs.specs.Answer.{IsBorrowed};
 ghost use Rattle.tmpl_funcs.specs.Func.{is_called, makes_text};
 ghost use Rattle.tmpl_meaning.specs.Pipeline.{decides};
 ghost use Rattle.tmpl_meaning.specs.View.{cause_of};
@@ -14,7 +15,7 @@ ghost use Rattle.tmpl_run.specs.computed.Plain.{IsPlain, SparedOr};
 ghost use Rattle.tmpl_run.specs.Ready.{Fits};
 ghost use Rattle.tmpl_run.specs.State.{State};
 ghost use Rattle.tmpl_run.specs.Step as pipe;
-ghost use Rattle.tmpl_run.specs.computed.Turned.{Executed, TurnedOr, behind};
+ghost use Rattle.tmpl_run.specs.computed.Turned.{Executed, IsFound, TurnedOr, behind};
 ghost use Rattle.tmpl_run.specs.computed.View.{cells_of, size_of};
 
 use crate::flow::Flow;
@@ -69,6 +70,24 @@ impl<'m, 'a> Machine<'m, 'a> {
         Ok(Flow::On)
     }
 
+    /// The field of the field of .. of dot, by these names.
+    #[tactic(auto, using(crate::proofs::OperationLemmas::operations))]
+    #[inline(always)]
+    pub(crate) fn field_of_dot(
+        &self,
+        missing_key: MissingKey,
+        names: &'a [Bytes],
+    ) -> Result<Val<'a>, Halt<'a>>
+        ensures found { IsFound missing_key names.now (val_of self.now.dot) result }
+        ensures spared { is_made self.now.dot ≡ false → SparedOr result (Unit {0}) }
+        ensures borrowed { is_made self.now.dot ≡ false → IsBorrowed result }
+    {
+        Ok(match names {
+            [name] => missing_key.field(&self.dot, name.as_slice())?,
+            _ => missing_key.chain(self.dot.share()?, names)?,
+        })
+    }
+
     /// Puts the field of the field of .. of dot, by these names.
     #[tactic(auto, using(crate::proofs::OperationLemmas::operations))]
     pub(crate) fn push_fields(
@@ -85,10 +104,7 @@ impl<'m, 'a> Machine<'m, 'a> {
         ensures plain { IsPlain self.old → SparedOr result (IsPlain self.new) }
         ensures size { size_of self.new.stack ≡ size_of self.old.stack }
     {
-        let val = match names {
-            [name] => missing_key.field(&self.dot, name.as_slice())?,
-            _ => missing_key.chain(self.dot.share()?, names)?,
-        };
+        let val = self.field_of_dot(missing_key, names)?;
         self.give(val);
         Ok(Flow::On)
     }

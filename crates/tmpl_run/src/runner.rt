@@ -98,7 +98,7 @@ impl<'m, 'a> Machine<'m, 'a> {
         let code = program.instructions.as_slice();
         loop {
             let number = self.template;
-            match self.execute(program, options, &code[self.place], piece, sink) {
+            match self.execute(program, options, code, &code[self.place], piece, sink) {
                 Ok(Flow::On) => {}
                 Ok(Flow::Over) => return Ok(()),
                 Err(stop) => return Err(error_for(program, number, self.line, stop)),

@@ -77,6 +77,7 @@ impl<'s, 'a> Stack<'s, 'a> {
 
     /// Forgets so many cells.
     #[tactic(auto, using(crate::proofs::StackLemmas::stacks), unfolding(crate::specs::computed::View::cells_of))]
+    #[inline(always)]
     pub(crate) fn pop(&mut self, count: usize)
         requires { count ≤ length (cells_of self.old) }
         ensures cells { cells_of self.new ≡ drop count (cells_of self.old) }
@@ -148,6 +149,26 @@ impl<'s, 'a> Stack<'s, 'a> {
         ensures plain { IsPlainStack self.old → IsPlainStack self.new }
     {
         show_at(self.cells, self.top - 1, piece, sink)
+    }
+
+    /// Puts out the text of the value of a slot.
+    #[tactic(auto, using(crate::proofs::StackLemmas::stacks), unfolding(crate::specs::computed::View::cells_of))]
+    pub(crate) fn show_slot<S: Sink>(
+        &mut self,
+        index: usize,
+        piece: &mut Piece<'_>,
+        sink: &mut S,
+    ) -> Result<(), SinkFault>
+        requires found { index < length (cells_of self.old) }
+        requires countable { (S.so_far sink.old).failures < 2 ^ 64 - 1 }
+        ensures cells { cells_of self.new ≡ cells_of self.old }
+        ensures size { size_of self.new ≡ size_of self.old }
+        ensures given { IsPut result (given_of (S.so_far sink.old) piece.old) (given_of (S.so_far sink.new) piece.new)
+            (text_of (slot index (cells_of self.old))) }
+        ensures taken { Grows (S.so_far sink.old) (S.so_far sink.new) }
+        ensures plain { IsPlainStack self.old → IsPlainStack self.new }
+    {
+        show_at(self.cells, self.top - 1 - index, piece, sink)
     }
 
     /// Whether the newest value is a null.
@@ -450,6 +471,7 @@ fn take_at<'a>(cells: &mut [Cell<'a>], at: usize) -> Cell<'a>
 
 /// Leaves no made text in the cells from a place to before another. What owns nothing is left as it is, since most
 /// cells own nothing and it costs more to write them than to look.
+#[inline(always)]
 fn clear(cells: &mut [Cell<'_>], from: usize, to: usize)
     requires { to ≤ length cells.old }
     ensures left { take from cells.new ≡ take from cells.old }

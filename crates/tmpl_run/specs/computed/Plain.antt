@@ -22,9 +22,9 @@ abbrev pub Spared : {A : Type 0} → Result A AllocError → Type 0 → Type 0
 Spared (Ok a) Holds = Holds
 Spared (Err e) Holds = ⊥
 
--- .. by an instruction that may stop for another reason
+-- .. by an instruction that may stop for another reason, and where it does this holds too
 abbrev pub SparedOr : {A : Type 0} → Result A Halt → Type 0 → Type 0
 SparedOr (Ok a) Holds = Holds
-SparedOr (Err (stop.Fault kind)) Holds = Unit {0}
-SparedOr (Err stop.WriteFailed) Holds = Unit {0}
+SparedOr (Err (stop.Fault kind)) Holds = Holds
+SparedOr (Err stop.WriteFailed) Holds = Holds
 SparedOr (Err stop.OutOfMemory) Holds = ⊥

@@ -1,17 +1,26 @@
 -- What a turn of a machine in memory is.
-use Rattle.std.specs.Prelude.{◌≡◌, List, ℕ, [], ◌++◌, None, Result, Ok, Err}
+use Rattle.std.specs.Prelude.{◌≡◌, ◌&&◌, Bool, true, false, List, ℕ, [], ◌++◌, ◌+◌, Option, None, Some, Result, Ok, Err}
+use Rattle.std.specs.Prelude.{slice_get}
 use Rattle.tmpl_values.specs.Text.{text_of}
+use Rattle.tmpl_values.specs.Value.{Value, nothing}
+use Rattle.tmpl_values.specs.View.{val_of}
+use Rattle.tmpl_values.specs.declared.value.Val.{Val}
+use Rattle.tmpl_meaning.specs.Fault.{Cause}
+use Rattle.tmpl_meaning.specs.Pipeline.{chain}
+use Rattle.tmpl_meaning.specs.declared.missing_key.MissingKey.{MissingKey}
 use Rattle.tmpl_meaning.specs.declared.sink.SinkFault.{SinkFault}
 use Rattle.tmpl_meaning.specs.View.{cause_of}
+use Rattle.tmpl_code.specs.Code.{Code}
 use Rattle.tmpl_code.specs.Instruction as code
 use Rattle.tmpl_code.specs.Instruction.{Instruction, Operation}
 use Rattle.tmpl_run.specs.Cell.{slot}
-use Rattle.tmpl_run.specs.State.{State}
+use Rattle.tmpl_run.specs.State.{Plan, State}
 use Rattle.tmpl_run.specs.Step.{made_by}
 use Rattle.tmpl_run.specs.Machine.{done, ended, failed, goes, ran_so}
 use Rattle.tmpl_run.specs.declared.flow.Flow.{Flow}
 use Rattle.tmpl_run.specs.declared.flow.Flow.TheVariants as flow
-use Rattle.tmpl_run.specs.computed.Machines.{Told}
+use Rattle.tmpl_run.specs.computed.Machines.{Told, state_of}
+use Rattle.tmpl_run.specs.declared.machine.Machine.{Machine}
 use Rattle.tmpl_run.specs.declared.halt.Halt.{Halt}
 use Rattle.tmpl_run.specs.declared.halt.Halt.TheVariants as stop
 
@@ -55,3 +64,71 @@ put_by (Ok a) = Ok tt
 put_by (Err (stop.Fault kind)) = Ok tt
 put_by (Err stop.WriteFailed) = Err (record {})
 put_by (Err stop.OutOfMemory) = Ok tt
+
+-- ---- a value that is shown where it lies
+
+-- an instruction settles a value
+abbrev pub settles : Option Instruction → Bool
+settles (Some (code.act code.settle)) = true
+settles o = false
+
+-- .. shows it
+abbrev pub shows : Option Instruction → Bool
+shows (Some code.show) = true
+shows o = false
+
+-- what is put at a place is settled and shown by the two instructions behind it
+abbrev pub is_shown : Code → ℕ → Bool
+is_shown all place = settles (slice_get all (place + 1)) && shows (slice_get all (place + 2))
+
+-- an instruction is carried out at once with the two behind it: it puts a value that lies in dot, in a field of it or
+-- in a slot, and they show that
+abbrev pub at_once : Code → ℕ → Instruction → Bool
+at_once all place (code.act code.push_dot) = is_shown all place
+at_once all place (code.act (code.push_fields names)) = is_shown all place
+at_once all place (code.act (code.push_slot k)) = is_shown all place
+at_once all place i = false
+
+-- the value that it puts, or why there is none
+abbrev pub value_by : Plan → Instruction → State → Result Value Cause
+value_by plan (code.act code.push_dot) s = Ok s.dot
+value_by plan (code.act (code.push_fields names)) s = chain plan.rules.missing_key names s.dot
+value_by plan (code.act (code.push_slot k)) s = Ok (slot k s.cells)
+value_by plan i s = Ok nothing
+
+-- a field of a field of .. of a value was found, or there is none, or memory was refused
+abbrev pub IsFound : MissingKey → List (List ℕ) → Value → Result Val Halt → Type 0
+IsFound mode names v (Ok field) = Ok (val_of field) ≡ chain mode names v
+IsFound mode names v (Err (stop.Fault kind)) = Err (cause_of kind) ≡ chain mode names v
+IsFound mode names v (Err stop.WriteFailed) = ⊥
+IsFound mode names v (Err stop.OutOfMemory) = Unit {0}
+
+abbrev pub IsThere : Result Value Cause → Type 0
+IsThere (Ok v) = Unit {0}
+IsThere (Err cause) = ⊥
+
+abbrev pub text_in : Result Value Cause → List ℕ
+text_in (Ok v) = text_of v
+text_in (Err cause) = []
+
+-- the three were carried out, or the first of them stops; where a put failed they were carried out up to that
+abbrev pub Shown : Told → Instruction → State → State → Result Flow Halt → Type 0
+Shown told i s t (Ok flow.On) = IsThere (value_by told.plan i s) × (t ≡ record s { place = s.place + 3 })
+Shown told i s t (Ok flow.Over) = ⊥
+Shown told i s t (Err (stop.Fault kind)) = Executed told i s t (Err (stop.Fault kind))
+Shown told i s t (Err stop.WriteFailed) = IsThere (value_by told.plan i s) × (t ≡ record s { place = s.place + 3 })
+Shown told i s t (Err stop.OutOfMemory) = Unit {0}
+
+-- ---- what a turn of the loop comes to, by whether it carries out three instructions
+
+abbrev pub TurnedBy : Bool → Told → Instruction → State → Machine → Result Flow Halt → Type 0
+TurnedBy false told i s m r = Executed told i s (state_of (told_behind i s told) m) r
+TurnedBy true told i s m r = Shown told i s (state_of told m) r
+
+-- what it puts out
+abbrev pub put_out : Bool → Plan → Instruction → State → Result Flow Halt → List ℕ
+put_out false plan i s r = added i s
+put_out true plan i s (Ok f) = text_in (value_by plan i s)
+put_out true plan i s (Err (stop.Fault kind)) = []
+put_out true plan i s (Err stop.WriteFailed) = text_in (value_by plan i s)
+put_out true plan i s (Err stop.OutOfMemory) = []

@@ -54,14 +54,14 @@ ghost-return_from g a = g.run
 abbrev pub ghost-give : goal.ghost-give
 ghost-give g a = g.run
 
-abbrev pub ghost-push_dot : goal.ghost-push_dot
-ghost-push_dot g a = g.run
+abbrev pub ghost-put_dot : goal.ghost-put_dot
+ghost-put_dot g a = g.run
 
-abbrev pub ghost-push_fields : goal.ghost-push_fields
-ghost-push_fields g a = g.run
+abbrev pub ghost-put_fields : goal.ghost-put_fields
+ghost-put_fields g a = g.run
 
-abbrev pub ghost-push_slot : goal.ghost-push_slot
-ghost-push_slot g a = g.run
+abbrev pub ghost-put_slot : goal.ghost-put_slot
+ghost-put_slot g a = g.run
 
 abbrev pub ghost-chain : goal.ghost-chain
 ghost-chain g a = g.run

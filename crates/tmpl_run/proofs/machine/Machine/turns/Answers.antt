@@ -1,13 +1,15 @@
-use Rattle.std.proofs.Common.{arith, ◌∙◌, ap, sym, subst, refl, false, Ok, None}
+use Rattle.std.proofs.Common.{arith, ◌∙◌, ap, sym, subst, refl, Ok}
 use Rattle.std.specs.Prelude.{slice_get}
 use Rattle.std.proofs.lemmas.Option.{slice_get_within}
+use Rattle.tmpl_meaning.specs.Sink.{IsPut}
+use Rattle.tmpl_meaning.specs.declared.sink.SinkFault.{SinkFault}
 use Rattle.tmpl_code.specs.View.{instruction_of, instructions_of}
 use Rattle.tmpl_run.specs.computed.Came.{IsStopped}
 use Rattle.tmpl_run.specs.computed.Machines.{state_of}
 use Rattle.tmpl_run.specs.computed.Output.{given_of}
 use Rattle.tmpl_run.specs.computed.Plain.{IsPlain}
 use Rattle.tmpl_run.specs.State.{Plan}
-use Rattle.tmpl_run.specs.computed.Turned.{Executed, told_behind}
+use Rattle.tmpl_run.specs.computed.Turned.{TurnedBy, at_once, put_out}
 use Rattle.tmpl_run.proofs.GoingLemmas as going
 use Rattle.tmpl_run.proofs.GoingLemmas.{told_at}
 use Rattle.tmpl_run.proofs.OutputLemmas.{grows-on, grows-same}
@@ -62,8 +64,10 @@ execute-requires g c =
                 going.has inv items code item.is,
                 (
                   going.lands inv items code item.is (omega (arith, fits)),
-                  omega
-                      (arith, count, few),
+                  (
+                    omega (arith, count, few),
+                    (code, inside),
+                  ),
                 ),
               ),
             ),
@@ -74,41 +78,49 @@ execute-requires g c =
 
 pub loop-stop-smaller : goal.loop-stop-smaller
 loop-stop-smaller g c =
-    let told = told_at g.run.0 c.loop-stop.self in
-    let s = state_of told c.loop-stop.self in
+    let m = c.loop-stop.self in
+    let told = told_at g.run.0 m in
+    let s = state_of told m in
     let i = instruction_of c.index-code-self.result in
+    let once = at_once g.run.0.plan.code m.place i in
     let code = ap (λ (p : Plan). p.code) c.requires.1.0 ∙ ap instructions_of (sym c.as_slice-code.ensures.value) in
-    let u = state_of (told_behind i s told) c.execute.new.self in
-    going.less c.loop-stop.invariant.stands c.as_slice-code.result.now code c.index-code-self.is u
-    (subst (λ f. Executed told i s u (Ok f)) c.in-Ok-On.field-0-is c.in-Ok-On.ensures.step)
+    going.less-by c.loop-stop.invariant.stands c.as_slice-code.result.now code c.index-code-self.is once refl c.execute.new.self
+    (subst (λ f. TurnedBy once told i s c.execute.new.self (Ok f)) c.in-Ok-On.field-0-is c.in-Ok-On.ensures.step)
 
 pub loop-stop-preserved : goal.loop-stop-preserved
 loop-stop-preserved g c =
-    let told = told_at g.run.0 c.loop-stop.self in
-    let s = state_of told c.loop-stop.self in
+    let m = c.loop-stop.self in
+    let told = told_at g.run.0 m in
+    let s = state_of told m in
     let i = instruction_of c.index-code-self.result in
+    let once = at_once g.run.0.plan.code m.place i in
     let code = ap (λ (p : Plan). p.code) c.requires.1.0 ∙ ap instructions_of (sym c.as_slice-code.ensures.value) in
-    let u = state_of (told_behind i s told) c.execute.new.self in
+    let before = given_of (g.S.Sink.so_far c.loop-stop.sink) c.loop-stop.piece in
+    let after = given_of (g.S.Sink.so_far c.execute.new.sink) c.execute.new.piece in
     let did = c.in-Ok-On.ensures in
     record {
       taken = grows-on (g.S.Sink.so_far c.args.sink.now) (g.S.Sink.so_far c.loop-stop.sink) (g.S.Sink.so_far c.execute.new.sink) c.loop-stop.invariant.taken
           did.taken;
       stands =
-          going.onward c.loop-stop.invariant.stands c.as_slice-code.result.now code c.index-code-self.is c.execute.new.self
-          (given_of (g.S.Sink.so_far c.execute.new.sink) c.execute.new.piece)
-          (subst (λ f. Executed told i s u (Ok f)) c.in-Ok-On.field-0-is did.step) did.given did.size did.plain;
+          going.onward-by c.loop-stop.invariant.stands c.as_slice-code.result.now code c.index-code-self.is once refl c.execute.new.self after
+          (subst (λ f. TurnedBy once told i s c.execute.new.self (Ok f)) c.in-Ok-On.field-0-is did.step)
+          (subst (λ f. IsPut {F = SinkFault} (Ok tt) before after (put_out once g.run.0.plan i s (Ok f))) c.in-Ok-On.field-0-is did.given)
+          did.size did.plain;
     }
 
 pub returns-in-Ok-Over-clause-came : goal.returns-in-Ok-Over-clause-came
 returns-in-Ok-Over-clause-came g c =
-    let told = told_at g.run.0 c.loop-stop.self in
-    let s = state_of told c.loop-stop.self in
+    let m = c.loop-stop.self in
+    let told = told_at g.run.0 m in
+    let s = state_of told m in
     let i = instruction_of c.index-code-self.result in
+    let once = at_once g.run.0.plan.code m.place i in
     let code = ap (λ (p : Plan). p.code) c.requires.1.0 ∙ ap instructions_of (sym c.as_slice-code.ensures.value) in
-    let u = state_of (told_behind i s told) c.execute.new.self in
-    going.over c.loop-stop.invariant.stands c.as_slice-code.result.now code c.index-code-self.is
-    (given_of (g.S.Sink.so_far c.execute.new.sink) c.execute.new.piece) None false
-    (subst (λ f. Executed told i s u (Ok f)) c.in-Ok-Over.field-0-is c.in-Ok-Over.ensures.step) c.in-Ok-Over.ensures.given
+    let before = given_of (g.S.Sink.so_far c.loop-stop.sink) c.loop-stop.piece in
+    let after = given_of (g.S.Sink.so_far c.execute.new.sink) c.execute.new.piece in
+    going.over-by c.loop-stop.invariant.stands c.as_slice-code.result.now code c.index-code-self.is once c.execute.new.self after
+    (subst (λ f. TurnedBy once told i s c.execute.new.self (Ok f)) c.in-Ok-Over.field-0-is c.in-Ok-Over.ensures.step)
+    (subst (λ f. IsPut {F = SinkFault} (Ok tt) before after (put_out once g.run.0.plan i s (Ok f))) c.in-Ok-Over.field-0-is c.in-Ok-Over.ensures.given)
 
 pub returns-in-Ok-Over-clause-taken : goal.returns-in-Ok-Over-clause-taken
 returns-in-Ok-Over-clause-taken g c = grows-on (g.S.Sink.so_far c.args.sink.now) (g.S.Sink.so_far c.loop-stop.sink) (g.S.Sink.so_far c.execute.new.sink)
@@ -122,16 +134,14 @@ error_for-requires g c =
 pub returns-in-Err-clause-came : goal.returns-in-Err-clause-came
 returns-in-Err-clause-came g c =
     let m = c.loop-stop.self in
-    let told = told_at g.run.0 m in
-    let s = state_of told m in
+    let n = c.execute.new.self in
     let i = instruction_of c.index-code-self.result in
+    let once = at_once g.run.0.plan.code m.place i in
     let code = ap (λ (p : Plan). p.code) c.requires.1.0 ∙ ap instructions_of (sym c.as_slice-code.ensures.value) in
-    let u = state_of (told_behind i s told) c.execute.new.self in
     let did = c.in-Err.ensures in
-    going.stops c.loop-stop.invariant.stands c.as_slice-code.result.now code c.index-code-self.is
-    (given_of (g.S.Sink.so_far c.execute.new.sink) c.execute.new.piece) u (IsPlain c.execute.new.self)
-    (going.text-behind i s told refl) c.in-Err.stop c.error_for.result did.step did.given did.plain
-    (subst (λ (p : Plan). IsStopped (slice_get p.templates m.template) u.line c.in-Err.stop c.error_for.result) (sym c.requires.1.0) c.error_for.ensures)
+    going.stops-by c.loop-stop.invariant.stands c.as_slice-code.result.now code c.index-code-self.is once refl n
+    (given_of (g.S.Sink.so_far c.execute.new.sink) c.execute.new.piece) (IsPlain n) c.in-Err.stop c.error_for.result did.step did.given did.plain
+    (subst (λ (p : Plan). IsStopped (slice_get p.templates m.template) n.line c.in-Err.stop c.error_for.result) (sym c.requires.1.0) c.error_for.ensures)
 
 pub returns-in-Err-clause-taken : goal.returns-in-Err-clause-taken
 returns-in-Err-clause-taken g c = grows-on (g.S.Sink.so_far c.args.sink.now) (g.S.Sink.so_far c.loop-stop.sink) (g.S.Sink.so_far c.execute.new.sink)

@@ -1,0 +1,216 @@
+//! Values that are shown where they lie: an instruction that puts a value is carried out at once with the two behind
+//! it, where they settle and show that.
+ghost use Rattle.std.specs.Prelude.{◌≡◌, ◌+◌, ◌-◌, ◌<◌, ◌^◌, Some, length, true};
+ghost use Rattle.tmpl_meaning.specs.Sink.{IsPut};
+ghost use Rattle.tmpl_code.specs.Instruction.{act, push_dot, push_fields, push_slot};
+ghost use Rattle.tmpl_code.specs.View.{instruction_of, instructions_of};
+ghost use Rattle.tmpl_run.specs.computed.Machines.{Told, state_of};
+ghost use Rattle.tmpl_run.specs.computed.Output.{Grows, given_of};
+ghost use Rattle.tmpl_run.specs.computed.Plain.{IsPlain, SparedOr};
+ghost use Rattle.tmpl_run.specs.computed.Turned.{Shown, TurnedBy, is_shown, put_by, put_out, settles, shows};
+ghost use Rattle.tmpl_run.specs.computed.View.{cells_of, size_of};
+
+use crate::flow::Flow;
+use crate::halt::Halt;
+use crate::machine::Machine;
+use crate::piece::Piece;
+use tmpl_code::Instruction;
+use tmpl_meaning::{MissingKey, Sink};
+use tmpl_values::Bytes;
+
+#[inline(always)]
+fn settles(instruction: &Instruction<'_>) -> bool
+    ensures { result ≡ settles (Some (instruction_of instruction.now)) }
+{
+    match instruction {
+        Instruction::Settle => true,
+        _ => false,
+    }
+}
+
+#[inline(always)]
+fn shows(instruction: &Instruction<'_>) -> bool
+    ensures { result ≡ shows (Some (instruction_of instruction.now)) }
+{
+    match instruction {
+        Instruction::Show => true,
+        _ => false,
+    }
+}
+
+/// Whether the two instructions behind a place settle and show what the one there puts.
+#[inline(always)]
+fn is_shown(code: &[Instruction<'_>], place: usize) -> bool
+    requires { place < length code.now }
+    ensures shown { result ≡ is_shown (instructions_of code.now) place }
+    ensures within { result ≡ true → place + 2 < length code.now }
+{
+    if place + 2 >= code.len() {
+        return false;
+    }
+    settles(&code[place + 1]) && shows(&code[place + 2])
+}
+
+impl<'m, 'a> Machine<'m, 'a> {
+    /// Puts dot, or its text where that is shown.
+    #[inline(always)]
+    pub(crate) fn put_dot<S: Sink>(
+        &mut self,
+        code: &[Instruction<'a>],
+        piece: &mut Piece<'_>,
+        sink: &mut S,
+    ) -> Result<Flow, Halt<'a>>
+        ghost run: { Told }
+        requires code { run.plan.code ≡ instructions_of code.now }
+        requires here { self.old.place < length code.now }
+        requires room { length (cells_of self.old.stack) < size_of self.old.stack }
+        requires countable { (S.so_far sink.old).failures < 2 ^ 64 - 1 }
+        ensures step { TurnedBy (is_shown run.plan.code self.old.place) run (act push_dot) (state_of run self.old)
+            self.new result }
+        ensures given { IsPut (put_by result) (given_of (S.so_far sink.old) piece.old)
+            (given_of (S.so_far sink.new) piece.new)
+            (put_out (is_shown run.plan.code self.old.place) run.plan (act push_dot) (state_of run self.old) result) }
+        ensures taken { Grows (S.so_far sink.old) (S.so_far sink.new) }
+        ensures plain { IsPlain self.old → SparedOr result (IsPlain self.new) }
+        ensures size { size_of self.new.stack ≡ size_of self.old.stack }
+    {
+        if !is_shown(code, self.place) {
+            return self.push_dot();
+        }
+        self.show_dot(piece, sink)
+    }
+
+    /// Puts the field of the field of .. of dot, by these names, or its text where that is shown.
+    #[inline(always)]
+    pub(crate) fn put_fields<S: Sink>(
+        &mut self,
+        missing_key: MissingKey,
+        names: &'a [Bytes],
+        code: &[Instruction<'a>],
+        piece: &mut Piece<'_>,
+        sink: &mut S,
+    ) -> Result<Flow, Halt<'a>>
+        ghost run: { Told }
+        requires mode { run.plan.rules.missing_key ≡ missing_key }
+        requires code { run.plan.code ≡ instructions_of code.now }
+        requires here { self.old.place < length code.now }
+        requires room { length (cells_of self.old.stack) < size_of self.old.stack }
+        requires countable { (S.so_far sink.old).failures < 2 ^ 64 - 1 }
+        ensures step { TurnedBy (is_shown run.plan.code self.old.place) run (act (push_fields names.now))
+            (state_of run self.old) self.new result }
+        ensures given { IsPut (put_by result) (given_of (S.so_far sink.old) piece.old)
+            (given_of (S.so_far sink.new) piece.new)
+            (put_out (is_shown run.plan.code self.old.place) run.plan (act (push_fields names.now))
+            (state_of run self.old) result) }
+        ensures taken { Grows (S.so_far sink.old) (S.so_far sink.new) }
+        ensures plain { IsPlain self.old → SparedOr result (IsPlain self.new) }
+        ensures size { size_of self.new.stack ≡ size_of self.old.stack }
+    {
+        if !is_shown(code, self.place) {
+            return self.push_fields(missing_key, names);
+        }
+        self.show_fields(missing_key, names, piece, sink)
+    }
+
+    /// Puts the value of a slot once more, or its text where that is shown.
+    #[inline(always)]
+    pub(crate) fn put_slot<S: Sink>(
+        &mut self,
+        slot: usize,
+        code: &[Instruction<'a>],
+        piece: &mut Piece<'_>,
+        sink: &mut S,
+    ) -> Result<Flow, Halt<'a>>
+        ghost run: { Told }
+        requires found { slot < length (cells_of self.old.stack) }
+        requires code { run.plan.code ≡ instructions_of code.now }
+        requires here { self.old.place < length code.now }
+        requires room { length (cells_of self.old.stack) < size_of self.old.stack }
+        requires countable { (S.so_far sink.old).failures < 2 ^ 64 - 1 }
+        ensures step { TurnedBy (is_shown run.plan.code self.old.place) run (act (push_slot slot))
+            (state_of run self.old) self.new result }
+        ensures given { IsPut (put_by result) (given_of (S.so_far sink.old) piece.old)
+            (given_of (S.so_far sink.new) piece.new)
+            (put_out (is_shown run.plan.code self.old.place) run.plan (act (push_slot slot)) (state_of run self.old)
+            result) }
+        ensures taken { Grows (S.so_far sink.old) (S.so_far sink.new) }
+        ensures plain { IsPlain self.old → SparedOr result (IsPlain self.new) }
+        ensures size { size_of self.new.stack ≡ size_of self.old.stack }
+    {
+        if !is_shown(code, self.place) {
+            return self.push_slot(slot);
+        }
+        self.show_slot(slot, piece, sink)
+    }
+
+    /// Puts out the text of dot, for three instructions.
+    #[inline(always)]
+    fn show_dot<S: Sink>(&mut self, piece: &mut Piece<'_>, sink: &mut S) -> Result<Flow, Halt<'a>>
+        ghost run: { Told }
+        requires place { self.old.place + 3 < 2 ^ 64 }
+        requires countable { (S.so_far sink.old).failures < 2 ^ 64 - 1 }
+        ensures step { Shown run (act push_dot) (state_of run self.old) (state_of run self.new) result }
+        ensures given { IsPut (put_by result) (given_of (S.so_far sink.old) piece.old)
+            (given_of (S.so_far sink.new) piece.new)
+            (put_out true run.plan (act push_dot) (state_of run self.old) result) }
+        ensures taken { Grows (S.so_far sink.old) (S.so_far sink.new) }
+        ensures plain { IsPlain self.old → SparedOr result (IsPlain self.new) }
+        ensures size { size_of self.new.stack ≡ size_of self.old.stack }
+    {
+        self.place += 3;
+        piece.show(sink, &self.dot)?;
+        Ok(Flow::On)
+    }
+
+    /// Puts out the text of a field of a field of .. of dot, for three instructions.
+    #[inline(always)]
+    fn show_fields<S: Sink>(
+        &mut self,
+        missing_key: MissingKey,
+        names: &'a [Bytes],
+        piece: &mut Piece<'_>,
+        sink: &mut S,
+    ) -> Result<Flow, Halt<'a>>
+        ghost run: { Told }
+        requires mode { run.plan.rules.missing_key ≡ missing_key }
+        requires place { self.old.place + 3 < 2 ^ 64 }
+        requires countable { (S.so_far sink.old).failures < 2 ^ 64 - 1 }
+        ensures step { Shown run (act (push_fields names.now)) (state_of run self.old) (state_of run self.new) result }
+        ensures given { IsPut (put_by result) (given_of (S.so_far sink.old) piece.old)
+            (given_of (S.so_far sink.new) piece.new)
+            (put_out true run.plan (act (push_fields names.now)) (state_of run self.old) result) }
+        ensures taken { Grows (S.so_far sink.old) (S.so_far sink.new) }
+        ensures plain { IsPlain self.old → SparedOr result (IsPlain self.new) }
+        ensures size { size_of self.new.stack ≡ size_of self.old.stack }
+    {
+        let val = self.field_of_dot(missing_key, names)?;
+        self.place += 3;
+        piece.show(sink, &val)?;
+        Ok(Flow::On)
+    }
+
+    /// Puts out the text of the value of a slot, for three instructions.
+    #[inline(always)]
+    fn show_slot<S: Sink>(
+        &mut self,
+        slot: usize,
+        piece: &mut Piece<'_>,
+        sink: &mut S,
+    ) -> Result<Flow, Halt<'a>>
+        ghost run: { Told }
+        requires found { slot < length (cells_of self.old.stack) }
+        requires place { self.old.place + 3 < 2 ^ 64 }
+        requires countable { (S.so_far sink.old).failures < 2 ^ 64 - 1 }
+        ensures step { Shown run (act (push_slot slot)) (state_of run self.old) (state_of run self.new) result }
+        ensures given { IsPut (put_by result) (given_of (S.so_far sink.old) piece.old)
+            (given_of (S.so_far sink.new) piece.new)
+            (put_out true run.plan (act (push_slot slot)) (state_of run self.old) result) }
+        ensures taken { Grows (S.so_far sink.old) (S.so_far sink.new) }
+        ensures plain { IsPlain self.old → SparedOr result (IsPlain self.new) }
+        ensures size { size_of self.new.stack ≡ size_of self.old.stack }
+    {
+        self.place += 3;
+        self.stack.show_slot(slot, piece, sink)?;
+        Ok(Flow::On)
+    }
+}
