@@ -139,7 +139,8 @@ pub fn render<'a, S: Sink>(
     out: &mut S,
 ) -> Result<(), RenderError<'a>>
     requires { (S.so_far out.old).failures < 2 ^ 64 - 1 }
-    ensures { Renders options.now (set_view set.now) name.now «data».entry (S.so_far out.old) (S.so_far out.new) result }
+    ensures { Renders options.now (set_view set.now) name.now «data».entry
+        (S.so_far out.old) (S.so_far out.new) result }
 {
     let mut piece = [0; PIECE_SIZE];
     render_through(alloc, set, name, data, options, piece.as_mut_slice(), out)
@@ -161,7 +162,8 @@ pub fn render_through<'a, S: Sink>(
     out: &mut S,
 ) -> Result<(), RenderError<'a>>
     requires { (S.so_far out.old).failures < 2 ^ 64 - 1 }
-    ensures { Renders options.now (set_view set.now) name.now «data».entry (S.so_far out.old) (S.so_far out.new) result }
+    ensures { Renders options.now (set_view set.now) name.now «data».entry
+        (S.so_far out.old) (S.so_far out.new) result }
 {
     match set.number(name) {
         Some(number) => run_once(alloc, set, number, data, options, piece, out),
