@@ -5,7 +5,6 @@ ghost use Rattle.tmpl_tool.specs.Laws.{TellsFailedWrite, TellsRefusedMemory};
 
 /// The law that clap's definition of the words does not depend on where the four words of `--missingkey` lie in memory,
 /// so that it may be stated at any one place.
-#[tactic(auto, using(crate::proofs::ModeNameLemmas::lies_anywhere))]
 pub fn one_place()
     ensures { LiesAnywhere }
 {}
