@@ -12,7 +12,7 @@ use Rattle.std.proofs.lemmas.Bool.{and_parts}
 use Rattle.std.proofs.lemmas.Bool.Decides.{nat_tests}
 use Rattle.tmpl_lex.specs.Bytes.{is_number_byte, Stops}
 use Rattle.tmpl_lex.specs.declared.piece.TokenKind.TheVariants as kind
-use Rattle.tmpl_grammar.specs.Constant.Integer.{is_plain, begins_plain, underscores_part, number_in, parted_number, behind_zero, magnitude, signed, integer}
+use Rattle.tmpl_grammar.specs.computed.Integer.{is_plain, begins_plain, underscores_part, number_in, parted_number, behind_zero, magnitude, signed, integer}
 use Rattle.tmpl_grammar.specs.Print.{token}
 use Rattle.tmpl_grammar.proofs.FrontLemmas.{IsFront, digit-front, minus-front, Solid, solid, minus}
 use Rattle.tmpl_grammar.proofs.IntegerLemmas.{digits-plain}
