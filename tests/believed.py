@@ -25,7 +25,7 @@ MOST = {
     "tmpl_values": 244,
     "tmpl_funcs": 380,
     "tmpl_lex": 111,
-    "tmpl_grammar": 348,
+    "tmpl_grammar": 327,
     "tmpl_syntax": 469,
     "tmpl_meaning": 311,
     "tmpl_tool": 292,

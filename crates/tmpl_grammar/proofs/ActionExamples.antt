@@ -3,7 +3,7 @@ use Rattle.std.proofs.Common.{arith, ℕ, pos, List, [], ◌∷◌, refl, codes}
 use Rattle.tmpl_lex.specs.declared.piece.TokenKind.TheVariants as kind
 use Rattle.tmpl_lex.specs.Piece.{Token}
 use Rattle.tmpl_grammar.specs.declared.tree.Control.TheVariants as control
-use Rattle.tmpl_grammar.specs.Constant.Integer.{integer}
+use Rattle.tmpl_grammar.specs.computed.Integer.{integer}
 use Rattle.tmpl_grammar.specs.Constant as constant
 use Rattle.tmpl_grammar.specs.Operand as operand
 use Rattle.tmpl_grammar.specs.computed.Operand.{operand_at, word_operand, func_named}
@@ -13,6 +13,7 @@ use Rattle.tmpl_grammar.specs.Action.{Action, pipeline_action, opening, else_bra
 use Rattle.tmpl_grammar.specs.computed.Reading.{keyword_of, split, pipeline_in, action_in}
 use Rattle.tmpl_grammar.specs.declared.action.Branch.TheVariants.{If}
 use Rattle.tmpl_grammar.proofs.PipelineExamples.{token, space, period, field, word, one, a, single}
+use Rattle.tmpl_grammar.proofs.IsIntegerLemmas.{integer-admitted}
 use Rattle.tmpl_grammar.proofs.ActionLemmas.{none-spelled}
 
 abbrev variable : List ℕ → Token
@@ -58,7 +59,7 @@ a-declaration = (
       refl,
       tt,
       refl,
-      (one ∷ space ∷ [], [], refl, ([], one ∷ [], space ∷ [], refl, tt, (one, [], refl, operand.a_constant (constant.number refl), refl), (refl, tt)), refl),
+      (one ∷ space ∷ [], [], refl, ([], one ∷ [], space ∷ [], refl, tt, (one, [], refl, operand.a_constant (constant.number (integer-admitted (codes "1") (pos 1) refl)), refl), (refl, tt)), refl),
     ),
   ),
 )

@@ -8,7 +8,7 @@ use Rattle.tmpl_values.specs.Rune.{first_rune}
 use Rattle.tmpl_lex.specs.Piece.{Token}
 use Rattle.tmpl_grammar.specs.Token.{token}
 use Rattle.tmpl_grammar.specs.Tree.{Operand, number_constant, text_constant}
-use Rattle.tmpl_grammar.specs.Constant.Integer.{integer}
+use Rattle.tmpl_grammar.specs.computed.Integer.{integer}
 use Rattle.tmpl_grammar.specs.Constant as constant
 use Rattle.tmpl_grammar.specs.Constant.{IsConstant}
 use Rattle.tmpl_grammar.specs.Constant.Quoted.{a_letter, octal, four_digits, at_end, an_escape}

@@ -6,7 +6,7 @@ use Rattle.tmpl_lex.specs.declared.piece.TokenKind.{TokenKind}
 use Rattle.tmpl_lex.specs.declared.piece.TokenKind.TheVariants as kind
 use Rattle.tmpl_lex.specs.Piece.{Token}
 use Rattle.tmpl_grammar.specs.computed.Constant.{constant_of, constant_by, string_in, raw_string_in, character_in}
-use Rattle.tmpl_grammar.specs.Constant.Integer.{integer}
+use Rattle.tmpl_grammar.specs.computed.Integer.{integer}
 use Rattle.tmpl_grammar.specs.computed.Quoted.{between, unquoted, rune_code}
 use Rattle.tmpl_grammar.specs.Token.{begins_name, name_in}
 use Rattle.tmpl_grammar.specs.Tree as tree

@@ -8,7 +8,7 @@ use Rattle.std.proofs.Math.Seq.{take-append_seam}
 use Rattle.std.proofs.lemmas.List.{take-append-drop, length-take}
 use Rattle.std.proofs.lemmas.Bool.{and_parts}
 use Rattle.std.proofs.lemmas.Bool.Decides.{nat_tests}
-use Rattle.tmpl_grammar.specs.Constant.Integer.{number_in}
+use Rattle.tmpl_grammar.specs.computed.Integer.{number_in}
 use Rattle.tmpl_grammar.specs.Constant.Quoted.{AreDigits}
 use Rattle.tmpl_grammar.specs.computed.Quoted.{code}
 

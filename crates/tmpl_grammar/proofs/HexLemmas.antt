@@ -10,7 +10,7 @@ use Rattle.std.proofs.lemmas.Str.{digit_value-digit_char}
 use Rattle.std.proofs.lemmas.List.Folds.{list_all-append}
 use Rattle.std.proofs.lemmas.Bool.Decides.{nat_tests}
 use Rattle.tmpl_values.specs.Quote.{hexes}
-use Rattle.tmpl_grammar.specs.Constant.Integer.{number_in}
+use Rattle.tmpl_grammar.specs.computed.Integer.{number_in}
 use Rattle.tmpl_grammar.specs.computed.Quoted.{code}
 
 pub length-hexes : (k c : ℕ) → length (hexes k c) ≡ k

@@ -6,7 +6,7 @@ use Rattle.std.specs.List.{list_all}
 use Rattle.std.specs.Char.{is_digit, digit_value}
 use Rattle.std.specs.Str.Parse.{digits_value_after}
 use Rattle.std.proofs.lemmas.Bool.Decides.{nat_tests}
-use Rattle.tmpl_grammar.specs.Constant.Integer.{is_plain, signed, magnitude, integer}
+use Rattle.tmpl_grammar.specs.computed.Integer.{is_plain, signed, magnitude, integer}
 use Rattle.tmpl_grammar.specs.computed.Within.{within}
 use Rattle.tmpl_grammar.proofs.ListLemmas.{take-rest}
 
@@ -46,7 +46,7 @@ too-large true n h =
 pub left-large : (base n : ℕ) (bs : List ℕ) → 1 ≤ base → 2 ^ 63 < n → left base n bs ≡ None
 left-large base n bs h large = too-large _ (digits_value_after base n (filter is_plain bs)) (omega (arith, grown base n (filter is_plain bs) h))
 
-underscore : (d base : ℕ) → base ≤ 16 → is_digit d base ≡ true → is_plain d ≡ false → ⊥
+pub underscore : (d base : ℕ) → base ≤ 16 → is_digit d base ≡ true → is_plain d ≡ false → ⊥
 underscore d base h e o = let is : d ≡ 95 = grind (arith, nat_tests) in let none = rw is at e in grind (arith, nat_tests)
 
 one-plain : (digit own : Bool) (base d : ℕ) (ds : List ℕ) → base ≤ 16 → is_digit d base ≡ digit → is_plain d ≡ own

@@ -14,13 +14,14 @@ use Rattle.tmpl_grammar.specs.Token.{token}
 use Rattle.tmpl_grammar.specs.Tree.{Operand, number_constant, text_constant}
 use Rattle.tmpl_grammar.specs.Constant as constant
 use Rattle.tmpl_grammar.specs.Constant.{IsConstant}
-use Rattle.tmpl_grammar.specs.Constant.Integer.{integer}
+use Rattle.tmpl_grammar.specs.computed.Integer.{integer}
 use Rattle.tmpl_grammar.specs.Constant.Quoted.{SpellsRunes, code_of}
 use Rattle.tmpl_grammar.specs.Laws.{ComputesConstant, IsComputedConstant}
 use Rattle.tmpl_grammar.specs.computed.Constant.{constant_of, constant_by, string_in, raw_string_in, character_in}
 use Rattle.tmpl_grammar.specs.computed.Quoted.{between, parts, unquoted, one_code, rune_code}
 use Rattle.tmpl_grammar.proofs.EscapeLemmas.{double, single}
 use Rattle.tmpl_grammar.proofs.HasPartsLemmas.{parts-computed, parts-admitted}
+use Rattle.tmpl_grammar.proofs.IsIntegerLemmas.{integer-computed, integer-admitted}
 use Rattle.tmpl_grammar.proofs.OptionLemmas.{no-value, mapped, chained}
 
 -- ---- the quotes
@@ -81,7 +82,7 @@ between-is quote bs xs e = go (quoted quote bs) refl e
 
 pub computes-constant : ComputesConstant
 unfolding constant_of
-computes-constant _ _ (constant.number is) = ap (option_map number_constant) is
+computes-constant _ _ (constant.number is) = ap (option_map number_constant) (integer-computed is)
 computes-constant _ _ (constant.string {bs = bs} {rs = ps} has) =
     ap (option_and_then string_in) (between-quotes 34 bs)
     ∙ ap (λ o. option_map text_constant (option_map (flat_map bytes_in) o)) (parts-computed 34 bs ps double has)
@@ -95,7 +96,7 @@ computes-constant _ _ (constant.character {bs = bs} {r = p} has) =
 is-number : (bs : List ℕ) (o : Operand) → option_map number_constant (integer bs) ≡ Some o → IsConstant (token kind.Number bs) o
 is-number bs o e =
     let m = mapped number_constant (integer bs) o e in
-    subst (IsConstant (token kind.Number bs)) m.to (constant.number m.is)
+    subst (IsConstant (token kind.Number bs)) m.to (constant.number (integer-admitted bs m.source m.is))
 
 is-string : (bs : List ℕ) (o : Operand) → option_and_then string_in (between 34 bs) ≡ Some o → IsConstant (token kind.String bs) o
 is-string bs o e =

@@ -12,6 +12,7 @@ pub mod HeaderLemmas
 pub mod HexLemmas
 pub mod IntegerLemmas
 pub mod IsConstantLemmas
+pub mod IsIntegerLemmas
 pub mod IsOperandLemmas
 pub mod LimitLemmas
 pub mod ListLemmas

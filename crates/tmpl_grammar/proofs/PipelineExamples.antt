@@ -5,7 +5,7 @@ use Rattle.tmpl_lex.specs.declared.piece.TokenKind.{TokenKind}
 use Rattle.tmpl_lex.specs.declared.piece.TokenKind.TheVariants as kind
 use Rattle.tmpl_lex.specs.Piece.{Token}
 use Rattle.tmpl_grammar.specs.computed.Constant.{constant_of}
-use Rattle.tmpl_grammar.specs.Constant.Integer.{integer}
+use Rattle.tmpl_grammar.specs.computed.Integer.{integer}
 use Rattle.tmpl_grammar.specs.computed.Operand.{operand_at, word_operand, func_named}
 use Rattle.tmpl_grammar.specs.computed.Parser.{step, finished}
 use Rattle.tmpl_grammar.specs.Tree.{Operand, dot, fields, number_constant, function, group, no_operand, operand, Commands, no_command, command, pipeline}

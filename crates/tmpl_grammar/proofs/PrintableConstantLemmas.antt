@@ -12,7 +12,7 @@ use Rattle.tmpl_values.specs.Rune.{Rune, char, byte, bytes_in}
 use Rattle.tmpl_values.specs.Rune.{first_rune}
 use Rattle.tmpl_values.specs.Bytes.{AreBytes}
 use Rattle.tmpl_values.proofs.RuneLemmas.{Front, encoding, lone, front}
-use Rattle.tmpl_grammar.specs.Constant.Integer.{magnitude, signed, integer}
+use Rattle.tmpl_grammar.specs.computed.Integer.{magnitude, signed, integer}
 use Rattle.tmpl_grammar.specs.Constant.Quoted.{code_of, without_returns}
 use Rattle.tmpl_grammar.specs.computed.Quoted.{Spelled, rune_part, as_byte, as_char, code, byte_named, coded, escape_by, escape, part_at}
 use Rattle.tmpl_grammar.specs.computed.Quoted.{with_part, parts_after, parts, unquoted, one_code, rune_code}

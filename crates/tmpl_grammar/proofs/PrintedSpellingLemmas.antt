@@ -23,7 +23,7 @@ use Rattle.tmpl_grammar.specs.Print.{given_tokens}
 use Rattle.tmpl_grammar.specs.Printable.{AreFieldNames, OfOperand, OfMore, OfCommand, OfLater, OfCommands, OfPipeline, OfBinding, OfGiven, OfAction, OfHeader}
 use Rattle.tmpl_grammar.proofs.IsConstantLemmas.{between-quotes, is-computed-constant}
 use Rattle.tmpl_grammar.proofs.QuotePartLemmas.{unquoted-inside}
-use Rattle.tmpl_grammar.proofs.PrintedNumberLemmas.{integer-decimal}
+use Rattle.tmpl_grammar.proofs.PrintedNumberLemmas.{integer-spelled}
 
 -- ---- operands of one token
 
@@ -62,7 +62,7 @@ mutual
   spells-operand (tree.fields (n ∷ ns)) h = (token kind.Field (46 ∷ n), chain_tokens ns, refl, operand.field refl h.0.0, spells-chain ns h.1)
   spells-operand (tree.variable name names) h = (token kind.Variable (36 ∷ name), chain_tokens names, refl, operand.variable refl, spells-chain names h.1)
   spells-operand (tree.bool_constant b) h = (word _, [], refl, operand.truth b, refl)
-  spells-operand (tree.number_constant n) h = (token kind.Number _, [], refl, operand.a_constant (constant.number (integer-decimal n h)), refl)
+  spells-operand (tree.number_constant n) h = (token kind.Number _, [], refl, operand.a_constant (constant.number (integer-spelled n h)), refl)
   spells-operand (tree.text_constant bytes) h = (token kind.String (quote bytes), [], refl, operand.a_constant (quoted-constant bytes h), refl)
   spells-operand tree.nil h = (word _, [], refl, operand.nil_word, refl)
   spells-operand (tree.function f) h = (word (name_of f), [], refl, operand.a_function f, refl)

@@ -1,5 +1,6 @@
 pub mod Constant
 pub mod Depth
+pub mod Integer
 pub mod Keyword
 pub mod Limited
 pub mod Operand

@@ -1,37 +1,16 @@
 -- The whole constants of templates, spelled as "Integer literals" in the specification of Go's language has them, with
 -- a sign before them or none. That a number with a point or an exponent is refused is our own rule.
-use Rattle.std.specs.Prelude.{ℕ, ℤ, pos, neg_ℤ, ◌^◌, ◌&&◌, ◌||◌, ◌==◌, not, nat_lt, nat_le, Bool, true, false}
-use Rattle.std.specs.Prelude.{List, [], ◌∷◌, Option, Some, None, if◌then◌else◌, filter, option_and_then}
-use Rattle.std.specs.List.{list_all}
+use Rattle.std.specs.Prelude.{◌≡◌, ◌<◌, ◌≤◌, ℕ, ℤ, pos, neg_ℤ, ◌^◌, ◌||◌, ◌==◌, true, List, [], ◌∷◌}
+use Rattle.std.specs.Prelude.{Option, Some, None, if◌then◌else◌}
 use Rattle.std.specs.Char.{is_digit}
+use Rattle.std.specs.Str.{byte}
 use Rattle.std.specs.Str.Parse.{digits_value}
 
--- the byte is no underscore
-abbrev pub is_plain : ℕ → Bool
-is_plain b = not (b == 95)
-
--- a byte stands next, and it is no underscore
-abbrev pub begins_plain : List ℕ → Bool
-begins_plain [] = false
-begins_plain (b ∷ bs) = is_plain b
-
--- a byte other than an underscore stands behind each underscore
-abbrev pub underscores_part : List ℕ → Bool
-underscores_part [] = true
-underscores_part (b ∷ bs) = (is_plain b || begins_plain bs) && underscores_part bs
-
--- the number that digits write in a base, if each is a digit of the base
-abbrev pub number_in : ℕ → List ℕ → Option ℕ
-number_in base ds = if list_all (λ d. is_digit d base) ds then Some (digits_value base ds) else None
-
--- the same of digits that single underscores may part
-abbrev pub parted_number : ℕ → List ℕ → Option ℕ
-parted_number base bs = if underscores_part bs then number_in base (filter is_plain bs) else None
-
--- the same, with at least one byte there
-abbrev pub some_number : ℕ → List ℕ → Option ℕ
-some_number base [] = None
-some_number base (b ∷ bs) = parted_number base (b ∷ bs)
+-- digits of a base, a single underscore before any of them; and the digits without these
+pub data AreParted (base : ℕ) : List ℕ → List ℕ → Type 0 where
+  no_digit : AreParted base [] []
+  digit : {d : ℕ} {bs ds : List ℕ} → is_digit d base ≡ true → AreParted base bs ds → AreParted base (d ∷ bs) (d ∷ ds)
+  parted : {d : ℕ} {bs ds : List ℕ} → AreParted base (d ∷ bs) (d ∷ ds) → AreParted base (byte "_" ∷ d ∷ bs) (d ∷ ds)
 
 -- the base that a letter behind a leading zero names
 abbrev pub base_named : ℕ → Option ℕ
@@ -40,31 +19,16 @@ base_named b =
     else (if b == 111 || b == 79 then Some 8
     else (if b == 98 || b == 66 then Some 2 else None))
 
--- behind a leading zero: the digits of the base that is named, or octal digits
-abbrev pub number_by : Option ℕ → ℕ → List ℕ → Option ℕ
-number_by None b bs = parted_number 8 (b ∷ bs)
-number_by (Some base) b bs = some_number base bs
+-- a number without its sign: a decimal one, one of octal digits behind a zero, or of the base that is named there
+pub data IsMagnitude : List ℕ → ℕ → Type 0 where
+  decimal : {d : ℕ} {bs ds : List ℕ} → (d ≡ byte "0" → ⊥) → AreParted 10 (d ∷ bs) (d ∷ ds)
+      → IsMagnitude (d ∷ bs) (digits_value 10 (d ∷ ds))
+  octal : {bs ds : List ℕ} → AreParted 8 bs ds → IsMagnitude (byte "0" ∷ bs) (digits_value 8 ds)
+  based : {base b c : ℕ} {bs ds : List ℕ} → base_named b ≡ Some base → AreParted base (c ∷ bs) ds
+      → IsMagnitude (byte "0" ∷ b ∷ c ∷ bs) (digits_value base ds)
 
-abbrev pub behind_zero : List ℕ → Option ℕ
-behind_zero [] = Some 0
-behind_zero (b ∷ bs) = number_by (base_named b) b bs
-
--- the number without its sign
-abbrev pub magnitude : List ℕ → Option ℕ
-magnitude [] = None
-magnitude (b ∷ bs) =
-    if b == 48 then behind_zero bs
-    else (if b == 95 then None else parted_number 10 (b ∷ bs))
-
--- a number by its magnitude, from -2^63 to 2^63 - 1
-abbrev pub signed : Bool → ℕ → Option ℤ
-signed true n = if nat_le n (2 ^ 63) then Some (neg_ℤ (pos n)) else None
-signed false n = if nat_lt n (2 ^ 63) then Some (pos n) else None
-
--- the number that bytes spell, if they spell one
-unfoldable pub integer : List ℕ → Option ℤ
-integer [] = None
-integer (b ∷ bs) =
-    if b == 45 then option_and_then (signed true) (magnitude bs)
-    else (if b == 43 then option_and_then (signed false) (magnitude bs)
-    else option_and_then (signed false) (magnitude (b ∷ bs)))
+-- a number from -2^63 to 2^63 - 1
+pub data IsInteger : List ℕ → ℤ → Type 0 where
+  minus : {bs : List ℕ} {n : ℕ} → IsMagnitude bs n → n ≤ 2 ^ 63 → IsInteger (byte "-" ∷ bs) (neg_ℤ (pos n))
+  plus : {bs : List ℕ} {n : ℕ} → IsMagnitude bs n → n < 2 ^ 63 → IsInteger (byte "+" ∷ bs) (pos n)
+  unsigned : {bs : List ℕ} {n : ℕ} → IsMagnitude bs n → n < 2 ^ 63 → IsInteger bs (pos n)

@@ -4,7 +4,7 @@ use Rattle.tmpl_lex.specs.Piece.{Token}
 use Rattle.tmpl_lex.specs.declared.piece.TokenKind.{TokenKind}
 use Rattle.tmpl_lex.specs.declared.piece.TokenKind.TheVariants as kind
 use Rattle.tmpl_grammar.specs.Tree.{Operand, number_constant, text_constant}
-use Rattle.tmpl_grammar.specs.Constant.Integer.{integer}
+use Rattle.tmpl_grammar.specs.computed.Integer.{integer}
 use Rattle.tmpl_grammar.specs.Constant.Quoted.{without_returns}
 use Rattle.tmpl_grammar.specs.computed.Quoted.{between, unquoted, rune_code}
 

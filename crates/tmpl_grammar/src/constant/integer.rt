@@ -2,14 +2,14 @@
 ghost use Rattle.std.specs.Prelude.{◌≡◌, ◌≤◌, ◌^◌, IfSome, false, filter, option_and_then, true};
 ghost use Rattle.std.specs.Char.{is_digit};
 ghost use Rattle.std.specs.List.{list_all};
-ghost use Rattle.tmpl_grammar.specs.Constant.Integer as spec;
+ghost use Rattle.tmpl_grammar.specs.computed.Integer as spec;
 ghost use Rattle.tmpl_grammar.specs.computed.Within.{within};
 
 /// The largest magnitude that a whole constant has.
 const MOST: u128 = 1 << 63;
 
 /// The number that these bytes spell, if they spell one that fits.
-#[tactic(auto, using(crate::proofs::IntegerLemmas::signs), unfolding(crate::specs::Constant::Integer::integer))]
+#[tactic(auto, using(crate::proofs::IntegerLemmas::signs), unfolding(crate::specs::computed::Integer::integer))]
 pub(crate) fn integer(bytes: &[u8]) -> Option<i64>
     ensures { result ≡ spec.integer bytes.now }
 {

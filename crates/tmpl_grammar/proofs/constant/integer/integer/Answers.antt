@@ -1,6 +1,6 @@
 use Rattle.std.proofs.Common.{◌∙◌, ap, true, false}
 use Rattle.std.specs.Option.{option_and_then}
-use Rattle.tmpl_grammar.specs.Constant.Integer.{signed}
+use Rattle.tmpl_grammar.specs.computed.Integer.{signed}
 use Rattle.tmpl_grammar.proofs.IntegerLemmas.{integer-signed}
 use Rattle.tmpl_grammar.proofs.constant.integer.integer.Goals as goal
 

@@ -1,5 +1,5 @@
 use Rattle.std.proofs.Common.{◌∙◌, ap, sym}
-use Rattle.tmpl_grammar.specs.Constant.Integer.{number_in}
+use Rattle.tmpl_grammar.specs.computed.Integer.{number_in}
 use Rattle.tmpl_grammar.specs.computed.Within.{within}
 use Rattle.tmpl_grammar.proofs.IntegerLemmas.{digits-plain}
 use Rattle.tmpl_grammar.proofs.constant.integer.number_in.Goals as goal

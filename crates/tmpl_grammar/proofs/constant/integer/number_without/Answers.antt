@@ -3,7 +3,7 @@ use Rattle.std.proofs.lemmas.Grind.{common_steps}
 use Rattle.std.proofs.lemmas.Bool.Decides.{nat_tests}
 use Rattle.std.proofs.lemmas.List.{at_drop_more}
 use Rattle.std.specs.Char.{digit_value, is_digit}
-use Rattle.tmpl_grammar.specs.Constant.Integer.{is_plain}
+use Rattle.tmpl_grammar.specs.computed.Integer.{is_plain}
 use Rattle.tmpl_grammar.proofs.IntegerLemmas.{left, left-digit, left-large}
 use Rattle.tmpl_grammar.proofs.constant.integer.number_without.Goals as goal
 

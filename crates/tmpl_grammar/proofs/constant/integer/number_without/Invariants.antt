@@ -1,5 +1,5 @@
 use Rattle.std.proofs.Common.{◌≡◌, ◌≤◌, ◌^◌, drop, filter}
-use Rattle.tmpl_grammar.specs.Constant.Integer.{is_plain, number_in}
+use Rattle.tmpl_grammar.specs.computed.Integer.{is_plain, number_in}
 use Rattle.tmpl_grammar.specs.computed.Within.{within}
 use Rattle.tmpl_grammar.proofs.IntegerLemmas.{left}
 use Rattle.tmpl_grammar.proofs.constant.integer.number_without.Given as goal

@@ -1,5 +1,5 @@
 use Rattle.std.proofs.Common.{◌≡◌, ◌&&◌, ◌||◌, drop}
-use Rattle.tmpl_grammar.specs.Constant.Integer.{begins_plain, underscores_part}
+use Rattle.tmpl_grammar.specs.computed.Integer.{begins_plain, underscores_part}
 use Rattle.tmpl_grammar.proofs.constant.integer.underscores_part.Given as goal
 
 abbrev pub invariant-loop-byte : goal.invariant-loop-byte
