@@ -59,7 +59,21 @@ a-declaration = (
       refl,
       tt,
       refl,
-      (one ∷ space ∷ [], [], refl, ([], one ∷ [], space ∷ [], refl, tt, (one, [], refl, operand.a_constant (constant.number (integer-admitted (codes "1") (pos 1) refl)), refl), (refl, tt)), refl),
+      (
+        one ∷ space ∷ [],
+        [],
+        refl,
+        (
+          [],
+          one ∷ [],
+          space ∷ [],
+          refl,
+          tt,
+          (one, [], refl, operand.a_constant (constant.number (integer-admitted (codes "1") (pos 1) refl)), refl),
+          (refl, tt),
+        ),
+        refl,
+      ),
     ),
   ),
 )

@@ -14,8 +14,8 @@ use Rattle.tmpl_grammar.specs.Pipeline.{IsBlank, SpellsPipeline}
 use Rattle.tmpl_grammar.specs.Header.{is_range, IsSign, IsVariable, Then, SpellsWhole, SpellsBinding, SpellsHeader}
 use Rattle.tmpl_grammar.specs.Keyword.{IsWord}
 use Rattle.tmpl_grammar.specs.computed.Keyword.{spelling}
-use Rattle.tmpl_grammar.specs.computed.Reading.{header_in, spells_keyword, keyword_by, keyword_of, alone, branch_of, text_in, quoted_before}
-use Rattle.tmpl_grammar.specs.computed.Reading.{quoted_at, with_name, named_action, define_by, called, template_by, block_by, pipeline_in}
+use Rattle.tmpl_grammar.specs.computed.Reading.{header_in, spells_keyword, keyword_by, keyword_of, without_tokens, branch_of, text_in, quoted_before}
+use Rattle.tmpl_grammar.specs.computed.Reading.{quoted_at, with_name, named_action, define_by, call_with, template_by, block_by, pipeline_in}
 use Rattle.tmpl_grammar.specs.computed.Reading.{else_branched, else_keyword, else_by, action_by, action_behind, action_at, action_in}
 use Rattle.tmpl_grammar.specs.computed.Constant.{constant_by, constant_of}
 use Rattle.tmpl_grammar.specs.Laws.{ReadsSpelledAction, SpellsReadAction}
@@ -137,7 +137,7 @@ plain-read h ts s =
     ∙ ap (λ o. action_behind o l.rest ts) l.other
     ∙ bound-read false pipeline_action h ts s
 
-alone-read : (a : Action) (us : List Token) → IsBlank us → alone a us ≡ Some a
+alone-read : (a : Action) (us : List Token) → IsBlank us → without_tokens a us ≡ Some a
 alone-read a us b = ap (λ w. cond w (Some a) None) (blank-all us b)
 
 else-read : (k : Keyword) (us : List Token) (Rest : List Token → Type 0) (a : Action)
@@ -176,14 +176,14 @@ named-read made name Rest a us f s =
     ∙ f l.rest l.behind
 
 given-read : (name : List ℕ) (given : Option Pipeline) (vs : List Token) → SpellsGiven given vs → template_by name vs ≡ Some (template_action name given)
-given-read name None vs b = ap (λ w. cond w (Some (template_action name None)) (option_map (called name) (pipeline_in vs))) (blank-all vs b)
+given-read name None vs b = ap (λ w. cond w (Some (template_action name None)) (option_map (call_with name) (pipeline_in vs))) (blank-all vs b)
 given-read name (Some (pipeline cs)) vs s = by (is_blank vs) refl
   where
     by : (w : Bool) → is_blank vs ≡ w → template_by name vs ≡ Some (template_action name (Some (pipeline cs)))
     by true is = spelled-lives vs cs s (blank-read vs (all-blank vs is))
     by false is =
-        ap (λ w. cond w (Some (template_action name None)) (option_map (called name) (pipeline_in vs))) is
-        ∙ ap (option_map (called name)) (reads-spelled vs cs s)
+        ap (λ w. cond w (Some (template_action name None)) (option_map (call_with name) (pipeline_in vs))) is
+        ∙ ap (option_map (call_with name)) (reads-spelled vs cs s)
 
 -- a name that comes first, and what stands behind it
 record Quoted (made : List ℕ → List Token → Option Action) (us : List Token) (a : Action) : Type 0 where
@@ -219,10 +219,10 @@ pipeline-spelled (pipeline cs) vs e = spells-read vs cs e
 given-spelled : (name : List ℕ) (vs : List Token) (a : Action) → template_by name vs ≡ Some a → GivenTo name vs a
 given-spelled name vs a e = by (is_blank vs) refl e
   where
-    by : (w : Bool) → is_blank vs ≡ w → cond w (Some (template_action name None)) (option_map (called name) (pipeline_in vs)) ≡ Some a → GivenTo name vs a
+    by : (w : Bool) → is_blank vs ≡ w → cond w (Some (template_action name None)) (option_map (call_with name) (pipeline_in vs)) ≡ Some a → GivenTo name vs a
     by true is e = record { given = None; spells = all-blank vs is; is = same_Some (template_action name None) a e }
     by false is e =
-        let p = mapped (called name) (pipeline_in vs) a e in
+        let p = mapped (call_with name) (pipeline_in vs) a e in
         record { given = Some p.source; spells = pipeline-spelled p.source vs p.is; is = p.to }
 
 pub reads-action : ReadsSpelledAction
@@ -249,7 +249,7 @@ reads-action ts (block_action name (pipeline cs)) s =
     keyed word.Block (Then (IsQuoted name) Rest) (block_action name (pipeline cs))
     (λ us t. named-read block_by name Rest (block_action name (pipeline cs)) us (λ vs b. ap (option_map (block_action name)) (reads-spelled vs cs b)) t) ts s
 
-alone-blank : (a c : Action) (us : List Token) → alone a us ≡ Some c → IsBlank us × (a ≡ c)
+alone-blank : (a c : Action) (us : List Token) → without_tokens a us ≡ Some c → IsBlank us × (a ≡ c)
 alone-blank a c us e = by (is_blank us) refl e
   where
     by : (b : Bool) → is_blank us ≡ b → cond b (Some a) None ≡ Some c → IsBlank us × (a ≡ c)
@@ -266,7 +266,7 @@ module _ (ts : List Token) (a : Action) where
       subst (λ x. SpellsAction x ts) h.to (f h.source (header-spelled in_range h.source us h.is))
 
   alone-spelled : (k : Keyword) (c : Action) (t : Token) (us : List Token) → next ts ≡ Some (t, us) → IsWord (spelling k) t
-      → (Then (IsWord (spelling k)) IsBlank ts → SpellsAction c ts) → alone c us ≡ Some a → SpellsAction a ts
+      → (Then (IsWord (spelling k)) IsBlank ts → SpellsAction c ts) → without_tokens c us ≡ Some a → SpellsAction a ts
   alone-spelled k c t us n w f e =
       let b = alone-blank c a us e in
       subst (λ x. SpellsAction x ts) b.1 (f (led-then (IsWord (spelling k)) IsBlank ts t us n w b.0))

@@ -93,7 +93,8 @@ each-constant = refl
 two-hundred-fifty-five : IsConstant (token kind.String (codes "\"\\377\\a\"")) (text_constant (255 ∷ 7 ∷ []))
 two-hundred-fifty-five =
     constant.string {bs = codes "\\377\\a"}
-    (an_escape (octal {ds = codes "377"} (refl, (omega arith, (omega arith, (omega arith, tt)))) (omega arith)) (an_escape (a_letter {c = 7} refl (λ h. omega (arith, h))) at_end))
+    (an_escape (octal {ds = codes "377"} (refl, (omega arith, (omega arith, (omega arith, tt)))) (omega arith))
+    (an_escape (a_letter {c = 7} refl (λ h. omega (arith, h))) at_end))
 
 -- `\u` stands for its character
 accent : IsConstant (token kind.Character (codes "'\\u00e9'")) (number_constant (pos 233))

@@ -88,7 +88,8 @@ module _ (quote c e : ℕ) (rest : List ℕ) where
       go : (t : Bool) → nat_eq c 34 ≡ t → (if t then Some 34 else letter_of c (drop 1 letters)) ≡ Some e → Lettered
       go true h is = absurd (other (grind (arith, nat_tests)))
       go false h is =
-          or-next 92 92 (drop 2 letters) refl (or-next 7 97 (drop 3 letters) refl (or-next 8 98 (drop 4 letters) refl (or-next 9 116 (drop 5 letters) refl (or-next 10 110 (drop 6 letters) refl (or-next 11 118 (drop 7 letters) refl
+          or-next 92 92 (drop 2 letters) refl (or-next 7 97 (drop 3 letters) refl (or-next 8 98 (drop 4 letters) refl
+          (or-next 9 116 (drop 5 letters) refl (or-next 10 110 (drop 6 letters) refl (or-next 11 118 (drop 7 letters) refl
           (or-next 12 102 (drop 8 letters) refl (or-next 13 114 [] refl (λ none. absurd (let g : ⊥ = cc in g))))))))) is
 
 sized : (p : Rune) (m n : ℕ) (o : Option Spelled) → o ≡ Some (p, m) → m ≡ n → o ≡ Some (p, n)

@@ -7,7 +7,8 @@ use Rattle.std.specs.Str.Parse.{digits_value}
 use Rattle.std.proofs.lemmas.Bool.{false≢true, and_parts, le-leb, leb-true, lt-ltb, ltb-true}
 use Rattle.std.proofs.lemmas.Bool.Decides.{nat_tests}
 use Rattle.std.proofs.lemmas.Option.{same_Some}
-use Rattle.tmpl_grammar.specs.Constant.Integer.{AreParted, no_digit, digit, parted, base_named, IsMagnitude, decimal, octal, based, IsInteger, minus, plus, unsigned}
+use Rattle.tmpl_grammar.specs.Constant.Integer.{AreParted, no_digit, digit, parted, base_named, IsMagnitude, decimal, octal, based, IsInteger, minus, plus}
+use Rattle.tmpl_grammar.specs.Constant.Integer.{unsigned}
 use Rattle.tmpl_grammar.specs.computed.Integer.{is_plain, begins_plain, underscores_part, number_in, parted_number, number_by, behind_zero}
 use Rattle.tmpl_grammar.specs.computed.Integer.{magnitude, signed, integer}
 use Rattle.tmpl_grammar.proofs.IntegerLemmas.{underscore}

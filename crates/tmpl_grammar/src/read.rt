@@ -81,7 +81,7 @@ fn action_behind(
 fn alone(action: Action, rest: &[Token<'_>]) -> Option<Action>
     requires { limited_action (action_of action) ≡ action_of action }
     ensures { option_map action_of result
-        ≡ option_map limited_action (spec.alone (action_of action) (map token_of rest.now)) }
+        ≡ option_map limited_action (spec.without_tokens (action_of action) (map token_of rest.now)) }
 {
     if is_blank(rest) { Some(action) } else { None }
 }

@@ -12,7 +12,7 @@ use Rattle.tmpl_syntax.specs.Tree as tree
 use Rattle.tmpl_syntax.specs.Tree.{NodeKind, Nodes, Tree, text, action, control_node, break_node, continue_node, template_node}
 use Rattle.tmpl_syntax.specs.Set.{Template, tree_named}
 use Rattle.tmpl_meaning.specs.Fault.{Cause}
-use Rattle.tmpl_meaning.specs.Meaning.{Calls, End, Next, Rules, Run, Setting, after, alone, broke, called}
+use Rattle.tmpl_meaning.specs.Meaning.{Calls, End, Next, Rules, Run, Setting, after, without_key, broke, run_called}
 use Rattle.tmpl_meaning.specs.Meaning.{calls_within, choosing, continued, controlled, done, faulted, handing, meaning, meanings, on_end}
 use Rattle.tmpl_meaning.specs.Meaning.{on_turn, one_of, over, scope, setting_of, shown, spend, spend_if, stepped, turn, turns}
 use Rattle.tmpl_meaning.specs.Meaning.{uncalled, visited, with_bound, with_pipeline, with_value}
@@ -79,7 +79,7 @@ one_of-adds false body other p q r = q r
 choosing-adds : (s : Setting) (line : ℕ) (h : Header) (d : Value) (body : Value → Next) (other : Next) → ((v : Value) → OnlyAdds (body v))
     → OnlyAdds other → OnlyAdds (choosing s line h d body other)
 choosing-adds s line h d body other p q =
-    with_pipeline-adds s line h.pipeline d _ (λ v r. one_of-adds (truth v) (body v) other (p v) q (with_bound h.binding (alone v) r))
+    with_pipeline-adds s line h.pipeline d _ (λ v r. one_of-adds (truth v) (body v) other (p v) q (with_bound h.binding (without_key v) r))
 
 turns-add : (s : Setting) (line : ℕ) (b : Binding) (body : Value → Next) → ((v : Value) → OnlyAdds (body v)) → (es : List Element)
     → OnlyAdds (turns s line b body es)
@@ -138,7 +138,7 @@ module _ (s : Setting) (calls : CallsAdd s.calls) where
   node-adds-in line n d = spend-adds s line _ (stepped-adds line n d)
 
 called-adds : (rules : Rules) (calls : Calls) (name : List ℕ) (t : Option Tree) → CallsAdd calls
-    → IfOk (called rules calls name t) (λ go. (v : Value) → OnlyAdds (go v))
+    → IfOk (run_called rules calls name t) (λ go. (v : Value) → OnlyAdds (go v))
 called-adds rules calls name None h = tt
 called-adds rules calls name (Some t) h = λ v r. nodes-add-in (setting_of rules calls name t) h t.nodes v _
 

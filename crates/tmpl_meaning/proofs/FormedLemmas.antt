@@ -21,7 +21,7 @@ use Rattle.tmpl_syntax.specs.Place.Role.{Name, assigned_by, names_of, names_give
 use Rattle.tmpl_syntax.specs.Formed.{is_among, are_among, declared_to, else_scope, is_looped, scope_behind, is_formed, are_formed}
 use Rattle.tmpl_syntax.proofs.FormedLemmas.{control-formed, or-left, or-right}
 use Rattle.tmpl_meaning.specs.Fault.{Cause}
-use Rattle.tmpl_meaning.specs.Meaning.{Calls, End, Next, Rules, Run, Setting, after, alone, assigned, bound, broke, called, oldest}
+use Rattle.tmpl_meaning.specs.Meaning.{Calls, End, Next, Rules, Run, Setting, after, without_key, assigned, bound, broke, run_called, oldest}
 use Rattle.tmpl_meaning.specs.Meaning.{calls_within, choosing, continued, controlled, done, faulted, handing, left_by, meanings, on_end}
 use Rattle.tmpl_meaning.specs.Meaning.{on_turn, after_turn, one_of, over, scope, scoped, setting_of, shown, spend, spend_if, stepped, turn, turns}
 use Rattle.tmpl_meaning.specs.Meaning.{uncalled, visited, with_bound, with_given, with_pipeline, with_value}
@@ -252,9 +252,9 @@ binds-leaves loop b e r start assigns =
 shown-leaves : (loop : Bool) (b : Binding) (v : Value) (r : Run) → is_among (names r.env) [] ≡ true → are_among (names r.env) (assigned_by b) ≡ true
     → Leaves loop (These (declared_to b (names r.env))) (shown b v) r
 shown-leaves loop unbound v r start assigns = ((([], refl), λ e. tt, λ older. refl), λ d. refl)
-shown-leaves loop (declare name) v r start assigns = binds-leaves loop (declare name) (alone v) r start assigns
-shown-leaves loop (assign name) v r start assigns = binds-leaves loop (assign name) (alone v) r start assigns
-shown-leaves loop (declare_pair key name) v r start assigns = binds-leaves loop (declare_pair key name) (alone v) r start assigns
+shown-leaves loop (declare name) v r start assigns = binds-leaves loop (declare name) (without_key v) r start assigns
+shown-leaves loop (assign name) v r start assigns = binds-leaves loop (assign name) (without_key v) r start assigns
+shown-leaves loop (declare_pair key name) v r start assigns = binds-leaves loop (declare_pair key name) (without_key v) r start assigns
 
 -- ---- controls
 
@@ -275,14 +275,14 @@ choosing-holds : (s : Setting) (line : ℕ) (h : Header) (d : Value) (loop : Boo
     → ((v : Value) (q : Run) → names q.env ≡ declared_to h.binding (names r.env) → Holds loop (body v) q)
     → ((q : Run) → names q.env ≡ declared_to h.binding (names r.env) → Holds loop other q) → Holds loop (choosing s line h d body other) r
 choosing-holds s line h d loop body other r known p q =
-    let go : Value → Next = λ v t. one_of (truth v) (body v) other (with_bound h.binding (alone v) t) in
+    let go : Value → Next = λ v t. one_of (truth v) (body v) other (with_bound h.binding (without_key v) t) in
     (with_pipeline-leaves s line h.pipeline d loop Any go r known.start known.uses
     (λ v t same.
     let start = subst (λ l. is_among l [] ≡ true) (sym same) known.start in
     let assigns = subst (λ l. are_among l (assigned_by h.binding) ≡ true) (sym same) known.assigns in
-    let behind = bound-names h.binding (alone v) t.env ∙ ap (declared_to h.binding) same in
-    let u = with_bound h.binding (alone v) t in
-    any loop (go v) t (bound-holds loop h.binding (alone v) (one_of (truth v) (body v) other) t start assigns
+    let behind = bound-names h.binding (without_key v) t.env ∙ ap (declared_to h.binding) same in
+    let u = with_bound h.binding (without_key v) t in
+    any loop (go v) t (bound-holds loop h.binding (without_key v) (one_of (truth v) (body v) other) t start assigns
     (one_of-holds loop (truth v) (body v) other u (p v u behind) (q u behind))))).0
 
 -- ---- ranges
@@ -433,7 +433,8 @@ left-over broke = tt
 left-over continued = tt
 left-over (faulted f) = tt
 
-called-end : (rules : Rules) (calls : Calls) (name : List ℕ) (t : Option Tree) → IfOk (called rules calls name t) (λ go. (v : Value) (r : Run) → Ends (go v) r)
+called-end : (rules : Rules) (calls : Calls) (name : List ℕ) (t : Option Tree)
+    → IfOk (run_called rules calls name t) (λ go. (v : Value) (r : Run) → Ends (go v) r)
 called-end rules calls name None = tt
 called-end rules calls name (Some t) =
     λ v r. (refl, left-over (meanings (setting_of rules calls name t) t.nodes v (record r { env = ([], v) ∷ [] })).1, λ older. refl)

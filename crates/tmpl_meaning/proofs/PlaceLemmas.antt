@@ -12,7 +12,7 @@ use Rattle.tmpl_syntax.specs.Place.Role.{Name, used_by_operand, used_by_operands
 use Rattle.tmpl_syntax.specs.Formed.{is_among, are_among}
 use Rattle.tmpl_meaning.specs.Fault.{Cause}
 use Rattle.tmpl_meaning.specs.Pipeline.{Environment, Given, Place, lookup, chain, without_null, given, go_on, given_then, piped_after, applied, by_function}
-use Rattle.tmpl_meaning.specs.Pipeline.{counted, decides, decided, commanded, argument_count, operand_value, operand_values, junction, command_value}
+use Rattle.tmpl_meaning.specs.Pipeline.{by_count, decides, decided, commanded, argument_count, operand_value, operand_values, junction, command_value}
 use Rattle.tmpl_meaning.specs.Pipeline.{commands_value, pipeline_value}
 use Rattle.tmpl_meaning.specs.declared.missing_key.MissingKey.{MissingKey}
 
@@ -40,7 +40,7 @@ then-same g h f k e d = ap (λ g. given_then g f) e ∙ go_on-same h.result h.ma
 abbrev a_call : Operand → Operands → Option Value → Given Value → Given (List Value) → Given Value → Given Value → Given Value
 a_call o os piped g all both either =
     commanded o os piped g
-    (λ f. counted f (takes f (argument_count os piped)) (by_function f (given_then all (λ vs. applied f (piped_after vs piped))) both either))
+    (λ f. by_count f (takes f (argument_count os piped)) (by_function f (given_then all (λ vs. applied f (piped_after vs piped))) both either))
 
 call-same : (o : Operand) (os : Operands) (piped : Option Value) (g h : Given Value) (es fs : Given (List Value)) (a b c d : Given Value)
     → g ≡ h → es ≡ fs → a ≡ b → c ≡ d → a_call o os piped g es a c ≡ a_call o os piped h fs b d

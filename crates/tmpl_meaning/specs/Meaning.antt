@@ -123,13 +123,13 @@ abbrev pub with_bound : Binding → Element → Run → Run
 with_bound b e r = record r { env = bound b e r.env }
 
 -- a value that is no element of a range, and so has no index or key
-abbrev pub alone : Value → Element
-alone v = (nothing, v)
+abbrev pub without_key : Value → Element
+without_key v = (nothing, v)
 
 -- puts the text of a value, or binds variables to it
 abbrev pub shown : Binding → Value → Next
 shown unbound v r = putting (text_of v) r
-shown b v r = (with_bound b (alone v) r, done)
+shown b v r = (with_bound b (without_key v) r, done)
 
 -- an action
 abbrev pub acting : Setting → ℕ → Header → Value → Next
@@ -143,7 +143,7 @@ one_of false body other r = other r
 -- an `if` or a `with`: the body, which may take the value as its dot, where the value is not empty, else the other part
 abbrev pub choosing : Setting → ℕ → Header → Value → (Value → Next) → Next → Next
 choosing s line h d body other =
-    with_pipeline s line h.pipeline d (λ v r. one_of (truth v) (body v) other (with_bound h.binding (alone v) r))
+    with_pipeline s line h.pipeline d (λ v r. one_of (truth v) (body v) other (with_bound h.binding (without_key v) r))
 
 -- goes on from where the body of a range ends for one element: a break ends the range
 abbrev pub on_turn : End → Run → Next → Run × End
@@ -233,9 +233,9 @@ abbrev pub setting_of : Rules → Calls → List ℕ → Tree → Setting
 setting_of rules calls name t = record { rules = rules; file = t.file; template = name; calls = calls }
 
 -- the run of a template of this name that calls so
-abbrev pub called : Rules → Calls → List ℕ → Option Tree → Result (Value → Next) Cause
-called rules calls name None = Err (no_template name)
-called rules calls name (Some t) = Ok (λ v. apart v (meanings (setting_of rules calls name t) t.nodes v))
+abbrev pub run_called : Rules → Calls → List ℕ → Option Tree → Result (Value → Next) Cause
+run_called rules calls name None = Err (no_template name)
+run_called rules calls name (Some t) = Ok (λ v. apart v (meanings (setting_of rules calls name t) t.nodes v))
 
 -- .. where no call more may be made
 abbrev pub uncalled : Rules → List ℕ → Option Tree → Result (Value → Next) Cause
@@ -245,7 +245,7 @@ uncalled rules name (Some t) = Err (calls_too_deep rules.depth_limit)
 -- what names call in this set, where so many calls may be made inside one another
 abbrev pub calls_within : Rules → List Template → ℕ → Calls
 calls_within rules set zero name = uncalled rules name (tree_named name set)
-calls_within rules set (suc n) name = called rules (calls_within rules set n) name (tree_named name set)
+calls_within rules set (suc n) name = run_called rules (calls_within rules set n) name (tree_named name set)
 
 -- ---- whole templates
 

@@ -104,9 +104,9 @@ by_function And all both either = both
 by_function Or all both either = either
 by_function f all both either = all
 
-abbrev pub counted : Func → Bool → Given Value → Given Value
-counted f true g = g
-counted f false g = given (Err (call_failed f WrongCount))
+abbrev pub by_count : Func → Bool → Given Value → Given Value
+by_count f true g = g
+by_count f false g = given (Err (call_failed f WrongCount))
 
 abbrev pub piped_count : Option Value → ℕ
 piped_count None = 0
@@ -135,14 +135,14 @@ abbrev pub stands_alone : Operands → Option Value → Bool
 stands_alone no_operand None = true
 stands_alone os piped = false
 
-abbrev pub alone : Bool → Operand → Given Value → Given Value
-alone true o g = or_nil o g
-alone false o g = given (Err not_a_function)
+abbrev pub operand_alone : Bool → Operand → Given Value → Given Value
+operand_alone true o g = or_nil o g
+operand_alone false o g = given (Err not_a_function)
 
 -- a command by its first operand: a call where that is a function, else the operand, which stands alone
 abbrev pub commanded : Operand → Operands → Option Value → Given Value → (Func → Given Value) → Given Value
 commanded (function f) os piped g call = call f
-commanded o os piped g call = alone (stands_alone os piped) o g
+commanded o os piped g call = operand_alone (stands_alone os piped) o g
 
 -- where a pipeline stands: the mode for missing keys, dot and the variables
 pub record Place : Type 0 where
@@ -152,7 +152,7 @@ pub record Place : Type 0 where
 
 -- a function as an argument: a call without arguments
 abbrev pub bare_call : Func → Given Value
-bare_call f = counted f (takes f 0) (applied f [])
+bare_call f = by_count f (takes f 0) (applied f [])
 
 abbrev pub argument_count : Operands → Option Value → ℕ
 argument_count os piped = operand_count os + piped_count piped
@@ -188,7 +188,7 @@ abbrev mutual
   pub command_value : Place → Operands → Option Value → Given Value
   command_value s no_operand piped = given (Err not_a_function)
   command_value s (operand o os) piped = commanded o os piped (operand_value s o)
-      (λ f. counted f (takes f (argument_count os piped))
+      (λ f. by_count f (takes f (argument_count os piped))
       (by_function f (given_then (operand_values s os) (λ vs. applied f (piped_after vs piped)))
       (junction false s nothing os piped) (junction true s nothing os piped)))
 

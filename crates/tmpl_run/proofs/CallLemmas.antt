@@ -12,7 +12,7 @@ use Rattle.tmpl_syntax.specs.Set.{Template, number_of, tree_named}
 use Rattle.tmpl_syntax.proofs.NamedLemmas.{Named, numbered, unnumbered}
 use Rattle.tmpl_meaning.specs.Fault as fault
 use Rattle.tmpl_meaning.specs.Meaning as meaning
-use Rattle.tmpl_meaning.specs.Meaning.{Calls, End, Next, Ran, Rules, Run, Setting, apart, called, calls_within, handing, left_by, meanings}
+use Rattle.tmpl_meaning.specs.Meaning.{Calls, End, Next, Ran, Rules, Run, Setting, apart, run_called, calls_within, handing, left_by, meanings}
 use Rattle.tmpl_meaning.specs.Meaning.{setting_of, spend_if, uncalled, with_value}
 use Rattle.tmpl_code.specs.Instruction as code
 use Rattle.tmpl_code.specs.Layout.{Layout, first_layout}
@@ -35,7 +35,7 @@ use Rattle.tmpl_run.proofs.WayLemmas.{Ring, Stands, Way, Who, way_of, who_of}
 calls-none : (rules : Rules) (ts : List Template) (n : ℕ) (name : List ℕ) → tree_named name ts ≡ None
     → calls_within rules ts n name ≡ Err (fault.no_template name)
 calls-none rules ts zero name e = ap (uncalled rules name) e
-calls-none rules ts (suc n) name e = ap (called rules (calls_within rules ts n) name) e
+calls-none rules ts (suc n) name e = ap (run_called rules (calls_within rules ts n) name) e
 
 -- the code of each template lies where it starts
 pub record Started (all : List Template) (t : Template) (places : List ℕ) (code : Code) (k : ℕ) : Type 0 where
@@ -166,7 +166,8 @@ module _ (way : Way) (pipes : Pipelines way) (first : 1 ≤ way.who.depth) (link
         ways.takes way (valued v made place s) (code.invoke number) rest st.runs at
         (let a = own in let b = most in omega arith)
         (subst (λ o. Comes (ways.Leading way) (invoked way.plan way.me number o (fresh v) s.cells (valued v made place s)) way.end) (sym start.at)
-        (subst (λ b. Comes (ways.Leading way) (paid_if b way.plan way.me s.line (valued v made place s) (λ t. goes (entered number start.place v s.cells t))) way.end)
+        (subst
+        (λ b. Comes (ways.Leading way) (paid_if b way.plan way.me s.line (valued v made place s) (λ t. goes (entered number start.place v s.cells t))) way.end)
         (sym some)
         (callee (record { number = number; depth = suc s.depth }) named.t named.at (omega arith)
         (let same : s.depth ≡ way.who.depth = ap (λ (w : Who). w.depth) st.runs in omega arith)
@@ -203,7 +204,8 @@ module _ (way : Way) (pipes : Pipelines way) (first : 1 ≤ way.who.depth) (link
         A : Run → Type 0
         A = ways.Onward way rest lay fr s.dot
 
-        by : (o : Option ℕ) → number_of name way.plan.templates ≡ o → here ≡ step_of_call line o ∷ start → CallAt name o given lay start rest → ways.Leading way s
+        by : (o : Option ℕ) → number_of name way.plan.templates ≡ o → here ≡ step_of_call line o ∷ start
+            → CallAt name o given lay start rest → ways.Leading way s
         by None e l at-node =
             ways.spends way (calls_of n) A g lay line start s (meaning.calling (set_of n) line name given s.dot) st.runs (st.at ∙ l) k
             (λ at k. ways.takes way (ways.step_taken line s) (code.act (code.refuse (code.no_template name))) rest st.runs (at ∙ at-node) tt
@@ -236,7 +238,8 @@ module _ (way : Way) (pipes : Pipelines way) (first : 1 ≤ way.who.depth) (link
             enters : (n : ℕ) → Deeper way.plan way.room way.end n → way.who.depth + n ≡ way.plan.rules.depth_limit
                 → Left way.plan.templates way.room n way.who.number base → length fr + need_of_given given + spare ≤ way.room
                 → nat_eq s.left 0 ≡ false
-                → ways.After way A g (with_value (set_of n) line (calls_of n name) (handing (set_of n) line given s.dot) (with_left (s.left - 1) (run_of lay s)))
+                → ways.After way A g
+                (with_value (set_of n) line (calls_of n name) (handing (set_of n) line given s.dot) (with_left (s.left - 1) (run_of lay s)))
                 → Comes (ways.Leading way) (deepened false (nat_lt s.depth way.plan.rules.depth_limit) way.plan way.me line s) way.end
             enters zero deeper depth left fits some k =
                 subst (λ b. Comes (ways.Leading way) (deepened false b way.plan way.me line s) way.end) (sym closed)
@@ -248,7 +251,7 @@ module _ (way : Way) (pipes : Pipelines way) (first : 1 ≤ way.who.depth) (link
             enters (suc m) deeper depth left fits some k =
                 subst (λ b. Comes (ways.Leading way) (deepened false b way.plan way.me line s) way.end) (sym is-open)
                 (hands given at-node fits (subst (λ c. ways.After way A g (with_value (set_of (suc m)) line c (handing (set_of (suc m)) line given s.dot)
-                (with_left (s.left - 1) (run_of lay s)))) (ap (called way.plan.rules (calls_of m) name) named.tree) k))
+                (with_left (s.left - 1) (run_of lay s)))) (ap (run_called way.plan.rules (calls_of m) name) named.tree) k))
               where
                 is-open : nat_lt s.depth way.plan.rules.depth_limit ≡ true
                 is-open = let same = same-depth in let over : s.depth < way.plan.rules.depth_limit = omega arith in grind (arith, nat_tests)
@@ -268,7 +271,8 @@ module _ (way : Way) (pipes : Pipelines way) (first : 1 ≤ way.who.depth) (link
                 hands None l fits k =
                     ways.takes way next (code.act code.push_nothing) (code.invoke number ∷ rest) st.runs (there ∙ l)
                     (let long = sym (ap length st.frame) ∙ length-frame lay s.cells st.deep in omega arith)
-                    (gets nothing s.made_text (s.place + 1 + 1 + 0) (ahead way.plan.code (code.invoke number ∷ rest) (s.place + 1) 0 (code.act code.push_nothing)
+                    (gets nothing s.made_text (s.place + 1 + 1 + 0)
+                    (ahead way.plan.code (code.invoke number ∷ rest) (s.place + 1) 0 (code.act code.push_nothing)
                     (there ∙ l)) k)
                 hands (Some p) l fits k =
                     value-leads way (calls_of (suc m)) pipes A g line (s.left - 1) p lay fr start (code.invoke number ∷ rest) next body l

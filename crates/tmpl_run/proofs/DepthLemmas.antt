@@ -14,7 +14,8 @@ use Rattle.tmpl_syntax.specs.Set.{Template, number_of, tree_named}
 use Rattle.tmpl_syntax.proofs.NamedLemmas.{Named, numbered, unnumbered}
 use Rattle.tmpl_meaning.specs.Fault as fault
 use Rattle.tmpl_meaning.specs.Pipeline.{pipeline_value}
-use Rattle.tmpl_meaning.specs.Meaning.{Calls, Cause, Next, Rules, Run, Setting, after, after_turn, alone, apart, called, calls_within, choosing, controlled}
+use Rattle.tmpl_meaning.specs.Meaning.{Calls, Cause, Next, Rules, Run, Setting, after, after_turn, without_key, apart, run_called, calls_within, choosing}
+use Rattle.tmpl_meaning.specs.Meaning.{controlled}
 use Rattle.tmpl_meaning.specs.Meaning.{handing}
 use Rattle.tmpl_meaning.specs.Meaning.{meanings, one_of, over, ran_of, ranging, scope, scoped, setting_of, shown, spend, spend_if}
 use Rattle.tmpl_meaning.specs.Meaning.{started, starting_dot, stepped, turn, turns, uncalled, visited, with_bound, with_pipeline, with_value}
@@ -54,7 +55,7 @@ module _ (s : Setting) (depth : ℕ) (calls : Calls) where
 
   choosing-same : (line : ℕ) (h : Header) (d : Value) (body : Value → Next) (els : Next) (r : Run)
       → choosing other line h d body els r ≡ choosing s line h d body els r
-  choosing-same line h d body els r = pipeline-same line h.pipeline d (λ v r. one_of (truth v) (body v) els (with_bound h.binding (alone v) r)) r
+  choosing-same line h d body els r = pipeline-same line h.pipeline d (λ v r. one_of (truth v) (body v) els (with_bound h.binding (without_key v) r)) r
 
   ranging-same : (line : ℕ) (h : Header) (d : Value) (body : Value → Next) (els : Next) (r : Run)
       → ranging other line h d body els r ≡ ranging s line h d body els r
@@ -101,7 +102,7 @@ module _ (s : Setting) (depth : ℕ) (calls : Calls) where
 
 absent : (rules : Rules) (ts : List Template) (n : ℕ) (name : List ℕ) → tree_named name ts ≡ None → calls_within rules ts n name ≡ Err (fault.no_template name)
 absent rules ts zero name e = ap (uncalled rules name) e
-absent rules ts (suc n) name e = ap (called rules (calls_within rules ts n) name) e
+absent rules ts (suc n) name e = ap (run_called rules (calls_within rules ts n) name) e
 
 module _ (rules : Rules) (ts : List Template) (depth : ℕ) where
   abbrev fewer : Rules
@@ -145,11 +146,11 @@ module _ (rules : Rules) (ts : List Template) (depth : ℕ) where
       by None e same = let none = unnumbered name ts e in absent fewer ts (suc k) name none ∙ sym (absent rules ts (suc j) name none)
       by (Some m) e same =
           let named : Named name ts m = numbered name ts m e in
-          ap (called fewer (calls_within fewer ts k) name) named.tree
+          ap (run_called fewer (calls_within fewer ts k) name) named.tree
           ∙ (λ i. Ok (λ v. apart v (λ r. meanings-same (setting_of rules (calls_within rules ts j) name named.t.1) depth (calls_within fewer ts k)
           named.t.1.nodes
           (λ inner is. same m named.t named.at (further number m k t name at names e in-k) (further number m j t name at names e in-j) inner is) v r i)))
-          ∙ sym (ap (called rules (calls_within rules ts j) name) named.tree)
+          ∙ sym (ap (run_called rules (calls_within rules ts j) name) named.tree)
 
 pub depth_by_chains : DepthByChains
 depth_by_chains rules ts depth number t input at short within = λ i.

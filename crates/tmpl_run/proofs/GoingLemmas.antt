@@ -20,7 +20,7 @@ use Rattle.tmpl_code.specs.declared.instruction.Instruction as held
 use Rattle.tmpl_run.specs.Cell.{Cell, fresh}
 use Rattle.tmpl_run.specs.Ends.{Ends}
 use Rattle.tmpl_run.specs.Laws.{Lessens, mark_behind}
-use Rattle.tmpl_run.specs.Machine.{Turn, done, ended, fault_at, goes, next_of, stuck, top}
+use Rattle.tmpl_run.specs.Machine.{Turn, done, ended, fault_in, goes, next_of, stuck, top}
 use Rattle.tmpl_run.specs.Ready.{Has, Lands}
 use Rattle.tmpl_run.specs.State.{Plan, State}
 use Rattle.tmpl_run.specs.computed.Came.{Came, IsStopped}
@@ -188,7 +188,8 @@ module _ {run : Told} {end : Ran} {m : Machine} {before now : Puts} (inv : Stand
         text = inv.text ++ u.text;
         made = inv.made || u.made_text;
         given = IsPut-along (IsPut-append inv.given more) (ap (λ l. inv.text ++ l) (sym (text-behind i s told refl)));
-        ends = subst (λ k. Ends run.plan k (with_past (inv.text ++ u.text) (inv.made || u.made_text) (record u { text = []; made_text = false })) end) (sym size)
+        ends = subst
+            (λ k. Ends run.plan k (with_past (inv.text ++ u.text) (inv.made || u.made_text) (record u { text = []; made_text = false })) end) (sym size)
             (subst (λ v. Ends run.plan room v end) (past-again inv.text u.text inv.made u.made_text u) (next-ends u step));
         plain = λ e. let both = neither inv.made u.made_text e in plain (sym (mark-behind-told i s told) ∙ both.1) (inv.plain both.0);
       }
@@ -229,8 +230,8 @@ module _ {run : Told} {end : Ran} {m : Machine} {before now : Puts} (inv : Stand
             → (mark_behind i false ≡ false → IsPlain m → SparedOr {A = Flow} (Err stop) Q) → IsStopped (slice_get run.plan.templates m.template) u.line stop e
             → Came end before after (Err e)
         stops u Q same (stop.Fault kind) (error.Fault fault) step more spared is =
-            let came = over (Some (fault_at told.template u.line (cause_of kind))) u.made_text step more in
-            (came.0, came.1 ∙ sym (is ∙ ap (option_map (λ t. fault_at t u.line (cause_of kind))) runs))
+            let came = over (Some (fault_in told.template u.line (cause_of kind))) u.made_text step more in
+            (came.0, came.1 ∙ sym (is ∙ ap (option_map (λ t. fault_in t u.line (cause_of kind))) runs))
         stops u Q same (stop.Fault kind) error.WriteFailed step more spared is = absurd is
         stops u Q same (stop.Fault kind) error.OutOfMemory step more spared is = absurd is
         stops u Q same stop.WriteFailed e step more spared is =

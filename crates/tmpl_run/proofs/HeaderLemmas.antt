@@ -9,13 +9,13 @@ use Rattle.tmpl_grammar.specs.Need.{declared_count, need_of_pipeline}
 use Rattle.tmpl_syntax.specs.Set.{Template}
 use Rattle.tmpl_meaning.specs.Fault.{Cause}
 use Rattle.tmpl_meaning.specs.Pipeline.{Environment, Given, pipeline_value}
-use Rattle.tmpl_meaning.specs.Meaning.{Calls, Next, Ran, Run, alone, assigned, with_bound, with_pipeline, with_value}
+use Rattle.tmpl_meaning.specs.Meaning.{Calls, Next, Ran, Run, without_key, assigned, with_bound, with_pipeline, with_value}
 use Rattle.tmpl_code.specs.Instruction as code
 use Rattle.tmpl_code.specs.Layout.{Layout, bound_on, declares, slot_named}
 use Rattle.tmpl_code.specs.Code.{BindAt, Code, HeaderAt, PipelineAt, SetAt}
 use Rattle.tmpl_run.specs.Cell.{Cell, fresh}
 use Rattle.tmpl_run.specs.State.{Plan, State}
-use Rattle.tmpl_run.specs.Machine.{fault_at, kept_on, ran_so}
+use Rattle.tmpl_run.specs.Machine.{fault_in, kept_on, ran_so}
 use Rattle.tmpl_run.proofs.ExecLemmas.{op_in}
 use Rattle.tmpl_run.proofs.AbleLemmas.{found-within}
 use Rattle.tmpl_run.proofs.PlaceLemmas.{ahead-one}
@@ -41,7 +41,7 @@ valued v m place s = record s { cells = fresh v ∷ s.cells; made_text = m; plac
 
 abbrev pub Gives : Plan → Template → (State → Type 0) → Ran → Code → State → Result Value Cause → Bool → Type 0
 Gives plan me After f rest s (Ok v) m = (place : ℕ) → drop place plan.code ≡ rest → After (valued v m place s)
-Gives plan me After f rest s (Err cause) m = ran_so (record s { made_text = m }) (Some (fault_at me s.line cause)) ≡ f
+Gives plan me After f rest s (Err cause) m = ran_so (record s { made_text = m }) (Some (fault_in me s.line cause)) ≡ f
 
 abbrev pub given_in : Plan → Layout → State → Pipeline → Given Value
 given_in plan lay s p = pipeline_value (record { missing_key = plan.rules.missing_key; dot = s.dot; env = env_of lay s.cells }) p
@@ -139,7 +139,7 @@ module _ (way : Way) (calls : Calls) (pipes : Pipelines way) where
           → ways.After way A g (with_value (ways.setting way calls) line r go (with_left left (run_at lay m s)))
           → Gives way.plan way.me (ways.Leading way) way.end mid s r m
       by (Ok v) m k = λ place at. more v m place at k
-      by (Err cause) m k = ap (λ n. ran_so (record s { made_text = m }) (Some (fault_at way.me n cause))) same-line ∙ k
+      by (Err cause) m k = ap (λ n. ran_so (record s { made_text = m }) (Some (fault_in way.me n cause))) same-line ∙ k
 
   -- a header
   pub header-leads : (A : Run → Type 0) (g : Option Ring) (line : ℕ) (h : Header) (lay : Layout) (fr : Frame) (start mid : Code) (s : State) (go : Value → Next)
@@ -160,7 +160,7 @@ module _ (way : Way) (calls : Calls) (pipes : Pipelines way) where
 -- what a control keeps of its header
 pub bound-env : (b : Binding) (lay : Layout) (v : Value) (cs : List Cell) (s : State) (m : Bool) → env_of lay cs ≡ written b v (env_of lay s.cells)
     → record { env = env_of (bound_on b lay) (kept_on (declares b) (fresh v) (under b cs)); text = s.text; left = s.left; made_text = m }
-    ≡ with_bound b (alone v) (run_at lay m s)
+    ≡ with_bound b (without_key v) (run_at lay m s)
 bound-env unbound lay v cs s m e = ap (λ (w : Environment). let r : Run = record { env = w; text = s.text; left = s.left; made_text = m } in r) e
 bound-env (declare x) lay v cs s m e = ap (λ (w : Environment). let r : Run = record { env = (x, v) ∷ w; text = s.text; left = s.left; made_text = m } in r) e
 bound-env (assign x) lay v cs s m e = ap (λ (w : Environment). let r : Run = record { env = w; text = s.text; left = s.left; made_text = m } in r) e

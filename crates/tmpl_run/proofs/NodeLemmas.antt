@@ -12,7 +12,8 @@ use Rattle.tmpl_syntax.specs.Tree.{NodeKind, Nodes}
 use Rattle.tmpl_syntax.specs.Need.{left_behind, need_of_node, need_of_nodes}
 use Rattle.tmpl_meaning.specs.Pipeline.{Environment}
 use Rattle.tmpl_meaning.specs.Meaning as meaning
-use Rattle.tmpl_meaning.specs.Meaning.{Calls, End, Next, Ran, Run, Setting, alone, choosing, meanings, oldest, one_of, setting_of, shown, stepped, with_bound}
+use Rattle.tmpl_meaning.specs.Meaning.{Calls, End, Next, Ran, Run, Setting, without_key, choosing, meanings, oldest, one_of, setting_of, shown, stepped}
+use Rattle.tmpl_meaning.specs.Meaning.{with_bound}
 use Rattle.tmpl_code.specs.Instruction as code
 use Rattle.tmpl_code.specs.Layout.{Layout, bound_on, declared_in, declares, grown}
 use Rattle.tmpl_code.specs.Code.{Code, Ended, NodeAt, NodesAt, ShownAt, step_of}
@@ -171,10 +172,10 @@ module _ (way : Way) (calls : Calls) (spare : ℕ) (pipes : Pipelines way) where
       → ways.who_of s ≡ way.who → drop place way.plan.code ≡ first → frame_of lay cs ≡ fr → length lay ≤ length cs
       → env_of lay cs ≡ written b v (env_of lay s.cells)
       → ways.After way (λ r. ways.Onward way rest lay fr s.dot (cut_to (named lay) r)) g
-      (meanings (ways.setting way calls) ns s.dot (with_bound b (alone v) (run_at lay m s)))
+      (meanings (ways.setting way calls) ns s.dot (with_bound b (without_key v) (run_at lay m s)))
       → ways.Leading way (record (headed b v cs m place s) { cells = kept_on (declares b) (fresh v) (under b cs) })
   bound-leads ns ih b g lay fr first more rest to place s v cs m l far inside fits same at frame deep env k =
-      part-leads ns ih b g lay fr first more rest to s.dot (with_bound b (alone v) (run_at lay m s)) _ l far inside fits
+      part-leads ns ih b g lay fr first more rest to s.dot (with_bound b (without_key v) (run_at lay m s)) _ l far inside fits
       (record { at = at; runs = same; frame = bound-frame b lay fr v cs frame; deep = bound-deep b lay v cs deep }) refl (bound-env b lay v cs s m env) k
 
   -- ---- `if`
@@ -198,13 +199,13 @@ module _ (way : Way) (calls : Calls) (spare : ℕ) (pipes : Pipelines way) where
 
       go : Value → Next
       go v r = one_of (truth v) (meanings (ways.setting way calls) body s.dot) (meanings (ways.setting way calls) other s.dot)
-          (with_bound h.binding (alone v) r)
+          (with_bound h.binding (without_key v) r)
 
       by : (v : Value) (cs : List Cell) (m : Bool) (place : ℕ) → drop place way.plan.code ≡ code.unless (declares h.binding) l.2.2 ∷ l.2.0
           → frame_of lay cs ≡ fr
           → length lay ≤ length cs → env_of lay cs ≡ written h.binding v (env_of lay s.cells)
           → (c : Bool) → ways.After way B g (one_of c (meanings (ways.setting way calls) body s.dot) (meanings (ways.setting way calls) other s.dot)
-          (with_bound h.binding (alone v) (run_at lay m s)))
+          (with_bound h.binding (without_key v) (run_at lay m s)))
           → Comes (ways.Leading way) (branch c (declares h.binding) l.2.2 (fresh v) (under h.binding cs) (headed h.binding v cs m place s)) way.end
       by v cs m place at frame deep env true k =
           bound-leads body ih-body h.binding g lay fr l.2.0 l.2.1 rest l.2.3 (place + 1) s v cs m l.2.5 l.2.8 inside (omega arith) st.runs
@@ -267,12 +268,13 @@ module _ (way : Way) (calls : Calls) (spare : ℕ) (pipes : Pipelines way) where
       B = λ r. A (cut_to (named lay) r)
 
       go : Value → Next
-      go v r = one_of (truth v) (meanings (ways.setting way calls) body v) (meanings (ways.setting way calls) other s.dot) (with_bound h.binding (alone v) r)
+      go v r = one_of (truth v) (meanings (ways.setting way calls) body v) (meanings (ways.setting way calls) other s.dot)
+          (with_bound h.binding (without_key v) r)
 
       by : (v : Value) (cs : List Cell) (m : Bool) (place : ℕ) → drop place way.plan.code ≡ code.enter_with (declares h.binding) l.2.2 ∷ l.2.0
           → frame_of lay cs ≡ fr → length lay ≤ length cs → env_of lay cs ≡ written h.binding v (env_of lay s.cells)
           → (c : Bool) → ways.After way B g (one_of c (meanings (ways.setting way calls) body v) (meanings (ways.setting way calls) other s.dot)
-          (with_bound h.binding (alone v) (run_at lay m s)))
+          (with_bound h.binding (without_key v) (run_at lay m s)))
           → Comes (ways.Leading way) (with_dot c (declares h.binding) l.2.2 (fresh v) (under h.binding cs) (headed h.binding v cs m place s)) way.end
       by v cs m place at frame deep env true k =
           ih-body g (None ∷ bound_on h.binding lay) (Some (fresh s.dot) ∷ bound_in h.binding fr) l.2.0
@@ -301,7 +303,7 @@ module _ (way : Way) (calls : Calls) (spare : ℕ) (pipes : Pipelines way) where
           }
 
           x : Run × End
-          x = meanings (ways.setting way calls) body v (with_bound h.binding (alone v) (run_at lay m s))
+          x = meanings (ways.setting way calls) body v (with_bound h.binding (without_key v) (run_at lay m s))
 
           goal : Run → Type 0
           goal = ways.Onward way (code.end_with (declared_in body) (declared_count h.binding) l.2.3 ∷ l.2.1) (all_grown body (None ∷ bound_on h.binding lay))

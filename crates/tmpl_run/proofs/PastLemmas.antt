@@ -12,7 +12,7 @@ use Rattle.tmpl_code.specs.Instruction.{Instruction}
 use Rattle.tmpl_run.specs.Cell.{Cell}
 use Rattle.tmpl_run.specs.State.{Plan, State}
 use Rattle.tmpl_run.specs.Step.{Went, halted, lacks, made_by, on, step}
-use Rattle.tmpl_run.specs.Machine.{Turn, again, branch, deepened, done, elements_for, ended, fault_at, frame, goes, invoked, left_in}
+use Rattle.tmpl_run.specs.Machine.{Turn, again, branch, deepened, done, elements_for, ended, fault_in, frame, goes, invoked, left_in}
 use Rattle.tmpl_run.specs.Machine.{opened, paid_if, piped, returned_if, ring, stuck, top, turned, with_dot}
 
 -- a state of a run that had put out a text before, and had or had not called a function that makes one
@@ -63,7 +63,7 @@ module _ (x : List ℕ) (m : Bool) where
     piped-past o (on skip cs) =
         ap (λ b. goes (record s { cells = cs; text = x ++ s.text; made_text = b; place = s.place + 1 + skip })) (made-past o m s.made_text)
     piped-past o (halted cause) =
-        ap (λ b. ended (record { text = x ++ s.text; fault = Some (fault_at me s.line cause); made_text = b })) (made-past o m s.made_text)
+        ap (λ b. ended (record { text = x ++ s.text; fault = Some (fault_in me s.line cause); made_text = b })) (made-past o m s.made_text)
     piped-past o lacks = refl
 
     branch-past : (t kept : Bool) (skip : ℕ) (c : Cell) (cs : List Cell) → branch t kept skip c cs late ≡ after_past x m (branch t kept skip c cs s)

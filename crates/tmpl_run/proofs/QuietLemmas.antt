@@ -21,9 +21,9 @@ use Rattle.tmpl_meaning.specs.Fault.{Cause}
 use Rattle.tmpl_meaning.specs.Pipeline as meaning
 use Rattle.tmpl_meaning.specs.Pipeline.{Given, Place, command_value, commands_value, decided, decides, given, given_then, go_on, junction}
 use Rattle.tmpl_meaning.specs.Pipeline.{operand_value, operand_values, pipeline_value}
-use Rattle.tmpl_meaning.specs.Meaning.{Calls, End, Next, Rules, Run, Setting, after, after_turn, alone, broke, calls_within}
+use Rattle.tmpl_meaning.specs.Meaning.{Calls, End, Next, Rules, Run, Setting, after, after_turn, without_key, broke, calls_within}
 use Rattle.tmpl_meaning.specs.Meaning.{controlled, done, faulted, handing, meanings, one_of, over, ran, scope}
-use Rattle.tmpl_meaning.specs.Meaning.{setting_of, shown, spend, spend_if, started, starting_dot, stepped, turn, turns, uncalled, called}
+use Rattle.tmpl_meaning.specs.Meaning.{setting_of, shown, spend, spend_if, started, starting_dot, stepped, turn, turns, uncalled, run_called}
 use Rattle.tmpl_meaning.specs.Meaning.{apart, visited, with_bound, with_pipeline, with_value}
 use Rattle.tmpl_code.specs.MakesText.{commands_make_text, given_makes_text, node_makes_text, nodes_make_text, operand_makes_text}
 use Rattle.tmpl_code.specs.MakesText.{operands_make_text, pipeline_makes_text, set_makes_text}
@@ -184,11 +184,11 @@ over-quiet s line b body other (Some (x ∷ es)) quiet rest r e = turns-quiet s 
 control-quiet : (s : Setting) (line : ℕ) (c : Control) (h : Header) (d : Value) (body : Value → Next) (other : Next) → pipeline_makes_text h.pipeline ≡ false
     → ((v : Value) → Quiet (body v)) → Quiet other → Quiet (controlled s line c h d body other)
 control-quiet s line control.If h d body other named quiet rest =
-    with_pipeline-quiet s line h.pipeline d (λ v r. one_of (truth v) (body d) other (with_bound h.binding (alone v) r)) named
-    (λ v r e. one-quiet (truth v) (body d) other (quiet d) rest (with_bound h.binding (alone v) r) e)
+    with_pipeline-quiet s line h.pipeline d (λ v r. one_of (truth v) (body d) other (with_bound h.binding (without_key v) r)) named
+    (λ v r e. one-quiet (truth v) (body d) other (quiet d) rest (with_bound h.binding (without_key v) r) e)
 control-quiet s line control.With h d body other named quiet rest =
-    with_pipeline-quiet s line h.pipeline d (λ v r. one_of (truth v) (body v) other (with_bound h.binding (alone v) r)) named
-    (λ v r e. one-quiet (truth v) (body v) other (quiet v) rest (with_bound h.binding (alone v) r) e)
+    with_pipeline-quiet s line h.pipeline d (λ v r. one_of (truth v) (body v) other (with_bound h.binding (without_key v) r)) named
+    (λ v r e. one-quiet (truth v) (body v) other (quiet v) rest (with_bound h.binding (without_key v) r) e)
 control-quiet s line control.Range h d body other named quiet rest =
     with_pipeline-quiet s line h.pipeline d (λ v. over s line h.binding body other (visited h.binding v)) named
     (λ v. over-quiet s line h.binding body other (visited h.binding v) quiet rest)
@@ -251,7 +251,7 @@ at-quiet (x ∷ ts) (suc n) t is named = at-quiet ts n t is (neither (nodes_make
 module _ (rules : Rules) (ts : List Template) (named : set_makes_text ts ≡ false) where
   -- a call of a template, by what it calls in turn
   call-quiet : (calls : Calls) (name : List ℕ) (body : Value → Next) (o : Option Tree) → tree_named name ts ≡ o → CallsQuietly calls
-      → called rules calls name o ≡ Ok body → (v : Value) → Quiet (body v)
+      → run_called rules calls name o ≡ Ok body → (v : Value) → Quiet (body v)
   call-quiet calls name body None found quiet e v r made = cc
   call-quiet calls name body (Some t) found quiet e v r made =
       let s : Setting = setting_of rules calls name t in

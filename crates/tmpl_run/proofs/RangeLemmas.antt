@@ -21,7 +21,7 @@ use Rattle.tmpl_code.specs.Layout.{Layout, bound_on, declared_in, declares_key, 
 use Rattle.tmpl_code.specs.Code.{Code, Ended, NodesAt, SetDotAt, TurnAt}
 use Rattle.tmpl_run.specs.Cell.{Cell, cell, fresh}
 use Rattle.tmpl_run.specs.State.{State}
-use Rattle.tmpl_run.specs.Machine.{again, elements_for, elements_in, fault_at, goes, left_in, onto, opened, paid_if, ran_so, ring, turned, variables_on}
+use Rattle.tmpl_run.specs.Machine.{again, elements_for, elements_in, fault_in, goes, left_in, onto, opened, paid_if, ran_so, ring, turned, variables_on}
 use Rattle.tmpl_run.specs.Ends.{Comes}
 use Rattle.tmpl_run.proofs.AbleLemmas.{found-within}
 use Rattle.tmpl_run.proofs.HeaderLemmas.{Pipelines, Plain, run_at, value-leads, valued}
@@ -386,7 +386,7 @@ module _ (way : Way) (calls : Calls) (spare : ℕ) (pipes : Pipelines way) where
           → ways.After way B g (over (ways.setting way calls) line h.binding (λ v. meanings (ways.setting way calls) body v)
           (meanings (ways.setting way calls) other s.dot) o (run_at lay m s))
           → Comes (ways.Leading way) (opened way.plan way.me l.2.3 (fresh v) s.cells o (valued v m place s)) way.end
-      by v m place at None e k = ap (λ n. ran_so (valued v m place s) (Some (fault_at way.me n not_a_range))) same-line ∙ k
+      by v m place at None e k = ap (λ n. ran_so (valued v m place s) (Some (fault_in way.me n not_a_range))) same-line ∙ k
       by v m place at (Some []) e k =
           nodes.part-leads way calls spare pipes other ih-other unbound g lay fr l.2.2 rest rest 0 s.dot (run_at lay m s) _
           (subst (λ n. Ended n 0 (NodesAt way.plan.templates other lay (exit_of g)) l.2.2 rest) zero-more l.2.8) refl inside (omega arith)
@@ -416,7 +416,7 @@ module _ (way : Way) (calls : Calls) (spare : ℕ) (pipes : Pipelines way) where
               (turns (ways.setting way calls) line h.binding (λ v. meanings (ways.setting way calls) body v) es))
               → Comes (ways.Leading way) (paid_if c way.plan way.me s.line (valued v m place s)
               (λ t. goes (record t { cells = cell t.dot (t.place + 1) ∷ fresh v ∷ s.cells; dot = nothing; place = t.place + 1 }))) way.end
-          on true h = ap (λ n. ran_so (valued v m place s) (Some (fault_at way.me n (meaning.steps_spent way.plan.rules.step_limit)))) same-line ∙ h
+          on true h = ap (λ n. ran_so (valued v m place s) (Some (fault_in way.me n (meaning.steps_spent way.plan.rules.step_limit)))) same-line ∙ h
           on false hk =
               turn-leads h.binding line body g lay fr l.2.0 l.2.1 l.2.2 rest l.2.4 s.dot v (place + 1) l.2.10 more begin l.2.6 l.2.7 ih-body e es 0 s.cells
               (record (valued v m place s) { dot = nothing; left = s.left - 1; place = place + 1 }) st.runs here-es begin st.frame st.deep hk

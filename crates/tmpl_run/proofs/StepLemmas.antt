@@ -13,7 +13,7 @@ use Rattle.tmpl_code.specs.Code.{Code, piped_count}
 use Rattle.tmpl_run.specs.Cell.{Cell, fresh, values_in}
 use Rattle.tmpl_run.specs.State.{State}
 use Rattle.tmpl_run.specs.Step.{Went, called_on, decided_by, halted, lacks, made_by, on, pushed, step}
-use Rattle.tmpl_run.specs.Machine.{fault_at, piped, ran_so}
+use Rattle.tmpl_run.specs.Machine.{fault_in, piped, ran_so}
 use Rattle.tmpl_run.specs.Ready.{Fits}
 use Rattle.tmpl_run.specs.Ends.{Comes}
 use Rattle.tmpl_run.proofs.AbleLemmas.{Able, Follows, pipeline-able}
@@ -83,7 +83,7 @@ module _ (way : Way) where
   -- where the steps end
   abbrev Arrives : State → Reached → Type 0
   Arrives s (at c cs m) = (pc : ℕ) → drop pc way.plan.code ≡ c → ways.Leading way (record s { cells = cs; made_text = m; place = pc })
-  Arrives s (stops cause m) = ran_so (record s { made_text = m }) (Some (fault_at way.me s.line cause)) ≡ way.end
+  Arrives s (stops cause m) = ran_so (record s { made_text = m }) (Some (fault_in way.me s.line cause)) ≡ way.end
   Arrives s lost = ⊥
 
   abbrev spot : Environment → State → Place

@@ -14,15 +14,15 @@ use Rattle.tmpl_run.specs.Machine.{goes, next_of}
 use Rattle.tmpl_run.specs.Ends.{Ends}
 
 -- the code is that of the templates
-abbrev pub IsLinked : Plan → Type 0
-IsLinked plan = Starts plan.templates plan.templates plan.starts plan.code
+abbrev pub IsPlanLinked : Plan → Type 0
+IsPlanLinked plan = Starts plan.templates plan.templates plan.starts plan.code
 
 -- over a stack of as many cells as each chain of calls from it needs that is no longer than the depth, a run that
 -- starts at a template comes to just the text, the fault and the mark that the template means: each turn is ready, and
 -- none gets stuck
 abbrev pub ComesToMeaning : Type 0
 ComesToMeaning =
-    (plan : Plan) (size : ℕ) → IsLinked plan → 1 ≤ plan.rules.depth_limit
+    (plan : Plan) (size : ℕ) → IsPlanLinked plan → 1 ≤ plan.rules.depth_limit
     → (number start : ℕ) (t : Template) (input : Option Value)
     → Suffices plan.rules.depth_limit plan.templates number size
     → slice_get plan.templates number ≡ Some t → slice_get plan.starts number ≡ Some start

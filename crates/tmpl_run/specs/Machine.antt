@@ -27,12 +27,12 @@ pub data Turn : Type 0 where
 abbrev pub ran_so : State → Option Fault → Ran
 ran_so s fault = record { text = s.text; fault = fault; made_text = s.made_text }
 
-abbrev pub fault_at : Template → ℕ → Cause → Fault
-fault_at t line cause = record { file = t.1.file; line = line; template = t.0; cause = cause }
+abbrev pub fault_in : Template → ℕ → Cause → Fault
+fault_in t line cause = record { file = t.1.file; line = line; template = t.0; cause = cause }
 
 -- a fault of this template
 abbrev pub failed : Template → ℕ → Cause → State → Turn
-failed t line cause s = ended (ran_so s (Some (fault_at t line cause)))
+failed t line cause s = ended (ran_so s (Some (fault_in t line cause)))
 
 -- ---- steps
 

@@ -57,7 +57,8 @@ impl<'m, 'a> Machine<'m, 'a> {
         requires found { 1 ≤ length (cells_of self.old.stack) }
         requires body { self.old.place + 1 < 2 ^ 64 }
         requires other { truth (slot 0 (cells_of self.old.stack)) ≡ false → self.old.place + 1 + skip < 2 ^ 64 }
-        ensures step { Executed run (code.unless kept skip) (state_of run self.old) (state_of run self.new) (Ok result) }
+        ensures step { Executed run (code.unless kept skip) (state_of run self.old) (state_of run self.new)
+            (Ok result) }
         ensures plain { IsPlain self.old → IsPlain self.new }
         ensures size { size_of self.new.stack ≡ size_of self.old.stack }
     {

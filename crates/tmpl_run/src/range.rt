@@ -162,7 +162,8 @@ impl<'m, 'a> Machine<'m, 'a> {
         ghost run: { Told }
         requires found { count + 2 ≤ length (cells_of self.old.stack) }
         requires place { self.old.place + 1 + skip < 2 ^ 64 }
-        ensures step { Executed run (code.leave count skip) (state_of run self.old) (state_of run self.new) (Ok result) }
+        ensures step { Executed run (code.leave count skip) (state_of run self.old) (state_of run self.new)
+            (Ok result) }
         ensures plain { IsPlain self.old → IsPlain self.new }
         ensures size { size_of self.new.stack ≡ size_of self.old.stack }
     {

@@ -5,7 +5,7 @@ use Rattle.std.specs.Result.{IsErrAnd}
 use Rattle.tmpl_syntax.specs.Fault.{Reason, too_long, reason_of}
 use Rattle.tmpl_syntax.specs.declared.fault.Refusal as held_refusal
 use Rattle.tmpl_syntax.specs.Set.{Template}
-use Rattle.tmpl_syntax.specs.computed.Parse.{Refusal, IsRefusal, checked, second_in, unless_second, IsSecondAt, spelled, bodies_of}
+use Rattle.tmpl_syntax.specs.computed.Parse.{Refusal, IsRefusal, checked, second_in, unless_second, IsSecondAt, definitions_or, bodies_of}
 use Rattle.tmpl_syntax.specs.computed.Parse.{all_from, items_of, placed, parsed, IsAdded}
 use Rattle.tmpl_syntax.specs.Parse.{base_name, most_bytes}
 
@@ -19,7 +19,7 @@ module _ (set : List Template) (file bytes : List ℕ) where
   parsed-short h = ap (λ b. cond b (Err (1, too_long)) (placed set file (bodies_of file bytes (items_of bytes)))) (le-ltb most_bytes (length bytes) h)
 
   refused-short : (r : Refusal) → length bytes ≤ most_bytes → checked bytes (items_of bytes) ≡ Err r → parsed set file bytes ≡ Err r
-  refused-short r h e = parsed-short h ∙ ap (λ c. placed set file (spelled c (all_from (base_name file) (items_of bytes)))) e
+  refused-short r h e = parsed-short h ∙ ap (λ c. placed set file (definitions_or c (all_from (base_name file) (items_of bytes)))) e
 
   -- the refusal of the items is that of their file
   pub refusal-placed : (line : ℕ) (o : Option Reason) → length bytes ≤ most_bytes → IsRefusal (checked bytes (items_of bytes)) line o
@@ -30,7 +30,7 @@ module _ (set : List Template) (file bytes : List ℕ) where
   -- a file all of whose items are in place
   pub fine-placed : length bytes ≤ most_bytes → checked bytes (items_of bytes) ≡ Ok tt
       → let ds = all_from (base_name file) (items_of bytes) in parsed set file bytes ≡ placed set file (unless_second (second_in ds) ds)
-  fine-placed h e = parsed-short h ∙ ap (λ c. placed set file (spelled c (all_from (base_name file) (items_of bytes)))) e
+  fine-placed h e = parsed-short h ∙ ap (λ c. placed set file (definitions_or c (all_from (base_name file) (items_of bytes)))) e
 
   -- the refusal of a second definition is that of its file
   pub second-placed : (line : ℕ) (o : Option Reason) → length bytes ≤ most_bytes → checked bytes (items_of bytes) ≡ Ok tt

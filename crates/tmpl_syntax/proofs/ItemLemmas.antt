@@ -84,7 +84,8 @@ module _ (branches : Branches) where
   piece-item (unreadable line) = an_unreadable
 
   -- tokens that spell an action of the language
-  spelled-read : (ts : List Token) (a : Action) → SpellsAction a ts → has_action branches a ≡ true → reading_of (kept branches (action_in ts)) ≡ reading_of (Some a)
+  spelled-read : (ts : List Token) (a : Action) → SpellsAction a ts → has_action branches a ≡ true
+      → reading_of (kept branches (action_in ts)) ≡ reading_of (Some a)
   spelled-read ts a s t = ap (λ o. reading_of (kept branches o)) (reads-action ts a s) ∙ ap (λ b. reading_of (if_there b a)) t
 
   unread-only : (line : ℕ) (ts : List Token) → ((a : Action) → SpellsAction a ts → has_action branches a ≡ true → ⊥) → (o : Option Action)

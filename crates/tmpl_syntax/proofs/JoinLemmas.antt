@@ -10,7 +10,7 @@ use Rattle.tmpl_lex.specs.Delimiter.{IsLeftMarker, left_marker, opens, opens_mar
 use Rattle.tmpl_lex.specs.Piece.{Piece, text, action}
 use Rattle.tmpl_lex.specs.Text.{newlines, text_piece, keeps_front, keeps_end, trims_end, Texts, trimmed}
 use Rattle.tmpl_lex.proofs.PartLemmas.{absent-rest, absent-here, absent-nil, absent-one, absent-cons}
-use Rattle.tmpl_syntax.specs.Print.Join.{Part, a_text, an_action, ends_brace, opening, parting, before_of, joined, AreParts, no_piece}
+use Rattle.tmpl_syntax.specs.Print.Join.{Part, a_text, an_action, ends_brace, opening, parting, before_of, file_of, AreParts, no_piece}
 use Rattle.tmpl_syntax.specs.Print.Join.{same_text, same_action, HasParts}
 use Rattle.tmpl_grammar.specs.Print.{bytes_of}
 use Rattle.tmpl_grammar.proofs.FrontLemmas.{solid, solid-unmarked}
@@ -119,7 +119,7 @@ cut-back [] h t clear line = record {
   same = no_piece;
 }
 cut-back (an_action ts ∷ ps) h t clear line =
-    let rest : List ℕ = joined None ps in
+    let rest : List ℕ = file_of None ps in
     let body : List ℕ = bytes_of ts ++ codes "}}" in
     let inside : body ++ rest ≡ bytes_of ts ++ (codes "}}" ++ rest) = append_assoc (bytes_of ts) (codes "}}") rest in
     let o = opens-behind line t (body ++ rest) clear (subst (BeginsNone IsLeftMarker) (sym inside) (h.0.unmarked rest)) in
@@ -140,20 +140,20 @@ cut-back (a_text u ∷ ps) h [] clear line =
     let more = cut-back ps h.1 u h.0.clear line in
     record {
       pieces = text line u ∷ more.pieces;
-      cuts = subst (λ k. Cuts false line (u ++ joined k ps) (text line u ∷ more.pieces)) (sym (some-before u h.0.some))
-          (subst (λ qs. Cuts false line (u ++ joined (before_of u) ps) qs) (some-text line u h.0.some more.pieces) more.cuts);
+      cuts = subst (λ k. Cuts false line (u ++ file_of k ps) (text line u ∷ more.pieces)) (sym (some-before u h.0.some))
+          (subst (λ qs. Cuts false line (u ++ file_of (before_of u) ps) qs) (some-text line u h.0.some more.pieces) more.cuts);
       same = same_text more.same;
     }
 cut-back (a_text u ∷ ps) h (b ∷ t) clear line =
-    let rest : List ℕ = u ++ joined (before_of u) ps in
+    let rest : List ℕ = u ++ file_of (before_of u) ps in
     let body : List ℕ = codes "/**/}}" in
     let o = opens-behind line (b ∷ t) (body ++ rest) clear (solid-unmarked (solid refl refl)) in
     let next : ℕ = line + newlines (o.before ++ o.delimiter ++ body) in
     let more = cut-back ps h.1 u h.0.clear next in
-    let file : o.before ++ o.delimiter ++ body ++ rest ≡ (b ∷ t) ++ (parting (Some (b ∷ t)) ++ (u ++ joined (Some u) ps)) =
+    let file : o.before ++ o.delimiter ++ body ++ rest ≡ (b ∷ t) ++ (parting (Some (b ∷ t)) ++ (u ++ file_of (Some u) ps)) =
     append_assoc (o.before ++ o.delimiter) body rest ∙ append_assoc o.before o.delimiter (body ++ rest) ∙ o.is
     ∙ ap (λ l. (b ∷ t) ++ l) (sym (parting-is (b ∷ t) rest))
-    ∙ ap (λ k. (b ∷ t) ++ (parting (Some (b ∷ t)) ++ (u ++ joined k ps))) (sym (some-before u h.0.some)) in
+    ∙ ap (λ k. (b ∷ t) ++ (parting (Some (b ∷ t)) ++ (u ++ file_of k ps))) (sym (some-before u h.0.some)) in
     record {
       pieces = text next u ∷ more.pieces;
       cuts = subst (λ (bs : List ℕ). Cuts false line bs (text line (b ∷ t) ∷ text next u ∷ more.pieces)) file

@@ -7,7 +7,7 @@ use Rattle.std.proofs.lemmas.Bool.{both_ways, eqb-true, false_from_ne_true}
 use Rattle.std.specs.List.{ends_with}
 use Rattle.std.specs.Cmp.Lexicographic.{pointwise}
 use Rattle.tmpl_grammar.specs.Print.{action_tokens, bytes_of}
-use Rattle.tmpl_syntax.specs.Print.Join.{Part, a_text, an_action, ends_brace, joined, opening, parting}
+use Rattle.tmpl_syntax.specs.Print.Join.{Part, a_text, an_action, ends_brace, file_of, opening, parting}
 use Rattle.tmpl_grammar.specs.Action.{Action, define_action, end_action, plain_else}
 use Rattle.tmpl_syntax.specs.Set.{Template}
 use Rattle.tmpl_syntax.specs.View.{nodes_in}
@@ -15,15 +15,15 @@ use Rattle.tmpl_syntax.specs.declared.tree.Node as held
 use Rattle.tmpl_syntax.specs.Print.Printed.{Said, said, said_text, else_said, nodes_said, part_of, set_said}
 use Rattle.tmpl_syntax.specs.computed.Print.{Page, last_text, page_with, template_said}
 
-joined-append : (before : Option (List ℕ)) (ps qs : List Part) → joined before (ps ++ qs) ≡ joined before ps ++ joined (last_text before ps) qs
+joined-append : (before : Option (List ℕ)) (ps qs : List Part) → file_of before (ps ++ qs) ≡ file_of before ps ++ file_of (last_text before ps) qs
 joined-append before [] qs = refl
 joined-append before (a_text t ∷ ps) qs =
     ap (λ bs. parting before ++ (t ++ bs)) (joined-append (Some t) ps qs) ∙
-    sym (append_assoc (parting before) (t ++ joined (Some t) ps) (joined (last_text (Some t) ps) qs)
-    ∙ ap (λ bs. parting before ++ bs) (append_assoc t (joined (Some t) ps) (joined (last_text (Some t) ps) qs)))
+    sym (append_assoc (parting before) (t ++ file_of (Some t) ps) (file_of (last_text (Some t) ps) qs)
+    ∙ ap (λ bs. parting before ++ bs) (append_assoc t (file_of (Some t) ps) (file_of (last_text (Some t) ps) qs)))
 joined-append before (an_action ts ∷ ps) qs =
-    let rest = joined None ps in
-    let more = joined (last_text None ps) qs in
+    let rest = file_of None ps in
+    let more = file_of (last_text None ps) qs in
     ap (λ bs. opening before ++ (bytes_of ts ++ (codes "}}" ++ bs))) (joined-append None ps qs) ∙
     sym (append_assoc (opening before) (bytes_of ts ++ (codes "}}" ++ rest)) more
     ∙ ap (λ bs. opening before ++ bs) (append_assoc (bytes_of ts) (codes "}}" ++ rest) more))
@@ -38,12 +38,12 @@ unfolding page_with
 page_append p ss rs =
     let ps = map part_of ss in
     let qs = map part_of rs in
-    let bytes : (p.0 ++ joined p.1 ps) ++ joined (last_text p.1 ps) qs ≡ p.0 ++ joined p.1 (map part_of (ss ++ rs)) =
-    append_assoc p.0 (joined p.1 ps) (joined (last_text p.1 ps) qs) ∙ ap (λ bs. p.0 ++ bs)
-    (sym (joined-append p.1 ps qs) ∙ ap (joined p.1) (sym (map-append part_of ss rs))) in
+    let bytes : (p.0 ++ file_of p.1 ps) ++ file_of (last_text p.1 ps) qs ≡ p.0 ++ file_of p.1 (map part_of (ss ++ rs)) =
+    append_assoc p.0 (file_of p.1 ps) (file_of (last_text p.1 ps) qs) ∙ ap (λ bs. p.0 ++ bs)
+    (sym (joined-append p.1 ps qs) ∙ ap (file_of p.1) (sym (map-append part_of ss rs))) in
     let end : last_text (last_text p.1 ps) qs ≡ last_text p.1 (map part_of (ss ++ rs)) = sym (last-append p.1 ps qs)
     ∙ ap (last_text p.1) (sym (map-append part_of ss rs)) in
-    ap (λ bs. (bs, last_text (last_text p.1 ps) qs)) bytes ∙ ap (λ (b : Option (List ℕ)). (p.0 ++ joined p.1 (map part_of (ss ++ rs)), b)) end
+    ap (λ bs. (bs, last_text (last_text p.1 ps) qs)) bytes ∙ ap (λ (b : Option (List ℕ)). (p.0 ++ file_of p.1 (map part_of (ss ++ rs)), b)) end
 
 pub page_nothing : (p : Page) → page_with p [] ≡ p
 unfolding page_with

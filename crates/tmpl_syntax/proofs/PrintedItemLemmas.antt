@@ -7,7 +7,7 @@ use Rattle.tmpl_grammar.specs.Depth.{depth_of, depth_of_pipeline, most_deep}
 use Rattle.tmpl_syntax.specs.Language.{every_branch}
 use Rattle.tmpl_syntax.specs.Item.{Item, item, text_item, action_item, a_text as text_read, read, AreItems, no_item, an_item, HasItems}
 use Rattle.tmpl_syntax.specs.Set.{Template}
-use Rattle.tmpl_syntax.specs.Print.Join.{Part, a_text, an_action, joined, IsText, AreParts, SamePieces, no_piece, same_text, same_action}
+use Rattle.tmpl_syntax.specs.Print.Join.{Part, a_text, an_action, file_of, IsText, AreParts, SamePieces, no_piece, same_text, same_action}
 use Rattle.tmpl_syntax.specs.Print.Printed.{Said, said_text, said, nodes_said, set_said, part_of}
 use Rattle.tmpl_grammar.specs.Printable.{OfPipeline, OfAction}
 use Rattle.tmpl_syntax.specs.Print.Printable.{AreSaid, ArePrintable}
@@ -82,7 +82,7 @@ items-said (said a ∷ ss) qs h s =
 -- a file of what is said has items that say it
 record HasSaid (ss : List Said) : Type 0 where
   items : List Item
-  has : HasItems every_branch (joined None (map part_of ss)) items
+  has : HasItems every_branch (file_of None (map part_of ss)) items
   say : Says ss items
 
 has-said : (ss : List Said) → AreSaid ss → HasSaid ss

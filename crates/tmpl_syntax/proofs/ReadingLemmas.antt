@@ -15,7 +15,7 @@ use Rattle.tmpl_syntax.specs.Spelling.{Spells}
 use Rattle.tmpl_syntax.specs.computed.Build.{nodes_from, definitions_from}
 use Rattle.tmpl_syntax.specs.Set.{Template}
 use Rattle.tmpl_syntax.specs.Laws.{HasOutcome, HasOneOutcome, AcceptsAsParsed, RefusesAsParsed}
-use Rattle.tmpl_syntax.specs.computed.Parse.{Refusal, IsRefusal, line_in, line_at, by_verdict, checked, second_in, unless_second, spelled}
+use Rattle.tmpl_syntax.specs.computed.Parse.{Refusal, IsRefusal, line_in, line_at, by_verdict, checked, second_in, unless_second, definitions_or}
 use Rattle.tmpl_syntax.specs.computed.Parse.{all_from, items_of, placed, parsed}
 use Rattle.tmpl_syntax.specs.Parse.{last_line, base_name, most_bytes, all_defined, HasSecond, IsAccepted, IsRefusedAt, IsRefusedBy, Parses, ParsesUnless}
 use Rattle.tmpl_syntax.proofs.ItemLemmas.{has-items, no-others}
@@ -51,11 +51,11 @@ item-there (d ∷ ds) i h = (get_or (d ∷ ds) i d, slice_get-get_or (d ∷ ds) 
 
 module _ (set : List Template) (file bytes : List ℕ) where
   short-by : (v : Verdict) → length bytes ≤ most_bytes → verdict_of (roles_of (items_of bytes)) ≡ v
-      → parsed set file bytes ≡ placed set file (spelled (by_verdict (last_line bytes) (items_of bytes) v) (all_from (base_name file) (items_of bytes)))
+      → parsed set file bytes ≡ placed set file (definitions_or (by_verdict (last_line bytes) (items_of bytes) v) (all_from (base_name file) (items_of bytes)))
   unfolding checked
   short-by v h e =
       parsed-short set file bytes h
-      ∙ ap (λ w. placed set file (spelled (by_verdict (last_line bytes) (items_of bytes) w) (all_from (base_name file) (items_of bytes)))) e
+      ∙ ap (λ w. placed set file (definitions_or (by_verdict (last_line bytes) (items_of bytes) w) (all_from (base_name file) (items_of bytes)))) e
 
   judged-by : (v : Verdict) → verdict_of (roles_of (items_of bytes)) ≡ v → Judged (roles_of (items_of bytes)) v
   judged-by v e = subst (Judged (roles_of (items_of bytes))) e (judged-all (roles_of (items_of bytes)))
@@ -152,12 +152,12 @@ module _ (set : List Template) (file bytes : List ℕ) where
   -- a file of items on which this is the verdict
   verdict-as : (items : List Item) → HasItems every_branch bytes items → (v : Verdict) → Judged (roles_of items) v
       → length bytes ≤ most_bytes
-      → parsed set file bytes ≡ placed set file (spelled (by_verdict (last_line bytes) items v) (all_from (base_name file) items))
+      → parsed set file bytes ≡ placed set file (definitions_or (by_verdict (last_line bytes) items v) (all_from (base_name file) items))
   verdict-as items has v j short =
       let same : items ≡ items_of bytes = no-others bytes items has in
       let is : verdict_of (roles_of items) ≡ v = one-verdict (roles_of items) (verdict_of (roles_of items)) v (judged-all (roles_of items)) j in
       short-by v short (ap (λ xs. verdict_of (roles_of xs)) (sym same) ∙ is)
-      ∙ ap (λ xs. placed set file (spelled (by_verdict (last_line bytes) xs v) (all_from (base_name file) xs))) (sym same)
+      ∙ ap (λ xs. placed set file (definitions_or (by_verdict (last_line bytes) xs v) (all_from (base_name file) xs))) (sym same)
 
   -- .. which spell these definitions
   spelled-as : (items : List Item) (es : List Definition) (own : Nodes) → Judged (roles_of items) fine → Spells items es own
@@ -172,7 +172,7 @@ module _ (set : List Template) (file bytes : List ℕ) where
       → parsed set file bytes ≡ placed set file (unless_second o (all_defined file es own))
   fine-as items has es own j s short o second =
       verdict-as items has fine j short
-      ∙ ap (λ xs. placed set file (spelled (Ok tt) xs)) (spelled-as items es own j s)
+      ∙ ap (λ xs. placed set file (definitions_or (Ok tt) xs)) (spelled-as items es own j s)
       ∙ ap (λ k. placed set file (unless_second k (all_defined file es own))) second
 
   pub parsed-accepted : (new : List Template) → IsAccepted every_branch set file bytes new → parsed set file bytes ≡ Ok new

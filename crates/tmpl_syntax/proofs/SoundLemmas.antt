@@ -16,7 +16,8 @@ use Rattle.tmpl_syntax.proofs.StandLemmas.{Here, Stands, here-of}
 use Rattle.tmpl_syntax.proofs.StepLemmas.{stands-opened}
 use Rattle.tmpl_syntax.proofs.ElseBranchLemmas.{stands-elsed, stands-branched, stands-ended, stands-declared, stands-still}
 use Rattle.tmpl_syntax.proofs.JudgeLemmas.{unplaced, placed, deep, shallow, none-unknown, unknown}
-use Rattle.tmpl_syntax.specs.Place.Role.{Act, plain, opener, bare_else, branch_else, closer, jump, nested, Role, text_role, unreadable_role, unread_role, act_role}
+use Rattle.tmpl_syntax.specs.Place.Role.{Act, plain, opener, bare_else, branch_else, closer, jump, nested, Role, text_role, unreadable_role, unread_role}
+use Rattle.tmpl_syntax.specs.Place.Role.{act_role}
 
 pub record Sound (xs : List Role) (i : ℕ) (known : Known) (fs : List Frame) : Type 0 where
   pub stands : Stands xs i known fs

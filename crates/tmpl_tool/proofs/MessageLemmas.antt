@@ -10,30 +10,30 @@ use Rattle.tmpl_meaning.specs.Sink.{IsPut, Told, Sunk, Whole, as_puts, sunk}
 use Rattle.tmpl_meaning.specs.declared.sink.SinkFault.{SinkFault}
 use Rattle.tmpl_meaning.proofs.PutLemmas.{counts_once, whole_or_cut}
 use Rattle.tmpl_tool.specs.Outcome.{Answer, BegunIf, Once, Outcome, Says, memory_line}
-use Rattle.tmpl_tool.specs.Part.{Piece, joined, line, number, piece_text, plain}
+use Rattle.tmpl_tool.specs.Part.{LinePart, parts_text, line, number, part_text, plain}
 use Rattle.tmpl_tool.specs.Tool as tool
 use Rattle.tmpl_tool.specs.Tool.{reason_text}
 use Rattle.tmpl_tool.specs.Inputs.{said_of}
 use Rattle.tmpl_tool.specs.Source.{Bytes}
-use Rattle.tmpl_tool.specs.View.{piece_of, pieces_of}
+use Rattle.tmpl_tool.specs.View.{part_of, parts_of}
 use Rattle.tmpl_tool.specs.declared.messages.part.Part.{Part}
 
 -- pieces after pieces
-pub joined-append : (ps qs : List Piece) → joined (ps ++ qs) ≡ joined ps ++ joined qs
+pub joined-append : (ps qs : List LinePart) → parts_text (ps ++ qs) ≡ parts_text ps ++ parts_text qs
 joined-append [] qs = refl
 joined-append (p ∷ ps) qs =
-    ap (λ (t : Bytes). piece_text p ++ t) (joined-append ps qs) ∙ sym (append_assoc (piece_text p) (joined ps) (joined qs))
+    ap (λ (t : Bytes). part_text p ++ t) (joined-append ps qs) ∙ sym (append_assoc (part_text p) (parts_text ps) (parts_text qs))
 
 -- one more of the parts
 pub parts-more : (parts : List Part) (i : ℕ) (d : Part) → i < length parts
-    → joined (pieces_of (drop i parts)) ≡ piece_text (piece_of (get_or parts i d)) ++ joined (pieces_of (drop (i + 1) parts))
-parts-more parts i d lt = at_drop_more (λ (ps : List Part). joined (pieces_of ps)) parts i d lt
+    → parts_text (parts_of (drop i parts)) ≡ part_text (part_of (get_or parts i d)) ++ parts_text (parts_of (drop (i + 1) parts))
+parts-more parts i d lt = at_drop_more (λ (ps : List Part). parts_text (parts_of ps)) parts i d lt
 
 -- a line in two parts
-pub line-parted : (ps qs : List Piece) → codes "tmpl: " ++ (joined ps ++ (joined qs ++ 10 ∷ [])) ≡ line (ps ++ qs)
+pub line-parted : (ps qs : List LinePart) → codes "tmpl: " ++ (parts_text ps ++ (parts_text qs ++ 10 ∷ [])) ≡ line (ps ++ qs)
 line-parted ps qs =
     ap (λ (t : Bytes). codes "tmpl: " ++ t)
-    (sym (append_assoc (joined ps) (joined qs) (10 ∷ [])) ∙ ap (λ (t : Bytes). t ++ 10 ∷ []) (sym (joined-append ps qs)))
+    (sym (append_assoc (parts_text ps) (parts_text qs) (10 ∷ [])) ∙ ap (λ (t : Bytes). t ++ 10 ∷ []) (sym (joined-append ps qs)))
 
 -- what was put is said
 module _ (before after : Told) (text : Bytes) (r : Result (Unit {0}) SinkFault) (put : IsPut r (as_puts before) (as_puts after) text) where

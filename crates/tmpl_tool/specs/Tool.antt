@@ -19,7 +19,7 @@ use Rattle.tmpl_funcs.specs.declared.fault.CallFault.TheVariants as call
 use Rattle.tmpl_tool.specs.Help.{asks_help}
 use Rattle.tmpl_tool.specs.Words.{Wanted, wanted}
 use Rattle.tmpl_tool.specs.Source.{Bytes, Files}
-use Rattle.tmpl_tool.specs.Part.{Piece, line, number, plain, quoted}
+use Rattle.tmpl_tool.specs.Part.{LinePart, line, number, plain, quoted}
 use Rattle.tmpl_tool.specs.Outcome.{Answer, Outcome}
 
 -- ---- template files
@@ -73,7 +73,7 @@ abbrev pub only_text : Bytes → Answer
 only_text text = record { text = text; line = []; status = 0; unread = false; made_text = false }
 
 -- nothing is put out, and a line is said
-abbrev pub only_line : ℕ → List Piece → Answer
+abbrev pub only_line : ℕ → List LinePart → Answer
 only_line status pieces =
     record { text = []; line = line pieces; status = status; unread = false; made_text = false }
 
@@ -98,7 +98,7 @@ call_text call.OutOfRange = codes "out of range"
 call_text call.NotComparable = codes "can't be compared"
 call_text call.FormatRefused = codes "format refused"
 
-abbrev pub cause_pieces : Cause → List Piece
+abbrev pub cause_pieces : Cause → List LinePart
 cause_pieces (steps_spent limit) =
     plain (codes "more than ") ∷ number limit ∷ plain (codes " steps") ∷ []
 cause_pieces (lacks_field name) =

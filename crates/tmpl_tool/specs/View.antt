@@ -1,7 +1,7 @@
 -- What the program's own values stand for.
 use Rattle.std.specs.Prelude.{List, map, option_map}
 use Rattle.tmpl_meaning.specs.View.{rules_of}
-use Rattle.tmpl_tool.specs.Part.{Piece, plain, quoted, number}
+use Rattle.tmpl_tool.specs.Part.{LinePart, plain, quoted, number}
 use Rattle.tmpl_tool.specs.Words.{Wanted}
 use Rattle.tmpl_tool.specs.declared.messages.part.Part.{Part}
 use Rattle.tmpl_tool.specs.declared.messages.part.Part.TheVariants as part
@@ -21,11 +21,11 @@ seen request = record {
 
 -- ---- messages
 
-abbrev pub piece_of : Part → Piece
-piece_of (part.Text t) = plain t.now
-piece_of (part.Bytes b) = plain b.now
-piece_of (part.Quoted name) = quoted name.now
-piece_of (part.Number n) = number n
+abbrev pub part_of : Part → LinePart
+part_of (part.Text t) = plain t.now
+part_of (part.Bytes b) = plain b.now
+part_of (part.Quoted name) = quoted name.now
+part_of (part.Number n) = number n
 
-abbrev pub pieces_of : List Part → List Piece
-pieces_of parts = map piece_of parts
+abbrev pub parts_of : List Part → List LinePart
+parts_of parts = map part_of parts

@@ -141,8 +141,8 @@ unfoldable pub keyword_of : Token → Option Keyword
 keyword_of t = keyword_by t.kind t.bytes
 
 -- an action that stands alone
-abbrev pub alone : Action → List Token → Option Action
-alone a ts = if is_blank ts then Some a else None
+abbrev pub without_tokens : Action → List Token → Option Action
+without_tokens a ts = if is_blank ts then Some a else None
 
 -- the else branch that begins with a keyword, if one does
 abbrev pub branch_of : Keyword → Option Branch
@@ -188,14 +188,14 @@ abbrev pub named_action : (List ℕ → List Token → Option Action) → List T
 named_action by ts = with_name by (quoted_in ts)
 
 abbrev pub define_by : List ℕ → List Token → Option Action
-define_by name ts = alone (define_action name) ts
+define_by name ts = without_tokens (define_action name) ts
 
-abbrev pub called : List ℕ → Pipeline → Action
-called name p = template_action name (Some p)
+abbrev pub call_with : List ℕ → Pipeline → Action
+call_with name p = template_action name (Some p)
 
 abbrev pub template_by : List ℕ → List Token → Option Action
 template_by name ts =
-    if is_blank ts then Some (template_action name None) else option_map (called name) (pipeline_in ts)
+    if is_blank ts then Some (template_action name None) else option_map (call_with name) (pipeline_in ts)
 
 abbrev pub block_by : List ℕ → List Token → Option Action
 block_by name ts = option_map (block_action name) (pipeline_in ts)
@@ -207,9 +207,9 @@ opening_by c ts = option_map (opening c) (header_in (is_range c) ts)
 abbrev pub action_by : Keyword → List Token → Option Action
 action_by (word.Control c) ts = opening_by c ts
 action_by word.Else ts = else_by (next ts)
-action_by word.End ts = alone end_action ts
-action_by word.Break ts = alone break_action ts
-action_by word.Continue ts = alone continue_action ts
+action_by word.End ts = without_tokens end_action ts
+action_by word.Break ts = without_tokens break_action ts
+action_by word.Continue ts = without_tokens continue_action ts
 action_by word.Define ts = named_action define_by ts
 action_by word.Template ts = named_action template_by ts
 action_by word.Block ts = named_action block_by ts

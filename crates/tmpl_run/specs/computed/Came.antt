@@ -7,7 +7,7 @@ use Rattle.tmpl_syntax.specs.Tree.{none}
 use Rattle.tmpl_meaning.specs.View.{cause_of, fault_seen}
 use Rattle.tmpl_meaning.specs.declared.sink.SinkFault.{SinkFault}
 use Rattle.tmpl_run.specs.Laws.{Begins}
-use Rattle.tmpl_run.specs.Machine.{fault_at}
+use Rattle.tmpl_run.specs.Machine.{fault_in}
 use Rattle.tmpl_run.specs.computed.Machines.{Told}
 use Rattle.tmpl_run.specs.State.{Plan}
 use Rattle.tmpl_run.specs.declared.halt.Halt.{Halt}
@@ -26,7 +26,7 @@ nothing_told plan = record { plan = plan; template = no_template; text = []; mad
 -- a stop in a template at a line
 abbrev pub IsStopped : Option Template → ℕ → Halt → RunError → Type 0
 IsStopped t line (stop.Fault kind) (error.Fault fault) =
-    Some (fault_seen fault) ≡ option_map (λ t. fault_at t line (cause_of kind)) t
+    Some (fault_seen fault) ≡ option_map (λ t. fault_in t line (cause_of kind)) t
 IsStopped t line (stop.Fault kind) error.WriteFailed = ⊥
 IsStopped t line (stop.Fault kind) error.OutOfMemory = ⊥
 IsStopped t line stop.WriteFailed e = e ≡ error.WriteFailed

@@ -32,10 +32,10 @@ parting None = []
 parting (Some t) = if ends_brace t then codes " {{- /**/}}" else codes "{{/**/}}"
 
 -- the bytes of parts, behind this text or none
-abbrev pub joined : Option (List ℕ) → List Part → List ℕ
-joined before [] = []
-joined before (a_text t ∷ ps) = parting before ++ (t ++ joined (Some t) ps)
-joined before (an_action ts ∷ ps) = opening before ++ (bytes_of ts ++ (codes "}}" ++ joined None ps))
+abbrev pub file_of : Option (List ℕ) → List Part → List ℕ
+file_of before [] = []
+file_of before (a_text t ∷ ps) = parting before ++ (t ++ file_of (Some t) ps)
+file_of before (an_action ts ∷ ps) = opening before ++ (bytes_of ts ++ (codes "}}" ++ file_of None ps))
 
 -- ---- parts that can be joined
 
@@ -67,7 +67,7 @@ before_of (b ∷ bs) = Some (b ∷ bs)
 -- pieces of a text and bytes behind it that are these parts
 pub record HasParts (line : ℕ) (t : List ℕ) (ps : List Part) : Type 0 where
   pub pieces : List Piece
-  pub cuts : Cuts false line (t ++ joined (before_of t) ps) (text_piece line t ++ pieces)
+  pub cuts : Cuts false line (t ++ file_of (before_of t) ps) (text_piece line t ++ pieces)
   pub same : SamePieces ps pieces
 
 -- joined parts are cut into the same parts

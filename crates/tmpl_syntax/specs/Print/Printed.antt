@@ -8,7 +8,7 @@ use Rattle.tmpl_grammar.specs.declared.tree.Control.{Control}
 use Rattle.tmpl_syntax.specs.Tree.{NodeKind, text, action, control_node, break_node, continue_node, template_node}
 use Rattle.tmpl_syntax.specs.Tree.{Nodes, none, then}
 use Rattle.tmpl_syntax.specs.Set.{Template}
-use Rattle.tmpl_syntax.specs.Print.Join.{Part, a_text, an_action, joined}
+use Rattle.tmpl_syntax.specs.Print.Join.{Part, a_text, an_action, file_of}
 
 -- ---- what nodes say, one text or action behind the other
 
@@ -62,8 +62,8 @@ abbrev mutual
 
 -- the bytes of nodes: the inverse of cutting, reading and spelling
 abbrev pub printed : Nodes → List ℕ
-printed ns = joined None (map part_of (nodes_said ns))
+printed ns = file_of None (map part_of (nodes_said ns))
 
 -- the bytes of a set
 abbrev pub printed_set : List Template → List ℕ
-printed_set ts = joined None (map part_of (set_said ts))
+printed_set ts = file_of None (map part_of (set_said ts))

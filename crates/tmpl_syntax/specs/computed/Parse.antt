@@ -56,9 +56,9 @@ abbrev pub unless_second : Option ℕ → List Definition → Result (List Defin
 unless_second None ds = Ok ds
 unless_second (Some line) ds = Err (line, second_definition)
 
-abbrev pub spelled : Result (Unit {0}) Refusal → List Definition → Result (List Definition) Refusal
-spelled (Ok u) ds = unless_second (second_in ds) ds
-spelled (Err r) ds = Err r
+abbrev pub definitions_or : Result (Unit {0}) Refusal → List Definition → Result (List Definition) Refusal
+definitions_or (Ok u) ds = unless_second (second_in ds) ds
+definitions_or (Err r) ds = Err r
 
 -- the definitions of items, and behind them their own of this name
 abbrev pub all_from : List ℕ → List Item → List Definition
@@ -66,7 +66,7 @@ all_from name items = definitions_from items ++ definition 1 name (nodes_from it
 
 -- the definitions of a file, or its refusal
 abbrev pub bodies_of : List ℕ → List ℕ → List Item → Result (List Definition) Refusal
-bodies_of file bytes items = spelled (checked bytes items) (all_from (base_name file) items)
+bodies_of file bytes items = definitions_or (checked bytes items) (all_from (base_name file) items)
 
 abbrev pub placed : List Template → List ℕ → Result (List Definition) Refusal → Result (List Template) Refusal
 placed set file (Ok ds) = Ok (defined_each set (map (template_in file) ds))

@@ -4,7 +4,7 @@ use Rattle.tmpl_values.specs.Value.{Value}
 use Rattle.tmpl_syntax.specs.Set.{Template}
 use Rattle.tmpl_meaning.specs.Meaning.{Ran}
 use Rattle.tmpl_meaning.specs.declared.fault.RunFault.{RunFault}
-use Rattle.tmpl_tool.specs.Part.{Piece, number, plain, quoted}
+use Rattle.tmpl_tool.specs.Part.{LinePart, number, plain, quoted}
 use Rattle.tmpl_tool.specs.Source.{Files}
 use Rattle.tmpl_tool.specs.Tool.{Failing, Parse, Stop, asked_name, data_found, loaded, named_run, or_stop, printed}
 use Rattle.tmpl_tool.specs.Tool.{stop_if}
@@ -32,6 +32,6 @@ abbrev pub after_words : Parse → Files → Wanted → Failing → Result Ran S
 after_words parse files w fails = or_stop (loaded parse files fails 0 [] w.files) (after_set files fails w)
 
 -- where a run failed, as the line says it
-abbrev pub place_of : RunFault → List Piece
+abbrev pub place_of : RunFault → List LinePart
 place_of f = plain f.file.now ∷ plain (codes ":") ∷ number f.line ∷ plain (codes ": in ") ∷ quoted f.template.now
     ∷ plain (codes ": ") ∷ []

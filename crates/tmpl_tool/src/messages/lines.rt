@@ -7,7 +7,7 @@ ghost use Rattle.tmpl_tool.specs.Part.{line, plain};
 ghost use Rattle.tmpl_tool.specs.computed.Load.{place_of};
 ghost use Rattle.tmpl_tool.specs.Tool.{call_text, fault_line};
 ghost use Rattle.tmpl_tool.specs.Tool.{bad_words, reason_text, stop_answer, unnamed};
-ghost use Rattle.tmpl_tool.specs.View.{pieces_of};
+ghost use Rattle.tmpl_tool.specs.View.{parts_of};
 ghost use Rattle.tmpl_tool.specs.Inputs.{refusal_seen, said_of, stop_seen};
 ghost use Rattle.tmpl_syntax.specs.Fault.{reason_of};
 
@@ -24,7 +24,7 @@ fn say<E: Sink>(err: &mut E, parts: &[Part<'_>], code: u8) -> Status
     requires { (E.so_far err.old).failures < 2 ^ 64 - 1 }
     ensures code { result.code ≡ code }
     ensures cuts { Once (E.so_far err.old).failures (E.so_far err.new).failures }
-    ensures line { Says (line (pieces_of parts.now))
+    ensures line { Says (line (parts_of parts.now))
         (sunk (E.so_far err.old) (E.so_far err.new)) }
 {
     let _ = put_line(err, [].as_slice(), parts);
@@ -182,7 +182,7 @@ pub(crate) fn run_failed<E: Sink>(err: &mut E, fault: &RunFault<'_>) -> Status
 fn say_at<E: Sink>(err: &mut E, fault: &RunFault<'_>, reason: &[Part<'_>])
     requires { (E.so_far err.old).failures < 2 ^ 64 - 1 }
     ensures cuts { Once (E.so_far err.old).failures (E.so_far err.new).failures }
-    ensures line { Says (line (place_of fault.now ++ pieces_of reason.now))
+    ensures line { Says (line (place_of fault.now ++ parts_of reason.now))
         (sunk (E.so_far err.old) (E.so_far err.new)) }
 {
     let place = [
