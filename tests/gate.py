@@ -1,7 +1,8 @@
 """Runs each command that it is given, one after the other, whatever the others came to, and adds up their
 last lines 'N passed, N failed'. A command without such a line, or with a status that it does not
-explain, counts as one failure. It also tells the minutes of processors that the proofs took, by crate. The libraries
-that `rt ci` proved are marked for `rt lib`."""
+explain, counts as one failure. It also says how many seconds of processors each command took, and how many minutes the proofs took,
+by crate. The libraries that `rt ci` proved are marked for `rt lib`."""
+import os
 import re
 import shlex
 import subprocess
@@ -30,13 +31,25 @@ def run(command):
     return passed, failed
 
 
+def taken():
+    """The seconds of processors that ended processes took, and those that they waited for."""
+    its = os.times()
+    return its.children_user + its.children_system
+
+
+def timed(command):
+    """What the command came to, as `run` has it, and its seconds of processors."""
+    before = taken()
+    return *run(command), taken() - before
+
+
 def main(commands):
     watch = processors.Watch()
-    told = [run(it) for it in commands]
+    told = [timed(it) for it in commands]
     print("== processors", *watch.table(), sep="\n")
     print("== in all")
-    for command, (passed, failed) in zip(commands, told):
-        print(f"{command}: {passed} passed, {failed} failed")
+    for command, (passed, failed, seconds) in zip(commands, told):
+        print(f"{command}: {passed} passed, {failed} failed, {seconds:.0f} s of processors")
     failed = sum(it[1] for it in told)
     print(f"{sum(it[0] for it in told)} passed, {failed} failed")
     return 1 if failed or not told else 0
