@@ -247,7 +247,7 @@ all-applied s f os piped rest vs made = by (operand_values s os).result (values-
     by (Err cause) h = refl
 
 bare-runs : (s : Place) (f : Func) (t : Bool) (code rest : Code) (vs : List Cell) (made : Bool) → BareAt t f code rest
-    → exec s 0 code vs made ≡ follow (meaning.counted f t (meaning.applied f [])) made (λ v b. exec s 0 rest (fresh v ∷ vs) b)
+    → exec s 0 code vs made ≡ follow (meaning.by_count f t (meaning.applied f [])) made (λ v b. exec s 0 rest (fresh v ∷ vs) b)
 bare-runs s f true code rest vs made l = code-is s code _ vs made l ∙ call-pushed s (or_call_failed f (called f [])) rest vs (made || makes_text f)
 bare-runs s f false code rest vs made l = code-is s code _ vs made l ∙ refused s _ made (λ v b. exec s 0 rest (fresh v ∷ vs) b)
 
@@ -286,7 +286,7 @@ call-runs _ All Both Either code rest e all both either made go a b c l = a l
 
 counted-runs : (t : Bool) (f : Func) (s : Place) (code rest : Code) (vs : List Cell) (made : Bool) (g : Given Value) (Call : Part) (go : Value → Bool → Reached)
     → (t ≡ true → Call code rest → exec s 0 code vs made ≡ follow g made go) → CountedAt t f Call code rest
-    → exec s 0 code vs made ≡ follow (meaning.counted f t g) made go
+    → exec s 0 code vs made ≡ follow (meaning.by_count f t g) made go
 counted-runs true f s code rest vs made g Call go h l = h refl l
 counted-runs false f s code rest vs made g Call go h l = code-is s code _ vs made l ∙ refused s _ made go
 
@@ -295,7 +295,7 @@ first-runs : (os : Operands) (piped : Option Value) (o : Operand) (s : Place) (c
     → (Value-at code rest → exec s 0 code (with piped vs) made ≡ follow (operand_value s o) made (λ v b. exec s 0 rest (fresh v ∷ with piped vs) b))
     → FirstAt (is_last os (is_some piped)) o Value-at code rest
     → exec s 0 code (with piped vs) made
-    ≡ follow (meaning.alone (meaning.stands_alone os piped) o (operand_value s o)) made (λ v b. exec s 0 rest (fresh v ∷ vs) b)
+    ≡ follow (meaning.operand_alone (meaning.stands_alone os piped) o (operand_value s o)) made (λ v b. exec s 0 rest (fresh v ∷ vs) b)
 first-runs no_operand None nil s code rest vs made Value-at h l = code-is s code _ vs made l ∙ refused s _ made (λ v b. exec s 0 rest (fresh v ∷ vs) b)
 first-runs no_operand (Some p) o s code rest vs made Value-at h l =
     code-is s code _ (fresh p ∷ vs) made l ∙ refused s _ made (λ v b. exec s 0 rest (fresh v ∷ vs) b)
@@ -367,7 +367,7 @@ mutual
       (λ k. operands-runs os s n lay code all (with piped vs) made h k ∙ all-applied s f os piped rest vs made)
       (λ e k. junction-runs os s false piped nothing n lay code rest vs made h (some-both f And count (λ x. cc) e t) k)
       (λ e k. junction-runs os s true piped nothing n lay code rest vs made h (some-both f Or count (λ x. cc) e t) k) k) l
-      ∙ ap (λ n. follow (meaning.counted f (takes f n) g) made go) (arguments-same os piped)
+      ∙ ap (λ n. follow (meaning.by_count f (takes f n) g) made go) (arguments-same os piped)
   command-runs (operand o os) s piped n lay code rest vs made h l =
       first-runs os piped o s code rest vs made (OperandAt o n lay) (λ k. operand-runs o s n lay code rest (with piped vs) made h k) l
 

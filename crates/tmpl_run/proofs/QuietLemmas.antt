@@ -51,7 +51,7 @@ then-quiet {T} g next e quiet = by g.result
     by (Ok t) = both g.made_text (next t).made_text e (quiet t)
     by (Err cause) = e
 
-counted-quiet : (b : Bool) (f : Func) (g : Given Value) → g.made_text ≡ false → (meaning.counted f b g).made_text ≡ false
+counted-quiet : (b : Bool) (f : Func) (g : Given Value) → g.made_text ≡ false → (meaning.by_count f b g).made_text ≡ false
 counted-quiet true f g e = e
 counted-quiet false f g e = refl
 
@@ -59,7 +59,7 @@ decided-quiet : (b : Bool) (v : Value) (g : Given Value) → g.made_text ≡ fal
 decided-quiet true v g e = refl
 decided-quiet false v g e = e
 
-alone-quiet : (b : Bool) (o : Operand) (g : Given Value) → g.made_text ≡ false → (meaning.alone b o g).made_text ≡ false
+alone-quiet : (b : Bool) (o : Operand) (g : Given Value) → g.made_text ≡ false → (meaning.operand_alone b o g).made_text ≡ false
 alone-quiet false o g e = refl
 alone-quiet true nil g e = refl
 alone-quiet true _ g e = e
