@@ -3,7 +3,7 @@
 use Rattle.std.proofs.Common.{arith, ◌≡◌, ◌∙◌, ◌+◌, ◌-◌, ◌<◌, ◌≤◌, ℕ, zero, suc, Bool, false, List, [], ◌∷◌, ◌++◌, length, drop, take, get_or, refl, ap, sym}
 use Rattle.std.proofs.Common.{subst, Option, Some, None, Result, Ok, Err, OnOk, length-append}
 use Rattle.tmpl_grammar.specs.Need.{declared_count}
-use Rattle.tmpl_grammar.specs.Tree.{Pipeline, pipeline, Binding, unbound, declare, assign, declare_pair, Header}
+use Rattle.tmpl_grammar.specs.Tree.{Pipeline, Binding, unbound, declare, assign, declare_pair, Header}
 use Rattle.tmpl_grammar.specs.declared.tree.Control.{Control}
 use Rattle.tmpl_grammar.specs.declared.tree.Control.TheVariants as control
 use Rattle.tmpl_syntax.specs.Tree as tree
@@ -24,7 +24,7 @@ use Rattle.tmpl_code.proofs.TailLemmas.{Ends, PartEnds, ends_same, ends_on, ends
 -- ---- what a node is made of
 
 pipeline_ends : (p : Pipeline) (lay : Layout) → PartEnds (PipelineAt p lay)
-pipeline_ends (pipeline cs) lay code rest l = commands_ends cs false 0 lay code rest l
+pipeline_ends cs lay code rest l = commands_ends cs false 0 lay code rest l
 
 set_ends : (slot : Option ℕ) → PartEnds (SetAt slot)
 set_ends None code rest l = ends_same code rest l

@@ -1,6 +1,6 @@
 -- For `put_operand` and `cost_of_operand`: the weight of operands one level at a time, by which their recursion ends.
 use Rattle.std.proofs.Common.{arith, ◌≡◌, ◌+◌, ◌<◌, ◌≤◌, ℕ, zero, suc, Bool, true, false, not, List, [], ◌∷◌, length, get_or, refl, ap, sym, subst}
-use Rattle.tmpl_grammar.specs.Tree.{Operand, group, Operands, no_operand, operand, Commands, no_command, command}
+use Rattle.tmpl_grammar.specs.Tree.{Operand, group, Operands, no_operand, operand, Pipeline, no_command, command}
 use Rattle.tmpl_grammar.specs.View.{operand_of, operands_in, command_of, commands_in}
 use Rattle.tmpl_grammar.specs.declared.tree.Operand as held
 use Rattle.tmpl_grammar.specs.declared.tree.Command as held_command
@@ -30,7 +30,7 @@ abbrev mutual
   weights no_operand = 0
   weights (operand o os) = suc (weight o + weights os)
 
-  pub all_weight : Commands → ℕ
+  pub all_weight : Pipeline → ℕ
   all_weight no_command = 0
   all_weight (command os cs) = suc (weights os + all_weight cs)
 

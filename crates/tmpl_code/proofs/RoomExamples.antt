@@ -2,7 +2,7 @@
 use Rattle.std.proofs.Common.{◌≡◌, ℕ, List, [], ◌∷◌, refl, codes, pos}
 use Rattle.tmpl_funcs.specs.declared.func.Func.TheVariants.{And, Eq, Index, Len, Printf}
 use Rattle.tmpl_grammar.specs.Tree.{Operand, dot, fields, variable, number_constant, text_constant, function, group, Operands, operands_from, commands_from}
-use Rattle.tmpl_grammar.specs.Tree.{pipeline, Binding, unbound, declare_pair, Header}
+use Rattle.tmpl_grammar.specs.Tree.{Binding, unbound, declare_pair, Header}
 use Rattle.tmpl_grammar.specs.declared.tree.Control.TheVariants.{If, With, Range}
 use Rattle.tmpl_syntax.specs.Tree.{NodeKind, Nodes, none, then, text, action, control_node, break_node}
 use Rattle.tmpl_syntax.specs.Set.{Template}
@@ -26,7 +26,7 @@ each [] = []
 each (os ∷ cs) = operands_from os ∷ each cs
 
 abbrev piping : Binding → List (List Operand) → Header
-piping b cs = record { binding = b; pipeline = pipeline (commands_from (each cs)) }
+piping b cs = record { binding = b; pipeline = commands_from (each cs) }
 
 abbrev alone : List Operand → Header
 alone os = piping unbound (os ∷ [])

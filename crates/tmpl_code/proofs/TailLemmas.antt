@@ -6,7 +6,7 @@ use Rattle.tmpl_funcs.specs.Func.{takes}
 use Rattle.tmpl_funcs.specs.declared.func.Func.{Func}
 use Rattle.tmpl_funcs.specs.declared.func.Func.TheVariants.{And, Or}
 use Rattle.tmpl_grammar.specs.Tree.{Operand, dot, fields, variable, bool_constant, number_constant, text_constant, nil, function, group, Operands, no_operand}
-use Rattle.tmpl_grammar.specs.Tree.{operand, Commands, no_command, command}
+use Rattle.tmpl_grammar.specs.Tree.{operand, Pipeline, no_command, command}
 use Rattle.tmpl_code.specs.Instruction.{Instruction, act, settle, call_with}
 use Rattle.tmpl_code.specs.Layout.{Layout, slot_named}
 use Rattle.tmpl_code.specs.Code.{Code, Part, chain_before, VariableAt, BareAt, is_last, FirstAt, CountedAt, CallBy, DecideAt, OperandAt, OperandsAt, JunctionAt}
@@ -117,7 +117,7 @@ mutual
   command_ends (operand o os) piped n lay code rest l = first_ends (is_last os piped) o (OperandAt o n lay) (λ code rest l. operand_ends o n lay code rest l)
       code rest l
 
-  pub commands_ends : (cs : Commands) (piped : Bool) (n : ℕ) (lay : Layout) (code rest : Code) → CommandsAt cs piped n lay code rest → Ends rest code
+  pub commands_ends : (cs : Pipeline) (piped : Bool) (n : ℕ) (lay : Layout) (code rest : Code) → CommandsAt cs piped n lay code rest → Ends rest code
   commands_ends no_command false n lay code rest l = ends_one _ code rest l
   commands_ends no_command true n lay code rest l = ends_same code rest l
   commands_ends (command os cs) piped n lay code rest l =

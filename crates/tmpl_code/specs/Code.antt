@@ -9,7 +9,7 @@ use Rattle.tmpl_funcs.specs.declared.func.Func.{Func}
 use Rattle.tmpl_funcs.specs.declared.func.Func.TheVariants.{And, Or}
 use Rattle.tmpl_grammar.specs.Tree.{Operand, dot, fields, variable, bool_constant, number_constant}
 use Rattle.tmpl_grammar.specs.Tree.{text_constant, nil, function, group, Operands, no_operand, operand}
-use Rattle.tmpl_grammar.specs.Tree.{Commands, no_command, command, Pipeline, pipeline}
+use Rattle.tmpl_grammar.specs.Tree.{Pipeline, no_command, command}
 use Rattle.tmpl_grammar.specs.Tree.{Binding, unbound, declare, assign, declare_pair, Header}
 use Rattle.tmpl_grammar.specs.Need.{declared_count}
 use Rattle.tmpl_grammar.specs.declared.tree.Control.{Control}
@@ -150,7 +150,7 @@ abbrev mutual
 
   -- the commands from left to right, where so many values lie above the cells, and one more that is piped to the first,
   -- if it is so; a null that a command gives is made nothing
-  pub CommandsAt : Commands → Bool → ℕ → Layout → Part
+  pub CommandsAt : Pipeline → Bool → ℕ → Layout → Part
   CommandsAt no_command false above cells code rest = One push_nothing code rest
   CommandsAt no_command true above cells code rest = code ≡ rest
   CommandsAt (command os cs) piped above cells code rest =
@@ -158,7 +158,7 @@ abbrev mutual
       × CommandsAt cs true above cells mid rest
 
 abbrev pub PipelineAt : Pipeline → Layout → Part
-PipelineAt (pipeline commands) cells code rest = CommandsAt commands false 0 cells code rest
+PipelineAt p cells code rest = CommandsAt p false 0 cells code rest
 
 -- ---- bindings
 

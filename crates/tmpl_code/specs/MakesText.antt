@@ -1,8 +1,8 @@
 -- Whether a template names a function that makes a text, and so takes memory when it is called.
 use Rattle.std.specs.Prelude.{Bool, false, ◌||◌, List, [], ◌∷◌, Option, Some, None}
 use Rattle.tmpl_funcs.specs.Func.{makes_text}
-use Rattle.tmpl_grammar.specs.Tree.{Operand, function, group, Operands, no_operand, operand, Commands, no_command}
-use Rattle.tmpl_grammar.specs.Tree.{command, Pipeline, pipeline}
+use Rattle.tmpl_grammar.specs.Tree.{Operand, function, group, Operands, no_operand, operand, Pipeline}
+use Rattle.tmpl_grammar.specs.Tree.{no_command, command}
 use Rattle.tmpl_syntax.specs.Tree as tree
 use Rattle.tmpl_syntax.specs.Tree.{NodeKind, action, control_node, template_node, Nodes}
 use Rattle.tmpl_syntax.specs.Set.{Template}
@@ -17,12 +17,12 @@ abbrev mutual
   operands_make_text no_operand = false
   operands_make_text (operand o os) = operand_makes_text o || operands_make_text os
 
-  pub commands_make_text : Commands → Bool
+  pub commands_make_text : Pipeline → Bool
   commands_make_text no_command = false
   commands_make_text (command os cs) = operands_make_text os || commands_make_text cs
 
 abbrev pub pipeline_makes_text : Pipeline → Bool
-pipeline_makes_text (pipeline commands) = commands_make_text commands
+pipeline_makes_text p = commands_make_text p
 
 abbrev pub given_makes_text : Option Pipeline → Bool
 given_makes_text None = false

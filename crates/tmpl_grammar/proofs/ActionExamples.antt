@@ -8,7 +8,7 @@ use Rattle.tmpl_grammar.specs.Constant as constant
 use Rattle.tmpl_grammar.specs.Operand as operand
 use Rattle.tmpl_grammar.specs.computed.Operand.{operand_at, word_operand, func_named}
 use Rattle.tmpl_grammar.specs.computed.Parser.{step, finished}
-use Rattle.tmpl_grammar.specs.Tree.{dot, fields, number_constant, pipeline, Pipeline, unbound, declare, assign, Binding, Header, declare_pair}
+use Rattle.tmpl_grammar.specs.Tree.{dot, fields, number_constant, Pipeline, unbound, declare, assign, Binding, Header, declare_pair}
 use Rattle.tmpl_grammar.specs.Action.{Action, pipeline_action, opening, else_branch, end_action, SpellsAction}
 use Rattle.tmpl_grammar.specs.computed.Reading.{keyword_of, split, pipeline_in, action_in}
 use Rattle.tmpl_grammar.specs.declared.action.Branch.TheVariants.{If}
@@ -29,7 +29,7 @@ abbrev comma : Token
 comma = token kind.Comma (codes ",")
 
 abbrev dots : Pipeline
-dots = pipeline (single dot)
+dots = single dot
 
 -- a header of these
 abbrev headed : Binding → Pipeline → Header
@@ -40,7 +40,7 @@ abbrev Nothing : List Token → Type 0
 Nothing ts = (x : Action) → SpellsAction x ts → ⊥
 
 -- `{{ $x:=1 }}`
-a-declaration : SpellsAction (pipeline_action (headed (declare (codes "x")) (pipeline (single (number_constant (pos 1))))))
+a-declaration : SpellsAction (pipeline_action (headed (declare (codes "x")) (single (number_constant (pos 1)))))
     (space ∷ variable (codes "x") ∷ declares ∷ one ∷ space ∷ [])
 unfolding integer
 a-declaration = (
@@ -79,7 +79,7 @@ a-declaration = (
 )
 
 -- `{{if $x = .a}}`
-an-assignment : SpellsAction (opening control.If (headed (assign (codes "x")) (pipeline (single (fields (a ∷ []))))))
+an-assignment : SpellsAction (opening control.If (headed (assign (codes "x")) (single (fields (a ∷ [])))))
     (word (codes "if") ∷ space ∷ variable (codes "x") ∷ space ∷ equals ∷ space ∷ field a ∷ [])
 unfolding operand_at
 an-assignment = (

@@ -7,11 +7,11 @@ use Rattle.tmpl_lex.specs.declared.piece.TokenKind.{TokenKind}
 use Rattle.tmpl_lex.specs.declared.piece.TokenKind.TheVariants as kind
 use Rattle.tmpl_lex.specs.Piece.{Token}
 use Rattle.tmpl_grammar.specs.computed.Token.{is_space_kind, is_white, is_blank, next}
-use Rattle.tmpl_grammar.specs.Tree.{Operand, text_constant, Commands, Pipeline, pipeline, Binding, unbound, declare, assign, declare_pair, Header}
+use Rattle.tmpl_grammar.specs.Tree.{Operand, text_constant, Pipeline, Binding, unbound, declare, assign, declare_pair, Header}
 use Rattle.tmpl_grammar.specs.Action.{Action, pipeline_action, opening, plain_else, else_branch, end_action, break_action, continue_action}
 use Rattle.tmpl_grammar.specs.Action.{define_action, template_action, block_action, control_in, IsQuoted, SpellsGiven, SpellsAction}
 use Rattle.tmpl_grammar.specs.Pipeline.{IsBlank, SpellsPipeline}
-use Rattle.tmpl_grammar.specs.Header.{is_range, IsSign, IsVariable, Then, SpellsWhole, SpellsBinding, SpellsHeader}
+use Rattle.tmpl_grammar.specs.Header.{is_range, IsSign, IsVariable, Then, SpellsBinding, SpellsHeader}
 use Rattle.tmpl_grammar.specs.Keyword.{IsWord}
 use Rattle.tmpl_grammar.specs.computed.Keyword.{spelling}
 use Rattle.tmpl_grammar.specs.computed.Reading.{header_in, spells_keyword, keyword_by, keyword_of, without_tokens, branch_of, text_in, quoted_before}
@@ -102,7 +102,7 @@ named-plain name Rest ts s =
     let l = then-led (IsVariable name) Rest ts (variable-other name) s in
     record { token = l.token; rest = l.rest; first_is = l.first_is; other = ap (λ k. keyword_by k l.token.bytes) l.is.0 }
 
-pipeline-plain : (cs : Commands) (ts : List Token) → SpellsPipeline cs ts → Plain ts
+pipeline-plain : (cs : Pipeline) (ts : List Token) → SpellsPipeline cs ts → Plain ts
 pipeline-plain cs ts s = by (next ts) refl
   where
     by-keyword : (t : Token) (us : List Token) → next ts ≡ Some (t, us) → (o : Option Keyword) → keyword_of t ≡ o → Plain ts
@@ -115,15 +115,12 @@ pipeline-plain cs ts s = by (next ts) refl
     by None e = spelled-lives ts cs s (blank-read ts (no-next ts e))
     by (Some p) e = by-keyword p.0 p.1 e (keyword_of p.0) refl
 
-whole-plain : (p : Pipeline) (ts : List Token) → SpellsWhole p ts → Plain ts
-whole-plain (pipeline cs) ts s = pipeline-plain cs ts s
-
-header-plain : (b : Binding) (p : Pipeline) (ts : List Token) → SpellsBinding b (SpellsWhole p) ts → Plain ts
-header-plain unbound p ts s = whole-plain p ts s
-header-plain (declare name) p ts s = named-plain name (Then (IsSign kind.Declare) (SpellsWhole p)) ts s
-header-plain (assign name) p ts s = named-plain name (Then (IsSign kind.Assign) (SpellsWhole p)) ts s
+header-plain : (b : Binding) (p : Pipeline) (ts : List Token) → SpellsBinding b (SpellsPipeline p) ts → Plain ts
+header-plain unbound p ts s = pipeline-plain p ts s
+header-plain (declare name) p ts s = named-plain name (Then (IsSign kind.Declare) (SpellsPipeline p)) ts s
+header-plain (assign name) p ts s = named-plain name (Then (IsSign kind.Assign) (SpellsPipeline p)) ts s
 header-plain (declare_pair key name) p ts s =
-    named-plain key (Then (IsSign kind.Comma) (Then (IsVariable name) (Then (IsSign kind.Declare) (SpellsWhole p)))) ts s
+    named-plain key (Then (IsSign kind.Comma) (Then (IsVariable name) (Then (IsSign kind.Declare) (SpellsPipeline p)))) ts s
 
 bound-read : (in_range : Bool) (made : Header → Action) (h : Header) (ts : List Token) → SpellsHeader in_range h ts
     → option_map made (header_in in_range ts) ≡ Some (made h)
@@ -177,9 +174,9 @@ named-read made name Rest a us f s =
 
 given-read : (name : List ℕ) (given : Option Pipeline) (vs : List Token) → SpellsGiven given vs → template_by name vs ≡ Some (template_action name given)
 given-read name None vs b = ap (λ w. cond w (Some (template_action name None)) (option_map (call_with name) (pipeline_in vs))) (blank-all vs b)
-given-read name (Some (pipeline cs)) vs s = by (is_blank vs) refl
+given-read name (Some cs) vs s = by (is_blank vs) refl
   where
-    by : (w : Bool) → is_blank vs ≡ w → template_by name vs ≡ Some (template_action name (Some (pipeline cs)))
+    by : (w : Bool) → is_blank vs ≡ w → template_by name vs ≡ Some (template_action name (Some cs))
     by true is = spelled-lives vs cs s (blank-read vs (all-blank vs is))
     by false is =
         ap (λ w. cond w (Some (template_action name None)) (option_map (call_with name) (pipeline_in vs))) is
@@ -213,9 +210,6 @@ record GivenTo (name : List ℕ) (vs : List Token) (a : Action) : Type 0 where
   spells : SpellsGiven given vs
   is : template_action name given ≡ a
 
-pipeline-spelled : (p : Pipeline) (vs : List Token) → pipeline_in vs ≡ Some p → SpellsWhole p vs
-pipeline-spelled (pipeline cs) vs e = spells-read vs cs e
-
 given-spelled : (name : List ℕ) (vs : List Token) (a : Action) → template_by name vs ≡ Some a → GivenTo name vs a
 given-spelled name vs a e = by (is_blank vs) refl e
   where
@@ -223,7 +217,7 @@ given-spelled name vs a e = by (is_blank vs) refl e
     by true is e = record { given = None; spells = all-blank vs is; is = same_Some (template_action name None) a e }
     by false is e =
         let p = mapped (call_with name) (pipeline_in vs) a e in
-        record { given = Some p.source; spells = pipeline-spelled p.source vs p.is; is = p.to }
+        record { given = Some p.source; spells = spells-read vs p.source p.is; is = p.to }
 
 pub reads-action : ReadsSpelledAction
 reads-action ts (pipeline_action h) s = plain-read h ts s
@@ -244,10 +238,10 @@ reads-action ts (define_action name) s =
 reads-action ts (template_action name given) s =
     keyed word.Template (Then (IsQuoted name) (SpellsGiven given)) (template_action name given)
     (λ us t. named-read template_by name (SpellsGiven given) (template_action name given) us (λ vs b. given-read name given vs b) t) ts s
-reads-action ts (block_action name (pipeline cs)) s =
-    let Rest : List Token → Type 0 = SpellsWhole (pipeline cs) in
-    keyed word.Block (Then (IsQuoted name) Rest) (block_action name (pipeline cs))
-    (λ us t. named-read block_by name Rest (block_action name (pipeline cs)) us (λ vs b. ap (option_map (block_action name)) (reads-spelled vs cs b)) t) ts s
+reads-action ts (block_action name cs) s =
+    let Rest : List Token → Type 0 = SpellsPipeline cs in
+    keyed word.Block (Then (IsQuoted name) Rest) (block_action name cs)
+    (λ us t. named-read block_by name Rest (block_action name cs) us (λ vs b. ap (option_map (block_action name)) (reads-spelled vs cs b)) t) ts s
 
 alone-blank : (a c : Action) (us : List Token) → without_tokens a us ≡ Some c → IsBlank us × (a ≡ c)
 alone-blank a c us e = by (is_blank us) refl e
@@ -318,8 +312,8 @@ module _ (ts : List Token) (a : Action) where
   keyword-spelled word.Block t us n w e =
       let q = quoted-from block_by us a e in
       let p = mapped (block_action q.name) (pipeline_in q.rest) a q.is in
-      subst (λ x. SpellsAction x ts) p.to (named-spelled word.Block q.name (SpellsWhole p.source) t us n w q.token q.rest q.first_is q.quoted
-      (pipeline-spelled p.source q.rest p.is))
+      subst (λ x. SpellsAction x ts) p.to (named-spelled word.Block q.name (SpellsPipeline p.source) t us n w q.token q.rest q.first_is q.quoted
+      (spells-read q.rest p.source p.is))
 
   first-spelled : (o : Option (Token × List Token)) → next ts ≡ o → action_at o ts ≡ Some a → SpellsAction a ts
   first-spelled None n e = no-value a e

@@ -12,13 +12,13 @@ use Rattle.tmpl_grammar.specs.computed.Parser as parser
 use Rattle.tmpl_grammar.specs.computed.Parser.{Parser, Partial, settled, more_commands, closed, kept_if, linked_by, step, step_by}
 use Rattle.tmpl_grammar.specs.computed.Parser.{steps, finished, commands_after}
 use Rattle.tmpl_grammar.proofs.ConstantLemmas.{IsFlat, flat-at}
-use Rattle.tmpl_grammar.specs.Depth.{depth_of_operand, depth_of_operands, depth_of_commands}
+use Rattle.tmpl_grammar.specs.Depth.{depth_of_operand, depth_of_operands, depth_of_pipeline}
 
 abbrev pub deep_operands : List Operand → ℕ
 deep_operands os = depth_of_operands (operands_from os)
 
 abbrev pub deep_commands : List Operands → ℕ
-deep_commands cs = depth_of_commands (commands_from cs)
+deep_commands cs = depth_of_pipeline (commands_from cs)
 
 abbrev pub deep_last : Option Operand → ℕ
 deep_last None = 0

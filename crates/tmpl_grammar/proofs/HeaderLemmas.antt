@@ -6,9 +6,9 @@ use Rattle.tmpl_lex.specs.declared.piece.TokenKind.TheVariants as kind
 use Rattle.tmpl_lex.specs.Piece.{Token}
 use Rattle.tmpl_grammar.specs.Token.{name_in}
 use Rattle.tmpl_grammar.specs.computed.Token.{is_space_kind, is_white, next}
-use Rattle.tmpl_grammar.specs.Tree.{Commands, Pipeline, pipeline, Binding, unbound, declare, assign, declare_pair, Header}
+use Rattle.tmpl_grammar.specs.Tree.{Pipeline, Binding, unbound, declare, assign, declare_pair, Header}
 use Rattle.tmpl_grammar.specs.Pipeline.{SpellsPipeline}
-use Rattle.tmpl_grammar.specs.Header.{IsSign, IsVariable, Then, may_bind, SpellsBinding, SpellsWhole, SpellsHeader}
+use Rattle.tmpl_grammar.specs.Header.{IsSign, IsVariable, Then, may_bind, SpellsBinding, SpellsHeader}
 use Rattle.tmpl_grammar.specs.computed.Reading.{pipeline_in, named_by, named_kind, named_at, named, Front, plain, bound, second_by}
 use Rattle.tmpl_grammar.specs.computed.Reading.{second_signed, second_named, front_by, front_signed, front_named, front_in, split_by, split}
 use Rattle.tmpl_grammar.specs.computed.Reading.{header_with, header_if, header_by, header_in}
@@ -160,7 +160,7 @@ comma-dead : (Is : Token → Type 0) (Rest : List Token → Type 0) (ts : List T
 comma-dead Is Rest ts s = then-dead Is (Then (IsSign kind.Comma) Rest) ts (λ us r. then-stray (IsSign kind.Comma) Rest us comma-stray r) s
 
 -- tokens of a pipeline have nothing in front of it
-plain-front : (ts : List Token) (cs : Commands) → SpellsPipeline cs ts → front_in ts ≡ plain
+plain-front : (ts : List Token) (cs : Pipeline) → SpellsPipeline cs ts → front_in ts ≡ plain
 plain-front ts cs s = by (front_in ts) (front-tells ts)
   where
     by : (f : Front) → FrontAs ts f → f ≡ plain
@@ -171,37 +171,28 @@ plain-front ts cs s = by (front_in ts) (front-tells ts)
     by (bound (declare_pair key name) rest) a =
         spelled-lives ts cs s (dead-read ts (comma-dead (IsVariable key) (Then (IsVariable name) (Then (IsSign kind.Declare) (IsRest rest))) ts a))
 
-whole-read : (p : Pipeline) (ts : List Token) → SpellsWhole p ts → pipeline_in ts ≡ Some p
-whole-read (pipeline cs) ts s = reads-spelled ts cs s
-
-read-whole : (p : Pipeline) (ts : List Token) → pipeline_in ts ≡ Some p → SpellsWhole p ts
-read-whole (pipeline cs) ts e = spells-read ts cs e
-
-plain-whole : (p : Pipeline) (ts : List Token) → SpellsWhole p ts → front_in ts ≡ plain
-plain-whole (pipeline cs) ts s = plain-front ts cs s
-
 -- the tokens behind a binding
 record SplitAs (b : Binding) (Rest : List Token → Type 0) (ts : List Token) : Type 0 where
   rest : List Token
   is : split ts ≡ (b, rest)
   behind : Rest rest
 
-split-bound : (b : Binding) (p : Pipeline) (ts : List Token) → SpellsBinding b (SpellsWhole p) ts → SplitAs b (SpellsWhole p) ts
+split-bound : (b : Binding) (p : Pipeline) (ts : List Token) → SpellsBinding b (SpellsPipeline p) ts → SplitAs b (SpellsPipeline p) ts
 unfolding split
-split-bound unbound p ts s = record { rest = ts; is = ap (λ f. split_by f ts) (plain-whole p ts s); behind = s }
+split-bound unbound p ts s = record { rest = ts; is = ap (λ f. split_by f ts) (plain-front ts p s); behind = s }
 split-bound (declare name) p ts s =
-    let r = then-signed name kind.Declare (SpellsWhole p) ts refl s in
-    record { rest = r.rest; is = ap (λ f. split_by f ts) (signed-front name kind.Declare (SpellsWhole p) ts r); behind = r.behind }
+    let r = then-signed name kind.Declare (SpellsPipeline p) ts refl s in
+    record { rest = r.rest; is = ap (λ f. split_by f ts) (signed-front name kind.Declare (SpellsPipeline p) ts r); behind = r.behind }
 split-bound (assign name) p ts s =
-    let r = then-signed name kind.Assign (SpellsWhole p) ts refl s in
-    record { rest = r.rest; is = ap (λ f. split_by f ts) (signed-front name kind.Assign (SpellsWhole p) ts r); behind = r.behind }
+    let r = then-signed name kind.Assign (SpellsPipeline p) ts refl s in
+    record { rest = r.rest; is = ap (λ f. split_by f ts) (signed-front name kind.Assign (SpellsPipeline p) ts r); behind = r.behind }
 split-bound (declare_pair key name) p ts s =
-    let Second : List Token → Type 0 = Then (IsVariable name) (Then (IsSign kind.Declare) (SpellsWhole p)) in
+    let Second : List Token → Type 0 = Then (IsVariable name) (Then (IsSign kind.Declare) (SpellsPipeline p)) in
     let r = then-signed key kind.Comma Second ts refl s in
-    let q = then-signed name kind.Declare (SpellsWhole p) r.rest refl r.behind in
+    let q = then-signed name kind.Declare (SpellsPipeline p) r.rest refl r.behind in
     record {
       rest = q.rest;
-      is = ap (λ f. split_by f ts) (signed-front key kind.Comma Second ts r ∙ signed-second key name kind.Declare (SpellsWhole p) r.rest q);
+      is = ap (λ f. split_by f ts) (signed-front key kind.Comma Second ts r ∙ signed-second key name kind.Declare (SpellsPipeline p) r.rest q);
       behind = q.behind;
     }
 
@@ -210,7 +201,7 @@ header-read in_range h ts (may, spelled) =
     let r = split-bound h.binding h.pipeline ts spelled in
     ap (header_by in_range) r.is
     ∙ ap (λ b. header_if b h.binding (pipeline_in r.rest)) may
-    ∙ ap (option_map (header_with h.binding)) (whole-read h.pipeline r.rest r.behind)
+    ∙ ap (option_map (header_with h.binding)) (reads-spelled r.rest h.pipeline r.behind)
 
 spells-bound : (b : Binding) (rest : List Token) (R : List Token → Type 0) → R rest → (ts : List Token) → FrontAs ts (bound b rest) → SpellsBinding b R ts
 spells-bound unbound rest R r ts a = absurd a
@@ -243,7 +234,7 @@ header-spelled in_range h ts e = by (front_in ts) (front-tells ts) e
     by : (f : Front) → FrontAs ts f → header_by in_range (split_by f ts) ≡ Some h → SpellsHeader in_range h ts
     by plain a e =
         let r = if-read in_range unbound (pipeline_in ts) h e in
-        subst (λ x. SpellsHeader in_range x ts) r.to (r.may, read-whole r.source ts r.is)
+        subst (λ x. SpellsHeader in_range x ts) r.to (r.may, spells-read ts r.source r.is)
     by (bound b rest) a e =
         let r = if-read in_range b (pipeline_in rest) h e in
-        subst (λ x. SpellsHeader in_range x ts) r.to (r.may, spells-bound b rest (SpellsWhole r.source) (read-whole r.source rest r.is) ts a)
+        subst (λ x. SpellsHeader in_range x ts) r.to (r.may, spells-bound b rest (SpellsPipeline r.source) (spells-read rest r.source r.is) ts a)

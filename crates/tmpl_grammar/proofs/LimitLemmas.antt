@@ -7,13 +7,13 @@ use Rattle.std.proofs.lemmas.Bool.Decides.{leb_tells}
 use Rattle.std.specs.Option.{option_map, option_and_then}
 use Rattle.tmpl_lex.specs.Piece.{Token}
 use Rattle.tmpl_grammar.specs.Tree as tree
-use Rattle.tmpl_grammar.specs.Tree.{Operand, Operands, Pipeline}
+use Rattle.tmpl_grammar.specs.Tree.{Operand, Operands, Pipeline, commands_from}
 use Rattle.tmpl_grammar.specs.computed.Parser.{Parser, Partial, step, steps, finished, commands_after, start}
 use Rattle.tmpl_grammar.specs.computed.Limited.{Limited, limited_start, count, emptied, restored, restored_by, forgotten_if, behind_step}
 use Rattle.tmpl_grammar.specs.computed.Limited.{limited_step, pipeline_by}
 use Rattle.tmpl_grammar.specs.Depth.{most_deep}
 use Rattle.tmpl_grammar.specs.computed.Depth.{limited_by, limited_pipeline}
-use Rattle.tmpl_grammar.specs.computed.Reading.{pipeline_from, pipeline_in}
+use Rattle.tmpl_grammar.specs.computed.Reading.{pipeline_in}
 use Rattle.tmpl_grammar.proofs.DepthLemmas.{parser_depth, deep_commands, Steps, step-steps, IsAtLeast, IsClosed, end-least, less-least, finished-depth}
 use Rattle.tmpl_grammar.proofs.PositionLemmas.{Place, more, more-suc, place_of, position_in, IsHeld, held-none, step-place, passed, passes}
 use Rattle.tmpl_grammar.proofs.PositionLemmas.{ended, ends-as, finished-place, none-passes}
@@ -112,7 +112,7 @@ exact-step all rest t l x = by l.beyond l.parser x
 
 -- what a list of commands is within the limit
 abbrev limited_commands : Option (List Operands) → Option Pipeline
-limited_commands o = option_map limited_pipeline (option_map pipeline_from o)
+limited_commands o = option_map limited_pipeline (option_map commands_from o)
 
 pub nat_le-false : (m n : ℕ) → n < m → nat_le m n ≡ false
 nat_le-false m n h = ⊎_elim (λ y. absurd (let a = y.1 in omega (arith, a, h))) (λ e. e.0) (leb_tells m n)
@@ -123,13 +123,13 @@ none-limited (Some cs) e = absurd (let g : ⊥ = cc in g)
 
 within-limited : (n : ℕ) (o : Option (List Operands)) → n ≤ most_deep → IsClosed n o → pipeline_by None o ≡ limited_commands o
 within-limited n None h c = refl
-within-limited n (Some cs) h c = sym (ap (λ b. Some (limited_by b (pipeline_from cs))) (le-leb (deep_commands cs) most_deep (omega (arith, c, h))))
+within-limited n (Some cs) h c = sym (ap (λ b. Some (limited_by b (commands_from cs))) (le-leb (deep_commands cs) most_deep (omega (arith, c, h))))
 
 deep-limited : (o all : Option (List Operands)) → is_some o ≡ is_some all → IsAtLeast (1 + most_deep) all → pipeline_by (Some 0) o ≡ limited_commands all
 deep-limited None None e d = refl
 deep-limited None (Some cs) e d = absurd (let g : ⊥ = cc in g)
 deep-limited (Some cs) None e d = absurd (let g : ⊥ = cc in g)
-deep-limited (Some xs) (Some cs) e d = sym (ap (λ c. Some (limited_by c (pipeline_from cs))) (nat_le-false (deep_commands cs) most_deep (omega (arith, d))))
+deep-limited (Some xs) (Some cs) e d = sym (ap (λ c. Some (limited_by c (commands_from cs))) (nat_le-false (deep_commands cs) most_deep (omega (arith, d))))
 
 -- ---- from the first token to the last
 

@@ -2,7 +2,7 @@
 use Rattle.std.proofs.Common.{◌≡◌, ℕ, List, [], ◌∷◌, refl, codes, pos, map}
 use Rattle.tmpl_funcs.specs.declared.func.Func.{Func}
 use Rattle.tmpl_funcs.specs.declared.func.Func.TheVariants.{And, Index, Len, Print}
-use Rattle.tmpl_grammar.specs.Tree.{Operand, dot, fields, number_constant, function, group, Operands, operands_from, commands_from, pipeline}
+use Rattle.tmpl_grammar.specs.Tree.{Operand, dot, fields, number_constant, function, group, Operands, operands_from, commands_from}
 use Rattle.tmpl_grammar.specs.Need.{need_of_pipeline}
 
 -- a function and its arguments
@@ -50,5 +50,5 @@ examples =
     ∷ (2, call Print (function Print ∷ function Print ∷ []) ∷ [])
     ∷ []
 
-each-needs : map (λ e. need_of_pipeline (pipeline (commands_from e.1))) examples ≡ map (λ e. e.0) examples
+each-needs : map (λ e. need_of_pipeline (commands_from e.1)) examples ≡ map (λ e. e.0) examples
 each-needs = refl

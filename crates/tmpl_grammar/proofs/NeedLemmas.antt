@@ -2,9 +2,9 @@
 use Rattle.std.proofs.Common.{arith, ◌≡◌, ◌∙◌, ◌≤◌, ℕ, suc, ◌+◌, max, Bool, false, List, [], ◌∷◌, ◌++◌, Option, Some, None, ap, length, length-append}
 use Rattle.tmpl_lex.specs.Piece.{Token}
 use Rattle.tmpl_grammar.specs.Tree as tree
-use Rattle.tmpl_grammar.specs.Tree.{Operand, Operands, Commands, Pipeline, pipeline, Binding, unbound, declare_pair, Header}
+use Rattle.tmpl_grammar.specs.Tree.{Operand, Operands, Pipeline, Binding, unbound, declare_pair, Header}
 use Rattle.tmpl_grammar.specs.Pipeline.{IsChained, SpellsOperand, SpellsMore, SpellsCommand, SpellsLater, SpellsPipeline}
-use Rattle.tmpl_grammar.specs.Header.{is_range, SpellsBinding, SpellsWhole, SpellsHeader}
+use Rattle.tmpl_grammar.specs.Header.{is_range, SpellsBinding, SpellsHeader}
 use Rattle.tmpl_grammar.specs.Action.{Action, pipeline_action, opening, else_branch, template_action, block_action, SpellsGiven, SpellsAction}
 use Rattle.tmpl_grammar.specs.Need.{called_or_alone, need_of_operand, need_of_arguments, need_of_command, need_of_commands}
 use Rattle.tmpl_grammar.specs.Need.{need_of_pipeline, need_of_given, declared_count}
@@ -15,7 +15,7 @@ by-first-least : (o : Operand) (call alone : ℕ) → 1 ≤ call → 1 ≤ alone
 by-first-least (tree.function f) call alone c a = c
 by-first-least _ call alone c a = a
 
-commands-least : (piped : ℕ) (cs : Commands) → 1 ≤ need_of_commands piped cs
+commands-least : (piped : ℕ) (cs : Pipeline) → 1 ≤ need_of_commands piped cs
 commands-least piped tree.no_command = omega arith
 commands-least piped (tree.command os cs) = let rest = commands-least 1 cs in omega (arith, rest)
 
@@ -53,7 +53,7 @@ mutual
   operand-within tree.nil ts s = one-token tree.nil [] ts s
   operand-within (tree.function f) ts s = one-token (tree.function f) [] ts s
   operand-within (tree.group commands names) ts s =
-      let inner = commands-within commands s.1 s.7 in
+      let inner = pipeline-within commands s.1 s.7 in
       omega (arith, inner, joined ts (s.0 ∷ s.1) (s.2 ∷ s.3) s.4)
 
   arguments-within : (held : ℕ) (os : Operands) (ts : List Token) → SpellsMore os ts → need_of_arguments held os ≤ held + length ts
@@ -73,31 +73,28 @@ mutual
       by-first-most o (max 1 (need_of_arguments piped os)) (need_of_operand o) (piped + length ts)
       (omega (arith, operand-least o, here, more, n, m)) (omega (arith, here, n, m))
 
-  later-within : (cs : Commands) (ts : List Token) → SpellsLater cs ts → need_of_commands 1 cs ≤ 1 + length ts
+  later-within : (cs : Pipeline) (ts : List Token) → SpellsLater cs ts → need_of_commands 1 cs ≤ 1 + length ts
   later-within tree.no_command ts s = omega arith
   later-within (tree.command os cs) ts s =
       let here = command-within 1 os s.1 s.6 in
       let more = later-within cs s.2 s.7 in
       omega (arith, here, more, joined ts (s.0 ∷ s.1) s.2 s.3)
 
-  commands-within : (cs : Commands) (ts : List Token) → SpellsPipeline cs ts → need_of_commands 0 cs ≤ length ts
-  commands-within tree.no_command ts s = absurd s
-  commands-within (tree.command os cs) ts s =
+  pipeline-within : (cs : Pipeline) (ts : List Token) → SpellsPipeline cs ts → need_of_commands 0 cs ≤ length ts
+  pipeline-within tree.no_command ts s = absurd s
+  pipeline-within (tree.command os cs) ts s =
       let here = command-within 0 os s.0 s.3 in
       let more = later-within cs s.1 s.4 in
       omega (arith, command-least 0 os, here, more, joined ts s.0 s.1 s.2)
 
 -- ---- and so has each variable
 
-whole-within : (p : Pipeline) (ts : List Token) → SpellsWhole p ts → need_of_pipeline p ≤ length ts
-whole-within (pipeline cs) ts s = commands-within cs ts s
-
 -- one token is before those behind it
 behind : (ts ws : List Token) (t : Token) (us : List Token) → ts ≡ ws ++ t ∷ us → 1 + length us ≤ length ts
 behind ts ws t us e = omega (arith, joined ts ws (t ∷ us) e)
 
-bound-within : (b : Binding) (p : Pipeline) (ts : List Token) → SpellsBinding b (SpellsWhole p) ts → declared_count b + need_of_pipeline p ≤ length ts
-bound-within unbound p ts s = let n = whole-within p ts s in omega (arith, n)
+bound-within : (b : Binding) (p : Pipeline) (ts : List Token) → SpellsBinding b (SpellsPipeline p) ts → declared_count b + need_of_pipeline p ≤ length ts
+bound-within unbound p ts s = let n = pipeline-within p ts s in omega (arith, n)
 bound-within (declare_pair key name) p ts s =
     let more = s.6.6 in
     let sign = more.6 in
@@ -107,10 +104,10 @@ bound-within (declare_pair key name) p ts s =
       behind s.2 s.6.0 s.6.1 s.6.2 s.6.3,
       behind s.6.2 more.0 more.1 more.2 more.3,
       behind more.2 sign.0 sign.1 sign.2 sign.3,
-      whole-within p sign.2 sign.6,
+      pipeline-within p sign.2 sign.6,
     )
 bound-within _ p ts s =
-    omega (arith, behind ts s.0 s.1 s.2 s.3, behind s.2 s.6.0 s.6.1 s.6.2 s.6.3, whole-within p s.6.2 s.6.6)
+    omega (arith, behind ts s.0 s.1 s.2 s.3, behind s.2 s.6.0 s.6.1 s.6.2 s.6.3, pipeline-within p s.6.2 s.6.6)
 
 -- ---- actions
 
@@ -132,7 +129,7 @@ header-within in_range h ts spelled = bound-within h.binding h.pipeline ts spell
 
 given-within : (given : Option Pipeline) (ts : List Token) → SpellsGiven given ts → need_of_given given ≤ 1 + length ts
 given-within None ts s = omega arith
-given-within (Some p) ts s = let n = whole-within p ts s in omega (arith, n)
+given-within (Some p) ts s = let n = pipeline-within p ts s in omega (arith, n)
 
 pub action-within : (a : Action) (ts : List Token) → SpellsAction a ts → cells_of a ≤ 2 + length ts
 action-within (pipeline_action h) ts s = let n = header-within false h ts s in omega (arith, n)
@@ -149,6 +146,6 @@ action-within (template_action name given) ts s =
     omega (arith, n, behind ts s.0 s.1 s.2 s.3, behind s.2 named.0 named.1 named.2 named.3)
 action-within (block_action name p) ts s =
     let named = s.6 in
-    let n = whole-within p named.2 named.6 in
+    let n = pipeline-within p named.2 named.6 in
     omega (arith, n, behind ts s.0 s.1 s.2 s.3, behind s.2 named.0 named.1 named.2 named.3)
 action-within _ ts s = omega arith

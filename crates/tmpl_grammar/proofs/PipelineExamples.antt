@@ -8,7 +8,7 @@ use Rattle.tmpl_grammar.specs.computed.Constant.{constant_of}
 use Rattle.tmpl_grammar.specs.computed.Integer.{integer}
 use Rattle.tmpl_grammar.specs.computed.Operand.{operand_at, word_operand, func_named}
 use Rattle.tmpl_grammar.specs.computed.Parser.{step, finished}
-use Rattle.tmpl_grammar.specs.Tree.{Operand, dot, fields, number_constant, function, group, no_operand, operand, Commands, no_command, command, pipeline}
+use Rattle.tmpl_grammar.specs.Tree.{Operand, dot, fields, number_constant, function, group, no_operand, operand, Pipeline, no_command, command}
 use Rattle.tmpl_grammar.specs.computed.Reading.{keyword_of, split, pipeline_in, action_in, reading_in}
 use Rattle.tmpl_grammar.specs.computed.Depth.{too_deep, unread}
 
@@ -46,41 +46,41 @@ a = codes "a"
 abbrev b : List ℕ
 b = codes "b"
 
-abbrev pub single : Operand → Commands
+abbrev pub single : Operand → Pipeline
 single o = command (operand o no_operand) no_command
 
 -- `.a`, `.a.b` and `.a .b`
-one-field : pipeline_in (field a ∷ []) ≡ Some (pipeline (single (fields (a ∷ []))))
+one-field : pipeline_in (field a ∷ []) ≡ Some (single (fields (a ∷ [])))
 unfolding pipeline_in step finished operand_at
 one-field = refl
 
-a-chain : pipeline_in (space ∷ field a ∷ field b ∷ space ∷ []) ≡ Some (pipeline (single (fields (a ∷ b ∷ []))))
+a-chain : pipeline_in (space ∷ field a ∷ field b ∷ space ∷ []) ≡ Some (single (fields (a ∷ b ∷ [])))
 unfolding pipeline_in step finished operand_at
 a-chain = refl
 
-two-fields : pipeline_in (field a ∷ space ∷ field b ∷ []) ≡ Some (pipeline (command (operand (fields (a ∷ [])) (operand (fields (b ∷ [])) no_operand))
-    no_command))
+two-fields : pipeline_in (field a ∷ space ∷ field b ∷ []) ≡ Some (command (operand (fields (a ∷ [])) (operand (fields (b ∷ [])) no_operand))
+    no_command)
 unfolding pipeline_in step finished operand_at
 two-fields = refl
 
 -- `.a|len`
-a-bar : pipeline_in (field a ∷ bar ∷ word (codes "len") ∷ []) ≡ Some (pipeline (command (operand (fields (a ∷ [])) no_operand) (single (function Len))))
+a-bar : pipeline_in (field a ∷ bar ∷ word (codes "len") ∷ []) ≡ Some (command (operand (fields (a ∷ [])) no_operand) (single (function Len)))
 unfolding pipeline_in step finished operand_at word_operand func_named
 a-bar = refl
 
 -- `print 1 .`
 a-call : pipeline_in (word (codes "print") ∷ space ∷ one ∷ space ∷ period ∷ [])
-    ≡ Some (pipeline (command (operand (function Print) (operand (number_constant (pos 1)) (operand dot no_operand))) no_command))
+    ≡ Some (command (operand (function Print) (operand (number_constant (pos 1)) (operand dot no_operand))) no_command)
 unfolding pipeline_in step finished operand_at word_operand func_named constant_of integer
 a-call = refl
 
 -- `( . ).a` and `.a|(1)`
-a-group : pipeline_in (left ∷ space ∷ period ∷ space ∷ right ∷ field a ∷ []) ≡ Some (pipeline (single (group (single dot) (a ∷ []))))
+a-group : pipeline_in (left ∷ space ∷ period ∷ space ∷ right ∷ field a ∷ []) ≡ Some (single (group (single dot) (a ∷ [])))
 unfolding pipeline_in step finished operand_at
 a-group = refl
 
-a-later-group : pipeline_in (field a ∷ bar ∷ left ∷ one ∷ right ∷ []) ≡ Some (pipeline
-    (command (operand (fields (a ∷ [])) no_operand) (single (group (single (number_constant (pos 1))) []))))
+a-later-group : pipeline_in (field a ∷ bar ∷ left ∷ one ∷ right ∷ []) ≡ Some (command
+    (operand (fields (a ∷ [])) no_operand) (single (group (single (number_constant (pos 1))) [])))
 unfolding pipeline_in step finished operand_at constant_of integer
 a-later-group = refl
 

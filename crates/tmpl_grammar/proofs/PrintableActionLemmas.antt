@@ -11,9 +11,9 @@ use Rattle.tmpl_lex.specs.declared.piece.TokenKind.{TokenKind}
 use Rattle.tmpl_lex.specs.declared.piece.TokenKind.TheVariants as kind
 use Rattle.tmpl_grammar.specs.Token.{begins_name, name_in}
 use Rattle.tmpl_grammar.specs.Tree as tree
-use Rattle.tmpl_grammar.specs.Tree.{Operand, Operands, Commands, Pipeline, pipeline, Binding, unbound, declare, assign, Header, declare_pair}
+use Rattle.tmpl_grammar.specs.Tree.{Operand, Operands, Pipeline, Binding, unbound, declare, assign, Header, declare_pair}
 use Rattle.tmpl_grammar.specs.Action.{Action, pipeline_action, opening, else_branch, define_action, template_action, block_action, IsQuoted, SpellsAction}
-use Rattle.tmpl_grammar.specs.Header.{is_range, IsVariable, SpellsHeader, SpellsBinding, SpellsWhole}
+use Rattle.tmpl_grammar.specs.Header.{is_range, IsVariable, SpellsHeader, SpellsBinding}
 use Rattle.tmpl_grammar.specs.computed.Constant.{constant_of, constant_by, string_in, raw_string_in, character_in}
 use Rattle.tmpl_grammar.specs.Depth.{depth_of, depth_of_pipeline, most_deep}
 use Rattle.tmpl_grammar.specs.Pipeline.{IsChain, SpellsOperand, SpellsMore, SpellsCommand, SpellsLater, SpellsPipeline}
@@ -145,13 +145,13 @@ mutual
       let parts = read-parts s.1 s.2 (read-parts s.0 (s.1 ++ s.2) (subst AreRead s.3 r)).1 in
       (of-operand o s.1 parts.0 s.5, of-more os s.2 parts.1 s.6)
 
-  of-later : (cs : Commands) (ts : List Token) → AreRead ts → SpellsLater cs ts → OfLater cs
+  of-later : (cs : Pipeline) (ts : List Token) → AreRead ts → SpellsLater cs ts → OfLater cs
   of-later tree.no_command ts r s = tt
   of-later (tree.command os cs) ts r s =
       let parts = read-parts s.1 s.2 (subst AreRead s.3 r).1 in
       (s.5, of-command os s.1 parts.0 s.6, of-later cs s.2 parts.1 s.7)
 
-  pub of-commands : (cs : Commands) (ts : List Token) → AreRead ts → SpellsPipeline cs ts → OfCommands cs
+  pub of-commands : (cs : Pipeline) (ts : List Token) → AreRead ts → SpellsPipeline cs ts → OfCommands cs
   of-commands tree.no_command ts r s = s
   of-commands (tree.command os cs) ts r s =
       let parts = read-parts s.0 s.1 (subst AreRead s.2 r) in
@@ -165,20 +165,20 @@ behind ws t us ts e r = (read-parts ws (t ∷ us) (subst AreRead e r)).1
 of-variable : (name : List ℕ) (t : Token) → IsRead t → IsVariable name t → OfVariable name
 of-variable name t r v = (v.2, subst IsNamed v.1 (subst (λ k. OfKind k (name_in t)) v.0 r.names))
 
-of-whole : (p : Pipeline) (ts : List Token) → depth_of_pipeline p ≤ most_deep → AreRead ts → SpellsWhole p ts → OfPipeline p
-of-whole (pipeline cs) ts d r s = (of-commands cs ts r s, d)
+of-pipeline : (p : Pipeline) (ts : List Token) → depth_of_pipeline p ≤ most_deep → AreRead ts → SpellsPipeline p ts → OfPipeline p
+of-pipeline cs ts d r s = (of-commands cs ts r s, d)
 
 of-bound : (b : Binding) (p : Pipeline) (ts : List Token) → depth_of_pipeline p ≤ most_deep → AreRead ts
-    → SpellsBinding b (SpellsWhole p) ts → OfBinding b × OfPipeline p
-of-bound unbound p ts d r s = (tt, of-whole p ts d r s)
+    → SpellsBinding b (SpellsPipeline p) ts → OfBinding b × OfPipeline p
+of-bound unbound p ts d r s = (tt, of-pipeline p ts d r s)
 of-bound (declare name) p ts d r s =
     let h = behind s.0 s.1 s.2 ts s.3 r in
     let k = behind s.6.0 s.6.1 s.6.2 s.2 s.6.3 h.1 in
-    (of-variable name s.1 h.0 s.5, of-whole p s.6.2 d k.1 s.6.6)
+    (of-variable name s.1 h.0 s.5, of-pipeline p s.6.2 d k.1 s.6.6)
 of-bound (assign name) p ts d r s =
     let h = behind s.0 s.1 s.2 ts s.3 r in
     let k = behind s.6.0 s.6.1 s.6.2 s.2 s.6.3 h.1 in
-    (of-variable name s.1 h.0 s.5, of-whole p s.6.2 d k.1 s.6.6)
+    (of-variable name s.1 h.0 s.5, of-pipeline p s.6.2 d k.1 s.6.6)
 of-bound (declare_pair key name) p ts d r s =
     let h = behind s.0 s.1 s.2 ts s.3 r in
     let comma = behind s.6.0 s.6.1 s.6.2 s.2 s.6.3 h.1 in
@@ -186,7 +186,7 @@ of-bound (declare_pair key name) p ts d r s =
     let k = behind more.0 more.1 more.2 s.6.2 more.3 comma.1 in
     let sign = more.6 in
     let j = behind sign.0 sign.1 sign.2 more.2 sign.3 k.1 in
-    ((of-variable key s.1 h.0 s.5, of-variable name more.1 k.0 more.5), of-whole p sign.2 d j.1 sign.6)
+    ((of-variable key s.1 h.0 s.5, of-variable name more.1 k.0 more.5), of-pipeline p sign.2 d j.1 sign.6)
 
 of-header : (in_range : Bool) (h : Header) (ts : List Token) → depth_of_pipeline h.pipeline ≤ most_deep → AreRead ts
     → SpellsHeader in_range h ts → OfHeader in_range h
@@ -216,10 +216,10 @@ of_action (template_action name (Some p)) ts d r s =
     let h = behind s.0 s.1 s.2 ts s.3 r in
     let n = s.6 in
     let k = behind n.0 n.1 n.2 s.2 n.3 h.1 in
-    (of-name name n.1 k.0 n.5, of-whole p n.2 d k.1 n.6)
+    (of-name name n.1 k.0 n.5, of-pipeline p n.2 d k.1 n.6)
 of_action (block_action name p) ts d r s =
     let h = behind s.0 s.1 s.2 ts s.3 r in
     let n = s.6 in
     let k = behind n.0 n.1 n.2 s.2 n.3 h.1 in
-    (of-name name n.1 k.0 n.5, of-whole p n.2 d k.1 n.6)
+    (of-name name n.1 k.0 n.5, of-pipeline p n.2 d k.1 n.6)
 of_action _ ts d r s = tt

@@ -8,17 +8,17 @@ use Rattle.tmpl_funcs.specs.Func.{name_of}
 use Rattle.tmpl_lex.specs.Piece.{Token}
 use Rattle.tmpl_lex.specs.declared.piece.TokenKind.TheVariants as kind
 use Rattle.tmpl_grammar.specs.Tree as tree
-use Rattle.tmpl_grammar.specs.Tree.{Operand, Operands, Commands, Pipeline, pipeline, Binding, unbound, declare, assign, Header, declare_pair}
+use Rattle.tmpl_grammar.specs.Tree.{Operand, Operands, Pipeline, Binding, unbound, declare, assign, Header, declare_pair}
 use Rattle.tmpl_grammar.specs.Action.{Action, pipeline_action, opening, else_branch, define_action, template_action, block_action, SpellsGiven, SpellsAction}
 use Rattle.tmpl_grammar.specs.Pipeline.{IsBlank, IsChain, SpellsOperand, SpellsMore, SpellsCommand, SpellsLater, SpellsPipeline}
-use Rattle.tmpl_grammar.specs.Header.{is_range, Then, IsVariable, IsSign, SpellsHeader, SpellsBinding, SpellsWhole}
+use Rattle.tmpl_grammar.specs.Header.{is_range, Then, IsVariable, IsSign, SpellsHeader, SpellsBinding}
 use Rattle.tmpl_grammar.specs.Constant.{IsConstant}
 use Rattle.tmpl_grammar.specs.computed.Constant.{constant_of, string_in}
 use Rattle.tmpl_grammar.specs.Operand as operand
 use Rattle.tmpl_grammar.specs.Operand.{IsOperand}
 use Rattle.tmpl_grammar.specs.Constant as constant
 use Rattle.tmpl_grammar.specs.Print.{token, space, word, chain_tokens, operand_tokens, more_tokens, command_tokens}
-use Rattle.tmpl_grammar.specs.Print.{later_tokens, commands_tokens, header_tokens, action_tokens, binding_tokens, pipeline_tokens}
+use Rattle.tmpl_grammar.specs.Print.{later_tokens, pipeline_tokens, header_tokens, action_tokens, binding_tokens}
 use Rattle.tmpl_grammar.specs.Print.{given_tokens}
 use Rattle.tmpl_grammar.specs.Printable.{AreFieldNames, OfOperand, OfMore, OfCommand, OfLater, OfCommands, OfPipeline, OfBinding, OfGiven, OfAction, OfHeader}
 use Rattle.tmpl_grammar.proofs.IsConstantLemmas.{between-quotes, is-computed-constant}
@@ -43,7 +43,7 @@ quoted-constant bs h = is-computed-constant (token kind.String (quote bs)) (tree
 -- ---- pipelines
 
 -- what stands behind a command: perhaps white space, and bars and commands
-record Follows (cs : Commands) : Type 0 where
+record Follows (cs : Pipeline) : Type 0 where
   white : List Token
   others : List Token
   tokens_are : later_tokens cs ≡ white ++ others
@@ -68,7 +68,7 @@ mutual
   spells-operand (tree.function f) h = (word (name_of f), [], refl, operand.a_function f, refl)
   spells-operand (tree.group commands names) h = (
     token kind.LeftParenthesis (40 ∷ []),
-    commands_tokens commands,
+    pipeline_tokens commands,
     token kind.RightParenthesis (41 ∷ []),
     chain_tokens names,
     refl,
@@ -98,7 +98,7 @@ mutual
       ([], operand_tokens o, more_tokens os ++ ws, append_assoc (operand_tokens o) (more_tokens os) ws, tt, spells-operand o h.0, spells-more os ws h.1 w)
 
   -- a command behind white space
-  follows : (cs : Commands) → OfLater cs → Follows cs
+  follows : (cs : Pipeline) → OfLater cs → Follows cs
   follows tree.no_command h = record { white = []; others = []; tokens_are = refl; blank = tt; spells = refl }
   follows (tree.command os cs) h =
       let f = follows cs h.2 in
@@ -121,7 +121,7 @@ mutual
         );
       }
 
-  spells-commands : (cs : Commands) → OfCommands cs → SpellsPipeline cs (commands_tokens cs)
+  spells-commands : (cs : Pipeline) → OfCommands cs → SpellsPipeline cs (pipeline_tokens cs)
   spells-commands tree.no_command h = h
   spells-commands (tree.command os cs) h =
       let f = follows cs h.1 in (
@@ -133,27 +133,21 @@ mutual
         f.spells,
       )
 
-pub spells-pipeline : (cs : Commands) → OfPipeline (pipeline cs) → SpellsPipeline cs (commands_tokens cs)
+pub spells-pipeline : (cs : Pipeline) → OfPipeline cs → SpellsPipeline cs (pipeline_tokens cs)
 spells-pipeline cs h = spells-commands cs h.0
 
 -- ---- actions
 
 -- a pipeline behind white space
-pub spaced-pipeline : (cs : Commands) → OfPipeline (pipeline cs) → SpellsPipeline cs (space ∷ commands_tokens cs)
+pub spaced-pipeline : (cs : Pipeline) → OfPipeline cs → SpellsPipeline cs (space ∷ pipeline_tokens cs)
 spaced-pipeline tree.no_command h = h.0
 spaced-pipeline (tree.command os cs) h =
     let s = spells-pipeline (tree.command os cs) h in
     (space ∷ s.0, s.1, ap (λ ts. space ∷ ts) s.2, spaced os s.0 s.3, s.4)
 
-spells-whole : (p : Pipeline) → OfPipeline p → SpellsWhole p (pipeline_tokens p)
-spells-whole (pipeline cs) h = spells-pipeline cs h
-
-spaced-whole : (p : Pipeline) → OfPipeline p → SpellsWhole p (space ∷ pipeline_tokens p)
-spaced-whole (pipeline cs) h = spaced-pipeline cs h
-
 -- a variable, and a sign and a pipeline behind it
 signed : (name : List ℕ) (p : Pipeline) (sign : Token) → 0 < length name → OfPipeline p
-    → (ws : List Token) → IsBlank ws → Then (IsVariable name) (Then (IsSign sign.kind) (SpellsWhole p))
+    → (ws : List Token) → IsBlank ws → Then (IsVariable name) (Then (IsSign sign.kind) (SpellsPipeline p))
     (ws ++ token kind.Variable (36 ∷ name) ∷ space ∷ sign ∷ space ∷ pipeline_tokens p)
 signed name p sign h k ws w = (
   ws,
@@ -162,12 +156,12 @@ signed name p sign h k ws w = (
   refl,
   w,
   (refl, refl, h),
-  (space ∷ [], sign, space ∷ pipeline_tokens p, refl, (refl, tt), refl, spaced-whole p k),
+  (space ∷ [], sign, space ∷ pipeline_tokens p, refl, (refl, tt), refl, spaced-pipeline p k),
 )
 
 -- two variables, and a pipeline behind them
 paired : (key name : List ℕ) (p : Pipeline) → 0 < length key → 0 < length name → OfPipeline p
-    → (ws : List Token) → IsBlank ws → SpellsBinding (declare_pair key name) (SpellsWhole p)
+    → (ws : List Token) → IsBlank ws → SpellsBinding (declare_pair key name) (SpellsPipeline p)
     (ws ++ (binding_tokens (declare_pair key name) ++ pipeline_tokens p))
 paired key name p h i k ws w = (
   ws,
@@ -181,9 +175,9 @@ paired key name p h i k ws w = (
 
 -- a header behind a space, and at the front
 spells-bound : (b : Binding) (p : Pipeline) → OfBinding b → OfPipeline p
-    → SpellsBinding b (SpellsWhole p) (space ∷ (binding_tokens b ++ pipeline_tokens p))
-    × SpellsBinding b (SpellsWhole p) (binding_tokens b ++ pipeline_tokens p)
-spells-bound unbound p h k = (spaced-whole p k, spells-whole p k)
+    → SpellsBinding b (SpellsPipeline p) (space ∷ (binding_tokens b ++ pipeline_tokens p))
+    × SpellsBinding b (SpellsPipeline p) (binding_tokens b ++ pipeline_tokens p)
+spells-bound unbound p h k = (spaced-pipeline p k, spells-pipeline p k)
 spells-bound (declare name) p h k =
     (signed name p (token kind.Declare (58 ∷ 61 ∷ [])) h.0 k (space ∷ []) (refl, tt), signed name p (token kind.Declare (58 ∷ 61 ∷ [])) h.0 k [] tt)
 spells-bound (assign name) p h k =
@@ -195,7 +189,7 @@ spells-header in_range h of = (of.0, (spells-bound h.binding h.pipeline of.1 of.
 
 spells-given : (given : Option Pipeline) → OfGiven given → SpellsGiven given (given_tokens given)
 spells-given None h = tt
-spells-given (Some p) h = spaced-whole p h
+spells-given (Some p) h = spaced-pipeline p h
 
 pub spells-tokens : (a : Action) → OfAction a → SpellsAction a (action_tokens a)
 spells-tokens (pipeline_action h) of = (of.0, (spells-bound h.binding h.pipeline of.1 of.2).1)
@@ -227,7 +221,7 @@ spells-tokens (block_action name p) of = (
     refl,
     (refl, tt),
     quoted-constant name of.0,
-    spaced-whole p of.1,
+    spaced-pipeline p of.1,
   ),
 )
 spells-tokens _ of = ([], word _, [], refl, tt, (refl, refl), tt)

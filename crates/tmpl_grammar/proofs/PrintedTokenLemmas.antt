@@ -10,13 +10,13 @@ use Rattle.tmpl_lex.specs.Piece.{Token}
 use Rattle.tmpl_lex.specs.Token as row
 use Rattle.tmpl_lex.specs.declared.piece.TokenKind.TheVariants as kind
 use Rattle.tmpl_grammar.specs.Tree as tree
-use Rattle.tmpl_grammar.specs.Tree.{Operand, Operands, Commands, Pipeline, pipeline, Binding, unbound, declare, assign, declare_pair}
+use Rattle.tmpl_grammar.specs.Tree.{Operand, Operands, Pipeline, Binding, unbound, declare, assign, declare_pair}
 use Rattle.tmpl_grammar.specs.Action.{Action, pipeline_action, opening, else_branch, break_action, continue_action, define_action}
 use Rattle.tmpl_grammar.specs.Action.{template_action, block_action, control_in}
 use Rattle.tmpl_grammar.specs.Keyword.{control_spelling}
 use Rattle.tmpl_values.specs.Text.{truth_text}
 use Rattle.tmpl_grammar.specs.Print.{bytes_of, Spells, IsInside, token, space, word, chain_tokens, operand_tokens, more_tokens}
-use Rattle.tmpl_grammar.specs.Print.{command_tokens, later_tokens, commands_tokens, pipeline_tokens, header_tokens, action_tokens}
+use Rattle.tmpl_grammar.specs.Print.{command_tokens, later_tokens, pipeline_tokens, header_tokens, action_tokens}
 use Rattle.tmpl_grammar.specs.Print.{binding_tokens, given_tokens}
 use Rattle.tmpl_grammar.specs.Printable.{IsFieldName, AreFieldNames, IsFieldChain, OfOperand, OfMore, OfCommand, OfLater, OfCommands}
 use Rattle.tmpl_grammar.specs.Printable.{OfPipeline, OfBinding, OfGiven, OfAction}
@@ -92,7 +92,7 @@ string-reads bs rest =
 
 -- ---- pipelines
 
-later-stops : (cs : Commands) (rest : List ℕ) → EndsToken rest → EndsToken (bytes_of (later_tokens cs) ++ rest)
+later-stops : (cs : Pipeline) (rest : List ℕ) → EndsToken rest → EndsToken (bytes_of (later_tokens cs) ++ rest)
 later-stops tree.no_command rest stop = stop
 later-stops (tree.command os cs) rest stop = refl
 
@@ -120,7 +120,7 @@ mutual
   operand-reads (tree.group commands names) rest h stop = record {
     spells = (
       row.left_parenthesis,
-      spells-append (commands_tokens commands) (token kind.RightParenthesis (41 ∷ []) ∷ chain_tokens names) rest
+      spells-append (pipeline_tokens commands) (token kind.RightParenthesis (41 ∷ []) ∷ chain_tokens names) rest
           (commands-reads commands (41 ∷ (bytes_of (chain_tokens names) ++ rest)) h.0 refl).spells (row.right_parenthesis, chain-spells names rest h.1 stop),
     );
     firm = solid refl refl;
@@ -138,20 +138,20 @@ mutual
   command-reads (tree.operand o os) rest h stop = reads-append (operand_tokens o) (more_tokens os) rest
       (operand-reads o (bytes_of (more_tokens os) ++ rest) h.0 (more-stops os rest stop)) (more-spells os rest h.1 stop)
 
-  later-spells : (cs : Commands) (rest : List ℕ) → OfLater cs → EndsToken rest → Spells (later_tokens cs) rest
+  later-spells : (cs : Pipeline) (rest : List ℕ) → OfLater cs → EndsToken rest → Spells (later_tokens cs) rest
   later-spells tree.no_command rest h stop = tt
   later-spells (tree.command os cs) rest h stop =
       let r = reads-append (command_tokens os) (later_tokens cs) rest (command-reads os (bytes_of (later_tokens cs) ++ rest) h.1 (later-stops cs rest stop))
       (later-spells cs rest h.2 stop) in
       (space-front _ (solid refl refl), (row.pipe, (space-front _ r.firm, r.spells)))
 
-  commands-reads : (cs : Commands) (rest : List ℕ) → OfCommands cs → EndsToken rest → Reads (commands_tokens cs) rest
+  commands-reads : (cs : Pipeline) (rest : List ℕ) → OfCommands cs → EndsToken rest → Reads (pipeline_tokens cs) rest
   commands-reads tree.no_command rest h stop = absurd h
   commands-reads (tree.command os cs) rest h stop = reads-append (command_tokens os) (later_tokens cs) rest
       (command-reads os (bytes_of (later_tokens cs) ++ rest) h.0 (later-stops cs rest stop)) (later-spells cs rest h.1 stop)
 
 pub pipeline-reads : (p : Pipeline) (rest : List ℕ) → OfPipeline p → EndsToken rest → Reads (pipeline_tokens p) rest
-pipeline-reads (pipeline cs) rest h stop = commands-reads cs rest h.0 stop
+pipeline-reads cs rest h stop = commands-reads cs rest h.0 stop
 
 -- ---- actions
 

@@ -8,7 +8,7 @@ use Rattle.tmpl_lex.specs.declared.piece.TokenKind.TheVariants as kind
 use Rattle.tmpl_lex.specs.Piece.{Token}
 use Rattle.tmpl_grammar.specs.Token.{begins_name, name_in}
 use Rattle.tmpl_grammar.specs.Tree as tree
-use Rattle.tmpl_grammar.specs.Tree.{Operand, Operands, Commands, operands_from, commands_from}
+use Rattle.tmpl_grammar.specs.Tree.{Operand, Operands, Pipeline, operands_from, commands_from}
 use Rattle.tmpl_grammar.specs.Operand.{IsOperand, begins_later}
 use Rattle.tmpl_grammar.specs.computed.Operand.{operand_at}
 use Rattle.tmpl_grammar.specs.computed.Parser as parser
@@ -55,7 +55,7 @@ EndsCommand None cs (o ∷ os) more ts = SpellsApart more ts
 -- tokens end a pipeline
 pub record EndsPartial (last : Option Operand) (cs : List Operands) (os : List Operand) (ts : List Token) (all : List Operands) : Type 0 where
   pub more : Operands
-  pub later : Commands
+  pub later : Pipeline
   pub front : List Token
   pub back : List Token
   pub tokens_are : ts ≡ front ++ back
@@ -264,7 +264,7 @@ token-spells t o at = by o (is-computed-operand t o at) (subst IsToken at (token
     by (tree.function f) at form = one-spells (tree.function f) t at (λ n. refl) (λ ts c. c)
     by (tree.group commands names) at form = absurd form
 
-group-spells : (cs : Commands) (l r : Token) (a : List Token) → l.kind ≡ kind.LeftParenthesis → r.kind ≡ kind.RightParenthesis
+group-spells : (cs : Pipeline) (l r : Token) (a : List Token) → l.kind ≡ kind.LeftParenthesis → r.kind ≡ kind.RightParenthesis
     → SpellsPipeline cs a → Spells (tree.group cs []) (l ∷ a ++ (r ∷ []))
 group-spells cs l r a left right s ts p e =
     let c = chained (tree.group cs) (group-chain cs) [] ts p e in
@@ -353,7 +353,7 @@ abbrev EndsOpt : Option Parser → List Token → List Operands → Type 0
 EndsOpt None ts all = ⊥
 EndsOpt (Some h) ts all = EndsParser h ts all
 
-group-stands : (cs : List Operands) (os : List Operand) (commands : Commands) → may_stand cs os (tree.group commands []) ≡ true
+group-stands : (cs : List Operands) (os : List Operand) (commands : Pipeline) → may_stand cs os (tree.group commands []) ≡ true
 group-stands [] os commands = refl
 group-stands (c ∷ cs) [] commands = refl
 group-stands (c ∷ cs) (q ∷ os) commands = refl

@@ -2,9 +2,10 @@
 use Rattle.std.proofs.Common.{◌≡◌, ◌∙◌, Bool, true, false, not, nat_le, List, Option, Some, None, refl, ap}
 use Rattle.std.specs.Option.{option_map}
 use Rattle.tmpl_lex.specs.Piece.{Token}
-use Rattle.tmpl_grammar.specs.Tree.{Pipeline, pipeline, no_command, Binding, unbound, declare, assign, declare_pair}
+use Rattle.tmpl_grammar.specs.Tree.{Pipeline, no_command, Binding, unbound, declare, assign, declare_pair}
 use Rattle.tmpl_grammar.specs.Action.{Action, pipeline_action, opening, else_branch, template_action, block_action, branch_in, SpellsAction}
-use Rattle.tmpl_grammar.specs.Header.{SpellsBinding, SpellsWhole}
+use Rattle.tmpl_grammar.specs.Pipeline.{SpellsPipeline}
+use Rattle.tmpl_grammar.specs.Header.{SpellsBinding}
 use Rattle.tmpl_grammar.specs.Depth.{depth_of, most_deep}
 use Rattle.tmpl_grammar.specs.computed.Depth.{too_deep, read, reading_by, reading_of, limited_by, limited_action, is_left_out, lacks_pipeline}
 use Rattle.tmpl_grammar.specs.computed.Depth.{reading_unless, reading_held}
@@ -12,22 +13,22 @@ use Rattle.tmpl_grammar.specs.computed.Reading.{action_in}
 use Rattle.tmpl_grammar.proofs.ActionLemmas.{spells-action}
 
 -- a pipeline that tokens spell has commands
-whole-there : (p : Pipeline) (ts : List Token) → SpellsWhole p ts → is_left_out p ≡ false
-whole-there (pipeline no_command) ts s = absurd s
-whole-there _ ts s = refl
+pipeline-there : (p : Pipeline) (ts : List Token) → SpellsPipeline p ts → is_left_out p ≡ false
+pipeline-there no_command ts s = absurd s
+pipeline-there _ ts s = refl
 
-bound-there : (b : Binding) (p : Pipeline) (ts : List Token) → SpellsBinding b (SpellsWhole p) ts → is_left_out p ≡ false
-bound-there unbound p ts s = whole-there p ts s
-bound-there (declare name) p ts s = whole-there p _ s.6.6
-bound-there (assign name) p ts s = whole-there p _ s.6.6
-bound-there (declare_pair key name) p ts s = whole-there p _ s.6.6.6.6
+bound-there : (b : Binding) (p : Pipeline) (ts : List Token) → SpellsBinding b (SpellsPipeline p) ts → is_left_out p ≡ false
+bound-there unbound p ts s = pipeline-there p ts s
+bound-there (declare name) p ts s = pipeline-there p _ s.6.6
+bound-there (assign name) p ts s = pipeline-there p _ s.6.6
+bound-there (declare_pair key name) p ts s = pipeline-there p _ s.6.6.6.6
 
 action-there : (a : Action) (ts : List Token) → SpellsAction a ts → lacks_pipeline a ≡ false
 action-there (pipeline_action h) ts s = bound-there h.binding h.pipeline ts s.1
 action-there (opening c h) ts s = bound-there h.binding h.pipeline _ s.6.1
 action-there (else_branch br h) ts s = bound-there h.binding h.pipeline _ s.6.6.1
-action-there (template_action name (Some p)) ts s = whole-there p _ s.6.6
-action-there (block_action name p) ts s = whole-there p _ s.6.6
+action-there (template_action name (Some p)) ts s = pipeline-there p _ s.6.6
+action-there (block_action name p) ts s = pipeline-there p _ s.6.6
 action-there _ ts s = refl
 
 -- what is left out of an action, where its pipeline is as deep as that

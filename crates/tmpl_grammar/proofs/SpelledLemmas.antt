@@ -7,7 +7,7 @@ use Rattle.tmpl_lex.specs.declared.piece.TokenKind.TheVariants as kind
 use Rattle.tmpl_lex.specs.Piece.{Token}
 use Rattle.tmpl_grammar.specs.Token.{begins_name, name_in}
 use Rattle.tmpl_grammar.specs.Tree as tree
-use Rattle.tmpl_grammar.specs.Tree.{Operand, Operands, Commands, operands_from, commands_from}
+use Rattle.tmpl_grammar.specs.Tree.{Operand, Operands, Pipeline, operands_from, commands_from}
 use Rattle.tmpl_grammar.specs.Operand.{IsOperand, begins_later}
 use Rattle.tmpl_grammar.specs.computed.Operand.{operand_at, operand_by}
 use Rattle.tmpl_grammar.specs.computed.Parser as parser
@@ -24,7 +24,7 @@ abbrev pub operand_list : Operands → List Operand
 operand_list tree.no_operand = []
 operand_list (tree.operand o os) = o ∷ operand_list os
 
-abbrev pub command_list : Commands → List Operands
+abbrev pub command_list : Pipeline → List Operands
 command_list tree.no_command = []
 command_list (tree.command os cs) = os ∷ command_list cs
 
@@ -32,7 +32,7 @@ pub operands-back : (os : Operands) → operands_from (operand_list os) ≡ os
 operands-back tree.no_operand = refl
 operands-back (tree.operand o os) = ap (tree.operand o) (operands-back os)
 
-pub commands-back : (cs : Commands) → commands_from (command_list cs) ≡ cs
+pub commands-back : (cs : Pipeline) → commands_from (command_list cs) ≡ cs
 commands-back tree.no_command = refl
 commands-back (tree.command os cs) = ap (tree.command os) (commands-back cs)
 
@@ -113,7 +113,7 @@ fields-chain ns n = refl
 pub variable-chain : (x : List ℕ) → Chains (tree.variable x)
 variable-chain x ns n = refl
 
-pub group-chain : (cs : Commands) → Chains (tree.group cs)
+pub group-chain : (cs : Pipeline) → Chains (tree.group cs)
 group-chain cs ns n = refl
 
 one-steps : (o : Operand) (ls : List Partial) (cs : List Operands) (os : List Operand) (ts : List Token) → IsChained o [] ts
@@ -262,7 +262,7 @@ mutual
       (more-read ms b rest ls cs [] o)) in
       subst (λ os. Ended (parser_at ls cs [] None) ts ls (cs ++ os ∷ [])) (operands-back (tree.operand o ms)) (reached-closed _ ts ls cs o (operand_list ms) r)
 
-  later-read : (later : Commands) (ts : List Token) → SpellsLater later ts → (h : Parser) (ls : List Partial) (cs : List Operands)
+  later-read : (later : Pipeline) (ts : List Token) → SpellsLater later ts → (h : Parser) (ls : List Partial) (cs : List Operands)
       → h.outer ≡ ls → closed h ≡ Some cs → Ended h ts ls (cs ++ command_list later)
   later-read tree.no_command ts s h ls cs outer whole = record {
     end = h;
@@ -277,7 +277,7 @@ mutual
       (ended-along _ r.end (a ++ b) a b ls _ _ refl r.to refl
       (later-read later b rest r.end ls _ r.outer_is r.closed_is))
 
-  pub pipeline-read : (cs : Commands) (ts : List Token) → SpellsPipeline cs ts → (ls : List Partial) → Ended (parser_at ls [] [] None) ts ls (command_list cs)
+  pub pipeline-read : (cs : Pipeline) (ts : List Token) → SpellsPipeline cs ts → (ls : List Partial) → Ended (parser_at ls [] [] None) ts ls (command_list cs)
   pipeline-read tree.no_command ts s ls = absurd s
   pipeline-read (tree.command os later) ts (a, b, is, spells, rest) ls =
       let r = command-read os a spells ls [] (first-of-all os) in

@@ -5,12 +5,12 @@ use Rattle.tmpl_lex.specs.declared.piece.TokenKind.TheVariants as kind
 use Rattle.tmpl_lex.specs.Piece.{Token}
 use Rattle.tmpl_grammar.specs.computed.Operand.{operand_at, operand_by, word_operand, func_named}
 use Rattle.tmpl_grammar.specs.computed.Parser.{Parser, step, steps, placed, start, finished}
-use Rattle.tmpl_grammar.specs.Tree.{Operand, Commands, pipeline}
+use Rattle.tmpl_grammar.specs.Tree.{Operand, Pipeline, commands_from}
 use Rattle.tmpl_grammar.specs.Pipeline.{IsBlank, SpellsPipeline}
 use Rattle.tmpl_grammar.specs.Keyword.{IsWord}
 use Rattle.tmpl_grammar.specs.computed.Keyword.{spelling}
 use Rattle.tmpl_grammar.specs.Header.{Then}
-use Rattle.tmpl_grammar.specs.computed.Reading.{pipeline_in, pipeline_from}
+use Rattle.tmpl_grammar.specs.computed.Reading.{pipeline_in}
 use Rattle.tmpl_grammar.specs.declared.keyword.Keyword.{Keyword}
 use Rattle.tmpl_grammar.specs.declared.keyword.Keyword.TheVariants as word
 use Rattle.tmpl_grammar.specs.declared.tree.Control.TheVariants as control
@@ -76,12 +76,12 @@ then-dead Is Rest ts f (ws, t, us, at, blank, is, rest) =
 
 pub dead-read : (ts : List Token) → IsDead ts → pipeline_in ts ≡ None
 unfolding pipeline_in
-dead-read ts d = ap (λ o. option_map pipeline_from (option_and_then finished o)) (d (Some start))
+dead-read ts d = ap (λ o. option_map commands_from (option_and_then finished o)) (d (Some start))
 
 pub blank-read : (ts : List Token) → IsBlank ts → pipeline_in ts ≡ None
 unfolding pipeline_in finished
-blank-read ts b = ap (λ o. option_map pipeline_from (option_and_then finished o)) (blank-steps [] [] [] ts b)
+blank-read ts b = ap (λ o. option_map commands_from (option_and_then finished o)) (blank-steps [] [] [] ts b)
 
 -- tokens that spell a pipeline are none of these
-pub spelled-lives : {A : Type 0} (ts : List Token) (cs : Commands) → SpellsPipeline cs ts → pipeline_in ts ≡ None → A
-spelled-lives ts cs s e = no-value (pipeline cs) (sym e ∙ reads-spelled ts cs s)
+pub spelled-lives : {A : Type 0} (ts : List Token) (cs : Pipeline) → SpellsPipeline cs ts → pipeline_in ts ≡ None → A
+spelled-lives ts cs s e = no-value cs (sym e ∙ reads-spelled ts cs s)

@@ -3,8 +3,8 @@ use Rattle.std.specs.Prelude.{ℕ, false, List, Option, Some, None, codes}
 use Rattle.tmpl_lex.specs.Piece.{Token}
 use Rattle.tmpl_grammar.specs.Tree.{text_constant, Pipeline, Header}
 use Rattle.tmpl_grammar.specs.Constant.{IsConstant}
-use Rattle.tmpl_grammar.specs.Pipeline.{IsBlank}
-use Rattle.tmpl_grammar.specs.Header.{is_range, Then, SpellsWhole, SpellsHeader}
+use Rattle.tmpl_grammar.specs.Pipeline.{IsBlank, SpellsPipeline}
+use Rattle.tmpl_grammar.specs.Header.{is_range, Then, SpellsHeader}
 use Rattle.tmpl_grammar.specs.Keyword.{control_spelling, IsWord}
 use Rattle.tmpl_grammar.specs.declared.tree.Control.{Control}
 use Rattle.tmpl_grammar.specs.declared.tree.Control.TheVariants as control
@@ -39,7 +39,7 @@ IsQuoted name t = IsConstant t (text_constant name)
 -- a pipeline, or nothing
 abbrev pub SpellsGiven : Option Pipeline → List Token → Type 0
 SpellsGiven None ts = IsBlank ts
-SpellsGiven (Some p) ts = SpellsWhole p ts
+SpellsGiven (Some p) ts = SpellsPipeline p ts
 
 -- an action: a header alone, or a keyword and what stands behind it
 abbrev pub SpellsAction : Action → List Token → Type 0
@@ -54,7 +54,7 @@ SpellsAction continue_action ts = Then (IsWord (codes "continue")) IsBlank ts
 SpellsAction (define_action name) ts = Then (IsWord (codes "define")) (Then (IsQuoted name) IsBlank) ts
 SpellsAction (template_action name given) ts =
     Then (IsWord (codes "template")) (Then (IsQuoted name) (SpellsGiven given)) ts
-SpellsAction (block_action name p) ts = Then (IsWord (codes "block")) (Then (IsQuoted name) (SpellsWhole p)) ts
+SpellsAction (block_action name p) ts = Then (IsWord (codes "block")) (Then (IsQuoted name) (SpellsPipeline p)) ts
 
 -- the control of an else branch
 abbrev pub branch_in : Action → Option Branch

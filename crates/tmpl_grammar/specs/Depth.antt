@@ -1,26 +1,23 @@
 -- How deep parentheses nest, and how deep they may (our own limit).
 use Rattle.std.specs.Prelude.{ℕ, ◌+◌, max, Some}
 use Rattle.tmpl_grammar.specs.Tree as tree
-use Rattle.tmpl_grammar.specs.Tree.{Operand, Operands, Commands, Pipeline}
+use Rattle.tmpl_grammar.specs.Tree.{Operand, Operands, Pipeline}
 use Rattle.tmpl_grammar.specs.Action.{Action, pipeline_action, opening}
 use Rattle.tmpl_grammar.specs.Action.{else_branch}
 use Rattle.tmpl_grammar.specs.Action.{template_action, block_action}
 
 abbrev mutual
   pub depth_of_operand : Operand → ℕ
-  depth_of_operand (tree.group commands names) = 1 + depth_of_commands commands
+  depth_of_operand (tree.group commands names) = 1 + depth_of_pipeline commands
   depth_of_operand o = 0
 
   pub depth_of_operands : Operands → ℕ
   depth_of_operands tree.no_operand = 0
   depth_of_operands (tree.operand o os) = max (depth_of_operand o) (depth_of_operands os)
 
-  pub depth_of_commands : Commands → ℕ
-  depth_of_commands tree.no_command = 0
-  depth_of_commands (tree.command os cs) = max (depth_of_operands os) (depth_of_commands cs)
-
-abbrev pub depth_of_pipeline : Pipeline → ℕ
-depth_of_pipeline (tree.pipeline commands) = depth_of_commands commands
+  pub depth_of_pipeline : Pipeline → ℕ
+  depth_of_pipeline tree.no_command = 0
+  depth_of_pipeline (tree.command os cs) = max (depth_of_operands os) (depth_of_pipeline cs)
 
 abbrev pub depth_of : Action → ℕ
 depth_of (pipeline_action h) = depth_of_pipeline h.pipeline

@@ -5,7 +5,7 @@ use Rattle.tmpl_lex.specs.declared.piece.TokenKind.{TokenKind}
 use Rattle.tmpl_lex.specs.declared.piece.TokenKind.TheVariants as kind
 use Rattle.tmpl_lex.specs.Piece.{Token}
 use Rattle.tmpl_grammar.specs.Token.{name_in}
-use Rattle.tmpl_grammar.specs.Tree.{Pipeline, pipeline, Binding, unbound, declare, assign, declare_pair, Header}
+use Rattle.tmpl_grammar.specs.Tree.{Binding, unbound, declare, assign, declare_pair, Header}
 use Rattle.tmpl_grammar.specs.Pipeline.{IsBlank, SpellsPipeline}
 use Rattle.tmpl_grammar.specs.declared.tree.Control.{Control}
 use Rattle.tmpl_grammar.specs.declared.tree.Control.TheVariants as control
@@ -45,9 +45,7 @@ SpellsBinding (assign name) Rest ts = Then (IsVariable name) (Then (IsSign kind.
 SpellsBinding (declare_pair key name) Rest ts =
     Then (IsVariable key) (Then (IsSign kind.Comma) (Then (IsVariable name) (Then (IsSign kind.Declare) Rest))) ts
 
-abbrev pub SpellsWhole : Pipeline → List Token → Type 0
-SpellsWhole (pipeline commands) ts = SpellsPipeline commands ts
-
 -- the header of a range, or of another action
 abbrev pub SpellsHeader : Bool → Header → List Token → Type 0
-SpellsHeader in_range h ts = (may_bind in_range h.binding ≡ true) × SpellsBinding h.binding (SpellsWhole h.pipeline) ts
+SpellsHeader in_range h ts =
+    (may_bind in_range h.binding ≡ true) × SpellsBinding h.binding (SpellsPipeline h.pipeline) ts

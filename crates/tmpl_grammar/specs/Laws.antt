@@ -1,7 +1,7 @@
 -- The laws that what is read is what the grammar spells, and that it is one tree at most.
 use Rattle.std.specs.Prelude.{◌≡◌, List, Some}
 use Rattle.tmpl_lex.specs.Piece.{Token}
-use Rattle.tmpl_grammar.specs.Tree.{Operand, Commands, pipeline}
+use Rattle.tmpl_grammar.specs.Tree.{Operand, Pipeline}
 use Rattle.tmpl_grammar.specs.Constant.{IsConstant}
 use Rattle.tmpl_grammar.specs.Operand.{IsOperand}
 use Rattle.tmpl_grammar.specs.Action.{Action, SpellsAction}
@@ -36,15 +36,15 @@ HasOneOperand = (t : Token) (o p : Operand) → IsOperand t o → IsOperand t p 
 
 -- a pipeline that tokens spell is read
 abbrev pub ReadsSpelled : Type 0
-ReadsSpelled = (ts : List Token) (cs : Commands) → SpellsPipeline cs ts → pipeline_in ts ≡ Some (pipeline cs)
+ReadsSpelled = (ts : List Token) (p : Pipeline) → SpellsPipeline p ts → pipeline_in ts ≡ Some p
 
 -- a pipeline that is read is spelled
 abbrev pub SpellsRead : Type 0
-SpellsRead = (ts : List Token) (cs : Commands) → pipeline_in ts ≡ Some (pipeline cs) → SpellsPipeline cs ts
+SpellsRead = (ts : List Token) (p : Pipeline) → pipeline_in ts ≡ Some p → SpellsPipeline p ts
 
 -- tokens spell one pipeline at most
 abbrev pub SpellsOne : Type 0
-SpellsOne = (ts : List Token) (cs ds : Commands) → SpellsPipeline cs ts → SpellsPipeline ds ts → cs ≡ ds
+SpellsOne = (ts : List Token) (p q : Pipeline) → SpellsPipeline p ts → SpellsPipeline q ts → p ≡ q
 
 -- an action that tokens spell is read
 abbrev pub ReadsSpelledAction : Type 0

@@ -2,7 +2,7 @@
 -- are counted is our own rule.
 use Rattle.std.specs.Prelude.{ℕ, suc, ◌+◌, max, Option, Some, None}
 use Rattle.tmpl_grammar.specs.Tree as tree
-use Rattle.tmpl_grammar.specs.Tree.{Operand, Operands, Commands, Pipeline}
+use Rattle.tmpl_grammar.specs.Tree.{Operand, Operands, Pipeline}
 use Rattle.tmpl_grammar.specs.Tree.{Binding, unbound, declare, assign, declare_pair}
 
 -- a command, by its first operand: where that is a function what the call needs, and else what the operand needs alone,
@@ -38,12 +38,12 @@ abbrev mutual
       called_or_alone o (max 1 (need_of_arguments piped os)) (need_of_operand o)
 
   -- the most that one of the commands needs, where one value is piped to each but the first; the last leaves one
-  pub need_of_commands : ℕ → Commands → ℕ
+  pub need_of_commands : ℕ → Pipeline → ℕ
   need_of_commands piped tree.no_command = 1
   need_of_commands piped (tree.command os cs) = max (need_of_command piped os) (need_of_commands 1 cs)
 
 abbrev pub need_of_pipeline : Pipeline → ℕ
-need_of_pipeline (tree.pipeline commands) = need_of_commands 0 commands
+need_of_pipeline p = need_of_commands 0 p
 
 -- a call of a template holds the dot that it hands on
 abbrev pub need_of_given : Option Pipeline → ℕ

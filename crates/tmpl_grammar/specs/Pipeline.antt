@@ -5,7 +5,7 @@ use Rattle.tmpl_lex.specs.declared.piece.TokenKind.TheVariants as kind
 use Rattle.tmpl_lex.specs.Piece.{Token}
 use Rattle.tmpl_grammar.specs.Token.{begins_name, name_in}
 use Rattle.tmpl_grammar.specs.Tree as tree
-use Rattle.tmpl_grammar.specs.Tree.{Operand, Operands, Commands}
+use Rattle.tmpl_grammar.specs.Tree.{Operand, Operands, Pipeline}
 use Rattle.tmpl_grammar.specs.Operand.{IsOperand, begins_later}
 
 -- perhaps white space
@@ -55,14 +55,14 @@ abbrev mutual
       × SpellsMore os b
 
   -- commands, each behind a bar
-  pub SpellsLater : Commands → List Token → Type 0
+  pub SpellsLater : Pipeline → List Token → Type 0
   SpellsLater tree.no_command ts = ts ≡ []
   SpellsLater (tree.command os cs) ts =
       (bar : Token) × (a : List Token) × (b : List Token) × (ts ≡ bar ∷ a ++ b) × (bar.kind ≡ kind.Pipe) × MayBeLater os
       × SpellsCommand os a × SpellsLater cs b
 
   -- one or more commands
-  pub SpellsPipeline : Commands → List Token → Type 0
+  pub SpellsPipeline : Pipeline → List Token → Type 0
   SpellsPipeline tree.no_command ts = ⊥
   SpellsPipeline (tree.command os cs) ts =
       (a : List Token) × (b : List Token) × (ts ≡ a ++ b) × SpellsCommand os a × SpellsLater cs b

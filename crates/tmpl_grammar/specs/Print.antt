@@ -11,7 +11,7 @@ pub use Rattle.tmpl_grammar.specs.Token.{token}
 use Rattle.tmpl_lex.specs.Piece.{Token}
 use Rattle.tmpl_lex.specs.declared.piece.TokenKind.TheVariants as kind
 use Rattle.tmpl_grammar.specs.Tree as tree
-use Rattle.tmpl_grammar.specs.Tree.{Operand, Operands, Commands, Pipeline, pipeline}
+use Rattle.tmpl_grammar.specs.Tree.{Operand, Operands, Pipeline}
 use Rattle.tmpl_grammar.specs.Tree.{Binding, unbound, declare, assign, declare_pair, Header}
 use Rattle.tmpl_grammar.specs.Action.{Action, pipeline_action, opening, plain_else, else_branch}
 use Rattle.tmpl_grammar.specs.Action.{end_action, break_action, continue_action, define_action, template_action}
@@ -46,7 +46,7 @@ abbrev mutual
   operand_tokens (tree.function f) = word (name_of f) ∷ []
   operand_tokens (tree.group commands names) =
       token kind.LeftParenthesis (40 ∷ [])
-      ∷ (commands_tokens commands ++ token kind.RightParenthesis (41 ∷ []) ∷ chain_tokens names)
+      ∷ (pipeline_tokens commands ++ token kind.RightParenthesis (41 ∷ []) ∷ chain_tokens names)
 
   pub more_tokens : Operands → List Token
   more_tokens tree.no_operand = []
@@ -56,17 +56,14 @@ abbrev mutual
   command_tokens tree.no_operand = []
   command_tokens (tree.operand o os) = operand_tokens o ++ more_tokens os
 
-  pub later_tokens : Commands → List Token
+  pub later_tokens : Pipeline → List Token
   later_tokens tree.no_command = []
   later_tokens (tree.command os cs) =
       space ∷ token kind.Pipe (124 ∷ []) ∷ space ∷ (command_tokens os ++ later_tokens cs)
 
-  pub commands_tokens : Commands → List Token
-  commands_tokens tree.no_command = []
-  commands_tokens (tree.command os cs) = command_tokens os ++ later_tokens cs
-
-abbrev pub pipeline_tokens : Pipeline → List Token
-pipeline_tokens (pipeline cs) = commands_tokens cs
+  pub pipeline_tokens : Pipeline → List Token
+  pipeline_tokens tree.no_command = []
+  pipeline_tokens (tree.command os cs) = command_tokens os ++ later_tokens cs
 
 -- ---- the tokens of an action
 

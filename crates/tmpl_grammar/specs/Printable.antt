@@ -6,7 +6,7 @@ use Rattle.tmpl_values.specs.Bytes.{AreBytes}
 use Rattle.tmpl_lex.specs.Bytes.{is_name_byte}
 use Rattle.tmpl_grammar.specs.Token.{begins_name}
 use Rattle.tmpl_grammar.specs.Tree as tree
-use Rattle.tmpl_grammar.specs.Tree.{Operand, Operands, Commands, Pipeline, pipeline}
+use Rattle.tmpl_grammar.specs.Tree.{Operand, Operands, Pipeline}
 use Rattle.tmpl_grammar.specs.Tree.{Binding, unbound, declare, assign, declare_pair, Header}
 use Rattle.tmpl_grammar.specs.Action.{Action, pipeline_action, opening}
 use Rattle.tmpl_grammar.specs.Action.{else_branch, define_action}
@@ -50,16 +50,16 @@ abbrev mutual
   OfCommand tree.no_operand = ⊥
   OfCommand (tree.operand o os) = OfOperand o × OfMore os
 
-  pub OfLater : Commands → Type 0
+  pub OfLater : Pipeline → Type 0
   OfLater tree.no_command = Unit {0}
   OfLater (tree.command os cs) = MayBeLater os × OfCommand os × OfLater cs
 
-  pub OfCommands : Commands → Type 0
+  pub OfCommands : Pipeline → Type 0
   OfCommands tree.no_command = ⊥
   OfCommands (tree.command os cs) = OfCommand os × OfLater cs
 
 abbrev pub OfPipeline : Pipeline → Type 0
-OfPipeline (pipeline cs) = OfCommands cs × (depth_of_pipeline (pipeline cs) ≤ most_deep)
+OfPipeline p = OfCommands p × (depth_of_pipeline p ≤ most_deep)
 
 -- ---- actions
 

@@ -14,20 +14,17 @@ mutual
     text_constant : List ℕ → Operand
     nil : Operand
     function : Func → Operand
-    group : Commands → List (List ℕ) → Operand
+    group : Pipeline → List (List ℕ) → Operand
 
   -- those of a command
   pub data Operands : Type 0 where
     no_operand : Operands
     operand : Operand → Operands → Operands
 
-  -- those of a pipeline
-  pub data Commands : Type 0 where
-    no_command : Commands
-    command : Operands → Commands → Commands
-
-pub data Pipeline : Type 0 where
-  pipeline : Commands → Pipeline
+  -- a pipeline: its commands, from left to right
+  pub data Pipeline : Type 0 where
+    no_command : Pipeline
+    command : Operands → Pipeline → Pipeline
 
 -- the variables that take a pipeline's value: none, a new one, one that is there, or, in a range, one for the index or
 -- key and one for the element
@@ -45,6 +42,6 @@ abbrev pub operands_from : List Operand → Operands
 operands_from [] = no_operand
 operands_from (o ∷ os) = operand o (operands_from os)
 
-abbrev pub commands_from : List Operands → Commands
+abbrev pub commands_from : List Operands → Pipeline
 commands_from [] = no_command
 commands_from (c ∷ cs) = command c (commands_from cs)

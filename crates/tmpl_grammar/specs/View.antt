@@ -2,8 +2,8 @@
 use Rattle.std.specs.Prelude.{List, Option, map, option_map}
 use Rattle.std.specs.Borrow.{Bor}
 use Rattle.tmpl_grammar.specs.Tree.{Operand, dot, fields, variable, bool_constant, number_constant, text_constant, nil}
-use Rattle.tmpl_grammar.specs.Tree.{function, group, Operands, operands_from, Commands, commands_from, Pipeline}
-use Rattle.tmpl_grammar.specs.Tree.{pipeline, Binding, unbound, declare, assign, declare_pair, Header}
+use Rattle.tmpl_grammar.specs.Tree.{function, group, Operands, operands_from, Pipeline, commands_from}
+use Rattle.tmpl_grammar.specs.Tree.{Binding, unbound, declare, assign, declare_pair, Header}
 use Rattle.tmpl_grammar.specs.Action.{Action, pipeline_action, opening, plain_else, else_branch, end_action}
 use Rattle.tmpl_grammar.specs.Action.{break_action, continue_action, define_action, template_action, block_action}
 use Rattle.tmpl_grammar.specs.declared.tree.Operand as held_operand
@@ -45,11 +45,11 @@ operands_in os = operands_from (map operand_of os)
 abbrev pub command_of : held_command.Command → Operands
 command_of c = operands_in c.operands.items
 
-abbrev pub commands_in : List held_command.Command → Commands
+abbrev pub commands_in : List held_command.Command → Pipeline
 commands_in cs = commands_from (map command_of cs)
 
 abbrev pub pipeline_of : held_pipeline.Pipeline → Pipeline
-pipeline_of p = pipeline (commands_in p.commands.items)
+pipeline_of p = commands_in p.commands.items
 
 abbrev pub binding_of : held_binding.Binding → Binding
 binding_of binding.Unbound = unbound

@@ -10,7 +10,7 @@ use crate::tree::Control;
 use tmpl_lex::{Token, TokenKind};
 
 /// A word that begins an action ("Actions" in the documentation of Go's text/template).
-#[derive(Clone, Copy, Debug, PartialEq, Eq)]
+#[derive(Clone, Copy)]
 pub(crate) enum Keyword {
     Control(Control),
     Else,

@@ -1,6 +1,6 @@
 //! Actions as they are printed: the bytes of their tokens.
 ghost use Rattle.std.specs.Prelude.{◌≡◌, ◌++◌, ◌∷◌, OnOk};
-ghost use Rattle.tmpl_grammar.specs.Print.{action_tokens, bytes_of, chain_tokens, command_tokens, commands_tokens};
+ghost use Rattle.tmpl_grammar.specs.Print.{action_tokens, bytes_of, chain_tokens, command_tokens, pipeline_tokens};
 ghost use Rattle.tmpl_grammar.specs.Print.{given_tokens, header_tokens, later_tokens, more_tokens};
 ghost use Rattle.tmpl_grammar.specs.Print.{named_tokens, operand_tokens, pipeline_tokens, variable_token};
 ghost use Rattle.tmpl_grammar.specs.View.{commands_in, given_of, header_of, operand_of, operands_in, pipeline_of};
@@ -104,7 +104,7 @@ fn print_bound(
     bytes: &mut Vec<u8>,
 ) -> Result<(), AllocError>
     ensures { OnOk result (bytes.new.items
-        ≡ bytes.old.items ++ ((36 ∷ name.now) ++ (sign.now ++ bytes_of (commands_tokens (commands_in commands.now))))) }
+        ≡ bytes.old.items ++ ((36 ∷ name.now) ++ (sign.now ++ bytes_of (pipeline_tokens (commands_in commands.now))))) }
 {
     print_variable(name, bytes)?;
     bytes.extend_from_slice(sign)?;
@@ -123,7 +123,7 @@ fn print_variable(name: &[u8], bytes: &mut Vec<u8>) -> Result<(), AllocError>
 #[cycle(print)]
 fn print_commands(commands: &[Command], bytes: &mut Vec<u8>) -> Result<(), AllocError>
     ensures { OnOk result (bytes.new.items
-        ≡ bytes.old.items ++ bytes_of (commands_tokens (commands_in commands.now))) }
+        ≡ bytes.old.items ++ bytes_of (pipeline_tokens (commands_in commands.now))) }
 {
     let mut first = true;
     for command in commands {

@@ -10,8 +10,6 @@ use Rattle.std.proofs.Math.Bool.{and-false}
 use Rattle.std.proofs.lemmas.Option.{same_Some}
 use Rattle.tmpl_lex.specs.declared.piece.TokenKind.{TokenKind}
 use Rattle.tmpl_lex.specs.declared.piece.TokenKind.TheVariants as kind
-use Rattle.tmpl_lex.specs.declared.token.Front.{Front}
-use Rattle.tmpl_lex.specs.declared.token.Front.TheVariants as front
 use Rattle.tmpl_lex.specs.Bytes.{is_space, is_name_byte, is_number_byte, Absent, BeginsNone, IsRun}
 use Rattle.tmpl_lex.specs.Delimiter.{Closes, closes, closes_marked}
 use Rattle.tmpl_lex.specs.Laws.{IsFound, BeginsWith}
@@ -19,7 +17,7 @@ use Rattle.tmpl_lex.specs.Piece.{Token}
 use Rattle.tmpl_lex.specs.Token as table
 use Rattle.tmpl_lex.specs.Token.{IsToken, IsQuoted, no_byte, a_byte, an_escape, IsSign, no_sign, plus, minus, EndsSpace, at_byte, at_marker}
 use Rattle.tmpl_lex.specs.computed.Quoted.{with_byte, up_to, unless, through, quoted}
-use Rattle.tmpl_lex.specs.computed.Token.{Begun, front_of, mark_of, begun, token_from, number, signed, dotted, declare}
+use Rattle.tmpl_lex.specs.computed.Token.{Begun, marked, begun, token_from, number, signed, dotted, declare}
 use Rattle.tmpl_lex.specs.computed.Token.{assigned, of_kind, space_run, kept_while, name_run}
 use Rattle.tmpl_lex.specs.computed.Trim.{End, ended_by, has_right_delimiter, has_dashed_delimiter, right_marked, right_delimiter}
 use Rattle.tmpl_lex.proofs.PartLemmas.{same-first, same-rest, same-test, same-pair, run-taken, taken-run, taken-rest}
@@ -282,25 +280,30 @@ abbrev token : TokenKind → List ℕ → Token
 token k bs = record { kind = k; bytes = bs }
 
 -- a token whose first byte tells
-by-first : (k : TokenKind) (b : ℕ) (bs rest : List ℕ) → nat_eq b 125 ≡ false → is_space b ≡ false → begun (front_of b) (bs ++ rest) ≡ Some (k, bs)
+by-first : (k : TokenKind) (b : ℕ) (bs rest : List ℕ) → nat_eq b 125 ≡ false → is_space b ≡ false → begun b (bs ++ rest) ≡ Some (k, bs)
     → IsFound (b ∷ bs ++ rest) (token k (b ∷ bs))
 by-first k b bs rest e s h = record { no_end = no-end b (bs ++ rest) e s; front = ap (token_from b) h }
 
-front-white : (b : ℕ) → is_space b ≡ true → front_of b ≡ front.White
-front-white b h = ap (λ k. if k then front.White else if is_ascii_digit b then front.Digit else if is_name_byte b then front.Letter else mark_of b) h
+-- by three tests of its first byte
+abbrev by_tests : Bool → Bool → Bool → ℕ → List ℕ → Option Begun
+by_tests w d n b bs =
+    if w then Some (kind.Space, space_run bs) else if d then Some (kind.Number, take_while is_number_byte bs)
+    else if n then Some (kind.Word, name_run bs) else marked b bs
 
-front-digit : (b : ℕ) → is_ascii_digit b ≡ true → front_of b ≡ front.Digit
-front-digit b h =
-    let white : is_space b ≡ false = grind (arith, nat_tests) in
-    ap (λ k. if k then front.White else if is_ascii_digit b then front.Digit else if is_name_byte b then front.Letter else mark_of b) white
-    ∙ ap (λ k. if k then front.Digit else if is_name_byte b then front.Letter else mark_of b) h
+begun-white : (b : ℕ) (bs : List ℕ) → is_space b ≡ true → begun b bs ≡ Some (kind.Space, space_run bs)
+begun-white b bs h = ap (λ k. by_tests k (is_ascii_digit b) (is_name_byte b) b bs) h
 
-front-letter : (b : ℕ) → is_ascii_digit b ≡ false → is_name_byte b ≡ true → front_of b ≡ front.Letter
-front-letter b d h =
+begun-digit : (b : ℕ) (bs : List ℕ) → is_ascii_digit b ≡ true → begun b bs ≡ Some (kind.Number, take_while is_number_byte bs)
+begun-digit b bs h =
     let white : is_space b ≡ false = grind (arith, nat_tests) in
-    ap (λ k. if k then front.White else if is_ascii_digit b then front.Digit else if is_name_byte b then front.Letter else mark_of b) white
-    ∙ ap (λ k. if k then front.Digit else if is_name_byte b then front.Letter else mark_of b) d
-    ∙ ap (λ k. if k then front.Letter else mark_of b) h
+    ap (λ k. by_tests k (is_ascii_digit b) (is_name_byte b) b bs) white ∙ ap (λ k. by_tests false k (is_name_byte b) b bs) h
+
+begun-letter : (b : ℕ) (bs : List ℕ) → is_ascii_digit b ≡ false → is_name_byte b ≡ true → begun b bs ≡ Some (kind.Word, name_run bs)
+begun-letter b bs d h =
+    let white : is_space b ≡ false = grind (arith, nat_tests) in
+    ap (λ k. by_tests k (is_ascii_digit b) (is_name_byte b) b bs) white
+    ∙ ap (λ k. by_tests false k (is_name_byte b) b bs) d
+    ∙ ap (λ k. by_tests false false k b bs) h
 
 space-found : (b : ℕ) (bs rest : List ℕ) → list_all is_space (b ∷ bs) ≡ true → EndsSpace rest → IsFound (b ∷ bs ++ rest) (token kind.Space (b ∷ bs))
 space-found b bs rest h e =
@@ -310,7 +313,7 @@ space-found b bs rest h e =
       no_end = ap (λ k. ended_by k (right_marked (b ∷ (bs ++ rest))) (b ∷ (bs ++ rest))) (no-closes b (bs ++ rest) brace)
           ∙ ap (λ k. ended_by false (k && has_dashed_delimiter (bs ++ rest)) (b ∷ (bs ++ rest))) white
           ∙ ap (λ k. ended_by false k (b ∷ (bs ++ rest))) (spaces-undashed bs rest both.1 e);
-      front = ap (λ f. token_from b (begun f (bs ++ rest))) (front-white b white)
+      front = ap (token_from b) (begun-white b (bs ++ rest) white)
           ∙ ap (λ xs. Some (token kind.Space (b ∷ xs))) (spaces-run bs rest both.1 e);
     }
 
@@ -321,7 +324,7 @@ word-found b bs rest d run =
     let brace : nat_eq b 125 ≡ false = grind (arith, nat_tests) in
     let white : is_space b ≡ false = grind (arith, nat_tests) in
     by-first kind.Word b bs rest brace white
-    (ap (λ f. begun f (bs ++ rest)) (front-letter b d name)
+    (begun-letter b (bs ++ rest) d name
     ∙ ap (λ xs. Some (kind.Word, xs)) (run-taken is_name_byte bs rest (record { passes = both.1; longest = run.longest })))
 
 digits-found : (b : ℕ) (bs rest : List ℕ) → is_ascii_digit b ≡ true → IsRun is_number_byte bs rest → IsFound (b ∷ bs ++ rest) (token kind.Number (b ∷ bs))
@@ -329,7 +332,7 @@ digits-found b bs rest d run =
     let brace : nat_eq b 125 ≡ false = grind (arith, nat_tests) in
     let white : is_space b ≡ false = grind (arith, nat_tests) in
     by-first kind.Number b bs rest brace white
-    (ap (λ f. begun f (bs ++ rest)) (front-digit b d) ∙ ap (λ xs. Some (kind.Number, xs)) (run-taken is_number_byte bs rest run))
+    (begun-digit b (bs ++ rest) d ∙ ap (λ xs. Some (kind.Number, xs)) (run-taken is_number_byte bs rest run))
 
 signed-is : (b : ℕ) (bs rest : List ℕ) → is_ascii_digit b ≡ true → IsRun is_number_byte bs rest → signed (b ∷ bs ++ rest) ≡ Some (kind.Number, b ∷ bs)
 signed-is b bs rest d run = ap (λ k. number k b (bs ++ rest)) d ∙ ap (λ xs. Some (kind.Number, b ∷ xs)) (run-taken is_number_byte bs rest run)
@@ -361,54 +364,6 @@ found (table.comma {rest = rest}) = by-first kind.Comma 44 [] rest refl refl ref
 found (table.pipe {rest = rest}) = by-first kind.Pipe 124 [] rest refl refl refl
 found (table.left_parenthesis {rest = rest}) = by-first kind.LeftParenthesis 40 [] rest refl refl refl
 found (table.right_parenthesis {rest = rest}) = by-first kind.RightParenthesis 41 [] rest refl refl refl
-
--- ---- which bytes begin which token
-
-abbrev Tells : Front → ℕ → Type 0
-Tells front.White b = is_space b ≡ true
-Tells front.Letter b = (is_ascii_digit b ≡ false) × (is_name_byte b ≡ true)
-Tells front.Digit b = is_ascii_digit b ≡ true
-Tells front.Sign b = (b ≡ 43) ⊎ (b ≡ 45)
-Tells front.Period b = b ≡ 46
-Tells front.Dollar b = b ≡ 36
-Tells front.DoubleQuote b = b ≡ 34
-Tells front.Backquote b = b ≡ 96
-Tells front.SingleQuote b = b ≡ 39
-Tells front.Colon b = b ≡ 58
-Tells front.Equals b = b ≡ 61
-Tells front.Comma b = b ≡ 44
-Tells front.Bar b = b ≡ 124
-Tells front.LeftParenthesis b = b ≡ 40
-Tells front.RightParenthesis b = b ≡ 41
-Tells front.Other b = Unit {0}
-
-by-test : (t : Bool) (f g : Front) (b : ℕ) → (t ≡ true → Tells f b) → (t ≡ false → Tells g b) → Tells (if t then f else g) b
-by-test true f g b this that = this refl
-by-test false f g b this that = that refl
-
-sign-is : (b : ℕ) → (nat_eq b 43 || nat_eq b 45) ≡ true → (b ≡ 43) ⊎ (b ≡ 45)
-sign-is b e = grind (arith, nat_tests)
-
-mark-tells : (b : ℕ) → Tells (mark_of b) b
-mark-tells b =
-    by-test (nat_eq b 43 || nat_eq b 45) front.Sign _ b (sign-is b) (λ e1.
-    by-test (nat_eq b 46) front.Period _ b (eqb-true b 46) (λ e2.
-    by-test (nat_eq b 36) front.Dollar _ b (eqb-true b 36) (λ e3.
-    by-test (nat_eq b 34) front.DoubleQuote _ b (eqb-true b 34) (λ e4.
-    by-test (nat_eq b 96) front.Backquote _ b (eqb-true b 96) (λ e5.
-    by-test (nat_eq b 39) front.SingleQuote _ b (eqb-true b 39) (λ e6.
-    by-test (nat_eq b 58) front.Colon _ b (eqb-true b 58) (λ e7.
-    by-test (nat_eq b 61) front.Equals _ b (eqb-true b 61) (λ e8.
-    by-test (nat_eq b 44) front.Comma _ b (eqb-true b 44) (λ e9.
-    by-test (nat_eq b 124) front.Bar _ b (eqb-true b 124) (λ e10.
-    by-test (nat_eq b 40) front.LeftParenthesis _ b (eqb-true b 40) (λ e11.
-    by-test (nat_eq b 41) front.RightParenthesis front.Other b (eqb-true b 41) (λ e12. tt))))))))))))
-
-front-tells : (b : ℕ) → Tells (front_of b) b
-front-tells b =
-    by-test (is_space b) front.White _ b (λ e. e) (λ s.
-    by-test (is_ascii_digit b) front.Digit _ b (λ e. e) (λ d.
-    by-test (is_name_byte b) front.Letter (mark_of b) b (λ e. (d, e)) (λ n. mark-tells b)))
 
 -- ---- a token that is computed stands there
 
@@ -467,33 +422,47 @@ run-stands : (k : TokenKind) (p : ℕ → Bool) (b c : ℕ) (bs : List ℕ) → 
     → StandsAt b bs (k, take_while p bs)
 run-stands k p b c bs e h = first-is k b c bs (take_while p bs) (drop (prefix_len p bs) bs) e (sym (taken-rest p bs)) h
 
-begun-stands : (f : Front) (b : ℕ) (bs : List ℕ) → Tells f b → right_marked (b ∷ bs) ≡ false → AtBegun b bs (begun f bs)
-begun-stands front.White b bs h m = space-stands b bs h m
-begun-stands front.Letter b bs h m =
-    let run = taken-run is_name_byte bs in
-    run-stands kind.Word is_name_byte b b bs refl (table.word h.0 (record {
-      passes = ap (λ k. k && list_all is_name_byte (name_run bs)) h.1
-          ∙ run.passes;
-      longest = run.longest;
-    }))
-begun-stands front.Digit b bs h m = run-stands kind.Number is_number_byte b b bs refl (table.number b no_sign h (taken-run is_number_byte bs))
-begun-stands front.Sign b bs h m = ⊎_elim (λ e. number-stands [] 43 plus b e bs) (λ e. number-stands [] 45 minus b e bs) h
-begun-stands front.Period b bs h m = dotted-stands b h (name_run bs) (drop (prefix_len is_name_byte bs) bs) bs (taken-run is_name_byte bs)
-    (sym (taken-rest is_name_byte bs))
-begun-stands front.Dollar b bs h m = run-stands kind.Variable is_name_byte b 36 bs h (table.variable (taken-run is_name_byte bs))
-begun-stands front.DoubleQuote b bs h m = quote-stands kind.String 34 (IsQuoted 34) (λ xs rest f. table.string f) b h bs (quoted 34 false bs)
-    (quoted-is 34 false bs)
-begun-stands front.Backquote b bs h m = quote-stands kind.RawString 96 (Absent (96 ∷ [])) (λ xs rest f. table.raw_string xs f) b h bs (through 96 bs)
-    (raw-is 96 bs)
-begun-stands front.SingleQuote b bs h m = quote-stands kind.Character 39 (IsQuoted 39) (λ xs rest f. table.character f) b h bs (quoted 39 false bs)
-    (quoted-is 39 false bs)
-begun-stands front.Colon b bs h m = declare-stands b h bs
-begun-stands front.Equals b bs h m = first-is kind.Assign b 61 bs [] bs h refl table.assign
-begun-stands front.Comma b bs h m = first-is kind.Comma b 44 bs [] bs h refl table.comma
-begun-stands front.Bar b bs h m = first-is kind.Pipe b 124 bs [] bs h refl table.pipe
-begun-stands front.LeftParenthesis b bs h m = first-is kind.LeftParenthesis b 40 bs [] bs h refl table.left_parenthesis
-begun-stands front.RightParenthesis b bs h m = first-is kind.RightParenthesis b 41 bs [] bs h refl table.right_parenthesis
-begun-stands front.Other b bs h m = tt
+-- either of two, by a test
+by-test : (t : Bool) (b : ℕ) (bs : List ℕ) (o p : Option Begun) → (t ≡ true → AtBegun b bs o) → (t ≡ false → AtBegun b bs p)
+    → AtBegun b bs (if t then o else p)
+by-test true b bs o p this that = this refl
+by-test false b bs o p this that = that refl
+
+sign-is : (b : ℕ) → (nat_eq b 43 || nat_eq b 45) ≡ true → (b ≡ 43) ⊎ (b ≡ 45)
+sign-is b e = grind (arith, nat_tests)
+
+marked-stands : (b : ℕ) (bs : List ℕ) → AtBegun b bs (marked b bs)
+marked-stands b bs =
+    let name = taken-run is_name_byte bs in
+    by-test (nat_eq b 43 || nat_eq b 45) b bs _ _
+    (λ e. ⊎_elim (λ s. number-stands [] 43 plus b s bs) (λ s. number-stands [] 45 minus b s bs) (sign-is b e)) (λ e1.
+    by-test (nat_eq b 46) b bs _ _
+    (λ e. dotted-stands b (eqb-true b 46 e) (name_run bs) (drop (prefix_len is_name_byte bs) bs) bs name (sym (taken-rest is_name_byte bs))) (λ e2.
+    by-test (nat_eq b 36) b bs _ _ (λ e. run-stands kind.Variable is_name_byte b 36 bs (eqb-true b 36 e) (table.variable name)) (λ e3.
+    by-test (nat_eq b 34) b bs _ _ (λ e. quote-stands kind.String 34 (IsQuoted 34) (λ xs rest f. table.string f) b (eqb-true b 34 e) bs
+    (quoted 34 false bs) (quoted-is 34 false bs)) (λ e4.
+    by-test (nat_eq b 96) b bs _ _ (λ e. quote-stands kind.RawString 96 (Absent (96 ∷ [])) (λ xs rest f. table.raw_string xs f) b (eqb-true b 96 e) bs
+    (through 96 bs) (raw-is 96 bs)) (λ e5.
+    by-test (nat_eq b 39) b bs _ _ (λ e. quote-stands kind.Character 39 (IsQuoted 39) (λ xs rest f. table.character f) b (eqb-true b 39 e) bs
+    (quoted 39 false bs) (quoted-is 39 false bs)) (λ e6.
+    by-test (nat_eq b 58) b bs _ _ (λ e. declare-stands b (eqb-true b 58 e) bs) (λ e7.
+    by-test (nat_eq b 61) b bs _ _ (λ e. first-is kind.Assign b 61 bs [] bs (eqb-true b 61 e) refl table.assign) (λ e8.
+    by-test (nat_eq b 44) b bs _ _ (λ e. first-is kind.Comma b 44 bs [] bs (eqb-true b 44 e) refl table.comma) (λ e9.
+    by-test (nat_eq b 124) b bs _ _ (λ e. first-is kind.Pipe b 124 bs [] bs (eqb-true b 124 e) refl table.pipe) (λ e10.
+    by-test (nat_eq b 40) b bs _ _ (λ e. first-is kind.LeftParenthesis b 40 bs [] bs (eqb-true b 40 e) refl table.left_parenthesis) (λ e11.
+    by-test (nat_eq b 41) b bs _ _ (λ e. first-is kind.RightParenthesis b 41 bs [] bs (eqb-true b 41 e) refl table.right_parenthesis)
+    (λ e12. tt))))))))))))
+
+begun-stands : (b : ℕ) (bs : List ℕ) → right_marked (b ∷ bs) ≡ false → AtBegun b bs (begun b bs)
+begun-stands b bs m =
+    let name = taken-run is_name_byte bs in
+    by-test (is_space b) b bs _ _ (λ h. space-stands b bs h m) (λ s.
+    by-test (is_ascii_digit b) b bs _ _
+    (λ h. run-stands kind.Number is_number_byte b b bs refl (table.number b no_sign h (taken-run is_number_byte bs))) (λ d.
+    by-test (is_name_byte b) b bs _ _
+    (λ h. run-stands kind.Word is_name_byte b b bs refl
+    (table.word d (record { passes = ap (λ k. k && list_all is_name_byte (name_run bs)) h ∙ name.passes; longest = name.longest })))
+    (λ n. marked-stands b bs)))
 
 no-marker : (bs : List ℕ) → right_delimiter bs ≡ None → right_marked bs ≡ false
 no-marker bs h = go (has_right_delimiter bs) (right_marked bs) h
@@ -505,7 +474,7 @@ no-marker bs h = go (has_right_delimiter bs) (right_marked bs) h
 
 pub stands : (bs : List ℕ) (t : Token) → IsFound bs t → BeginsWith bs t
 stands [] t h = let g : ◌≡◌ {A = Option Token} None (Some t) = h.front in cc
-stands (b ∷ bs) t h = go (begun (front_of b) bs) (begun-stands (front_of b) b bs (front-tells b) (no-marker (b ∷ bs) h.no_end)) h.front
+stands (b ∷ bs) t h = go (begun b bs) (begun-stands b bs (no-marker (b ∷ bs) h.no_end)) h.front
   where
     go : (o : Option Begun) → AtBegun b bs o → token_from b o ≡ Some t → BeginsWith (b ∷ bs) t
     go None at e = let g : ◌≡◌ {A = Option Token} None (Some t) = e in cc

@@ -1,6 +1,6 @@
 -- For `front_token`: the token at the front is made of the first bytes.
 use Rattle.std.proofs.Common.{arith, ◌≡◌, ◌∙◌, ℕ, suc, ◌+◌, ◌-◌, ◌<◌, ◌≤◌, Bool, true, false, not, ◌&&◌, nat_eq, List}
-use Rattle.std.proofs.Common.{[], ◌∷◌, Option, Some, None, refl, sym, ap, subst, length, take, drop, get_or}
+use Rattle.std.proofs.Common.{◌||◌, if◌then◌else◌, [], ◌∷◌, Option, Some, None, refl, sym, ap, subst, length, take, drop, get_or}
 use Rattle.std.proofs.Common.{length-append, length-drop}
 use Rattle.std.specs.List.{prefix_len}
 use Rattle.std.specs.Char.{is_ascii_digit}
@@ -8,12 +8,10 @@ use Rattle.std.proofs.lemmas.Bool.{eqb-true}
 use Rattle.std.proofs.lemmas.List.{take_all}
 use Rattle.tmpl_lex.specs.declared.piece.TokenKind.{TokenKind}
 use Rattle.tmpl_lex.specs.declared.piece.TokenKind.TheVariants as kind
-use Rattle.tmpl_lex.specs.declared.token.Front.{Front}
-use Rattle.tmpl_lex.specs.declared.token.Front.TheVariants as front
-use Rattle.tmpl_lex.specs.Bytes.{is_name_byte, is_number_byte}
+use Rattle.tmpl_lex.specs.Bytes.{is_space, is_name_byte, is_number_byte}
 use Rattle.tmpl_lex.specs.Piece.{Token}
 use Rattle.tmpl_lex.specs.computed.Quoted.{up_to, unless, through, quoted}
-use Rattle.tmpl_lex.specs.computed.Token.{Begun, front_token, front_of, begun, token_from, number, signed, dotted, declare, assigned, of_kind}
+use Rattle.tmpl_lex.specs.computed.Token.{Begun, front_token, marked, begun, token_from, number, signed, dotted, declare, assigned, of_kind}
 use Rattle.tmpl_lex.proofs.RunLemmas.{IsFront, front-nil, front-cons, front-take, space_run-front}
 
 -- all but the first byte, as code borrows them
@@ -22,11 +20,11 @@ take-rest bs = take_all (length bs - 1) (drop 1 bs) (omega (arith, length-drop 1
 
 -- the token that begins with the first byte
 pub front_token-cons : (bs rest : List ℕ) (kind : TokenKind) (len : ℕ) → 1 ≤ length bs → rest ≡ drop 1 bs
-    → Some (kind, take len rest) ≡ begun (front_of (get_or bs 0 0)) rest → Some (record { kind = kind; bytes = take (len + 1) bs }) ≡ front_token bs
+    → Some (kind, take len rest) ≡ begun (get_or bs 0 0) rest → Some (record { kind = kind; bytes = take (len + 1) bs }) ≡ front_token bs
 front_token-cons [] rest kind len h same e = absurd (omega arith)
 front_token-cons (b ∷ bs) rest kind len h same e =
     ap (λ (n : ℕ). Some (record { kind = kind; bytes = take n (b ∷ bs) })) (let next : len + 1 ≡ suc len = omega arith in next)
-    ∙ ap (token_from b) (subst (λ (r : List ℕ). Some (kind, take len r) ≡ begun (front_of b) r) same e)
+    ∙ ap (token_from b) (subst (λ (r : List ℕ). Some (kind, take len r) ≡ begun b r) same e)
 
 -- ---- a token is the front of the bytes
 
@@ -81,19 +79,32 @@ assigned-front : (bs : List ℕ) → BeginsWith bs (assigned bs)
 assigned-front [] = tt
 assigned-front (b ∷ bs) = declare-front b bs (nat_eq b 61) refl
 
-begun-front : (f : Front) (bs : List ℕ) → BeginsWith bs (begun f bs)
-begun-front front.White bs = space_run-front bs
-begun-front front.Letter bs = front-take (prefix_len is_name_byte bs) bs
-begun-front front.Digit bs = front-take (prefix_len is_number_byte bs) bs
-begun-front front.Sign bs = signed-front bs
-begun-front front.Period bs = dotted-front bs (take (prefix_len is_name_byte bs) bs) (front-take (prefix_len is_name_byte bs) bs)
-begun-front front.Dollar bs = front-take (prefix_len is_name_byte bs) bs
-begun-front front.DoubleQuote bs = of_kind-front kind.String bs (quoted 34 false bs) (quoted-front 34 false bs)
-begun-front front.Backquote bs = of_kind-front kind.RawString bs (through 96 bs) (through-front 96 bs)
-begun-front front.SingleQuote bs = of_kind-front kind.Character bs (quoted 39 false bs) (quoted-front 39 false bs)
-begun-front front.Colon bs = assigned-front bs
-begun-front front.Other bs = tt
-begun-front _ bs = front-nil bs
+-- either of two
+either-front : (t : Bool) (bs : List ℕ) (o p : Option Begun) → BeginsWith bs o → BeginsWith bs p → BeginsWith bs (if t then o else p)
+either-front true bs o p h k = h
+either-front false bs o p h k = k
+
+marked-front : (b : ℕ) (bs : List ℕ) → BeginsWith bs (marked b bs)
+marked-front b bs =
+    let name = front-take (prefix_len is_name_byte bs) bs in
+    either-front (nat_eq b 43 || nat_eq b 45) bs _ _ (signed-front bs)
+    (either-front (nat_eq b 46) bs _ _ (dotted-front bs (take (prefix_len is_name_byte bs) bs) name)
+    (either-front (nat_eq b 36) bs _ _ name
+    (either-front (nat_eq b 34) bs _ _ (of_kind-front kind.String bs (quoted 34 false bs) (quoted-front 34 false bs))
+    (either-front (nat_eq b 96) bs _ _ (of_kind-front kind.RawString bs (through 96 bs) (through-front 96 bs))
+    (either-front (nat_eq b 39) bs _ _ (of_kind-front kind.Character bs (quoted 39 false bs) (quoted-front 39 false bs))
+    (either-front (nat_eq b 58) bs _ _ (assigned-front bs)
+    (either-front (nat_eq b 61) bs _ _ (front-nil bs)
+    (either-front (nat_eq b 44) bs _ _ (front-nil bs)
+    (either-front (nat_eq b 124) bs _ _ (front-nil bs)
+    (either-front (nat_eq b 40) bs _ _ (front-nil bs)
+    (either-front (nat_eq b 41) bs _ _ (front-nil bs) tt)))))))))))
+
+begun-front : (b : ℕ) (bs : List ℕ) → BeginsWith bs (begun b bs)
+begun-front b bs =
+    either-front (is_space b) bs _ _ (space_run-front bs)
+    (either-front (is_ascii_digit b) bs _ _ (front-take (prefix_len is_number_byte bs) bs)
+    (either-front (is_name_byte b) bs _ _ (front-take (prefix_len is_name_byte bs) bs) (marked-front b bs)))
 
 -- a token has at least one byte, and stands at the front
 pub record IsAtFront (bs : List ℕ) (t : Token) : Type 0 where
@@ -108,7 +119,7 @@ token_from-front b bs (Some p) t h e =
 
 pub token-front : (bs : List ℕ) (t : Token) → front_token bs ≡ Some t → IsAtFront bs t
 token-front [] t e = let g : ◌≡◌ {A = Option Token} None (Some t) = e in cc
-token-front (b ∷ bs) t e = token_from-front b bs (begun (front_of b) bs) t (begun-front (front_of b) bs) e
+token-front (b ∷ bs) t e = token_from-front b bs (begun b bs) t (begun-front b bs) e
 
 pub front-length : (xs bs : List ℕ) → IsFront xs bs → length xs ≤ length bs
 front-length xs bs h = omega (arith, length-append xs h.0, ap length h.1)

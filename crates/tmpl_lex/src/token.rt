@@ -9,63 +9,6 @@ use crate::piece::{Token, TokenKind};
 use crate::quoted::{quoted_len, through_len};
 use crate::trim::has_dashed_delimiter;
 
-/// What a token is, as its first byte tells.
-#[derive(Clone, Copy)]
-enum Front {
-    White,
-    Letter,
-    Digit,
-    Sign,
-    Period,
-    Dollar,
-    DoubleQuote,
-    Backquote,
-    SingleQuote,
-    Colon,
-    Equals,
-    Comma,
-    Bar,
-    LeftParenthesis,
-    RightParenthesis,
-    Other,
-}
-
-/// What a token that begins with this byte is.
-fn front_of(byte: u8) -> Front
-    ensures { result ≡ spec.front_of byte }
-{
-    if is_space(byte) {
-        Front::White
-    } else if byte.is_ascii_digit() {
-        Front::Digit
-    } else if is_name_byte(byte) {
-        Front::Letter
-    } else {
-        mark_of(byte)
-    }
-}
-
-/// The same of a byte that is neither white space nor of a name.
-fn mark_of(byte: u8) -> Front
-    ensures { result ≡ spec.mark_of byte }
-{
-    match byte {
-        b'+' | b'-' => Front::Sign,
-        b'.' => Front::Period,
-        b'$' => Front::Dollar,
-        b'"' => Front::DoubleQuote,
-        b'`' => Front::Backquote,
-        b'\'' => Front::SingleQuote,
-        b':' => Front::Colon,
-        b'=' => Front::Equals,
-        b',' => Front::Comma,
-        b'|' => Front::Bar,
-        b'(' => Front::LeftParenthesis,
-        b')' => Front::RightParenthesis,
-        _ => Front::Other,
-    }
-}
-
 /// The token at the front of the bytes, if one begins there.
 pub(crate) fn front_token(bytes: &[u8]) -> Option<Token<'_>>
     ensures { option_map token_of result ≡ spec.front_token bytes.now }
@@ -73,35 +16,48 @@ pub(crate) fn front_token(bytes: &[u8]) -> Option<Token<'_>>
     let [first, rest @ ..] = bytes else {
         return None;
     };
-    let (kind, len) = measure(front_of(*first), rest)?;
+    let (kind, len) = measure(*first, rest)?;
     Some(Token {
         kind,
         bytes: &bytes[..len + 1],
     })
 }
 
-/// The kind of the token that begins so, and how many of the bytes behind its first are its own.
-fn measure(front: Front, rest: &[u8]) -> Option<(TokenKind, usize)>
-    ensures value { begun_of rest.now result ≡ spec.begun front rest.now }
+/// The kind of the token that begins with this byte, and how many of the bytes behind it are its own.
+fn measure(first: u8, rest: &[u8]) -> Option<(TokenKind, usize)>
+    ensures value { begun_of rest.now result ≡ spec.begun first rest.now }
     ensures within { IfSome result (λ p. p.1 ≤ length rest.now) }
 {
-    match front {
-        Front::White => Some((TokenKind::Space, space_len(rest))),
-        Front::Letter => Some((TokenKind::Word, name_len(rest))),
-        Front::Digit => Some((TokenKind::Number, number_len(rest))),
-        Front::Sign => measure_signed(rest),
-        Front::Period => Some(measure_dotted(rest)),
-        Front::Dollar => Some((TokenKind::Variable, name_len(rest))),
-        Front::DoubleQuote => of_kind(TokenKind::String, quoted_len(b'"', rest)),
-        Front::Backquote => of_kind(TokenKind::RawString, through_len(b'`', rest)),
-        Front::SingleQuote => of_kind(TokenKind::Character, quoted_len(b'\'', rest)),
-        Front::Colon => measure_declare(rest),
-        Front::Equals => Some((TokenKind::Assign, 0)),
-        Front::Comma => Some((TokenKind::Comma, 0)),
-        Front::Bar => Some((TokenKind::Pipe, 0)),
-        Front::LeftParenthesis => Some((TokenKind::LeftParenthesis, 0)),
-        Front::RightParenthesis => Some((TokenKind::RightParenthesis, 0)),
-        Front::Other => None,
+    if is_space(first) {
+        Some((TokenKind::Space, space_len(rest)))
+    } else if first.is_ascii_digit() {
+        Some((TokenKind::Number, number_len(rest)))
+    } else if is_name_byte(first) {
+        Some((TokenKind::Word, name_len(rest)))
+    } else {
+        measure_marked(first, rest)
+    }
+}
+
+/// The same behind a byte that is neither white space nor of a name.
+fn measure_marked(first: u8, rest: &[u8]) -> Option<(TokenKind, usize)>
+    ensures value { begun_of rest.now result ≡ spec.marked first rest.now }
+    ensures within { IfSome result (λ p. p.1 ≤ length rest.now) }
+{
+    match first {
+        b'+' | b'-' => measure_signed(rest),
+        b'.' => Some(measure_dotted(rest)),
+        b'$' => Some((TokenKind::Variable, name_len(rest))),
+        b'"' => of_kind(TokenKind::String, quoted_len(b'"', rest)),
+        b'`' => of_kind(TokenKind::RawString, through_len(b'`', rest)),
+        b'\'' => of_kind(TokenKind::Character, quoted_len(b'\'', rest)),
+        b':' => measure_declare(rest),
+        b'=' => Some((TokenKind::Assign, 0)),
+        b',' => Some((TokenKind::Comma, 0)),
+        b'|' => Some((TokenKind::Pipe, 0)),
+        b'(' => Some((TokenKind::LeftParenthesis, 0)),
+        b')' => Some((TokenKind::RightParenthesis, 0)),
+        _ => None,
     }
 }
 

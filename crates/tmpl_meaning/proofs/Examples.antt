@@ -6,7 +6,7 @@ use Rattle.tmpl_values.specs.Value.{Value, nothing, null, number, string, sequen
 use Rattle.tmpl_funcs.specs.declared.func.Func.TheVariants.{And, Not, Index, Print, Println, Printf, Html, Urlquery}
 use Rattle.tmpl_funcs.specs.declared.fault.CallFault.TheVariants.{WrongCount, WrongKind}
 use Rattle.tmpl_grammar.specs.Tree.{Operand, dot, fields, variable, text_constant, function, group, Operands}
-use Rattle.tmpl_grammar.specs.Tree.{no_operand, operand, no_command, command, Pipeline, pipeline, Binding, unbound, declare, assign}
+use Rattle.tmpl_grammar.specs.Tree.{no_operand, operand, no_command, command, Pipeline, Binding, unbound, declare, assign}
 use Rattle.tmpl_grammar.specs.declared.tree.Control.TheVariants as control
 use Rattle.tmpl_syntax.specs.Tree.{NodeKind, Nodes, Tree, none, then, text, action, control_node, break_node, continue_node, template_node}
 use Rattle.tmpl_meaning.specs.Laws.{with_older, within}
@@ -27,7 +27,7 @@ abbrev x : List ℕ
 x = codes "x"
 
 abbrev only : Operand → Pipeline
-only o = pipeline (command (operand o no_operand) no_command)
+only o = command (operand o no_operand) no_command
 
 abbrev put : Operand → NodeKind
 put o = action (record { binding = unbound; pipeline = only o })
@@ -67,7 +67,7 @@ abbrev runs : Nodes → Value → Ran
 runs ns d = run 20 ns d
 
 abbrev call : Operands → Pipeline
-call os = pipeline (command os no_command)
+call os = command os no_command
 
 abbrev calls : Operands → NodeKind
 calls os = action (record { binding = unbound; pipeline = call os })

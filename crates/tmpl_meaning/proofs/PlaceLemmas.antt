@@ -7,8 +7,8 @@ use Rattle.std.specs.Str.{bytes_eq}
 use Rattle.tmpl_values.specs.Value.{Value, nothing}
 use Rattle.tmpl_funcs.specs.Func.{takes}
 use Rattle.tmpl_grammar.specs.Tree.{Operand, dot, fields, variable, bool_constant, number_constant, text_constant, nil, function, group}
-use Rattle.tmpl_grammar.specs.Tree.{Operands, no_operand, operand, Commands, no_command, command, Pipeline, pipeline}
-use Rattle.tmpl_syntax.specs.Place.Role.{Name, used_by_operand, used_by_operands, used_by_commands, used_by}
+use Rattle.tmpl_grammar.specs.Tree.{Operands, no_operand, operand, Pipeline, no_command, command}
+use Rattle.tmpl_syntax.specs.Place.Role.{Name, used_by_operand, used_by_operands, used_by}
 use Rattle.tmpl_syntax.specs.Formed.{is_among, are_among}
 use Rattle.tmpl_meaning.specs.Fault.{Cause}
 use Rattle.tmpl_meaning.specs.Pipeline.{Environment, Given, Place, lookup, chain, without_null, given, go_on, given_then, piped_after, applied, by_function}
@@ -105,14 +105,14 @@ module _ (mode : MissingKey) (d : Value) (env older : Environment) (start : is_a
         (junction true far nothing os piped) (junction true near nothing os piped)
         (operand-same o p.0) (operands-same os p.1) (junction-same os false nothing piped p.1) (junction-same os true nothing piped p.1)
 
-    commands-same : (cs : Commands) (piped : Option Value) → are_among (names env) (used_by_commands cs) ≡ true
+    commands-same : (cs : Pipeline) (piped : Option Value) → are_among (names env) (used_by cs) ≡ true
         → commands_value far cs piped ≡ commands_value near cs piped
     commands-same no_command None e = refl
     commands-same no_command (Some v) e = refl
     commands-same (command os cs) piped e =
-        let p = parted (used_by_operands os) (used_by_commands cs) e in
+        let p = parted (used_by_operands os) (used_by cs) e in
         then-same (command_value far os piped) (command_value near os piped) (λ v. commands_value far cs (Some (without_null v)))
         (λ v. commands_value near cs (Some (without_null v))) (command-same os piped p.0) (λ v. commands-same cs (Some (without_null v)) p.1)
 
   pub pipeline-same : (p : Pipeline) → are_among (names env) (used_by p) ≡ true → pipeline_value far p ≡ pipeline_value near p
-  pipeline-same (pipeline commands) e = commands-same commands None e
+  pipeline-same commands e = commands-same commands None e

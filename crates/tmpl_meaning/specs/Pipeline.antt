@@ -14,7 +14,7 @@ use Rattle.tmpl_funcs.specs.declared.fault.CallFault.{CallFault}
 use Rattle.tmpl_funcs.specs.declared.fault.CallFault.TheVariants.{WrongCount}
 use Rattle.tmpl_grammar.specs.Tree.{Operand, dot, fields, variable, bool_constant, number_constant}
 use Rattle.tmpl_grammar.specs.Tree.{text_constant, nil, function, group, Operands, no_operand, operand}
-use Rattle.tmpl_grammar.specs.Tree.{Commands, no_command, command, Pipeline, pipeline}
+use Rattle.tmpl_grammar.specs.Tree.{Pipeline, no_command, command}
 use Rattle.tmpl_meaning.specs.Fault.{Cause, not_a_function, nil_command, lacks_field, lacks_entry, call_failed}
 use Rattle.tmpl_meaning.specs.declared.missing_key.MissingKey.{MissingKey}
 use Rattle.tmpl_meaning.specs.declared.missing_key.MissingKey.TheVariants.{Zero, Error}
@@ -193,7 +193,7 @@ abbrev mutual
       (junction false s nothing os piped) (junction true s nothing os piped)))
 
   -- the commands from left to right: each gives its value to the next as its last argument
-  pub commands_value : Place → Commands → Option Value → Given Value
+  pub commands_value : Place → Pipeline → Option Value → Given Value
   commands_value s no_command None = given (Ok nothing)
   commands_value s no_command (Some v) = given (Ok v)
   commands_value s (command os cs) piped =
@@ -201,4 +201,4 @@ abbrev mutual
 
 -- the value of a pipeline
 abbrev pub pipeline_value : Place → Pipeline → Given Value
-pipeline_value s (pipeline commands) = commands_value s commands None
+pipeline_value s p = commands_value s p None

@@ -5,7 +5,7 @@ use Rattle.tmpl_funcs.specs.Func.{is_called, takes}
 use Rattle.tmpl_funcs.specs.declared.func.Func.{Func}
 use Rattle.tmpl_funcs.specs.declared.func.Func.TheVariants.{And, Or}
 use Rattle.tmpl_grammar.specs.Tree.{Operand, dot, fields, variable, bool_constant, number_constant, text_constant, nil, function, group}
-use Rattle.tmpl_grammar.specs.Tree.{Operands, no_operand, operand, Commands, no_command, command, Pipeline, pipeline}
+use Rattle.tmpl_grammar.specs.Tree.{Operands, no_operand, operand, Pipeline, no_command, command}
 use Rattle.tmpl_grammar.specs.Need.{need_of_operand, need_of_arguments, need_of_command, need_of_commands, need_of_pipeline}
 use Rattle.tmpl_code.specs.Instruction.{Operation}
 use Rattle.tmpl_code.specs.Instruction.{chained, call_with, decide, settle, refuse, act}
@@ -102,7 +102,7 @@ module _ (most last : ℕ) where
   counted-able true f m code rest Call h l = h refl l
   counted-able false f m code rest Call h l = able-is code _ m l (tt, tt)
 
-  needs-some : (cs : Commands) (piped : ℕ) → 1 ≤ need_of_commands piped cs
+  needs-some : (cs : Pipeline) (piped : ℕ) → 1 ≤ need_of_commands piped cs
   needs-some no_command piped = omega arith
   needs-some (command os cs) piped = let rest = needs-some cs 1 in omega arith
 
@@ -189,7 +189,7 @@ module _ (most last : ℕ) where
         (λ t k. (let none = last-alone os piped t in operand-able o n lay code rest m within (omega arith) k (able-at rest (suc base) (suc m) (omega arith) h)))
         l
 
-    pub commands-able : (cs : Commands) (piped : Bool) (n : ℕ) (lay : Layout) (code rest : Code) (base : ℕ) → n + length lay ≤ base
+    pub commands-able : (cs : Pipeline) (piped : Bool) (n : ℕ) (lay : Layout) (code rest : Code) (base : ℕ) → n + length lay ≤ base
         → base + need_of_commands (piped_count piped) cs ≤ most
         → CommandsAt cs piped n lay code rest → Able most last rest 0 (suc base) → Able most last code 0 (base + piped_count piped)
     commands-able no_command false n lay code rest base within room l h =
@@ -203,5 +203,5 @@ module _ (most last : ℕ) where
 pub pipeline-able : (most : ℕ) (p : Pipeline) (lay : Layout) (code rest : Code) (size : ℕ) → length lay ≤ size → size + need_of_pipeline p ≤ most
     → PipelineAt p lay code rest
     → Able most (suc size) rest 0 (suc size) → Able most (suc size) code 0 size
-pipeline-able most (pipeline cs) lay code rest size within room l h =
+pipeline-able most cs lay code rest size within room l h =
     able-at most (suc size) code (size + 0) size (omega arith) (commands-able most (suc size) cs false 0 lay code rest size (omega arith) room l h)

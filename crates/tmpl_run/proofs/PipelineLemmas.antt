@@ -9,7 +9,7 @@ use Rattle.tmpl_funcs.specs.Func.{makes_text, takes}
 use Rattle.tmpl_funcs.specs.declared.func.Func.{Func}
 use Rattle.tmpl_funcs.specs.declared.func.Func.TheVariants.{And, Or}
 use Rattle.tmpl_grammar.specs.Tree.{Operand, dot, fields, variable, bool_constant, number_constant, text_constant, nil, function, group}
-use Rattle.tmpl_grammar.specs.Tree.{Operands, no_operand, operand, Commands, no_command, command, Pipeline, pipeline}
+use Rattle.tmpl_grammar.specs.Tree.{Operands, no_operand, operand, Pipeline, no_command, command}
 use Rattle.tmpl_meaning.specs.Fault.{Cause}
 use Rattle.tmpl_meaning.specs.Pipeline as meaning
 use Rattle.tmpl_meaning.specs.Pipeline.{Environment, Given, Place, chain, decides, decided, given, given_then, go_on, junction, lookup}
@@ -371,7 +371,7 @@ mutual
   command-runs (operand o os) s piped n lay code rest vs made h l =
       first-runs os piped o s code rest vs made (OperandAt o n lay) (λ k. operand-runs o s n lay code rest (with piped vs) made h k) l
 
-  pub commands-runs : (cs : Commands) (s : Place) (piped : Option Value) (n : ℕ) (lay : Layout) (code rest : Code) (vs : List Cell) (made : Bool)
+  pub commands-runs : (cs : Pipeline) (s : Place) (piped : Option Value) (n : ℕ) (lay : Layout) (code rest : Code) (vs : List Cell) (made : Bool)
       → Slots n lay vs s.env → CommandsAt cs (is_some piped) n lay code rest
       → exec s 0 code (with piped vs) made ≡ follow (commands_value s cs piped) made (λ v b. exec s 0 rest (fresh v ∷ vs) b)
   commands-runs no_command s None n lay code rest vs made h l = code-is s code _ vs made l ∙ exec-pushed s (Ok nothing) rest vs made
@@ -388,4 +388,4 @@ mutual
 pub pipeline-runs : (p : Pipeline) (s : Place) (lay : Layout) (code rest : Code) (vs : List Cell) (made : Bool) → Slots 0 lay vs s.env
     → PipelineAt p lay code rest
     → exec s 0 code vs made ≡ follow (meaning.pipeline_value s p) made (λ v b. exec s 0 rest (fresh v ∷ vs) b)
-pipeline-runs (pipeline cs) s lay code rest vs made h l = commands-runs cs s None 0 lay code rest vs made h l
+pipeline-runs cs s lay code rest vs made h l = commands-runs cs s None 0 lay code rest vs made h l

@@ -10,8 +10,8 @@ use Rattle.tmpl_values.specs.Truth.{truth}
 use Rattle.tmpl_funcs.specs.Func.{makes_text, takes}
 use Rattle.tmpl_funcs.specs.declared.func.Func.{Func}
 use Rattle.tmpl_funcs.specs.declared.func.Func.TheVariants.{And, Or}
-use Rattle.tmpl_grammar.specs.Tree.{Operand, nil, function, group, Operands, no_operand, operand, Commands, no_command, command, Pipeline}
-use Rattle.tmpl_grammar.specs.Tree.{pipeline, Binding, unbound, Header}
+use Rattle.tmpl_grammar.specs.Tree.{Operand, nil, function, group, Operands, no_operand, operand, Pipeline, no_command, command}
+use Rattle.tmpl_grammar.specs.Tree.{Binding, unbound, Header}
 use Rattle.tmpl_grammar.specs.declared.tree.Control.{Control}
 use Rattle.tmpl_grammar.specs.declared.tree.Control.TheVariants as control
 use Rattle.tmpl_syntax.specs.Tree as tree
@@ -106,7 +106,7 @@ mutual
   command-quiet (operand o os) s piped e =
       alone-quiet (meaning.stands_alone os piped) o (operand_value s o) (operand-quiet o s (neither (operand_makes_text o) (operands_make_text os) e).0)
 
-  commands-quiet : (cs : Commands) (s : Place) (piped : Option Value) → commands_make_text cs ≡ false → (commands_value s cs piped).made_text ≡ false
+  commands-quiet : (cs : Pipeline) (s : Place) (piped : Option Value) → commands_make_text cs ≡ false → (commands_value s cs piped).made_text ≡ false
   commands-quiet no_command s None e = refl
   commands-quiet no_command s (Some v) e = refl
   commands-quiet (command os cs) s piped e =
@@ -115,7 +115,7 @@ mutual
       (λ v. commands-quiet cs s (Some (meaning.without_null v)) n.1)
 
 pipeline-quiet : (p : Pipeline) (s : Place) → pipeline_makes_text p ≡ false → (pipeline_value s p).made_text ≡ false
-pipeline-quiet (pipeline cs) s e = commands-quiet cs s None e
+pipeline-quiet cs s e = commands-quiet cs s None e
 
 -- ---- nodes
 

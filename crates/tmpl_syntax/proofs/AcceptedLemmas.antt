@@ -22,7 +22,7 @@ use Rattle.tmpl_syntax.specs.Place.Open.{is_template}
 use Rattle.tmpl_syntax.specs.Place.Body.{joins, most_levels, fine, Judged}
 use Rattle.tmpl_syntax.specs.computed.Frames.{top, loops, in_loop, levels, takes_else, knows, first_fault, part_of, entered, elsed}
 use Rattle.tmpl_syntax.specs.computed.Frames.{branched, Known, with_inner, opened_names, closed_if, none_known, verdict_of}
-use Rattle.tmpl_syntax.specs.Spelling.{Leads, nothing, a_text, an_action, a_break, a_continue, a_control, a_template, a_define, a_block}
+use Rattle.tmpl_syntax.specs.Spelling.{a_text, an_action, a_break, a_continue, a_template, Leads, nothing, a_node, a_control, a_define, a_block}
 use Rattle.tmpl_syntax.specs.Spelling.{Closes, an_end, an_else, an_else_branch}
 use Rattle.tmpl_syntax.specs.Print.Printed.{Said, said_text, said, else_said, control_said, node_said, nodes_said}
 use Rattle.tmpl_syntax.specs.Print.Laws.{Says, says_nothing, says_text, says, AcceptsBack}
@@ -107,21 +107,21 @@ mutual
       → passes fs known (roles_of xs) ≡ true
       → Fit (in_loop (top fs)) (levels (top fs)) known.inner ns fs (with_inner known (seen_behind known.inner ns)) ys ds es
   leads-fit nothing fs known h = (refl, h, λ k. k)
-  leads-fit (a_text l) fs known h = leads-fit l fs known h
-  leads-fit (an_action {h = r} {xs = xs} l) fs known h =
+  leads-fit (a_node a_text l) fs known h = leads-fit l fs known h
+  leads-fit (a_node {xs = xs} (an_action {h = r}) l) fs known h =
       let past : Known = with_inner known (known.inner ++ (names_of r).declares) in
       let e = and_parts (no_fault (first_fault true false (knows known.inner (names_of r).uses))) (passes fs past (roles_of xs)) h in
       let more = leads-fit l fs past e.1 in
       (both_true (sym (first-none false (knows known.inner (names_of r).uses)) ∙ e.0) more.0, more.1, more.2)
-  leads-fit (a_break {xs = xs} l) fs known h =
+  leads-fit (a_node {xs = xs} a_break l) fs known h =
       let e = and_parts (no_fault (first_fault (in_loop (top fs)) false true)) (passes fs known (roles_of xs)) h in
       let more = leads-fit l fs known e.1 in
       (both_true (sym (jump-test (in_loop (top fs))) ∙ e.0) more.0, more.1, more.2)
-  leads-fit (a_continue {xs = xs} l) fs known h =
+  leads-fit (a_node {xs = xs} a_continue l) fs known h =
       let e = and_parts (no_fault (first_fault (in_loop (top fs)) false true)) (passes fs known (roles_of xs)) h in
       let more = leads-fit l fs known e.1 in
       (both_true (sym (jump-test (in_loop (top fs))) ∙ e.0) more.0, more.1, more.2)
-  leads-fit (a_template {given = given} {xs = xs} l) fs known h =
+  leads-fit (a_node {xs = xs} (a_template {given = given}) l) fs known h =
       let past : Known = with_inner known (known.inner ++ (names_given given).declares) in
       let e = and_parts _ (passes fs past (roles_of xs)) h in
       let more = leads-fit l fs known (subst (λ k. passes fs (with_inner known k) (roles_of xs) ≡ true) (call-declares given known.inner) e.1) in
@@ -207,11 +207,8 @@ NoBranch (x ∷ xs) = NoBranch xs
 mutual
   leads-rest : {xs ys : List Item} {ds es : List Definition} {ns : Nodes} → Leads xs ds ns ys es → NoBranch xs → NoBranch ys
   leads-rest nothing h = h
-  leads-rest (a_text l) h = leads-rest l h
-  leads-rest (an_action l) h = leads-rest l h
-  leads-rest (a_break l) h = leads-rest l h
-  leads-rest (a_continue l) h = leads-rest l h
-  leads-rest (a_template l) h = leads-rest l h
+  leads-rest (a_node a_text l) h = leads-rest l h
+  leads-rest (a_node _ l) h = leads-rest l h
   leads-rest (a_control b o l) h = leads-rest l (closes-rest o (leads-rest b h))
   leads-rest _ h = absurd h
 
@@ -225,19 +222,19 @@ mutual
       → fits ns (in_loop (top fs)) (levels (top fs)) known.inner ≡ true → passes fs (with_inner known (seen_behind known.inner ns)) (roles_of ys) ≡ true
       → passes fs known (roles_of xs) ≡ true
   leads-pass nothing n fs known h k = k
-  leads-pass (a_text l) n fs known h k = leads-pass l n fs known h k
-  leads-pass (an_action {h = r} {ns = ns} l) n fs known h k =
+  leads-pass (a_node a_text l) n fs known h k = leads-pass l n fs known h k
+  leads-pass (a_node {ns = ns} (an_action {h = r}) l) n fs known h k =
       let names : List Name = known.inner in
       let past : List Name = names ++ (names_of r).declares in
       let e = and_parts (knows names (names_of r).uses) (fits ns (in_loop (top fs)) (levels (top fs)) past) h in
       both_true (first-none false (knows names (names_of r).uses) ∙ e.0) (leads-pass l n fs (with_inner known past) e.1 k)
-  leads-pass (a_break {ns = ns} l) n fs known h k =
+  leads-pass (a_node {ns = ns} a_break l) n fs known h k =
       let e = and_parts (in_loop (top fs)) (fits ns (in_loop (top fs)) (levels (top fs)) known.inner) h in
       both_true (jump-test (in_loop (top fs)) ∙ e.0) (leads-pass l n fs known e.1 k)
-  leads-pass (a_continue {ns = ns} l) n fs known h k =
+  leads-pass (a_node {ns = ns} a_continue l) n fs known h k =
       let e = and_parts (in_loop (top fs)) (fits ns (in_loop (top fs)) (levels (top fs)) known.inner) h in
       both_true (jump-test (in_loop (top fs)) ∙ e.0) (leads-pass l n fs known e.1 k)
-  leads-pass (a_template {given = given} {xs = xs} {ns = ns} l) n fs known h k =
+  leads-pass (a_node {xs = xs} {ns = ns} (a_template {given = given}) l) n fs known h k =
       let e = and_parts (knows known.inner (names_given given).uses) (fits ns (in_loop (top fs)) (levels (top fs)) known.inner) h in
       both_true (call-test given (top fs) known.inner ∙ e.0)
       (subst (λ names. passes fs (with_inner known names) (roles_of xs) ≡ true) (sym (call-declares given known.inner)) (leads-pass l n fs known e.1 k))

@@ -2,7 +2,7 @@
 use Rattle.std.proofs.Common.{◌≡◌, ℕ, List, [], ◌∷◌, ◌++◌, refl, subst, replicate, Some, map}
 use Rattle.tmpl_grammar.specs.declared.action.Branch.TheVariants.{If as if_branch}
 use Rattle.tmpl_syntax.specs.Fault as reason
-use Rattle.tmpl_grammar.specs.Tree.{Operand, dot, variable, operand, no_operand, command, no_command, Pipeline, pipeline, Binding, unbound}
+use Rattle.tmpl_grammar.specs.Tree.{Operand, dot, variable, operand, no_operand, command, no_command, Pipeline, Binding, unbound}
 use Rattle.tmpl_grammar.specs.Tree.{declare, assign, declare_pair, Header}
 use Rattle.tmpl_grammar.specs.declared.tree.Control.TheVariants as control
 use Rattle.tmpl_syntax.specs.Tree.{Nodes, none, then, text, action, control_node, break_node, template_node}
@@ -25,7 +25,7 @@ y = 121 ∷ []
 
 -- a pipeline of one operand
 abbrev single : Operand → Pipeline
-single o = pipeline (command (operand o no_operand) no_command)
+single o = command (operand o no_operand) no_command
 
 abbrev word : ℕ → Item
 word line = item line (text_item (119 ∷ []))

@@ -1,6 +1,6 @@
 -- For the reader of `Formed`: which templates are formed, computed.
 use Rattle.std.proofs.Common.{◌≡◌, ℕ, zero, suc, Bool, true, false, List, [], ◌∷◌, Some, refl, codes, map}
-use Rattle.tmpl_grammar.specs.Tree.{Operand, dot, variable, group, operands_from, commands_from, Pipeline, pipeline, Binding}
+use Rattle.tmpl_grammar.specs.Tree.{Operand, dot, variable, group, operands_from, commands_from, Pipeline, Binding}
 use Rattle.tmpl_grammar.specs.Tree.{unbound, declare, assign, declare_pair, Header}
 use Rattle.tmpl_grammar.specs.declared.tree.Control.{Control}
 use Rattle.tmpl_grammar.specs.declared.tree.Control.TheVariants as control
@@ -13,7 +13,7 @@ listed [] = none
 listed (n ∷ ns) = then 1 n (listed ns)
 
 abbrev value : Operand → Pipeline
-value o = pipeline (commands_from (operands_from (o ∷ []) ∷ []))
+value o = commands_from (operands_from (o ∷ []) ∷ [])
 
 abbrev headed : Binding → Operand → Header
 headed b o = record { binding = b; pipeline = value o }

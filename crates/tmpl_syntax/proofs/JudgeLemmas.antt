@@ -177,7 +177,7 @@ module _ (xs : List Role) (i : ℕ) (known : Known) where
 
   module _ (fs : List Frame) (s : Stands xs i known fs) (a : Act) (at : slice_get xs i ≡ Some (act_role a)) (e : is_placed a (top fs) ≡ true) where
     pub none-unknown : IsKnown (names_in a).uses (names_at a (top fs) names) → IsUndeclared xs i a → ⊥
-    none-unknown k u = u.unknown (in-scope fs s a at e u.name u.uses (k u.name u.uses))
+    none-unknown k u = u.2 (in-scope fs s a at e u.0 u.1 (k u.0 u.1))
 
     pub unknown : IsUnknown (names_in a).uses (names_at a (top fs) names) → IsUndeclared xs i a
-    unknown u = record { name = u.0; uses = u.1; unknown = λ k. u.2 (scope-has fs s a at e u.0 u.1 k) }
+    unknown u = (u.0, u.1, λ k. u.2 (scope-has fs s a at e u.0 u.1 k))

@@ -2,7 +2,7 @@
 use Rattle.std.proofs.Common.{◌≡◌, List, [], ◌∷◌, false, refl, subst, codes}
 use Rattle.tmpl_lex.specs.declared.piece.TokenKind.TheVariants as kind
 use Rattle.tmpl_lex.specs.Piece.{Token, action}
-use Rattle.tmpl_grammar.specs.Tree.{dot, operand, no_operand, command, no_command, pipeline, unbound, Header}
+use Rattle.tmpl_grammar.specs.Tree.{dot, operand, no_operand, command, no_command, unbound, Header}
 use Rattle.tmpl_grammar.specs.Action.{plain_else, else_branch}
 use Rattle.tmpl_grammar.specs.Print.{token, space, word}
 use Rattle.tmpl_grammar.specs.declared.action.Branch.TheVariants.{If as if_branch}
@@ -25,7 +25,7 @@ abbrev else_alone : List Token
 else_alone = word (codes "else") ∷ []
 
 abbrev of_dot : Header
-of_dot = record { binding = unbound; pipeline = pipeline (command (operand dot no_operand) no_command) }
+of_dot = record { binding = unbound; pipeline = command (operand dot no_operand) no_command }
 
 -- the relation says so where the function does
 reads : (branches : Branches) (ts : List Token) (x : Item) → item_for branches (action 1 ts) ≡ x → IsItem branches (action 1 ts) x

@@ -1,7 +1,7 @@
 -- For the reader of `Need`: what some templates need, computed.
 use Rattle.std.proofs.Common.{◌≡◌, ℕ, List, [], ◌∷◌, refl, codes, pos, map}
 use Rattle.tmpl_funcs.specs.declared.func.Func.TheVariants.{Eq, Print}
-use Rattle.tmpl_grammar.specs.Tree.{Operand, dot, variable, number_constant, function, operands_from, commands_from, pipeline, Binding}
+use Rattle.tmpl_grammar.specs.Tree.{Operand, dot, variable, number_constant, function, operands_from, commands_from, Binding}
 use Rattle.tmpl_grammar.specs.Tree.{unbound, declare, assign, declare_pair, Header}
 use Rattle.tmpl_grammar.specs.declared.tree.Control.{Control}
 use Rattle.tmpl_grammar.specs.declared.tree.Control.TheVariants as control
@@ -14,7 +14,7 @@ listed [] = none
 listed (n ∷ ns) = then 1 n (listed ns)
 
 abbrev headed : Binding → List Operand → Header
-headed b os = record { binding = b; pipeline = pipeline (commands_from (operands_from os ∷ [])) }
+headed b os = record { binding = b; pipeline = commands_from (operands_from os ∷ []) }
 
 -- an action; a control, with its else part
 abbrev acts : Binding → List Operand → NodeKind

@@ -11,7 +11,7 @@ use Rattle.tmpl_syntax.specs.Tree.{Nodes, Definition}
 use Rattle.tmpl_syntax.specs.Set.{Template}
 use Rattle.tmpl_syntax.specs.Language.{Branches}
 use Rattle.tmpl_syntax.specs.Item.{Item, item, action_item, IsItem, a_text as text_read, an_unreadable, unread, too_deep, read, AreItems, no_item, an_item}
-use Rattle.tmpl_syntax.specs.Spelling.{Leads, nothing, a_text, an_action, a_break, a_continue, a_control, a_template, a_define, a_block}
+use Rattle.tmpl_syntax.specs.Spelling.{a_text, Leads, nothing, a_node, a_control, a_define, a_block}
 use Rattle.tmpl_syntax.specs.Spelling.{Closes, an_end, an_else, an_else_branch}
 use Rattle.tmpl_syntax.specs.Need.{need_of_parts, need_of_nodes, NeedAtMost, most_need}
 use Rattle.tmpl_syntax.specs.Parse.{all_defined, template_in}
@@ -50,16 +50,13 @@ parts-within _ declared body other = omega arith
 mutual
   leads-within : {xs ys : List Item} {ds es : List Definition} {ns : Nodes} → Leads xs ds ns ys es → need_of_nodes ns + cells ys ≤ cells xs
   leads-within nothing = omega arith
-  leads-within (a_text l) = let more = leads-within l in omega (arith, more)
-  leads-within (an_action {h = h} l) = let more = leads-within l in omega (arith, more)
-  leads-within (a_break l) = let more = leads-within l in omega (arith, more)
-  leads-within (a_continue l) = let more = leads-within l in omega (arith, more)
+  leads-within (a_node a_text l) = let more = leads-within l in omega (arith, more)
+  leads-within (a_node _ l) = let more = leads-within l in omega (arith, more)
   leads-within (a_control {c = c} {h = h} {body = body} {other = other} b o l) =
       let inner = leads-within b in
       let behind = closes-within o in
       let more = leads-within l in
       omega (arith, inner, behind, more, parts-within c (declared_count h.binding) (need_of_nodes body) (need_of_nodes other))
-  leads-within (a_template {given = given} l) = let more = leads-within l in omega (arith, more)
   leads-within (a_define b l) =
       let inner = leads-within b in
       let more = leads-within l in
@@ -87,17 +84,13 @@ Within n (d ∷ ds) = (need_of_nodes d.nodes ≤ n) × Within n ds
 mutual
   leads-defined : {xs ys : List Item} {ds es : List Definition} {ns : Nodes} → Leads xs ds ns ys es → (n : ℕ) → cells xs ≤ n → Within n es → Within n ds
   leads-defined nothing n le w = w
-  leads-defined (a_text l) n le w = leads-defined l n (omega (arith, le)) w
-  leads-defined (an_action {h = h} l) n le w = leads-defined l n (omega (arith, le)) w
-  leads-defined (a_break l) n le w = leads-defined l n (omega (arith, le)) w
-  leads-defined (a_continue l) n le w = leads-defined l n (omega (arith, le)) w
+  leads-defined (a_node _ l) n le w = leads-defined l n (omega (arith, le)) w
   leads-defined (a_control {h = h} b o l) n le w =
       let inner = leads-within b in
       let behind = closes-within o in
       leads-defined b n (omega (arith, le))
       (closes-defined o n (omega (arith, le, inner))
       (leads-defined l n (omega (arith, le, inner, behind)) w))
-  leads-defined (a_template {given = given} l) n le w = leads-defined l n (omega (arith, le)) w
   leads-defined (a_define b l) n le w =
       let inner = leads-within b in
       (omega (arith, inner, le), leads-defined b n (omega (arith, le)) (leads-defined l n (omega (arith, le, inner)) w))

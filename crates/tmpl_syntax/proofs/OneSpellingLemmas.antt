@@ -1,9 +1,9 @@
 -- For `one_spelling`: a list of items spells definitions and nodes in one way at most.
 use Rattle.std.proofs.Common.{◌≡◌, ℕ, Bool, true, false, List, [], ◌∷◌, Some, refl, sym, ap, ◌∙◌, subst, drop}
-use Rattle.tmpl_syntax.specs.Tree.{NodeKind, text, action, control_node, break_node, continue_node, template_node, Nodes, none, then, Definition}
-use Rattle.tmpl_grammar.specs.Action.{Action, plain_else, else_branch, end_action, control_in}
-use Rattle.tmpl_syntax.specs.Item.{Item, item, action_item}
-use Rattle.tmpl_syntax.specs.Spelling.{definition, Leads, nothing, a_text, an_action, a_break, a_continue, a_control, a_template, a_define}
+use Rattle.tmpl_syntax.specs.Tree.{NodeKind, control_node, template_node, Nodes, none, then, Definition}
+use Rattle.tmpl_grammar.specs.Action.{Action, opening, plain_else, else_branch, end_action, define_action, block_action, control_in}
+use Rattle.tmpl_syntax.specs.Item.{ItemKind, Item, item, action_item}
+use Rattle.tmpl_syntax.specs.Spelling.{definition, IsNode, a_text, an_action, a_break, a_continue, a_template, Leads, nothing, a_node, a_control, a_define}
 use Rattle.tmpl_syntax.specs.Spelling.{a_block, Closes, an_end, an_else, an_else_branch}
 use Rattle.tmpl_syntax.specs.Laws.{SpellsAtMostOne}
 
@@ -30,21 +30,34 @@ no-stop e = absurd (let g : ⊥ = cc in g)
 abbrev Same : Nodes → Nodes → List Item → List Item → List Definition → List Definition → List Definition → List Definition → Type 0
 Same ns ms ys zs ds fs es gs = (ns ≡ ms) × (ys ≡ zs) × (es ≡ gs → ds ≡ fs)
 
--- a node more at the front
-same-then : (line : ℕ) (n : NodeKind) (ns ms : Nodes) (ys zs : List Item) (ds fs es gs : List Definition) → Same ns ms ys zs ds fs es gs
-    → Same (then line n ns) (then line n ms) ys zs ds fs es gs
-same-then line n ns ms ys zs ds fs es gs s = (ap (then line n) s.0, s.1, s.2)
+-- an item is one node by itself at most, and no control, define or block
+one-node : {what : ItemKind} {n m : NodeKind} → IsNode what n → IsNode what m → n ≡ m
+one-node a_text a_text = refl
+one-node an_action an_action = refl
+one-node a_break a_break = refl
+one-node a_continue a_continue = refl
+one-node a_template a_template = refl
+
+abbrev is_alone : ItemKind → Bool
+is_alone (action_item (opening c h)) = false
+is_alone (action_item (define_action name)) = false
+is_alone (action_item (block_action name p)) = false
+is_alone _ = true
+
+goes-on : {what : ItemKind} {n : NodeKind} (line : ℕ) (xs : List Item) → IsNode what n → stops (item line what ∷ xs) ≡ false
+goes-on line xs a_text = refl
+goes-on line xs _ = refl
+
+no-node : {A : Type 0} {what : ItemKind} {n : NodeKind} → IsNode what n → is_alone what ≡ false → A
+no-node a_text e = no-stop e
+no-node _ e = no-stop e
 
 mutual
   one-leads : {xs ys zs : List Item} {ds es fs gs : List Definition} {ns ms : Nodes} → Leads xs ds ns ys es → Leads xs fs ms zs gs
       → stops ys ≡ true → stops zs ≡ true → Same ns ms ys zs ds fs es gs
   one-leads nothing nothing s t = (refl, refl, λ e. e)
-  one-leads (a_text {line = l} {bytes = b} d) (a_text e) s t = same-then l (text b) _ _ _ _ _ _ _ _ (one-leads d e s t)
-  one-leads (an_action {line = l} {h = h} d) (an_action e) s t = same-then l (action h) _ _ _ _ _ _ _ _ (one-leads d e s t)
-  one-leads (a_break {line = l} d) (a_break e) s t = same-then l break_node _ _ _ _ _ _ _ _ (one-leads d e s t)
-  one-leads (a_continue {line = l} d) (a_continue e) s t = same-then l continue_node _ _ _ _ _ _ _ _ (one-leads d e s t)
-  one-leads (a_template {line = l} {name = name} {given = given} d) (a_template e) s t =
-      same-then l (template_node name given) _ _ _ _ _ _ _ _ (one-leads d e s t)
+  one-leads (a_node {line = l} {ns = ns} i d) (a_node {n = m} j e) s t =
+      let p = one-leads d e s t in (ap (λ n. then l n ns) (one-node i j) ∙ ap (then l m) p.0, p.1, p.2)
   one-leads (a_control {line = l} {c = c} {h = r} {body = b} {other = o} {ns = ns} d f g)
       (a_control {zs = zs} {ws = ws} {es = es} {fs = fs} {gs = gs} {body = b'} {other = o'} {ns = ns'} e h k) s t =
       let p = one-leads d e (closes-stops f) (closes-stops h) in
@@ -65,8 +78,12 @@ mutual
         n.1,
         λ left. ap (λ b. definition l name b ∷ ds) p.0 ∙ ap (λ more. definition l name b' ∷ more) (p.2 (n.2 left)),
       )
+  one-leads (a_node {line = l} {xs = xs} i d) nothing s t = no-stop (sym t ∙ goes-on l xs i)
+  one-leads nothing (a_node {line = l} {xs = xs} i d) s t = no-stop (sym s ∙ goes-on l xs i)
   one-leads _ nothing s t = no-stop (sym t)
   one-leads nothing _ s t = no-stop (sym s)
+  one-leads (a_node i d) _ s t = no-node i refl
+  one-leads _ (a_node i d) s t = no-node i refl
 
   one-closes : {xs ys zs : List Item} {ds es fs gs : List Definition} {ns ms : Nodes} → Closes xs ds ns ys es → Closes xs fs ms zs gs
       → Same ns ms ys zs ds fs es gs

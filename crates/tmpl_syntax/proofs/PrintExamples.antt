@@ -8,14 +8,14 @@ use Rattle.tmpl_values.specs.Printable.{printable}
 use Rattle.tmpl_values.specs.Quote.{quote}
 use Rattle.tmpl_funcs.specs.declared.func.Func.TheVariants.{Len}
 use Rattle.tmpl_grammar.specs.Tree.{Operand, dot, fields, variable, number_constant, function, group, no_operand, operand, no_command}
-use Rattle.tmpl_grammar.specs.Tree.{command, Pipeline, pipeline, Binding, unbound, declare, declare_pair, Header}
+use Rattle.tmpl_grammar.specs.Tree.{command, Pipeline, Binding, unbound, declare, declare_pair, Header}
 use Rattle.tmpl_grammar.specs.declared.tree.Control.TheVariants as control
 use Rattle.tmpl_syntax.specs.Tree.{Nodes, none, then, text, action, control_node, break_node, template_node}
 use Rattle.tmpl_syntax.specs.Set.{Template}
 use Rattle.tmpl_syntax.specs.Print.Printed.{printed, printed_set}
 
 abbrev headed : Binding → Operand → Header
-headed b o = record { binding = b; pipeline = pipeline (command (operand o no_operand) no_command) }
+headed b o = record { binding = b; pipeline = command (operand o no_operand) no_command }
 
 abbrev put : Operand → Nodes → Nodes
 put o ns = then 1 (action (headed unbound o)) ns
@@ -51,7 +51,7 @@ a-header = refl
 a-pipeline : printed (then 1 (action (record {
   binding = unbound;
   pipeline =
-      pipeline (command (operand (fields (codes "a" ∷ codes "b" ∷ [])) no_operand) (command (operand (function Len) no_operand) no_command));
+      command (operand (fields (codes "a" ∷ codes "b" ∷ [])) no_operand) (command (operand (function Len) no_operand) no_command);
 })) none)
     ≡ codes "{{.a.b | len}}"
 a-pipeline = refl

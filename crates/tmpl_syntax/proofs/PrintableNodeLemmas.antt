@@ -8,7 +8,7 @@ use Rattle.tmpl_syntax.specs.Tree.{Nodes, none, then, control_node, Definition}
 use Rattle.tmpl_syntax.specs.Language.{Branches}
 use Rattle.tmpl_syntax.specs.Item.{Item, item, text_item, action_item, IsItem, a_text as text_read, an_unreadable, unread, too_deep, read}
 use Rattle.tmpl_syntax.specs.Item.{AreItems, no_item, an_item}
-use Rattle.tmpl_syntax.specs.Spelling.{Leads, nothing, a_text, an_action, a_break, a_continue, a_control, a_template, a_define, a_block}
+use Rattle.tmpl_syntax.specs.Spelling.{a_text, Leads, nothing, a_node, a_control, a_define, a_block}
 use Rattle.tmpl_syntax.specs.Spelling.{Closes, an_end, an_else, an_else_branch}
 use Rattle.tmpl_grammar.specs.declared.action.Branch.{Branch}
 use Rattle.tmpl_grammar.specs.declared.action.Branch.TheVariants as branch
@@ -67,11 +67,8 @@ record Kept (ss : List Said) (ys : List Item) (ds es : List Definition) : Type 0
 mutual
   leads-of : {xs ys : List Item} {ds es : List Definition} {ns : Nodes} → Leads xs ds ns ys es → OfItems xs → Kept (nodes_said ns) ys ds es
   leads-of nothing h = record { nodes = tt; behind_them = h; definitions = λ path k. k }
-  leads-of (a_text l) h = let m = leads-of l h.1 in record { nodes = (h.0, m.nodes); behind_them = m.behind_them; definitions = m.definitions }
-  leads-of (an_action l) h = let m = leads-of l h.1 in record { nodes = (h.0, m.nodes); behind_them = m.behind_them; definitions = m.definitions }
-  leads-of (a_break l) h = let m = leads-of l h.1 in record { nodes = (tt, m.nodes); behind_them = m.behind_them; definitions = m.definitions }
-  leads-of (a_continue l) h = let m = leads-of l h.1 in record { nodes = (tt, m.nodes); behind_them = m.behind_them; definitions = m.definitions }
-  leads-of (a_template l) h = let m = leads-of l h.1 in record { nodes = (h.0, m.nodes); behind_them = m.behind_them; definitions = m.definitions }
+  leads-of (a_node a_text l) h = let m = leads-of l h.1 in record { nodes = (h.0, m.nodes); behind_them = m.behind_them; definitions = m.definitions }
+  leads-of (a_node _ l) h = let m = leads-of l h.1 in record { nodes = (h.0, m.nodes); behind_them = m.behind_them; definitions = m.definitions }
   leads-of (a_control {c = c} {h = r} {body = body} {other = other} {ns = ns} b o l) h =
       let i = leads-of b h.1 in
       let e = closes-of o i.behind_them in

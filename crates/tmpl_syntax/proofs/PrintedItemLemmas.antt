@@ -1,7 +1,7 @@
 -- For `printed_back` and `set_back`: the pieces of what is printed are read as what its nodes say.
 use Rattle.std.proofs.Common.{arith, ◌≡◌, ◌≤◌, ℕ, List, [], ◌∷◌, Some, None, refl, sym, subst, map, codes}
 use Rattle.tmpl_lex.specs.Piece.{Token, Piece, text, action}
-use Rattle.tmpl_grammar.specs.Tree.{Pipeline, pipeline}
+use Rattle.tmpl_grammar.specs.Tree.{Pipeline}
 use Rattle.tmpl_grammar.specs.Action.{Action, pipeline_action, opening, else_branch, end_action, template_action, block_action}
 use Rattle.tmpl_grammar.specs.Depth.{depth_of, depth_of_pipeline, most_deep}
 use Rattle.tmpl_syntax.specs.Language.{every_branch}
@@ -26,7 +26,7 @@ are-parts (said_text t ∷ ss) h = (h.0, are-parts ss h.1)
 are-parts (said a ∷ ss) h = (action-inside a h.0, are-parts ss h.1)
 
 pipeline_within : (p : Pipeline) → OfPipeline p → depth_of_pipeline p ≤ most_deep
-pipeline_within (pipeline cs) h = h.1
+pipeline_within p h = h.1
 
 within : (a : Action) → OfAction a → depth_of a ≤ most_deep
 within (pipeline_action r) h = pipeline_within r.pipeline h.2

@@ -6,7 +6,7 @@ use Rattle.tmpl_grammar.specs.Action.{Action, end_action}
 use Rattle.tmpl_syntax.specs.Tree.{NodeKind, text, action, control_node, break_node, continue_node, template_node, Nodes, none, then, Definition}
 use Rattle.tmpl_syntax.specs.Item.{Item, ItemKind, item, text_item, action_item}
 use Rattle.tmpl_syntax.specs.Set.{Template}
-use Rattle.tmpl_syntax.specs.Spelling.{definition, Leads, nothing, a_text, an_action, a_break, a_continue, a_control, a_template, a_define}
+use Rattle.tmpl_syntax.specs.Spelling.{definition, IsNode, a_text, an_action, a_break, a_continue, a_template, Leads, nothing, a_node, a_control, a_define}
 use Rattle.tmpl_syntax.specs.Spelling.{Closes, an_end, an_else, Spells}
 use Rattle.tmpl_syntax.specs.Print.Printed.{Said, said_text, said, else_said, control_said, node_said, nodes_said, set_said, unlined_node, unlined}
 use Rattle.tmpl_syntax.specs.Print.Laws.{Says, says_nothing, says_text, says, unlined_definition, unlined_template, newline_nodes}
@@ -94,29 +94,24 @@ control-leads c h body other in_body in_other ss xs s =
       says_rest = e.says_rest;
     }
 
--- an item that spells a node, whatever stands behind
-record Leaf (n : NodeKind) (what : ItemKind) : Type 0 where
-  leads : {line : ℕ} {rest : List Item} {ms : Nodes} {zs : List Item} {ds es : List Definition} → Leads rest ds ms zs es
-      → Leads (item line what ∷ rest) ds (then line n ms) zs es
-
-leaf-leads : {n : NodeKind} {what : ItemKind} {ss : List Said} {xs : List Item} → First what ss xs → Leaf n what → LeadsNode n ss xs
-leaf-leads {n} f leaf = record {
+alone-leads : {n : NodeKind} {what : ItemKind} {ss : List Said} {xs : List Item} → First what ss xs → IsNode what n → LeadsNode n ss xs
+alone-leads {n} f is = record {
   line = f.line;
   node = n;
   rest = f.rest;
-  leads = λ {ms} {zs} {ds} {es} l. subst (λ ys. Leads ys ds (then f.line n ms) zs es) (sym f.is) (leaf.leads l);
+  leads = λ {ms} {zs} {ds} {es} l. subst (λ ys. Leads ys ds (then f.line n ms) zs es) (sym f.is) (a_node is l);
   alike = refl;
   says_rest = f.says_rest;
 }
 
 mutual
   node-leads : (n : NodeKind) (ss : List Said) (xs : List Item) → Says (node_said n ++ ss) xs → LeadsNode n ss xs
-  node-leads (text bytes) ss xs s = leaf-leads (first-text s) (record { leads = a_text })
-  node-leads (action h) ss xs s = leaf-leads (first-said s) (record { leads = an_action })
+  node-leads (text bytes) ss xs s = alone-leads (first-text s) a_text
+  node-leads (action h) ss xs s = alone-leads (first-said s) an_action
   node-leads (control_node c h body other) ss xs s = control-leads c h body other (nodes-leads body) (nodes-leads other) ss xs s
-  node-leads break_node ss xs s = leaf-leads (first-said s) (record { leads = a_break })
-  node-leads continue_node ss xs s = leaf-leads (first-said s) (record { leads = a_continue })
-  node-leads (template_node name given) ss xs s = leaf-leads (first-said s) (record { leads = a_template })
+  node-leads break_node ss xs s = alone-leads (first-said s) a_break
+  node-leads continue_node ss xs s = alone-leads (first-said s) a_continue
+  node-leads (template_node name given) ss xs s = alone-leads (first-said s) a_template
 
   nodes-leads : (ns : Nodes) (ss : List Said) (xs : List Item) → Says (nodes_said ns ++ ss) xs → LeadsNodes ns ss xs
   nodes-leads none ss xs s = record { nodes = none; rest = xs; leads = nothing; alike = refl; says_rest = s }
@@ -171,7 +166,7 @@ set-leads (t ∷ ts) xs s =
       own = own;
       spells = subst (λ ys. Leads ys (first ∷ more.definitions) own [] []) (sym f.is)
           (a_define (subst (λ ys. Leads f.rest more.definitions b.nodes ys more.definitions) e.is b.leads)
-          (subst (λ ys. Leads ys more.definitions own [] []) (sym n.is) (a_text more.spells)));
+          (subst (λ ys. Leads ys more.definitions own [] []) (sym n.is) (a_node a_text more.spells)));
       alike = ap (λ ns. (t.0, ns) ∷ map unlined_definition more.definitions) b.alike ∙ ap (λ es. unlined_template t ∷ es) more.alike;
       newlines = ap (then 0 (text (codes "\n"))) more.newlines;
     }

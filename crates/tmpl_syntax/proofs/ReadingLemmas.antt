@@ -99,7 +99,7 @@ module _ (set : List Template) (file bytes : List ℕ) where
       omega (arith, n, length-map (items_of bytes) role_of) in
       let x = item-there (items_of bytes) i lt in
       let it = named-item (slice_get (items_of bytes) i) x.0 line x.1 (e ∙ ap line_in x.1) in
-      record { place = i; first = j; what = it.0; at = it.1 }
+      (i, it.0, j, it.1)
 
   -- what applies to an item is no reason that is asked for at the front or at the end of a file
   refused-as : (line : ℕ) (why : Reason) → {i : ℕ} → Applies (roles_of (items_of bytes)) i why → length bytes ≤ most_bytes
@@ -183,7 +183,7 @@ module _ (set : List Template) (file bytes : List ℕ) where
   refused-there-as : (line : ℕ) (why : Reason) → length bytes ≤ most_bytes → (items : List Item) → HasItems every_branch bytes items
       → IsRefusedAt items line why → parsed set file bytes ≡ Err (line, why)
   refused-there-as line why short items has r =
-      verdict-as items has (refused r.place why) r.first short ∙ ap (λ o. Err (line_in o, why)) r.at
+      verdict-as items has (refused r.0 why) r.2 short ∙ ap (λ o. Err (line_in o, why)) r.3
 
   pub parsed-refused : (line : ℕ) (reason : Reason) → IsRefusedBy every_branch file bytes line reason → parsed set file bytes ≡ Err (line, reason)
   parsed-refused line too_long (long, at) = parsed-long set file bytes long ∙ ap (λ n. Err (n, too_long)) (sym at)

@@ -4,10 +4,10 @@ use Rattle.std.proofs.Common.{subst, append_assoc, append-nil, length, length-ap
 use Rattle.std.proofs.Common.{inl, inr, ⊎_elim, Bor, not}
 use Rattle.std.specs.List.{list_any}
 use Rattle.std.specs.Prelude.{slice_get}
+use Rattle.std.proofs.lemmas.List.Elements.{Contains-append_left, Contains-append_right, Contains-push, Contains-push_cases, Contains-append_cases}
 use Rattle.std.specs.Option.{option_map}
 use Rattle.std.proofs.Math.Seq.{drop-cons}
 use Rattle.std.proofs.lemmas.Bool.{false≢true}
-use Rattle.std.proofs.lemmas.List.Folds.{list_any-append}
 use Rattle.std.proofs.lemmas.Option.{slice_get_read, slice_get_within, slice_get-map, get_or_from_slice_get}
 use lib.Pointwise.{bytes_decides}
 use Rattle.tmpl_syntax.specs.Tree.{Definition}
@@ -87,13 +87,11 @@ known-second [] d some e = absurd (false≢true e)
 known-second (f ∷ earlier) d some e = by (known-second earlier d some) (is_blank f.nodes) refl e
   where
     later : IsSecond earlier d → IsSecond (f ∷ earlier) d
-    later s =
-        record { front = f ∷ s.front; first = s.first; rest = s.rest; are = ap (λ xs. f ∷ xs) s.are; name = s.name; first_some = s.first_some; some = some }
+    later s = (s.0, Contains-append_right (f ∷ []) earlier s.0 s.1, s.2, s.3, some)
 
     named : (is_known (kept earlier) d.name ≡ true → IsSecond earlier d) → (b : Bool) → bytes_eq d.name f.name ≡ b
         → is_blank f.nodes ≡ false → (b || is_known (kept earlier) d.name) ≡ true → IsSecond (f ∷ earlier) d
-    named more true same blank k =
-        record { front = []; first = f; rest = earlier; are = refl; name = sym ((bytes_decides d.name f.name).0 same); first_some = blank; some = some }
+    named more true same blank k = (f, Contains-append_left (f ∷ []) earlier f (Contains-push [] f), sym ((bytes_decides d.name f.name).0 same), blank, some)
     named more false same blank k = later (more k)
 
     by : (is_known (kept earlier) d.name ≡ true → IsSecond earlier d) → (b : Bool) → is_blank f.nodes ≡ b
@@ -106,14 +104,20 @@ or-right true = refl
 or-right false = refl
 
 second-known : (earlier : List Definition) (d : Definition) → IsSecond earlier d → is_known (kept earlier) d.name ≡ true
-second-known earlier d s =
-    let test : Name → Bool = λ n. bytes_eq d.name n in
-    let same : bytes_eq d.name s.first.name ≡ true = (bytes_decides d.name s.first.name).1 (sym s.name) in
-    ap (λ xs. is_known (kept xs) d.name) s.are
-    ∙ ap (list_any test) (kept-append s.front (s.first ∷ s.rest) ∙ ap (λ b. kept s.front ++ kept_if b s.first.name (kept s.rest)) s.first_some)
-    ∙ list_any-append test (kept s.front) (s.first.name ∷ kept s.rest)
-    ∙ ap (λ b. list_any test (kept s.front) || (b || list_any test (kept s.rest))) same
-    ∙ or-right (list_any test (kept s.front))
+second-known [] d s = let lt = s.1.1 in absurd (omega arith)
+second-known (f ∷ earlier) d s = ⊎_elim
+    (λ o. ⊎_elim (λ c. let lt = c.1 in absurd (omega arith)) here (Contains-push_cases [] f s.0 o))
+    (λ r. by (is_blank f.nodes) (second-known earlier d (s.0, r, s.2, s.3, s.4)))
+    (Contains-append_cases (f ∷ []) earlier s.0 s.1)
+  where
+    here : f ≡ s.0 → is_known (kept (f ∷ earlier)) d.name ≡ true
+    here same =
+        ap (λ b. is_known (kept_if b f.name (kept earlier)) d.name) (ap (λ (e : Definition). is_blank e.nodes) same ∙ s.3)
+        ∙ ap (λ b. b || is_known (kept earlier) d.name) ((bytes_decides d.name f.name).1 (sym (ap (λ (e : Definition). e.name) same ∙ s.2)))
+
+    by : (b : Bool) → is_known (kept earlier) d.name ≡ true → is_known (kept_if b f.name (kept earlier)) d.name ≡ true
+    by true e = e
+    by false e = ap (λ b. bytes_eq d.name f.name || b) e ∙ or-right (bytes_eq d.name f.name)
 
 -- ---- what is found
 
@@ -135,8 +139,8 @@ found before (d ∷ ds) none = by (λ none. found (before ++ d ∷ []) ds none) 
     by : (NoneSecond (before ++ d ∷ []) → Found ((before ++ d ∷ []) ++ ds) (second_from (kept (before ++ d ∷ [])) ds))
         → (blank known : Bool) → is_blank d.nodes ≡ blank → is_known (kept before) d.name ≡ known
         → Found (before ++ d ∷ ds) (second_if blank known d.line (second_from (kept before) ds) (second_from (kept before ++ d.name ∷ []) ds))
-    by more true known b k = next more (λ s. let e : false ≡ true = sym s.some ∙ b in false≢true e) (kept before) (kept-blank before d b)
-    by more false true b k = record { before = before; second = d; behind = ds; are = refl; is_second = known-second before d b k; is_first = none; at = refl }
+    by more true known b k = next more (λ s. let e : false ≡ true = sym s.4 ∙ b in false≢true e) (kept before) (kept-blank before d b)
+    by more false true b k = (before, d, ds, refl, none, known-second before d b k, refl)
     by more false false b k =
         next more (λ s. let e : false ≡ true = sym k ∙ second-known before d s in false≢true e) (kept before ++ d.name ∷ []) (kept-some before d b)
 
@@ -153,15 +157,15 @@ has-second ds line e = subst (Found ds) e (found-in ds)
 -- ---- there is one answer
 
 not-both : {A : Type 0} (ds : List Definition) (line : ℕ) → NoneSecond ds → HasSecond ds line → A
-not-both ds line none s = absurd (none s.before s.second s.behind s.are s.is_second)
+not-both ds line none s = absurd (none s.0 s.1 s.2 s.3 s.5)
 
 one-line : (ds : List Definition) (n m : ℕ) → HasSecond ds n → HasSecond ds m → n ≡ m
 one-line ds n m s t = ⊎_elim
-    (λ same. s.at ∙ ap (λ (d : Definition). d.line) same.1 ∙ sym t.at)
+    (λ same. s.6 ∙ ap (λ (d : Definition). d.line) same.1 ∙ sym t.6)
     (λ other. ⊎_elim
-    (λ k. absurd (t.is_first s.before s.second k.0 k.1 s.is_second))
-    (λ k. absurd (s.is_first t.before t.second k.0 k.1 t.is_second)) other)
-    (split-order s.before s.second s.behind t.before t.second t.behind (sym s.are ∙ t.are))
+    (λ k. absurd (t.4 s.0 s.1 k.0 k.1 s.5))
+    (λ k. absurd (s.4 t.0 t.1 k.0 k.1 t.5)) other)
+    (split-order s.0 s.1 s.2 t.0 t.1 t.2 (sym s.3 ∙ t.3))
 
 pub second-none : (ds : List Definition) → NoneSecond ds → second_in ds ≡ None
 second-none ds none = by (second_in ds) (found-in ds)

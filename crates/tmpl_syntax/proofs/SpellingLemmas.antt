@@ -4,16 +4,16 @@ use Rattle.std.proofs.lemmas.Bool.{false≢true, and_parts}
 use Rattle.tmpl_syntax.specs.Fault.{Reason}
 use Rattle.tmpl_syntax.specs.Fault as reason
 use Rattle.tmpl_syntax.specs.computed.Frames.{Frame}
-use Rattle.tmpl_syntax.specs.Tree.{NodeKind, text, action, control_node, break_node, continue_node, template_node, Nodes, none, then, Definition}
+use Rattle.tmpl_syntax.specs.Tree.{NodeKind, control_node, template_node, Nodes, none, then, Definition}
 use Rattle.tmpl_grammar.specs.Action.{pipeline_action, opening, plain_else, else_branch, end_action, break_action, continue_action}
 use Rattle.tmpl_grammar.specs.Action.{define_action, template_action, block_action}
-use Rattle.tmpl_syntax.specs.Item.{Item, item, text_item, unreadable_item, unread_item, deep_item, action_item}
+use Rattle.tmpl_syntax.specs.Item.{ItemKind, Item, item, text_item, unreadable_item, unread_item, deep_item, action_item}
 use Rattle.tmpl_syntax.specs.Place.Role.{Name, role_of, roles_of}
 use Rattle.tmpl_syntax.specs.Place.Open.{is_template}
 use Rattle.tmpl_syntax.specs.Place.Body.{Verdict, fine, refused, left_open}
 use Rattle.tmpl_syntax.specs.computed.Frames.{Known, none_known, top, takes_else, elsed, seen_at, fault_at, frames_past}
 use Rattle.tmpl_syntax.specs.computed.Frames.{unless_fault, verdict_from, verdict_of}
-use Rattle.tmpl_syntax.specs.Spelling.{Leads, nothing, a_text, an_action, a_break, a_continue, a_control, a_template, a_define, a_block}
+use Rattle.tmpl_syntax.specs.Spelling.{IsNode, a_text, an_action, a_break, a_continue, a_template, Leads, nothing, a_node, a_control, a_define, a_block}
 use Rattle.tmpl_syntax.specs.Spelling.{Closes, an_end, an_else, an_else_branch, Spells}
 use Rattle.tmpl_syntax.specs.computed.Build as build
 use Rattle.tmpl_syntax.specs.computed.Build.{no_parts, first_of, rest_of, with_node_before, parts_with, parts_before, nodes_from, definitions_from}
@@ -88,20 +88,19 @@ module _ (names : List Name) (xs : List Item) (p : build.Parts) where
   placed x t e = subst (TellsRole (role_of x) t names) e (tells (role_of x) t names)
 
   -- a plain action's node
-  at-node : (fs : List Frame) (y : Item) (line : ℕ) (n : NodeKind)
-      → ((ns : Nodes) (ys : List Item) (es : List Definition) → Leads xs p.definitions ns ys es → Leads (y ∷ xs) p.definitions (then line n ns) ys es)
-      → Rest fs xs p.definitions p.inner p.around → Rest fs (y ∷ xs) p.definitions (with_node_before line n p.inner) p.around
-  at-node fs y line n more r = rest-node fs _ xs p.definitions p.definitions line n p.inner p.around more r
+  at-node : {what : ItemKind} {n : NodeKind} (fs : List Frame) (line : ℕ) → IsNode what n → Rest fs xs p.definitions p.inner p.around
+      → Rest fs (item line what ∷ xs) p.definitions (with_node_before line n p.inner) p.around
+  at-node {n = n} fs line is r = rest-node fs _ xs p.definitions p.definitions line n p.inner p.around (λ ns ys es d. a_node is d) r
 
   step : (x : Item) (fs : List Frame) → fault_at (role_of x) (top fs) names ≡ None
       → Rest (frames_past (role_of x) fs (length names)) xs p.definitions p.inner p.around
       → Rest fs (x ∷ xs) (parts_with x p).definitions (parts_with x p).inner (parts_with x p).around
-  step (item line (text_item bytes)) fs e r = at-node fs _ line (text bytes) (λ ns ys es d. a_text d) r
+  step (item line (text_item bytes)) fs e r = at-node fs line a_text r
   step (item line unreadable_item) fs e r = let g : Some reason.unreadable ≡ None = e in cc
   step (item line unread_item) fs e r = let g : Some reason.not_an_action ≡ None = e in cc
   step (item line (deep_item branch)) fs e r =
       let g : true ≡ false = (placed (item line (deep_item branch)) (top fs) e).1 in cc
-  step (item line (action_item (pipeline_action h))) fs e r = at-node fs _ line (action h) (λ ns ys es d. an_action d) r
+  step (item line (action_item (pipeline_action h))) fs e r = at-node fs line an_action r
   step (item line (action_item (opening c h))) fs e r = rest-node fs _ r.3 p.definitions r.4 line (control_node c h p.inner.nodes p.inner.other)
       (first_of p.around) (rest_of p.around) (λ ns ys es d. a_control r.2 r.5 d) r.6
   step (item line (action_item plain_else)) [] e r = let g : false ≡ true = (placed (item line (action_item plain_else)) None e).0 in cc
@@ -132,9 +131,9 @@ module _ (names : List Name) (xs : List Item) (p : build.Parts) where
   step (item line (action_item end_action)) [] e r = let g : false ≡ true = (placed (item line (action_item end_action)) None e).0 in cc
   step (item line (action_item end_action)) (f ∷ fs) e r =
       (item line (action_item end_action) ∷ xs, p.definitions, nothing, xs, p.definitions, closing-end (ends_only f) line xs p.definitions, r)
-  step (item line (action_item break_action)) fs e r = at-node fs _ line break_node (λ ns ys es d. a_break d) r
-  step (item line (action_item continue_action)) fs e r = at-node fs _ line continue_node (λ ns ys es d. a_continue d) r
-  step (item line (action_item (template_action name given))) fs e r = at-node fs _ line (template_node name given) (λ ns ys es d. a_template d) r
+  step (item line (action_item break_action)) fs e r = at-node fs line a_break r
+  step (item line (action_item continue_action)) fs e r = at-node fs line a_continue r
+  step (item line (action_item (template_action name given))) fs e r = at-node fs line a_template r
   step (item line (action_item (define_action name))) fs e r =
       let body = template-body _ _ _ _ _ r.5 r.2 in
       rest-led fs _ r.3 _ r.4 (first_of p.around) (first_of p.around) (rest_of p.around) refl (λ ys es d. a_define {last = r.5.0} body d) r.6

@@ -2,7 +2,7 @@
 -- the file's base name as by Go's `ParseFiles`; the limit on its length, and the kinds and lines of refusals, are our
 -- own rules.
 use Rattle.std.specs.Prelude.{◌≡◌, ◌==◌, ◌+◌, ◌≤◌, ◌<◌, ℕ, false, List, [], ◌∷◌, ◌++◌, Option, Some, None}
-use Rattle.std.specs.Prelude.{Result, Ok, Err, length, map, slice_get}
+use Rattle.std.specs.Prelude.{Result, Ok, Err, length, map, slice_get, Contains}
 use Rattle.std.specs.List.{after_last}
 use Rattle.std.specs.Borrow.{Bor}
 use Rattle.tmpl_lex.specs.Text.{newlines}
@@ -37,14 +37,10 @@ abbrev pub template_in : List ℕ → Definition → Template
 template_in file d = (d.name, record { file = file; nodes = d.nodes })
 
 -- among these definitions is one of the same name as that one, and neither is blank
-pub record IsSecond (earlier : List Definition) (d : Definition) : Type 0 where
-  pub front : List Definition
-  pub first : Definition
-  pub rest : List Definition
-  pub are : earlier ≡ front ++ first ∷ rest
-  pub name : first.name ≡ d.name
-  pub first_some : is_blank first.nodes ≡ false
-  pub some : is_blank d.nodes ≡ false
+abbrev pub IsSecond : List Definition → Definition → Type 0
+IsSecond earlier d =
+    (first : Definition) × Contains earlier first × (first.name ≡ d.name) × (is_blank first.nodes ≡ false)
+    × (is_blank d.nodes ≡ false)
 
 abbrev pub NoneSecond : List Definition → Type 0
 NoneSecond ds =
@@ -52,14 +48,10 @@ NoneSecond ds =
     → IsSecond before d → ⊥
 
 -- the first one that has an earlier one of its name stands at this line
-pub record HasSecond (ds : List Definition) (line : ℕ) : Type 0 where
-  pub before : List Definition
-  pub second : Definition
-  pub behind : List Definition
-  pub are : ds ≡ before ++ second ∷ behind
-  pub is_second : IsSecond before second
-  pub is_first : NoneSecond before
-  pub at : line ≡ second.line
+abbrev pub HasSecond : List Definition → ℕ → Type 0
+HasSecond ds line =
+    (before : List Definition) × (d : Definition) × (behind : List Definition) × (ds ≡ before ++ d ∷ behind)
+    × NoneSecond before × IsSecond before d × (line ≡ d.line)
 
 -- a file is cut into pieces, and these are read as items by the grammar; it is accepted if no item of it is refused,
 -- nothing is open at its end, and none of the templates that the items spell is a second one, and these are then
@@ -77,11 +69,9 @@ pub record IsAccepted (branches : Branches) (old : List Template) (file bytes : 
   pub set : new ≡ defined_each old (map (template_in file) (all_defined file definitions own))
 
 -- the item at a place is the first that is refused, for this reason, and this is its line
-pub record IsRefusedAt (items : List Item) (line : ℕ) (reason : Reason) : Type 0 where
-  pub place : ℕ
-  pub first : Judged (roles_of items) (refused place reason)
-  pub what : ItemKind
-  pub at : slice_get items place ≡ Some (item line what)
+abbrev pub IsRefusedAt : List Item → ℕ → Reason → Type 0
+IsRefusedAt items line why =
+    (i : ℕ) × (what : ItemKind) × Judged (roles_of items) (refused i why) × (slice_get items i ≡ Some (item line what))
 
 -- a file of this path and these bytes is refused at this line, for this reason
 abbrev pub IsRefusedBy : Branches → List ℕ → List ℕ → ℕ → Reason → Type 0

@@ -8,37 +8,33 @@ use Rattle.tmpl_grammar.specs.Action.{pipeline_action, opening, plain_else, else
 use Rattle.tmpl_grammar.specs.Action.{continue_action, define_action, template_action, block_action, control_in}
 use Rattle.tmpl_grammar.specs.declared.tree.Control.{Control}
 use Rattle.tmpl_grammar.specs.declared.action.Branch.{Branch}
-use Rattle.tmpl_syntax.specs.Tree.{Nodes, none, then, text, action, control_node, break_node, continue_node}
+use Rattle.tmpl_syntax.specs.Tree.{NodeKind, Nodes, none, then, text, action, control_node, break_node, continue_node}
 use Rattle.tmpl_syntax.specs.Tree.{template_node, Definition}
-use Rattle.tmpl_syntax.specs.Item.{Item, item, text_item, action_item}
+use Rattle.tmpl_syntax.specs.Item.{ItemKind, Item, item, text_item, action_item}
 
 abbrev pub definition : ℕ → List ℕ → Nodes → Definition
 definition line name nodes = record { line = line; name = name; nodes = nodes }
+
+-- an item that is a node by itself
+pub data IsNode : ItemKind → NodeKind → Type 0 where
+  a_text : {bytes : List ℕ} → IsNode (text_item bytes) (text bytes)
+  an_action : {h : Header} → IsNode (action_item (pipeline_action h)) (action h)
+  a_break : IsNode (action_item break_action) break_node
+  a_continue : IsNode (action_item continue_action) continue_node
+  a_template : {name : List ℕ} {given : Option Pipeline}
+      → IsNode (action_item (template_action name given)) (template_node name given)
 
 mutual
   -- the first items spell these nodes, and those last are left; of the definitions from the first item on those last
   -- are left as well
   pub data Leads : List Item → List Definition → Nodes → List Item → List Definition → Type 0 where
     nothing : {xs : List Item} {ds : List Definition} → Leads xs ds none xs ds
-    a_text : {line : ℕ} {bytes : List ℕ} {xs ys : List Item} {ds es : List Definition} {ns : Nodes}
-        → Leads xs ds ns ys es → Leads (item line (text_item bytes) ∷ xs) ds (then line (text bytes) ns) ys es
-    an_action : {line : ℕ} {h : Header} {xs ys : List Item} {ds es : List Definition} {ns : Nodes}
-        → Leads xs ds ns ys es
-        → Leads (item line (action_item (pipeline_action h)) ∷ xs) ds (then line (action h) ns) ys es
-    a_break : {line : ℕ} {xs ys : List Item} {ds es : List Definition} {ns : Nodes}
-        → Leads xs ds ns ys es → Leads (item line (action_item break_action) ∷ xs) ds (then line break_node ns) ys es
-    a_continue : {line : ℕ} {xs ys : List Item} {ds es : List Definition} {ns : Nodes}
-        → Leads xs ds ns ys es
-        → Leads (item line (action_item continue_action) ∷ xs) ds (then line continue_node ns) ys es
+    a_node : {line : ℕ} {what : ItemKind} {n : NodeKind} {xs ys : List Item} {ds es : List Definition} {ns : Nodes}
+        → IsNode what n → Leads xs ds ns ys es → Leads (item line what ∷ xs) ds (then line n ns) ys es
     a_control : {line : ℕ} {c : Control} {h : Header} {xs ys zs ws : List Item} {ds es fs gs : List Definition}
         {body other ns : Nodes}
         → Leads xs ds body ys es → Closes ys es other zs fs → Leads zs fs ns ws gs
         → Leads (item line (action_item (opening c h)) ∷ xs) ds (then line (control_node c h body other) ns) ws gs
-    a_template : {line : ℕ} {name : List ℕ} {given : Option Pipeline} {xs ys : List Item} {ds es : List Definition}
-        {ns : Nodes}
-        → Leads xs ds ns ys es
-        → Leads (item line (action_item (template_action name given)) ∷ xs) ds (then line (template_node name given) ns)
-        ys es
     a_define : {line last : ℕ} {name : List ℕ} {xs ys zs : List Item} {ds es fs : List Definition} {body ns : Nodes}
         → Leads xs ds body (item last (action_item end_action) ∷ ys) es → Leads ys es ns zs fs
         → Leads (item line (action_item (define_action name)) ∷ xs) (definition line name body ∷ ds) ns zs fs

@@ -43,7 +43,7 @@ pub enum ParseKind {
 }
 
 /// Why an action of a file is refused, in the order in which that is asked.
-#[derive(Clone, Copy, Debug, PartialEq, Eq)]
+#[derive(Clone, Copy)]
 pub(crate) enum Fault {
     Unreadable,
     NotAnAction,
@@ -68,7 +68,7 @@ impl Fault {
 }
 
 /// Why a file was refused, and the line, but not which file it was.
-#[derive(Clone, Copy, Debug)]
+#[derive(Clone, Copy)]
 pub(crate) struct Refusal {
     pub(crate) line: u64,
     pub(crate) kind: ParseKind,

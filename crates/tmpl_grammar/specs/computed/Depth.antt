@@ -1,6 +1,6 @@
 -- What is read of an action within the limit of its parentheses, computed.
 use Rattle.std.specs.Prelude.{Bool, true, false, nat_le, Option, Some, None, option_map}
-use Rattle.tmpl_grammar.specs.Tree.{Pipeline, pipeline, no_command, Header}
+use Rattle.tmpl_grammar.specs.Tree.{Pipeline, no_command, Header}
 use Rattle.tmpl_grammar.specs.Action.{Action, pipeline_action, opening, else_branch, template_action, block_action}
 use Rattle.tmpl_grammar.specs.Action.{branch_in}
 use Rattle.tmpl_grammar.specs.Depth.{depth_of_pipeline, depth_of, most_deep}
@@ -25,7 +25,7 @@ reading_of (Some a) = reading_by (nat_le (depth_of a) most_deep) a
 
 abbrev pub limited_by : Bool → Pipeline → Pipeline
 limited_by true p = p
-limited_by false p = pipeline no_command
+limited_by false p = no_command
 
 abbrev pub limited_pipeline : Pipeline → Pipeline
 limited_pipeline p = limited_by (nat_le (depth_of_pipeline p) most_deep) p
@@ -42,7 +42,7 @@ limited_action (block_action name p) = block_action name (limited_pipeline p)
 limited_action a = a
 
 abbrev pub is_left_out : Pipeline → Bool
-is_left_out (pipeline no_command) = true
+is_left_out no_command = true
 is_left_out p = false
 
 abbrev pub lacks_pipeline : Action → Bool

@@ -4,9 +4,8 @@ use Rattle.std.specs.Prelude.{ℕ, zero, suc, ◌+◌, Bool, true, false, List, 
 use Rattle.std.specs.Prelude.{Some, None, option_map}
 use Rattle.tmpl_lex.specs.Piece.{Token}
 use Rattle.tmpl_grammar.specs.Tree as tree
-use Rattle.tmpl_grammar.specs.Tree.{Operand, Operands, Pipeline, pipeline, no_command}
+use Rattle.tmpl_grammar.specs.Tree.{Operand, Operands, Pipeline, no_command, commands_from}
 use Rattle.tmpl_grammar.specs.computed.Parser.{Parser, empty_partial, start, step}
-use Rattle.tmpl_grammar.specs.computed.Reading.{pipeline_from}
 use Rattle.tmpl_grammar.specs.Depth.{most_deep}
 
 pub record Limited : Type 0 where
@@ -63,6 +62,6 @@ limited_step t l = option_map (behind_step (restored l).beyond) (step t (restore
 
 -- what is read, where the parser ends with these commands
 abbrev pub pipeline_by : Option ℕ → Option (List Operands) → Option Pipeline
-pipeline_by None (Some cs) = Some (pipeline_from cs)
-pipeline_by (Some zero) (Some cs) = Some (pipeline no_command)
+pipeline_by None (Some cs) = Some (commands_from cs)
+pipeline_by (Some zero) (Some cs) = Some no_command
 pipeline_by b o = None

@@ -1,8 +1,8 @@
 -- What is left to be printed in the midst of commands or operands.
 use Rattle.std.specs.Prelude.{ℕ, Bool, true, false, List, []}
-use Rattle.tmpl_grammar.specs.Tree.{Operands, Commands}
+use Rattle.tmpl_grammar.specs.Tree.{Operands, Pipeline}
 use Rattle.tmpl_lex.specs.Piece.{Token}
-use Rattle.tmpl_grammar.specs.Print.{command_tokens, commands_tokens, later_tokens, more_tokens}
+use Rattle.tmpl_grammar.specs.Print.{command_tokens, pipeline_tokens, later_tokens, more_tokens}
 
 -- a separator, but none before the first
 abbrev pub unless : Bool → List ℕ → List ℕ
@@ -10,8 +10,8 @@ unless true separator = []
 unless false separator = separator
 
 -- the tokens of commands, the first ones or those behind others
-abbrev pub commands_by : Bool → Commands → List Token
-commands_by true cs = commands_tokens cs
+abbrev pub commands_by : Bool → Pipeline → List Token
+commands_by true cs = pipeline_tokens cs
 commands_by false cs = later_tokens cs
 
 -- the tokens of operands, the first ones or those behind others

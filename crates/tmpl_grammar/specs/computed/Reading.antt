@@ -9,7 +9,7 @@ use Rattle.tmpl_lex.specs.Piece.{Token}
 pub use Rattle.tmpl_grammar.specs.Token.{name_in, begins_name}
 pub use Rattle.tmpl_grammar.specs.computed.Token.{is_white, is_blank, without_front, next}
 use Rattle.tmpl_grammar.specs.computed.Parser.{start, commands_after}
-use Rattle.tmpl_grammar.specs.Tree.{Operand, Operands, Pipeline, pipeline, Binding, unbound}
+use Rattle.tmpl_grammar.specs.Tree.{Operand, Operands, Pipeline, Binding, unbound}
 use Rattle.tmpl_grammar.specs.Tree.{declare, assign, declare_pair, Header, commands_from}
 use Rattle.tmpl_grammar.specs.Header.{is_range, may_bind}
 use Rattle.tmpl_grammar.specs.computed.Depth.{Reading, reading_of}
@@ -27,12 +27,9 @@ use Rattle.tmpl_grammar.specs.declared.keyword.Keyword.TheVariants as word
 
 -- ---- pipelines
 
-abbrev pub pipeline_from : List Operands → Pipeline
-pipeline_from cs = pipeline (commands_from cs)
-
 -- the pipeline that the tokens spell, if they spell one
 unfoldable pub pipeline_in : List Token → Option Pipeline
-pipeline_in ts = option_map pipeline_from (commands_after start ts)
+pipeline_in ts = option_map commands_from (commands_after start ts)
 
 -- ---- headers
 

@@ -10,33 +10,6 @@ use Rattle.tmpl_lex.specs.declared.piece.TokenKind.{TokenKind}
 use Rattle.tmpl_lex.specs.declared.piece.TokenKind.TheVariants.{Space, Word, Number, Field, Dot, Variable, String}
 use Rattle.tmpl_lex.specs.declared.piece.TokenKind.TheVariants.{RawString, Character, Declare, Assign, Comma, Pipe}
 use Rattle.tmpl_lex.specs.declared.piece.TokenKind.TheVariants.{LeftParenthesis, RightParenthesis}
-use Rattle.tmpl_lex.specs.declared.token.Front.{Front}
-use Rattle.tmpl_lex.specs.declared.token.Front.TheVariants as front
-
--- what a token that begins with this byte is, apart from white space and names
-abbrev pub mark_of : ℕ → Front
-mark_of b =
-    if b == 43 || b == 45 then front.Sign
-    else if b == 46 then front.Period
-    else if b == 36 then front.Dollar
-    else if b == 34 then front.DoubleQuote
-    else if b == 96 then front.Backquote
-    else if b == 39 then front.SingleQuote
-    else if b == 58 then front.Colon
-    else if b == 61 then front.Equals
-    else if b == 44 then front.Comma
-    else if b == 124 then front.Bar
-    else if b == 40 then front.LeftParenthesis
-    else if b == 41 then front.RightParenthesis
-    else front.Other
-
--- what a token that begins with this byte is
-abbrev pub front_of : ℕ → Front
-front_of b =
-    if is_space b then front.White
-    else if is_ascii_digit b then front.Digit
-    else if is_name_byte b then front.Letter
-    else mark_of b
 
 -- a byte and the run behind it, where the byte is kept
 abbrev pub kept_while : Bool → ℕ → List ℕ → List ℕ
@@ -85,24 +58,30 @@ assigned (b ∷ bs) = declare (b == 61)
 abbrev pub of_kind : TokenKind → Option (List ℕ) → Option Begun
 of_kind kind o = option_map (λ bs. (kind, bs)) o
 
--- the token that begins so, behind whose first byte these bytes stand
-abbrev pub begun : Front → List ℕ → Option Begun
-begun front.White bs = Some (Space, space_run bs)
-begun front.Letter bs = Some (Word, name_run bs)
-begun front.Digit bs = Some (Number, take_while is_number_byte bs)
-begun front.Sign bs = signed bs
-begun front.Period bs = Some (dotted (name_run bs))
-begun front.Dollar bs = Some (Variable, name_run bs)
-begun front.DoubleQuote bs = of_kind String (quoted 34 false bs)
-begun front.Backquote bs = of_kind RawString (through 96 bs)
-begun front.SingleQuote bs = of_kind Character (quoted 39 false bs)
-begun front.Colon bs = assigned bs
-begun front.Equals bs = Some (Assign, [])
-begun front.Comma bs = Some (Comma, [])
-begun front.Bar bs = Some (Pipe, [])
-begun front.LeftParenthesis bs = Some (LeftParenthesis, [])
-begun front.RightParenthesis bs = Some (RightParenthesis, [])
-begun front.Other bs = None
+-- the token that begins with this byte, which is neither white space nor of a name, where these bytes stand behind it
+abbrev pub marked : ℕ → List ℕ → Option Begun
+marked b bs =
+    if b == 43 || b == 45 then signed bs
+    else if b == 46 then Some (dotted (name_run bs))
+    else if b == 36 then Some (Variable, name_run bs)
+    else if b == 34 then of_kind String (quoted 34 false bs)
+    else if b == 96 then of_kind RawString (through 96 bs)
+    else if b == 39 then of_kind Character (quoted 39 false bs)
+    else if b == 58 then assigned bs
+    else if b == 61 then Some (Assign, [])
+    else if b == 44 then Some (Comma, [])
+    else if b == 124 then Some (Pipe, [])
+    else if b == 40 then Some (LeftParenthesis, [])
+    else if b == 41 then Some (RightParenthesis, [])
+    else None
+
+-- the token that begins with this byte, where these bytes stand behind it
+abbrev pub begun : ℕ → List ℕ → Option Begun
+begun b bs =
+    if is_space b then Some (Space, space_run bs)
+    else if is_ascii_digit b then Some (Number, take_while is_number_byte bs)
+    else if is_name_byte b then Some (Word, name_run bs)
+    else marked b bs
 
 -- the token with this first byte, if one begins so
 abbrev pub token_from : ℕ → Option Begun → Option Token
@@ -112,4 +91,4 @@ token_from b (Some p) = Some (record { kind = p.0; bytes = b ∷ p.1 })
 -- the token at the front of the bytes, if one begins there
 abbrev pub front_token : List ℕ → Option Token
 front_token [] = None
-front_token (b ∷ bs) = token_from b (begun (front_of b) bs)
+front_token (b ∷ bs) = token_from b (begun b bs)

@@ -88,10 +88,8 @@ pub data IsTooDeep (xs : List Role) (i : ℕ) (a : Act) : Type 0 where
   in_parentheses : {b : Option Branch} → a ≡ nested b → IsTooDeep xs i a
 
 -- a name used or assigned that is not in scope
-pub record IsUndeclared (xs : List Role) (i : ℕ) (a : Act) : Type 0 where
-  pub name : Name
-  pub uses : Contains (names_in a).uses name
-  pub unknown : IsInScope xs i name → ⊥
+abbrev pub IsUndeclared : List Role → ℕ → Act → Type 0
+IsUndeclared xs i a = (name : Name) × Contains (names_in a).uses name × (IsInScope xs i name → ⊥)
 
 -- the reason applies to the item at i
 pub data Applies (xs : List Role) (i : ℕ) : Reason → Type 0 where

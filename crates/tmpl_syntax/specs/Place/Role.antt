@@ -2,8 +2,8 @@
 -- are without their `$`.
 use Rattle.std.specs.Prelude.{ℕ, List, [], ◌∷◌, ◌++◌, map, Option, Some, None}
 use Rattle.tmpl_grammar.specs.Tree.{Operand, variable}
-use Rattle.tmpl_grammar.specs.Tree.{group, Operands, no_operand, operand, Commands, no_command, command}
-use Rattle.tmpl_grammar.specs.Tree.{Pipeline, pipeline, Binding, declare, assign, declare_pair, Header}
+use Rattle.tmpl_grammar.specs.Tree.{group, Operands, no_operand, operand, Pipeline, no_command, command}
+use Rattle.tmpl_grammar.specs.Tree.{Binding, declare, assign, declare_pair, Header}
 use Rattle.tmpl_grammar.specs.Action as action
 use Rattle.tmpl_grammar.specs.Action.{Action, pipeline_action, plain_else}
 use Rattle.tmpl_grammar.specs.Action.{else_branch, end_action, break_action, continue_action, define_action}
@@ -47,19 +47,16 @@ named (b ∷ bs) = (b ∷ bs) ∷ []
 abbrev mutual
   pub used_by_operand : Operand → List Name
   used_by_operand (variable name names) = named name
-  used_by_operand (group commands names) = used_by_commands commands
+  used_by_operand (group commands names) = used_by commands
   used_by_operand o = []
 
   pub used_by_operands : Operands → List Name
   used_by_operands no_operand = []
   used_by_operands (operand o os) = used_by_operand o ++ used_by_operands os
 
-  pub used_by_commands : Commands → List Name
-  used_by_commands no_command = []
-  used_by_commands (command os cs) = used_by_operands os ++ used_by_commands cs
-
-abbrev pub used_by : Pipeline → List Name
-used_by (pipeline commands) = used_by_commands commands
+  pub used_by : Pipeline → List Name
+  used_by no_command = []
+  used_by (command os cs) = used_by_operands os ++ used_by cs
 
 abbrev pub assigned_by : Binding → List Name
 assigned_by (assign name) = named name

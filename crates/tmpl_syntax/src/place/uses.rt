@@ -52,7 +52,7 @@ fn knows_pipeline(names: &KnownNames<'_>, pipeline: &Pipeline) -> bool
 /// Whether each name that commands use is known.
 #[cycle(knows)]
 fn knows_commands(names: &KnownNames<'_>, commands: &[Command]) -> bool
-    ensures { result ≡ knows (known_names names.now) (role.used_by_commands (commands_in commands.now)) }
+    ensures { result ≡ knows (known_names names.now) (role.used_by (commands_in commands.now)) }
 {
     for command in commands {
         if !knows_operands(names, command.operands.as_slice()) {
