@@ -91,12 +91,13 @@ fn data_of(alloc: Global, value: Value) -> Result<Data, DataFault>
     }
 }
 
-/// The list of the items of an array.
+/// The list of the items of an array. It takes as much room as the array had: so the allocator hands out the block that
+/// the array before gave back, where one of another size is cut from a larger block.
 #[cycle(data)]
 fn row_of(alloc: Global, items: Vec<Value>) -> Result<Row, DataFault>
     ensures { IsConverted (λ row. row) result (if_whole (tree_items (items_view items.items))) }
 {
-    let mut converted = Vec::with_capacity(alloc, items.len())?;
+    let mut converted = Vec::with_capacity(alloc, items.capacity())?;
     for item in items {
         converted.push(data_of(alloc, item)?)?;
     }
