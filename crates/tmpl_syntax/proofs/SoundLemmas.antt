@@ -31,7 +31,7 @@ sound-start xs = record {
       template = None;
       is_template_here = λ j b. let lt = b.is_open.before in omega arith;
       levels_are = none;
-      looped = (λ e. let g : false ≡ true = e in cc, λ l. let lt = l.1.is_open.before in absurd (omega arith));
+      looped = (λ e. let g : false ≡ true = e in cc, λ l. let lt = l.1.0.before in absurd (omega arith));
       to = λ n c. in-nothing n c;
       back = λ n b. let lt = b.before in absurd (omega arith);
     },
@@ -92,14 +92,14 @@ module _ (xs : List Role) (i : ℕ) (known : Known) (fs : List Frame) (s : Sound
 
     refused-action : (fault : Reason) → Tells a (top fs) (names_at a (top fs) known.inner) (Some fault) → IsRefused xs i fault
     refused-action reason.out_of_place e =
-        record { applies = misplaced at (unplaced xs i known fs a s.stands e); first_reason = first; first_item = s.none_refused }
+        (misplaced at (unplaced xs i known fs a s.stands e), first, s.none_refused)
       where
         first : (f : Reason) → rank f < rank reason.out_of_place → Applies xs i f → ⊥
         first _ lt (unreadable h) = no-unreadable xs i (act_role a) at (λ g. cc) (unreadable h)
         first _ lt (unread h) = no-unread xs i (act_role a) at (λ g. cc) (unread h)
         first _ lt _ = absurd (omega arith)
     refused-action reason.nested_too_deeply e =
-        record { applies = too_deep at (deep xs i a (top fs) known.inner h e.1); first_reason = first; first_item = s.none_refused }
+        (too_deep at (deep xs i a (top fs) known.inner h e.1), first, s.none_refused)
       where
         first : (f : Reason) → rank f < rank reason.nested_too_deeply → Applies xs i f → ⊥
         first _ lt (unreadable h) = no-unreadable xs i (act_role a) at (λ g. cc) (unreadable h)
@@ -107,7 +107,7 @@ module _ (xs : List Role) (i : ℕ) (known : Known) (fs : List Frame) (s : Sound
         first _ lt (misplaced h m) = not-misplaced e.0 (misplaced h m)
         first _ lt _ = absurd (omega arith)
     refused-action reason.undeclared_variable e =
-        record { applies = undeclared at (unknown xs i known fs s.stands a at e.0 e.2); first_reason = first; first_item = s.none_refused }
+        (undeclared at (unknown xs i known fs s.stands a at e.0 e.2), first, s.none_refused)
       where
         first : (f : Reason) → rank f < rank reason.undeclared_variable → Applies xs i f → ⊥
         first _ lt (unreadable h) = no-unreadable xs i (act_role a) at (λ g. cc) (unreadable h)
@@ -126,9 +126,9 @@ module _ (xs : List Role) (i : ℕ) (known : Known) (fs : List Frame) (s : Sound
   refused-here text_role fault at e = let g : Some fault ≡ None = e in cc
   refused-here (act_role a) fault at e = refused-action a at fault e
   refused-here unreadable_role fault at e = let g : fault ≡ reason.unreadable = cc in
-      subst (IsRefused xs i) (sym g) (record { applies = unreadable at; first_reason = none-before; first_item = s.none_refused })
+      subst (IsRefused xs i) (sym g) (unreadable at, none-before, s.none_refused)
   refused-here unread_role fault at e = let g : fault ≡ reason.not_an_action = cc in
-      subst (IsRefused xs i) (sym g) (record { applies = unread at; first_reason = first; first_item = s.none_refused })
+      subst (IsRefused xs i) (sym g) (unread at, first, s.none_refused)
     where
       first : (f : Reason) → rank f < rank reason.not_an_action → Applies xs i f → ⊥
       first _ lt (unreadable h) = no-unreadable xs i unread_role at (λ g. cc) (unreadable h)

@@ -28,8 +28,5 @@ pub data Declares (xs : List Role) (k i : ℕ) (name : Name) : Type 0 where
       → Contains p.declares name → IsLast xs j k → IsOpen xs j i → Declares xs k i name
 
 -- some earlier action of the same template brings the name into scope at i
-pub record IsInScope (xs : List Role) (i : ℕ) (name : Name) : Type 0 where
-  pub by : ℕ
-  pub before : by < i
-  pub template : OfOneTemplate xs by i
-  pub declares : Declares xs by i name
+abbrev pub IsInScope : List Role → ℕ → Name → Type 0
+IsInScope xs i name = (k : ℕ) × (k < i) × OfOneTemplate xs k i × Declares xs k i name
