@@ -115,8 +115,8 @@ all-within file n (d ∷ ds) own w le = let here = w.0 in (omega (arith, here), 
 pub need-within : NeedsAtMostBytes
 need-within branches file bytes items ds own has spells =
     let nodes = leads-within spells in
-    let read = items-within has.read in
-    let cut = weight-within has.cut in
+    let read = items-within has.2 in
+    let cut = weight-within has.1 in
     all-within file (length bytes) ds own (leads-defined spells (length bytes) (omega (arith, read, cut)) tt) (omega (arith, nodes, read, cut))
 
 need-less : (n m : ℕ) (ts : List Template) → n ≤ m → NeedAtMost n ts → NeedAtMost m ts

@@ -108,5 +108,5 @@ mutual
 
 pub keeps-printable : KeepsPrintable
 keeps-printable branches bytes items ds own h has spells =
-    let k = leads-of spells (of-items has.read (cuts-of has.cut h)) in
+    let k = leads-of spells (of-items has.2 (cuts-of has.1 h)) in
     (λ path. k.definitions path tt, k.nodes)

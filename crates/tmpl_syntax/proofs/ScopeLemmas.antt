@@ -34,7 +34,7 @@ to-scope xs i n s = (s.by, s.before, s.template, go s.reaches)
   where
     go : Reaches xs s.by i (i + 1) n → Declares xs s.by i n
     go (from_top at h o) = at_the_top at h o
-    go (from_inside at h l o e t) = inside at h l o (record { no_else = λ m from to. e m from (omega arith); no_branch = λ m from to. t m from (omega arith) })
+    go (from_inside at h l o e t) = inside at h l o (λ m from to. (e m from (omega arith), t m from (omega arith)))
     go (from_header at h o r) = in_header at h o r
     go (from_else_branch at h l o) = in_else_branch at h l o
 
@@ -43,7 +43,7 @@ from-scope xs i n s = record { by = s.0; before = s.1; template = s.2; reaches =
   where
     go : Declares xs s.0 i n → Reaches xs s.0 i (i + 1) n
     go (at_the_top at h o) = from_top at h o
-    go (inside at h l o p) = from_inside at h l o (λ m from to. p.no_else m from (omega arith)) (λ m from to. p.no_branch m from (omega arith))
+    go (inside at h l o p) = from_inside at h l o (λ m from to. (p m from (omega arith)).0) (λ m from to. (p m from (omega arith)).1)
     go (in_header at h o r) = from_header at h o r
     go (in_else_branch at h l o) = from_else_branch at h l o
 
