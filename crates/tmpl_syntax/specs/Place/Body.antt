@@ -98,13 +98,8 @@ pub data Applies (xs : List Role) (i : ℕ) : Reason → Type 0 where
 abbrev pub NoneRefused : List Role → ℕ → Type 0
 NoneRefused xs i = (k : ℕ) (r : Reason) → k < i → Applies xs k r → ⊥
 
--- the first item to which a reason applies, and the first reason that does
-abbrev pub IsRefused : List Role → ℕ → Reason → Type 0
-IsRefused xs i why =
-    Applies xs i why × ((r : Reason) → rank r < rank why → Applies xs i r → ⊥) × NoneRefused xs i
-
--- no item is refused and nothing is open at the end, or the item at a place is the first that is refused, or none is
--- but something is open at the end
+-- no item is refused and nothing is open at the end; or the item at a place is the first to which a reason applies, and
+-- this is the first reason that does; or none is refused, but something is open at the end
 pub data Verdict : Type 0 where
   fine : Verdict
   refused : ℕ → Reason → Verdict
@@ -112,5 +107,6 @@ pub data Verdict : Type 0 where
 
 abbrev pub Judged : List Role → Verdict → Type 0
 Judged xs fine = NoneRefused xs (length xs) × NothingOpen xs (length xs)
-Judged xs (refused i why) = IsRefused xs i why
+Judged xs (refused i why) =
+    Applies xs i why × ((r : Reason) → rank r < rank why → Applies xs i r → ⊥) × NoneRefused xs i
 Judged xs left_open = NoneRefused xs (length xs) × (j : ℕ) × IsOpen xs j (length xs)
