@@ -28,11 +28,8 @@ cells [] = 0
 cells (x ∷ xs) = cells_at x + cells xs
 
 item-within : {branches : Branches} {p : Piece} {x : Item} → IsItem branches p x → cells_at x ≤ weight_of p
-item-within text_read = omega arith
-item-within an_unreadable = omega arith
-item-within (unread n) = omega arith
-item-within (too_deep a s has lt) = omega arith
 item-within (read {ts = ts} {a = a} s has le) = action-within a ts s
+item-within _ = omega arith
 
 items-within : {branches : Branches} {ps : List Piece} {xs : List Item} → AreItems branches ps xs → cells xs ≤ weight ps
 items-within no_item = omega arith
