@@ -26,7 +26,7 @@ MOST = {
     "tmpl_funcs": 380,
     "tmpl_lex": 111,
     "tmpl_grammar": 320,
-    "tmpl_syntax": 449,
+    "tmpl_syntax": 435,
     "tmpl_meaning": 311,
     "tmpl_tool": 292,
     "tmpl_c": 77,

@@ -169,20 +169,17 @@ none-allowed false o = refl
 spaced-begun : (cs : List Operands) (os : List Operand) → spaced (begun cs os) ≡ begun cs os
 spaced-begun [] [] = refl
 spaced-begun (c ∷ cs) [] = refl
-spaced-begun [] (o ∷ os) = refl
-spaced-begun (c ∷ cs) (o ∷ os) = refl
+spaced-begun _ (o ∷ os) = refl
 
 may-open-begun : (cs : List Operands) (os : List Operand) → may_open (begun cs os) ≡ true
 may-open-begun [] [] = refl
 may-open-begun (c ∷ cs) [] = refl
-may-open-begun [] (o ∷ os) = refl
-may-open-begun (c ∷ cs) (o ∷ os) = refl
+may-open-begun _ (o ∷ os) = refl
 
 begun-more : (cs : List Operands) (os : List Operand) (o : Operand) → begun cs (os ++ o ∷ []) ≡ Apart
 begun-more [] [] o = refl
 begun-more (c ∷ cs) [] o = refl
-begun-more [] (p ∷ os) o = refl
-begun-more (c ∷ cs) (p ∷ os) o = refl
+begun-more _ (p ∷ os) o = refl
 
 begun-later : (cs : List Operands) (c : Operands) → begun (cs ++ c ∷ []) [] ≡ Later
 begun-later [] c = refl
@@ -309,8 +306,7 @@ module _ (n : ℕ) (ls : List Partial) (cs : List Operands) (os : List Operand) 
       → fielded (begun cs os) t (place_of n (parser_at ls cs os None)) ≡ placed (operand_at t) (place_of n (parser_at ls cs os None))
   plain-field [] [] t = refl
   plain-field (c ∷ cs) [] t = refl
-  plain-field [] (o ∷ os) t = refl
-  plain-field (c ∷ cs) (o ∷ os) t = refl
+  plain-field _ (o ∷ os) t = refl
 
   fielded-place : (last : Option Operand) (t : Token) → option_map (place_of n) (parser.fielded last t (parser_at ls cs os last))
       ≡ fielded (position_in last (record { commands = cs; operands = os })) t (place_of n (parser_at ls cs os last))

@@ -14,8 +14,8 @@ use Rattle.tmpl_syntax.specs.Place.Opening.{Opening}
 use Rattle.tmpl_syntax.specs.Place.Opening as opened
 use Rattle.tmpl_grammar.specs.Tree.{Header}
 use Rattle.tmpl_syntax.specs.Tree.{NodeKind, control_node, Nodes, none, then, Definition}
-use Rattle.tmpl_grammar.specs.Action.{pipeline_action, opening, plain_else, else_branch, end_action, break_action, continue_action}
-use Rattle.tmpl_grammar.specs.Action.{define_action, template_action, block_action, control_in}
+use Rattle.tmpl_grammar.specs.Action.{else_branch, end_action}
+use Rattle.tmpl_grammar.specs.Action.{define_action, block_action, control_in}
 use Rattle.tmpl_syntax.specs.Item.{Item, item, action_item}
 use Rattle.tmpl_syntax.specs.Place.Role.{Name, no_names, names_of, names_given, roles_of}
 use Rattle.tmpl_syntax.specs.Place.Open.{is_template}
@@ -289,14 +289,10 @@ Plain (said a ∷ ss) = Plain ss
 plain-append : (ss ts : List Said) → Plain ss → Plain ts → Plain (ss ++ ts)
 plain-append [] ts h k = k
 plain-append (said_text t ∷ ss) ts h k = plain-append ss ts h k
-plain-append (said (pipeline_action r) ∷ ss) ts h k = plain-append ss ts h k
-plain-append (said (opening c r) ∷ ss) ts h k = plain-append ss ts h k
-plain-append (said plain_else ∷ ss) ts h k = plain-append ss ts h k
-plain-append (said end_action ∷ ss) ts h k = plain-append ss ts h k
-plain-append (said break_action ∷ ss) ts h k = plain-append ss ts h k
-plain-append (said continue_action ∷ ss) ts h k = plain-append ss ts h k
-plain-append (said (template_action name given) ∷ ss) ts h k = plain-append ss ts h k
-plain-append _ ts h k = absurd h
+plain-append (said (else_branch br r) ∷ ss) ts h k = absurd h
+plain-append (said (define_action name) ∷ ss) ts h k = absurd h
+plain-append (said (block_action name p) ∷ ss) ts h k = absurd h
+plain-append (said _ ∷ ss) ts h k = plain-append ss ts h k
 
 control-plain : (c : Control) (h : Header) (body : List Said) (other : Nodes) → Plain body → Plain (nodes_said other)
     → Plain (control_said c h body (else_said other (nodes_said other)))
@@ -316,14 +312,10 @@ mutual
 no_branch : {ss : List Said} {xs : List Item} → Says ss xs → Plain ss → NoBranch xs
 no_branch says_nothing h = tt
 no_branch (says_text s) h = no_branch s h
-no_branch (says {a = pipeline_action r} s) h = no_branch s h
-no_branch (says {a = opening c r} s) h = no_branch s h
-no_branch (says {a = plain_else} s) h = no_branch s h
-no_branch (says {a = end_action} s) h = no_branch s h
-no_branch (says {a = break_action} s) h = no_branch s h
-no_branch (says {a = continue_action} s) h = no_branch s h
-no_branch (says {a = template_action name given} s) h = no_branch s h
-no_branch _ h = absurd h
+no_branch (says {a = else_branch br r} s) h = absurd h
+no_branch (says {a = define_action name} s) h = absurd h
+no_branch (says {a = block_action name p} s) h = absurd h
+no_branch (says s) h = no_branch s h
 
 -- ---- the law
 

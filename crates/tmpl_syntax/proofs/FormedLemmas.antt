@@ -81,13 +81,11 @@ all-behind _ names scope more = more
 
 looped : (c : Control) (loop : Bool) → loops_in c false loop ≡ is_looped c loop
 looped If loop = refl
-looped With loop = refl
-looped Range loop = refl
+looped _ loop = refl
 
 unlooped : (c : Control) (loop : Bool) → loops_in c true loop ≡ loop
 unlooped If loop = refl
-unlooped With loop = refl
-unlooped Range loop = refl
+unlooped _ loop = refl
 
 within : (n : ℕ) → room n ≡ true → nat_lt n most_levels ≡ true
 within n e = let lt = leb-false most_levels n (not-true (leb most_levels n) e) in lt-ltb n most_levels (omega (arith, lt))

@@ -116,10 +116,10 @@ module _ (branches : Branches) where
   only-items (an_item {p = p} {x = x} {ps = ps} {xs = xs} i is) = ap (λ y. y ∷ xs) (only-item i) ∙ ap (λ ys. item_for branches p ∷ ys) (only-items is)
 
   has-those : (bytes : List ℕ) → HasItems branches bytes (map (item_for branches) (cut_of bytes))
-  has-those bytes = record { pieces = cut_of bytes; cut = cut_of-Cuts bytes; read = are-items (cut_of bytes) }
+  has-those bytes = (cut_of bytes, cut_of-Cuts bytes, are-items (cut_of bytes))
 
   only-those : (bytes : List ℕ) (items : List Item) → HasItems branches bytes items → items ≡ map (item_for branches) (cut_of bytes)
-  only-those bytes items h = only-items h.read ∙ ap (map (item_for branches)) (Cuts-cut_of bytes h.pieces h.cut)
+  only-those bytes items h = only-items h.2 ∙ ap (map (item_for branches)) (Cuts-cut_of bytes h.0 h.1)
 
 pub has-some : HasSomeItems
 has-some branches bytes = (map (item_for branches) (cut_of bytes), has-those branches bytes)

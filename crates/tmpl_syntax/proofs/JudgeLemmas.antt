@@ -35,28 +35,28 @@ top-opening xs i known f fs s k m =
     same-opening xs k m.is_open.opened f.opening m.is_open.at (subst (λ z. IsOpening (slice_get xs z) f.opening) (sym q) s.2.opened)
 
 no-part : (xs : List Role) (i : ℕ) (known : Known) (fs : List Frame) → Stands xs i known fs → takes_else (top fs) ≡ false → TakesElse xs i → ⊥
-no-part xs i known [] s e t = s.0 t.opened t.last.is_open
+no-part xs i known [] s e t = s.0 t.0 t.1.is_open
 no-part xs i known (f ∷ fs) s e t =
-    let q : t.opened ≡ s.1 = one-last xs t.opened s.1 i t.last s.2.last in
-    let own : is_template f.opening ≡ false = ap is_template (sym (top-opening xs i known f fs s t.opened t.last)) ∙ t.own in
+    let q : t.0 ≡ s.1 = one-last xs t.0 s.1 i t.1 s.2.last in
+    let own : is_template f.opening ≡ false = ap is_template (sym (top-opening xs i known f fs s t.0 t.1)) ∙ t.2 in
     ⊎_elim (λ no. both_ways (is_template f.opening) own (not-false (is_template f.opening) no))
-    (λ no. t.bare (subst (λ z. HasElse xs z i) (sym q) (s.2.has.0 (not-false f.has_else no))))
+    (λ no. t.3 (subst (λ z. HasElse xs z i) (sym q) (s.2.has.0 (not-false f.has_else no))))
     (and_cases (not (is_template f.opening)) (not f.has_else) e)
 
 abbrev some-part : (xs : List Role) (i : ℕ) (known : Known) (fs : List Frame) → Stands xs i known fs → takes_else (top fs) ≡ true → TakesElse xs i
 some-part xs i known [] s e = absurd (false≢true e)
-some-part xs i known (f ∷ fs) s e = record {
-  opened = s.1;
-  last = s.2.last;
-  own = ap is_template (top-opening xs i known f fs s s.1 s.2.last) ∙ (else-parts f e).0;
-  bare = λ h. both_ways f.has_else (else-parts f e).1 (s.2.has.1 h);
-}
+some-part xs i known (f ∷ fs) s e = (
+  s.1,
+  s.2.last,
+  ap is_template (top-opening xs i known f fs s s.1 s.2.last) ∙ (else-parts f e).0,
+  λ h. both_ways f.has_else (else-parts f e).1 (s.2.has.1 h),
+)
 
 no-branch : (xs : List Role) (i : ℕ) (known : Known) (b : Branch) (fs : List Frame) → Stands xs i known fs
     → (takes_else (top fs) && takes_branch b (top fs)) ≡ false → TakesBranch xs b i → ⊥
-no-branch xs i known b [] s e (t, joining) = s.0 t.opened t.last.is_open
+no-branch xs i known b [] s e (t, joining) = s.0 t.0 t.1.is_open
 no-branch xs i known b (f ∷ fs) s e (t, joining) = ⊎_elim (λ no. no-part xs i known (f ∷ fs) s no t)
-    (λ no. both_ways (joins b f.opening) no (ap (joins b) (sym (top-opening xs i known f fs s t.opened t.last)) ∙ joining))
+    (λ no. both_ways (joins b f.opening) no (ap (joins b) (sym (top-opening xs i known f fs s t.0 t.1)) ∙ joining))
     (and_cases (takes_else (Some f)) (joins b f.opening) e)
 
 some-branch : (xs : List Role) (i : ℕ) (known : Known) (b : Branch) (fs : List Frame) → Stands xs i known fs

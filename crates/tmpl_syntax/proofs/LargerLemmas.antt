@@ -43,7 +43,7 @@ pub accepts-in-larger : AcceptsInLarger
 accepts-in-larger large small more old file bytes new h = record {
   short = h.short;
   items = h.items;
-  has = record { pieces = h.has.pieces; cut = h.has.cut; read = same-items large small more h.has.read (all-read (roles_of h.items) h.judged.0) };
+  has = (h.has.0, h.has.1, same-items large small more h.has.2 (all-read (roles_of h.items) h.judged.0));
   judged = h.judged;
   definitions = h.definitions;
   own = h.own;

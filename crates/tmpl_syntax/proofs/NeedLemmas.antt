@@ -28,11 +28,8 @@ cells [] = 0
 cells (x ∷ xs) = cells_at x + cells xs
 
 item-within : {branches : Branches} {p : Piece} {x : Item} → IsItem branches p x → cells_at x ≤ weight_of p
-item-within text_read = omega arith
-item-within an_unreadable = omega arith
-item-within (unread n) = omega arith
-item-within (too_deep a s has lt) = omega arith
 item-within (read {ts = ts} {a = a} s has le) = action-within a ts s
+item-within _ = omega arith
 
 items-within : {branches : Branches} {ps : List Piece} {xs : List Item} → AreItems branches ps xs → cells xs ≤ weight ps
 items-within no_item = omega arith
@@ -115,8 +112,8 @@ all-within file n (d ∷ ds) own w le = let here = w.0 in (omega (arith, here), 
 pub need-within : NeedsAtMostBytes
 need-within branches file bytes items ds own has spells =
     let nodes = leads-within spells in
-    let read = items-within has.read in
-    let cut = weight-within has.cut in
+    let read = items-within has.2 in
+    let cut = weight-within has.1 in
     all-within file (length bytes) ds own (leads-defined spells (length bytes) (omega (arith, read, cut)) tt) (omega (arith, nodes, read, cut))
 
 need-less : (n m : ℕ) (ts : List Template) → n ≤ m → NeedAtMost n ts → NeedAtMost m ts

@@ -3,7 +3,7 @@ use Rattle.std.proofs.Common.{arith, ◌≡◌, ℕ, ◌<◌, List, length, refl
 use Rattle.std.proofs.lemmas.Bool.{cases_order}
 use Rattle.std.proofs.lemmas.Option.{slice_get_within}
 use Rattle.tmpl_syntax.specs.Fault.{Reason, rank}
-use Rattle.tmpl_syntax.specs.Place.Body.{Applies, unreadable, unread, misplaced, too_deep, undeclared, IsRefused, Verdict, fine, refused, left_open, Judged}
+use Rattle.tmpl_syntax.specs.Place.Body.{Applies, unreadable, unread, misplaced, too_deep, undeclared, Verdict, fine, refused, left_open, Judged}
 use Rattle.tmpl_syntax.specs.Place.Role.{Role, unreadable_role, unread_role, act_role}
 
 pub within : (xs : List Role) (i : ℕ) (f : Reason) → Applies xs i f → i < length xs
@@ -21,14 +21,14 @@ same-rank xs i _ _ (too_deep a m) (too_deep b n) e = refl
 same-rank xs i _ _ (undeclared a m) (undeclared b n) e = refl
 same-rank xs i _ _ _ _ e = absurd (omega arith)
 
-same-fault : (xs : List Role) (i : ℕ) (f g : Reason) → IsRefused xs i f → IsRefused xs i g → f ≡ g
-same-fault xs i f g a b = ⊎_elim (λ e. same-rank xs i f g a.applies b.applies e) (λ o. ⊎_elim (λ lt. absurd (b.first_reason f lt a.applies))
-    (λ gt. absurd (a.first_reason g gt b.applies)) o) (cases_order (rank f) (rank g))
+same-fault : (xs : List Role) (i : ℕ) (f g : Reason) → Judged xs (refused i f) → Judged xs (refused i g) → f ≡ g
+same-fault xs i f g a b = ⊎_elim (λ e. same-rank xs i f g a.0 b.0 e) (λ o. ⊎_elim (λ lt. absurd (b.1 f lt a.0))
+    (λ gt. absurd (a.1 g gt b.0)) o) (cases_order (rank f) (rank g))
 
-same-refused : (xs : List Role) (i j : ℕ) (f g : Reason) → IsRefused xs i f → IsRefused xs j g → refused i f ≡ refused j g
+same-refused : (xs : List Role) (i j : ℕ) (f g : Reason) → Judged xs (refused i f) → Judged xs (refused j g) → refused i f ≡ refused j g
 same-refused xs i j f g a b = ⊎_elim
-    (λ e. let s = same-fault xs j f g (subst (λ k. IsRefused xs k f) e a) b in cc)
-    (λ o. ⊎_elim (λ lt. absurd (b.first_item i f lt a.applies)) (λ gt. absurd (a.first_item j g gt b.applies)) o)
+    (λ e. let s = same-fault xs j f g (subst (λ k. Judged xs (refused k f)) e a) b in cc)
+    (λ o. ⊎_elim (λ lt. absurd (b.2 i f lt a.0)) (λ gt. absurd (a.2 j g gt b.0)) o)
     (cases_order i j)
 
 pub one-verdict : (xs : List Role) (v w : Verdict) → Judged xs v → Judged xs w → v ≡ w
@@ -37,5 +37,5 @@ one-verdict xs left_open left_open a b = refl
 one-verdict xs (refused i f) (refused j g) a b = same-refused xs i j f g a b
 one-verdict xs fine left_open a b = absurd (a.1 b.1 b.2)
 one-verdict xs left_open fine a b = absurd (b.1 a.1 a.2)
-one-verdict xs _ (refused i f) a b = absurd (a.0 i f (within xs i f b.applies) b.applies)
-one-verdict xs (refused i f) _ a b = absurd (b.0 i f (within xs i f a.applies) a.applies)
+one-verdict xs _ (refused i f) a b = absurd (a.0 i f (within xs i f b.0) b.0)
+one-verdict xs (refused i f) _ a b = absurd (b.0 i f (within xs i f a.0) a.0)

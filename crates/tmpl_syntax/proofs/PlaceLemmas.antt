@@ -166,12 +166,7 @@ abbrev pub InLoop : List Role → ℕ → Type 0
 InLoop xs i = (j : ℕ) × IsLoop xs j i
 
 pub loop-moves : (xs : List Role) (q a b : ℕ) → Alike xs a b → IsOpen xs q b → (HasElse xs q b → HasElse xs q a) → IsLoop xs q a → IsLoop xs q b
-loop-moves xs q a b e o h l = record {
-  is_open = o;
-  range = same-opening xs q o.opened l.is_open.opened o.at l.is_open.at ∙ l.range;
-  template = one-moves xs q a b e l.template;
-  bare = λ g. l.bare (h g);
-}
+loop-moves xs q a b e o h l = (o, same-opening xs q o.opened l.0.opened o.at l.0.at ∙ l.1, one-moves xs q a b e l.2, λ g. l.3 (h g))
 
 pub else_before : (xs : List Role) (q a b : ℕ) → a ≤ b → HasElse xs q a → HasElse xs q b
 else_before xs q a b le h = (h.0, let lt = h.1 in omega arith, h.2)
@@ -180,8 +175,8 @@ pub else-same : (xs : List Role) (q j m : ℕ) → Same xs j m → IsOpen xs q j
 else-same xs q j m s o h = ⊎_elim (λ lt. (h.0, lt, h.2)) (λ ge. absurd (s.no_else q h.0 ge h.1 o h.2)) (cases_lt h.0 j)
 
 pub loop-same : (xs : List Role) (j m : ℕ) → Same xs j m → InLoop xs j → InLoop xs m
-loop-same xs j m s l = (l.0, loop-moves xs l.0 j m (alike-even xs j m s.even) (s.even.keeps l.0 l.1.is_open) (else-same xs l.0 j m s l.1.is_open) l.1)
+loop-same xs j m s l = (l.0, loop-moves xs l.0 j m (alike-even xs j m s.even) (s.even.keeps l.0 l.1.0) (else-same xs l.0 j m s l.1.0) l.1)
 
 pub loop-same-back : (xs : List Role) (j m : ℕ) → Same xs j m → InLoop xs m → InLoop xs j
 loop-same-back xs j m s l =
-    (l.0, loop-moves xs l.0 m j (alike-back xs j m (alike-even xs j m s.even)) (s.even.only l.0 l.1.is_open) (else_before xs l.0 j m s.even.le) l.1)
+    (l.0, loop-moves xs l.0 m j (alike-back xs j m (alike-even xs j m s.even)) (s.even.only l.0 l.1.0) (else_before xs l.0 j m s.even.le) l.1)

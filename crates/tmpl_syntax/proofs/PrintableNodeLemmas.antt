@@ -32,10 +32,8 @@ OfItems (x ∷ xs) = OfItem x × OfItems xs
 
 of-item : {branches : Branches} {p : Piece} {x : Item} → IsItem branches p x → OfPiece p → OfItem x
 of-item text_read h = h
-of-item an_unreadable h = tt
-of-item (unread n) h = tt
-of-item (too_deep a s t lt) h = tt
 of-item (read {ts = ts} {a = a} s t le) h = of_action a ts le h s
+of-item _ h = tt
 
 of-items : {branches : Branches} {ps : List Piece} {xs : List Item} → AreItems branches ps xs → OfPieces ps → OfItems xs
 of-items no_item h = tt
@@ -108,5 +106,5 @@ mutual
 
 pub keeps-printable : KeepsPrintable
 keeps-printable branches bytes items ds own h has spells =
-    let k = leads-of spells (of-items has.read (cuts-of has.cut h)) in
+    let k = leads-of spells (of-items has.2 (cuts-of has.1 h)) in
     (λ path. k.definitions path tt, k.nodes)

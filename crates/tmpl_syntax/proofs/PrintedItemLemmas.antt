@@ -89,7 +89,7 @@ has-said : (ss : List Said) → AreSaid ss → HasSaid ss
 has-said ss h =
     let c = cut-back (map part_of ss) (are-parts ss h) [] (absent-nil 123 123) 1 in
     let i = items-said ss c.pieces h c.same in
-    record { items = i.items; has = record { pieces = c.pieces; cut = c.cuts; read = i.are }; say = i.say }
+    record { items = i.items; has = (c.pieces, c.cuts, i.are); say = i.say }
 
 pub reads-same : ReadsSame
 reads-same ns h =

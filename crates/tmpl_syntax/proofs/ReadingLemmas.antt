@@ -95,7 +95,7 @@ module _ (set : List Template) (file bytes : List ℕ) where
   refused-there : (i : ℕ) (why : Reason) (line : ℕ) → line ≡ line_at (items_of bytes) i → Judged (roles_of (items_of bytes)) (refused i why)
       → IsRefusedAt (items_of bytes) line why
   refused-there i why line e j =
-      let lt : i < length (items_of bytes) = let n = within (roles_of (items_of bytes)) i why j.applies in
+      let lt : i < length (items_of bytes) = let n = within (roles_of (items_of bytes)) i why j.0 in
       omega (arith, n, length-map (items_of bytes) role_of) in
       let x = item-there (items_of bytes) i lt in
       let it = named-item (slice_get (items_of bytes) i) x.0 line x.1 (e ∙ ap line_in x.1) in
@@ -136,7 +136,7 @@ module _ (set : List Template) (file bytes : List ℕ) where
       by short (refused i f) v =
           let s = same-refusal (line, reason) (line_at (items_of bytes) i, f) (sym e ∙ short-by (refused i f) short v) in
           subst (IsRefusedBy every_branch file bytes line) (sym (ap (λ (r : Refusal). r.1) s))
-          (refused-as line f (judged-by (refused i f) v).applies short (refused-there i f line (ap (λ (r : Refusal). r.0) s) (judged-by (refused i f) v)))
+          (refused-as line f (judged-by (refused i f) v).0 short (refused-there i f line (ap (λ (r : Refusal). r.0) s) (judged-by (refused i f) v)))
       by short left_open v =
           let s = same-refusal (line, reason) (last_line bytes, open_at_end) (sym e ∙ short-by left_open short v) in
           subst (IsRefusedBy every_branch file bytes line) (sym (ap (λ (r : Refusal). r.1) s))

@@ -30,20 +30,20 @@ pub record Brought (xs : List Role) (a b : ℕ) (name : Name) : Type 0 where
 
 -- the definition is this one at b = a + 1
 pub to-scope : (xs : List Role) (i : ℕ) (n : Name) → Brought xs i (i + 1) n → IsInScope xs i n
-to-scope xs i n s = record { by = s.by; before = s.before; template = s.template; declares = go s.reaches }
+to-scope xs i n s = (s.by, s.before, s.template, go s.reaches)
   where
     go : Reaches xs s.by i (i + 1) n → Declares xs s.by i n
     go (from_top at h o) = at_the_top at h o
-    go (from_inside at h l o e t) = inside at h l o (record { no_else = λ m from to. e m from (omega arith); no_branch = λ m from to. t m from (omega arith) })
+    go (from_inside at h l o e t) = inside at h l o (λ m from to. (e m from (omega arith), t m from (omega arith)))
     go (from_header at h o r) = in_header at h o r
     go (from_else_branch at h l o) = in_else_branch at h l o
 
 pub from-scope : (xs : List Role) (i : ℕ) (n : Name) → IsInScope xs i n → Brought xs i (i + 1) n
-from-scope xs i n s = record { by = s.by; before = s.before; template = s.template; reaches = go s.declares }
+from-scope xs i n s = record { by = s.0; before = s.1; template = s.2; reaches = go s.3 }
   where
-    go : Declares xs s.by i n → Reaches xs s.by i (i + 1) n
+    go : Declares xs s.0 i n → Reaches xs s.0 i (i + 1) n
     go (at_the_top at h o) = from_top at h o
-    go (inside at h l o p) = from_inside at h l o (λ m from to. p.no_else m from (omega arith)) (λ m from to. p.no_branch m from (omega arith))
+    go (inside at h l o p) = from_inside at h l o (λ m from to. (p m from (omega arith)).0) (λ m from to. (p m from (omega arith)).1)
     go (in_header at h o r) = from_header at h o r
     go (in_else_branch at h l o) = from_else_branch at h l o
 

@@ -7,7 +7,7 @@ use Rattle.tmpl_syntax.specs.Fault.{Reason, rank}
 use Rattle.tmpl_syntax.specs.Fault as reason
 use Rattle.tmpl_syntax.specs.computed.Frames.{Frame}
 use Rattle.tmpl_syntax.specs.Place.Body.{joins, IsMisplaced, none, IsTooDeep, IsUndeclared, Applies, unreadable, unread, misplaced}
-use Rattle.tmpl_syntax.specs.Place.Body.{too_deep, undeclared, NoneRefused, IsRefused, Judged}
+use Rattle.tmpl_syntax.specs.Place.Body.{too_deep, undeclared, NoneRefused, refused, Judged}
 use Rattle.tmpl_syntax.specs.computed.Frames.{top, takes_else, is_placed, is_too_deep, names_at, seen_at, frames_after, frames_past}
 use Rattle.tmpl_syntax.specs.computed.Frames.{branched, at_end, Known, with_inner, known_after, known_past, none_known}
 use Rattle.tmpl_syntax.proofs.FaultLemmas.{Tells, TellsRole, in-nothing}
@@ -31,7 +31,7 @@ sound-start xs = record {
       template = None;
       is_template_here = λ j b. let lt = b.is_open.before in omega arith;
       levels_are = none;
-      looped = (λ e. let g : false ≡ true = e in cc, λ l. let lt = l.1.is_open.before in absurd (omega arith));
+      looped = (λ e. let g : false ≡ true = e in cc, λ l. let lt = l.1.0.before in absurd (omega arith));
       to = λ n c. in-nothing n c;
       back = λ n b. let lt = b.before in absurd (omega arith);
     },
@@ -90,16 +90,16 @@ module _ (xs : List Role) (i : ℕ) (known : Known) (fs : List Frame) (s : Sound
     fine-action e _ (undeclared h m) =
         no-undeclared xs i (act_role a) at (λ b g m. none-unknown xs i known fs s.stands a at e.0 e.2 (own (IsUndeclared xs i) b g m)) (undeclared h m)
 
-    refused-action : (fault : Reason) → Tells a (top fs) (names_at a (top fs) known.inner) (Some fault) → IsRefused xs i fault
+    refused-action : (fault : Reason) → Tells a (top fs) (names_at a (top fs) known.inner) (Some fault) → Judged xs (refused i fault)
     refused-action reason.out_of_place e =
-        record { applies = misplaced at (unplaced xs i known fs a s.stands e); first_reason = first; first_item = s.none_refused }
+        (misplaced at (unplaced xs i known fs a s.stands e), first, s.none_refused)
       where
         first : (f : Reason) → rank f < rank reason.out_of_place → Applies xs i f → ⊥
         first _ lt (unreadable h) = no-unreadable xs i (act_role a) at (λ g. cc) (unreadable h)
         first _ lt (unread h) = no-unread xs i (act_role a) at (λ g. cc) (unread h)
         first _ lt _ = absurd (omega arith)
     refused-action reason.nested_too_deeply e =
-        record { applies = too_deep at (deep xs i a (top fs) known.inner h e.1); first_reason = first; first_item = s.none_refused }
+        (too_deep at (deep xs i a (top fs) known.inner h e.1), first, s.none_refused)
       where
         first : (f : Reason) → rank f < rank reason.nested_too_deeply → Applies xs i f → ⊥
         first _ lt (unreadable h) = no-unreadable xs i (act_role a) at (λ g. cc) (unreadable h)
@@ -107,7 +107,7 @@ module _ (xs : List Role) (i : ℕ) (known : Known) (fs : List Frame) (s : Sound
         first _ lt (misplaced h m) = not-misplaced e.0 (misplaced h m)
         first _ lt _ = absurd (omega arith)
     refused-action reason.undeclared_variable e =
-        record { applies = undeclared at (unknown xs i known fs s.stands a at e.0 e.2); first_reason = first; first_item = s.none_refused }
+        (undeclared at (unknown xs i known fs s.stands a at e.0 e.2), first, s.none_refused)
       where
         first : (f : Reason) → rank f < rank reason.undeclared_variable → Applies xs i f → ⊥
         first _ lt (unreadable h) = no-unreadable xs i (act_role a) at (λ g. cc) (unreadable h)
@@ -122,13 +122,13 @@ module _ (xs : List Role) (i : ℕ) (known : Known) (fs : List Frame) (s : Sound
   none-before _ lt _ = absurd (omega arith)
 
   pub refused-here : (x : Role) (fault : Reason) → slice_get xs i ≡ Some x
-      → TellsRole x (top fs) (seen_at x (top fs) known.inner) (Some fault) → IsRefused xs i fault
+      → TellsRole x (top fs) (seen_at x (top fs) known.inner) (Some fault) → Judged xs (refused i fault)
   refused-here text_role fault at e = let g : Some fault ≡ None = e in cc
   refused-here (act_role a) fault at e = refused-action a at fault e
   refused-here unreadable_role fault at e = let g : fault ≡ reason.unreadable = cc in
-      subst (IsRefused xs i) (sym g) (record { applies = unreadable at; first_reason = none-before; first_item = s.none_refused })
+      subst (λ r. Judged xs (refused i r)) (sym g) (unreadable at, none-before, s.none_refused)
   refused-here unread_role fault at e = let g : fault ≡ reason.not_an_action = cc in
-      subst (IsRefused xs i) (sym g) (record { applies = unread at; first_reason = first; first_item = s.none_refused })
+      subst (λ r. Judged xs (refused i r)) (sym g) (unread at, first, s.none_refused)
     where
       first : (f : Reason) → rank f < rank reason.not_an_action → Applies xs i f → ⊥
       first _ lt (unreadable h) = no-unreadable xs i unread_role at (λ g. cc) (unreadable h)

@@ -121,7 +121,7 @@ module _ (xs : List Role) (i : ℕ) (names : List Name) (c : Opening) (p : Names
   loop-on own l = (
     l.0,
     loop-moves xs l.0 i (i + 1) (alike-opened xs (act_role (opener c p)) i c at refl o own)
-        (opened-keeps xs (act_role (opener c p)) i l.0 at refl l.1.is_open) (has-before l.0) l.1,
+        (opened-keeps xs (act_role (opener c p)) i l.0 at refl l.1.0) (has-before l.0) l.1,
   )
 
   loop-off : is_template c ≡ false → c ≢ opened.control Range → InLoop xs (i + 1) → InLoop xs i
@@ -129,11 +129,11 @@ module _ (xs : List Role) (i : ℕ) (names : List Name) (c : Opening) (p : Names
       (λ lt. (
         l.0,
         loop-moves xs l.0 (i + 1) i (alike-back xs i (i + 1) (alike-opened xs (act_role (opener c p)) i c at refl o own))
-            (cut xs l.0 i (i + 1) lt (omega arith) l.1.is_open) (else_before xs l.0 i (i + 1) (omega arith)) l.1,
+            (cut xs l.0 i (i + 1) lt (omega arith) l.1.0) (else_before xs l.0 i (i + 1) (omega arith)) l.1,
       ))
-      (λ ge. let b = l.1.is_open.before in let s : l.0 ≡ i = omega arith in
+      (λ ge. let b = l.1.0.before in let s : l.0 ≡ i = omega arith in
       let w : IsLoop xs i (i + 1) = subst (λ k. IsLoop xs k (i + 1)) s l.1 in
-      absurd (nr (same-opening xs i c w.is_open.opened o w.is_open.at ∙ w.range)))
+      absurd (nr (same-opening xs i c w.0.opened o w.0.at ∙ w.1)))
       (cases_lt l.0 i)
 
   module _ (own : is_template c ≡ false) where
@@ -155,20 +155,9 @@ module _ (xs : List Role) (i : ℕ) (names : List Name) (c : Opening) (p : Names
     }
 
     new-loop : c ≡ opened.control Range → InLoop xs (i + 1)
-    new-loop e = (
-      i,
-      record {
-        is_open = opened_new xs i c o;
-        range = e;
-        template = (
-          h.template,
-          h.is_template_here,
-          template-moves xs i (i + 1) (alike-opened xs (act_role (opener c p)) i c at refl o own) h.template
-              h.is_template_here,
-        );
-        bare = none-of-it;
-      },
-    )
+    new-loop e =
+        let moved = template-moves xs i (i + 1) (alike-opened xs (act_role (opener c p)) i c at refl o own) h.template h.is_template_here in
+        (i, (opened_new xs i c o, e, (h.template, h.is_template_here, moved), none-of-it))
 
     pub here-control : (d : Control) → c ≡ opened.control d → Here xs (i + 1) (Some (entered c p t (length names))) (names ++ p.declares)
     here-control If e = here-plain (in_loop t) (Decides-like (in_loop t) (loop-on own)
@@ -187,7 +176,7 @@ module _ (xs : List Role) (i : ℕ) (names : List Name) (c : Opening) (p : Names
         levels_are = levels-opened xs i (levels t) c p at o h.levels_are;
         looped = (
           λ e. let g : true ≡ false = sym e ∙ loops-template c false (in_loop t) own in cc,
-          λ l. absurd (let lt = l.1.is_open.before in template-apart xs i l.0 (i + 1) body.0 (omega arith) l.1.template),
+          λ l. absurd (let lt = l.1.0.before in template-apart xs i l.0 (i + 1) body.0 (omega arith) l.1.2),
         );
         to = λ n k. in-nothing n k;
         back = λ n b. absurd (let lt = b.before in template-apart xs i b.by (i + 1) body.0 (omega arith) b.template);

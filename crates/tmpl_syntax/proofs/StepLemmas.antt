@@ -159,9 +159,9 @@ module _ (xs : List Role) (i : ℕ) (known : Known) (f : Frame) (fs : List Frame
 
   -- a loop around the opening is one around its else part
   loop-in : InLoop xs s.1 → InLoop xs (i + 1)
-  loop-in l = let lt = l.1.is_open.before in (
+  loop-in l = let lt = l.1.0.before in (
     l.0,
-    loop-moves xs l.0 s.1 (i + 1) (alike-last xs s.1 (i + 1) last-after own-after) (through xs l.0 s.1 (i + 1) l.1.is_open last-after.is_open)
+    loop-moves xs l.0 s.1 (i + 1) (alike-last xs s.1 (i + 1) last-after own-after) (through xs l.0 s.1 (i + 1) l.1.0 last-after.is_open)
         (λ has. ⊎_elim (λ b. (has.0, b, has.2))
         (λ ge. absurd (⊎_elim
         (λ gt. has.2.belongs.last s.1 lt (cut xs s.1 has.0 (i + 1) gt (let u = has.1 in omega arith) last-after.is_open))
@@ -174,14 +174,14 @@ module _ (xs : List Role) (i : ℕ) (known : Known) (f : Frame) (fs : List Frame
   loop-out : (f.opening ≡ opened.control Range → HasElse xs s.1 (i + 1)) → InLoop xs (i + 1) → InLoop xs s.1
   loop-out ranged l = ⊎_elim
       (λ e. let w : IsLoop xs s.1 (i + 1) = subst (λ k. IsLoop xs k (i + 1)) e l.1 in
-      absurd (w.bare (ranged (same-opening xs s.1 f.opening w.is_open.opened s.2.opened w.is_open.at ∙ w.range))))
+      absurd (w.3 (ranged (same-opening xs s.1 f.opening w.0.opened s.2.opened w.0.at ∙ w.1))))
       (λ o. ⊎_elim
       (λ lt. (
         l.0,
         loop-moves xs l.0 (i + 1) s.1 (alike-back xs s.1 (i + 1) (alike-last xs s.1 (i + 1) last-after own-after))
-            (cut xs l.0 s.1 (i + 1) lt (let z = low in omega arith) l.1.is_open) (else_before xs l.0 s.1 (i + 1) (let z = low in omega arith)) l.1,
+            (cut xs l.0 s.1 (i + 1) lt (let z = low in omega arith) l.1.0) (else_before xs l.0 s.1 (i + 1) (let z = low in omega arith)) l.1,
       ))
-      (λ gt. absurd (last-after.last l.0 gt l.1.is_open)) o)
+      (λ gt. absurd (last-after.last l.0 gt l.1.0)) o)
       (cases_order l.0 s.1)
 
   module _ (has : Bool) (lv : ℕ) (ds : List Name) (leveled : Levels xs (i + 1) (i + 1) lv) (has_is : Decides has (HasElse xs s.1 (i + 1)))

@@ -45,7 +45,5 @@ pub data AreItems (branches : Branches) : List Piece → List Item → Type 0 wh
       → IsItem branches p x → AreItems branches ps xs → AreItems branches (p ∷ ps) (x ∷ xs)
 
 -- a file of these bytes is cut into pieces that are read as these items
-pub record HasItems (branches : Branches) (bytes : List ℕ) (items : List Item) : Type 0 where
-  pub pieces : List Piece
-  pub cut : Cuts false 1 bytes pieces
-  pub read : AreItems branches pieces items
+abbrev pub HasItems : Branches → List ℕ → List Item → Type 0
+HasItems branches bytes items = (ps : List Piece) × Cuts false 1 bytes ps × AreItems branches ps items

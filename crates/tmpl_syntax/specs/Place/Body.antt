@@ -21,22 +21,17 @@ joins with_branch (opened.control With) = true
 joins b c = false
 
 -- an else may stand at i: the last opening open there is that of a control, and has no else yet
-pub record TakesElse (xs : List Role) (i : ℕ) : Type 0 where
-  pub opened : ℕ
-  pub last : IsLast xs opened i
-  pub own : is_template last.is_open.opened ≡ false
-  pub bare : HasElse xs opened i → ⊥
+abbrev pub TakesElse : List Role → ℕ → Type 0
+TakesElse xs i = (j : ℕ) × (l : IsLast xs j i) × (is_template l.is_open.opened ≡ false) × (HasElse xs j i → ⊥)
 
 -- .. and one that begins so
 abbrev pub TakesBranch : List Role → Branch → ℕ → Type 0
-TakesBranch xs b i = (t : TakesElse xs i) × (joins b t.last.is_open.opened ≡ true)
+TakesBranch xs b i = (t : TakesElse xs i) × (joins b t.1.is_open.opened ≡ true)
 
 -- a range of the template of i that is open at i with no else of its own before i
-pub record IsLoop (xs : List Role) (j i : ℕ) : Type 0 where
-  pub is_open : IsOpen xs j i
-  pub range : is_open.opened ≡ opened.control Range
-  pub template : OfOneTemplate xs j i
-  pub bare : HasElse xs j i → ⊥
+abbrev pub IsLoop : List Role → ℕ → ℕ → Type 0
+IsLoop xs j i =
+    (o : IsOpen xs j i) × (o.opened ≡ opened.control Range) × OfOneTemplate xs j i × (HasElse xs j i → ⊥)
 
 -- out of place is a define at which something is open; an else or else branch that may not stand there; an end at which
 -- nothing is open; a break or continue in no range's body
@@ -103,14 +98,8 @@ pub data Applies (xs : List Role) (i : ℕ) : Reason → Type 0 where
 abbrev pub NoneRefused : List Role → ℕ → Type 0
 NoneRefused xs i = (k : ℕ) (r : Reason) → k < i → Applies xs k r → ⊥
 
--- the first item to which a reason applies, and the first reason that does
-pub record IsRefused (xs : List Role) (i : ℕ) (why : Reason) : Type 0 where
-  pub applies : Applies xs i why
-  pub first_reason : (r : Reason) → rank r < rank why → Applies xs i r → ⊥
-  pub first_item : NoneRefused xs i
-
--- no item is refused and nothing is open at the end, or the item at a place is the first that is refused, or none is
--- but something is open at the end
+-- no item is refused and nothing is open at the end; or the item at a place is the first to which a reason applies, and
+-- this is the first reason that does; or none is refused, but something is open at the end
 pub data Verdict : Type 0 where
   fine : Verdict
   refused : ℕ → Reason → Verdict
@@ -118,5 +107,6 @@ pub data Verdict : Type 0 where
 
 abbrev pub Judged : List Role → Verdict → Type 0
 Judged xs fine = NoneRefused xs (length xs) × NothingOpen xs (length xs)
-Judged xs (refused i why) = IsRefused xs i why
+Judged xs (refused i why) =
+    Applies xs i why × ((r : Reason) → rank r < rank why → Applies xs i r → ⊥) × NoneRefused xs i
 Judged xs left_open = NoneRefused xs (length xs) × (j : ℕ) × IsOpen xs j (length xs)

@@ -9,9 +9,8 @@ use Rattle.tmpl_syntax.specs.Place.Role.{Name, Names, plain, opener, branch_else
 use Rattle.tmpl_syntax.specs.Place.Open.{IsOpen, NothingOpen, IsLast, IsElseOf, IsElseBranchOf, HasElse, OfOneTemplate}
 
 -- no else or else branch of the opening at j stands after k and up to i
-pub record IsOnePart (xs : List Role) (j k i : ℕ) : Type 0 where
-  pub no_else : (m : ℕ) → k < m → m ≤ i → IsElseOf xs j m → ⊥
-  pub no_branch : (m : ℕ) → k < m → m ≤ i → IsElseBranchOf xs j m → ⊥
+abbrev pub IsOnePart : List Role → ℕ → ℕ → ℕ → Type 0
+IsOnePart xs j k i = (m : ℕ) → k < m → m ≤ i → (IsElseOf xs j m → ⊥) × (IsElseBranchOf xs j m → ⊥)
 
 -- the action at k declares the name, and its declaration reaches i:
 pub data Declares (xs : List Role) (k i : ℕ) (name : Name) : Type 0 where
@@ -28,8 +27,5 @@ pub data Declares (xs : List Role) (k i : ℕ) (name : Name) : Type 0 where
       → Contains p.declares name → IsLast xs j k → IsOpen xs j i → Declares xs k i name
 
 -- some earlier action of the same template brings the name into scope at i
-pub record IsInScope (xs : List Role) (i : ℕ) (name : Name) : Type 0 where
-  pub by : ℕ
-  pub before : by < i
-  pub template : OfOneTemplate xs by i
-  pub declares : Declares xs by i name
+abbrev pub IsInScope : List Role → ℕ → Name → Type 0
+IsInScope xs i name = (k : ℕ) × (k < i) × OfOneTemplate xs k i × Declares xs k i name
