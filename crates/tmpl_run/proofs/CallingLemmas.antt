@@ -2,12 +2,13 @@
 use Rattle.std.proofs.lemmas.Bool.Decides.{nat_tests}
 use Rattle.std.proofs.Common.{arith, ◌≡◌, ◌≢◌, ◌∙◌, ◌+◌, ◌-◌, ◌<◌, ◌≤◌, nat_eq, nat_lt, ℕ, suc, Bool, true, false, List, [], ◌∷◌, length}
 use Rattle.std.proofs.Common.{drop, refl, ap, Some, None}
+use Rattle.std.proofs.lemmas.List.{length-drop}
 use Rattle.std.specs.Prelude.{slice_get}
 use Rattle.tmpl_values.specs.Value.{Value, nothing}
 use Rattle.tmpl_syntax.specs.Set.{Template}
 use Rattle.tmpl_meaning.specs.Fault.{calls_too_deep, steps_spent}
 use Rattle.tmpl_code.specs.Instruction as code
-use Rattle.tmpl_run.specs.Cell.{Cell, cell, fresh}
+use Rattle.tmpl_run.specs.Cell.{Cell, cell, fresh, slot, slot_cell}
 use Rattle.tmpl_run.specs.State.{Plan, State}
 use Rattle.tmpl_run.specs.Machine.{Turn, deepened, done, ended, failed, frame, goes, invoked, paid_if, ran_so, returned_if, top}
 
@@ -65,6 +66,21 @@ module _ (plan : Plan) (t : Template) (s : State) where
         (let z : nat_eq s.left 0 ≡ false = grind (arith, nat_tests) in z)
         ∙ ap (λ d. goes (record (entered number start c.val cs s) { left = s.left - 1; depth = d })) one
 
+    -- .. by what its cells are at first
+    pub invoke-goes-on : 1 ≤ length s.cells → s.left ≢ 0
+        → done plan t (code.invoke number) s ≡ goes (record (entered number start (slot 0 s.cells) (drop 1 s.cells) s) {
+          left = s.left - 1;
+          depth = s.depth + 1;
+        })
+    invoke-goes-on found some = by s.cells refl
+      where
+        by : (l : List Cell) → s.cells ≡ l → done plan t (code.invoke number) s ≡ goes (record (entered number start (slot 0 l) (drop 1 l) s) {
+          left = s.left - 1;
+          depth = s.depth + 1;
+        })
+        by [] is = let none : length s.cells ≡ 0 = ap length is in absurd (omega arith)
+        by (c ∷ cs) is = invoke-goes c cs is some
+
   -- ---- the end of a template
   pub return-ends : (n : ℕ) → s.depth ≤ 1 → done plan t (code.return_from n) s ≡ ended (ran_so s None)
   return-ends n h = ap (λ b. returned_if b (drop n s.cells) s) (let z : nat_lt 1 s.depth ≡ false = grind (arith, nat_tests) in z)
@@ -86,8 +102,30 @@ module _ (plan : Plan) (t : Template) (s : State) where
             back.num;
       })) e
 
+  pub return-goes-on : (n : ℕ) → 1 < s.depth → n + 3 ≤ length s.cells
+      → let ds : List Cell = drop 1 (drop n s.cells) in
+      done plan t (code.return_from n) s ≡ goes (record s {
+        cells = drop 1 (drop 1 ds);
+        dot = slot 0 (drop 1 ds);
+        template = (slot_cell 0 (drop 1 ds)).num;
+        depth = s.depth - 1;
+        place = (slot_cell 0 ds).num;
+      })
+  return-goes-on n h found = by (drop 1 (drop n s.cells)) refl (length-drop 1 (drop n s.cells))
+    where
+      by : (ds : List Cell) → drop 1 (drop n s.cells) ≡ ds → length ds ≡ length (drop n s.cells) - 1 → done plan t (code.return_from n) s ≡ goes (record s {
+        cells = drop 1 (drop 1 ds);
+        dot = slot 0 (drop 1 ds);
+        template = (slot_cell 0 (drop 1 ds)).num;
+        depth = s.depth - 1;
+        place = (slot_cell 0 ds).num;
+      })
+      by [] is long = absurd (omega (arith, long, length-drop n s.cells))
+      by (c ∷ []) is long = absurd (omega (arith, long, length-drop n s.cells))
+      by (back ∷ saved ∷ cs) is long = return-goes n back saved cs h is
+
 pub ruleset deepens = (deepen-spent, deepen-deep, deepen-goes)
 
-pub ruleset invokes = (invoke-spent, invoke-goes)
+pub ruleset invokes = (invoke-spent, invoke-goes-on)
 
-pub ruleset returns = (return-ends, return-goes)
+pub ruleset returns = (return-ends, return-goes-on)

@@ -90,6 +90,15 @@ live-set (suc top) (suc k) cs d h g =
 
 pub ruleset stacks = (live-length, live-push, live-taken, live-popped, slot-at, live-set)
 
+-- the newest one gives way to another
+pub live-exchanged : (top : ℕ) (old new : List held.Cell) (c : Cell) → 1 ≤ top → top ≤ length old → cells_in (top - 1 + 1) new ≡ c ∷ cells_in (top - 1) old
+    → cells_in top new ≡ c ∷ drop 1 (cells_in top old)
+live-exchanged top old new c some within is =
+    let one : top ≡ top - 1 + 1 = omega arith in
+    ap (λ n. cells_in n new) one ∙ is ∙ ap (λ (l : List Cell). c ∷ l) (live-drop 1 top old some within)
+
+pub ruleset exchanges = (live-exchanged)
+
 pub num_at-is : (cs : List held.Cell) (i : ℕ) (d : held.Cell) → i < length cs → (get_or cs i d).num ≡ (cell_at cs i).num
 num_at-is cs i d h = ap (λ (c : Cell). c.num) (sym (cell_at-is cs i d h))
 

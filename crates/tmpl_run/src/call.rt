@@ -9,9 +9,9 @@ ghost use Rattle.tmpl_run.specs.computed.View.{cells_of, size_of};
 use crate::flow::Flow;
 use crate::halt::Halt;
 use crate::machine::Machine;
-use std::mem;
+use crate::stack::keep;
 use tmpl_meaning::RunFaultKind;
-use tmpl_values::{Cell, Val};
+use tmpl_values::Val;
 
 impl<'m, 'a> Machine<'m, 'a> {
     /// Looks, before a call at this line, whether a step is left and one more template may be inside the others.
@@ -64,9 +64,8 @@ impl<'m, 'a> Machine<'m, 'a> {
             return Err(Halt::Fault(RunFaultKind::StepsSpent(step_limit)));
         }
         self.left -= 1;
-        let val = self.stack.take().val.into_shared(self.alloc)?;
-        let outer = mem::replace(&mut self.dot, val);
-        self.stack.push(outer, self.template as u64);
+        self.stack.exchange(&mut self.dot, self.template as u64);
+        keep(&mut self.dot, self.alloc)?;
         self.stack.push(Val::Nothing, self.place as u64 + 1);
         self.stack.push_shared(&self.dot)?;
         self.template = number;
@@ -91,10 +90,11 @@ impl<'m, 'a> Machine<'m, 'a> {
         }
         self.stack.pop(count);
         self.stack.pop(1);
-        let back = self.stack.take().num;
-        let Cell { val, num } = self.stack.take();
-        self.replace_dot(val);
-        self.template = num as usize;
+        let back = self.stack.counted(0);
+        self.stack.pop(1);
+        self.template = self.stack.counted(0) as usize;
+        self.stack.exchange(&mut self.dot, 0);
+        self.stack.pop(1);
         self.depth -= 1;
         self.place = back as usize;
         Flow::On

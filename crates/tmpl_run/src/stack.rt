@@ -22,6 +22,7 @@ ghost use Rattle.tmpl_run.specs.computed.Output.{Grows, given_of};
 
 use crate::piece::Piece;
 use std::alloc::{AllocError, Global};
+use std::mem;
 use tmpl_funcs::{CallError, Func, call};
 use tmpl_meaning::{Sink, SinkFault};
 use tmpl_values::{Cell, Val};
@@ -236,6 +237,20 @@ impl<'s, 'a> Stack<'s, 'a> {
     {
         let at = self.top - 1 - index;
         self.cells[at] = Cell { val, num: 0 };
+    }
+
+    /// Exchanges the newest value with another, and has its cell count this.
+    #[tactic(auto, using(crate::proofs::StackLemmas::stacks, crate::proofs::StackLemmas::exchanges), unfolding(crate::specs::computed::View::cells_of))]
+    #[inline(always)]
+    pub(crate) fn exchange(&mut self, val: &mut Val<'a>, num: u64)
+        requires { 1 ≤ length (cells_of self.old) }
+        ensures cells { cells_of self.new ≡ cell (val_of val.old) num ∷ drop 1 (cells_of self.old) }
+        ensures value { val_of val.new ≡ slot 0 (cells_of self.old) }
+        ensures size { size_of self.new ≡ size_of self.old }
+        ensures plain { is_made val.old ≡ false → IsPlainStack self.old
+            → (is_made val.new ≡ false) × IsPlainStack self.new }
+    {
+        exchange_at(self.cells, self.top - 1, val, num);
     }
 
     /// The element that a range visits, behind its index or key: the cells of the range are the newest two.
@@ -453,6 +468,35 @@ fn has_more_at(cells: &mut [Cell<'_>], at: usize) -> bool
     }
 }
 
+/// Exchanges the value of a cell with another, and has the cell count this.
+#[tactic(auto, using(crate::proofs::StackLemmas::cells, crate::proofs::StackLemmas::stacks))]
+#[inline(always)]
+fn exchange_at<'a>(cells: &mut [Cell<'a>], at: usize, val: &mut Val<'a>, num: u64)
+    requires { at < length cells.old }
+    ensures cells { cells_in (at + 1) cells.new ≡ cell (val_of val.old) num ∷ cells_in at cells.old }
+    ensures value { val_of val.new ≡ (cell_at cells.old at).val }
+    ensures size { length cells.new ≡ length cells.old }
+    ensures plain { is_made val.old ≡ false → AreBorrowed (take (at + 1) cells.old)
+        → (is_made val.new ≡ false) × AreBorrowed (take (at + 1) cells.new) }
+{
+    let cell = &mut cells[at];
+    mem::swap(&mut cell.val, val);
+    cell.num = num;
+}
+
+/// Makes a value ready to be shared, in its place.
+#[inline(always)]
+pub(crate) fn keep(val: &mut Val<'_>, alloc: Global) -> Result<(), AllocError>
+    ensures value { OnOk result (val_of val.new ≡ val_of val.old) }
+    ensures plain { is_made val.old ≡ false → IsOkAnd result (λ _. is_made val.new ≡ false) }
+{
+    if is_made(val) {
+        let made = mem::replace(val, Val::Nothing);
+        *val = made.into_shared(alloc)?;
+    }
+    Ok(())
+}
+
 /// Takes a cell, and leaves nothing.
 fn take_at<'a>(cells: &mut [Cell<'a>], at: usize) -> Cell<'a>
     requires { at < length cells.old }
@@ -460,7 +504,7 @@ fn take_at<'a>(cells: &mut [Cell<'a>], at: usize) -> Cell<'a>
     ensures left { take at cells.new ≡ take at cells.old }
     ensures size { length cells.new ≡ length cells.old }
 {
-    std::mem::replace(
+    mem::replace(
         &mut cells[at],
         Cell {
             val: Val::Nothing,
