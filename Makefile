@@ -126,7 +126,7 @@ $(PROGRAM): $(SOURCES)
 
 $(PROBE): $(SOURCES)
 	@$(NEEDS_RT)
-	cd crates/tmpl_probe && rt run -- text data/numbers.json > /dev/null
+	cd crates/tmpl_probe && rt run -- cases data/cases > /dev/null
 	@touch $@
 
 $(PROVED_LIBRARY): $(SOURCES)

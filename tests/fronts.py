@@ -1,5 +1,5 @@
 """Reads every front of every template and data file of the rows and examples: its first n bytes, for each n, of files of up to 20,000
-bytes whole, and of longer ones up to 2,000. They are read in memory, many in one process, by tmpl_memory. What a front comes
+bytes whole, and of longer ones up to 2,000. They are read in memory, many in one process, by the probe. What a front comes
 to is told by meaning.py and reading.py, which share no code with the program: a template is refused at a line for a reason, or runs over
 the row's data to a text and an end; data is refused, or put out whole by `{{.}}`. Of the fronts of a file of more than
 1,000 bytes that are accepted, of which meaning.py is slow to tell, it tells each 64th and the last; the others must be accepted."""

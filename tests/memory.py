@@ -1,4 +1,4 @@
-"""Runs the command over sources and sinks in memory, and calls of the library one by one, by the program tmpl_memory. First sinks
+"""Runs the command over sources and sinks in memory, and calls of the library one by one, by the probe. First sinks
 and sources that fail, by hand. Then each row over sinks that take 1, 3 and 4,096 bytes a put and fail at put N, N counting up until
 none fails, and over a source that fails at read N. Last calls, each with every allocation refused in turn."""
 import os
@@ -8,7 +8,7 @@ import tempfile
 
 import harness
 
-MEMORY = f"{harness.TOP}/crates/tmpl_memory/out/tmpl_memory"
+PROBE = f"{harness.TOP}/crates/tmpl_probe/out/tmpl_probe"
 MOSTS = (1, 3, 4096)  # bytes that a put takes at most
 WORK = 10**9  # puts of a row times its bytes, up to which each put fails in turn; beyond that only some do
 SMALL = 1 << 16  # bytes in the files and the output of a row that is run often
@@ -67,16 +67,16 @@ def listed(files):
 
 def is_built():
     """Whether the program is there; if it is not, says so."""
-    if not os.access(MEMORY, os.X_OK):
-        print("there is no tmpl_memory: the gate builds it")
-    return os.access(MEMORY, os.X_OK)
+    if not os.access(PROBE, os.X_OK):
+        print("there is no probe: the gate builds it")
+    return os.access(PROBE, os.X_OK)
 
 
 def started(words):
     """What a process of the program puts out, which has to end well."""
-    ran = subprocess.run([MEMORY, *words], stdout=subprocess.PIPE, stderr=subprocess.PIPE, timeout=10 * harness.SECONDS)
+    ran = subprocess.run([PROBE, *words], stdout=subprocess.PIPE, stderr=subprocess.PIPE, timeout=10 * harness.SECONDS)
     if ran.returncode or ran.stderr:
-        raise RuntimeError(f"tmpl_memory ended with {ran.returncode}, and said {harness.short(ran.stderr)}")
+        raise RuntimeError(f"the probe ended with {ran.returncode}, and said {harness.short(ran.stderr)}")
     return ran.stdout
 
 
@@ -361,7 +361,7 @@ def judge_call(shim, runner, name, files, ample, behind, is_refused):
     allocations behind it are refused too, since a text for which there was no room may still grow as it needs."""
     runner.lay(b"files", listed([(b"", it) for it in files]))
     more = {**harness.ENVIRONMENT, "LD_PRELOAD": shim, "FAIL_EACH": str(runner.told), **({"FAIL_REST": "1"} if name == "call" else {})}
-    got = runner.run_by(b"tmpl_memory", [b"call", name.encode(), b"files"], runner.actions, more)
+    got = runner.run_by(b"tmpl_probe", [b"make", name.encode(), b"files"], runner.actions, more)
     wrong = [] if got == (0, ample, b"") else [f"    it came to {got}", f"    wanted: {ample!r}"]
     answers = runs = 0
     for number, (status, out, err), _ in runner.turns():
@@ -386,7 +386,7 @@ def judge_calls():
 def main():
     if not is_built():
         return harness.closing(0, 1)
-    harness.PROGRAM = MEMORY
+    harness.PROGRAM = PROBE
     passed, failed, refused = harness.tally([*judge_hand(), *judge_calls()])
     print(f"{len(HAND)} cases by hand, and {len(CALLS)} calls with {refused} allocations refused, one in each run")
     rows = [row for row in harness.read_rows() if given(row)]

@@ -1,4 +1,5 @@
 //! Calls of functions with arguments from data, and shares of a made text.
+use crate::single::cells_of;
 use std::alloc::{AllocError, Global};
 use tmpl_funcs::{Func, call};
 use tmpl_values::{Cell, Data, Val};
@@ -10,13 +11,7 @@ pub(crate) fn call_often(
     arguments: &[Data],
     count: u64,
 ) -> Result<bool, AllocError> {
-    let mut cells = Vec::with_capacity(alloc, arguments.len())?;
-    for argument in arguments {
-        cells.push(Cell {
-            val: Val::of(argument),
-            num: 0,
-        })?;
-    }
+    let mut cells = cells_of(alloc, arguments)?;
     let mut all = true;
     for _ in 0..count {
         fill(arguments, cells.as_mut_slice());

@@ -5,7 +5,7 @@ use std::io::Write;
 use tmpl_run::{Sink, SinkFault};
 
 /// What a sink takes.
-#[derive(Clone, Copy, Debug)]
+#[derive(Clone, Copy)]
 pub(crate) struct Limits {
     /// The bytes that one put takes at most.
     pub(crate) most: usize,

@@ -5,10 +5,13 @@ use crate::running::put_status;
 use std::io;
 use tmpl_tool::tool;
 
-/// Calls the command so many times with these words, over the file system and the standard streams. Behind what each
-/// call says stands its status.
-pub(crate) fn call_tool_often(rt: &HostRuntime, times: &str, words: &[String]) -> io::Result<bool> {
-    let Ok(times) = times.parse::<u64>() else {
+/// Calls the command as often as the first word says with those behind it, over the file system and the standard
+/// streams. Behind what each call says stands its status.
+pub(crate) fn call_tool_often(rt: &HostRuntime, words: &[String]) -> io::Result<bool> {
+    let [times, words @ ..] = words else {
+        return Ok(false);
+    };
+    let Ok(times) = times.as_str().parse::<u64>() else {
         return Ok(false);
     };
     for _ in 0..times {

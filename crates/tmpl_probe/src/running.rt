@@ -22,7 +22,7 @@ const CELLS: usize = 64;
 const BYTES: usize = 4096;
 
 /// What is lent to the runs, and how many there are.
-#[derive(Clone, Copy, Debug)]
+#[derive(Clone, Copy)]
 struct Loan {
     /// The bytes of the piece.
     piece: usize,
@@ -66,10 +66,13 @@ fn load<'a>(rt: &HostRuntime, words: &'a [String]) -> Option<(Request<'a>, Input
     Some((request, inputs))
 }
 
-/// Puts out the room at this depth of the set that the words of a command name, and whether it makes text. Of no words
-/// the set is empty.
-pub(crate) fn put_room(rt: &HostRuntime, depth: &str, words: &[String]) -> io::Result<bool> {
-    let Ok(depth) = depth.parse::<u32>() else {
+/// Puts out the room, at the depth that the first word says, of the set that the words of a command behind it name, and
+/// whether it makes text. Of no words behind it the set is empty.
+pub(crate) fn put_room(rt: &HostRuntime, words: &[String]) -> io::Result<bool> {
+    let [depth, words @ ..] = words else {
+        return Ok(false);
+    };
+    let Ok(depth) = depth.as_str().parse::<u32>() else {
         return Ok(false);
     };
     if words.is_empty() {
@@ -139,7 +142,7 @@ fn run_in_vecs(rt: &HostRuntime, job: &Job<'_, '_>) -> io::Result<bool>
     let alloc = rt.alloc();
     let least = job.program.cells(job.request.options.depth);
     let mut cells = blank_cells(alloc, (least as usize).saturating_add(job.loan.spare))?;
-    let mut piece = blank_bytes(alloc, job.loan.piece)?;
+    let mut piece = vec![in alloc; 0u8; job.loan.piece]?;
     run_often(
         alloc,
         job,
@@ -189,14 +192,6 @@ fn blank_cells<'a>(alloc: Global, count: usize) -> Result<Vec<Cell<'a>>, AllocEr
         })?;
     }
     Ok(cells)
-}
-
-fn blank_bytes(alloc: Global, count: usize) -> Result<Vec<u8>, AllocError> {
-    let mut bytes = Vec::new(alloc);
-    for _ in 0..count {
-        bytes.push(0)?;
-    }
-    Ok(bytes)
 }
 
 /// Runs as often as the words say, over cells that are as the run before left them. Behind each run stands the line of

@@ -1,7 +1,7 @@
 -- Files in memory.
 use Rattle.std.specs.Prelude.{ℕ, List, [], ◌∷◌, Option, Some, None, if◌then◌else◌}
 use Rattle.std.specs.Str.{bytes_eq}
-use Rattle.tmpl_memory.specs.declared.files.File.{File}
+use Rattle.tmpl_probe.specs.declared.files.File.{File}
 
 -- the bytes of the first file of this name, if there is one
 abbrev pub found : List ℕ → List File → Option (List ℕ)

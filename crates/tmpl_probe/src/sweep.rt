@@ -1,21 +1,54 @@
 //! Runs of the command over files and sinks in memory, and what is put out of each.
 use crate::case::{Case, Numbers, Told};
 use crate::files::{File, LentFiles};
+use crate::reader::Reader;
 use crate::sink::{LentSink, Limits};
 use std::alloc::{AllocError, Global};
-use std::io::{self, Write};
+use std::fs;
+use std::io::{self, BufWriter, Write};
 use tmpl_tool::tool;
+
+/// The bytes of a line on the error sink for which there is room.
+const LINE: usize = 1 << 20;
 
 /// Where the sinks of a run keep their bytes.
 #[derive(Drop)]
-pub(crate) struct Room<'a> {
-    pub(crate) out: &'a mut [u8],
-    pub(crate) err: &'a mut [u8],
+struct Room<'a> {
+    out: &'a mut [u8],
+    err: &'a mut [u8],
+}
+
+/// Runs the cases that a file holds, and tells whether it held them all.
+pub(crate) fn run_cases(rt: &HostRuntime, words: &[String]) -> io::Result<bool> {
+    let [file] = words else {
+        return Ok(false);
+    };
+    let alloc = rt.alloc();
+    let held = fs::read(rt, file.as_str())?;
+    let mut reader = Reader::new(held.as_slice());
+    let (Some(bytes), Some(count)) = (reader.number(), reader.number()) else {
+        return Ok(false);
+    };
+    let mut out = vec![in alloc; 0u8; bytes as usize]?;
+    let mut err = vec![in alloc; 0u8; LINE]?;
+    let mut room = Room {
+        out: out.as_mut_slice(),
+        err: err.as_mut_slice(),
+    };
+    let mut writer = BufWriter::new(alloc, rt.stdout())?;
+    for _ in 0..count {
+        let Some(case) = Case::read(alloc, &mut reader) else {
+            return Ok(false);
+        };
+        run_case(alloc, &case, &mut room, &mut writer)?;
+    }
+    writer.flush()?;
+    Ok(true)
 }
 
 /// Runs a case for each of its numbers, up to the first run in which nothing failed that was to fail. Behind the last
 /// there is an empty line.
-pub(crate) fn run_case(
+fn run_case(
     alloc: Global,
     case: &Case<'_>,
     room: &mut Room<'_>,

@@ -4,6 +4,7 @@ ghost use Rattle.std.specs.Prelude.{◌<◌, ◌-◌, ◌^◌};
 use crate::case::files;
 use crate::reader::Reader;
 use std::alloc::{AllocError, Global};
+use std::fs;
 use std::io::{self, Write};
 use tmpl_code::compile;
 use tmpl_engine::{Engine, MissingKey, NameHash, Options, RenderError, Renderer, Sink, WriterSink};
@@ -16,11 +17,16 @@ use tmpl_values::{Cell, Data, DataFault, Val, add_quote, add_text};
 /// What is put out where the call that is looked at answers that memory was refused.
 const REFUSED: &[u8] = b"memory was refused\n";
 
-/// Makes the call of this name over the files that the reader gives, and tells whether it came to that.
-pub(crate) fn make(rt: &HostRuntime, name: &str, reader: &mut Reader<'_>) -> io::Result<bool> {
+/// Makes the call of a name over the files that a file holds, and tells whether it came to that.
+pub(crate) fn make_call(rt: &HostRuntime, words: &[String]) -> io::Result<bool> {
+    let [name, file] = words else {
+        return Ok(false);
+    };
+    let name = name.as_str();
     let alloc = rt.alloc();
     let mut writer = rt.stdout();
-    let Some(files) = files(alloc, reader) else {
+    let held = fs::read(rt, file.as_str())?;
+    let Some(files) = files(alloc, &mut Reader::new(held.as_slice())) else {
         return Ok(false);
     };
     match files.as_slice() {
@@ -165,7 +171,7 @@ fn quote(alloc: Global, bytes: &[u8], writer: &mut impl Write) -> io::Result<boo
 }
 
 /// A cell for each item.
-fn cells_of<'a>(alloc: Global, items: &'a [Data]) -> Result<Vec<Cell<'a>>, AllocError> {
+pub(crate) fn cells_of<'a>(alloc: Global, items: &'a [Data]) -> Result<Vec<Cell<'a>>, AllocError> {
     let mut cells = Vec::new(alloc);
     for item in items {
         cells.push(Cell {

@@ -4,7 +4,7 @@ ghost use Rattle.std.specs.Prelude.{◌≡◌, ◌+◌, ◌≤◌, length, take,
 use tmpl_run::{Sink, SinkFault};
 
 /// What a sink takes, and when it fails.
-#[derive(Clone, Copy, Debug)]
+#[derive(Clone, Copy)]
 pub(crate) struct Limits {
     /// The bytes that it takes in all, if it has room for them.
     pub(crate) room: usize,

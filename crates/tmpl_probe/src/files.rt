@@ -1,12 +1,12 @@
 //! A source over files in memory, of which a read fails where it is told to.
 ghost use Rattle.std.specs.Prelude.{◌≡◌, Some, option_map};
-ghost use Rattle.tmpl_memory.specs.Files.{found};
+ghost use Rattle.tmpl_probe.specs.Files.{found};
 
 use std::alloc::Global;
 use tmpl_tool::{Source, SourceFault};
 
 /// A file of a name.
-#[derive(Clone, Copy, Debug)]
+#[derive(Clone, Copy)]
 pub(crate) struct File<'a> {
     pub(crate) name: &'a str,
     pub(crate) bytes: &'a [u8],

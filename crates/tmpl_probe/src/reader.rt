@@ -2,7 +2,7 @@
 use std::str;
 
 /// What is left of the file.
-#[derive(Clone, Copy, Debug)]
+#[derive(Clone, Copy)]
 pub(crate) struct Reader<'a> {
     rest: &'a [u8],
 }

@@ -5,7 +5,7 @@ use crate::sink::Limits;
 use std::alloc::{AllocError, Global};
 
 /// What a number says of a run.
-#[derive(Clone, Copy, Debug, PartialEq, Eq)]
+#[derive(Clone, Copy, PartialEq, Eq)]
 pub(crate) enum Told {
     /// At which put the output fails.
     Output,
@@ -18,7 +18,7 @@ pub(crate) enum Told {
 }
 
 /// The numbers with which a case is run: so many, from the first on in steps.
-#[derive(Clone, Copy, Debug)]
+#[derive(Clone, Copy)]
 pub(crate) struct Numbers {
     pub(crate) told: Told,
     pub(crate) first: u64,
@@ -27,7 +27,7 @@ pub(crate) struct Numbers {
 }
 
 /// A command, and what it is run over.
-#[derive(Debug, Drop)]
+#[derive(Drop)]
 pub(crate) struct Case<'a> {
     pub(crate) words: Vec<String>,
     pub(crate) files: Vec<File<'a>>,
