@@ -1,6 +1,6 @@
 //! Actions as they are printed: the bytes of their tokens.
 ghost use Rattle.std.specs.Prelude.{◌≡◌, ◌++◌, ◌∷◌, OnOk};
-ghost use Rattle.tmpl_grammar.specs.Print.{action_tokens, bytes_of, chain_tokens, command_tokens, pipeline_tokens};
+ghost use Rattle.tmpl_grammar.specs.Print.{action_tokens, bytes_of, chain_tokens, command_tokens};
 ghost use Rattle.tmpl_grammar.specs.Print.{given_tokens, header_tokens, later_tokens, more_tokens};
 ghost use Rattle.tmpl_grammar.specs.Print.{named_tokens, operand_tokens, pipeline_tokens, variable_token};
 ghost use Rattle.tmpl_grammar.specs.View.{commands_in, given_of, header_of, operand_of, operands_in, pipeline_of};
