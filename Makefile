@@ -70,7 +70,7 @@ fuzz: $(PROGRAM) $(PROVED_LIBRARY)
 compare: $(PROGRAM)
 	python3 tests/go/compare.py
 
-# copies the program, man pages, completions, templates for quoting and documents to PREFIX, /usr/local if it is not set
+# copies the program, man pages, completions, templates for quoting, documents and examples to PREFIX, /usr/local if it is not set
 install: $(PROGRAM)
 	install -D -m 755 $(PROGRAM) "$$DESTDIR$$PREFIX/bin/tmpl"
 	! command -v strip > /dev/null || strip "$$DESTDIR$$PREFIX/bin/tmpl"
@@ -82,6 +82,8 @@ install: $(PROGRAM)
 	install -D -m 644 -t "$$DESTDIR$$PREFIX/share/tmpl/quotes" $(QUOTES)
 	install -D -m 644 -t "$$DESTDIR$$PREFIX/share/doc/tmpl" README.md CHANGELOG.md
 	install -D -m 644 -t "$$DESTDIR$$PREFIX/share/doc/tmpl/docs" docs/*.md
+	find examples editors -type f | while read -r file; do \
+		install -D -m 644 "$$file" "$$DESTDIR$$PREFIX/share/doc/tmpl/$$file" || exit 1; done
 
 # copies the C library, its header and what pkg-config reads to PREFIX
 install-lib: lib

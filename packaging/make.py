@@ -1,5 +1,5 @@
 """Packs the program that is built, with man pages, completions, templates for quoting and documents: `make.py tar` as a tar with its
-SHA-256, and with the C library and its header where these are built; `make.py deb` as a Debian package. `make.py wheel` packs the
+SHA-256, and with the C library and its header where these are built, as the name says then; `make.py deb` as a Debian package. `make.py wheel` packs the
 binding for Python with the C library. All go to `packaging/out`, and are named by the commit, the tar also by the logic that the program
 is proved with. `make dist`, `make deb` and `make wheel` call it once what they pack is proved. The same tree gives the same bytes."""
 import base64
@@ -26,7 +26,7 @@ Description: {ABOUT}
  tmpl renders templates in the language of Go's text/template (Go 1.22)
  with data from a JSON file. What it answers depends on its command line
  and its files alone, by a written definition, and a checker proves that
- the program follows it.
+ the program follows it. The processor must have x86-64-v2.
 """
 COPYRIGHT = """\
 Format: https://www.debian.org/doc/packaging-manuals/copyright-format/1.0/
@@ -103,10 +103,13 @@ def place(folder, prefix):
     subprocess.run(["strip", "--strip-all", "--remove-section=.comment", program], check=True)
 
 
+def has_library():
+    """Whether the C library is built, so that `make lib` has nothing to do."""
+    return not subprocess.run([*make("lib"), "-q"], cwd=TOP, stderr=subprocess.DEVNULL, check=False).returncode
+
+
 def place_library(folder, prefix):
-    """The same with the C library, its header and what pkg-config reads, where `make lib` has nothing to do."""
-    if subprocess.run([*make("lib"), "-q"], cwd=TOP, stderr=subprocess.DEVNULL, check=False).returncode:
-        return
+    """The same with the C library, its header and what pkg-config reads."""
     subprocess.run(make("install-lib", f"DESTDIR={folder}", f"PREFIX={prefix}"), cwd=TOP, check=True)
     path = f"{folder}{prefix}/lib/pkgconfig/tmpl.pc"
     with open(path, encoding="utf-8") as it:
@@ -135,10 +138,12 @@ def owned_by_root(it):
 
 def tar():
     """The tar, and its sum beside it."""
-    name = f"tmpl-{version().replace('0~git', '')}-{logic()}-x86_64-linux"
+    is_whole = has_library()
+    name = f"tmpl-{version().replace('0~git', '')}-{logic()}-x86_64-linux{'-with-library' * is_whole}"
     with tempfile.TemporaryDirectory() as room:
         place(room, f"/{name}")
-        place_library(room, f"/{name}")
+        if is_whole:
+            place_library(room, f"/{name}")
         settle(f"{room}/{name}")
         path = f"{OUT}/{name}.tar.gz"
         with open(path, "wb") as it, gzip.GzipFile("", "wb", 9, it, seconds()) as packed:
@@ -249,6 +254,8 @@ def main(words):
     kinds = {"tar": tar, "deb": deb, "wheel": wheel}
     if len(words) != 1 or words[0] not in kinds:
         sys.exit("usage: make.py tar|deb|wheel")
+    if not shutil.which("git") or subprocess.run(["git", "rev-parse"], cwd=TOP, stderr=subprocess.DEVNULL, check=False).returncode:
+        sys.exit("packages are named by the commit: this is no checkout of Git, or Git is not there")
     os.makedirs(OUT, exist_ok=True)
     print(kinds[words[0]]())
 
