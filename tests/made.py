@@ -100,16 +100,23 @@ def in_fish(folder):
 
 VIM = """set nocompatible
 let &runtimepath = '%s/editors/vim,' . &runtimepath
-compiler tmpl
+let found = []
+for name in ['bad.tmpl', 'good.tmpl']
+  execute 'edit' name
+  compiler tmpl
+  make
+  let found += map(getqflist(), {_, it -> bufname(it.bufnr) . ' ' . it.lnum . ' ' . it.text}) + ['line ' . line('.')]
+endfor
 cgetfile errors
-call writefile(map(getqflist(), {_, it -> bufname(it.bufnr) . ' ' . it.lnum . ' ' . it.text}), 'found')
+let found += map(getqflist(), {_, it -> it.text})
+call writefile(found, 'found')
 qall!
 """
 
 
 def editors(folder):
     """What they make of the line for a template that is refused."""
-    files = {"bad.tmpl": "\n{{if}}\n", "good.tmpl": "x"}
+    files = {"bad.tmpl": "\n{{if}}\n\n", "good.tmpl": "x"}
     for name, text in files.items():
         with open(f"{folder}/{name}", "w", encoding="utf-8") as it:
             it.write(text)
@@ -126,12 +133,12 @@ def editors(folder):
     yield "the problem matcher", ("bad.tmpl", "2", "action not understood"), found and tuple(found[pattern[it]] for it in ("file", "line", "message"))
     if shutil.which("vim"):
         with open(f"{folder}/errors", "w", encoding="utf-8") as it:
-            it.write(refused + "tmpl: out of memory\n")
+            it.write("tmpl: out of memory\n")  # a line without a place
         with open(f"{folder}/script", "w", encoding="utf-8") as it:
             it.write(VIM % harness.TOP)
-        output("vim", "-e", "-s", "-u", "NONE", "-S", "script", cwd=folder)
+        output("vim", "-e", "-s", "-u", "NONE", "-S", "script", cwd=folder, env=environment)
         with open(f"{folder}/found", encoding="utf-8") as it:
-            yield "what Vim finds", "bad.tmpl 2 action not understood\n", it.read()
+            yield "what Vim finds by :make", "bad.tmpl 2 action not understood\nline 2\nline 1\n", it.read()
 
 
 def main():

@@ -3,5 +3,6 @@ if exists("current_compiler")
   finish
 endif
 let current_compiler = "tmpl"
-CompilerSet makeprg=tmpl\ --print\ %:S\ >/dev/null
+" the parentheses, since Vim puts a `2>&1| tee` of its own behind
+CompilerSet makeprg=(tmpl\ --print\ %:S\ >/dev/null)
 CompilerSet errorformat=tmpl:\ %f:%l:\ %m,%-Gtmpl:\ %m
