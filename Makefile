@@ -122,7 +122,7 @@ help:
 
 $(PROGRAM): $(SOURCES)
 	@$(NEEDS_RT)
-	@echo "Proving the program: some 50 minutes of processor time from a fresh clone, seconds where little changed .." >&2
+	@echo "Proving the program: some 40 minutes of processor time from a fresh clone, seconds where little changed .." >&2
 	cd crates/tmpl && rt run -- --help > /dev/null
 	@touch $@
 
@@ -133,7 +133,7 @@ $(PROBE): $(SOURCES)
 
 $(PROVED_LIBRARY): $(SOURCES)
 	@$(NEEDS_RT)
-	@echo "Proving the library: some 50 minutes of processor time from a fresh clone, seconds where little changed .." >&2
+	@echo "Proving the library: some 40 minutes of processor time from a fresh clone, seconds where little changed .." >&2
 	cd crates/tmpl_c && rt lib >&2
 	@touch $@
 
