@@ -82,7 +82,7 @@ install: $(PROGRAM)
 	install -D -m 644 -t "$$DESTDIR$$PREFIX/share/tmpl/quotes" $(QUOTES)
 	install -D -m 644 -t "$$DESTDIR$$PREFIX/share/doc/tmpl" README.md CHANGELOG.md
 	install -D -m 644 -t "$$DESTDIR$$PREFIX/share/doc/tmpl/docs" docs/*.md
-	find examples editors ! -type d | while read -r file; do \
+	find examples editors -type f | while read -r file; do \
 		install -D -m 644 "$$file" "$$DESTDIR$$PREFIX/share/doc/tmpl/$$file" || exit 1; done
 
 # copies the C library, its header and what pkg-config reads to PREFIX

@@ -137,14 +137,19 @@ def read_rows():
 
 
 def read_examples():
-    """The examples: each is run in its own folder, with the words of its file args, one a line."""
+    """The examples: each is run in its own folder, with the words of its file args, one a line. A file of another example that
+    these name lies beside its own."""
     rows = []
     for name in sorted(it.name for it in os.scandir(f"{TOP}/examples") if it.is_dir()):
+        at = f"{TOP}/examples/{name}"
+        with open(f"{at}/args", encoding="utf-8") as it:
+            words = it.read().splitlines()
         files = {}
-        for file in sorted(os.listdir(f"{TOP}/examples/{name}")):
-            with open(f"{TOP}/examples/{name}/{file}", "rb") as it:
-                files[file] = it.read()
-        row = Row("examples", {"title": name, "words": files.pop("args").decode().splitlines()})
+        for file in sorted([*os.listdir(at), *(it for it in words if it.startswith("../"))]):
+            with open(f"{at}/{file}", "rb") as it:
+                files[os.path.basename(file)] = it.read()
+        del files["args"]
+        row = Row("examples", {"title": name, "words": [os.path.basename(it) if it.startswith("../") else it for it in words]})
         row.out, row.files = files.pop("expected"), files
         rows.append(row)
     return rows
