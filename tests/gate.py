@@ -1,7 +1,10 @@
 """Runs each command that it is given, one after the other, whatever the others came to, and adds up their
 last lines 'N passed, N failed'. A command without such a line, or with a status that it does not
 explain, counts as one failure. It also says how many seconds of processors each command took, and how many minutes the proofs took,
-by crate. The libraries that `rt ci` proved are marked for `rt lib`."""
+by crate. The libraries that `rt ci` proved are marked for `rt lib`.
+
+`rt ci` gets RT_JOBS, where it is not set: as many checks side by side as there are processors, and memory for each. It then gives each
+check one job. Several jobs for one check take a quarter more of the processors' time."""
 import os
 import re
 import shlex
@@ -11,6 +14,8 @@ import time
 
 import processors
 import proved
+
+MEMORY = 5 << 30  # bytes that one check may take
 
 
 def run(command):
@@ -43,7 +48,15 @@ def timed(command):
     return *run(command), taken() - before
 
 
+def checks():
+    """How many checks may run side by side."""
+    with open("/proc/meminfo", encoding="ascii") as it:
+        free = int(re.search(r"MemAvailable: +(\d+) kB", it.read())[1]) << 10
+    return max(1, min(len(os.sched_getaffinity(0)), free // MEMORY))
+
+
 def main(commands):
+    os.environ.setdefault("RT_JOBS", str(checks()))
     watch = processors.Watch()
     told = [timed(it) for it in commands]
     print("== processors", *watch.table(), sep="\n")
