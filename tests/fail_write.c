@@ -33,7 +33,7 @@ extern int sigaction(int signal, const void *to, void *from);
 enum { write_call = 1, exit_call = 231 };
 enum { readable = 1, writable = 2, private_unbacked = 0x4022, page = 4096 };
 enum { seconds = 60, most_told = 256 };
-static const size_t heap_room = 1UL << 36, stack_room = 1UL << 23;
+static const size_t heap_room = 1UL << 34, stack_room = 1UL << 23;
 
 static long number_in(const char *name) {
     char *text = getenv(name);
