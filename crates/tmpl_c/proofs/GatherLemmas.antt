@@ -40,22 +40,17 @@ outcome_exact a all line f g code (inl (out, is, inr err)) fine = absurd (one g 
 outcome_exact a all line f g code (inr (inl cut)) fine = absurd (one f cut.0.count fine.1)
 outcome_exact a all line f g code (inr (inr refused)) fine = absurd (fine.0 refused.1)
 
-module _ (a : Answer) (all line start line_start : Bytes) (f g code : ℕ) (nothing : start ≡ []) (no_line : line_start ≡ [])
-    (o : Outcome a (sunk (holding start 0) (holding all f)) (sunk (holding line_start 0) (holding line g)) code)
+module _ (a : Answer) (all line : Bytes) (f g code : ℕ) (o : Outcome a (sunk (holding [] 0) (holding all f)) (sunk (holding [] 0) (holding line g)) code)
     (room line_room : ℕ) (out err : Seen) (puts : Fills all room out) where
-  from_empty : Outcome a (sunk (holding [] 0) (holding all f)) (sunk (holding [] 0) (holding line g)) code
-  from_empty = subst (λ (x : Bytes × Bytes). Outcome a (sunk (holding x.0 0) (holding all f)) (sunk (holding x.1 0) (holding line g)) code)
-      (λ i. (nothing i, no_line i)) o
-
   -- memory was refused
   pub refused_rendered : Fills memory_line line_room err → Rendered a room out line_room err 7
   refused_rendered says =
-      let front = outcome_front a all f _ code from_empty in
+      let front = outcome_front a all f _ code o in
       inr ((all, front.0, front.1, puts), says, refl)
 
   module _ (fine : (code ≢ 7) × (f ≡ 0) × (g ≡ 0)) where
     is : (all ≡ a.text) × (line ≡ a.line) × (code ≡ a.status)
-    is = outcome_exact a all line f g code from_empty fine
+    is = outcome_exact a all line f g code o fine
 
     fills_text : Fills a.text room out
     fills_text = subst (λ (t : Bytes). Fills t room out) is.0 puts
@@ -68,8 +63,7 @@ module _ (a : Answer) (all line start line_start : Bytes) (f g code : ℕ) (noth
         inl (
           fills_text,
           subst (λ (b : Bool). Fills (if b then a.line else write_line) line_room err) (sym no) says,
-          ap
-              (λ (b : Bool). if b then a.status else 6) (sym no),
+          ap (λ (b : Bool). if b then a.status else 6) (sym no),
         )
 
     -- it fits

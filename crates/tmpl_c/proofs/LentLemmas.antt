@@ -16,7 +16,8 @@ use Rattle.tmpl_tool.specs.Inputs.{said_of}
 use Rattle.tmpl_tool.specs.Outcome.{Answer, Outcome, Says}
 use Rattle.tmpl_tool.specs.Source.{Bytes}
 use Rattle.tmpl_tool.specs.Tool as tool
-use Rattle.tmpl_tool.specs.Tool.{IsParse, Parse, Stop, added, answer_of, named_run, only_text, or_stop, stop_answer, stop_if}
+use Rattle.tmpl_tool.specs.Tool.{IsParse, Parse, Stop, added, answer_of, named_run, only_text, stop_answer, stop_if}
+use Rattle.tmpl_values.specs.Stage.{and_then}
 use Rattle.tmpl_tool.specs.declared.stop.Stop.TheVariants as stop
 use Rattle.tmpl_tool.proofs.MessageLemmas.{nothing_out, nothing_put}
 use Rattle.tmpl_tool.proofs.ParseLemmas.{for_each}
@@ -75,8 +76,8 @@ if_some P Q (Some x) then h = then x h
 
 module _ (rules : Rules) (print : Bool) (files : List (Bytes × Bytes)) (name input : Bytes) where
   abbrev behind_files : Bool → Result (List Template) Stop → Answer
-  behind_files p r = answer_of (or_stop r (λ set.
-      or_stop (stop_if p (tool.printed set)) (λ u. or_stop (data_lent (codes "data") input) (λ v. named_run rules name set v))))
+  behind_files p r = answer_of (and_then r (λ set.
+      and_then (stop_if p (tool.printed set)) (λ u. and_then (data_lent (codes "data") input) (λ v. named_run rules name set v))))
 
   -- by any function that keeps the rules
   pub by_any : (out err : Sunk) (code : ℕ) → Outcome (render_answer parsed rules print files name input) out err code
@@ -107,10 +108,10 @@ module _ (rules : Rules) (print : Bool) (files : List (Bytes × Bytes)) (name in
 
     module _ (runs : print ≡ false) where
       with_data : (r : Result (Option Value) Stop) → data_lent (codes "data") input ≡ r
-          → render_answer parsed rules print files name input ≡ answer_of (or_stop r (λ v. named_run rules name set v))
+          → render_answer parsed rules print files name input ≡ answer_of (and_then r (λ v. named_run rules name set v))
       with_data r is =
           from_files old none (Ok set) loads ∙ ap (λ (p : Bool). behind_files p (Ok set)) runs
-          ∙ ap (λ (r : Result (Option Value) Stop). answer_of (or_stop r (λ v. named_run rules name set v))) is
+          ∙ ap (λ (r : Result (Option Value) Stop). answer_of (and_then r (λ v. named_run rules name set v))) is
 
       -- the data stops it
       pub data_stops : (t : Told) (err : Sunk) (code : ℕ) (why : Halt) → IfSome (halt_seen why) (λ s. data_lent (codes "data") input ≡ Err s)

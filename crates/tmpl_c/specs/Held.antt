@@ -1,5 +1,6 @@
 -- What is kept by handles, and a call that keeps or renders it.
-use Rattle.std.specs.Prelude.{◌≡◌, ◌⊎◌, ℕ, Bool, List, [], Option, Some, None, Result, Ok, Err, option_map}
+use Rattle.std.specs.Prelude.{◌≡◌, ◌⊎◌, ℕ, Bool, List, [], Option, Result, Ok, Err, option_map}
+use Rattle.std.specs.Option.{option_map_or}
 use Rattle.tmpl_values.specs.Value.{Value}
 use Rattle.tmpl_values.specs.View.{value_of}
 use Rattle.tmpl_values.specs.declared.data.Data.{Data}
@@ -9,15 +10,15 @@ use Rattle.tmpl_syntax.specs.declared.set.Set.{Set}
 use Rattle.tmpl_meaning.specs.Meaning.{Rules}
 use Rattle.tmpl_tool.specs.Outcome.{Answer, memory_line}
 use Rattle.tmpl_tool.specs.Source.{Bytes}
-use Rattle.tmpl_tool.specs.Tool.{Stop, answer_of, named_run, or_stop, printed, stop_answer, stop_if}
+use Rattle.tmpl_tool.specs.Tool.{Stop, answer_of, named_run, printed, stop_answer, stop_if}
+use Rattle.tmpl_values.specs.Stage.{and_then}
 use Rattle.tmpl_c.specs.Filled.{Fills, Seen}
 
 -- ---- what is kept
 
 -- the templates of a set that is kept; none before the first file
 abbrev pub templates_in : Option Set → List Template
-templates_in None = []
-templates_in (Some set) = set_view set
+templates_in kept = option_map_or set_view kept []
 
 -- the value of data that is kept, if any is
 abbrev pub value_in : Option Data → Option Value
@@ -48,4 +49,4 @@ Keeps offered old new room err code =
 -- the printed set, or else the name, and the run
 abbrev pub held_answer : Rules → Bool → List Template → Bytes → Option Value → Answer
 held_answer rules print set name value = answer_of
-    (or_stop (stop_if print (printed set)) (λ u. named_run rules name set value))
+    (and_then (stop_if print (printed set)) (λ u. named_run rules name set value))

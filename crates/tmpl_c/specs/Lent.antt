@@ -9,7 +9,8 @@ use Rattle.tmpl_meaning.specs.declared.missing_key.MissingKey.{MissingKey}
 use Rattle.tmpl_meaning.specs.declared.missing_key.MissingKey.TheVariants.{Default, Invalid, Zero, Error}
 use Rattle.tmpl_tool.specs.Outcome.{Answer}
 use Rattle.tmpl_tool.specs.Source.{Bytes}
-use Rattle.tmpl_tool.specs.Tool.{Parse, Stop, added, answer_of, bad_words, data_in, named_run, or_stop, printed}
+use Rattle.tmpl_tool.specs.Tool.{Parse, Stop, added, answer_of, bad_words, data_in, named_run, printed}
+use Rattle.tmpl_values.specs.Stage.{and_then}
 use Rattle.tmpl_tool.specs.Tool.{stop_if}
 use Rattle.tmpl_c.specs.declared.lent.File.{File}
 use Rattle.tmpl_c.specs.declared.settings.Settings.{Settings}
@@ -43,12 +44,12 @@ rules_in s = record {
 
 -- the set with the templates of one more file, whose name has to be a text
 abbrev pub with_lent : Parse → List Template → Bytes × Bytes → Result (List Template) Stop
-with_lent parse set f = or_stop (stop_if (not (is_utf8 f.0)) bad_words) (λ u. added parse set f.0 f.1)
+with_lent parse set f = and_then (stop_if (not (is_utf8 f.0)) bad_words) (λ u. added parse set f.0 f.1)
 
 -- each file in turn
 abbrev pub each_added : Parse → List Template → List (Bytes × Bytes) → Result (List Template) Stop
 each_added parse set [] = Ok set
-each_added parse set (f ∷ fs) = or_stop (with_lent parse set f) (λ s. each_added parse s fs)
+each_added parse set (f ∷ fs) = and_then (with_lent parse set f) (λ s. each_added parse s fs)
 
 -- the data, which lines call so; none where there are no bytes
 abbrev pub data_lent : Bytes → Bytes → Result (Option Value) Stop
@@ -60,9 +61,9 @@ data_lent called (b ∷ bs) = data_in called (b ∷ bs)
 -- what a call comes to: each file, the printed set or else the data, the name, and the run
 abbrev pub lent_answer : Bytes → Parse → Rules → Bool → List (Bytes × Bytes) → Bytes → Bytes → Answer
 lent_answer called parse rules print files name input = answer_of
-    (or_stop (each_added parse [] files) (λ set.
-    or_stop (stop_if print (printed set)) (λ u.
-    or_stop (data_lent called input) (λ v.
+    (and_then (each_added parse [] files) (λ set.
+    and_then (stop_if print (printed set)) (λ u.
+    and_then (data_lent called input) (λ v.
     named_run rules name set v))))
 
 -- lines call the data so

@@ -1,10 +1,8 @@
 //! A render of what the caller keeps.
-ghost use Rattle.std.specs.Prelude.{◌≡◌, eqb, length, option_map};
+ghost use Rattle.std.specs.Prelude.{◌≡◌, option_map};
 ghost use Rattle.tmpl_values.specs.View.{value_of};
-ghost use Rattle.tmpl_c.specs.Filled.{Rendered};
-ghost use Rattle.tmpl_c.specs.Held.{held_answer, templates_in, value_in};
-ghost use Rattle.tmpl_c.specs.Lent.{rules_in};
-ghost use Rattle.tmpl_c.specs.computed.Extents.{extent_seen};
+ghost use Rattle.tmpl_c.specs.Held.{templates_in, value_in};
+ghost use Rattle.tmpl_c.specs.computed.Extents.{IsFilled, answer_by};
 
 use crate::data_handle::DataHandle;
 use crate::render::{Filled, fill_held};
@@ -24,11 +22,9 @@ fn render_with(
     out: &mut [u8],
     err: &mut [u8],
 ) -> Filled
-    ensures outcome { Rendered
-        (held_answer (rules_in settings.now) (eqb settings.now.print 1) (templates_in set.old.held) name.now
-        (option_map (λ d. value_of d.now) «data».entry))
-        (length out.old) (extent_seen out.new result.text) (length err.old) (extent_seen err.new result.line)
-        result.status }
+    ensures outcome { IsFilled
+        (answer_by settings.now (templates_in set.old.held) name.now (option_map (λ d. value_of d.now) «data».entry))
+        out.old out.new err.old err.new result }
     ensures set { set.new.held ≡ set.old.held }
 {
     match set.take(alloc) {
@@ -51,11 +47,9 @@ pub(crate) fn render(
     out: &mut [u8],
     err: &mut [u8],
 ) -> Filled
-    ensures outcome { Rendered
-        (held_answer (rules_in settings.now) (eqb settings.now.print 1) (templates_in set.old.held) name.now
-        (value_in «data».old.held))
-        (length out.old) (extent_seen out.new result.text) (length err.old) (extent_seen err.new result.line)
-        result.status }
+    ensures outcome { IsFilled
+        (answer_by settings.now (templates_in set.old.held) name.now (value_in «data».old.held))
+        out.old out.new err.old err.new result }
     ensures set { set.new.held ≡ set.old.held }
     ensures kept { «data».new.held ≡ «data».old.held }
 {

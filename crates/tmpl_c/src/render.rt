@@ -5,10 +5,9 @@ ghost use Rattle.tmpl_syntax.specs.View.{set_view};
 ghost use Rattle.tmpl_meaning.specs.Sink.{sunk};
 ghost use Rattle.tmpl_tool.specs.Outcome.{Answer, Outcome, memory_line, write_line};
 ghost use Rattle.tmpl_tool.specs.Tool.{IsParse, Parse};
-ghost use Rattle.tmpl_c.specs.Filled.{Fills, Rendered};
-ghost use Rattle.tmpl_c.specs.Held.{held_answer};
+ghost use Rattle.tmpl_c.specs.Filled.{Fills};
 ghost use Rattle.tmpl_c.specs.Lent.{pairs_of, render_answer, rules_in};
-ghost use Rattle.tmpl_c.specs.computed.Extents.{extent_seen};
+ghost use Rattle.tmpl_c.specs.computed.Extents.{IsFilled, answer_by, extent_seen};
 ghost use Rattle.tmpl_c.specs.computed.Gathering.{told_of, untouched};
 
 use crate::gathered::Gathered;
@@ -132,8 +131,7 @@ pub(crate) fn say_refused(err: &mut [u8]) -> Extent
 /// Copies what was gathered to lent memory, and says why the text is not all there.
 fn hand_over(code: u8, text: &Gathered, line: &Gathered, out: &mut [u8], err: &mut [u8]) -> Filled
     ensures { (a : Answer) → Outcome a (sunk untouched (told_of text.now)) (sunk untouched (told_of line.now)) code
-        → Rendered a (length out.old) (extent_seen out.new result.text)
-        (length err.old) (extent_seen err.new result.line) result.status }
+        → IsFilled a out.old out.new err.old err.new result }
 {
     let room = out.len();
     let put = copy_to(out, text.bytes.as_slice());
@@ -168,10 +166,9 @@ pub(crate) fn fill(
     out: &mut [u8],
     err: &mut [u8],
 ) -> Filled
-    ensures { (parse : Parse) → IsParse parse → Rendered
+    ensures { (parse : Parse) → IsParse parse → IsFilled
         (render_answer parse (rules_in settings.now) (eqb settings.now.print 1) (pairs_of files.now) name.now input.now)
-        (length out.old) (extent_seen out.new result.text) (length err.old) (extent_seen err.new result.line)
-        result.status }
+        out.old out.new err.old err.new result }
 {
     let mut text = gathered(alloc);
     let mut line = gathered(alloc);
@@ -192,8 +189,7 @@ fn render_held(
     requires out { out.old.failures < 2 ^ 64 - 1 }
     requires err { err.old.failures < 2 ^ 64 - 1 }
     ensures outcome { Outcome
-        (held_answer (rules_in settings.now) (eqb settings.now.print 1) (set_view set.now) name.now
-        (option_map (λ d. value_of d.now) «data».entry))
+        (answer_by settings.now (set_view set.now) name.now (option_map (λ d. value_of d.now) «data».entry))
         (sunk (told_of out.old) (told_of out.new)) (sunk (told_of err.old) (told_of err.new)) result }
 {
     if settings.print == 1 {
@@ -215,11 +211,9 @@ pub(crate) fn fill_held(
     out: &mut [u8],
     err: &mut [u8],
 ) -> Filled
-    ensures { Rendered
-        (held_answer (rules_in settings.now) (eqb settings.now.print 1) (set_view set.now) name.now
-        (option_map (λ d. value_of d.now) «data».entry))
-        (length out.old) (extent_seen out.new result.text) (length err.old) (extent_seen err.new result.line)
-        result.status }
+    ensures { IsFilled
+        (answer_by settings.now (set_view set.now) name.now (option_map (λ d. value_of d.now) «data».entry))
+        out.old out.new err.old err.new result }
 {
     let mut text = gathered(alloc);
     let mut line = gathered(alloc);

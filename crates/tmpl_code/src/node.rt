@@ -1,16 +1,15 @@
 //! Nodes to code, each from its last part to its first.
 ghost use Rattle.std.specs.Prelude.{◌≡◌, ◌+◌, ◌≤◌, IfOk, OnOk, Some, length, option_map};
 ghost use Rattle.tmpl_grammar.specs.Need.{declared_count};
-ghost use Rattle.tmpl_grammar.specs.View.{binding_of, header_of, pipeline_of};
+ghost use Rattle.tmpl_grammar.specs.View.{binding_of, pipeline_of};
 ghost use Rattle.tmpl_grammar.specs.declared.tree.Control.TheVariants as control;
 ghost use Rattle.tmpl_syntax.specs.Need.{left_behind};
-ghost use Rattle.tmpl_syntax.specs.Tree.{control_node};
 ghost use Rattle.tmpl_syntax.specs.View.{control_of, node_of, nodes_in, set_view};
 ghost use Rattle.tmpl_code.specs.Code as spec;
 ghost use Rattle.tmpl_code.specs.Layout.{declared_in, grown};
 ghost use Rattle.tmpl_code.specs.View.{instruction_of};
-ghost use Rattle.tmpl_code.specs.computed.Held.{BoundPart, DottedPart, EndedPart, IsOpen, Put, TurnsPart, all_grown};
-ghost use Rattle.tmpl_code.specs.computed.Held.{code_of, exit_seen, layout_of, shrunk};
+ghost use Rattle.tmpl_code.specs.computed.Held.{BoundPart, DottedPart, EndedPart, IsOpen, PartsAt, Put, TurnsPart};
+ghost use Rattle.tmpl_code.specs.computed.Held.{all_grown, code_of, exit_seen, layout_of, shrunk};
 
 use crate::binding::{
     close, declared_count, declares, declares_key, open, put_header, put_shown, put_turn,
@@ -39,6 +38,14 @@ pub(crate) struct Around {
 pub(crate) struct Site<'t> {
     pub(crate) set: &'t Set,
     pub(crate) exit: Option<Around>,
+}
+
+/// The parts of a control.
+#[derive(Clone, Copy)]
+pub(crate) struct Parts<'s> {
+    pub(crate) header: &'s Header,
+    pub(crate) body: &'s [Node],
+    pub(crate) other: &'s [Node],
 }
 
 /// The code so far, and the cells where more of it is put.
@@ -281,104 +288,84 @@ impl<'s> Compiler<'s> {
         ensures { OnOk result (Put (spec.NodeAt (set_view site.entry.set.now) line (control_of node.now))
             site.entry.exit self.old self.new) }
     {
-        let header = &node.header;
-        let body = node.body.as_slice();
-        let other = node.other.as_slice();
+        let parts = Parts {
+            header: &node.header,
+            body: node.body.as_slice(),
+            other: node.other.as_slice(),
+        };
         match node.control {
-            Control::If => self.put_if(site, header, body, other),
-            Control::With => self.put_with(site, header, body, other),
-            Control::Range => self.put_range(site, short(line as usize)?, header, body, other),
+            Control::If => self.put_if(site, parts),
+            Control::With => self.put_with(site, parts),
+            Control::Range => self.put_range(site, short(line as usize)?, parts),
         }
     }
 
     /// Puts an `if`.
     #[cycle(nodes)]
-    fn put_if(
-        &mut self,
-        site: Site<'_>,
-        header: &'s Header,
-        body: &'s [Node],
-        other: &'s [Node],
-    ) -> Result<(), AllocError>
+    fn put_if(&mut self, site: Site<'_>, parts: Parts<'s>) -> Result<(), AllocError>
         requires { IsOpen site.exit (code_of self.old.code) (layout_of self.old.scope) }
-        ensures { OnOk result (Put (spec.NodeAt (set_view site.entry.set.now) 0
-            (control_node control.If (header_of header.now) (nodes_in body.now) (nodes_in other.now)))
+        ensures { OnOk result (Put (PartsAt (set_view site.entry.set.now) 0 control.If parts.entry)
             site.entry.exit self.old self.new) }
     {
         let end = self.code.len();
-        self.put_ended(site, &header.binding, other, 0)?;
+        self.put_ended(site, &parts.header.binding, parts.other, 0)?;
         let second = self.code.len();
         let to = self.code.since(end)?;
-        self.put_ended(site, &header.binding, body, to)?;
-        let kept = declares(&header.binding);
+        self.put_ended(site, &parts.header.binding, parts.body, to)?;
+        let kept = declares(&parts.header.binding);
         let skip = self.code.since(second)?;
         self.code.push(Instruction::Unless { kept, skip })?;
-        put_header(&mut self.code, &self.scope, header)
+        put_header(&mut self.code, &self.scope, parts.header)
     }
 
     /// Puts a `with`.
     #[cycle(nodes)]
-    fn put_with(
-        &mut self,
-        site: Site<'_>,
-        header: &'s Header,
-        body: &'s [Node],
-        other: &'s [Node],
-    ) -> Result<(), AllocError>
+    fn put_with(&mut self, site: Site<'_>, parts: Parts<'s>) -> Result<(), AllocError>
         requires { IsOpen site.exit (code_of self.old.code) (layout_of self.old.scope) }
-        ensures { OnOk result (Put (spec.NodeAt (set_view site.entry.set.now) 0
-            (control_node control.With (header_of header.now) (nodes_in body.now) (nodes_in other.now)))
+        ensures { OnOk result (Put (PartsAt (set_view site.entry.set.now) 0 control.With parts.entry)
             site.entry.exit self.old self.new) }
     {
         let end = self.code.len();
-        self.put_ended(site, &header.binding, other, 0)?;
+        self.put_ended(site, &parts.header.binding, parts.other, 0)?;
         let second = self.code.len();
         let skip = self.code.since(end)?;
         self.code.push(Instruction::EndWith {
-            count: short(declared_in(body)?)?,
-            variables: short(declared_count(&header.binding))?,
+            count: short(declared_in(parts.body)?)?,
+            variables: short(declared_count(&parts.header.binding))?,
             skip,
         })?;
-        self.put_dotted_part(site, &header.binding, body)?;
-        let kept = declares(&header.binding);
+        self.put_dotted_part(site, &parts.header.binding, parts.body)?;
+        let kept = declares(&parts.header.binding);
         let skip = self.code.since(second)?;
         self.code.push(Instruction::With { kept, skip })?;
-        put_header(&mut self.code, &self.scope, header)
+        put_header(&mut self.code, &self.scope, parts.header)
     }
 
     /// Puts a range.
     #[cycle(nodes)]
-    fn put_range(
-        &mut self,
-        site: Site<'_>,
-        line: u32,
-        header: &'s Header,
-        body: &'s [Node],
-        other: &'s [Node],
-    ) -> Result<(), AllocError>
+    fn put_range(&mut self, site: Site<'_>, line: u32, parts: Parts<'s>) -> Result<(), AllocError>
         requires { IsOpen site.exit (code_of self.old.code) (layout_of self.old.scope) }
-        ensures { OnOk result (Put (spec.NodeAt (set_view site.entry.set.now) line
-            (control_node control.Range (header_of header.now) (nodes_in body.now) (nodes_in other.now)))
+        ensures { OnOk result (Put (PartsAt (set_view site.entry.set.now) line control.Range parts.entry)
             site.entry.exit self.old self.new) }
     {
         let after = self.code.len();
-        put_end(&mut self.code, short(declared_in(other)?)?, 0)?;
-        self.put_nodes(site, other)?;
+        put_end(&mut self.code, short(declared_in(parts.other)?)?, 0)?;
+        self.put_nodes(site, parts.other)?;
         let second = self.code.len();
-        let count = declared_by(&header.binding, body)?;
+        let count = declared_by(&parts.header.binding, parts.body)?;
         let skip = self.code.since(after)?;
         self.code.push(Instruction::Next { count, skip, line })?;
         let below = self.scope.len();
         self.put_turns(
             site.set,
             Around { after, line, below },
-            &header.binding,
-            body,
+            &parts.header.binding,
+            parts.body,
         )?;
-        let key = declares_key(&header.binding);
+        let key = declares_key(&parts.header.binding);
         let skip = self.code.since(second)?;
         self.code.push(Instruction::Enter { key, skip })?;
-        put_pipeline(&mut self.code, &self.scope, &header.pipeline)
+        put_pipeline(&mut self.code, &self.scope, &parts.header.pipeline)
     }
 
     /// Puts a part behind a header, and what ends it: it forgets the part's variables and passes over so many

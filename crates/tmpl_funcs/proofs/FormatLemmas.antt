@@ -1,6 +1,6 @@
 -- For `add_form` and the lemmas of `printf`: a format is its first segment before the rest.
 use Rattle.std.proofs.Common.{◌≡◌, ◌∙◌, ℕ, zero, suc, ◌+◌, ◌-◌, ◌<◌, ◌==◌, Bool, true, false, cond, List, [], ◌∷◌, ◌++◌}
-use Rattle.std.proofs.Common.{length, get_or, take, drop, Option, Some, None, refl, sym, ap, subst, arith, append_assoc}
+use Rattle.std.proofs.Common.{length, get_or, take, drop, Option, Some, None, option_map, refl, sym, ap, subst, arith, append_assoc}
 use Rattle.std.specs.List.{prefix_len, take_while}
 use Rattle.std.proofs.Math.Seq.{drop-append_seam}
 use Rattle.std.proofs.lemmas.Bool.{not-true}
@@ -8,7 +8,7 @@ use Rattle.std.proofs.lemmas.List.{length-take}
 use Rattle.std.proofs.lemmas.List.Sums.{prefix_len-le-length}
 use Rattle.tmpl_values.specs.Value.{Value}
 use Rattle.tmpl_funcs.specs.printf.Form.{WrittenForm, Segment, literal, percent, form, form_bytes, is_plain}
-use Rattle.tmpl_funcs.specs.printf.Reading.{form_at, first_segment, form_segment, rest_len, with_segment, segments_after, reading}
+use Rattle.tmpl_funcs.specs.printf.Reading.{form_at, first_segment, rest_len, with_segment, segments_after, reading}
 use Rattle.tmpl_funcs.specs.printf.Form.{form_of}
 use Rattle.tmpl_funcs.specs.printf.Directive.{printed}
 use Rattle.tmpl_funcs.specs.printf.Format.{both, filled, formatted}
@@ -59,8 +59,8 @@ pub first_segment-plain : (b : ℕ) (bs : List ℕ) → is_plain b ≡ true → 
 first_segment-plain b bs h = let e : (b == 37) ≡ false = not-true (b == 37) h in rw e refl
 
 pub first_segment-form : (b : ℕ) (bs : List ℕ) (f : Option WrittenForm) → is_plain b ≡ true → form_at (b ∷ bs) ≡ f
-    → first_segment (37 ∷ b ∷ bs) ≡ form_segment f
-first_segment-form b bs f h is = let e : (b == 37) ≡ false = not-true (b == 37) h in rw e (ap form_segment is)
+    → first_segment (37 ∷ b ∷ bs) ≡ option_map form f
+first_segment-form b bs f h is = let e : (b == 37) ≡ false = not-true (b == 37) h in rw e (ap (option_map form) is)
 
 is_plain-first : (b : ℕ) (bs : List ℕ) (t : Bool) → is_plain b ≡ t → 0 < cond t (1 + prefix_len is_plain bs) 0 → is_plain b ≡ true
 is_plain-first b bs true is h = is
@@ -96,7 +96,7 @@ formatted-lone vs = formatted-first 37 [] vs None refl
 
 module _ (bs : List ℕ) (some : 0 < length bs) (plain : is_plain (get_or bs 0 0) ≡ true) where
   first_segment-form_first : (cs : List ℕ) → 0 < length cs → is_plain (get_or cs 0 0) ≡ true → (f : Option WrittenForm) → form_at cs ≡ f
-      → first_segment (37 ∷ cs) ≡ form_segment f
+      → first_segment (37 ∷ cs) ≡ option_map form f
   first_segment-form_first [] h p f is = absurd (omega arith)
   first_segment-form_first (c ∷ cs) h p f is = first_segment-form c cs f p is
 

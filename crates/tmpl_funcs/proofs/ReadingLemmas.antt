@@ -1,6 +1,6 @@
 -- For the law `one_format_reading`: a format has one reading, and it is the one that is computed.
 use Rattle.std.proofs.Common.{◌≡◌, ◌∙◌, ℕ, zero, suc, ◌-◌, ◌==◌, Bool, true, false, ◌&&◌, not, cond, List, [], ◌∷◌}
-use Rattle.std.proofs.Common.{◌++◌, length, drop, Option, Some, None, refl, sym, ap, subst, arith, append_assoc}
+use Rattle.std.proofs.Common.{◌++◌, length, drop, Option, Some, None, option_map, refl, sym, ap, subst, arith, append_assoc}
 use Rattle.std.specs.List.{flat_map, prefix_len, take_while, list_all}
 use Rattle.std.proofs.Math.Seq.{drop-append_seam}
 use Rattle.std.proofs.lemmas.Bool.{false≢true}
@@ -11,7 +11,7 @@ use Rattle.tmpl_funcs.specs.printf.Form.{WrittenForm, Segment, literal, percent,
 use Rattle.tmpl_funcs.specs.printf.Form.{segment_bytes, is_plain, is_flag, is_decimal, is_short, begins_above_0}
 use Rattle.tmpl_funcs.specs.printf.Form.{takes_precision, IsPrecision, IsForm, IsNoRun, AreSegments, IsReading}
 use Rattle.tmpl_funcs.specs.printf.Reading.{is_precision, verb_of, behind, form_if, form_by, verb_behind}
-use Rattle.tmpl_funcs.specs.printf.Reading.{precision_behind, width_behind, form_at, form_segment, segment_behind}
+use Rattle.tmpl_funcs.specs.printf.Reading.{precision_behind, width_behind, form_at, segment_behind}
 use Rattle.tmpl_funcs.specs.printf.Reading.{first_segment, rest_len, with_segment, segments_after, reading}
 use Rattle.tmpl_funcs.specs.declared.printf.form.Verb.{Verb}
 use Rattle.tmpl_funcs.specs.declared.printf.form.Verb.TheVariants as verb
@@ -271,14 +271,14 @@ data FirstOf (b : ℕ) (bs : List ℕ) : Segment → Type 0 where
   a_form : (f : WrittenForm) → b ≡ 37 → IsForm f → bs ≡ form_bytes f ++ drop (length (form_bytes f)) bs → FirstOf b bs (form f)
 
 module _ (b c : ℕ) (cs : List ℕ) (is : b ≡ 37) where
-  form_segment-sound : (o : Option WrittenForm) (p : Segment) → form_at (c ∷ cs) ≡ o → form_segment o ≡ Some p → FirstOf b (c ∷ cs) p
+  form_segment-sound : (o : Option WrittenForm) (p : Segment) → form_at (c ∷ cs) ≡ o → option_map form o ≡ Some p → FirstOf b (c ∷ cs) p
   form_segment-sound None p e h = cc
   form_segment-sound (Some f) p e h =
       let sound = form_at-sound (c ∷ cs) f e in
       let same : form f ≡ p = cc in
       subst (FirstOf b (c ∷ cs)) same (a_form f is sound.0 sound.1)
 
-  segment_behind-by : (t : Bool) (p : Segment) → (c == 37) ≡ t → cond t (Some percent) (form_segment (form_at (c ∷ cs))) ≡ Some p → FirstOf b (c ∷ cs) p
+  segment_behind-by : (t : Bool) (p : Segment) → (c == 37) ≡ t → cond t (Some percent) (option_map form (form_at (c ∷ cs))) ≡ Some p → FirstOf b (c ∷ cs) p
   segment_behind-by true p e h =
       let second : c ≡ 37 = grind (arith, nat_tests) in
       let same : percent ≡ p = cc in

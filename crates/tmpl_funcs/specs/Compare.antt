@@ -1,5 +1,6 @@
 -- The comparisons ("Functions", at `eq` to `ge`).
-use Rattle.std.specs.Prelude.{Bool, true, false, not, List, [], ◌∷◌, Option, Some, None, option_map, Result, Ok, Err}
+use Rattle.std.specs.Prelude.{Bool, true, false, not, List, [], ◌∷◌, Option, Some, None, option_map, Result, Err}
+use Rattle.std.specs.Prelude.{ok_or}
 use Rattle.tmpl_values.specs.Value.{Value, boolean}
 use Rattle.tmpl_values.specs.Compare.{equality, order}
 use Rattle.tmpl_funcs.specs.declared.fault.CallFault.{CallFault}
@@ -7,8 +8,7 @@ use Rattle.tmpl_funcs.specs.declared.fault.CallFault.TheVariants.{WrongCount, No
 
 -- a comparison as an answer; none is a fault
 abbrev pub compared : Option Bool → Result Value CallFault
-compared None = Err NotComparable
-compared (Some b) = Ok (boolean b)
+compared answer = ok_or (option_map boolean answer) NotComparable
 
 -- the second comparison, where the first one is there and does not hold
 abbrev pub or_else : Option Bool → Option Bool → Option Bool

@@ -1,5 +1,5 @@
 -- Whether a value is empty, and its size ("Functions", at `not` and `len`).
-use Rattle.std.specs.Prelude.{ℕ, pos, List, [], ◌∷◌, not, Option, Some, None, Result, Ok, Err}
+use Rattle.std.specs.Prelude.{ℕ, pos, List, [], ◌∷◌, not, Option, option_map, Result, Ok, Err, ok_or}
 use Rattle.tmpl_values.specs.Value.{Value, boolean, number}
 use Rattle.tmpl_values.specs.Truth.{truth}
 use Rattle.tmpl_values.specs.Item.{size_of}
@@ -13,8 +13,7 @@ not_of _ = Err WrongCount
 
 -- a size as a number; what has no size is of the wrong kind
 abbrev pub sized : Option ℕ → Result Value CallFault
-sized None = Err WrongKind
-sized (Some n) = Ok (number (pos n))
+sized size = ok_or (option_map (λ n. number (pos n)) size) WrongKind
 
 -- the bytes of a string, or the items of a sequence or a mapping
 abbrev pub len_of : List Value → Result Value CallFault

@@ -1,9 +1,11 @@
 -- The item of a value at indexes ("Functions", at `index`: "the result of indexing its first
 -- argument by the following arguments. Thus `index x 1 2 3` is, in Go syntax, x[1][2][3]").
-use Rattle.std.specs.Prelude.{ℕ, ℤ, pos, negsuc, List, [], ◌∷◌, slice_get, Option, Some, None, Result, Ok, Err}
+use Rattle.std.specs.Prelude.{ℕ, ℤ, pos, negsuc, List, [], ◌∷◌, slice_get, option_map, Option, Some, None}
+use Rattle.std.specs.Prelude.{Result, Ok, Err, ok_or}
 use Rattle.tmpl_values.specs.Value.{Value, nothing, null, number, string, sequence, mapping, Items, Entries}
 use Rattle.tmpl_values.specs.Field.{FieldValue, found, entry_at}
 use Rattle.tmpl_values.specs.Item.{nth_item, bytes_of}
+use Rattle.tmpl_values.specs.Stage.{and_then}
 use Rattle.tmpl_funcs.specs.declared.fault.CallFault.{CallFault}
 use Rattle.tmpl_funcs.specs.declared.fault.CallFault.TheVariants.{WrongCount, WrongKind, OutOfRange}
 
@@ -14,18 +16,12 @@ number_of _ = None
 
 -- a value that is there; a place with none is out of range
 abbrev pub in_range : Option Value → Result Value CallFault
-in_range None = Err OutOfRange
-in_range (Some v) = Ok v
+in_range o = ok_or o OutOfRange
 
--- a byte that is there, as a number
-abbrev pub byte_in_range : Option ℕ → Result Value CallFault
-byte_in_range None = Err OutOfRange
-byte_in_range (Some b) = Ok (number (pos b))
-
--- the byte at a place, counted from 0
+-- the byte at a place, counted from 0, as a number
 abbrev pub byte_at : List ℕ → Option ℤ → Result Value CallFault
 byte_at s None = Err WrongKind
-byte_at s (Some (pos i)) = byte_in_range (slice_get s i)
+byte_at s (Some (pos i)) = in_range (option_map (λ b. number (pos b)) (slice_get s i))
 byte_at s (Some (negsuc i)) = Err OutOfRange
 
 -- the item at a place, counted from 0
@@ -41,8 +37,7 @@ entry_or_null _ = null
 
 -- the entry of a key, which is a string
 abbrev pub entry_of : Entries → Option (List ℕ) → Result Value CallFault
-entry_of es None = Err WrongKind
-entry_of es (Some k) = Ok (entry_or_null (entry_at k es))
+entry_of es key = ok_or (option_map (λ k. entry_or_null (entry_at k es)) key) WrongKind
 
 -- a value at one index
 abbrev pub indexed : Value → Value → Result Value CallFault
@@ -51,16 +46,10 @@ indexed (sequence vs) i = item_of vs (number_of i)
 indexed (mapping es) i = entry_of es (bytes_of i)
 indexed _ i = Err WrongKind
 
--- what follows from a value, and a fault as it is
-abbrev pub result_and_then : Result Value CallFault → (Value → Result Value CallFault)
-    → Result Value CallFault
-result_and_then (Ok v) f = f v
-result_and_then (Err e) f = Err e
-
 -- a value at indexes, from left to right
 abbrev pub indexed_by : Value → List Value → Result Value CallFault
 indexed_by v [] = Ok v
-indexed_by v (i ∷ is) = result_and_then (indexed v i) (λ w. indexed_by w is)
+indexed_by v (i ∷ is) = and_then (indexed v i) (λ w. indexed_by w is)
 
 -- with no index the value itself, of any kind but nothing
 abbrev pub something : Value → Result Value CallFault
@@ -71,4 +60,4 @@ something v = Ok v
 -- the first argument at the others
 abbrev pub index_of : List Value → Result Value CallFault
 index_of [] = Err WrongCount
-index_of (v ∷ is) = result_and_then (something v) (λ w. indexed_by w is)
+index_of (v ∷ is) = and_then (something v) (λ w. indexed_by w is)

@@ -1,6 +1,6 @@
 -- Operands as one text ("Functions", at `print` and `println`, which are `fmt.Sprint` and
 -- `fmt.Sprintln`: "Spaces are added between operands when neither is a string").
-use Rattle.std.specs.Prelude.{ℕ, Bool, true, false, ◌||◌, List, [], ◌∷◌, ◌++◌, map, codes, Result, Ok}
+use Rattle.std.specs.Prelude.{ℕ, Bool, true, false, ◌||◌, List, [], ◌∷◌, ◌++◌, map, codes, Result, Ok, if◌then◌else◌}
 use Rattle.tmpl_values.specs.Value.{Value, nothing, null, string}
 use Rattle.tmpl_values.specs.Text.{inner_text, parted}
 use Rattle.tmpl_funcs.specs.declared.fault.CallFault.{CallFault}
@@ -12,8 +12,7 @@ is_string _ = false
 
 -- a space, or nothing
 abbrev pub space_unless : Bool → List ℕ
-space_unless true = []
-space_unless false = 32 ∷ []
+space_unless omitted = if omitted then [] else 32 ∷ []
 
 -- what stands between two neighbours: a space where neither is a string
 abbrev pub between : Value → Value → List ℕ

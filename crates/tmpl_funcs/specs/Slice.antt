@@ -1,8 +1,8 @@
 -- A part of a string or a sequence ("Functions", at `slice`: "`slice x 1 2` is, in Go syntax,
 -- x[1:2], while `slice x` is x[:], `slice x 1` is x[1:]"). That no part goes past the length is
 -- this project's own rule.
-use Rattle.std.specs.Prelude.{ℕ, ℤ, pos, ◌&&◌, nat_le, Bool, true, false, List, [], ◌∷◌, length, Option, Some}
-use Rattle.std.specs.Prelude.{None, Result, Ok, Err}
+use Rattle.std.specs.Prelude.{ℕ, ℤ, pos, ◌&&◌, nat_le, List, [], ◌∷◌, length, Option, Some, None, option_map}
+use Rattle.std.specs.Prelude.{Result, Ok, Err, if◌then◌else◌}
 use Rattle.tmpl_values.specs.Value.{Value, string, sequence}
 use Rattle.tmpl_values.specs.Item.{item_count, part_of}
 use Rattle.tmpl_funcs.specs.Index.{number_of}
@@ -15,14 +15,9 @@ extent (string s) = Some (length s)
 extent (sequence vs) = Some (item_count vs)
 extent _ = None
 
--- the part, where the bounds are in order and within the length
-abbrev pub part_if : Bool → ℕ → ℕ → Value → Result Value CallFault
-part_if true i j v = Ok (part_of i j v)
-part_if false i j v = Err OutOfRange
-
--- the part of a value of length n between two numbers
+-- the part of a value of length n between two numbers, which are to be in order and within the length
 abbrev pub part_between : Value → ℕ → ℤ → ℤ → Result Value CallFault
-part_between v n (pos i) (pos j) = part_if (nat_le i j && nat_le j n) i j v
+part_between v n (pos i) (pos j) = if nat_le i j && nat_le j n then Ok (part_of i j v) else Err OutOfRange
 part_between v n _ _ = Err OutOfRange
 
 -- the part between two bounds, each of which has to be a number
@@ -32,8 +27,7 @@ part_by v _ _ _ = Err WrongKind
 
 -- the end that stands for no bound
 abbrev pub default_end : Option ℕ → Option ℤ
-default_end None = None
-default_end (Some n) = Some (pos n)
+default_end size = option_map pos size
 
 -- the first argument between the others; without them it begins at 0 and ends at its end
 abbrev pub slice_of : List Value → Result Value CallFault

@@ -1,6 +1,7 @@
 -- The meaning of a template: its text, and the fault that ends it if there is one.
 use Rattle.std.specs.Prelude.{ℕ, zero, suc, ◌-◌, nat_eq, Bool, true, false, ◌||◌, List, [], ◌∷◌, ◌++◌, length, drop}
 use Rattle.std.specs.Prelude.{Option, Some, None, Result, Ok, Err, if◌then◌else◌}
+use Rattle.std.specs.Option.{option_map_or}
 use Rattle.std.specs.Str.{bytes_eq}
 use Rattle.tmpl_values.specs.Value.{Value, nothing}
 use Rattle.tmpl_values.specs.Elements.{Element, elements, pairs}
@@ -266,8 +267,7 @@ ran_of r = record { text = r.0.text; fault = fault_of r.1; made_text = r.0.made_
 
 -- the starting dot: the data, of which null is nothing; nothing where there is no data
 abbrev pub starting_dot : Option Value → Value
-starting_dot None = nothing
-starting_dot (Some v) = without_null v
+starting_dot input = option_map_or without_null input nothing
 
 -- the run at its start, with this dot
 abbrev pub started : ℕ → Value → Run

@@ -1,9 +1,11 @@
 -- The value of a pipeline ("Arguments", "Pipelines", "Variables" and "Functions" in the documentation of Go's
 -- text/template). What nothing, null and the modes for missing keys do is our own rule, also where Go differs.
 use Rattle.std.specs.Prelude.{ℕ, suc, ◌+◌, Bool, true, false, not, ◌||◌, List, [], ◌∷◌, ◌++◌, Option, Some}
-use Rattle.std.specs.Prelude.{None, Result, Ok, Err, if◌then◌else◌}
+use Rattle.std.specs.Prelude.{None, Result, Ok, Err, length, option_to_list, if◌then◌else◌}
+use Rattle.std.specs.Result.{result_map_both}
 use Rattle.std.specs.Str.{bytes_eq}
 use Rattle.tmpl_values.specs.Value.{Value, nothing, null, boolean, number, string, sequence, mapping}
+use Rattle.tmpl_values.specs.Stage.{and_then}
 use Rattle.tmpl_values.specs.Truth.{truth}
 use Rattle.tmpl_values.specs.Field.{FieldValue, found, missing, of_nothing, no_field, field_at}
 use Rattle.tmpl_funcs.specs.Dispatch.{called}
@@ -50,16 +52,11 @@ field_value missing_key name missing = absent_entry missing_key name
 field_value missing_key name of_nothing = field_of_nothing missing_key name
 field_value missing_key name no_field = Err (lacks_field name)
 
--- goes on with a value, or stops
-abbrev pub value_then : Result Value Cause → (Value → Result Value Cause) → Result Value Cause
-value_then (Ok v) next = next v
-value_then (Err cause) next = Err cause
-
 -- the field of the field of .. of a value
 abbrev pub chain : MissingKey → List (List ℕ) → Value → Result Value Cause
 chain missing_key [] v = Ok v
 chain missing_key (name ∷ names) v =
-    value_then (field_value missing_key name (field_at name v)) (chain missing_key names)
+    and_then (field_value missing_key name (field_at name v)) (chain missing_key names)
 
 -- a null that a command gives is nothing
 abbrev pub without_null : Value → Value
@@ -91,8 +88,7 @@ piped_after vs None = vs
 piped_after vs (Some v) = vs ++ v ∷ []
 
 abbrev pub or_call_failed : Func → Result Value CallFault → Result Value Cause
-or_call_failed f (Ok v) = Ok v
-or_call_failed f (Err fault) = Err (call_failed f fault)
+or_call_failed f answer = result_map_both (λ v. v) (call_failed f) answer
 
 -- a function over these values
 abbrev pub applied : Func → List Value → Given Value
@@ -107,10 +103,6 @@ by_function f all both either = all
 abbrev pub by_count : Func → Bool → Given Value → Given Value
 by_count f true g = g
 by_count f false g = given (Err (call_failed f WrongCount))
-
-abbrev pub piped_count : Option Value → ℕ
-piped_count None = 0
-piped_count (Some v) = 1
 
 abbrev pub operand_count : Operands → ℕ
 operand_count no_operand = 0
@@ -155,7 +147,7 @@ abbrev pub bare_call : Func → Given Value
 bare_call f = by_count f (takes f 0) (applied f [])
 
 abbrev pub argument_count : Operands → Option Value → ℕ
-argument_count os piped = operand_count os + piped_count piped
+argument_count os piped = operand_count os + length (option_to_list piped)
 
 abbrev mutual
   -- as an argument: null stays null, `nil` is nothing, and a function is a call without arguments

@@ -15,7 +15,8 @@ use Rattle.tmpl_syntax.specs.declared.fault.ParseFault.{ParseFault}
 use Rattle.tmpl_syntax.proofs.FileLemmas.{parsed-long}
 use Rattle.tmpl_tool.specs.Source.{Asked, Bytes, Files, TellsFront}
 use Rattle.tmpl_tool.specs.Tool as tool
-use Rattle.tmpl_tool.specs.Tool.{Failing, Stop, file_reads, loaded, no_read, or_stop, reads_behind, with_file}
+use Rattle.tmpl_tool.specs.Tool.{Failing, Stop, file_reads, loaded, no_read, reads_behind, with_file}
+use Rattle.tmpl_values.specs.Stage.{and_then}
 use Rattle.tmpl_tool.specs.Inputs.{Adds, ComesOf, StopsAt}
 use Rattle.tmpl_tool.specs.declared.stop.Stop as held
 use Rattle.tmpl_tool.specs.declared.stop.Stop.TheVariants as stop
@@ -47,7 +48,7 @@ module _ (Made : List Bytes → Type 0) (files : Files) (set : List Template) (n
 
   as_parsed : with_file parsed files false set name ≡ result_map_both (λ s. s) (tool.refused name) (parsed set name bytes)
   as_parsed =
-      ap (λ o. or_stop (ok_or o (tool.not_found name)) (λ bytes. result_map_both (λ s. s) (tool.refused name) (parsed set name bytes))) found.1
+      ap (λ o. and_then (ok_or o (tool.not_found name)) (λ bytes. result_map_both (λ s. s) (tool.refused name) (parsed set name bytes))) found.1
       ∙ ap (result_map_both (λ s. s) (tool.refused name)) same_parsed
 
   refusal_comes : (f : ParseFault) (why : Option Reason)
@@ -91,8 +92,8 @@ module _ (before between after : Option (List Bytes)) (files : Files) (start : L
 
   -- the file comes to this where its read does as that of a number
   one_file : (fails : Failing) → Succeed i fails → (r : Result (List Template) Stop) → with_file parsed files (fails i) set name ≡ r
-      → loaded parsed files fails 0 start names ≡ or_stop r (λ s. loaded parsed files fails (suc i) s left)
-  one_file fails succeed r is = (so_far.2 fails succeed).0 ∙ ap (λ r. or_stop r (λ s. loaded parsed files fails (suc i) s left)) is
+      → loaded parsed files fails 0 start names ≡ and_then r (λ s. loaded parsed files fails (suc i) s left)
+  one_file fails succeed r is = (so_far.2 fails succeed).0 ∙ ap (λ r. and_then r (λ s. loaded parsed files fails (suc i) s left)) is
 
   one_read : (fails : Failing) → Succeed i fails → (r : Result (List Template) Stop) → with_file parsed files (fails i) set name ≡ r
       → file_reads parsed files fails 0 start names ≡ so_far.0 ++ (name ∷ behind fails r)
@@ -160,6 +161,6 @@ all_succeed files fails k set (n ∷ ns) succeed =
     let here : fails k ≡ false = ap fails (sym (add-zero k)) ∙ succeed 0 (omega arith) in
     let moved : (j : ℕ) → suc k + j ≡ k + suc j = λ j. omega arith in
     let behind = λ (s : List Template). all_succeed files fails (suc k) s ns (λ j lt. ap fails (moved j) ∙ succeed (suc j) (omega (arith, lt))) in (
-      λ i. or_stop (with_file parsed files (here i) set n) (λ s. (behind s).0 i),
+      λ i. and_then (with_file parsed files (here i) set n) (λ s. (behind s).0 i),
       λ i. n ∷ reads_behind (λ s. (behind s).1 i) (with_file parsed files (here i) set n),
     )

@@ -13,7 +13,8 @@ use Rattle.tmpl_engine.specs.declared.error.RenderError.TheVariants.{NoTemplate}
 use Rattle.tmpl_tool.specs.Outcome.{Outcome, Says}
 use Rattle.tmpl_tool.specs.Source.{Bytes}
 use Rattle.tmpl_tool.specs.Tool as tool
-use Rattle.tmpl_tool.specs.Tool.{answer_of, named_run, or_stop, stop_answer}
+use Rattle.tmpl_tool.specs.Tool.{answer_of, named_run, stop_answer}
+use Rattle.tmpl_values.specs.Stage.{and_then}
 use Rattle.tmpl_tool.proofs.MessageLemmas.{nothing_put}
 
 -- a sink that was not touched took the whole of nothing
@@ -34,6 +35,6 @@ pub ok_or-ran_named : (rules : Rules) (name : Bytes) (set : List Template) (inpu
 ok_or-ran_named rules name set input = by (tree_named name set)
   where
     by : (o : Option Tree) → ok_or (option_map (λ tree. ran rules set name tree input) o) (tool.unnamed name)
-        ≡ or_stop (ok_or o (tool.unnamed name)) (λ tree. Ok (ran rules set name tree input))
+        ≡ and_then (ok_or o (tool.unnamed name)) (λ tree. Ok (ran rules set name tree input))
     by None = refl
     by (Some tree) = refl

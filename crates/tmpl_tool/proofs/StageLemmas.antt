@@ -12,71 +12,72 @@ use Rattle.tmpl_tool.specs.Outcome.{BegunIf}
 use Rattle.tmpl_tool.specs.Laws.{GivesHelp, Prints, RefusesWords, Runs, StopsAtData, StopsAtDataRead, StopsAtFile, StopsAtName, StopsAtRead}
 use Rattle.tmpl_tool.specs.Laws.{TellsFailedWrite, TellsRefusedMemory}
 use Rattle.tmpl_tool.specs.Tool as tool
-use Rattle.tmpl_tool.specs.Tool.{Failing, Parse, Stop, answer_of, asked_by, asked_name, data_found, loaded, or_stop, stop_if, tool_answer, with_file}
+use Rattle.tmpl_tool.specs.Tool.{Failing, Parse, Stop, answer_of, asked_by, asked_name, data_found, loaded, stop_if, tool_answer, with_file}
+use Rattle.tmpl_values.specs.Stage.{and_then}
 use Rattle.tmpl_tool.specs.computed.Load.{after_print, after_set, after_words, rendered}
 
 module _ (parse : Parse) (words : List Bytes) (files : Files) (fails : Failing) where
   pub with_words : (r : Result Wanted Stop) → asked_by words ≡ r
-      → tool_answer parse words files fails ≡ answer_of (or_stop r (λ w. after_words parse files w fails))
-  with_words r is = ap (λ r. answer_of (or_stop r (λ w. after_words parse files w fails))) is
+      → tool_answer parse words files fails ≡ answer_of (and_then r (λ w. after_words parse files w fails))
+  with_words r is = ap (λ r. answer_of (and_then r (λ w. after_words parse files w fails))) is
 
   module _ (w : Wanted) (asks : asked_by words ≡ Ok w) where
     with_files : (r : Result (List Template) Stop) → loaded parse files fails 0 [] w.files ≡ r
-        → tool_answer parse words files fails ≡ answer_of (or_stop r (after_set files fails w))
-    with_files r is = with_words (Ok w) asks ∙ ap (λ r. answer_of (or_stop r (after_set files fails w))) is
+        → tool_answer parse words files fails ≡ answer_of (and_then r (after_set files fails w))
+    with_files r is = with_words (Ok w) asks ∙ ap (λ r. answer_of (and_then r (after_set files fails w))) is
 
     module _ (set : List Template) (loads : loaded parse files fails 0 [] w.files ≡ Ok set) where
       with_print : (p : Bool) → w.print ≡ p
-          → tool_answer parse words files fails ≡ answer_of (or_stop (stop_if p (tool.printed set)) (λ u. after_print files fails w set))
-      with_print p is = with_files (Ok set) loads ∙ ap (λ p. answer_of (or_stop (stop_if p (tool.printed set)) (λ u. after_print files fails w set))) is
+          → tool_answer parse words files fails ≡ answer_of (and_then (stop_if p (tool.printed set)) (λ u. after_print files fails w set))
+      with_print p is = with_files (Ok set) loads ∙ ap (λ p. answer_of (and_then (stop_if p (tool.printed set)) (λ u. after_print files fails w set))) is
 
       module _ (is_run : w.print ≡ false) where
         with_data : (r : Result (Option Value) Stop) → data_found files (fails (length w.files)) w.data_file ≡ r
-            → tool_answer parse words files fails ≡ answer_of (or_stop r (rendered w set))
-        with_data r is = with_print false is_run ∙ ap (λ r. answer_of (or_stop r (rendered w set))) is
+            → tool_answer parse words files fails ≡ answer_of (and_then r (rendered w set))
+        with_data r is = with_print false is_run ∙ ap (λ r. answer_of (and_then r (rendered w set))) is
 
         with_name : (input : Option Value) → data_found files (fails (length w.files)) w.data_file ≡ Ok input
             → (o : Option Tree) → tree_named (asked_name w) set ≡ o
             → tool_answer parse words files fails
-            ≡ answer_of (or_stop (ok_or o (tool.unnamed (asked_name w))) (λ tree. Ok (ran w.rules set (asked_name w) tree input)))
+            ≡ answer_of (and_then (ok_or o (tool.unnamed (asked_name w))) (λ tree. Ok (ran w.rules set (asked_name w) tree input)))
         with_name input found o is =
             with_data (Ok input) found
-            ∙ ap (λ o. answer_of (or_stop (ok_or o (tool.unnamed (asked_name w))) (λ tree. Ok (ran w.rules set (asked_name w) tree input)))) is
+            ∙ ap (λ o. answer_of (and_then (ok_or o (tool.unnamed (asked_name w))) (λ tree. Ok (ran w.rules set (asked_name w) tree input)))) is
 
 pub gives_help : GivesHelp
 gives_help parse words files fails helps =
-    with_words parse words files fails (Err tool.help) (ap (λ b. or_stop (stop_if b tool.help) (λ u. ok_or (wanted words) tool.bad_words)) helps)
+    with_words parse words files fails (Err tool.help) (ap (λ b. and_then (stop_if b tool.help) (λ u. ok_or (wanted words) tool.bad_words)) helps)
 
 pub refuses_words : RefusesWords
 refuses_words parse words files fails helps none =
     with_words parse words files fails (Err tool.bad_words)
-    (ap (λ b. or_stop (stop_if b tool.help) (λ u. ok_or (wanted words) tool.bad_words)) helps ∙ ap (λ o. ok_or o tool.bad_words) none)
+    (ap (λ b. and_then (stop_if b tool.help) (λ u. ok_or (wanted words) tool.bad_words)) helps ∙ ap (λ o. ok_or o tool.bad_words) none)
 
 -- a stage behind two is the same as one behind the second
-pub or_stop-or_stop : (r : Result (List Template) Stop) (f g h : List Template → Result (List Template) Stop) → ((s : List Template) → f s ≡ or_stop (g s) h)
-    → or_stop r f ≡ or_stop (or_stop r g) h
-or_stop-or_stop (Ok s) f g h same = same s
-or_stop-or_stop (Err stop) f g h same = refl
+pub and_then-and_then : (r : Result (List Template) Stop) (f g h : List Template → Result (List Template) Stop) → ((s : List Template) → f s ≡ and_then (g s) h)
+    → and_then r f ≡ and_then (and_then r g) h
+and_then-and_then (Ok s) f g h same = same s
+and_then-and_then (Err stop) f g h same = refl
 
 -- the files before a file, and those from it on
 loaded_part : (parse : Parse) (files : Files) (fails : Failing) (k : ℕ) (set : List Template) (before rest : List Bytes)
     → loaded parse files fails k set (before ++ rest)
-    ≡ or_stop (loaded parse files fails k set before) (λ s. loaded parse files fails (k + length before) s rest)
+    ≡ and_then (loaded parse files fails k set before) (λ s. loaded parse files fails (k + length before) s rest)
 loaded_part parse files fails k set [] rest = ap (λ n. loaded parse files fails n set rest) (sym (add-zero k))
 loaded_part parse files fails k set (n ∷ before) rest =
     let moved : suc k + length before ≡ k + suc (length before) = omega arith in
-    or_stop-or_stop (with_file parse files (fails k) set n) (λ s. loaded parse files fails (suc k) s (before ++ rest))
+    and_then-and_then (with_file parse files (fails k) set n) (λ s. loaded parse files fails (suc k) s (before ++ rest))
     (λ s. loaded parse files fails (suc k) s before) (λ s. loaded parse files fails (k + suc (length before)) s rest)
     (λ s. loaded_part parse files fails (suc k) s before rest
-    ∙ ap (λ n. or_stop (loaded parse files fails (suc k) s before) (λ t. loaded parse files fails n t rest)) moved)
+    ∙ ap (λ n. and_then (loaded parse files fails (suc k) s before) (λ t. loaded parse files fails n t rest)) moved)
 
 pub stops_at_file : StopsAtFile
 stops_at_file parse words files fails w asks before name behind is set loads stop refuses =
     with_files parse words files fails w asks (Err stop)
     (ap (loaded parse files fails 0 []) is ∙ loaded_part parse files fails 0 [] before (name ∷ behind)
-    ∙ ap (λ r. or_stop r (λ s. loaded parse files fails (0 + length before) s (name ∷ behind))) loads
-    ∙ ap (λ n. or_stop (with_file parse files (fails n) set name) (λ s. loaded parse files fails (suc n) s behind)) (omega arith)
-    ∙ ap (λ r. or_stop r (λ s. loaded parse files fails (suc (length before)) s behind)) refuses)
+    ∙ ap (λ r. and_then r (λ s. loaded parse files fails (0 + length before) s (name ∷ behind))) loads
+    ∙ ap (λ n. and_then (with_file parse files (fails n) set name) (λ s. loaded parse files fails (suc n) s behind)) (omega arith)
+    ∙ ap (λ r. and_then r (λ s. loaded parse files fails (suc (length before)) s behind)) refuses)
 
 pub stops_at_read : StopsAtRead
 stops_at_read parse files set name = refl
@@ -122,7 +123,7 @@ answer-other (Err s) = stop-other s
 
 pub tells_refused_memory : TellsRefusedMemory
 tells_refused_memory parse words files fails out err code (inl exact) is =
-    absurd (answer-other (or_stop (asked_by words) (λ w. after_words parse files w fails)) (sym exact.1 ∙ is))
+    absurd (answer-other (and_then (asked_by words) (λ w. after_words parse files w fails)) (sym exact.1 ∙ is))
 tells_refused_memory parse words files fails out err code (inr (inl cut)) is = absurd (six (sym cut.1 ∙ is))
   where
     six : ◌≢◌ {A = ℕ} 6 7

@@ -18,7 +18,8 @@ use Rattle.tmpl_tool.specs.Source.{Asked, Bytes, Files}
 use Rattle.tmpl_tool.specs.Outcome.{Answer, Outcome, Says}
 use Rattle.tmpl_tool.specs.Tool as tool
 use Rattle.tmpl_tool.specs.Tool.{Failing, Follows, MadeOf, Parse, Stop, answer_of, asked_by, data_found, data_wanted, file_reads}
-use Rattle.tmpl_tool.specs.Tool.{loaded, named_run, no_read, or_stop, reads_behind, stop_answer, stop_if, tool_answer, tool_reads}
+use Rattle.tmpl_tool.specs.Tool.{loaded, named_run, no_read, reads_behind, stop_answer, stop_if, tool_answer, tool_reads}
+use Rattle.tmpl_values.specs.Stage.{and_then}
 use Rattle.tmpl_tool.specs.Inputs.{Counts, StopsAt, inputs_of, inputs_reads, refusal_seen, said_of, stop_seen}
 use Rattle.tmpl_tool.specs.computed.Load.{after_set, after_words, finished, rendered}
 use Rattle.tmpl_tool.specs.declared.stop.Stop as held
@@ -54,11 +55,11 @@ module _ (files : Files) (w : Wanted) where
         (front, rest ++ more, sym (append_assoc front rest more) ∙ ap (λ (names : List Bytes). names ++ more) e, made)
     load_stops (Some (tool.unread n)) (k, h, made) = (
       k,
-      ap (λ r. or_stop r (λ set. with_data set (data_found files (nat_eq k (length w.files)) (data_wanted w)))) h,
+      ap (λ r. and_then r (λ set. with_data set (data_found files (nat_eq k (length w.files)) (data_wanted w)))) h,
       no_more (nat_eq k) (tool.unread n) h made,
     )
     load_stops (Some s) h =
-        (ap (λ r. or_stop r (λ set. with_data set (data_found files false (data_wanted w)))) h.0, no_more no_read s h.0 h.1)
+        (ap (λ r. and_then r (λ set. with_data set (data_found files false (data_wanted w)))) h.0, no_more no_read s h.0 h.1)
 
   module _ (before between after : Option (List Bytes)) (set : List Template) (loads : loaded parsed files no_read 0 [] w.files ≡ Ok set)
       (asked : Asked before between (template_reads files w no_read)) where
@@ -80,7 +81,7 @@ module _ (files : Files) (w : Wanted) where
     data_next : (fails : Failing) → loaded parsed files fails 0 [] w.files ≡ Ok set → (o : Option Bytes) → data_wanted w ≡ o
         → inputs_of parsed files w fails ≡ with_data set (data_found files (fails (length w.files)) o)
     data_next fails all o is =
-        ap (λ r. or_stop r (λ set. with_data set (data_found files (fails (length w.files)) (data_wanted w)))) all
+        ap (λ r. and_then r (λ set. with_data set (data_found files (fails (length w.files)) (data_wanted w)))) all
         ∙ ap (λ o. with_data set (data_found files (fails (length w.files)) o)) is
 
     -- the set is to be printed, whatever the data is, and nothing more is read
@@ -128,21 +129,21 @@ module _ (files : Files) (w : Wanted) where
 module _ (parse : Parse) (files : Files) (w : Wanted) where
   -- behind the inputs stands what is done with them
   behind : (b p : Bool) (set : List Template) (d : Option Bytes)
-      → or_stop (stop_if p (tool.printed set)) (λ u. or_stop (data_found files b d) (rendered w set))
-      ≡ or_stop (with_data set (data_found files b (if p then None else d))) (λ i. or_stop (stop_if p (tool.printed i.0)) (λ u. rendered w i.0 i.1))
+      → and_then (stop_if p (tool.printed set)) (λ u. and_then (data_found files b d) (rendered w set))
+      ≡ and_then (with_data set (data_found files b (if p then None else d))) (λ i. and_then (stop_if p (tool.printed i.0)) (λ u. rendered w i.0 i.1))
   behind b true set d = refl
   behind b false set d = found (data_found files b d)
     where
-      found : (r : Result (Option Value) Stop) → or_stop r (rendered w set) ≡ or_stop (with_data set r) (λ i. rendered w i.0 i.1)
+      found : (r : Result (Option Value) Stop) → and_then r (rendered w set) ≡ and_then (with_data set r) (λ i. rendered w i.0 i.1)
       found (Ok input) = refl
       found (Err s) = refl
 
-  pub after_inputs : (fails : Failing) → after_words parse files w fails ≡ or_stop (inputs_of parse files w fails) (λ i. finished w i.0 i.1)
+  pub after_inputs : (fails : Failing) → after_words parse files w fails ≡ and_then (inputs_of parse files w fails) (λ i. finished w i.0 i.1)
   after_inputs fails = from (loaded parse files fails 0 [] w.files)
     where
       from : (r : Result (List Template) Stop)
-          → or_stop r (after_set files fails w)
-          ≡ or_stop (or_stop r (λ set. with_data set (data_found files (fails (length w.files)) (data_wanted w)))) (λ i. finished w i.0 i.1)
+          → and_then r (after_set files fails w)
+          ≡ and_then (and_then r (λ set. with_data set (data_found files (fails (length w.files)) (data_wanted w)))) (λ i. finished w i.0 i.1)
       from (Ok set) = behind (fails (length w.files)) w.print set w.data_file
       from (Err s) = refl
 
@@ -150,8 +151,8 @@ module _ (parse : Parse) (files : Files) (w : Wanted) where
   pub stops_after : (Made : List Bytes → Type 0) (s : Option Stop) → StopsAt Made (inputs_of parse files w) (inputs_reads parse files w) s
       → StopsAt Made (after_words parse files w) (inputs_reads parse files w) s
   stops_after Made None h = h
-  stops_after Made (Some (tool.unread n)) (k, h, made) = (k, after_inputs (nat_eq k) ∙ ap (λ r. or_stop r (λ i. finished w i.0 i.1)) h, made)
-  stops_after Made (Some s) h = (after_inputs no_read ∙ ap (λ r. or_stop r (λ i. finished w i.0 i.1)) h.0, h.1)
+  stops_after Made (Some (tool.unread n)) (k, h, made) = (k, after_inputs (nat_eq k) ∙ ap (λ r. and_then r (λ i. finished w i.0 i.1)) h, made)
+  stops_after Made (Some s) h = (after_inputs no_read ∙ ap (λ r. and_then r (λ i. finished w i.0 i.1)) h.0, h.1)
 
 module _ (err : Sunk) (code : ℕ) where
   -- an outcome of what comes to the same
@@ -207,4 +208,4 @@ module _ (err : Sunk) (code : ℕ) where
 -- words that are taken
 pub asks : (words : List Bytes) (w : Wanted) → wanted words ≡ Some w → asks_help words ≡ false → asked_by words ≡ Ok w
 asks words w asked helps =
-    ap (λ b. or_stop (stop_if b tool.help) (λ u. ok_or (wanted words) tool.bad_words)) helps ∙ ap (λ o. ok_or o tool.bad_words) asked
+    ap (λ b. and_then (stop_if b tool.help) (λ u. ok_or (wanted words) tool.bad_words)) helps ∙ ap (λ o. ok_or o tool.bad_words) asked

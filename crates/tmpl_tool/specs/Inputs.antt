@@ -11,10 +11,11 @@ use Rattle.tmpl_syntax.specs.View.{set_view}
 use Rattle.tmpl_syntax.specs.Fault.{reason_of}
 use Rattle.tmpl_syntax.specs.declared.fault.ParseFault.{ParseFault}
 use Rattle.tmpl_tool.specs.Outcome.{Answer, memory_line}
-use Rattle.tmpl_tool.specs.Source.{Bytes, Files}
+use Rattle.tmpl_tool.specs.Source.{Asked, Bytes, Files}
 use Rattle.tmpl_tool.specs.Tool.{Failing, MadeOf, Parse, Stop, data_found, data_wanted, file_reads, flawed, loaded}
 use Rattle.tmpl_tool.specs.Tool.{no_read}
-use Rattle.tmpl_tool.specs.Tool.{not_found, only_line, or_stop, reads_behind, refused, stop_answer, unread}
+use Rattle.tmpl_tool.specs.Tool.{not_found, only_line, reads_behind, refused, stop_answer, unread}
+use Rattle.tmpl_values.specs.Stage.{and_then}
 use Rattle.tmpl_tool.specs.Words.{Wanted}
 use Rattle.tmpl_tool.specs.declared.files.inputs.Inputs.{Inputs}
 use Rattle.tmpl_tool.specs.declared.stop.Stop as held
@@ -22,7 +23,7 @@ use Rattle.tmpl_tool.specs.declared.stop.Stop.TheVariants as stop
 
 -- the set of all FILEs, and then the data of a run
 abbrev pub inputs_of : Parse → Files → Wanted → Failing → Result (List Template × Option Value) Stop
-inputs_of parse files w fails = or_stop (loaded parse files fails 0 [] w.files) (λ set.
+inputs_of parse files w fails = and_then (loaded parse files fails 0 [] w.files) (λ set.
     result_map_both (λ input. (set, input)) (λ s. s) (data_found files (fails (length w.files)) (data_wanted w)))
 
 -- .. and the files that are read for that
@@ -67,6 +68,12 @@ abbrev pub ComesOf : {T U : Type 0} → (List Bytes → Type 0) → (Failing →
     → (T → U) → Result T held.Stop → Type 0
 ComesOf Made stage reads seen (Ok t) = (stage no_read ≡ Ok (seen t)) × Made (reads no_read)
 ComesOf Made stage reads seen (Err s) = StopsAt Made stage reads (stop_seen s)
+
+-- .. of the files that a source tells, which told before and tells after what it was asked for
+abbrev pub ComesOfFiles : {T U : Type 0} → Option Files → Option (List Bytes) → Option (List Bytes)
+    → (Files → Failing → Result U Stop) → (Files → Failing → List Bytes) → (T → U) → Result T held.Stop → Type 0
+ComesOfFiles told before after stage reads seen r =
+    IfSome told (λ files. ComesOf (Asked before after) (stage files) (reads files) seen r)
 
 -- a file is added to the set, or refused, or memory was
 abbrev pub Adds : Result (List Template) Refusal → Bytes → List Template → Result (Unit {0}) held.Stop → Type 0

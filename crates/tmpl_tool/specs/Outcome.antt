@@ -54,3 +54,15 @@ Counted was is code = ((is ≡ was) × (code ≢ 6)) ⊎ ((is ≡ was + 1) × (c
 -- a count of failures that rose by one at most
 abbrev pub Once : ℕ → ℕ → Type 0
 Once was is = (is ≡ was) ⊎ (is ≡ was + 1)
+
+-- what a call puts out, says and answers, and that each sink fails once at most
+pub record Gives (a : Answer) (out err : Sunk) (code : ℕ) : Type 0 where
+  pub counts : Counted out.before.failures out.after.failures code
+  pub cuts : Once err.before.failures err.after.failures
+  pub outcome : Outcome a out err code
+
+-- a line is said, which fails once at most, and the status is this one
+pub record EndsWith (status : ℕ) (text : Bytes) (err : Sunk) (given : ℕ) : Type 0 where
+  pub code : given ≡ status
+  pub cuts : Once err.before.failures err.after.failures
+  pub line : Says text err

@@ -5,6 +5,7 @@ use Rattle.std.specs.Option.{ok_or, option_map_or}
 use Rattle.std.specs.Result.{result_err, result_map_both}
 use Rattle.tmpl_values.specs.Value.{Value}
 use Rattle.tmpl_values.specs.Json.{Flaw, not_json, not_whole, data_of}
+use Rattle.tmpl_values.specs.Stage.{and_then}
 use Rattle.tmpl_syntax.specs.Fault as reason
 use Rattle.tmpl_syntax.specs.Fault.{Reason}
 use Rattle.tmpl_syntax.specs.Set.{Template, tree_named}
@@ -132,19 +133,13 @@ answer_of (Err s) = stop_answer s
 
 -- ---- stages
 
--- goes on with what a stage gives, or stops where it does
-abbrev pub or_stop : {T U : Type 0} → Result T Stop → (T → Result U Stop) → Result U Stop
-or_stop (Ok t) next = next t
-or_stop (Err s) next = Err s
-
 -- stops where that is so
 abbrev pub stop_if : Bool → Stop → Result (Unit {0}) Stop
-stop_if true s = Err s
-stop_if false s = Ok tt
+stop_if stops s = if stops then Err s else Ok tt
 
 -- what words ask for
 abbrev pub asked_by : List Bytes → Result Wanted Stop
-asked_by words = or_stop (stop_if (asks_help words) help) (λ u. ok_or (wanted words) bad_words)
+asked_by words = and_then (stop_if (asks_help words) help) (λ u. ok_or (wanted words) bad_words)
 
 -- which reads fail, by how many go before them
 abbrev pub Failing : Type 0
@@ -155,8 +150,7 @@ no_read k = false
 
 -- the bytes of a file, if the read of it does not fail
 abbrev pub read : Files → Bool → Bytes → Result Bytes Stop
-read files true name = Err (unread name)
-read files false name = ok_or (files name) (not_found name)
+read files fails name = if fails then Err (unread name) else ok_or (files name) (not_found name)
 
 -- the set with the templates of a file of this name and these bytes
 abbrev pub added : Parse → List Template → Bytes → Bytes → Result (List Template) Stop
@@ -164,13 +158,13 @@ added parse set name bytes = result_map_both (λ s. s) (refused name) (parse set
 
 -- the set with the templates of one more FILE
 abbrev pub with_file : Parse → Files → Bool → List Template → Bytes → Result (List Template) Stop
-with_file parse files fails set name = or_stop (read files fails name) (added parse set name)
+with_file parse files fails set name = and_then (read files fails name) (added parse set name)
 
 -- each FILE in turn, read and then parsed, behind so many
 abbrev pub loaded : Parse → Files → Failing → ℕ → List Template → List Bytes → Result (List Template) Stop
 loaded parse files fails k set [] = Ok set
 loaded parse files fails k set (name ∷ names) =
-    or_stop (with_file parse files (fails k) set name) (λ s. loaded parse files fails (suc k) s names)
+    and_then (with_file parse files (fails k) set name) (λ s. loaded parse files fails (suc k) s names)
 
 -- the data that the bytes of a file of this name are
 abbrev pub data_in : Bytes → Bytes → Result (Option Value) Stop
@@ -179,7 +173,7 @@ data_in name bytes = result_map_both Some (flawed name) (data_of bytes)
 -- the data, read and parsed, if the words name a file of it
 abbrev pub data_found : Files → Bool → Option Bytes → Result (Option Value) Stop
 data_found files fails None = Ok None
-data_found files fails (Some name) = or_stop (read files fails name) (data_in name)
+data_found files fails (Some name) = and_then (read files fails name) (data_in name)
 
 -- the file of the data, where something is to be run
 abbrev pub data_wanted : Wanted → Option Bytes
@@ -197,17 +191,17 @@ asked_name w = unwrap_or w.name (first_name w.files)
 -- the name looked up, and the run
 abbrev pub named_run : Rules → Bytes → List Template → Option Value → Result Ran Stop
 named_run rules name set input =
-    or_stop (ok_or (tree_named name set) (unnamed name)) (λ tree. Ok (ran rules set name tree input))
+    and_then (ok_or (tree_named name set) (unnamed name)) (λ tree. Ok (ran rules set name tree input))
 
 -- ---- the command
 
 -- what it comes to: the words, each FILE, the printed set or else the data, the name, and the run
 abbrev pub tool_answer : Parse → List Bytes → Files → Failing → Answer
 tool_answer parse words files fails = answer_of
-    (or_stop (asked_by words) (λ w.
-    or_stop (loaded parse files fails 0 [] w.files) (λ set.
-    or_stop (stop_if w.print (printed set)) (λ u.
-    or_stop (data_found files (fails (length w.files)) w.data_file) (λ input.
+    (and_then (asked_by words) (λ w.
+    and_then (loaded parse files fails 0 [] w.files) (λ set.
+    and_then (stop_if w.print (printed set)) (λ u.
+    and_then (data_found files (fails (length w.files)) w.data_file) (λ input.
     named_run w.rules (asked_name w) set input)))))
 
 -- why words are not followed that read no file: those that ask for help, and those that are refused

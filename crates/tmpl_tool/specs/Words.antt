@@ -2,6 +2,7 @@
 use Rattle.std.specs.Prelude.{◌≡◌, ℕ, Bool, true, false, List, [], ◌∷◌, Option, Some, None, pos, map, codes}
 use Rattle.std.specs.Prelude.{if◌then◌else◌, unwrap_or}
 use Rattle.std.specs.Borrow.{Bor}
+use Rattle.std.specs.Option.{option_map_or}
 use Rattle.std.specs.Str.{bytes_eq}
 use Rattle.std.specs.Str.Parse.{digits_value, without_leading_plus}
 use Rattle.clap.specs.Words.{App, Row, Rule, Text, all_of, fault_of, first_of, matches_of, new_app, new_rule, with_rule}
@@ -21,20 +22,18 @@ use Rattle.tmpl_meaning.specs.declared.missing_key.MissingKey.TheVariants.{Defau
 abbrev pub Modes : Type 0
 Modes = Bor (List (Bor Text))
 
+abbrev pub mode_names : List Text
+mode_names = codes "default" ∷ codes "invalid" ∷ codes "zero" ∷ codes "error" ∷ []
+
 abbrev pub HasModeNames : Modes → Type 0
-HasModeNames modes = map (λ word. word.now) modes.now
-    ≡ codes "default" ∷ codes "invalid" ∷ codes "zero" ∷ codes "error" ∷ []
+HasModeNames modes = map (λ word. word.now) modes.now ≡ mode_names
 
 -- one place where the four words may lie; it does not matter which
 abbrev pub word_here : Text → Bor Text
 word_here text = record { ref_ptr = (0, 0); now = text }
 
 abbrev pub here : Modes
-here = record {
-  ref_ptr = (0, 0);
-  now = word_here (codes "default") ∷ word_here (codes "invalid") ∷ word_here (codes "zero")
-      ∷ word_here (codes "error") ∷ [];
-}
+here = record { ref_ptr = (0, 0); now = map word_here mode_names }
 
 -- an option with one value
 abbrev pub option_rule : Text → Rule
@@ -79,8 +78,7 @@ mode_named word = if bytes_eq word (codes "invalid") then Invalid
     else (if bytes_eq word (codes "error") then Error else Default))
 
 abbrev pub mode_of : Option Text → MissingKey
-mode_of None = Default
-mode_of (Some word) = mode_named word
+mode_of word = option_map_or mode_named word Default
 
 -- the number that a text spells, where it is in the range
 abbrev pub number_in : ℕ → ℕ → ℕ → Option Text → ℕ
@@ -90,8 +88,7 @@ number_in default low high (Some text) =
 
 -- whether an option without a value is given
 abbrev pub is_set : Option Text → Bool
-is_set None = false
-is_set (Some text) = bytes_eq text (codes "true")
+is_set value = option_map_or (λ text. bytes_eq text (codes "true")) value false
 
 -- what words that are accepted ask for
 pub record Wanted : Type 0 where

@@ -4,7 +4,7 @@ ghost use Rattle.tmpl_values.specs.View.{value_of};
 ghost use Rattle.tmpl_syntax.specs.View.{set_view};
 ghost use Rattle.tmpl_syntax.specs.Print.Printed.{printed_set};
 ghost use Rattle.tmpl_meaning.specs.Sink.{sunk};
-ghost use Rattle.tmpl_tool.specs.Outcome.{Counted, Once, Outcome};
+ghost use Rattle.tmpl_tool.specs.Outcome.{Gives};
 ghost use Rattle.tmpl_tool.specs.Tool.{answer_of, only_text};
 ghost use Rattle.tmpl_tool.specs.View.{seen};
 ghost use Rattle.tmpl_tool.specs.computed.Load.{finished};
@@ -22,12 +22,8 @@ use tmpl_values::Data;
 pub fn print<O: Sink, E: Sink>(alloc: Global, set: &Set, out: &mut O, err: &mut E) -> Status
     requires out { (O.so_far out.old).failures < 2 ^ 64 - 1 }
     requires err { (E.so_far err.old).failures < 2 ^ 64 - 1 }
-    ensures counts { Counted (O.so_far out.old).failures (O.so_far out.new).failures result.code }
-    ensures cuts { Once (E.so_far err.old).failures (E.so_far err.new).failures }
-    ensures outcome { Outcome (only_text (printed_set (set_view set.now)))
-        (sunk (O.so_far out.old) (O.so_far out.new))
-        (sunk (E.so_far err.old) (E.so_far err.new))
-        result.code }
+    ensures { Gives (only_text (printed_set (set_view set.now)))
+        (sunk (O.so_far out.old) (O.so_far out.new)) (sunk (E.so_far err.old) (E.so_far err.new)) result.code }
 {
     match print_set(alloc, set) {
         Ok(text) => put_out(text.as_slice(), out, err),
@@ -49,13 +45,9 @@ pub(crate) fn answer<O: Sink, E: Sink>(
 ) -> Status
     requires out { (O.so_far out.old).failures < 2 ^ 64 - 1 }
     requires err { (E.so_far err.old).failures < 2 ^ 64 - 1 }
-    ensures counts { Counted (O.so_far out.old).failures (O.so_far out.new).failures result.code }
-    ensures cuts { Once (E.so_far err.old).failures (E.so_far err.new).failures }
-    ensures outcome { Outcome (answer_of (finished (seen request.now) (set_view set.now)
+    ensures { Gives (answer_of (finished (seen request.now) (set_view set.now)
         (option_map (λ d. value_of d.now) «data».entry)))
-        (sunk (O.so_far out.old) (O.so_far out.new))
-        (sunk (E.so_far err.old) (E.so_far err.new))
-        result.code }
+        (sunk (O.so_far out.old) (O.so_far out.new)) (sunk (E.so_far err.old) (E.so_far err.new)) result.code }
 {
     if request.print {
         print(alloc, set, out, err)

@@ -7,7 +7,7 @@ ghost use Rattle.tmpl_meaning.specs.Meaning.{Ran};
 ghost use Rattle.tmpl_meaning.specs.Sink.{Told, sunk};
 ghost use Rattle.tmpl_meaning.specs.View.{rules_of};
 ghost use Rattle.tmpl_engine.specs.Render.{IsRender};
-ghost use Rattle.tmpl_tool.specs.Outcome.{Counted, Once, Outcome};
+ghost use Rattle.tmpl_tool.specs.Outcome.{Counted, Gives, Once, Outcome};
 ghost use Rattle.tmpl_tool.specs.Tool.{answer_of, asked_name, named_run, only_text, unnamed};
 ghost use Rattle.tmpl_tool.specs.View.{seen};
 
@@ -24,12 +24,8 @@ use tmpl_values::Data;
 pub(crate) fn put_out<O: Sink, E: Sink>(text: &[u8], out: &mut O, err: &mut E) -> Status
     requires out { (O.so_far out.old).failures < 2 ^ 64 - 1 }
     requires err { (E.so_far err.old).failures < 2 ^ 64 - 1 }
-    ensures counts { Counted (O.so_far out.old).failures (O.so_far out.new).failures result.code }
-    ensures cuts { Once (E.so_far err.old).failures (E.so_far err.new).failures }
-    ensures outcome { Outcome (only_text text.now)
-        (sunk (O.so_far out.old) (O.so_far out.new))
-        (sunk (E.so_far err.old) (E.so_far err.new))
-        result.code }
+    ensures { Gives (only_text text.now)
+        (sunk (O.so_far out.old) (O.so_far out.new)) (sunk (E.so_far err.old) (E.so_far err.new)) result.code }
 {
     match put_all(out, text) {
         Ok(()) => Status { code: 0 },
@@ -105,13 +101,9 @@ pub fn render_named<O: Sink, E: Sink>(
 ) -> Status
     requires out { (O.so_far out.old).failures < 2 ^ 64 - 1 }
     requires err { (E.so_far err.old).failures < 2 ^ 64 - 1 }
-    ensures counts { Counted (O.so_far out.old).failures (O.so_far out.new).failures result.code }
-    ensures cuts { Once (E.so_far err.old).failures (E.so_far err.new).failures }
-    ensures outcome { Outcome (answer_of (named_run (rules_of options.now) name.now (set_view set.now)
+    ensures { Gives (answer_of (named_run (rules_of options.now) name.now (set_view set.now)
         (option_map (λ d. value_of d.now) «data».entry)))
-        (sunk (O.so_far out.old) (O.so_far out.new))
-        (sunk (E.so_far err.old) (E.so_far err.new))
-        result.code }
+        (sunk (O.so_far out.old) (O.so_far out.new)) (sunk (E.so_far err.old) (E.so_far err.new)) result.code }
 {
     let end = render_through(alloc, set, name, data, options, piece, out);
     tell_end(end, name, err)

@@ -13,6 +13,8 @@ pub entry_count-of : (es : List (List ℕ × Data)) → entry_count (entries_of 
 entry_count-of [] = refl
 entry_count-of (e ∷ es) = ap suc (entry_count-of es)
 
+pub ruleset counts = (item_count-of, entry_count-of)
+
 pub nth_item-of : (ds : List Data) (i : ℕ) (d : Data) → i < length ds → nth_item i (items_of ds) ≡ Some (value_of (get_or ds i d))
 nth_item-of [] i d h = absurd (omega arith)
 nth_item-of (e ∷ ds) zero d h = refl

@@ -61,18 +61,3 @@ module _ {X : Type 0} (f : X → List ℕ) (xs : List X) (i : ℕ) (x : X) (h : 
 
 pub parted-all : {X : Type 0} (f : X → List ℕ) (xs : List X) (i : ℕ) → length xs ≤ i → parted (map f (take i xs)) ≡ parted (map f xs)
 parted-all f xs i h = ap (λ ys. parted (map f ys)) (take_all i xs h)
-
-module _ (es : List (List ℕ × Data)) (i : ℕ) (x : List ℕ × Data) (h : i < length es) (is : x ≡ get_or es i x) where
-  pub parted-entry : (l k : List ℕ) → l ≡ lead (map entry_text (take i es)) → k ≡ x.0
-      → parted (map entry_text (take i es)) ++ (l ++ (k ++ 58 ∷ (inner_text (value_of x.1) ++ spaced (map entry_text (drop (suc i) es))))) ≡ parted
-      (map entry_text es)
-  parted-entry l k e named =
-      ap (λ y. parted (map entry_text (take i es)) ++ (l ++ (y ++ 58 ∷ (inner_text (value_of x.1) ++ spaced (map entry_text (drop (suc i) es)))))) named ∙
-      sym (ap (λ u. parted (map entry_text (take i es)) ++ (l ++ u))
-      (append_assoc x.0 (58 ∷ inner_text (value_of x.1)) (spaced (map entry_text (drop (suc i) es))))) ∙
-      parted-at entry_text es i x h is l e
-
-  pub parted-entry_next : (l k : List ℕ) → l ≡ lead (map entry_text (take i es)) → k ≡ x.0
-      → parted (map entry_text (take i es)) ++ (l ++ (k ++ 58 ∷ inner_text (value_of x.1))) ≡ parted (map entry_text (take (i + 1) es))
-  parted-entry_next l k e named =
-      ap (λ y. parted (map entry_text (take i es)) ++ (l ++ (y ++ 58 ∷ inner_text (value_of x.1)))) named ∙ parted-next entry_text es i x h is l e

@@ -17,3 +17,5 @@ truth-sequence (d ∷ ds) = some (length ds)
 pub truth-mapping : (es : List (List ℕ × Data)) → not (length es == 0) ≡ truth (mapping (entries_of es))
 truth-mapping [] = refl
 truth-mapping (e ∷ es) = some (length es)
+
+pub ruleset truths = (truth-sequence, truth-mapping)

@@ -2,17 +2,11 @@
 -- and null are equal and differ from all else, and that sequences and mappings can be compared with
 -- these alone, are this project's own rules.
 use Rattle.std.specs.Prelude.{◌≡◌, int_lt, bytes_eq, Bool, true, false, Option, Some, None, Result, Ok, Err}
+use Rattle.std.specs.Bool.{beq}
 use Rattle.std.specs.Ordering.{nat_cmp, int_eq, is_lt}
 use Rattle.std.specs.Cmp.Lexicographic.{slice_cmp}
 use Rattle.tmpl_values.specs.Value.{Value, nothing, null, boolean, number, string}
 use Rattle.tmpl_values.specs.declared.compare.CompareFault.{CompareFault}
-
--- the two truth values are the same
-abbrev pub same_truth : Bool → Bool → Bool
-same_truth true true = true
-same_truth true false = false
-same_truth false true = false
-same_truth false false = true
 
 -- the value is nothing or null
 abbrev pub is_nothing : Value → Bool
@@ -26,7 +20,7 @@ equality nothing w = Some (is_nothing w)
 equality null w = Some (is_nothing w)
 equality v nothing = Some false
 equality v null = Some false
-equality (boolean b) (boolean c) = Some (same_truth b c)
+equality (boolean b) (boolean c) = Some (beq b c)
 equality (number m) (number n) = Some (int_eq m n)
 equality (string s) (string t) = Some (bytes_eq s t)
 equality _ _ = None

@@ -1,6 +1,6 @@
 -- The value of JSON bytes, over `serde_json`'s own definition of what they read as.
 use Rattle.std.specs.Prelude.{◌≡◌, List, ℕ, Option, Some, None, Result, Ok, Err, option_map, option_and_then}
-use Rattle.std.specs.Prelude.{if◌then◌else◌}
+use Rattle.std.specs.Prelude.{ok_or, if◌then◌else◌}
 use Rattle.std.specs.Str.{is_utf8}
 use Rattle.serde_json.specs.Data as json
 use Rattle.serde_json.specs.Find.{as_i64}
@@ -8,6 +8,7 @@ use Rattle.serde_json.specs.Read.{read}
 use Rattle.tmpl_values.specs.declared.from_json.DataFault.{DataFault}
 use Rattle.tmpl_values.specs.declared.from_json.DataFault.TheVariants.{NotJson, NotWhole, OutOfMemory}
 use Rattle.tmpl_values.specs.declared.data.Data.{Data}
+use Rattle.tmpl_values.specs.Stage.{and_then}
 use Rattle.tmpl_values.specs.row.View.{value_of}
 use Rattle.tmpl_values.specs.Value.{Value, null, boolean, number, string, sequence, mapping, Items, no_item, item}
 use Rattle.tmpl_values.specs.Value.{Entries, no_entry, entry}
@@ -43,13 +44,11 @@ pub data Flaw : Type 0 where
 
 -- a value that is there; else some number is not whole
 abbrev pub if_whole : {A : Type 0} → Option A → Result A Flaw
-if_whole None = Err not_whole
-if_whole (Some v) = Ok v
+if_whole o = ok_or o not_whole
 
 -- the value of a tree that is there; else there is none
 abbrev pub if_json : Option json.Data → Result Value Flaw
-if_json None = Err not_json
-if_json (Some d) = if_whole (tree_value d)
+if_json o = and_then (ok_or o not_json) (λ d. if_whole (tree_value d))
 
 -- the value of JSON bytes, or why they have none
 abbrev pub data_of : List ℕ → Result Value Flaw

@@ -9,6 +9,7 @@ pub mod Printable
 pub mod Put
 pub mod Quote
 pub mod Rune
+pub mod Stage
 pub mod Text
 pub mod Truth
 pub mod Value

@@ -55,6 +55,7 @@ impl<'a> Val<'a> {
 
     /// Whether the value is not empty, as `if` has it: empty are false, 0, nothing, null, and a
     /// text, list or map of length zero ("Actions" in the documentation of `text/template`).
+    #[tactic(auto, using(crate::proofs::TruthLemmas::truths))]
     pub fn truth(&self) -> bool
         ensures { result ≡ truth (val_of self.now) }
     {
@@ -193,6 +194,7 @@ impl<'a> Val<'a> {
 
     /// How many bytes a text has, or how many items a list or a map has ("Functions" in the
     /// documentation of `text/template`, at `len`), which is below 2^63. Other kinds have no size.
+    #[tactic(auto, using(crate::proofs::ItemLemmas::counts))]
     pub fn size(&self) -> Option<u64>
         ensures value { result ≡ size_of (val_of self.now) }
         ensures fits { IfSome result (λ n. n < 2 ^ 63) }

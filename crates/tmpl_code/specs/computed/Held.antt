@@ -4,11 +4,14 @@ use Rattle.std.specs.Prelude.{◌≡◌, ℕ, ◌+◌, ◌-◌, ◌≤◌, Bool,
 use Rattle.std.specs.Prelude.{map, reverse}
 use Rattle.tmpl_grammar.specs.Need.{declared_count}
 use Rattle.tmpl_grammar.specs.Tree.{Binding, unbound, declare, assign, declare_pair}
+use Rattle.tmpl_grammar.specs.View.{header_of}
+use Rattle.tmpl_grammar.specs.declared.tree.Control.{Control}
 use Rattle.tmpl_syntax.specs.Tree as tree
 use Rattle.tmpl_syntax.specs.Tree.{NodeKind, text, action, control_node, break_node, continue_node, template_node}
 use Rattle.tmpl_syntax.specs.Tree.{Nodes}
 use Rattle.tmpl_syntax.specs.Set.{Template}
-use Rattle.tmpl_code.specs.Code.{Code, Ended, Exit, NodesAt, NodesPart, TreeAt, TurnAt}
+use Rattle.tmpl_syntax.specs.View.{nodes_in}
+use Rattle.tmpl_code.specs.Code.{Code, Ended, Exit, NodeAt, NodesAt, NodesPart, TreeAt, TurnAt}
 use Rattle.tmpl_code.specs.Instruction.{act, decide}
 use Rattle.tmpl_code.specs.Layout.{Layout, bound_on, declared_in, grown}
 use Rattle.tmpl_code.specs.View.{instruction_of}
@@ -16,6 +19,7 @@ use Rattle.tmpl_code.specs.computed.Cells.{layout_in}
 use Rattle.tmpl_code.specs.declared.code.Code as held_code
 use Rattle.tmpl_code.specs.declared.instruction.Instruction as held_instruction
 use Rattle.tmpl_code.specs.declared.node.Around as held_around
+use Rattle.tmpl_code.specs.declared.node.Parts as held_node
 use Rattle.tmpl_code.specs.declared.node.Compiler as held_compiler
 use Rattle.tmpl_code.specs.declared.scope.Scope as held_scope
 
@@ -80,6 +84,11 @@ abbrev pub TurnsPart : List Template → Binding → Nodes → NodesPart
 TurnsPart ts b ns cells exit code rest =
     (first : Code) × TurnAt b (None ∷ None ∷ cells) code first
     × NodesAt ts ns (bound_on b (None ∷ None ∷ cells)) exit first rest
+
+-- a control of these parts
+abbrev pub PartsAt : List Template → ℕ → Control → held_node.Parts → NodesPart
+PartsAt ts line c p =
+    NodeAt ts line (control_node c (header_of p.header.now) (nodes_in p.body.now) (nodes_in p.other.now))
 
 -- such a part was put before the code, and the cells are as they were
 pub record Put (P : NodesPart) (exit : Option held_around.Around) (before after : held_compiler.Compiler) : Type 0 where

@@ -19,24 +19,18 @@ use Rattle.tmpl_funcs.specs.declared.printf.form.Form.{Form}
 use Rattle.tmpl_funcs.specs.declared.printf.form.Verb.{Verb}
 use Rattle.tmpl_funcs.specs.declared.printf.form.Verb.TheVariants as verb
 
--- a text that is there, in a form with no flag but `-`
-abbrev pub text_if : Bool → Form → Option (List ℕ) → Option (List ℕ)
-text_if true f text = option_map (padded f) text
-text_if false f text = None
-
--- the text of a value that is no number, padded
+-- the text of a value that is no number, padded, in a form with no flag but `-`
 abbrev pub text_form : Form → Option (List ℕ) → Option (List ℕ)
-text_form f text = text_if (has_minus_alone f) f text
+text_form f text = if has_minus_alone f then option_map (padded f) text else None
 
--- a sequence or a mapping: with no flag and no width
-abbrev pub bare_if : Bool → List ℕ → Option (List ℕ)
-bare_if true text = Some text
-bare_if false text = None
+-- the text of a sequence or a mapping, in a form with no flag and no width
+abbrev pub bare_form : Form → List ℕ → Option (List ℕ)
+bare_form f text = if is_bare f then Some text else None
 
 -- `%v`: the text that an operand of `print` has
 abbrev pub value_form : Form → Value → Option (List ℕ)
-value_form f (kind.sequence vs) = bare_if (is_bare f) (inner_text (kind.sequence vs))
-value_form f (kind.mapping es) = bare_if (is_bare f) (inner_text (kind.mapping es))
+value_form f (kind.sequence vs) = bare_form f (inner_text (kind.sequence vs))
+value_form f (kind.mapping es) = bare_form f (inner_text (kind.mapping es))
 value_form f v = text_form f (Some (inner_text v))
 
 -- the sign of a number: `-`, or with the flags `+` and space what these ask for

@@ -1,8 +1,10 @@
 -- `printf` ("Functions", at `printf`, which is `fmt.Sprintf`). That a form takes one argument, in
 -- order, and that too few and too many arguments are refused, is this project's own rule.
-use Rattle.std.specs.Prelude.{ℕ, List, [], ◌∷◌, ◌++◌, Option, Some, None, Result, Ok, Err}
+use Rattle.std.specs.Prelude.{ℕ, List, [], ◌∷◌, ◌++◌, Option, Some, None, Result, Err}
+use Rattle.std.specs.Prelude.{ok_or, option_and_then, option_map}
 use Rattle.tmpl_values.specs.Value.{Value, string}
 use Rattle.tmpl_values.specs.Item.{bytes_of}
+use Rattle.tmpl_values.specs.Stage.{and_then}
 use Rattle.tmpl_funcs.specs.printf.Form.{Segment, literal, percent, form}
 use Rattle.tmpl_funcs.specs.printf.Reading.{reading}
 use Rattle.tmpl_funcs.specs.printf.Form.{form_of}
@@ -25,8 +27,7 @@ texts _ _ = None
 
 -- the texts of segments that are there
 abbrev pub filled : Option (List Segment) → List Value → Option (List ℕ)
-filled None vs = None
-filled (Some ps) vs = texts ps vs
+filled segments vs = option_and_then (λ ps. texts ps vs) segments
 
 -- the text of a format and arguments
 unfoldable pub formatted : List ℕ → List Value → Option (List ℕ)
@@ -34,15 +35,9 @@ formatted format vs = filled (reading format) vs
 
 -- a text that is there; else the format is refused
 abbrev pub formatted_if : Option (List ℕ) → Result Value CallFault
-formatted_if None = Err FormatRefused
-formatted_if (Some text) = Ok (string text)
+formatted_if text = ok_or (option_map string text) FormatRefused
 
--- the same, where the format is a string
-abbrev pub formatted_by : Option (List ℕ) → List Value → Result Value CallFault
-formatted_by None vs = Err WrongKind
-formatted_by (Some format) vs = formatted_if (formatted format vs)
-
--- the first argument as a format of the others
+-- the first argument as a format of the others; it has to be a string
 abbrev pub printf_of : List Value → Result Value CallFault
 printf_of [] = Err WrongCount
-printf_of (v ∷ vs) = formatted_by (bytes_of v) vs
+printf_of (v ∷ vs) = and_then (ok_or (bytes_of v) WrongKind) (λ format. formatted_if (formatted format vs))

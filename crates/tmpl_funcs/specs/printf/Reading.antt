@@ -1,6 +1,7 @@
 -- The reading of a format from left to right: the one that `IsReading` admits.
 use Rattle.std.specs.Prelude.{ℕ, zero, suc, ◌-◌, ◌&&◌, ◌==◌, Bool, true, false, List, [], ◌∷◌, length, drop}
-use Rattle.std.specs.Prelude.{Option, Some, None, find, if◌then◌else◌}
+use Rattle.std.specs.Prelude.{Option, Some, None, find, option_map, if◌then◌else◌}
+use Rattle.std.specs.Option.{option_map_or}
 use Rattle.std.specs.List.{prefix_len, take_while}
 use Rattle.tmpl_funcs.specs.printf.Form.{WrittenForm, Segment, literal, percent, form, letter, segment_bytes, is_plain}
 use Rattle.tmpl_funcs.specs.printf.Form.{is_flag, is_decimal, is_short, takes_precision}
@@ -27,13 +28,8 @@ is_precision (Some digits) verb = is_short digits && takes_precision verb
 
 -- a form of these parts, where its digits are few enough and the verb may have the precision
 abbrev pub form_if : Bool → List ℕ → List ℕ → Option (List ℕ) → Verb → Option WrittenForm
-form_if true flags width precision verb = Some (record {
-  flags = flags;
-  width = width;
-  precision = precision;
-  verb = verb;
-})
-form_if false flags width precision verb = None
+form_if taken flags width precision verb =
+    if taken then Some (record { flags = flags; width = width; precision = precision; verb = verb }) else None
 
 -- a form of these parts, where its verb is one
 abbrev pub form_by : List ℕ → List ℕ → Option (List ℕ) → Option Verb → Option WrittenForm
@@ -62,15 +58,10 @@ width_behind flags bs = precision_behind flags (take_while is_decimal bs) (behin
 unfoldable pub form_at : List ℕ → Option WrittenForm
 form_at bs = width_behind (take_while is_flag bs) (behind is_flag bs)
 
--- a form as a segment
-abbrev pub form_segment : Option WrittenForm → Option Segment
-form_segment None = None
-form_segment (Some f) = Some (form f)
-
 -- the segment that begins with a `%` and goes on with these bytes
 abbrev pub segment_behind : List ℕ → Option Segment
 segment_behind [] = None
-segment_behind (b ∷ bs) = if b == 37 then Some percent else form_segment (form_at (b ∷ bs))
+segment_behind (b ∷ bs) = if b == 37 then Some percent else option_map form (form_at (b ∷ bs))
 
 -- the segment at the front
 abbrev pub first_segment : List ℕ → Option Segment
@@ -80,8 +71,7 @@ first_segment (b ∷ bs) =
 
 -- how many bytes of a segment follow its first
 abbrev pub rest_len : Option Segment → ℕ
-rest_len None = 0
-rest_len (Some p) = length (segment_bytes p) - 1
+rest_len o = option_map_or (λ p. length (segment_bytes p) - 1) o 0
 
 -- a segment before those behind it
 abbrev pub with_segment : Option Segment → Option (List Segment) → Option (List Segment)

@@ -1,12 +1,13 @@
 -- The stages of the command behind a stage, and where a run failed.
 use Rattle.std.specs.Prelude.{List, [], ◌∷◌, Option, Result, codes, length}
+use Rattle.tmpl_values.specs.Stage.{and_then}
 use Rattle.tmpl_values.specs.Value.{Value}
 use Rattle.tmpl_syntax.specs.Set.{Template}
 use Rattle.tmpl_meaning.specs.Meaning.{Ran}
 use Rattle.tmpl_meaning.specs.declared.fault.RunFault.{RunFault}
 use Rattle.tmpl_tool.specs.Part.{LinePart, number, plain, quoted}
 use Rattle.tmpl_tool.specs.Source.{Files}
-use Rattle.tmpl_tool.specs.Tool.{Failing, Parse, Stop, asked_name, data_found, loaded, named_run, or_stop, printed}
+use Rattle.tmpl_tool.specs.Tool.{Failing, Parse, Stop, asked_name, data_found, loaded, named_run, printed}
 use Rattle.tmpl_tool.specs.Tool.{stop_if}
 use Rattle.tmpl_tool.specs.Words.{Wanted}
 
@@ -16,20 +17,20 @@ rendered w set input = named_run w.rules (asked_name w) set input
 
 -- the set printed, or the name looked up and the run
 abbrev pub finished : Wanted → List Template → Option Value → Result Ran Stop
-finished w set input = or_stop (stop_if w.print (printed set)) (λ u. rendered w set input)
+finished w set input = and_then (stop_if w.print (printed set)) (λ u. rendered w set input)
 
 -- the data, and then the run
 abbrev pub after_print : Files → Failing → Wanted → List Template → Result Ran Stop
 after_print files fails w set =
-    or_stop (data_found files (fails (length w.files)) w.data_file) (rendered w set)
+    and_then (data_found files (fails (length w.files)) w.data_file) (rendered w set)
 
 -- the set printed, or the data and so on
 abbrev pub after_set : Files → Failing → Wanted → List Template → Result Ran Stop
-after_set files fails w set = or_stop (stop_if w.print (printed set)) (λ u. after_print files fails w set)
+after_set files fails w set = and_then (stop_if w.print (printed set)) (λ u. after_print files fails w set)
 
 -- each FILE, and so on
 abbrev pub after_words : Parse → Files → Wanted → Failing → Result Ran Stop
-after_words parse files w fails = or_stop (loaded parse files fails 0 [] w.files) (after_set files fails w)
+after_words parse files w fails = and_then (loaded parse files fails 0 [] w.files) (after_set files fails w)
 
 -- where a run failed, as the line says it
 abbrev pub place_of : RunFault → List LinePart

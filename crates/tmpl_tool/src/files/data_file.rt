@@ -1,9 +1,8 @@
 //! The data, read and parsed.
-ghost use Rattle.std.specs.Prelude.{◌≡◌, ◌<◌, ◌^◌, ◌-◌, ◌∷◌, [], IfSome, option_map, option_to_list, Some};
-ghost use Rattle.tmpl_tool.specs.Source.{Asked};
+ghost use Rattle.std.specs.Prelude.{◌≡◌, ◌<◌, ◌^◌, ◌-◌, ◌∷◌, [], option_map, option_to_list, Some};
 ghost use Rattle.tmpl_tool.specs.Tool.{data_found};
 ghost use Rattle.tmpl_values.specs.View.{value_of};
-ghost use Rattle.tmpl_tool.specs.Inputs.{ComesOf, Counts};
+ghost use Rattle.tmpl_tool.specs.Inputs.{ComesOfFiles, Counts};
 
 use crate::files::source::{Source, SourceFault};
 use crate::stop::Stop;
@@ -18,10 +17,9 @@ pub(crate) fn read_data<'a, S: Source>(
 ) -> Result<Option<Data>, Stop<'a>>
     requires { S.failures source.old < 2 ^ 64 - 1 }
     ensures counts { Counts (S.failures source.old) (S.failures source.new) result }
-    ensures reads { IfSome (S.contents source.old) (λ files.
-        ComesOf (Asked (S.asked source.old) (S.asked source.new))
-        (λ fails. data_found files (fails 0) (option_map (λ s. s.now) name.entry))
-        (λ fails. option_to_list (option_map (λ s. s.now) name.entry)) (option_map value_of) result) }
+    ensures reads { ComesOfFiles (S.contents source.old) (S.asked source.old) (S.asked source.new)
+        (λ files fails. data_found files (fails 0) (option_map (λ s. s.now) name.entry))
+        (λ files fails. option_to_list (option_map (λ s. s.now) name.entry)) (option_map value_of) result }
 {
     match name {
         None => Ok(None),
@@ -37,10 +35,9 @@ fn read_named<'a, S: Source>(
 ) -> Result<Option<Data>, Stop<'a>>
     requires { S.failures source.old < 2 ^ 64 - 1 }
     ensures counts { Counts (S.failures source.old) (S.failures source.new) result }
-    ensures reads { IfSome (S.contents source.old) (λ files.
-        ComesOf (Asked (S.asked source.old) (S.asked source.new))
-        (λ fails. data_found files (fails 0) (Some name.entry.now)) (λ fails. name.entry.now ∷ [])
-        (option_map value_of) result) }
+    ensures reads { ComesOfFiles (S.contents source.old) (S.asked source.old) (S.asked source.new)
+        (λ files fails. data_found files (fails 0) (Some name.entry.now)) (λ files fails. name.entry.now ∷ [])
+        (option_map value_of) result }
 {
     match source.read(alloc, name) {
         Ok(bytes) => match Data::from_json(alloc, bytes.as_slice()) {

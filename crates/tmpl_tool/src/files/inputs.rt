@@ -1,8 +1,7 @@
 //! What the command needs of the files: the templates, and the data of a run.
-ghost use Rattle.std.specs.Prelude.{◌-◌, ◌^◌, ◌<◌, IfSome};
+ghost use Rattle.std.specs.Prelude.{◌-◌, ◌^◌, ◌<◌};
 ghost use Rattle.tmpl_tool.specs.View.{seen};
-ghost use Rattle.tmpl_tool.specs.Inputs.{ComesOf, Counts, inputs_of, inputs_reads, inputs_seen};
-ghost use Rattle.tmpl_tool.specs.Source.{Asked};
+ghost use Rattle.tmpl_tool.specs.Inputs.{ComesOfFiles, Counts, inputs_of, inputs_reads, inputs_seen};
 ghost use Rattle.tmpl_tool.specs.Tool.{IsParse, Parse};
 
 use crate::files::data_file::read_data;
@@ -32,9 +31,10 @@ pub fn read_inputs<'a, S: Source>(
 ) -> Result<Inputs, Stop<'a>>
     requires { S.failures source.old < 2 ^ 64 - 1 }
     ensures counts { Counts (S.failures source.old) (S.failures source.new) result }
-    ensures reads { (parse : Parse) → IsParse parse → IfSome (S.contents source.old) (λ files.
-        ComesOf (Asked (S.asked source.old) (S.asked source.new)) (inputs_of parse files (seen request.now))
-        (inputs_reads parse files (seen request.now)) inputs_seen result) }
+    ensures reads { (parse : Parse) → IsParse parse →
+        ComesOfFiles (S.contents source.old) (S.asked source.old) (S.asked source.new)
+        (λ files. inputs_of parse files (seen request.now)) (λ files. inputs_reads parse files (seen request.now))
+        inputs_seen result }
 {
     let mut set = Set::with_hash(alloc, names);
     load_files(alloc, &mut set, source, request.files.as_slice())?;

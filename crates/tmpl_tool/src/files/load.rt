@@ -1,10 +1,9 @@
 //! Each FILE in turn, read and then parsed.
-ghost use Rattle.std.specs.Prelude.{◌≡◌, ◌<◌, ◌^◌, ◌-◌, ◌∷◌, [], IfSome, map};
+ghost use Rattle.std.specs.Prelude.{◌≡◌, ◌<◌, ◌^◌, ◌-◌, ◌∷◌, [], map};
 ghost use Rattle.tmpl_syntax.specs.View.{set_view};
 ghost use Rattle.tmpl_syntax.specs.computed.Parse.{parsed};
-ghost use Rattle.tmpl_tool.specs.Source.{Asked};
 ghost use Rattle.tmpl_tool.specs.Tool.{file_reads, loaded, with_file};
-ghost use Rattle.tmpl_tool.specs.Inputs.{Adds, ComesOf, Counts};
+ghost use Rattle.tmpl_tool.specs.Inputs.{Adds, ComesOfFiles, Counts};
 
 use crate::files::source::{Source, SourceFault};
 use crate::stop::Stop;
@@ -21,11 +20,10 @@ pub(crate) fn load_files<'a, S: Source>(
     requires { S.failures source.old < 2 ^ 64 - 1 }
     ensures contents { S.contents source.new ≡ S.contents source.old }
     ensures counts { Counts (S.failures source.old) (S.failures source.new) result }
-    ensures loads { IfSome (S.contents source.old) (λ files.
-        ComesOf (Asked (S.asked source.old) (S.asked source.new))
-        (λ fails. loaded parsed files fails 0 (set_view set.old) (map (λ s. s.now) names.now))
-        (λ fails. file_reads parsed files fails 0 (set_view set.old) (map (λ s. s.now) names.now))
-        (λ u. set_view set.new) result) }
+    ensures loads { ComesOfFiles (S.contents source.old) (S.asked source.old) (S.asked source.new)
+        (λ files fails. loaded parsed files fails 0 (set_view set.old) (map (λ s. s.now) names.now))
+        (λ files fails. file_reads parsed files fails 0 (set_view set.old) (map (λ s. s.now) names.now))
+        (λ u. set_view set.new) result }
 {
     for name in names {
         load_file(alloc, set, source, *name)?;
@@ -43,10 +41,9 @@ fn load_file<'a, S: Source>(
     requires { S.failures source.old < 2 ^ 64 - 1 }
     ensures contents { S.contents source.new ≡ S.contents source.old }
     ensures counts { Counts (S.failures source.old) (S.failures source.new) result }
-    ensures loads { IfSome (S.contents source.old) (λ files.
-        ComesOf (Asked (S.asked source.old) (S.asked source.new))
-        (λ fails. with_file parsed files (fails 0) (set_view set.old) name.entry.now) (λ fails. name.entry.now ∷ [])
-        (λ u. set_view set.new) result) }
+    ensures loads { ComesOfFiles (S.contents source.old) (S.asked source.old) (S.asked source.new)
+        (λ files fails. with_file parsed files (fails 0) (set_view set.old) name.entry.now)
+        (λ files fails. name.entry.now ∷ []) (λ u. set_view set.new) result }
 {
     match source.read_up_to(alloc, name, MOST_BYTES as u64) {
         Ok(bytes) => add_file(alloc, set, name, bytes),

@@ -2,7 +2,7 @@
 ghost use Rattle.std.specs.Prelude.{◌≡◌, ◌≢◌, ◌<◌, ◌^◌, ◌-◌, ◌∷◌, ◌++◌, [], option_map};
 ghost use Rattle.tmpl_meaning.specs.Sink.{sunk};
 ghost use Rattle.tmpl_meaning.specs.View.{fault_seen};
-ghost use Rattle.tmpl_tool.specs.Outcome.{Once, Says, memory_line, write_line};
+ghost use Rattle.tmpl_tool.specs.Outcome.{EndsWith, Once, Says, memory_line, write_line};
 ghost use Rattle.tmpl_tool.specs.Part.{line, plain};
 ghost use Rattle.tmpl_tool.specs.computed.Load.{place_of};
 ghost use Rattle.tmpl_tool.specs.Tool.{call_text, fault_line};
@@ -11,7 +11,8 @@ ghost use Rattle.tmpl_tool.specs.View.{parts_of};
 ghost use Rattle.tmpl_tool.specs.Inputs.{refusal_seen, said_of, stop_seen};
 ghost use Rattle.tmpl_syntax.specs.Fault.{reason_of};
 
-use crate::messages::part::{Part, put_line};
+use crate::messages::part::Part::{self, Bytes, Number, Quoted, Text};
+use crate::messages::part::put_line;
 use crate::status::Status;
 use crate::stop::Stop;
 use tmpl_funcs::CallFault;
@@ -22,10 +23,8 @@ use tmpl_syntax::{ParseFault, ParseKind};
 #[tactic(auto, using(crate::proofs::MessageLemmas::said))]
 fn say<E: Sink>(err: &mut E, parts: &[Part<'_>], code: u8) -> Status
     requires { (E.so_far err.old).failures < 2 ^ 64 - 1 }
-    ensures code { result.code ≡ code }
-    ensures cuts { Once (E.so_far err.old).failures (E.so_far err.new).failures }
-    ensures line { Says (line (parts_of parts.now))
-        (sunk (E.so_far err.old) (E.so_far err.new)) }
+    ensures { EndsWith code (line (parts_of parts.now))
+        (sunk (E.so_far err.old) (E.so_far err.new)) result.code }
 {
     let _ = put_line(err, [].as_slice(), parts);
     Status { code }
@@ -34,14 +33,12 @@ fn say<E: Sink>(err: &mut E, parts: &[Part<'_>], code: u8) -> Status
 /// Says that the words were refused.
 pub fn words_refused<E: Sink>(err: &mut E) -> Status
     requires { (E.so_far err.old).failures < 2 ^ 64 - 1 }
-    ensures code { result.code ≡ 2 }
-    ensures cuts { Once (E.so_far err.old).failures (E.so_far err.new).failures }
-    ensures line { Says (stop_answer bad_words).line
-        (sunk (E.so_far err.old) (E.so_far err.new)) }
+    ensures { EndsWith 2 (stop_answer bad_words).line
+        (sunk (E.so_far err.old) (E.so_far err.new)) result.code }
 {
     say(
         err,
-        [Part::Text("arguments refused; see tmpl --help")].as_slice(),
+        [Text("arguments refused; see tmpl --help")].as_slice(),
         2,
     )
 }
@@ -49,38 +46,26 @@ pub fn words_refused<E: Sink>(err: &mut E) -> Status
 /// Says that a write failed.
 pub fn write_failed<E: Sink>(err: &mut E) -> Status
     requires { (E.so_far err.old).failures < 2 ^ 64 - 1 }
-    ensures code { result.code ≡ 6 }
-    ensures cuts { Once (E.so_far err.old).failures (E.so_far err.new).failures }
-    ensures line { Says write_line
-        (sunk (E.so_far err.old) (E.so_far err.new)) }
+    ensures { EndsWith 6 write_line (sunk (E.so_far err.old) (E.so_far err.new)) result.code }
 {
-    say(err, [Part::Text("write failed")].as_slice(), 6)
+    say(err, [Text("write failed")].as_slice(), 6)
 }
 
 /// Says that memory was refused.
 pub fn out_of_memory<E: Sink>(err: &mut E) -> Status
     requires { (E.so_far err.old).failures < 2 ^ 64 - 1 }
-    ensures code { result.code ≡ 7 }
-    ensures cuts { Once (E.so_far err.old).failures (E.so_far err.new).failures }
-    ensures line { Says memory_line
-        (sunk (E.so_far err.old) (E.so_far err.new)) }
+    ensures { EndsWith 7 memory_line (sunk (E.so_far err.old) (E.so_far err.new)) result.code }
 {
-    say(err, [Part::Text("out of memory")].as_slice(), 7)
+    say(err, [Text("out of memory")].as_slice(), 7)
 }
 
 /// Says that there is no template of this name.
 pub(crate) fn template_missing<E: Sink>(err: &mut E, name: &[u8]) -> Status
     requires { (E.so_far err.old).failures < 2 ^ 64 - 1 }
-    ensures code { result.code ≡ 4 }
-    ensures cuts { Once (E.so_far err.old).failures (E.so_far err.new).failures }
-    ensures line { Says (stop_answer (unnamed name.now)).line
-        (sunk (E.so_far err.old) (E.so_far err.new)) }
+    ensures { EndsWith 4 (stop_answer (unnamed name.now)).line
+        (sunk (E.so_far err.old) (E.so_far err.new)) result.code }
 {
-    say(
-        err,
-        [Part::Text("no template "), Part::Quoted(name)].as_slice(),
-        4,
-    )
+    say(err, [Text("no template "), Quoted(name)].as_slice(), 4)
 }
 
 /// Why a template file was refused, in words; none where memory was refused.
@@ -113,11 +98,11 @@ fn refuse_template<E: Sink>(err: &mut E, fault: &ParseFault<'_>) -> Status
         return out_of_memory(err);
     };
     let parts = [
-        Part::Text(fault.file),
-        Part::Text(":"),
-        Part::Number(fault.line),
-        Part::Text(": "),
-        Part::Text(text),
+        Text(fault.file),
+        Text(":"),
+        Number(fault.line),
+        Text(": "),
+        Text(text),
     ];
     say(err, parts.as_slice(), 4)
 }
@@ -125,12 +110,10 @@ fn refuse_template<E: Sink>(err: &mut E, fault: &ParseFault<'_>) -> Status
 /// Says why a file, of which the name comes first, stops the program, and gives this status.
 fn refuse_file<E: Sink>(err: &mut E, name: &str, why: &str, code: u8) -> Status
     requires { (E.so_far err.old).failures < 2 ^ 64 - 1 }
-    ensures code { result.code ≡ code }
-    ensures cuts { Once (E.so_far err.old).failures (E.so_far err.new).failures }
-    ensures line { Says (line (plain name.now ∷ plain why.now ∷ []))
-        (sunk (E.so_far err.old) (E.so_far err.new)) }
+    ensures { EndsWith code (line (plain name.now ∷ plain why.now ∷ []))
+        (sunk (E.so_far err.old) (E.so_far err.new)) result.code }
 {
-    say(err, [Part::Text(name), Part::Text(why)].as_slice(), code)
+    say(err, [Text(name), Text(why)].as_slice(), code)
 }
 
 /// Says why the command stops, and gives the status of that.
@@ -168,10 +151,8 @@ fn call_text(fault: CallFault) -> &'static str
 /// Says where and why a run failed.
 pub(crate) fn run_failed<E: Sink>(err: &mut E, fault: &RunFault<'_>) -> Status
     requires { (E.so_far err.old).failures < 2 ^ 64 - 1 }
-    ensures code { result.code ≡ 1 }
-    ensures cuts { Once (E.so_far err.old).failures (E.so_far err.new).failures }
-    ensures line { Says (fault_line (fault_seen fault.now))
-        (sunk (E.so_far err.old) (E.so_far err.new)) }
+    ensures { EndsWith 1 (fault_line (fault_seen fault.now))
+        (sunk (E.so_far err.old) (E.so_far err.new)) result.code }
 {
     say_fault(err, fault);
     Status { code: 1 }
@@ -186,12 +167,12 @@ fn say_at<E: Sink>(err: &mut E, fault: &RunFault<'_>, reason: &[Part<'_>])
         (sunk (E.so_far err.old) (E.so_far err.new)) }
 {
     let place = [
-        Part::Bytes(fault.file),
-        Part::Text(":"),
-        Part::Number(fault.line),
-        Part::Text(": in "),
-        Part::Quoted(fault.template),
-        Part::Text(": "),
+        Bytes(fault.file),
+        Text(":"),
+        Number(fault.line),
+        Text(": in "),
+        Quoted(fault.template),
+        Text(": "),
     ];
     let _ = put_line(err, place.as_slice(), reason);
 }
@@ -205,50 +186,33 @@ fn say_fault<E: Sink>(err: &mut E, fault: &RunFault<'_>)
 {
     match fault.kind {
         RunFaultKind::StepsSpent(limit) => {
-            let parts = [
-                Part::Text("more than "),
-                Part::Number(limit),
-                Part::Text(" steps"),
-            ];
+            let parts = [Text("more than "), Number(limit), Text(" steps")];
             say_at(err, fault, parts.as_slice())
         }
         RunFaultKind::NoField(name) => {
-            let parts = [
-                Part::Text("no field "),
-                Part::Quoted(name),
-                Part::Text(" here"),
-            ];
+            let parts = [Text("no field "), Quoted(name), Text(" here")];
             say_at(err, fault, parts.as_slice())
         }
         RunFaultKind::NoEntry(name) => {
-            let parts = [Part::Text("no entry for key "), Part::Quoted(name)];
+            let parts = [Text("no entry for key "), Quoted(name)];
             say_at(err, fault, parts.as_slice())
         }
         RunFaultKind::NoTemplate(name) => {
-            let parts = [Part::Text("no template "), Part::Quoted(name)];
+            let parts = [Text("no template "), Quoted(name)];
             say_at(err, fault, parts.as_slice())
         }
         RunFaultKind::CallsTooDeep(limit) => {
-            let parts = [Part::Text("calls deeper than "), Part::Number(limit as u64)];
+            let parts = [Text("calls deeper than "), Number(limit as u64)];
             say_at(err, fault, parts.as_slice())
         }
         RunFaultKind::NotARange => {
-            say_at(
-                err,
-                fault,
-                [Part::Text("can't range over this value")].as_slice(),
-            )
+            let parts = [Text("can't range over this value")];
+            say_at(err, fault, parts.as_slice())
         }
-        RunFaultKind::NotAFunction => say_at(err, fault, [Part::Text("not a function")].as_slice()),
-        RunFaultKind::NilCommand => {
-            say_at(err, fault, [Part::Text("nil is not a command")].as_slice())
-        }
-        RunFaultKind::Call(func, fault_of_call) => {
-            let parts = [
-                Part::Text(func.name()),
-                Part::Text(": "),
-                Part::Text(call_text(fault_of_call)),
-            ];
+        RunFaultKind::NotAFunction => say_at(err, fault, [Text("not a function")].as_slice()),
+        RunFaultKind::NilCommand => say_at(err, fault, [Text("nil is not a command")].as_slice()),
+        RunFaultKind::Call(func, why) => {
+            let parts = [Text(func.name()), Text(": "), Text(call_text(why))];
             say_at(err, fault, parts.as_slice())
         }
     }

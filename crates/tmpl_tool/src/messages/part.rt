@@ -40,7 +40,10 @@ pub(crate) fn put_line<E: Sink>(
     let mut memory = [0; LINE_SIZE];
     match line_in(memory.as_mut_slice(), place, parts) {
         Some(size) => put_all(err, &memory[..size]),
-        None => put_long_line(err, place, parts),
+        None => {
+            let mut puts = WholePuts { sink: err };
+            write_line(&mut puts, place, parts)
+        }
     }
 }
 
@@ -58,20 +61,6 @@ fn line_in(memory: &mut [u8], place: &[Part<'_>], parts: &[Part<'_>]) -> Option<
         Ok(()) => Some(fixed.end),
         Err(Full) => None,
     }
-}
-
-/// Puts a line part by part.
-fn put_long_line<E: Sink>(
-    err: &mut E,
-    place: &[Part<'_>],
-    parts: &[Part<'_>],
-) -> Result<(), SinkFault>
-    requires { (E.so_far err.old).failures < 2 ^ 64 - 1 }
-    ensures { IsPut result (as_puts (E.so_far err.old))
-        (as_puts (E.so_far err.new)) (line (parts_of place.now ++ parts_of parts.now)) }
-{
-    let mut puts = WholePuts { sink: err };
-    write_line(&mut puts, place, parts)
 }
 
 /// Puts the program's name, the place, the parts, and a newline.

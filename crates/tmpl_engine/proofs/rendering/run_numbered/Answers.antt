@@ -1,11 +1,8 @@
-use Rattle.std.proofs.Common.{arith, ◌≡◌, Ok, Err, IfSome, ap, length, option_map, slice_get, subst, sym}
+use Rattle.std.proofs.Common.{arith, ◌≡◌, Ok, Err, ap, length, option_map, slice_get}
 use Rattle.tmpl_values.specs.View.{value_of}
 use Rattle.tmpl_syntax.specs.View.{set_view}
-use Rattle.tmpl_meaning.specs.Meaning.{ran}
 use Rattle.tmpl_meaning.specs.Sink.{sunk}
 use Rattle.tmpl_meaning.specs.View.{rules_of}
-use Rattle.tmpl_engine.specs.Render.{IsRunOf}
-use Rattle.tmpl_engine.specs.declared.error.RenderError.{RenderError}
 use Rattle.tmpl_engine.proofs.RenderLemmas.{run_of}
 use Rattle.tmpl_engine.proofs.rendering.run_numbered.Goals as goal
 
@@ -26,9 +23,6 @@ returns-in-Ok-end g c =
 pub returns : goal.returns
 returns g c =
     let set = set_view c.args.program.now.set.now in
-    let input = option_map (λ d. value_of d.now) c.args.data in
-    let out = sunk (g.S.Sink.so_far c.args.out.now) (g.S.Sink.so_far c.run-end.new.out) in
-    subst
-    (λ (e : RenderError). IfSome (slice_get set c.args.number) (λ t. IsRunOf (ran (rules_of c.args.options.now) set t.0 t.1 input) out (Err e)))
-    (sym c.from.ensures)
-    (run_of (rules_of c.args.options.now) set input out (Err c.in-Err.error) (slice_get set c.args.number) c.in-Err.ensures.runs)
+    rw c.from.ensures
+    (run_of (rules_of c.args.options.now) set (option_map (λ d. value_of d.now) c.args.data)
+    (sunk (g.S.Sink.so_far c.args.out.now) (g.S.Sink.so_far c.run-end.new.out)) (Err c.in-Err.error) (slice_get set c.args.number) c.in-Err.ensures.runs)

@@ -9,7 +9,8 @@ use Rattle.tmpl_tool.specs.Help.{asks_help}
 use Rattle.tmpl_tool.specs.Inputs.{inputs_reads, stop_seen}
 use Rattle.tmpl_tool.specs.Outcome.{Outcome}
 use Rattle.tmpl_tool.specs.Source.{Asked}
-use Rattle.tmpl_tool.specs.Tool.{answer_of, bad_words, help, no_read, or_stop, reads_behind, stop_if, tool_answer, tool_reads}
+use Rattle.tmpl_tool.specs.Tool.{answer_of, bad_words, help, no_read, reads_behind, stop_if, tool_answer, tool_reads}
+use Rattle.tmpl_values.specs.Stage.{and_then}
 use Rattle.tmpl_tool.specs.Words.{wanted}
 use Rattle.tmpl_tool.specs.declared.status.Status.{Status}
 use Rattle.tmpl_tool.specs.View.{seen}
@@ -31,7 +32,7 @@ returns-then-asks_help-clause-told g c parse is =
     inl (
       refl,
       inl (subst (Asked asked asked)
-          (ap (λ b. reads_behind (λ w. inputs_reads parse files w no_read) (or_stop (stop_if b help) (λ u. ok_or (wanted words) bad_words))) (sym helps))
+          (ap (λ b. reads_behind (λ w. inputs_reads parse files w no_read) (and_then (stop_if b help) (λ u. ok_or (wanted words) bad_words))) (sym helps))
           (asked-nothing asked)),
       subst (λ (s : Status). Outcome (tool_answer parse words files no_read) out err s.code) (sym c.stopped.ensures)
           (outcome_as err c.put_out.result.code out _ _ (gives_help parse words files no_read helps) c.put_out.ensures.outcome),
@@ -52,7 +53,7 @@ returns-in-Ok-read_inputs-clause-told g c parse is =
       inl reads.1,
       outcome_as _ c.answer.result.code _ _ _
           (ap answer_of
-          (after_inputs parse files w no_read ∙ ap (λ r. or_stop r (λ i. finished w i.0 i.1)) reads.0
+          (after_inputs parse files w no_read ∙ ap (λ r. and_then r (λ i. finished w i.0 i.1)) reads.0
           ∙ ap (finished w (set_view inputs.set)) (sym same)))
           c.answer.ensures.outcome,
     )))

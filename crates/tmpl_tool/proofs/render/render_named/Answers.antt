@@ -9,14 +9,19 @@ use Rattle.tmpl_tool.proofs.RenderLemmas.{ok_or-ran_named}
 use Rattle.tmpl_tool.proofs.StopLemmas.{outcome_as}
 use Rattle.tmpl_tool.proofs.render.render_named.Goals as goal
 
-pub returns-clause-outcome : goal.returns-clause-outcome
-returns-clause-outcome g c =
+pub returns : goal.returns
+returns g c =
     let rules = rules_of c.args.options.now in
     let name = c.args.name.now in
     let set = set_view c.args.set.now in
     let input = option_map (λ d. value_of d.now) c.args.data in
     let before = g.O.Sink.so_far c.args.out.now in
     let after = g.O.Sink.so_far c.render_through-end.new.out in
-    outcome_as (sunk (g.E.Sink.so_far c.args.err.now) (g.E.Sink.so_far c.tell_end.new.err)) c.tell_end.result.code (sunk before after) _ _
-    (sym (ap answer_of (ok_or-ran_named rules name set input)))
-    (c.tell_end.ensures.outcome (ran_named rules set name input) before after c.render_through-end.ensures)
+    let ran = ran_named rules set name input in
+    record {
+      counts = c.tell_end.ensures.counts ran before after c.render_through-end.ensures;
+      cuts = c.tell_end.ensures.cuts;
+      outcome =
+          outcome_as (sunk (g.E.Sink.so_far c.args.err.now) (g.E.Sink.so_far c.tell_end.new.err)) c.tell_end.result.code (sunk before after) _ _
+          (sym (ap answer_of (ok_or-ran_named rules name set input))) (c.tell_end.ensures.outcome ran before after c.render_through-end.ensures);
+    }

@@ -46,61 +46,56 @@ put_ended-returns t c =
 
 pub put_if-since-requires : goal.put_if-since-requires
 put_if-since-requires t c =
-    let a = c.args in
-    let more = tail.more_code (ended_part (set_view a.site.set.now) (binding_of a.header.now.binding) (nodes_in a.other.now) 0) c.in_ok-put_ended.ensures in
+    let more = tail.more_code (ended_part _ _ _ _) c.in_ok-put_ended.ensures in
     omega (arith, more, c.len-end.ensures)
 
 pub put_if-put_ended-requires-2 : goal.put_if-put_ended-requires-2
-put_if-put_ended-requires-2 t c =
-    let a = c.args in (
-      omega arith,
-      tail.still_open (ended_part (set_view a.site.set.now) (binding_of a.header.now.binding) (nodes_in a.other.now) 0) c.in_ok-put_ended.ensures
-          c.requires,
-    )
+put_if-put_ended-requires-2 t c = (
+  omega arith,
+  tail.still_open (ended_part _ _ _ _) c.in_ok-put_ended.ensures c.requires,
+)
 
 pub put_if-since-requires-2 : goal.put_if-since-requires-2
 put_if-since-requires-2 t c =
-    let a = c.args in
-    let more = tail.more_code (ended_part (set_view a.site.set.now) (binding_of a.header.now.binding) (nodes_in a.body.now) c.in_ok-to.to)
-    c.in_ok-put_ended-2.ensures in
+    let more = tail.more_code (ended_part _ _ _ _) c.in_ok-put_ended-2.ensures in
     omega (arith, more, c.len-second.ensures)
 
 pub put_if-returns : goal.put_if-returns
 put_if-returns t c =
     let a = c.args in
-    on_ok _ _ _ (λ headed. tail.put_if (set_view a.site.set.now) c.requires (header_of a.header.now) (nodes_in a.body.now) (nodes_in a.other.now) c.in_ok-to.to
-    c.in_ok-skip.skip c.declares-kept.result c.in_ok-put_ended.ensures c.in_ok-put_ended-2.ensures
+    let p = a.parts in
+    on_ok _ _ _ (λ headed. tail.put_if (set_view a.site.set.now) c.requires (header_of p.header.now) (nodes_in p.body.now) (nodes_in p.other.now)
+    c.in_ok-to.to c.in_ok-skip.skip c.declares-kept.result c.in_ok-put_ended.ensures c.in_ok-put_ended-2.ensures
     (c.in_ok-to.ensures ∙ ap (λ n. length (code_of c.put_ended.new.self.code) - n) c.len-end.ensures)
     (c.in_ok-skip.ensures ∙ ap (λ n. length (code_of c.put_ended-2.new.self.code) - n) c.len-second.ensures) c.declares-kept.ensures c.in_ok-push.ensures refl
     headed) c.put_header.ensures
 
 pub put_with-since-requires : goal.put_with-since-requires
 put_with-since-requires t c =
-    let a = c.args in
-    let more = tail.more_code (ended_part (set_view a.site.set.now) (binding_of a.header.now.binding) (nodes_in a.other.now) 0) c.in_ok-put_ended.ensures in
+    let more = tail.more_code (ended_part _ _ _ _) c.in_ok-put_ended.ensures in
     omega (arith, more, c.len-end.ensures)
 
 pub put_with-put_dotted_part-requires : goal.put_with-put_dotted_part-requires
 put_with-put_dotted_part-requires t c =
     let a = c.args in
     let s = c.put_ended.new.self in
-    let still = tail.still_open (ended_part (set_view a.site.set.now) (binding_of a.header.now.binding) (nodes_in a.other.now) 0) c.in_ok-put_ended.ensures
-    c.requires in
+    let still = tail.still_open (ended_part _ _ _ _) c.in_ok-put_ended.ensures c.requires in
     let lay = layout_of s.scope in
     (omega arith, open_on a.site.exit (code_of s.code) (code_of c.push.new.self) lay lay (ends_one _ _ _ c.in_ok-push.ensures) (omega arith) still)
 
 pub put_with-since-requires-2 : goal.put_with-since-requires-2
 put_with-since-requires-2 t c =
-    let a = c.args in
-    let more = tail.more_code (dotted_part (set_view a.site.set.now) (binding_of a.header.now.binding) (nodes_in a.body.now)) c.in_ok-put_dotted_part.ensures in
+    let more = tail.more_code (dotted_part _ _ _) c.in_ok-put_dotted_part.ensures in
     let one = longer _ _ (ends_one _ _ _ c.in_ok-push.ensures) in
     omega (arith, more, one, c.len-second.ensures)
 
 pub put_with-returns : goal.put_with-returns
 put_with-returns t c =
     let a = c.args in
-    on_ok _ _ _ (λ headed. tail.put_with (set_view a.site.set.now) c.requires (header_of a.header.now) (nodes_in a.body.now) (nodes_in a.other.now)
-    c.in_ok-skip.skip c.in_ok-skip-2.skip _ _ c.declares-kept.result c.in_ok-put_ended.ensures refl c.in_ok-push.ensures c.in_ok-put_dotted_part.ensures
+    let p = a.parts in
+    on_ok _ _ _ (λ headed. tail.put_with (set_view a.site.set.now) c.requires (header_of p.header.now) (nodes_in p.body.now) (nodes_in p.other.now)
+    c.in_ok-skip.skip c.in_ok-skip-2.skip _ _ c.declares-kept.result
+    c.in_ok-put_ended.ensures refl c.in_ok-push.ensures c.in_ok-put_dotted_part.ensures
     (c.in_ok-short.ensures.value ∙ c.in_ok-declared_in.ensures) (c.in_ok-short-2.ensures.value ∙ c.declared_count.ensures)
     (c.in_ok-skip.ensures ∙ ap (λ n. length (code_of c.put_ended.new.self.code) - n) c.len-end.ensures)
     (c.in_ok-skip-2.ensures ∙ ap (λ n. length (code_of c.put_dotted_part.new.self.code) - n) c.len-second.ensures) c.declares-kept.ensures
@@ -108,31 +103,30 @@ put_with-returns t c =
 
 pub put_range-since-requires : goal.put_range-since-requires
 put_range-since-requires t c =
-    let a = c.args in
-    let more = tail.more_code (nodes_part (set_view a.site.set.now) (nodes_in a.other.now)) c.in_ok-put_nodes.ensures in
+    let more = tail.more_code (nodes_part _ _) c.in_ok-put_nodes.ensures in
     let end = longer _ _ (end_ends _ _ _ _ c.in_ok-put_end.ensures) in
     omega (arith, more, end, c.len-after.ensures)
 
 pub put_range-put_turns-requires : goal.put_range-put_turns-requires
 put_range-put_turns-requires t c =
-    let a = c.args in
-    let more = tail.more_code (nodes_part (set_view a.site.set.now) (nodes_in a.other.now)) c.in_ok-put_nodes.ensures in
+    let more = tail.more_code (nodes_part _ _) c.in_ok-put_nodes.ensures in
     let end = longer _ _ (end_ends _ _ _ _ c.in_ok-put_end.ensures) in
     let one = longer _ _ (ends_one _ _ _ c.in_ok-push.ensures) in
     (omega arith, (omega (arith, more, end, one, c.len-after.ensures), c.len-below.ensures))
 
 pub put_range-since-requires-2 : goal.put_range-since-requires-2
 put_range-since-requires-2 t c =
-    let a = c.args in
-    let more = tail.more_code (turns_part (set_view a.site.set.now) (binding_of a.header.now.binding) (nodes_in a.body.now)) c.in_ok-put_turns.ensures in
+    let more = tail.more_code (turns_part _ _ _) c.in_ok-put_turns.ensures in
     let one = longer _ _ (ends_one _ _ _ c.in_ok-push.ensures) in
     omega (arith, more, one, c.len-second.ensures)
 
 pub put_range-returns : goal.put_range-returns
 put_range-returns t c =
     let a = c.args in
-    on_ok _ _ _ (λ piped. tail.put_range (set_view a.site.set.now) c.requires (header_of a.header.now) (nodes_in a.body.now) (nodes_in a.other.now) a.line
-    c.in_ok-skip.skip c.in_ok-skip-2.skip _ _ c.declares_key-key.result _ refl (c.in_ok-short.ensures.value ∙ c.in_ok-declared_in.ensures)
+    let p = a.parts in
+    on_ok _ _ _ (λ piped. tail.put_range (set_view a.site.set.now) c.requires (header_of p.header.now) (nodes_in p.body.now) (nodes_in p.other.now)
+    a.line c.in_ok-skip.skip c.in_ok-skip-2.skip _ _ c.declares_key-key.result
+    _ refl (c.in_ok-short.ensures.value ∙ c.in_ok-declared_in.ensures)
     c.in_ok-put_end.ensures c.in_ok-put_nodes.ensures refl c.in_ok-push.ensures c.len-after.ensures refl c.len-below.ensures c.in_ok-put_turns.ensures
     c.in_ok-count.ensures (c.in_ok-skip.ensures ∙ ap (λ n. length (code_of c.put_nodes.new.self.code) - n) c.len-after.ensures)
     (c.in_ok-skip-2.ensures ∙ ap (λ n. length (code_of c.put_turns.new.self.code) - n) c.len-second.ensures) c.declares_key-key.ensures c.in_ok-push-2.ensures

@@ -26,13 +26,13 @@ abbrev pub decreases-put_turns : goal.decreases-put_turns
 decreases-put_turns l = 5 * nodes_weight (nodes_in l.body.now) + 1
 
 abbrev pub decreases-put_if : goal.decreases-put_if
-decreases-put_if l = 5 * (nodes_weight (nodes_in l.body.now) + nodes_weight (nodes_in l.other.now)) + 3
+decreases-put_if l = 5 * (nodes_weight (nodes_in l.parts.body.now) + nodes_weight (nodes_in l.parts.other.now)) + 3
 
 abbrev pub decreases-put_with : goal.decreases-put_with
-decreases-put_with l = 5 * (nodes_weight (nodes_in l.body.now) + nodes_weight (nodes_in l.other.now)) + 3
+decreases-put_with l = 5 * (nodes_weight (nodes_in l.parts.body.now) + nodes_weight (nodes_in l.parts.other.now)) + 3
 
 abbrev pub decreases-put_range : goal.decreases-put_range
-decreases-put_range l = 5 * (nodes_weight (nodes_in l.body.now) + nodes_weight (nodes_in l.other.now)) + 3
+decreases-put_range l = 5 * (nodes_weight (nodes_in l.parts.body.now) + nodes_weight (nodes_in l.parts.other.now)) + 3
 
 abbrev pub decreases-put_nodes-loop-i : goal.decreases-put_nodes-loop-i
 decreases-put_nodes-loop-i l = l.i

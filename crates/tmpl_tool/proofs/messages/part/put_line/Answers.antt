@@ -3,11 +3,11 @@ use Rattle.tmpl_values.specs.Put.{IsPut}
 use Rattle.tmpl_meaning.specs.Sink.{as_puts}
 use Rattle.tmpl_tool.specs.Part.{line}
 use Rattle.tmpl_tool.specs.View.{parts_of}
-use Rattle.tmpl_tool.proofs.messages.part.put_long_line.Goals as goal
+use Rattle.tmpl_tool.proofs.messages.part.put_line.Goals as goal
 
 -- what stands behind the reference at the end is what was put through it, as the puts kept its name
-pub returns : goal.returns
-returns g c =
+pub returns-in-None : goal.returns-in-None
+returns-in-None g c =
     let put = c.write_line.ensures in
     let same : c.err-1.given.0 ≡ c.write_line.new.put.sink.now = c.err-1.given.1 (sym put.through) in
     subst
