@@ -60,7 +60,7 @@ impl<'m, 'a> Machine<'m, 'a> {
         ensures size { size_of self.new.stack ≡ size_of self.old.stack }
     {
         self.place += 1;
-        let put = self.stack.show(piece, sink);
+        let put = self.stack.show_slot(0, piece, sink);
         self.stack.pop(1);
         put
     }

@@ -25,8 +25,7 @@ impl<'m, 'a> Machine<'m, 'a> {
         ensures plain { IsPlain self.old → Spared result (IsPlain self.new) }
         ensures size { size_of self.new.stack ≡ size_of self.old.stack }
     {
-        let Cell { val, num } = self.stack.take();
-        let val = val.into_shared(self.alloc)?;
+        let Cell { val, num } = self.stack.take_shared(self.alloc)?;
         if key {
             self.stack.push(Val::Nothing, 0);
         }
@@ -46,8 +45,7 @@ impl<'m, 'a> Machine<'m, 'a> {
         ensures plain { IsPlain self.old → Spared result (IsPlain self.new) }
         ensures size { size_of self.new.stack ≡ size_of self.old.stack }
     {
-        let Cell { val, num } = self.stack.take();
-        let val = val.into_shared(self.alloc)?;
+        let Cell { val, num } = self.stack.take_shared(self.alloc)?;
         self.stack.set(slot, val.share()?);
         self.stack.push(val, num);
         self.place += 1;
