@@ -65,16 +65,6 @@ pub text_of_bytes : (v : Value) (bytes : List ℕ) → Some bytes ≡ bytes_of v
 text_of_bytes (string s) bytes h = let same : bytes ≡ s = cc in sym same
 text_of_bytes _ bytes h = cc
 
--- nothing is put
-module _ {S : Type 0} (so_far : S → Told) (old new : S) (p q : Piece) (same : new ≡ old) (kept : q ≡ p) where
-  pub quiet : IsPut {F = SinkFault} (Ok tt) (given_of (so_far old) p) (given_of (so_far new) q) []
-  quiet = subst (λ o. IsPut {F = SinkFault} (Ok tt) (given_of (so_far old) p) (given_of (so_far o) q) []) (sym same)
-      (subst (λ (o : Piece). IsPut {F = SinkFault} (Ok tt) (given_of (so_far old) p) (given_of (so_far old) o) []) (sym kept)
-      (IsPut-nil (given_of (so_far old) p)))
-
-  pub quiet-grows : Grows (so_far old) (so_far new)
-  quiet-grows = subst (λ o. Grows (so_far old) (so_far o)) (sym same) (grows-same (so_far old))
-
 -- ---- a piece and a sink as one that takes bytes
 
 pub grows-by : (a b c : Told) → a ≡ c → Grew c b → Grows a b

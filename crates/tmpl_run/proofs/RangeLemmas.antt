@@ -273,7 +273,7 @@ module _ (way : Way) (calls : Calls) (spare : ℕ) (pipes : Pipelines way) where
             sets : (o : Option ℕ) → slot_named x (None ∷ None ∷ lay) ≡ o → SetDotAt o l.0 first
                 → ways.Leading way (record s { cells = saved ∷ cell v k ∷ cs; dot = e.1; place = s.place + 1 })
             sets None is-slot l = more (saved ∷ cell v k ∷ cs) (s.place + 1) (there ∙ l) (ap (λ l. Some saved ∷ Some (cell v k) ∷ l) frame) (omega arith)
-                (sym (stored-none x (None ∷ None ∷ lay) (saved ∷ cell v k ∷ cs) e.1 is-slot))
+                (sym (stored-none x (None ∷ None ∷ lay) (saved ∷ cell v k ∷ cs) e.1 is-slot (omega arith)))
             sets (Some i) is-slot l =
                 ways.takes way (record s { cells = saved ∷ cell v k ∷ cs; dot = e.1; place = s.place + 1 }) (code.set_dot i) first same (there ∙ l)
                 (let below = found-within x (None ∷ None ∷ lay) i is-slot in omega arith)

@@ -32,7 +32,7 @@ step-env code.push_nothing mode d a b cs = refl
 step-env _ mode d a b cs = refl
 
 -- what follows a step, by how many cells it leaves
-abbrev Leaves : (ℕ → ℕ → Type 0) → Went → Type 0
+abbrev pub Leaves : (ℕ → ℕ → Type 0) → Went → Type 0
 Leaves Next (on skip cs) = Next skip (length cs)
 Leaves Next (halted cause) = Unit {0}
 Leaves Next lacks = Unit {0}
@@ -49,7 +49,7 @@ called-after Next f args true [] n e h = tt
 called-after Next f args true (c ∷ cs) n e h =
     pushed-after Next (or_call_failed f (called f (args ++ c.val ∷ []))) cs (subst (λ k. Next 0 (suc k)) (let same : n ≡ length cs = omega arith in same) h)
 
-step-after : (o : Operation) (s : Place) (cs : List Cell) (most : ℕ) (Next : ℕ → ℕ → Type 0) → Fits o (length cs) most → Follows o (length cs) Next
+pub step-after : (o : Operation) (s : Place) (cs : List Cell) (most : ℕ) (Next : ℕ → ℕ → Type 0) → Fits o (length cs) most → Follows o (length cs) Next
     → Leaves Next (step s o cs)
 step-after code.push_nothing s cs most Next fits h = h
 step-after (code.push_bool x) s cs most Next fits h = h
