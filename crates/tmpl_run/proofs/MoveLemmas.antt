@@ -139,7 +139,7 @@ made-on : (o : code.Operation) → made_by o true ≡ true
 made-on code.push_nothing = refl
 made-on _ = refl
 
-pub mark-on : (i : Instruction) → mark_behind i true ≡ true
+mark-on : (i : Instruction) → mark_behind i true ≡ true
 mark-on (code.act o) = made-on o
 mark-on _ = refl
 

@@ -1,7 +1,7 @@
 //! Calls of templates.
 ghost use Rattle.std.specs.Prelude.{◌≡◌, ◌+◌, ◌<◌, ◌≤◌, ◌^◌, Ok, Some, length, slice_get};
 ghost use Rattle.tmpl_code.specs.Instruction as code;
-ghost use Rattle.tmpl_run.specs.computed.Machines.{Told, state_of};
+ghost use Rattle.tmpl_run.specs.computed.Machines.{Told};
 ghost use Rattle.tmpl_run.specs.computed.Plain.{IsPlain, SparedOr};
 ghost use Rattle.tmpl_run.specs.computed.Turned.{Executed, TurnedOr};
 ghost use Rattle.tmpl_run.specs.computed.View.{cells_of, size_of};
@@ -26,7 +26,7 @@ impl<'m, 'a> Machine<'m, 'a> {
         requires steps { run.plan.rules.step_limit ≡ step_limit }
         requires depths { run.plan.rules.depth_limit ≡ depth_limit }
         requires place { self.old.place + 1 < 2 ^ 64 }
-        ensures step { TurnedOr run (code.deepen line) (state_of run self.old) (state_of run self.new) result }
+        ensures step { TurnedOr run (code.deepen line) self.old self.new result }
         ensures plain { IsPlain self.old → SparedOr result (IsPlain self.new) }
         ensures size { size_of self.new.stack ≡ size_of self.old.stack }
     {
@@ -56,7 +56,7 @@ impl<'m, 'a> Machine<'m, 'a> {
         requires room { length (cells_of self.old.stack) + 2 ≤ size_of self.old.stack }
         requires depth { self.old.depth + 1 < 2 ^ 64 }
         requires place { self.old.place + 1 < 2 ^ 64 }
-        ensures step { TurnedOr run (code.invoke number) (state_of run self.old) (state_of run self.new) result }
+        ensures step { TurnedOr run (code.invoke number) self.old self.new result }
         ensures plain { IsPlain self.old → SparedOr result (IsPlain self.new) }
         ensures size { size_of self.new.stack ≡ size_of self.old.stack }
     {
@@ -80,8 +80,7 @@ impl<'m, 'a> Machine<'m, 'a> {
     pub(crate) fn return_from(&mut self, count: usize) -> Flow
         ghost run: { Told }
         requires found { 1 < self.old.depth → count + 3 ≤ length (cells_of self.old.stack) }
-        ensures step { Executed run (code.return_from count) (state_of run self.old) (state_of run self.new)
-            (Ok result) }
+        ensures step { Executed run (code.return_from count) self.old self.new (Ok result) }
         ensures plain { IsPlain self.old → IsPlain self.new }
         ensures size { size_of self.new.stack ≡ size_of self.old.stack }
     {

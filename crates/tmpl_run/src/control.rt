@@ -3,7 +3,7 @@ ghost use Rattle.std.specs.Prelude.{◌≡◌, ◌+◌, ◌<◌, ◌≤◌, ◌^
 ghost use Rattle.tmpl_values.specs.Truth.{truth};
 ghost use Rattle.tmpl_code.specs.Instruction as code;
 ghost use Rattle.tmpl_run.specs.Cell.{slot};
-ghost use Rattle.tmpl_run.specs.computed.Machines.{Told, state_of};
+ghost use Rattle.tmpl_run.specs.computed.Machines.{Told};
 ghost use Rattle.tmpl_run.specs.computed.Plain.{IsPlain, Spared, SparedOr};
 ghost use Rattle.tmpl_run.specs.Ready.{RoomIf};
 ghost use Rattle.tmpl_run.specs.computed.Turned.{Executed, TurnedOr};
@@ -23,7 +23,7 @@ impl<'m, 'a> Machine<'m, 'a> {
         ghost run: { Told }
         requires limit { run.plan.rules.step_limit ≡ limit }
         requires place { self.old.place + 1 < 2 ^ 64 }
-        ensures step { TurnedOr run (code.spend line) (state_of run self.old) (state_of run self.new) result }
+        ensures step { TurnedOr run (code.spend line) self.old self.new result }
         ensures plain { IsPlain self.old → SparedOr result (IsPlain self.new) }
         ensures size { size_of self.new.stack ≡ size_of self.old.stack }
     {
@@ -41,7 +41,7 @@ impl<'m, 'a> Machine<'m, 'a> {
         ghost run: { Told }
         requires place { self.old.place + 1 + skip < 2 ^ 64 }
         requires found { count ≤ length (cells_of self.old.stack) }
-        ensures step { Executed run (code.cut count skip) (state_of run self.old) (state_of run self.new) (Ok result) }
+        ensures step { Executed run (code.cut count skip) self.old self.new (Ok result) }
         ensures plain { IsPlain self.old → IsPlain self.new }
         ensures size { size_of self.new.stack ≡ size_of self.old.stack }
     {
@@ -57,8 +57,7 @@ impl<'m, 'a> Machine<'m, 'a> {
         requires found { 1 ≤ length (cells_of self.old.stack) }
         requires body { self.old.place + 1 < 2 ^ 64 }
         requires other { truth (slot 0 (cells_of self.old.stack)) ≡ false → self.old.place + 1 + skip < 2 ^ 64 }
-        ensures step { Executed run (code.unless kept skip) (state_of run self.old) (state_of run self.new)
-            (Ok result) }
+        ensures step { Executed run (code.unless kept skip) self.old self.new (Ok result) }
         ensures plain { IsPlain self.old → IsPlain self.new }
         ensures size { size_of self.new.stack ≡ size_of self.old.stack }
     {
@@ -81,8 +80,7 @@ impl<'m, 'a> Machine<'m, 'a> {
         requires room { RoomIf kept (length (cells_of self.old.stack)) (size_of self.old.stack) }
         requires body { self.old.place + 1 < 2 ^ 64 }
         requires other { truth (slot 0 (cells_of self.old.stack)) ≡ false → self.old.place + 1 + skip < 2 ^ 64 }
-        ensures step { IfOk result (λ f. Executed run (code.enter_with kept skip) (state_of run self.old)
-            (state_of run self.new) (Ok f)) }
+        ensures step { IfOk result (λ f. Executed run (code.enter_with kept skip) self.old self.new (Ok f)) }
         ensures plain { IsPlain self.old → Spared result (IsPlain self.new) }
         ensures size { size_of self.new.stack ≡ size_of self.old.stack }
     {
@@ -110,8 +108,7 @@ impl<'m, 'a> Machine<'m, 'a> {
         ghost run: { Told }
         requires place { self.old.place + 1 + skip < 2 ^ 64 }
         requires found { count + 1 + variables ≤ length (cells_of self.old.stack) }
-        ensures step { Executed run (code.end_with count variables skip) (state_of run self.old)
-            (state_of run self.new) (Ok result) }
+        ensures step { Executed run (code.end_with count variables skip) self.old self.new (Ok result) }
         ensures plain { IsPlain self.old → IsPlain self.new }
         ensures size { size_of self.new.stack ≡ size_of self.old.stack }
     {

@@ -46,10 +46,10 @@ impl<'m, 'a> Machine<'m, 'a> {
         requires code { run.plan.code ≡ instructions_of code.now }
         requires here { self.old.place < length code.now }
         ensures step { let i = instruction_of instruction.now in
-            TurnedBy (at_once run.plan.code self.old.place i) run i (state_of run self.old) self.new result }
+            TurnedBy (at_once run.plan.code self.old.place i) run i self.old self.new result }
         ensures given { let i = instruction_of instruction.now in
             IsPut (put_by result) (given_of (S.so_far sink.old) piece.old) (given_of (S.so_far sink.new) piece.new)
-            (put_out (at_once run.plan.code self.old.place i) run.plan i (state_of run self.old) result) }
+            (put_out (at_once run.plan.code self.old.place i) run i self.old result) }
         ensures taken { Grows (S.so_far sink.old) (S.so_far sink.new) }
         ensures plain { mark_behind (instruction_of instruction.now) run.made_text ≡ false
             → IsPlain self.old → SparedOr result (IsPlain self.new) }

@@ -47,7 +47,7 @@ impl<'m, 'a> Machine<'m, 'a> {
         requires body { self.old.place + 1 < 2 ^ 64 }
         requires other { elements_for key (slot 0 (cells_of self.old.stack)) ≡ Some []
             → self.old.place + 1 + skip < 2 ^ 64 }
-        ensures step { TurnedOr run (code.enter key skip) (state_of run self.old) (state_of run self.new) result }
+        ensures step { TurnedOr run (code.enter key skip) self.old self.new result }
         ensures plain { IsPlain self.old → SparedOr result (IsPlain self.new) }
         ensures size { size_of self.new.stack ≡ size_of self.old.stack }
     {
@@ -81,8 +81,7 @@ impl<'m, 'a> Machine<'m, 'a> {
             (slot_cell 1 (cells_of self.old.stack)).val ≡ None → ⊥ }
         requires room { length (cells_of self.old.stack) + count ≤ size_of self.old.stack }
         requires place { self.old.place + 1 < 2 ^ 64 }
-        ensures step { IfOk result (λ f. Executed run (code.turn count) (state_of run self.old)
-            (state_of run self.new) (Ok f)) }
+        ensures step { IfOk result (λ f. Executed run (code.turn count) self.old self.new (Ok f)) }
         ensures plain { IsPlain self.old → Spared result (IsPlain self.new) }
         ensures size { size_of self.new.stack ≡ size_of self.old.stack }
     {
@@ -133,7 +132,7 @@ impl<'m, 'a> Machine<'m, 'a> {
         requires within { length (cells_of self.old.stack) ≤ size_of self.old.stack }
         requires behind { has_more (slot_cell 1 (drop count (cells_of self.old.stack))) ≡ false
             → self.old.place + 1 + skip < 2 ^ 64 }
-        ensures step { TurnedOr run (code.next count skip line) (state_of run self.old) (state_of run self.new) result }
+        ensures step { TurnedOr run (code.next count skip line) self.old self.new result }
         ensures plain { IsPlain self.old → SparedOr result (IsPlain self.new) }
         ensures size { size_of self.new.stack ≡ size_of self.old.stack }
     {
@@ -162,8 +161,7 @@ impl<'m, 'a> Machine<'m, 'a> {
         ghost run: { Told }
         requires found { count + 2 ≤ length (cells_of self.old.stack) }
         requires place { self.old.place + 1 + skip < 2 ^ 64 }
-        ensures step { Executed run (code.leave count skip) (state_of run self.old) (state_of run self.new)
-            (Ok result) }
+        ensures step { Executed run (code.leave count skip) self.old self.new (Ok result) }
         ensures plain { IsPlain self.old → IsPlain self.new }
         ensures size { size_of self.new.stack ≡ size_of self.old.stack }
     {
