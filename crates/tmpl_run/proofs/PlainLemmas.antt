@@ -64,3 +64,5 @@ pub borrowed-same : (n : ℕ) (old new : List held.Cell) → new ≡ old → Are
 borrowed-same n old new e p = subst (λ cs. AreBorrowed (take n cs)) (sym e) p
 
 pub ruleset plains = (borrowed-taken, borrowed-popped, borrowed-set, borrowed-push, borrowed-same)
+
+pub ruleset looks = (borrowed-at, made_at-is, made-at, borrowed-set, borrowed-push)

@@ -122,7 +122,7 @@ impl<'s, 'a> Stack<'s, 'a> {
     }
 
     /// Puts the value of a slot once more.
-    #[tactic(auto, using(crate::proofs::StackLemmas::stacks), unfolding(crate::specs::computed::View::cells_of))]
+    #[tactic(auto, using(crate::proofs::StackLemmas::stacks, crate::proofs::PlainLemmas::looks), unfolding(crate::specs::computed::View::cells_of, crate::specs::computed::Plain::IsPlainStack))]
     #[inline(always)]
     pub(crate) fn push_slot(&mut self, index: usize) -> Result<(), AllocError>
         requires found { index < length (cells_of self.old) }
@@ -190,7 +190,7 @@ impl<'s, 'a> Stack<'s, 'a> {
     }
 
     /// Changes what a cell counts.
-    #[tactic(auto, using(crate::proofs::StackLemmas::stacks, crate::proofs::StackLemmas::cells), unfolding(crate::specs::computed::View::cells_of))]
+    #[tactic(auto, using(crate::proofs::StackLemmas::stacks, crate::proofs::StackLemmas::cells, crate::proofs::PlainLemmas::looks), unfolding(crate::specs::computed::View::cells_of, crate::specs::computed::Plain::IsPlainStack))]
     pub(crate) fn recount(&mut self, index: usize, num: u64)
         requires { index < length (cells_of self.old) }
         ensures cells { cells_of self.new
@@ -232,7 +232,7 @@ impl<'s, 'a> Stack<'s, 'a> {
     }
 
     /// Exchanges the newest value with another, and has its cell count this.
-    #[tactic(auto, using(crate::proofs::StackLemmas::stacks, crate::proofs::StackLemmas::exchanges), unfolding(crate::specs::computed::View::cells_of))]
+    #[tactic(auto, using(crate::proofs::StackLemmas::stacks, crate::proofs::StackLemmas::exchanges), unfolding(crate::specs::computed::View::cells_of, crate::specs::computed::Plain::IsPlainStack))]
     #[inline(always)]
     pub(crate) fn exchange(&mut self, val: &mut Val<'a>, num: u64)
         requires { 1 ≤ length (cells_of self.old) }
@@ -274,7 +274,7 @@ impl<'s, 'a> Stack<'s, 'a> {
 
     /// What a function gives for the newest so many values, the oldest of them first, and for a piped one behind them,
     /// if it lies below. Forgets them all.
-    #[tactic(auto, using(crate::proofs::StackLemmas::stacks), unfolding(crate::specs::computed::View::cells_of))]
+    #[tactic(auto, using(crate::proofs::StackLemmas::stacks, crate::proofs::ArgumentLemmas::arguments), unfolding(crate::specs::computed::View::cells_of))]
     pub(crate) fn call(
         &mut self,
         alloc: Global,
@@ -308,6 +308,7 @@ pub(crate) fn piped_count(piped: bool) -> usize
 }
 
 /// What a function gives for the values from a place to before another, the lowest so many of them behind the others.
+#[tactic(auto, using(crate::proofs::ArgumentLemmas::arguments))]
 fn call_between<'a>(
     cells: &mut [Cell<'a>],
     from: usize,
@@ -331,7 +332,7 @@ fn call_between<'a>(
 }
 
 /// Puts the value of a cell once more into another.
-#[tactic(auto, using(crate::proofs::StackLemmas::cells, crate::proofs::StackLemmas::stacks))]
+#[tactic(auto, using(crate::proofs::StackLemmas::cells, crate::proofs::StackLemmas::stacks, crate::proofs::PlainLemmas::looks))]
 #[inline(always)]
 fn copy_value<'a>(cells: &mut [Cell<'a>], from: usize, to: usize) -> Result<(), AllocError>
     requires found { from < length cells.old }
@@ -431,7 +432,7 @@ fn has_more_at(cells: &mut [Cell<'_>], at: usize) -> bool
 }
 
 /// Exchanges the value of a cell with another, and has the cell count this.
-#[tactic(auto, using(crate::proofs::StackLemmas::cells, crate::proofs::StackLemmas::stacks))]
+#[tactic(auto, using(crate::proofs::StackLemmas::cells, crate::proofs::StackLemmas::stacks, crate::proofs::PlainLemmas::looks))]
 #[inline(always)]
 fn exchange_at<'a>(cells: &mut [Cell<'a>], at: usize, val: &mut Val<'a>, num: u64)
     requires { at < length cells.old }
