@@ -1,5 +1,6 @@
 //! Calls of templates.
-ghost use Rattle.std.specs.Prelude.{◌≡◌, ◌+◌, ◌<◌, ◌≤◌, ◌^◌, Ok, Some, length, slice_get};
+ghost use Rattle.std.specs.Prelude.{◌≡◌, ◌+◌, ◌<◌, ◌≤◌, ◌^◌, Ok, OnOk, Some, length, slice_get, true};
+ghost use Rattle.tmpl_values.specs.View.{is_kept};
 ghost use Rattle.tmpl_code.specs.Instruction as code;
 ghost use Rattle.tmpl_run.specs.computed.Machines.{Told};
 ghost use Rattle.tmpl_run.specs.computed.Plain.{IsPlain, SparedOr};
@@ -57,6 +58,7 @@ impl<'m, 'a> Machine<'m, 'a> {
         requires depth { self.old.depth + 1 < 2 ^ 64 }
         requires place { self.old.place + 1 < 2 ^ 64 }
         ensures step { TurnedOr run (code.invoke number) self.old self.new result }
+        ensures kept { OnOk result (is_kept self.new.dot ≡ true) }
         ensures plain { IsPlain self.old → SparedOr result (IsPlain self.new) }
         ensures size { size_of self.new.stack ≡ size_of self.old.stack }
     {

@@ -1,6 +1,7 @@
 //! Steps, `if` and `with`.
-ghost use Rattle.std.specs.Prelude.{◌≡◌, ◌+◌, ◌<◌, ◌≤◌, ◌^◌, false, length, if◌then◌else◌, IfOk, Ok};
+ghost use Rattle.std.specs.Prelude.{◌≡◌, ◌+◌, ◌<◌, ◌≤◌, ◌^◌, false, length, if◌then◌else◌, true, IfOk, Ok, OnOk};
 ghost use Rattle.tmpl_values.specs.Truth.{truth};
+ghost use Rattle.tmpl_values.specs.View.{is_kept};
 ghost use Rattle.tmpl_code.specs.Instruction as code;
 ghost use Rattle.tmpl_run.specs.Cell.{slot};
 ghost use Rattle.tmpl_run.specs.computed.Machines.{Told};
@@ -81,6 +82,8 @@ impl<'m, 'a> Machine<'m, 'a> {
         requires body { self.old.place + 1 < 2 ^ 64 }
         requires other { truth (slot 0 (cells_of self.old.stack)) ≡ false → self.old.place + 1 + skip < 2 ^ 64 }
         ensures step { IfOk result (λ f. Executed run (code.enter_with kept skip) self.old self.new (Ok f)) }
+        ensures dot { truth (slot 0 (cells_of self.old.stack)) ≡ true
+            → OnOk result (is_kept self.new.dot ≡ true) }
         ensures plain { IsPlain self.old → Spared result (IsPlain self.new) }
         ensures size { size_of self.new.stack ≡ size_of self.old.stack }
     {

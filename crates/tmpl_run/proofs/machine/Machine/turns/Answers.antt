@@ -32,25 +32,11 @@ execute-requires g c =
     let inside = going.inside inv items code in
     let fits = c.as_slice-code.type_inv.0 in
     let deep = inv.depth in
-    λ κs h. (
-      h,
-      (
-        refl,
-        (
-          omega (arith, inside, fits),
-          (
-            omega (arith, deep),
-            (
-              inv.within,
-              (
-                going.has inv items code item.is,
-                (going.lands inv items code item.is (omega (arith, fits)), (omega (arith, inv.given.count, c.requires.countable), (code, inside))),
-              ),
-            ),
-          ),
-        ),
-      ),
-    )
+    let has = going.has inv items code item.is in
+    let lands = going.lands inv items code item.is (omega (arith, fits)) in
+    let count = inv.given.count in
+    let few = c.requires.countable in
+    λ κs h. (h, (refl, (omega (arith, inside, fits), (omega (arith, deep), (inv.within, (has, (lands, (omega (arith, count, few), (code, inside)))))))))
 
 pub loop-stop-smaller : goal.loop-stop-smaller
 loop-stop-smaller g c =
