@@ -27,13 +27,13 @@ turn-requires g c =
     let lands = subst (λ i. Lands (done g.run.plan g.run.template (instruction_of i) s)) c.in-Turn.is c.requires.1.1.1.1.1.1.0 in
     let has = subst (λ i. Has (instruction_of i) (length s.cells) (size_of c.args.self.now.stack)) c.in-Turn.is c.requires.1.1.1.1.1.0 in
     let element = ready.turn-element g.run.plan g.run.template s c.in-Turn.count lands in
-    (ready.turn-found g.run.plan g.run.template s c.in-Turn.count lands, (element, (has, c.requires.1.1.0)))
+    (ready.ring-found s.cells _ lands, (element, (has, c.requires.1.1.0)))
 
 pub next-requires : goal.next-requires
 next-requires g c =
     let s : State = state_of g.run c.args.self.now in
     let lands = subst (λ i. Lands (done g.run.plan g.run.template (instruction_of i) s)) c.in-Next.is c.requires.1.1.1.1.1.1.0 in
-    let found = ready.next-found g.run.plan g.run.template s c.in-Next.count c.in-Next.skip c.in-Next.line lands in
+    let found = ready.below-found c.in-Next.count s.cells _ lands in
     let jumps = ready.next-jumps g.run.plan g.run.template s c.in-Next.count c.in-Next.skip c.in-Next.line lands in
     (ap (λ (p : Plan). p.rules.step_limit) c.requires.1.0, (found, (c.requires.1.1.1.1.0, jumps)))
 
@@ -41,7 +41,7 @@ pub leave-requires : goal.leave-requires
 leave-requires g c =
     let s : State = state_of g.run c.args.self.now in
     let lands = subst (λ i. Lands (done g.run.plan g.run.template (instruction_of i) s)) c.in-Leave.is c.requires.1.1.1.1.1.1.0 in (
-      ready.leave-found g.run.plan g.run.template s c.in-Leave.count c.in-Leave.skip lands,
+      ready.below-found c.in-Leave.count s.cells _ lands,
       ready.leave-jumps g.run.plan g.run.template s c.in-Leave.count c.in-Leave.skip lands,
     )
 
@@ -64,7 +64,7 @@ invoke-requires g c =
     let same = ap (λ (p : Plan). slice_get p.starts number) c.requires.1.0 ∙ ap (λ l. slice_get l number) (sym c.as_slice-in-Invoke.ensures.value) in
     let inside = slice_get_within c.as_slice-in-Invoke.result.now number start.0 (sym same ∙ start.1) in
     let starts = same ∙ slice_get-get_or c.as_slice-in-Invoke.result.now number 0 inside in
-    let found = ready.invoke-found g.run.plan g.run.template s number lands in
+    let found = ready.top-found s.cells _ lands in
     (ap (λ (p : Plan). p.rules.step_limit) c.requires.1.0, (starts, (found, (has, (c.requires.1.1.1.0, c.requires.1.1.0)))))
 
 pub return_from-requires : goal.return_from-requires
