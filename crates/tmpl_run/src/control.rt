@@ -2,6 +2,7 @@
 ghost use Rattle.std.specs.Prelude.{◌≡◌, ◌+◌, ◌<◌, ◌≤◌, ◌^◌, false, length, if◌then◌else◌, true, IfOk, Ok, OnOk};
 ghost use Rattle.tmpl_values.specs.Truth.{truth};
 ghost use Rattle.tmpl_values.specs.View.{is_kept};
+ghost use Rattle.tmpl_meaning.specs.View.{rules_of};
 ghost use Rattle.tmpl_code.specs.Instruction as code;
 ghost use Rattle.tmpl_run.specs.Cell.{slot};
 ghost use Rattle.tmpl_run.specs.computed.Machines.{Told};
@@ -15,14 +16,14 @@ use crate::halt::Halt;
 use crate::machine::Machine;
 use std::alloc::AllocError;
 use std::mem;
-use tmpl_meaning::RunFaultKind;
+use tmpl_meaning::{Options, RunFaultKind};
 use tmpl_values::Cell;
 
 impl<'m, 'a> Machine<'m, 'a> {
     /// Takes a step at this line.
-    pub(crate) fn spend(&mut self, limit: u64, line: u64) -> Result<Flow, Halt<'a>>
+    pub(crate) fn spend(&mut self, options: &Options, line: u64) -> Result<Flow, Halt<'a>>
         ghost run: { Told }
-        requires limit { run.plan.rules.step_limit ≡ limit }
+        requires rules { run.plan.rules ≡ rules_of options.now }
         requires place { self.old.place + 1 < 2 ^ 64 }
         ensures step { TurnedOr run (code.spend line) self.old self.new result }
         ensures plain { IsPlain self.old → SparedOr result (IsPlain self.new) }
@@ -30,7 +31,7 @@ impl<'m, 'a> Machine<'m, 'a> {
     {
         self.line = line;
         if self.left == 0 {
-            return Err(Halt::Fault(RunFaultKind::StepsSpent(limit)));
+            return Err(Halt::Fault(RunFaultKind::StepsSpent(options.steps)));
         }
         self.left -= 1;
         self.place += 1;

@@ -56,7 +56,7 @@ impl<'m, 'a> Machine<'m, 'a> {
         ensures size { size_of self.new.stack ≡ size_of self.old.stack }
     {
         match *instruction {
-            Instruction::Spend(line) => self.spend(options.steps, line),
+            Instruction::Spend(line) => self.spend(options, line),
             Instruction::Put(text) => {
                 self.put_text(text, piece, sink)?;
                 Ok(Flow::On)
@@ -107,18 +107,16 @@ impl<'m, 'a> Machine<'m, 'a> {
                 skip,
             } => Ok(self.close_with(count as usize, variables as usize, skip as usize)),
             Instruction::Drop { count, skip } => Ok(self.forget(count as usize, skip as usize)),
-            Instruction::Enter { key, skip } => {
-                self.open_range(options.steps, key, skip as usize)
-            }
+            Instruction::Enter { key, skip } => { self.open_range(options, key, skip as usize) }
             Instruction::Turn(count) => Ok(self.turn(count as usize)?),
             Instruction::Next { count, skip, line } => {
-                self.next(options.steps, count as usize, skip as usize, line as u64)
+                self.next(options, count as usize, skip as usize, line as u64)
             }
             Instruction::Leave { count, skip } => Ok(self.leave(count as usize, skip as usize)),
-            Instruction::Deepen(line) => self.deepen(options.steps, options.depth, line),
+            Instruction::Deepen(line) => self.deepen(options, line),
             Instruction::Invoke(number) => {
                 let number = number as usize;
-                self.invoke(options.steps, number, program.starts.as_slice()[number])
+                self.invoke(options, number, program.starts.as_slice()[number])
             }
             Instruction::Return(count) => Ok(self.return_from(count as usize)),
         }

@@ -3,6 +3,7 @@ ghost use Rattle.std.specs.Prelude.{◌≡◌, ◌+◌, ◌-◌, ◌<◌, ◌≤
 ghost use Rattle.std.specs.Prelude.{Some, None, Ok};
 ghost use Rattle.tmpl_values.specs.Elements.{item_at};
 ghost use Rattle.tmpl_values.specs.View.{is_made, val_of};
+ghost use Rattle.tmpl_meaning.specs.View.{rules_of};
 ghost use Rattle.tmpl_code.specs.Instruction as code;
 ghost use Rattle.tmpl_run.specs.Cell.{cell, slot, slot_cell};
 ghost use Rattle.tmpl_run.specs.Machine.{elements_for, has_more, variables_on};
@@ -16,7 +17,7 @@ use crate::halt::Halt;
 use crate::machine::Machine;
 use std::alloc::AllocError;
 use std::mem;
-use tmpl_meaning::RunFaultKind;
+use tmpl_meaning::{Options, RunFaultKind};
 use tmpl_values::Val;
 
 /// How many elements a range visits of the value, by whether it wants their index or key; none where it may not be
@@ -36,12 +37,12 @@ impl<'m, 'a> Machine<'m, 'a> {
     #[tactic(auto, using(crate::proofs::TurnLemmas::opens))]
     pub(crate) fn open_range(
         &mut self,
-        limit: u64,
+        options: &Options,
         key: bool,
         skip: usize,
     ) -> Result<Flow, Halt<'a>>
         ghost run: { Told }
-        requires limit { run.plan.rules.step_limit ≡ limit }
+        requires rules { run.plan.rules ≡ rules_of options.now }
         requires found { 1 ≤ length (cells_of self.old.stack) }
         requires room { length (cells_of self.old.stack) < size_of self.old.stack }
         requires body { self.old.place + 1 < 2 ^ 64 }
@@ -60,7 +61,7 @@ impl<'m, 'a> Machine<'m, 'a> {
             }
             Some(_) => {
                 if self.left == 0 {
-                    return Err(Halt::Fault(RunFaultKind::StepsSpent(limit)));
+                    return Err(Halt::Fault(RunFaultKind::StepsSpent(options.steps)));
                 }
                 self.left -= 1;
                 self.place += 1;
@@ -121,13 +122,13 @@ impl<'m, 'a> Machine<'m, 'a> {
     #[tactic(auto, using(crate::proofs::TurnLemmas::nexts))]
     pub(crate) fn next(
         &mut self,
-        limit: u64,
+        options: &Options,
         count: usize,
         skip: usize,
         line: u64,
     ) -> Result<Flow, Halt<'a>>
         ghost run: { Told }
-        requires limit { run.plan.rules.step_limit ≡ limit }
+        requires rules { run.plan.rules ≡ rules_of options.now }
         requires found { count + 2 ≤ length (cells_of self.old.stack) }
         requires within { length (cells_of self.old.stack) ≤ size_of self.old.stack }
         requires behind { has_more (slot_cell 1 (drop count (cells_of self.old.stack))) ≡ false
@@ -146,7 +147,7 @@ impl<'m, 'a> Machine<'m, 'a> {
         }
         self.line = line;
         if self.left == 0 {
-            return Err(Halt::Fault(RunFaultKind::StepsSpent(limit)));
+            return Err(Halt::Fault(RunFaultKind::StepsSpent(options.steps)));
         }
         self.left -= 1;
         self.place = self.stack.counted(0) as usize;

@@ -35,7 +35,7 @@ next-requires g c =
     let lands = subst (λ i. Lands (done g.run.plan g.run.template (instruction_of i) s)) c.in-Next.is c.requires.1.1.1.1.1.1.0 in
     let found = ready.below-found c.in-Next.count s.cells _ lands in
     let jumps = ready.next-jumps g.run.plan g.run.template s c.in-Next.count c.in-Next.skip c.in-Next.line lands in
-    (ap (λ (p : Plan). p.rules.step_limit) c.requires.1.0, (found, (c.requires.1.1.1.1.0, jumps)))
+    (ap (λ (p : Plan). p.rules) c.requires.1.0, (found, (c.requires.1.1.1.1.0, jumps)))
 
 pub leave-requires : goal.leave-requires
 leave-requires g c =
@@ -65,7 +65,7 @@ invoke-requires g c =
     let inside = slice_get_within c.as_slice-in-Invoke.result.now number start.0 (sym same ∙ start.1) in
     let starts = same ∙ slice_get-get_or c.as_slice-in-Invoke.result.now number 0 inside in
     let found = ready.top-found s.cells _ lands in
-    (ap (λ (p : Plan). p.rules.step_limit) c.requires.1.0, (starts, (found, (has, (c.requires.1.1.1.0, c.requires.1.1.0)))))
+    (ap (λ (p : Plan). p.rules) c.requires.1.0, (starts, (found, (has, (c.requires.1.1.1.0, c.requires.1.1.0)))))
 
 pub return_from-requires : goal.return_from-requires
 return_from-requires g c =
