@@ -38,6 +38,7 @@ use Rattle.tmpl_run.specs.declared.machine.Machine.{Machine}
 use Rattle.tmpl_run.proofs.LoopLemmas.{ends-so, falls, finds, goes-on, is-next, ready, some-template, within-code, work}
 use Rattle.tmpl_run.proofs.MoveLemmas.{each-lessens, mark-stays, mark_next, next-depth, text-begins}
 use Rattle.tmpl_run.proofs.PastLemmas.{after_past, done-past, past-again, with_past}
+use Rattle.tmpl_run.proofs.QuietLemmas.{neither}
 use Rattle.tmpl_run.proofs.RoomLemmas.{next-within}
 use Rattle.tmpl_run.proofs.ShownLemmas.{ends-shown, mark-once, puts-once, quiet-once, shown-once, shown-within}
 
@@ -52,10 +53,6 @@ code-at items place i d h is = slice_get-map instruction_of items place ∙ ap (
 
 runs-at : (ts : List Template) (n : ℕ) (d : Template) → (t : Template) × (slice_get ts n ≡ Some t) → slice_get ts n ≡ Some (get_or ts n d)
 runs-at ts n d found = found.1 ∙ ap Some (sym (get_or_from_slice_get ts n found.0 d found.1))
-
-neither : (a b : Bool) → (a || b) ≡ false → (a ≡ false) × (b ≡ false)
-neither false b e = (refl, e)
-neither true b e = cc
 
 -- ---- what an instruction adds
 
