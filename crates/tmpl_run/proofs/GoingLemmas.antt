@@ -17,7 +17,7 @@ use Rattle.tmpl_code.specs.Instruction as code
 use Rattle.tmpl_code.specs.Instruction.{Instruction}
 use Rattle.tmpl_code.specs.View.{instruction_of, instructions_of}
 use Rattle.tmpl_code.specs.declared.instruction.Instruction as held
-use Rattle.tmpl_run.specs.Cell.{Cell, fresh}
+use Rattle.tmpl_run.specs.Cell.{fresh}
 use Rattle.tmpl_run.specs.Ends.{Ends}
 use Rattle.tmpl_run.specs.Laws.{Lessens, mark_behind}
 use Rattle.tmpl_run.specs.Machine.{Turn, done, ended, fault_in, goes, next_of, ran_so, stuck}

@@ -1,5 +1,5 @@
 -- For the law `stays_within`: the cells stay within the room that there is for them.
-use Rattle.std.proofs.Common.{arith, ◌≡◌, ◌+◌, ◌-◌, ◌≤◌, ◌<◌, nat_eq, nat_lt, ℕ, zero, suc, Bool, true, false, List, [], ◌∷◌, length}
+use Rattle.std.proofs.Common.{arith, ◌≡◌, ◌+◌, ◌≤◌, ◌<◌, nat_eq, nat_lt, ℕ, zero, suc, Bool, true, false, List, [], ◌∷◌, length}
 use Rattle.std.proofs.Common.{drop, subst, Option, Some, None, length-drop}
 use Rattle.std.specs.Prelude.{slice_get}
 use Rattle.std.proofs.lemmas.List.{length-set}
@@ -8,7 +8,6 @@ use Rattle.tmpl_values.specs.Truth.{truth}
 use Rattle.tmpl_syntax.specs.Set.{Template}
 use Rattle.tmpl_meaning.specs.Pipeline.{Place}
 use Rattle.tmpl_meaning.specs.Meaning.{Ran}
-use Rattle.tmpl_code.specs.Code.{piped_count}
 use Rattle.tmpl_code.specs.Instruction as code
 use Rattle.tmpl_code.specs.Instruction.{Instruction, Operation}
 use Rattle.tmpl_run.specs.Cell.{Cell, fresh}

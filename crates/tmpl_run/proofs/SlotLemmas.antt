@@ -1,7 +1,7 @@
 -- For the law `comes_to_meaning`: the slots of a layout are the variables of the meaning, and a part leaves all other cells equal.
 use Rattle.std.proofs.Common.{arith, ◌≡◌, ◌∙◌, ◌+◌, ◌-◌, ◌≤◌, ℕ, zero, suc, Bool, true, false, List, [], ◌∷◌, length, drop, set, refl, ap}
 use Rattle.std.proofs.Common.{sym, Option, Some, None, drop-drop}
-use Rattle.std.specs.Prelude.{option_map, if◌then◌else◌}
+use Rattle.std.specs.Prelude.{if◌then◌else◌}
 use Rattle.std.specs.Str.{bytes_eq}
 use Rattle.tmpl_values.specs.Value.{Value, nothing}
 use Rattle.tmpl_meaning.specs.Pipeline.{Environment, lookup}

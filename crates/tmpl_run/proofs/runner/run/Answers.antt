@@ -1,8 +1,8 @@
-use Rattle.std.proofs.Common.{arith, ◌≡◌, ◌<◌, ℕ, ap, subst, sym, refl, length, []}
+use Rattle.std.proofs.Common.{arith, ◌≡◌, ◌<◌, ℕ, ap, subst, sym, length, []}
 use Rattle.std.specs.Prelude.{IfSome, option_map, slice_get}
 use Rattle.tmpl_values.specs.Put.{Puts}
 use Rattle.tmpl_values.specs.View.{value_of}
-use Rattle.tmpl_meaning.specs.Meaning.{Ran, ran, starting_dot}
+use Rattle.tmpl_meaning.specs.Meaning.{Ran, ran}
 use Rattle.tmpl_syntax.specs.View.{set_view}
 use Rattle.tmpl_meaning.specs.Sink.{sunk}
 use Rattle.tmpl_meaning.specs.View.{rules_of}
@@ -14,7 +14,7 @@ use Rattle.tmpl_run.specs.computed.Output.{Grows, given_of, waiting}
 use Rattle.tmpl_run.specs.Run.{IsRun}
 use Rattle.tmpl_run.specs.computed.Plan.{plan_of}
 use Rattle.tmpl_run.specs.State.{Plan, State}
-use Rattle.tmpl_run.specs.computed.View.{cells_of, size_of}
+use Rattle.tmpl_run.specs.computed.View.{cells_of}
 use Rattle.tmpl_run.proofs.OutputLemmas.{behind, grows-on}
 use Rattle.tmpl_run.proofs.QuietLemmas.{spared}
 use Rattle.tmpl_run.proofs.RunLemmas.{comes-to, counts-so}

@@ -1,4 +1,4 @@
-use Rattle.std.proofs.Common.{arith, ◌≡◌, ◌+◌, ◌≤◌, ◌||◌, Bool, true, false, ◌∙◌, ap, subst, sym, length}
+use Rattle.std.proofs.Common.{arith, ◌+◌, ◌≤◌, ◌∙◌, ap, subst, sym, length}
 use Rattle.std.specs.Prelude.{slice_get}
 use Rattle.std.proofs.lemmas.Option.{slice_get-get_or, slice_get_within}
 use Rattle.tmpl_code.specs.Code.{piped_count}

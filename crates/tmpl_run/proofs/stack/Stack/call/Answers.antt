@@ -1,9 +1,6 @@
 use Rattle.std.proofs.Common.{arith, ◌∙◌, ◌+◌, ◌-◌}
 use Rattle.tmpl_run.specs.computed.Plain.{IsPlainStack}
-use Rattle.tmpl_run.specs.computed.View.{cells_of}
-use Rattle.tmpl_run.proofs.ArgumentLemmas.{table-is}
 use Rattle.tmpl_run.proofs.PlainLemmas.{borrowed-popped}
-use Rattle.tmpl_run.proofs.StackLemmas.{live-length}
 use Rattle.tmpl_run.proofs.stack.Stack.call.Goals as goal
 
 pub returns-clause-plain : goal.returns-clause-plain
