@@ -12,8 +12,6 @@ ghost use Rattle.tmpl_code.specs.View.{refusal_of};
 ghost use Rattle.tmpl_run.specs.Cell.{fresh, slot};
 ghost use Rattle.tmpl_run.specs.computed.Machines.{Told, state_of};
 ghost use Rattle.tmpl_run.specs.computed.Plain.{IsPlain, SparedOr};
-ghost use Rattle.tmpl_run.specs.Ready.{Fits};
-ghost use Rattle.tmpl_run.specs.State.{State};
 ghost use Rattle.tmpl_run.specs.Step as pipe;
 ghost use Rattle.tmpl_run.specs.computed.Turned.{Executed, IsFound, TurnedOr};
 ghost use Rattle.tmpl_run.specs.computed.View.{cells_of, size_of};
