@@ -1,4 +1,6 @@
 //! The stack of a run, in cells that are lent to it.
+#![tactic(auto, using(crate::proofs::StackLemmas::stacks, crate::proofs::PlainLemmas::plains), unfolding(crate::specs::computed::View::cells_of, crate::specs::computed::Plain::IsPlainStack))]
+
 ghost use Rattle.std.specs.List.{AllWithin};
 ghost use Rattle.std.specs.Prelude.{◌≡◌, ◌+◌, ◌-◌, ◌<◌, ◌≤◌, ◌∷◌, ◌++◌, [], drop, get_or, length, option_map, reverse};
 ghost use Rattle.std.specs.Prelude.{take, false, true, ◌^◌, slice_set, if◌then◌else◌, IfOk, IfSome, IsOkAnd, OnOk};
@@ -41,7 +43,6 @@ impl<'s, 'a> Stack<'s, 'a> {
     ghost use Rattle.tmpl_run.specs.computed.View.{cells_of, size_of};
 
     /// No cell is live.
-    #[tactic(auto, unfolding(crate::specs::computed::View::cells_of, crate::specs::computed::Plain::IsPlainStack))]
     pub(crate) fn new(cells: &'s mut [Cell<'a>]) -> Stack<'s, 'a>
         ensures cells { cells_of result ≡ [] }
         ensures size { size_of result ≡ length cells.old }
@@ -51,7 +52,6 @@ impl<'s, 'a> Stack<'s, 'a> {
     }
 
     /// Puts a cell.
-    #[tactic(auto, using(crate::proofs::StackLemmas::stacks, crate::proofs::PlainLemmas::plains), unfolding(crate::specs::computed::View::cells_of, crate::specs::computed::Plain::IsPlainStack))]
     pub(crate) fn push(&mut self, val: Val<'a>, num: u64)
         requires { length (cells_of self.old) < size_of self.old }
         ensures cells { cells_of self.new ≡ cell (val_of val.entry) num ∷ cells_of self.old }
@@ -64,7 +64,6 @@ impl<'s, 'a> Stack<'s, 'a> {
     }
 
     /// Takes the newest cell.
-    #[tactic(auto, using(crate::proofs::StackLemmas::stacks, crate::proofs::PlainLemmas::plains), unfolding(crate::specs::computed::View::cells_of, crate::specs::computed::Plain::IsPlainStack))]
     pub(crate) fn take(&mut self) -> Cell<'a>
         requires { 1 ≤ length (cells_of self.old) }
         ensures cells { cells_of self.old ≡ cell_of result ∷ cells_of self.new }
@@ -77,6 +76,7 @@ impl<'s, 'a> Stack<'s, 'a> {
     }
 
     /// Takes the newest cell, its value ready to be shared.
+    #[tactic(auto)]
     #[inline(always)]
     pub(crate) fn take_shared(&mut self, alloc: Global) -> Result<Cell<'a>, AllocError>
         requires { 1 ≤ length (cells_of self.old) }
@@ -92,7 +92,6 @@ impl<'s, 'a> Stack<'s, 'a> {
     }
 
     /// Forgets so many cells.
-    #[tactic(auto, using(crate::proofs::StackLemmas::stacks, crate::proofs::PlainLemmas::plains), unfolding(crate::specs::computed::View::cells_of, crate::specs::computed::Plain::IsPlainStack))]
     #[inline(always)]
     pub(crate) fn pop(&mut self, count: usize)
         requires { count ≤ length (cells_of self.old) }
@@ -107,6 +106,7 @@ impl<'s, 'a> Stack<'s, 'a> {
     }
 
     /// Puts a value once more.
+    #[tactic(auto)]
     #[inline(always)]
     pub(crate) fn push_shared(&mut self, val: &Val<'a>) -> Result<(), AllocError>
         requires { length (cells_of self.old) < size_of self.old }
@@ -137,7 +137,6 @@ impl<'s, 'a> Stack<'s, 'a> {
     }
 
     /// Whether the newest value is not empty.
-    #[tactic(auto, using(crate::proofs::StackLemmas::stacks, crate::proofs::PlainLemmas::plains), unfolding(crate::specs::computed::View::cells_of, crate::specs::computed::Plain::IsPlainStack))]
     pub(crate) fn holds(&mut self) -> bool
         requires { 1 ≤ length (cells_of self.old) }
         ensures cells { cells_of self.new ≡ cells_of self.old }
@@ -149,7 +148,6 @@ impl<'s, 'a> Stack<'s, 'a> {
     }
 
     /// Puts out the text of the value of a slot.
-    #[tactic(auto, using(crate::proofs::StackLemmas::stacks, crate::proofs::PlainLemmas::plains), unfolding(crate::specs::computed::View::cells_of, crate::specs::computed::Plain::IsPlainStack))]
     pub(crate) fn show_slot<S: Sink>(
         &mut self,
         index: usize,
@@ -204,6 +202,7 @@ impl<'s, 'a> Stack<'s, 'a> {
     }
 
     /// Makes a null on top nothing, and has the newest cell count nothing.
+    #[tactic(auto)]
     pub(crate) fn settle(&mut self)
         requires { 1 ≤ length (cells_of self.old) }
         ensures cells { cells_of self.new
@@ -219,7 +218,6 @@ impl<'s, 'a> Stack<'s, 'a> {
     }
 
     /// Changes the value of a slot.
-    #[tactic(auto, using(crate::proofs::StackLemmas::stacks, crate::proofs::PlainLemmas::plains), unfolding(crate::specs::computed::View::cells_of, crate::specs::computed::Plain::IsPlainStack))]
     pub(crate) fn set(&mut self, index: usize, val: Val<'a>)
         requires { index < length (cells_of self.old) }
         ensures cells { cells_of self.new ≡ slice_set (cells_of self.old) index (cell (val_of val.entry) 0) }
@@ -246,7 +244,6 @@ impl<'s, 'a> Stack<'s, 'a> {
     }
 
     /// The element that a range visits, behind its index or key: the cells of the range are the newest two.
-    #[tactic(auto, using(crate::proofs::StackLemmas::stacks, crate::proofs::PlainLemmas::plains), unfolding(crate::specs::computed::View::cells_of, crate::specs::computed::Plain::IsPlainStack))]
     pub(crate) fn element(&mut self) -> Option<(Val<'a>, Val<'a>)>
         requires { 2 ≤ length (cells_of self.old) }
         ensures cells { cells_of self.new ≡ cells_of self.old }
@@ -260,7 +257,6 @@ impl<'s, 'a> Stack<'s, 'a> {
     }
 
     /// Whether a range, whose cells are the newest two, has an element behind the one that it visits.
-    #[tactic(auto, using(crate::proofs::StackLemmas::stacks, crate::proofs::PlainLemmas::plains), unfolding(crate::specs::computed::View::cells_of, crate::specs::computed::Plain::IsPlainStack))]
     pub(crate) fn has_more(&mut self) -> bool
         requires { 2 ≤ length (cells_of self.old) }
         ensures cells { cells_of self.new ≡ cells_of self.old }
