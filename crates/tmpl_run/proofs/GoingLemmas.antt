@@ -224,7 +224,8 @@ module _ {plan : Plan} {end : Ran} {m : Machine} {before now : Puts} (inv : Stan
 
         late-ends : (v : Value) → value_by plan i s ≡ Ok v → Ends plan room (record past { text = past.text ++ text_of v; place = past.place + 3 }) end
         late-ends v e = ends-shown plan room end i told.template past here runs shown v
-            (shifted (goes (record s { cells = fresh v ∷ s.cells; place = s.place + 1 })) (puts-once plan.code m.place plan told.template i s v once e)) inv.ends
+            (shifted (goes (record s { cells = fresh v ∷ s.cells; place = s.place + 1 })) (puts-once plan.code m.place plan told.template i s v once e))
+            inv.ends
 
         onward-shown : (n : Machine) (after : Puts) → Shown told i m n (Ok flow.On)
             → IsPut {F = SinkFault} (Ok tt) now after (text_in (value_by plan i s))
@@ -282,7 +283,8 @@ module _ {plan : Plan} {end : Ran} {m : Machine} {before now : Puts} (inv : Stan
         goes-less f on did = by once refl (subst (λ f. TurnedBy once told i m n (Ok f)) on did)
           where
             by : (b : Bool) → once ≡ b → TurnedBy b told i m n (Ok flow.On) → work (length plan.code) (state_of told n) < work (length plan.code) s
-            by false e step = falls plan room end i told.template past here runs inv.ends (with_past inv.text inv.made (state_of (told_behind i s told) n)) (shifted _ step)
+            by false e step = falls plan room end i told.template past here runs inv.ends
+                (with_past inv.text inv.made (state_of (told_behind i s told) n)) (shifted _ step)
             by true e step = subst (λ v. work (length plan.code) v < work (length plan.code) s) (sym step.1)
                 (let inside = shown-within plan room end i told.template past here runs (shown e) in omega arith)
 

@@ -79,7 +79,8 @@ module _ (plan : Plan) (me : Template) (s : State) where
   returned-moves : (b : Bool) (cs : List Cell) → nat_lt 1 s.depth ≡ b → MovesOn (returned_if b cs s)
   returned-moves false cs e = (same, refl)
   returned-moves true cs e =
-      frame-holds MovesOn tt cs _ (λ back saved ds h. (inr (refl, inl (let deep : 1 < s.depth = grind (arith, nat_tests) in omega arith)), omega arith, same, refl))
+      frame-holds MovesOn tt cs _ (λ back saved ds h.
+      (inr (refl, inl (let deep : 1 < s.depth = grind (arith, nat_tests) in omega arith)), omega arith, same, refl))
 
   moves : (i : Instruction) → Moves s (mark_behind i s.made_text) (done plan me i s)
   moves (code.spend line) = paid-holds MovesOn plan me line s _ (same, refl) (λ e. (inl (fewer e), omega arith, same, refl))

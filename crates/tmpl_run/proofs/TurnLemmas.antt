@@ -41,7 +41,8 @@ module _ (plan : Plan) (t : Template) (key : Bool) (skip : ℕ) (s : State) (c :
   enter-paid n b e some left =
       let more = some-elements (elements_for key c.val) n e some in
       enter-by (Some (more.0 ∷ more.1)) more.2
-      ∙ ap (λ b. paid_if b plan t s.line s (λ s. goes (record s { cells = cell s.dot (s.place + 1) ∷ fresh c.val ∷ cs; dot = nothing; place = s.place + 1 }))) left
+      ∙ ap (λ b. paid_if b plan t s.line s
+      (λ s. goes (record s { cells = cell s.dot (s.place + 1) ∷ fresh c.val ∷ cs; dot = nothing; place = s.place + 1 }))) left
 
   pub enter-not : None ≡ option_map length (elements_for key c.val) → done plan t (code.enter key skip) s ≡ failed t s.line not_a_range s
   enter-not e = enter-by None (no-elements (elements_for key c.val) e)

@@ -46,7 +46,8 @@ abbrev pub Executed : Told → Instruction → Machine → Machine → Result Fl
 Executed told i m n (Ok flow.On) =
     done told.plan told.template i (state_of told m) ≡ goes (state_of (told_behind i (state_of told m) told) n)
 Executed told i m n (Ok flow.Over) =
-    done told.plan told.template i (state_of told m) ≡ ended (ran_so (state_of (told_behind i (state_of told m) told) m) None)
+    done told.plan told.template i (state_of told m)
+    ≡ ended (ran_so (state_of (told_behind i (state_of told m) told) m) None)
 Executed told i m n (Err (stop.Fault kind)) =
     done told.plan told.template i (state_of told m)
     ≡ failed told.template n.line (cause_of kind) (state_of (told_behind i (state_of told m) told) m)
