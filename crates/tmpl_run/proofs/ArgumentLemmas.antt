@@ -108,3 +108,5 @@ borrowed-turned from n top below l e h =
     let part = borrowed-part from n l (subst (λ k. AreBorrowed (take k l)) (sym e) h) in
     borrowed-append (drop below (take n (drop from l))) (take below (take n (drop from l))) (borrowed-drop below (take n (drop from l)) part)
     (borrowed-take below (take n (drop from l)) part)
+
+pub ruleset arguments = (table-is, borrowed-turned)

@@ -10,7 +10,8 @@ use Rattle.tmpl_meaning.specs.Fault.{calls_too_deep, steps_spent}
 use Rattle.tmpl_code.specs.Instruction as code
 use Rattle.tmpl_run.specs.Cell.{Cell, cell, fresh, slot, slot_cell}
 use Rattle.tmpl_run.specs.State.{Plan, State}
-use Rattle.tmpl_run.specs.Machine.{Turn, deepened, done, ended, failed, frame, goes, invoked, paid_if, ran_so, returned_if, top}
+use Rattle.tmpl_run.specs.Machine.{Turn, deepened, done, ended, failed, frame, goes, invoked, paid_if, ran_so, returned_if}
+use Rattle.tmpl_run.proofs.StackLemmas.{top-is}
 
 -- a state in the template of this number, which starts here, over a value; these cells are below
 abbrev pub entered : ℕ → ℕ → Value → List Cell → State → State
@@ -42,67 +43,38 @@ module _ (plan : Plan) (t : Template) (s : State) where
   deepen-goes line some h = deepen-by line true some (grind (arith, nat_tests))
 
   -- ---- a call
-  module _ (number start : ℕ) (starts : slice_get plan.starts number ≡ Some start) where
-    invoke-by : (c : Cell) (cs : List Cell) (b : Bool)
-        → top s.cells (λ c cs. invoked plan t number (slice_get plan.starts number) c cs s) ≡ invoked plan t number (slice_get plan.starts number) c cs s
-        → nat_eq s.left 0 ≡ b
-        → done plan t (code.invoke number) s ≡ paid_if b plan t s.line s (λ s. goes (entered number start c.val cs s))
-    invoke-by c cs b is e = is ∙ ap (λ o. invoked plan t number o c cs s) starts
-        ∙ ap (λ d. paid_if d plan t s.line s (λ s. goes (entered number start c.val cs s))) e
+  module _ (number start : ℕ) (starts : slice_get plan.starts number ≡ Some start) (found : 1 ≤ length s.cells) where
+    invoke-by : (b : Bool) → nat_eq s.left 0 ≡ b
+        → done plan t (code.invoke number) s ≡ paid_if b plan t s.line s (λ u. goes (entered number start (slot 0 s.cells) (drop 1 s.cells) u))
+    invoke-by b e =
+        top-is s.cells (λ c cs. invoked plan t number (slice_get plan.starts number) c cs s) found
+        ∙ ap (λ o. invoked plan t number o (slot_cell 0 s.cells) (drop 1 s.cells) s) starts
+        ∙ ap (λ d. paid_if d plan t s.line s (λ u. goes (entered number start (slot 0 s.cells) (drop 1 s.cells) u))) e
 
-    pub invoke-spent : 1 ≤ length s.cells → s.left ≡ 0 → done plan t (code.invoke number) s ≡ failed t s.line (steps_spent plan.rules.step_limit) s
-    invoke-spent some e = by s.cells refl
-      where
-        by : (l : List Cell) → s.cells ≡ l → done plan t (code.invoke number) s ≡ failed t s.line (steps_spent plan.rules.step_limit) s
-        by [] is = let none : length s.cells ≡ 0 = ap length is in absurd (omega arith)
-        by (c ∷ cs) is = invoke-by c cs true (ap (λ l. top l (λ c cs. invoked plan t number (slice_get plan.starts number) c cs s)) is)
-            (let z : nat_eq s.left 0 ≡ true = grind (arith, nat_tests) in z)
+    pub invoke-spent : s.left ≡ 0 → done plan t (code.invoke number) s ≡ failed t s.line (steps_spent plan.rules.step_limit) s
+    invoke-spent left = invoke-by true (grind (arith, nat_tests))
 
-    pub invoke-goes : (c : Cell) (cs : List Cell) → s.cells ≡ c ∷ cs → s.left ≢ 0
-        → done plan t (code.invoke number) s ≡ goes (record (entered number start c.val cs s) { left = s.left - 1; depth = s.depth + 1 })
-    invoke-goes c cs is some =
+    pub invoke-goes : s.left ≢ 0 → done plan t (code.invoke number) s ≡ goes (record (entered number start (slot 0 s.cells) (drop 1 s.cells) s) {
+      left = s.left - 1;
+      depth = s.depth + 1;
+    })
+    invoke-goes some =
         let one : suc s.depth ≡ s.depth + 1 = omega arith in
-        invoke-by c cs false (ap (λ l. top l (λ c cs. invoked plan t number (slice_get plan.starts number) c cs s)) is)
-        (let z : nat_eq s.left 0 ≡ false = grind (arith, nat_tests) in z)
-        ∙ ap (λ d. goes (record (entered number start c.val cs s) { left = s.left - 1; depth = d })) one
-
-    -- .. by what its cells are at first
-    pub invoke-goes-on : 1 ≤ length s.cells → s.left ≢ 0
-        → done plan t (code.invoke number) s ≡ goes (record (entered number start (slot 0 s.cells) (drop 1 s.cells) s) {
-          left = s.left - 1;
-          depth = s.depth + 1;
-        })
-    invoke-goes-on found some = by s.cells refl
-      where
-        by : (l : List Cell) → s.cells ≡ l → done plan t (code.invoke number) s ≡ goes (record (entered number start (slot 0 l) (drop 1 l) s) {
-          left = s.left - 1;
-          depth = s.depth + 1;
-        })
-        by [] is = let none : length s.cells ≡ 0 = ap length is in absurd (omega arith)
-        by (c ∷ cs) is = invoke-goes c cs is some
+        invoke-by false (grind (arith, nat_tests))
+        ∙ ap (λ d. goes (record (entered number start (slot 0 s.cells) (drop 1 s.cells) s) { left = s.left - 1; depth = d })) one
 
   -- ---- the end of a template
   pub return-ends : (n : ℕ) → s.depth ≤ 1 → done plan t (code.return_from n) s ≡ ended (ran_so s None)
   return-ends n h = ap (λ b. returned_if b (drop n s.cells) s) (let z : nat_lt 1 s.depth ≡ false = grind (arith, nat_tests) in z)
 
-  framed : (ds : List Cell) (back saved : Cell) (cs : List Cell) (go : Cell → Cell → List Cell → Turn) → drop 1 ds ≡ back ∷ saved ∷ cs
-      → frame ds go ≡ go back saved cs
-  framed [] back saved cs go e = cc
-  framed (c ∷ ds) back saved cs go e = ap (λ l. frame (c ∷ l) go) e
+  framed : (l : List Cell) (go : Cell → Cell → List Cell → Turn) → 3 ≤ length l
+      → frame l go ≡ go (slot_cell 0 (drop 1 l)) (slot_cell 0 (drop 1 (drop 1 l))) (drop 1 (drop 1 (drop 1 l)))
+  framed [] go h = absurd (omega arith)
+  framed (c ∷ []) go h = absurd (omega arith)
+  framed (c ∷ d ∷ []) go h = absurd (omega arith)
+  framed (c ∷ d ∷ e ∷ l) go h = refl
 
-  pub return-goes : (n : ℕ) (back saved : Cell) (cs : List Cell) → 1 < s.depth → drop 1 (drop n s.cells) ≡ back ∷ saved ∷ cs
-      → done plan t (code.return_from n) s ≡ goes (record s { cells = cs; dot = saved.val; template = saved.num; depth = s.depth - 1; place = back.num })
-  return-goes n back saved cs h e = ap (λ b. returned_if b (drop n s.cells) s) (let z : nat_lt 1 s.depth ≡ true = grind (arith, nat_tests) in z)
-      ∙ framed (drop n s.cells) back saved cs (λ back saved cs. goes (record s {
-        cells = cs;
-        dot = saved.val;
-        template = saved.num;
-        depth = s.depth - 1;
-        place =
-            back.num;
-      })) e
-
-  pub return-goes-on : (n : ℕ) → 1 < s.depth → n + 3 ≤ length s.cells
+  pub return-goes : (n : ℕ) → 1 < s.depth → n + 3 ≤ length s.cells
       → let ds : List Cell = drop 1 (drop n s.cells) in
       done plan t (code.return_from n) s ≡ goes (record s {
         cells = drop 1 (drop 1 ds);
@@ -111,21 +83,12 @@ module _ (plan : Plan) (t : Template) (s : State) where
         depth = s.depth - 1;
         place = (slot_cell 0 ds).num;
       })
-  return-goes-on n h found = by (drop 1 (drop n s.cells)) refl (length-drop 1 (drop n s.cells))
-    where
-      by : (ds : List Cell) → drop 1 (drop n s.cells) ≡ ds → length ds ≡ length (drop n s.cells) - 1 → done plan t (code.return_from n) s ≡ goes (record s {
-        cells = drop 1 (drop 1 ds);
-        dot = slot 0 (drop 1 ds);
-        template = (slot_cell 0 (drop 1 ds)).num;
-        depth = s.depth - 1;
-        place = (slot_cell 0 ds).num;
-      })
-      by [] is long = absurd (omega (arith, long, length-drop n s.cells))
-      by (c ∷ []) is long = absurd (omega (arith, long, length-drop n s.cells))
-      by (back ∷ saved ∷ cs) is long = return-goes n back saved cs h is
+  return-goes n h found =
+      ap (λ b. returned_if b (drop n s.cells) s) (let z : nat_lt 1 s.depth ≡ true = grind (arith, nat_tests) in z)
+      ∙ framed (drop n s.cells) _ (omega (arith, length-drop n s.cells))
 
 pub ruleset deepens = (deepen-spent, deepen-deep, deepen-goes)
 
-pub ruleset invokes = (invoke-spent, invoke-goes-on)
+pub ruleset invokes = (invoke-spent, invoke-goes)
 
-pub ruleset returns = (return-ends, return-goes-on)
+pub ruleset returns = (return-ends, return-goes)

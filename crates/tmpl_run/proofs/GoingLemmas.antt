@@ -17,13 +17,13 @@ use Rattle.tmpl_code.specs.Instruction as code
 use Rattle.tmpl_code.specs.Instruction.{Instruction}
 use Rattle.tmpl_code.specs.View.{instruction_of, instructions_of}
 use Rattle.tmpl_code.specs.declared.instruction.Instruction as held
-use Rattle.tmpl_run.specs.Cell.{Cell, fresh}
+use Rattle.tmpl_run.specs.Cell.{fresh}
 use Rattle.tmpl_run.specs.Ends.{Ends}
 use Rattle.tmpl_run.specs.Laws.{Lessens, mark_behind}
-use Rattle.tmpl_run.specs.Machine.{Turn, done, ended, fault_in, goes, next_of, stuck, top}
+use Rattle.tmpl_run.specs.Machine.{Turn, done, ended, fault_in, goes, next_of, ran_so, stuck}
 use Rattle.tmpl_run.specs.Ready.{Has, Lands}
 use Rattle.tmpl_run.specs.State.{Plan, State}
-use Rattle.tmpl_run.specs.computed.Came.{Came, IsStopped}
+use Rattle.tmpl_run.specs.computed.Came.{Came, ComesTo, IsStopped, no_template}
 use Rattle.tmpl_run.specs.computed.Machines.{Told, state_of}
 use Rattle.tmpl_run.specs.computed.Plain.{IsPlain, SparedOr}
 use Rattle.tmpl_run.specs.computed.Turned.{Executed, IsThere, Shown, TurnedBy, added, at_once, is_shown, put_by, put_out, text_in, told_behind, value_by}
@@ -38,80 +38,53 @@ use Rattle.tmpl_run.specs.declared.machine.Machine.{Machine}
 use Rattle.tmpl_run.proofs.LoopLemmas.{ends-so, falls, finds, goes-on, is-next, ready, some-template, within-code, work}
 use Rattle.tmpl_run.proofs.MoveLemmas.{each-lessens, mark-stays, mark_next, next-depth, text-begins}
 use Rattle.tmpl_run.proofs.PastLemmas.{after_past, done-past, past-again, with_past}
+use Rattle.tmpl_run.proofs.QuietLemmas.{neither}
 use Rattle.tmpl_run.proofs.RoomLemmas.{next-within}
 use Rattle.tmpl_run.proofs.ShownLemmas.{ends-shown, mark-once, puts-once, quiet-once, shown-once, shown-within}
 
 -- what is told of a run that has put nothing out yet, in the template that a machine runs
-abbrev pub told_at : Told → Machine → Told
-told_at run m = record {
-  plan = run.plan;
-  template = get_or run.plan.templates m.template run.template;
-  text = [];
-  made_text = false;
-}
+abbrev pub told_at : Plan → Machine → Told
+told_at plan m = record { plan = plan; template = get_or plan.templates m.template no_template; text = []; made_text = false }
 
 -- the instruction at a place, and the template of a number
-pub code-at : (items : List held.Instruction) (place : ℕ) (i d : held.Instruction) → place < length items → i ≡ get_or items place d
+code-at : (items : List held.Instruction) (place : ℕ) (i d : held.Instruction) → place < length items → i ≡ get_or items place d
     → slice_get (instructions_of items) place ≡ Some (instruction_of i)
 code-at items place i d h is = slice_get-map instruction_of items place ∙ ap (option_map instruction_of) (slice_get-get_or items place d h ∙ ap Some (sym is))
 
-pub runs-at : (ts : List Template) (n : ℕ) (d : Template) → (t : Template) × (slice_get ts n ≡ Some t) → slice_get ts n ≡ Some (get_or ts n d)
+runs-at : (ts : List Template) (n : ℕ) (d : Template) → (t : Template) × (slice_get ts n ≡ Some t) → slice_get ts n ≡ Some (get_or ts n d)
 runs-at ts n d found = found.1 ∙ ap Some (sym (get_or_from_slice_get ts n found.0 d found.1))
-
-pub neither : (a b : Bool) → (a || b) ≡ false → (a ≡ false) × (b ≡ false)
-neither false b e = (refl, e)
-neither true b e = cc
 
 -- ---- what an instruction adds
 
-pub text-behind : (i : Instruction) (s : State) (told : Told) → told.text ≡ [] → (told_behind i s told).text ≡ added i s
+text-behind : (i : Instruction) (s : State) (told : Told) → told.text ≡ [] → (told_behind i s told).text ≡ added i s
 text-behind (code.put bytes) s told e = ap (λ l. l ++ bytes) e
 text-behind code.show s told e = ap (λ l. l ++ added code.show s) e
 text-behind _ s told e = e
 
-pub mark-behind-told : (i : Instruction) (s : State) (told : Told) → (told_behind i s told).made_text ≡ mark_behind i told.made_text
+mark-behind-told : (i : Instruction) (s : State) (told : Told) → (told_behind i s told).made_text ≡ mark_behind i told.made_text
 mark-behind-told (code.put bytes) s told = refl
 mark-behind-told _ s told = refl
-
--- what ends a run puts nothing out
-pub ended-quiet : (plan : Plan) (t : Template) (i : Instruction) (s : State) (r : Ran) → done plan t i s ≡ ended r → added i s ≡ []
-ended-quiet plan t (code.put bytes) s r e = cc
-ended-quiet plan t code.show s r e = by s.cells e
-  where
-    by : (cs : List Cell) → top cs (λ c cs. goes (record s { cells = cs; text = s.text ++ added code.show (record s { cells = c ∷ cs }); place = s.place + 1 }))
-        ≡ ended r → added code.show s ≡ []
-    by [] e = cc
-    by (c ∷ cs) e = cc
-ended-quiet plan t _ s r e = refl
 
 -- ---- the loop
 
 -- what the loop keeps: behind what was put out so far and the mark, the machine comes to the end
-pub record Stands (run : Told) (end : Ran) (m : Machine) (before now : Puts) : Type 0 where
+pub record Stands (plan : Plan) (end : Ran) (m : Machine) (before now : Puts) : Type 0 where
   pub within : length (cells_of m.stack) ≤ size_of m.stack
   pub depth : m.depth + m.left < 2 ^ 64 - 1
   pub text : List ℕ
   pub made : Bool
   pub given : IsPut {F = SinkFault} (Ok tt) before now text
-  pub ends : Ends run.plan (size_of m.stack) (with_past text made (state_of (told_at run m) m)) end
+  pub ends : Ends plan (size_of m.stack) (with_past text made (state_of (told_at plan m) m)) end
   pub plain : made ≡ false → IsPlain m
 
-pub starts : (run : Told) (end : Ran) (m : Machine) (now : Puts) → run.text ≡ [] → run.made_text ≡ false → Ends run.plan (size_of m.stack) (state_of run m) end
-    → length (cells_of m.stack) ≤ size_of m.stack → IsPlain m → m.depth + m.left < 2 ^ 64 - 1 → Stands run end m now now
-starts run end m now text made h within plain depth = record {
-  within = within;
-  depth = depth;
-  text = [];
-  made = false;
-  given = IsPut-nil now;
-  ends = subst (λ b. Ends run.plan (size_of m.stack) (record (state_of run m) { text = []; made_text = b }) end) made
-      (subst (λ (l : List ℕ). Ends run.plan (size_of m.stack) (record (state_of run m) { text = l }) end) text h);
-  plain = λ e. plain;
-}
+pub starts : (plan : Plan) (end : Ran) (m : Machine) (now : Puts) → ComesTo plan m end
+    → length (cells_of m.stack) ≤ size_of m.stack → IsPlain m → m.depth + m.left < 2 ^ 64 - 1 → Stands plan end m now now
+starts plan end m now ends within plain depth =
+    record { within = within; depth = depth; text = []; made = false; given = IsPut-nil now; ends = ends; plain = λ e. plain }
 
-module _ {run : Told} {end : Ran} {m : Machine} {before now : Puts} (inv : Stands run end m before now) where
-  abbrev told : Told
-  told = told_at run m
+module _ {plan : Plan} {end : Ran} {m : Machine} {before now : Puts} (inv : Stands plan end m before now) where
+  abbrev pub told : Told
+  told = told_at plan m
 
   abbrev s : State
   s = state_of told m
@@ -122,75 +95,69 @@ module _ {run : Told} {end : Ran} {m : Machine} {before now : Puts} (inv : Stand
   abbrev room : ℕ
   room = size_of m.stack
 
-  pub inside : (items : List held.Instruction) → run.plan.code ≡ instructions_of items → m.place < length items
-  inside items code =
-      let within = within-code run.plan room end past inv.ends in
-      let same = ap (λ (is : List Instruction). length is) code ∙ length-map items instruction_of in
-      omega (arith, within, same)
-
   -- there is the template that runs
-  pub runs : slice_get run.plan.templates m.template ≡ Some told.template
-  runs = runs-at run.plan.templates m.template run.template (some-template run.plan room end past inv.ends)
+  pub runs : slice_get plan.templates m.template ≡ Some told.template
+  runs = runs-at plan.templates m.template no_template (some-template plan room end past inv.ends)
 
-  module _ (items : List held.Instruction) {item : held.Instruction} (code : run.plan.code ≡ instructions_of items) (is : item ≡ get_or items m.place item)
-    where
+  module _ (items : List held.Instruction) (same-code : plan.code ≡ instructions_of items) where
+    same-length : length plan.code ≡ length items
+    same-length = ap (λ (is : List Instruction). length is) same-code ∙ length-map items instruction_of
+
+    pub inside : m.place < length items
+    inside = let within = within-code plan room end past inv.ends in let same = same-length in omega arith
+
+    module _ {item : held.Instruction} (is : item ≡ get_or items m.place item) where
       abbrev i : Instruction
       i = instruction_of item
 
-      here : slice_get run.plan.code m.place ≡ Some i
-      here = ap (λ is. slice_get is m.place) code ∙ code-at items m.place item item (inside items code) is
+      here : slice_get plan.code m.place ≡ Some i
+      here = ap (λ is. slice_get is m.place) same-code ∙ code-at items m.place item item inside is
 
-      shifted : (u : Turn) → done run.plan told.template i s ≡ u → done run.plan told.template i past ≡ after_past inv.text inv.made u
-      shifted u e = done-past inv.text inv.made run.plan told.template i s ∙ ap (after_past inv.text inv.made) e
+      shifted : (u : Turn) → done plan told.template i s ≡ u → done plan told.template i past ≡ after_past inv.text inv.made u
+      shifted u e = done-past inv.text inv.made plan told.template i s ∙ ap (after_past inv.text inv.made) e
 
-      next : (u : State) → done run.plan told.template i s ≡ goes u → next_of run.plan past ≡ goes (with_past inv.text inv.made u)
-      next u e = is-next run.plan room end i told.template past here runs inv.ends ∙ shifted (goes u) e
+      next : (u : State) → done plan told.template i s ≡ goes u → next_of plan past ≡ goes (with_past inv.text inv.made u)
+      next u e = is-next plan room end i told.template past here runs inv.ends ∙ shifted (goes u) e
 
-      next-ends : (u : State) → done run.plan told.template i s ≡ goes u → Ends run.plan room (with_past inv.text inv.made u) end
-      next-ends u e = goes-on run.plan room end i told.template past here runs inv.ends (with_past inv.text inv.made u) (shifted (goes u) e)
+      next-ends : (u : State) → done plan told.template i s ≡ goes u → Ends plan room (with_past inv.text inv.made u) end
+      next-ends u e = goes-on plan room end i told.template past here runs inv.ends (with_past inv.text inv.made u) (shifted (goes u) e)
 
       pub has : Has i (length s.cells) room
-      has = ready run.plan room end i told.template past here runs inv.ends
+      has = ready plan room end i told.template past here runs inv.ends
 
-      pub lands : length items < 2 ^ 64 → Lands (done run.plan told.template i s)
-      lands fits = by (done run.plan told.template i s) refl
+      pub lands : length items < 2 ^ 64 → Lands (done plan told.template i s)
+      lands fits = by (done plan told.template i s) refl
         where
-          by : (u : Turn) → done run.plan told.template i s ≡ u → Lands u
-          by (goes v) e =
-              let within = within-code run.plan room end (with_past inv.text inv.made v) (next-ends v e) in
-              let same = ap (λ (is : List Instruction). length is) code ∙ length-map items instruction_of in
-              omega (arith, within, same)
+          by : (u : Turn) → done plan told.template i s ≡ u → Lands u
+          by (goes v) e = let within = within-code plan room end (with_past inv.text inv.made v) (next-ends v e) in let same = same-length in omega arith
           by (ended r) e = tt
-          by stuck e = finds run.plan room end i told.template past here runs inv.ends (shifted stuck e)
+          by stuck e = finds plan room end i told.template past here runs inv.ends (shifted stuck e)
 
-      pub less : (u : State) → done run.plan told.template i s ≡ goes u → work (length run.plan.code) u < work (length run.plan.code) s
-      less u e = falls run.plan room end i told.template past here runs inv.ends (with_past inv.text inv.made u) (shifted (goes u) e)
-
-      no-deeper : (u : State) → done run.plan told.template i s ≡ goes u → u.depth + u.left ≤ s.depth + s.left
-      no-deeper u e = by (each-lessens run.plan past (with_past inv.text inv.made u) (next u e))
+      no-deeper : (u : State) → done plan told.template i s ≡ goes u → u.depth + u.left ≤ s.depth + s.left
+      no-deeper u e = by (each-lessens plan past (with_past inv.text inv.made u) (next u e))
         where
           deep : u.depth ≤ suc s.depth
-          deep = next-depth run.plan past (with_past inv.text inv.made u) (next u e)
+          deep = next-depth plan past (with_past inv.text inv.made u) (next u e)
 
           by : Lessens past (with_past inv.text inv.made u) → u.depth + u.left ≤ s.depth + s.left
           by (inl less) = let d = deep in omega arith
           by (inr (left, inl less)) = omega arith
           by (inr (left, inr (depth, place))) = omega arith
 
-      -- the run goes on, with what was put out and the mark told apart again
-      pub onward : (n : Machine) (after : Puts) → Executed told i s (state_of (told_behind i s told) n) (Ok flow.On)
+      -- the run goes on
+      onward : (n : Machine) (after : Puts) → Executed told i m n (Ok flow.On)
           → IsPut {F = SinkFault} (Ok tt) now after (added i s)
-          → size_of n.stack ≡ room → (mark_behind i false ≡ false → IsPlain m → IsPlain n) → Stands run end n before after
+          → size_of n.stack ≡ room → (mark_behind i false ≡ false → IsPlain m → IsPlain n) → Stands plan end n before after
       onward n after step more size plain = record {
-        within = subst (λ k. length (cells_of n.stack) ≤ k) (sym size) (next-within room run.plan past (with_past inv.text inv.made u) end inv.ends inv.within
-            (next u step));
+        within = subst (λ k. length (cells_of n.stack) ≤ k) (sym size)
+            (next-within room plan past (with_past inv.text inv.made u) end inv.ends inv.within (next u step));
         depth = let deeper = no-deeper u step in let deep = inv.depth in omega arith;
         text = inv.text ++ u.text;
         made = inv.made || u.made_text;
         given = IsPut-along (IsPut-append inv.given more) (ap (λ l. inv.text ++ l) (sym (text-behind i s told refl)));
         ends = subst
-            (λ k. Ends run.plan k (with_past (inv.text ++ u.text) (inv.made || u.made_text) (record u { text = []; made_text = false })) end) (sym size)
-            (subst (λ v. Ends run.plan room v end) (past-again inv.text u.text inv.made u.made_text u) (next-ends u step));
+            (λ k. Ends plan k (with_past (inv.text ++ u.text) (inv.made || u.made_text) (record u { text = []; made_text = false })) end) (sym size)
+            (subst (λ v. Ends plan room v end) (past-again inv.text u.text inv.made u.made_text u) (next-ends u step));
         plain = λ e. let both = neither inv.made u.made_text e in plain (sym (mark-behind-told i s told) ∙ both.1) (inv.plain both.0);
       }
         where
@@ -199,72 +166,74 @@ module _ {run : Told} {end : Ran} {m : Machine} {before now : Puts} (inv : Stand
 
       -- memory is refused only where the end bears the mark
       marked : (mark_behind i false ≡ false → IsPlain m → ⊥) → end.made_text ≡ true
-      marked never = by inv.made refl
+      marked never = by inv.made (mark_behind i false) refl refl
         where
-          by : (b : Bool) → inv.made ≡ b → end.made_text ≡ true
-          by true e = mark-stays run.plan room past end inv.ends (ap (λ b. b || false) e)
-          by false e = by-mark (mark_behind i false) refl
-            where
-              by-mark : (c : Bool) → mark_behind i false ≡ c → end.made_text ≡ true
-              by-mark true f = mark_next run.plan room past end i inv.ends here (ap (λ b. mark_behind i (b || false)) e ∙ f)
-              by-mark false f = absurd (never f (inv.plain e))
+          by : (b c : Bool) → inv.made ≡ b → mark_behind i false ≡ c → end.made_text ≡ true
+          by true c e f = mark-stays plan room past end inv.ends (ap (λ b. b || false) e)
+          by false true e f = mark_next plan room past end i inv.ends here (ap (λ b. mark_behind i (b || false)) e ∙ f)
+          by false false e f = absurd (never f (inv.plain e))
 
       module _ (after : Puts) where
-        both : IsPut {F = SinkFault} (Ok tt) now after (added i s) → IsPut {F = SinkFault} (Ok tt) before after (inv.text ++ added i s)
-        both more = IsPut-append inv.given more
-
         -- the run is over, or stops at a fault
-        pub over : (fault : Option Fault) (made : Bool) → done run.plan told.template i s ≡ ended (record { text = []; fault = fault; made_text = made })
+        over : (fault : Option Fault) → done plan told.template i s ≡ ended (ran_so (state_of (told_behind i s told) m) fault)
             → IsPut {F = SinkFault} (Ok tt) now after (added i s) → IsPut {F = SinkFault} (Ok tt) before after end.text × (end.fault ≡ fault)
-        over fault made e more = (
-          IsPut-along (both more) (ap (λ l. inv.text ++ l) (ended-quiet run.plan told.template i s _ e) ∙ ap (λ (q : Ran). q.text) so),
+        over fault e more = (
+          IsPut-along (IsPut-append inv.given more) (ap (λ l. inv.text ++ l) (sym (text-behind i s told refl)) ∙ ap (λ (q : Ran). q.text) so),
           sym (ap (λ (q : Ran). q.fault) so),
         )
           where
-            so : record { text = inv.text ++ []; fault = fault; made_text = inv.made || made } ≡ end
-            so = ends-so run.plan room end i told.template past here runs inv.ends _ (shifted _ e)
+            so : ran_so (with_past inv.text inv.made (state_of (told_behind i s told) m)) fault ≡ end
+            so = ends-so plan room end i told.template past here runs inv.ends _ (shifted _ e)
+
+        -- a put failed, behind which this would have been put out
+        cut : (u : State) → Ends plan room u end → (more : List ℕ) → u.text ≡ inv.text ++ more → IsPut {F = SinkFault} (Err (record {})) now after more
+            → Came end before after (Err error.WriteFailed)
+        cut u ends more same put =
+            let begins = text-begins plan room u end ends in
+            IsPut-along (IsPut-stop {r = Err (record {})} begins.0 refl (IsPut-append inv.given put)) (ap (λ l. l ++ begins.0) (sym same) ∙ sym begins.1)
 
         -- a stop
-        pub stops : (u : State) (Q : Type 0) → u.text ≡ added i s → (stop : Halt) (e : RunError) → Executed told i s u (Err stop)
+        stops : (n : Machine) (Q : Type 0) (stop : Halt) (e : RunError) → Executed told i m n (Err stop)
             → IsPut (put_by {A = Flow} (Err stop)) now after (added i s)
-            → (mark_behind i false ≡ false → IsPlain m → SparedOr {A = Flow} (Err stop) Q) → IsStopped (slice_get run.plan.templates m.template) u.line stop e
+            → (mark_behind i false ≡ false → IsPlain m → SparedOr {A = Flow} (Err stop) Q) → IsStopped (slice_get plan.templates m.template) n.line stop e
             → Came end before after (Err e)
-        stops u Q same (stop.Fault kind) (error.Fault fault) step more spared is =
-            let came = over (Some (fault_in told.template u.line (cause_of kind))) u.made_text step more in
-            (came.0, came.1 ∙ sym (is ∙ ap (option_map (λ t. fault_in t u.line (cause_of kind))) runs))
-        stops u Q same (stop.Fault kind) error.WriteFailed step more spared is = absurd is
-        stops u Q same (stop.Fault kind) error.OutOfMemory step more spared is = absurd is
-        stops u Q same stop.WriteFailed e step more spared is =
-            let begins = text-begins run.plan room (with_past inv.text inv.made u) end (next-ends u step) in
-            subst (λ f. Came end before after (Err f)) (sym is)
-            (IsPut-along (IsPut-stop {r = Err (record {})} begins.0 refl (IsPut-append inv.given more))
-            (ap (λ l. (inv.text ++ l) ++ begins.0) (sym same) ∙ sym begins.1))
-        stops u Q same stop.OutOfMemory e step more spared is =
-            subst (λ f. Came end before after (Err f)) (sym is)
-            (inv.text ++ [], text-begins run.plan room past end inv.ends, IsPut-along (both more) (ap (λ l. inv.text ++ l) step), marked spared)
+        stops n Q (stop.Fault kind) (error.Fault fault) step more spared is =
+            let came = over (Some (fault_in told.template n.line (cause_of kind))) step more in
+            (came.0, came.1 ∙ sym (is ∙ ap (option_map (λ t. fault_in t n.line (cause_of kind))) runs))
+        stops n Q (stop.Fault kind) error.WriteFailed step more spared is = absurd is
+        stops n Q (stop.Fault kind) error.OutOfMemory step more spared is = absurd is
+        stops n Q stop.WriteFailed e step more spared is = subst (λ f. Came end before after (Err f)) (sym is)
+            (cut (with_past inv.text inv.made (state_of (told_behind i s told) n)) (next-ends _ step) (added i s)
+            (ap (λ l. inv.text ++ l) (text-behind i s told refl)) more)
+        stops n Q stop.OutOfMemory e step more spared is = subst (λ f. Came end before after (Err f)) (sym is) (
+          inv.text ++ [],
+          text-begins plan room past end inv.ends,
+          IsPut-along (IsPut-append inv.given more) (ap (λ l. inv.text ++ l) step),
+          marked spared,
+        )
 
       -- ---- three instructions that were carried out at once
 
-      module _ (once : at_once run.plan.code m.place i ≡ true) where
-        shown : is_shown run.plan.code m.place ≡ true
-        shown = shown-once run.plan.code m.place i once
+      module _ (once : at_once plan.code m.place i ≡ true) where
+        shown : is_shown plan.code m.place ≡ true
+        shown = shown-once plan.code m.place i once
 
-        late-ends : (v : Value) → value_by run.plan i s ≡ Ok v → Ends run.plan room (record past { text = past.text ++ text_of v; place = past.place + 3 }) end
-        late-ends v e = ends-shown run.plan room end i told.template past here runs shown v
-            (shifted (goes (record s { cells = fresh v ∷ s.cells; place = s.place + 1 })) (puts-once run.plan.code m.place run.plan told.template i s v once e))
+        -- the first of them puts nothing out
+        quiet : added i s ≡ []
+        quiet = quiet-once plan.code m.place i s once
+
+        late-ends : (v : Value) → value_by plan i s ≡ Ok v → Ends plan room (record past { text = past.text ++ text_of v; place = past.place + 3 }) end
+        late-ends v e = ends-shown plan room end i told.template past here runs shown v
+            (shifted (goes (record s { cells = fresh v ∷ s.cells; place = s.place + 1 })) (puts-once plan.code m.place plan told.template i s v once e))
             inv.ends
 
-        less-shown : (u : State) → u ≡ record s { place = s.place + 3 } → work (length run.plan.code) u < work (length run.plan.code) s
-        less-shown u e = subst (λ v. work (length run.plan.code) v < work (length run.plan.code) s) (sym e)
-            (let inside = shown-within run.plan room end i told.template past here runs shown in omega arith)
-
-        onward-shown : (n : Machine) (after : Puts) → Shown told i s (state_of told n) (Ok flow.On)
-            → IsPut {F = SinkFault} (Ok tt) now after (text_in (value_by run.plan i s))
-            → size_of n.stack ≡ room → (IsPlain m → IsPlain n) → Stands run end n before after
-        onward-shown n after step more size plain = by (value_by run.plan i s) refl step.0 more
+        onward-shown : (n : Machine) (after : Puts) → Shown told i m n (Ok flow.On)
+            → IsPut {F = SinkFault} (Ok tt) now after (text_in (value_by plan i s))
+            → size_of n.stack ≡ room → (IsPlain m → IsPlain n) → Stands plan end n before after
+        onward-shown n after step more size plain = by (value_by plan i s) refl step.0 more
           where
-            by : (r : Result Value Cause) → value_by run.plan i s ≡ r → IsThere r → IsPut {F = SinkFault} (Ok tt) now after (text_in r)
-                → Stands run end n before after
+            by : (r : Result Value Cause) → value_by plan i s ≡ r → IsThere r → IsPut {F = SinkFault} (Ok tt) now after (text_in r)
+                → Stands plan end n before after
             by (Err cause) e there more = absurd there
             by (Ok v) e there more = record {
               within = let same = ap (λ (u : State). length u.cells) step.1 in let fits = inv.within in omega (arith, same, fits, size);
@@ -274,60 +243,74 @@ module _ {run : Told} {end : Ran} {m : Machine} {before now : Puts} (inv : Stand
               text = inv.text ++ text_of v;
               made = inv.made;
               given = IsPut-append inv.given more;
-              ends = subst (λ k. Ends run.plan k (with_past (inv.text ++ text_of v) inv.made (state_of told n)) end) (sym size)
-                  (subst (λ u. Ends run.plan room (with_past (inv.text ++ text_of v) inv.made u) end) (sym step.1)
-                  (subst (λ l. Ends run.plan room (record past { text = l; place = past.place + 3 }) end)
+              ends = subst (λ k. Ends plan k (with_past (inv.text ++ text_of v) inv.made (state_of told n)) end) (sym size)
+                  (subst (λ u. Ends plan room (with_past (inv.text ++ text_of v) inv.made u) end) (sym step.1)
+                  (subst (λ l. Ends plan room (record past { text = l; place = past.place + 3 }) end)
                   (ap (λ l. l ++ text_of v) (append-nil inv.text) ∙ sym (append-nil (inv.text ++ text_of v))) (late-ends v e)));
               plain = λ e. plain (inv.plain e);
             }
 
-        cut-shown : (after : Puts) → IsThere (value_by run.plan i s)
-            → IsPut {F = SinkFault} (Err (record {})) now after (text_in (value_by run.plan i s)) → Came end before after (Err error.WriteFailed)
-        cut-shown after there more = by (value_by run.plan i s) refl there more
+        cut-shown : (after : Puts) → IsThere (value_by plan i s)
+            → IsPut {F = SinkFault} (Err (record {})) now after (text_in (value_by plan i s)) → Came end before after (Err error.WriteFailed)
+        cut-shown after there more = by (value_by plan i s) refl there more
           where
-            by : (r : Result Value Cause) → value_by run.plan i s ≡ r → IsThere r → IsPut {F = SinkFault} (Err (record {})) now after (text_in r)
+            by : (r : Result Value Cause) → value_by plan i s ≡ r → IsThere r → IsPut {F = SinkFault} (Err (record {})) now after (text_in r)
                 → Came end before after (Err error.WriteFailed)
             by (Err cause) e there more = absurd there
-            by (Ok v) e there more =
-                let begins = text-begins run.plan room (record past { text = past.text ++ text_of v; place = past.place + 3 }) end (late-ends v e) in
-                IsPut-along (IsPut-stop {r = Err (record {})} begins.0 refl (IsPut-append inv.given more))
-                (ap (λ l. (l ++ text_of v) ++ begins.0) (sym (append-nil inv.text)) ∙ sym begins.1)
+            by (Ok v) e there more = cut after (record past { text = past.text ++ text_of v; place = past.place + 3 }) (late-ends v e) (text_of v)
+                (ap (λ l. l ++ text_of v) (append-nil inv.text)) more
 
-        stops-shown : (after : Puts) (u : State) (Q : Type 0) → u.text ≡ [] → (stop : Halt) (e : RunError) → Shown told i s u (Err stop)
-            → IsPut (put_by {A = Flow} (Err stop)) now after (put_out true run.plan i s (Err stop))
+        stops-shown : (after : Puts) (n : Machine) (Q : Type 0) (stop : Halt) (e : RunError) → Shown told i m n (Err stop)
+            → IsPut (put_by {A = Flow} (Err stop)) now after (put_out true told i m (Err stop))
             → (mark_behind i false ≡ false → IsPlain m → SparedOr {A = Flow} (Err stop) Q)
-            → IsStopped (slice_get run.plan.templates m.template) u.line stop e → Came end before after (Err e)
-        stops-shown after u Q same (stop.Fault kind) e step more spared is =
-            let quiet = sym (quiet-once run.plan.code m.place i s once) in
-            stops after u Q (same ∙ quiet) (stop.Fault kind) e step (IsPut-along more quiet) spared is
-        stops-shown after u Q same stop.WriteFailed e step more spared is = subst (λ f. Came end before after (Err f)) (sym is) (cut-shown after step.0 more)
-        stops-shown after u Q same stop.OutOfMemory e step more spared is =
-            let quiet = sym (quiet-once run.plan.code m.place i s once) in
-            stops after u Q (same ∙ quiet) stop.OutOfMemory e (sym quiet) (IsPut-along more quiet) spared is
+            → IsStopped (slice_get plan.templates m.template) n.line stop e → Came end before after (Err e)
+        stops-shown after n Q stop.WriteFailed e step more spared is = subst (λ f. Came end before after (Err f)) (sym is) (cut-shown after step.0 more)
+        stops-shown after n Q (stop.Fault kind) e step more spared is =
+            stops after n Q (stop.Fault kind) e step (IsPut-along more (sym quiet)) spared is
+        stops-shown after n Q stop.OutOfMemory e step more spared is = stops after n Q stop.OutOfMemory e quiet (IsPut-along more (sym quiet)) spared is
 
       -- ---- a turn, whether or not it carries out three
 
-      pub less-by : (b : Bool) → at_once run.plan.code m.place i ≡ b → (n : Machine) → TurnedBy b told i s n (Ok flow.On)
-          → work (length run.plan.code) (state_of told n) < work (length run.plan.code) s
-      less-by false once n step = less (state_of (told_behind i s told) n) step
-      less-by true once n step = less-shown once (state_of told n) step.1
+      module _ (n : Machine) (after : Puts) where
+        abbrev once : Bool
+        once = at_once plan.code m.place i
 
-      pub onward-by : (b : Bool) → at_once run.plan.code m.place i ≡ b → (n : Machine) (after : Puts) → TurnedBy b told i s n (Ok flow.On)
-          → IsPut {F = SinkFault} (Ok tt) now after (put_out b run.plan i s (Ok flow.On))
-          → size_of n.stack ≡ room → (mark_behind i false ≡ false → IsPlain m → IsPlain n) → Stands run end n before after
-      onward-by false once n after step more size plain = onward n after step more size plain
-      onward-by true once n after step more size plain = onward-shown once n after step more size (plain (mark-once run.plan.code m.place i once))
+        abbrev Gave : Bool → Result Flow Halt → Type 0
+        Gave b r = IsPut (put_by r) now after (put_out b told i m r)
 
-      pub over-by : (b : Bool) (n : Machine) (after : Puts) → TurnedBy b told i s n (Ok flow.Over)
-          → IsPut {F = SinkFault} (Ok tt) now after (put_out b run.plan i s (Ok flow.Over))
-          → IsPut {F = SinkFault} (Ok tt) before after end.text × (end.fault ≡ None)
-      over-by false n after step more = over after None false step more
-      over-by true n after step more = absurd step
+        pub goes-less : (f : Flow) → f ≡ flow.On → TurnedBy once told i m n (Ok f)
+            → work (length plan.code) (state_of told n) < work (length plan.code) s
+        goes-less f on did = by once refl (subst (λ f. TurnedBy once told i m n (Ok f)) on did)
+          where
+            by : (b : Bool) → once ≡ b → TurnedBy b told i m n (Ok flow.On) → work (length plan.code) (state_of told n) < work (length plan.code) s
+            by false e step = falls plan room end i told.template past here runs inv.ends
+                (with_past inv.text inv.made (state_of (told_behind i s told) n)) (shifted _ step)
+            by true e step = subst (λ v. work (length plan.code) v < work (length plan.code) s) (sym step.1)
+                (let inside = shown-within plan room end i told.template past here runs (shown e) in omega arith)
 
-      pub stops-by : (b : Bool) → at_once run.plan.code m.place i ≡ b → (n : Machine) (after : Puts) (Q : Type 0) (stop : Halt) (e : RunError)
-          → TurnedBy b told i s n (Err stop) → IsPut (put_by {A = Flow} (Err stop)) now after (put_out b run.plan i s (Err stop))
-          → (mark_behind i false ≡ false → IsPlain m → SparedOr {A = Flow} (Err stop) Q) → IsStopped (slice_get run.plan.templates m.template) n.line stop e
-          → Came end before after (Err e)
-      stops-by false once n after Q stop e step more spared is =
-          stops after (state_of (told_behind i s told) n) Q (text-behind i s told refl) stop e step more spared is
-      stops-by true once n after Q stop e step more spared is = stops-shown once after (state_of told n) Q refl stop e step more spared is
+        pub goes-so : (f : Flow) → f ≡ flow.On → TurnedBy once told i m n (Ok f) → IsPut (put_by {A = Flow} (Ok f)) now after (put_out once told i m (Ok f))
+            → size_of n.stack ≡ room → (mark_behind i false ≡ false → IsPlain m → IsPlain n) → Stands plan end n before after
+        goes-so f on did more size plain = by once refl (subst (λ f. TurnedBy once told i m n (Ok f)) on did) (subst (λ f. Gave once (Ok f)) on more)
+          where
+            by : (b : Bool) → once ≡ b → TurnedBy b told i m n (Ok flow.On) → Gave b (Ok flow.On) → Stands plan end n before after
+            by false e step more = onward n after step more size plain
+            by true e step more = onward-shown e n after step more size (plain (mark-once plan.code m.place i e))
+
+        pub over-so : (f : Flow) → f ≡ flow.Over → TurnedBy once told i m n (Ok f) → IsPut (put_by {A = Flow} (Ok f)) now after (put_out once told i m (Ok f))
+            → IsPut {F = SinkFault} (Ok tt) before after end.text × (end.fault ≡ None)
+        over-so f is-over did more = by once (subst (λ f. TurnedBy once told i m n (Ok f)) is-over did) (subst (λ f. Gave once (Ok f)) is-over more)
+          where
+            by : (b : Bool) → TurnedBy b told i m n (Ok flow.Over) → Gave b (Ok flow.Over)
+                → IsPut {F = SinkFault} (Ok tt) before after end.text × (end.fault ≡ None)
+            by false step more = over after None step more
+            by true step more = absurd step
+
+        pub stops-so : (Q : Type 0) (stop : Halt) (e : RunError) → TurnedBy once told i m n (Err stop)
+            → IsPut (put_by {A = Flow} (Err stop)) now after (put_out once told i m (Err stop))
+            → (mark_behind i false ≡ false → IsPlain m → SparedOr {A = Flow} (Err stop) Q)
+            → IsStopped (slice_get plan.templates m.template) n.line stop e → Came end before after (Err e)
+        stops-so Q stop e did more spared stopped = by once refl did more
+          where
+            by : (b : Bool) → once ≡ b → TurnedBy b told i m n (Err stop) → Gave b (Err stop) → Came end before after (Err e)
+            by false is step more = stops after n Q stop e step more spared stopped
+            by true is step more = stops-shown is after n Q stop e step more spared stopped

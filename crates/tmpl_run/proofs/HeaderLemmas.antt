@@ -90,7 +90,7 @@ module _ (way : Way) (calls : Calls) (pipes : Pipelines way) where
       → ((cs : List Cell) (place : ℕ) → drop place way.plan.code ≡ rest → frame_of lay cs ≡ fr → length lay ≤ length cs
       → env_of lay cs ≡ assigned x v (env_of lay s.cells) → ways.Leading way (record s { cells = fresh v ∷ cs; made_text = m; place = place }))
       → ways.Leading way (record s { cells = fresh v ∷ s.cells; made_text = m; place = place })
-  set-leads x None lay fr v mid rest s m place same e l at frame deep more = more s.cells place (at ∙ l) frame deep (sym (stored-none x lay s.cells v e))
+  set-leads x None lay fr v mid rest s m place same e l at frame deep more = more s.cells place (at ∙ l) frame deep (sym (stored-none x lay s.cells v e deep))
   set-leads x (Some k) lay fr v mid rest s m place same e l at frame deep more =
       ways.takes way (record s { cells = fresh v ∷ s.cells; made_text = m; place = place }) (code.set k) rest same (at ∙ l)
       (let below = found-within x lay k e in omega arith)

@@ -5,7 +5,7 @@ use Rattle.tmpl_values.specs.Value.{Value}
 use Rattle.tmpl_values.specs.Text.{text_of}
 use Rattle.tmpl_values.specs.Truth.{truth}
 use Rattle.tmpl_grammar.specs.Tree.{Binding, unbound, declare, assign, declare_pair, Header}
-use Rattle.tmpl_grammar.specs.Need.{declared_count}
+use Rattle.tmpl_grammar.specs.Need.{declared_count, need_of_pipeline}
 use Rattle.tmpl_grammar.specs.declared.tree.Control.TheVariants as control
 use Rattle.tmpl_syntax.specs.Tree as tree
 use Rattle.tmpl_syntax.specs.Tree.{NodeKind, Nodes}
@@ -13,10 +13,10 @@ use Rattle.tmpl_syntax.specs.Need.{left_behind, need_of_node, need_of_nodes}
 use Rattle.tmpl_meaning.specs.Pipeline.{Environment}
 use Rattle.tmpl_meaning.specs.Meaning as meaning
 use Rattle.tmpl_meaning.specs.Meaning.{Calls, End, Next, Ran, Run, Setting, without_key, choosing, meanings, oldest, one_of, setting_of, shown, stepped}
-use Rattle.tmpl_meaning.specs.Meaning.{with_bound}
+use Rattle.tmpl_meaning.specs.Meaning.{scope, with_bound}
 use Rattle.tmpl_code.specs.Instruction as code
 use Rattle.tmpl_code.specs.Layout.{Layout, bound_on, declared_in, declares, grown}
-use Rattle.tmpl_code.specs.Code.{Code, Ended, NodeAt, NodesAt, ShownAt, step_of}
+use Rattle.tmpl_code.specs.Code.{Code, Ended, HeaderAt, NodeAt, NodesAt, ShownAt, step_of}
 use Rattle.tmpl_run.specs.Cell.{Cell, fresh}
 use Rattle.tmpl_run.specs.State.{State}
 use Rattle.tmpl_run.specs.Machine.{branch, goes, kept_on, top, with_dot}
@@ -178,28 +178,35 @@ module _ (way : Way) (calls : Calls) (spare : ℕ) (pipes : Pipelines way) where
       part-leads ns ih b g lay fr first more rest to s.dot (with_bound b (without_key v) (run_at lay m s)) _ l far inside fits
       (record { at = at; runs = same; frame = bound-frame b lay fr v cs frame; deep = bound-deep b lay v cs deep }) refl (bound-env b lay v cs s m env) k
 
+  -- a header, and in its scope one of two parts, by its value
+  choosing-leads : (line : ℕ) (h : Header) (body : Value → Next) (other : Next) (g : Option Ring) (lay : Layout) (fr : Frame) (here mid rest : Code) (s : State)
+      → HeaderAt h lay here mid → PlainFor h.binding mid → Stands way.plan way.who here lay fr s → s.line ≡ line → Inside way.home g lay fr
+      → length fr + need_of_pipeline h.pipeline ≤ way.room → length fr + declared_count h.binding ≤ way.room
+      → ways.After way (ways.Onward way rest lay fr s.dot) g (scope (choosing (ways.setting way calls) line h s.dot body other) (run_of lay s))
+      → ((v : Value) (cs : List Cell) (m : Bool) (place : ℕ) → drop place way.plan.code ≡ mid → frame_of lay cs ≡ fr → length lay ≤ length cs
+      → env_of lay cs ≡ written h.binding v (env_of lay s.cells)
+      → ways.After way (λ r. ways.Onward way rest lay fr s.dot (cut_to (named lay) r)) g
+      (one_of (truth v) (body v) other (with_bound h.binding (without_key v) (run_at lay m s)))
+      → ways.Leading way (headed h.binding v cs m place s))
+      → ways.Leading way s
+  choosing-leads line h body other g lay fr here mid rest s l plain st same-line inside fits more-fits k more =
+      header-leads way calls pipes (λ r. ways.Onward way rest lay fr s.dot (cut_to (named lay) r)) g line h lay fr here mid s
+      (λ v r. one_of (truth v) (body v) other (with_bound h.binding (without_key v) r)) l st same-line plain fits more-fits
+      (ways.unscope way (ways.Onward way rest lay fr s.dot) g lay fr (length (env_of lay s.cells))
+      (choosing (ways.setting way calls) line h s.dot body other (run_of lay s)) (length-env lay s.cells st.deep) inside k) more
+
   -- ---- `if`
 
   pub if-leads : (line : ℕ) (h : Header) (body other : Nodes) → NodesLead body → NodesLead other → NodeLeads line (tree.control_node control.If h body other)
   if-leads line h body other ih-body ih-other g lay fr here rest s l st same-line inside fits more-fits k =
-      header-leads way calls pipes B g line h lay fr here l.0 s go
-      l.1 st same-line (plain-for h.binding l.0 (subst Plain (sym l.2.4) refl)) (omega arith) (omega arith)
-      (ways.unscope way A g lay fr (length (env_of lay s.cells)) (choosing (ways.setting way calls) line h s.dot
-      (λ v. meanings (ways.setting way calls) body s.dot) (meanings (ways.setting way calls) other s.dot) (run_of lay s)) (length-env lay s.cells st.deep)
-      inside k)
+      choosing-leads line h (λ v. meanings (ways.setting way calls) body s.dot) (meanings (ways.setting way calls) other s.dot) g lay fr here l.0 rest s
+      l.1 (plain-for h.binding l.0 (subst Plain (sym l.2.4) refl)) st same-line inside (omega arith) (omega arith) k
       (λ v cs m place at frame deep env k. ways.takes way (headed h.binding v cs m place s) (code.unless (declares h.binding) l.2.2) l.2.0 st.runs (at ∙ l.2.4)
       tt
       (by v cs m place (at ∙ l.2.4) frame deep env (truth v) k))
     where
-      A : Run → Type 0
-      A = ways.Onward way rest lay fr s.dot
-
       B : Run → Type 0
-      B = λ r. A (cut_to (named lay) r)
-
-      go : Value → Next
-      go v r = one_of (truth v) (meanings (ways.setting way calls) body s.dot) (meanings (ways.setting way calls) other s.dot)
-          (with_bound h.binding (without_key v) r)
+      B = λ r. ways.Onward way rest lay fr s.dot (cut_to (named lay) r)
 
       by : (v : Value) (cs : List Cell) (m : Bool) (place : ℕ) → drop place way.plan.code ≡ code.unless (declares h.binding) l.2.2 ∷ l.2.0
           → frame_of lay cs ≡ fr
@@ -252,24 +259,15 @@ module _ (way : Way) (calls : Calls) (spare : ℕ) (pipes : Pipelines way) where
   pub with-leads : (line : ℕ) (h : Header) (body other : Nodes) → NodesLead body → NodesLead other
       → NodeLeads line (tree.control_node control.With h body other)
   with-leads line h body other ih-body ih-other g lay fr here rest s l st same-line inside fits more-fits k =
-      header-leads way calls pipes B g line h lay fr here l.0 s go
-      l.1 st same-line (plain-for h.binding l.0 (subst Plain (sym l.2.4) refl)) (omega arith) (omega arith)
-      (ways.unscope way A g lay fr (length (env_of lay s.cells)) (choosing (ways.setting way calls) line h s.dot (λ v. meanings (ways.setting way calls) body v)
-      (meanings (ways.setting way calls) other s.dot) (run_of lay s)) (length-env lay s.cells st.deep) inside k)
+      choosing-leads line h (λ v. meanings (ways.setting way calls) body v) (meanings (ways.setting way calls) other s.dot) g lay fr here l.0 rest s
+      l.1 (plain-for h.binding l.0 (subst Plain (sym l.2.4) refl)) st same-line inside (omega arith) (omega arith) k
       (λ v cs m place at frame deep env k. ways.takes way (headed h.binding v cs m place s) (code.enter_with (declares h.binding) l.2.2) l.2.0 st.runs
       (at ∙ l.2.4)
       (length-under h.binding cs way.room (need_of_nodes body) (let long = length-frame lay cs deep in let same = ap length frame in omega arith))
       (by v cs m place (at ∙ l.2.4) frame deep env (truth v) k))
     where
-      A : Run → Type 0
-      A = ways.Onward way rest lay fr s.dot
-
       B : Run → Type 0
-      B = λ r. A (cut_to (named lay) r)
-
-      go : Value → Next
-      go v r = one_of (truth v) (meanings (ways.setting way calls) body v) (meanings (ways.setting way calls) other s.dot)
-          (with_bound h.binding (without_key v) r)
+      B = λ r. ways.Onward way rest lay fr s.dot (cut_to (named lay) r)
 
       by : (v : Value) (cs : List Cell) (m : Bool) (place : ℕ) → drop place way.plan.code ≡ code.enter_with (declares h.binding) l.2.2 ∷ l.2.0
           → frame_of lay cs ≡ fr → length lay ≤ length cs → env_of lay cs ≡ written h.binding v (env_of lay s.cells)

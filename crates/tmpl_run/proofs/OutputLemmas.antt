@@ -9,8 +9,7 @@ use Rattle.tmpl_values.specs.Put.{Puts, Took, appended}
 use Rattle.tmpl_values.specs.Text.{text_of}
 use Rattle.tmpl_values.specs.Value.{Value, string}
 use Rattle.tmpl_meaning.specs.Sink.{IsPut, Told, as_puts, with_bytes}
-use Rattle.tmpl_values.proofs.PutLemmas.{IsPut-nil, appended-append, appended-nil}
-use Rattle.tmpl_meaning.specs.declared.sink.SinkFault.{SinkFault}
+use Rattle.tmpl_values.proofs.PutLemmas.{appended-append, appended-nil}
 use Rattle.tmpl_run.specs.computed.Output.{Grew, Grows, both, given_of, told_since}
 use Rattle.tmpl_run.specs.declared.piece.Piece.{Piece}
 
@@ -64,16 +63,6 @@ put-behind-none r a b text waiting name e h = subst (λ l. IsPut r (behind a l n
 pub text_of_bytes : (v : Value) (bytes : List ℕ) → Some bytes ≡ bytes_of v → text_of v ≡ bytes
 text_of_bytes (string s) bytes h = let same : bytes ≡ s = cc in sym same
 text_of_bytes _ bytes h = cc
-
--- nothing is put
-module _ {S : Type 0} (so_far : S → Told) (old new : S) (p q : Piece) (same : new ≡ old) (kept : q ≡ p) where
-  pub quiet : IsPut {F = SinkFault} (Ok tt) (given_of (so_far old) p) (given_of (so_far new) q) []
-  quiet = subst (λ o. IsPut {F = SinkFault} (Ok tt) (given_of (so_far old) p) (given_of (so_far o) q) []) (sym same)
-      (subst (λ (o : Piece). IsPut {F = SinkFault} (Ok tt) (given_of (so_far old) p) (given_of (so_far old) o) []) (sym kept)
-      (IsPut-nil (given_of (so_far old) p)))
-
-  pub quiet-grows : Grows (so_far old) (so_far new)
-  quiet-grows = subst (λ o. Grows (so_far old) (so_far o)) (sym same) (grows-same (so_far old))
 
 -- ---- a piece and a sink as one that takes bytes
 

@@ -31,3 +31,5 @@ pub first-part : (m : ℕ) (text blank seen : List ℕ) → length text ≤ m �
 first-part m text blank seen h e =
     let whole : m ≡ length text + (m - length text) = omega arith in
     ap (take m) e ∙ ap (λ n. take n (text ++ blank)) whole ∙ take-append-add text blank (m - length text)
+
+pub ruleset kept = kept-behind

@@ -2,7 +2,8 @@
 use Rattle.std.proofs.Common.{arith, ◌≡◌, ◌∙◌, ◌+◌, ◌≤◌, ◌||◌, ◌++◌, ℕ, zero, suc, Bool, true, false, List, [], ◌∷◌, length, map, take}
 use Rattle.std.proofs.Common.{drop, reverse, refl, ap, sym, subst, Option, Some, None, Result, Ok, Err, is_some, append_assoc}
 use Rattle.std.proofs.lemmas.List.{length-map, reverse-append, reverse-reverse, length-reverse}
-use Rattle.std.proofs.Math.Seq.{drop-append_seam}
+use Rattle.std.proofs.Math.Bool.{or-false, or_assoc}
+use Rattle.std.proofs.Math.Seq.{drop-append_seam, take-append_seam}
 use Rattle.tmpl_values.specs.Value.{Value, nothing, boolean, number, string}
 use Rattle.tmpl_funcs.specs.Dispatch.{called}
 use Rattle.tmpl_funcs.specs.Func.{makes_text, takes}
@@ -23,14 +24,6 @@ use Rattle.tmpl_run.specs.Cell.{Cell, fresh, slot, values_in}
 use Rattle.tmpl_run.specs.Step.{on, halted, lacks, pushed, decided_by, called_on}
 use Rattle.tmpl_run.proofs.ExecLemmas.{Reached, stops, lost, exec}
 
-or-false : (b : Bool) → (b || false) ≡ b
-or-false true = refl
-or-false false = refl
-
-or-assoc : (a b c : Bool) → ((a || b) || c) ≡ (a || (b || c))
-or-assoc true b c = refl
-or-assoc false b c = refl
-
 -- goes on with what was given, or stops
 abbrev pub follow_by : {T : Type 0} → Result T Cause → Bool → (T → Bool → Reached) → Reached
 follow_by (Ok v) made go = go v made
@@ -48,7 +41,7 @@ follow-then : {T U : Type 0} (g : Given T) (made : Bool) (next : T → Given U) 
 follow-then {T} g made next go = by g.result
   where
     by : (r : Result T Cause) → follow (go_on r g.made_text next) made go ≡ follow_by r (made || g.made_text) (λ v b. follow (next v) b go)
-    by (Ok v) = ap (λ b. follow_by (next v).result b go) (sym (or-assoc made g.made_text (next v).made_text))
+    by (Ok v) = ap (λ b. follow_by (next v).result b go) (sym (or_assoc made g.made_text (next v).made_text))
     by (Err cause) = refl
 
 follow-same : {T : Type 0} (r : Result T Cause) (made : Bool) (f g : T → Bool → Reached) → ((v : T) (b : Bool) → f v b ≡ g v b)
@@ -177,12 +170,7 @@ as-long ws = sym (length-map ws fresh) ∙ sym (length-reverse (map fresh ws))
 taken : (ws : List Value) (vs : List Cell) (n : ℕ) → n ≡ length ws → values_in (reverse (take n (stacked ws vs))) ≡ ws
 taken ws vs n e =
     ap (λ l. values_in (reverse (take n l))) (stacked-is ws vs) ∙ ap (λ k. values_in (reverse (take k (reverse (map fresh ws) ++ vs)))) (e ∙ as-long ws)
-    ∙ ap (λ l. values_in (reverse l)) (take-seam (reverse (map fresh ws)) vs) ∙ ap values_in (reverse-reverse (map fresh ws)) ∙ values-fresh ws
-  where
-    take-seam : (a b : List Cell) → take (length a) (a ++ b) ≡ a
-    take-seam [] [] = refl
-    take-seam [] (x ∷ b) = refl
-    take-seam (x ∷ a) b = ap (λ l. x ∷ l) (take-seam a b)
+    ∙ ap (λ l. values_in (reverse l)) (take-append_seam (reverse (map fresh ws)) vs) ∙ ap values_in (reverse-reverse (map fresh ws)) ∙ values-fresh ws
 
 dropped : (ws : List Value) (vs : List Cell) (n : ℕ) → n ≡ length ws → drop n (stacked ws vs) ≡ vs
 dropped ws vs n e =
@@ -243,7 +231,7 @@ all-applied s f os piped rest vs made = by (operand_values s os).result (values-
     by (Ok ws) h =
         applied-runs s f os piped rest vs (made || (operand_values s os).made_text) ws (h ws refl)
         ∙ ap (λ b. follow_by (or_call_failed f (called f (piped_after ws piped))) b (λ v b. exec s 0 rest (fresh v ∷ vs) b))
-        (or-assoc made (operand_values s os).made_text (makes_text f))
+        (or_assoc made (operand_values s os).made_text (makes_text f))
     by (Err cause) h = refl
 
 bare-runs : (s : Place) (f : Func) (t : Bool) (code rest : Code) (vs : List Cell) (made : Bool) → BareAt t f code rest

@@ -1,14 +1,11 @@
 -- For the clauses `plain`: live cells of which none holds a made text stay so, by which a run that makes no text is refused no memory.
 use Rattle.std.proofs.Common.{arith, ◌≡◌, ◌∙◌, ◌+◌, ◌-◌, ◌<◌, ◌≤◌, ℕ, zero, suc, true, false, List, [], ◌∷◌, length, take, set, get_or}
-use Rattle.std.proofs.Common.{refl, ap, sym, subst, Result, Ok, Err, IfOk, IsOkAnd}
+use Rattle.std.proofs.Common.{refl, ap, sym, subst}
 use Rattle.std.proofs.Math.Numerals.{add-one}
-use Rattle.std.specs.declared.alloc.AllocError.{AllocError}
-use Rattle.tmpl_values.specs.View.{IsShared, is_made}
-use Rattle.tmpl_values.specs.declared.value.Val.{Val}
+use Rattle.tmpl_values.specs.View.{is_made}
 use Rattle.tmpl_values.specs.declared.value.Cell as held
 use Rattle.tmpl_funcs.specs.Answer.{AreBorrowed}
 use Rattle.tmpl_run.specs.computed.Held.{made_at}
-use Rattle.tmpl_run.specs.computed.Plain.{Spared}
 
 -- none of fewer
 borrowed-fewer : (m n : ℕ) (cs : List held.Cell) → m ≤ n → AreBorrowed (take n cs) → AreBorrowed (take m cs)
@@ -66,17 +63,6 @@ borrowed-push top cs c h p = subst (λ n. AreBorrowed (take n (set cs top c))) (
 pub borrowed-same : (n : ℕ) (old new : List held.Cell) → new ≡ old → AreBorrowed (take n old) → AreBorrowed (take n new)
 borrowed-same n old new e p = subst (λ cs. AreBorrowed (take n cs)) (sym e) p
 
--- ---- a value once more
+pub ruleset plains = (borrowed-taken, borrowed-popped, borrowed-set, borrowed-push, borrowed-same)
 
--- no memory is refused for one that is no made text
-pub shared-borrowed : (v : Val) (r : Result Val AllocError) → is_made v ≡ false → IsShared v r → IsOkAnd r (λ w. is_made w ≡ false)
-shared-borrowed v (Ok w) plain s = s.1 ∙ plain
-shared-borrowed v (Err e) plain s = let same : true ≡ false = sym s ∙ plain in cc
-
-pub ok-borrowed : {E : Type 0} (r : Result Val E) → IsOkAnd r (λ w. is_made w ≡ false) → IfOk r (λ w. is_made w ≡ false)
-ok-borrowed (Ok w) h = h
-ok-borrowed (Err e) h = tt
-
-pub ok-spared : (r : Result Val AllocError) (Holds : Type 0) → IsOkAnd r (λ w. is_made w ≡ false) → Holds → Spared r Holds
-ok-spared (Ok w) Holds h p = p
-ok-spared (Err e) Holds h p = absurd h
+pub ruleset looks = (borrowed-at, made_at-is, made-at, borrowed-set, borrowed-push)

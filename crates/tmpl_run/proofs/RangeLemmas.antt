@@ -1,6 +1,6 @@
 -- For the law `comes_to_meaning`: the code of ranges, breaks and continues.
-use Rattle.std.proofs.Common.{arith, ◌≡◌, ◌∙◌, ◌+◌, ◌-◌, ◌≤◌, nat_eq, ℕ, zero, suc, Bool, true, false, List, [], ◌∷◌, length, drop, refl}
-use Rattle.std.proofs.Common.{ap, sym, subst, Option, Some, None, length-drop}
+use Rattle.std.proofs.Common.{arith, ◌≡◌, ◌∙◌, ◌+◌, ◌-◌, ◌≤◌, nat_eq, ℕ, suc, Bool, true, false, List, [], ◌∷◌, length, drop, refl}
+use Rattle.std.proofs.Common.{add-one, ap, sym, subst, Option, Some, None, drop-drop, length-drop}
 use Rattle.std.specs.Prelude.{slice_set}
 use Rattle.std.proofs.lemmas.List.{length-set}
 use Rattle.tmpl_values.specs.Value.{Value, nothing, null, boolean, number, string, sequence, mapping}
@@ -38,16 +38,11 @@ use Rattle.tmpl_code.specs.Layout.{first_layout}
 -- ---- elements
 
 drop-one : (es : List Element) (k : ℕ) → drop 1 (drop k es) ≡ drop (suc k) es
-drop-one es zero = refl
-drop-one [] (suc k) = refl
-drop-one (e ∷ es) (suc k) = drop-one es k
+drop-one es k = drop-drop 1 k es ∙ ap (λ n. drop n es) (add-one k)
 
 -- an element less
 one-less : (es : List Element) (k : ℕ) (e : Element) (more : List Element) → drop k es ≡ e ∷ more → drop (suc k) es ≡ more
-one-less [] zero e more h = cc
-one-less (x ∷ es) zero e more h = ap (drop 1) h
-one-less [] (suc k) e more h = cc
-one-less (x ∷ es) (suc k) e more h = one-less es k e more h
+one-less es k e more h = sym (drop-one es k) ∙ ap (drop 1) h
 
 visited-is : (b : Binding) (v : Value) → visited b v ≡ elements_for (declares_key b) v
 visited-is unbound v = refl
@@ -273,7 +268,7 @@ module _ (way : Way) (calls : Calls) (spare : ℕ) (pipes : Pipelines way) where
             sets : (o : Option ℕ) → slot_named x (None ∷ None ∷ lay) ≡ o → SetDotAt o l.0 first
                 → ways.Leading way (record s { cells = saved ∷ cell v k ∷ cs; dot = e.1; place = s.place + 1 })
             sets None is-slot l = more (saved ∷ cell v k ∷ cs) (s.place + 1) (there ∙ l) (ap (λ l. Some saved ∷ Some (cell v k) ∷ l) frame) (omega arith)
-                (sym (stored-none x (None ∷ None ∷ lay) (saved ∷ cell v k ∷ cs) e.1 is-slot))
+                (sym (stored-none x (None ∷ None ∷ lay) (saved ∷ cell v k ∷ cs) e.1 is-slot (omega arith)))
             sets (Some i) is-slot l =
                 ways.takes way (record s { cells = saved ∷ cell v k ∷ cs; dot = e.1; place = s.place + 1 }) (code.set_dot i) first same (there ∙ l)
                 (let below = found-within x (None ∷ None ∷ lay) i is-slot in omega arith)

@@ -70,18 +70,6 @@ module _ (plan : Plan) (t : Template) (s : State) where
   pub leave-jumps : (n skip : ℕ) → Lands (done plan t (code.leave n skip) s) → s.place + 1 + skip < 2 ^ 64
   leave-jumps n skip h = ring-lands (Jumps skip) (drop n s.cells) _ (λ d v cs l. l) h
 
-  pub turn-found : (n : ℕ) → Lands (done plan t (code.turn n) s) → 2 ≤ length s.cells
-  turn-found n h = ring-found s.cells (λ d v cs. turned n (left_in v) s) h
-
-  pub next-found : (n skip line : ℕ) → Lands (done plan t (code.next n skip line) s) → n + 2 ≤ length s.cells
-  next-found n skip line h = below-found n s.cells (λ d v cs. again plan t skip line d v cs (drop 1 (left_in v)) s) h
-
-  pub leave-found : (n skip : ℕ) → Lands (done plan t (code.leave n skip) s) → n + 2 ≤ length s.cells
-  leave-found n skip h = below-found n s.cells _ h
-
-  pub invoke-found : (number : ℕ) → Lands (done plan t (code.invoke number) s) → 1 ≤ length s.cells
-  invoke-found number h = top-found s.cells (λ c cs. invoked plan t number (slice_get plan.starts number) c cs s) h
-
   abbrev Starts : ℕ → Type 0
   Starts number = (start : ℕ) × (slice_get plan.starts number ≡ Some start)
 

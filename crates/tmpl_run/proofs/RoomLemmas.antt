@@ -1,69 +1,36 @@
 -- For the law `stays_within`: the cells stay within the room that there is for them.
-use Rattle.std.proofs.Common.{arith, ◌≡◌, ◌+◌, ◌-◌, ◌≤◌, ◌<◌, nat_eq, nat_lt, ℕ, zero, suc, Bool, true, false, List, [], ◌∷◌, ◌++◌, length}
-use Rattle.std.proofs.Common.{take, drop, reverse, subst, Option, Some, None, Result, Ok, Err, length-drop}
+use Rattle.std.proofs.Common.{arith, ◌≡◌, ◌+◌, ◌≤◌, ◌<◌, nat_eq, nat_lt, ℕ, zero, suc, Bool, true, false, List, [], ◌∷◌, length}
+use Rattle.std.proofs.Common.{drop, subst, Option, Some, None, length-drop}
 use Rattle.std.specs.Prelude.{slice_get}
 use Rattle.std.proofs.lemmas.List.{length-set}
-use Rattle.tmpl_values.specs.Value.{Value}
 use Rattle.tmpl_values.specs.Elements.{Element}
 use Rattle.tmpl_values.specs.Truth.{truth}
-use Rattle.tmpl_funcs.specs.Dispatch.{called}
-use Rattle.tmpl_funcs.specs.declared.func.Func.{Func}
 use Rattle.tmpl_syntax.specs.Set.{Template}
-use Rattle.tmpl_meaning.specs.Fault.{Cause}
-use Rattle.tmpl_meaning.specs.Pipeline.{Place, chain, decides, or_call_failed}
+use Rattle.tmpl_meaning.specs.Pipeline.{Place}
 use Rattle.tmpl_meaning.specs.Meaning.{Ran}
-use Rattle.tmpl_code.specs.Code.{piped_count}
 use Rattle.tmpl_code.specs.Instruction as code
 use Rattle.tmpl_code.specs.Instruction.{Instruction, Operation}
-use Rattle.tmpl_run.specs.Cell.{Cell, fresh, values_in}
+use Rattle.tmpl_run.specs.Cell.{Cell, fresh}
 use Rattle.tmpl_run.specs.State.{Plan, State}
-use Rattle.tmpl_run.specs.Step.{Went, called_on, decided_by, halted, lacks, on, pushed, step}
+use Rattle.tmpl_run.specs.Step.{Went, halted, lacks, on, step}
 use Rattle.tmpl_run.specs.Machine.{Turn, again, branch, deepened, done, done_in, elements_for, ended, goes, held, invoked, kept_on}
 use Rattle.tmpl_run.specs.Machine.{left_in, next_of, opened, piped, returned_if, stuck, turned, with_dot}
 use Rattle.tmpl_run.specs.Ready.{Fits, Has, RoomIf}
 use Rattle.tmpl_run.specs.Ends.{Ends, IsReady, Leads}
+use Rattle.tmpl_run.proofs.AbleLemmas.{Follows}
 use Rattle.tmpl_run.proofs.FoundLemmas.{frame-holds, paid-holds, ring-holds, top-holds}
+use Rattle.tmpl_run.proofs.StepLemmas.{Leaves, step-after}
 
 module _ (size : ℕ) where
-  abbrev WentWithin : Went → Type 0
-  WentWithin (on skip cs) = length cs ≤ size
-  WentWithin (halted cause) = Unit {0}
-  WentWithin lacks = Unit {0}
-
-  pushed-within : (r : Result Value Cause) (cs : List Cell) → length cs < size → WentWithin (pushed r cs)
-  pushed-within (Ok v) cs h = omega arith
-  pushed-within (Err cause) cs h = tt
-
-  called-within : (f : Func) (args : List Value) (p : Bool) (cs : List Cell) (n : ℕ) → length cs ≡ n + piped_count p → n < size
-      → WentWithin (called_on f args p cs)
-  called-within f args false cs n e h = pushed-within (or_call_failed f (called f args)) cs (omega arith)
-  called-within f args true [] n e h = tt
-  called-within f args true (c ∷ cs) n e h = pushed-within (or_call_failed f (called f (args ++ c.val ∷ []))) cs (omega arith)
-
-  step-within : (o : Operation) (s : Place) (cs : List Cell) → Fits o (length cs) size → length cs ≤ size → WentWithin (step s o cs)
-  step-within code.push_nothing s cs fits h = omega arith
-  step-within (code.push_bool x) s cs fits h = omega arith
-  step-within (code.push_number n) s cs fits h = omega arith
-  step-within (code.push_text bytes) s cs fits h = omega arith
-  step-within code.push_dot s cs fits h = omega arith
-  step-within (code.push_fields names) s cs fits h = pushed-within (chain s.missing_key names s.dot) cs fits
-  step-within (code.push_slot k) s cs fits h = let room = fits.1 in omega arith
-  step-within (code.chained names) s [] fits h = tt
-  step-within (code.chained names) s (c ∷ cs) fits h = pushed-within (chain s.missing_key names c.val) cs (omega arith)
-  step-within (code.call_with f n p) s cs fits h =
-      let within = fits.1 in
-      let room = fits.2 in
-      let left = length-drop n cs in
-      called-within f (values_in (reverse (take n cs))) p (drop n cs) (length cs - (n + piped_count p)) (omega arith) (omega arith)
-  step-within (code.decide is_or p skip) s [] fits h = tt
-  step-within (code.decide is_or p skip) s (c ∷ cs) fits h = by (decides is_or c.val)
-    where
-      by : (t : Bool) → WentWithin (decided_by t skip p c.val cs)
-      by true = let left = length-drop (piped_count p) cs in omega arith
-      by false = omega arith
-  step-within code.settle s [] fits h = tt
-  step-within code.settle s (c ∷ cs) fits h = h
-  step-within (code.refuse why) s cs fits h = tt
+  -- so do the cells behind a step of a pipeline
+  follows-within : (o : Operation) (n : ℕ) → Fits o n size → n ≤ size → Follows o n (λ k m. m ≤ size)
+  follows-within (code.push_slot k) n fits h = let room = fits.1 in omega arith
+  follows-within (code.chained names) n fits h = h
+  follows-within (code.call_with f count p) n fits h = let room = fits.2 in omega arith
+  follows-within (code.decide is_or p skip) n fits h = (omega arith, omega arith)
+  follows-within code.settle n fits h = h
+  follows-within (code.refuse why) n fits h = tt
+  follows-within _ n fits h = omega arith
 
   abbrev Within : Turn → Type 0
   Within (goes t) = length t.cells ≤ size
@@ -71,7 +38,7 @@ module _ (size : ℕ) where
   Within stuck = Unit {0}
 
   module _ (plan : Plan) (me : Template) (s : State) (within : length s.cells ≤ size) where
-    piped-within : (o : Operation) (w : Went) → WentWithin w → Within (piped me o w s)
+    piped-within : (o : Operation) (w : Went) → Leaves (λ k m. m ≤ size) w → Within (piped me o w s)
     piped-within o (on skip cs) h = h
     piped-within o (halted cause) h = tt
     piped-within o lacks h = tt
@@ -128,8 +95,9 @@ module _ (size : ℕ) where
     done-within : (i : Instruction) → Has i (length s.cells) size → Within (done plan me i s)
     done-within (code.spend line) h = paid-holds Within plan me line s _ tt (λ z. within)
     done-within (code.put bytes) h = within
-    done-within (code.act o) h = piped-within o (step (record { missing_key = plan.rules.missing_key; dot = s.dot; env = [] }) o s.cells)
-        (step-within o (record { missing_key = plan.rules.missing_key; dot = s.dot; env = [] }) s.cells h within)
+    done-within (code.act o) h =
+        let at : Place = record { missing_key = plan.rules.missing_key; dot = s.dot; env = [] } in
+        piped-within o (step at o s.cells) (step-after o at s.cells size (λ k m. m ≤ size) h (follows-within o (length s.cells) h within))
     done-within code.show h = top-holds Within tt s.cells _ (λ c cs e. omega arith)
     done-within (code.hold key) h = top-holds Within tt s.cells _ (λ c cs e. held-within key c cs e h)
     done-within (code.set slot) h = top-holds Within tt s.cells _ (λ c cs e. omega (arith, length-set cs slot (fresh c.val)))

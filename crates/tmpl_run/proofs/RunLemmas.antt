@@ -65,3 +65,11 @@ module _ (end : Ran) (before after : Told) (rest : List ℕ) (name : ℕ) (grows
       let put = subst (λ (p : Puts). IsPut {F = SinkFault} (Ok tt) (behind before [] name) p came.0) (sym closed.1) came.2 in
       subst (λ x. IsRun end (sunk before after) x) (sym closed.0)
       ((put.count ∙ add-zero before.failures, begins came.0 came.1.0 came.1.1 put.bytes), came.3)
+
+-- no put failed in the loop, or that is told
+pub counts-so : (end : Ran) (old new : Puts) (r : Result (Unit {0}) RunError) → Came end old new r
+    → (r ≡ Err error.WriteFailed → ⊥) → new.failures ≡ old.failures
+counts-so end old new (Ok u) came h = came.0.count ∙ add-zero old.failures
+counts-so end old new (Err (error.Fault fault)) came h = came.0.count ∙ add-zero old.failures
+counts-so end old new (Err error.WriteFailed) came h = absurd (h refl)
+counts-so end old new (Err error.OutOfMemory) came h = came.2.count ∙ add-zero old.failures

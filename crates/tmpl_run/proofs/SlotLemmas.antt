@@ -1,7 +1,7 @@
 -- For the law `comes_to_meaning`: the slots of a layout are the variables of the meaning, and a part leaves all other cells equal.
 use Rattle.std.proofs.Common.{arith, ◌≡◌, ◌∙◌, ◌+◌, ◌-◌, ◌≤◌, ℕ, zero, suc, Bool, true, false, List, [], ◌∷◌, length, drop, set, refl, ap}
 use Rattle.std.proofs.Common.{sym, Option, Some, None, drop-drop}
-use Rattle.std.specs.Prelude.{option_map, if◌then◌else◌}
+use Rattle.std.specs.Prelude.{if◌then◌else◌}
 use Rattle.std.specs.Str.{bytes_eq}
 use Rattle.tmpl_values.specs.Value.{Value, nothing}
 use Rattle.tmpl_meaning.specs.Pipeline.{Environment, lookup}
@@ -66,100 +66,88 @@ all_grown (tree.then line n ns) lay = all_grown ns (grown n lay)
 abbrev pub run_of : Layout → State → Run
 run_of lay s = record { env = env_of lay s.cells; text = s.text; left = s.left; made_text = s.made_text }
 
--- the cell of a slot has the value of the variable
-looked_up : (x : List ℕ) (lay : Layout) (cs : List Cell) (k : ℕ) → slot_named x lay ≡ Some k → length lay ≤ length cs → slot k cs ≡ lookup x (env_of lay cs)
-looked_up x [] cs k e h = cc
-looked_up x (p ∷ ps) [] k e h = absurd (omega arith)
-looked_up x (None ∷ ps) (c ∷ cs) k e h = by (slot_named x ps) (λ j g. looked_up x ps cs j g (omega arith)) e
-  where
-    by : (f : Option ℕ) → ((j : ℕ) → f ≡ Some j → slot j cs ≡ lookup x (env_of ps cs)) → option_map (λ j. suc j) f ≡ Some k
-        → slot k (c ∷ cs) ≡ lookup x (env_of ps cs)
-    by None ih e = cc
-    by (Some j) ih e = let same : k ≡ suc j = cc in ap (λ n. slot n (c ∷ cs)) same ∙ ih j refl
-looked_up x (Some y ∷ ps) (c ∷ cs) k e h = by (bytes_eq y x) (slot_named x ps) (λ j g. looked_up x ps cs j g (omega arith)) e
-  where
-    by : (b : Bool) (f : Option ℕ) → ((j : ℕ) → f ≡ Some j → slot j cs ≡ lookup x (env_of ps cs)) → found_at b f ≡ Some k
-        → slot k (c ∷ cs) ≡ if b then c.val else lookup x (env_of ps cs)
-    by true f ih e = let same : k ≡ 0 = cc in ap (λ n. slot n (c ∷ cs)) same
-    by false None ih e = cc
-    by false (Some j) ih e = let same : k ≡ suc j = cc in ap (λ n. slot n (c ∷ cs)) same ∙ ih j refl
+-- what is made of the slot of a name, if there is one
+abbrev by_slot : {A : Type 0} → Option ℕ → A → (ℕ → A) → A
+by_slot None a f = a
+by_slot (Some k) a f = f k
 
-looked_none : (x : List ℕ) (lay : Layout) (cs : List Cell) → slot_named x lay ≡ None → lookup x (env_of lay cs) ≡ nothing
-looked_none x [] cs e = refl
-looked_none x (p ∷ ps) [] e = refl
-looked_none x (None ∷ ps) (c ∷ cs) e = by (slot_named x ps) (λ g. looked_none x ps cs g) e
+-- the cell of a slot has the value of the variable
+looked_up : (x : List ℕ) (lay : Layout) (cs : List Cell) → length lay ≤ length cs
+    → lookup x (env_of lay cs) ≡ by_slot (slot_named x lay) nothing (λ k. slot k cs)
+looked_up x [] cs h = refl
+looked_up x (p ∷ ps) [] h = absurd (omega arith)
+looked_up x (None ∷ ps) (c ∷ cs) h = looked_up x ps cs (omega arith) ∙ by (slot_named x ps)
   where
-    by : (f : Option ℕ) → (f ≡ None → lookup x (env_of ps cs) ≡ nothing) → option_map (λ j. suc j) f ≡ None → lookup x (env_of ps cs) ≡ nothing
-    by None ih e = ih refl
-    by (Some j) ih e = cc
-looked_none x (Some y ∷ ps) (c ∷ cs) e = by (bytes_eq y x) (slot_named x ps) (λ g. looked_none x ps cs g) e
+    by : (o : Option ℕ) → by_slot o nothing (λ k. slot k cs) ≡ by_slot (found_at false o) nothing (λ k. slot k (c ∷ cs))
+    by None = refl
+    by (Some j) = refl
+looked_up x (Some y ∷ ps) (c ∷ cs) h = by (bytes_eq y x) (slot_named x ps) (looked_up x ps cs (omega arith))
   where
-    by : (b : Bool) (f : Option ℕ) → (f ≡ None → lookup x (env_of ps cs) ≡ nothing) → found_at b f ≡ None
-        → (if b then c.val else lookup x (env_of ps cs)) ≡ nothing
-    by true f ih e = cc
-    by false None ih e = ih refl
-    by false (Some j) ih e = cc
+    by : (b : Bool) (o : Option ℕ) → lookup x (env_of ps cs) ≡ by_slot o nothing (λ k. slot k cs)
+        → (if b then c.val else lookup x (env_of ps cs)) ≡ by_slot (found_at b o) nothing (λ k. slot k (c ∷ cs))
+    by true o e = refl
+    by false None e = e
+    by false (Some j) e = e
 
 pub slots-are : (lay : Layout) (cs : List Cell) → length lay ≤ length cs → Slots 0 lay cs (env_of lay cs)
 slots-are lay cs h = record {
-  found = λ x k e. (let same : 0 + k ≡ k = omega arith in ap (λ n. slot n cs) same ∙ looked_up x lay cs k e h);
-  none = λ x e. looked_none x lay cs e;
+  found = λ x k e. (let same : 0 + k ≡ k = omega arith in ap (λ n. slot n cs) same ∙ sym (is x (Some k) e));
+  none = λ x e. is x None e;
 }
+  where
+    is : (x : List ℕ) (o : Option ℕ) → slot_named x lay ≡ o → lookup x (env_of lay cs) ≡ by_slot o nothing (λ k. slot k cs)
+    is x o e = looked_up x lay cs h ∙ ap (λ o. by_slot o nothing (λ k. slot k cs)) e
 
 -- a write to the slot is the assignment
+stored-by : (x : List ℕ) (lay : Layout) (cs : List Cell) (v : Value) → length lay ≤ length cs
+    → assigned x v (env_of lay cs) ≡ env_of lay (by_slot (slot_named x lay) cs (λ k. set cs k (fresh v)))
+stored-by x [] cs v h = refl
+stored-by x (p ∷ ps) [] v h = absurd (omega arith)
+stored-by x (None ∷ ps) (c ∷ cs) v h = stored-by x ps cs v (omega arith) ∙ by (slot_named x ps)
+  where
+    by : (o : Option ℕ) → env_of ps (by_slot o cs (λ k. set cs k (fresh v)))
+        ≡ env_of (None ∷ ps) (by_slot (found_at false o) (c ∷ cs) (λ k. set (c ∷ cs) k (fresh v)))
+    by None = refl
+    by (Some j) = refl
+stored-by x (Some y ∷ ps) (c ∷ cs) v h = by (bytes_eq y x) (slot_named x ps) (stored-by x ps cs v (omega arith))
+  where
+    by : (b : Bool) (o : Option ℕ) → assigned x v (env_of ps cs) ≡ env_of ps (by_slot o cs (λ k. set cs k (fresh v)))
+        → (if b then (y, v) ∷ env_of ps cs else (y, c.val) ∷ assigned x v (env_of ps cs))
+        ≡ env_of (Some y ∷ ps) (by_slot (found_at b o) (c ∷ cs) (λ k. set (c ∷ cs) k (fresh v)))
+    by true o e = refl
+    by false None e = ap (λ t. (y, c.val) ∷ t) e
+    by false (Some j) e = ap (λ t. (y, c.val) ∷ t) e
+
 pub stored : (x : List ℕ) (lay : Layout) (cs : List Cell) (k : ℕ) (v : Value) → slot_named x lay ≡ Some k → length lay ≤ length cs
     → env_of lay (set cs k (fresh v)) ≡ assigned x v (env_of lay cs)
-stored x [] cs k v e h = cc
-stored x (p ∷ ps) [] k v e h = absurd (omega arith)
-stored x (None ∷ ps) (c ∷ cs) k v e h = by (slot_named x ps) (λ j g. stored x ps cs j v g (omega arith)) e
-  where
-    by : (f : Option ℕ) → ((j : ℕ) → f ≡ Some j → env_of ps (set cs j (fresh v)) ≡ assigned x v (env_of ps cs)) → option_map (λ j. suc j) f ≡ Some k
-        → env_of (None ∷ ps) (set (c ∷ cs) k (fresh v)) ≡ assigned x v (env_of ps cs)
-    by None ih e = cc
-    by (Some j) ih e = let same : k ≡ suc j = cc in ap (λ n. env_of (None ∷ ps) (set (c ∷ cs) n (fresh v))) same ∙ ih j refl
-stored x (Some y ∷ ps) (c ∷ cs) k v e h = by (bytes_eq y x) (slot_named x ps) (λ j g. stored x ps cs j v g (omega arith)) e
-  where
-    by : (b : Bool) (f : Option ℕ) → ((j : ℕ) → f ≡ Some j → env_of ps (set cs j (fresh v)) ≡ assigned x v (env_of ps cs)) → found_at b f ≡ Some k
-        → env_of (Some y ∷ ps) (set (c ∷ cs) k (fresh v)) ≡ if b then (y, v) ∷ env_of ps cs else (y, c.val) ∷ assigned x v (env_of ps cs)
-    by true f ih e = let same : k ≡ 0 = cc in ap (λ n. env_of (Some y ∷ ps) (set (c ∷ cs) n (fresh v))) same
-    by false None ih e = cc
-    by false (Some j) ih e = let same : k ≡ suc j = cc in ap (λ n. env_of (Some y ∷ ps) (set (c ∷ cs) n (fresh v))) same ∙ ap (λ t. (y, c.val) ∷ t) (ih j refl)
+stored x lay cs k v e h = sym (stored-by x lay cs v h ∙ ap (λ o. env_of lay (by_slot o cs (λ k. set cs k (fresh v)))) e)
 
-pub stored-none : (x : List ℕ) (lay : Layout) (cs : List Cell) (v : Value) → slot_named x lay ≡ None → assigned x v (env_of lay cs) ≡ env_of lay cs
-stored-none x [] cs v e = refl
-stored-none x (p ∷ ps) [] v e = refl
-stored-none x (None ∷ ps) (c ∷ cs) v e = by (slot_named x ps) (λ g. stored-none x ps cs v g) e
-  where
-    by : (f : Option ℕ) → (f ≡ None → assigned x v (env_of ps cs) ≡ env_of ps cs) → option_map (λ j. suc j) f ≡ None
-        → assigned x v (env_of ps cs) ≡ env_of ps cs
-    by None ih e = ih refl
-    by (Some j) ih e = cc
-stored-none x (Some y ∷ ps) (c ∷ cs) v e = by (bytes_eq y x) (slot_named x ps) (λ g. stored-none x ps cs v g) e
-  where
-    by : (b : Bool) (f : Option ℕ) → (f ≡ None → assigned x v (env_of ps cs) ≡ env_of ps cs) → found_at b f ≡ None
-        → (let r : Environment = if b then (y, v) ∷ env_of ps cs else (y, c.val) ∷ assigned x v (env_of ps cs) in r) ≡ (y, c.val) ∷ env_of ps cs
-    by true f ih e = cc
-    by false None ih e = ap (λ t. (y, c.val) ∷ t) (ih refl)
-    by false (Some j) ih e = cc
+pub stored-none : (x : List ℕ) (lay : Layout) (cs : List Cell) (v : Value) → slot_named x lay ≡ None → length lay ≤ length cs
+    → assigned x v (env_of lay cs) ≡ env_of lay cs
+stored-none x lay cs v e h = stored-by x lay cs v h ∙ ap (λ o. env_of lay (by_slot o cs (λ k. set cs k (fresh v)))) e
 
 -- which leaves the other cells
+frame-by : (x : List ℕ) (lay : Layout) (cs : List Cell) (d : Cell) → length lay ≤ length cs
+    → frame_of lay (by_slot (slot_named x lay) cs (λ k. set cs k d)) ≡ frame_of lay cs
+frame-by x [] cs d h = refl
+frame-by x (p ∷ ps) [] d h = absurd (omega arith)
+frame-by x (None ∷ ps) (c ∷ cs) d h = by (slot_named x ps) (frame-by x ps cs d (omega arith))
+  where
+    by : (o : Option ℕ) → frame_of ps (by_slot o cs (λ k. set cs k d)) ≡ frame_of ps cs
+        → frame_of (None ∷ ps) (by_slot (found_at false o) (c ∷ cs) (λ k. set (c ∷ cs) k d)) ≡ Some c ∷ frame_of ps cs
+    by None e = refl
+    by (Some j) e = ap (λ t. Some c ∷ t) e
+frame-by x (Some y ∷ ps) (c ∷ cs) d h = by (bytes_eq y x) (slot_named x ps) (frame-by x ps cs d (omega arith))
+  where
+    by : (b : Bool) (o : Option ℕ) → frame_of ps (by_slot o cs (λ k. set cs k d)) ≡ frame_of ps cs
+        → frame_of (Some y ∷ ps) (by_slot (found_at b o) (c ∷ cs) (λ k. set (c ∷ cs) k d)) ≡ None ∷ frame_of ps cs
+    by true o e = refl
+    by false None e = refl
+    by false (Some j) e = ap (λ t. None ∷ t) e
+
 pub frame-set : (x : List ℕ) (lay : Layout) (cs : List Cell) (k : ℕ) (d : Cell) → slot_named x lay ≡ Some k → length lay ≤ length cs
     → frame_of lay (set cs k d) ≡ frame_of lay cs
-frame-set x [] cs k d e h = cc
-frame-set x (p ∷ ps) [] k d e h = absurd (omega arith)
-frame-set x (None ∷ ps) (c ∷ cs) k d e h = by (slot_named x ps) (λ j g. frame-set x ps cs j d g (omega arith)) e
-  where
-    by : (f : Option ℕ) → ((j : ℕ) → f ≡ Some j → frame_of ps (set cs j d) ≡ frame_of ps cs) → option_map (λ j. suc j) f ≡ Some k
-        → frame_of (None ∷ ps) (set (c ∷ cs) k d) ≡ Some c ∷ frame_of ps cs
-    by None ih e = cc
-    by (Some j) ih e = let same : k ≡ suc j = cc in ap (λ n. frame_of (None ∷ ps) (set (c ∷ cs) n d)) same ∙ ap (λ t. Some c ∷ t) (ih j refl)
-frame-set x (Some y ∷ ps) (c ∷ cs) k d e h = by (bytes_eq y x) (slot_named x ps) (λ j g. frame-set x ps cs j d g (omega arith)) e
-  where
-    by : (b : Bool) (f : Option ℕ) → ((j : ℕ) → f ≡ Some j → frame_of ps (set cs j d) ≡ frame_of ps cs) → found_at b f ≡ Some k
-        → frame_of (Some y ∷ ps) (set (c ∷ cs) k d) ≡ None ∷ frame_of ps cs
-    by true f ih e = let same : k ≡ 0 = cc in ap (λ n. frame_of (Some y ∷ ps) (set (c ∷ cs) n d)) same
-    by false None ih e = cc
-    by false (Some j) ih e = let same : k ≡ suc j = cc in ap (λ n. frame_of (Some y ∷ ps) (set (c ∷ cs) n d)) same ∙ ap (λ t. None ∷ t) (ih j refl)
+frame-set x lay cs k d e h = ap (λ o. frame_of lay (by_slot o cs (λ k. set cs k d))) (sym e) ∙ frame-by x lay cs d h
 
 length-below : (cs : List Cell) → length (below cs) ≡ length cs
 length-below [] = refl

@@ -107,6 +107,8 @@ val_at-is cs i d h = ap (λ (c : Cell). c.val) (sym (cell_at-is cs i d h))
 
 pub ruleset cells = (num_at-is, val_at-is)
 
+pub ruleset reads = (live-length, slot-at, num_at-is, val_at-is)
+
 -- the newest cell is there
 pub top-is : (cs : List Cell) (go : Cell → List Cell → Turn) → 1 ≤ length cs → top cs go ≡ go (slot_cell 0 cs) (drop 1 cs)
 top-is [] go h = absurd (omega arith)

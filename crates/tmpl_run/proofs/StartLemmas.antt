@@ -7,7 +7,10 @@ use Rattle.tmpl_syntax.specs.Set.{Template}
 use Rattle.tmpl_meaning.specs.Meaning.{Ran, ran, ran_with, starting_dot}
 use Rattle.tmpl_code.specs.Code.{Starts}
 use Rattle.tmpl_code.specs.Room.{Suffices}
-use Rattle.tmpl_run.specs.computed.Came.{no_template}
+use Rattle.tmpl_run.specs.computed.Came.{ComesTo, no_template, nothing_told}
+use Rattle.tmpl_run.specs.computed.Machines.{state_of}
+use Rattle.tmpl_run.specs.computed.View.{size_of}
+use Rattle.tmpl_run.specs.declared.machine.Machine.{Machine}
 use Rattle.tmpl_run.specs.Ends.{Ends}
 use Rattle.tmpl_run.specs.State.{Plan, State, starting}
 use Rattle.tmpl_run.proofs.CallLemmas.{Started, need-is, starts-at}
@@ -44,10 +47,12 @@ module _ (plan : Plan) (size number : ℕ) (linked : Starts plan.templates plan.
         (ran_with plan.rules plan.templates (get_or plan.templates number no_template).0 (get_or plan.templates number no_template).1 v)
     leads v = run-leads plan size linked some number me fits is-me (get_or plan.starts number 0) (slice_get-get_or plan.starts number 0 has-start) v
 
-    -- .. of a state that is so, over so many cells
-    pub starts-so : (held : ℕ) (v : Value) (s : State) → held ≡ size → s ≡ starting plan number (get_or plan.starts number 0) v
-        → Ends plan held s (ran_from plan s)
-    starts-so held v s sized state =
+    -- .. of a machine that is so
+    pub comes-so : (m : Machine) (v : Value) → size_of m.stack ≡ size
+        → state_of (nothing_told plan) m ≡ starting plan number (get_or plan.starts number 0) v
+        → ComesTo plan m (ran_from plan (state_of (nothing_told plan) m))
+    comes-so m v sized state =
+        let s : State = state_of (nothing_told plan) m in
         subst (λ n. Ends plan n s (ran_from plan s)) (sym sized) (subst (λ (t : State). Ends plan size t (ran_from plan t)) (sym state) (leads v))
 
   -- what holds of that run holds of the meaning of the template

@@ -1,6 +1,7 @@
 -- For the law `comes_to_meaning`: the machine's steps of a pipeline, one after the other, come to what `exec` says.
 use Rattle.std.proofs.Common.{arith, ◌≡◌, ◌∙◌, ◌+◌, ◌-◌, ◌||◌, ◌++◌, ℕ, zero, suc, Bool, true, false, List, [], ◌∷◌, length, take, drop}
 use Rattle.std.proofs.Common.{reverse, refl, ap, sym, subst, Option, Some, None, Result, Ok, Err, length-drop}
+use Rattle.std.proofs.Math.Seq.{drop-nil}
 use Rattle.tmpl_values.specs.Value.{Value}
 use Rattle.tmpl_funcs.specs.Dispatch.{called}
 use Rattle.tmpl_funcs.specs.declared.func.Func.{Func}
@@ -32,7 +33,7 @@ step-env code.push_nothing mode d a b cs = refl
 step-env _ mode d a b cs = refl
 
 -- what follows a step, by how many cells it leaves
-abbrev Leaves : (ℕ → ℕ → Type 0) → Went → Type 0
+abbrev pub Leaves : (ℕ → ℕ → Type 0) → Went → Type 0
 Leaves Next (on skip cs) = Next skip (length cs)
 Leaves Next (halted cause) = Unit {0}
 Leaves Next lacks = Unit {0}
@@ -49,7 +50,7 @@ called-after Next f args true [] n e h = tt
 called-after Next f args true (c ∷ cs) n e h =
     pushed-after Next (or_call_failed f (called f (args ++ c.val ∷ []))) cs (subst (λ k. Next 0 (suc k)) (let same : n ≡ length cs = omega arith in same) h)
 
-step-after : (o : Operation) (s : Place) (cs : List Cell) (most : ℕ) (Next : ℕ → ℕ → Type 0) → Fits o (length cs) most → Follows o (length cs) Next
+pub step-after : (o : Operation) (s : Place) (cs : List Cell) (most : ℕ) (Next : ℕ → ℕ → Type 0) → Fits o (length cs) most → Follows o (length cs) Next
     → Leaves Next (step s o cs)
 step-after code.push_nothing s cs most Next fits h = h
 step-after (code.push_bool x) s cs most Next fits h = h
@@ -89,13 +90,9 @@ module _ (way : Way) where
   abbrev spot : Environment → State → Place
   spot e s = record { missing_key = way.plan.rules.missing_key; dot = s.dot; env = e }
 
-  none-left : (k : ℕ) → drop {A = Instruction} k [] ≡ []
-  none-left zero = refl
-  none-left (suc k) = refl
-
   pub steps-lead : (e : Environment) (last : ℕ) (is : Code) (k : ℕ) (s : State) → who_of s ≡ way.who → drop s.place way.plan.code ≡ drop k is
       → Able way.room last is k (length s.cells) → Arrives s (exec (spot e s) k is s.cells s.made_text) → ways.Leading way s
-  steps-lead e last [] k s same here able h = h s.place (here ∙ none-left k)
+  steps-lead e last [] k s same here able h = h s.place (here ∙ drop-nil k)
   steps-lead e last (i ∷ is) (suc k) s same here able h = steps-lead e last is k s same here able h
   steps-lead e last (i ∷ is) zero s same here able h = by (λ k t same here able h. steps-lead e last is k t same here able h) (op_in i) refl able h
     where

@@ -69,26 +69,17 @@ module _ (way : Way) (first : 1 ≤ way.who.depth) (linked : Starts way.plan.tem
 
   mutual
     step-leads : (line : ℕ) (n : NodeKind) → Mine (λ name. NodeNames name n) → nodes.StepLeads way calls spare pipes line n
-    step-leads line (tree.text bytes) mine g lay fr here start rest s l at-node st inside fits more-fits k =
-        spent way calls spare pipes line (tree.text bytes) refl (text-leads line bytes) g lay fr here start rest s l at-node st inside fits more-fits k
-    step-leads line (tree.action h) mine g lay fr here start rest s l at-node st inside fits more-fits k =
-        spent way calls spare pipes line (tree.action h) refl (action-leads way calls spare pipes line h) g lay fr here start rest s l at-node st inside fits
-        more-fits k
-    step-leads line (tree.control_node c h body other) mine g lay fr here start rest s l at-node st inside fits more-fits k =
+    step-leads line (tree.text bytes) mine = spent way calls spare pipes line (tree.text bytes) refl (text-leads line bytes)
+    step-leads line (tree.action h) mine = spent way calls spare pipes line (tree.action h) refl (action-leads way calls spare pipes line h)
+    step-leads line (tree.control_node c h body other) mine =
         spent way calls spare pipes line (tree.control_node c h body other) refl
         (control-leads line c h body other (λ g lay fr here rest s l st inside fits k. nodes-lead body (λ name names. mine name (inl names)) g lay fr here rest
         s l st inside fits k)
-        (λ g lay fr here rest s l st inside fits k. nodes-lead other (λ name names. mine name (inr names)) g lay fr here rest s l st inside fits k)) g lay fr
-        here start rest s l at-node st inside fits more-fits k
-    step-leads line tree.break_node mine g lay fr here start rest s l at-node st inside fits more-fits k =
-        spent way calls spare pipes line tree.break_node refl (break-leads way calls spare pipes line) g lay fr here start rest s l at-node st inside fits
-        more-fits k
-    step-leads line tree.continue_node mine g lay fr here start rest s l at-node st inside fits more-fits k =
-        spent way calls spare pipes line tree.continue_node refl (continue-leads way calls spare pipes line) g lay fr here start rest s l at-node st inside fits
-        more-fits k
-    step-leads line (tree.template_node name given) mine g lay fr here start rest s l at-node st inside fits more-fits k =
-        call-leads way pipes first linked n deeper depth base spare left (let own = fits-here in omega arith) line name given (mine name refl) g lay fr here
-        start rest s l at-node st inside fits more-fits k
+        (λ g lay fr here rest s l st inside fits k. nodes-lead other (λ name names. mine name (inr names)) g lay fr here rest s l st inside fits k))
+    step-leads line tree.break_node mine = spent way calls spare pipes line tree.break_node refl (break-leads way calls spare pipes line)
+    step-leads line tree.continue_node mine = spent way calls spare pipes line tree.continue_node refl (continue-leads way calls spare pipes line)
+    step-leads line (tree.template_node name given) mine =
+        call-leads way pipes first linked n deeper depth base spare left (let own = fits-here in omega arith) line name given (mine name refl)
 
     nodes-lead : (ns : Nodes) → Mine (λ name. NodesName name ns) → nodes.NodesLead way calls spare pipes ns
     nodes-lead tree.none mine g lay fr here rest s l st inside fits k = k s (record { at = st.at ∙ l; runs = st.runs; frame = st.frame; deep = st.deep }) refl

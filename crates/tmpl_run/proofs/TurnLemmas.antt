@@ -24,16 +24,31 @@ none-element None e = cc
 none-element (Some []) e = refl
 none-element (Some (x ∷ xs)) e = let same : 0 ≡ suc (length xs) = cc in absurd (omega arith)
 
+some-elements : (o : Option (List Element)) (n : ℕ) → Some n ≡ option_map length o → n ≢ 0 → (x : Element) × (xs : List Element) × (o ≡ Some (x ∷ xs))
+some-elements None n e some = cc
+some-elements (Some []) n e some = let same : n ≡ 0 = cc in absurd (some same)
+some-elements (Some (x ∷ xs)) n e some = (x, xs, refl)
+
 module _ (plan : Plan) (t : Template) (key : Bool) (skip : ℕ) (s : State) (c : Cell) (cs : List Cell) (is : s.cells ≡ c ∷ cs) where
+  enter-by : (o : Option (List Element)) → elements_for key c.val ≡ o → done plan t (code.enter key skip) s ≡ opened plan t skip c cs o s
+  enter-by o e =
+      ap (λ l. top l (λ c cs. opened plan t skip c cs (elements_for key c.val) s)) is ∙ ap (λ o. opened plan t skip c cs o s) e
+
+  -- .. and takes a step, if it can
+  enter-paid : (n : ℕ) (b : Bool) → Some n ≡ option_map length (elements_for key c.val) → n ≢ 0 → nat_eq s.left 0 ≡ b
+      → done plan t (code.enter key skip) s
+      ≡ paid_if b plan t s.line s (λ s. goes (record s { cells = cell s.dot (s.place + 1) ∷ fresh c.val ∷ cs; dot = nothing; place = s.place + 1 }))
+  enter-paid n b e some left =
+      let more = some-elements (elements_for key c.val) n e some in
+      enter-by (Some (more.0 ∷ more.1)) more.2
+      ∙ ap (λ b. paid_if b plan t s.line s
+      (λ s. goes (record s { cells = cell s.dot (s.place + 1) ∷ fresh c.val ∷ cs; dot = nothing; place = s.place + 1 }))) left
+
   pub enter-not : None ≡ option_map length (elements_for key c.val) → done plan t (code.enter key skip) s ≡ failed t s.line not_a_range s
-  enter-not e =
-      ap (λ l. top l (λ c cs. opened plan t skip c cs (elements_for key c.val) s)) is
-      ∙ ap (λ o. opened plan t skip c cs o s) (no-elements (elements_for key c.val) e)
+  enter-not e = enter-by None (no-elements (elements_for key c.val) e)
 
   pub enter-none : Some 0 ≡ option_map length (elements_for key c.val) → done plan t (code.enter key skip) s ≡ onto cs (s.place + 1 + skip) s
-  enter-none e =
-      ap (λ l. top l (λ c cs. opened plan t skip c cs (elements_for key c.val) s)) is
-      ∙ ap (λ o. opened plan t skip c cs o s) (none-element (elements_for key c.val) e)
+  enter-none e = enter-by (Some []) (none-element (elements_for key c.val) e)
 
   -- .. so there is none
   pub enter-other : Some 0 ≡ option_map length (elements_for key c.val) → elements_for key (slot 0 s.cells) ≡ Some []
@@ -41,27 +56,12 @@ module _ (plan : Plan) (t : Template) (key : Bool) (skip : ℕ) (s : State) (c :
 
   pub enter-spent : (n : ℕ) → Some n ≡ option_map length (elements_for key c.val) → n ≢ 0 → s.left ≡ 0
       → done plan t (code.enter key skip) s ≡ failed t s.line (steps_spent plan.rules.step_limit) s
-  enter-spent n e some left = ap (λ l. top l (λ c cs. opened plan t skip c cs (elements_for key c.val) s)) is ∙ by (elements_for key c.val) e
-    where
-      by : (o : Option (List Element)) → Some n ≡ option_map length o → opened plan t skip c cs o s ≡ failed t s.line (steps_spent plan.rules.step_limit) s
-      by None e = cc
-      by (Some []) e = let same : n ≡ 0 = cc in absurd (some same)
-      by (Some (x ∷ xs)) e = ap (λ b. paid_if b plan t s.line s (λ s. goes (record s
-          { cells = cell s.dot (s.place + 1) ∷ fresh c.val ∷ cs; dot = nothing; place = s.place + 1 })))
-          (let z : nat_eq s.left 0 ≡ true = grind (arith, nat_tests) in z)
+  enter-spent n e some left = enter-paid n true e some (grind (arith, nat_tests))
 
   pub enter-some : (n : ℕ) → Some n ≡ option_map length (elements_for key c.val) → n ≢ 0 → s.left ≢ 0
       → done plan t (code.enter key skip) s
       ≡ goes (record s { cells = cell s.dot (s.place + 1) ∷ fresh c.val ∷ cs; dot = nothing; left = s.left - 1; place = s.place + 1 })
-  enter-some n e some left = ap (λ l. top l (λ c cs. opened plan t skip c cs (elements_for key c.val) s)) is ∙ by (elements_for key c.val) e
-    where
-      by : (o : Option (List Element)) → Some n ≡ option_map length o → opened plan t skip c cs o s
-          ≡ goes (record s { cells = cell s.dot (s.place + 1) ∷ fresh c.val ∷ cs; dot = nothing; left = s.left - 1; place = s.place + 1 })
-      by None e = cc
-      by (Some []) e = let same : n ≡ 0 = cc in absurd (some same)
-      by (Some (x ∷ xs)) e = ap (λ b. paid_if b plan t s.line s (λ s. goes (record s
-          { cells = cell s.dot (s.place + 1) ∷ fresh c.val ∷ cs; dot = nothing; place = s.place + 1 })))
-          (let z : nat_eq s.left 0 ≡ false = grind (arith, nat_tests) in z)
+  enter-some n e some left = enter-paid n false e some (grind (arith, nat_tests))
 
 pub ruleset opens = (enter-not, enter-none, enter-other, enter-spent, enter-some)
 

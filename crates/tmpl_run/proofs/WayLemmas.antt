@@ -85,14 +85,9 @@ cut-twice m n r h = ap (λ (v : Environment). record r { env = v }) (oldest-twic
   where
     oldest-twice : (env : Environment) → oldest m (oldest n env) ≡ oldest m env
     oldest-twice env =
-        let long = short env (length env - n) in
+        let long = length-drop (length env - n) env in
         let sum : (length env - n) + (length (oldest n env) - m) ≡ length env - m = omega arith in
         drop-drop (length (oldest n env) - m) (length env - n) env ∙ ap (λ k. drop k env) sum
-      where
-        short : (env : Environment) (k : ℕ) → length (drop k env) ≡ length env - k
-        short env zero = let same : length env ≡ length env - 0 = omega arith in same
-        short [] (suc k) = let same : 0 ≡ 0 - suc k = omega arith in same
-        short (v ∷ env) (suc k) = let same : length env - k ≡ suc (length env) - suc k = omega arith in short env k ∙ same
 
 -- one instruction, by where it goes
 pub taken : (plan : Plan) (room : ℕ) (f : Ran) (me : Template) (s : State) (i : Instruction) → slice_get plan.templates s.template ≡ Some me

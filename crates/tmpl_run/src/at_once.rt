@@ -4,7 +4,7 @@ ghost use Rattle.std.specs.Prelude.{◌≡◌, ◌+◌, ◌-◌, ◌<◌, ◌^�
 ghost use Rattle.tmpl_meaning.specs.Sink.{IsPut};
 ghost use Rattle.tmpl_code.specs.Instruction.{act, push_dot, push_fields, push_slot};
 ghost use Rattle.tmpl_code.specs.View.{instruction_of, instructions_of};
-ghost use Rattle.tmpl_run.specs.computed.Machines.{Told, state_of};
+ghost use Rattle.tmpl_run.specs.computed.Machines.{Told};
 ghost use Rattle.tmpl_run.specs.computed.Output.{Grows, given_of};
 ghost use Rattle.tmpl_run.specs.computed.Plain.{IsPlain, SparedOr};
 ghost use Rattle.tmpl_run.specs.computed.Turned.{Shown, TurnedBy, is_shown, put_by, put_out, settles, shows};
@@ -65,11 +65,10 @@ impl<'m, 'a> Machine<'m, 'a> {
         requires here { self.old.place < length code.now }
         requires room { length (cells_of self.old.stack) < size_of self.old.stack }
         requires countable { (S.so_far sink.old).failures < 2 ^ 64 - 1 }
-        ensures step { TurnedBy (is_shown run.plan.code self.old.place) run (act push_dot) (state_of run self.old)
-            self.new result }
+        ensures step { TurnedBy (is_shown run.plan.code self.old.place) run (act push_dot) self.old self.new result }
         ensures given { IsPut (put_by result) (given_of (S.so_far sink.old) piece.old)
             (given_of (S.so_far sink.new) piece.new)
-            (put_out (is_shown run.plan.code self.old.place) run.plan (act push_dot) (state_of run self.old) result) }
+            (put_out (is_shown run.plan.code self.old.place) run (act push_dot) self.old result) }
         ensures taken { Grows (S.so_far sink.old) (S.so_far sink.new) }
         ensures plain { IsPlain self.old → SparedOr result (IsPlain self.new) }
         ensures size { size_of self.new.stack ≡ size_of self.old.stack }
@@ -97,11 +96,10 @@ impl<'m, 'a> Machine<'m, 'a> {
         requires room { length (cells_of self.old.stack) < size_of self.old.stack }
         requires countable { (S.so_far sink.old).failures < 2 ^ 64 - 1 }
         ensures step { TurnedBy (is_shown run.plan.code self.old.place) run (act (push_fields names.now))
-            (state_of run self.old) self.new result }
+            self.old self.new result }
         ensures given { IsPut (put_by result) (given_of (S.so_far sink.old) piece.old)
             (given_of (S.so_far sink.new) piece.new)
-            (put_out (is_shown run.plan.code self.old.place) run.plan (act (push_fields names.now))
-            (state_of run self.old) result) }
+            (put_out (is_shown run.plan.code self.old.place) run (act (push_fields names.now)) self.old result) }
         ensures taken { Grows (S.so_far sink.old) (S.so_far sink.new) }
         ensures plain { IsPlain self.old → SparedOr result (IsPlain self.new) }
         ensures size { size_of self.new.stack ≡ size_of self.old.stack }
@@ -128,11 +126,10 @@ impl<'m, 'a> Machine<'m, 'a> {
         requires room { length (cells_of self.old.stack) < size_of self.old.stack }
         requires countable { (S.so_far sink.old).failures < 2 ^ 64 - 1 }
         ensures step { TurnedBy (is_shown run.plan.code self.old.place) run (act (push_slot slot))
-            (state_of run self.old) self.new result }
+            self.old self.new result }
         ensures given { IsPut (put_by result) (given_of (S.so_far sink.old) piece.old)
             (given_of (S.so_far sink.new) piece.new)
-            (put_out (is_shown run.plan.code self.old.place) run.plan (act (push_slot slot)) (state_of run self.old)
-            result) }
+            (put_out (is_shown run.plan.code self.old.place) run (act (push_slot slot)) self.old result) }
         ensures taken { Grows (S.so_far sink.old) (S.so_far sink.new) }
         ensures plain { IsPlain self.old → SparedOr result (IsPlain self.new) }
         ensures size { size_of self.new.stack ≡ size_of self.old.stack }
@@ -149,10 +146,9 @@ impl<'m, 'a> Machine<'m, 'a> {
         ghost run: { Told }
         requires place { self.old.place + 3 < 2 ^ 64 }
         requires countable { (S.so_far sink.old).failures < 2 ^ 64 - 1 }
-        ensures step { Shown run (act push_dot) (state_of run self.old) (state_of run self.new) result }
+        ensures step { Shown run (act push_dot) self.old self.new result }
         ensures given { IsPut (put_by result) (given_of (S.so_far sink.old) piece.old)
-            (given_of (S.so_far sink.new) piece.new)
-            (put_out true run.plan (act push_dot) (state_of run self.old) result) }
+            (given_of (S.so_far sink.new) piece.new) (put_out true run (act push_dot) self.old result) }
         ensures taken { Grows (S.so_far sink.old) (S.so_far sink.new) }
         ensures plain { IsPlain self.old → SparedOr result (IsPlain self.new) }
         ensures size { size_of self.new.stack ≡ size_of self.old.stack }
@@ -175,10 +171,10 @@ impl<'m, 'a> Machine<'m, 'a> {
         requires mode { run.plan.rules.missing_key ≡ missing_key }
         requires place { self.old.place + 3 < 2 ^ 64 }
         requires countable { (S.so_far sink.old).failures < 2 ^ 64 - 1 }
-        ensures step { Shown run (act (push_fields names.now)) (state_of run self.old) (state_of run self.new) result }
+        ensures step { Shown run (act (push_fields names.now)) self.old self.new result }
         ensures given { IsPut (put_by result) (given_of (S.so_far sink.old) piece.old)
             (given_of (S.so_far sink.new) piece.new)
-            (put_out true run.plan (act (push_fields names.now)) (state_of run self.old) result) }
+            (put_out true run (act (push_fields names.now)) self.old result) }
         ensures taken { Grows (S.so_far sink.old) (S.so_far sink.new) }
         ensures plain { IsPlain self.old → SparedOr result (IsPlain self.new) }
         ensures size { size_of self.new.stack ≡ size_of self.old.stack }
@@ -201,10 +197,9 @@ impl<'m, 'a> Machine<'m, 'a> {
         requires found { slot < length (cells_of self.old.stack) }
         requires place { self.old.place + 3 < 2 ^ 64 }
         requires countable { (S.so_far sink.old).failures < 2 ^ 64 - 1 }
-        ensures step { Shown run (act (push_slot slot)) (state_of run self.old) (state_of run self.new) result }
+        ensures step { Shown run (act (push_slot slot)) self.old self.new result }
         ensures given { IsPut (put_by result) (given_of (S.so_far sink.old) piece.old)
-            (given_of (S.so_far sink.new) piece.new)
-            (put_out true run.plan (act (push_slot slot)) (state_of run self.old) result) }
+            (given_of (S.so_far sink.new) piece.new) (put_out true run (act (push_slot slot)) self.old result) }
         ensures taken { Grows (S.so_far sink.old) (S.so_far sink.new) }
         ensures plain { IsPlain self.old → SparedOr result (IsPlain self.new) }
         ensures size { size_of self.new.stack ≡ size_of self.old.stack }

@@ -1,7 +1,9 @@
 //! Calls of templates.
-ghost use Rattle.std.specs.Prelude.{◌≡◌, ◌+◌, ◌<◌, ◌≤◌, ◌^◌, Ok, Some, length, slice_get};
+ghost use Rattle.std.specs.Prelude.{◌≡◌, ◌+◌, ◌<◌, ◌≤◌, ◌^◌, Ok, OnOk, Some, length, slice_get, true};
+ghost use Rattle.tmpl_values.specs.View.{is_kept};
+ghost use Rattle.tmpl_meaning.specs.View.{rules_of};
 ghost use Rattle.tmpl_code.specs.Instruction as code;
-ghost use Rattle.tmpl_run.specs.computed.Machines.{Told, state_of};
+ghost use Rattle.tmpl_run.specs.computed.Machines.{Told};
 ghost use Rattle.tmpl_run.specs.computed.Plain.{IsPlain, SparedOr};
 ghost use Rattle.tmpl_run.specs.computed.Turned.{Executed, TurnedOr};
 ghost use Rattle.tmpl_run.specs.computed.View.{cells_of, size_of};
@@ -10,32 +12,26 @@ use crate::flow::Flow;
 use crate::halt::Halt;
 use crate::machine::Machine;
 use crate::stack::keep;
-use tmpl_meaning::RunFaultKind;
+use tmpl_meaning::{Options, RunFaultKind};
 use tmpl_values::Val;
 
 impl<'m, 'a> Machine<'m, 'a> {
     /// Looks, before a call at this line, whether a step is left and one more template may be inside the others.
     #[tactic(auto, using(crate::proofs::CallingLemmas::deepens))]
-    pub(crate) fn deepen(
-        &mut self,
-        step_limit: u64,
-        depth_limit: u32,
-        line: u64,
-    ) -> Result<Flow, Halt<'a>>
+    pub(crate) fn deepen(&mut self, options: &Options, line: u64) -> Result<Flow, Halt<'a>>
         ghost run: { Told }
-        requires steps { run.plan.rules.step_limit ≡ step_limit }
-        requires depths { run.plan.rules.depth_limit ≡ depth_limit }
+        requires rules { run.plan.rules ≡ rules_of options.now }
         requires place { self.old.place + 1 < 2 ^ 64 }
-        ensures step { TurnedOr run (code.deepen line) (state_of run self.old) (state_of run self.new) result }
+        ensures step { TurnedOr run (code.deepen line) self.old self.new result }
         ensures plain { IsPlain self.old → SparedOr result (IsPlain self.new) }
         ensures size { size_of self.new.stack ≡ size_of self.old.stack }
     {
         self.line = line;
         if self.left == 0 {
-            return Err(Halt::Fault(RunFaultKind::StepsSpent(step_limit)));
+            return Err(Halt::Fault(RunFaultKind::StepsSpent(options.steps)));
         }
-        if self.depth >= depth_limit as u64 {
-            return Err(Halt::Fault(RunFaultKind::CallsTooDeep(depth_limit)));
+        if self.depth >= options.depth as u64 {
+            return Err(Halt::Fault(RunFaultKind::CallsTooDeep(options.depth)));
         }
         self.place += 1;
         Ok(Flow::On)
@@ -45,23 +41,24 @@ impl<'m, 'a> Machine<'m, 'a> {
     #[tactic(auto, using(crate::proofs::CallingLemmas::invokes))]
     pub(crate) fn invoke(
         &mut self,
-        step_limit: u64,
+        options: &Options,
         number: usize,
         start: usize,
     ) -> Result<Flow, Halt<'a>>
         ghost run: { Told }
-        requires steps { run.plan.rules.step_limit ≡ step_limit }
+        requires rules { run.plan.rules ≡ rules_of options.now }
         requires starts { slice_get run.plan.starts number ≡ Some start }
         requires found { 1 ≤ length (cells_of self.old.stack) }
         requires room { length (cells_of self.old.stack) + 2 ≤ size_of self.old.stack }
         requires depth { self.old.depth + 1 < 2 ^ 64 }
         requires place { self.old.place + 1 < 2 ^ 64 }
-        ensures step { TurnedOr run (code.invoke number) (state_of run self.old) (state_of run self.new) result }
+        ensures step { TurnedOr run (code.invoke number) self.old self.new result }
+        ensures kept { OnOk result (is_kept self.new.dot ≡ true) }
         ensures plain { IsPlain self.old → SparedOr result (IsPlain self.new) }
         ensures size { size_of self.new.stack ≡ size_of self.old.stack }
     {
         if self.left == 0 {
-            return Err(Halt::Fault(RunFaultKind::StepsSpent(step_limit)));
+            return Err(Halt::Fault(RunFaultKind::StepsSpent(options.steps)));
         }
         self.left -= 1;
         self.stack.exchange(&mut self.dot, self.template as u64);
@@ -80,8 +77,7 @@ impl<'m, 'a> Machine<'m, 'a> {
     pub(crate) fn return_from(&mut self, count: usize) -> Flow
         ghost run: { Told }
         requires found { 1 < self.old.depth → count + 3 ≤ length (cells_of self.old.stack) }
-        ensures step { Executed run (code.return_from count) (state_of run self.old) (state_of run self.new)
-            (Ok result) }
+        ensures step { Executed run (code.return_from count) self.old self.new (Ok result) }
         ensures plain { IsPlain self.old → IsPlain self.new }
         ensures size { size_of self.new.stack ≡ size_of self.old.stack }
     {

@@ -1,9 +1,11 @@
 //! Steps, `if` and `with`.
-ghost use Rattle.std.specs.Prelude.{◌≡◌, ◌+◌, ◌<◌, ◌≤◌, ◌^◌, false, length, if◌then◌else◌, IfOk, Ok};
+ghost use Rattle.std.specs.Prelude.{◌≡◌, ◌+◌, ◌<◌, ◌≤◌, ◌^◌, false, length, true, IfOk, Ok, OnOk};
 ghost use Rattle.tmpl_values.specs.Truth.{truth};
+ghost use Rattle.tmpl_values.specs.View.{is_kept};
+ghost use Rattle.tmpl_meaning.specs.View.{rules_of};
 ghost use Rattle.tmpl_code.specs.Instruction as code;
 ghost use Rattle.tmpl_run.specs.Cell.{slot};
-ghost use Rattle.tmpl_run.specs.computed.Machines.{Told, state_of};
+ghost use Rattle.tmpl_run.specs.computed.Machines.{Told};
 ghost use Rattle.tmpl_run.specs.computed.Plain.{IsPlain, Spared, SparedOr};
 ghost use Rattle.tmpl_run.specs.Ready.{RoomIf};
 ghost use Rattle.tmpl_run.specs.computed.Turned.{Executed, TurnedOr};
@@ -14,22 +16,22 @@ use crate::halt::Halt;
 use crate::machine::Machine;
 use std::alloc::AllocError;
 use std::mem;
-use tmpl_meaning::RunFaultKind;
+use tmpl_meaning::{Options, RunFaultKind};
 use tmpl_values::Cell;
 
 impl<'m, 'a> Machine<'m, 'a> {
     /// Takes a step at this line.
-    pub(crate) fn spend(&mut self, limit: u64, line: u64) -> Result<Flow, Halt<'a>>
+    pub(crate) fn spend(&mut self, options: &Options, line: u64) -> Result<Flow, Halt<'a>>
         ghost run: { Told }
-        requires limit { run.plan.rules.step_limit ≡ limit }
+        requires rules { run.plan.rules ≡ rules_of options.now }
         requires place { self.old.place + 1 < 2 ^ 64 }
-        ensures step { TurnedOr run (code.spend line) (state_of run self.old) (state_of run self.new) result }
+        ensures step { TurnedOr run (code.spend line) self.old self.new result }
         ensures plain { IsPlain self.old → SparedOr result (IsPlain self.new) }
         ensures size { size_of self.new.stack ≡ size_of self.old.stack }
     {
         self.line = line;
         if self.left == 0 {
-            return Err(Halt::Fault(RunFaultKind::StepsSpent(limit)));
+            return Err(Halt::Fault(RunFaultKind::StepsSpent(options.steps)));
         }
         self.left -= 1;
         self.place += 1;
@@ -41,7 +43,7 @@ impl<'m, 'a> Machine<'m, 'a> {
         ghost run: { Told }
         requires place { self.old.place + 1 + skip < 2 ^ 64 }
         requires found { count ≤ length (cells_of self.old.stack) }
-        ensures step { Executed run (code.cut count skip) (state_of run self.old) (state_of run self.new) (Ok result) }
+        ensures step { Executed run (code.cut count skip) self.old self.new (Ok result) }
         ensures plain { IsPlain self.old → IsPlain self.new }
         ensures size { size_of self.new.stack ≡ size_of self.old.stack }
     {
@@ -57,8 +59,7 @@ impl<'m, 'a> Machine<'m, 'a> {
         requires found { 1 ≤ length (cells_of self.old.stack) }
         requires body { self.old.place + 1 < 2 ^ 64 }
         requires other { truth (slot 0 (cells_of self.old.stack)) ≡ false → self.old.place + 1 + skip < 2 ^ 64 }
-        ensures step { Executed run (code.unless kept skip) (state_of run self.old) (state_of run self.new)
-            (Ok result) }
+        ensures step { Executed run (code.unless kept skip) self.old self.new (Ok result) }
         ensures plain { IsPlain self.old → IsPlain self.new }
         ensures size { size_of self.new.stack ≡ size_of self.old.stack }
     {
@@ -81,8 +82,9 @@ impl<'m, 'a> Machine<'m, 'a> {
         requires room { RoomIf kept (length (cells_of self.old.stack)) (size_of self.old.stack) }
         requires body { self.old.place + 1 < 2 ^ 64 }
         requires other { truth (slot 0 (cells_of self.old.stack)) ≡ false → self.old.place + 1 + skip < 2 ^ 64 }
-        ensures step { IfOk result (λ f. Executed run (code.enter_with kept skip) (state_of run self.old)
-            (state_of run self.new) (Ok f)) }
+        ensures step { IfOk result (λ f. Executed run (code.enter_with kept skip) self.old self.new (Ok f)) }
+        ensures dot { truth (slot 0 (cells_of self.old.stack)) ≡ true
+            → OnOk result (is_kept self.new.dot ≡ true) }
         ensures plain { IsPlain self.old → Spared result (IsPlain self.new) }
         ensures size { size_of self.new.stack ≡ size_of self.old.stack }
     {
@@ -110,8 +112,7 @@ impl<'m, 'a> Machine<'m, 'a> {
         ghost run: { Told }
         requires place { self.old.place + 1 + skip < 2 ^ 64 }
         requires found { count + 1 + variables ≤ length (cells_of self.old.stack) }
-        ensures step { Executed run (code.end_with count variables skip) (state_of run self.old)
-            (state_of run self.new) (Ok result) }
+        ensures step { Executed run (code.end_with count variables skip) self.old self.new (Ok result) }
         ensures plain { IsPlain self.old → IsPlain self.new }
         ensures size { size_of self.new.stack ≡ size_of self.old.stack }
     {

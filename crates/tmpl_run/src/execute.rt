@@ -46,17 +46,17 @@ impl<'m, 'a> Machine<'m, 'a> {
         requires code { run.plan.code ≡ instructions_of code.now }
         requires here { self.old.place < length code.now }
         ensures step { let i = instruction_of instruction.now in
-            TurnedBy (at_once run.plan.code self.old.place i) run i (state_of run self.old) self.new result }
+            TurnedBy (at_once run.plan.code self.old.place i) run i self.old self.new result }
         ensures given { let i = instruction_of instruction.now in
             IsPut (put_by result) (given_of (S.so_far sink.old) piece.old) (given_of (S.so_far sink.new) piece.new)
-            (put_out (at_once run.plan.code self.old.place i) run.plan i (state_of run self.old) result) }
+            (put_out (at_once run.plan.code self.old.place i) run i self.old result) }
         ensures taken { Grows (S.so_far sink.old) (S.so_far sink.new) }
         ensures plain { mark_behind (instruction_of instruction.now) run.made_text ≡ false
             → IsPlain self.old → SparedOr result (IsPlain self.new) }
         ensures size { size_of self.new.stack ≡ size_of self.old.stack }
     {
         match *instruction {
-            Instruction::Spend(line) => self.spend(options.steps, line),
+            Instruction::Spend(line) => self.spend(options, line),
             Instruction::Put(text) => {
                 self.put_text(text, piece, sink)?;
                 Ok(Flow::On)
@@ -107,18 +107,16 @@ impl<'m, 'a> Machine<'m, 'a> {
                 skip,
             } => Ok(self.close_with(count as usize, variables as usize, skip as usize)),
             Instruction::Drop { count, skip } => Ok(self.forget(count as usize, skip as usize)),
-            Instruction::Enter { key, skip } => {
-                self.open_range(options.steps, key, skip as usize)
-            }
+            Instruction::Enter { key, skip } => { self.open_range(options, key, skip as usize) }
             Instruction::Turn(count) => Ok(self.turn(count as usize)?),
             Instruction::Next { count, skip, line } => {
-                self.next(options.steps, count as usize, skip as usize, line as u64)
+                self.next(options, count as usize, skip as usize, line as u64)
             }
             Instruction::Leave { count, skip } => Ok(self.leave(count as usize, skip as usize)),
-            Instruction::Deepen(line) => self.deepen(options.steps, options.depth, line),
+            Instruction::Deepen(line) => self.deepen(options, line),
             Instruction::Invoke(number) => {
                 let number = number as usize;
-                self.invoke(options.steps, number, program.starts.as_slice()[number])
+                self.invoke(options, number, program.starts.as_slice()[number])
             }
             Instruction::Return(count) => Ok(self.return_from(count as usize)),
         }

@@ -12,10 +12,8 @@ ghost use Rattle.tmpl_code.specs.View.{refusal_of};
 ghost use Rattle.tmpl_run.specs.Cell.{fresh, slot};
 ghost use Rattle.tmpl_run.specs.computed.Machines.{Told, state_of};
 ghost use Rattle.tmpl_run.specs.computed.Plain.{IsPlain, SparedOr};
-ghost use Rattle.tmpl_run.specs.Ready.{Fits};
-ghost use Rattle.tmpl_run.specs.State.{State};
 ghost use Rattle.tmpl_run.specs.Step as pipe;
-ghost use Rattle.tmpl_run.specs.computed.Turned.{Executed, IsFound, TurnedOr, behind};
+ghost use Rattle.tmpl_run.specs.computed.Turned.{Executed, IsFound, TurnedOr};
 ghost use Rattle.tmpl_run.specs.computed.View.{cells_of, size_of};
 
 use crate::flow::Flow;
@@ -60,8 +58,7 @@ impl<'m, 'a> Machine<'m, 'a> {
         ghost run: { Told }
         requires room { length (cells_of self.old.stack) < size_of self.old.stack }
         requires place { self.old.place + 1 < 2 ^ 64 }
-        ensures step { TurnedOr run (act push_dot) (state_of run self.old) (state_of (behind push_dot run) self.new)
-            result }
+        ensures step { TurnedOr run (act push_dot) self.old self.new result }
         ensures plain { IsPlain self.old → SparedOr result (IsPlain self.new) }
         ensures size { size_of self.new.stack ≡ size_of self.old.stack }
     {
@@ -99,8 +96,7 @@ impl<'m, 'a> Machine<'m, 'a> {
         requires mode { run.plan.rules.missing_key ≡ missing_key }
         requires room { length (cells_of self.old.stack) < size_of self.old.stack }
         requires place { self.old.place + 1 < 2 ^ 64 }
-        ensures step { TurnedOr run (act (push_fields names.now)) (state_of run self.old)
-            (state_of (behind (push_fields names.now) run) self.new) result }
+        ensures step { TurnedOr run (act (push_fields names.now)) self.old self.new result }
         ensures plain { IsPlain self.old → SparedOr result (IsPlain self.new) }
         ensures size { size_of self.new.stack ≡ size_of self.old.stack }
     {
@@ -115,8 +111,7 @@ impl<'m, 'a> Machine<'m, 'a> {
         requires found { slot < length (cells_of self.old.stack) }
         requires room { length (cells_of self.old.stack) < size_of self.old.stack }
         requires place { self.old.place + 1 < 2 ^ 64 }
-        ensures step { TurnedOr run (act (push_slot slot)) (state_of run self.old)
-            (state_of (behind (push_slot slot) run) self.new) result }
+        ensures step { TurnedOr run (act (push_slot slot)) self.old self.new result }
         ensures plain { IsPlain self.old → SparedOr result (IsPlain self.new) }
         ensures size { size_of self.new.stack ≡ size_of self.old.stack }
     {
@@ -137,8 +132,7 @@ impl<'m, 'a> Machine<'m, 'a> {
         requires found { 1 ≤ length (cells_of self.old.stack) }
         requires within { length (cells_of self.old.stack) ≤ size_of self.old.stack }
         requires place { self.old.place + 1 < 2 ^ 64 }
-        ensures step { TurnedOr run (act (chained names.now)) (state_of run self.old)
-            (state_of (behind (chained names.now) run) self.new) result }
+        ensures step { TurnedOr run (act (chained names.now)) self.old self.new result }
         ensures plain { IsPlain self.old → SparedOr result (IsPlain self.new) }
         ensures size { size_of self.new.stack ≡ size_of self.old.stack }
     {
@@ -156,8 +150,7 @@ impl<'m, 'a> Machine<'m, 'a> {
         requires found { count + piped_count piped ≤ length (cells_of self.old.stack) }
         requires room { length (cells_of self.old.stack) - (count + piped_count piped) < size_of self.old.stack }
         requires place { self.old.place + 1 < 2 ^ 64 }
-        ensures step { TurnedOr run (act (call_with func count piped)) (state_of run self.old)
-            (state_of (behind (call_with func count piped) run) self.new) result }
+        ensures step { TurnedOr run (act (call_with func count piped)) self.old self.new result }
         ensures plain { makes_text func ≡ false → IsPlain self.old → SparedOr result (IsPlain self.new) }
         ensures size { size_of self.new.stack ≡ size_of self.old.stack }
     {
@@ -181,8 +174,7 @@ impl<'m, 'a> Machine<'m, 'a> {
         requires within { length (cells_of self.old.stack) ≤ size_of self.old.stack }
         requires place { self.old.place + 1 < 2 ^ 64 }
         requires over { decides is_or (slot 0 (cells_of self.old.stack)) ≡ true → self.old.place + 1 + skip < 2 ^ 64 }
-        ensures step { Executed run (act (decide is_or piped skip)) (state_of run self.old)
-            (state_of run self.new) (Ok result) }
+        ensures step { Executed run (act (decide is_or piped skip)) self.old self.new (Ok result) }
         ensures plain { IsPlain self.old → IsPlain self.new }
         ensures size { size_of self.new.stack ≡ size_of self.old.stack }
     {
@@ -204,7 +196,7 @@ impl<'m, 'a> Machine<'m, 'a> {
         requires found { 1 ≤ length (cells_of self.old.stack) }
         requires within { length (cells_of self.old.stack) ≤ size_of self.old.stack }
         requires place { self.old.place + 1 < 2 ^ 64 }
-        ensures step { Executed run (act settle) (state_of run self.old) (state_of run self.new) (Ok result) }
+        ensures step { Executed run (act settle) self.old self.new (Ok result) }
         ensures plain { IsPlain self.old → IsPlain self.new }
         ensures size { size_of self.new.stack ≡ size_of self.old.stack }
     {

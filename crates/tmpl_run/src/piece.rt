@@ -66,6 +66,7 @@ impl<'m> Piece<'m> {
     }
 
     /// The digits of a number wait behind what does. There is room for the most digits that one has.
+    #[tactic(auto, using(crate::proofs::PieceLemmas::kept))]
     pub(crate) fn keep_number(&mut self, number: u64)
         requires { 20 ≤ length self.old.bytes.now - self.old.end }
         ensures { waiting self.new ≡ waiting self.old ++ decimal number }

@@ -1,14 +1,15 @@
 //! Instructions that put out bytes.
-ghost use Rattle.std.specs.Prelude.{◌≡◌, ◌+◌, ◌-◌, ◌<◌, ◌≤◌, ◌^◌, ◌++◌, length};
+ghost use Rattle.std.specs.Prelude.{◌≡◌, ◌+◌, ◌-◌, ◌<◌, ◌≤◌, ◌^◌, Ok, length};
 ghost use Rattle.tmpl_values.specs.Text.{text_of};
 ghost use Rattle.tmpl_meaning.specs.Sink.{IsPut};
 ghost use Rattle.tmpl_code.specs.Instruction as code;
 ghost use Rattle.tmpl_run.specs.Cell.{slot};
-ghost use Rattle.tmpl_run.specs.Machine.{done, goes};
-ghost use Rattle.tmpl_run.specs.computed.Machines.{Told, state_of};
+ghost use Rattle.tmpl_run.specs.computed.Machines.{Told};
 ghost use Rattle.tmpl_run.specs.computed.Output.{Grows, given_of};
 ghost use Rattle.tmpl_run.specs.computed.Plain.{IsPlain};
+ghost use Rattle.tmpl_run.specs.computed.Turned.{Executed};
 ghost use Rattle.tmpl_run.specs.computed.View.{cells_of, size_of};
+ghost use Rattle.tmpl_run.specs.declared.flow.Flow.TheVariants as flow;
 
 use crate::machine::Machine;
 use crate::piece::Piece;
@@ -26,8 +27,7 @@ impl<'m, 'a> Machine<'m, 'a> {
         ghost run: { Told }
         requires place { self.old.place + 1 < 2 ^ 64 }
         requires failures { (S.so_far sink.old).failures < 2 ^ 64 - 1 }
-        ensures step { done run.plan run.template (code.put text.now) (state_of run self.old)
-            ≡ goes (state_of (record run { text = run.text ++ text.now }) self.new) }
+        ensures step { Executed run (code.put text.now) self.old self.new (Ok flow.On) }
         ensures given { IsPut result (given_of (S.so_far sink.old) piece.old)
             (given_of (S.so_far sink.new) piece.new) text.now }
         ensures taken { Grows (S.so_far sink.old) (S.so_far sink.new) }
@@ -49,10 +49,7 @@ impl<'m, 'a> Machine<'m, 'a> {
         requires place { self.old.place + 1 < 2 ^ 64 }
         requires found { 1 ≤ length (cells_of self.old.stack) }
         requires failures { (S.so_far sink.old).failures < 2 ^ 64 - 1 }
-        ensures step { done run.plan run.template code.show (state_of run self.old)
-            ≡ goes (state_of (record run {
-              text = run.text ++ text_of (slot 0 (cells_of self.old.stack));
-            }) self.new) }
+        ensures step { Executed run code.show self.old self.new (Ok flow.On) }
         ensures given { IsPut result (given_of (S.so_far sink.old) piece.old) (given_of (S.so_far sink.new) piece.new)
             (text_of (slot 0 (cells_of self.old.stack))) }
         ensures taken { Grows (S.so_far sink.old) (S.so_far sink.new) }
@@ -60,7 +57,7 @@ impl<'m, 'a> Machine<'m, 'a> {
         ensures size { size_of self.new.stack ≡ size_of self.old.stack }
     {
         self.place += 1;
-        let put = self.stack.show(piece, sink);
+        let put = self.stack.show_slot(0, piece, sink);
         self.stack.pop(1);
         put
     }

@@ -3,8 +3,9 @@ ghost use Rattle.std.specs.Prelude.{◌≡◌, ◌+◌, ◌-◌, ◌<◌, ◌≤
 ghost use Rattle.std.specs.Prelude.{Some, None, Ok};
 ghost use Rattle.tmpl_values.specs.Elements.{item_at};
 ghost use Rattle.tmpl_values.specs.View.{is_made, val_of};
+ghost use Rattle.tmpl_meaning.specs.View.{rules_of};
 ghost use Rattle.tmpl_code.specs.Instruction as code;
-ghost use Rattle.tmpl_run.specs.Cell.{cell, slot, slot_cell};
+ghost use Rattle.tmpl_run.specs.Cell.{slot, slot_cell};
 ghost use Rattle.tmpl_run.specs.Machine.{elements_for, has_more, variables_on};
 ghost use Rattle.tmpl_run.specs.computed.Machines.{Told, state_of};
 ghost use Rattle.tmpl_run.specs.computed.Plain.{IsPlain, Spared, SparedOr};
@@ -16,7 +17,7 @@ use crate::halt::Halt;
 use crate::machine::Machine;
 use std::alloc::AllocError;
 use std::mem;
-use tmpl_meaning::RunFaultKind;
+use tmpl_meaning::{Options, RunFaultKind};
 use tmpl_values::Val;
 
 /// How many elements a range visits of the value, by whether it wants their index or key; none where it may not be
@@ -36,18 +37,18 @@ impl<'m, 'a> Machine<'m, 'a> {
     #[tactic(auto, using(crate::proofs::TurnLemmas::opens))]
     pub(crate) fn open_range(
         &mut self,
-        limit: u64,
+        options: &Options,
         key: bool,
         skip: usize,
     ) -> Result<Flow, Halt<'a>>
         ghost run: { Told }
-        requires limit { run.plan.rules.step_limit ≡ limit }
+        requires rules { run.plan.rules ≡ rules_of options.now }
         requires found { 1 ≤ length (cells_of self.old.stack) }
         requires room { length (cells_of self.old.stack) < size_of self.old.stack }
         requires body { self.old.place + 1 < 2 ^ 64 }
         requires other { elements_for key (slot 0 (cells_of self.old.stack)) ≡ Some []
             → self.old.place + 1 + skip < 2 ^ 64 }
-        ensures step { TurnedOr run (code.enter key skip) (state_of run self.old) (state_of run self.new) result }
+        ensures step { TurnedOr run (code.enter key skip) self.old self.new result }
         ensures plain { IsPlain self.old → SparedOr result (IsPlain self.new) }
         ensures size { size_of self.new.stack ≡ size_of self.old.stack }
     {
@@ -60,7 +61,7 @@ impl<'m, 'a> Machine<'m, 'a> {
             }
             Some(_) => {
                 if self.left == 0 {
-                    return Err(Halt::Fault(RunFaultKind::StepsSpent(limit)));
+                    return Err(Halt::Fault(RunFaultKind::StepsSpent(options.steps)));
                 }
                 self.left -= 1;
                 self.place += 1;
@@ -81,8 +82,7 @@ impl<'m, 'a> Machine<'m, 'a> {
             (slot_cell 1 (cells_of self.old.stack)).val ≡ None → ⊥ }
         requires room { length (cells_of self.old.stack) + count ≤ size_of self.old.stack }
         requires place { self.old.place + 1 < 2 ^ 64 }
-        ensures step { IfOk result (λ f. Executed run (code.turn count) (state_of run self.old)
-            (state_of run self.new) (Ok f)) }
+        ensures step { IfOk result (λ f. Executed run (code.turn count) self.old self.new (Ok f)) }
         ensures plain { IsPlain self.old → Spared result (IsPlain self.new) }
         ensures size { size_of self.new.stack ≡ size_of self.old.stack }
     {
@@ -122,18 +122,18 @@ impl<'m, 'a> Machine<'m, 'a> {
     #[tactic(auto, using(crate::proofs::TurnLemmas::nexts))]
     pub(crate) fn next(
         &mut self,
-        limit: u64,
+        options: &Options,
         count: usize,
         skip: usize,
         line: u64,
     ) -> Result<Flow, Halt<'a>>
         ghost run: { Told }
-        requires limit { run.plan.rules.step_limit ≡ limit }
+        requires rules { run.plan.rules ≡ rules_of options.now }
         requires found { count + 2 ≤ length (cells_of self.old.stack) }
         requires within { length (cells_of self.old.stack) ≤ size_of self.old.stack }
         requires behind { has_more (slot_cell 1 (drop count (cells_of self.old.stack))) ≡ false
             → self.old.place + 1 + skip < 2 ^ 64 }
-        ensures step { TurnedOr run (code.next count skip line) (state_of run self.old) (state_of run self.new) result }
+        ensures step { TurnedOr run (code.next count skip line) self.old self.new result }
         ensures plain { IsPlain self.old → SparedOr result (IsPlain self.new) }
         ensures size { size_of self.new.stack ≡ size_of self.old.stack }
     {
@@ -147,7 +147,7 @@ impl<'m, 'a> Machine<'m, 'a> {
         }
         self.line = line;
         if self.left == 0 {
-            return Err(Halt::Fault(RunFaultKind::StepsSpent(limit)));
+            return Err(Halt::Fault(RunFaultKind::StepsSpent(options.steps)));
         }
         self.left -= 1;
         self.place = self.stack.counted(0) as usize;
@@ -162,8 +162,7 @@ impl<'m, 'a> Machine<'m, 'a> {
         ghost run: { Told }
         requires found { count + 2 ≤ length (cells_of self.old.stack) }
         requires place { self.old.place + 1 + skip < 2 ^ 64 }
-        ensures step { Executed run (code.leave count skip) (state_of run self.old) (state_of run self.new)
-            (Ok result) }
+        ensures step { Executed run (code.leave count skip) self.old self.new (Ok result) }
         ensures plain { IsPlain self.old → IsPlain self.new }
         ensures size { size_of self.new.stack ≡ size_of self.old.stack }
     {

@@ -1,5 +1,5 @@
 //! The run of a program, from the start of a template to its end.
-ghost use Rattle.std.specs.Prelude.{◌≡◌, ◌≢◌, Err, ◌+◌, ◌-◌, ◌<◌, ◌≤◌, ◌^◌, IfSome, [], false, get_or, length};
+ghost use Rattle.std.specs.Prelude.{◌≡◌, ◌≢◌, Err, ◌+◌, ◌-◌, ◌<◌, ◌≤◌, ◌^◌, IfSome, false, get_or, length};
 ghost use Rattle.std.specs.Prelude.{option_map, slice_get};
 ghost use Rattle.tmpl_values.specs.View.{is_made, val_of, value_of};
 ghost use Rattle.tmpl_syntax.specs.View.{set_view};
@@ -8,9 +8,8 @@ ghost use Rattle.tmpl_meaning.specs.Sink.{sunk};
 ghost use Rattle.tmpl_meaning.specs.View.{rules_of};
 ghost use Rattle.tmpl_code.specs.MakesText.{set_makes_text};
 ghost use Rattle.tmpl_code.specs.Room.{Suffices};
-ghost use Rattle.tmpl_run.specs.computed.Came.{Came, Closed, IsStopped, nothing_told};
-ghost use Rattle.tmpl_run.specs.Ends.{Ends};
-ghost use Rattle.tmpl_run.specs.computed.Machines.{Told, state_of};
+ghost use Rattle.tmpl_run.specs.computed.Came.{Came, Closed, ComesTo, IsStopped, nothing_told};
+ghost use Rattle.tmpl_run.specs.computed.Machines.{state_of};
 ghost use Rattle.tmpl_run.specs.computed.Output.{Grows, given_of, waiting};
 ghost use Rattle.tmpl_run.specs.computed.Plain.{IsPlain};
 ghost use Rattle.tmpl_run.specs.Run.{IsRun};
@@ -82,17 +81,13 @@ impl<'m, 'a> Machine<'m, 'a> {
         piece: &mut Piece<'_>,
         sink: &mut S,
     ) -> Result<(), RunError<'a>>
-        ghost run: { Told × Ran }
-        requires plan { run.0.plan ≡ plan_of options.now program.now }
-        requires text { run.0.text ≡ [] }
-        requires mark { run.0.made_text ≡ false }
-        requires ends { Ends run.0.plan (size_of self.old.stack) (state_of run.0 self.old) run.1 }
+        requires ends { (end : Ran) × ComesTo (plan_of options.now program.now) self.old end }
         requires within { length (cells_of self.old.stack) ≤ size_of self.old.stack }
         requires plain { IsPlain self.old }
         requires depth { self.old.depth + self.old.left < 2 ^ 64 - 1 }
         requires countable { (S.so_far sink.old).failures < 2 ^ 64 - 1 }
-        ensures came { Came run.1 (given_of (S.so_far sink.old) piece.old)
-            (given_of (S.so_far sink.new) piece.new) result }
+        ensures came { (end : Ran) → ComesTo (plan_of options.now program.now) self.old end
+            → Came end (given_of (S.so_far sink.old) piece.old) (given_of (S.so_far sink.new) piece.new) result }
         ensures taken { Grows (S.so_far sink.old) (S.so_far sink.new) }
     {
         let code = program.instructions.as_slice();

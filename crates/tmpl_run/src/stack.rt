@@ -1,11 +1,13 @@
 //! The stack of a run, in cells that are lent to it.
+#![tactic(auto, using(crate::proofs::StackLemmas::stacks, crate::proofs::PlainLemmas::plains), unfolding(crate::specs::computed::View::cells_of, crate::specs::computed::Plain::IsPlainStack))]
+
 ghost use Rattle.std.specs.List.{AllWithin};
 ghost use Rattle.std.specs.Prelude.{◌≡◌, ◌+◌, ◌-◌, ◌<◌, ◌≤◌, ◌∷◌, ◌++◌, [], drop, get_or, length, option_map, reverse};
-ghost use Rattle.std.specs.Prelude.{take, false, true, ◌^◌, slice_set, if◌then◌else◌, IfSome, IsOkAnd, OnOk};
+ghost use Rattle.std.specs.Prelude.{take, false, true, ◌^◌, slice_set, if◌then◌else◌, IfOk, IfSome, IsOkAnd, OnOk};
 ghost use Rattle.std.specs.Prelude.{MatchOption};
 ghost use Rattle.tmpl_values.specs.Elements.{item_at};
 ghost use Rattle.tmpl_values.specs.Value.{nothing};
-ghost use Rattle.tmpl_values.specs.View.{element_of, is_made, val_of};
+ghost use Rattle.tmpl_values.specs.View.{element_of, is_kept, is_made, val_of};
 ghost use Rattle.tmpl_values.specs.Text.{text_of};
 ghost use Rattle.tmpl_values.specs.Truth.{truth};
 ghost use Rattle.tmpl_funcs.specs.Answer.{AreBorrowed, IsBorrowed};
@@ -41,7 +43,6 @@ impl<'s, 'a> Stack<'s, 'a> {
     ghost use Rattle.tmpl_run.specs.computed.View.{cells_of, size_of};
 
     /// No cell is live.
-    #[tactic(auto, unfolding(crate::specs::computed::View::cells_of))]
     pub(crate) fn new(cells: &'s mut [Cell<'a>]) -> Stack<'s, 'a>
         ensures cells { cells_of result ≡ [] }
         ensures size { size_of result ≡ length cells.old }
@@ -51,7 +52,6 @@ impl<'s, 'a> Stack<'s, 'a> {
     }
 
     /// Puts a cell.
-    #[tactic(auto, using(crate::proofs::StackLemmas::stacks), unfolding(crate::specs::computed::View::cells_of))]
     pub(crate) fn push(&mut self, val: Val<'a>, num: u64)
         requires { length (cells_of self.old) < size_of self.old }
         ensures cells { cells_of self.new ≡ cell (val_of val.entry) num ∷ cells_of self.old }
@@ -64,7 +64,6 @@ impl<'s, 'a> Stack<'s, 'a> {
     }
 
     /// Takes the newest cell.
-    #[tactic(auto, using(crate::proofs::StackLemmas::stacks), unfolding(crate::specs::computed::View::cells_of))]
     pub(crate) fn take(&mut self) -> Cell<'a>
         requires { 1 ≤ length (cells_of self.old) }
         ensures cells { cells_of self.old ≡ cell_of result ∷ cells_of self.new }
@@ -76,8 +75,23 @@ impl<'s, 'a> Stack<'s, 'a> {
         take_at(self.cells, self.top)
     }
 
+    /// Takes the newest cell, its value ready to be shared.
+    #[tactic(auto)]
+    #[inline(always)]
+    pub(crate) fn take_shared(&mut self, alloc: Global) -> Result<Cell<'a>, AllocError>
+        requires { 1 ≤ length (cells_of self.old) }
+        ensures cells { IfOk result (λ c. cells_of self.old ≡ cell_of c ∷ cells_of self.new) }
+        ensures count { length (cells_of self.old) ≡ length (cells_of self.new) + 1 }
+        ensures kept { IfOk result (λ c. is_kept c.val ≡ true) }
+        ensures size { size_of self.new ≡ size_of self.old }
+        ensures plain { IsPlainStack self.old → IsOkAnd result (λ c. (is_made c.val ≡ false) × IsPlainStack self.new) }
+    {
+        let Cell { val, num } = self.take();
+        let val = val.into_shared(alloc)?;
+        Ok(Cell { val, num })
+    }
+
     /// Forgets so many cells.
-    #[tactic(auto, using(crate::proofs::StackLemmas::stacks), unfolding(crate::specs::computed::View::cells_of))]
     #[inline(always)]
     pub(crate) fn pop(&mut self, count: usize)
         requires { count ≤ length (cells_of self.old) }
@@ -92,6 +106,7 @@ impl<'s, 'a> Stack<'s, 'a> {
     }
 
     /// Puts a value once more.
+    #[tactic(auto)]
     #[inline(always)]
     pub(crate) fn push_shared(&mut self, val: &Val<'a>) -> Result<(), AllocError>
         requires { length (cells_of self.old) < size_of self.old }
@@ -107,7 +122,7 @@ impl<'s, 'a> Stack<'s, 'a> {
     }
 
     /// Puts the value of a slot once more.
-    #[tactic(auto, using(crate::proofs::StackLemmas::stacks), unfolding(crate::specs::computed::View::cells_of))]
+    #[tactic(auto, using(crate::proofs::StackLemmas::stacks, crate::proofs::PlainLemmas::looks), unfolding(crate::specs::computed::View::cells_of, crate::specs::computed::Plain::IsPlainStack))]
     #[inline(always)]
     pub(crate) fn push_slot(&mut self, index: usize) -> Result<(), AllocError>
         requires found { index < length (cells_of self.old) }
@@ -122,38 +137,17 @@ impl<'s, 'a> Stack<'s, 'a> {
     }
 
     /// Whether the newest value is not empty.
-    #[tactic(auto, using(crate::proofs::StackLemmas::stacks), unfolding(crate::specs::computed::View::cells_of))]
     pub(crate) fn holds(&mut self) -> bool
         requires { 1 ≤ length (cells_of self.old) }
         ensures cells { cells_of self.new ≡ cells_of self.old }
         ensures size { size_of self.new ≡ size_of self.old }
-        ensures holds { result ≡ truth (slot 0 (cells_of self.old)) }
         ensures plain { IsPlainStack self.old → IsPlainStack self.new }
+        ensures holds { result ≡ truth (slot 0 (cells_of self.old)) }
     {
         holds_at(self.cells, self.top - 1)
     }
 
-    /// Puts out the text of the newest value.
-    #[tactic(auto, using(crate::proofs::StackLemmas::stacks), unfolding(crate::specs::computed::View::cells_of))]
-    pub(crate) fn show<S: Sink>(
-        &mut self,
-        piece: &mut Piece<'_>,
-        sink: &mut S,
-    ) -> Result<(), SinkFault>
-        requires found { 1 ≤ length (cells_of self.old) }
-        requires countable { (S.so_far sink.old).failures < 2 ^ 64 - 1 }
-        ensures cells { cells_of self.new ≡ cells_of self.old }
-        ensures size { size_of self.new ≡ size_of self.old }
-        ensures given { IsPut result (given_of (S.so_far sink.old) piece.old) (given_of (S.so_far sink.new) piece.new)
-            (text_of (slot 0 (cells_of self.old))) }
-        ensures taken { Grows (S.so_far sink.old) (S.so_far sink.new) }
-        ensures plain { IsPlainStack self.old → IsPlainStack self.new }
-    {
-        show_at(self.cells, self.top - 1, piece, sink)
-    }
-
     /// Puts out the text of the value of a slot.
-    #[tactic(auto, using(crate::proofs::StackLemmas::stacks), unfolding(crate::specs::computed::View::cells_of))]
     pub(crate) fn show_slot<S: Sink>(
         &mut self,
         index: usize,
@@ -164,41 +158,37 @@ impl<'s, 'a> Stack<'s, 'a> {
         requires countable { (S.so_far sink.old).failures < 2 ^ 64 - 1 }
         ensures cells { cells_of self.new ≡ cells_of self.old }
         ensures size { size_of self.new ≡ size_of self.old }
+        ensures plain { IsPlainStack self.old → IsPlainStack self.new }
         ensures given { IsPut result (given_of (S.so_far sink.old) piece.old) (given_of (S.so_far sink.new) piece.new)
             (text_of (slot index (cells_of self.old))) }
         ensures taken { Grows (S.so_far sink.old) (S.so_far sink.new) }
-        ensures plain { IsPlainStack self.old → IsPlainStack self.new }
     {
         show_at(self.cells, self.top - 1 - index, piece, sink)
     }
 
     /// Whether the newest value is a null.
-    #[tactic(auto, using(crate::proofs::StackLemmas::stacks), unfolding(crate::specs::computed::View::cells_of))]
-    pub(crate) fn has_null(&mut self) -> bool
-        requires { 1 ≤ length (cells_of self.old) }
-        ensures cells { cells_of self.new ≡ cells_of self.old }
-        ensures size { size_of self.new ≡ size_of self.old }
-        ensures null { without_null (slot 0 (cells_of self.old))
-            ≡ (if result then nothing else slot 0 (cells_of self.old)) }
-        ensures plain { IsPlainStack self.old → IsPlainStack self.new }
+    #[tactic(auto, using(crate::proofs::StackLemmas::reads), unfolding(crate::specs::computed::View::cells_of))]
+    pub(crate) fn has_null(&self) -> bool
+        requires { 1 ≤ length (cells_of self.now) }
+        ensures { without_null (slot 0 (cells_of self.now)) ≡ (if result then nothing else slot 0 (cells_of self.now)) }
     {
-        has_null_at(self.cells, self.top - 1)
+        match self.cells[self.top - 1].val {
+            Val::Null => true,
+            _ => false,
+        }
     }
 
     /// What a cell counts.
-    #[tactic(auto, using(crate::proofs::StackLemmas::stacks), unfolding(crate::specs::computed::View::cells_of))]
-    pub(crate) fn counted(&mut self, index: usize) -> u64
-        requires { index < length (cells_of self.old) }
-        ensures cells { cells_of self.new ≡ cells_of self.old }
-        ensures size { size_of self.new ≡ size_of self.old }
-        ensures counted { result ≡ (slot_cell index (cells_of self.old)).num }
-        ensures plain { IsPlainStack self.old → IsPlainStack self.new }
+    #[tactic(auto, using(crate::proofs::StackLemmas::reads), unfolding(crate::specs::computed::View::cells_of))]
+    pub(crate) fn counted(&self, index: usize) -> u64
+        requires { index < length (cells_of self.now) }
+        ensures { result ≡ (slot_cell index (cells_of self.now)).num }
     {
-        counted_at(self.cells, self.top - 1 - index)
+        self.cells[self.top - 1 - index].num
     }
 
     /// Changes what a cell counts.
-    #[tactic(auto, using(crate::proofs::StackLemmas::stacks, crate::proofs::StackLemmas::cells), unfolding(crate::specs::computed::View::cells_of))]
+    #[tactic(auto, using(crate::proofs::StackLemmas::stacks, crate::proofs::StackLemmas::cells, crate::proofs::PlainLemmas::looks), unfolding(crate::specs::computed::View::cells_of, crate::specs::computed::Plain::IsPlainStack))]
     pub(crate) fn recount(&mut self, index: usize, num: u64)
         requires { index < length (cells_of self.old) }
         ensures cells { cells_of self.new
@@ -212,6 +202,7 @@ impl<'s, 'a> Stack<'s, 'a> {
     }
 
     /// Makes a null on top nothing, and has the newest cell count nothing.
+    #[tactic(auto)]
     pub(crate) fn settle(&mut self)
         requires { 1 ≤ length (cells_of self.old) }
         ensures cells { cells_of self.new
@@ -227,7 +218,6 @@ impl<'s, 'a> Stack<'s, 'a> {
     }
 
     /// Changes the value of a slot.
-    #[tactic(auto, using(crate::proofs::StackLemmas::stacks), unfolding(crate::specs::computed::View::cells_of))]
     pub(crate) fn set(&mut self, index: usize, val: Val<'a>)
         requires { index < length (cells_of self.old) }
         ensures cells { cells_of self.new ≡ slice_set (cells_of self.old) index (cell (val_of val.entry) 0) }
@@ -240,7 +230,7 @@ impl<'s, 'a> Stack<'s, 'a> {
     }
 
     /// Exchanges the newest value with another, and has its cell count this.
-    #[tactic(auto, using(crate::proofs::StackLemmas::stacks, crate::proofs::StackLemmas::exchanges), unfolding(crate::specs::computed::View::cells_of))]
+    #[tactic(auto, using(crate::proofs::StackLemmas::stacks, crate::proofs::StackLemmas::exchanges), unfolding(crate::specs::computed::View::cells_of, crate::specs::computed::Plain::IsPlainStack))]
     #[inline(always)]
     pub(crate) fn exchange(&mut self, val: &mut Val<'a>, num: u64)
         requires { 1 ≤ length (cells_of self.old) }
@@ -254,35 +244,33 @@ impl<'s, 'a> Stack<'s, 'a> {
     }
 
     /// The element that a range visits, behind its index or key: the cells of the range are the newest two.
-    #[tactic(auto, using(crate::proofs::StackLemmas::stacks), unfolding(crate::specs::computed::View::cells_of))]
     pub(crate) fn element(&mut self) -> Option<(Val<'a>, Val<'a>)>
         requires { 2 ≤ length (cells_of self.old) }
         ensures cells { cells_of self.new ≡ cells_of self.old }
         ensures size { size_of self.new ≡ size_of self.old }
+        ensures plain { IsPlainStack self.old → IsPlainStack self.new }
         ensures element { option_map element_of result
             ≡ item_at (slot_cell 1 (cells_of self.old)).num (slot_cell 1 (cells_of self.old)).val }
-        ensures plain { IsPlainStack self.old → IsPlainStack self.new }
         ensures borrowed { IfSome result (λ p. (is_made p.0 ≡ false) × (is_made p.1 ≡ false)) }
     {
         element_at(self.cells, self.top - 2)
     }
 
     /// Whether a range, whose cells are the newest two, has an element behind the one that it visits.
-    #[tactic(auto, using(crate::proofs::StackLemmas::stacks), unfolding(crate::specs::computed::View::cells_of))]
     pub(crate) fn has_more(&mut self) -> bool
         requires { 2 ≤ length (cells_of self.old) }
         ensures cells { cells_of self.new ≡ cells_of self.old }
         ensures size { size_of self.new ≡ size_of self.old }
+        ensures plain { IsPlainStack self.old → IsPlainStack self.new }
         ensures more { result ≡ has_more (slot_cell 1 (cells_of self.old)) }
         ensures fits { result ≡ true → (slot_cell 1 (cells_of self.old)).num + 1 < 2 ^ 64 }
-        ensures plain { IsPlainStack self.old → IsPlainStack self.new }
     {
         has_more_at(self.cells, self.top - 2)
     }
 
     /// What a function gives for the newest so many values, the oldest of them first, and for a piped one behind them,
     /// if it lies below. Forgets them all.
-    #[tactic(auto, using(crate::proofs::StackLemmas::stacks), unfolding(crate::specs::computed::View::cells_of))]
+    #[tactic(auto, using(crate::proofs::StackLemmas::stacks, crate::proofs::ArgumentLemmas::arguments), unfolding(crate::specs::computed::View::cells_of))]
     pub(crate) fn call(
         &mut self,
         alloc: Global,
@@ -316,6 +304,7 @@ pub(crate) fn piped_count(piped: bool) -> usize
 }
 
 /// What a function gives for the values from a place to before another, the lowest so many of them behind the others.
+#[tactic(auto, using(crate::proofs::ArgumentLemmas::arguments))]
 fn call_between<'a>(
     cells: &mut [Cell<'a>],
     from: usize,
@@ -339,7 +328,7 @@ fn call_between<'a>(
 }
 
 /// Puts the value of a cell once more into another.
-#[tactic(auto, using(crate::proofs::StackLemmas::cells, crate::proofs::StackLemmas::stacks))]
+#[tactic(auto, using(crate::proofs::StackLemmas::cells, crate::proofs::StackLemmas::stacks, crate::proofs::PlainLemmas::looks))]
 #[inline(always)]
 fn copy_value<'a>(cells: &mut [Cell<'a>], from: usize, to: usize) -> Result<(), AllocError>
     requires found { from < length cells.old }
@@ -399,36 +388,6 @@ fn show_at<S: Sink>(
     piece.show(sink, &whole[at].val)
 }
 
-/// Whether the value of a cell is a null.
-#[tactic(auto, using(crate::proofs::StackLemmas::cells))]
-fn has_null_at(cells: &mut [Cell<'_>], at: usize) -> bool
-    requires { at < length cells.old }
-    ensures same { cells.new ≡ cells.old }
-    ensures null { without_null (cell_at cells.old at).val
-        ≡ (if result then nothing else (cell_at cells.old at).val) }
-{
-    is_null(&cells[at].val)
-}
-
-fn is_null(value: &Val<'_>) -> bool
-    ensures { without_null (val_of value.now) ≡ (if result then nothing else val_of value.now) }
-{
-    match value {
-        Val::Null => true,
-        _ => false,
-    }
-}
-
-/// What a cell counts.
-#[tactic(auto, using(crate::proofs::StackLemmas::cells))]
-fn counted_at(cells: &mut [Cell<'_>], at: usize) -> u64
-    requires { at < length cells.old }
-    ensures same { cells.new ≡ cells.old }
-    ensures counted { result ≡ (cell_at cells.old at).num }
-{
-    cells[at].num
-}
-
 /// Whether the value of a cell is not empty.
 #[tactic(auto, using(crate::proofs::StackLemmas::cells))]
 fn holds_at(cells: &mut [Cell<'_>], at: usize) -> bool
@@ -469,7 +428,7 @@ fn has_more_at(cells: &mut [Cell<'_>], at: usize) -> bool
 }
 
 /// Exchanges the value of a cell with another, and has the cell count this.
-#[tactic(auto, using(crate::proofs::StackLemmas::cells, crate::proofs::StackLemmas::stacks))]
+#[tactic(auto, using(crate::proofs::StackLemmas::cells, crate::proofs::StackLemmas::stacks, crate::proofs::PlainLemmas::looks))]
 #[inline(always)]
 fn exchange_at<'a>(cells: &mut [Cell<'a>], at: usize, val: &mut Val<'a>, num: u64)
     requires { at < length cells.old }
@@ -488,6 +447,7 @@ fn exchange_at<'a>(cells: &mut [Cell<'a>], at: usize, val: &mut Val<'a>, num: u6
 #[inline(always)]
 pub(crate) fn keep(val: &mut Val<'_>, alloc: Global) -> Result<(), AllocError>
     ensures value { OnOk result (val_of val.new ≡ val_of val.old) }
+    ensures kept { OnOk result (is_kept val.new ≡ true) }
     ensures plain { is_made val.old ≡ false → IsOkAnd result (λ _. is_made val.new ≡ false) }
 {
     if is_made(val) {

@@ -1,7 +1,7 @@
 //! Variables.
 ghost use Rattle.std.specs.Prelude.{◌≡◌, ◌+◌, ◌<◌, ◌≤◌, ◌^◌, length, IfOk, Ok};
 ghost use Rattle.tmpl_code.specs.Instruction as code;
-ghost use Rattle.tmpl_run.specs.computed.Machines.{Told, state_of};
+ghost use Rattle.tmpl_run.specs.computed.Machines.{Told};
 ghost use Rattle.tmpl_run.specs.computed.Plain.{IsPlain, Spared};
 ghost use Rattle.tmpl_run.specs.Ready.{RoomIf};
 ghost use Rattle.tmpl_run.specs.computed.Turned.{Executed};
@@ -20,13 +20,11 @@ impl<'m, 'a> Machine<'m, 'a> {
         requires within { length (cells_of self.old.stack) ≤ size_of self.old.stack }
         requires room { RoomIf key (length (cells_of self.old.stack)) (size_of self.old.stack) }
         requires place { self.old.place + 1 < 2 ^ 64 }
-        ensures step { IfOk result (λ f. Executed run (code.hold key) (state_of run self.old)
-            (state_of run self.new) (Ok f)) }
+        ensures step { IfOk result (λ f. Executed run (code.hold key) self.old self.new (Ok f)) }
         ensures plain { IsPlain self.old → Spared result (IsPlain self.new) }
         ensures size { size_of self.new.stack ≡ size_of self.old.stack }
     {
-        let Cell { val, num } = self.stack.take();
-        let val = val.into_shared(self.alloc)?;
+        let Cell { val, num } = self.stack.take_shared(self.alloc)?;
         if key {
             self.stack.push(Val::Nothing, 0);
         }
@@ -41,13 +39,11 @@ impl<'m, 'a> Machine<'m, 'a> {
         requires found { slot + 1 < length (cells_of self.old.stack) }
         requires within { length (cells_of self.old.stack) ≤ size_of self.old.stack }
         requires place { self.old.place + 1 < 2 ^ 64 }
-        ensures step { IfOk result (λ f. Executed run (code.set slot) (state_of run self.old)
-            (state_of run self.new) (Ok f)) }
+        ensures step { IfOk result (λ f. Executed run (code.set slot) self.old self.new (Ok f)) }
         ensures plain { IsPlain self.old → Spared result (IsPlain self.new) }
         ensures size { size_of self.new.stack ≡ size_of self.old.stack }
     {
-        let Cell { val, num } = self.stack.take();
-        let val = val.into_shared(self.alloc)?;
+        let Cell { val, num } = self.stack.take_shared(self.alloc)?;
         self.stack.set(slot, val.share()?);
         self.stack.push(val, num);
         self.place += 1;
@@ -59,8 +55,7 @@ impl<'m, 'a> Machine<'m, 'a> {
         ghost run: { Told }
         requires found { slot < length (cells_of self.old.stack) }
         requires place { self.old.place + 1 < 2 ^ 64 }
-        ensures step { IfOk result (λ f. Executed run (code.set_dot slot) (state_of run self.old)
-            (state_of run self.new) (Ok f)) }
+        ensures step { IfOk result (λ f. Executed run (code.set_dot slot) self.old self.new (Ok f)) }
         ensures plain { IsPlain self.old → Spared result (IsPlain self.new) }
         ensures size { size_of self.new.stack ≡ size_of self.old.stack }
     {

@@ -42,21 +42,25 @@ told_behind (code.act o) s told = behind o told
 told_behind i s told = told
 
 -- it was carried out, and the run goes on or is over, or it stops; where a put failed it was carried out up to that
-abbrev pub Executed : Told → Instruction → State → State → Result Flow Halt → Type 0
-Executed told i s t (Ok flow.On) = done told.plan told.template i s ≡ goes t
-Executed told i s t (Ok flow.Over) = done told.plan told.template i s ≡ ended (ran_so s None)
-Executed told i s t (Err (stop.Fault kind)) =
-    done told.plan told.template i s
-    ≡ failed told.template t.line (cause_of kind) (record s { made_text = t.made_text })
-Executed told i s t (Err stop.WriteFailed) = done told.plan told.template i s ≡ goes t
-Executed told i s t (Err stop.OutOfMemory) = added i s ≡ []
+abbrev pub Executed : Told → Instruction → Machine → Machine → Result Flow Halt → Type 0
+Executed told i m n (Ok flow.On) =
+    done told.plan told.template i (state_of told m) ≡ goes (state_of (told_behind i (state_of told m) told) n)
+Executed told i m n (Ok flow.Over) =
+    done told.plan told.template i (state_of told m)
+    ≡ ended (ran_so (state_of (told_behind i (state_of told m) told) m) None)
+Executed told i m n (Err (stop.Fault kind)) =
+    done told.plan told.template i (state_of told m)
+    ≡ failed told.template n.line (cause_of kind) (state_of (told_behind i (state_of told m) told) m)
+Executed told i m n (Err stop.WriteFailed) =
+    done told.plan told.template i (state_of told m) ≡ goes (state_of (told_behind i (state_of told m) told) n)
+Executed told i m n (Err stop.OutOfMemory) = added i (state_of told m) ≡ []
 
 -- .. by an instruction that puts nothing out, and may stop where memory is refused
-abbrev pub TurnedOr : Told → Instruction → State → State → Result Flow Halt → Type 0
-TurnedOr told i s t (Ok f) = Executed told i s t (Ok f)
-TurnedOr told i s t (Err (stop.Fault kind)) = Executed told i s t (Err (stop.Fault kind))
-TurnedOr told i s t (Err stop.WriteFailed) = ⊥
-TurnedOr told i s t (Err stop.OutOfMemory) = Unit {0}
+abbrev pub TurnedOr : Told → Instruction → Machine → Machine → Result Flow Halt → Type 0
+TurnedOr told i m n (Ok f) = Executed told i m n (Ok f)
+TurnedOr told i m n (Err (stop.Fault kind)) = Executed told i m n (Err (stop.Fault kind))
+TurnedOr told i m n (Err stop.WriteFailed) = ⊥
+TurnedOr told i m n (Err stop.OutOfMemory) = Unit {0}
 
 -- whether a put failed
 abbrev pub put_by : {A : Type 0} → Result A Halt → Result (Unit {0}) SinkFault
@@ -112,23 +116,27 @@ text_in (Ok v) = text_of v
 text_in (Err cause) = []
 
 -- the three were carried out, or the first of them stops; where a put failed they were carried out up to that
-abbrev pub Shown : Told → Instruction → State → State → Result Flow Halt → Type 0
-Shown told i s t (Ok flow.On) = IsThere (value_by told.plan i s) × (t ≡ record s { place = s.place + 3 })
-Shown told i s t (Ok flow.Over) = ⊥
-Shown told i s t (Err (stop.Fault kind)) = Executed told i s t (Err (stop.Fault kind))
-Shown told i s t (Err stop.WriteFailed) = IsThere (value_by told.plan i s) × (t ≡ record s { place = s.place + 3 })
-Shown told i s t (Err stop.OutOfMemory) = Unit {0}
+abbrev pub Shown : Told → Instruction → Machine → Machine → Result Flow Halt → Type 0
+Shown told i m n (Ok flow.On) =
+    IsThere (value_by told.plan i (state_of told m))
+    × (state_of told n ≡ record (state_of told m) { place = m.place + 3 })
+Shown told i m n (Ok flow.Over) = ⊥
+Shown told i m n (Err (stop.Fault kind)) = Executed told i m n (Err (stop.Fault kind))
+Shown told i m n (Err stop.WriteFailed) =
+    IsThere (value_by told.plan i (state_of told m))
+    × (state_of told n ≡ record (state_of told m) { place = m.place + 3 })
+Shown told i m n (Err stop.OutOfMemory) = Unit {0}
 
 -- ---- what a turn of the loop comes to, by whether it carries out three instructions
 
-abbrev pub TurnedBy : Bool → Told → Instruction → State → Machine → Result Flow Halt → Type 0
-TurnedBy false told i s m r = Executed told i s (state_of (told_behind i s told) m) r
-TurnedBy true told i s m r = Shown told i s (state_of told m) r
+abbrev pub TurnedBy : Bool → Told → Instruction → Machine → Machine → Result Flow Halt → Type 0
+TurnedBy false told i m n r = Executed told i m n r
+TurnedBy true told i m n r = Shown told i m n r
 
 -- what it puts out
-abbrev pub put_out : Bool → Plan → Instruction → State → Result Flow Halt → List ℕ
-put_out false plan i s r = added i s
-put_out true plan i s (Ok f) = text_in (value_by plan i s)
-put_out true plan i s (Err (stop.Fault kind)) = []
-put_out true plan i s (Err stop.WriteFailed) = text_in (value_by plan i s)
-put_out true plan i s (Err stop.OutOfMemory) = []
+abbrev pub put_out : Bool → Told → Instruction → Machine → Result Flow Halt → List ℕ
+put_out false told i m r = added i (state_of told m)
+put_out true told i m (Ok f) = text_in (value_by told.plan i (state_of told m))
+put_out true told i m (Err (stop.Fault kind)) = []
+put_out true told i m (Err stop.WriteFailed) = text_in (value_by told.plan i (state_of told m))
+put_out true told i m (Err stop.OutOfMemory) = []

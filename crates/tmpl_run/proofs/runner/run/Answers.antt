@@ -1,8 +1,8 @@
-use Rattle.std.proofs.Common.{arith, ◌≡◌, ◌<◌, ℕ, ap, subst, sym, refl, length, []}
+use Rattle.std.proofs.Common.{arith, ◌≡◌, ◌<◌, ℕ, ap, subst, sym, length, []}
 use Rattle.std.specs.Prelude.{IfSome, option_map, slice_get}
 use Rattle.tmpl_values.specs.Put.{Puts}
 use Rattle.tmpl_values.specs.View.{value_of}
-use Rattle.tmpl_meaning.specs.Meaning.{Ran, ran, starting_dot}
+use Rattle.tmpl_meaning.specs.Meaning.{Ran, ran}
 use Rattle.tmpl_syntax.specs.View.{set_view}
 use Rattle.tmpl_meaning.specs.Sink.{sunk}
 use Rattle.tmpl_meaning.specs.View.{rules_of}
@@ -14,10 +14,10 @@ use Rattle.tmpl_run.specs.computed.Output.{Grows, given_of, waiting}
 use Rattle.tmpl_run.specs.Run.{IsRun}
 use Rattle.tmpl_run.specs.computed.Plan.{plan_of}
 use Rattle.tmpl_run.specs.State.{Plan, State}
-use Rattle.tmpl_run.specs.computed.View.{cells_of, size_of}
+use Rattle.tmpl_run.specs.computed.View.{cells_of}
 use Rattle.tmpl_run.proofs.OutputLemmas.{behind, grows-on}
 use Rattle.tmpl_run.proofs.QuietLemmas.{spared}
-use Rattle.tmpl_run.proofs.RunLemmas.{comes-to}
+use Rattle.tmpl_run.proofs.RunLemmas.{comes-to, counts-so}
 use Rattle.tmpl_run.proofs.StartLemmas as start
 use Rattle.tmpl_run.proofs.StartLemmas.{ran_from}
 use Rattle.tmpl_run.proofs.runner.run.Goals as goal
@@ -47,49 +47,45 @@ turns-end-requires g c =
     let p = c.parts-parts.result.now in
     let plan : Plan = plan_of c.args.options.now p in
     let m = c.start-machine.result in
-    let s : State = state_of (nothing_told plan) m in
     let size = length c.args.cells.now in
-    let state = c.start-machine.ensures.state in
+    let begun = c.start-machine.ensures in
+    let linked = c.parts-parts.ensures.linked in
     let inside = entry-of c.args.entry.number p c.args.program.now c.parts-parts.ensures.value c.requires.entry in
     let room = room-of c.args.options.now.depth c.args.entry.number size p c.args.program.now c.parts-parts.ensures.value c.requires.room in
-    let three = start.three plan size c.args.entry.number c.parts-parts.ensures.linked inside c.args.options.now.depth_in_range.0 room in
-    let count : length (cells_of m.stack) ≡ 3 = ap (λ (t : State). length t.cells) state in
-    let deep : m.depth ≡ 1 = ap (λ (t : State). t.depth) state in
-    let left : m.left ≡ c.args.options.now.steps = ap (λ (t : State). t.left) state in
-    let most = c.args.options.now.steps_in_range.1 in
-    let sized = c.start-machine.ensures.size in
-    λ κs h. (
-      h,
-      (
-        refl,
-        (
-          refl,
-          (
-            refl,
-            (
-              start.starts-so plan size c.args.entry.number c.parts-parts.ensures.linked inside c.args.options.now.depth_in_range.0 room (size_of m.stack)
-                  (starting_dot (option_map (λ d. value_of d.now) c.args.data)) s sized state,
-              (
-                omega (arith, count, three, sized),
-                (
-                  c.start-machine.ensures.plain,
-                  (
-                    omega (arith, deep, left, most),
-                    c.requires.countable,
-                  ),
-                ),
-              ),
-            ),
-          ),
-        ),
-      ),
-    )
+    let some = c.args.options.now.depth_in_range.0 in
+    let three = start.three plan size c.args.entry.number linked inside some room in
+    let count : length (cells_of m.stack) ≡ 3 = ap (λ (t : State). length t.cells) begun.state in
+    let deep : m.depth ≡ 1 = ap (λ (t : State). t.depth) begun.state in
+    let left : m.left ≡ c.args.options.now.steps = ap (λ (t : State). t.left) begun.state in
+    record {
+      ends = (_, start.comes-so plan size c.args.entry.number linked inside some room m _ begun.size begun.state);
+      within = omega (arith, count, three, begun.size);
+      plain = begun.plain;
+      depth = omega (arith, deep, left, c.args.options.now.steps_in_range.1);
+      countable = c.requires.countable;
+    }
+
+pub close-requires : goal.close-requires
+close-requires g c = λ kept.
+    let begun = c.start-machine.ensures in
+    let p = c.parts-parts.result.now in
+    let ends = start.comes-so (plan_of c.args.options.now p) (length c.args.cells.now) c.args.entry.number c.parts-parts.ensures.linked
+    (entry-of c.args.entry.number p c.args.program.now c.parts-parts.ensures.value c.requires.entry) c.args.options.now.depth_in_range.0
+    (room-of c.args.options.now.depth c.args.entry.number (length c.args.cells.now) p c.args.program.now c.parts-parts.ensures.value c.requires.room)
+    c.start-machine.result _ begun.size begun.state in
+    omega (arith, counts-so _ _ _ c.turns-end.result (c.turns-end.ensures.came _ ends) kept, c.requires.countable)
 
 pub returns-clause-runs : goal.returns-clause-runs
 returns-clause-runs g c =
     let p = c.parts-parts.result.now in
     let plan : Plan = plan_of c.args.options.now p in
     let m = c.start-machine.result in
+    let begun = c.start-machine.ensures in
+    let linked = c.parts-parts.ensures.linked in
+    let inside = entry-of c.args.entry.number p c.args.program.now c.parts-parts.ensures.value c.requires.entry in
+    let size = length c.args.cells.now in
+    let room = room-of c.args.options.now.depth c.args.entry.number size p c.args.program.now c.parts-parts.ensures.value c.requires.room in
+    let ends = start.comes-so plan size c.args.entry.number linked inside c.args.options.now.depth_in_range.0 room m _ begun.size begun.state in
     let s : State = state_of (nothing_told plan) m in
     let end : Ran = ran_from plan s in
     let last = c.close.new.piece in
@@ -99,14 +95,13 @@ returns-clause-runs g c =
     let input = option_map (λ d. value_of d.now) c.args.data in
     let mid : Puts = given_of middle c.turns-end.new.piece in
     let came : Came end (behind before [] 0) mid c.turns-end.result =
-    subst (λ l. Came end (behind before l 0) mid c.turns-end.result) c.new-piece.ensures c.turns-end.ensures.came in
+    subst (λ l. Came end (behind before l 0) mid c.turns-end.result) c.new-piece.ensures (c.turns-end.ensures.came end ends) in
     let grows : Grows before after = grows-on before middle after c.turns-end.ensures.taken c.close.ensures.taken in
-    let inside = entry-of c.args.entry.number p c.args.program.now c.parts-parts.ensures.value c.requires.entry in
     subst (λ (q : Parts). IfSome (slice_get (set_view q.set.now) c.args.entry.number)
     (λ t. IsRun (ran (rules_of c.args.options.now) (set_view q.set.now) t.0 t.1 input) (sunk before after) c.close.result))
     c.parts-parts.ensures.value
-    (start.meant-so plan (length c.args.cells.now) c.args.entry.number c.parts-parts.ensures.linked inside
-    (λ (r : Ran). IsRun r (sunk before after) c.close.result) input s c.start-machine.ensures.state
+    (start.meant-so plan (length c.args.cells.now) c.args.entry.number linked inside
+    (λ (r : Ran). IsRun r (sunk before after) c.close.result) input s begun.state
     (comes-to end before after (waiting last) 0 grows 0 c.turns-end.result c.close.result mid came c.close.ensures.closed))
 
 pub returns-clause-spared : goal.returns-clause-spared

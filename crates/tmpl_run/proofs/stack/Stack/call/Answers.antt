@@ -1,22 +1,7 @@
 use Rattle.std.proofs.Common.{arith, ◌∙◌, ◌+◌, ◌-◌}
 use Rattle.tmpl_run.specs.computed.Plain.{IsPlainStack}
-use Rattle.tmpl_run.specs.computed.View.{cells_of}
-use Rattle.tmpl_run.proofs.ArgumentLemmas.{table-is}
 use Rattle.tmpl_run.proofs.PlainLemmas.{borrowed-popped}
-use Rattle.tmpl_run.proofs.StackLemmas.{live-length}
 use Rattle.tmpl_run.proofs.stack.Stack.call.Goals as goal
-
-pub returns-clause-table : goal.returns-clause-table
-unfolding cells_of
-returns-clause-table c =
-    let s = c.args.self.now in
-    let below = c.piped_count-below.result in
-    let from = s.top - (c.args.count + below) in
-    let live = live-length s.top s.cells.now s.within in
-    let is = c.piped_count-below.ensures in
-    let found = c.requires.found in
-    table-is c.args.func c.call_between-result.result c.args.count s.top c.args.piped below (s.top - from) from s.cells.now is (omega arith) (omega arith)
-    s.within c.call_between-result.ensures.table
 
 pub returns-clause-plain : goal.returns-clause-plain
 unfolding IsPlainStack

@@ -1,7 +1,0 @@
-use Rattle.tmpl_run.specs.computed.Plain.{IsPlainStack}
-use Rattle.tmpl_run.proofs.PlainLemmas.{borrowed-same}
-use Rattle.tmpl_run.proofs.stack.Stack.element.Goals as goal
-
-pub returns-clause-plain : goal.returns-clause-plain
-unfolding IsPlainStack
-returns-clause-plain c = borrowed-same c.args.self.now.top c.args.self.now.cells.now c.element_at.new.cells c.element_at.ensures.same
