@@ -4,7 +4,7 @@ use Rattle.std.proofs.Common.{◌++◌, Option, Some, None, refl, sym, ap, subst
 use Rattle.std.proofs.Common.{append_assoc, length-take, length-drop, length-append, nat_eq}
 use Rattle.std.proofs.lemmas.Bool.{eqb-true, and_parts, both_ways, false_from_ne_true}
 use Rattle.std.proofs.lemmas.List.{take_all}
-use Rattle.std.proofs.lemmas.List.Sums.{count_by-le-length, sum_by-take-drop, sum_by-append, sum_by-cons}
+use Rattle.std.proofs.lemmas.List.Sums.{count_by-le-length, sum_by-append, sum_by-cons}
 use Rattle.std.proofs.Math.Seq.{take-append_seam}
 use Rattle.tmpl_lex.specs.Bytes.{is_space, Absent, BeginsNone}
 use Rattle.tmpl_lex.specs.Cut.{Leads, Cuts, last, closed, unclosed}
@@ -74,39 +74,12 @@ newlines-within before after rest h =
 
 -- ---- a text, by what a right trim marker takes of it
 
--- its newlines are those of what is taken and of what is kept
-pub newlines-split : (right : Bool) (before taken kept : List ℕ) → taken ≡ take (leading right before) before → kept ≡ without_leading right before
-    → newlines taken + newlines kept ≡ newlines before
-newlines-split right before taken kept e f =
-    ap (λ xs. newlines xs + newlines kept) e
-    ∙ ap (λ xs. newlines (take (leading right before) before) + newlines xs) f
-    ∙ sum_by-take-drop (λ b. cond (nat_eq b 10) 1 0) before (leading right before)
-
-pub texts-put : (old mid : List Piece) (right left : Bool) (line count : ℕ) (before taken kept text : List ℕ)
-    → taken ≡ take (leading right before) before → kept ≡ without_leading right before → count ≡ newlines taken → text ≡ without_trailing left kept
-    → mid ≡ old ++ text_piece (line + count) text → mid ≡ old ++ texts right left line before
-texts-put old mid right left line count before taken kept text e f n t put =
-    put
-    ∙ ap (λ k. old ++ text_piece (line + k) text) (n ∙ ap newlines e)
-    ∙ ap (λ xs. old ++ text_piece (line + newlines (take (leading right before) before)) xs) (t ∙ ap (without_trailing left) f)
-
--- what a step of the cut has added: a text, and what a `{{` begins, on the line that it stands on
-pub record IsAdded (right : Bool) (line : ℕ) (before after : List ℕ) (here : ℕ) (old mid new : List Piece) (o : Opened) : Type 0 where
-  pub line_is : here ≡ line + newlines before
-  pub put : mid ≡ old ++ texts right (left_marked after) line before
-  pub grown : new ≡ mid ++ pieces_of (line + newlines before) o
-
-pub IsAdded-step : (right : Bool) (line first second : ℕ) (before after taken kept text : List ℕ) (old mid new : List Piece) (o : Opened)
-    → taken ≡ take (leading right before) before → kept ≡ without_leading right before
-    → first ≡ newlines taken → second ≡ newlines kept → text ≡ without_trailing (left_marked after) kept → mid ≡ old ++ text_piece (line + first) text
-    → new ≡ mid ++ pieces_of (line + first + second) o
-    → IsAdded right line before after (line + first + second) old mid new o
-IsAdded-step right line first second before after taken kept text old mid new o e f n m t put grown =
-    let here : line + first + second ≡ line + newlines before = omega (arith, newlines-split right before taken kept e f, n, m) in record {
-      line_is = here;
-      put = texts-put old mid right (left_marked after) line first before taken kept text e f n t put;
-      grown = grown ∙ ap (λ k. mid ++ pieces_of k o) here;
-    }
+pub texts-put : (right left : Bool) (line count : ℕ) (before taken kept text : List ℕ) → taken ≡ take (leading right before) before
+    → kept ≡ without_leading right before → count ≡ newlines taken → text ≡ without_trailing left kept
+    → text_piece (line + count) text ≡ texts right left line before
+texts-put right left line count before taken kept text e f n t =
+    ap (λ k. text_piece (line + k) text) (n ∙ ap newlines e)
+    ∙ ap (text_piece (line + newlines (take (leading right before) before))) (t ∙ ap (without_trailing left) f)
 
 -- with no marker behind it all is kept
 pub without_trailing-unmarked : (bs : List ℕ) → bs ≡ without_trailing false bs

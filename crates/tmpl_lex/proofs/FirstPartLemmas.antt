@@ -1,6 +1,6 @@
 -- For `first_part`: a part, and the rest behind it, are cut as the whole is. For `cut`: part by part all of a file is cut.
 use Rattle.std.proofs.Common.{arith, ◌≡◌, ◌∙◌, ℕ, ◌+◌, ◌<◌, ◌^◌, Bool, false, List, [], ◌++◌, Option, Some, None, refl, sym, ap, subst}
-use Rattle.std.proofs.Common.{length, take, append_assoc, append-nil}
+use Rattle.std.proofs.Common.{length, take, append-nil}
 use Rattle.std.proofs.lemmas.Option.{same_Some}
 use Rattle.std.specs.Option.{option_map}
 use Rattle.tmpl_lex.specs.declared.action.Opened as held_opened
@@ -32,7 +32,7 @@ ends-same ts us variant.Neither = refl
 pub last-cuts : (right : Bool) (line count : ℕ) (bs taken kept : List ℕ) → None ≡ split_open bs → taken ≡ take (leading right bs) bs
     → kept ≡ without_leading right bs → count ≡ newlines taken → Cuts right line bs (text_piece (line + count) kept ++ [])
 last-cuts right line count bs taken kept none t k n =
-    let is = texts-put [] (text_piece (line + count) kept) right false line count bs taken kept kept t k n (without_trailing-unmarked kept) refl in
+    let is = texts-put right false line count bs taken kept kept t k n (without_trailing-unmarked kept) in
     subst (λ ps. Cuts right line bs ps) (sym (append-nil (text_piece (line + count) kept) ∙ is)) (cuts-last right line bs (sym none))
 
 module _ (file : List ℕ) (rest : held.Rest) (before after : List ℕ) (split : Some (before, after) ≡ split_open rest.bytes.now) (o : Opened)
@@ -118,14 +118,6 @@ whole-cut file rest more b l t cuts =
     sym (Cuts-cut_of file more
     (subst (λ (bs : List ℕ). Cuts false 1 bs more) b
     (subst (λ (n : ℕ). Cuts false n rest.bytes.now more) l (subst (λ (x : Bool). Cuts x rest.line rest.bytes.now more) t cuts))))
-
--- a part more
-pub more-cut : (file : List ℕ) (old new ps : List Piece) (rest next : held.Rest) (r : Option held.Rest) → IsSoFar file old rest → r ≡ Some next
-    → IsCutBy rest ps r → new ≡ old ++ ps → IsSoFar file new next
-more-cut file old new ps rest next r so_far is cuts grown = λ more h.
-    so_far (ps ++ more) (subst (IsCutBy rest ps) is cuts more h)
-    ∙ sym (append_assoc old ps more)
-    ∙ ap (λ (qs : List Piece). qs ++ more) (sym grown)
 
 -- the last part
 pub last-cut : (file : List ℕ) (old new ps : List Piece) (rest : held.Rest) (r : Option held.Rest) → IsSoFar file old rest → r ≡ None
