@@ -1,6 +1,6 @@
 -- For `one_spelling`: the items of an accepted file spell what is built from them.
-use Rattle.std.proofs.Common.{◌≡◌, ℕ, Bool, true, false, not, ◌&&◌, ◌||◌, List, [], ◌∷◌, refl, sym, subst, length, Option, Some, None}
-use Rattle.std.proofs.lemmas.Bool.{false≢true, and_parts}
+use Rattle.std.proofs.Common.{◌≡◌, ℕ, Bool, true, false, not, ◌||◌, List, [], ◌∷◌, refl, sym, ap, ◌∙◌, subst, length, Option, Some, None}
+use Rattle.std.proofs.lemmas.Bool.{and_parts, not-true}
 use Rattle.tmpl_syntax.specs.Fault.{Reason}
 use Rattle.tmpl_syntax.specs.Fault as reason
 use Rattle.tmpl_syntax.specs.computed.Frames.{Frame}
@@ -11,7 +11,10 @@ use Rattle.tmpl_syntax.specs.Item.{ItemKind, Item, item, text_item, unreadable_i
 use Rattle.tmpl_syntax.specs.Place.Role.{Name, role_of, roles_of}
 use Rattle.tmpl_syntax.specs.Place.Open.{is_template}
 use Rattle.tmpl_syntax.specs.Place.Body.{Verdict, fine, refused, left_open}
-use Rattle.tmpl_syntax.specs.computed.Frames.{Known, none_known, top, takes_else, elsed, seen_at, fault_at, frames_past}
+use Rattle.tmpl_syntax.specs.computed.Frames.{Known, none_known, top, takes_else, seen_at, fault_at, frames_past}
+use Rattle.tmpl_syntax.specs.Place.Body.{joins}
+use Rattle.tmpl_syntax.proofs.ElseLemmas.{joins-own}
+use Rattle.tmpl_grammar.specs.declared.action.Branch.{Branch}
 use Rattle.tmpl_syntax.specs.computed.Frames.{unless_fault, verdict_from, verdict_of}
 use Rattle.tmpl_syntax.specs.Spelling.{IsNode, a_text, an_action, a_break, a_continue, a_template, Leads, nothing, a_node, a_control, a_define, a_block}
 use Rattle.tmpl_syntax.specs.Spelling.{Closes, an_end, an_else, an_else_branch, Spells}
@@ -24,13 +27,9 @@ or-true true = refl
 or-true false = refl
 
 -- a part behind which an else may stand
-open-end : (f : Frame) → takes_else (Some f) ≡ true → (is_template f.opening || f.has_else) ≡ false
-open-end f e = by (is_template f.opening) f.has_else e
-  where
-    by : (b c : Bool) → (not b && not c) ≡ true → (b || c) ≡ false
-    by false false e = refl
-    by false true e = absurd (false≢true e)
-    by true c e = absurd (false≢true e)
+open-end : (b : Option Branch) (f : Frame) → takes_else b (Some f) ≡ true → (is_template f.opening || f.has_else) ≡ false
+open-end b f e =
+    let p = and_parts (joins b f.opening) (not f.has_else) e in ap (λ t. t || f.has_else) (joins-own b f.opening p.0) ∙ not-true f.has_else p.1
 
 -- only the `end` may stand behind a part: its plain else came already, or it is the body of a template
 abbrev ends_only : Frame → Bool
@@ -65,17 +64,17 @@ closing-end : (b : Bool) (line : ℕ) (xs : List Item) (ds : List Definition) �
 closing-end false line xs ds = an_end
 closing-end true line xs ds = (line, refl, refl, refl)
 
-closing-of : (f : Frame) (ys zs : List Item) (es gs : List Definition) (other : Nodes) → takes_else (Some f) ≡ true
+closing-of : (f : Frame) (ys zs : List Item) (es gs : List Definition) (other : Nodes) → ends_only f ≡ false
     → Closes ys es other zs gs → Closing (ends_only f) ys es other zs gs
-closing-of f ys zs es gs other e c = subst (λ k. Closing k ys es other zs gs) (sym (open-end f e)) c
+closing-of f ys zs es gs other e c = subst (λ k. Closing k ys es other zs gs) (sym e) c
 
-closes-of : (f : Frame) (ys zs : List Item) (es gs : List Definition) (other : Nodes) → takes_else (Some f) ≡ true
+closes-of : (f : Frame) (ys zs : List Item) (es gs : List Definition) (other : Nodes) → ends_only f ≡ false
     → Closing (ends_only f) ys es other zs gs → Closes ys es other zs gs
-closes-of f ys zs es gs other e c = subst (λ k. Closing k ys es other zs gs) (open-end f e) c
+closes-of f ys zs es gs other e c = subst (λ k. Closing k ys es other zs gs) e c
 
 -- behind a plain else, and in the body of a template, only the `end` stands
-elsed-closing : (f : Frame) (ys zs : List Item) (es gs : List Definition) (other : Nodes) → Closing (ends_only (elsed f)) ys es other zs gs
-    → Closing true ys es other zs gs
+elsed-closing : (f : Frame) (ys zs : List Item) (es gs : List Definition) (other : Nodes)
+    → Closing (is_template f.opening || true) ys es other zs gs → Closing true ys es other zs gs
 elsed-closing f ys zs es gs other c = subst (λ b. Closing b ys es other zs gs) (or-true (is_template f.opening)) c
 
 template-body : (xs ys zs : List Item) (es gs : List Definition) {ds : List Definition} {ns other : Nodes} (c : Closing true ys es other zs gs)
@@ -105,7 +104,7 @@ module _ (names : List Name) (xs : List Item) (p : build.Parts) where
       (first_of p.around) (rest_of p.around) (λ ns ys es d. a_control r.2 r.5 d) r.6
   step (item line (action_item plain_else)) [] e r = let g : false ≡ true = (placed (item line (action_item plain_else)) None e).0 in cc
   step (item line (action_item plain_else)) (f ∷ fs) e r =
-      let takes : takes_else (Some f) ≡ true = (placed (item line (action_item plain_else)) (Some f) e).0 in
+      let takes = open-end None f (placed (item line (action_item plain_else)) (Some f) e).0 in
       let end = elsed-closing f _ _ _ _ _ r.5 in (
         item line (action_item plain_else) ∷ xs,
         p.definitions,
@@ -119,7 +118,7 @@ module _ (names : List Name) (xs : List Item) (p : build.Parts) where
   step (item line (action_item (else_branch branch h))) [] e r =
       let g = (placed (item line (action_item (else_branch branch h))) None e).0 in let h : false ≡ true = g in cc
   step (item line (action_item (else_branch branch h))) (f ∷ fs) e r =
-      let takes : takes_else (Some f) ≡ true = (and_parts _ _ (placed (item line (action_item (else_branch branch h))) (Some f) e).0).0 in (
+      let takes = open-end (Some branch) f (placed (item line (action_item (else_branch branch h))) (Some f) e).0 in (
         item line (action_item (else_branch branch h)) ∷ xs,
         p.definitions,
         nothing,
