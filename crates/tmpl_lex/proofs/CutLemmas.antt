@@ -26,8 +26,8 @@ use Rattle.tmpl_lex.proofs.TextLemmas.{texts-made, texts-only}
 
 comment_closed-shorter : (t : Bool) (o : Option (List ℕ × List ℕ)) (n : ℕ) (e : End) → ((p : List ℕ × List ℕ) → o ≡ Some p → length p.1 ≤ n)
     → comment_closed t o ≡ Some e → length e.rest < n
-comment_closed-shorter false o n e within h = let g : ◌≡◌ {A = Option End} None (Some e) = h in cc
-comment_closed-shorter true None n e within h = let g : ◌≡◌ {A = Option End} None (Some e) = h in cc
+comment_closed-shorter false o n e within h = cc
+comment_closed-shorter true None n e within h = cc
 comment_closed-shorter true (Some p) n e within h = omega (arith, right_delimiter-shorter p.1 e h, within p refl)
 
 pub comment_end-shorter : (bs : List ℕ) (e : End) → comment_end bs ≡ Some e → length e.rest < length bs
@@ -47,7 +47,7 @@ opened-shorter bs e h = go (comment_end bs) refl (inside bs) refl h
     go None c (Some i) d h =
         let same : i.1 ≡ e = cc in
         omega (arith, inside-shorter bs i d, ap (λ (x : End). length x.rest) same)
-    go None c None d h = let g : ◌≡◌ {A = Option End} (Some e) None = h in cc
+    go None c None d h = cc
 
 pub past_left-within : (bs : List ℕ) → length (past_left bs) ≤ length bs
 past_left-within bs = go (left_marked bs)
@@ -212,7 +212,7 @@ at-closed line after (comment e) end further h = let same : e ≡ end =
     cc in ap (λ (x : End). further x.trims (line + newlines (stretch after x.rest)) x.rest) same
 at-closed line after (tokens ts e) end further h = let same : e ≡ end =
     cc in ap (λ (x : End). action line ts ∷ further x.trims (line + newlines (stretch after x.rest)) x.rest) same
-at-closed line after neither end further h = let g : ◌≡◌ {A = Option End} None (Some end) = h in cc
+at-closed line after neither end further h = cc
 
 -- bytes are cut into the pieces of `cut_within`
 cut_within-Cuts : (n : ℕ) (right : Bool) (line : ℕ) (bs : List ℕ) → length bs < n → Cuts right line bs (cut_within n right line bs)
@@ -224,8 +224,8 @@ cut_within-Cuts (suc n) right line bs h =
     tell : ((t : Bool) (next : ℕ) (rest : List ℕ) → length rest < length bs → Cuts t next rest (cut_within n t next rest)) → (before after : List ℕ)
         → split_open bs ≡ Some (before, after) → (o : Opened) → opened (past_left after) ≡ o → (c : Option End) → ends_at o ≡ c
         → Cuts right line bs (texts right (left_marked after) line before ++ pieces_at (line + newlines before) after o (cut_within n))
-    tell ih before after e (comment end) f None at = let g : ◌≡◌ {A = Option End} (Some end) None = at in cc
-    tell ih before after e (tokens ts end) f None at = let g : ◌≡◌ {A = Option End} (Some end) None = at in cc
+    tell ih before after e (comment end) f None at = cc
+    tell ih before after e (tokens ts end) f None at = cc
     tell ih before after e neither f None at = cuts-unclosed right line bs before after e f
     tell ih before after e o f (Some end) at =
         subst (λ (ps : List Piece). Cuts right line bs ps)

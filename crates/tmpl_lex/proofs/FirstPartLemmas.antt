@@ -56,8 +56,8 @@ module _ (file : List ℕ) (rest : held.Rest) (before after : List ℕ) (split :
     where
       by : (x : Opened) → o ≡ x → ends_at x ≡ None
           → Cuts rest.trims rest.line rest.bytes.now (texts rest.trims (left_marked after) rest.line before ++ pieces_of here x)
-      by (comment e) same at = let g : ◌≡◌ {A = Option End} (Some e) None = at in cc
-      by (tokens ts e) same at = let g : ◌≡◌ {A = Option End} (Some e) None = at in cc
+      by (comment e) same at = cc
+      by (tokens ts e) same at = cc
       by neither same at = cuts-unclosed rest.trims rest.line rest.bytes.now before after (sym split) (sym read ∙ same)
 
   pub part-cuts : (ps : List Piece) (r : Option held.Rest) → ArePieces ps → option_map rest_of r ≡ option_map (rest_behind after here) (ends_at o)
@@ -66,8 +66,8 @@ module _ (file : List ℕ) (rest : held.Rest) (before after : List ℕ) (split :
     where
       by : (e : Option End) → ends_at o ≡ e → (r : Option held.Rest) → option_map rest_of r ≡ option_map (rest_behind after here) e → IsCutBy rest ps r
       by None at None q = unclosed-part ps at is
-      by None at (Some r) q = let g : ◌≡◌ {A = Option Rest} (Some (rest_of r)) None = q in cc
-      by (Some e) at None q = let g : ◌≡◌ {A = Option Rest} None (Some (rest_behind after here e)) = q in cc
+      by None at (Some r) q = cc
+      by (Some e) at None q = cc
       by (Some e) at (Some r) q = closed-part e ps r at is (same_Some (rest_of r) (rest_behind after here e) q)
 
   -- ---- what is left
@@ -89,7 +89,7 @@ module _ (file : List ℕ) (rest : held.Rest) (before after : List ℕ) (split :
         by : (e : Option End) → ends_at o ≡ e → (r : Option held.Rest) → option_map rest_of r ≡ option_map (rest_behind after here) e
             → IsLeftBehind file rest r
         by e at None q = tt
-        by None at (Some r) q = let g : ◌≡◌ {A = Option Rest} (Some (rest_of r)) None = q in cc
+        by None at (Some r) q = cc
         by (Some e) at (Some r) q =
             let same = same_Some (rest_of r) (rest_behind after here e) q in
             let found = sym at ∙ ap ends_at read in

@@ -66,7 +66,7 @@ found-ends bs e h = go (has_right_delimiter bs) refl (right_marked bs) refl h
         let same : record { trims = true; rest = drop 4 bs } ≡ e = cc in
         let marked = marked-is bs d in
         subst (Ends bs) same (record { closing = marked.0 ∷ 45 ∷ 125 ∷ 125 ∷ []; closes = closes_marked marked.1.0; is = marked.1.1 })
-    go false c false d h = let g : ◌≡◌ {A = Option End} None (Some e) = h in cc
+    go false c false d h = cc
 
 no-closes : (b : ℕ) (bs : List ℕ) → nat_eq b 125 ≡ false → has_right_delimiter (b ∷ bs) ≡ false
 no-closes b [] e = refl
@@ -201,7 +201,7 @@ up-to-is F G q b bs xs true end step o ih h =
     let same : b ∷ [] ≡ xs = cc in
     let at = end refl in
     record { inside = []; rest = bs; form = at.1; found = sym same ∙ ap (λ k. k ∷ []) at.0; is = ap (λ k. k ∷ bs) at.0 }
-up-to-is F G q b bs xs false end step None ih h = let g : ◌≡◌ {A = Option (List ℕ)} None (Some xs) = h in cc
+up-to-is F G q b bs xs false end step None ih h = cc
 up-to-is F G q b bs xs false end step (Some ys) ih h =
     let more = ih ys refl in
     let same : b ∷ ys ≡ xs = cc in record {
@@ -213,7 +213,7 @@ up-to-is F G q b bs xs false end step (Some ys) ih h =
     }
 
 quoted-is : (q : ℕ) (e : Bool) (bs xs : List ℕ) → quoted q e bs ≡ Some xs → IsUpTo (Behind q e) q bs xs
-quoted-is q e [] xs h = let g : ◌≡◌ {A = Option (List ℕ)} None (Some xs) = h in cc
+quoted-is q e [] xs h = cc
 quoted-is q e (b ∷ bs) xs h = go (nat_eq b 10) refl e (nat_eq b 92 && not e) refl (λ s ys f. quoted-is q s bs ys f) h
   where
     step : nat_eq b 10 ≡ false → (s : Bool) → (nat_eq b 92 && true) ≡ s → (nat_eq b q && true) ≡ false → (ys : List ℕ) → Behind q s ys → IsQuoted q (b ∷ ys)
@@ -223,7 +223,7 @@ quoted-is q e (b ∷ bs) xs h = go (nat_eq b 10) refl e (nat_eq b 92 && not e) r
     go : (l : Bool) → nat_eq b 10 ≡ l → (e s : Bool) → (nat_eq b 92 && not e) ≡ s
         → ((s : Bool) (ys : List ℕ) → quoted q s bs ≡ Some ys → IsUpTo (Behind q s) q bs ys)
         → unless l (up_to (nat_eq b q && not e) b (quoted q s bs)) ≡ Some xs → IsUpTo (Behind q e) q (b ∷ bs) xs
-    go true el e s es ih h = let g : ◌≡◌ {A = Option (List ℕ)} None (Some xs) = h in cc
+    go true el e s es ih h = cc
     go false el false s es ih h = up-to-is (Behind q s) (IsQuoted q) q b bs xs (nat_eq b q && true)
         (λ t. (eqb-true b q (and-true (nat_eq b q) true t), no_byte)) (step el s es) (quoted q s bs) (ih s) h
     go false el true true es ih h = let g : false ≡ true = sym (and-false (nat_eq b 92)) ∙ es in cc
@@ -241,7 +241,7 @@ absent-more q b bs n h [] ys e = both_ways (nat_eq b q) n (ap (λ k. nat_eq k q)
 absent-more q b bs n h (x ∷ xs) ys e = h xs ys (same-rest b x bs (xs ++ q ∷ [] ++ ys) e)
 
 raw-is : (q : ℕ) (bs xs : List ℕ) → through q bs ≡ Some xs → IsUpTo (Absent (q ∷ [])) q bs xs
-raw-is q [] xs h = let g : ◌≡◌ {A = Option (List ℕ)} None (Some xs) = h in cc
+raw-is q [] xs h = cc
 raw-is q (b ∷ bs) xs h = up-to-is (Absent (q ∷ [])) (Absent (q ∷ [])) q b bs xs (nat_eq b q)
     (λ e. (eqb-true b q e, λ us ys f. absurd (omega (arith, ap length f, length-append (us ++ q ∷ []) ys, length-append us (q ∷ [])))))
     (λ e ys f. absent-more q b ys e f) (through q bs) (λ ys f. raw-is q bs ys f) h
@@ -440,16 +440,16 @@ no-marker : (bs : List ℕ) → right_delimiter bs ≡ None → right_marked bs 
 no-marker bs h = go (has_right_delimiter bs) (right_marked bs) h
   where
     go : (c m : Bool) → ended_by c m bs ≡ None → m ≡ false
-    go true m h = let g : ◌≡◌ {A = Option End} (Some (record { trims = false; rest = drop 2 bs })) None = h in cc
-    go false true h = let g : ◌≡◌ {A = Option End} (Some (record { trims = true; rest = drop 4 bs })) None = h in cc
+    go true m h = cc
+    go false true h = cc
     go false false h = refl
 
 pub stands : (bs : List ℕ) (t : Token) → IsFound bs t → BeginsWith bs t
-stands [] t h = let g : ◌≡◌ {A = Option Token} None (Some t) = h.front in cc
+stands [] t h = cc
 stands (b ∷ bs) t h = go (begun b bs) (begun-stands b bs (no-marker (b ∷ bs) h.no_end)) h.front
   where
     go : (o : Option Begun) → AtBegun b bs o → token_from b o ≡ Some t → BeginsWith (b ∷ bs) t
-    go None at e = let g : ◌≡◌ {A = Option Token} None (Some t) = e in cc
+    go None at e = cc
     go (Some p) at e =
         let same : record { kind = p.0; bytes = b ∷ p.1 } ≡ t = cc in
         subst (BeginsWith (b ∷ bs)) same (record { rest = at.rest; stands = at.stands; is = ap (λ l. b ∷ l) at.is })

@@ -22,14 +22,14 @@ use Rattle.tmpl_syntax.proofs.FaultLemmas.{in-nothing}
 use Rattle.tmpl_syntax.specs.Place.Opening.{Opening}
 use Rattle.tmpl_syntax.specs.Place.Opening as opened
 use Rattle.tmpl_grammar.specs.declared.tree.Control.TheVariants.{Range}
-use Rattle.tmpl_syntax.specs.Place.Role.{Name, Names, plain, opener, else_part, Role, act_role}
+use Rattle.tmpl_syntax.specs.Place.Role.{Name, Names, else_part, Role, act_role}
 
 -- an else stands in a control, and one that begins with a control in no range
 pub joins-own : (b : Option Branch) (c : Opening) → joins b c ≡ true → is_template c ≡ false
 joins-own b (opened.control d) e = refl
-joins-own None _ e = let g : false ≡ true = e in cc
-joins-own (Some if_branch) _ e = let g : false ≡ true = e in cc
-joins-own (Some with_branch) _ e = let g : false ≡ true = e in cc
+joins-own None _ e = cc
+joins-own (Some if_branch) _ e = cc
+joins-own (Some with_branch) _ e = cc
 
 pub joins-no-range : (b : Branch) (c : Opening) → joins (Some b) c ≡ true → c ≢ opened.control Range
 joins-no-range if_branch c j e = let t : true ≡ false = sym j ∙ ap (joins (Some if_branch)) e in cc
@@ -37,18 +37,18 @@ joins-no-range with_branch c j e = let t : true ≡ false = sym j ∙ ap (joins 
 
 -- a control is a level
 level-there : (c : Opening) → is_template c ≡ false → is_level c ≡ true
-level-there opened.define e = let g : true ≡ false = e in cc
+level-there opened.define e = cc
 level-there _ e = refl
 
 loops-else : (c : Opening) (a : Bool) → is_template c ≡ false → loops c true a ≡ a
 loops-else (opened.control Range) a own = refl
 loops-else (opened.control _) a own = refl
-loops-else _ a own = let g : true ≡ false = own in cc
+loops-else _ a own = cc
 
 loops-other : (c : Opening) (h a : Bool) → is_template c ≡ false → c ≢ opened.control Range → loops c h a ≡ a
 loops-other (opened.control Range) h a own nr = absurd (nr refl)
-loops-other opened.define h a own nr = let g : true ≡ false = own in cc
-loops-other opened.block h a own nr = let g : true ≡ false = own in cc
+loops-other opened.define h a own nr = cc
+loops-other opened.block h a own nr = cc
 loops-other _ h a own nr = refl
 
 -- what may take an else is a control, and no range if it begins with a control
@@ -160,12 +160,9 @@ module _ (xs : List Role) (i : ℕ) (known : Known) (f : Frame) (fs : List Frame
   new n c = let w = declares n c in from_else_branch w.2 w.3 last-after.is_open
 
   old : (n : Name) → Reaches xs i (i + 1) (i + 1) n → Contains ds n
-  old n (from_top {p = q} e c z) =
-      let g : act_role (else_part b) ≡ act_role (plain q) = same-piece xs i (act_role (else_part b)) (act_role (plain q)) at e in cc
-  old n (from_inside {p = q} e c l o ne) =
-      let g : act_role (else_part b) ≡ act_role (plain q) = same-piece xs i (act_role (else_part b)) (act_role (plain q)) at e in cc
-  old n (from_header {c = d} {p = q} e c o r) =
-      let g : act_role (else_part b) ≡ act_role (opener d q) = same-piece xs i (act_role (else_part b)) (act_role (opener d q)) at e in cc
+  old n (from_top {p = q} e c z) = cc
+  old n (from_inside {p = q} e c l o ne) = cc
+  old n (from_header {c = d} {p = q} e c o r) = cc
   old n (from_else_branch {c = d} {p = q} e c o) = declared d q n e.at c
 
   new-part : (n : Name) → Contains ds n → Part xs s.1 (i + 1) n

@@ -73,7 +73,7 @@ module _ (branches : Branches) where
           → IsItem branches (action line ts) (item line (read_item (reading_of (if_there b a))))
       there a e true t = read-item line ts a (spells-action ts a e) t
       there a e false t = unread (λ b s h. let same : b ≡ a = same_Some b a (sym (reads-action ts b s) ∙ e) in
-          absurd (let g : true ≡ false = sym h ∙ ap (has_action branches) same ∙ t in cc))
+          absurd (cc))
 
       by : (o : Option Action) → action_in ts ≡ o → IsItem branches (action line ts) (item line (read_item (reading_of (kept branches o))))
       by None e = unread (λ a s h. none-spelled ts e a s)

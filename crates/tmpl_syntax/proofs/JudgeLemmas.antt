@@ -52,9 +52,9 @@ some-part xs i known b (f ∷ fs) s e =
 
 unplaced-opener : (xs : List Role) (i : ℕ) (known : Known) (c : Opening) (p : Names) (fs : List Frame) → Stands xs i known fs
     → may_open c (top fs) ≡ false → IsMisplaced xs i (opener c p)
-unplaced-opener xs i known opened.define p [] s e = let g : true ≡ false = e in cc
+unplaced-opener xs i known opened.define p [] s e = cc
 unplaced-opener xs i known opened.define p (f ∷ fs) s e = (s.1, s.2.last.is_open)
-unplaced-opener xs i known _ p fs s e = let g : true ≡ false = e in cc
+unplaced-opener xs i known _ p fs s e = cc
 
 pub unplaced : (xs : List Role) (i : ℕ) (known : Known) (fs : List Frame) (a : Act) → Stands xs i known fs → is_placed a (top fs) ≡ false → IsMisplaced xs i a
 unplaced xs i known fs (opener c p) s e = unplaced-opener xs i known c p fs s e
@@ -62,14 +62,14 @@ unplaced xs i known fs (else_part None) s e = no-part xs i known None fs s e
 unplaced xs i known fs (else_part (Some (b, p))) s e = no-part xs i known (Some b) fs s e
 unplaced xs i known fs (nested (Some b)) s e = no-part xs i known (Some b) fs s e
 unplaced xs i known [] closer s e = s.0
-unplaced xs i known (f ∷ fs) closer s e = let g : true ≡ false = e in cc
+unplaced xs i known (f ∷ fs) closer s e = cc
 unplaced xs i known fs jump s e = λ j l. both_ways (in_loop (top fs)) e ((here-of xs i known fs s).looped.1 (j, l))
-unplaced xs i known fs _ s e = let g : true ≡ false = e in cc
+unplaced xs i known fs _ s e = cc
 
 placed-opener : (xs : List Role) (i : ℕ) (known : Known) (c : Opening) (p : Names) (fs : List Frame) → Stands xs i known fs → may_open c (top fs) ≡ true
     → IsMisplaced xs i (opener c p) → ⊥
 placed-opener xs i known opened.define p [] s e h = s.0 h.0 h.1
-placed-opener xs i known opened.define p (f ∷ fs) s e h = let g : false ≡ true = e in cc
+placed-opener xs i known opened.define p (f ∷ fs) s e h = cc
 placed-opener xs i known _ p fs s e h = h
 
 pub placed : (xs : List Role) (i : ℕ) (known : Known) (fs : List Frame) (a : Act) → Stands xs i known fs → is_placed a (top fs) ≡ true → IsMisplaced xs i a → ⊥
@@ -77,7 +77,7 @@ placed xs i known fs (opener c p) s e h = placed-opener xs i known c p fs s e h
 placed xs i known fs (else_part None) s e h = h (some-part xs i known None fs s e)
 placed xs i known fs (else_part (Some (b, p))) s e h = h (some-part xs i known (Some b) fs s e)
 placed xs i known fs (nested (Some b)) s e h = h (some-part xs i known (Some b) fs s e)
-placed xs i known [] closer s e h = let g : false ≡ true = e in cc
+placed xs i known [] closer s e h = cc
 placed xs i known (f ∷ fs) closer s e h = h s.1 s.2.last.is_open
 placed xs i known fs jump s e h = let l = (here-of xs i known fs s).looped.0 e in h l.0 l.1
 placed xs i known fs _ s e h = h
@@ -86,7 +86,7 @@ placed xs i known fs _ s e h = h
 
 is-nested : (xs : List Role) (i : ℕ) (a : Act) → is_nested a ≡ true → IsTooDeep xs i a
 is-nested xs i (nested b) e = in_parentheses refl
-is-nested xs i _ e = let g : false ≡ true = e in cc
+is-nested xs i _ e = cc
 
 pub deep : (xs : List Role) (i : ℕ) (a : Act) (t : Option Frame) (names : List Name) → Here xs i t names → is_too_deep a t ≡ true → IsTooDeep xs i a
 deep xs i a t names h e = ⊎_elim (is-nested xs i a)
@@ -142,7 +142,7 @@ module _ (xs : List Role) (i : ℕ) (known : Known) where
       → (Contains (names_at a (top fs) names) n → IsInScope xs i n) × (IsInScope xs i n → Contains (names_at a (top fs) names) n)
   known-scoped fs s (plain q) at e n c = (wide fs s (act_role (plain q)) at (λ b g. cc) n, wide-back fs s n)
   known-scoped fs s (opener d q) at e n c = (wide fs s (act_role (opener d q)) at (λ b g. cc) n, wide-back fs s n)
-  known-scoped [] s (else_part (Some (b, q))) at e n c = let g : false ≡ true = e in cc
+  known-scoped [] s (else_part (Some (b, q))) at e n c = cc
   known-scoped (f ∷ fs) s (else_part (Some (b, q))) at e n c =
       let a = and_parts (joins (Some b) f.opening) (not f.has_else) e in (narrow f fs s b q at a.0 n, narrow-back f fs s b q at a.0 n)
   known-scoped fs s _ at e n c = in-nothing n c

@@ -54,11 +54,11 @@ pub count-more : (p : Role → Bool) (xs : List Role) (x : Role) (a n : ℕ) →
 count-more p xs x a n le at = count-split p xs a n (n + 1) le (omega arith) ∙ ap (λ k. count_by p (slice_range xs a n) + k) (count-one p xs x n at)
 
 pub same-piece : (xs : List Role) (i : ℕ) (a b : Role) → slice_get xs i ≡ Some a → slice_get xs i ≡ Some b → a ≡ b
-same-piece xs i a b e f = let g : Some a ≡ Some b = sym e ∙ f in cc
+same-piece xs i a b e f = cc
 
 pub same-opening : (xs : List Role) (j : ℕ) (c d : Opening) {p q : Names} → slice_get xs j ≡ Some (act_role (opener c p))
     → slice_get xs j ≡ Some (act_role (opener d q)) → c ≡ d
-same-opening xs j c d {p} {q} a b = let g : act_role (opener c p) ≡ act_role (opener d q) = same-piece xs j (act_role (opener c p)) (act_role (opener d q)) a b in cc
+same-opening xs j c d {p} {q} a b = cc
 
 -- a place between
 pub cut : (xs : List Role) (k m i : ℕ) → k < m → m ≤ i → IsOpen xs k i → IsOpen xs k m

@@ -133,8 +133,7 @@ levels-else xs i j n None e t nt r = levels-no xs (i + 1) i n (levels-even xs i 
   where
     fresh : IsLevel xs i (i + 1) → ⊥
     fresh (of_opening o is) = shut-at xs (act_role (else_part None)) i (i + 1) t.at refl o
-    fresh (of_else_branch {b = d} u o is) =
-        let g : act_role (else_part None) ≡ act_role (else_part (Some d)) = same-piece xs i (act_role (else_part None)) (act_role (else_part (Some d))) t.at u.at in cc
+    fresh (of_else_branch {b = d} u o is) = cc
 levels-else xs i j n (Some b) e t nt r =
     let o = e.keeps j t.belongs.is_open in
     levels-yes xs (i + 1) i n (levels-even xs i n e r) (of_else_branch t o (ap is_level

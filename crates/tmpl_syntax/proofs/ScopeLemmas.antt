@@ -163,9 +163,8 @@ brought-opened-back xs i n c p at nt b = ⊎_elim
     same-pipe d q e = cc
 
     new : Reaches xs i (i + 1) (i + 1) n → Contains p.declares n
-    new (from_top {p = q} e h z) = let g : act_role (opener c p) ≡ act_role (plain q) = same-piece xs i (act_role (opener c p)) (act_role (plain q)) at e in cc
-    new (from_inside {p = q} e h l oq ne) =
-        let g : act_role (opener c p) ≡ act_role (plain q) = same-piece xs i (act_role (opener c p)) (act_role (plain q)) at e in cc
+    new (from_top {p = q} e h z) = cc
+    new (from_inside {p = q} e h l oq ne) = cc
     new (from_header {c = d} {p = q} e h oq r) =
         let g = same-pipe d q (same-piece xs i (act_role (opener c p)) (act_role (opener d q)) at e) in subst (λ z. Contains z.declares n) (sym g) h
     new (from_else_branch {c = d} {p = q} e h oq) = absurd (no-else xs (act_role (opener c p)) i at (λ u g. cc) (Some (d, q)) _ e)

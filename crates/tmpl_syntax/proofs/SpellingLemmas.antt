@@ -2,7 +2,6 @@
 use Rattle.std.proofs.Common.{◌≡◌, ℕ, Bool, true, false, not, ◌||◌, List, [], ◌∷◌, refl, sym, ap, ◌∙◌, subst, length, Option, Some, None}
 use Rattle.std.proofs.lemmas.Bool.{and_parts, not-true}
 use Rattle.tmpl_syntax.specs.Fault.{Reason}
-use Rattle.tmpl_syntax.specs.Fault as reason
 use Rattle.tmpl_syntax.specs.computed.Frames.{Frame}
 use Rattle.tmpl_syntax.specs.Tree.{NodeKind, control_node, template_node, Nodes, none, then, Definition}
 use Rattle.tmpl_grammar.specs.Action.{pipeline_action, opening, plain_else, else_branch, end_action, break_action, continue_action}
@@ -10,7 +9,7 @@ use Rattle.tmpl_grammar.specs.Action.{define_action, template_action, block_acti
 use Rattle.tmpl_syntax.specs.Item.{ItemKind, Item, item, text_item, unreadable_item, unread_item, deep_item, action_item}
 use Rattle.tmpl_syntax.specs.Place.Role.{Name, role_of, roles_of}
 use Rattle.tmpl_syntax.specs.Place.Open.{is_template}
-use Rattle.tmpl_syntax.specs.Place.Body.{Verdict, fine, refused, left_open}
+use Rattle.tmpl_syntax.specs.Place.Body.{Verdict, fine}
 use Rattle.tmpl_syntax.specs.computed.Frames.{Known, none_known, top, takes_else, seen_at, fault_at, frames_past}
 use Rattle.tmpl_syntax.specs.Place.Body.{joins}
 use Rattle.tmpl_syntax.proofs.ElseLemmas.{joins-own}
@@ -95,14 +94,14 @@ module _ (names : List Name) (xs : List Item) (p : build.Parts) where
       → Rest (frames_past (role_of x) fs (length names)) xs p.definitions p.inner p.around
       → Rest fs (x ∷ xs) (parts_with x p).definitions (parts_with x p).inner (parts_with x p).around
   step (item line (text_item bytes)) fs e r = at-node fs line a_text r
-  step (item line unreadable_item) fs e r = let g : Some reason.unreadable ≡ None = e in cc
-  step (item line unread_item) fs e r = let g : Some reason.not_an_action ≡ None = e in cc
+  step (item line unreadable_item) fs e r = cc
+  step (item line unread_item) fs e r = cc
   step (item line (deep_item branch)) fs e r =
       let g : true ≡ false = (placed (item line (deep_item branch)) (top fs) e).1 in cc
   step (item line (action_item (pipeline_action h))) fs e r = at-node fs line an_action r
   step (item line (action_item (opening c h))) fs e r = rest-node fs _ r.3 p.definitions r.4 line (control_node c h p.inner.nodes p.inner.other)
       (first_of p.around) (rest_of p.around) (λ ns ys es d. a_control r.2 r.5 d) r.6
-  step (item line (action_item plain_else)) [] e r = let g : false ≡ true = (placed (item line (action_item plain_else)) None e).0 in cc
+  step (item line (action_item plain_else)) [] e r = cc
   step (item line (action_item plain_else)) (f ∷ fs) e r =
       let takes = open-end None f (placed (item line (action_item plain_else)) (Some f) e).0 in
       let end = elsed-closing f _ _ _ _ _ r.5 in (
@@ -127,7 +126,7 @@ module _ (names : List Name) (xs : List Item) (p : build.Parts) where
         closing-of f _ _ _ _ _ takes (an_else_branch r.2 (closes-of f _ _ _ _ _ takes r.5)),
         r.6,
       )
-  step (item line (action_item end_action)) [] e r = let g : false ≡ true = (placed (item line (action_item end_action)) None e).0 in cc
+  step (item line (action_item end_action)) [] e r = cc
   step (item line (action_item end_action)) (f ∷ fs) e r =
       (item line (action_item end_action) ∷ xs, p.definitions, nothing, xs, p.definitions, closing-end (ends_only f) line xs p.definitions, r)
   step (item line (action_item break_action)) fs e r = at-node fs line a_break r
@@ -142,12 +141,12 @@ module _ (names : List Name) (xs : List Item) (p : build.Parts) where
 
 unless-fine : (o : Option Reason) (i : ℕ) (v : Verdict) → unless_fault o i v ≡ fine → (o ≡ None) × (v ≡ fine)
 unless-fine None i v e = (refl, e)
-unless-fine (Some f) i v e = let g : refused i f ≡ fine = e in cc
+unless-fine (Some f) i v e = cc
 
 rest-from : (xs : List Item) (i : ℕ) (known : Known) (fs : List Frame) → verdict_from i fs known (roles_of xs) ≡ fine
     → let p = parts_before xs no_parts in Rest fs xs p.definitions p.inner p.around
 rest-from [] i known [] e = nothing
-rest-from [] i known (f ∷ fs) e = let g : left_open ≡ fine = e in cc
+rest-from [] i known (f ∷ fs) e = cc
 rest-from (x ∷ xs) i known fs e =
     let seen = seen_at (role_of x) (top fs) known.inner in
     let h = unless-fine (fault_at (role_of x) (top fs) seen) i _ e in

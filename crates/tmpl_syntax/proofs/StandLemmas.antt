@@ -103,7 +103,7 @@ module _ (xs : List Role) (j m : ℕ) (s : Same xs j m) (known : Known) (ds : Li
       (here-moves (Some f) h.0, h.1, stood-moves f h.1 h.2, subst (λ l. Stands xs h.1 (closed_if (is_template f.opening) (with_inner known l)) fs) (sym e) h.3)
 
 loops-template : (c : Opening) (has around : Bool) → is_template c ≡ true → loops c has around ≡ false
-loops-template (opened.control c) has around own = let g : false ≡ true = own in cc
+loops-template (opened.control c) has around own = cc
 loops-template _ has around own = refl
 
 -- an opening
@@ -156,9 +156,9 @@ module _ (xs : List Role) (i : ℕ) (names : List Name) (c : Opening) (p : Names
 
     pub here-control : (d : Control) → c ≡ opened.control d → Here xs (i + 1) (Some (entered c p t (length names))) (names ++ p.declares)
     here-control If e = here-plain (in_loop t) (Decides-like (in_loop t) (loop-on own)
-        (loop-off own (λ r. let g : opened.control If ≡ opened.control Range = sym e ∙ r in cc)) h.looped) (ap (λ z. loops z false (in_loop t)) (sym e))
+        (loop-off own (λ r. cc)) h.looped) (ap (λ z. loops z false (in_loop t)) (sym e))
     here-control With e = here-plain (in_loop t) (Decides-like (in_loop t) (loop-on own)
-        (loop-off own (λ r. let g : opened.control With ≡ opened.control Range = sym e ∙ r in cc)) h.looped) (ap (λ z. loops z false (in_loop t)) (sym e))
+        (loop-off own (λ r. cc)) h.looped) (ap (λ z. loops z false (in_loop t)) (sym e))
     here-control Range e = here-plain true (λ g. new-loop e, λ l. refl) (ap (λ z. loops z false (in_loop t)) (sym e))
 
   -- in a template nothing is known, and no loop is around it

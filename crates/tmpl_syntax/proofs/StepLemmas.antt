@@ -64,8 +64,8 @@ module _ (xs : List Role) (i : ℕ) (names : List Name) (c : Opening) (p : Names
 
   part-first : (d : Control) → c ≡ opened.control d → (n : Name)
       → Contains (take (part_of d (length names) (length names + length p.declares)) (names ++ p.declares)) n → Part xs i (i + 1) n
-  part-first If e n k = part-wide (λ r. let g : opened.control If ≡ opened.control Range = sym e ∙ r in cc) n k
-  part-first With e n k = part-wide (λ r. let g : opened.control With ≡ opened.control Range = sym e ∙ r in cc) n k
+  part-first If e n k = part-wide (λ r. cc) n k
+  part-first With e n k = part-wide (λ r. cc) n k
   part-first Range e n k =
       let s : take (length names) (names ++ p.declares) ≡ names = take_at names p.declares (length names) refl in
       earlier (h.to n (subst (λ l. Contains l n) s k))
@@ -86,7 +86,7 @@ module _ (xs : List Role) (i : ℕ) (names : List Name) (c : Opening) (p : Names
     opened = at;
     last = record { is_open = opened_new xs i c p at; last = λ k lt b. let g = b.before in omega arith };
     over = omega (arith, count-none opens xs (i + 1), count-none ends xs (i + 1));
-    has = (λ e. let g : true ≡ false = sym e in cc, λ e. let a = e.1 in let b = e.2.belongs.is_open.before in absurd (omega arith));
+    has = (λ e. cc, λ e. let a = e.1 in let b = e.2.belongs.is_open.before in absurd (omega arith));
     around = h.looped;
     within = within;
     to = to;
@@ -118,7 +118,7 @@ module _ (xs : List Role) (i : ℕ) (known : Known) (p : Names) (fs : List Frame
       let h = here-of xs i known fs s in (
         here-template xs i known.inner c p at (top fs) h own,
         stood-opened xs i known.inner c p at (top fs) h [] within
-            (λ none. let g : true ≡ false = sym own ∙ none in cc) (λ none. let g : true ≡ false = sym own ∙ none in cc),
+            (λ none. cc) (λ none. cc),
       )
 
   -- in a template nothing is known, and behind it what is known here
@@ -179,13 +179,12 @@ stands-declared xs i known p fs at s = stands-moves xs i (i + 1) same known p.de
     }
 
     same-pipe : (q : Names) → slice_get xs i ≡ Some (act_role (plain q)) → p ≡ q
-    same-pipe q e = let g : act_role (plain p) ≡ act_role (plain q) = same-piece xs i (act_role (plain p)) (act_role (plain q)) at e in cc
+    same-pipe q e = cc
 
     old : (n : Name) → Reaches xs i (i + 1) (i + 1) n → Contains p.declares n
     old n (from_top {p = q} e c z) = subst (λ z. Contains z.declares n) (sym (same-pipe q e)) c
     old n (from_inside {p = q} e c l o ne) = subst (λ z. Contains z.declares n) (sym (same-pipe q e)) c
-    old n (from_header {c = d} {p = q} e c o r) =
-        let g : act_role (plain p) ≡ act_role (opener d q) = same-piece xs i (act_role (plain p)) (act_role (opener d q)) at e in cc
+    old n (from_header {c = d} {p = q} e c o r) = cc
     old n (from_else_branch {c = d} {p = q} {j = j} e c o) = absurd (no-else xs (act_role (plain p)) i at (λ b g. cc) (Some (d, q)) j e)
 
 pub stands-still : (xs : List Role) (i : ℕ) (known : Known) (x : Role) (fs : List Frame) → slice_get xs i ≡ Some x → opens x ≡ false
