@@ -90,7 +90,7 @@ module _ (quote c e : ℕ) (rest : List ℕ) where
       go false h is =
           or-next 92 92 (drop 2 letters) refl (or-next 7 97 (drop 3 letters) refl (or-next 8 98 (drop 4 letters) refl
           (or-next 9 116 (drop 5 letters) refl (or-next 10 110 (drop 6 letters) refl (or-next 11 118 (drop 7 letters) refl
-          (or-next 12 102 (drop 8 letters) refl (or-next 13 114 [] refl (λ none. absurd (let g : ⊥ = cc in g))))))))) is
+          (or-next 12 102 (drop 8 letters) refl (or-next 13 114 [] refl (λ none. absurd (cc))))))))) is
 
 sized : (p : Rune) (m n : ℕ) (o : Option Spelled) → o ≡ Some (p, m) → m ≡ n → o ≡ Some (p, n)
 sized p m n o is e = is ∙ ap (λ k. Some (p, k)) e

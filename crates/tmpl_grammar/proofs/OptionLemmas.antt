@@ -4,7 +4,7 @@ use Rattle.std.specs.Option.{option_map, option_and_then}
 use Rattle.std.proofs.lemmas.Option.{same_Some}
 
 pub no-value : {A B : Type 0} (x : A) → None ≡ Some x → B
-no-value x e = absurd (let g : ⊥ = cc in g)
+no-value x e = absurd (cc)
 
 -- what a mapped option is the image of
 pub record Mapped {A B : Type 0} (f : A → B) (o : Option A) (y : B) : Type 0 where

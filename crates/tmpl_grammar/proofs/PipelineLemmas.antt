@@ -24,5 +24,5 @@ unfolding pipeline_in
 spells-read ts cs e = by (commands_after start ts) refl e
   where
     by : (o : Option (List Operands)) → commands_after start ts ≡ o → option_map commands_from o ≡ Some cs → SpellsPipeline cs ts
-    by None is e = absurd (let g : ⊥ = cc in g)
+    by None is e = absurd (cc)
     by (Some all) is e = subst (λ ds. SpellsPipeline ds ts) (same_Some (commands_from all) cs e) (read-spells ts all is)
