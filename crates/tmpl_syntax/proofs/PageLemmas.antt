@@ -101,5 +101,5 @@ no_else p [] e = sym (page_nothing p)
 no_else p (n ∷ ns) e = let none = eqb-true (length (n ∷ ns)) 0 (sym e) in absurd (let g : ⊥ = omega (arith, none) in g)
 
 pub some_else : (ns : List held.Node) (ss : List Said) → false ≡ (length ns == 0) → else_said (nodes_in ns) ss ≡ said plain_else ∷ ss
-some_else [] ss e = absurd (let g : ⊥ = cc in g)
+some_else [] ss e = absurd (cc)
 some_else (n ∷ ns) ss e = refl

@@ -43,7 +43,7 @@ same-refusal : (r s : Refusal) → ◌≡◌ {A = Result (List Template) Refusal
 same-refusal r s e = ap (refusal_or r) e
 
 pub no-value : {A : Type 0} (x : List Template) (r : Refusal) → ◌≡◌ {A = Result (List Template) Refusal} (Ok x) (Err r) → A
-no-value x r e = absurd (let g : ⊥ = cc in g)
+no-value x r e = absurd (cc)
 
 item-there : (xs : List Item) (i : ℕ) → i < length xs → (x : Item) × (slice_get xs i ≡ Some x)
 item-there [] i h = absurd (omega arith)

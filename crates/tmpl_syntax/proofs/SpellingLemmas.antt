@@ -1,6 +1,6 @@
 -- For `one_spelling`: the items of an accepted file spell what is built from them.
 use Rattle.std.proofs.Common.{◌≡◌, ℕ, Bool, true, false, not, ◌||◌, List, [], ◌∷◌, refl, sym, ap, ◌∙◌, subst, length, Option, Some, None}
-use Rattle.std.proofs.lemmas.Bool.{and_parts, not-true}
+use Rattle.std.proofs.lemmas.Bool.{and_parts, not-true, or_right}
 use Rattle.tmpl_syntax.specs.Fault.{Reason}
 use Rattle.tmpl_syntax.specs.computed.Frames.{Frame}
 use Rattle.tmpl_syntax.specs.Tree.{NodeKind, control_node, template_node, Nodes, none, then, Definition}
@@ -20,10 +20,6 @@ use Rattle.tmpl_syntax.specs.Spelling.{Closes, an_end, an_else, an_else_branch, 
 use Rattle.tmpl_syntax.specs.computed.Build as build
 use Rattle.tmpl_syntax.specs.computed.Build.{no_parts, first_of, rest_of, with_node_before, parts_with, parts_before, nodes_from, definitions_from}
 use Rattle.tmpl_syntax.proofs.FaultLemmas.{TellsRole, tells}
-
-or-true : (b : Bool) → (b || true) ≡ true
-or-true true = refl
-or-true false = refl
 
 -- a part behind which an else may stand
 open-end : (b : Option Branch) (f : Frame) → takes_else b (Some f) ≡ true → (is_template f.opening || f.has_else) ≡ false
@@ -74,7 +70,7 @@ closes-of f ys zs es gs other e c = subst (λ k. Closing k ys es other zs gs) e 
 -- behind a plain else, and in the body of a template, only the `end` stands
 elsed-closing : (f : Frame) (ys zs : List Item) (es gs : List Definition) (other : Nodes)
     → Closing (is_template f.opening || true) ys es other zs gs → Closing true ys es other zs gs
-elsed-closing f ys zs es gs other c = subst (λ b. Closing b ys es other zs gs) (or-true (is_template f.opening)) c
+elsed-closing f ys zs es gs other c = subst (λ b. Closing b ys es other zs gs) (or_right (is_template f.opening) true refl) c
 
 template-body : (xs ys zs : List Item) (es gs : List Definition) {ds : List Definition} {ns other : Nodes} (c : Closing true ys es other zs gs)
     → Leads xs ds ns ys es → Leads xs ds ns (item c.0 (action_item end_action) ∷ zs) gs
