@@ -20,7 +20,7 @@ joins (Some if_branch) (opened.control If) = true
 joins (Some with_branch) (opened.control With) = true
 joins b c = false
 
--- an else that begins so may stand at i: in the last opening open there, which has no plain else yet
+-- an else that begins so may stand at i: it joins the last opening open there, which has no plain else yet
 abbrev pub TakesElse : List Role → Option Branch → ℕ → Type 0
 TakesElse xs b i = (j : ℕ) × (l : IsLast xs j i) × (joins b l.is_open.opened ≡ true) × (HasElse xs j i → ⊥)
 
