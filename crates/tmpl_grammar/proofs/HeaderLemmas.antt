@@ -162,8 +162,10 @@ plain-front ts cs s = by (front_in ts) (front-tells ts)
     by : (f : Front) → FrontAs ts f → f ≡ plain
     by plain a = refl
     by (bound unbound rest) a = absurd a
-    by (bound (declare name) rest) a = spelled-lives ts cs s (dead-read ts (sign-dead (IsVariable name) kind.Declare (IsRest rest) ts (sign-stray kind.Declare (λ t h. refl) (λ t. refl)) a))
-    by (bound (assign name) rest) a = spelled-lives ts cs s (dead-read ts (sign-dead (IsVariable name) kind.Assign (IsRest rest) ts (sign-stray kind.Assign (λ t h. refl) (λ t. refl)) a))
+    by (bound (declare name) rest) a =
+        spelled-lives ts cs s (dead-read ts (sign-dead (IsVariable name) kind.Declare (IsRest rest) ts (sign-stray kind.Declare (λ t h. refl) (λ t. refl)) a))
+    by (bound (assign name) rest) a =
+        spelled-lives ts cs s (dead-read ts (sign-dead (IsVariable name) kind.Assign (IsRest rest) ts (sign-stray kind.Assign (λ t h. refl) (λ t. refl)) a))
     by (bound (declare_pair key name) rest) a =
         spelled-lives ts cs s (dead-read ts (sign-dead (IsVariable key) kind.Comma (Then (IsVariable name) (Then (IsSign kind.Declare) (IsRest rest))) ts
         (sign-stray kind.Comma (λ t h. refl) (λ t. refl)) a))

@@ -278,7 +278,8 @@ mutual
       let at_end = subst (λ k. passes fs (with_inner known k) (roles_of ys) ≡ true)
       (sym (take-seen f.start other seen (omega arith) ∙ take-take f.start f.part known.inner low)) k in
       both_true (ap (λ t. no_fault (first_fault t false true)) placed)
-      (leads-pass l n (parted false (length seen) f ∷ fs) (with_inner known seen) h (subst (λ t. passes fs (closed_if t (with_inner known (take f.start (seen_behind seen other))))
+      (leads-pass l n (parted false (length seen) f ∷ fs) (with_inner known seen) h
+      (subst (λ t. passes fs (closed_if t (with_inner known (take f.start (seen_behind seen other))))
       (roles_of ys) ≡ true) (sym own) at_end))
   closes-pass (an_else_branch l o) n f fs known first own low high h k = absurd n
 

@@ -13,7 +13,7 @@ use Rattle.tmpl_syntax.specs.computed.Frames.{Frame}
 use Rattle.tmpl_syntax.specs.Place.Open.{opens, ends, IsLast, IsElseOf, HasElse, is_template}
 use Rattle.tmpl_syntax.specs.Place.Body.{joins, is_level, IsLoop, Levels, names_in}
 use Rattle.tmpl_syntax.specs.computed.Frames.{top, loops, else_came, else_levels, parted, is_placed, Known, with_inner, closed_if}
-use Rattle.tmpl_syntax.proofs.OpenLemmas.{count-split, same-opening, same-piece, cut, through, Even, shut-at, even-step}
+use Rattle.tmpl_syntax.proofs.OpenLemmas.{count-split, same-opening, cut, through, Even, shut-at, even-step}
 use Rattle.tmpl_syntax.proofs.PlaceLemmas.{alike-back, alike-even, alike-last, template-moves, levels-else, InLoop, loop-moves, else_before, has-before}
 use Rattle.tmpl_syntax.proofs.ScopeLemmas.{Reaches, from_top, from_inside, from_header, from_else_branch, BroughtFrom}
 use Rattle.tmpl_syntax.proofs.ElsePartLemmas.{Part, earlier, header, branch_header, part-later, to-part, from-part}
@@ -145,7 +145,6 @@ module _ (xs : List Role) (i : ℕ) (known : Known) (f : Frame) (fs : List Frame
   -- what it declares is what it brings, and what its part sees more
   declared : (d : Branch) (q : Names) (n : Name) → slice_get xs i ≡ Some (act_role (else_part (Some (d, q)))) → Contains q.declares n → Contains ds n
   declared d q n e c =
-      let g : act_role (else_part b) ≡ act_role (else_part (Some (d, q))) = same-piece xs i (act_role (else_part b)) (act_role (else_part (Some (d, q)))) at e in
       let is : b ≡ Some (d, q) = cc in subst (λ z. Contains (names_in (else_part z)).declares n) (sym is) c
 
   declares : (n : Name) → Contains ds n → (d : Branch) × (q : Names) × IsElseOf xs (Some (d, q)) s.1 i × Contains q.declares n

@@ -45,7 +45,8 @@ said-append [] ts h k = k
 said-append (said_text t ∷ ss) ts h k = (h.0, said-append ss ts h.1 k)
 said-append (said a ∷ ss) ts h k = (h.0, said-append ss ts h.1 k)
 
-control-of : (c : Control) (r : Header) (body other : List Said) → OfAction (opening c r) → AreSaid body → AreSaid other → AreSaid (said (opening c r) ∷ (body ++ (other ++ said end_action ∷ [])))
+control-of : (c : Control) (r : Header) (body other : List Said) → OfAction (opening c r) → AreSaid body → AreSaid other
+    → AreSaid (said (opening c r) ∷ (body ++ (other ++ said end_action ∷ [])))
 control-of c r body other h b o = (h, said-append body (other ++ said end_action ∷ []) b (said-append other (said end_action ∷ []) o (tt, tt)))
 
 -- the header of an else branch may be that of its control

@@ -157,7 +157,8 @@ set-leads [] xs s =
 set-leads (t ∷ ts) xs s =
     let f = first-said s in
     let b = nodes-leads t.1.nodes (said end_action ∷ said_text (codes "\n") ∷ flat_map template_said ts) f.rest
-    (subst (λ ss. Says ss f.rest) (append_assoc (nodes_said t.1.nodes) (said end_action ∷ said_text (codes "\n") ∷ []) (flat_map template_said ts)) f.says_rest) in
+    (subst (λ ss. Says ss f.rest) (append_assoc (nodes_said t.1.nodes) (said end_action ∷ said_text (codes "\n") ∷ []) (flat_map template_said ts))
+    f.says_rest) in
     let e = first-said b.says_rest in
     let n = first-text e.says_rest in
     let more = set-leads ts n.rest n.says_rest in

@@ -69,7 +69,8 @@ pub wrong-piece : (xs : List Role) (k a b : ℕ) (n : Name) (x : Role) → slice
 wrong-piece xs k a b n x at np nopen nt (from_top {p = p} e h z) = np p (same-piece xs k x (act_role (plain p)) at e)
 wrong-piece xs k a b n x at np nopen nt (from_inside {p = p} e h l o ne) = np p (same-piece xs k x (act_role (plain p)) at e)
 wrong-piece xs k a b n x at np nopen nt (from_header {c = c} {p = p} e h o r) = nopen c p (same-piece xs k x (act_role (opener c p)) at e)
-wrong-piece xs k a b n x at np nopen nt (from_else_branch {c = c} {p = p} t h o) = nt (Some (c, p)) (same-piece xs k x (act_role (else_part (Some (c, p)))) at t.at)
+wrong-piece xs k a b n x at np nopen nt (from_else_branch {c = c} {p = p} t h o) =
+    nt (Some (c, p)) (same-piece xs k x (act_role (else_part (Some (c, p)))) at t.at)
 
 -- where the same stands, what was in scope is
 pub brought-same : (xs : List Role) (j m : ℕ) (n : Name) → Same xs j m → Brought xs j j n → Brought xs m m n

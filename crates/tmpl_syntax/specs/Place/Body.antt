@@ -48,8 +48,8 @@ is_level c = true
 -- a level is an open if, with, range or block, or an else branch that belongs to an open one
 pub data IsLevel (xs : List Role) (k i : ℕ) : Type 0 where
   of_opening : (o : IsOpen xs k i) → is_level o.opened ≡ true → IsLevel xs k i
-  of_else_branch : {b : Branch × Names} {j : ℕ} → IsElseOf xs (Some b) j k → (o : IsOpen xs j i) → is_level o.opened ≡ true
-      → IsLevel xs k i
+  of_else_branch : {b : Branch × Names} {j : ℕ} → IsElseOf xs (Some b) j k → (o : IsOpen xs j i)
+      → is_level o.opened ≡ true → IsLevel xs k i
 
 -- of the places before m, n are levels at i
 pub data Levels (xs : List Role) (i : ℕ) : ℕ → ℕ → Type 0 where

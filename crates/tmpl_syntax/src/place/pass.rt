@@ -207,7 +207,8 @@ fn part_of(control: Control, before: usize, after: usize) -> usize
 /// Begins an else part of the newest control, with a control of its own or with none, where so many names are known.
 fn pass_else(stack: &mut Vec<Frame>, branch: Option<Branch>, part: usize) -> Result<(), AllocError>
     requires { is_some branch ≡ true → levels (top (frames_in stack.old.items)) < body.most_levels }
-    ensures { IfOk result (λ u. frames_in stack.new.items ≡ parted_all (is_some branch) part (frames_in stack.old.items)) }
+    ensures { IfOk result (λ u. frames_in stack.new.items
+        ≡ parted_all (is_some branch) part (frames_in stack.old.items)) }
 {
     if let Some(frame) = stack.pop() {
         stack.push(match branch {
