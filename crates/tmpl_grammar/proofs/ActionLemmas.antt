@@ -18,7 +18,7 @@ use Rattle.tmpl_grammar.specs.computed.Reading.{header_in, spells_keyword, keywo
 use Rattle.tmpl_grammar.specs.computed.Reading.{quoted_at, with_name, named_action, define_by, call_with, template_by, block_by, pipeline_in}
 use Rattle.tmpl_grammar.specs.computed.Reading.{else_branched, else_keyword, else_by, action_by, action_behind, action_at, action_in}
 use Rattle.tmpl_grammar.specs.computed.Constant.{constant_by, constant_of}
-use Rattle.tmpl_grammar.specs.Laws.{ReadsSpelledAction, SpellsReadAction}
+use Rattle.tmpl_grammar.specs.Laws.{IsAction, IsAdmitted, IsComputed}
 use Rattle.tmpl_grammar.specs.declared.tree.Control.TheVariants as control
 use Rattle.tmpl_grammar.specs.declared.action.Branch.{Branch}
 use Rattle.tmpl_grammar.specs.declared.action.Branch.TheVariants as branch
@@ -219,7 +219,7 @@ given-spelled name vs a e = by (is_blank vs) refl e
         let p = mapped (call_with name) (pipeline_in vs) a e in
         record { given = Some p.source; spells = spells-read vs p.source p.is; is = p.to }
 
-pub reads-action : ReadsSpelledAction
+pub reads-action : IsComputed IsAction action_in
 reads-action ts (pipeline_action h) s = plain-read h ts s
 reads-action ts (opening c h) s =
     keyed (word.Control c) (SpellsHeader (is_range c) h) (opening c h) (λ us spelled. bound-read (is_range c) (opening c) h us spelled) ts s
@@ -323,7 +323,7 @@ module _ (ts : List Token) (a : Action) where
       by None is e = bound-spelled false pipeline_action ts (λ h spelled. spelled) e
       by (Some k) is e = keyword-spelled k p.0 p.1 n (known-word p.0 k is) e
 
-pub spells-action : SpellsReadAction
+pub spells-action : IsAdmitted IsAction action_in
 unfolding action_in
 spells-action ts a e = first-spelled ts a (next ts) refl e
 

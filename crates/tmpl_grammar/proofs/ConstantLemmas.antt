@@ -1,6 +1,7 @@
 -- For `one_reading`: what the operands of one token are, since a chain may follow some of them alone.
-use Rattle.std.proofs.Common.{◌≡◌, ℕ, ℤ, pos, Bool, true, false, List, [], ◌∷◌, Option, Some, None, refl, cond, bytes_eq, codes}
-use Rattle.std.specs.Option.{option_map, option_and_then}
+use Rattle.std.proofs.Common.{◌≡◌, ℕ, pos, Bool, true, false, List, [], ◌∷◌, Option, Some, None, refl, cond, bytes_eq, codes}
+use Rattle.std.specs.Option.{option_map, IfSome}
+use Rattle.tmpl_grammar.proofs.OptionLemmas.{of-each-mapped, of-each-chained}
 use Rattle.tmpl_funcs.specs.declared.func.Func.{Func}
 use Rattle.tmpl_lex.specs.declared.piece.TokenKind.{TokenKind}
 use Rattle.tmpl_lex.specs.declared.piece.TokenKind.TheVariants as kind
@@ -15,44 +16,21 @@ use Rattle.tmpl_grammar.specs.computed.Operand.{operand_at, operand_by, word_ope
 use Rattle.tmpl_grammar.specs.Depth.{depth_of_operand}
 
 -- a number or a text
-abbrev pub IsValue : Option Operand → Type 0
-IsValue None = Unit {0}
-IsValue (Some (tree.number_constant n)) = Unit {0}
-IsValue (Some (tree.text_constant bytes)) = Unit {0}
+abbrev pub IsValue : Operand → Type 0
+IsValue (tree.number_constant n) = Unit {0}
+IsValue (tree.text_constant bytes) = Unit {0}
 IsValue _ = ⊥
 
-number-value : (o : Option ℤ) → IsValue (option_map tree.number_constant o)
-number-value None = tt
-number-value (Some n) = tt
-
-text-value : (o : Option (List ℕ)) → IsValue (option_map tree.text_constant o)
-text-value None = tt
-text-value (Some bytes) = tt
-
-rune-value : (o : Option ℕ) → IsValue (option_map (λ n. tree.number_constant (pos n)) o)
-rune-value None = tt
-rune-value (Some n) = tt
-
-string-value : (o : Option (List ℕ)) → IsValue (option_and_then string_in o)
-string-value None = tt
-string-value (Some bs) = text-value (unquoted 34 bs)
-
-raw-value : (o : Option (List ℕ)) → IsValue (option_map raw_string_in o)
-raw-value None = tt
-raw-value (Some bs) = tt
-
-character-value : (o : Option (List ℕ)) → IsValue (option_and_then character_in o)
-character-value None = tt
-character-value (Some bs) = rune-value (rune_code 39 bs)
-
-value-by : (k : TokenKind) (bytes : List ℕ) → IsValue (constant_by k bytes)
-value-by kind.Number bytes = number-value (integer bytes)
-value-by kind.String bytes = string-value (between 34 bytes)
-value-by kind.RawString bytes = raw-value (between 96 bytes)
-value-by kind.Character bytes = character-value (between 39 bytes)
+value-by : (k : TokenKind) (bytes : List ℕ) → IfSome (constant_by k bytes) IsValue
+value-by kind.Number bytes = of-each-mapped IsValue tree.number_constant (integer bytes) (λ n. tt)
+value-by kind.String bytes =
+    of-each-chained IsValue string_in (between 34 bytes) (λ bs. of-each-mapped IsValue tree.text_constant (unquoted 34 bs) (λ xs. tt))
+value-by kind.RawString bytes = of-each-mapped IsValue raw_string_in (between 96 bytes) (λ bs. tt)
+value-by kind.Character bytes = of-each-chained IsValue character_in (between 39 bytes)
+    (λ bs. of-each-mapped IsValue (λ n. tree.number_constant (pos n)) (rune_code 39 bs) (λ n. tt))
 value-by _ bytes = tt
 
-pub constant-value : (t : Token) → IsValue (constant_of t)
+pub constant-value : (t : Token) → IfSome (constant_of t) IsValue
 unfolding constant_of
 constant-value t = value-by t.kind t.bytes
 
@@ -63,7 +41,7 @@ IsToken (Some (tree.variable name names)) = names ≡ []
 IsToken (Some (tree.group commands names)) = ⊥
 IsToken _ = Unit {0}
 
-value-token : (o : Option Operand) → IsValue o → IsToken o
+value-token : (o : Option Operand) → IfSome o IsValue → IsToken o
 value-token (Some (tree.fields names)) v = absurd v
 value-token (Some (tree.variable name names)) v = absurd v
 value-token (Some (tree.group commands names)) v = absurd v

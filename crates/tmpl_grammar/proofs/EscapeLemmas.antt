@@ -1,6 +1,6 @@
 -- For `one_constant`: the escapes that are computed are those that the relation admits.
 use Rattle.std.proofs.Common.{◌≡◌, ◌∙◌, ℕ, ◌+◌, ◌<◌, ◌≤◌, Bool, true, false, nat_eq, nat_lt, List, [], ◌∷◌, ◌++◌, length, Option, Some}
-use Rattle.std.proofs.Common.{None, option_and_then, drop, refl, ap, sym, subst, arith, if◌then◌else◌}
+use Rattle.std.proofs.Common.{None, option_and_then, drop, refl, ap, sym, subst, arith, append_assoc, if◌then◌else◌}
 use Rattle.std.specs.Str.Parse.{digits_value}
 use Rattle.std.proofs.lemmas.Bool.Decides.{nat_tests}
 use lib.Utf8.{scalar}
@@ -50,19 +50,10 @@ octal-read quote (e ∷ ds) rest m are h =
     ∙ not-lettered e (ds ++ rest) range.0 range.1
     ∙ byte-read 8 3 (e ∷ ds) rest are h
 
-hex-read : (quote : ℕ) (ds rest : List ℕ) → IsMark quote → AreDigits 16 2 ds → escape quote (120 ∷ (ds ++ rest)) ≡ Some (byte (digits_value 16 ds), 4)
-hex-read _ ds rest double are = byte-read 16 2 ds rest are (hex-byte ds are)
-hex-read _ ds rest single are = byte-read 16 2 ds rest are (hex-byte ds are)
-
-four-read : (quote : ℕ) (ds rest : List ℕ) → IsMark quote → AreDigits 16 4 ds → scalar (digits_value 16 ds) ≡ true
-    → escape quote (117 ∷ (ds ++ rest)) ≡ Some (char (digits_value 16 ds), 6)
-four-read _ ds rest double are s = char-read 6 4 ds rest are s
-four-read _ ds rest single are s = char-read 6 4 ds rest are s
-
-eight-read : (quote : ℕ) (ds rest : List ℕ) → IsMark quote → AreDigits 16 8 ds → scalar (digits_value 16 ds) ≡ true
-    → escape quote (85 ∷ (ds ++ rest)) ≡ Some (char (digits_value 16 ds), 10)
-eight-read _ ds rest double are s = char-read 10 8 ds rest are s
-eight-read _ ds rest single are s = char-read 10 8 ds rest are s
+-- a byte that no letter is, whichever mark ends the text
+coded-read : (quote e : ℕ) (bs : List ℕ) → IsMark quote → byte_named 34 e ≡ None → byte_named 39 e ≡ None → escape quote (e ∷ bs) ≡ coded e bs
+coded-read _ e bs double h k = ap (λ o. escape_by o e bs) h
+coded-read _ e bs single h k = ap (λ o. escape_by o e bs) k
 
 quote-read : (quote : ℕ) (rest : List ℕ) → IsMark quote → escape quote (quote ∷ rest) ≡ Some (byte quote, 2)
 quote-read _ rest double = refl
@@ -90,7 +81,7 @@ module _ (quote c e : ℕ) (rest : List ℕ) where
       go false h is =
           or-next 92 92 (drop 2 letters) refl (or-next 7 97 (drop 3 letters) refl (or-next 8 98 (drop 4 letters) refl
           (or-next 9 116 (drop 5 letters) refl (or-next 10 110 (drop 6 letters) refl (or-next 11 118 (drop 7 letters) refl
-          (or-next 12 102 (drop 8 letters) refl (or-next 13 114 [] refl (λ none. absurd (let g : ⊥ = cc in g))))))))) is
+          (or-next 12 102 (drop 8 letters) refl (or-next 13 114 [] refl (λ none. absurd (cc))))))))) is
 
 sized : (p : Rune) (m n : ℕ) (o : Option Spelled) → o ≡ Some (p, m) → m ≡ n → o ≡ Some (p, n)
 sized p m n o is e = is ∙ ap (λ k. Some (p, k)) e
@@ -100,9 +91,12 @@ unfolding part_at
 escape-at quote _ rest _ m (a_letter {c = c} {letter = e} is other) = letter-read quote c e rest is other
 escape-at quote _ rest _ m the_quote = quote-read quote rest m
 escape-at quote _ rest _ m (octal {ds = ds} are h) = sized _ 4 (length (92 ∷ ds)) _ (octal-read quote ds rest m are h) (omega (arith, are.0))
-escape-at quote _ rest _ m (two_digits {ds = ds} are) = sized _ 4 (length (92 ∷ 120 ∷ ds)) _ (hex-read quote ds rest m are) (omega (arith, are.0))
-escape-at quote _ rest _ m (four_digits {ds = ds} are s) = sized _ 6 (length (92 ∷ 117 ∷ ds)) _ (four-read quote ds rest m are s) (omega (arith, are.0))
-escape-at quote _ rest _ m (eight_digits {ds = ds} are s) = sized _ 10 (length (92 ∷ 85 ∷ ds)) _ (eight-read quote ds rest m are s) (omega (arith, are.0))
+escape-at quote _ rest _ m (two_digits {ds = ds} are) =
+    sized _ 4 (length (92 ∷ 120 ∷ ds)) _ (coded-read quote 120 (ds ++ rest) m refl refl ∙ byte-read 16 2 ds rest are (hex-byte ds are)) (omega (arith, are.0))
+escape-at quote _ rest _ m (four_digits {ds = ds} are s) =
+    sized _ 6 (length (92 ∷ 117 ∷ ds)) _ (coded-read quote 117 (ds ++ rest) m refl refl ∙ char-read 6 4 ds rest are s) (omega (arith, are.0))
+escape-at quote _ rest _ m (eight_digits {ds = ds} are s) =
+    sized _ 10 (length (92 ∷ 85 ∷ ds)) _ (coded-read quote 85 (ds ++ rest) m refl refl ∙ char-read 10 8 ds rest are s) (omega (arith, are.0))
 
 pub escape-some : (quote : ℕ) (s : List ℕ) (p : Rune) → IsEscape quote s p → 0 < length s
 escape-some quote _ _ (octal are h) = omega arith
@@ -151,62 +145,39 @@ lettered quote e =
     named : (k c : ℕ) (o : Option ℕ) → letter_of c letters ≡ Some k → (c ≡ 34 → ⊥) → HasLetter quote e o → HasLetter quote e (if nat_eq e k then Some c else o)
     named k c o is other more = letter quote e k c o (a_letter is other) more
 
-has-octal : (quote : ℕ) (bs : List ℕ) → HasEscape quote (92 ∷ bs) (option_and_then (as_byte 4) (code 8 3 bs))
-has-octal quote bs = go (code 8 3 bs) (code-has 8 3 bs)
+-- so many digits behind these bytes
+has-digits : (quote base count len : ℕ) (front : List ℕ) (made : ℕ → Rune) (test : ℕ → Bool) (bs : List ℕ)
+    → ((ds : List ℕ) → length ds ≡ count → length (92 ∷ front ++ ds) ≡ len)
+    → ((ds : List ℕ) → AreDigits base count ds → test (digits_value base ds) ≡ true → IsEscape quote (92 ∷ (front ++ ds)) (made (digits_value base ds)))
+    → HasEscape quote (92 ∷ (front ++ bs)) (option_and_then (λ n. if test n then Some (made n, len) else None) (code base count bs))
+has-digits quote base count len front made test bs long escapes = go (code base count bs) (code-has base count bs)
   where
-    by : (n : ℕ) → FrontDigits 8 3 bs n → (t : Bool) → nat_lt n 256 ≡ t → HasEscape quote (92 ∷ bs) (if t then Some (byte n, 4) else None)
+    by : (n : ℕ) → FrontDigits base count bs n → (t : Bool) → test n ≡ t → HasEscape quote (92 ∷ (front ++ bs)) (if t then Some (made n, len) else None)
     by n d false e = tt
-    by n d true e =
-        let value : digits_value 8 d.ds ≡ n = d.value in
-        let low : digits_value 8 d.ds < 256 = grind (arith, nat_tests) in
-        record {
-          spelling = 92 ∷ d.ds;
-          rest = d.rest;
-          is = ap (λ xs. 92 ∷ xs) d.is;
-          count = let are = d.are in omega (arith, are.0);
-          escapes = subst (λ k. IsEscape quote (92 ∷ d.ds) (byte k)) d.value (octal d.are low);
-        }
-
-    go : (o : Option ℕ) → HasDigits 8 3 bs o → HasEscape quote (92 ∷ bs) (option_and_then (as_byte 4) o)
-    go None d = tt
-    go (Some n) d = by n d (nat_lt n 256) refl
-
-has-hex : (quote : ℕ) (bs : List ℕ) → HasEscape quote (92 ∷ 120 ∷ bs) (option_and_then (as_byte 4) (code 16 2 bs))
-has-hex quote bs = go (code 16 2 bs) (code-has 16 2 bs)
-  where
-    by : (n : ℕ) → FrontDigits 16 2 bs n → (t : Bool) → HasEscape quote (92 ∷ 120 ∷ bs) (if t then Some (byte n, 4) else None)
-    by n d false = tt
-    by n d true = record {
-      spelling = 92 ∷ 120 ∷ d.ds;
+    by n d true e = record {
+      spelling = 92 ∷ (front ++ d.ds);
       rest = d.rest;
-      is = ap (λ xs. 92 ∷ 120 ∷ xs) d.is;
-      count = let are = d.are in omega (arith, are.0);
-      escapes = subst (λ k. IsEscape quote (92 ∷ 120 ∷ d.ds) (byte k)) d.value (two_digits d.are);
+      is = ap (λ xs. 92 ∷ (front ++ xs)) d.is ∙ ap (λ xs. 92 ∷ xs) (sym (append_assoc front d.ds d.rest));
+      count = let are = d.are in long d.ds are.0;
+      escapes = subst (λ k. IsEscape quote (92 ∷ (front ++ d.ds)) (made k)) d.value (escapes d.ds d.are (ap test d.value ∙ e));
     }
 
-    go : (o : Option ℕ) → HasDigits 16 2 bs o → HasEscape quote (92 ∷ 120 ∷ bs) (option_and_then (as_byte 4) o)
+    go : (o : Option ℕ) → HasDigits base count bs o
+        → HasEscape quote (92 ∷ (front ++ bs)) (option_and_then (λ n. if test n then Some (made n, len) else None) o)
     go None d = tt
-    go (Some n) d = by n d (nat_lt n 256)
+    go (Some n) d = by n d (test n) refl
+
+has-octal : (quote : ℕ) (bs : List ℕ) → HasEscape quote (92 ∷ bs) (option_and_then (as_byte 4) (code 8 3 bs))
+has-octal quote bs = has-digits quote 8 3 4 [] byte (λ n. nat_lt n 256) bs (λ ds h. omega (arith, h)) (λ ds are e. octal are (grind (arith, nat_tests)))
+
+has-hex : (quote : ℕ) (bs : List ℕ) → HasEscape quote (92 ∷ 120 ∷ bs) (option_and_then (as_byte 4) (code 16 2 bs))
+has-hex quote bs = has-digits quote 16 2 4 (120 ∷ []) byte (λ n. nat_lt n 256) bs (λ ds h. omega (arith, h)) (λ ds are e. two_digits are)
 
 -- by so many digits of base 16 behind this first byte
 has-char : (quote head count : ℕ) (bs : List ℕ)
     → ((ds : List ℕ) → AreDigits 16 count ds → scalar (digits_value 16 ds) ≡ true → IsEscape quote (92 ∷ head ∷ ds) (char (digits_value 16 ds)))
     → HasEscape quote (92 ∷ head ∷ bs) (option_and_then (as_char (2 + count)) (code 16 count bs))
-has-char quote head count bs made = go (code 16 count bs) (code-has 16 count bs)
-  where
-    by : (n : ℕ) → FrontDigits 16 count bs n → (t : Bool) → scalar n ≡ t → HasEscape quote (92 ∷ head ∷ bs) (if t then Some (char n, 2 + count) else None)
-    by n d false e = tt
-    by n d true e = record {
-      spelling = 92 ∷ head ∷ d.ds;
-      rest = d.rest;
-      is = ap (λ xs. 92 ∷ head ∷ xs) d.is;
-      count = let are = d.are in omega (arith, are.0);
-      escapes = subst (λ k. IsEscape quote (92 ∷ head ∷ d.ds) (char k)) d.value (made d.ds d.are (ap scalar d.value ∙ e));
-    }
-
-    go : (o : Option ℕ) → HasDigits 16 count bs o → HasEscape quote (92 ∷ head ∷ bs) (option_and_then (as_char (2 + count)) o)
-    go None d = tt
-    go (Some n) d = by n d (scalar n) refl
+has-char quote head count bs made = has-digits quote 16 count (2 + count) (head ∷ []) char scalar bs (λ ds h. omega (arith, h)) made
 
 has-coded : (quote e : ℕ) (bs : List ℕ) → HasEscape quote (92 ∷ e ∷ bs) (coded e bs)
 has-coded quote e bs =

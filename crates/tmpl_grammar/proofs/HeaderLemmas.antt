@@ -15,7 +15,7 @@ use Rattle.tmpl_grammar.specs.computed.Reading.{header_with, header_if, header_b
 use Rattle.tmpl_grammar.proofs.PipelineLemmas.{reads-spelled, spells-read}
 use Rattle.tmpl_grammar.proofs.OptionLemmas.{no-value, mapped}
 use Rattle.tmpl_grammar.proofs.TokenLemmas.{then-led, led-then, then-map}
-use Rattle.tmpl_grammar.proofs.StrayLemmas.{IsDead, declare-stray, assign-stray, comma-stray, then-stray, then-dead, dead-read, spelled-lives}
+use Rattle.tmpl_grammar.proofs.StrayLemmas.{IsStray, IsDead, sign-stray, then-stray, then-dead, dead-read, spelled-lives}
 
 -- ---- variables
 
@@ -150,14 +150,10 @@ front-tells ts = by (named ts) (named-tells ts)
     by None v = tt
     by (Some p) v = sign-tells p.0 p.1 v (next p.1) refl
 
-declared-dead : (Is : Token → Type 0) (Rest : List Token → Type 0) (ts : List Token) → Then Is (Then (IsSign kind.Declare) Rest) ts → IsDead ts
-declared-dead Is Rest ts s = then-dead Is (Then (IsSign kind.Declare) Rest) ts (λ us r. then-stray (IsSign kind.Declare) Rest us declare-stray r) s
-
-assigned-dead : (Is : Token → Type 0) (Rest : List Token → Type 0) (ts : List Token) → Then Is (Then (IsSign kind.Assign) Rest) ts → IsDead ts
-assigned-dead Is Rest ts s = then-dead Is (Then (IsSign kind.Assign) Rest) ts (λ us r. then-stray (IsSign kind.Assign) Rest us assign-stray r) s
-
-comma-dead : (Is : Token → Type 0) (Rest : List Token → Type 0) (ts : List Token) → Then Is (Then (IsSign kind.Comma) Rest) ts → IsDead ts
-comma-dead Is Rest ts s = then-dead Is (Then (IsSign kind.Comma) Rest) ts (λ us r. then-stray (IsSign kind.Comma) Rest us comma-stray r) s
+-- a sign behind another token is in no pipeline
+sign-dead : (Is : Token → Type 0) (k : TokenKind) (Rest : List Token → Type 0) (ts : List Token) → ((t : Token) → t.kind ≡ k → IsStray t)
+    → Then Is (Then (IsSign k) Rest) ts → IsDead ts
+sign-dead Is k Rest ts stray s = then-dead Is (Then (IsSign k) Rest) ts (λ us r. then-stray (IsSign k) Rest us stray r) s
 
 -- tokens of a pipeline have nothing in front of it
 plain-front : (ts : List Token) (cs : Pipeline) → SpellsPipeline cs ts → front_in ts ≡ plain
@@ -166,10 +162,13 @@ plain-front ts cs s = by (front_in ts) (front-tells ts)
     by : (f : Front) → FrontAs ts f → f ≡ plain
     by plain a = refl
     by (bound unbound rest) a = absurd a
-    by (bound (declare name) rest) a = spelled-lives ts cs s (dead-read ts (declared-dead (IsVariable name) (IsRest rest) ts a))
-    by (bound (assign name) rest) a = spelled-lives ts cs s (dead-read ts (assigned-dead (IsVariable name) (IsRest rest) ts a))
+    by (bound (declare name) rest) a =
+        spelled-lives ts cs s (dead-read ts (sign-dead (IsVariable name) kind.Declare (IsRest rest) ts (sign-stray kind.Declare (λ t h. refl) (λ t. refl)) a))
+    by (bound (assign name) rest) a =
+        spelled-lives ts cs s (dead-read ts (sign-dead (IsVariable name) kind.Assign (IsRest rest) ts (sign-stray kind.Assign (λ t h. refl) (λ t. refl)) a))
     by (bound (declare_pair key name) rest) a =
-        spelled-lives ts cs s (dead-read ts (comma-dead (IsVariable key) (Then (IsVariable name) (Then (IsSign kind.Declare) (IsRest rest))) ts a))
+        spelled-lives ts cs s (dead-read ts (sign-dead (IsVariable key) kind.Comma (Then (IsVariable name) (Then (IsSign kind.Declare) (IsRest rest))) ts
+        (sign-stray kind.Comma (λ t h. refl) (λ t. refl)) a))
 
 -- the tokens behind a binding
 record SplitAs (b : Binding) (Rest : List Token → Type 0) (ts : List Token) : Type 0 where

@@ -16,7 +16,7 @@ use Rattle.tmpl_grammar.specs.Constant as constant
 use Rattle.tmpl_grammar.specs.Constant.{IsConstant}
 use Rattle.tmpl_grammar.specs.computed.Integer.{integer}
 use Rattle.tmpl_grammar.specs.Constant.Quoted.{SpellsRunes, code_of}
-use Rattle.tmpl_grammar.specs.Laws.{ComputesConstant, IsComputedConstant}
+use Rattle.tmpl_grammar.specs.Laws.{IsAdmitted, IsComputed}
 use Rattle.tmpl_grammar.specs.computed.Constant.{constant_of, constant_by, string_in, raw_string_in, character_in}
 use Rattle.tmpl_grammar.specs.computed.Quoted.{between, parts, unquoted, one_code, rune_code}
 use Rattle.tmpl_grammar.proofs.EscapeLemmas.{double, single}
@@ -80,7 +80,7 @@ between-is quote bs xs e = go (quoted quote bs) refl e
 
 -- ---- what the relation admits is computed
 
-pub computes-constant : ComputesConstant
+pub computes-constant : IsComputed IsConstant constant_of
 unfolding constant_of
 computes-constant _ _ (constant.number is) = ap (option_map number_constant) (integer-computed is)
 computes-constant _ _ (constant.string {bs = bs} {rs = ps} has) =
@@ -134,6 +134,6 @@ is-constant kind.RawString bs o e = is-raw bs o e
 is-constant kind.Character bs o e = is-character bs o e
 is-constant _ bs o e = no-value o e
 
-pub is-computed-constant : IsComputedConstant
+pub is-computed-constant : IsAdmitted IsConstant constant_of
 unfolding constant_of
 is-computed-constant t o e = is-constant t.kind t.bytes o e

@@ -16,7 +16,7 @@ use Rattle.tmpl_grammar.specs.Constant as constant
 use Rattle.tmpl_grammar.specs.Constant.{IsConstant}
 use Rattle.tmpl_grammar.specs.Operand as operand
 use Rattle.tmpl_grammar.specs.Operand.{IsOperand}
-use Rattle.tmpl_grammar.specs.Laws.{ComputesOperand, IsComputedOperand}
+use Rattle.tmpl_grammar.specs.Laws.{IsAdmitted, IsComputed}
 use Rattle.tmpl_grammar.specs.computed.Constant.{constant_of}
 use Rattle.tmpl_grammar.specs.computed.Operand.{funcs, func_named, word_operand, field_operand, operand_by, operand_at}
 use Rattle.tmpl_grammar.proofs.IsConstantLemmas.{computes-constant, is-computed-constant}
@@ -34,7 +34,7 @@ unfolding operand_at
 constant-kind _ _ (constant.number is) = refl
 constant-kind _ _ _ = refl
 
-pub computes-operand : ComputesOperand
+pub computes-operand : IsComputed IsOperand operand_at
 unfolding operand_at word_operand
 computes-operand t _ (operand.field is begins) = ap (λ k. operand_by k t) is ∙ ap (λ b. field_operand b (name_in t)) begins
 computes-operand t _ (operand.variable is) = ap (λ k. operand_by k t) is
@@ -96,6 +96,6 @@ is-operand kind.RawString bs o e = operand.a_constant (is-computed-constant (tok
 is-operand kind.Character bs o e = operand.a_constant (is-computed-constant (token kind.Character bs) o e)
 is-operand _ bs o e = no-value o e
 
-pub is-computed-operand : IsComputedOperand
+pub is-computed-operand : IsAdmitted IsOperand operand_at
 unfolding operand_at
 is-computed-operand t o e = is-operand t.kind t.bytes o e

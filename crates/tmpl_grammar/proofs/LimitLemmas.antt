@@ -119,7 +119,7 @@ nat_le-false m n h = ⊎_elim (λ y. absurd (let a = y.1 in omega (arith, a, h))
 
 none-limited : (o : Option (List Operands)) → false ≡ is_some o → None ≡ limited_commands o
 none-limited None e = refl
-none-limited (Some cs) e = absurd (let g : ⊥ = cc in g)
+none-limited (Some cs) e = absurd (cc)
 
 within-limited : (n : ℕ) (o : Option (List Operands)) → n ≤ most_deep → IsClosed n o → pipeline_by None o ≡ limited_commands o
 within-limited n None h c = refl
@@ -127,8 +127,8 @@ within-limited n (Some cs) h c = sym (ap (λ b. Some (limited_by b (commands_fro
 
 deep-limited : (o all : Option (List Operands)) → is_some o ≡ is_some all → IsAtLeast (1 + most_deep) all → pipeline_by (Some 0) o ≡ limited_commands all
 deep-limited None None e d = refl
-deep-limited None (Some cs) e d = absurd (let g : ⊥ = cc in g)
-deep-limited (Some cs) None e d = absurd (let g : ⊥ = cc in g)
+deep-limited None (Some cs) e d = absurd (cc)
+deep-limited (Some cs) None e d = absurd (cc)
 deep-limited (Some xs) (Some cs) e d = sym (ap (λ c. Some (limited_by c (commands_from cs))) (nat_le-false (deep_commands cs) most_deep (omega (arith, d))))
 
 -- ---- from the first token to the last

@@ -11,9 +11,9 @@ use Rattle.tmpl_grammar.specs.Need.{need_of_pipeline, need_of_given, declared_co
 
 -- ---- each value has a cell
 
-by-first-least : (o : Operand) (call alone : ℕ) → 1 ≤ call → 1 ≤ alone → 1 ≤ called_or_alone o call alone
-by-first-least (tree.function f) call alone c a = c
-by-first-least _ call alone c a = a
+by-first : (P : ℕ → Type 0) (o : Operand) (call alone : ℕ) → P call → P alone → P (called_or_alone o call alone)
+by-first P (tree.function f) call alone c a = c
+by-first P _ call alone c a = a
 
 commands-least : (piped : ℕ) (cs : Pipeline) → 1 ≤ need_of_commands piped cs
 commands-least piped tree.no_command = omega arith
@@ -25,13 +25,9 @@ operand-least _ = omega arith
 
 command-least : (piped : ℕ) (os : Operands) → 1 ≤ need_of_command piped os
 command-least piped tree.no_operand = omega arith
-command-least piped (tree.operand o os) = by-first-least o (max 1 (need_of_arguments piped os)) (need_of_operand o) (omega arith) (operand-least o)
+command-least piped (tree.operand o os) = by-first (λ n. 1 ≤ n) o (max 1 (need_of_arguments piped os)) (need_of_operand o) (omega arith) (operand-least o)
 
 -- ---- each value has a token
-
-by-first-most : (o : Operand) (call alone most : ℕ) → call ≤ most → alone ≤ most → called_or_alone o call alone ≤ most
-by-first-most (tree.function f) call alone most c a = c
-by-first-most _ call alone most c a = a
 
 one-token : (o : Operand) (names : List (List ℕ)) (ts : List Token) → IsChained o names ts → 1 ≤ length ts
 one-token o names ts s =
@@ -43,18 +39,12 @@ joined ts us vs e = ap length e ∙ length-append us vs
 
 mutual
   operand-within : (o : Operand) (ts : List Token) → SpellsOperand o ts → need_of_operand o ≤ length ts
-  operand-within tree.dot ts s = one-token tree.dot [] ts s
-  operand-within (tree.fields []) ts s = one-token (tree.fields []) [] ts s
   operand-within (tree.fields (n ∷ ns)) ts s = one-token (tree.fields (n ∷ [])) ns ts s
   operand-within (tree.variable name names) ts s = one-token (tree.variable name []) names ts s
-  operand-within (tree.bool_constant b) ts s = one-token (tree.bool_constant b) [] ts s
-  operand-within (tree.number_constant n) ts s = one-token (tree.number_constant n) [] ts s
-  operand-within (tree.text_constant bytes) ts s = one-token (tree.text_constant bytes) [] ts s
-  operand-within tree.nil ts s = one-token tree.nil [] ts s
-  operand-within (tree.function f) ts s = one-token (tree.function f) [] ts s
   operand-within (tree.group commands names) ts s =
       let inner = pipeline-within commands s.1 s.7 in
       omega (arith, inner, joined ts (s.0 ∷ s.1) (s.2 ∷ s.3) s.4)
+  operand-within o ts s = one-token o [] ts s
 
   arguments-within : (held : ℕ) (os : Operands) (ts : List Token) → SpellsMore os ts → need_of_arguments held os ≤ held + length ts
   arguments-within held tree.no_operand ts s = omega arith
@@ -70,7 +60,7 @@ mutual
       let more = arguments-within piped os s.2 s.6 in
       let n = joined ts s.0 (s.1 ++ s.2) s.3 in
       let m = length-append s.1 s.2 in
-      by-first-most o (max 1 (need_of_arguments piped os)) (need_of_operand o) (piped + length ts)
+      by-first (λ n. n ≤ piped + length ts) o (max 1 (need_of_arguments piped os)) (need_of_operand o)
       (omega (arith, operand-least o, here, more, n, m)) (omega (arith, here, n, m))
 
   later-within : (cs : Pipeline) (ts : List Token) → SpellsLater cs ts → need_of_commands 1 cs ≤ 1 + length ts

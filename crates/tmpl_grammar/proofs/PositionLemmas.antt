@@ -289,18 +289,10 @@ module _ (n : ℕ) (ls : List Partial) (cs : List Operands) (os : List Operand) 
 
   linked-place : (o : Operand) (t : Token)
       → fields_on (linked_by (begins_name (name_in t)) o (name_in t)) ≡ fielded (behind o) t (place_of n (parser_at ls cs os (Some o)))
-  linked-place tree.dot t = unlinkable (begins_name (name_in t)) tree.dot t refl ∙ sym (none-placed false (operand_at t) (more n (length ls)))
   linked-place (tree.fields names) t = linkable (begins_name (name_in t)) (tree.fields names) _ t refl refl refl
   linked-place (tree.variable x names) t = linkable (begins_name (name_in t)) (tree.variable x names) _ t refl refl refl
-  linked-place (tree.bool_constant x) t =
-      unlinkable (begins_name (name_in t)) (tree.bool_constant x) t refl ∙ sym (none-placed false (operand_at t) (more n (length ls)))
-  linked-place (tree.number_constant x) t =
-      unlinkable (begins_name (name_in t)) (tree.number_constant x) t refl ∙ sym (none-placed false (operand_at t) (more n (length ls)))
-  linked-place (tree.text_constant bytes) t =
-      unlinkable (begins_name (name_in t)) (tree.text_constant bytes) t refl ∙ sym (none-placed false (operand_at t) (more n (length ls)))
-  linked-place tree.nil t = unlinkable (begins_name (name_in t)) tree.nil t refl ∙ sym (none-placed false (operand_at t) (more n (length ls)))
-  linked-place (tree.function f) t = unlinkable (begins_name (name_in t)) (tree.function f) t refl ∙ sym (none-placed false (operand_at t) (more n (length ls)))
   linked-place (tree.group commands names) t = linkable (begins_name (name_in t)) (tree.group commands names) _ t refl refl refl
+  linked-place o t = unlinkable (begins_name (name_in t)) o t refl ∙ sym (none-placed false (operand_at t) (more n (length ls)))
 
   plain-field : (cs : List Operands) (os : List Operand) (t : Token)
       → fielded (begun cs os) t (place_of n (parser_at ls cs os None)) ≡ placed (operand_at t) (place_of n (parser_at ls cs os None))

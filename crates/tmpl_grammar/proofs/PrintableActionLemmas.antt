@@ -1,10 +1,8 @@
 -- For the law that what a file defines can be printed: what holds of the actions that its tokens spell.
 use Rattle.std.proofs.Common.{◌≡◌, ◌∙◌, ℕ, ◌-◌, ◌≤◌, Bool, true, false, List, [], ◌∷◌, ◌++◌, Option, Some, None, refl, sym, ap, subst}
-use Rattle.std.proofs.Common.{length, take, drop, pos, if◌then◌else◌}
-use Rattle.std.specs.Option.{option_map, option_and_then}
-use lib.IntN.{ℤ}
+use Rattle.std.proofs.Common.{length, take, drop, pos, ◌<◌, ◌^◌}
+use Rattle.std.specs.Option.{IfSome}
 use Rattle.tmpl_values.specs.Bytes.{AreBytes}
-use Rattle.tmpl_funcs.specs.declared.func.Func.{Func}
 use Rattle.tmpl_lex.proofs.NameLemmas.{IsNamed, OfKind}
 use Rattle.tmpl_lex.specs.Piece.{Token}
 use Rattle.tmpl_lex.specs.declared.piece.TokenKind.{TokenKind}
@@ -27,62 +25,33 @@ use Rattle.tmpl_grammar.proofs.ConstantLemmas.{by-word}
 use Rattle.tmpl_grammar.proofs.IsOperandLemmas.{computes-operand}
 use Rattle.tmpl_grammar.proofs.IsConstantLemmas.{computes-constant}
 use Rattle.tmpl_grammar.proofs.PrintableTokenLemmas.{IsRead, AreRead, bytes-drop, bytes-take}
-use Rattle.tmpl_grammar.proofs.PrintableConstantLemmas.{InRange, integer-range, OfText, unquoted-bytes, raw-bytes, OfCode, character-range}
+use Rattle.tmpl_grammar.proofs.PrintableConstantLemmas.{InRange, integer-range, unquoted-bytes, raw-bytes, character-range}
+use Rattle.tmpl_grammar.proofs.OptionLemmas.{of-tested, of-mapped, of-each-mapped, of-each-chained}
 
 -- ---- operands of one token
 
 abbrev pub OfMaybe : Option Operand → Type 0
-OfMaybe None = Unit {0}
-OfMaybe (Some o) = OfOperand o
+OfMaybe o = IfSome o OfOperand
 
-number-of : (o : Option ℤ) → InRange o → OfMaybe (option_map tree.number_constant o)
-number-of None h = tt
-number-of (Some n) h = h
-
-text-of : (o : Option (List ℕ)) → OfText o → OfMaybe (option_map tree.text_constant o)
-text-of None h = tt
-text-of (Some bytes) h = h
-
-character-of : (o : Option ℕ) → OfCode o → OfMaybe (option_map (λ n. tree.number_constant (pos n)) o)
-character-of None h = tt
-character-of (Some n) h = h
-
-if-text : (t : Bool) (xs : List ℕ) → AreBytes xs → OfText (if t then Some xs else None)
-if-text true xs h = h
-if-text false xs h = tt
-
-between-bytes : (quote : ℕ) (bs : List ℕ) → AreBytes bs → OfText (between quote bs)
-between-bytes quote bs h = if-text _ (take (length bs - 2) (drop 1 bs)) (bytes-take (length bs - 2) (drop 1 bs) (bytes-drop 1 bs h))
-
-string-of : (o : Option (List ℕ)) → OfMaybe (option_and_then string_in o)
-string-of None = tt
-string-of (Some bs) = text-of (unquoted 34 bs) (unquoted-bytes bs)
-
-raw-of : (o : Option (List ℕ)) → OfText o → OfMaybe (option_map raw_string_in o)
-raw-of None h = tt
-raw-of (Some bs) h = raw-bytes bs h
-
-rune-of : (o : Option (List ℕ)) → OfMaybe (option_and_then character_in o)
-rune-of None = tt
-rune-of (Some bs) = character-of (rune_code 39 bs) (character-range bs)
+between-bytes : (quote : ℕ) (bs : List ℕ) → AreBytes bs → IfSome (between quote bs) AreBytes
+between-bytes quote bs h =
+    of-tested AreBytes _ (take (length bs - 2) (drop 1 bs)) (λ e. bytes-take (length bs - 2) (drop 1 bs) (bytes-drop 1 bs h))
 
 constant-is : (k : TokenKind) (bs : List ℕ) → AreBytes bs → OfMaybe (constant_by k bs)
-constant-is kind.Number bs h = number-of (integer bs) (integer-range bs)
-constant-is kind.String bs h = string-of (between 34 bs)
-constant-is kind.RawString bs h = raw-of (between 96 bs) (between-bytes 96 bs h)
-constant-is kind.Character bs h = rune-of (between 39 bs)
+constant-is kind.Number bs h = of-mapped InRange OfOperand tree.number_constant (integer bs) (λ n r. r) (integer-range bs)
+constant-is kind.String bs h = of-each-chained OfOperand string_in (between 34 bs)
+    (λ xs. of-mapped AreBytes OfOperand tree.text_constant (unquoted 34 xs) (λ ys r. r) (unquoted-bytes xs))
+constant-is kind.RawString bs h = of-mapped AreBytes OfOperand raw_string_in (between 96 bs) raw-bytes (between-bytes 96 bs h)
+constant-is kind.Character bs h = of-each-chained OfOperand character_in (between 39 bs)
+    (λ xs. of-mapped (λ n. n < 2 ^ 63) OfOperand (λ n. tree.number_constant (pos n)) (rune_code 39 xs) (λ n r. r) (character-range xs))
 constant-is _ bs h = tt
 
 pub constant-maybe : (t : Token) → AreBytes t.bytes → OfMaybe (constant_of t)
 unfolding constant_of
 constant-maybe t h = constant-is t.kind t.bytes h
 
-function-of : (o : Option Func) → OfMaybe (option_map tree.function o)
-function-of None = tt
-function-of (Some f) = tt
-
 word-of : (name : List ℕ) → OfMaybe (word_operand name)
-word-of name = by-word OfMaybe (λ b. tt) tt function-of name
+word-of name = by-word OfMaybe (λ b. tt) tt (λ o. of-each-mapped OfOperand tree.function o (λ f. tt)) name
 
 field-of : (b : Bool) (name : List ℕ) → begins_name name ≡ b → IsNamed name → OfMaybe (field_operand b name)
 field-of true name e h = ((e, h), tt)

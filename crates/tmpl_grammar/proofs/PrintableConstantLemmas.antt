@@ -1,7 +1,8 @@
 -- For what can be printed: the constants that tokens stand for are numbers within the range, and texts of bytes.
 use Rattle.std.proofs.Common.{arith, ◌≡◌, ℕ, zero, suc, ◌+◌, ◌-◌, ◌/◌, ◌^◌, ◌<◌, ◌≤◌, Bool, true, false, not, nat_eq, nat_lt, nat_le, cond}
 use Rattle.std.proofs.Common.{List, [], ◌∷◌, ◌++◌, Option, Some, None, refl, pos, neg_ℤ, option_and_then, ⊎_elim, if◌then◌else◌}
-use Rattle.std.specs.Option.{option_map}
+use Rattle.std.specs.Option.{IfSome}
+use Rattle.tmpl_grammar.proofs.OptionLemmas.{of-either, of-tested, of-mapped, of-chained, of-each-chained}
 use lib.IntN.{ℤ}
 use lib.Signed.{mag}
 use lib.Utf8.{scalar, next, scalar_cases}
@@ -19,40 +20,26 @@ use Rattle.tmpl_grammar.specs.computed.Quoted.{with_part, parts_after, parts, un
 
 -- ---- numbers
 
-abbrev pub InRange : Option ℤ → Type 0
-InRange None = Unit {0}
-InRange (Some n) = mag n < 2 ^ 63
+abbrev pub InRange : ℤ → Type 0
+InRange n = mag n < 2 ^ 63
 
-if-range : (b : Bool) (o p : Option ℤ) → InRange o → InRange p → InRange (if b then o else p)
-if-range true o p h k = h
-if-range false o p h k = k
+neg-range : (n : ℕ) → n ≤ 2 ^ 63 → InRange (neg_ℤ (pos n))
+neg-range zero h = omega arith
+neg-range (suc n) h = omega arith
 
-signed-range : (t : Bool) (n : ℕ) → InRange (signed t n)
-signed-range true n = go (nat_le n (2 ^ 63)) refl
-  where
-    neg : (n : ℕ) → n ≤ 2 ^ 63 → mag (neg_ℤ (pos n)) < 2 ^ 63
-    neg zero h = omega arith
-    neg (suc n) h = omega arith
+signed-range : (t : Bool) (n : ℕ) → IfSome (signed t n) InRange
+signed-range true n = of-tested InRange (nat_le n (2 ^ 63)) (neg_ℤ (pos n)) (λ e. neg-range n (grind (arith, nat_tests)))
+signed-range false n = of-tested InRange (nat_lt n (2 ^ 63)) (pos n) (λ e. grind (arith, nat_tests))
 
-    go : (k : Bool) → nat_le n (2 ^ 63) ≡ k → InRange (if k then Some (neg_ℤ (pos n)) else None)
-    go true e = neg n (grind (arith, nat_tests))
-    go false e = tt
-signed-range false n = go (nat_lt n (2 ^ 63)) refl
-  where
-    go : (k : Bool) → nat_lt n (2 ^ 63) ≡ k → InRange (if k then Some (pos n) else None)
-    go true e = grind (arith, nat_tests)
-    go false e = tt
+then-range : (t : Bool) (o : Option ℕ) → IfSome (option_and_then (signed t) o) InRange
+then-range t o = of-each-chained InRange (signed t) o (signed-range t)
 
-then-range : (t : Bool) (o : Option ℕ) → InRange (option_and_then (signed t) o)
-then-range t None = tt
-then-range t (Some n) = signed-range t n
-
-pub integer-range : (bs : List ℕ) → InRange (integer bs)
+pub integer-range : (bs : List ℕ) → IfSome (integer bs) InRange
 unfolding integer
 integer-range [] = tt
 integer-range (b ∷ bs) =
-    if-range (nat_eq b 45) _ _ (then-range true (magnitude bs))
-    (if-range (nat_eq b 43) _ _ (then-range false (magnitude bs)) (then-range false (magnitude (b ∷ bs))))
+    of-either InRange (nat_eq b 45) _ _ (then-range true (magnitude bs))
+    (of-either InRange (nat_eq b 43) _ _ (then-range false (magnitude bs)) (then-range false (magnitude (b ∷ bs))))
 
 -- ---- the parts of a text
 
@@ -60,101 +47,65 @@ abbrev OfPart : Rune → Type 0
 OfPart (byte b) = b < 256
 OfPart (char c) = IsScalar c
 
-abbrev OfSpelled : Option Spelled → Type 0
-OfSpelled None = Unit {0}
-OfSpelled (Some p) = OfPart p.0
+abbrev OfSpelled : Spelled → Type 0
+OfSpelled p = OfPart p.0
 
-if-spelled : (b : Bool) (o p : Option Spelled) → OfSpelled o → OfSpelled p → OfSpelled (if b then o else p)
-if-spelled true o p h k = h
-if-spelled false o p h k = k
+then-byte : (len : ℕ) (o : Option ℕ) → IfSome (option_and_then (as_byte len) o) OfSpelled
+then-byte len o = of-each-chained OfSpelled (as_byte len) o (λ n. of-tested OfSpelled (nat_lt n 256) (byte n, len) (λ e. grind (arith, nat_tests)))
 
-byte-spelled : (len n : ℕ) → OfSpelled (as_byte len n)
-byte-spelled len n = go (nat_lt n 256) refl
-  where
-    go : (k : Bool) → nat_lt n 256 ≡ k → OfSpelled (if k then Some (byte n, len) else None)
-    go true e = grind (arith, nat_tests)
-    go false e = tt
+then-char : (len : ℕ) (o : Option ℕ) → IfSome (option_and_then (as_char len) o) OfSpelled
+then-char len o = of-each-chained OfSpelled (as_char len) o (λ n. of-tested OfSpelled (scalar n) (char n, len) (λ e. e))
 
-char-spelled : (len n : ℕ) → OfSpelled (as_char len n)
-char-spelled len n = go (scalar n) refl
-  where
-    go : (k : Bool) → scalar n ≡ k → OfSpelled (if k then Some (char n, len) else None)
-    go true e = e
-    go false e = tt
-
-then-byte : (len : ℕ) (o : Option ℕ) → OfSpelled (option_and_then (as_byte len) o)
-then-byte len None = tt
-then-byte len (Some n) = byte-spelled len n
-
-then-char : (len : ℕ) (o : Option ℕ) → OfSpelled (option_and_then (as_char len) o)
-then-char len None = tt
-then-char len (Some n) = char-spelled len n
-
-coded-spelled : (e : ℕ) (bs : List ℕ) → OfSpelled (coded e bs)
+coded-spelled : (e : ℕ) (bs : List ℕ) → IfSome (coded e bs) OfSpelled
 coded-spelled e bs =
-    if-spelled (nat_eq e 120) _ _ (then-byte 4 (code 16 2 bs))
-    (if-spelled (nat_eq e 117) _ _ (then-char 6 (code 16 4 bs))
-    (if-spelled (nat_eq e 85) _ _ (then-char 10 (code 16 8 bs)) (then-byte 4 (code 8 3 (e ∷ bs)))))
+    of-either OfSpelled (nat_eq e 120) _ _ (then-byte 4 (code 16 2 bs))
+    (of-either OfSpelled (nat_eq e 117) _ _ (then-char 6 (code 16 4 bs))
+    (of-either OfSpelled (nat_eq e 85) _ _ (then-char 10 (code 16 8 bs)) (then-byte 4 (code 8 3 (e ∷ bs)))))
 
-abbrev OfByte : Option ℕ → Type 0
-OfByte None = Unit {0}
-OfByte (Some b) = b < 256
+abbrev IsByte : ℕ → Type 0
+IsByte b = b < 256
 
-if-byte : (b : Bool) (o p : Option ℕ) → OfByte o → OfByte p → OfByte (if b then o else p)
-if-byte true o p h k = h
-if-byte false o p h k = k
-
-named-byte : (quote e : ℕ) → quote < 256 → OfByte (byte_named quote e)
+named-byte : (quote e : ℕ) → quote < 256 → IfSome (byte_named quote e) IsByte
 named-byte quote e h =
-    if-byte (nat_eq e 97) _ _ (omega arith) (if-byte (nat_eq e 98) _ _ (omega arith)
-    (if-byte (nat_eq e 102) _ _ (omega arith) (if-byte (nat_eq e 110) _ _ (omega arith)
-    (if-byte (nat_eq e 114) _ _ (omega arith) (if-byte (nat_eq e 116) _ _ (omega arith)
-    (if-byte (nat_eq e 118) _ _ (omega arith) (if-byte (nat_eq e 92) _ _ (omega arith)
-    (if-byte (nat_eq e quote) _ _ h tt))))))))
+    named 97 7 _ (omega arith) (named 98 8 _ (omega arith) (named 102 12 _ (omega arith) (named 110 10 _ (omega arith)
+    (named 114 13 _ (omega arith) (named 116 9 _ (omega arith) (named 118 11 _ (omega arith) (named 92 92 _ (omega arith) (named quote quote _ h tt))))))))
+  where
+    named : (k b : ℕ) (o : Option ℕ) → b < 256 → IfSome o IsByte → IfSome (if nat_eq e k then Some b else o) IsByte
+    named k b o low more = of-either IsByte (nat_eq e k) (Some b) o low more
 
-escape-spelled : (quote : ℕ) (bs : List ℕ) → quote < 256 → OfSpelled (escape quote bs)
+escape-spelled : (quote : ℕ) (bs : List ℕ) → quote < 256 → IfSome (escape quote bs) OfSpelled
 escape-spelled quote [] h = tt
 escape-spelled quote (e ∷ bs) h = go (byte_named quote e) (named-byte quote e h)
   where
-    go : (o : Option ℕ) → OfByte o → OfSpelled (escape_by o e bs)
+    go : (o : Option ℕ) → IfSome o IsByte → IfSome (escape_by o e bs) OfSpelled
     go None k = coded-spelled e bs
     go (Some b) k = k
 
-rune-spelled : (bs : List ℕ) (r : Rune) → Front bs r → OfSpelled (Some (rune_part r))
+rune-spelled : (bs : List ℕ) (r : Rune) → Front bs r → OfSpelled (rune_part r)
 rune-spelled bs _ (encoding c s e) = s
 rune-spelled bs _ lone = refl
 
-part-spelled : (quote : ℕ) (bs : List ℕ) → quote < 256 → OfSpelled (part_at quote bs)
+part-spelled : (quote : ℕ) (bs : List ℕ) → quote < 256 → IfSome (part_at quote bs) OfSpelled
 unfolding part_at
 part-spelled quote [] h = tt
 part-spelled quote (b ∷ bs) h =
-    if-spelled (nat_eq b 92) _ _ (escape-spelled quote bs h)
-    (if-spelled (nat_eq b quote) _ _ tt (rune-spelled (b ∷ bs) (first_rune (b ∷ bs)) (front (b ∷ bs))))
+    of-either OfSpelled (nat_eq b 92) _ _ (escape-spelled quote bs h)
+    (of-either OfSpelled (nat_eq b quote) _ _ tt (rune-spelled (b ∷ bs) (first_rune (b ∷ bs)) (front (b ∷ bs))))
 
 abbrev AreParts : List Rune → Type 0
 AreParts [] = Unit {0}
 AreParts (p ∷ ps) = OfPart p × AreParts ps
 
-abbrev OfParts : Option (List Rune) → Type 0
-OfParts None = Unit {0}
-OfParts (Some ps) = AreParts ps
-
-with-spelled : (p : Rune) (o : Option (List Rune)) → OfPart p → OfParts o → OfParts (with_part p o)
-with-spelled p None h k = tt
-with-spelled p (Some ps) h k = (h, k)
-
-after-spelled : (quote n : ℕ) (bs : List ℕ) → quote < 256 → OfParts (parts_after quote n bs)
+after-spelled : (quote n : ℕ) (bs : List ℕ) → quote < 256 → IfSome (parts_after quote n bs) AreParts
 after-spelled quote zero [] h = tt
 after-spelled quote (suc n) [] h = tt
 after-spelled quote (suc n) (b ∷ bs) h = after-spelled quote n bs h
-after-spelled quote zero (b ∷ bs) h = go (λ n. after-spelled quote n bs h) (part_at quote (b ∷ bs)) (part-spelled quote (b ∷ bs) h)
-  where
-    go : ((n : ℕ) → OfParts (parts_after quote n bs)) → (o : Option Spelled) → OfSpelled o
-        → OfParts (option_and_then (λ (p : Spelled). with_part p.0 (parts_after quote (p.1 - 1) bs)) o)
-    go more None k = tt
-    go more (Some p) k = with-spelled p.0 _ k (more (p.1 - 1))
+after-spelled quote zero (b ∷ bs) h =
+    of-chained OfSpelled AreParts (λ (p : Spelled). with_part p.0 (parts_after quote (p.1 - 1) bs)) (part_at quote (b ∷ bs))
+    (λ p k. of-mapped AreParts AreParts (λ ps. p.0 ∷ ps) (parts_after quote (p.1 - 1) bs) (λ ps more. (k, more)) (after-spelled quote (p.1 - 1) bs h))
+    (part-spelled quote (b ∷ bs) h)
 
-parts-spelled : (quote : ℕ) (bs : List ℕ) → quote < 256 → OfParts (parts quote bs)
+parts-spelled : (quote : ℕ) (bs : List ℕ) → quote < 256 → IfSome (parts quote bs) AreParts
 unfolding parts
 parts-spelled quote bs h = after-spelled quote 0 bs h
 
@@ -187,16 +138,8 @@ parts-bytes : (ps : List Rune) → AreParts ps → AreBytes (flat_map bytes_in p
 parts-bytes [] h = tt
 parts-bytes (p ∷ ps) h = bytes-append (bytes_in p) (flat_map bytes_in ps) (part-bytes p h.0) (parts-bytes ps h.1)
 
-abbrev pub OfText : Option (List ℕ) → Type 0
-OfText None = Unit {0}
-OfText (Some bytes) = AreBytes bytes
-
-pub unquoted-bytes : (bs : List ℕ) → OfText (unquoted 34 bs)
-unquoted-bytes bs = go (parts 34 bs) (parts-spelled 34 bs (omega arith))
-  where
-    go : (o : Option (List Rune)) → OfParts o → OfText (option_map (flat_map bytes_in) o)
-    go None h = tt
-    go (Some ps) h = parts-bytes ps h
+pub unquoted-bytes : (bs : List ℕ) → IfSome (unquoted 34 bs) AreBytes
+unquoted-bytes bs = of-mapped AreParts AreBytes (flat_map bytes_in) (parts 34 bs) parts-bytes (parts-spelled 34 bs (omega arith))
 
 pub raw-bytes : (bs : List ℕ) → AreBytes bs → AreBytes (without_returns bs)
 raw-bytes [] h = tt
@@ -212,17 +155,9 @@ code-range : (p : Rune) → OfPart p → code_of p < 2 ^ 63
 code-range (byte b) h = omega arith
 code-range (char c) h = let low = below c h in omega arith
 
-abbrev pub OfCode : Option ℕ → Type 0
-OfCode None = Unit {0}
-OfCode (Some n) = n < 2 ^ 63
-
-one-range : (ps : List Rune) → AreParts ps → OfCode (one_code ps)
+one-range : (ps : List Rune) → AreParts ps → IfSome (one_code ps) (λ n. n < 2 ^ 63)
 one-range (p ∷ []) h = code-range p h.0
 one-range _ h = tt
 
-pub character-range : (bs : List ℕ) → OfCode (rune_code 39 bs)
-character-range bs = go (parts 39 bs) (parts-spelled 39 bs (omega arith))
-  where
-    go : (o : Option (List Rune)) → OfParts o → OfCode (option_and_then one_code o)
-    go None h = tt
-    go (Some ps) h = one-range ps h
+pub character-range : (bs : List ℕ) → IfSome (rune_code 39 bs) (λ n. n < 2 ^ 63)
+character-range bs = of-chained AreParts (λ n. n < 2 ^ 63) one_code (parts 39 bs) one-range (parts-spelled 39 bs (omega arith))

@@ -9,10 +9,12 @@ use Rattle.tmpl_lex.specs.Piece.{Token}
 use Rattle.tmpl_lex.specs.declared.piece.TokenKind.TheVariants as kind
 use Rattle.tmpl_grammar.specs.Tree as tree
 use Rattle.tmpl_grammar.specs.Tree.{Operand, Operands, Pipeline, Binding, unbound, declare, assign, Header, declare_pair}
-use Rattle.tmpl_grammar.specs.Action.{Action, pipeline_action, opening, else_branch, define_action, template_action, block_action, SpellsGiven, SpellsAction}
+use Rattle.tmpl_grammar.specs.Action.{Action, pipeline_action, opening, else_branch, define_action, template_action, block_action}
+use Rattle.tmpl_grammar.specs.Action.{control_in, IsQuoted, SpellsGiven, SpellsAction}
 use Rattle.tmpl_grammar.specs.Pipeline.{IsBlank, IsChain, SpellsOperand, SpellsMore, SpellsCommand, SpellsLater, SpellsPipeline}
 use Rattle.tmpl_grammar.specs.Header.{is_range, Then, IsVariable, IsSign, SpellsHeader, SpellsBinding}
 use Rattle.tmpl_grammar.specs.Constant.{IsConstant}
+use Rattle.tmpl_grammar.specs.Keyword.{control_spelling, IsWord}
 use Rattle.tmpl_grammar.specs.computed.Constant.{constant_of, string_in}
 use Rattle.tmpl_grammar.specs.Operand as operand
 use Rattle.tmpl_grammar.specs.Operand.{IsOperand}
@@ -191,37 +193,24 @@ spells-given : (given : Option Pipeline) → OfGiven given → SpellsGiven given
 spells-given None h = tt
 spells-given (Some p) h = spaced-pipeline p h
 
+-- a keyword, and a name in quotes, before what stands behind it
+keyed : (ws : List Token) (spelling : List ℕ) (Rest : List Token → Type 0) (ts : List Token) → IsBlank ws → Rest ts
+    → Then (IsWord spelling) Rest (ws ++ word spelling ∷ ts)
+keyed ws spelling Rest ts w r = (ws, word spelling, ts, refl, w, (refl, refl), r)
+
+named : (name : List ℕ) (Rest : List Token → Type 0) (ts : List Token) → AreBytes name → Rest ts
+    → Then (IsQuoted name) Rest (space ∷ token kind.String (quote name) ∷ ts)
+named name Rest ts h r = (space ∷ [], token kind.String (quote name), ts, refl, (refl, tt), quoted-constant name h, r)
+
 pub spells-tokens : (a : Action) → OfAction a → SpellsAction a (action_tokens a)
 spells-tokens (pipeline_action h) of = (of.0, (spells-bound h.binding h.pipeline of.1 of.2).1)
-spells-tokens (opening c h) of = ([], word _, _, refl, tt, (refl, refl), spells-header (is_range c) h of)
+spells-tokens (opening c h) of = keyed [] _ (SpellsHeader (is_range c) h) _ tt (spells-header (is_range c) h of)
 spells-tokens (else_branch br h) of =
-    ([], word _, _, refl, tt, (refl, refl), (space ∷ [], word _, _, refl, (refl, tt), (refl, refl), spells-header false h of))
-spells-tokens (define_action name) of =
-    ([], word _, _, refl, tt, (refl, refl), (space ∷ [], token kind.String (quote name), [], refl, (refl, tt), quoted-constant name of, tt))
-spells-tokens (template_action name given) of = (
-  [],
-  word _,
-  _,
-  refl,
-  tt,
-  (refl, refl),
-  (space ∷ [], token kind.String (quote name), given_tokens given, refl, (refl, tt), quoted-constant name of.0, spells-given given of.1),
-)
-spells-tokens (block_action name p) of = (
-  [],
-  word _,
-  _,
-  refl,
-  tt,
-  (refl, refl),
-  (
-    space ∷ [],
-    token kind.String (quote name),
-    given_tokens (Some p),
-    refl,
-    (refl, tt),
-    quoted-constant name of.0,
-    spaced-pipeline p of.1,
-  ),
-)
-spells-tokens _ of = ([], word _, [], refl, tt, (refl, refl), tt)
+    keyed [] _ (Then (IsWord (control_spelling (control_in br))) (SpellsHeader false h)) _ tt
+    (keyed (space ∷ []) _ (SpellsHeader false h) _ (refl, tt) (spells-header false h of))
+spells-tokens (define_action name) of = keyed [] _ (Then (IsQuoted name) IsBlank) _ tt (named name IsBlank [] of tt)
+spells-tokens (template_action name given) of =
+    keyed [] _ (Then (IsQuoted name) (SpellsGiven given)) _ tt (named name (SpellsGiven given) (given_tokens given) of.0 (spells-given given of.1))
+spells-tokens (block_action name p) of =
+    keyed [] _ (Then (IsQuoted name) (SpellsPipeline p)) _ tt (named name (SpellsPipeline p) (given_tokens (Some p)) of.0 (spaced-pipeline p of.1))
+spells-tokens _ of = keyed [] _ IsBlank [] tt tt

@@ -3,7 +3,7 @@ use Rattle.std.proofs.Common.{◌≡◌, ◌∙◌, ℕ, Bool, true, false, List
 use Rattle.tmpl_values.specs.Quote.{quote, inside}
 use Rattle.tmpl_values.specs.Printable.{printable}
 use Rattle.tmpl_funcs.specs.declared.func.Func.{Func}
-use Rattle.tmpl_funcs.specs.declared.func.Func.TheVariants.{And, Or, Not, Len, Index, Slice, Print, Println, Printf, Html, Urlquery, Eq, Ne, Lt, Le, Gt, Ge}
+use Rattle.tmpl_funcs.specs.declared.func.Func.TheVariants.{And}
 use Rattle.tmpl_funcs.specs.Func.{name_of}
 use Rattle.tmpl_lex.specs.Bytes.{is_name_byte, is_number_byte, Stops}
 use Rattle.tmpl_lex.specs.Piece.{Token}
@@ -62,22 +62,7 @@ fields-reads (n ∷ ns) rest h stop = record { spells = chain-spells (n ∷ ns) 
 
 function-reads : (f : Func) (rest : List ℕ) → Stops is_name_byte rest → Reads (word (name_of f) ∷ []) rest
 function-reads And rest stop = one (word (name_of And)) rest (word-front 97 _ rest refl refl stop) (solid refl refl)
-function-reads Or rest stop = one (word (name_of Or)) rest (word-front 111 _ rest refl refl stop) (solid refl refl)
-function-reads Not rest stop = one (word (name_of Not)) rest (word-front 110 _ rest refl refl stop) (solid refl refl)
-function-reads Len rest stop = one (word (name_of Len)) rest (word-front 108 _ rest refl refl stop) (solid refl refl)
-function-reads Index rest stop = one (word (name_of Index)) rest (word-front 105 _ rest refl refl stop) (solid refl refl)
-function-reads Slice rest stop = one (word (name_of Slice)) rest (word-front 115 _ rest refl refl stop) (solid refl refl)
-function-reads Print rest stop = one (word (name_of Print)) rest (word-front 112 _ rest refl refl stop) (solid refl refl)
-function-reads Println rest stop = one (word (name_of Println)) rest (word-front 112 _ rest refl refl stop) (solid refl refl)
-function-reads Printf rest stop = one (word (name_of Printf)) rest (word-front 112 _ rest refl refl stop) (solid refl refl)
-function-reads Html rest stop = one (word (name_of Html)) rest (word-front 104 _ rest refl refl stop) (solid refl refl)
-function-reads Urlquery rest stop = one (word (name_of Urlquery)) rest (word-front 117 _ rest refl refl stop) (solid refl refl)
-function-reads Eq rest stop = one (word (name_of Eq)) rest (word-front 101 _ rest refl refl stop) (solid refl refl)
-function-reads Ne rest stop = one (word (name_of Ne)) rest (word-front 110 _ rest refl refl stop) (solid refl refl)
-function-reads Lt rest stop = one (word (name_of Lt)) rest (word-front 108 _ rest refl refl stop) (solid refl refl)
-function-reads Le rest stop = one (word (name_of Le)) rest (word-front 108 _ rest refl refl stop) (solid refl refl)
-function-reads Gt rest stop = one (word (name_of Gt)) rest (word-front 103 _ rest refl refl stop) (solid refl refl)
-function-reads Ge rest stop = one (word (name_of Ge)) rest (word-front 103 _ rest refl refl stop) (solid refl refl)
+function-reads f rest stop = one (word (name_of f)) rest (word-front _ _ rest refl refl stop) (solid refl refl)
 
 truth-reads : (b : Bool) (rest : List ℕ) → Stops is_name_byte rest → Reads (word (truth_text b) ∷ []) rest
 truth-reads true rest stop = one (word (truth_text true)) rest (word-front 116 _ rest refl refl stop) (solid refl refl)

@@ -75,13 +75,27 @@ EndsParser h ts all = EndsIn h.outer h.last h.inner.commands h.inner.operands ts
 
 -- ---- one token more at the front
 
--- where a token only changes the innermost pipeline
-within-partial : (ls : List Partial) (t : Token) (last pre : Option Operand) (cs ds : List Operands) (os qs : List Operand)
-    → ((ts : List Token) (all : List Operands) → EndsPartial last cs os ts all → EndsPartial pre ds qs (t ∷ ts) all)
-    → (ts : List Token) (all : List Operands) → EndsIn ls last cs os ts all → EndsIn ls pre ds qs (t ∷ ts) all
-within-partial [] t last pre cs ds os qs f ts all e = f ts all e
-within-partial (l ∷ ls) t last pre cs ds os qs f ts all (a, r, b, inner, is, right, partial, rest) =
-    (t ∷ a, r, b, inner, ap (λ us. t ∷ us) is, right, f a inner partial, rest)
+-- where tokens only change the innermost pipeline
+within-partial : (ls : List Partial) (us : List Token) (last pre : Option Operand) (cs ds : List Operands) (os qs : List Operand)
+    → ((ts : List Token) (all : List Operands) → EndsPartial last cs os ts all → EndsPartial pre ds qs (us ++ ts) all)
+    → (ts : List Token) (all : List Operands) → EndsIn ls last cs os ts all → EndsIn ls pre ds qs (us ++ ts) all
+within-partial [] us last pre cs ds os qs f ts all e = f ts all e
+within-partial (l ∷ ls) us last pre cs ds os qs f ts all (a, r, b, inner, is, right, partial, rest) =
+    (us ++ a, r, b, inner, ap (λ vs. us ++ vs) is ∙ sym (append_assoc us a (r ∷ b)), right, f a inner partial, rest)
+
+-- .. its newest command
+in-command : (us : List Token) (last pre : Option Operand) (cs : List Operands) (os : List Operand) (ts : List Token) (all : List Operands)
+    → (e : EndsPartial last cs os ts all) → EndsCommand pre cs os e.more (us ++ e.front) → EndsPartial pre cs os (us ++ ts) all
+in-command us last pre cs os ts all e ends = record {
+  more = e.more;
+  later = e.later;
+  front = us ++ e.front;
+  back = e.back;
+  tokens_are = ap (λ vs. us ++ vs) e.tokens_are ∙ sym (append_assoc us e.front e.back);
+  ends = ends;
+  spells = e.spells;
+  all_are = e.all_are;
+}
 
 -- white space behind an operand
 space-behind : (t : Token) (o : Operand) (cs : List Operands) (os : List Operand) → t.kind ≡ kind.Space
@@ -117,16 +131,7 @@ space-behind t o cs os is ts all e = record {
 -- white space before an operand
 space-before : (t : Token) (cs : List Operands) (os : List Operand) → t.kind ≡ kind.Space → (ts : List Token) (all : List Operands)
     → EndsPartial None cs os ts all → EndsPartial None cs os (t ∷ ts) all
-space-before t cs os is ts all e = record {
-  more = e.more;
-  later = e.later;
-  front = t ∷ e.front;
-  back = e.back;
-  tokens_are = ap (λ us. t ∷ us) e.tokens_are;
-  ends = by os e.more e.ends;
-  spells = e.spells;
-  all_are = e.all_are;
-}
+space-before t cs os is ts all e = in-command (t ∷ []) None None cs os ts all e (by os e.more e.ends)
   where
     spaced : (more : Operands) → SpellsCommand more e.front → SpellsCommand more (t ∷ e.front)
     spaced tree.no_operand s = absurd s
@@ -144,25 +149,16 @@ space-before t cs os is ts all e = record {
 field-behind : (t : Token) (o p : Operand) (cs : List Operands) (os : List Operand) → t.kind ≡ kind.Field → begins_name (name_in t) ≡ true
     → linked o (name_in t) ≡ Some p → (ts : List Token) (all : List Operands) → EndsPartial (Some p) cs os ts all
     → EndsPartial (Some o) cs os (t ∷ ts) all
-field-behind t o p cs os is begins link ts all e = record {
-  more = e.more;
-  later = e.later;
-  front = t ∷ e.front;
-  back = e.back;
-  tokens_are = ap (λ us. t ∷ us) e.tokens_are;
-  ends = record {
-    whole = e.ends.whole;
-    others = e.ends.others;
-    chain = t ∷ e.ends.chain;
-    rest = e.ends.rest;
-    tokens_are = ap (λ us. t ∷ us) e.ends.tokens_are;
-    more_are = e.ends.more_are;
-    extends = (is, begins, (p, link, e.ends.extends));
-    spells = e.ends.spells;
-  };
-  spells = e.spells;
-  all_are = e.all_are;
-}
+field-behind t o p cs os is begins link ts all e = in-command (t ∷ []) (Some p) (Some o) cs os ts all e (record {
+  whole = e.ends.whole;
+  others = e.ends.others;
+  chain = t ∷ e.ends.chain;
+  rest = e.ends.rest;
+  tokens_are = ap (λ us. t ∷ us) e.ends.tokens_are;
+  more_are = e.ends.more_are;
+  extends = (is, begins, (p, link, e.ends.extends));
+  spells = e.ends.spells;
+})
 
 -- ---- an operand
 
@@ -192,16 +188,8 @@ extends-stands cs os o p (t ∷ ts) (is, begins, (q, link, rest)) may = extends-
 -- an operand before what ends a command or a pipeline
 operand-before : (us : List Token) (o : Operand) (cs : List Operands) (os : List Operand) → Spells o us → may_stand cs os o ≡ true
     → (ts : List Token) (all : List Operands) → EndsPartial (Some o) cs os ts all → EndsPartial None cs os (us ++ ts) all
-operand-before us o cs os spells may ts all e = record {
-  more = e.more;
-  later = e.later;
-  front = us ++ e.front;
-  back = e.back;
-  tokens_are = ap (λ vs. us ++ vs) e.tokens_are ∙ sym (append_assoc us e.front e.back);
-  ends = subst (λ more. EndsCommand None cs os more (us ++ e.front)) (sym e.ends.more_are) (by os may);
-  spells = e.spells;
-  all_are = e.all_are;
-}
+operand-before us o cs os spells may ts all e =
+    in-command us (Some o) None cs os ts all e (subst (λ more. EndsCommand None cs os more (us ++ e.front)) (sym e.ends.more_are) (by os may))
   where
     command : SpellsCommand (tree.operand e.ends.whole e.ends.others) (us ++ e.front)
     command = (
@@ -221,9 +209,7 @@ operand-before us o cs os spells may ts all e = record {
 operand-within : (ls : List Partial) (us : List Token) (o : Operand) (cs : List Operands) (os : List Operand) → Spells o us
     → may_stand cs os o ≡ true → (ts : List Token) (all : List Operands) → EndsIn ls (Some o) cs os ts all
     → EndsIn ls None cs os (us ++ ts) all
-operand-within [] us o cs os spells may ts all e = operand-before us o cs os spells may ts all e
-operand-within (l ∷ ls) us o cs os spells may ts all (a, r, b, inner, is, right, partial, rest) =
-    (us ++ a, r, b, inner, ap (λ vs. us ++ vs) is ∙ sym (append_assoc us a (r ∷ b)), right, operand-before us o cs os spells may a inner partial, rest)
+operand-within ls us o cs os spells may = within-partial ls us (Some o) None cs cs os os (operand-before us o cs os spells may)
 
 chained : (f : List (List ℕ) → Operand) → Chains f → (ns : List (List ℕ)) (ts : List Token) (p : Operand) → Extends (f ns) ts p
     → (names : List (List ℕ)) × (p ≡ f (ns ++ names)) × IsChain names ts
@@ -248,7 +234,6 @@ token-spells : (t : Token) (o : Operand) → operand_at t ≡ Some o → Spells 
 token-spells t o at = by o (is-computed-operand t o at) (subst IsToken at (token-form t))
   where
     by : (o : Operand) → IsOperand t o → IsToken (Some o) → Spells o (t ∷ [])
-    by tree.dot at form = one-spells tree.dot t at (λ n. refl) (λ ts c. c)
     by (tree.fields names) at (n, is) = λ ts p e.
         let c = chained tree.fields fields-chain names ts p e in
         subst (λ p. SpellsOperand p (t ∷ ts)) (sym (c.1 ∙ ap (λ ns. tree.fields (ns ++ c.0)) is))
@@ -257,12 +242,8 @@ token-spells t o at = by o (is-computed-operand t o at) (subst IsToken at (token
         let c = chained (tree.variable x) (variable-chain x) names ts p e in
         subst (λ p. SpellsOperand p (t ∷ ts)) (sym (c.1 ∙ ap (λ ns. tree.variable x (ns ++ c.0)) is))
         (t, ts, refl, subst (λ ns. IsOperand t (tree.variable x ns)) is at, c.2)
-    by (tree.bool_constant b) at form = one-spells (tree.bool_constant b) t at (λ n. refl) (λ ts c. c)
-    by (tree.number_constant n) at form = one-spells (tree.number_constant n) t at (λ n. refl) (λ ts c. c)
-    by (tree.text_constant bytes) at form = one-spells (tree.text_constant bytes) t at (λ n. refl) (λ ts c. c)
-    by tree.nil at form = one-spells tree.nil t at (λ n. refl) (λ ts c. c)
-    by (tree.function f) at form = one-spells (tree.function f) t at (λ n. refl) (λ ts c. c)
     by (tree.group commands names) at form = absurd form
+    by o at form = one-spells o t at (λ n. refl) (λ ts c. c)
 
 group-spells : (cs : Pipeline) (l r : Token) (a : List Token) → l.kind ≡ kind.LeftParenthesis → r.kind ≡ kind.RightParenthesis
     → SpellsPipeline cs a → Spells (tree.group cs []) (l ∷ a ++ (r ∷ []))
@@ -285,17 +266,13 @@ pub record EndsNow (last : Option Operand) (cs : List Operands) (os : List Opera
   pub ends : EndsCommand last cs os more []
   pub done_is : done ≡ cs ++ operands_from (os ++ operand_list more) ∷ []
 
-abbrev unwrap : List Operands → Option (List Operands) → List Operands
-unwrap d None = d
-unwrap d (Some x) = x
-
 ends-now : (last : Option Operand) (cs : List Operands) (os : List Operand) (done : List Operands)
     → more_commands cs (settled last os) ≡ Some done → EndsNow last cs os done
-ends-now None cs [] done e = absurd (let g : ⊥ = cc in g)
+ends-now None cs [] done e = absurd (cc)
 ends-now None cs (o ∷ os) done e = record {
   more = tree.no_operand;
   ends = tt;
-  done_is = sym (ap (unwrap done) e) ∙ ap (λ qs. cs ++ operands_from qs ∷ []) (sym (append-nil (o ∷ os)));
+  done_is = sym (same_Some _ done e) ∙ ap (λ qs. cs ++ operands_from qs ∷ []) (sym (append-nil (o ∷ os)));
 }
 ends-now (Some o) cs os done e = record {
   more = tree.operand o tree.no_operand;
@@ -304,8 +281,8 @@ ends-now (Some o) cs os done e = record {
 }
   where
     by : (os : List Operand) → more_commands cs (os ++ o ∷ []) ≡ Some done → done ≡ cs ++ operands_from (os ++ o ∷ []) ∷ []
-    by [] e = sym (ap (unwrap done) e)
-    by (q ∷ os) e = sym (ap (unwrap done) e)
+    by [] e = cc
+    by (q ∷ os) e = cc
 
 partial-end : (last : Option Operand) (cs : List Operands) (os : List Operand) (done : List Operands)
     → more_commands cs (settled last os) ≡ Some done → EndsPartial last cs os [] done
@@ -361,14 +338,14 @@ group-stands (c ∷ cs) (q ∷ os) commands = refl
 module _ (t : Token) (cs : List Operands) (os : List Operand) (ts : List Token) (all : List Operands) where
   space-ends : (ls : List Partial) (last : Option Operand) → t.kind ≡ kind.Space
       → EndsParser (parser.apart (parser_at ls cs os last)) ts all → EndsIn ls last cs os (t ∷ ts) all
-  space-ends ls None is e = within-partial ls t None None cs cs os os (space-before t cs os is) ts all e
-  space-ends ls (Some o) is e = within-partial ls t None (Some o) cs cs (os ++ o ∷ []) os (space-behind t o cs os is) ts all e
+  space-ends ls None is e = within-partial ls (t ∷ []) None None cs cs os os (space-before t cs os is) ts all e
+  space-ends ls (Some o) is e = within-partial ls (t ∷ []) None (Some o) cs cs (os ++ o ∷ []) os (space-behind t o cs os is) ts all e
 
   bar-ends : (ls : List Partial) (last : Option Operand) → t.kind ≡ kind.Pipe → (done : Option (List Operands))
       → more_commands cs (settled last os) ≡ done → EndsOpt (option_map (parser.barred (parser_at ls cs os last)) done) ts all
       → EndsIn ls last cs os (t ∷ ts) all
   bar-ends ls last is None whole e = absurd e
-  bar-ends ls last is (Some done) whole e = within-partial ls t None last done cs [] os (bar-behind t last cs os done is whole) ts all e
+  bar-ends ls last is (Some done) whole e = within-partial ls (t ∷ []) None last done cs [] os (bar-behind t last cs os done is whole) ts all e
 
   open-ends : (ls : List Partial) (last : Option Operand) → t.kind ≡ kind.LeftParenthesis
       → EndsOpt (parser.opened last (parser_at ls cs os last)) ts all → EndsIn ls last cs os (t ∷ ts) all
@@ -399,8 +376,8 @@ module _ (t : Token) (cs : List Operands) (os : List Operand) (ts : List Token) 
       → linked_by b o (name_in t) ≡ p → EndsOpt (option_map (parser.ending_with (parser_at ls cs os (Some o))) p) ts all
       → EndsIn ls (Some o) cs os (t ∷ ts) all
   link-ends ls o is b begins None link e = absurd e
-  link-ends ls o is true begins (Some p) link e = within-partial ls t (Some p) (Some o) cs cs os os (field-behind t o p cs os is begins link) ts all e
-  link-ends ls o is false begins (Some p) link e = absurd (let g : ⊥ = cc in g)
+  link-ends ls o is true begins (Some p) link e = within-partial ls (t ∷ []) (Some p) (Some o) cs cs os os (field-behind t o p cs os is begins link) ts all e
+  link-ends ls o is false begins (Some p) link e = absurd (cc)
 
   field-ends : (ls : List Partial) (last : Option Operand) → t.kind ≡ kind.Field
       → EndsOpt (parser.fielded last t (parser_at ls cs os last)) ts all → EndsIn ls last cs os (t ∷ ts) all
@@ -421,11 +398,11 @@ module _ (t : Token) (cs : List Operands) (os : List Operand) (ts : List Token) 
 finished-ends : (ls : List Partial) (last : Option Operand) (cs : List Operands) (os : List Operand) (all : List Operands)
     → finished_with ls (more_commands cs (settled last os)) ≡ Some all → EndsIn ls last cs os [] all
 finished-ends [] last cs os all e = partial-end last cs os all e
-finished-ends (l ∷ ls) last cs os all e = absurd (let g : ⊥ = cc in g)
+finished-ends (l ∷ ls) last cs os all e = absurd (cc)
 
 steps-end : (o : Option Parser) (ts : List Token) (all : List Operands) → option_and_then finished (steps o ts) ≡ Some all → EndsOpt o ts all
 unfolding finished step
-steps-end None [] all e = absurd (let g : ⊥ = cc in g)
+steps-end None [] all e = absurd (cc)
 steps-end (Some h) [] all e = finished-ends h.outer h.last h.inner.commands h.inner.operands all e
 steps-end None (t ∷ ts) all e = steps-end None ts all e
 steps-end (Some h) (t ∷ ts) all e = step-ends t h.inner.commands h.inner.operands ts all t.kind refl h.outer h.last (steps-end (step t h) ts all e)

@@ -72,7 +72,7 @@ placed-step t o ls cs os admitted may = by t.kind refl
     same = ap (λ p. parser.placed None p (parser_at ls cs os None)) is ∙ ap (λ b. kept_if b (parser_at ls cs os (Some o))) may
 
     none : {A : Type 0} → ◌≡◌ {A = Option Operand} None (Some o) → A
-    none e = absurd (let g : ⊥ = cc in g)
+    none e = absurd (cc)
 
     by : (k : TokenKind) → t.kind ≡ k → step_by t.kind t (parser_at ls cs os None) ≡ Some (parser_at ls cs os (Some o))
     by kind.Space e = none (ap (λ k. operand_by k t) (sym e) ∙ is)

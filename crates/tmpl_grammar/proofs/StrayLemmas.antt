@@ -1,10 +1,11 @@
 -- For `one_action`: tokens that no pipeline has, so that no header begins with a keyword.
 use Rattle.std.proofs.Common.{◌≡◌, ◌∙◌, List, [], ◌∷◌, ◌++◌, Option, Some, None, refl, ap, sym, subst}
 use Rattle.std.specs.Option.{option_map, option_and_then}
+use Rattle.tmpl_lex.specs.declared.piece.TokenKind.{TokenKind}
 use Rattle.tmpl_lex.specs.declared.piece.TokenKind.TheVariants as kind
 use Rattle.tmpl_lex.specs.Piece.{Token}
 use Rattle.tmpl_grammar.specs.computed.Operand.{operand_at, operand_by, word_operand, func_named}
-use Rattle.tmpl_grammar.specs.computed.Parser.{Parser, step, steps, placed, start, finished}
+use Rattle.tmpl_grammar.specs.computed.Parser.{Parser, step, step_by, steps, placed, start, finished}
 use Rattle.tmpl_grammar.specs.Tree.{Operand, Pipeline, commands_from}
 use Rattle.tmpl_grammar.specs.Pipeline.{IsBlank, SpellsPipeline}
 use Rattle.tmpl_grammar.specs.Keyword.{IsWord}
@@ -26,17 +27,12 @@ none-placed : (last : Option Operand) (h : Parser) → placed last None h ≡ No
 none-placed None h = refl
 none-placed (Some o) h = refl
 
-pub declare-stray : (t : Token) → t.kind ≡ kind.Declare → IsStray t
+-- a sign is no operand
+pub sign-stray : (k : TokenKind) → ((t : Token) (h : Parser) → step_by k t h ≡ placed h.last (operand_at t) h) → ((t : Token) → operand_by k t ≡ None)
+    → (t : Token) → t.kind ≡ k → IsStray t
 unfolding operand_at
-declare-stray t e h = step-at kind.Declare t h e ∙ ap (λ o. placed h.last o h) (ap (λ k. operand_by k t) e) ∙ none-placed h.last h
-
-pub assign-stray : (t : Token) → t.kind ≡ kind.Assign → IsStray t
-unfolding operand_at
-assign-stray t e h = step-at kind.Assign t h e ∙ ap (λ o. placed h.last o h) (ap (λ k. operand_by k t) e) ∙ none-placed h.last h
-
-pub comma-stray : (t : Token) → t.kind ≡ kind.Comma → IsStray t
-unfolding operand_at
-comma-stray t e h = step-at kind.Comma t h e ∙ ap (λ o. placed h.last o h) (ap (λ k. operand_by k t) e) ∙ none-placed h.last h
+sign-stray k steps none t e h =
+    step-at k t h e ∙ steps t h ∙ ap (λ o. placed h.last o h) (ap (λ k. operand_by k t) e ∙ none t) ∙ none-placed h.last h
 
 -- no keyword is an operand
 keyword-none : (k : Keyword) → word_operand (spelling k) ≡ None

@@ -16,7 +16,7 @@ space-white t e = ap is_space_kind e
 
 white-space : (k : TokenKind) → is_space_kind k ≡ true → k ≡ kind.Space
 white-space kind.Space e = refl
-white-space k e = absurd (let g : ⊥ = cc in g)
+white-space k e = absurd (cc)
 
 white-first : (t : Token) (ts : List Token) → is_white t ≡ true → next (t ∷ ts) ≡ next ts
 white-first t ts e =
@@ -70,7 +70,7 @@ all-blank (t ∷ ts) e = by (all-blank ts) (is_white t) refl e
   where
     by : (is_blank ts ≡ true → IsBlank ts) → (b : Bool) → is_white t ≡ b → (b && is_blank ts) ≡ true → IsBlank (t ∷ ts)
     by more true w e = (white-space t.kind w, more e)
-    by more false w e = absurd (let g : ⊥ = cc in g)
+    by more false w e = absurd (cc)
 
 -- such a token comes first, and such tokens stand behind it
 pub record Led (Is : Token → Type 0) (Rest : List Token → Type 0) (ts : List Token) : Type 0 where

@@ -1,5 +1,5 @@
 -- What one action says, and which tokens spell it ("Actions" in the documentation of Go's text/template).
-use Rattle.std.specs.Prelude.{ℕ, false, List, Option, Some, None, codes}
+use Rattle.std.specs.Prelude.{ℕ, false, List, Option, Some, None, MatchOption, codes}
 use Rattle.tmpl_lex.specs.Piece.{Token}
 use Rattle.tmpl_grammar.specs.Tree.{text_constant, Pipeline, Header}
 use Rattle.tmpl_grammar.specs.Constant.{IsConstant}
@@ -38,8 +38,7 @@ IsQuoted name t = IsConstant t (text_constant name)
 
 -- a pipeline, or nothing
 abbrev pub SpellsGiven : Option Pipeline → List Token → Type 0
-SpellsGiven None ts = IsBlank ts
-SpellsGiven (Some p) ts = SpellsPipeline p ts
+SpellsGiven given ts = MatchOption given (IsBlank ts) (λ p. SpellsPipeline p ts)
 
 -- an action: a header alone, or a keyword and what stands behind it
 abbrev pub SpellsAction : Action → List Token → Type 0

@@ -1,6 +1,7 @@
 -- The tokens by which an action is printed, and how they stand in a file.
-use Rattle.std.specs.Prelude.{ℕ, List, [], ◌∷◌, ◌++◌, Option, Some, None, codes}
+use Rattle.std.specs.Prelude.{ℕ, List, [], ◌∷◌, ◌++◌, map, Option, Some, codes}
 use Rattle.std.specs.Fmt.{signed_decimal}
+use Rattle.std.specs.Option.{option_map_or}
 use Rattle.tmpl_values.specs.Quote.{quote}
 use Rattle.tmpl_values.specs.Text.{truth_text}
 use Rattle.tmpl_funcs.specs.Func.{name_of}
@@ -30,8 +31,7 @@ abbrev pub variable_token : List ℕ → Token
 variable_token name = token kind.Variable (36 ∷ name)
 
 abbrev pub chain_tokens : List (List ℕ) → List Token
-chain_tokens [] = []
-chain_tokens (n ∷ ns) = token kind.Field (46 ∷ n) ∷ chain_tokens ns
+chain_tokens names = map (λ n. token kind.Field (46 ∷ n)) names
 
 -- operands parted by one space, commands by space, bar, space; whole constants in decimal, texts quoted
 abbrev mutual
@@ -81,8 +81,7 @@ header_tokens h = binding_tokens h.binding ++ pipeline_tokens h.pipeline
 
 -- a pipeline, behind a space
 abbrev pub given_tokens : Option Pipeline → List Token
-given_tokens None = []
-given_tokens (Some p) = space ∷ pipeline_tokens p
+given_tokens given = option_map_or (λ p. space ∷ pipeline_tokens p) given []
 
 -- a keyword of this spelling, a name in quotes, and what stands behind it
 abbrev pub named_tokens : List ℕ → List ℕ → List Token → List Token

@@ -33,7 +33,7 @@ IsWithin-front_token bs t e =
 -- ---- where it ends
 
 pub right_delimiter-shorter : (bs : List ℕ) (e : End) → right_delimiter bs ≡ Some e → length e.rest < length bs
-right_delimiter-shorter [] e h = let g : ◌≡◌ {A = Option End} None (Some e) = h in cc
+right_delimiter-shorter [] e h = cc
 right_delimiter-shorter (b ∷ bs) e h = go (has_right_delimiter (b ∷ bs)) (right_marked (b ∷ bs)) h
   where
     go : (c r : Bool) → ended_by c r (b ∷ bs) ≡ Some e → length e.rest < length (b ∷ bs)
@@ -43,11 +43,11 @@ right_delimiter-shorter (b ∷ bs) e h = go (has_right_delimiter (b ∷ bs)) (ri
     go false true h =
         let same : record { trims = true; rest = drop 4 (b ∷ bs) } ≡ e = cc in
         omega (arith, length-drop 4 (b ∷ bs), ap (λ (i : End). length i.rest) same)
-    go false false h = let g : ◌≡◌ {A = Option End} None (Some e) = h in cc
+    go false false h = cc
 
 pub inside-closed : (bs : List ℕ) (e : End) → Some e ≡ right_delimiter bs → inside bs ≡ Some ([], e)
 unfolding inside
-inside-closed [] e h = let g : ◌≡◌ {A = Option End} (Some e) None = h in cc
+inside-closed [] e h = cc
 inside-closed (b ∷ bs) e h = ap (λ o. inside_from o (front_token (b ∷ bs)) (λ t. inside_after (length t.bytes - 1) bs)) (sym h)
 
 pub inside-none : (bs : List ℕ) → None ≡ right_delimiter bs → None ≡ front_token bs → inside bs ≡ None
@@ -64,7 +64,7 @@ drop-sub_one (suc n) b bs h = ap (λ k. drop k bs) (omega arith)
 pub inside-token : (bs : List ℕ) (t : Token) → None ≡ right_delimiter bs → Some t ≡ front_token bs
     → inside bs ≡ with_token t (inside (drop (length t.bytes) bs))
 unfolding inside
-inside-token [] t e f = let g : ◌≡◌ {A = Option Token} (Some t) None = f in cc
+inside-token [] t e f = cc
 inside-token (b ∷ bs) t e f =
     ap (λ o. inside_from o (front_token (b ∷ bs)) (λ t. inside_after (length t.bytes - 1) bs)) (sym e)
     ∙ ap (λ o. inside_from None o (λ t. inside_after (length t.bytes - 1) bs)) (sym f)
@@ -111,14 +111,14 @@ pub inside-unread : (all bs : List ℕ) (ts : List Token) → IsReadTo all ts bs
 inside-unread all bs ts so_far e f = sym (so_far.same ∙ ap (behind ts) (inside-none bs e f))
 
 inside_after-shorter : (n : ℕ) (bs : List ℕ) (i : Inside) → inside_after n bs ≡ Some i → length i.1.rest < length bs
-inside_after-shorter n [] i e = let g : ◌≡◌ {A = Option Inside} None (Some i) = e in cc
+inside_after-shorter n [] i e = cc
 inside_after-shorter (suc n) (b ∷ bs) i e = omega (arith, inside_after-shorter n bs i e)
 inside_after-shorter zero (b ∷ bs) i e =
     go (λ t j f. inside_after-shorter (length t.bytes - 1) bs j f) (right_delimiter (b ∷ bs)) refl (front_token (b ∷ bs)) e
   where
     add : (t : Token) (o : Option Inside) → ((j : Inside) → o ≡ Some j → length j.1.rest < length bs) → with_token t o ≡ Some i
         → length i.1.rest < length (b ∷ bs)
-    add t None ih h = let g : ◌≡◌ {A = Option Inside} None (Some i) = h in cc
+    add t None ih h = cc
     add t (Some j) ih h =
         let same : ◌≡◌ {A = Inside} (t ∷ j.0, j.1) i = cc in
         omega (arith, ih j refl, ap (λ (k : Inside). length k.1.rest) same)
@@ -129,7 +129,7 @@ inside_after-shorter zero (b ∷ bs) i e =
     go ih (Some end) at o h =
         let same : ◌≡◌ {A = Inside} ([], end) i = cc in
         omega (arith, right_delimiter-shorter (b ∷ bs) end at, ap (λ (k : Inside). length k.1.rest) same)
-    go ih None at None h = let g : ◌≡◌ {A = Option Inside} None (Some i) = h in cc
+    go ih None at None h = cc
     go ih None at (Some t) h = add t (inside_after (length t.bytes - 1) bs) (ih t) h
 
 -- what stands behind an action is shorter than what stands behind its `{{`

@@ -4,7 +4,7 @@ use Rattle.std.proofs.Common.{◌++◌, Option, Some, None, refl, sym, ap, subst
 use Rattle.std.proofs.Common.{append_assoc, length-take, length-drop, length-append, nat_eq}
 use Rattle.std.proofs.lemmas.Bool.{eqb-true, and_parts, both_ways, false_from_ne_true}
 use Rattle.std.proofs.lemmas.List.{take_all}
-use Rattle.std.proofs.lemmas.List.Sums.{count_by-le-length, sum_by-take-drop, sum_by-append, sum_by-cons}
+use Rattle.std.proofs.lemmas.List.Sums.{count_by-le-length, sum_by-append, sum_by-cons}
 use Rattle.std.proofs.Math.Seq.{take-append_seam}
 use Rattle.tmpl_lex.specs.Bytes.{is_space, Absent, BeginsNone}
 use Rattle.tmpl_lex.specs.Cut.{Leads, Cuts, last, closed, unclosed}
@@ -26,8 +26,8 @@ use Rattle.tmpl_lex.proofs.TextLemmas.{texts-made, texts-only}
 
 comment_closed-shorter : (t : Bool) (o : Option (List ℕ × List ℕ)) (n : ℕ) (e : End) → ((p : List ℕ × List ℕ) → o ≡ Some p → length p.1 ≤ n)
     → comment_closed t o ≡ Some e → length e.rest < n
-comment_closed-shorter false o n e within h = let g : ◌≡◌ {A = Option End} None (Some e) = h in cc
-comment_closed-shorter true None n e within h = let g : ◌≡◌ {A = Option End} None (Some e) = h in cc
+comment_closed-shorter false o n e within h = cc
+comment_closed-shorter true None n e within h = cc
 comment_closed-shorter true (Some p) n e within h = omega (arith, right_delimiter-shorter p.1 e h, within p refl)
 
 pub comment_end-shorter : (bs : List ℕ) (e : End) → comment_end bs ≡ Some e → length e.rest < length bs
@@ -47,7 +47,7 @@ opened-shorter bs e h = go (comment_end bs) refl (inside bs) refl h
     go None c (Some i) d h =
         let same : i.1 ≡ e = cc in
         omega (arith, inside-shorter bs i d, ap (λ (x : End). length x.rest) same)
-    go None c None d h = let g : ◌≡◌ {A = Option End} (Some e) None = h in cc
+    go None c None d h = cc
 
 pub past_left-within : (bs : List ℕ) → length (past_left bs) ≤ length bs
 past_left-within bs = go (left_marked bs)
@@ -74,39 +74,12 @@ newlines-within before after rest h =
 
 -- ---- a text, by what a right trim marker takes of it
 
--- its newlines are those of what is taken and of what is kept
-pub newlines-split : (right : Bool) (before taken kept : List ℕ) → taken ≡ take (leading right before) before → kept ≡ without_leading right before
-    → newlines taken + newlines kept ≡ newlines before
-newlines-split right before taken kept e f =
-    ap (λ xs. newlines xs + newlines kept) e
-    ∙ ap (λ xs. newlines (take (leading right before) before) + newlines xs) f
-    ∙ sum_by-take-drop (λ b. cond (nat_eq b 10) 1 0) before (leading right before)
-
-pub texts-put : (old mid : List Piece) (right left : Bool) (line count : ℕ) (before taken kept text : List ℕ)
-    → taken ≡ take (leading right before) before → kept ≡ without_leading right before → count ≡ newlines taken → text ≡ without_trailing left kept
-    → mid ≡ old ++ text_piece (line + count) text → mid ≡ old ++ texts right left line before
-texts-put old mid right left line count before taken kept text e f n t put =
-    put
-    ∙ ap (λ k. old ++ text_piece (line + k) text) (n ∙ ap newlines e)
-    ∙ ap (λ xs. old ++ text_piece (line + newlines (take (leading right before) before)) xs) (t ∙ ap (without_trailing left) f)
-
--- what a step of the cut has added: a text, and what a `{{` begins, on the line that it stands on
-pub record IsAdded (right : Bool) (line : ℕ) (before after : List ℕ) (here : ℕ) (old mid new : List Piece) (o : Opened) : Type 0 where
-  pub line_is : here ≡ line + newlines before
-  pub put : mid ≡ old ++ texts right (left_marked after) line before
-  pub grown : new ≡ mid ++ pieces_of (line + newlines before) o
-
-pub IsAdded-step : (right : Bool) (line first second : ℕ) (before after taken kept text : List ℕ) (old mid new : List Piece) (o : Opened)
-    → taken ≡ take (leading right before) before → kept ≡ without_leading right before
-    → first ≡ newlines taken → second ≡ newlines kept → text ≡ without_trailing (left_marked after) kept → mid ≡ old ++ text_piece (line + first) text
-    → new ≡ mid ++ pieces_of (line + first + second) o
-    → IsAdded right line before after (line + first + second) old mid new o
-IsAdded-step right line first second before after taken kept text old mid new o e f n m t put grown =
-    let here : line + first + second ≡ line + newlines before = omega (arith, newlines-split right before taken kept e f, n, m) in record {
-      line_is = here;
-      put = texts-put old mid right (left_marked after) line first before taken kept text e f n t put;
-      grown = grown ∙ ap (λ k. mid ++ pieces_of k o) here;
-    }
+pub texts-put : (right left : Bool) (line count : ℕ) (before taken kept text : List ℕ) → taken ≡ take (leading right before) before
+    → kept ≡ without_leading right before → count ≡ newlines taken → text ≡ without_trailing left kept
+    → text_piece (line + count) text ≡ texts right left line before
+texts-put right left line count before taken kept text e f n t =
+    ap (λ k. text_piece (line + k) text) (n ∙ ap newlines e)
+    ∙ ap (text_piece (line + newlines (take (leading right before) before))) (t ∙ ap (without_trailing left) f)
 
 -- with no marker behind it all is kept
 pub without_trailing-unmarked : (bs : List ℕ) → bs ≡ without_trailing false bs
@@ -239,7 +212,7 @@ at-closed line after (comment e) end further h = let same : e ≡ end =
     cc in ap (λ (x : End). further x.trims (line + newlines (stretch after x.rest)) x.rest) same
 at-closed line after (tokens ts e) end further h = let same : e ≡ end =
     cc in ap (λ (x : End). action line ts ∷ further x.trims (line + newlines (stretch after x.rest)) x.rest) same
-at-closed line after neither end further h = let g : ◌≡◌ {A = Option End} None (Some end) = h in cc
+at-closed line after neither end further h = cc
 
 -- bytes are cut into the pieces of `cut_within`
 cut_within-Cuts : (n : ℕ) (right : Bool) (line : ℕ) (bs : List ℕ) → length bs < n → Cuts right line bs (cut_within n right line bs)
@@ -251,8 +224,8 @@ cut_within-Cuts (suc n) right line bs h =
     tell : ((t : Bool) (next : ℕ) (rest : List ℕ) → length rest < length bs → Cuts t next rest (cut_within n t next rest)) → (before after : List ℕ)
         → split_open bs ≡ Some (before, after) → (o : Opened) → opened (past_left after) ≡ o → (c : Option End) → ends_at o ≡ c
         → Cuts right line bs (texts right (left_marked after) line before ++ pieces_at (line + newlines before) after o (cut_within n))
-    tell ih before after e (comment end) f None at = let g : ◌≡◌ {A = Option End} (Some end) None = at in cc
-    tell ih before after e (tokens ts end) f None at = let g : ◌≡◌ {A = Option End} (Some end) None = at in cc
+    tell ih before after e (comment end) f None at = cc
+    tell ih before after e (tokens ts end) f None at = cc
     tell ih before after e neither f None at = cuts-unclosed right line bs before after e f
     tell ih before after e o f (Some end) at =
         subst (λ (ps : List Piece). Cuts right line bs ps)

@@ -1,6 +1,6 @@
 -- For `first_part`: a part, and the rest behind it, are cut as the whole is. For `cut`: part by part all of a file is cut.
 use Rattle.std.proofs.Common.{arith, ◌≡◌, ◌∙◌, ℕ, ◌+◌, ◌<◌, ◌^◌, Bool, false, List, [], ◌++◌, Option, Some, None, refl, sym, ap, subst}
-use Rattle.std.proofs.Common.{length, take, append_assoc, append-nil}
+use Rattle.std.proofs.Common.{length, take, append-nil}
 use Rattle.std.proofs.lemmas.Option.{same_Some}
 use Rattle.std.specs.Option.{option_map}
 use Rattle.tmpl_lex.specs.declared.action.Opened as held_opened
@@ -32,7 +32,7 @@ ends-same ts us variant.Neither = refl
 pub last-cuts : (right : Bool) (line count : ℕ) (bs taken kept : List ℕ) → None ≡ split_open bs → taken ≡ take (leading right bs) bs
     → kept ≡ without_leading right bs → count ≡ newlines taken → Cuts right line bs (text_piece (line + count) kept ++ [])
 last-cuts right line count bs taken kept none t k n =
-    let is = texts-put [] (text_piece (line + count) kept) right false line count bs taken kept kept t k n (without_trailing-unmarked kept) refl in
+    let is = texts-put right false line count bs taken kept kept t k n (without_trailing-unmarked kept) in
     subst (λ ps. Cuts right line bs ps) (sym (append-nil (text_piece (line + count) kept) ∙ is)) (cuts-last right line bs (sym none))
 
 module _ (file : List ℕ) (rest : held.Rest) (before after : List ℕ) (split : Some (before, after) ≡ split_open rest.bytes.now) (o : Opened)
@@ -56,8 +56,8 @@ module _ (file : List ℕ) (rest : held.Rest) (before after : List ℕ) (split :
     where
       by : (x : Opened) → o ≡ x → ends_at x ≡ None
           → Cuts rest.trims rest.line rest.bytes.now (texts rest.trims (left_marked after) rest.line before ++ pieces_of here x)
-      by (comment e) same at = let g : ◌≡◌ {A = Option End} (Some e) None = at in cc
-      by (tokens ts e) same at = let g : ◌≡◌ {A = Option End} (Some e) None = at in cc
+      by (comment e) same at = cc
+      by (tokens ts e) same at = cc
       by neither same at = cuts-unclosed rest.trims rest.line rest.bytes.now before after (sym split) (sym read ∙ same)
 
   pub part-cuts : (ps : List Piece) (r : Option held.Rest) → ArePieces ps → option_map rest_of r ≡ option_map (rest_behind after here) (ends_at o)
@@ -66,8 +66,8 @@ module _ (file : List ℕ) (rest : held.Rest) (before after : List ℕ) (split :
     where
       by : (e : Option End) → ends_at o ≡ e → (r : Option held.Rest) → option_map rest_of r ≡ option_map (rest_behind after here) e → IsCutBy rest ps r
       by None at None q = unclosed-part ps at is
-      by None at (Some r) q = let g : ◌≡◌ {A = Option Rest} (Some (rest_of r)) None = q in cc
-      by (Some e) at None q = let g : ◌≡◌ {A = Option Rest} None (Some (rest_behind after here e)) = q in cc
+      by None at (Some r) q = cc
+      by (Some e) at None q = cc
       by (Some e) at (Some r) q = closed-part e ps r at is (same_Some (rest_of r) (rest_behind after here e) q)
 
   -- ---- what is left
@@ -89,7 +89,7 @@ module _ (file : List ℕ) (rest : held.Rest) (before after : List ℕ) (split :
         by : (e : Option End) → ends_at o ≡ e → (r : Option held.Rest) → option_map rest_of r ≡ option_map (rest_behind after here) e
             → IsLeftBehind file rest r
         by e at None q = tt
-        by None at (Some r) q = let g : ◌≡◌ {A = Option Rest} (Some (rest_of r)) None = q in cc
+        by None at (Some r) q = cc
         by (Some e) at (Some r) q =
             let same = same_Some (rest_of r) (rest_behind after here e) q in
             let found = sym at ∙ ap ends_at read in
@@ -118,14 +118,6 @@ whole-cut file rest more b l t cuts =
     sym (Cuts-cut_of file more
     (subst (λ (bs : List ℕ). Cuts false 1 bs more) b
     (subst (λ (n : ℕ). Cuts false n rest.bytes.now more) l (subst (λ (x : Bool). Cuts x rest.line rest.bytes.now more) t cuts))))
-
--- a part more
-pub more-cut : (file : List ℕ) (old new ps : List Piece) (rest next : held.Rest) (r : Option held.Rest) → IsSoFar file old rest → r ≡ Some next
-    → IsCutBy rest ps r → new ≡ old ++ ps → IsSoFar file new next
-more-cut file old new ps rest next r so_far is cuts grown = λ more h.
-    so_far (ps ++ more) (subst (IsCutBy rest ps) is cuts more h)
-    ∙ sym (append_assoc old ps more)
-    ∙ ap (λ (qs : List Piece). qs ++ more) (sym grown)
 
 -- the last part
 pub last-cut : (file : List ℕ) (old new ps : List Piece) (rest : held.Rest) (r : Option held.Rest) → IsSoFar file old rest → r ≡ None

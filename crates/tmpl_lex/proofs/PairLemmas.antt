@@ -22,8 +22,8 @@ some_pair p q e = cc
 
 -- the bytes on both sides of the pair, and it, are as many as there are
 pub split_pair-lengths : (x y : ℕ) (bs before after : List ℕ) → split_pair x y bs ≡ Some (before, after) → length before + length after + 2 ≡ length bs
-split_pair-lengths x y [] before after e = let g : ◌≡◌ {A = Option (List ℕ × List ℕ)} None (Some (before, after)) = e in cc
-split_pair-lengths x y (a ∷ []) before after e = let g : ◌≡◌ {A = Option (List ℕ × List ℕ)} None (Some (before, after)) = e in cc
+split_pair-lengths x y [] before after e = cc
+split_pair-lengths x y (a ∷ []) before after e = cc
 split_pair-lengths x y (a ∷ b ∷ bs) before after e = go (nat_eq a x && nat_eq b y) (split_pair x y (b ∷ bs)) (λ c d. split_pair-lengths x y (b ∷ bs) c d) e
   where
     go : (t : Bool) (o : Option (List ℕ × List ℕ)) → ((c d : List ℕ) → o ≡ Some (c, d) → length c + length d + 2 ≡ length (b ∷ bs))
@@ -32,7 +32,7 @@ split_pair-lengths x y (a ∷ b ∷ bs) before after e = go (nat_eq a x && nat_e
         let first : [] ≡ before = ap (λ (q : List ℕ × List ℕ). q.0) (some_pair ([], bs) (before, after) h) in
         let same : bs ≡ after = ap (λ (q : List ℕ × List ℕ). q.1) (some_pair ([], bs) (before, after) h) in
         omega (arith, ap length first, ap length same)
-    go false None ih h = let g : ◌≡◌ {A = Option (List ℕ × List ℕ)} None (Some (before, after)) = h in cc
+    go false None ih h = cc
     go false (Some p) ih h =
         let first : a ∷ p.0 ≡ before = ap (λ (q : List ℕ × List ℕ). q.0) (some_pair (a ∷ p.0, p.1) (before, after) h) in
         let same : p.1 ≡ after = ap (λ (q : List ℕ × List ℕ). q.1) (some_pair (a ∷ p.0, p.1) (before, after) h) in

@@ -101,8 +101,8 @@ split-first x y b bs [] after e = sym (same-first b x bs (y ∷ after) e)
 split-first x y b bs (c ∷ before) after e = sym (same-first b c bs (before ++ x ∷ y ∷ after) e)
 
 pub split-is : (x y : ℕ) (bs : List ℕ) (p : List ℕ × List ℕ) → split_pair x y bs ≡ Some p → IsSplit x y bs p.0 p.1
-split-is x y [] p e = let g : ◌≡◌ {A = Option (List ℕ × List ℕ)} None (Some p) = e in cc
-split-is x y (a ∷ []) p e = let g : ◌≡◌ {A = Option (List ℕ × List ℕ)} None (Some p) = e in cc
+split-is x y [] p e = cc
+split-is x y (a ∷ []) p e = cc
 split-is x y (a ∷ b ∷ bs) p e = go (nat_eq a x && nat_eq b y) refl (split_pair x y (b ∷ bs)) (λ q f. split-is x y (b ∷ bs) q f) e
   where
     go : (t : Bool) → (nat_eq a x && nat_eq b y) ≡ t → (o : Option (List ℕ × List ℕ))
@@ -110,7 +110,7 @@ split-is x y (a ∷ b ∷ bs) p e = go (nat_eq a x && nat_eq b y) refl (split_pa
     go true t o ih h =
         let same : ◌≡◌ {A = List ℕ × List ℕ} ([], bs) p = cc in
         subst (λ (q : List ℕ × List ℕ). IsSplit x y (a ∷ b ∷ bs) q.0 q.1) same (record { is = same-pair x y a b bs t; first = absent-one x y })
-    go false t None ih h = let g : ◌≡◌ {A = Option (List ℕ × List ℕ)} None (Some p) = h in cc
+    go false t None ih h = cc
     go false t (Some q) ih h =
         let same : ◌≡◌ {A = List ℕ × List ℕ} (a ∷ q.0, q.1) p = cc in
         let more = ih q refl in

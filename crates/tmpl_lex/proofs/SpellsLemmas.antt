@@ -49,14 +49,14 @@ reads-token bs t ts end on at more =
     }
 
 inside_after-reads : (n : ℕ) (bs : List ℕ) (i : Inside) → inside_after n bs ≡ Some i → Reads (drop n bs) i.0 i.1
-inside_after-reads n [] i e = let g : ◌≡◌ {A = Option Inside} None (Some i) = e in cc
+inside_after-reads n [] i e = cc
 inside_after-reads (suc n) (b ∷ bs) i e = inside_after-reads n bs i e
 inside_after-reads zero (b ∷ bs) i e =
     go (λ t j f. inside_after-reads (length t.bytes - 1) bs j f) (right_delimiter (b ∷ bs)) refl (front_token (b ∷ bs)) refl e
   where
     add : (t : Token) → right_delimiter (b ∷ bs) ≡ None → front_token (b ∷ bs) ≡ Some t → (o : Option Inside)
         → ((j : Inside) → o ≡ Some j → Reads (drop (length t.bytes - 1) bs) j.0 j.1) → with_token t o ≡ Some i → Reads (b ∷ bs) i.0 i.1
-    add t on at None ih h = let g : ◌≡◌ {A = Option Inside} None (Some i) = h in cc
+    add t on at None ih h = cc
     add t on at (Some j) ih h =
         let same : ◌≡◌ {A = Inside} (t ∷ j.0, j.1) i = cc in
         let left = drop-sub_one (length t.bytes) b bs (IsWithin-front_token (b ∷ bs) t (sym at)).some in
@@ -69,7 +69,7 @@ inside_after-reads zero (b ∷ bs) i e =
     go ih (Some end) on o at h =
         let same : ◌≡◌ {A = Inside} ([], end) i = cc in
         subst (λ (k : Inside). Reads (b ∷ bs) k.0 k.1) same (reads-end (b ∷ bs) end on)
-    go ih None on None at h = let g : ◌≡◌ {A = Option Inside} None (Some i) = h in cc
+    go ih None on None at h = cc
     go ih None on (Some t) at h = add t on at (inside_after (length t.bytes - 1) bs) (ih t) h
 
 inside-reads : (bs : List ℕ) (i : Inside) → inside bs ≡ Some i → Reads bs i.0 i.1
@@ -135,8 +135,8 @@ comment-is line bs end h = go (opens_comment bs) refl (split_pair 42 47 (drop 2 
   where
     go : (t : Bool) → opens_comment bs ≡ t → (o : Option (List ℕ × List ℕ)) → split_pair 42 47 (drop 2 bs) ≡ o → comment_closed t o ≡ Some end
         → HasClosed line bs end []
-    go false t o s h = let g : ◌≡◌ {A = Option End} None (Some end) = h in cc
-    go true t None s h = let g : ◌≡◌ {A = Option End} None (Some end) = h in cc
+    go false t o s h = cc
+    go true t None s h = cc
     go true t (Some p) s h =
         let split = split-is 42 47 (drop 2 bs) p s in
         let ends = found-ends p.1 end h in
@@ -161,15 +161,15 @@ opened-closed line bs o end e at = go (comment_end bs) refl (inside bs) refl o e
     go : (c : Option End) → comment_end bs ≡ c → (i : Option Inside) → inside bs ≡ i → (o : Opened) → opened_by c i ≡ o → ends_at o ≡ Some end
         → HasClosed line bs end (pieces_of line o)
     go (Some x) c i d o e at =
-        let same : x ≡ end = (let g : ◌≡◌ {A = Option End} (Some x) (Some end) = ap ends_at e ∙ at in cc) in
+        let same : x ≡ end = (cc) in
         subst (λ (o : Opened). HasClosed line bs end (pieces_of line o)) e (comment-is line bs end (c ∙ ap (λ (x : End). Some x) same))
     go None c (Some i) d o e at =
-        let same : i.1 ≡ end = (let g : ◌≡◌ {A = Option End} (Some i.1) (Some end) = ap ends_at e ∙ at in cc) in
+        let same : i.1 ≡ end = (cc) in
         let r = inside-reads bs i d in
         subst (λ (o : Opened). HasClosed line bs end (pieces_of line o)) e
         (subst (λ (end : End). HasClosed line bs end (action line i.0 ∷ [])) same
         (record { body = bytes_of i.0 ++ r.closing; closed = an_action r.spells r.closes; is = r.is }))
-    go None c None d o e at = let g : ◌≡◌ {A = Option End} None (Some end) = ap ends_at e ∙ at in cc
+    go None c None d o e at = cc
 
 -- what is computed of a closed comment or action
 pub record IsOpened (line : ℕ) (bs : List ℕ) (end : End) (ps : List Piece) : Type 0 where
@@ -206,7 +206,7 @@ closed-opened (an_action {line = line} {trims = trims} {ts = ts} {closing = clos
 pub neither-closed : (bs : List ℕ) → opened bs ≡ neither → NoneClosed bs
 neither-closed bs e line body trims rest ps h is =
     let o = closed-opened h in
-    let g : ◌≡◌ {A = Option End} None (Some (record { trims = trims; rest = rest })) = ap ends_at (sym e ∙ ap opened is) ∙ o.ends in cc
+    cc
 
 pub closed-neither : (bs : List ℕ) → NoneClosed bs → opened bs ≡ neither
 closed-neither bs h = go (opened bs) refl

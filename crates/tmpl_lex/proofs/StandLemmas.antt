@@ -66,7 +66,7 @@ found-ends bs e h = go (has_right_delimiter bs) refl (right_marked bs) refl h
         let same : record { trims = true; rest = drop 4 bs } ≡ e = cc in
         let marked = marked-is bs d in
         subst (Ends bs) same (record { closing = marked.0 ∷ 45 ∷ 125 ∷ 125 ∷ []; closes = closes_marked marked.1.0; is = marked.1.1 })
-    go false c false d h = let g : ◌≡◌ {A = Option End} None (Some e) = h in cc
+    go false c false d h = cc
 
 no-closes : (b : ℕ) (bs : List ℕ) → nat_eq b 125 ≡ false → has_right_delimiter (b ∷ bs) ≡ false
 no-closes b [] e = refl
@@ -194,50 +194,41 @@ escape-behind : (q b : ℕ) (bs : List ℕ) → b ≡ 92 → Behind q true bs �
 escape-behind q b [] e h = absurd h
 escape-behind q b (c ∷ bs) e h = subst (λ (k : ℕ). IsQuoted q (k ∷ c ∷ bs)) (sym e) (an_escape h.0 h.1)
 
-one-more : (q b : ℕ) (e s : Bool) (bs xs : List ℕ) → ((ys : List ℕ) → Behind q s ys → Behind q e (b ∷ ys)) → (o : Option (List ℕ))
-    → ((ys : List ℕ) → o ≡ Some ys → IsUpTo (Behind q s) q bs ys) → with_byte b o ≡ Some xs → IsUpTo (Behind q e) q (b ∷ bs) xs
-one-more q b e s bs xs step None ih h = let g : ◌≡◌ {A = Option (List ℕ)} None (Some xs) = h in cc
-one-more q b e s bs xs step (Some ys) ih h =
+-- one byte more: it is the quote, or what was found behind it goes on
+up-to-is : (F G : List ℕ → Type 0) (q b : ℕ) (bs xs : List ℕ) (t : Bool) → (t ≡ true → (b ≡ q) × G []) → (t ≡ false → (ys : List ℕ) → F ys → G (b ∷ ys))
+    → (o : Option (List ℕ)) → ((ys : List ℕ) → o ≡ Some ys → IsUpTo F q bs ys) → up_to t b o ≡ Some xs → IsUpTo G q (b ∷ bs) xs
+up-to-is F G q b bs xs true end step o ih h =
+    let same : b ∷ [] ≡ xs = cc in
+    let at = end refl in
+    record { inside = []; rest = bs; form = at.1; found = sym same ∙ ap (λ k. k ∷ []) at.0; is = ap (λ k. k ∷ bs) at.0 }
+up-to-is F G q b bs xs false end step None ih h = cc
+up-to-is F G q b bs xs false end step (Some ys) ih h =
     let more = ih ys refl in
     let same : b ∷ ys ≡ xs = cc in record {
       inside = b ∷ more.inside;
       rest = more.rest;
-      form = step more.inside more.form;
+      form = step refl more.inside more.form;
       found = sym same ∙ ap (λ l. b ∷ l) more.found;
       is = ap (λ l. b ∷ l) more.is;
     }
 
 quoted-is : (q : ℕ) (e : Bool) (bs xs : List ℕ) → quoted q e bs ≡ Some xs → IsUpTo (Behind q e) q bs xs
-quoted-is q e [] xs h = let g : ◌≡◌ {A = Option (List ℕ)} None (Some xs) = h in cc
-quoted-is q false (b ∷ bs) xs h = go (nat_eq b 10) refl (nat_eq b q && true) refl (nat_eq b 92 && true) refl (λ s ys f. quoted-is q s bs ys f) h
+quoted-is q e [] xs h = cc
+quoted-is q e (b ∷ bs) xs h = go (nat_eq b 10) refl e (nat_eq b 92 && not e) refl (λ s ys f. quoted-is q s bs ys f) h
   where
-    go : (l : Bool) → nat_eq b 10 ≡ l → (t : Bool) → (nat_eq b q && true) ≡ t → (s : Bool) → (nat_eq b 92 && true) ≡ s
-        → ((s : Bool) (ys : List ℕ) → quoted q s bs ≡ Some ys → IsUpTo (Behind q s) q bs ys) → unless l (up_to t b (quoted q s bs)) ≡ Some xs
-        → IsUpTo (Behind q false) q (b ∷ bs) xs
-    go true el t et s es ih h = let g : ◌≡◌ {A = Option (List ℕ)} None (Some xs) = h in cc
-    go false el true et s es ih h =
-        let same : b ∷ [] ≡ xs = cc in
-        let is : b ≡ q = eqb-true b q (and-true (nat_eq b q) true et) in record {
-          inside = [];
-          rest = bs;
-          form = no_byte;
-          found = sym same ∙ ap (λ k. k ∷ []) is;
-          is = ap (λ k. k ∷ bs) is;
-        }
-    go false el false et false es ih h =
-        one-more q b false false bs xs (λ ys f. a_byte el (and-true (nat_eq b 92) false es) (and-true (nat_eq b q) false et) f) (quoted q false bs) (ih false) h
-    go false el false et true es ih h =
-        one-more q b false true bs xs (λ ys f. escape-behind q b ys (eqb-true b 92 (and-true (nat_eq b 92) true es)) f) (quoted q true bs) (ih true) h
-quoted-is q true (b ∷ bs) xs h = go (nat_eq b 10) refl (nat_eq b q && false) (and-false (nat_eq b q)) (nat_eq b 92 && false) (and-false (nat_eq b 92))
-    (λ ys f. quoted-is q false bs ys f) h
-  where
-    go : (l : Bool) → nat_eq b 10 ≡ l → (t : Bool) → t ≡ false → (s : Bool) → s ≡ false
-        → ((ys : List ℕ) → quoted q false bs ≡ Some ys → IsUpTo (Behind q false) q bs ys) → unless l (up_to t b (quoted q s bs)) ≡ Some xs
-        → IsUpTo (Behind q true) q (b ∷ bs) xs
-    go true el t et s es ih h = let g : ◌≡◌ {A = Option (List ℕ)} None (Some xs) = h in cc
-    go false el true et s es ih h = cc
-    go false el false et true es ih h = cc
-    go false el false et false es ih h = one-more q b true false bs xs (λ ys f. (el, f)) (quoted q false bs) ih h
+    step : nat_eq b 10 ≡ false → (s : Bool) → (nat_eq b 92 && true) ≡ s → (nat_eq b q && true) ≡ false → (ys : List ℕ) → Behind q s ys → IsQuoted q (b ∷ ys)
+    step el false es t ys f = a_byte el (and-true (nat_eq b 92) false es) (and-true (nat_eq b q) false t) f
+    step el true es t ys f = escape-behind q b ys (eqb-true b 92 (and-true (nat_eq b 92) true es)) f
+
+    go : (l : Bool) → nat_eq b 10 ≡ l → (e s : Bool) → (nat_eq b 92 && not e) ≡ s
+        → ((s : Bool) (ys : List ℕ) → quoted q s bs ≡ Some ys → IsUpTo (Behind q s) q bs ys)
+        → unless l (up_to (nat_eq b q && not e) b (quoted q s bs)) ≡ Some xs → IsUpTo (Behind q e) q (b ∷ bs) xs
+    go true el e s es ih h = cc
+    go false el false s es ih h = up-to-is (Behind q s) (IsQuoted q) q b bs xs (nat_eq b q && true)
+        (λ t. (eqb-true b q (and-true (nat_eq b q) true t), no_byte)) (step el s es) (quoted q s bs) (ih s) h
+    go false el true true es ih h = let g : false ≡ true = sym (and-false (nat_eq b 92)) ∙ es in cc
+    go false el true false es ih h = up-to-is (IsQuoted q) (Behind q true) q b bs xs (nat_eq b q && false)
+        (λ t. let g : false ≡ true = sym (and-false (nat_eq b q)) ∙ t in absurd (let k : ⊥ = cc in k)) (λ t ys f. (el, f)) (quoted q false bs) (ih false) h
 
 raw-found : (q : ℕ) (bs rest : List ℕ) → Absent (q ∷ []) bs → through q (bs ++ q ∷ [] ++ rest) ≡ Some (bs ++ q ∷ [])
 raw-found q [] rest h = ap (λ k. up_to k q (through q rest)) (same-test q)
@@ -250,29 +241,10 @@ absent-more q b bs n h [] ys e = both_ways (nat_eq b q) n (ap (λ k. nat_eq k q)
 absent-more q b bs n h (x ∷ xs) ys e = h xs ys (same-rest b x bs (xs ++ q ∷ [] ++ ys) e)
 
 raw-is : (q : ℕ) (bs xs : List ℕ) → through q bs ≡ Some xs → IsUpTo (Absent (q ∷ [])) q bs xs
-raw-is q [] xs h = let g : ◌≡◌ {A = Option (List ℕ)} None (Some xs) = h in cc
-raw-is q (b ∷ bs) xs h = go (nat_eq b q) refl (through q bs) (λ ys f. raw-is q bs ys f) h
-  where
-    go : (t : Bool) → nat_eq b q ≡ t → (o : Option (List ℕ)) → ((ys : List ℕ) → o ≡ Some ys → IsUpTo (Absent (q ∷ [])) q bs ys)
-        → up_to t b o ≡ Some xs → IsUpTo (Absent (q ∷ [])) q (b ∷ bs) xs
-    go true e o ih h =
-        let same : b ∷ [] ≡ xs = cc in record {
-          inside = [];
-          rest = bs;
-          form = λ us ys f. absurd (omega (arith, ap length f, length-append (us ++ q ∷ []) ys, length-append us (q ∷ [])));
-          found = sym same ∙ ap (λ k. k ∷ []) (eqb-true b q e);
-          is = ap (λ k. k ∷ bs) (eqb-true b q e);
-        }
-    go false e None ih h = let g : ◌≡◌ {A = Option (List ℕ)} None (Some xs) = h in cc
-    go false e (Some ys) ih h =
-        let more = ih ys refl in
-        let same : b ∷ ys ≡ xs = cc in record {
-          inside = b ∷ more.inside;
-          rest = more.rest;
-          form = absent-more q b more.inside e more.form;
-          found = sym same ∙ ap (λ l. b ∷ l) more.found;
-          is = ap (λ l. b ∷ l) more.is;
-        }
+raw-is q [] xs h = cc
+raw-is q (b ∷ bs) xs h = up-to-is (Absent (q ∷ [])) (Absent (q ∷ [])) q b bs xs (nat_eq b q)
+    (λ e. (eqb-true b q e, λ us ys f. absurd (omega (arith, ap length f, length-append (us ++ q ∷ []) ys, length-append us (q ∷ [])))))
+    (λ e ys f. absent-more q b ys e f) (through q bs) (λ ys f. raw-is q bs ys f) h
 
 -- ---- the rows of the table
 
@@ -468,16 +440,16 @@ no-marker : (bs : List ℕ) → right_delimiter bs ≡ None → right_marked bs 
 no-marker bs h = go (has_right_delimiter bs) (right_marked bs) h
   where
     go : (c m : Bool) → ended_by c m bs ≡ None → m ≡ false
-    go true m h = let g : ◌≡◌ {A = Option End} (Some (record { trims = false; rest = drop 2 bs })) None = h in cc
-    go false true h = let g : ◌≡◌ {A = Option End} (Some (record { trims = true; rest = drop 4 bs })) None = h in cc
+    go true m h = cc
+    go false true h = cc
     go false false h = refl
 
 pub stands : (bs : List ℕ) (t : Token) → IsFound bs t → BeginsWith bs t
-stands [] t h = let g : ◌≡◌ {A = Option Token} None (Some t) = h.front in cc
+stands [] t h = cc
 stands (b ∷ bs) t h = go (begun b bs) (begun-stands b bs (no-marker (b ∷ bs) h.no_end)) h.front
   where
     go : (o : Option Begun) → AtBegun b bs o → token_from b o ≡ Some t → BeginsWith (b ∷ bs) t
-    go None at e = let g : ◌≡◌ {A = Option Token} None (Some t) = e in cc
+    go None at e = cc
     go (Some p) at e =
         let same : record { kind = p.0; bytes = b ∷ p.1 } ≡ t = cc in
         subst (BeginsWith (b ∷ bs)) same (record { rest = at.rest; stands = at.stands; is = ap (λ l. b ∷ l) at.is })

@@ -112,13 +112,13 @@ pub record IsAtFront (bs : List ℕ) (t : Token) : Type 0 where
   pub front : IsFront t.bytes bs
 
 token_from-front : (b : ℕ) (bs : List ℕ) (o : Option Begun) (t : Token) → BeginsWith bs o → token_from b o ≡ Some t → IsAtFront (b ∷ bs) t
-token_from-front b bs None t h e = let g : ◌≡◌ {A = Option Token} None (Some t) = e in cc
+token_from-front b bs None t h e = cc
 token_from-front b bs (Some p) t h e =
     let same : record { kind = p.0; bytes = b ∷ p.1 } ≡ t = cc in
     subst (IsAtFront (b ∷ bs)) same (record { some = omega arith; front = front-cons b p.1 bs h })
 
 pub token-front : (bs : List ℕ) (t : Token) → front_token bs ≡ Some t → IsAtFront bs t
-token-front [] t e = let g : ◌≡◌ {A = Option Token} None (Some t) = e in cc
+token-front [] t e = cc
 token-front (b ∷ bs) t e = token_from-front b bs (begun b bs) t (begun-front b bs) e
 
 pub front-length : (xs bs : List ℕ) → IsFront xs bs → length xs ≤ length bs

@@ -106,7 +106,7 @@ fn part_before<'b>(
     let line = rest.line + newlines(taken);
     let start = file.len() - rest.bytes.len() + taken.len();
     let text = trim_end(kept, has_left_marker(after));
-    let here = line + newlines(kept);
+    let here = rest.line + newlines(before);
     let opened = read_opened(tokens, skip_left_marker(after))?;
     Ok(Part {
         line,
@@ -150,8 +150,8 @@ fn behind_of(line: u64, opened: Opened<'_>) -> Behind
 /// What is left behind something that these bytes, behind a `{{` on this line, begin with.
 fn rest_after<'b>(after: &'b [u8], line: u64, opened: Opened<'b>) -> Option<Rest<'b>>
     requires { IsEndWithin after.now line (ends_at (opened_of [] opened)) }
-    ensures { option_map rest_of result
-        ≡ option_map (rest_behind after.now line) (ends_at (opened_of [] opened.entry)) }
+    ensures { (tokens : List held.Token) → option_map rest_of result
+        ≡ option_map (rest_behind after.now line) (ends_at (opened_of tokens opened.entry)) }
 {
     match opened {
         Opened::Comment(end) | Opened::Action(end) => Some(rest_at(after, line, end)),

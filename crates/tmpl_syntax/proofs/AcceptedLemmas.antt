@@ -1,8 +1,8 @@
 -- For `accepted_back`: what the own template of an accepted file says is accepted when it is printed.
-use Rattle.std.proofs.Common.{arith, ◌≡◌, ◌∙◌, ℕ, ◌+◌, ◌≤◌, Bool, true, false, not, ◌&&◌, leb, List, [], ◌∷◌, ◌++◌, length, take, Some}
+use Rattle.std.proofs.Common.{arith, ◌≡◌, ◌∙◌, ℕ, ◌+◌, ◌≤◌, Bool, true, false, not, ◌&&◌, leb, List, [], ◌∷◌, ◌++◌, length, take, Some, None}
 use Rattle.std.proofs.Common.{refl, sym, ap, subst, length-append, length-take}
 use Rattle.std.proofs.lemmas.Bool.{false≢true, and_parts}
-use Rattle.std.proofs.lemmas.List.{take-take, take-append-le}
+use Rattle.std.proofs.lemmas.List.{append-nil, take-take, take-append-le}
 use Rattle.std.proofs.Math.Seq.{take-append_seam}
 use Rattle.std.specs.Cmp.Derive.{both_true}
 use Rattle.tmpl_grammar.specs.declared.action.Branch.{Branch}
@@ -20,17 +20,17 @@ use Rattle.tmpl_syntax.specs.Item.{Item, item, action_item}
 use Rattle.tmpl_syntax.specs.Place.Role.{Name, no_names, names_of, names_given, roles_of}
 use Rattle.tmpl_syntax.specs.Place.Open.{is_template}
 use Rattle.tmpl_syntax.specs.Place.Body.{joins, most_levels, fine, Judged}
-use Rattle.tmpl_syntax.specs.computed.Frames.{top, loops, in_loop, levels, takes_else, knows, first_fault, part_of, entered, elsed}
-use Rattle.tmpl_syntax.specs.computed.Frames.{branched, Known, with_inner, opened_names, closed_if, none_known, verdict_of}
+use Rattle.tmpl_syntax.specs.computed.Frames.{top, loops, in_loop, levels, takes_else, knows, first_fault, part_of, entered, parted}
+use Rattle.tmpl_syntax.specs.computed.Frames.{Known, with_inner, opened_names, closed_if, none_known, verdict_of}
 use Rattle.tmpl_syntax.specs.Spelling.{a_text, an_action, a_break, a_continue, a_template, Leads, nothing, a_node, a_control, a_define, a_block}
 use Rattle.tmpl_syntax.specs.Spelling.{Closes, an_end, an_else, an_else_branch}
-use Rattle.tmpl_syntax.specs.Print.Printed.{Said, said_text, said, else_said, control_said, node_said, nodes_said}
+use Rattle.tmpl_syntax.specs.Print.Printed.{Said, said_text, said, else_said, node_said, nodes_said}
 use Rattle.tmpl_syntax.specs.Print.Laws.{Says, says_nothing, says_text, says, AcceptsBack}
 use Rattle.tmpl_syntax.proofs.OneVerdictLemmas.{one-verdict}
 use Rattle.tmpl_syntax.proofs.VerdictLemmas.{judged-all}
 use Rattle.tmpl_syntax.proofs.PrintedNodeLemmas.{spells-alike}
 use Rattle.tmpl_syntax.proofs.FitLemmas.{no_fault, passes, is_fine, fine-back, passes-fine, headed, part_names, seen_behind, loops_in}
-use Rattle.tmpl_syntax.proofs.FitLemmas.{fits_node, fits, fits-lower, nodes-unlined, take-seen, first-none, opener-test, call-test, call-declares}
+use Rattle.tmpl_syntax.proofs.FitLemmas.{fits_node, fits, fits-lower, nodes-unlined, take-seen, first-none, opener-test}
 
 -- ---- frames and names
 
@@ -55,10 +55,15 @@ placed-test true d k e = (refl, sym (first-none d k) ∙ e)
 placed-test false d k e = absurd (false≢true e)
 
 -- an else branch joins the control with which it begins, and that is no range
-joins-control : (b : Branch) (o : Opening) → joins b o ≡ true → o ≡ opened.control (control_in b)
+joins-control : (b : Branch) (o : Opening) → joins (Some b) o ≡ true → o ≡ opened.control (control_in b)
 joins-control branch.If (opened.control If) e = refl
 joins-control branch.With (opened.control With) e = refl
 joins-control _ _ e = absurd (false≢true e)
+
+-- an else may stand in each control
+own-joins : (o : Opening) → is_template o ≡ false → joins None o ≡ true
+own-joins (opened.control c) e = refl
+own-joins _ e = absurd (false≢true (sym e))
 
 branch-loops : (b : Branch) (o : Opening) (x a : Bool) → o ≡ opened.control (control_in b) → loops o x a ≡ a
 branch-loops branch.If o x a e = ap (λ j. loops j x a) e
@@ -124,8 +129,8 @@ mutual
   leads-fit (a_node {xs = xs} (a_template {given = given}) l) fs known h =
       let past : Known = with_inner known (known.inner ++ (names_given given).declares) in
       let e = and_parts _ (passes fs past (roles_of xs)) h in
-      let more = leads-fit l fs known (subst (λ k. passes fs (with_inner known k) (roles_of xs) ≡ true) (call-declares given known.inner) e.1) in
-      (both_true (sym (call-test given (top fs) known.inner) ∙ e.0) more.0, more.1, more.2)
+      let more = leads-fit l fs known (subst (λ k. passes fs (with_inner known k) (roles_of xs) ≡ true) (append-nil known.inner) e.1) in
+      (both_true (sym (first-none false (knows known.inner (names_given given).uses)) ∙ e.0) more.0, more.1, more.2)
   leads-fit (a_define {xs = xs} {body = body} b l) fs known h =
       let f : Frame = entered opened.define no_names (top fs) (length known.inner) in
       let e = and_parts _ (passes (f ∷ fs) (opened_names opened.define [] known) (roles_of xs)) h in
@@ -162,8 +167,9 @@ mutual
       (refl, subst (λ t. passes fs (closed_if t (with_inner known (take f.start known.inner))) (roles_of xs) ≡ true) own h, λ k. k)
   closes-fit (an_else {xs = xs} {ys = ys} {other = other} l) f fs known own low high h =
       let seen : List Name = take f.part known.inner in
-      let e = and_parts _ (passes (elsed f ∷ fs) (with_inner known seen) (roles_of xs)) h in
-      let inner = leads-fit l (elsed f ∷ fs) (with_inner known seen) e.1 in
+      let g : Frame = parted false (length seen) f in
+      let e = and_parts _ (passes (g ∷ fs) (with_inner known seen) (roles_of xs)) h in
+      let inner = leads-fit l (g ∷ fs) (with_inner known seen) e.1 in
       let fits_in = length-take f.part known.inner in
       let last = subst (λ t. passes fs (closed_if t (with_inner known (take f.start (seen_behind seen other)))) (roles_of ys) ≡ true) own inner.1 in (
         inner.0,
@@ -175,10 +181,10 @@ mutual
       let seen : List Name = take f.part known.inner in
       let declares : List Name = (names_of r).declares in
       let inside : List Name = seen ++ declares in
-      let g : Frame = branched f (length seen + length declares) in
+      let g : Frame = parted true (length seen + length declares) f in
       let e = and_parts _ (passes (g ∷ fs) (with_inner known inside) (roles_of xs)) h in
-      let t = placed-test (takes_else (Some f) && joins b f.opening) (leb most_levels f.levels) (knows seen (names_of r).uses) e.0 in
-      let control_is = joins-control b f.opening (and_parts (takes_else (Some f)) (joins b f.opening) t.0).1 in
+      let t = placed-test (takes_else (Some b) (Some f)) (leb most_levels f.levels) (knows seen (names_of r).uses) e.0 in
+      let control_is = joins-control b f.opening (and_parts (joins (Some b) f.opening) (not f.has_else) t.0).0 in
       let inner = leads-fit l (g ∷ fs) (with_inner known inside) e.1 in
       let count = length-append seen declares in
       let fits_in = length-take f.part known.inner in
@@ -236,8 +242,8 @@ mutual
       both_true (jump-test (in_loop (top fs)) ∙ e.0) (leads-pass l n fs known e.1 k)
   leads-pass (a_node {xs = xs} {ns = ns} (a_template {given = given}) l) n fs known h k =
       let e = and_parts (knows known.inner (names_given given).uses) (fits ns (in_loop (top fs)) (levels (top fs)) known.inner) h in
-      both_true (call-test given (top fs) known.inner ∙ e.0)
-      (subst (λ names. passes fs (with_inner known names) (roles_of xs) ≡ true) (sym (call-declares given known.inner)) (leads-pass l n fs known e.1 k))
+      both_true (first-none false (knows known.inner (names_given given).uses) ∙ e.0)
+      (subst (λ names. passes fs (with_inner known names) (roles_of xs) ≡ true) (sym (append-nil known.inner)) (leads-pass l n fs known e.1 k))
   leads-pass (a_control {c = c} {h = r} {zs = zs} {body = body} {other = other} {ns = ns} b o l) n fs known h k =
       let names : List Name = known.inner in
       let loop : Bool = in_loop (top fs) in
@@ -268,11 +274,12 @@ mutual
   closes-pass (an_else {ys = ys} {other = other} l) n f fs known first own low high h k =
       let seen : List Name = take f.part known.inner in
       let fits_in = length-take f.part known.inner in
-      let placed : takes_else (Some f) ≡ true = ap (λ t. not t && not f.has_else) own ∙ ap not first in
+      let placed : takes_else None (Some f) ≡ true = ap (λ t. t && not f.has_else) (own-joins f.opening own) ∙ ap not first in
       let at_end = subst (λ k. passes fs (with_inner known k) (roles_of ys) ≡ true)
       (sym (take-seen f.start other seen (omega arith) ∙ take-take f.start f.part known.inner low)) k in
       both_true (ap (λ t. no_fault (first_fault t false true)) placed)
-      (leads-pass l n (elsed f ∷ fs) (with_inner known seen) h (subst (λ t. passes fs (closed_if t (with_inner known (take f.start (seen_behind seen other))))
+      (leads-pass l n (parted false (length seen) f ∷ fs) (with_inner known seen) h
+      (subst (λ t. passes fs (closed_if t (with_inner known (take f.start (seen_behind seen other))))
       (roles_of ys) ≡ true) (sym own) at_end))
   closes-pass (an_else_branch l o) n f fs known first own low high h k = absurd n
 
@@ -294,15 +301,15 @@ plain-append (said (define_action name) ∷ ss) ts h k = absurd h
 plain-append (said (block_action name p) ∷ ss) ts h k = absurd h
 plain-append (said _ ∷ ss) ts h k = plain-append ss ts h k
 
-control-plain : (c : Control) (h : Header) (body : List Said) (other : Nodes) → Plain body → Plain (nodes_said other)
-    → Plain (control_said c h body (else_said other (nodes_said other)))
-control-plain c h body none p k = plain-append body (said end_action ∷ []) p tt
-control-plain c h body (then line n ns) p k = plain-append body (else_said (then line n ns) (nodes_said (then line n ns)) ++ said end_action ∷ []) p
+control-plain : (body : List Said) (other : Nodes) → Plain body → Plain (nodes_said other)
+    → Plain (body ++ (else_said other (nodes_said other) ++ said end_action ∷ []))
+control-plain body none p k = plain-append body (said end_action ∷ []) p tt
+control-plain body (then line n ns) p k = plain-append body (else_said (then line n ns) (nodes_said (then line n ns)) ++ said end_action ∷ []) p
     (plain-append (nodes_said (then line n ns)) (said end_action ∷ []) k tt)
 
 mutual
   node-plain : (n : NodeKind) → Plain (node_said n)
-  node-plain (control_node c h body other) = control-plain c h (nodes_said body) other (nodes-plain body) (nodes-plain other)
+  node-plain (control_node c h body other) = control-plain (nodes_said body) other (nodes-plain body) (nodes-plain other)
   node-plain _ = tt
 
   nodes-plain : (ns : Nodes) → Plain (nodes_said ns)

@@ -1,10 +1,10 @@
 -- For `check`: the verdict, from item to item.
-use Rattle.std.proofs.Common.{arith, ◌≡◌, ◌≢◌, ℕ, suc, ◌+◌, ◌<◌, ◌≤◌, List, [], ◌∷◌, refl, sym, ap, ◌∙◌, subst, length, map, drop, get_or}
-use Rattle.std.proofs.Common.{drop-cons, add-one, Option, Some, None, Ok, Err}
+use Rattle.std.proofs.Common.{arith, ◌≡◌, ◌≢◌, ℕ, ◌+◌, ◌<◌, ◌≤◌, List, [], ◌∷◌, refl, sym, ap, ◌∙◌, subst, length, map, drop, get_or}
+use Rattle.std.proofs.Common.{Option, Some, None, Ok, Err}
 use Rattle.std.specs.Prelude.{slice_get}
 use Rattle.std.specs.Option.{option_map}
 use Rattle.std.proofs.lemmas.List.{drop_all}
-use Rattle.std.proofs.lemmas.Option.{slice_get_read, slice_get_within, slice_get-map, get_or_from_slice_get}
+use Rattle.std.proofs.lemmas.Option.{slice_get_read, slice_get-map}
 use Rattle.tmpl_syntax.specs.computed.Frames.{Frame}
 use Rattle.tmpl_syntax.specs.declared.item.Item as held
 use Rattle.tmpl_syntax.specs.Fault.{Reason, open_at_end}
@@ -17,6 +17,7 @@ use Rattle.tmpl_syntax.specs.computed.Frames.{unless_fault, verdict_from, verdic
 use Rattle.tmpl_syntax.specs.computed.Parse.{IsRefusal, line_in, by_verdict, checked}
 use Rattle.tmpl_syntax.specs.Parse.{last_line}
 use Rattle.tmpl_syntax.proofs.FaultLemmas.{TellsRole, tells}
+use Rattle.tmpl_syntax.proofs.SecondLemmas.{drop-next}
 use Rattle.tmpl_syntax.proofs.SoundLemmas.{Sound, sound-start, sound-past}
 
 -- up to the place i none is refused, and there these frames and names stand
@@ -31,11 +32,6 @@ checking-start xs known fs e f = subst (λ k. IsChecking xs 0 k fs) (sym e) (sub
     start : IsChecking xs 0 none_known []
     start = record { sound = sound-start xs; goes = refl }
 
-drop-at : (xs : List Role) (i : ℕ) (x : Role) → slice_get xs i ≡ Some x → drop i xs ≡ x ∷ drop (i + 1) xs
-drop-at xs i x at =
-    let within : i < length xs = slice_get_within xs i x at in
-    drop-cons xs i x within ∙ ap (λ y. y ∷ drop (suc i) xs) (get_or_from_slice_get xs i x x at) ∙ ap (λ k. x ∷ drop k xs) (sym (add-one i))
-
 module _ (xs : List Role) (i : ℕ) (known : Known) (fs : List Frame) (x : Role) (at : slice_get xs i ≡ Some x) (c : IsChecking xs i known fs) where
   abbrev seen : List Name
   seen = seen_at x (top fs) known.inner
@@ -46,7 +42,7 @@ module _ (xs : List Role) (i : ℕ) (known : Known) (fs : List Frame) (x : Role)
   here : (o : Option Reason) → fault_at x (top fs) seen ≡ o
       → verdict_of xs ≡ unless_fault o i (verdict_from (i + 1) (frames_past x fs (length seen)) (next seen) (drop (i + 1) xs))
   here o e =
-      c.goes ∙ ap (verdict_from i fs known) (drop-at xs i x at)
+      c.goes ∙ ap (verdict_from i fs known) (drop-next xs i x at)
       ∙ ap (λ p. unless_fault p i (verdict_from (i + 1) (frames_past x fs (length seen)) (next seen) (drop (i + 1) xs))) e
 
   past : fault_at x (top fs) seen ≡ None → IsChecking xs (i + 1) (next seen) (frames_past x fs (length seen))
@@ -77,11 +73,8 @@ item-at items i x lt is = slice_get-map item_of items i ∙ ap (option_map item_
 pub role-at : (items : List Item) (i : ℕ) (x : Item) → slice_get items i ≡ Some x → slice_get (roles_of items) i ≡ Some (role_of x)
 role-at items i x at = slice_get-map role_of items i ∙ ap (option_map role_of) at
 
-drop-none : (xs : List Role) (i : ℕ) → length xs ≤ i → drop i xs ≡ []
-drop-none xs i le = drop_all i xs le
-
 pub checking-ended : (xs : List Role) (i : ℕ) (known : Known) (fs : List Frame) → length xs ≤ i → IsChecking xs i known fs → verdict_of xs ≡ at_end fs
-checking-ended xs i known fs le c = c.goes ∙ ap (verdict_from i fs known) (drop-none xs i le)
+checking-ended xs i known fs le c = c.goes ∙ ap (verdict_from i fs known) (drop_all i xs le)
 
 module _ (bytes : List ℕ) (items : List Item) where
   by : (v : Verdict) → verdict_of (roles_of items) ≡ v → checked bytes items ≡ by_verdict (last_line bytes) items v

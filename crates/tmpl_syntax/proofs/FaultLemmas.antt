@@ -46,7 +46,7 @@ module _ (n : Name) where
   one m e = subst (λ z. Contains (m ∷ []) z) (sym e) (Contains-push [] m)
 
   found : (names : List Name) → is_known names n ≡ true → Contains names n
-  found [] e = let g : false ≡ true = e in cc
+  found [] e = cc
   found (m ∷ ms) e = ⊎_elim
       (λ s. Contains-append_left (m ∷ []) ms n (one m ((bytes_eq-Decides n m).0 s)))
       (λ r. Contains-append_right (m ∷ []) ms n (found ms r))
@@ -71,7 +71,7 @@ module _ (names : List Name) where
       (Contains-append_cases (u ∷ []) us n c)
 
   unknown : (uses : List Name) → knows names uses ≡ false → IsUnknown uses names
-  unknown [] e = let g : true ≡ false = e in cc
+  unknown [] e = cc
   unknown (u ∷ us) e = ⊎_elim
       (λ f. (u, Contains-append_left (u ∷ []) us u (Contains-push [] u), λ c. both_ways (is_known names u) f (has u names c)))
       (λ f. let w = unknown us f in (w.0, Contains-append_right (u ∷ []) us w.0 w.1, w.2))

@@ -1,16 +1,16 @@
 -- For `accepted_back`: whether the items of a template are accepted depends on its nodes alone.
 use Rattle.std.proofs.Common.{arith, ◌≡◌, ◌∙◌, ℕ, ◌+◌, ◌≤◌, Bool, true, false, not, ◌&&◌, leb, List, [], ◌∷◌, ◌++◌, length, take, Option}
-use Rattle.std.proofs.Common.{Some, None, refl, ap, length-append, append-nil}
+use Rattle.std.proofs.Common.{Some, None, refl, ap, length-append}
 use Rattle.std.proofs.lemmas.Bool.{false≢true, and_parts, lt-leb, leb-false, not-true}
 use Rattle.std.proofs.lemmas.List.{take-append-le}
 use Rattle.std.specs.Cmp.Derive.{both_true}
-use Rattle.tmpl_grammar.specs.Tree.{Pipeline, Header}
+use Rattle.tmpl_grammar.specs.Tree.{Header}
 use Rattle.tmpl_grammar.specs.declared.tree.Control.{Control}
 use Rattle.tmpl_syntax.specs.computed.Frames.{Frame}
 use Rattle.tmpl_syntax.specs.Place.Opening as opened
 use Rattle.tmpl_syntax.specs.Fault.{Reason}
 use Rattle.tmpl_syntax.specs.Tree.{NodeKind, text, action, control_node, template_node, Nodes, none, then}
-use Rattle.tmpl_syntax.specs.Place.Role.{Name, names_of, names_given, plain, opener, Role}
+use Rattle.tmpl_syntax.specs.Place.Role.{Name, names_of, names_given, opener, Role}
 use Rattle.tmpl_syntax.specs.Place.Body.{most_levels, Verdict, fine}
 use Rattle.tmpl_syntax.specs.computed.Frames.{top, loops, levels, knows, first_fault, fault_in, part_of, seen_at, fault_at, frames_past}
 use Rattle.tmpl_syntax.specs.computed.Frames.{unless_fault, Known, with_inner, known_past, verdict_from}
@@ -172,13 +172,3 @@ first-none false false = refl
 pub opener-test : (c : Control) (h : Header) (t : Option Frame) (names : List Name)
     → no_fault (fault_in (opener (opened.control c) (names_of h)) t names) ≡ headed (levels t) names h
 opener-test c h t names = first-none (leb most_levels (levels t)) (knows names (names_of h).uses)
-
--- a call of a template is in place wherever its names are known, and declares none
-pub call-test : (given : Option Pipeline) (t : Option Frame) (names : List Name)
-    → no_fault (fault_in (plain (names_given given)) t names) ≡ knows names (names_given given).uses
-call-test None t names = first-none false (knows names [])
-call-test (Some p) t names = first-none false (knows names (names_given (Some p)).uses)
-
-pub call-declares : (given : Option Pipeline) (names : List Name) → names ++ (names_given given).declares ≡ names
-call-declares None names = append-nil names
-call-declares (Some p) names = append-nil names

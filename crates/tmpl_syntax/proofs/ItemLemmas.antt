@@ -9,7 +9,8 @@ use Rattle.tmpl_grammar.specs.Action.{Action, pipeline_action, branch_in, Spells
 use Rattle.tmpl_grammar.specs.Depth.{depth_of, most_deep}
 use Rattle.tmpl_grammar.specs.computed.Depth.{unread as unread_within, too_deep as deep_within, read as read_within, reading_by, reading_of}
 use Rattle.tmpl_grammar.specs.computed.Reading.{action_in}
-use Rattle.tmpl_syntax.specs.Item.{Item, item, HasItems, IsItem, a_text, an_unreadable, unread, too_deep, read, AreItems, no_item, an_item}
+use Rattle.tmpl_syntax.specs.Item.{Item, item, HasItems, IsItem, a_text, an_unreadable, unread, too_deep, read}
+use Rattle.std.specs.List.{AllZip}
 use Rattle.tmpl_syntax.specs.computed.Item.{read_item, item_in, items_in}
 use Rattle.tmpl_syntax.specs.Language.{Branches, every_branch, has_action}
 use Rattle.tmpl_syntax.specs.Laws.{HasItemsOf, HasOneList, HasSomeItems}
@@ -72,7 +73,7 @@ module _ (branches : Branches) where
           → IsItem branches (action line ts) (item line (read_item (reading_of (if_there b a))))
       there a e true t = read-item line ts a (spells-action ts a e) t
       there a e false t = unread (λ b s h. let same : b ≡ a = same_Some b a (sym (reads-action ts b s) ∙ e) in
-          absurd (let g : true ≡ false = sym h ∙ ap (has_action branches) same ∙ t in cc))
+          absurd (cc))
 
       by : (o : Option Action) → action_in ts ≡ o → IsItem branches (action line ts) (item line (read_item (reading_of (kept branches o))))
       by None e = unread (λ a s h. none-spelled ts e a s)
@@ -107,19 +108,20 @@ module _ (branches : Branches) where
 
   -- ---- the items of a file
 
-  are-items : (ps : List Piece) → AreItems branches ps (map (item_for branches) ps)
-  are-items [] = no_item
-  are-items (p ∷ ps) = an_item (piece-item p) (are-items ps)
+  are-items : (ps : List Piece) → AllZip (IsItem branches) ps (map (item_for branches) ps)
+  are-items [] = tt
+  are-items (p ∷ ps) = (piece-item p, are-items ps)
 
-  only-items : {ps : List Piece} {xs : List Item} → AreItems branches ps xs → xs ≡ map (item_for branches) ps
-  only-items no_item = refl
-  only-items (an_item {p = p} {x = x} {ps = ps} {xs = xs} i is) = ap (λ y. y ∷ xs) (only-item i) ∙ ap (λ ys. item_for branches p ∷ ys) (only-items is)
+  only-items : (ps : List Piece) (xs : List Item) → AllZip (IsItem branches) ps xs → xs ≡ map (item_for branches) ps
+  only-items [] [] is = refl
+  only-items (p ∷ ps) (x ∷ xs) is = ap (λ y. y ∷ xs) (only-item is.0) ∙ ap (λ ys. item_for branches p ∷ ys) (only-items ps xs is.1)
+  only-items _ _ is = absurd is
 
   has-those : (bytes : List ℕ) → HasItems branches bytes (map (item_for branches) (cut_of bytes))
   has-those bytes = (cut_of bytes, cut_of-Cuts bytes, are-items (cut_of bytes))
 
   only-those : (bytes : List ℕ) (items : List Item) → HasItems branches bytes items → items ≡ map (item_for branches) (cut_of bytes)
-  only-those bytes items h = only-items h.2 ∙ ap (map (item_for branches)) (Cuts-cut_of bytes h.0 h.1)
+  only-those bytes items h = only-items h.0 items h.2 ∙ ap (map (item_for branches)) (Cuts-cut_of bytes h.0 h.1)
 
 pub has-some : HasSomeItems
 has-some branches bytes = (map (item_for branches) (cut_of bytes), has-those branches bytes)

@@ -30,17 +30,13 @@ use Rattle.tmpl_syntax.proofs.PrintableNodeLemmas.{keeps-printable}
 
 -- ---- by number
 
-abbrev KeptIf : Option Template → Type 0
-KeptIf None = Unit {0}
-KeptIf (Some t) = IsKept t.1
-
-kept-at : (ts : List Template) (number : ℕ) → AreKept ts → KeptIf (slice_get ts number)
+kept-at : (ts : List Template) (number : ℕ) → AreKept ts → IfSome (slice_get ts number) (λ t. IsKept t.1)
 kept-at [] number h = tt
 kept-at (t ∷ ts) zero h = h.1
 kept-at (t ∷ ts) (suc number) h = kept-at ts number h.2
 
 pub at-kept : (ts : List Template) (number : ℕ) (t : Template) → AreKept ts → Some t ≡ slice_get ts number → IsKept t.1
-at-kept ts number t h at = subst KeptIf (sym at) (kept-at ts number h)
+at-kept ts number t h at = subst (λ o. IfSome o (λ (t : Template). IsKept t.1)) (sym at) (kept-at ts number h)
 
 -- ---- a definition
 
@@ -58,28 +54,24 @@ defined-kept (t ∷ ts) name tree h b k = go (bytes_eq name t.0) (defined-kept t
 
 -- ---- a look-up
 
-abbrev IsKeptIf : Option Tree → Type 0
-IsKeptIf None = Unit {0}
-IsKeptIf (Some tree) = IsKept tree
-
-named-kept : (name : List ℕ) (ts : List Template) → AreKept ts → IsKeptIf (tree_named name ts)
+named-kept : (name : List ℕ) (ts : List Template) → AreKept ts → IfSome (tree_named name ts) IsKept
 named-kept name [] h = tt
 named-kept name (t ∷ ts) h = go (bytes_eq name t.0) (named-kept name ts h.2)
   where
-    go : (b : Bool) → IsKeptIf (tree_named name ts) → IsKeptIf (option_map (λ (u : Template). u.1) (cond b (Some t) (find (has_name name) ts)))
+    go : (b : Bool) → IfSome (tree_named name ts) IsKept → IfSome (option_map (λ (u : Template). u.1) (cond b (Some t) (find (has_name name) ts))) IsKept
     go true more = h.1
     go false more = more
 
 pub found-kept : (name : List ℕ) (ts : List Template) (o : Option (Bor held.Tree)) → AreKept ts
     → option_map (λ (t : Bor held.Tree). tree_of t.now) o ≡ tree_named name ts → IfSome o (λ (t : Bor held.Tree). IsKept (tree_of t.now))
 found-kept name ts None h e = tt
-found-kept name ts (Some t) h e = subst IsKeptIf (sym e) (named-kept name ts h)
+found-kept name ts (Some t) h e = subst (λ o. IfSome o IsKept) (sym e) (named-kept name ts h)
 
 -- ---- the tree of a file
 
 verdict-fine : (last : ℕ) (items : List Item) (v : Verdict) → by_verdict last items v ≡ Ok tt → v ≡ fine
 verdict-fine last items fine e = refl
-verdict-fine last items _ e = absurd (let g : ⊥ = cc in g)
+verdict-fine last items _ e = absurd (cc)
 
 checked-verdict : (bytes : List ℕ) (items : List Item) → checked bytes items ≡ Ok tt → verdict_of (roles_of items) ≡ fine
 unfolding checked

@@ -1,11 +1,12 @@
 -- For `more_branches`: what a language accepts, one with more else branches accepts.
-use Rattle.std.proofs.Common.{◌≡◌, ◌∙◌, ℕ, true, suc, List, Option, Some, None, Ok, refl, ap, sym, length}
+use Rattle.std.proofs.Common.{◌≡◌, ◌∙◌, ℕ, true, suc, List, [], ◌∷◌, Option, Some, None, Ok, refl, ap, sym, length}
 use Rattle.std.specs.Prelude.{slice_get}
 use Rattle.tmpl_lex.specs.Piece.{Piece}
 use Rattle.tmpl_grammar.specs.Action.{Action, else_branch}
 use Rattle.tmpl_syntax.specs.Fault as reason
 use Rattle.tmpl_syntax.specs.Language.{Branches, every_branch, go_1_22, has_action}
-use Rattle.tmpl_syntax.specs.Item.{Item, IsItem, a_text, an_unreadable, unread, too_deep, read, AreItems, no_item, an_item}
+use Rattle.tmpl_syntax.specs.Item.{Item, IsItem, a_text, an_unreadable, unread, too_deep, read}
+use Rattle.std.specs.List.{AllZip}
 use Rattle.tmpl_syntax.specs.Place.Role.{Role, unread_role, role_of, roles_of}
 use Rattle.tmpl_syntax.specs.Place.Body.{NoneRefused, unread as unread_applies}
 use Rattle.tmpl_syntax.specs.Laws.{IsLarger, AcceptsInLarger}
@@ -35,15 +36,16 @@ module _ (large small : Branches) (more : IsLarger large small) where
   same-item (too_deep a s t lt) h = too_deep a s (has-more a t) lt
   same-item (read {a = a} s t le) h = read s (has-more a t) le
 
-  same-items : {ps : List Piece} {xs : List Item} → AreItems small ps xs → AllRead (roles_of xs) → AreItems large ps xs
-  same-items no_item h = no_item
-  same-items (an_item i is) h = an_item (same-item i (λ e. h 0 (ap (λ r. Some r) e))) (same-items is (λ k e. h (suc k) e))
+  same-items : (ps : List Piece) (xs : List Item) → AllZip (IsItem small) ps xs → AllRead (roles_of xs) → AllZip (IsItem large) ps xs
+  same-items [] [] is h = tt
+  same-items (p ∷ ps) (x ∷ xs) is h = (same-item is.0 (λ e. h 0 (ap (λ r. Some r) e)), same-items ps xs is.1 (λ k e. h (suc k) e))
+  same-items _ _ is h = absurd is
 
 pub accepts-in-larger : AcceptsInLarger
 accepts-in-larger large small more old file bytes new h = record {
   short = h.short;
   items = h.items;
-  has = (h.has.0, h.has.1, same-items large small more h.has.2 (all-read (roles_of h.items) h.judged.0));
+  has = (h.has.0, h.has.1, same-items large small more h.has.0 h.items h.has.2 (all-read (roles_of h.items) h.judged.0));
   judged = h.judged;
   definitions = h.definitions;
   own = h.own;

@@ -3,7 +3,7 @@ pub mod BodyExamples
 pub mod BuildLemmas
 pub mod CheckLemmas
 pub mod CountLemmas
-pub mod ElseBranchLemmas
+pub mod ElseLemmas
 pub mod ElsePartLemmas
 pub mod FaultLemmas
 pub mod FileLemmas

@@ -10,7 +10,8 @@ use Rattle.tmpl_grammar.proofs.NeedLemmas.{cells_of, action-within}
 use Rattle.tmpl_syntax.specs.Tree.{Nodes, Definition}
 use Rattle.tmpl_syntax.specs.Set.{Template}
 use Rattle.tmpl_syntax.specs.Language.{Branches}
-use Rattle.tmpl_syntax.specs.Item.{Item, item, action_item, IsItem, a_text as text_read, an_unreadable, unread, too_deep, read, AreItems, no_item, an_item}
+use Rattle.tmpl_syntax.specs.Item.{Item, item, action_item, IsItem, read}
+use Rattle.std.specs.List.{AllZip}
 use Rattle.tmpl_syntax.specs.Spelling.{a_text, Leads, nothing, a_node, a_control, a_define, a_block}
 use Rattle.tmpl_syntax.specs.Spelling.{Closes, an_end, an_else, an_else_branch}
 use Rattle.tmpl_syntax.specs.Need.{need_of_parts, need_of_nodes, NeedAtMost, most_need}
@@ -31,12 +32,10 @@ item-within : {branches : Branches} {p : Piece} {x : Item} → IsItem branches p
 item-within (read {ts = ts} {a = a} s has le) = action-within a ts s
 item-within _ = omega arith
 
-items-within : {branches : Branches} {ps : List Piece} {xs : List Item} → AreItems branches ps xs → cells xs ≤ weight ps
-items-within no_item = omega arith
-items-within (an_item {p = p} {x = x} {ps = ps} {xs = xs} i is) =
-    let here = item-within i in
-    let more = items-within is in
-    omega (arith, here, more)
+items-within : (branches : Branches) (ps : List Piece) (xs : List Item) → AllZip (IsItem branches) ps xs → cells xs ≤ weight ps
+items-within branches [] [] is = omega arith
+items-within branches (p ∷ ps) (x ∷ xs) is = omega (arith, item-within is.0, items-within branches ps xs is.1)
+items-within branches _ _ is = absurd is
 
 -- ---- nodes
 
@@ -112,7 +111,7 @@ all-within file n (d ∷ ds) own w le = let here = w.0 in (omega (arith, here), 
 pub need-within : NeedsAtMostBytes
 need-within branches file bytes items ds own has spells =
     let nodes = leads-within spells in
-    let read = items-within has.2 in
+    let read = items-within branches has.0 items has.2 in
     let cut = weight-within has.1 in
     all-within file (length bytes) ds own (leads-defined spells (length bytes) (omega (arith, read, cut)) tt) (omega (arith, nodes, read, cut))
 

@@ -24,7 +24,7 @@ closes-stops (an_else d) = refl
 closes-stops _ = refl
 
 no-stop : {A : Type 0} → true ≡ false → A
-no-stop e = absurd (let g : ⊥ = cc in g)
+no-stop e = absurd (cc)
 
 -- the same nodes and items, and the same definitions if those that are left are the same
 abbrev Same : Nodes → Nodes → List Item → List Item → List Definition → List Definition → List Definition → List Definition → Type 0

@@ -9,9 +9,9 @@ use Rattle.std.proofs.lemmas.Option.{get_or_from_slice_get, slice_get_within}
 use Rattle.std.proofs.Math.Seq.{take-suc}
 use Rattle.std.proofs.lemmas.List.Sums.{sum_by-append}
 use Rattle.tmpl_grammar.specs.declared.action.Branch.{Branch}
-use Rattle.tmpl_syntax.specs.Place.Open.{opens, ends, IsOpening, IsOpen, IsLast, IsElseOf, IsElseBranchOf}
+use Rattle.tmpl_syntax.specs.Place.Open.{opens, ends, IsOpen, IsLast, IsElseOf}
 use Rattle.tmpl_syntax.specs.Place.Opening.{Opening}
-use Rattle.tmpl_syntax.specs.Place.Role.{Names, opener, bare_else, branch_else, closer, Role, act_role}
+use Rattle.tmpl_syntax.specs.Place.Role.{Names, opener, else_part, closer, Role, act_role}
 
 abbrev pub one_if : Bool → ℕ
 one_if b = cond b 1 0
@@ -53,55 +53,34 @@ pub count-more : (p : Role → Bool) (xs : List Role) (x : Role) (a n : ℕ) →
     → count_by p (slice_range xs a (n + 1)) ≡ count_by p (slice_range xs a n) + one_if (p x)
 count-more p xs x a n le at = count-split p xs a n (n + 1) le (omega arith) ∙ ap (λ k. count_by p (slice_range xs a n) + k) (count-one p xs x n at)
 
--- the piece of an opening
-pub record Opens (xs : List Role) (j : ℕ) (c : Opening) : Type 0 where
-  pub piece : Role
-  pub at : slice_get xs j ≡ Some piece
-  pub no_end : ends piece ≡ false
-  pub rises : opens piece ≡ true
-
-pub piece-of : (xs : List Role) (j : ℕ) (c : Opening) → IsOpening (slice_get xs j) c → Opens xs j c
-piece-of xs j c h = go (slice_get xs j) refl h
-  where
-    go : (o : Option Role) → slice_get xs j ≡ o → IsOpening o c → Opens xs j c
-    go (Some (act_role (opener d p))) e h = record { piece = act_role (opener d p); at = e; no_end = refl; rises = refl }
-    go o e h = absurd h
-
 pub same-piece : (xs : List Role) (i : ℕ) (a b : Role) → slice_get xs i ≡ Some a → slice_get xs i ≡ Some b → a ≡ b
-same-piece xs i a b e f = let g : Some a ≡ Some b = sym e ∙ f in cc
+same-piece xs i a b e f = cc
 
-pub same-opening : (xs : List Role) (j : ℕ) (c d : Opening) → IsOpening (slice_get xs j) c → IsOpening (slice_get xs j) d → c ≡ d
-same-opening xs j c d a b = go (slice_get xs j) a b
-  where
-    go : (o : Option Role) → IsOpening o c → IsOpening o d → c ≡ d
-    go (Some (act_role (opener k p))) a b = sym a ∙ b
-    go o a b = absurd a
+pub same-opening : (xs : List Role) (j : ℕ) (c d : Opening) {p q : Names} → slice_get xs j ≡ Some (act_role (opener c p))
+    → slice_get xs j ≡ Some (act_role (opener d q)) → c ≡ d
+same-opening xs j c d {p} {q} a b = cc
 
 -- a place between
 pub cut : (xs : List Role) (k m i : ℕ) → k < m → m ≤ i → IsOpen xs k i → IsOpen xs k m
-cut xs k m i lt le h = record { opened = h.opened; at = h.at; before = lt; fronts = λ n from to. h.fronts n from (omega arith) }
+cut xs k m i lt le h = record { opened = h.opened; names = h.names; at = h.at; before = lt; fronts = λ n from to. h.fronts n from (omega arith) }
 
 -- what is open at an open opening is open
 pub through : (xs : List Role) (k j i : ℕ) → IsOpen xs k j → IsOpen xs j i → IsOpen xs k i
 through xs k j i a b = record {
   opened = a.opened;
+  names = a.names;
   at = a.at;
   before = let lt = a.before in let gt = b.before in omega arith;
   fronts = λ n from to. ⊎_elim
-      (λ beyond. let p = piece-of xs j b.opened b.at in
-      let lt = a.before in
+      (λ beyond. let lt = a.before in
       let first = a.fronts j lt (omega arith) in
       let second = b.fronts n beyond to in
-      let e1 = count-more ends xs p.piece (k + 1) j (omega arith) p.at in
-      let e2 = count-more opens xs p.piece (k + 1) j (omega arith) p.at in
-      let z : one_if (ends p.piece) ≡ 0 = ap one_if p.no_end in
-      let o : one_if (opens p.piece) ≡ 1 = ap one_if p.rises in
+      let e1 = count-more ends xs (act_role (opener b.opened b.names)) (k + 1) j (omega arith) b.at in
+      let e2 = count-more opens xs (act_role (opener b.opened b.names)) (k + 1) j (omega arith) b.at in
       omega (
         arith,
         e1,
         e2,
-        z,
-        o,
         first,
         second,
         count-split ends xs (k + 1) (j + 1) n (omega arith) (omega arith),
@@ -125,20 +104,18 @@ pub record Even (xs : List Role) (j m : ℕ) : Type 0 where
 -- .. and no else between belongs to what is open
 pub record Same (xs : List Role) (j m : ℕ) : Type 0 where
   pub even : Even xs j m
-  pub no_else : (q h : ℕ) → j ≤ h → h < m → IsOpen xs q j → IsElseOf xs q h → ⊥
-  pub no_branch : (q h : ℕ) → j ≤ h → h < m → IsOpen xs q j → IsElseBranchOf xs q h → ⊥
+  pub no_else : (b : Option (Branch × Names)) (q h : ℕ) → j ≤ h → h < m → IsOpen xs q j → IsElseOf xs b q h → ⊥
 
 -- what opens nothing is no opening
 pub shut-at : (xs : List Role) (x : Role) (i m : ℕ) → slice_get xs i ≡ Some x → opens x ≡ false → IsOpen xs i m → ⊥
 shut-at xs x i m at shut h =
-    let p = piece-of xs i h.opened h.at in
-    let e : p.piece ≡ x = same-piece xs i p.piece x p.at at in
-    let t : true ≡ false = sym p.rises ∙ ap opens e ∙ shut in cc
+    let t : true ≡ false = ap opens (same-piece xs i (act_role (opener h.opened h.names)) x h.at at) ∙ shut in cc
 
 -- what is open is open past one place more, where that ends no more than was opened since
 open-past : (xs : List Role) (k i : ℕ) → IsOpen xs k i → downs xs (k + 1) (i + 1) ≤ ups xs (k + 1) (i + 1) → IsOpen xs k (i + 1)
 open-past xs k i h past = record {
   opened = h.opened;
+  names = h.names;
   at = h.at;
   before = let lt = h.before in omega arith;
   fronts = λ n from to. ⊎_elim
@@ -174,9 +151,7 @@ pub same-ended : (xs : List Role) (j i : ℕ) → IsLast xs j i → ups xs (j + 
     → slice_get xs i ≡ Some (act_role closer) → Same xs j (i + 1)
 same-ended xs j i l over at =
     let lt = l.is_open.before in
-    let p = piece-of xs j l.is_open.opened l.is_open.at in
-    let zo : one_if (ends p.piece) ≡ 0 = ap one_if p.no_end in
-    let oo : one_if (opens p.piece) ≡ 1 = ap one_if p.rises in
+    let p = act_role (opener l.is_open.opened l.is_open.names) in
     let me = count-more ends xs (act_role closer) (j + 1) i (omega arith) at in
     let mo = count-more opens xs (act_role closer) (j + 1) i (omega arith) at in
     record {
@@ -185,12 +160,10 @@ same-ended xs j i l over at =
         balance = omega (
           arith,
           over,
-          zo,
-          oo,
           me,
           mo,
-          count-one ends xs p.piece j p.at,
-          count-one opens xs p.piece j p.at,
+          count-one ends xs p j l.is_open.at,
+          count-one opens xs p j l.is_open.at,
           count-split ends xs j (j + 1) (i + 1)
               (omega arith) (omega arith),
           count-split opens xs j (j + 1) (i + 1) (omega arith) (omega arith),
@@ -198,11 +171,11 @@ same-ended xs j i l over at =
         keeps = λ k h.
             let kt = h.before in
             let f = h.fronts j kt (omega arith) in
-            let ce = count-more ends xs p.piece (k + 1) j (omega arith) p.at in
-            let co = count-more opens xs p.piece (k + 1) j (omega arith) p.at in
+            let ce = count-more ends xs p (k + 1) j (omega arith) l.is_open.at in
+            let co = count-more opens xs p (k + 1) j (omega arith) l.is_open.at in
             let se = count-split ends xs (k + 1) (j + 1) (i + 1) (omega arith) (omega arith) in
             let so = count-split opens xs (k + 1) (j + 1) (i + 1) (omega arith) (omega arith) in
-            open-past xs k i (through xs k j i h l.is_open) (omega (arith, f, over, zo, oo, me, mo, ce, co, se, so));
+            open-past xs k i (through xs k j i h l.is_open) (omega (arith, f, over, me, mo, ce, co, se, so));
         only = λ k h. ⊎_elim
             (λ below. cut xs k j (i + 1) below (omega arith) h)
             (λ ge. absurd (⊎_elim
@@ -214,15 +187,10 @@ same-ended xs j i l over at =
             (cases_lt k i)))
             (cases_lt k j);
       };
-      no_else = λ q h from to o e. inner q h from to o e.belongs (λ s. let g : act_role bare_else ≡ act_role closer =
-          same-piece xs i (act_role bare_else) (act_role closer) (subst (λ n. slice_get xs n ≡ Some (act_role bare_else)) s e.at) at in cc)
-          (λ s. let u : ends (act_role bare_else) ≡ false = refl in not-opening (act_role bare_else)
-          (subst (λ n. slice_get xs n ≡ Some (act_role bare_else)) s e.at) refl);
-      no_branch = λ q h from to o e. inner q h from to o e.belongs (λ s. let g : act_role (branch_else e.branch e.names) ≡ act_role closer =
-          same-piece xs i (act_role (branch_else e.branch e.names)) (act_role closer)
-          (subst (λ n. slice_get xs n ≡ Some (act_role (branch_else e.branch e.names))) s e.at) at in cc)
-          (λ s. not-opening (act_role (branch_else e.branch e.names)) (subst (λ n. slice_get xs n ≡ Some (act_role (branch_else e.branch e.names))) s e.at)
-          refl);
+      no_else = λ b q h from to o e. inner q h from to o e.belongs
+          (λ s. let g : act_role (else_part b) ≡ act_role closer = same-piece xs i (act_role (else_part b)) (act_role closer)
+          (subst (λ n. slice_get xs n ≡ Some (act_role (else_part b))) s e.at) at in cc)
+          (λ s. not-opening (act_role (else_part b)) (subst (λ n. slice_get xs n ≡ Some (act_role (else_part b))) s e.at) refl);
     }
   where
     closed : (k : ℕ) → k ≡ j → IsOpen xs k (i + 1) → ⊥
@@ -252,21 +220,19 @@ same-ended xs j i l over at =
         (cases_lt h i)
 
 -- .. and after a piece that is no opening, end or else
-pub same-still : (xs : List Role) (x : Role) (i : ℕ) → slice_get xs i ≡ Some x → opens x ≡ false → ends x ≡ false → x ≢ act_role bare_else
-    → ((b : Branch) (p : Names) → x ≢ act_role (branch_else b p)) → Same xs i (i + 1)
-same-still xs x i at o e ne nt = record {
+pub same-still : (xs : List Role) (x : Role) (i : ℕ) → slice_get xs i ≡ Some x → opens x ≡ false → ends x ≡ false
+    → ((b : Option (Branch × Names)) → x ≢ act_role (else_part b)) → Same xs i (i + 1)
+same-still xs x i at o e ne = record {
   even = even-step xs x i at o e;
-  no_else = λ q h from to open_q el. let s : h ≡ i = omega arith in ne (same-piece xs i x (act_role bare_else) at
-      (subst (λ n. slice_get xs n ≡ Some (act_role bare_else)) s el.at));
-  no_branch = λ q h from to open_q tu. let s : h ≡ i = omega arith in nt tu.branch tu.names
-      (same-piece xs i x (act_role (branch_else tu.branch tu.names)) at (subst (λ n. slice_get xs n ≡ Some (act_role (branch_else tu.branch tu.names))) s
-      tu.at));
+  no_else = λ b q h from to open_q el. let s : h ≡ i = omega arith in ne b
+      (same-piece xs i x (act_role (else_part b)) at (subst (λ n. slice_get xs n ≡ Some (act_role (else_part b))) s el.at));
 }
 
 -- what an opening adds
-abbrev pub opened_new : (xs : List Role) (i : ℕ) (c : Opening) → IsOpening (slice_get xs i) c → IsOpen xs i (i + 1)
-opened_new xs i c at = record {
+abbrev pub opened_new : (xs : List Role) (i : ℕ) (c : Opening) (p : Names) → slice_get xs i ≡ Some (act_role (opener c p)) → IsOpen xs i (i + 1)
+opened_new xs i c p at = record {
   opened = c;
+  names = p;
   at = at;
   before = omega arith;
   fronts = λ n from to. let s : i + 1 ≡ n = omega arith in subst (λ m. downs xs (i + 1) m ≤ ups xs (i + 1) m) s

@@ -8,12 +8,11 @@ use Rattle.std.specs.List.{ends_with}
 use Rattle.std.specs.Cmp.Lexicographic.{pointwise}
 use Rattle.tmpl_grammar.specs.Print.{action_tokens, bytes_of}
 use Rattle.tmpl_syntax.specs.Print.Join.{Part, a_text, an_action, ends_brace, file_of, opening, parting}
-use Rattle.tmpl_grammar.specs.Action.{Action, define_action, end_action, plain_else}
-use Rattle.tmpl_syntax.specs.Set.{Template}
+use Rattle.tmpl_grammar.specs.Action.{Action, plain_else}
 use Rattle.tmpl_syntax.specs.View.{nodes_in}
 use Rattle.tmpl_syntax.specs.declared.tree.Node as held
-use Rattle.tmpl_syntax.specs.Print.Printed.{Said, said, said_text, else_said, nodes_said, part_of, set_said}
-use Rattle.tmpl_syntax.specs.computed.Print.{Page, last_text, page_with, template_said}
+use Rattle.tmpl_syntax.specs.Print.Printed.{Said, said, said_text, else_said, nodes_said, part_of}
+use Rattle.tmpl_syntax.specs.computed.Print.{Page, last_text, page_with}
 
 joined-append : (before : Option (List ℕ)) (ps qs : List Part) → file_of before (ps ++ qs) ≡ file_of before ps ++ file_of (last_text before ps) qs
 joined-append before [] qs = refl
@@ -48,11 +47,6 @@ page_append p ss rs =
 pub page_nothing : (p : Page) → page_with p [] ≡ p
 unfolding page_with
 page_nothing p = ap (λ bs. (bs, p.1)) (append-nil p.0)
-
--- a set says what its first template says, and then what the others say
-pub set_said_first : (t : Template) (ts : List Template) → set_said (t ∷ ts) ≡ template_said t ++ set_said ts
-set_said_first t ts =
-    ap (λ ss. said (define_action t.0) ∷ ss) (sym (append_assoc (nodes_said t.1.nodes) (said end_action ∷ said_text (codes "\n") ∷ []) (set_said ts)))
 
 -- an action, put piece by piece
 pub action-put : (before : Option (List ℕ)) (a : Action) (old : List ℕ) {opened inside closed : List ℕ} → opened ≡ old ++ opening before
@@ -107,5 +101,5 @@ no_else p [] e = sym (page_nothing p)
 no_else p (n ∷ ns) e = let none = eqb-true (length (n ∷ ns)) 0 (sym e) in absurd (let g : ⊥ = omega (arith, none) in g)
 
 pub some_else : (ns : List held.Node) (ss : List Said) → false ≡ (length ns == 0) → else_said (nodes_in ns) ss ≡ said plain_else ∷ ss
-some_else [] ss e = absurd (let g : ⊥ = cc in g)
+some_else [] ss e = absurd (cc)
 some_else (n ∷ ns) ss e = refl

@@ -1,16 +1,16 @@
 -- For `one_verdict`: templates, levels and loops move with what is open.
 use Rattle.std.proofs.Common.{arith, ◌≡◌, ◌≢◌, ℕ, zero, suc, ◌+◌, ◌<◌, ◌≤◌, true, false, List, refl, sym, ap, ◌∙◌, subst, add-one, add-zero}
 use Rattle.std.proofs.Common.{Option, Some, None, ⊎_elim}
-use Rattle.std.specs.Prelude.{slice_get}
+use Rattle.std.specs.Prelude.{slice_get, is_some}
 use Rattle.std.proofs.lemmas.Bool.{cases_order, cases_lt}
 use Rattle.tmpl_grammar.specs.declared.action.Branch.{Branch}
-use Rattle.tmpl_syntax.specs.Place.Open.{ends, IsOpening, IsOpen, IsLast, IsElseBranchOf, HasElse, is_template, IsBody, IsTemplate, OfOneTemplate}
+use Rattle.tmpl_syntax.specs.Place.Open.{IsOpen, IsLast, IsElseOf, HasElse, is_template, IsBody, IsTemplate, OfOneTemplate}
 use Rattle.tmpl_syntax.specs.Place.Body.{is_level, IsLoop, IsLevel, of_opening, of_else_branch, Levels, none, one, other}
-use Rattle.tmpl_syntax.specs.computed.Frames.{level_of}
+use Rattle.tmpl_syntax.specs.computed.Frames.{level_of, else_levels}
 use Rattle.tmpl_syntax.proofs.OpenLemmas.{same-opening, same-piece, cut, through, Even, Same, shut-at, opened-keeps, opened_new}
 use Rattle.tmpl_syntax.specs.Place.Opening.{Opening}
 use Rattle.tmpl_syntax.specs.Place.Opening as opened
-use Rattle.tmpl_syntax.specs.Place.Role.{Names, opener, bare_else, branch_else, Role, act_role}
+use Rattle.tmpl_syntax.specs.Place.Role.{Names, opener, else_part, Role, act_role}
 
 -- at two places the bodies of the same defines and blocks are open
 pub record Alike (xs : List Role) (a b : ℕ) : Type 0 where
@@ -51,10 +51,10 @@ alike-last xs j i l nt = record {
         let c : b.is_open.opened ≡ l.is_open.opened = same-opening xs j b.is_open.opened l.is_open.opened b.is_open.at l.is_open.at in
         let t : true ≡ false = sym b.own ∙ ap is_template c ∙ nt in cc
 
-pub alike-opened : (xs : List Role) (x : Role) (i : ℕ) (c : Opening) → slice_get xs i ≡ Some x → ends x ≡ false
-    → IsOpening (slice_get xs i) c → is_template c ≡ false → Alike xs i (i + 1)
-alike-opened xs x i c at e o nt = record {
-  to = λ k h. move-body xs k i (i + 1) h (opened-keeps xs x i k at e h.is_open);
+pub alike-opened : (xs : List Role) (i : ℕ) (c : Opening) (p : Names) → slice_get xs i ≡ Some (act_role (opener c p)) → is_template c ≡ false
+    → Alike xs i (i + 1)
+alike-opened xs i c p at nt = record {
+  to = λ k h. move-body xs k i (i + 1) h (opened-keeps xs (act_role (opener c p)) i k at refl h.is_open);
   back = λ k h. ⊎_elim
       (λ lt. move-body xs k (i + 1) i h (cut xs k i (i + 1) lt (omega arith) h.is_open))
       (λ ge. let b = h.is_open.before in absurd (own k (omega arith) h))
@@ -64,12 +64,13 @@ alike-opened xs x i c at e o nt = record {
     own : (k : ℕ) → k ≡ i → IsBody xs k (i + 1) → ⊥
     own k s h =
         let b : IsBody xs i (i + 1) = subst (λ n. IsBody xs n (i + 1)) s h in
-        let d : b.is_open.opened ≡ c = same-opening xs i b.is_open.opened c b.is_open.at o in
+        let d : b.is_open.opened ≡ c = same-opening xs i b.is_open.opened c b.is_open.at at in
         let t : true ≡ false = sym b.own ∙ ap is_template d ∙ nt in cc
 
 -- the body of a define or block is a template of its own, and no place before it is of that template
-pub template-opened : (xs : List Role) (i : ℕ) (c : Opening) → IsOpening (slice_get xs i) c → is_template c ≡ true → IsTemplate xs (i + 1) (Some i)
-template-opened xs i c o own = (record { is_open = opened_new xs i c o; own = own }, λ j lt b. let k = b.is_open.before in omega arith)
+pub template-opened : (xs : List Role) (i : ℕ) (c : Opening) (p : Names) → slice_get xs i ≡ Some (act_role (opener c p)) → is_template c ≡ true
+    → IsTemplate xs (i + 1) (Some i)
+template-opened xs i c p at own = (record { is_open = opened_new xs i c p at; own = own }, λ j lt b. let k = b.is_open.before in omega arith)
 
 pub template-apart : (xs : List Role) (j k i : ℕ) → IsBody xs j i → k ≤ j → OfOneTemplate xs k i → ⊥
 template-apart xs j k i b le (None, at, here) = here j b
@@ -116,46 +117,45 @@ levels-same xs j m n s r =
   where
     fresh : (k : ℕ) → j ≤ k → k < m → IsLevel xs k m → ⊥
     fresh k from to (of_opening o nt) = let b = (s.even.only k o).before in omega arith
-    fresh k from to (of_else_branch {j = q} t o nt) = s.no_branch q k from to (s.even.only q o) t
+    fresh k from to (of_else_branch {b = b} {j = q} t o nt) = s.no_else (Some b) q k from to (s.even.only q o) t
 
 pub levels-even : (xs : List Role) (i n : ℕ) → Even xs i (i + 1) → Levels xs i i n → Levels xs (i + 1) i n
 levels-even xs i n e r = levels-move (i + 1) (λ k lt. level-moves xs k i (i + 1) (λ q le. e.keeps q)) (λ k lt. level-moves xs k (i + 1) i (λ q le. e.only q)) r
 
-pub no-else_branch : (xs : List Role) (x : Role) (i j : ℕ) → slice_get xs i ≡ Some x
-    → ((b : Branch) (p : Names) → x ≢ act_role (branch_else b p)) → IsElseBranchOf xs j i → ⊥
-no-else_branch xs x i j at ne t = ne t.branch t.names (same-piece xs i x (act_role (branch_else t.branch t.names)) at t.at)
+-- a piece that is no else is none of any opening
+pub no-else : (xs : List Role) (x : Role) (i : ℕ) → slice_get xs i ≡ Some x → ((b : Option (Branch × Names)) → x ≢ act_role (else_part b))
+    → (b : Option (Branch × Names)) (j : ℕ) → IsElseOf xs b j i → ⊥
+no-else xs x i at ne b j e = ne b (same-piece xs i x (act_role (else_part b)) at e.at)
 
-pub levels-else : (xs : List Role) (i n : ℕ) → Even xs i (i + 1) → slice_get xs i ≡ Some (act_role bare_else) → Levels xs i i n → Levels xs (i + 1) (i + 1) n
-levels-else xs i n e at r = levels-no xs (i + 1) i n (levels-even xs i n e r) fresh
+pub levels-else : (xs : List Role) (i j n : ℕ) (b : Option (Branch × Names)) → Even xs i (i + 1) → (t : IsElseOf xs b j i)
+    → is_level t.belongs.is_open.opened ≡ true → Levels xs i i n → Levels xs (i + 1) (i + 1) (else_levels (is_some b) n)
+levels-else xs i j n None e t nt r = levels-no xs (i + 1) i n (levels-even xs i n e r) fresh
   where
     fresh : IsLevel xs i (i + 1) → ⊥
-    fresh (of_opening o nt) = shut-at xs (act_role bare_else) i (i + 1) at refl o
-    fresh (of_else_branch {j = q} t o nt) = no-else_branch xs (act_role bare_else) i q at (λ b p g. cc) t
-
-pub levels-else_branch : (xs : List Role) (i j n : ℕ) → Even xs i (i + 1) → (t : IsElseBranchOf xs j i)
-    → is_level t.belongs.is_open.opened ≡ true → Levels xs i i n → Levels xs (i + 1) (i + 1) (n + 1)
-levels-else_branch xs i j n e t nt r =
+    fresh (of_opening o is) = shut-at xs (act_role (else_part None)) i (i + 1) t.at refl o
+    fresh (of_else_branch {b = d} u o is) = cc
+levels-else xs i j n (Some b) e t nt r =
     let o = e.keeps j t.belongs.is_open in
     levels-yes xs (i + 1) i n (levels-even xs i n e r) (of_else_branch t o (ap is_level
     (same-opening xs j o.opened t.belongs.is_open.opened o.at t.belongs.is_open.at) ∙ nt))
 
 pub levels-opened : (xs : List Role) (i n : ℕ) (c : Opening) (p : Names) → slice_get xs i ≡ Some (act_role (opener c p))
-    → IsOpening (slice_get xs i) c → Levels xs i i n → Levels xs (i + 1) (i + 1) (n + level_of c)
-levels-opened xs i n c p at o r = go c o
+    → Levels xs i i n → Levels xs (i + 1) (i + 1) (n + level_of c)
+levels-opened xs i n c p at r = go c at
   where
     below : Levels xs (i + 1) i n
     below = levels-move (i + 1)
         (λ k lt. level-moves xs k i (i + 1) (λ q le. opened-keeps xs (act_role (opener c p)) i q at refl))
         (λ k lt. level-moves xs k (i + 1) i (λ q le. cut xs q i (i + 1) (omega arith) (omega arith))) r
 
-    yes : (d : Opening) → IsOpening (slice_get xs i) d → is_level d ≡ true → Levels xs (i + 1) (i + 1) (n + 1)
-    yes d od nt = levels-yes xs (i + 1) i n below (of_opening (opened_new xs i d od) nt)
+    yes : (d : Opening) → slice_get xs i ≡ Some (act_role (opener d p)) → is_level d ≡ true → Levels xs (i + 1) (i + 1) (n + 1)
+    yes d od nt = levels-yes xs (i + 1) i n below (of_opening (opened_new xs i d p od) nt)
 
-    no : (d : Opening) → IsOpening (slice_get xs i) d → is_level d ≡ false → IsLevel xs i (i + 1) → ⊥
+    no : (d : Opening) → slice_get xs i ≡ Some (act_role (opener d p)) → is_level d ≡ false → IsLevel xs i (i + 1) → ⊥
     no d od nt (of_opening h is) = let t : true ≡ false = sym is ∙ ap is_level (same-opening xs i h.opened d h.at od) ∙ nt in cc
-    no d od nt (of_else_branch {j = q} t h is) = no-else_branch xs (act_role (opener c p)) i q at (λ b r g. cc) t
+    no d od nt (of_else_branch {b = b} {j = q} t h is) = no-else xs (act_role (opener c p)) i at (λ d g. cc) (Some b) q t
 
-    go : (d : Opening) → IsOpening (slice_get xs i) d → Levels xs (i + 1) (i + 1) (n + level_of d)
+    go : (d : Opening) → slice_get xs i ≡ Some (act_role (opener d p)) → Levels xs (i + 1) (i + 1) (n + level_of d)
     go (opened.control d) od = yes (opened.control d) od refl
     go opened.define od = subst (λ k. Levels xs (i + 1) (i + 1) k) (sym (add-zero n)) (levels-no xs (i + 1) i n below (no opened.define od refl))
     go opened.block od = yes opened.block od refl
@@ -171,8 +171,13 @@ loop-moves xs q a b e o h l = (o, same-opening xs q o.opened l.0.opened o.at l.0
 pub else_before : (xs : List Role) (q a b : ℕ) → a ≤ b → HasElse xs q a → HasElse xs q b
 else_before xs q a b le h = (h.0, let lt = h.1 in omega arith, h.2)
 
+-- a piece that is no plain else adds none
+pub has-before : (xs : List Role) (x : Role) (i : ℕ) → slice_get xs i ≡ Some x → x ≢ act_role (else_part None) → (q : ℕ) → HasElse xs q (i + 1) → HasElse xs q i
+has-before xs x i at ne q e = ⊎_elim (λ lt. (e.0, lt, e.2)) (λ ge. let g = e.1 in let s : e.0 ≡ i = omega arith in
+    absurd (ne (same-piece xs i x (act_role (else_part None)) at (subst (λ z. slice_get xs z ≡ Some (act_role (else_part None))) s e.2.at)))) (cases_lt e.0 i)
+
 pub else-same : (xs : List Role) (q j m : ℕ) → Same xs j m → IsOpen xs q j → HasElse xs q m → HasElse xs q j
-else-same xs q j m s o h = ⊎_elim (λ lt. (h.0, lt, h.2)) (λ ge. absurd (s.no_else q h.0 ge h.1 o h.2)) (cases_lt h.0 j)
+else-same xs q j m s o h = ⊎_elim (λ lt. (h.0, lt, h.2)) (λ ge. absurd (s.no_else None q h.0 ge h.1 o h.2)) (cases_lt h.0 j)
 
 pub loop-same : (xs : List Role) (j m : ℕ) → Same xs j m → InLoop xs j → InLoop xs m
 loop-same xs j m s l = (l.0, loop-moves xs l.0 j m (alike-even xs j m s.even) (s.even.keeps l.0 l.1.0) (else-same xs l.0 j m s l.1.0) l.1)

@@ -6,14 +6,14 @@ use Rattle.tmpl_grammar.specs.Action.{opening, else_branch, end_action, control_
 use Rattle.tmpl_grammar.specs.declared.tree.Control.{Control}
 use Rattle.tmpl_syntax.specs.Tree.{Nodes, none, then, control_node, Definition}
 use Rattle.tmpl_syntax.specs.Language.{Branches}
-use Rattle.tmpl_syntax.specs.Item.{Item, item, text_item, action_item, IsItem, a_text as text_read, an_unreadable, unread, too_deep, read}
-use Rattle.tmpl_syntax.specs.Item.{AreItems, no_item, an_item}
+use Rattle.tmpl_syntax.specs.Item.{Item, item, text_item, action_item, IsItem, a_text as text_read, read}
+use Rattle.std.specs.List.{AllZip}
 use Rattle.tmpl_syntax.specs.Spelling.{a_text, Leads, nothing, a_node, a_control, a_define, a_block}
 use Rattle.tmpl_syntax.specs.Spelling.{Closes, an_end, an_else, an_else_branch}
 use Rattle.tmpl_grammar.specs.declared.action.Branch.{Branch}
 use Rattle.tmpl_grammar.specs.declared.action.Branch.TheVariants as branch
 use Rattle.tmpl_syntax.specs.Print.Join.{IsText}
-use Rattle.tmpl_syntax.specs.Print.Printed.{Said, said_text, said, else_said, control_said, node_said, nodes_said}
+use Rattle.tmpl_syntax.specs.Print.Printed.{Said, said_text, said, else_said, node_said, nodes_said}
 use Rattle.tmpl_grammar.specs.Printable.{OfAction}
 use Rattle.tmpl_syntax.specs.Print.Printable.{AreSaid, ArePrintable}
 use Rattle.tmpl_syntax.specs.Parse.{template_in}
@@ -35,16 +35,18 @@ of-item text_read h = h
 of-item (read {ts = ts} {a = a} s t le) h = of_action a ts le h s
 of-item _ h = tt
 
-of-items : {branches : Branches} {ps : List Piece} {xs : List Item} → AreItems branches ps xs → OfPieces ps → OfItems xs
-of-items no_item h = tt
-of-items (an_item i is) h = (of-item i h.0, of-items is h.1)
+of-items : (branches : Branches) (ps : List Piece) (xs : List Item) → AllZip (IsItem branches) ps xs → OfPieces ps → OfItems xs
+of-items branches [] [] is h = tt
+of-items branches (p ∷ ps) (x ∷ xs) is h = (of-item is.0 h.0, of-items branches ps xs is.1 h.1)
+of-items branches _ _ is h = absurd is
 
 pub said-append : (ss ts : List Said) → AreSaid ss → AreSaid ts → AreSaid (ss ++ ts)
 said-append [] ts h k = k
 said-append (said_text t ∷ ss) ts h k = (h.0, said-append ss ts h.1 k)
 said-append (said a ∷ ss) ts h k = (h.0, said-append ss ts h.1 k)
 
-control-of : (c : Control) (r : Header) (body other : List Said) → OfAction (opening c r) → AreSaid body → AreSaid other → AreSaid (control_said c r body other)
+control-of : (c : Control) (r : Header) (body other : List Said) → OfAction (opening c r) → AreSaid body → AreSaid other
+    → AreSaid (said (opening c r) ∷ (body ++ (other ++ said end_action ∷ [])))
 control-of c r body other h b o = (h, said-append body (other ++ said end_action ∷ []) b (said-append other (said end_action ∷ []) o (tt, tt)))
 
 -- the header of an else branch may be that of its control
@@ -106,5 +108,5 @@ mutual
 
 pub keeps-printable : KeepsPrintable
 keeps-printable branches bytes items ds own h has spells =
-    let k = leads-of spells (of-items has.2 (cuts-of has.1 h)) in
+    let k = leads-of spells (of-items branches has.0 items has.2 (cuts-of has.1 h)) in
     (λ path. k.definitions path tt, k.nodes)

@@ -5,10 +5,11 @@ use Rattle.tmpl_grammar.specs.Tree.{Pipeline}
 use Rattle.tmpl_grammar.specs.Action.{Action, pipeline_action, opening, else_branch, end_action, template_action, block_action}
 use Rattle.tmpl_grammar.specs.Depth.{depth_of, depth_of_pipeline, most_deep}
 use Rattle.tmpl_syntax.specs.Language.{every_branch}
-use Rattle.tmpl_syntax.specs.Item.{Item, item, text_item, action_item, a_text as text_read, read, AreItems, no_item, an_item, HasItems}
+use Rattle.tmpl_syntax.specs.Item.{Item, item, text_item, action_item, a_text as text_read, read, IsItem, HasItems}
+use Rattle.std.specs.List.{AllZip, flat_map}
 use Rattle.tmpl_syntax.specs.Set.{Template}
 use Rattle.tmpl_syntax.specs.Print.Join.{Part, a_text, an_action, file_of, IsText, AreParts, SamePieces, no_piece, same_text, same_action}
-use Rattle.tmpl_syntax.specs.Print.Printed.{Said, said_text, said, nodes_said, set_said, part_of}
+use Rattle.tmpl_syntax.specs.Print.Printed.{Said, said_text, said, nodes_said, template_said, part_of}
 use Rattle.tmpl_grammar.specs.Printable.{OfPipeline, OfAction}
 use Rattle.tmpl_syntax.specs.Print.Printable.{AreSaid, ArePrintable}
 use Rattle.tmpl_syntax.specs.Print.Laws.{Says, says_nothing, says_text, says, ReadsSame, SetReadsSame}
@@ -39,7 +40,7 @@ within _ h = omega arith
 -- items that pieces are read as, and that say this
 record ItemsSaid (ss : List Said) (ps : List Piece) : Type 0 where
   items : List Item
-  are : AreItems every_branch ps items
+  are : AllZip (IsItem every_branch) ps items
   say : Says ss items
 
 -- the first of the pieces
@@ -59,14 +60,14 @@ none-first : {qs : List Piece} → SamePieces [] qs → qs ≡ []
 none-first no_piece = refl
 
 items-said : (ss : List Said) (qs : List Piece) → AreSaid ss → SamePieces (map part_of ss) qs → ItemsSaid ss qs
-items-said [] qs h s = record { items = []; are = subst (λ ps. AreItems every_branch ps []) (sym (none-first s)) no_item; say = says_nothing }
+items-said [] qs h s = record { items = []; are = subst (λ ps. AllZip (IsItem every_branch) ps []) (sym (none-first s)) tt; say = says_nothing }
 items-said (said_text t ∷ ss) qs h s =
     let f = text-first s in
     let more = items-said ss f.rest h.1 f.same in
     record {
       items = item f.line (text_item t) ∷ more.items;
-      are = subst (λ ps. AreItems every_branch ps (item f.line (text_item t) ∷ more.items)) (sym f.is)
-          (an_item text_read more.are);
+      are = subst (λ ps. AllZip (IsItem every_branch) ps (item f.line (text_item t) ∷ more.items)) (sym f.is)
+          (text_read, more.are);
       say = says_text more.say;
     }
 items-said (said a ∷ ss) qs h s =
@@ -74,8 +75,8 @@ items-said (said a ∷ ss) qs h s =
     let more = items-said ss f.rest h.1 f.same in
     record {
       items = item f.line (action_item a) ∷ more.items;
-      are = subst (λ ps. AreItems every_branch ps (item f.line (action_item a) ∷ more.items))
-          (sym f.is) (an_item (read (spells-tokens a h.0) (has-every a) (within a h.0)) more.are);
+      are = subst (λ ps. AllZip (IsItem every_branch) ps (item f.line (action_item a) ∷ more.items))
+          (sym f.is) (read (spells-tokens a h.0) (has-every a) (within a h.0), more.are);
       say = says more.say;
     }
 
@@ -109,14 +110,14 @@ reads-same ns h =
 newline-is-text : IsText (codes "\n")
 newline-is-text = record { some = omega arith; clear = absent-cons 123 123 10 [] refl (absent-nil 123 123) }
 
-set-is-said : (ts : List Template) → ArePrintable ts → AreSaid (set_said ts)
+set-is-said : (ts : List Template) → ArePrintable ts → AreSaid (flat_map template_said ts)
 set-is-said [] h = tt
-set-is-said (t ∷ ts) h =
-    (h.0, said-append (nodes_said t.1.nodes) (said end_action ∷ said_text (codes "\n") ∷ set_said ts) h.1 (tt, (newline-is-text, set-is-said ts h.2)))
+set-is-said (t ∷ ts) h = said-append (template_said t) (flat_map template_said ts)
+    (h.0, said-append (nodes_said t.1.nodes) (said end_action ∷ said_text (codes "\n") ∷ []) h.1 (tt, (newline-is-text, tt))) (set-is-said ts h.2)
 
 pub set-reads-same : SetReadsSame
 set-reads-same ts h =
-    let i = has-said (set_said ts) (set-is-said ts h) in
+    let i = has-said (flat_map template_said ts) (set-is-said ts h) in
     let s = set-leads ts i.items i.say in
     record {
       items = i.items;

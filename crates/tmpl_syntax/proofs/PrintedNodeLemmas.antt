@@ -8,7 +8,8 @@ use Rattle.tmpl_syntax.specs.Item.{Item, ItemKind, item, text_item, action_item}
 use Rattle.tmpl_syntax.specs.Set.{Template}
 use Rattle.tmpl_syntax.specs.Spelling.{definition, IsNode, a_text, an_action, a_break, a_continue, a_template, Leads, nothing, a_node, a_control, a_define}
 use Rattle.tmpl_syntax.specs.Spelling.{Closes, an_end, an_else, Spells}
-use Rattle.tmpl_syntax.specs.Print.Printed.{Said, said_text, said, else_said, control_said, node_said, nodes_said, set_said, unlined_node, unlined}
+use Rattle.tmpl_syntax.specs.Print.Printed.{Said, said_text, said, else_said, node_said, nodes_said, template_said, unlined_node, unlined}
+use Rattle.std.specs.List.{flat_map}
 use Rattle.tmpl_syntax.specs.Print.Laws.{Says, says_nothing, says_text, says, unlined_definition, unlined_template, newline_nodes}
 
 -- ---- the first of the items
@@ -75,7 +76,7 @@ control-alike c h body other body' other' e f = cc
 control-leads : (c : Control) (h : Header) (body other : Nodes)
     → ((ss : List Said) (xs : List Item) → Says (nodes_said body ++ ss) xs → LeadsNodes body ss xs)
     → ((ss : List Said) (xs : List Item) → Says (nodes_said other ++ ss) xs → LeadsNodes other ss xs)
-    → (ss : List Said) (xs : List Item) → Says (control_said c h (nodes_said body) (else_said other (nodes_said other)) ++ ss) xs
+    → (ss : List Said) (xs : List Item) → Says (node_said (control_node c h body other) ++ ss) xs
     → LeadsNode (control_node c h body other) ss xs
 control-leads c h body other in_body in_other ss xs s =
     let ends : List Said = else_said other (nodes_said other) in
@@ -150,12 +151,14 @@ pub record SetSpelling (ts : List Template) (xs : List Item) : Type 0 where
   pub alike : map unlined_definition definitions ≡ map unlined_template ts
   pub newlines : unlined own ≡ newline_nodes ts
 
-pub set-leads : (ts : List Template) (xs : List Item) → Says (set_said ts) xs → SetSpelling ts xs
+pub set-leads : (ts : List Template) (xs : List Item) → Says (flat_map template_said ts) xs → SetSpelling ts xs
 set-leads [] xs s =
     record { definitions = []; own = none; spells = subst (λ ys. Leads ys [] none [] []) (sym (no-rest s)) nothing; alike = refl; newlines = refl }
 set-leads (t ∷ ts) xs s =
     let f = first-said s in
-    let b = nodes-leads t.1.nodes (said end_action ∷ said_text (codes "\n") ∷ set_said ts) f.rest f.says_rest in
+    let b = nodes-leads t.1.nodes (said end_action ∷ said_text (codes "\n") ∷ flat_map template_said ts) f.rest
+    (subst (λ ss. Says ss f.rest) (append_assoc (nodes_said t.1.nodes) (said end_action ∷ said_text (codes "\n") ∷ []) (flat_map template_said ts))
+    f.says_rest) in
     let e = first-said b.says_rest in
     let n = first-text e.says_rest in
     let more = set-leads ts n.rest n.says_rest in

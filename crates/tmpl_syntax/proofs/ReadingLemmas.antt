@@ -17,7 +17,7 @@ use Rattle.tmpl_syntax.specs.Set.{Template}
 use Rattle.tmpl_syntax.specs.Laws.{HasOutcome, HasOneOutcome, AcceptsAsParsed, RefusesAsParsed}
 use Rattle.tmpl_syntax.specs.computed.Parse.{Refusal, IsRefusal, line_in, line_at, by_verdict, checked, second_in, unless_second, definitions_or}
 use Rattle.tmpl_syntax.specs.computed.Parse.{all_from, items_of, placed, parsed}
-use Rattle.tmpl_syntax.specs.Parse.{last_line, base_name, most_bytes, all_defined, HasSecond, IsAccepted, IsRefusedAt, IsRefusedBy, Parses, ParsesUnless}
+use Rattle.tmpl_syntax.specs.Parse.{last_line, base_name, most_bytes, all_defined, HasSecond, IsAccepted, IsRefusedBy, Parses, ParsesUnless}
 use Rattle.tmpl_syntax.proofs.ItemLemmas.{has-items, no-others}
 use Rattle.tmpl_syntax.proofs.OneVerdictLemmas.{within, one-verdict}
 use Rattle.tmpl_syntax.proofs.OneSpellingLemmas.{one-spelling}
@@ -43,11 +43,16 @@ same-refusal : (r s : Refusal) → ◌≡◌ {A = Result (List Template) Refusal
 same-refusal r s e = ap (refusal_or r) e
 
 pub no-value : {A : Type 0} (x : List Template) (r : Refusal) → ◌≡◌ {A = Result (List Template) Refusal} (Ok x) (Err r) → A
-no-value x r e = absurd (let g : ⊥ = cc in g)
+no-value x r e = absurd (cc)
 
 item-there : (xs : List Item) (i : ℕ) → i < length xs → (x : Item) × (slice_get xs i ≡ Some x)
 item-there [] i h = absurd (omega arith)
 item-there (d ∷ ds) i h = (get_or (d ∷ ds) i d, slice_get-get_or (d ∷ ds) i d h)
+
+-- the item at a place is the first that is refused, and this is its line
+abbrev IsRefusedAt : List Item → ℕ → Reason → Type 0
+IsRefusedAt items line why =
+    (i : ℕ) × (what : ItemKind) × Judged (roles_of items) (refused i why) × (slice_get items i ≡ Some (item line what))
 
 module _ (set : List Template) (file bytes : List ℕ) where
   short-by : (v : Verdict) → length bytes ≤ most_bytes → verdict_of (roles_of (items_of bytes)) ≡ v
@@ -124,11 +129,13 @@ module _ (set : List Template) (file bytes : List ℕ) where
             short,
             items_of bytes,
             has-items bytes,
-            judged-by fine v,
-            definitions_from (items_of bytes),
-            nodes_from (items_of bytes),
-            spells-fine (items_of bytes) v,
-            subst (HasSecond ds) (sym (ap (λ (r : Refusal). r.0) s)) (has-second ds at o),
+            (
+              judged-by fine v,
+              definitions_from (items_of bytes),
+              nodes_from (items_of bytes),
+              spells-fine (items_of bytes) v,
+              subst (HasSecond ds) (sym (ap (λ (r : Refusal). r.0) s)) (has-second ds at o),
+            ),
           )
 
       by : length bytes ≤ most_bytes → (v : Verdict) → verdict_of (roles_of (items_of bytes)) ≡ v → IsRefusedBy every_branch file bytes line reason
@@ -140,7 +147,7 @@ module _ (set : List Template) (file bytes : List ℕ) where
       by short left_open v =
           let s = same-refusal (line, reason) (last_line bytes, open_at_end) (sym e ∙ short-by left_open short v) in
           subst (IsRefusedBy every_branch file bytes line) (sym (ap (λ (r : Refusal). r.1) s))
-          (short, items_of bytes, has-items bytes, judged-by left_open v, ap (λ (r : Refusal). r.0) s)
+          (short, items_of bytes, has-items bytes, (judged-by left_open v, ap (λ (r : Refusal). r.0) s))
 
   -- .. where memory may run out
   pub refusal-for : (line : ℕ) (o : Option Reason) → IsRefusal (parsed set file bytes) line o → ParsesUnless set file bytes line o
@@ -187,8 +194,8 @@ module _ (set : List Template) (file bytes : List ℕ) where
 
   pub parsed-refused : (line : ℕ) (reason : Reason) → IsRefusedBy every_branch file bytes line reason → parsed set file bytes ≡ Err (line, reason)
   parsed-refused line too_long (long, at) = parsed-long set file bytes long ∙ ap (λ n. Err (n, too_long)) (sym at)
-  parsed-refused line open_at_end (short, items, has, j, at) = verdict-as items has left_open j short ∙ ap (λ n. Err (n, open_at_end)) (sym at)
-  parsed-refused line second_definition (short, items, has, j, es, own, s, second) =
+  parsed-refused line open_at_end (short, items, has, (j, at)) = verdict-as items has left_open j short ∙ ap (λ n. Err (n, open_at_end)) (sym at)
+  parsed-refused line second_definition (short, items, has, (j, es, own, s, second)) =
       fine-as items has es own j s short (Some line) (second-some (all_defined file es own) line second)
   parsed-refused line reason h = refused-there-as line reason h.0 h.1 h.2 h.3
 

@@ -7,7 +7,7 @@ use Rattle.std.specs.Prelude.{slice_get}
 use Rattle.std.proofs.lemmas.List.Elements.{Contains-append_left, Contains-append_right, Contains-push, Contains-push_cases, Contains-append_cases}
 use Rattle.std.specs.Option.{option_map}
 use Rattle.std.proofs.Math.Seq.{drop-cons}
-use Rattle.std.proofs.lemmas.Bool.{false≢true}
+use Rattle.std.proofs.lemmas.Bool.{false≢true, or_right}
 use Rattle.std.proofs.lemmas.Option.{slice_get_read, slice_get_within, slice_get-map, get_or_from_slice_get}
 use lib.Pointwise.{bytes_decides}
 use Rattle.tmpl_syntax.specs.Tree.{Definition}
@@ -99,10 +99,6 @@ known-second (f ∷ earlier) d some e = by (known-second earlier d some) (is_bla
     by more true blank k = later (more k)
     by more false blank k = named more (bytes_eq d.name f.name) refl blank k
 
-or-right : (b : Bool) → (b || true) ≡ true
-or-right true = refl
-or-right false = refl
-
 second-known : (earlier : List Definition) (d : Definition) → IsSecond earlier d → is_known (kept earlier) d.name ≡ true
 second-known [] d s = let lt = s.1.1 in absurd (omega arith)
 second-known (f ∷ earlier) d s = ⊎_elim
@@ -117,7 +113,7 @@ second-known (f ∷ earlier) d s = ⊎_elim
 
     by : (b : Bool) → is_known (kept earlier) d.name ≡ true → is_known (kept_if b f.name (kept earlier)) d.name ≡ true
     by true e = e
-    by false e = ap (λ b. bytes_eq d.name f.name || b) e ∙ or-right (bytes_eq d.name f.name)
+    by false e = ap (λ b. bytes_eq d.name f.name || b) e ∙ or_right (bytes_eq d.name f.name) true refl
 
 -- ---- what is found
 
@@ -183,7 +179,7 @@ second-some ds line s = by (second_in ds) (found-in ds)
 
 -- ---- one after the other
 
-drop-next : {A : Type 0} (xs : List A) (i : ℕ) (x : A) → slice_get xs i ≡ Some x → drop i xs ≡ x ∷ drop (i + 1) xs
+pub drop-next : {A : Type 0} (xs : List A) (i : ℕ) (x : A) → slice_get xs i ≡ Some x → drop i xs ≡ x ∷ drop (i + 1) xs
 drop-next xs i x at =
     drop-cons xs i x (slice_get_within xs i x at)
     ∙ ap (λ y. y ∷ drop (suc i) xs) (get_or_from_slice_get xs i x x at)

@@ -47,7 +47,7 @@ named-find name t ts = go (bytes_eq name t.0)
     go false = refl
 
 kept : (ts : List Template) (name : List ℕ) (tree : Tree) → is_blank tree.nodes ≡ true → is_some (tree_named name ts) ≡ true → ts ≡ defined ts name tree
-kept [] name tree blank there = let g : false ≡ true = there in cc
+kept [] name tree blank there = cc
 kept (t ∷ ts) name tree blank there = go (bytes_eq name t.0) (kept ts name tree blank) (sym (ap is_some (named-find name t ts)) ∙ there)
   where
     go : (same : Bool) → (is_some (tree_named name ts) ≡ true → ts ≡ defined ts name tree)
@@ -74,7 +74,7 @@ defined-insert (d ∷ es) k tree e = go (bytes_eq k.items d.0.items) (is_blank (
         → map template_of (cond same ((d.0, tree) ∷ es) (d ∷ insert_entry (λ (x y : Vec ℕ Global). bytes_eq x.items y.items) es k tree))
         ≡ cond same ((d.0.items, chosen (tree_of d.1) (tree_of tree)) ∷ map template_of es)
         (template_of d ∷ defined (map template_of es) k.items (tree_of tree))
-    go true true is ih h = let g : true ≡ false = ap (λ b. b && true) (sym is) ∙ h in cc
+    go true true is ih h = cc
     go true false is ih h = ap (λ b. (d.0.items, cond b (tree_of d.1) (tree_of tree)) ∷ map template_of es) (sym is)
     go false blank is ih h = ap (λ ts. template_of d ∷ ts) (ih h)
 

@@ -1,22 +1,21 @@
 -- For `one_verdict`: so far nothing is refused, and the stack is what is open.
-use Rattle.std.proofs.Common.{arith, ◌≡◌, ◌≢◌, ℕ, ◌+◌, ◌<◌, true, false, List, [], ◌∷◌, ◌++◌, take, refl, sym, subst, length, Some, None, ⊎_elim}
+use Rattle.std.proofs.Common.{arith, ◌≡◌, ℕ, ◌+◌, ◌<◌, true, false, List, [], ◌∷◌, ◌++◌, take, refl, sym, subst, length, Some, None, ⊎_elim}
 use Rattle.std.specs.Prelude.{slice_get}
-use Rattle.std.proofs.lemmas.Bool.{cases_lt, and_parts}
-use Rattle.std.proofs.lemmas.List.{length-take-le}
+use Rattle.std.proofs.lemmas.Bool.{cases_lt}
+use Rattle.std.proofs.lemmas.List.{append-nil, length-take-le}
 use Rattle.tmpl_syntax.specs.Fault.{Reason, rank}
 use Rattle.tmpl_syntax.specs.Fault as reason
 use Rattle.tmpl_syntax.specs.computed.Frames.{Frame}
-use Rattle.tmpl_syntax.specs.Place.Body.{joins, IsMisplaced, none, IsTooDeep, IsUndeclared, Applies, unreadable, unread, misplaced}
+use Rattle.tmpl_syntax.specs.Place.Body.{IsMisplaced, none, IsTooDeep, IsUndeclared, Applies, unreadable, unread, misplaced}
 use Rattle.tmpl_syntax.specs.Place.Body.{too_deep, undeclared, NoneRefused, refused, Judged}
-use Rattle.tmpl_syntax.specs.computed.Frames.{top, takes_else, is_placed, is_too_deep, names_at, seen_at, frames_after, frames_past}
-use Rattle.tmpl_syntax.specs.computed.Frames.{branched, at_end, Known, with_inner, known_after, known_past, none_known}
+use Rattle.tmpl_syntax.specs.computed.Frames.{top, is_placed, is_too_deep, names_at, seen_at, frames_after, frames_past}
+use Rattle.tmpl_syntax.specs.computed.Frames.{parted, at_end, Known, with_inner, known_after, known_past, none_known}
 use Rattle.tmpl_syntax.proofs.FaultLemmas.{Tells, TellsRole, in-nothing}
-use Rattle.tmpl_syntax.proofs.OpenLemmas.{same-piece}
 use Rattle.tmpl_syntax.proofs.StandLemmas.{Here, Stands, here-of}
-use Rattle.tmpl_syntax.proofs.StepLemmas.{stands-opened}
-use Rattle.tmpl_syntax.proofs.ElseBranchLemmas.{stands-elsed, stands-branched, stands-ended, stands-declared, stands-still}
+use Rattle.tmpl_syntax.proofs.StepLemmas.{stands-opened, stands-ended, stands-declared, stands-still}
+use Rattle.tmpl_syntax.proofs.ElseLemmas.{stands-parted}
 use Rattle.tmpl_syntax.proofs.JudgeLemmas.{unplaced, placed, deep, shallow, none-unknown, unknown}
-use Rattle.tmpl_syntax.specs.Place.Role.{Act, plain, opener, bare_else, branch_else, closer, jump, nested, Role, text_role, unreadable_role, unread_role}
+use Rattle.tmpl_syntax.specs.Place.Role.{Act, plain, opener, else_part, closer, jump, nested, Role, text_role, unreadable_role, unread_role}
 use Rattle.tmpl_syntax.specs.Place.Role.{act_role}
 
 pub record Sound (xs : List Role) (i : ℕ) (known : Known) (fs : List Frame) : Type 0 where
@@ -31,7 +30,7 @@ sound-start xs = record {
       template = None;
       is_template_here = λ j b. let lt = b.is_open.before in omega arith;
       levels_are = none;
-      looped = (λ e. let g : false ≡ true = e in cc, λ l. let lt = l.1.0.before in absurd (omega arith));
+      looped = (λ e. cc, λ l. let lt = l.1.0.before in absurd (omega arith));
       to = λ n c. in-nothing n c;
       back = λ n b. let lt = b.before in absurd (omega arith);
     },
@@ -39,79 +38,56 @@ sound-start xs = record {
   none_refused = λ k f lt h. omega arith;
 }
 
--- what applies at an action
-same_action : (xs : List Role) (i : ℕ) (a b : Act) → slice_get xs i ≡ Some (act_role a) → slice_get xs i ≡ Some (act_role b) → a ≡ b
-same_action xs i a b e f = let g : act_role a ≡ act_role b = same-piece xs i (act_role a) (act_role b) e f in cc
-
-no-unreadable : (xs : List Role) (i : ℕ) (x : Role) → slice_get xs i ≡ Some x → x ≢ unreadable_role → Applies xs i reason.unreadable → ⊥
-no-unreadable xs i x at ne (unreadable e) = ne (same-piece xs i x unreadable_role at e)
-
-no-unread : (xs : List Role) (i : ℕ) (x : Role) → slice_get xs i ≡ Some x → x ≢ unread_role → Applies xs i reason.not_an_action → ⊥
-no-unread xs i x at ne (unread e) = ne (same-piece xs i x unread_role at e)
-
-no-misplaced : (xs : List Role) (i : ℕ) (x : Role) → slice_get xs i ≡ Some x → ((a : Act) → x ≡ act_role a → IsMisplaced xs i a → ⊥)
-    → Applies xs i reason.out_of_place → ⊥
-no-misplaced xs i x at ne (misplaced {a = a} e m) = ne a (same-piece xs i x (act_role a) at e) m
-
-no-deep : (xs : List Role) (i : ℕ) (x : Role) → slice_get xs i ≡ Some x → ((a : Act) → x ≡ act_role a → IsTooDeep xs i a → ⊥)
-    → Applies xs i reason.nested_too_deeply → ⊥
-no-deep xs i x at ne (too_deep {a = a} e m) = ne a (same-piece xs i x (act_role a) at e) m
-
-no-undeclared : (xs : List Role) (i : ℕ) (x : Role) → slice_get xs i ≡ Some x → ((a : Act) → x ≡ act_role a → IsUndeclared xs i a → ⊥)
-    → Applies xs i reason.undeclared_variable → ⊥
-no-undeclared xs i x at ne (undeclared {a = a} e m) = ne a (same-piece xs i x (act_role a) at e) m
-
 module _ (xs : List Role) (i : ℕ) (known : Known) (fs : List Frame) (s : Sound xs i known fs) where
   h : Here xs i (top fs) known.inner
   h = here-of xs i known fs s.stands
 
-  fine-text : (x : Role) → slice_get xs i ≡ Some x → ((a : Act) → x ≢ act_role a) → x ≢ unreadable_role → x ≢ unread_role → (f : Reason) → Applies xs i f → ⊥
-  fine-text x at nr nu nd _ (unreadable e) = no-unreadable xs i x at nu (unreadable e)
-  fine-text x at nr nu nd _ (unread e) = no-unread xs i x at nd (unread e)
-  fine-text x at nr nu nd _ (misplaced {a = a} e m) = nr a (same-piece xs i x (act_role a) at e)
-  fine-text x at nr nu nd _ (too_deep {a = a} e m) = nr a (same-piece xs i x (act_role a) at e)
-  fine-text x at nr nu nd _ (undeclared {a = a} e m) = nr a (same-piece xs i x (act_role a) at e)
+  fine-text : slice_get xs i ≡ Some text_role → (f : Reason) → Applies xs i f → ⊥
+  fine-text at _ (unreadable e) = cc
+  fine-text at _ (unread e) = cc
+  fine-text at _ (misplaced e m) = cc
+  fine-text at _ (too_deep e m) = cc
+  fine-text at _ (undeclared e m) = cc
 
   module _ (a : Act) (at : slice_get xs i ≡ Some (act_role a)) where
-    own : (P : Act → Type 0) → (b : Act) → act_role a ≡ act_role b → P b → P a
-    own P b e p = let g : a ≡ b = cc in subst P (sym g) p
+    own : (P : Act → Type 0) (b : Act) → slice_get xs i ≡ Some (act_role b) → P b → P a
+    own P b e p = let g : b ≡ a = cc in subst P g p
 
     not-misplaced : is_placed a (top fs) ≡ true → Applies xs i reason.out_of_place → ⊥
-    not-misplaced e = no-misplaced xs i (act_role a) at (λ b g m. placed xs i known fs a s.stands e (own (IsMisplaced xs i) b g m))
+    not-misplaced e (misplaced {a = b} f m) = placed xs i known fs a s.stands e (own (IsMisplaced xs i) b f m)
 
     not-deep : is_too_deep a (top fs) ≡ false → Applies xs i reason.nested_too_deeply → ⊥
-    not-deep e = no-deep xs i (act_role a) at (λ b g m. shallow xs i a (top fs) known.inner h e (own (IsTooDeep xs i) b g m))
+    not-deep e (too_deep {a = b} f m) = shallow xs i a (top fs) known.inner h e (own (IsTooDeep xs i) b f m)
 
     fine-action : Tells a (top fs) (names_at a (top fs) known.inner) None → (f : Reason) → Applies xs i f → ⊥
-    fine-action e _ (unreadable h) = no-unreadable xs i (act_role a) at (λ g. cc) (unreadable h)
-    fine-action e _ (unread h) = no-unread xs i (act_role a) at (λ g. cc) (unread h)
-    fine-action e _ (misplaced h m) = not-misplaced e.0 (misplaced h m)
-    fine-action e _ (too_deep h m) = not-deep e.1 (too_deep h m)
-    fine-action e _ (undeclared h m) =
-        no-undeclared xs i (act_role a) at (λ b g m. none-unknown xs i known fs s.stands a at e.0 e.2 (own (IsUndeclared xs i) b g m)) (undeclared h m)
+    fine-action e _ (unreadable f) = cc
+    fine-action e _ (unread f) = cc
+    fine-action e _ (misplaced f m) = not-misplaced e.0 (misplaced f m)
+    fine-action e _ (too_deep f m) = not-deep e.1 (too_deep f m)
+    fine-action e _ (undeclared {a = b} f m) = none-unknown xs i known fs s.stands a at e.0 e.2 (own (IsUndeclared xs i) b f m)
 
     refused-action : (fault : Reason) → Tells a (top fs) (names_at a (top fs) known.inner) (Some fault) → Judged xs (refused i fault)
     refused-action reason.out_of_place e =
         (misplaced at (unplaced xs i known fs a s.stands e), first, s.none_refused)
       where
         first : (f : Reason) → rank f < rank reason.out_of_place → Applies xs i f → ⊥
-        first _ lt (unreadable h) = no-unreadable xs i (act_role a) at (λ g. cc) (unreadable h)
-        first _ lt (unread h) = no-unread xs i (act_role a) at (λ g. cc) (unread h)
+        first _ lt (unreadable f) = cc
+        first _ lt (unread f) = cc
         first _ lt _ = absurd (omega arith)
     refused-action reason.nested_too_deeply e =
         (too_deep at (deep xs i a (top fs) known.inner h e.1), first, s.none_refused)
       where
         first : (f : Reason) → rank f < rank reason.nested_too_deeply → Applies xs i f → ⊥
-        first _ lt (unreadable h) = no-unreadable xs i (act_role a) at (λ g. cc) (unreadable h)
-        first _ lt (unread h) = no-unread xs i (act_role a) at (λ g. cc) (unread h)
+        first _ lt (unreadable f) = cc
+        first _ lt (unread f) = cc
         first _ lt (misplaced h m) = not-misplaced e.0 (misplaced h m)
         first _ lt _ = absurd (omega arith)
     refused-action reason.undeclared_variable e =
         (undeclared at (unknown xs i known fs s.stands a at e.0 e.2), first, s.none_refused)
       where
         first : (f : Reason) → rank f < rank reason.undeclared_variable → Applies xs i f → ⊥
-        first _ lt (unreadable h) = no-unreadable xs i (act_role a) at (λ g. cc) (unreadable h)
-        first _ lt (unread h) = no-unread xs i (act_role a) at (λ g. cc) (unread h)
+        first _ lt (unreadable f) = cc
+        first _ lt (unread f) = cc
         first _ lt (misplaced h m) = not-misplaced e.0 (misplaced h m)
         first _ lt (too_deep h m) = not-deep e.1 (too_deep h m)
         first _ lt _ = absurd (omega arith)
@@ -123,7 +99,7 @@ module _ (xs : List Role) (i : ℕ) (known : Known) (fs : List Frame) (s : Sound
 
   pub refused-here : (x : Role) (fault : Reason) → slice_get xs i ≡ Some x
       → TellsRole x (top fs) (seen_at x (top fs) known.inner) (Some fault) → Judged xs (refused i fault)
-  refused-here text_role fault at e = let g : Some fault ≡ None = e in cc
+  refused-here text_role fault at e = cc
   refused-here (act_role a) fault at e = refused-action a at fault e
   refused-here unreadable_role fault at e = let g : fault ≡ reason.unreadable = cc in
       subst (λ r. Judged xs (refused i r)) (sym g) (unreadable at, none-before, s.none_refused)
@@ -131,14 +107,14 @@ module _ (xs : List Role) (i : ℕ) (known : Known) (fs : List Frame) (s : Sound
       subst (λ r. Judged xs (refused i r)) (sym g) (unread at, first, s.none_refused)
     where
       first : (f : Reason) → rank f < rank reason.not_an_action → Applies xs i f → ⊥
-      first _ lt (unreadable h) = no-unreadable xs i unread_role at (λ g. cc) (unreadable h)
+      first _ lt (unreadable f) = cc
       first _ lt _ = absurd (omega arith)
 
   fine-here : (x : Role) → slice_get xs i ≡ Some x → TellsRole x (top fs) (seen_at x (top fs) known.inner) None → (f : Reason) → Applies xs i f → ⊥
-  fine-here text_role at e = fine-text text_role at (λ a g. cc) (λ g. cc) (λ g. cc)
+  fine-here text_role at e = fine-text at
   fine-here (act_role a) at e = fine-action a at e
-  fine-here unreadable_role at e = let g : None ≡ Some reason.unreadable = e in cc
-  fine-here unread_role at e = let g : None ≡ Some reason.not_an_action = e in cc
+  fine-here unreadable_role at e = cc
+  fine-here unread_role at e = cc
 
   more : (x : Role) → slice_get xs i ≡ Some x → TellsRole x (top fs) (seen_at x (top fs) known.inner) None → NoneRefused xs (i + 1)
   more x at e k f lt a =
@@ -149,29 +125,30 @@ after : (xs : List Role) (i : ℕ) (known : Known) (fs : List Frame) (a : Act) �
     (frames_after a fs (length (names_at a (top fs) known.inner)))
 after xs i known fs (plain p) at e s = stands-declared xs i known p fs at s
 after xs i known fs (opener c p) at e s = stands-opened xs i known p fs s c at
-after xs i known (f ∷ fs) bare_else at e s = stands-elsed xs i known f fs at e s
-after xs i known (f ∷ fs) (branch_else b p) at e s =
+after xs i known (f ∷ fs) (else_part None) at e s =
     let names = take f.part known.inner in
-    let k = and_parts (takes_else (Some f)) (joins b f.opening) e in
-    let l = length-take-le f.part known.inner s.2.within.parted in
-    subst (λ n. Stands xs (i + 1) (with_inner known (names ++ p.declares)) (branched f (n + length p.declares) ∷ fs)) (sym l)
-    (stands-branched xs i known f fs b p at k.0 k.1 s)
+    let n : f.part + 0 ≡ length names = omega (arith, length-take-le f.part known.inner s.2.within.parted) in
+    subst (λ k. Stands xs (i + 1) (with_inner known names) (parted false k f ∷ fs)) n
+    (subst (λ l. Stands xs (i + 1) (with_inner known l) (parted false (f.part + 0) f ∷ fs)) (append-nil names) (stands-parted xs i known f fs s None at e))
+after xs i known (f ∷ fs) (else_part (Some (b, p))) at e s =
+    subst (λ n. Stands xs (i + 1) (with_inner known (take f.part known.inner ++ p.declares)) (parted true (n + length p.declares) f ∷ fs))
+    (sym (length-take-le f.part known.inner s.2.within.parted)) (stands-parted xs i known f fs s (Some (b, p)) at e)
 after xs i known (f ∷ fs) closer at e s = stands-ended xs i known f fs at s
-after xs i known fs (nested d) at e s = stands-still xs i known (act_role (nested d)) fs at refl refl (λ g. cc) (λ q g. cc) (λ c q g. cc) (λ b q g. cc) s
-after xs i known fs jump at e s = stands-still xs i known (act_role jump) fs at refl refl (λ g. cc) (λ q g. cc) (λ c q g. cc) (λ b q g. cc) s
-after xs i known [] _ at e s = let g : false ≡ true = e in cc
+after xs i known fs (nested d) at e s = stands-still xs i known (act_role (nested d)) fs at refl refl (λ q g. cc) (λ c q g. cc) (λ b g. cc) s
+after xs i known fs jump at e s = stands-still xs i known (act_role jump) fs at refl refl (λ q g. cc) (λ c q g. cc) (λ b g. cc) s
+after xs i known [] (else_part (Some (b, p))) at e s = cc
+after xs i known [] _ at e s = cc
 
 -- what stands after an item that is not refused
 pub sound-past : (xs : List Role) (i : ℕ) (known : Known) (fs : List Frame) (x : Role) → slice_get xs i ≡ Some x
     → TellsRole x (top fs) (seen_at x (top fs) known.inner) None → Sound xs i known fs
     → Sound xs (i + 1) (known_past x (top fs) (with_inner known (seen_at x (top fs) known.inner))) (frames_past x fs (length (seen_at x (top fs) known.inner)))
 sound-past xs i known fs text_role at e s = record {
-  stands = stands-still xs i known text_role fs at refl refl (λ g. cc) (λ q g. cc) (λ c q g. cc)
-      (λ b q g. cc) s.stands;
+  stands = stands-still xs i known text_role fs at refl refl (λ q g. cc) (λ c q g. cc) (λ b g. cc) s.stands;
   none_refused = more xs i known fs s text_role at e;
 }
-sound-past xs i known fs unreadable_role at e s = let g : None ≡ Some reason.unreadable = e in cc
-sound-past xs i known fs unread_role at e s = let g : None ≡ Some reason.not_an_action = e in cc
+sound-past xs i known fs unreadable_role at e s = cc
+sound-past xs i known fs unread_role at e s = cc
 sound-past xs i known fs (act_role a) at e s = record { stands = after xs i known fs a at e.0 s.stands; none_refused = more xs i known fs s (act_role a) at e }
 
 pub sound-end : (xs : List Role) (i : ℕ) (known : Known) (fs : List Frame) → i ≡ length xs → Sound xs i known fs → Judged xs (at_end fs)

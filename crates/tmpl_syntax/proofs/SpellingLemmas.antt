@@ -1,8 +1,7 @@
 -- For `one_spelling`: the items of an accepted file spell what is built from them.
-use Rattle.std.proofs.Common.{◌≡◌, ℕ, Bool, true, false, not, ◌&&◌, ◌||◌, List, [], ◌∷◌, refl, sym, subst, length, Option, Some, None}
-use Rattle.std.proofs.lemmas.Bool.{false≢true, and_parts}
+use Rattle.std.proofs.Common.{◌≡◌, ℕ, Bool, true, false, not, ◌||◌, List, [], ◌∷◌, refl, sym, ap, ◌∙◌, subst, length, Option, Some, None}
+use Rattle.std.proofs.lemmas.Bool.{and_parts, not-true, or_right}
 use Rattle.tmpl_syntax.specs.Fault.{Reason}
-use Rattle.tmpl_syntax.specs.Fault as reason
 use Rattle.tmpl_syntax.specs.computed.Frames.{Frame}
 use Rattle.tmpl_syntax.specs.Tree.{NodeKind, control_node, template_node, Nodes, none, then, Definition}
 use Rattle.tmpl_grammar.specs.Action.{pipeline_action, opening, plain_else, else_branch, end_action, break_action, continue_action}
@@ -10,8 +9,11 @@ use Rattle.tmpl_grammar.specs.Action.{define_action, template_action, block_acti
 use Rattle.tmpl_syntax.specs.Item.{ItemKind, Item, item, text_item, unreadable_item, unread_item, deep_item, action_item}
 use Rattle.tmpl_syntax.specs.Place.Role.{Name, role_of, roles_of}
 use Rattle.tmpl_syntax.specs.Place.Open.{is_template}
-use Rattle.tmpl_syntax.specs.Place.Body.{Verdict, fine, refused, left_open}
-use Rattle.tmpl_syntax.specs.computed.Frames.{Known, none_known, top, takes_else, elsed, seen_at, fault_at, frames_past}
+use Rattle.tmpl_syntax.specs.Place.Body.{Verdict, fine}
+use Rattle.tmpl_syntax.specs.computed.Frames.{Known, none_known, top, takes_else, seen_at, fault_at, frames_past}
+use Rattle.tmpl_syntax.specs.Place.Body.{joins}
+use Rattle.tmpl_syntax.proofs.ElseLemmas.{joins-own}
+use Rattle.tmpl_grammar.specs.declared.action.Branch.{Branch}
 use Rattle.tmpl_syntax.specs.computed.Frames.{unless_fault, verdict_from, verdict_of}
 use Rattle.tmpl_syntax.specs.Spelling.{IsNode, a_text, an_action, a_break, a_continue, a_template, Leads, nothing, a_node, a_control, a_define, a_block}
 use Rattle.tmpl_syntax.specs.Spelling.{Closes, an_end, an_else, an_else_branch, Spells}
@@ -19,18 +21,10 @@ use Rattle.tmpl_syntax.specs.computed.Build as build
 use Rattle.tmpl_syntax.specs.computed.Build.{no_parts, first_of, rest_of, with_node_before, parts_with, parts_before, nodes_from, definitions_from}
 use Rattle.tmpl_syntax.proofs.FaultLemmas.{TellsRole, tells}
 
-or-true : (b : Bool) → (b || true) ≡ true
-or-true true = refl
-or-true false = refl
-
 -- a part behind which an else may stand
-open-end : (f : Frame) → takes_else (Some f) ≡ true → (is_template f.opening || f.has_else) ≡ false
-open-end f e = by (is_template f.opening) f.has_else e
-  where
-    by : (b c : Bool) → (not b && not c) ≡ true → (b || c) ≡ false
-    by false false e = refl
-    by false true e = absurd (false≢true e)
-    by true c e = absurd (false≢true e)
+open-end : (b : Option Branch) (f : Frame) → takes_else b (Some f) ≡ true → (is_template f.opening || f.has_else) ≡ false
+open-end b f e =
+    let p = and_parts (joins b f.opening) (not f.has_else) e in ap (λ t. t || f.has_else) (joins-own b f.opening p.0) ∙ not-true f.has_else p.1
 
 -- only the `end` may stand behind a part: its plain else came already, or it is the body of a template
 abbrev ends_only : Frame → Bool
@@ -65,18 +59,18 @@ closing-end : (b : Bool) (line : ℕ) (xs : List Item) (ds : List Definition) �
 closing-end false line xs ds = an_end
 closing-end true line xs ds = (line, refl, refl, refl)
 
-closing-of : (f : Frame) (ys zs : List Item) (es gs : List Definition) (other : Nodes) → takes_else (Some f) ≡ true
+closing-of : (f : Frame) (ys zs : List Item) (es gs : List Definition) (other : Nodes) → ends_only f ≡ false
     → Closes ys es other zs gs → Closing (ends_only f) ys es other zs gs
-closing-of f ys zs es gs other e c = subst (λ k. Closing k ys es other zs gs) (sym (open-end f e)) c
+closing-of f ys zs es gs other e c = subst (λ k. Closing k ys es other zs gs) (sym e) c
 
-closes-of : (f : Frame) (ys zs : List Item) (es gs : List Definition) (other : Nodes) → takes_else (Some f) ≡ true
+closes-of : (f : Frame) (ys zs : List Item) (es gs : List Definition) (other : Nodes) → ends_only f ≡ false
     → Closing (ends_only f) ys es other zs gs → Closes ys es other zs gs
-closes-of f ys zs es gs other e c = subst (λ k. Closing k ys es other zs gs) (open-end f e) c
+closes-of f ys zs es gs other e c = subst (λ k. Closing k ys es other zs gs) e c
 
 -- behind a plain else, and in the body of a template, only the `end` stands
-elsed-closing : (f : Frame) (ys zs : List Item) (es gs : List Definition) (other : Nodes) → Closing (ends_only (elsed f)) ys es other zs gs
-    → Closing true ys es other zs gs
-elsed-closing f ys zs es gs other c = subst (λ b. Closing b ys es other zs gs) (or-true (is_template f.opening)) c
+elsed-closing : (f : Frame) (ys zs : List Item) (es gs : List Definition) (other : Nodes)
+    → Closing (is_template f.opening || true) ys es other zs gs → Closing true ys es other zs gs
+elsed-closing f ys zs es gs other c = subst (λ b. Closing b ys es other zs gs) (or_right (is_template f.opening) true refl) c
 
 template-body : (xs ys zs : List Item) (es gs : List Definition) {ds : List Definition} {ns other : Nodes} (c : Closing true ys es other zs gs)
     → Leads xs ds ns ys es → Leads xs ds ns (item c.0 (action_item end_action) ∷ zs) gs
@@ -96,16 +90,16 @@ module _ (names : List Name) (xs : List Item) (p : build.Parts) where
       → Rest (frames_past (role_of x) fs (length names)) xs p.definitions p.inner p.around
       → Rest fs (x ∷ xs) (parts_with x p).definitions (parts_with x p).inner (parts_with x p).around
   step (item line (text_item bytes)) fs e r = at-node fs line a_text r
-  step (item line unreadable_item) fs e r = let g : Some reason.unreadable ≡ None = e in cc
-  step (item line unread_item) fs e r = let g : Some reason.not_an_action ≡ None = e in cc
+  step (item line unreadable_item) fs e r = cc
+  step (item line unread_item) fs e r = cc
   step (item line (deep_item branch)) fs e r =
       let g : true ≡ false = (placed (item line (deep_item branch)) (top fs) e).1 in cc
   step (item line (action_item (pipeline_action h))) fs e r = at-node fs line an_action r
   step (item line (action_item (opening c h))) fs e r = rest-node fs _ r.3 p.definitions r.4 line (control_node c h p.inner.nodes p.inner.other)
       (first_of p.around) (rest_of p.around) (λ ns ys es d. a_control r.2 r.5 d) r.6
-  step (item line (action_item plain_else)) [] e r = let g : false ≡ true = (placed (item line (action_item plain_else)) None e).0 in cc
+  step (item line (action_item plain_else)) [] e r = cc
   step (item line (action_item plain_else)) (f ∷ fs) e r =
-      let takes : takes_else (Some f) ≡ true = (placed (item line (action_item plain_else)) (Some f) e).0 in
+      let takes = open-end None f (placed (item line (action_item plain_else)) (Some f) e).0 in
       let end = elsed-closing f _ _ _ _ _ r.5 in (
         item line (action_item plain_else) ∷ xs,
         p.definitions,
@@ -119,7 +113,7 @@ module _ (names : List Name) (xs : List Item) (p : build.Parts) where
   step (item line (action_item (else_branch branch h))) [] e r =
       let g = (placed (item line (action_item (else_branch branch h))) None e).0 in let h : false ≡ true = g in cc
   step (item line (action_item (else_branch branch h))) (f ∷ fs) e r =
-      let takes : takes_else (Some f) ≡ true = (and_parts _ _ (placed (item line (action_item (else_branch branch h))) (Some f) e).0).0 in (
+      let takes = open-end (Some branch) f (placed (item line (action_item (else_branch branch h))) (Some f) e).0 in (
         item line (action_item (else_branch branch h)) ∷ xs,
         p.definitions,
         nothing,
@@ -128,7 +122,7 @@ module _ (names : List Name) (xs : List Item) (p : build.Parts) where
         closing-of f _ _ _ _ _ takes (an_else_branch r.2 (closes-of f _ _ _ _ _ takes r.5)),
         r.6,
       )
-  step (item line (action_item end_action)) [] e r = let g : false ≡ true = (placed (item line (action_item end_action)) None e).0 in cc
+  step (item line (action_item end_action)) [] e r = cc
   step (item line (action_item end_action)) (f ∷ fs) e r =
       (item line (action_item end_action) ∷ xs, p.definitions, nothing, xs, p.definitions, closing-end (ends_only f) line xs p.definitions, r)
   step (item line (action_item break_action)) fs e r = at-node fs line a_break r
@@ -143,12 +137,12 @@ module _ (names : List Name) (xs : List Item) (p : build.Parts) where
 
 unless-fine : (o : Option Reason) (i : ℕ) (v : Verdict) → unless_fault o i v ≡ fine → (o ≡ None) × (v ≡ fine)
 unless-fine None i v e = (refl, e)
-unless-fine (Some f) i v e = let g : refused i f ≡ fine = e in cc
+unless-fine (Some f) i v e = cc
 
 rest-from : (xs : List Item) (i : ℕ) (known : Known) (fs : List Frame) → verdict_from i fs known (roles_of xs) ≡ fine
     → let p = parts_before xs no_parts in Rest fs xs p.definitions p.inner p.around
 rest-from [] i known [] e = nothing
-rest-from [] i known (f ∷ fs) e = let g : left_open ≡ fine = e in cc
+rest-from [] i known (f ∷ fs) e = cc
 rest-from (x ∷ xs) i known fs e =
     let seen = seen_at (role_of x) (top fs) known.inner in
     let h = unless-fine (fault_at (role_of x) (top fs) seen) i _ e in

@@ -8,21 +8,21 @@ use Rattle.std.proofs.lemmas.Bool.Decides.{Decides-like}
 use Rattle.std.proofs.lemmas.List.{length-append, take-append-le}
 use Rattle.std.proofs.lemmas.List.Elements.{Contains-append_left, Contains-append_right, Contains-append_cases}
 use Rattle.tmpl_syntax.specs.computed.Frames.{Frame}
-use Rattle.tmpl_syntax.specs.Place.Open.{opens, ends, IsOpening, NothingOpen, IsLast, IsElseOf, HasElse, is_template, IsTemplate}
+use Rattle.tmpl_syntax.specs.Place.Open.{opens, ends, NothingOpen, IsLast, HasElse, is_template, IsTemplate}
 use Rattle.tmpl_syntax.specs.Place.Body.{IsLoop, Levels}
 use Rattle.tmpl_syntax.specs.computed.Frames.{top, loops, in_loop, levels, entered, Known, with_inner, closed_if, closed_names}
 use Rattle.tmpl_syntax.proofs.FaultLemmas.{IsWithin, in-nothing}
-use Rattle.tmpl_syntax.proofs.OpenLemmas.{ups, downs, count-split, same-opening, same-piece, cut, Same, opened-keeps, opened_new}
+use Rattle.tmpl_syntax.proofs.OpenLemmas.{ups, downs, count-split, same-opening, cut, Same, opened-keeps, opened_new}
 use Rattle.tmpl_syntax.proofs.PlaceLemmas.{alike-back, alike-even, alike-opened, template-moves, template-opened, template-apart}
 use Rattle.tmpl_syntax.proofs.PlaceLemmas.{levels-same, levels-opened, InLoop, loop-moves, else_before, else-same, loop-same}
-use Rattle.tmpl_syntax.proofs.PlaceLemmas.{loop-same-back}
+use Rattle.tmpl_syntax.proofs.PlaceLemmas.{loop-same-back, has-before}
 use Rattle.tmpl_syntax.proofs.ScopeLemmas.{Brought, brought-same, brought-same-back, brought-opened, brought-header, brought-opened-back}
 use Rattle.tmpl_syntax.proofs.ElsePartLemmas.{Part, part-later, part-sooner}
 use Rattle.tmpl_syntax.specs.Place.Opening.{Opening}
 use Rattle.tmpl_syntax.specs.Place.Opening as opened
 use Rattle.tmpl_grammar.specs.declared.tree.Control.{Control}
 use Rattle.tmpl_grammar.specs.declared.tree.Control.TheVariants.{If, With, Range}
-use Rattle.tmpl_syntax.specs.Place.Role.{Name, Names, opener, bare_else, Role, act_role}
+use Rattle.tmpl_syntax.specs.Place.Role.{Name, Names, opener, Role, act_role}
 
 -- what the newest frame and the names say of the place i
 pub record Here (xs : List Role) (i : ℕ) (t : Option Frame) (names : List Name) : Type 0 where
@@ -34,15 +34,16 @@ pub record Here (xs : List Role) (i : ℕ) (t : Option Frame) (names : List Name
   pub back : (n : Name) → Brought xs i i n → Contains names n
 
 -- the frame stands for the opening at j, the last one open at i
-pub record Stood (xs : List Role) (i : ℕ) (names : List Name) (f : Frame) (j : ℕ) : Type 0 where
-  pub opened : IsOpening (slice_get xs j) f.opening
+pub record Stood (xs : List Role) (i : ℕ) (seen : List Name) (f : Frame) (j : ℕ) : Type 0 where
+  pub names : Names
+  pub opened : slice_get xs j ≡ Some (act_role (opener f.opening names))
   pub last : IsLast xs j i
   pub over : ups xs (j + 1) i ≡ downs xs (j + 1) i
   pub has : Decides f.has_else (HasElse xs j i)
   pub around : Decides f.around (InLoop xs j)
-  pub within : IsWithin f (length names)
-  pub to : is_template f.opening ≡ false → (n : Name) → Contains (take f.part names) n → Part xs j i n
-  pub back : is_template f.opening ≡ false → (n : Name) → Part xs j i n → Contains (take f.part names) n
+  pub within : IsWithin f (length seen)
+  pub to : is_template f.opening ≡ false → (n : Name) → Contains (take f.part seen) n → Part xs j i n
+  pub back : is_template f.opening ≡ false → (n : Name) → Part xs j i n → Contains (take f.part seen) n
 
 -- what is known again behind the end of the frame
 abbrev pub closed_at : Frame → Known → Known
@@ -83,6 +84,7 @@ module _ (xs : List Role) (j m : ℕ) (s : Same xs j m) (known : Known) (ds : Li
       let le = s.even.le in
       let e : take f.part (names ++ ds) ≡ take f.part names = take-append-le f.part names ds h.within.parted in
       record {
+        names = h.names;
         opened = h.opened;
         last = record { is_open = s.even.keeps q o; last = λ k qk ok. h.last.last k qk (s.even.only k ok) };
         over = omega (arith, h.over, s.even.balance, count-split opens xs (q + 1) j m (omega arith) le, count-split ends xs (q + 1) j m (omega arith) le);
@@ -90,7 +92,7 @@ module _ (xs : List Role) (j m : ℕ) (s : Same xs j m) (known : Known) (ds : Li
         around = h.around;
         within = record { started = h.within.started; parted = let p = h.within.parted in omega (arith, length-append names ds) };
         to = λ own n c. part-later xs q j m n le (h.to own n (subst (λ l. Contains l n) e c));
-        back = λ own n p. subst (λ l. Contains l n) (sym e) (h.back own n (part-sooner xs q j m n (λ k from to. s.no_branch q k from to o) p));
+        back = λ own n p. subst (λ l. Contains l n) (sym e) (h.back own n (part-sooner xs q j m n (λ b k from to. s.no_else b q k from to o) p));
       }
 
   pub stands-moves : (fs : List Frame) → Stands xs j known fs → Stands xs m (with_inner known (names ++ ds)) fs
@@ -101,39 +103,32 @@ module _ (xs : List Role) (j m : ℕ) (s : Same xs j m) (known : Known) (ds : Li
       (here-moves (Some f) h.0, h.1, stood-moves f h.1 h.2, subst (λ l. Stands xs h.1 (closed_if (is_template f.opening) (with_inner known l)) fs) (sym e) h.3)
 
 loops-template : (c : Opening) (has around : Bool) → is_template c ≡ true → loops c has around ≡ false
-loops-template (opened.control c) has around own = let g : false ≡ true = own in cc
+loops-template (opened.control c) has around own = cc
 loops-template _ has around own = refl
 
 -- an opening
 module _ (xs : List Role) (i : ℕ) (names : List Name) (c : Opening) (p : Names) (at : slice_get xs i ≡ Some (act_role (opener c p)))
-    (o : IsOpening (slice_get xs i) c) (t : Option Frame) (h : Here xs i t names) where
-  no-else-here : (q : ℕ) → IsElseOf xs q i → ⊥
-  no-else-here q e = let g : act_role (opener c p) ≡ act_role bare_else = same-piece xs i (act_role (opener c p)) (act_role bare_else) at e.at in cc
-
-  has-before : (q : ℕ) → HasElse xs q (i + 1) → HasElse xs q i
-  has-before q e = ⊎_elim (λ lt. (e.0, lt, e.2)) (λ ge. let g = e.1 in let s : e.0 ≡ i = omega arith in absurd (no-else-here q (subst (IsElseOf xs q) s e.2)))
-      (cases_lt e.0 i)
-
+    (t : Option Frame) (h : Here xs i t names) where
   none-of-it : HasElse xs i (i + 1) → ⊥
   none-of-it e = let a = e.1 in let b = e.2.belongs.is_open.before in omega arith
 
   loop-on : is_template c ≡ false → InLoop xs i → InLoop xs (i + 1)
   loop-on own l = (
     l.0,
-    loop-moves xs l.0 i (i + 1) (alike-opened xs (act_role (opener c p)) i c at refl o own)
-        (opened-keeps xs (act_role (opener c p)) i l.0 at refl l.1.0) (has-before l.0) l.1,
+    loop-moves xs l.0 i (i + 1) (alike-opened xs i c p at own)
+        (opened-keeps xs (act_role (opener c p)) i l.0 at refl l.1.0) (has-before xs (act_role (opener c p)) i at (λ g. cc) l.0) l.1,
   )
 
   loop-off : is_template c ≡ false → c ≢ opened.control Range → InLoop xs (i + 1) → InLoop xs i
   loop-off own nr l = ⊎_elim
       (λ lt. (
         l.0,
-        loop-moves xs l.0 (i + 1) i (alike-back xs i (i + 1) (alike-opened xs (act_role (opener c p)) i c at refl o own))
+        loop-moves xs l.0 (i + 1) i (alike-back xs i (i + 1) (alike-opened xs i c p at own))
             (cut xs l.0 i (i + 1) lt (omega arith) l.1.0) (else_before xs l.0 i (i + 1) (omega arith)) l.1,
       ))
       (λ ge. let b = l.1.0.before in let s : l.0 ≡ i = omega arith in
       let w : IsLoop xs i (i + 1) = subst (λ k. IsLoop xs k (i + 1)) s l.1 in
-      absurd (nr (same-opening xs i c w.0.opened o w.0.at ∙ w.1)))
+      absurd (nr (same-opening xs i c w.0.opened at w.0.at ∙ w.1)))
       (cases_lt l.0 i)
 
   module _ (own : is_template c ≡ false) where
@@ -141,39 +136,39 @@ module _ (xs : List Role) (i : ℕ) (names : List Name) (c : Opening) (p : Names
         → Here xs (i + 1) (Some (entered c p t (length names))) (names ++ p.declares)
     here-plain l d dl = record {
       template = h.template;
-      is_template_here = template-moves xs i (i + 1) (alike-opened xs (act_role (opener c p)) i c at refl o own) h.template h.is_template_here;
-      levels_are = levels-opened xs i (levels t) c p at o h.levels_are;
+      is_template_here = template-moves xs i (i + 1) (alike-opened xs i c p at own) h.template h.is_template_here;
+      levels_are = levels-opened xs i (levels t) c p at h.levels_are;
       looped = subst (λ b. Decides b (InLoop xs (i + 1))) dl d;
       to = λ n k. ⊎_elim
-          (λ l. brought-opened xs i n c p at o own (h.to n l))
-          (λ r. brought-header xs i n h.template c p at o own h.is_template_here r)
+          (λ l. brought-opened xs i n c p at own (h.to n l))
+          (λ r. brought-header xs i n h.template c p at own h.is_template_here r)
           (Contains-append_cases names p.declares n k);
       back = λ n b. ⊎_elim
           (λ old. Contains-append_left names p.declares n (h.back n old))
           (λ new. Contains-append_right names p.declares n new)
-          (brought-opened-back xs i n c p at o own b);
+          (brought-opened-back xs i n c p at own b);
     }
 
     new-loop : c ≡ opened.control Range → InLoop xs (i + 1)
     new-loop e =
-        let moved = template-moves xs i (i + 1) (alike-opened xs (act_role (opener c p)) i c at refl o own) h.template h.is_template_here in
-        (i, (opened_new xs i c o, e, (h.template, h.is_template_here, moved), none-of-it))
+        let moved = template-moves xs i (i + 1) (alike-opened xs i c p at own) h.template h.is_template_here in
+        (i, (opened_new xs i c p at, e, (h.template, h.is_template_here, moved), none-of-it))
 
     pub here-control : (d : Control) → c ≡ opened.control d → Here xs (i + 1) (Some (entered c p t (length names))) (names ++ p.declares)
     here-control If e = here-plain (in_loop t) (Decides-like (in_loop t) (loop-on own)
-        (loop-off own (λ r. let g : opened.control If ≡ opened.control Range = sym e ∙ r in cc)) h.looped) (ap (λ z. loops z false (in_loop t)) (sym e))
+        (loop-off own (λ r. cc)) h.looped) (ap (λ z. loops z false (in_loop t)) (sym e))
     here-control With e = here-plain (in_loop t) (Decides-like (in_loop t) (loop-on own)
-        (loop-off own (λ r. let g : opened.control With ≡ opened.control Range = sym e ∙ r in cc)) h.looped) (ap (λ z. loops z false (in_loop t)) (sym e))
+        (loop-off own (λ r. cc)) h.looped) (ap (λ z. loops z false (in_loop t)) (sym e))
     here-control Range e = here-plain true (λ g. new-loop e, λ l. refl) (ap (λ z. loops z false (in_loop t)) (sym e))
 
   -- in a template nothing is known, and no loop is around it
   pub here-template : is_template c ≡ true → Here xs (i + 1) (Some (entered c p t (length names))) []
   here-template own =
-      let body = template-opened xs i c o own in
+      let body = template-opened xs i c p at own in
       record {
         template = Some i;
         is_template_here = body;
-        levels_are = levels-opened xs i (levels t) c p at o h.levels_are;
+        levels_are = levels-opened xs i (levels t) c p at h.levels_are;
         looped = (
           λ e. let g : true ≡ false = sym e ∙ loops-template c false (in_loop t) own in cc,
           λ l. absurd (let lt = l.1.0.before in template-apart xs i l.0 (i + 1) body.0 (omega arith) l.1.2),

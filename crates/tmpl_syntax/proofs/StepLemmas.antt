@@ -1,31 +1,29 @@
--- For `one_verdict`: what stands after an opening, and where a further part of a control begins.
-use Rattle.std.proofs.Common.{arith, ◌≡◌, ◌≢◌, ℕ, ◌+◌, ◌<◌, ◌≤◌, Bool, true, false, List, [], ◌∷◌, ◌++◌, refl, sym, ap, ◌∙◌, subst, length}
+-- For `one_verdict`: what stands after an opening, an end, a declaration, and what changes no frame.
+use Rattle.std.proofs.Common.{arith, ◌≡◌, ◌≢◌, ℕ, ◌+◌, ◌<◌, ◌≤◌, true, false, List, [], ◌∷◌, ◌++◌, refl, sym, ◌∙◌, subst, length}
 use Rattle.std.proofs.Common.{take, Option, Some, inl, inr, ⊎_elim, ◌⊎◌}
 use Rattle.std.specs.Prelude.{slice_get, Contains}
-use Rattle.std.specs.Bool.{Decides}
-use Rattle.std.proofs.lemmas.Bool.{cases_order, cases_lt}
-use Rattle.std.proofs.lemmas.Bool.Decides.{Decides-like}
+use Rattle.std.proofs.lemmas.Bool.{cases_lt}
 use Rattle.std.proofs.lemmas.List.Elements.{Contains-append_left, Contains-append_right, Contains-append_cases}
-use Rattle.std.proofs.lemmas.List.{length-append, length-take-le, take-take, take_at, take_all, take-append-le}
+use Rattle.std.proofs.lemmas.List.{append-nil, length-append, take_at, take_all}
+use Rattle.tmpl_grammar.specs.declared.action.Branch.{Branch}
 use Rattle.tmpl_syntax.specs.computed.Frames.{Frame}
-use Rattle.tmpl_syntax.specs.Place.Open.{opens, ends, IsOpening, IsLast, HasElse, is_template}
-use Rattle.tmpl_syntax.specs.Place.Body.{IsLoop, Levels}
-use Rattle.tmpl_syntax.specs.computed.Frames.{top, loops, part_of, entered, Known, with_inner, closed_if, opened_names}
-use Rattle.tmpl_syntax.proofs.FaultLemmas.{IsWithin}
-use Rattle.tmpl_syntax.proofs.OpenLemmas.{count-split, count-none, same-opening, same-piece, cut, through, Even, shut-at, even-step, opened_new}
-use Rattle.tmpl_syntax.proofs.PlaceLemmas.{alike-back, alike-even, alike-last, template-moves, InLoop, loop-moves, else_before}
-use Rattle.tmpl_syntax.proofs.ScopeLemmas.{Reaches, Brought}
-use Rattle.tmpl_syntax.proofs.ElsePartLemmas.{Part, earlier, header, branch_header, part-later, IsPartAt, BroughtFrom, to-part, from-part}
-use Rattle.tmpl_syntax.proofs.StandLemmas.{Here, Stood, closed_at, Stands, here-of, here-control, here-template}
+use Rattle.tmpl_syntax.specs.Place.Open.{opens, ends, NothingOpen, IsLast, is_template}
+use Rattle.tmpl_syntax.specs.computed.Frames.{top, part_of, entered, Known, with_inner, opened_names}
+use Rattle.tmpl_syntax.proofs.FaultLemmas.{IsWithin, in-nothing}
+use Rattle.tmpl_syntax.proofs.OpenLemmas.{count-none, same-piece, cut, Same, shut-at, same-ended, same-still, opened_new}
+use Rattle.tmpl_syntax.proofs.PlaceLemmas.{alike-even, template-moves, no-else}
+use Rattle.tmpl_syntax.proofs.ScopeLemmas.{Reaches, from_top, from_inside, from_header, from_else_branch, Brought, wrong-piece, brought-late}
+use Rattle.tmpl_syntax.proofs.ElsePartLemmas.{Part, earlier, header, branch_header}
+use Rattle.tmpl_syntax.proofs.StandLemmas.{Here, Stood, closed_at, Stands, here-of, stands-moves, here-control, here-template}
 use Rattle.tmpl_syntax.specs.Place.Opening.{Opening}
 use Rattle.tmpl_syntax.specs.Place.Opening as opened
 use Rattle.tmpl_grammar.specs.declared.tree.Control.{Control}
 use Rattle.tmpl_grammar.specs.declared.tree.Control.TheVariants.{If, With, Range}
-use Rattle.tmpl_syntax.specs.Place.Role.{Name, Names, opener, bare_else, Role, act_role}
+use Rattle.tmpl_syntax.specs.Place.Role.{Name, Names, plain, opener, else_part, closer, Role, act_role}
 
 -- after an opening
 module _ (xs : List Role) (i : ℕ) (names : List Name) (c : Opening) (p : Names) (at : slice_get xs i ≡ Some (act_role (opener c p)))
-    (o : IsOpening (slice_get xs i) c) (t : Option Frame) (h : Here xs i t names) where
+    (t : Option Frame) (h : Here xs i t names) where
   not-after : {A : Type 0} → (k : ℕ) → k < i + 1 → IsLast xs i k → A
   not-after k lt l = let b = l.is_open.before in absurd (omega arith)
 
@@ -36,7 +34,7 @@ module _ (xs : List Role) (i : ℕ) (names : List Name) (c : Opening) (p : Names
       let gp : p ≡ q = cc in
       let gc : c ≡ d = cc in
       inr (subst (λ z. Contains z.declares n) (sym gp) k, λ z. r (sym gc ∙ z))
-  part-new n (branch_header lt e k l) = not-after _ lt l
+  part-new n (branch_header lt e k) = not-after _ lt e.belongs
 
   -- an else part sees no fewer names than there were before, and no more than there are in the body
   part-above : (d : Control) → length names ≤ part_of d (length names) (length names + length p.declares)
@@ -66,8 +64,8 @@ module _ (xs : List Role) (i : ℕ) (names : List Name) (c : Opening) (p : Names
 
   part-first : (d : Control) → c ≡ opened.control d → (n : Name)
       → Contains (take (part_of d (length names) (length names + length p.declares)) (names ++ p.declares)) n → Part xs i (i + 1) n
-  part-first If e n k = part-wide (λ r. let g : opened.control If ≡ opened.control Range = sym e ∙ r in cc) n k
-  part-first With e n k = part-wide (λ r. let g : opened.control With ≡ opened.control Range = sym e ∙ r in cc) n k
+  part-first If e n k = part-wide (λ r. cc) n k
+  part-first With e n k = part-wide (λ r. cc) n k
   part-first Range e n k =
       let s : take (length names) (names ++ p.declares) ≡ names = take_at names p.declares (length names) refl in
       earlier (h.to n (subst (λ l. Contains l n) s k))
@@ -84,10 +82,11 @@ module _ (xs : List Role) (i : ℕ) (names : List Name) (c : Opening) (p : Names
       → (is_template c ≡ false → (n : Name) → Part xs i (i + 1) n → Contains (take (entered c p t (length names)).part ns) n)
       → Stood xs (i + 1) ns (entered c p t (length names)) i
   stood-opened ns within to back = record {
-    opened = o;
-    last = record { is_open = opened_new xs i c o; last = λ k lt b. let g = b.before in omega arith };
+    names = p;
+    opened = at;
+    last = record { is_open = opened_new xs i c p at; last = λ k lt b. let g = b.before in omega arith };
     over = omega (arith, count-none opens xs (i + 1), count-none ends xs (i + 1));
-    has = (λ e. let g : true ≡ false = sym e in cc, λ e. let a = e.1 in let b = e.2.belongs.is_open.before in absurd (omega arith));
+    has = (λ e. cc, λ e. let a = e.1 in let b = e.2.belongs.is_open.before in absurd (omega arith));
     around = h.looped;
     within = within;
     to = to;
@@ -99,17 +98,16 @@ module _ (xs : List Role) (i : ℕ) (known : Known) (p : Names) (fs : List Frame
       → Stands xs (i + 1) (opened_names (opened.control d) p.declares known) (entered (opened.control d) p (top fs) (length known.inner) ∷ fs)
   control-opened d at =
       let c = opened.control d in
-      let o : IsOpening (slice_get xs i) c = subst (λ z. IsOpening z c) (sym at) refl in
       let h = here-of xs i known fs s in (
-        here-control xs i known.inner c p at o (top fs) h refl d refl,
+        here-control xs i known.inner c p at (top fs) h refl d refl,
         i,
-        stood-opened xs i known.inner c p at o (top fs) h (known.inner ++ p.declares)
+        stood-opened xs i known.inner c p at (top fs) h (known.inner ++ p.declares)
             (record {
-              started = part-above xs i known.inner c p at o (top fs) h d;
-              parted = let b = part-below xs i known.inner c p at o (top fs) h d in omega (arith, length-append known.inner p.declares);
+              started = part-above xs i known.inner c p at (top fs) h d;
+              parted = let b = part-below xs i known.inner c p at (top fs) h d in omega (arith, length-append known.inner p.declares);
             })
-            (λ own n k. part-first xs i known.inner c p at o (top fs) h d refl n k)
-            (λ own n k. part-first-back xs i known.inner c p at o (top fs) h d refl n k),
+            (λ own n k. part-first xs i known.inner c p at (top fs) h d refl n k)
+            (λ own n k. part-first-back xs i known.inner c p at (top fs) h d refl n k),
         subst (λ l. Stands xs i (with_inner known l) fs) (sym (take_at known.inner p.declares (length known.inner) refl)) s,
       )
 
@@ -117,11 +115,10 @@ module _ (xs : List Role) (i : ℕ) (known : Known) (p : Names) (fs : List Frame
       → slice_get xs i ≡ Some (act_role (opener c p))
       → Here xs (i + 1) (Some (entered c p (top fs) (length known.inner))) [] × Stood xs (i + 1) [] (entered c p (top fs) (length known.inner)) i
   template-opened c own within at =
-      let o : IsOpening (slice_get xs i) c = subst (λ z. IsOpening z c) (sym at) refl in
       let h = here-of xs i known fs s in (
-        here-template xs i known.inner c p at o (top fs) h own,
-        stood-opened xs i known.inner c p at o (top fs) h [] within
-            (λ none. let g : true ≡ false = sym own ∙ none in cc) (λ none. let g : true ≡ false = sym own ∙ none in cc),
+        here-template xs i known.inner c p at (top fs) h own,
+        stood-opened xs i known.inner c p at (top fs) h [] within
+            (λ none. cc) (λ none. cc),
       )
 
   -- in a template nothing is known, and behind it what is known here
@@ -133,131 +130,69 @@ module _ (xs : List Role) (i : ℕ) (known : Known) (p : Names) (fs : List Frame
   stands-opened opened.block at =
       let t = template-opened opened.block refl (record { started = omega arith; parted = omega arith }) at in (t.0, i, t.1, s)
 
--- after an else or else if
-abbrev pub changed : Frame → Bool → ℕ → List Name → Frame
-changed f has lv ds = record f { has_else = has; levels = lv; part = f.part + length ds }
+pub stands-ended : (xs : List Role) (i : ℕ) (known : Known) (f : Frame) (fs : List Frame) → slice_get xs i ≡ Some (act_role closer)
+    → Stands xs i known (f ∷ fs) → Stands xs (i + 1) (closed_at f known) fs
+stands-ended xs i known f fs at s =
+    let same = same-ended xs s.1 i s.2.last s.2.over at in
+    let back = closed_at f known in
+    subst (λ l. Stands xs (i + 1) (with_inner back l) fs) (append-nil back.inner)
+    (stands-moves xs s.1 (i + 1) same back [] (λ n c. in-nothing n c)
+    (λ n b ge. absurd (brought-late xs s.1 (i + 1) n b.by same ge b.before b.reaches (λ p e c o. ⊎_elim
+    (λ lt. let open_at = cut xs s.1 b.by i lt (let u = b.before in omega arith) s.2.last.is_open in
+    ⊎_elim (λ z. z s.1 open_at) (λ q. q.1.last s.1 q.2.before open_at) o)
+    (λ le. let m : b.by ≡ s.1 = omega arith in shut-at xs (act_role (plain p)) s.1 i (subst (λ z. slice_get xs z ≡ Some (act_role (plain p))) m e) refl
+    s.2.last.is_open)
+    (cases_lt s.1 b.by))))
+    fs s.3)
 
-module _ (xs : List Role) (i : ℕ) (known : Known) (f : Frame) (fs : List Frame) (s : Stands xs i known (f ∷ fs)) (x : Role) (at : slice_get xs i ≡ Some x)
-    (shut : opens x ≡ false) (no_end : ends x ≡ false) (part : IsPartAt xs s.1 i) (own : is_template f.opening ≡ false) where
-  abbrev names : List Name
-  names = known.inner
+-- what is open last, if anything is
+pub last-of : (xs : List Role) (i : ℕ) (known : Known) (fs : List Frame) → Stands xs i known fs → NothingOpen xs i ⊎ ((j : ℕ) × IsLast xs j i)
+last-of xs i known [] s = inl s.0
+last-of xs i known (f ∷ fs) s = inr (s.1, s.2.last)
 
-  even : Even xs i (i + 1)
-  even = even-step xs x i at shut no_end
+pub stands-declared : (xs : List Role) (i : ℕ) (known : Known) (p : Names) (fs : List Frame) → slice_get xs i ≡ Some (act_role (plain p))
+    → Stands xs i known fs → Stands xs (i + 1) (with_inner known (known.inner ++ p.declares)) fs
+stands-declared xs i known p fs at s = stands-moves xs i (i + 1) same known p.declares new
+    (λ n b ge. let u = b.before in let e : b.by ≡ i = omega arith in old n (subst (λ k. Reaches xs k (i + 1) (i + 1) n) e b.reaches)) fs s
+  where
+    same : Same xs i (i + 1)
+    same = same-still xs (act_role (plain p)) i at refl refl (λ b g. cc)
 
-  last-after : IsLast xs s.1 (i + 1)
-  last-after = record { is_open = even.keeps s.1 s.2.last.is_open; last = λ k lt o. s.2.last.last k lt (even.only k o) }
+    h : Here xs i (top fs) known.inner
+    h = here-of xs i known fs s
 
-  own-after : is_template last-after.is_open.opened ≡ false
-  own-after = ap is_template (same-opening xs s.1 last-after.is_open.opened f.opening last-after.is_open.at s.2.opened) ∙ own
+    reaches : (n : Name) → Contains p.declares n → Reaches xs i (i + 1) (i + 1) n
+    reaches n c = ⊎_elim (λ z. from_top at c z) (λ l. from_inside at c l.1 (same.even.keeps l.0 l.1.is_open) (λ m d from to e. omega arith))
+        (last-of xs i known fs s)
 
-  low : s.1 < i
-  low = s.2.last.is_open.before
-
-  below-here : Here xs s.1 (top fs) (closed_at f known).inner
-  below-here = here-of xs s.1 (closed_at f known) fs s.3
-
-  -- a loop around the opening is one around its else part
-  loop-in : InLoop xs s.1 → InLoop xs (i + 1)
-  loop-in l = let lt = l.1.0.before in (
-    l.0,
-    loop-moves xs l.0 s.1 (i + 1) (alike-last xs s.1 (i + 1) last-after own-after) (through xs l.0 s.1 (i + 1) l.1.0 last-after.is_open)
-        (λ has. ⊎_elim (λ b. (has.0, b, has.2))
-        (λ ge. absurd (⊎_elim
-        (λ gt. has.2.belongs.last s.1 lt (cut xs s.1 has.0 (i + 1) gt (let u = has.1 in omega arith) last-after.is_open))
-        (λ le. let e : has.0 ≡ s.1 = omega arith in shut-at xs (act_role bare_else) s.1 i (subst (λ z. slice_get xs z ≡ Some (act_role bare_else)) e has.2.at)
-        refl s.2.last.is_open)
-        (cases_lt s.1 has.0)))
-        (cases_lt has.0 s.1)) l.1,
-  )
-
-  loop-out : (f.opening ≡ opened.control Range → HasElse xs s.1 (i + 1)) → InLoop xs (i + 1) → InLoop xs s.1
-  loop-out ranged l = ⊎_elim
-      (λ e. let w : IsLoop xs s.1 (i + 1) = subst (λ k. IsLoop xs k (i + 1)) e l.1 in
-      absurd (w.3 (ranged (same-opening xs s.1 f.opening w.0.opened s.2.opened w.0.at ∙ w.1))))
-      (λ o. ⊎_elim
-      (λ lt. (
-        l.0,
-        loop-moves xs l.0 (i + 1) s.1 (alike-back xs s.1 (i + 1) (alike-last xs s.1 (i + 1) last-after own-after))
-            (cut xs l.0 s.1 (i + 1) lt (let z = low in omega arith) l.1.0) (else_before xs l.0 s.1 (i + 1) (let z = low in omega arith)) l.1,
-      ))
-      (λ gt. absurd (last-after.last l.0 gt l.1.0)) o)
-      (cases_order l.0 s.1)
-
-  module _ (has : Bool) (lv : ℕ) (ds : List Name) (leveled : Levels xs (i + 1) (i + 1) lv) (has_is : Decides has (HasElse xs s.1 (i + 1)))
-      (ranged : f.opening ≡ opened.control Range → HasElse xs s.1 (i + 1)) (looped : loops f.opening has f.around ≡ f.around)
-      (new : (n : Name) → Contains ds n → Reaches xs i (i + 1) (i + 1) n) (old : (n : Name) → Reaches xs i (i + 1) (i + 1) n → Contains ds n)
-      (new_part : (n : Name) → Contains ds n → Part xs s.1 (i + 1) n) (old_part : (n : Name) → Part xs s.1 (i + 1) n → Part xs s.1 i n ⊎ Contains ds n) where
-    front : length (take f.part names) ≡ f.part
-    front = length-take-le f.part names s.2.within.parted
-
-    ranged-last : last-after.is_open.opened ≡ opened.control Range → HasElse xs s.1 (i + 1)
-    ranged-last e = ranged (same-opening xs s.1 f.opening last-after.is_open.opened s.2.opened last-after.is_open.at ∙ e)
-
-    seen : (n : Name) → Part xs s.1 i n → BroughtFrom xs i (i + 1) (i + 1) n
-    seen n k = from-part xs s.1 i (i + 1) (i + 1) last-after own-after part low (omega arith) (omega arith) (omega arith) ranged-last below-here.template
-        below-here.is_template_here n k
-
-    here-parted : Here xs (i + 1) (Some (changed f has lv ds)) (take f.part names ++ ds)
-    here-parted = record {
-      template = s.0.template;
-      is_template_here = template-moves xs i (i + 1) (alike-even xs i (i + 1) even) s.0.template s.0.is_template_here;
-      levels_are = leveled;
-      looped = subst (λ b. Decides b (InLoop xs (i + 1))) (sym looped) (Decides-like f.around loop-in (loop-out ranged) s.2.around);
-      to = λ n k. ⊎_elim
-          (λ l. let b = seen n (s.2.to own n l) in record { by = b.by; before = let lt = b.before in omega arith; template = b.template; reaches = b.reaches })
-          (λ r. record {
-            by = i;
-            before = omega arith;
-            template = (
-              s.0.template,
-              s.0.is_template_here,
-              template-moves xs i (i + 1)
-                  (alike-even xs i (i + 1) even) s.0.template s.0.is_template_here,
-            );
-            reaches = new n r;
-          })
-          (Contains-append_cases (take f.part names) ds n k);
-      back = λ n b. ⊎_elim
-          (λ lt. Contains-append_left (take f.part names) ds n (s.2.back own n
-          (to-part xs s.1 i (i + 1) (i + 1) last-after own-after part low (omega arith) (omega arith) (omega arith) ranged-last n
-          (record { by = b.by; before = lt; template = b.template; reaches = b.reaches }))))
-          (λ ge. let u = b.before in let e : b.by ≡ i = omega arith in Contains-append_right (take f.part names) ds n
-          (old n (subst (λ k. Reaches xs k (i + 1) (i + 1) n) e b.reaches)))
-          (cases_lt b.by i);
-    }
-
-    whole : take (f.part + length ds) (take f.part names ++ ds) ≡ take f.part names ++ ds
-    whole = take_all (f.part + length ds) (take f.part names ++ ds) (omega (arith, front, length-append (take f.part names) ds))
-
-    stood-parted : Stood xs (i + 1) (take f.part names ++ ds) (changed f has lv ds) s.1
-    stood-parted = record {
-      opened = s.2.opened;
-      last = last-after;
-      over = let z = low in omega (
-        arith,
-        s.2.over,
-        even.balance,
-        count-split opens xs (s.1 + 1) i (i + 1) (omega arith) (omega arith),
-        count-split ends xs
-            (s.1 + 1) i (i + 1) (omega arith) (omega arith),
+    new : (n : Name) → Contains p.declares n → Brought xs (i + 1) (i + 1) n
+    new n c = record {
+      by = i;
+      before = omega arith;
+      template = (
+        h.template,
+        h.is_template_here,
+        template-moves xs i (i + 1) (alike-even xs i (i + 1) same.even)
+            h.template h.is_template_here,
       );
-      has = has_is;
-      around = s.2.around;
-      within = record { started = let a = s.2.within.started in omega arith; parted = omega (arith, front, length-append (take f.part names) ds) };
-      to = λ o n k. ⊎_elim
-          (λ l. part-later xs s.1 i (i + 1) n (omega arith) (s.2.to own n l))
-          (λ r. new_part n r)
-          (Contains-append_cases (take f.part names) ds n (subst (λ l. Contains l n) whole k));
-      back = λ o n k. subst (λ l. Contains l n) (sym whole) (⊎_elim
-          (λ l. Contains-append_left (take f.part names) ds n (s.2.back own n l))
-          (λ r. Contains-append_right (take f.part names) ds n r)
-          (old_part n k));
+      reaches = reaches n c;
     }
 
-    below : take f.start (take f.part names ++ ds) ≡ take f.start names
-    below =
-        take-append-le f.start (take f.part names) ds (let a = s.2.within.started in omega (arith, front)) ∙ take-take f.start f.part names s.2.within.started
+    same-pipe : (q : Names) → slice_get xs i ≡ Some (act_role (plain q)) → p ≡ q
+    same-pipe q e = cc
 
-    pub stands-parted : Stands xs (i + 1) (with_inner known (take f.part names ++ ds)) (changed f has lv ds ∷ fs)
-    stands-parted = (here-parted, s.1, stood-parted, subst (λ l. Stands xs s.1 (closed_if (is_template f.opening) (with_inner known l)) fs) (sym below) s.3)
+    old : (n : Name) → Reaches xs i (i + 1) (i + 1) n → Contains p.declares n
+    old n (from_top {p = q} e c z) = subst (λ z. Contains z.declares n) (sym (same-pipe q e)) c
+    old n (from_inside {p = q} e c l o ne) = subst (λ z. Contains z.declares n) (sym (same-pipe q e)) c
+    old n (from_header {c = d} {p = q} e c o r) = cc
+    old n (from_else_branch {c = d} {p = q} {j = j} e c o) = absurd (no-else xs (act_role (plain p)) i at (λ b g. cc) (Some (d, q)) j e)
+
+pub stands-still : (xs : List Role) (i : ℕ) (known : Known) (x : Role) (fs : List Frame) → slice_get xs i ≡ Some x → opens x ≡ false
+    → ends x ≡ false → ((p : Names) → x ≢ act_role (plain p)) → ((c : Opening) (p : Names) → x ≢ act_role (opener c p))
+    → ((b : Option (Branch × Names)) → x ≢ act_role (else_part b)) → Stands xs i known fs → Stands xs (i + 1) known fs
+stands-still xs i known x fs at o e np nopen nt s =
+    subst (λ l. Stands xs (i + 1) (with_inner known l) fs) (append-nil known.inner)
+    (stands-moves xs i (i + 1) (same-still xs x i at o e nt) known [] (λ n c. in-nothing n c)
+    (λ n b ge. let u = b.before in let m : b.by ≡ i = omega arith in absurd (wrong-piece xs i (i + 1) (i + 1) n x at np nopen nt
+    (subst (λ k. Reaches xs k (i + 1) (i + 1) n) m b.reaches)))
+    fs s)

@@ -23,13 +23,12 @@ module _ (old : List Template) (file : Bor (List ℕ)) (bytes : List ℕ) (new :
   before-with (Ok u) is = λ set go. same-before old file.now bytes set go new is
   before-with (Err r) (same, is) = λ set go. only-memory old file.now bytes set go r.line (reason_of r.kind) is
 
-  module _ (result : Result (Unit {0}) ParseFault) (r : Result (Unit {0}) held.Refusal) (e : result ≡ with_file file r) (is : IsAdded old file.now bytes new r)
-    where
-      pub reading-added : IsReading old file bytes new result
-      reading-added = subst (IsReading old file bytes new) (sym e) (reading-with r is)
+  -- what the three clauses say
+  pub record Added (result : Result (Unit {0}) ParseFault) : Type 0 where
+    pub reading : IsReading old file bytes new result
+    pub value : IsParse old file bytes new result
+    pub before : IsAsBefore old file bytes new result
 
-      pub parse-added : IsParse old file bytes new result
-      parse-added = subst (IsParse old file bytes new) (sym e) (parse-with r is)
-
-      pub before-added : IsAsBefore old file bytes new result
-      before-added = subst (IsAsBefore old file bytes new) (sym e) (before-with r is)
+  pub added : (result : Result (Unit {0}) ParseFault) (r : Result (Unit {0}) held.Refusal) → result ≡ with_file file r → IsAdded old file.now bytes new r
+      → Added result
+  added result r e is = subst Added (sym e) (record { reading = reading-with r is; value = parse-with r is; before = before-with r is })

@@ -1,6 +1,7 @@
 -- The pieces of a file with each action read: what they are read as, by the grammar of actions and the limit of
 -- parentheses.
-use Rattle.std.specs.Prelude.{◌≡◌, ◌≤◌, ◌<◌, ℕ, true, false, List, [], ◌∷◌, Option}
+use Rattle.std.specs.Prelude.{◌≡◌, ◌≤◌, ◌<◌, ℕ, true, false, List, Option}
+use Rattle.std.specs.List.{AllZip}
 use Rattle.tmpl_lex.specs.Cut.{Cuts}
 use Rattle.tmpl_lex.specs.Piece.{Token, Piece, text, action, unreadable}
 use Rattle.tmpl_grammar.specs.Action.{Action, branch_in, SpellsAction}
@@ -38,12 +39,6 @@ pub data IsItem (branches : Branches) : Piece → Item → Type 0 where
       → SpellsAction a ts → has_action branches a ≡ true → depth_of a ≤ most_deep
       → IsItem branches (action line ts) (item line (action_item a))
 
--- the pieces are read as these items, one by one
-pub data AreItems (branches : Branches) : List Piece → List Item → Type 0 where
-  no_item : AreItems branches [] []
-  an_item : {p : Piece} {x : Item} {ps : List Piece} {xs : List Item}
-      → IsItem branches p x → AreItems branches ps xs → AreItems branches (p ∷ ps) (x ∷ xs)
-
--- a file of these bytes is cut into pieces that are read as these items
+-- a file of these bytes is cut into pieces that are read as these items, one by one
 abbrev pub HasItems : Branches → List ℕ → List Item → Type 0
-HasItems branches bytes items = (ps : List Piece) × Cuts false 1 bytes ps × AreItems branches ps items
+HasItems branches bytes items = (ps : List Piece) × Cuts false 1 bytes ps × AllZip (IsItem branches) ps items

@@ -68,22 +68,22 @@ pub record IsAccepted (branches : Branches) (old : List Template) (file bytes : 
   pub once : NoneSecond (all_defined file definitions own)
   pub set : new ≡ defined_each old (map (template_in file) (all_defined file definitions own))
 
--- the item at a place is the first that is refused, for this reason, and this is its line
-abbrev pub IsRefusedAt : List Item → ℕ → Reason → Type 0
-IsRefusedAt items line why =
+-- these items of a file are refused at this line, for this reason: something is open at their end, they spell a second
+-- definition, or the item at a place is the first that is refused, for this reason, and this is its line
+abbrev pub AreRefused : List ℕ → List ℕ → List Item → ℕ → Reason → Type 0
+AreRefused file bytes items line open_at_end = Judged (roles_of items) left_open × (line ≡ last_line bytes)
+AreRefused file bytes items line second_definition =
+    Judged (roles_of items) fine × (ds : List Definition) × (own : Nodes) × Spells items ds own
+    × HasSecond (all_defined file ds own) line
+AreRefused file bytes items line why =
     (i : ℕ) × (what : ItemKind) × Judged (roles_of items) (refused i why) × (slice_get items i ≡ Some (item line what))
 
 -- a file of this path and these bytes is refused at this line, for this reason
 abbrev pub IsRefusedBy : Branches → List ℕ → List ℕ → ℕ → Reason → Type 0
 IsRefusedBy branches file bytes line too_long = (most_bytes < length bytes) × (line ≡ 1)
-IsRefusedBy branches file bytes line open_at_end =
+IsRefusedBy branches file bytes line why =
     (length bytes ≤ most_bytes) × (items : List Item) × HasItems branches bytes items
-    × Judged (roles_of items) left_open × (line ≡ last_line bytes)
-IsRefusedBy branches file bytes line second_definition =
-    (length bytes ≤ most_bytes) × (items : List Item) × HasItems branches bytes items × Judged (roles_of items) fine
-    × (ds : List Definition) × (own : Nodes) × Spells items ds own × HasSecond (all_defined file ds own) line
-IsRefusedBy branches file bytes line reason =
-    (length bytes ≤ most_bytes) × (items : List Item) × HasItems branches bytes items × IsRefusedAt items line reason
+    × AreRefused file bytes items line why
 
 -- the line and the reason of a refusal
 abbrev pub Refusal : Type 0

@@ -2,7 +2,7 @@
 -- own rule. That a blank definition replaces no body is from the documentation of Go's `Template.Parse`.
 use Rattle.std.specs.Prelude.{ℕ, Bool, true, false, ◌&&◌, List, [], ◌∷◌, Option, find, position, option_map}
 use Rattle.std.specs.Prelude.{if◌then◌else◌}
-use Rattle.std.specs.List.{list_all}
+use Rattle.std.specs.List.{fold, list_all}
 use Rattle.std.specs.Str.{bytes_eq}
 use Rattle.core.specs.declared.hash.sip.DefaultHasher.{DefaultHasher}
 use Rattle.core.specs.Hash.DefaultHasher.{with_keys}
@@ -48,8 +48,7 @@ defined (t ∷ ts) name tree =
 
 -- .. after definitions, one by one
 abbrev pub defined_each : List Template → List Template → List Template
-defined_each set [] = set
-defined_each set (t ∷ ts) = defined_each (defined set t.0 t.1) ts
+defined_each set ts = fold (λ before t. defined before t.0 t.1) set ts
 
 -- what a set writes each name to, from its two keys
 abbrev pub first_hasher : NameHash → DefaultHasher

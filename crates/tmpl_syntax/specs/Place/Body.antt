@@ -1,6 +1,6 @@
 -- The first refused action of a file, and why it is refused.
 use Rattle.std.specs.Prelude.{◌≡◌, ℕ, suc, ◌<◌, ◌≤◌, Bool, true, false, List}
-use Rattle.std.specs.Prelude.{length, slice_get, Option, Some, Contains}
+use Rattle.std.specs.Prelude.{length, slice_get, Option, Some, None, Contains}
 use Rattle.tmpl_grammar.specs.declared.action.Branch.{Branch}
 use Rattle.tmpl_grammar.specs.declared.action.Branch.TheVariants.{If as if_branch, With as with_branch}
 use Rattle.tmpl_syntax.specs.Place.Opening.{Opening}
@@ -8,38 +8,34 @@ use Rattle.tmpl_syntax.specs.Place.Opening as opened
 use Rattle.tmpl_grammar.specs.declared.tree.Control.TheVariants.{If, With, Range}
 use Rattle.tmpl_syntax.specs.Fault as reason
 use Rattle.tmpl_syntax.specs.Fault.{Reason, rank}
-use Rattle.tmpl_syntax.specs.Place.Role.{Name, Names, no_names, Act, plain, opener, bare_else, branch_else}
+use Rattle.tmpl_syntax.specs.Place.Role.{Name, Names, no_names, Act, plain, opener, else_part}
 use Rattle.tmpl_syntax.specs.Place.Role.{closer, jump, nested, Role, unreadable_role, unread_role, act_role}
-use Rattle.tmpl_syntax.specs.Place.Open.{IsOpen, NothingOpen, IsLast, IsElseBranchOf}
-use Rattle.tmpl_syntax.specs.Place.Open.{HasElse, is_template, OfOneTemplate}
+use Rattle.tmpl_syntax.specs.Place.Open.{IsOpen, NothingOpen, IsLast, IsElseOf, HasElse, OfOneTemplate}
 use Rattle.tmpl_syntax.specs.Place.Scope.{IsInScope}
 
--- an `else if` stands in an `if` alone, and an `else with` in a `with`
-abbrev pub joins : Branch → Opening → Bool
-joins if_branch (opened.control If) = true
-joins with_branch (opened.control With) = true
+-- an else stands in a control, an `else if` in an `if` alone, and an `else with` in a `with`
+abbrev pub joins : Option Branch → Opening → Bool
+joins None (opened.control c) = true
+joins (Some if_branch) (opened.control If) = true
+joins (Some with_branch) (opened.control With) = true
 joins b c = false
 
--- an else may stand at i: the last opening open there is that of a control, and has no else yet
-abbrev pub TakesElse : List Role → ℕ → Type 0
-TakesElse xs i = (j : ℕ) × (l : IsLast xs j i) × (is_template l.is_open.opened ≡ false) × (HasElse xs j i → ⊥)
-
--- .. and one that begins so
-abbrev pub TakesBranch : List Role → Branch → ℕ → Type 0
-TakesBranch xs b i = (t : TakesElse xs i) × (joins b t.1.is_open.opened ≡ true)
+-- an else that begins so may stand at i: it joins the last opening open there, which has no plain else yet
+abbrev pub TakesElse : List Role → Option Branch → ℕ → Type 0
+TakesElse xs b i = (j : ℕ) × (l : IsLast xs j i) × (joins b l.is_open.opened ≡ true) × (HasElse xs j i → ⊥)
 
 -- a range of the template of i that is open at i with no else of its own before i
 abbrev pub IsLoop : List Role → ℕ → ℕ → Type 0
 IsLoop xs j i =
     (o : IsOpen xs j i) × (o.opened ≡ opened.control Range) × OfOneTemplate xs j i × (HasElse xs j i → ⊥)
 
--- out of place is a define at which something is open; an else or else branch that may not stand there; an end at which
--- nothing is open; a break or continue in no range's body
+-- out of place is a define at which something is open; an else that may not stand there; an end at which nothing is
+-- open; a break or continue in no range's body
 abbrev pub IsMisplaced : List Role → ℕ → Act → Type 0
 IsMisplaced xs i (opener opened.define p) = (j : ℕ) × IsOpen xs j i
-IsMisplaced xs i bare_else = TakesElse xs i → ⊥
-IsMisplaced xs i (branch_else b p) = TakesBranch xs b i → ⊥
-IsMisplaced xs i (nested (Some b)) = TakesBranch xs b i → ⊥
+IsMisplaced xs i (else_part None) = TakesElse xs None i → ⊥
+IsMisplaced xs i (else_part (Some (b, p))) = TakesElse xs (Some b) i → ⊥
+IsMisplaced xs i (nested (Some b)) = TakesElse xs (Some b) i → ⊥
 IsMisplaced xs i closer = NothingOpen xs i
 IsMisplaced xs i jump = (j : ℕ) → IsLoop xs j i → ⊥
 IsMisplaced xs i a = ⊥
@@ -52,7 +48,8 @@ is_level c = true
 -- a level is an open if, with, range or block, or an else branch that belongs to an open one
 pub data IsLevel (xs : List Role) (k i : ℕ) : Type 0 where
   of_opening : (o : IsOpen xs k i) → is_level o.opened ≡ true → IsLevel xs k i
-  of_else_branch : {j : ℕ} → IsElseBranchOf xs j k → (o : IsOpen xs j i) → is_level o.opened ≡ true → IsLevel xs k i
+  of_else_branch : {b : Branch × Names} {j : ℕ} → IsElseOf xs (Some b) j k → (o : IsOpen xs j i)
+      → is_level o.opened ≡ true → IsLevel xs k i
 
 -- of the places before m, n are levels at i
 pub data Levels (xs : List Role) (i : ℕ) : ℕ → ℕ → Type 0 where
@@ -64,13 +61,13 @@ pub data Levels (xs : List Role) (i : ℕ) : ℕ → ℕ → Type 0 where
 abbrev pub names_in : Act → Names
 names_in (plain p) = p
 names_in (opener c p) = p
-names_in (branch_else b p) = p
+names_in (else_part (Some (b, p))) = p
 names_in a = no_names
 
 -- an opening that is a level, or an else branch
 abbrev pub opens_level : Act → Bool
 opens_level (opener c p) = is_level c
-opens_level (branch_else b p) = true
+opens_level (else_part (Some b)) = true
 opens_level a = false
 
 -- the most levels that may stand

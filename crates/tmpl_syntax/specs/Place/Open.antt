@@ -4,13 +4,8 @@ use Rattle.std.specs.Prelude.{count_by, slice_get, slice_range, Option, Some, No
 use Rattle.tmpl_grammar.specs.declared.action.Branch.{Branch}
 use Rattle.tmpl_syntax.specs.Place.Opening.{Opening}
 use Rattle.tmpl_syntax.specs.Place.Opening as opened
-use Rattle.tmpl_syntax.specs.Place.Role.{Names, opener, bare_else, branch_else, closer}
+use Rattle.tmpl_syntax.specs.Place.Role.{Names, opener, else_part, closer}
 use Rattle.tmpl_syntax.specs.Place.Role.{Role, act_role}
-
--- an opening is an if, with, range, define or block
-abbrev pub IsOpening : Option Role → Opening → Type 0
-IsOpening (Some (act_role (opener d p))) c = d ≡ c
-IsOpening x c = ⊥
 
 abbrev pub opens : Role → Bool
 opens (act_role (opener c p)) = true
@@ -20,10 +15,12 @@ abbrev pub ends : Role → Bool
 ends (act_role closer) = true
 ends x = false
 
--- the opening at j is open at a later i if no front of the stretch strictly between them has more ends than openings
+-- the opening at j, an if, with, range, define or block, is open at a later i if no front of the stretch strictly
+-- between them has more ends than openings
 pub record IsOpen (xs : List Role) (j i : ℕ) : Type 0 where
   pub opened : Opening
-  pub at : IsOpening (slice_get xs j) opened
+  pub names : Names
+  pub at : slice_get xs j ≡ Some (act_role (opener opened names))
   pub before : j < i
   pub fronts : (n : ℕ) → j < n → n ≤ i
       → count_by ends (slice_range xs (j + 1) n) ≤ count_by opens (slice_range xs (j + 1) n)
@@ -36,21 +33,14 @@ pub record IsLast (xs : List Role) (j i : ℕ) : Type 0 where
   pub is_open : IsOpen xs j i
   pub last : (k : ℕ) → j < k → IsOpen xs k i → ⊥
 
--- an else belongs to the last opening open at it
-pub record IsElseOf (xs : List Role) (j k : ℕ) : Type 0 where
-  pub at : slice_get xs k ≡ Some (act_role bare_else)
+-- an else belongs to the last opening open at it; it begins with a control of its own or with none
+pub record IsElseOf (xs : List Role) (begins : Option (Branch × Names)) (j k : ℕ) : Type 0 where
+  pub at : slice_get xs k ≡ Some (act_role (else_part begins))
   pub belongs : IsLast xs j k
 
--- .. and so does an else branch
-pub record IsElseBranchOf (xs : List Role) (j k : ℕ) : Type 0 where
-  pub branch : Branch
-  pub names : Names
-  pub at : slice_get xs k ≡ Some (act_role (branch_else branch names))
-  pub belongs : IsLast xs j k
-
--- an else of the opening at j stands before i
+-- a plain else of the opening at j stands before i
 abbrev pub HasElse : List Role → ℕ → ℕ → Type 0
-HasElse xs j i = (k : ℕ) × (k < i) × IsElseOf xs j k
+HasElse xs j i = (k : ℕ) × (k < i) × IsElseOf xs None j k
 
 -- the openings whose body is a template of its own
 abbrev pub is_template : Opening → Bool

@@ -1,6 +1,7 @@
 -- What counts of an item for the place in which it stands: which kind of action it is, and the names in it. Names
 -- are without their `$`.
 use Rattle.std.specs.Prelude.{ℕ, List, [], ◌∷◌, ◌++◌, map, Option, Some, None}
+use Rattle.std.specs.Option.{option_map_or}
 use Rattle.tmpl_grammar.specs.Tree.{Operand, variable}
 use Rattle.tmpl_grammar.specs.Tree.{group, Operands, no_operand, operand, Pipeline, no_command, command}
 use Rattle.tmpl_grammar.specs.Tree.{Binding, declare, assign, declare_pair, Header}
@@ -21,14 +22,13 @@ pub record Names : Type 0 where
   pub declares : List Name
   pub uses : List Name
 
--- a plain action puts out or binds a value or runs a template, an opener opens a control or a template, a branch_else
--- is an else part that begins with a control of its own, a closer is an `end`, and a jump a break or continue; and
--- nested are actions whose parentheses nest too deep, of which an else branch alone may be out of place
+-- a plain action puts out or binds a value or runs a template, an opener opens a control or a template, an else_part is
+-- an else, which may begin with a control of its own, a closer is an `end`, and a jump a break or continue; and nested
+-- are actions whose parentheses nest too deep, of which an else branch alone may be out of place
 pub data Act : Type 0 where
   plain : Names → Act
   opener : Opening → Names → Act
-  bare_else : Act
-  branch_else : Branch → Names → Act
+  else_part : Option (Branch × Names) → Act
   closer : Act
   jump : Act
   nested : Option Branch → Act
@@ -76,14 +76,13 @@ no_names = record { declares = []; uses = [] }
 
 -- the names in what a template is run with
 abbrev pub names_given : Option Pipeline → Names
-names_given None = no_names
-names_given (Some p) = record { declares = []; uses = used_by p }
+names_given given = record { declares = []; uses = option_map_or used_by given [] }
 
 abbrev pub act_of : Action → Act
 act_of (pipeline_action h) = plain (names_of h)
 act_of (action.opening c h) = opener (opening.control c) (names_of h)
-act_of plain_else = bare_else
-act_of (else_branch branch h) = branch_else branch (names_of h)
+act_of plain_else = else_part None
+act_of (else_branch branch h) = else_part (Some (branch, names_of h))
 act_of end_action = closer
 act_of break_action = jump
 act_of continue_action = jump

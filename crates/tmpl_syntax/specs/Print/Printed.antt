@@ -1,10 +1,8 @@
 -- How a tree and a set are printed: their texts and actions one behind the other.
-use Rattle.std.specs.Prelude.{ℕ, List, [], ◌∷◌, ◌++◌, None, map, codes}
-use Rattle.tmpl_grammar.specs.Tree.{Header}
+use Rattle.std.specs.Prelude.{ℕ, List, [], ◌∷◌, ◌++◌, None, map, flat_map, codes}
 use Rattle.tmpl_grammar.specs.Action.{Action, pipeline_action, opening, plain_else}
 use Rattle.tmpl_grammar.specs.Action.{end_action, break_action, continue_action, define_action, template_action}
 use Rattle.tmpl_grammar.specs.Print.{action_tokens}
-use Rattle.tmpl_grammar.specs.declared.tree.Control.{Control}
 use Rattle.tmpl_syntax.specs.Tree.{NodeKind, text, action, control_node, break_node, continue_node, template_node}
 use Rattle.tmpl_syntax.specs.Tree.{Nodes, none, then}
 use Rattle.tmpl_syntax.specs.Set.{Template}
@@ -21,14 +19,12 @@ abbrev pub else_said : Nodes → List Said → List Said
 else_said none ss = []
 else_said (then line n ns) ss = said plain_else ∷ ss
 
-abbrev pub control_said : Control → Header → List Said → List Said → List Said
-control_said c h body other = said (opening c h) ∷ (body ++ (other ++ said end_action ∷ []))
-
 abbrev mutual
   pub node_said : NodeKind → List Said
   node_said (text bytes) = said_text bytes ∷ []
   node_said (action h) = said (pipeline_action h) ∷ []
-  node_said (control_node c h body other) = control_said c h (nodes_said body) (else_said other (nodes_said other))
+  node_said (control_node c h body other) =
+      said (opening c h) ∷ (nodes_said body ++ (else_said other (nodes_said other) ++ said end_action ∷ []))
   node_said break_node = said break_action ∷ []
   node_said continue_node = said continue_action ∷ []
   node_said (template_node name given) = said (template_action name given) ∷ []
@@ -37,11 +33,9 @@ abbrev mutual
   nodes_said none = []
   nodes_said (then line n ns) = node_said n ++ nodes_said ns
 
--- each template in a definition of its own, and a newline behind it
-abbrev pub set_said : List Template → List Said
-set_said [] = []
-set_said (t ∷ ts) =
-    said (define_action t.0) ∷ (nodes_said t.1.nodes ++ said end_action ∷ said_text (codes "\n") ∷ set_said ts)
+-- a template in a definition of its own, and a newline behind it
+abbrev pub template_said : Template → List Said
+template_said t = said (define_action t.0) ∷ (nodes_said t.1.nodes ++ said end_action ∷ said_text (codes "\n") ∷ [])
 
 abbrev pub part_of : Said → Part
 part_of (said_text bytes) = a_text bytes
@@ -64,6 +58,6 @@ abbrev mutual
 abbrev pub printed : Nodes → List ℕ
 printed ns = file_of None (map part_of (nodes_said ns))
 
--- the bytes of a set
+-- the bytes of a set, its templates one behind the other
 abbrev pub printed_set : List Template → List ℕ
-printed_set ts = file_of None (map part_of (set_said ts))
+printed_set ts = file_of None (map part_of (flat_map template_said ts))

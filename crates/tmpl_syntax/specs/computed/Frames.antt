@@ -11,7 +11,7 @@ use Rattle.tmpl_syntax.specs.Place.Opening as opened
 use Rattle.tmpl_grammar.specs.declared.tree.Control.TheVariants.{Range}
 use Rattle.tmpl_syntax.specs.Fault as reason
 use Rattle.tmpl_syntax.specs.Fault.{Reason}
-use Rattle.tmpl_syntax.specs.Place.Role.{Name, Names, Act, plain, opener, bare_else, branch_else, closer}
+use Rattle.tmpl_syntax.specs.Place.Role.{Name, Names, Act, plain, opener, else_part, closer}
 use Rattle.tmpl_syntax.specs.Place.Role.{jump, nested, Role, text_role, unreadable_role, unread_role, act_role}
 use Rattle.tmpl_syntax.specs.Place.Open.{is_template}
 use Rattle.tmpl_syntax.specs.Place.Body.{joins, names_in, opens_level, most_levels, Verdict, fine, refused, left_open}
@@ -44,13 +44,9 @@ abbrev pub levels : Option Frame → ℕ
 levels None = 0
 levels (Some f) = f.levels
 
-abbrev pub takes_else : Option Frame → Bool
-takes_else None = false
-takes_else (Some f) = not (is_template f.opening) && not f.has_else
-
-abbrev pub takes_branch : Branch → Option Frame → Bool
-takes_branch b None = false
-takes_branch b (Some f) = joins b f.opening
+abbrev pub takes_else : Option Branch → Option Frame → Bool
+takes_else b None = false
+takes_else b (Some f) = joins b f.opening && not f.has_else
 
 abbrev pub is_inside : Option Frame → Bool
 is_inside None = false
@@ -64,12 +60,12 @@ may_open c t = true
 abbrev pub is_placed : Act → Option Frame → Bool
 is_placed (plain p) t = true
 is_placed (opener c p) t = may_open c t
-is_placed bare_else t = takes_else t
-is_placed (branch_else b p) t = takes_else t && takes_branch b t
+is_placed (else_part None) t = takes_else None t
+is_placed (else_part (Some (b, p))) t = takes_else (Some b) t
 is_placed closer t = is_inside t
 is_placed jump t = in_loop t
 is_placed (nested None) t = true
-is_placed (nested (Some b)) t = takes_else t && takes_branch b t
+is_placed (nested (Some b)) t = takes_else (Some b) t
 
 abbrev pub is_nested : Act → Bool
 is_nested (nested b) = true
@@ -78,11 +74,9 @@ is_nested a = false
 abbrev pub is_too_deep : Act → Option Frame → Bool
 is_too_deep a t = is_nested a || (opens_level a && leb most_levels (levels t))
 
--- of the names before an action, those that it sees: an else or else branch ends the part before it, and an `end` the
--- control
+-- of the names before an action, those that it sees: an else ends the part before it, and an `end` the control
 abbrev pub names_at : Act → Option Frame → List Name → List Name
-names_at bare_else (Some f) names = take f.part names
-names_at (branch_else b p) (Some f) names = take f.part names
+names_at (else_part b) (Some f) names = take f.part names
 names_at closer (Some f) names = take f.start names
 names_at a t names = names
 
@@ -133,20 +127,23 @@ entered c p t n = record {
   part = else_start c n (n + length p.declares);
 }
 
-abbrev pub elsed : Frame → Frame
-elsed f = record f { has_else = true }
+-- whether a plain else came, behind an else that begins with a control or does not
+abbrev pub else_came : Bool → Bool → Bool
+else_came false came = true
+else_came true came = came
 
-abbrev pub elsed_all : List Frame → List Frame
-elsed_all [] = []
-elsed_all (f ∷ fs) = elsed f ∷ fs
+-- .. and the levels there
+abbrev pub else_levels : Bool → ℕ → ℕ
+else_levels false n = n
+else_levels true n = n + 1
 
--- an else branch with so many names at the beginning of its part
-abbrev pub branched : Frame → ℕ → Frame
-branched f part = record f { levels = f.levels + 1; part = part }
+-- .. with so many names at the beginning of its part
+abbrev pub parted : Bool → ℕ → Frame → Frame
+parted b part f = record f { has_else = else_came b f.has_else; levels = else_levels b f.levels; part = part }
 
-abbrev pub branched_all : ℕ → List Frame → List Frame
-branched_all part [] = []
-branched_all part (f ∷ fs) = branched f part ∷ fs
+abbrev pub parted_all : Bool → ℕ → List Frame → List Frame
+parted_all b part [] = []
+parted_all b part (f ∷ fs) = parted b part f ∷ fs
 
 abbrev pub ended_all : List Frame → List Frame
 ended_all [] = []
@@ -156,8 +153,8 @@ ended_all (f ∷ fs) = fs
 abbrev pub frames_after : Act → List Frame → ℕ → List Frame
 frames_after (plain p) fs n = fs
 frames_after (opener c p) fs n = entered c p (top fs) n ∷ fs
-frames_after bare_else fs n = elsed_all fs
-frames_after (branch_else b p) fs n = branched_all (n + length p.declares) fs
+frames_after (else_part None) fs n = parted_all false n fs
+frames_after (else_part (Some (b, p))) fs n = parted_all true (n + length p.declares) fs
 frames_after closer fs n = ended_all fs
 frames_after jump fs n = fs
 frames_after (nested b) fs n = fs
@@ -196,8 +193,8 @@ closed_names (Some f) k = closed_if (is_template f.opening) k
 abbrev pub known_after : Act → Option Frame → Known → Known
 known_after (plain p) t k = with_inner k (k.inner ++ p.declares)
 known_after (opener c p) t k = opened_names c p.declares k
-known_after bare_else t k = k
-known_after (branch_else b p) t k = with_inner k (k.inner ++ p.declares)
+known_after (else_part None) t k = k
+known_after (else_part (Some (b, p))) t k = with_inner k (k.inner ++ p.declares)
 known_after closer t k = closed_names t k
 known_after jump t k = k
 known_after (nested b) t k = k

@@ -1,9 +1,7 @@
 -- A file as far as it is printed.
-use Rattle.std.specs.Prelude.{ℕ, List, [], ◌∷◌, ◌++◌, Option, Some, None, map, codes}
-use Rattle.tmpl_grammar.specs.Action.{define_action, end_action}
-use Rattle.tmpl_syntax.specs.Set.{Template}
+use Rattle.std.specs.Prelude.{ℕ, List, [], ◌∷◌, ◌++◌, Option, Some, None, map}
 use Rattle.tmpl_syntax.specs.Print.Join.{Part, a_text, an_action, file_of}
-use Rattle.tmpl_syntax.specs.Print.Printed.{Said, said, said_text, nodes_said, part_of}
+use Rattle.tmpl_syntax.specs.Print.Printed.{Said, part_of}
 
 -- its bytes, and the text with which it ends, if it ends with one
 abbrev pub Page : Type 0
@@ -18,7 +16,3 @@ last_text before (an_action ts ∷ ps) = last_text None ps
 -- .. with what is said next
 unfoldable pub page_with : Page → List Said → Page
 page_with p ss = (p.0 ++ file_of p.1 (map part_of ss), last_text p.1 (map part_of ss))
-
--- what one template of a set says
-abbrev pub template_said : Template → List Said
-template_said t = said (define_action t.0) ∷ (nodes_said t.1.nodes ++ said end_action ∷ said_text (codes "\n") ∷ [])

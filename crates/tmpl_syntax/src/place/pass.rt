@@ -1,5 +1,6 @@
 //! What stands after an item: the frames of what is open, and the names that are known.
-ghost use Rattle.std.specs.Prelude.{◌≡◌, ◌<◌, ◌++◌, [], ◌∷◌, ◌+◌, IfOk, option_map, true, false, Some, None, length};
+ghost use Rattle.std.specs.Prelude.{◌≡◌, ◌<◌, ◌++◌, [], ◌∷◌, ◌+◌, IfOk, option_map, is_some, true, false, Some, None};
+ghost use Rattle.std.specs.Prelude.{length};
 ghost use Rattle.tmpl_grammar.specs.View.{action_of, binding_of, header_of};
 ghost use Rattle.tmpl_syntax.specs.computed.View.{frame_of, frames_in, item_of, known_names, scopes_of, opening_of};
 ghost use Rattle.tmpl_syntax.specs.Place.Role as role;
@@ -10,7 +11,7 @@ ghost use Rattle.tmpl_syntax.specs.Place.Open.{is_template};
 ghost use Rattle.tmpl_syntax.specs.computed.Frames as spec;
 ghost use Rattle.tmpl_syntax.specs.computed.Frames.{closed_names, ended_all, fault_at, is_too_deep, known_after};
 ghost use Rattle.tmpl_syntax.specs.computed.Frames.{known_past, levels, names_at, opened_names};
-ghost use Rattle.tmpl_syntax.specs.computed.Frames.{branched_all, elsed_all, entered, frames_after, frames_past};
+ghost use Rattle.tmpl_syntax.specs.computed.Frames.{entered, frames_after, frames_past, parted_all};
 ghost use Rattle.tmpl_syntax.specs.computed.Frames.{seen_at, top};
 ghost use Rattle.tmpl_syntax.specs.Place.Opening as opening;
 
@@ -20,7 +21,7 @@ use crate::place::names::KnownNames;
 use crate::place::rules::{is_in_loop, levels_in};
 use crate::place::scopes::Scopes;
 use std::alloc::{AllocError, Global};
-use tmpl_grammar::{Action, Binding, Control, Header};
+use tmpl_grammar::{Action, Binding, Branch, Control, Header};
 
 /// The newest frame.
 pub(super) fn newest(stack: &Vec<Frame>) -> Option<Frame>
@@ -29,8 +30,7 @@ pub(super) fn newest(stack: &Vec<Frame>) -> Option<Frame>
     stack.last().copied()
 }
 
-/// Forgets the names that an item does not see: an `else` or else branch ends the part before it, and
-/// an `end` the control.
+/// Forgets the names that an item does not see: an `else` ends the part before it, and an `end` the control.
 pub(super) fn forget(names: &mut KnownNames<'_>, item: &Item, outside: Option<Frame>)
     ensures { known_names names.new
         ≡ seen_at (role_of (item_of item.now)) (option_map frame_of outside) (known_names names.old) }
@@ -95,8 +95,11 @@ fn take_in_action<'i>(
     match action {
         Action::Pipeline(header) => declare(&mut scopes.inner, &header.binding),
         Action::Open(control, header) => enter(stack, &mut scopes.inner, *control, header),
-        Action::Else => pass_else(stack),
-        Action::ElseBranch(_, header) => pass_branch(stack, &mut scopes.inner, &header.binding),
+        Action::Else => pass_else(stack, None, scopes.inner.len()),
+        Action::ElseBranch(branch, header) => {
+            declare(&mut scopes.inner, &header.binding)?;
+            pass_else(stack, Some(*branch), scopes.inner.len())
+        }
         Action::End => {
             leave(alloc, stack, scopes);
             Ok(())
@@ -201,38 +204,24 @@ fn part_of(control: Control, before: usize, after: usize) -> usize
     }
 }
 
-/// Begins the else part of the newest control.
-fn pass_else(stack: &mut Vec<Frame>) -> Result<(), AllocError>
-    ensures { IfOk result (λ u. frames_in stack.new.items ≡ elsed_all (frames_in stack.old.items)) }
+/// Begins an else part of the newest control, with a control of its own or with none, where so many names are known.
+fn pass_else(stack: &mut Vec<Frame>, branch: Option<Branch>, part: usize) -> Result<(), AllocError>
+    requires { is_some branch ≡ true → levels (top (frames_in stack.old.items)) < body.most_levels }
+    ensures { IfOk result (λ u. frames_in stack.new.items
+        ≡ parted_all (is_some branch) part (frames_in stack.old.items)) }
 {
     if let Some(frame) = stack.pop() {
-        stack.push(Frame {
-            has_else: true,
-            ..frame
-        })?;
-    }
-    Ok(())
-}
-
-/// Begins an else part of the newest control that is a control of its own.
-fn pass_branch<'i>(
-    stack: &mut Vec<Frame>,
-    names: &mut KnownNames<'i>,
-    binding: &'i Binding,
-) -> Result<(), AllocError>
-    requires { levels (top (frames_in stack.old.items)) < body.most_levels }
-    ensures frames { IfOk result (λ u. frames_in stack.new.items
-        ≡ branched_all (length (known_names names.old) + length (role.declared_by (binding_of binding.now)))
-        (frames_in stack.old.items)) }
-    ensures names { IfOk result (λ u. known_names names.new
-        ≡ known_names names.old ++ role.declared_by (binding_of binding.now)) }
-{
-    declare(names, binding)?;
-    if let Some(frame) = stack.pop() {
-        stack.push(Frame {
-            levels: frame.levels + 1,
-            part: names.len(),
-            ..frame
+        stack.push(match branch {
+            None => Frame {
+                has_else: true,
+                part,
+                ..frame
+            },
+            Some(_) => Frame {
+                levels: frame.levels + 1,
+                part,
+                ..frame
+            },
         })?;
     }
     Ok(())

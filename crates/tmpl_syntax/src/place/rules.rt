@@ -6,7 +6,7 @@ ghost use Rattle.tmpl_syntax.specs.Place.Role.{act_of, nested, role_of};
 ghost use Rattle.tmpl_syntax.specs.Place.Body as body;
 ghost use Rattle.tmpl_syntax.specs.computed.Fault.{of_action};
 ghost use Rattle.tmpl_syntax.specs.computed.Frames.{fault_at, fault_in, first_fault, in_loop, is_placed, is_too_deep};
-ghost use Rattle.tmpl_syntax.specs.computed.Frames.{levels, takes_branch, takes_else};
+ghost use Rattle.tmpl_syntax.specs.computed.Frames.{levels, takes_else};
 
 use crate::fault::Fault;
 use crate::item::{Item, ItemKind};
@@ -66,7 +66,7 @@ fn is_branch_in_place(branch: Option<Branch>, outside: Option<Frame>) -> bool
     ensures { result ≡ is_placed (nested branch) (option_map frame_of outside) }
 {
     match branch {
-        Some(branch) => may_take_else(outside) && may_take_branch(branch, outside),
+        Some(_) => may_take_else(branch, outside),
         None => true,
     }
 }
@@ -79,42 +79,31 @@ fn is_in_place(action: &Action, outside: Option<Frame>) -> bool
         Action::Pipeline(_) | Action::Open(_, _) | Action::Template(_, _) | Action::Block(_, _) =>
             true,
         Action::Define(_) => outside.is_none(),
-        Action::Else => may_take_else(outside),
-        Action::ElseBranch(branch, _) => {
-            may_take_else(outside) && may_take_branch(*branch, outside)
-        }
+        Action::Else => may_take_else(None, outside),
+        Action::ElseBranch(branch, _) => may_take_else(Some(*branch), outside),
         Action::End => outside.is_some(),
         Action::Break | Action::Continue => is_in_loop(outside),
     }
 }
 
-/// Whether an else part may stand there.
-fn may_take_else(outside: Option<Frame>) -> bool
-    ensures { result ≡ takes_else (option_map frame_of outside) }
+/// Whether an else that begins so, with a control or with none, may stand there.
+fn may_take_else(branch: Option<Branch>, outside: Option<Frame>) -> bool
+    ensures { result ≡ takes_else branch (option_map frame_of outside) }
 {
     match outside {
-        Some(frame) => !frame.opening.is_template() && !frame.has_else,
+        Some(frame) => may_join(branch, frame.opening) && !frame.has_else,
         None => false,
     }
 }
 
-/// Whether an else part that begins so may belong to what is open there.
-fn may_take_branch(branch: Branch, outside: Option<Frame>) -> bool
-    ensures { result ≡ takes_branch branch (option_map frame_of outside) }
-{
-    match outside {
-        Some(frame) => may_join(branch, frame.opening),
-        None => false,
-    }
-}
-
-/// Whether an else part that begins so may belong to what is opened so.
-fn may_join(branch: Branch, opening: Opening) -> bool
+/// Whether an else that begins so may belong to what is opened so.
+fn may_join(branch: Option<Branch>, opening: Opening) -> bool
     ensures { result ≡ body.joins branch (opening_of opening) }
 {
     match branch {
-        Branch::If => matches!(opening, Opening::Control(Control::If)),
-        Branch::With => matches!(opening, Opening::Control(Control::With)),
+        None => matches!(opening, Opening::Control(_)),
+        Some(Branch::If) => matches!(opening, Opening::Control(Control::If)),
+        Some(Branch::With) => matches!(opening, Opening::Control(Control::With)),
     }
 }
 

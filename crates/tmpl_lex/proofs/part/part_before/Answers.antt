@@ -8,26 +8,19 @@ use Rattle.tmpl_lex.specs.computed.Part.{rest_behind, IsEndWithin}
 use Rattle.tmpl_lex.specs.computed.Text.{without_trailing}
 use Rattle.tmpl_lex.specs.computed.Trim.{End, left_marked, past_left}
 use Rattle.tmpl_lex.specs.computed.View.{opened_of}
-use Rattle.tmpl_lex.proofs.CutLemmas.{IsAdded-step, newlines-split}
+use Rattle.tmpl_lex.proofs.CutLemmas.{texts-put}
 use Rattle.tmpl_lex.proofs.FirstPartLemmas.{ends-same, end-within, part-cuts, part-left}
 use Rattle.tmpl_lex.proofs.PlaceLemmas.{StandsAt-opened}
 use Rattle.tmpl_lex.proofs.part.part_before.Goals as goal
 
 pub rest_after-requires : goal.rest_after-requires
 rest_after-requires c =
-    let rest = c.args.rest in
-    let before = c.args.before.now in
     let after = c.args.after.now in
     let o = opened_of c.read_opened.new.tokens.items c.in_ok-opened.opened in
     let read : o ≡ opened (past_left after) = c.in_ok-opened.ensures ∙ ap opened c.skip_left_marker.ensures in
-    let lines = newlines-split rest.trims before c.split_leading.result.0.now c.split_leading.result.1.now c.split_leading.ensures.taken
-    c.split_leading.ensures.kept in
-    let here : rest.line + c.newlines.result + c.newlines-2.result ≡ rest.line + newlines before =
-    omega (arith, lines, c.newlines.ensures.value, c.newlines-2.ensures.value) in
-    let ends = ends-same [] c.read_opened.new.tokens.items c.in_ok-opened.opened in
-    subst (λ (e : Option End). IsEndWithin after (rest.line + c.newlines.result + c.newlines-2.result) e) (sym ends)
-    (subst (λ (n : ℕ). IsEndWithin after n (ends_at o)) (sym here)
-    (end-within c.args.file.now rest before after c.requires.first o read c.requires.left (omega arith)))
+    subst (λ (e : Option End). IsEndWithin after (c.args.rest.line + c.newlines-2.result) e) (ends-same c.read_opened.new.tokens.items [] c.in_ok-opened.opened)
+    (subst (λ (n : ℕ). IsEndWithin after (c.args.rest.line + n) (ends_at o)) (sym c.newlines-2.ensures.value)
+    (end-within c.args.file.now c.args.rest c.args.before.now after c.requires.first o read c.requires.left (omega arith)))
 
 pub returns-clause-cuts : goal.returns-clause-cuts
 returns-clause-cuts c =
@@ -35,24 +28,15 @@ returns-clause-cuts c =
     let before = c.args.before.now in
     let after = c.args.after.now in
     let o = opened_of c.read_opened.new.tokens.items c.in_ok-opened.opened in
-    let read : o ≡ opened (past_left after) = c.in_ok-opened.ensures ∙ ap opened c.skip_left_marker.ensures in
-    let lines = newlines-split rest.trims before c.split_leading.result.0.now c.split_leading.result.1.now c.split_leading.ensures.taken
-    c.split_leading.ensures.kept in
-    let here : rest.line + c.newlines.result + c.newlines-2.result ≡ rest.line + newlines before =
-    omega (arith, lines, c.newlines.ensures.value, c.newlines-2.ensures.value) in
-    let ends = ends-same [] c.read_opened.new.tokens.items c.in_ok-opened.opened in
     let mid = text_piece (rest.line + c.newlines.result) c.trim_end-text.result.now in
-    let ps = mid ++ pieces_of (rest.line + c.newlines.result + c.newlines-2.result) o in
-    let added = IsAdded-step rest.trims rest.line c.newlines.result c.newlines-2.result before after
-    c.split_leading.result.0.now c.split_leading.result.1.now c.trim_end-text.result.now
-    [] mid ps o c.split_leading.ensures.taken c.split_leading.ensures.kept c.newlines.ensures.value c.newlines-2.ensures.value
-    (c.trim_end-text.ensures ∙ ap (λ t. without_trailing t c.split_leading.result.1.now) c.has_left_marker.ensures) refl refl in
-    part-cuts c.args.file.now rest before after c.requires.first o read _ c.rest_after.result
-    (ap (λ (qs : List Piece). mid ++ qs) (c.behind_of.ensures c.read_opened.new.tokens.items)
-    ∙ added.grown ∙ ap (λ (qs : List Piece). qs ++ pieces_of (rest.line + newlines before) o) added.put)
-    (c.rest_after.ensures
-    ∙ ap (option_map (rest_behind after (rest.line + c.newlines.result + c.newlines-2.result))) ends
-    ∙ ap (λ (n : ℕ). option_map (rest_behind after n) (ends_at o)) here)
+    part-cuts c.args.file.now rest before after c.requires.first o (c.in_ok-opened.ensures ∙ ap opened c.skip_left_marker.ensures) _ c.rest_after.result
+    (ap (λ (qs : List Piece). mid ++ qs) (c.behind_of.ensures c.read_opened.new.tokens.items
+    ∙ ap (λ (n : ℕ). pieces_of (rest.line + n) o) c.newlines-2.ensures.value)
+    ∙ ap (λ (qs : List Piece). qs ++ pieces_of (rest.line + newlines before) o) (texts-put rest.trims (left_marked after) rest.line c.newlines.result
+    before c.split_leading.result.0.now c.split_leading.result.1.now c.trim_end-text.result.now c.split_leading.ensures.taken c.split_leading.ensures.kept
+    c.newlines.ensures.value (c.trim_end-text.ensures ∙ ap (λ t. without_trailing t c.split_leading.result.1.now) c.has_left_marker.ensures)))
+    (c.rest_after.ensures c.read_opened.new.tokens.items
+    ∙ ap (λ (n : ℕ). option_map (rest_behind after (rest.line + n)) (ends_at o)) c.newlines-2.ensures.value)
 
 pub returns-clause-placed : goal.returns-clause-placed
 returns-clause-placed c =
@@ -63,17 +47,9 @@ returns-clause-placed c =
 
 pub returns-clause-left : goal.returns-clause-left
 returns-clause-left c =
-    let rest = c.args.rest in
-    let before = c.args.before.now in
     let after = c.args.after.now in
     let o = opened_of c.read_opened.new.tokens.items c.in_ok-opened.opened in
-    let read : o ≡ opened (past_left after) = c.in_ok-opened.ensures ∙ ap opened c.skip_left_marker.ensures in
-    let lines = newlines-split rest.trims before c.split_leading.result.0.now c.split_leading.result.1.now c.split_leading.ensures.taken
-    c.split_leading.ensures.kept in
-    let here : rest.line + c.newlines.result + c.newlines-2.result ≡ rest.line + newlines before =
-    omega (arith, lines, c.newlines.ensures.value, c.newlines-2.ensures.value) in
-    let ends = ends-same [] c.read_opened.new.tokens.items c.in_ok-opened.opened in
-    part-left c.args.file.now rest before after c.requires.first o read c.requires.left c.rest_after.result
-    (c.rest_after.ensures
-    ∙ ap (option_map (rest_behind after (rest.line + c.newlines.result + c.newlines-2.result))) ends
-    ∙ ap (λ (n : ℕ). option_map (rest_behind after n) (ends_at o)) here)
+    part-left c.args.file.now c.args.rest c.args.before.now after c.requires.first o (c.in_ok-opened.ensures ∙ ap opened c.skip_left_marker.ensures)
+    c.requires.left c.rest_after.result
+    (c.rest_after.ensures c.read_opened.new.tokens.items
+    ∙ ap (λ (n : ℕ). option_map (rest_behind after (c.args.rest.line + n)) (ends_at o)) c.newlines-2.ensures.value)
