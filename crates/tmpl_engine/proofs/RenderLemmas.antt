@@ -3,16 +3,21 @@ use Rattle.std.proofs.Common.{◌≡◌, ◌∙◌, ℕ, List, Option, Some, Non
 use Rattle.std.specs.Prelude.{slice_get}
 use Rattle.std.specs.Option.{option_map}
 use Rattle.std.specs.Result.{result_map_both}
+use Rattle.std.specs.Borrow.{Bor}
 use Rattle.tmpl_values.specs.Value.{Value}
+use Rattle.tmpl_values.specs.View.{value_of}
+use Rattle.tmpl_values.specs.declared.data.Data.{Data}
 use Rattle.tmpl_syntax.specs.Set.{Template, number_of}
 use Rattle.tmpl_syntax.proofs.NamedLemmas.{Named, numbered, unnumbered}
 use Rattle.tmpl_meaning.specs.Meaning.{Ran, Rules, ran}
 use Rattle.tmpl_meaning.specs.Sink.{Sunk, Told, sunk}
+use Rattle.tmpl_meaning.specs.View.{rules_of}
+use Rattle.tmpl_meaning.specs.declared.options.Options.{Options}
 use Rattle.tmpl_run.specs.Run.{IsRun}
 use Rattle.tmpl_run.specs.declared.fault.RunError.{RunError}
 use Rattle.tmpl_run.specs.declared.fault.RunError.TheVariants as run
 use Rattle.tmpl_engine.specs.Error.{error_of}
-use Rattle.tmpl_engine.specs.Render.{IsRender, IsRunOf, ran_named}
+use Rattle.tmpl_engine.specs.Render.{IsRender, IsRunOf, Renders, ran_named}
 use Rattle.tmpl_engine.specs.declared.error.RenderError.{RenderError}
 use Rattle.tmpl_engine.specs.declared.error.RenderError.TheVariants.{NoTemplate}
 
@@ -52,3 +57,9 @@ module _ (rules : Rules) (ts : List Template) (name : List ℕ) (input : Option 
   unnamed_render t none =
       subst (λ o. IsRender o (sunk t t) (Err NoTemplate))
       (sym (ap (option_map (λ tree. ran rules ts name tree input)) (unnumbered name ts (sym none)))) (refl, (refl, refl))
+
+-- .. by these options, over data that may be given
+pub unnamed_by : (options : Options) (ts : List Template) (name : List ℕ) (given : Option (Bor Data)) (t : Told)
+    → None ≡ number_of name ts → Renders options ts name given t t (Err NoTemplate)
+unnamed_by options ts name given t =
+    unnamed_render (rules_of options) ts name (option_map (λ d. value_of d.now) given) t

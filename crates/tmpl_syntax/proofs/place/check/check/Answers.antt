@@ -6,7 +6,7 @@ use Rattle.tmpl_syntax.specs.Fault.{open_at_end, reason_of}
 use Rattle.tmpl_syntax.specs.computed.View.{item_of, frame_of, frames_in, known_names, scopes_of}
 use Rattle.tmpl_syntax.specs.Place.Role.{role_of, roles_of}
 use Rattle.tmpl_syntax.specs.computed.Fault.{of_action}
-use Rattle.tmpl_syntax.proofs.CheckLemmas.{checking-start, checking-past, checking-refused, checking-ended, item-at, role-at}
+use Rattle.tmpl_syntax.proofs.CheckLemmas.{checking-start, checking-past, checking-refused, checking-ended, item-at, role-here}
 use Rattle.tmpl_syntax.proofs.CheckLemmas.{checked-refused, checked-fine, checked-open}
 use Rattle.tmpl_syntax.proofs.place.check.check.Goals as goal
 
@@ -19,10 +19,10 @@ returns-in-Some c =
     let items = c.args.items.now in
     let i = c.loop-item.item-index in
     let x = c.item-item.result in
-    let at = item-at items i x c.loop-item-test.true c.item-item.is in
-    checked-refused c.args.bytes.now (map item_of items) i (item_of x) (of_action c.in-Some.fault) x.line (reason_of c.kind.result) at
+    checked-refused c.args.bytes.now (map item_of items) i (item_of x) (of_action c.in-Some.fault) x.line (reason_of c.kind.result)
+    (item-at items i x c.loop-item-test.true c.item-item.is)
     (checking-refused (roles_of (map item_of items)) i (scopes_of c.loop-item.scopes) (frames_in c.loop-item.stack.items) (role_of (item_of x))
-    (role-at (map item_of items) i (item_of x) at) c.loop-item.invariant
+    (role-here items i x c.loop-item-test.true c.item-item.is) c.loop-item.invariant
     (option_map frame_of c.newest-outside.result) (known_names c.forget.new.names) c.newest-outside.ensures c.forget.ensures (of_action c.in-Some.fault)
     (sym c.in-Some.ensures))
     refl c.kind.ensures
@@ -30,12 +30,9 @@ returns-in-Some c =
 pub loop-item-preserved : goal.loop-item-preserved
 unfolding scopes_of
 loop-item-preserved c =
-    let items = c.args.items.now in
-    let i = c.loop-item.item-index in
-    let x = c.item-item.result in
-    let at = item-at items i x c.loop-item-test.true c.item-item.is in
-    checking-past (roles_of (map item_of items)) i (scopes_of c.loop-item.scopes) (frames_in c.loop-item.stack.items) (role_of (item_of x))
-    (role-at (map item_of items) i (item_of x) at) c.loop-item.invariant
+    checking-past (roles_of (map item_of c.args.items.now)) c.loop-item.item-index (scopes_of c.loop-item.scopes)
+    (frames_in c.loop-item.stack.items) (role_of (item_of c.item-item.result))
+    (role-here c.args.items.now c.loop-item.item-index c.item-item.result c.loop-item-test.true c.item-item.is) c.loop-item.invariant
     (option_map frame_of c.newest-outside.result) (known_names c.forget.new.names) c.newest-outside.ensures c.forget.ensures
     _ _ c.in_ok-take_in.ensures.names c.in_ok-take_in.ensures.frames (sym c.in_default.ensures)
 
