@@ -4,8 +4,8 @@ Behind a refused write of output nothing may be put out but the line, with statu
 stays. Of a text of more than 65,536 bytes writes are refused by errors alone, and those of 1 byte once. Rows of more than 4 MiB, and those
 whose runs end with a hundred thousand templates inside one another, are put by 4,096 bytes. TMPL=PATH names another build.
 
-`writes.py --long` puts these by 3 bytes and by 1 as well, which takes some minutes on all processors, and says of each how many writes
-were refused."""
+`writes.py --long` puts these by 3 bytes and by 1 as well, which takes half an hour, most of it to give the cells of those templates back
+behind each refusal, and says of each how many writes were refused."""
 import os
 import struct
 import sys
