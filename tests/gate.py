@@ -4,7 +4,7 @@ explain, counts as one failure. It also says how many seconds of processors each
 by crate. The libraries that `rt ci` proved are marked for `rt lib`.
 
 `rt ci` gets RT_JOBS, where it is not set: as many checks side by side as there are processors, and memory for each. It then gives each
-check one job. Several jobs for one check take a quarter more of the processors' time."""
+check one job: several took a quarter more of the processors' time where that was measured, in one crate."""
 import os
 import re
 import shlex
@@ -15,7 +15,7 @@ import time
 import processors
 import proved
 
-MEMORY = 5 << 30  # bytes that one check may take
+MEMORY = 5 << 30  # bytes that have to be free for each check; those seen took up to 3 GiB
 
 
 def run(command):

@@ -46,10 +46,10 @@ def refused(row, descriptor, most, ways):
 
 
 def cases_of(row):
-    """To which descriptor a row's writes are refused, by how many bytes and in how many ways."""
+    """To which descriptor a row's writes are refused, by how many bytes and in how many ways. Where nothing is written one run shows it."""
     for descriptor, told in ((OUTPUT, row.out), (ERRORS, row.err)):
         for most, ways in MOST.items():
-            if most == 1 or len(told) > most // 4:
+            if told or most == 1:
                 yield row, descriptor, most, len(WAYS) if len(told) <= FEW else ways
 
 
