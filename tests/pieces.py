@@ -44,7 +44,68 @@ ROOMS = [
     (1, ["{{html 1}}"], 4, True),
     (1, ["{{urlquery 1}}"], 4, True),
     (1, ["{{len 1}}{{not 1}}{{slice 1}}{{index 1}}{{eq 1 1}}{{or 1 1}}"], 5, False),
+    (1000, ["x", '{{"put" | printf "%s%s" "out" | printf "%q"}}', ""], 6000, True),
 ]
+
+THREE = "{{print 1 1 1}}"  # needs three cells for its arguments
+
+# a template alone, and the cells that a run of it needs, its own three among them
+ROOMS_OF_ONE = [
+    # ---- pipelines
+    ("{{.a.b}}", 4),
+    # a call of no argument has what it gives, and one of three holds all three
+    ("{{print}}", 4),
+    ("{{len .}}", 4),
+    (THREE, 6),
+    # what is piped is held below the arguments, one value from each command to the next
+    ("{{. | len}}", 4),
+    ("{{1 | print 1 1}}", 6),
+    ("{{1 | print 1 | print 1}}", 5),
+    # parentheses add none, and what is held already is below them
+    ("{{((.))}}", 4),
+    ("{{(print 1 1)}}", 5),
+    ("{{and 1 (index . 1)}}", 6),
+    ("{{and (index . 1) 1}}", 5),
+    ("{{1 | print 1 (print 1 (print 1 1))}}", 8),
+    # what is no function takes no argument, so none is computed
+    ("{{. 1 1}}", 4),
+    ("{{1 | .a}}", 4),
+    ("{{(print 1 1) 1 1 1}}", 5),
+    # a function as an argument is a call without arguments
+    ("{{print print print}}", 5),
+    # ---- lists: nothing is left of one action for the next but a variable, one of the same name too
+    ("word", 3),
+    ("word{{.}}", 4),
+    (THREE + "{{.}}", 6),
+    ("{{$x := .}}", 4),
+    ("{{$x := .}}{{$x}}", 5),
+    ("{{$x := .}}word{{$x := .}}{{$x := .}}" + THREE, 9),
+    ("{{$x := .}}{{$x = .}}{{$x = .}}{{$x}}", 5),
+    (THREE + "{{$x := .}}{{.}}", 6),
+    ("{{$x := .}}{{.}}" + THREE, 7),
+    # ---- controls
+    ("{{if .}}{{end}}", 4),
+    ("{{if print 1 1 1}}{{.}}{{end}}", 6),
+    ("{{if $x := print 1 1 1}}{{end}}", 6),
+    ("{{if .}}" + THREE + "{{end}}", 6),
+    ("{{if $x := .}}" + THREE + "{{end}}", 7),
+    ("{{if $x := .}}{{else}}" + THREE + "{{end}}", 7),
+    ("{{if $x := .}}" + THREE + "{{else}}" + THREE + "{{end}}", 7),
+    # the body of a with has one more
+    ("{{with .}}" + THREE + "{{end}}", 7),
+    ("{{with $x := .}}" + THREE + "{{end}}", 8),
+    ("{{with $x := .}}{{else}}" + THREE + "{{end}}", 7),
+    # that of a range has two more, and its else part no variable
+    ("{{range .}}" + THREE + "{{end}}", 8),
+    ("{{range $x := .}}" + THREE + "{{end}}", 9),
+    ("{{range $k, $x := .}}" + THREE + "{{end}}", 10),
+    ("{{range $k, $x := .}}{{else}}{{print 1 1 1 1 1}}{{end}}", 8),
+    ("{{range $k, $x := .}}{{end}}", 7),
+    # no variable is left of a control
+    ("{{if $x := .}}{{$x := .}}{{end}}" + THREE, 6),
+    ("{{$x := .}}{{with $x := .}}{{$x := .}}{{range .}}" + THREE + "{{end}}{{end}}", 12),
+]
+ROOMS += [(1, [it], room, "print" in it) for it, room in ROOMS_OF_ONE]
 
 # a template, its data, its text, and how it ends where no put fails
 SINKS = [

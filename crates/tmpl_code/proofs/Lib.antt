@@ -7,6 +7,5 @@ pub mod NodeLemmas
 pub mod NodeTailLemmas
 pub mod OperandLemmas
 pub mod ProgramLemmas
-pub mod RoomExamples
 pub mod ScopeLemmas
 pub mod TailLemmas

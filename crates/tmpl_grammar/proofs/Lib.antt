@@ -1,6 +1,4 @@
-pub mod ActionExamples
 pub mod ActionLemmas
-pub mod ConstantExamples
 pub mod ConstantLemmas
 pub mod DepthLemmas
 pub mod DigitLemmas
@@ -16,10 +14,8 @@ pub mod IsIntegerLemmas
 pub mod IsOperandLemmas
 pub mod LimitLemmas
 pub mod ListLemmas
-pub mod NeedExamples
 pub mod NeedLemmas
 pub mod OptionLemmas
-pub mod PipelineExamples
 pub mod PipelineLemmas
 pub mod PositionLemmas
 pub mod PrintLemmas

@@ -1,4 +1,3 @@
-pub mod computed
 pub mod Fault
 pub mod Laws
 pub mod Meaning

@@ -1,5 +1,4 @@
 pub mod AcceptedLemmas
-pub mod BodyExamples
 pub mod BuildLemmas
 pub mod CheckLemmas
 pub mod CountLemmas
@@ -18,14 +17,12 @@ pub mod KeptLemmas
 pub mod LanguageExamples
 pub mod LargerLemmas
 pub mod NamedLemmas
-pub mod NeedExamples
 pub mod NeedLemmas
 pub mod OneSpellingLemmas
 pub mod OneVerdictLemmas
 pub mod OpenLemmas
 pub mod PageLemmas
 pub mod PlaceLemmas
-pub mod PrintExamples
 pub mod PrintableNodeLemmas
 pub mod PrintablePieceLemmas
 pub mod PrintedItemLemmas

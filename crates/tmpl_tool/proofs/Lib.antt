@@ -1,4 +1,3 @@
-pub mod AnswerExamples
 pub mod CommandLemmas
 pub mod LoadLemmas
 pub mod MessageLemmas

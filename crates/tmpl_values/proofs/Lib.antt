@@ -11,6 +11,5 @@ pub mod RestLemmas
 pub mod RisingLemmas
 pub mod RuneLemmas
 pub mod TreeLemmas
-pub mod TruthExamples
 pub mod TruthLemmas
 pub mod WalkLemmas

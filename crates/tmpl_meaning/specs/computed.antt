@@ -1,2 +1,0 @@
--- What is computed in another way than it is defined, or stands between a definition and the code.
-pub mod Call
