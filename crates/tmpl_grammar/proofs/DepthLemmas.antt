@@ -11,7 +11,11 @@ use Rattle.tmpl_grammar.specs.computed.Operand.{operand_at}
 use Rattle.tmpl_grammar.specs.computed.Parser as parser
 use Rattle.tmpl_grammar.specs.computed.Parser.{Parser, Partial, settled, more_commands, closed, kept_if, linked_by, step, step_by}
 use Rattle.tmpl_grammar.specs.computed.Parser.{steps, finished, commands_after}
-use Rattle.tmpl_grammar.proofs.ConstantLemmas.{IsFlat, flat-at}
+use Rattle.tmpl_grammar.specs.Constant as constant
+use Rattle.tmpl_grammar.specs.Constant.{IsConstant}
+use Rattle.tmpl_grammar.specs.Operand as operand
+use Rattle.tmpl_grammar.specs.Operand.{IsOperand}
+use Rattle.tmpl_grammar.proofs.IsOperandLemmas.{is-computed-operand}
 use Rattle.tmpl_grammar.specs.Depth.{depth_of_operand, depth_of_operands, depth_of_pipeline}
 
 abbrev pub deep_operands : List Operand → ℕ
@@ -63,6 +67,26 @@ closed-depth h =
     omega (arith, s) in
     e)
     (whole-depth h.inner.commands (settled h.last h.inner.operands))
+
+-- an operand without parentheses
+abbrev IsFlat : Option Operand → Type 0
+IsFlat None = Unit {0}
+IsFlat (Some o) = depth_of_operand o ≡ 0
+
+constant-flat : {t : Token} {o : Operand} → IsConstant t o → depth_of_operand o ≡ 0
+constant-flat (constant.number is) = refl
+constant-flat _ = refl
+
+operand-flat : {t : Token} {o : Operand} → IsOperand t o → depth_of_operand o ≡ 0
+operand-flat (operand.a_constant is) = constant-flat is
+operand-flat _ = refl
+
+flat-at : (t : Token) → IsFlat (operand_at t)
+flat-at t = by (operand_at t) refl
+  where
+    by : (o : Option Operand) → operand_at t ≡ o → IsFlat o
+    by None e = tt
+    by (Some o) e = operand-flat (is-computed-operand t o e)
 
 -- what a step makes of the depth
 abbrev pub Steps : Parser → Option Parser → Type 0

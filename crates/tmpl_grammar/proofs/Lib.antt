@@ -1,7 +1,6 @@
 pub mod ActionExamples
 pub mod ActionLemmas
 pub mod ConstantExamples
-pub mod ConstantLemmas
 pub mod DepthLemmas
 pub mod DigitLemmas
 pub mod EscapeLemmas

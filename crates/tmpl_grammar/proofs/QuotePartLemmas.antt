@@ -83,7 +83,7 @@ found P c e (p ∷ ps) h is = found-at P (nat_eq c p.0) c e p.0 p.1 (letter_of c
 letter-back : (c e : ℕ) → letter_of c letters ≡ Some e → byte_named 34 e ≡ Some c
 letter-back c e = found (λ c e. byte_named 34 e ≡ Some c) c e letters (refl, (refl, (refl, (refl, (refl, (refl, (refl, (refl, (refl, tt)))))))))
 
-letter-ascii : (c e : ℕ) → letter_of c letters ≡ Some e → nat_lt c 128 ≡ true
+pub letter-ascii : (c e : ℕ) → letter_of c letters ≡ Some e → nat_lt c 128 ≡ true
 letter-ascii c e = found (λ c e. nat_lt c 128 ≡ true) c e letters (refl, (refl, (refl, (refl, (refl, (refl, (refl, (refl, (refl, tt)))))))))
 
 pub letter-no-newline : (c e : ℕ) → letter_of c letters ≡ Some e → nat_eq e 10 ≡ false

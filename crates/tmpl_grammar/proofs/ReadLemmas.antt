@@ -9,6 +9,9 @@ use Rattle.tmpl_lex.specs.Piece.{Token}
 use Rattle.tmpl_grammar.specs.Token.{begins_name, name_in}
 use Rattle.tmpl_grammar.specs.Tree as tree
 use Rattle.tmpl_grammar.specs.Tree.{Operand, Operands, Pipeline, operands_from, commands_from}
+use Rattle.tmpl_grammar.specs.Constant as constant
+use Rattle.tmpl_grammar.specs.Constant.{IsConstant}
+use Rattle.tmpl_grammar.specs.Operand as operand
 use Rattle.tmpl_grammar.specs.Operand.{IsOperand, begins_later}
 use Rattle.tmpl_grammar.specs.computed.Operand.{operand_at}
 use Rattle.tmpl_grammar.specs.computed.Parser as parser
@@ -16,7 +19,6 @@ use Rattle.tmpl_grammar.specs.computed.Parser.{Parser, Partial, settled, more_co
 use Rattle.tmpl_grammar.specs.computed.Parser.{steps, finished, finished_with, commands_after}
 use Rattle.tmpl_grammar.specs.Pipeline.{IsBlank, IsChain, IsChained, MayBeLater, SpellsOperand, SpellsMore, SpellsCommand, SpellsLater, SpellsPipeline}
 use Rattle.tmpl_grammar.proofs.IsOperandLemmas.{is-computed-operand}
-use Rattle.tmpl_grammar.proofs.ConstantLemmas.{IsToken, token-form}
 use Rattle.tmpl_grammar.proofs.SpelledLemmas.{parser_at, operand_list, command_list, operands-back, commands-back, Chains, fields-chain}
 use Rattle.tmpl_grammar.proofs.SpelledLemmas.{variable-chain, group-chain}
 
@@ -224,26 +226,31 @@ unchained : (o : Operand) → ((n : List ℕ) → linked o n ≡ None) → (ts :
 unchained o cannot [] p e = (e, refl)
 unchained o cannot (t ∷ ts) p (is, begins, (q, link, rest)) = absurd (let c = cannot (name_in t) in let g : ⊥ = cc in g)
 
-one-spells : (o : Operand) (t : Token) → IsOperand t o → ((n : List ℕ) → linked o n ≡ None)
-    → ((ts : List Token) → IsChained o [] ts → SpellsOperand o ts) → Spells o (t ∷ [])
-one-spells o t is cannot spells ts p e =
-    let u = unchained o cannot ts p e in
-    subst (λ p. SpellsOperand p (t ∷ ts)) u.0 (spells (t ∷ ts) (t, ts, refl, is, u.1))
+-- .. as a constant
+abbrev IsLone : Operand → Type 0
+IsLone o = ((n : List ℕ) → linked o n ≡ None) × ((ts : List Token) → IsChained o [] ts → SpellsOperand o ts)
 
-token-spells : (t : Token) (o : Operand) → operand_at t ≡ Some o → Spells o (t ∷ [])
-token-spells t o at = by o (is-computed-operand t o at) (subst IsToken at (token-form t))
-  where
-    by : (o : Operand) → IsOperand t o → IsToken (Some o) → Spells o (t ∷ [])
-    by (tree.fields names) at (n, is) = λ ts p e.
-        let c = chained tree.fields fields-chain names ts p e in
-        subst (λ p. SpellsOperand p (t ∷ ts)) (sym (c.1 ∙ ap (λ ns. tree.fields (ns ++ c.0)) is))
-        (t, ts, refl, subst (λ ns. IsOperand t (tree.fields ns)) is at, c.2)
-    by (tree.variable x names) at is = λ ts p e.
-        let c = chained (tree.variable x) (variable-chain x) names ts p e in
-        subst (λ p. SpellsOperand p (t ∷ ts)) (sym (c.1 ∙ ap (λ ns. tree.variable x (ns ++ c.0)) is))
-        (t, ts, refl, subst (λ ns. IsOperand t (tree.variable x ns)) is at, c.2)
-    by (tree.group commands names) at form = absurd form
-    by o at form = one-spells o t at (λ n. refl) (λ ts c. c)
+lone-constant : (t : Token) (o : Operand) → IsConstant t o → IsLone o
+lone-constant _ _ (constant.number is) = (λ n. refl, λ ts c. c)
+lone-constant _ _ _ = (λ n. refl, λ ts c. c)
+
+lone-spells : (t : Token) (o : Operand) → IsOperand t o → IsLone o → Spells o (t ∷ [])
+lone-spells t o is lone ts p e =
+    let u = unchained o lone.0 ts p e in
+    subst (λ p. SpellsOperand p (t ∷ ts)) u.0 (lone.1 (t ∷ ts) (t, ts, refl, is, u.1))
+
+token-spells : (t : Token) (o : Operand) → IsOperand t o → Spells o (t ∷ [])
+token-spells t _ (operand.field is begins) = λ ts p e.
+    let c = chained tree.fields fields-chain (name_in t ∷ []) ts p e in
+    subst (λ p. SpellsOperand p (t ∷ ts)) (sym c.1) (t, ts, refl, operand.field is begins, c.2)
+token-spells t _ (operand.variable is) = λ ts p e.
+    let c = chained (tree.variable (name_in t)) (variable-chain (name_in t)) [] ts p e in
+    subst (λ p. SpellsOperand p (t ∷ ts)) (sym c.1) (t, ts, refl, operand.variable is, c.2)
+token-spells t o (operand.a_constant is) = lone-spells t o (operand.a_constant is) (lone-constant t o is)
+token-spells _ _ operand.dot = lone-spells _ _ operand.dot (λ n. refl, λ ts c. c)
+token-spells _ _ (operand.truth b) = lone-spells _ _ (operand.truth b) (λ n. refl, λ ts c. c)
+token-spells _ _ operand.nil_word = lone-spells _ _ operand.nil_word (λ n. refl, λ ts c. c)
+token-spells _ _ (operand.a_function f) = lone-spells _ _ (operand.a_function f) (λ n. refl, λ ts c. c)
 
 group-spells : (cs : Pipeline) (l r : Token) (a : List Token) → l.kind ≡ kind.LeftParenthesis → r.kind ≡ kind.RightParenthesis
     → SpellsPipeline cs a → Spells (tree.group cs []) (l ∷ a ++ (r ∷ []))
@@ -363,7 +370,7 @@ module _ (t : Token) (cs : List Operands) (os : List Operand) (ts : List Token) 
 
   kept-ends : (ls : List Partial) (o : Operand) → operand_at t ≡ Some o → (b : Bool) → may_stand cs os o ≡ b
       → EndsOpt (kept_if b (parser_at ls cs os (Some o))) ts all → EndsIn ls None cs os (t ∷ ts) all
-  kept-ends ls o at true may e = operand-within ls (t ∷ []) o cs os (token-spells t o at) may ts all e
+  kept-ends ls o at true may e = operand-within ls (t ∷ []) o cs os (token-spells t o (is-computed-operand t o at)) may ts all e
   kept-ends ls o at false may e = absurd e
 
   placed-ends : (ls : List Partial) (last o : Option Operand) → operand_at t ≡ o
