@@ -26,7 +26,7 @@ other-first true m b c bs rest e low other h =
 other-first false m b c bs rest e low other h = refl
 
 -- a character as it is
-pub char-at : (quote c : ℕ) (rest : List ℕ) → quote < 128 → IsScalar c → (c ≡ 92 → ⊥) → (c ≡ quote → ⊥)
+char-at : (quote c : ℕ) (rest : List ℕ) → quote < 128 → IsScalar c → (c ≡ 92 → ⊥) → (c ≡ quote → ⊥)
     → part_at quote (encode_utf8 c ++ rest) ≡ Some (char c, len_utf8 c)
 unfolding part_at
 char-at quote c rest low s slash other = split (encode_utf8 c ++ rest) refl
@@ -63,7 +63,7 @@ mark-scalar _ double = refl
 mark-scalar _ single = refl
 
 -- a part comes off the front
-pub parts-seam : (quote : ℕ) (s rest : List ℕ) (p : Rune) → 0 < length s → part_at quote (s ++ rest) ≡ Some (p, length s)
+parts-seam : (quote : ℕ) (s rest : List ℕ) (p : Rune) → 0 < length s → part_at quote (s ++ rest) ≡ Some (p, length s)
     → parts quote (s ++ rest) ≡ with_part p (parts quote rest)
 parts-seam quote s rest p low is =
     parts-first quote (s ++ rest) (p, length s) (omega (arith, length-append s rest)) is low (omega (arith, length-append s rest))

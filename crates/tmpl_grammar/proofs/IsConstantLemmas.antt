@@ -30,7 +30,7 @@ use Rattle.tmpl_grammar.proofs.OptionLemmas.{no-value, mapped, chained}
 abbrev quoted : ℕ → List ℕ → Bool
 quoted quote bs = nat_le 2 (length bs) && (nat_eq (get_or bs 0 0) quote && nat_eq (get_or bs (length bs - 1) 0) quote)
 
-pub between-quotes : (quote : ℕ) (xs : List ℕ) → between quote (quote ∷ (xs ++ quote ∷ [])) ≡ Some xs
+between-quotes : (quote : ℕ) (xs : List ℕ) → between quote (quote ∷ (xs ++ quote ∷ [])) ≡ Some xs
 between-quotes quote xs =
     let bs : List ℕ = quote ∷ (xs ++ quote ∷ []) in
     let n : length bs - 1 ≡ suc (length xs) = omega (arith, length-append xs (quote ∷ [])) in
