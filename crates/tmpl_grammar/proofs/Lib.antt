@@ -20,7 +20,6 @@ pub mod NeedLemmas
 pub mod OptionLemmas
 pub mod PipelineExamples
 pub mod PipelineLemmas
-pub mod PositionLemmas
 pub mod PrintLemmas
 pub mod PrintableActionLemmas
 pub mod PrintableConstantLemmas

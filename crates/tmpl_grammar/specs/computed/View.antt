@@ -10,7 +10,6 @@ use Rattle.tmpl_grammar.specs.computed.Depth as depth
 use Rattle.tmpl_grammar.specs.View.{operand_of, command_of, binding_of, action_of}
 use Rattle.tmpl_grammar.specs.computed.Reading as reading
 use Rattle.tmpl_grammar.specs.computed.Parser as parser
-use Rattle.tmpl_grammar.specs.computed.Limited as limited
 use Rattle.tmpl_grammar.specs.declared.tree.Binding as held_binding
 use Rattle.tmpl_grammar.specs.declared.action.Reading as held_reading
 use Rattle.tmpl_grammar.specs.declared.action.Reading.TheVariants as held
@@ -20,7 +19,6 @@ use Rattle.tmpl_grammar.specs.declared.header.Front.{Front}
 use Rattle.tmpl_grammar.specs.declared.header.Front.TheVariants as front
 use Rattle.tmpl_grammar.specs.declared.pipeline.parser.PipelineParser.{PipelineParser}
 use Rattle.tmpl_grammar.specs.declared.pipeline.parser.PartialPipeline.{PartialPipeline}
-use Rattle.tmpl_grammar.specs.declared.pipeline.LimitedParser.{LimitedParser}
 
 abbrev pub action_reading : held_reading.Reading → depth.Reading
 action_reading held.Unread = depth.unread
@@ -54,9 +52,6 @@ parser_of h = record {
   inner = partial_of h.inner;
   last = option_map operand_of h.last;
 }
-
-abbrev pub limited_of : LimitedParser → limited.Limited
-limited_of l = record { parser = parser_of l.parser; beyond = l.beyond }
 
 -- what a part between quotes stands for, and how many bytes spell it
 abbrev pub rune_of : Part → Rune
