@@ -29,7 +29,7 @@ use Rattle.tmpl_grammar.proofs.TokenLemmas.{no-next, blank-next, blank-all, all-
 use Rattle.tmpl_grammar.proofs.StrayLemmas.{word-stray, then-stray, dead-read, blank-read, spelled-lives}
 use Rattle.tmpl_grammar.proofs.IsConstantLemmas.{computes-constant, is-computed-constant}
 use Rattle.tmpl_grammar.proofs.PipelineLemmas.{reads-spelled, spells-read}
-use Rattle.tmpl_grammar.proofs.HeaderLemmas.{variable-other, IsRest, header-read, header-spelled}
+use Rattle.tmpl_grammar.proofs.HeaderLemmas.{variable-other, header-read, header-spelled}
 
 -- ---- keywords
 
@@ -108,8 +108,9 @@ pipeline-plain cs ts s = by (next ts) refl
     by-keyword : (t : Token) (us : List Token) → next ts ≡ Some (t, us) → (o : Option Keyword) → keyword_of t ≡ o → Plain ts
     by-keyword t us e None is = record { token = t; rest = us; first_is = e; other = is }
     by-keyword t us e (Some k) is =
-        spelled-lives ts cs s (dead-read ts (then-stray (IsWord (spelling k)) (IsRest us) ts (word-stray k)
-        (led-then (IsWord (spelling k)) (IsRest us) ts t us e (known-word t k is) refl)))
+        let Any : List Token → Type 0 = λ us. Unit {0} in
+        spelled-lives ts cs s (dead-read ts (then-stray (IsWord (spelling k)) Any ts (word-stray k)
+        (led-then (IsWord (spelling k)) Any ts t us e (known-word t k is) tt)))
 
     by : (o : Option (Token × List Token)) → next ts ≡ o → Plain ts
     by None e = spelled-lives ts cs s (blank-read ts (no-next ts e))

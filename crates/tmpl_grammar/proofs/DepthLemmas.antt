@@ -1,180 +1,127 @@
--- For `pipeline`: how deep a pipeline is that is read in part, and that the parser's steps keep it.
-use Rattle.std.proofs.Common.{arith, ◌≡◌, ◌∙◌, ◌≤◌, ℕ, ◌+◌, max, Bool, true, false, List, [], ◌∷◌, ◌++◌, Option, Some, None, refl, ap, sym, subst, length}
-use Rattle.std.specs.Option.{option_map, option_and_then}
+-- For `pipeline`: a pipeline is as deep as the parentheses of its tokens are open at most.
+use Rattle.std.proofs.Common.{arith, ◌≡◌, ◌∙◌, ◌≤◌, ℕ, suc, ◌+◌, ◌-◌, ◌<◌, max, nat_le, false, List, [], ◌∷◌, ◌++◌}
+use Rattle.std.proofs.Common.{refl, sym, ap, subst, append_assoc, append-nil}
+use Rattle.std.proofs.lemmas.Bool.Decides.{nat_tests}
 use Rattle.tmpl_lex.specs.declared.piece.TokenKind.{TokenKind}
 use Rattle.tmpl_lex.specs.declared.piece.TokenKind.TheVariants as kind
 use Rattle.tmpl_lex.specs.Piece.{Token}
-use Rattle.tmpl_grammar.specs.Token.{begins_name, name_in}
 use Rattle.tmpl_grammar.specs.Tree as tree
-use Rattle.tmpl_grammar.specs.Tree.{Operand, Operands, operands_from, commands_from}
-use Rattle.tmpl_grammar.specs.computed.Operand.{operand_at}
-use Rattle.tmpl_grammar.specs.computed.Parser as parser
-use Rattle.tmpl_grammar.specs.computed.Parser.{Parser, Partial, settled, more_commands, closed, kept_if, linked_by, step, step_by}
-use Rattle.tmpl_grammar.specs.computed.Parser.{steps, finished, commands_after}
-use Rattle.tmpl_grammar.proofs.ConstantLemmas.{IsFlat, flat-at}
+use Rattle.tmpl_grammar.specs.Tree.{Operand, Operands, Pipeline}
+use Rattle.tmpl_grammar.specs.Constant as constant
+use Rattle.tmpl_grammar.specs.Constant.{IsConstant}
+use Rattle.tmpl_grammar.specs.Operand as operand
+use Rattle.tmpl_grammar.specs.Operand.{IsOperand}
+use Rattle.tmpl_grammar.specs.Pipeline.{IsBlank, IsChain, IsChained, SpellsOperand, SpellsMore, SpellsCommand, SpellsLater, SpellsPipeline}
 use Rattle.tmpl_grammar.specs.Depth.{depth_of_operand, depth_of_operands, depth_of_pipeline}
+use Rattle.tmpl_grammar.specs.computed.Limited.{depth_behind, deepest}
 
-abbrev pub deep_operands : List Operand → ℕ
-deep_operands os = depth_of_operands (operands_from os)
+-- tokens that close what they open, and open so many within
+abbrev Nests : ℕ → List Token → Type 0
+Nests d ts = (n : ℕ) (us : List Token) → deepest n (ts ++ us) ≡ max (n + d) (deepest n us)
 
-abbrev pub deep_commands : List Operands → ℕ
-deep_commands cs = depth_of_pipeline (commands_from cs)
+least : (n : ℕ) (ts : List Token) → n ≤ deepest n ts
+least n [] = omega arith
+least n (t ∷ ts) = omega arith
 
-abbrev pub deep_last : Option Operand → ℕ
-deep_last None = 0
-deep_last (Some o) = depth_of_operand o
+-- a token behind which too many are open
+pub too-deep : (most n m : ℕ) (ts : List Token) (t : Token) (us : List Token) → ts ≡ t ∷ us → m ≡ depth_behind t.kind n → most < m
+    → nat_le (deepest n ts) most ≡ false
+too-deep most n m ts t us is e h =
+    let whole = ap (deepest n) is in
+    let same = ap (λ k. deepest k us) e in
+    let low = least m us in
+    grind (arith, nat_tests, whole, same, low)
 
-abbrev pub deep_partial : Partial → ℕ
-deep_partial l = max (deep_commands l.commands) (deep_operands l.operands)
+none-nests : Nests 0 []
+none-nests n us = let low = least n us in omega (arith, low)
 
-abbrev pub deep_outer : List Partial → ℕ
-deep_outer [] = 0
-deep_outer (l ∷ ls) = max (length ls + deep_partial l) (deep_outer ls)
+-- a token that is no parenthesis, and tokens behind it
+one-nests : (t : Token) (ts : List Token) (d : ℕ) → ((n : ℕ) → depth_behind t.kind n ≡ n) → Nests d ts → Nests d (t ∷ ts)
+one-nests t ts d same h n us =
+    let here = ap (λ m. deepest m (ts ++ us)) (same n) in
+    let more = h n us in
+    omega (arith, here, more)
 
--- the depth so far
-abbrev pub parser_depth : Parser → ℕ
-parser_depth h = max (deep_outer h.outer) (length h.outer + max (deep_partial h.inner) (deep_last h.last))
+of-kind : (t : Token) (ts : List Token) (d : ℕ) (k : TokenKind) → t.kind ≡ k → ((n : ℕ) → depth_behind k n ≡ n) → Nests d ts → Nests d (t ∷ ts)
+of-kind t ts d k is same = one-nests t ts d (λ n. ap (λ k. depth_behind k n) is ∙ same n)
 
-more-operands : (os : List Operand) (o : Operand) → deep_operands (os ++ o ∷ []) ≡ max (deep_operands os) (depth_of_operand o)
-more-operands [] o = omega arith
-more-operands (p ∷ os) o = let rest = more-operands os o in omega (arith, rest)
+-- one list behind another
+both-nest : (ts us : List Token) (d e : ℕ) → Nests d ts → Nests e us → Nests (max d e) (ts ++ us)
+both-nest ts us d e h k n vs =
+    let whole = ap (deepest n) (append_assoc ts us vs) in
+    let front = h n (us ++ vs) in
+    let back = k n vs in
+    omega (arith, whole, front, back)
 
-more-commands : (cs : List Operands) (c : Operands) → deep_commands (cs ++ c ∷ []) ≡ max (deep_commands cs) (depth_of_operands c)
-more-commands [] c = omega arith
-more-commands (d ∷ cs) c = let rest = more-commands cs c in omega (arith, rest)
+blank-nests : (ws ts : List Token) (d : ℕ) → IsBlank ws → Nests d ts → Nests d (ws ++ ts)
+blank-nests [] ts d b h = h
+blank-nests (w ∷ ws) ts d b h = of-kind w (ws ++ ts) d kind.Space b.0 (λ n. refl) (blank-nests ws ts d b.1 h)
 
-settled-depth : (last : Option Operand) (os : List Operand) → deep_operands (settled last os) ≡ max (deep_operands os) (deep_last last)
-settled-depth None os = omega arith
-settled-depth (Some o) os = more-operands os o
+chain-nests : (names : List (List ℕ)) (ts : List Token) → IsChain names ts → Nests 0 ts
+chain-nests [] ts c = subst (Nests 0) (sym c) none-nests
+chain-nests (n ∷ names) ts (t, us, is, field, begins, name, rest) =
+    subst (Nests 0) (sym is) (of-kind t us 0 kind.Field field (λ n. refl) (chain-nests names us rest))
 
-abbrev pub IsClosed : ℕ → Option (List Operands) → Type 0
-IsClosed n None = Unit {0}
-IsClosed n (Some cs) = deep_commands cs ≡ n
+constant-apart : (t : Token) (o : Operand) → IsConstant t o → (n : ℕ) → depth_behind t.kind n ≡ n
+constant-apart _ _ (constant.number is) n = refl
+constant-apart _ _ _ n = refl
 
-whole-depth : (cs : List Operands) (os : List Operand) → IsClosed (max (deep_commands cs) (deep_operands os)) (more_commands cs os)
-whole-depth cs [] = tt
-whole-depth cs (o ∷ os) = more-commands cs (operands_from (o ∷ os))
+operand-apart : (t : Token) (o : Operand) → IsOperand t o → (n : ℕ) → depth_behind t.kind n ≡ n
+operand-apart t o (operand.field is begins) n = ap (λ k. depth_behind k n) is
+operand-apart t o (operand.variable is) n = ap (λ k. depth_behind k n) is
+operand-apart t o (operand.a_constant is) n = constant-apart t o is n
+operand-apart _ _ _ n = refl
 
-closed-depth : (h : Parser) → IsClosed (max (deep_partial h.inner) (deep_last h.last)) (closed h)
-closed-depth h =
-    subst (λ n. IsClosed n (closed h))
-    (let s = settled-depth h.last h.inner.operands in
-    let e : max (deep_commands h.inner.commands) (deep_operands (settled h.last h.inner.operands)) ≡ max (deep_partial h.inner) (deep_last h.last) =
-    omega (arith, s) in
-    e)
-    (whole-depth h.inner.commands (settled h.last h.inner.operands))
+chained-nests : (o : Operand) (names : List (List ℕ)) (ts : List Token) → IsChained o names ts → Nests 0 ts
+chained-nests o names ts (t, us, is, at, chain) = subst (Nests 0) (sym is) (one-nests t us 0 (operand-apart t o at) (chain-nests names us chain))
 
--- what a step makes of the depth
-abbrev pub Steps : Parser → Option Parser → Type 0
-Steps h None = Unit {0}
-Steps h (Some r) = parser_depth r ≡ max (parser_depth h) (length r.outer)
+-- parentheses around tokens, and a chain behind them
+group-nests : (l r : Token) (ts us : List Token) (d : ℕ) → l.kind ≡ kind.LeftParenthesis → r.kind ≡ kind.RightParenthesis → Nests d ts → Nests 0 us
+    → Nests (1 + d) (l ∷ ts ++ r ∷ us)
+group-nests l r ts us d left right h k n vs =
+    let whole = ap (deepest (suc n)) (append_assoc ts (r ∷ us) vs) in
+    let at_left = ap (λ k. deepest (depth_behind k n) ((ts ++ r ∷ us) ++ vs)) left in
+    let at_right = ap (λ k. deepest (depth_behind k (suc n)) (us ++ vs)) right ∙ ap (λ m. deepest m (us ++ vs)) (let e : suc n - 1 ≡ n = omega arith in e) in
+    let inner = h (suc n) (r ∷ (us ++ vs)) in
+    let behind = k n vs in
+    let low = least n vs in
+    omega (arith, whole, at_left, at_right, inner, behind, low)
 
-kept-steps : (b : Bool) (h r : Parser) → Steps h (Some r) → Steps h (kept_if b r)
-kept-steps true h r s = s
-kept-steps false h r s = tt
+mutual
+  operand-nests : (o : Operand) (ts : List Token) → SpellsOperand o ts → Nests (depth_of_operand o) ts
+  operand-nests (tree.fields (n ∷ ns)) ts s = chained-nests (tree.fields (n ∷ [])) ns ts s
+  operand-nests (tree.variable name names) ts s = chained-nests (tree.variable name []) names ts s
+  operand-nests (tree.group commands names) ts (l, inner, r, us, is, left, right, p, chain) =
+      subst (Nests (1 + depth_of_pipeline commands)) (sym is)
+      (group-nests l r inner us (depth_of_pipeline commands) left right (pipeline-nests commands inner p) (chain-nests names us chain))
+  operand-nests o ts s = chained-nests o [] ts s
 
--- a last operand in place of none
-ending-steps : (h : Parser) (o : Operand) → deep_last h.last ≡ depth_of_operand o → Steps h (Some (parser.ending_with h o))
-ending-steps h o e = omega (arith, e)
+  more-nests : (os : Operands) (ts : List Token) → SpellsMore os ts → Nests (depth_of_operands os) ts
+  more-nests tree.no_operand ts s = subst (Nests 0) (append-nil ts) (blank-nests ts [] 0 s none-nests)
+  more-nests (tree.operand o os) ts (w, ws, a, b, is, blank, spells, rest) =
+      subst (Nests (depth_of_operands (tree.operand o os))) (sym is)
+      (blank-nests (w ∷ ws) (a ++ b) _ blank (both-nest a b _ _ (operand-nests o a spells) (more-nests os b rest)))
 
-placed-steps : (h : Parser) (last o : Option Operand) → last ≡ h.last → IsFlat o → Steps h (parser.placed last o h)
-placed-steps h None None e flat = tt
-placed-steps h None (Some o) e flat = kept-steps _ h _ (ending-steps h o (ap deep_last (sym e) ∙ sym flat))
-placed-steps h (Some p) o e flat = tt
+  command-nests : (os : Operands) (ts : List Token) → SpellsCommand os ts → Nests (depth_of_operands os) ts
+  command-nests tree.no_operand ts s = absurd s
+  command-nests (tree.operand o os) ts (ws, a, b, is, blank, spells, rest) =
+      subst (Nests (depth_of_operands (tree.operand o os))) (sym is)
+      (blank-nests ws (a ++ b) _ blank (both-nest a b _ _ (operand-nests o a spells) (more-nests os b rest)))
 
--- a chain adds no parentheses
-abbrev IsAsDeep : Operand → Option Operand → Type 0
-IsAsDeep o None = Unit {0}
-IsAsDeep o (Some p) = depth_of_operand o ≡ depth_of_operand p
+  later-nests : (cs : Pipeline) (ts : List Token) → SpellsLater cs ts → Nests (depth_of_pipeline cs) ts
+  later-nests tree.no_command ts s = subst (Nests 0) (sym s) none-nests
+  later-nests (tree.command os cs) ts (bar, a, b, is, bars, may, spells, rest) =
+      subst (Nests (depth_of_pipeline (tree.command os cs))) (sym is)
+      (of-kind bar (a ++ b) _ kind.Pipe bars (λ n. refl) (both-nest a b _ _ (command-nests os a spells) (later-nests cs b rest)))
 
-linked-deep : (o : Operand) (name : List ℕ) → IsAsDeep o (parser.linked o name)
-linked-deep (tree.fields names) name = refl
-linked-deep (tree.variable x names) name = refl
-linked-deep (tree.group commands names) name = refl
-linked-deep _ name = tt
+  pipeline-nests : (cs : Pipeline) (ts : List Token) → SpellsPipeline cs ts → Nests (depth_of_pipeline cs) ts
+  pipeline-nests tree.no_command ts s = absurd s
+  pipeline-nests (tree.command os cs) ts (a, b, is, spells, rest) =
+      subst (Nests (depth_of_pipeline (tree.command os cs))) (sym is)
+      (both-nest a b _ _ (command-nests os a spells) (later-nests cs b rest))
 
-linked_by-deep : (b : Bool) (o : Operand) (name : List ℕ) → IsAsDeep o (linked_by b o name)
-linked_by-deep true o name = linked-deep o name
-linked_by-deep false o name = tt
-
-linked-steps : (h : Parser) (o : Operand) (p : Option Operand) → Some o ≡ h.last → IsAsDeep o p → Steps h (option_map (parser.ending_with h) p)
-linked-steps h o None e d = tt
-linked-steps h o (Some p) e d = ending-steps h p (ap deep_last (sym e) ∙ d)
-
-fielded-steps : (h : Parser) (last : Option Operand) (t : Token) → last ≡ h.last → Steps h (parser.fielded last t h)
-fielded-steps h None t e = placed-steps h None (operand_at t) e (flat-at t)
-fielded-steps h (Some o) t e = linked-steps h o _ e (linked_by-deep (begins_name (name_in t)) o (name_in t))
-
-apart-steps : (h : Parser) → Steps h (Some (parser.apart h))
-apart-steps h = let s = settled-depth h.last h.inner.operands in omega (arith, s)
-
-barred-steps : (h : Parser) (o : Option (List Operands)) → IsClosed (max (deep_partial h.inner) (deep_last h.last)) o → Steps h (option_map (parser.barred h) o)
-barred-steps h None c = tt
-barred-steps h (Some cs) c = omega (arith, c)
-
-opened-steps : (h : Parser) (last : Option Operand) → last ≡ h.last → Steps h (parser.opened last h)
-opened-steps h None e = let d : deep_last h.last ≡ 0 = ap deep_last (sym e) in omega (arith, d)
-opened-steps h (Some o) e = tt
-
-left-steps : (h : Parser) (ls : List Partial) (o : Option (List Operands)) → ls ≡ h.outer
-    → IsClosed (max (deep_partial h.inner) (deep_last h.last)) o → Steps h (parser.left_with ls o)
-left-steps h [] o e c = tt
-left-steps h (l ∷ ls) None e c = tt
-left-steps h (l ∷ ls) (Some cs) e c =
-    let m = ap length (sym e) in
-    let n : length h.outer ≡ 1 + length ls = omega (arith, m) in
-    let d : deep_outer h.outer ≡ max (length ls + deep_partial l) (deep_outer ls) = ap deep_outer (sym e) in
-    omega (arith, c, n, d)
-
-step_by-steps : (k : TokenKind) (t : Token) (h : Parser) → Steps h (step_by k t h)
-step_by-steps kind.Space t h = apart-steps h
-step_by-steps kind.Pipe t h = barred-steps h (closed h) (closed-depth h)
-step_by-steps kind.LeftParenthesis t h = opened-steps h h.last refl
-step_by-steps kind.RightParenthesis t h = left-steps h h.outer (closed h) refl (closed-depth h)
-step_by-steps kind.Field t h = fielded-steps h h.last t refl
-step_by-steps _ t h = placed-steps h h.last (operand_at t) refl (flat-at t)
-
-pub step-steps : (t : Token) (h : Parser) → Steps h (step t h)
-unfolding step
-step-steps t h = step_by-steps t.kind t h
-
--- ---- to the end
-
-pub finished-depth : (h : Parser) → IsClosed (parser_depth h) (finished h)
-unfolding finished
-finished-depth h = by h.outer refl (closed h) (closed-depth h)
-  where
-    by : (ls : List Partial) → ls ≡ h.outer → (o : Option (List Operands)) → IsClosed (max (deep_partial h.inner) (deep_last h.last)) o
-        → IsClosed (parser_depth h) (parser.finished_with ls o)
-    by [] e None c = tt
-    by [] e (Some cs) c =
-        let n : length h.outer ≡ 0 = ap length (sym e) in
-        let d : deep_outer h.outer ≡ 0 = ap deep_outer (sym e) in
-        omega (arith, c, n, d)
-    by (l ∷ ls) e o c = tt
-
--- the whole is no less deep than its beginning
-abbrev pub IsAtLeast : ℕ → Option (List Operands) → Type 0
-IsAtLeast n None = Unit {0}
-IsAtLeast n (Some cs) = n ≤ deep_commands cs
-
-closed-least : (n : ℕ) (o : Option (List Operands)) → IsClosed n o → IsAtLeast n o
-closed-least n None c = tt
-closed-least n (Some cs) c = omega (arith, c)
-
-pub less-least : (m n : ℕ) (o : Option (List Operands)) → m ≤ n → IsAtLeast n o → IsAtLeast m o
-less-least m n None h c = tt
-less-least m n (Some cs) h c = omega (arith, c)
-
-pub none-behind : (ts : List Token) → steps None ts ≡ None
-none-behind [] = refl
-none-behind (t ∷ ts) = none-behind ts
-
-behind-least : (h : Parser) (ts : List Token) (o : Option Parser) → Steps h o
-    → ((r : Parser) → IsAtLeast (parser_depth r) (commands_after r ts)) → IsAtLeast (parser_depth h) (option_and_then finished (steps o ts))
-behind-least h ts None s rest = subst (λ o. IsAtLeast (parser_depth h) (option_and_then finished o)) (sym (none-behind ts)) tt
-behind-least h ts (Some r) s rest = less-least (parser_depth h) (parser_depth r) (commands_after r ts) (omega (arith, s)) (rest r)
-
-pub end-least : (h : Parser) (ts : List Token) → IsAtLeast (parser_depth h) (commands_after h ts)
-end-least h [] = closed-least (parser_depth h) (finished h) (finished-depth h)
-end-least h (t ∷ ts) = behind-least h ts (step t h) (step-steps t h) (λ r. end-least r ts)
+pub pipeline-depth : (cs : Pipeline) (ts : List Token) → SpellsPipeline cs ts → depth_of_pipeline cs ≡ deepest 0 ts
+pipeline-depth cs ts s =
+    let whole = ap (deepest 0) (append-nil ts) in
+    let deep = pipeline-nests cs ts s 0 [] in
+    omega (arith, whole, deep)

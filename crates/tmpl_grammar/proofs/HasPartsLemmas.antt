@@ -1,9 +1,9 @@
 -- For `one_constant`: the runes between quotes that are computed are those that the relation admits.
 use Rattle.std.proofs.Common.{◌≡◌, ◌∙◌, ℕ, zero, suc, ◌<◌, ◌≤◌, Bool, true, false, nat_eq, List, [], ◌∷◌, ◌++◌, length, drop, get_or}
-use Rattle.std.proofs.Common.{Option, Some, None, refl, sym, ap, subst, arith, length-append, length-drop, if◌then◌else◌}
+use Rattle.std.proofs.Common.{Option, Some, None, option_and_then, refl, sym, ap, subst, arith, length-append, length-drop, if◌then◌else◌}
 use Rattle.std.specs.Char.{encode_utf8, len_utf8, IsScalar}
 use Rattle.std.proofs.Math.Seq.{drop-append_seam}
-use Rattle.std.proofs.lemmas.List.{take-append-drop}
+use Rattle.std.proofs.lemmas.List.{take-append-drop, drop_all}
 use Rattle.std.proofs.lemmas.Bool.Decides.{nat_tests}
 use Rattle.std.proofs.lemmas.Option.{same_Some}
 use Rattle.std.proofs.lemmas.Str.{length-encode, len_utf8_bounds, char_from_byte, encode_ascii}
@@ -11,10 +11,10 @@ use Rattle.tmpl_values.specs.Rune.{Rune, BeginsNoChar, char}
 use Rattle.tmpl_values.specs.Rune.{first_rune}
 use Rattle.tmpl_values.proofs.HasRunesLemmas.{begins-none, byte-first}
 use Rattle.tmpl_values.proofs.RuneLemmas.{first_rune-encode, Front, encoding, lone, front}
-use Rattle.tmpl_grammar.specs.Constant.Quoted.{SpellsRunes, at_end, a_char, a_byte, an_escape}
-use Rattle.tmpl_grammar.specs.computed.Quoted.{Spelled, rune_part, escape, part_at, with_part, parts}
+use Rattle.tmpl_grammar.specs.Constant.Quoted.{code_of, SpellsRunes, at_end, a_char, a_byte, an_escape}
+use Rattle.tmpl_grammar.specs.computed.Quoted.{Spelled, rune_part, escape, part_at, with_part, parts, whole_code, rune_code}
 use Rattle.tmpl_grammar.proofs.EscapeLemmas.{IsMark, double, single, escape-at, escape-some, HasEscape, has-escape}
-use Rattle.tmpl_grammar.proofs.OptionLemmas.{no-value, mapped}
+use Rattle.tmpl_grammar.proofs.OptionLemmas.{no-value, mapped, Chained, chained}
 use Rattle.tmpl_grammar.proofs.QuotedLemmas.{parts-nil, parts-first, parts-none}
 
 -- ---- what the relation admits is computed
@@ -26,7 +26,7 @@ other-first true m b c bs rest e low other h =
 other-first false m b c bs rest e low other h = refl
 
 -- a character as it is
-pub char-at : (quote c : ℕ) (rest : List ℕ) → quote < 128 → IsScalar c → (c ≡ 92 → ⊥) → (c ≡ quote → ⊥)
+char-at : (quote c : ℕ) (rest : List ℕ) → quote < 128 → IsScalar c → (c ≡ 92 → ⊥) → (c ≡ quote → ⊥)
     → part_at quote (encode_utf8 c ++ rest) ≡ Some (char c, len_utf8 c)
 unfolding part_at
 char-at quote c rest low s slash other = split (encode_utf8 c ++ rest) refl
@@ -63,24 +63,56 @@ mark-scalar _ double = refl
 mark-scalar _ single = refl
 
 -- a part comes off the front
-pub parts-seam : (quote : ℕ) (s rest : List ℕ) (p : Rune) → 0 < length s → part_at quote (s ++ rest) ≡ Some (p, length s)
+parts-seam : (quote : ℕ) (s rest : List ℕ) (p : Rune) → 0 < length s → part_at quote (s ++ rest) ≡ Some (p, length s)
     → parts quote (s ++ rest) ≡ with_part p (parts quote rest)
 parts-seam quote s rest p low is =
     parts-first quote (s ++ rest) (p, length s) (omega (arith, length-append s rest)) is low (omega (arith, length-append s rest))
     ∙ ap (λ bs. with_part p (parts quote bs)) (drop-append_seam s rest)
 
-pub parts-computed : (quote : ℕ) (bs : List ℕ) (ps : List Rune) → IsMark quote → SpellsRunes quote bs ps → parts quote bs ≡ Some ps
-parts-computed quote _ _ m at_end = parts-nil quote
-parts-computed quote _ _ m (a_char {c = c} {rest = rest} {rs = ps} s other slash more) =
-    parts-seam quote (encode_utf8 c) rest (char c) (omega (arith, length-encode c, len_utf8_bounds c))
-    (char-at quote c rest (mark-low quote m) s slash other ∙ ap (λ n. Some (char c, n)) (sym (length-encode c)))
-    ∙ ap (with_part (char c)) (parts-computed quote rest ps m more)
-parts-computed quote _ _ m (a_byte {b = b} {rest = rest} {rs = ps} none more) =
-    parts-seam quote (b ∷ []) rest (char 65533) (omega arith) (byte-at quote b rest (mark-low quote m) (mark-scalar quote m) none)
-    ∙ ap (with_part (char 65533)) (parts-computed quote rest ps m more)
-parts-computed quote _ _ m (an_escape {spelling = s} {rest = rest} {r = p} {rs = ps} is more) =
-    parts-seam quote s rest p (escape-some quote s p is) (escape-at quote s rest p m is)
-    ∙ ap (with_part p) (parts-computed quote rest ps m more)
+-- the first rune, the bytes that spell it, and those behind them
+record Leading (quote : ℕ) (bs : List ℕ) (r : Rune) (rs : List Rune) : Type 0 where
+  spelling : List ℕ
+  rest : List ℕ
+  is : bs ≡ spelling ++ rest
+  some : 0 < length spelling
+  first : part_at quote (spelling ++ rest) ≡ Some (r, length spelling)
+  more : SpellsRunes quote rest rs
+
+leading : (quote : ℕ) (bs : List ℕ) (r : Rune) (rs : List Rune) → IsMark quote → SpellsRunes quote bs (r ∷ rs) → Leading quote bs r rs
+leading quote _ _ _ m (a_char {c = c} {rest = rest} s other slash more) = record {
+  spelling = encode_utf8 c;
+  rest = rest;
+  is = refl;
+  some = omega (arith, length-encode c, len_utf8_bounds c);
+  first = char-at quote c rest (mark-low quote m) s slash other ∙ ap (λ n. Some (char c, n)) (sym (length-encode c));
+  more = more;
+}
+leading quote _ _ _ m (a_byte {b = b} {rest = rest} none more) = record {
+  spelling = b ∷ [];
+  rest = rest;
+  is = refl;
+  some = omega arith;
+  first = byte-at quote b rest (mark-low quote m) (mark-scalar quote m) none;
+  more = more;
+}
+leading quote _ _ _ m (an_escape {spelling = s} {rest = rest} {r = p} is more) =
+    record { spelling = s; rest = rest; is = refl; some = escape-some quote s p is; first = escape-at quote s rest p m is; more = more }
+
+pub parts-computed : (quote : ℕ) (bs : List ℕ) (rs : List Rune) → IsMark quote → SpellsRunes quote bs rs → parts quote bs ≡ Some rs
+parts-computed quote _ [] m at_end = parts-nil quote
+parts-computed quote bs (r ∷ rs) m has =
+    let l = leading quote bs r rs m has in
+    ap (parts quote) l.is ∙ parts-seam quote l.spelling l.rest r l.some l.first ∙ ap (with_part r) (parts-computed quote l.rest rs m l.more)
+
+none-spelled : (quote : ℕ) (bs : List ℕ) → SpellsRunes quote bs [] → bs ≡ []
+none-spelled quote _ at_end = refl
+
+pub rune-computed : (quote : ℕ) (bs : List ℕ) (r : Rune) → IsMark quote → SpellsRunes quote bs (r ∷ []) → rune_code quote bs ≡ Some (code_of r)
+rune-computed quote bs r m has =
+    let l = leading quote bs r [] m has in
+    let n = ap length (none-spelled quote l.rest l.more) in
+    let same : nat_eq (length l.spelling) (length bs) ≡ true = grind (arith, nat_tests, ap length l.is, length-append l.spelling l.rest, n) in
+    ap (option_and_then (whole_code (length bs))) (ap (part_at quote) l.is ∙ l.first) ∙ ap (λ t. if t then Some (code_of r) else None) same
 
 -- ---- what is computed the relation admits
 
@@ -161,3 +193,17 @@ parts-in (suc n) quote (b ∷ bs) ps h low e =
 
 pub parts-admitted : (quote : ℕ) (bs : List ℕ) (ps : List Rune) → IsMark quote → parts quote bs ≡ Some ps → SpellsRunes quote bs ps
 parts-admitted quote bs ps m e = parts-in (length bs) quote bs ps (omega arith) (mark-low quote m) e
+
+pub rune-admitted : (quote : ℕ) (bs : List ℕ) (n : ℕ) → IsMark quote → rune_code quote bs ≡ Some n
+    → (r : Rune) × SpellsRunes quote bs (r ∷ []) × (code_of r ≡ n)
+rune-admitted quote bs n m e = by p.source (subst (HasFirst quote bs) p.is (has-first quote bs (mark-low quote m))) (nat_eq p.source.1 (length bs)) refl p.to
+  where
+    p : Chained (whole_code (length bs)) (part_at quote bs) n
+    p = chained (whole_code (length bs)) (part_at quote bs) n e
+
+    by : (p : Spelled) → FirstPart quote bs p → (t : Bool) → nat_eq p.1 (length bs) ≡ t → (if t then Some (code_of p.0) else None) ≡ Some n
+        → (r : Rune) × SpellsRunes quote bs (r ∷ []) × (code_of r ≡ n)
+    by p f true h k =
+        let none : drop p.1 bs ≡ [] = drop_all p.1 bs (grind (arith, nat_tests)) in
+        (p.0, f.leads [] (subst (λ xs. SpellsRunes quote xs []) (sym none) at_end), same_Some _ n k)
+    by p f false h k = no-value n k

@@ -18,9 +18,9 @@ use Rattle.tmpl_grammar.specs.computed.Integer.{integer}
 use Rattle.tmpl_grammar.specs.Constant.Quoted.{SpellsRunes, code_of}
 use Rattle.tmpl_grammar.specs.Laws.{IsAdmitted, IsComputed}
 use Rattle.tmpl_grammar.specs.computed.Constant.{constant_of, constant_by, string_in, raw_string_in, character_in}
-use Rattle.tmpl_grammar.specs.computed.Quoted.{between, parts, unquoted, one_code, rune_code}
+use Rattle.tmpl_grammar.specs.computed.Quoted.{between, parts, unquoted, rune_code}
 use Rattle.tmpl_grammar.proofs.EscapeLemmas.{double, single}
-use Rattle.tmpl_grammar.proofs.HasPartsLemmas.{parts-computed, parts-admitted}
+use Rattle.tmpl_grammar.proofs.HasPartsLemmas.{parts-computed, parts-admitted, rune-computed, rune-admitted}
 use Rattle.tmpl_grammar.proofs.IsIntegerLemmas.{integer-computed, integer-admitted}
 use Rattle.tmpl_grammar.proofs.OptionLemmas.{no-value, mapped, chained}
 
@@ -30,7 +30,7 @@ use Rattle.tmpl_grammar.proofs.OptionLemmas.{no-value, mapped, chained}
 abbrev quoted : ℕ → List ℕ → Bool
 quoted quote bs = nat_le 2 (length bs) && (nat_eq (get_or bs 0 0) quote && nat_eq (get_or bs (length bs - 1) 0) quote)
 
-pub between-quotes : (quote : ℕ) (xs : List ℕ) → between quote (quote ∷ (xs ++ quote ∷ [])) ≡ Some xs
+between-quotes : (quote : ℕ) (xs : List ℕ) → between quote (quote ∷ (xs ++ quote ∷ [])) ≡ Some xs
 between-quotes quote xs =
     let bs : List ℕ = quote ∷ (xs ++ quote ∷ []) in
     let n : length bs - 1 ≡ suc (length xs) = omega (arith, length-append xs (quote ∷ [])) in
@@ -89,7 +89,7 @@ computes-constant _ _ (constant.string {bs = bs} {rs = ps} has) =
 computes-constant _ _ (constant.raw_string bs) = ap (option_map raw_string_in) (between-quotes 96 bs)
 computes-constant _ _ (constant.character {bs = bs} {r = p} has) =
     ap (option_and_then character_in) (between-quotes 39 bs)
-    ∙ ap (λ o. option_map (λ n. number_constant (pos n)) (option_and_then one_code o)) (parts-computed 39 bs (p ∷ []) single has)
+    ∙ ap (option_map (λ n. number_constant (pos n))) (rune-computed 39 bs p single has)
 
 -- ---- what is computed the relation admits
 
@@ -113,19 +113,14 @@ is-raw bs o e =
     subst (λ xs. IsConstant (token kind.RawString xs) o) (between-is 96 bs inside.source inside.is)
     (subst (IsConstant (token kind.RawString (96 ∷ (inside.source ++ 96 ∷ [])))) inside.to (constant.raw_string inside.source))
 
-one-part : (ps : List Rune) (n : ℕ) → one_code ps ≡ Some n → (p : Rune) × (ps ≡ p ∷ []) × (code_of p ≡ n)
-one-part (p ∷ []) n e = (p, refl, same_Some _ _ e)
-one-part _ n e = no-value n e
-
 is-character : (bs : List ℕ) (o : Operand) → option_and_then character_in (between 39 bs) ≡ Some o → IsConstant (token kind.Character bs) o
 is-character bs o e =
     let inside = chained character_in (between 39 bs) o e in
     let code = mapped (λ n. number_constant (pos n)) (rune_code 39 inside.source) o inside.to in
-    let ps = chained one_code (parts 39 inside.source) code.source code.is in
-    let one = one-part ps.source code.source ps.to in
+    let one = rune-admitted 39 inside.source code.source single code.is in
     subst (λ xs. IsConstant (token kind.Character xs) o) (between-is 39 bs inside.source inside.is)
     (subst (IsConstant (token kind.Character (39 ∷ (inside.source ++ 39 ∷ [])))) (ap (λ n. number_constant (pos n)) one.2 ∙ code.to)
-    (constant.character (subst (SpellsRunes 39 inside.source) one.1 (parts-admitted 39 inside.source ps.source single ps.is))))
+    (constant.character one.1))
 
 is-constant : (k : TokenKind) (bs : List ℕ) (o : Operand) → constant_by k bs ≡ Some o → IsConstant (token k bs) o
 is-constant kind.Number bs o e = is-number bs o e

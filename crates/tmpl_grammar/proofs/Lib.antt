@@ -1,5 +1,4 @@
 pub mod ActionLemmas
-pub mod ConstantLemmas
 pub mod DepthLemmas
 pub mod DigitLemmas
 pub mod EscapeLemmas
@@ -17,7 +16,6 @@ pub mod ListLemmas
 pub mod NeedLemmas
 pub mod OptionLemmas
 pub mod PipelineLemmas
-pub mod PositionLemmas
 pub mod PrintLemmas
 pub mod PrintableActionLemmas
 pub mod PrintableConstantLemmas

@@ -1,163 +1,191 @@
--- For `pipeline`: up to the limit of parentheses the limited parser is the unlimited one, and beyond it stands at the
--- same places.
-use Rattle.std.proofs.Common.{arith, ◌≡◌, ◌∙◌, ◌≤◌, ◌<◌, ℕ, zero, suc, ◌+◌, Bool, true, false, nat_le, nat_lt, List, [], ◌∷◌, Option, Some}
-use Rattle.std.proofs.Common.{None, refl, ap, sym, subst, length, drop, add-one, is_some, ⊎_elim}
-use Rattle.std.proofs.lemmas.Bool.{le-leb, ltb-true, ltb-false}
+-- For `pipeline`, which lets go of what stands in parentheses where they nest too deep: it reads just the tokens that are read
+-- without a limit.
+use Rattle.std.proofs.Common.{arith, ◌≡◌, ◌∙◌, ◌<◌, ℕ, Bool, true, false, nat_le, List, [], ◌∷◌, ◌++◌, Option, Some, None}
+use Rattle.std.proofs.Common.{refl, ap, sym, map, ⊎_elim}
 use Rattle.std.proofs.lemmas.Bool.Decides.{leb_tells}
+use Rattle.std.proofs.lemmas.List.{map-append}
 use Rattle.std.specs.Option.{option_map, option_and_then}
+use Rattle.tmpl_lex.specs.declared.piece.TokenKind.{TokenKind}
+use Rattle.tmpl_lex.specs.declared.piece.TokenKind.TheVariants as kind
 use Rattle.tmpl_lex.specs.Piece.{Token}
+use Rattle.tmpl_grammar.specs.Token.{begins_name, name_in}
 use Rattle.tmpl_grammar.specs.Tree as tree
-use Rattle.tmpl_grammar.specs.Tree.{Operand, Operands, Pipeline, commands_from}
-use Rattle.tmpl_grammar.specs.computed.Parser.{Parser, Partial, step, steps, finished, commands_after, start}
-use Rattle.tmpl_grammar.specs.computed.Limited.{Limited, limited_start, count, emptied, restored, restored_by, forgotten_if, behind_step}
-use Rattle.tmpl_grammar.specs.computed.Limited.{limited_step, pipeline_by}
-use Rattle.tmpl_grammar.specs.Depth.{most_deep}
+use Rattle.tmpl_grammar.specs.Tree.{Operand, Operands, Pipeline, operands_from, commands_from}
+use Rattle.tmpl_grammar.specs.Depth.{depth_of_pipeline, most_deep}
 use Rattle.tmpl_grammar.specs.computed.Depth.{limited_by, limited_pipeline}
+use Rattle.tmpl_grammar.specs.computed.Limited.{deepest, emptied, pruned, pruned_step, pruned_steps, pruned_commands, limited_commands}
+use Rattle.tmpl_grammar.specs.computed.Operand.{operand_at}
+use Rattle.tmpl_grammar.specs.computed.Parser as parser
+use Rattle.tmpl_grammar.specs.computed.Parser.{Parser, Partial, settled, more_commands, closed, may_stand, kept_if, linked_by, step, step_by}
+use Rattle.tmpl_grammar.specs.computed.Parser.{steps, finished, finished_with, commands_after, start}
 use Rattle.tmpl_grammar.specs.computed.Reading.{pipeline_in}
-use Rattle.tmpl_grammar.proofs.DepthLemmas.{parser_depth, deep_commands, Steps, step-steps, IsAtLeast, IsClosed, end-least, less-least, finished-depth}
-use Rattle.tmpl_grammar.proofs.PositionLemmas.{Place, more, more-suc, place_of, position_in, IsHeld, held-none, step-place, passed, passes}
-use Rattle.tmpl_grammar.proofs.PositionLemmas.{ended, ends-as, finished-place, none-passes}
+use Rattle.tmpl_grammar.proofs.DepthLemmas.{pipeline-depth}
+use Rattle.tmpl_grammar.proofs.PipelineLemmas.{spells-read}
 
--- ---- places
+-- ---- with nothing in parentheses
 
-abbrev pub place : Limited → Place
-place l = place_of (count l.beyond) l.parser
+abbrev emptied_operands : Operands → Operands
+emptied_operands tree.no_operand = tree.no_operand
+emptied_operands (tree.operand o os) = tree.operand (emptied o) (emptied_operands os)
 
-emptied-behind : (last : Option Operand) (l : Partial) → position_in (option_map emptied last) l ≡ position_in last l
-emptied-behind (Some (tree.fields names)) l = refl
-emptied-behind _ l = refl
+abbrev emptied_commands : List Operands → List Operands
+emptied_commands cs = map emptied_operands cs
 
-restored-place : (b : Option ℕ) (h : Parser) → place (restored_by b h) ≡ place_of (count b) h
-restored-place None h = refl
-restored-place (Some zero) h = ap (λ p. record { position = p; depth = length h.outer }) (emptied-behind h.last h.inner)
-restored-place (Some (suc n)) h =
-    ap (λ p. record { position = p; depth = more n (suc (length h.outer)) }) (emptied-behind h.last h.inner)
-    ∙ ap (λ m. record { position = position_in h.last h.inner; depth = m }) (more-suc n (length h.outer))
+abbrev emptied_partial : Partial → Partial
+emptied_partial l = record { commands = emptied_commands l.commands; operands = map emptied l.operands }
 
-restored-held : (b : Option ℕ) (h : Parser) → IsHeld (restored_by b h).parser.outer (count (restored_by b h).beyond)
-restored-held (Some (suc n)) h = tt
-restored-held _ h = held-none h.outer
+abbrev emptied_parser : Parser → Parser
+emptied_parser h =
+    record { outer = map emptied_partial h.outer; inner = emptied_partial h.inner; last = option_map emptied h.last }
 
-forgotten-place : (b : Option ℕ) (h : Parser) → place (behind_step b h) ≡ place_of (count b) h
-forgotten-place b h = by h.outer refl (nat_lt most_deep (length h.outer)) refl
+-- ---- one token
+
+settled-emptied : (last : Option Operand) (os : List Operand) → settled (option_map emptied last) (map emptied os) ≡ map emptied (settled last os)
+settled-emptied None os = refl
+settled-emptied (Some o) os = sym (map-append emptied os (o ∷ []))
+
+from-emptied : (os : List Operand) → operands_from (map emptied os) ≡ emptied_operands (operands_from os)
+from-emptied [] = refl
+from-emptied (o ∷ os) = ap (tree.operand (emptied o)) (from-emptied os)
+
+more-emptied : (cs : List Operands) (os : List Operand)
+    → more_commands (emptied_commands cs) (map emptied os) ≡ option_map emptied_commands (more_commands cs os)
+more-emptied cs [] = refl
+more-emptied cs (o ∷ os) =
+    ap (λ c. Some (emptied_commands cs ++ c ∷ [])) (from-emptied (o ∷ os))
+    ∙ ap Some (sym (map-append emptied_operands cs (operands_from (o ∷ os) ∷ [])))
+
+closed-emptied : (h : Parser) → closed (emptied_parser h) ≡ option_map emptied_commands (closed h)
+closed-emptied h =
+    ap (more_commands (emptied_commands h.inner.commands)) (settled-emptied h.last h.inner.operands)
+    ∙ more-emptied h.inner.commands (settled h.last h.inner.operands)
+
+stands-emptied : (cs : List Operands) (os : List Operand) (o : Operand) → may_stand (emptied_commands cs) (map emptied os) o ≡ may_stand cs os o
+stands-emptied [] os o = refl
+stands-emptied (c ∷ cs) [] o = refl
+stands-emptied (c ∷ cs) (p ∷ os) o = refl
+
+module _ (h : Parser) where
+  -- the same by the parser with nothing in parentheses, and with it
+  abbrev Prunes : Option Parser → Option Parser → Type 0
+  Prunes o p = option_map (pruned false) o ≡ option_map emptied_parser p
+
+  apart-pruned : Prunes (Some (parser.apart (emptied_parser h))) (Some (parser.apart h))
+  apart-pruned =
+      ap (λ os. Some (record {
+        outer = map emptied_partial h.outer;
+        inner = record { commands = emptied_commands h.inner.commands; operands = os };
+        last = None;
+      })) (settled-emptied h.last h.inner.operands)
+
+  barred-pruned : (o : Option (List Operands))
+      → Prunes (option_map (parser.barred (emptied_parser h)) (option_map emptied_commands o)) (option_map (parser.barred h) o)
+  barred-pruned None = refl
+  barred-pruned (Some cs) = refl
+
+  opened-pruned : (last : Option Operand) → Prunes (parser.opened (option_map emptied last) (emptied_parser h)) (parser.opened last h)
+  opened-pruned None = refl
+  opened-pruned (Some o) = refl
+
+  left-pruned : (ls : List Partial) (o : Option (List Operands))
+      → Prunes (parser.left_with (map emptied_partial ls) (option_map emptied_commands o)) (parser.left_with ls o)
+  left-pruned [] o = refl
+  left-pruned (l ∷ ls) None = refl
+  left-pruned (l ∷ ls) (Some cs) = refl
+
+  kept-pruned : (b : Bool) (o : Operand) → Prunes (kept_if b (parser.ending_with (emptied_parser h) o)) (kept_if b (parser.ending_with h o))
+  kept-pruned true o = refl
+  kept-pruned false o = refl
+
+  placed-pruned : (last o : Option Operand) → Prunes (parser.placed (option_map emptied last) o (emptied_parser h)) (parser.placed last o h)
+  placed-pruned None None = refl
+  placed-pruned None (Some o) =
+      ap (λ b. option_map (pruned false) (kept_if b (parser.ending_with (emptied_parser h) o))) (stands-emptied h.inner.commands h.inner.operands o)
+      ∙ kept-pruned (may_stand h.inner.commands h.inner.operands o) o
+  placed-pruned (Some p) o = refl
+
+  linked-pruned : (b : Bool) (o : Operand) (name : List ℕ)
+      → Prunes (option_map (parser.ending_with (emptied_parser h)) (linked_by b (emptied o) name)) (option_map (parser.ending_with h) (linked_by b o name))
+  linked-pruned false o name = refl
+  linked-pruned true (tree.fields names) name = refl
+  linked-pruned true _ name = refl
+
+  fielded-pruned : (last : Option Operand) (t : Token) → Prunes (parser.fielded (option_map emptied last) t (emptied_parser h)) (parser.fielded last t h)
+  fielded-pruned None t = placed-pruned None (operand_at t)
+  fielded-pruned (Some o) t = linked-pruned (begins_name (name_in t)) o (name_in t)
+
+  step-pruned : (k : TokenKind) (t : Token) → Prunes (step_by k t (emptied_parser h)) (step_by k t h)
+  step-pruned kind.Space t = apart-pruned
+  step-pruned kind.Pipe t =
+      ap (λ o. option_map (pruned false) (option_map (parser.barred (emptied_parser h)) o)) (closed-emptied h) ∙ barred-pruned (closed h)
+  step-pruned kind.LeftParenthesis t = opened-pruned h.last
+  step-pruned kind.RightParenthesis t =
+      ap (λ o. option_map (pruned false) (parser.left_with (map emptied_partial h.outer) o)) (closed-emptied h) ∙ left-pruned h.outer (closed h)
+  step-pruned kind.Field t = fielded-pruned h.last t
+  step-pruned _ t = placed-pruned h.last (operand_at t)
+
+-- ---- all of them
+
+steps-pruned : (o : Option Parser) (ts : List Token) → pruned_steps false (option_map emptied_parser o) ts ≡ option_map emptied_parser (steps o ts)
+unfolding step pruned_step
+steps-pruned o [] = refl
+steps-pruned None (t ∷ ts) = steps-pruned None ts
+steps-pruned (Some h) (t ∷ ts) = ap (λ o. pruned_steps false o ts) (step-pruned h t.kind t) ∙ steps-pruned (step t h) ts
+
+finished-pruned : (o : Option Parser) → option_and_then finished (option_map emptied_parser o) ≡ option_map emptied_commands (option_and_then finished o)
+unfolding finished
+finished-pruned None = refl
+finished-pruned (Some h) = by h.outer
   where
-    by : (ls : List Partial) → ls ≡ h.outer → (is : Bool) → is ≡ nat_lt most_deep (length h.outer)
-        → place (forgotten_if is (record { parser = h; beyond = b })) ≡ place_of (count b) h
-    by ls e false is = refl
-    by [] e true is = let n = ltb-true most_deep (length h.outer) (sym is) in let m = ap length e in absurd (omega (arith, n, m))
-    by (l ∷ ls) e true is =
-        ap (λ m. record { position = position_in h.last h.inner; depth = m })
-        (ap (λ n. more n (length (drop 1 h.outer))) (add-one (count b))
-        ∙ ap (λ ls. suc (more (count b) (length (drop 1 ls)))) (sym e)
-        ∙ sym (more-suc (count b) (length ls))
-        ∙ ap (λ ls. more (count b) (length ls)) e)
+    by : (ls : List Partial) → finished_with (map emptied_partial ls) (closed (emptied_parser h)) ≡ option_map emptied_commands (finished_with ls (closed h))
+    by [] = closed-emptied h
+    by (l ∷ ls) = refl
 
-step-places : (b : Option ℕ) (o : Option Parser) → option_map place (option_map (behind_step b) o) ≡ option_map (place_of (count b)) o
-step-places b None = refl
-step-places b (Some h) = ap Some (forgotten-place b h)
+whole-map : (o : Option Parser) → option_map (pruned true) o ≡ o
+whole-map None = refl
+whole-map (Some h) = refl
 
-limited-place : (t : Token) (l : Limited) → option_map place (limited_step t l) ≡ passed t (place l)
-unfolding limited_step
-limited-place t l =
-    step-places (restored l).beyond (step t (restored l).parser)
-    ∙ step-place (count (restored l).beyond) t (restored l).parser (restored-held l.beyond l.parser)
-    ∙ ap (passed t) (restored-place l.beyond l.parser)
+steps-whole : (o : Option Parser) (ts : List Token) → pruned_steps true o ts ≡ steps o ts
+unfolding pruned_step
+steps-whole o [] = refl
+steps-whole None (t ∷ ts) = steps-whole None ts
+steps-whole (Some h) (t ∷ ts) = ap (λ o. pruned_steps true o ts) (whole-map (step t h)) ∙ steps-whole (step t h) ts
 
--- ---- what is known of the whole, by what is left of the tokens
+none-steps : (keeps : Bool) (ts : List Token) → pruned_steps keeps None ts ≡ None
+none-steps keeps [] = refl
+none-steps keeps (t ∷ ts) = none-steps keeps ts
 
--- all is known up to the limit; beyond it, how deep the whole is, if there is one
-abbrev pub Exact : List Token → Option ℕ → Parser → List Token → Type 0
-Exact all None h rest = (steps (Some h) rest ≡ steps (Some start) all) × (parser_depth h ≤ most_deep)
-Exact all (Some n) h rest = IsAtLeast (1 + most_deep) (commands_after start all)
-
-abbrev pub Follows : List Token → Limited → List Token → Type 0
-Follows all l rest = (ended (passes (Some (place l)) rest) ≡ is_some (commands_after start all)) × Exact all l.beyond l.parser rest
-
-abbrev IsExact : List Token → List Token → Option Limited → Type 0
-IsExact all rest None = Unit {0}
-IsExact all rest (Some l) = Exact all l.beyond l.parser rest
-
-deep-exact : (all rest : List Token) (n : ℕ) (o : Option Parser) → IsAtLeast (1 + most_deep) (commands_after start all)
-    → IsExact all rest (option_map (behind_step (Some n)) o)
-deep-exact all rest n None d = tt
-deep-exact all rest n (Some h) d = by (nat_lt most_deep (length h.outer))
-  where
-    by : (b : Bool) → IsExact all rest (Some (forgotten_if b (record { parser = h; beyond = Some n })))
-    by true = d
-    by false = d
-
-within-exact : (all rest : List Token) (h : Parser) (o : Option Parser) → steps o rest ≡ steps (Some start) all → Steps h o
-    → parser_depth h ≤ most_deep → IsExact all rest (option_map (behind_step None) o)
-within-exact all rest h None so_far s deep = tt
-within-exact all rest h (Some r) so_far s deep = by (nat_lt most_deep (length r.outer)) refl
-  where
-    by : (b : Bool) → b ≡ nat_lt most_deep (length r.outer) → IsExact all rest (Some (forgotten_if b (record { parser = r; beyond = None })))
-    by true e =
-        let n = ltb-true most_deep (length r.outer) (sym e) in
-        subst (λ o. IsAtLeast (1 + most_deep) (option_and_then finished o)) so_far
-        (less-least (1 + most_deep) (parser_depth r) (commands_after r rest) (omega (arith, n)) (end-least r rest))
-    by false e = let n = ltb-false most_deep (length r.outer) (sym e) in (so_far, omega (arith, n, s, deep))
-
-exact-step : (all rest : List Token) (t : Token) (l : Limited) → Exact all l.beyond l.parser (t ∷ rest) → IsExact all rest (limited_step t l)
-unfolding limited_step
-exact-step all rest t l x = by l.beyond l.parser x
-  where
-    by : (b : Option ℕ) (h : Parser) → Exact all b h (t ∷ rest)
-        → IsExact all rest (option_map (behind_step (restored_by b h).beyond) (step t (restored_by b h).parser))
-    by None h x = within-exact all rest h (step t h) x.0 (step-steps t h) x.1
-    by (Some zero) h d = deep-exact all rest 0 (step t (restored_by (Some 0) h).parser) d
-    by (Some (suc n)) h d = deep-exact all rest n (step t (restored_by (Some (suc n)) h).parser) d
+-- a token that may not stand
+pub none-read : (keeps : Bool) (h : Parser) (ts : List Token) (t : Token) (us : List Token) → ts ≡ t ∷ us → pruned_step keeps t h ≡ None
+    → pruned_commands keeps h ts ≡ None
+none-read keeps h ts t us is e =
+    ap (pruned_commands keeps h) is
+    ∙ ap (λ o. option_and_then finished (pruned_steps keeps o us)) e
+    ∙ ap (option_and_then finished) (none-steps keeps us)
 
 -- ---- the limit
-
--- what a list of commands is within the limit
-abbrev limited_commands : Option (List Operands) → Option Pipeline
-limited_commands o = option_map limited_pipeline (option_map commands_from o)
 
 pub nat_le-false : (m n : ℕ) → n < m → nat_le m n ≡ false
 nat_le-false m n h = ⊎_elim (λ y. absurd (let a = y.1 in omega (arith, a, h))) (λ e. e.0) (leb_tells m n)
 
-none-limited : (o : Option (List Operands)) → false ≡ is_some o → None ≡ limited_commands o
-none-limited None e = refl
-none-limited (Some cs) e = absurd (cc)
+emptied-limited : (o : Option (List Operands)) → limited_commands false (option_map emptied_commands o) ≡ limited_commands false o
+emptied-limited None = refl
+emptied-limited (Some cs) = refl
 
-within-limited : (n : ℕ) (o : Option (List Operands)) → n ≤ most_deep → IsClosed n o → pipeline_by None o ≡ limited_commands o
-within-limited n None h c = refl
-within-limited n (Some cs) h c = sym (ap (λ b. Some (limited_by b (commands_from cs))) (le-leb (deep_commands cs) most_deep (omega (arith, c, h))))
+pruned-limited : (keeps : Bool) (ts : List Token) → limited_commands keeps (pruned_commands keeps start ts) ≡ limited_commands keeps (commands_after start ts)
+pruned-limited true ts = ap (λ o. limited_commands true (option_and_then finished o)) (steps-whole (Some start) ts)
+pruned-limited false ts =
+    ap (λ o. limited_commands false (option_and_then finished o)) (steps-pruned (Some start) ts)
+    ∙ ap (limited_commands false) (finished-pruned (steps (Some start) ts))
+    ∙ emptied-limited (commands_after start ts)
 
-deep-limited : (o all : Option (List Operands)) → is_some o ≡ is_some all → IsAtLeast (1 + most_deep) all → pipeline_by (Some 0) o ≡ limited_commands all
-deep-limited None None e d = refl
-deep-limited None (Some cs) e d = absurd (cc)
-deep-limited (Some cs) None e d = absurd (cc)
-deep-limited (Some xs) (Some cs) e d = sym (ap (λ c. Some (limited_by c (commands_from cs))) (nat_le-false (deep_commands cs) most_deep (omega (arith, d))))
-
--- ---- from the first token to the last
-
-pub follows-start : (all : List Token) → Follows all limited_start all
-follows-start all = (sym (ends-as start all), (refl, omega arith))
-
-pub follows-step : (all rest : List Token) (t : Token) (l next : Limited) → limited_step t l ≡ Some next → Follows all l (t ∷ rest) → Follows all next rest
-follows-step all rest t l next e f = (
-  ap (λ p. ended (passes p rest)) (sym (ap (option_map place) e) ∙ limited-place t l) ∙ f.0,
-  subst (IsExact all rest) e (exact-step all rest t l f.1),
-)
-
-pub follows-none : (all rest : List Token) (t : Token) (l : Limited) → limited_step t l ≡ None → Follows all l (t ∷ rest)
-    → None ≡ option_map limited_pipeline (pipeline_in all)
+pub limited-read : (ts : List Token)
+    → limited_commands (nat_le (deepest 0 ts) most_deep) (pruned_commands (nat_le (deepest 0 ts) most_deep) start ts)
+    ≡ option_map limited_pipeline (pipeline_in ts)
 unfolding pipeline_in
-follows-none all rest t l e f =
-    none-limited (commands_after start all)
-    (sym (ap ended (none-passes rest)) ∙ ap (λ p. ended (passes p rest)) (sym (ap (option_map place) e) ∙ limited-place t l) ∙ f.0)
-
-pub follows-end : (all : List Token) (l : Limited) → Follows all l []
-    → pipeline_by l.beyond (finished l.parser) ≡ option_map limited_pipeline (pipeline_in all)
-unfolding pipeline_in
-follows-end all l f = by l.beyond l.parser f.0 f.1
+limited-read ts = pruned-limited (nat_le (deepest 0 ts) most_deep) ts ∙ by (commands_after start ts) (λ cs e. pipeline-depth cs ts (spells-read ts cs e))
   where
-    by : (b : Option ℕ) (h : Parser) → ended (Some (place_of (count b) h)) ≡ is_some (commands_after start all) → Exact all b h []
-        → pipeline_by b (finished h) ≡ limited_commands (commands_after start all)
-    by None h e x =
-        within-limited (parser_depth h) (finished h) x.1 (finished-depth h)
-        ∙ ap (λ o. limited_commands (option_and_then finished o)) x.0
-    by (Some zero) h e d = deep-limited (finished h) (commands_after start all) (finished-place h ∙ e) d
-    by (Some (suc n)) h e d = none-limited (commands_after start all) e
+    by : (o : Option (List Operands)) → ((cs : Pipeline) → option_map commands_from o ≡ Some cs → depth_of_pipeline cs ≡ deepest 0 ts)
+        → limited_commands (nat_le (deepest 0 ts) most_deep) o ≡ option_map limited_pipeline (option_map commands_from o)
+    by None deep = refl
+    by (Some cs) deep = ap (λ n. Some (limited_by (nat_le n most_deep) (commands_from cs))) (sym (deep (commands_from cs) refl))

@@ -1,75 +1,27 @@
 -- For the law that what a file defines can be printed: what holds of the actions that its tokens spell.
-use Rattle.std.proofs.Common.{◌≡◌, ◌∙◌, ℕ, ◌-◌, ◌≤◌, Bool, true, false, List, [], ◌∷◌, ◌++◌, Option, Some, None, refl, sym, ap, subst}
-use Rattle.std.proofs.Common.{length, take, drop, pos, ◌<◌, ◌^◌}
-use Rattle.std.specs.Option.{IfSome}
+use Rattle.std.proofs.Common.{◌≡◌, ◌∙◌, ℕ, ◌≤◌, Bool, false, List, [], ◌∷◌, ◌++◌, Some, None, sym, ap, subst}
 use Rattle.tmpl_values.specs.Bytes.{AreBytes}
 use Rattle.tmpl_lex.proofs.NameLemmas.{IsNamed, OfKind}
 use Rattle.tmpl_lex.specs.Piece.{Token}
-use Rattle.tmpl_lex.specs.declared.piece.TokenKind.{TokenKind}
-use Rattle.tmpl_lex.specs.declared.piece.TokenKind.TheVariants as kind
 use Rattle.tmpl_grammar.specs.Token.{begins_name, name_in}
 use Rattle.tmpl_grammar.specs.Tree as tree
 use Rattle.tmpl_grammar.specs.Tree.{Operand, Operands, Pipeline, Binding, unbound, declare, assign, Header, declare_pair}
 use Rattle.tmpl_grammar.specs.Action.{Action, pipeline_action, opening, else_branch, define_action, template_action, block_action, IsQuoted, SpellsAction}
 use Rattle.tmpl_grammar.specs.Header.{is_range, IsVariable, SpellsHeader, SpellsBinding}
-use Rattle.tmpl_grammar.specs.computed.Constant.{constant_of, constant_by, string_in, raw_string_in, character_in}
 use Rattle.tmpl_grammar.specs.Depth.{depth_of, depth_of_pipeline, most_deep}
 use Rattle.tmpl_grammar.specs.Pipeline.{IsChain, SpellsOperand, SpellsMore, SpellsCommand, SpellsLater, SpellsPipeline}
-use Rattle.tmpl_grammar.specs.computed.Integer.{integer}
-use Rattle.tmpl_grammar.specs.computed.Quoted.{between, unquoted, rune_code}
+use Rattle.tmpl_grammar.specs.Operand as operand
 use Rattle.tmpl_grammar.specs.Operand.{IsOperand}
-use Rattle.tmpl_grammar.specs.computed.Operand.{operand_at, operand_by, word_operand, field_operand}
 use Rattle.tmpl_grammar.specs.Printable.{AreFieldNames, OfOperand, OfMore, OfCommand, OfLater, OfCommands, OfPipeline, OfVariable}
 use Rattle.tmpl_grammar.specs.Printable.{OfBinding, OfAction, OfHeader}
-use Rattle.tmpl_grammar.proofs.ConstantLemmas.{by-word}
-use Rattle.tmpl_grammar.proofs.IsOperandLemmas.{computes-operand}
-use Rattle.tmpl_grammar.proofs.IsConstantLemmas.{computes-constant}
-use Rattle.tmpl_grammar.proofs.PrintableTokenLemmas.{IsRead, AreRead, bytes-drop, bytes-take}
-use Rattle.tmpl_grammar.proofs.PrintableConstantLemmas.{InRange, integer-range, unquoted-bytes, raw-bytes, character-range}
-use Rattle.tmpl_grammar.proofs.OptionLemmas.{of-tested, of-mapped, of-each-mapped, of-each-chained}
-
--- ---- operands of one token
-
-abbrev pub OfMaybe : Option Operand → Type 0
-OfMaybe o = IfSome o OfOperand
-
-between-bytes : (quote : ℕ) (bs : List ℕ) → AreBytes bs → IfSome (between quote bs) AreBytes
-between-bytes quote bs h =
-    of-tested AreBytes _ (take (length bs - 2) (drop 1 bs)) (λ e. bytes-take (length bs - 2) (drop 1 bs) (bytes-drop 1 bs h))
-
-constant-is : (k : TokenKind) (bs : List ℕ) → AreBytes bs → OfMaybe (constant_by k bs)
-constant-is kind.Number bs h = of-mapped InRange OfOperand tree.number_constant (integer bs) (λ n r. r) (integer-range bs)
-constant-is kind.String bs h = of-each-chained OfOperand string_in (between 34 bs)
-    (λ xs. of-mapped AreBytes OfOperand tree.text_constant (unquoted 34 xs) (λ ys r. r) (unquoted-bytes xs))
-constant-is kind.RawString bs h = of-mapped AreBytes OfOperand raw_string_in (between 96 bs) raw-bytes (between-bytes 96 bs h)
-constant-is kind.Character bs h = of-each-chained OfOperand character_in (between 39 bs)
-    (λ xs. of-mapped (λ n. n < 2 ^ 63) OfOperand (λ n. tree.number_constant (pos n)) (rune_code 39 xs) (λ n r. r) (character-range xs))
-constant-is _ bs h = tt
-
-pub constant-maybe : (t : Token) → AreBytes t.bytes → OfMaybe (constant_of t)
-unfolding constant_of
-constant-maybe t h = constant-is t.kind t.bytes h
-
-word-of : (name : List ℕ) → OfMaybe (word_operand name)
-word-of name = by-word OfMaybe (λ b. tt) tt (λ o. of-each-mapped OfOperand tree.function o (λ f. tt)) name
-
-field-of : (b : Bool) (name : List ℕ) → begins_name name ≡ b → IsNamed name → OfMaybe (field_operand b name)
-field-of true name e h = ((e, h), tt)
-field-of false name e h = tt
-
-operand-is : (k : TokenKind) (t : Token) → OfKind k (name_in t) → AreBytes t.bytes → OfMaybe (operand_by k t)
-operand-is kind.Field t n h = field-of (begins_name (name_in t)) (name_in t) refl n
-operand-is kind.Variable t n h = (n, tt)
-operand-is kind.Word t n h = word-of t.bytes
-operand-is kind.Number t n h = constant-maybe t h
-operand-is kind.String t n h = constant-maybe t h
-operand-is kind.RawString t n h = constant-maybe t h
-operand-is kind.Character t n h = constant-maybe t h
-operand-is _ t n h = tt
+use Rattle.tmpl_grammar.proofs.PrintableTokenLemmas.{IsRead, AreRead}
+use Rattle.tmpl_grammar.proofs.PrintableConstantLemmas.{of-constant}
 
 of-token : (t : Token) (o : Operand) → IsRead t → IsOperand t o → OfOperand o
-unfolding operand_at
-of-token t o r is = subst OfMaybe (computes-operand t o is) (operand-is t.kind t r.names r.bytes)
+of-token t _ r (operand.field is begins) = ((begins, subst (λ k. OfKind k (name_in t)) is r.names), tt)
+of-token t _ r (operand.variable is) = (subst (λ k. OfKind k (name_in t)) is r.names, tt)
+of-token t o r (operand.a_constant is) = of-constant t o r.bytes is
+of-token _ _ r _ = tt
 
 -- ---- pipelines
 
@@ -164,7 +116,7 @@ of-header in_range h ts d r spelled =
     (spelled.0, of.0, of.1)
 
 of-name : (name : List ℕ) (t : Token) → IsRead t → IsQuoted name t → AreBytes name
-of-name name t r q = subst OfMaybe (computes-constant t (tree.text_constant name) q) (constant-maybe t r.bytes)
+of-name name t r q = of-constant t (tree.text_constant name) r.bytes q
 
 pub of_action : (a : Action) (ts : List Token) → depth_of a ≤ most_deep → AreRead ts → SpellsAction a ts → OfAction a
 of_action (pipeline_action h) ts d r s = of-header false h ts d r s

@@ -1,117 +1,64 @@
--- For what can be printed: the constants that tokens stand for are numbers within the range, and texts of bytes.
-use Rattle.std.proofs.Common.{arith, ◌≡◌, ℕ, zero, suc, ◌+◌, ◌-◌, ◌/◌, ◌^◌, ◌<◌, ◌≤◌, Bool, true, false, not, nat_eq, nat_lt, nat_le, cond}
-use Rattle.std.proofs.Common.{List, [], ◌∷◌, ◌++◌, Option, Some, None, refl, pos, neg_ℤ, option_and_then, ⊎_elim, if◌then◌else◌}
-use Rattle.std.specs.Option.{IfSome}
-use Rattle.tmpl_grammar.proofs.OptionLemmas.{of-either, of-tested, of-mapped, of-chained, of-each-chained}
+-- For what can be printed: the constants that tokens are, are numbers within the range, and texts of bytes.
+use Rattle.std.proofs.Common.{arith, ◌≡◌, ℕ, zero, suc, ◌+◌, ◌/◌, ◌^◌, ◌<◌, ◌≤◌, Bool, true, false, not, nat_eq, nat_lt, cond}
+use Rattle.std.proofs.Common.{List, [], ◌∷◌, ◌++◌, refl, pos, neg_ℤ, ⊎_elim}
 use lib.IntN.{ℤ}
 use lib.Signed.{mag}
-use lib.Utf8.{scalar, next, scalar_cases}
+use lib.Utf8.{next, scalar_cases}
 use Rattle.std.specs.List.{flat_map}
 use Rattle.std.specs.Char.{encode_utf8, IsScalar}
 use Rattle.std.proofs.lemmas.Bool.Decides.{nat_tests}
 use Rattle.tmpl_values.specs.Rune.{Rune, char, byte, bytes_in}
-use Rattle.tmpl_values.specs.Rune.{first_rune}
 use Rattle.tmpl_values.specs.Bytes.{AreBytes}
-use Rattle.tmpl_values.proofs.RuneLemmas.{Front, encoding, lone, front}
-use Rattle.tmpl_grammar.specs.computed.Integer.{magnitude, signed, integer}
-use Rattle.tmpl_grammar.specs.Constant.Quoted.{code_of, without_returns}
-use Rattle.tmpl_grammar.specs.computed.Quoted.{Spelled, rune_part, as_byte, as_char, code, byte_named, coded, escape_by, escape, part_at}
-use Rattle.tmpl_grammar.specs.computed.Quoted.{with_part, parts_after, parts, unquoted, one_code, rune_code}
+use Rattle.tmpl_lex.specs.Piece.{Token}
+use Rattle.tmpl_grammar.specs.Tree.{Operand}
+use Rattle.tmpl_grammar.specs.Constant as constant
+use Rattle.tmpl_grammar.specs.Constant.{IsConstant}
+use Rattle.tmpl_grammar.specs.Constant.Integer.{IsInteger, minus, plus, unsigned}
+use Rattle.tmpl_grammar.specs.Constant.Quoted.{code_of, without_returns, IsEscape, a_letter, the_quote, octal, two_digits, four_digits, eight_digits}
+use Rattle.tmpl_grammar.specs.Constant.Quoted.{SpellsRunes, at_end, a_char, a_byte, an_escape}
+use Rattle.tmpl_grammar.specs.Printable.{OfOperand}
+use Rattle.tmpl_grammar.proofs.DigitLemmas.{hex-byte}
+use Rattle.tmpl_grammar.proofs.PrintableTokenLemmas.{bytes-front}
+use Rattle.tmpl_grammar.proofs.QuotePartLemmas.{letter-ascii}
 
 -- ---- numbers
 
-abbrev pub InRange : ℤ → Type 0
-InRange n = mag n < 2 ^ 63
-
-neg-range : (n : ℕ) → n ≤ 2 ^ 63 → InRange (neg_ℤ (pos n))
+neg-range : (n : ℕ) → n ≤ 2 ^ 63 → mag (neg_ℤ (pos n)) < 2 ^ 63
 neg-range zero h = omega arith
 neg-range (suc n) h = omega arith
 
-signed-range : (t : Bool) (n : ℕ) → IfSome (signed t n) InRange
-signed-range true n = of-tested InRange (nat_le n (2 ^ 63)) (neg_ℤ (pos n)) (λ e. neg-range n (grind (arith, nat_tests)))
-signed-range false n = of-tested InRange (nat_lt n (2 ^ 63)) (pos n) (λ e. grind (arith, nat_tests))
+integer-range : {bs : List ℕ} {n : ℤ} → IsInteger bs n → mag n < 2 ^ 63
+integer-range (minus {n = n} m h) = neg-range n h
+integer-range (plus m h) = h
+integer-range (unsigned m h) = h
 
-then-range : (t : Bool) (o : Option ℕ) → IfSome (option_and_then (signed t) o) InRange
-then-range t o = of-each-chained InRange (signed t) o (signed-range t)
+-- ---- the runes of a text
 
-pub integer-range : (bs : List ℕ) → IfSome (integer bs) InRange
-unfolding integer
-integer-range [] = tt
-integer-range (b ∷ bs) =
-    of-either InRange (nat_eq b 45) _ _ (then-range true (magnitude bs))
-    (of-either InRange (nat_eq b 43) _ _ (then-range false (magnitude bs)) (then-range false (magnitude (b ∷ bs))))
+abbrev OfRune : Rune → Type 0
+OfRune (byte b) = b < 256
+OfRune (char c) = IsScalar c
 
--- ---- the parts of a text
+escape-rune : {quote : ℕ} {s : List ℕ} {r : Rune} → quote < 256 → IsEscape quote s r → OfRune r
+escape-rune h (a_letter {c = c} {letter = e} is other) = let ascii = letter-ascii c e is in grind (arith, nat_tests)
+escape-rune h the_quote = h
+escape-rune h (octal are low) = low
+escape-rune h (two_digits {ds = ds} are) = hex-byte ds are
+escape-rune h (four_digits are s) = s
+escape-rune h (eight_digits are s) = s
 
-abbrev OfPart : Rune → Type 0
-OfPart (byte b) = b < 256
-OfPart (char c) = IsScalar c
+abbrev AreOf : List Rune → Type 0
+AreOf [] = Unit {0}
+AreOf (r ∷ rs) = OfRune r × AreOf rs
 
-abbrev OfSpelled : Spelled → Type 0
-OfSpelled p = OfPart p.0
-
-then-byte : (len : ℕ) (o : Option ℕ) → IfSome (option_and_then (as_byte len) o) OfSpelled
-then-byte len o = of-each-chained OfSpelled (as_byte len) o (λ n. of-tested OfSpelled (nat_lt n 256) (byte n, len) (λ e. grind (arith, nat_tests)))
-
-then-char : (len : ℕ) (o : Option ℕ) → IfSome (option_and_then (as_char len) o) OfSpelled
-then-char len o = of-each-chained OfSpelled (as_char len) o (λ n. of-tested OfSpelled (scalar n) (char n, len) (λ e. e))
-
-coded-spelled : (e : ℕ) (bs : List ℕ) → IfSome (coded e bs) OfSpelled
-coded-spelled e bs =
-    of-either OfSpelled (nat_eq e 120) _ _ (then-byte 4 (code 16 2 bs))
-    (of-either OfSpelled (nat_eq e 117) _ _ (then-char 6 (code 16 4 bs))
-    (of-either OfSpelled (nat_eq e 85) _ _ (then-char 10 (code 16 8 bs)) (then-byte 4 (code 8 3 (e ∷ bs)))))
-
-abbrev IsByte : ℕ → Type 0
-IsByte b = b < 256
-
-named-byte : (quote e : ℕ) → quote < 256 → IfSome (byte_named quote e) IsByte
-named-byte quote e h =
-    named 97 7 _ (omega arith) (named 98 8 _ (omega arith) (named 102 12 _ (omega arith) (named 110 10 _ (omega arith)
-    (named 114 13 _ (omega arith) (named 116 9 _ (omega arith) (named 118 11 _ (omega arith) (named 92 92 _ (omega arith) (named quote quote _ h tt))))))))
-  where
-    named : (k b : ℕ) (o : Option ℕ) → b < 256 → IfSome o IsByte → IfSome (if nat_eq e k then Some b else o) IsByte
-    named k b o low more = of-either IsByte (nat_eq e k) (Some b) o low more
-
-escape-spelled : (quote : ℕ) (bs : List ℕ) → quote < 256 → IfSome (escape quote bs) OfSpelled
-escape-spelled quote [] h = tt
-escape-spelled quote (e ∷ bs) h = go (byte_named quote e) (named-byte quote e h)
-  where
-    go : (o : Option ℕ) → IfSome o IsByte → IfSome (escape_by o e bs) OfSpelled
-    go None k = coded-spelled e bs
-    go (Some b) k = k
-
-rune-spelled : (bs : List ℕ) (r : Rune) → Front bs r → OfSpelled (rune_part r)
-rune-spelled bs _ (encoding c s e) = s
-rune-spelled bs _ lone = refl
-
-part-spelled : (quote : ℕ) (bs : List ℕ) → quote < 256 → IfSome (part_at quote bs) OfSpelled
-unfolding part_at
-part-spelled quote [] h = tt
-part-spelled quote (b ∷ bs) h =
-    of-either OfSpelled (nat_eq b 92) _ _ (escape-spelled quote bs h)
-    (of-either OfSpelled (nat_eq b quote) _ _ tt (rune-spelled (b ∷ bs) (first_rune (b ∷ bs)) (front (b ∷ bs))))
-
-abbrev AreParts : List Rune → Type 0
-AreParts [] = Unit {0}
-AreParts (p ∷ ps) = OfPart p × AreParts ps
-
-after-spelled : (quote n : ℕ) (bs : List ℕ) → quote < 256 → IfSome (parts_after quote n bs) AreParts
-after-spelled quote zero [] h = tt
-after-spelled quote (suc n) [] h = tt
-after-spelled quote (suc n) (b ∷ bs) h = after-spelled quote n bs h
-after-spelled quote zero (b ∷ bs) h =
-    of-chained OfSpelled AreParts (λ (p : Spelled). with_part p.0 (parts_after quote (p.1 - 1) bs)) (part_at quote (b ∷ bs))
-    (λ p k. of-mapped AreParts AreParts (λ ps. p.0 ∷ ps) (parts_after quote (p.1 - 1) bs) (λ ps more. (k, more)) (after-spelled quote (p.1 - 1) bs h))
-    (part-spelled quote (b ∷ bs) h)
-
-parts-spelled : (quote : ℕ) (bs : List ℕ) → quote < 256 → IfSome (parts quote bs) AreParts
-unfolding parts
-parts-spelled quote bs h = after-spelled quote 0 bs h
+runes-spelled : {quote : ℕ} {bs : List ℕ} {rs : List Rune} → quote < 256 → SpellsRunes quote bs rs → AreOf rs
+runes-spelled h at_end = tt
+runes-spelled h (a_char s other slash more) = (s, runes-spelled h more)
+runes-spelled h (a_byte none more) = (refl, runes-spelled h more)
+runes-spelled h (an_escape is more) = (escape-rune h is, runes-spelled h more)
 
 -- ---- texts
 
-pub bytes-append : (xs ys : List ℕ) → AreBytes xs → AreBytes ys → AreBytes (xs ++ ys)
+bytes-append : (xs ys : List ℕ) → AreBytes xs → AreBytes ys → AreBytes (xs ++ ys)
 bytes-append [] ys h k = k
 bytes-append (x ∷ xs) ys h k = (h.0, bytes-append xs ys h.1 k)
 
@@ -126,22 +73,16 @@ encode-by false false false c h p q r = (grind (arith, nat_tests), (omega arith,
 below : (c : ℕ) → IsScalar c → c < 1114112
 below c s = ⊎_elim (λ h. omega arith) (λ h. h.1) (scalar_cases c s)
 
-encode-bytes : (c : ℕ) → IsScalar c → AreBytes (encode_utf8 c)
+rune-bytes : (r : Rune) → OfRune r → AreBytes (bytes_in r)
 unfolding encode_utf8
-encode-bytes c s = encode-by _ _ _ c (below c s) refl refl refl
+rune-bytes (byte b) h = (h, tt)
+rune-bytes (char c) h = encode-by _ _ _ c (below c h) refl refl refl
 
-part-bytes : (p : Rune) → OfPart p → AreBytes (bytes_in p)
-part-bytes (byte b) h = (h, tt)
-part-bytes (char c) h = encode-bytes c h
+text-bytes : (rs : List Rune) → AreOf rs → AreBytes (flat_map bytes_in rs)
+text-bytes [] h = tt
+text-bytes (r ∷ rs) h = bytes-append (bytes_in r) (flat_map bytes_in rs) (rune-bytes r h.0) (text-bytes rs h.1)
 
-parts-bytes : (ps : List Rune) → AreParts ps → AreBytes (flat_map bytes_in ps)
-parts-bytes [] h = tt
-parts-bytes (p ∷ ps) h = bytes-append (bytes_in p) (flat_map bytes_in ps) (part-bytes p h.0) (parts-bytes ps h.1)
-
-pub unquoted-bytes : (bs : List ℕ) → IfSome (unquoted 34 bs) AreBytes
-unquoted-bytes bs = of-mapped AreParts AreBytes (flat_map bytes_in) (parts 34 bs) parts-bytes (parts-spelled 34 bs (omega arith))
-
-pub raw-bytes : (bs : List ℕ) → AreBytes bs → AreBytes (without_returns bs)
+raw-bytes : (bs : List ℕ) → AreBytes bs → AreBytes (without_returns bs)
 raw-bytes [] h = tt
 raw-bytes (b ∷ bs) h = go (not (nat_eq b 13)) (raw-bytes bs h.1)
   where
@@ -149,15 +90,14 @@ raw-bytes (b ∷ bs) h = go (not (nat_eq b 13)) (raw-bytes bs h.1)
     go true ih = (h.0, ih)
     go false ih = ih
 
--- ---- characters
+-- ---- constants
 
-code-range : (p : Rune) → OfPart p → code_of p < 2 ^ 63
+code-range : (r : Rune) → OfRune r → code_of r < 2 ^ 63
 code-range (byte b) h = omega arith
 code-range (char c) h = let low = below c h in omega arith
 
-one-range : (ps : List Rune) → AreParts ps → IfSome (one_code ps) (λ n. n < 2 ^ 63)
-one-range (p ∷ []) h = code-range p h.0
-one-range _ h = tt
-
-pub character-range : (bs : List ℕ) → IfSome (rune_code 39 bs) (λ n. n < 2 ^ 63)
-character-range bs = of-chained AreParts (λ n. n < 2 ^ 63) one_code (parts 39 bs) one-range (parts-spelled 39 bs (omega arith))
+pub of-constant : (t : Token) (o : Operand) → AreBytes t.bytes → IsConstant t o → OfOperand o
+of-constant _ _ h (constant.number is) = integer-range is
+of-constant _ _ h (constant.string {rs = rs} has) = text-bytes rs (runes-spelled (omega arith) has)
+of-constant _ _ h (constant.raw_string bs) = raw-bytes bs (bytes-front bs (96 ∷ []) h.1).0
+of-constant _ _ h (constant.character {r = r} has) = code-range r (runes-spelled (omega arith) has).0

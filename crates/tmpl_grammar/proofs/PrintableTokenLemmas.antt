@@ -1,5 +1,5 @@
 -- For what can be printed: the tokens of a file have bytes that are bytes, and names that are names.
-use Rattle.std.proofs.Common.{ℕ, zero, suc, List, [], ◌∷◌, ◌++◌, take, drop}
+use Rattle.std.proofs.Common.{ℕ, zero, suc, List, [], ◌∷◌, ◌++◌, drop}
 use Rattle.tmpl_values.specs.Bytes.{AreBytes}
 use Rattle.tmpl_lex.proofs.NameLemmas.{OfKind}
 use Rattle.tmpl_lex.specs.Piece.{Token}
@@ -12,11 +12,6 @@ pub bytes-drop : (n : ℕ) (xs : List ℕ) → AreBytes xs → AreBytes (drop n 
 bytes-drop zero xs h = h
 bytes-drop (suc n) [] h = tt
 bytes-drop (suc n) (x ∷ xs) h = bytes-drop n xs h.1
-
-pub bytes-take : (n : ℕ) (xs : List ℕ) → AreBytes xs → AreBytes (take n xs)
-bytes-take zero xs h = tt
-bytes-take (suc n) [] h = tt
-bytes-take (suc n) (x ∷ xs) h = (h.0, bytes-take n xs h.1)
 
 -- a token that was read
 pub record IsRead (t : Token) : Type 0 where

@@ -1,7 +1,6 @@
 -- For `printed_spelling`: the tokens of a printed pipeline or action spell it.
-use Rattle.std.proofs.Common.{◌≡◌, ◌∙◌, ◌<◌, ℕ, Bool, false, List, [], ◌∷◌, ◌++◌, length, Option, Some, None, refl, sym, ap, append_assoc}
-use Rattle.std.specs.Option.{option_map, option_and_then}
-use Rattle.tmpl_values.specs.Quote.{quote, inside}
+use Rattle.std.proofs.Common.{◌≡◌, ◌∙◌, ◌<◌, ℕ, Bool, false, List, [], ◌∷◌, ◌++◌, length, Option, Some, None, refl, sym, ap, subst, append_assoc}
+use Rattle.tmpl_values.specs.Quote.{quote}
 use Rattle.tmpl_values.specs.Printable.{printable}
 use Rattle.tmpl_values.specs.Bytes.{AreBytes}
 use Rattle.tmpl_funcs.specs.Func.{name_of}
@@ -15,7 +14,6 @@ use Rattle.tmpl_grammar.specs.Pipeline.{IsBlank, IsChain, SpellsOperand, SpellsM
 use Rattle.tmpl_grammar.specs.Header.{is_range, Then, IsVariable, IsSign, SpellsHeader, SpellsBinding}
 use Rattle.tmpl_grammar.specs.Constant.{IsConstant}
 use Rattle.tmpl_grammar.specs.Keyword.{control_spelling, IsWord}
-use Rattle.tmpl_grammar.specs.computed.Constant.{constant_of, string_in}
 use Rattle.tmpl_grammar.specs.Operand as operand
 use Rattle.tmpl_grammar.specs.Operand.{IsOperand}
 use Rattle.tmpl_grammar.specs.Constant as constant
@@ -23,8 +21,7 @@ use Rattle.tmpl_grammar.specs.Print.{token, space, word, chain_tokens, operand_t
 use Rattle.tmpl_grammar.specs.Print.{later_tokens, pipeline_tokens, header_tokens, action_tokens, binding_tokens}
 use Rattle.tmpl_grammar.specs.Print.{given_tokens}
 use Rattle.tmpl_grammar.specs.Printable.{AreFieldNames, OfOperand, OfMore, OfCommand, OfLater, OfCommands, OfPipeline, OfBinding, OfGiven, OfAction, OfHeader}
-use Rattle.tmpl_grammar.proofs.IsConstantLemmas.{between-quotes, is-computed-constant}
-use Rattle.tmpl_grammar.proofs.QuotePartLemmas.{unquoted-inside}
+use Rattle.tmpl_grammar.proofs.QuotePartLemmas.{inside-spelled}
 use Rattle.tmpl_grammar.proofs.PrintedNumberLemmas.{integer-spelled}
 
 -- ---- operands of one token
@@ -33,14 +30,11 @@ spells-chain : (ns : List (List ℕ)) → AreFieldNames ns → IsChain ns (chain
 spells-chain [] h = refl
 spells-chain (n ∷ ns) h = (token kind.Field (46 ∷ n), chain_tokens ns, refl, refl, h.0.0, refl, spells-chain ns h.1)
 
-string-at : (bs : List ℕ) → AreBytes bs → constant_of (token kind.String (quote bs)) ≡ Some (tree.text_constant bs)
-unfolding constant_of quote
-string-at bs h =
-    ap (option_and_then string_in) (between-quotes 34 (inside printable bs))
-    ∙ ap (option_map tree.text_constant) (unquoted-inside printable bs h)
-
-pub quoted-constant : (bs : List ℕ) → AreBytes bs → IsConstant (token kind.String (quote bs)) (tree.text_constant bs)
-quoted-constant bs h = is-computed-constant (token kind.String (quote bs)) (tree.text_constant bs) (string-at bs h)
+quoted-constant : (bs : List ℕ) → AreBytes bs → IsConstant (token kind.String (quote bs)) (tree.text_constant bs)
+unfolding quote
+quoted-constant bs h =
+    let t = inside-spelled printable bs h in
+    subst (λ v. IsConstant (token kind.String (quote bs)) (tree.text_constant v)) t.is (constant.string t.spells)
 
 -- ---- pipelines
 

@@ -1,10 +1,9 @@
--- For `unquote` and `rune_code`: the parts of a text between quotes, from the first one on.
+-- For `unquote`: the parts of a text between quotes, from the first one on.
 use Rattle.std.proofs.Common.{◌≡◌, ◌∙◌, ℕ, zero, suc, ◌-◌, ◌<◌, ◌≤◌, List, [], ◌∷◌, ◌++◌, length, drop, Option, Some, None, refl, sym, ap}
 use Rattle.std.proofs.Common.{arith, option_map, option_and_then, append_assoc, append-nil}
 use Rattle.std.specs.List.{flat_map}
 use Rattle.tmpl_values.specs.Rune.{Rune, bytes_in}
-use Rattle.tmpl_grammar.specs.Constant.Quoted.{code_of}
-use Rattle.tmpl_grammar.specs.computed.Quoted.{Spelled, part_at, with_part, parts_after, parts, unquoted, one_code, rune_code}
+use Rattle.tmpl_grammar.specs.computed.Quoted.{Spelled, part_at, with_part, parts_after, parts, unquoted}
 
 skip-to : (quote n : ℕ) (bs : List ℕ) → n ≤ length bs → parts_after quote n bs ≡ parts_after quote 0 (drop n bs)
 skip-to quote zero bs h = refl
@@ -57,41 +56,3 @@ unquoted-none quote s bs h is = ap (λ ps. led s (option_map (flat_map bytes_in)
 pub unquoted-end : (quote : ℕ) (s bs : List ℕ) → length bs ≤ 0 → led s (unquoted quote bs) ≡ Some s
 unquoted-end quote s [] h = ap (λ ps. led s (option_map (flat_map bytes_in) ps)) (parts-nil quote) ∙ ap Some (append-nil s)
 unquoted-end quote s (b ∷ bs) h = absurd (omega arith)
-
--- ---- one part alone
-
-pub code-none : (quote : ℕ) (bs : List ℕ) → part_at quote bs ≡ None → rune_code quote bs ≡ None
-code-none quote [] is = ap (option_and_then one_code) (parts-nil quote)
-code-none quote (b ∷ bs) is = ap (option_and_then one_code) (parts-none quote (b ∷ bs) (omega arith) is)
-
-nil-at : (quote : ℕ) (bs : List ℕ) (n : ℕ) → n ≡ length bs → parts quote (drop n bs) ≡ Some []
-nil-at quote bs n e = ap (parts quote) (drop-end bs n e) ∙ parts-nil quote
-  where
-    drop-end : (bs : List ℕ) (n : ℕ) → n ≡ length bs → drop n bs ≡ []
-    drop-end [] n e = ap (λ k. drop k []) e
-    drop-end (b ∷ bs) n e = ap (λ k. drop k (b ∷ bs)) e ∙ drop-end bs (length bs) refl
-
-pub code-one : (quote : ℕ) (bs : List ℕ) (p : Spelled) → part_at quote bs ≡ Some p → 0 < p.1 → p.1 ≡ length bs → rune_code quote bs ≡ Some (code_of p.0)
-code-one quote bs p is low whole =
-    ap (option_and_then one_code) (parts-first quote bs p (omega arith) is low (omega arith))
-    ∙ ap (λ ps. option_and_then one_code (with_part p.0 ps)) (nil-at quote bs p.1 whole)
-
-two : (p q : Rune) (ps : Option (List Rune)) → option_and_then one_code (with_part p (with_part q ps)) ≡ None
-two p q None = refl
-two p q (Some ps) = refl
-
-more : (quote : ℕ) (p : Rune) (bs : List ℕ) (o : Option Spelled)
-    → option_and_then one_code (with_part p (option_and_then (λ q. with_part q.0 (parts_after quote (q.1 - 1) bs)) o)) ≡ None
-more quote p bs None = refl
-more quote p bs (Some q) = two p q.0 (parts_after quote (q.1 - 1) bs)
-
-two-at : (quote : ℕ) (p : Rune) (bs : List ℕ) → 0 < length bs → option_and_then one_code (with_part p (parts quote bs)) ≡ None
-unfolding parts
-two-at quote p [] h = absurd (omega arith)
-two-at quote p (b ∷ bs) h = more quote p bs (part_at quote (b ∷ bs))
-
-pub code-more : (quote : ℕ) (bs : List ℕ) (p : Spelled) → part_at quote bs ≡ Some p → 0 < p.1 → p.1 < length bs → 0 < length (drop p.1 bs)
-    → rune_code quote bs ≡ None
-code-more quote bs p is low high left =
-    ap (option_and_then one_code) (parts-first quote bs p (omega arith) is low (omega arith))
-    ∙ two-at quote p.0 (drop p.1 bs) left

@@ -9,6 +9,9 @@ use Rattle.tmpl_lex.specs.Piece.{Token}
 use Rattle.tmpl_grammar.specs.Token.{begins_name, name_in}
 use Rattle.tmpl_grammar.specs.Tree as tree
 use Rattle.tmpl_grammar.specs.Tree.{Operand, Operands, Pipeline, operands_from, commands_from}
+use Rattle.tmpl_grammar.specs.Constant as constant
+use Rattle.tmpl_grammar.specs.Constant.{IsConstant}
+use Rattle.tmpl_grammar.specs.Operand as operand
 use Rattle.tmpl_grammar.specs.Operand.{IsOperand, begins_later}
 use Rattle.tmpl_grammar.specs.computed.Operand.{operand_at}
 use Rattle.tmpl_grammar.specs.computed.Parser as parser
@@ -16,14 +19,10 @@ use Rattle.tmpl_grammar.specs.computed.Parser.{Parser, Partial, settled, more_co
 use Rattle.tmpl_grammar.specs.computed.Parser.{steps, finished, finished_with, commands_after}
 use Rattle.tmpl_grammar.specs.Pipeline.{IsBlank, IsChain, IsChained, MayBeLater, SpellsOperand, SpellsMore, SpellsCommand, SpellsLater, SpellsPipeline}
 use Rattle.tmpl_grammar.proofs.IsOperandLemmas.{is-computed-operand}
-use Rattle.tmpl_grammar.proofs.ConstantLemmas.{IsToken, token-form}
-use Rattle.tmpl_grammar.proofs.SpelledLemmas.{parser_at, operand_list, command_list, operands-back, commands-back, Chains, fields-chain}
-use Rattle.tmpl_grammar.proofs.SpelledLemmas.{variable-chain, group-chain}
+use Rattle.tmpl_grammar.proofs.OptionLemmas.{no-value}
+use Rattle.tmpl_grammar.proofs.SpelledLemmas.{parser_at, operand_list, command_list, operands-back, commands-back}
 
--- fields continue an operand's chain
-abbrev Extends : Operand → List Token → Operand → Type 0
-Extends o [] p = o ≡ p
-Extends o (t ∷ ts) p = (t.kind ≡ kind.Field) × (begins_name (name_in t) ≡ true) × ((q : Operand) × (linked o (name_in t) ≡ Some q) × Extends q ts p)
+-- ---- what is read so far
 
 -- the first operand of a command, where it may begin it
 abbrev MayBegin : List Operands → Operands → Type 0
@@ -35,136 +34,155 @@ abbrev SpellsApart : Operands → List Token → Type 0
 SpellsApart tree.no_operand ts = IsBlank ts
 SpellsApart (tree.operand o os) ts = SpellsCommand (tree.operand o os) ts
 
--- more operands than one that is there end the command
-pub record Continued (o : Operand) (more : Operands) (ts : List Token) : Type 0 where
-  pub whole : Operand
-  pub others : Operands
-  pub chain : List Token
-  pub rest : List Token
-  pub tokens_are : ts ≡ chain ++ rest
-  pub more_are : more ≡ tree.operand whole others
-  pub extends : Extends o chain whole
-  pub spells : SpellsMore others rest
+-- these operands may stand behind those of the command
+abbrev Behind : List Operands → List Operand → Operands → List Token → Type 0
+Behind cs [] ms ts = SpellsCommand ms ts × MayBegin cs ms
+Behind cs (o ∷ os) ms ts = SpellsApart ms ts
 
--- tokens end a command that has these operands so far, by these more
-abbrev EndsCommand : Option Operand → List Operands → List Operand → Operands → List Token → Type 0
-EndsCommand (Some o) cs os more ts = Continued o more ts
-EndsCommand None cs [] more ts = SpellsCommand more ts × MayBegin cs more
-EndsCommand None cs (o ∷ os) more ts = SpellsApart more ts
+-- with any such operands and any later commands behind them, the tokens are a pipeline
+abbrev Begins : List Operands → List Operand → List Token → Type 0
+Begins cs os ts =
+    (ms : Operands) (later : Pipeline) (us vs : List Token) → Behind cs os ms us → SpellsLater later vs
+    → SpellsPipeline (commands_from (cs ++ operands_from (os ++ operand_list ms) ∷ command_list later)) (ts ++ (us ++ vs))
 
--- tokens end a pipeline
-pub record EndsPartial (last : Option Operand) (cs : List Operands) (os : List Operand) (ts : List Token) (all : List Operands) : Type 0 where
-  pub more : Operands
-  pub later : Pipeline
-  pub front : List Token
-  pub back : List Token
-  pub tokens_are : ts ≡ front ++ back
-  pub ends : EndsCommand last cs os more front
-  pub spells : SpellsLater later back
-  pub all_are : all ≡ cs ++ operands_from (os ++ operand_list more) ∷ command_list later
+-- so they are, and perhaps an operand that has nothing behind it
+abbrev Reads : List Operands → List Operand → Option Operand → List Token → Type 0
+Reads cs os None ts = Begins cs os ts
+Reads cs os (Some o) ts =
+    (a : List Token) × (b : List Token) × (ts ≡ a ++ b) × Begins cs os a × SpellsOperand o b × (may_stand cs os o ≡ true)
 
--- tokens end a pipeline with those around it
-abbrev EndsIn : List Partial → Option Operand → List Operands → List Operand → List Token → List Operands → Type 0
-EndsIn [] last cs os ts all = EndsPartial last cs os ts all
-EndsIn (l ∷ ls) last cs os ts all =
-    (a : List Token) × (r : Token) × (b : List Token) × (inner : List Operands) × (ts ≡ a ++ r ∷ b) × (r.kind ≡ kind.RightParenthesis)
-    × EndsPartial last cs os a inner × EndsIn ls (Some (tree.group (commands_from inner) [])) l.commands l.operands b all
+-- with any later commands behind them, the tokens are a pipeline
+abbrev Ends : List Operands → List Token → Type 0
+Ends cs ts = (later : Pipeline) (vs : List Token) → SpellsLater later vs → SpellsPipeline (commands_from (cs ++ command_list later)) (ts ++ vs)
 
-abbrev EndsParser : Parser → List Token → List Operands → Type 0
-EndsParser h ts all = EndsIn h.outer h.last h.inner.commands h.inner.operands ts all
+at : (cs ds : List Operands) (ts us : List Token) → cs ≡ ds → ts ≡ us → SpellsPipeline (commands_from cs) ts → SpellsPipeline (commands_from ds) us
+at cs ds ts us e f s = subst (λ ds. SpellsPipeline (commands_from ds) us) e (subst (SpellsPipeline (commands_from cs)) f s)
 
--- ---- one token more at the front
+begins-start : Begins [] [] []
+begins-start ms later us vs s l =
+    at (ms ∷ command_list later) (operands_from (operand_list ms) ∷ command_list later) (us ++ vs) (us ++ vs)
+    (ap (λ os. os ∷ command_list later) (sym (operands-back ms))) refl
+    (us, vs, refl, s.0, subst (λ cs. SpellsLater cs vs) (sym (commands-back later)) l)
 
--- where tokens only change the innermost pipeline
-within-partial : (ls : List Partial) (us : List Token) (last pre : Option Operand) (cs ds : List Operands) (os qs : List Operand)
-    → ((ts : List Token) (all : List Operands) → EndsPartial last cs os ts all → EndsPartial pre ds qs (us ++ ts) all)
-    → (ts : List Token) (all : List Operands) → EndsIn ls last cs os ts all → EndsIn ls pre ds qs (us ++ ts) all
-within-partial [] us last pre cs ds os qs f ts all e = f ts all e
-within-partial (l ∷ ls) us last pre cs ds os qs f ts all (a, r, b, inner, is, right, partial, rest) =
-    (us ++ a, r, b, inner, ap (λ vs. us ++ vs) is ∙ sym (append_assoc us a (r ∷ b)), right, f a inner partial, rest)
+-- an operand, and such tokens behind it
+operand-behind : (cs : List Operands) (os : List Operand) (o : Operand) (ms : Operands) (ts b us : List Token) → ts ≡ b ++ us → SpellsOperand o b
+    → may_stand cs os o ≡ true → SpellsMore ms us → Behind cs os (tree.operand o ms) ts
+operand-behind cs [] o ms ts b us is spells may more = (([], b, us, is, tt, spells, more), may)
+operand-behind cs (p ∷ os) o ms ts b us is spells may more = ([], b, us, is, tt, spells, more)
 
--- .. its newest command
-in-command : (us : List Token) (last pre : Option Operand) (cs : List Operands) (os : List Operand) (ts : List Token) (all : List Operands)
-    → (e : EndsPartial last cs os ts all) → EndsCommand pre cs os e.more (us ++ e.front) → EndsPartial pre cs os (us ++ ts) all
-in-command us last pre cs os ts all e ends = record {
-  more = e.more;
-  later = e.later;
-  front = us ++ e.front;
-  back = e.back;
-  tokens_are = ap (λ vs. us ++ vs) e.tokens_are ∙ sym (append_assoc us e.front e.back);
-  ends = ends;
-  spells = e.spells;
-  all_are = e.all_are;
-}
+-- white space
+module _ (t : Token) (is : t.kind ≡ kind.Space) (cs : List Operands) (os : List Operand) where
+  begins-spaced : (ts : List Token) → Begins cs os ts → Begins cs os (ts ++ t ∷ [])
+  begins-spaced ts f ms later us vs s l =
+      at _ _ _ _ refl (sym (append_assoc ts (t ∷ []) (us ++ vs))) (f ms later (t ∷ us) vs (by os ms s) l)
+    where
+      spaced : (ms : Operands) → SpellsCommand ms us → SpellsCommand ms (t ∷ us)
+      spaced tree.no_operand s = absurd s
+      spaced (tree.operand p ps) (ws, a, b, at, blank, spells, rest) = (t ∷ ws, a, b, ap (λ us. t ∷ us) at, (is, blank), spells, rest)
 
--- white space behind an operand
-space-behind : (t : Token) (o : Operand) (cs : List Operands) (os : List Operand) → t.kind ≡ kind.Space
-    → (ts : List Token) (all : List Operands) → EndsPartial None cs (os ++ o ∷ []) ts all → EndsPartial (Some o) cs os (t ∷ ts) all
-space-behind t o cs os is ts all e = record {
-  more = tree.operand o e.more;
-  later = e.later;
-  front = t ∷ e.front;
-  back = e.back;
-  tokens_are = ap (λ us. t ∷ us) e.tokens_are;
-  ends = record {
-    whole = o;
-    others = e.more;
-    chain = [];
-    rest = t ∷ e.front;
-    tokens_are = refl;
-    more_are = refl;
-    extends = refl;
-    spells = by os e.more e.ends;
-  };
-  spells = e.spells;
-  all_are = e.all_are ∙ ap (λ qs. cs ++ operands_from qs ∷ command_list e.later) (append_assoc os (o ∷ []) (operand_list e.more));
-}
+      by : (os : List Operand) (ms : Operands) → Behind cs os ms us → Behind cs os ms (t ∷ us)
+      by [] ms s = (spaced ms s.0, s.1)
+      by (o ∷ os) tree.no_operand s = (is, s)
+      by (o ∷ os) (tree.operand p ps) s = spaced (tree.operand p ps) s
+
+  begins-operand : (o : Operand) (a b : List Token) → Begins cs os a → SpellsOperand o b → may_stand cs os o ≡ true
+      → Begins cs (os ++ o ∷ []) ((a ++ b) ++ t ∷ [])
+  begins-operand o a b f spells may ms later us vs s l =
+      at _ _ _ _ (ap (λ qs. cs ++ operands_from qs ∷ command_list later) (sym (append_assoc os (o ∷ []) (operand_list ms))))
+      (ap (λ xs. a ++ xs) (append_assoc b (t ∷ us) vs) ∙ sym (append_assoc a b (t ∷ us ++ vs)) ∙ sym (append_assoc (a ++ b) (t ∷ []) (us ++ vs)))
+      (f (tree.operand o ms) later (b ++ t ∷ us) vs (operand-behind cs os o ms _ b (t ∷ us) refl spells may (by os s)) l)
+    where
+      apart : (ms : Operands) → SpellsApart ms us → SpellsMore ms (t ∷ us)
+      apart tree.no_operand s = (is, s)
+      apart (tree.operand p ps) (ws, a, b, at, blank, spells, rest) = (t, ws, a, b, ap (λ us. t ∷ us) at, (is, blank), spells, rest)
+
+      by : (os : List Operand) → Behind cs (os ++ o ∷ []) ms us → SpellsMore ms (t ∷ us)
+      by [] s = apart ms s
+      by (q ∷ os) s = apart ms s
+
+-- ---- ends of commands
+
+more-whole : (cs : List Operands) (os : List Operand) (o : Operand) → more_commands cs (os ++ o ∷ []) ≡ Some (cs ++ operands_from (os ++ o ∷ []) ∷ [])
+more-whole cs [] o = refl
+more-whole cs (p ∷ os) o = refl
+
+reads-end : (cs : List Operands) (os : List Operand) (last : Option Operand) (done : List Operands) (ts : List Token)
+    → more_commands cs (settled last os) ≡ Some done → Reads cs os last ts → Ends done ts
+reads-end cs [] None done ts e f = absurd (cc)
+reads-end cs (o ∷ os) None done ts e f = λ later vs l.
+    at _ _ _ _ (ap (λ qs. cs ++ operands_from qs ∷ command_list later) (append-nil (o ∷ os))
+    ∙ sym (append_assoc cs (operands_from (o ∷ os) ∷ []) (command_list later)) ∙ ap (λ ds. ds ++ command_list later) (same_Some _ done e))
+    refl (f tree.no_operand later [] vs tt l)
+reads-end cs os (Some o) done ts e (a, b, is, f, spells, may) = λ later vs l.
+    at _ _ _ _ (sym (append_assoc cs (operands_from (os ++ o ∷ []) ∷ []) (command_list later))
+    ∙ ap (λ ds. ds ++ command_list later) (same_Some _ done (sym (more-whole cs os o) ∙ e)))
+    (sym (ap (λ xs. xs ++ vs) is ∙ append_assoc a b vs))
+    (f (tree.operand o tree.no_operand) later b vs (operand-behind cs os o tree.no_operand b b [] (sym (append-nil b)) spells may tt) l)
+
+ends-whole : (cs : List Operands) (ts : List Token) → Ends cs ts → SpellsPipeline (commands_from cs) ts
+ends-whole cs ts f = at _ _ _ _ (append-nil cs) (append-nil ts) (f tree.no_command [] refl)
+
+-- behind a whole command stands a later one
+may-be-later : (cs : List Operands) (os : List Operand) (done : List Operands) (ms : Operands) → more_commands cs os ≡ Some done → MayBegin done ms
+    → MayBeLater ms
+may-be-later cs [] done ms e may = absurd (cc)
+may-be-later cs (o ∷ os) done ms e may = by cs ms (subst (λ ds. MayBegin ds ms) (sym (same_Some _ done e)) may)
   where
-    apart : (more : Operands) → SpellsApart more e.front → SpellsMore more (t ∷ e.front)
-    apart tree.no_operand s = (is, s)
-    apart (tree.operand p ps) (ws, a, b, at, blank, spells, rest) = (t, ws, a, b, ap (λ us. t ∷ us) at, (is, blank), spells, rest)
+    by : (cs : List Operands) (ms : Operands) → MayBegin (cs ++ operands_from (o ∷ os) ∷ []) ms → MayBeLater ms
+    by cs tree.no_operand may = absurd may
+    by [] (tree.operand p ps) may = may
+    by (c ∷ cs) (tree.operand p ps) may = may
 
-    by : (os : List Operand) (more : Operands) → EndsCommand None cs (os ++ o ∷ []) more e.front → SpellsMore more (t ∷ e.front)
-    by [] more s = apart more s
-    by (q ∷ os) more s = apart more s
+begins-barred : (t : Token) (cs : List Operands) (ts : List Token) → t.kind ≡ kind.Pipe → ((ms : Operands) → MayBegin cs ms → MayBeLater ms)
+    → Ends cs ts → Begins cs [] (ts ++ t ∷ [])
+begins-barred t cs ts is may f ms later us vs s l =
+    at _ _ _ _ (ap (λ os. cs ++ os ∷ command_list later) (sym (operands-back ms))) (sym (append_assoc ts (t ∷ []) (us ++ vs)))
+    (f (tree.command ms later) (t ∷ us ++ vs) (t, us, vs, refl, is, may ms s.1, s.0, l))
 
--- white space before an operand
-space-before : (t : Token) (cs : List Operands) (os : List Operand) → t.kind ≡ kind.Space → (ts : List Token) (all : List Operands)
-    → EndsPartial None cs os ts all → EndsPartial None cs os (t ∷ ts) all
-space-before t cs os is ts all e = in-command (t ∷ []) None None cs os ts all e (by os e.more e.ends)
-  where
-    spaced : (more : Operands) → SpellsCommand more e.front → SpellsCommand more (t ∷ e.front)
-    spaced tree.no_operand s = absurd s
-    spaced (tree.operand p ps) (ws, a, b, at, blank, spells, rest) = (t ∷ ws, a, b, ap (λ us. t ∷ us) at, (is, blank), spells, rest)
+-- ---- operands
 
-    apart : (more : Operands) → SpellsApart more e.front → SpellsApart more (t ∷ e.front)
-    apart tree.no_operand s = (is, s)
-    apart (tree.operand p ps) s = spaced (tree.operand p ps) s
+-- a token that is an operand, of a chain of at least one field
+abbrev IsOne : Operand → Type 0
+IsOne (tree.fields []) = ⊥
+IsOne _ = Unit {0}
 
-    by : (os : List Operand) (more : Operands) → EndsCommand None cs os more e.front → EndsCommand None cs os more (t ∷ e.front)
-    by [] more s = (spaced more s.0, s.1)
-    by (q ∷ os) more s = apart more s
+constant-one : (t : Token) (o : Operand) → IsConstant t o → IsOne o × ((ts : List Token) → IsChained o [] ts → SpellsOperand o ts)
+constant-one _ _ (constant.number is) = (tt, λ ts c. c)
+constant-one _ _ _ = (tt, λ ts c. c)
 
--- a field behind an operand
-field-behind : (t : Token) (o p : Operand) (cs : List Operands) (os : List Operand) → t.kind ≡ kind.Field → begins_name (name_in t) ≡ true
-    → linked o (name_in t) ≡ Some p → (ts : List Token) (all : List Operands) → EndsPartial (Some p) cs os ts all
-    → EndsPartial (Some o) cs os (t ∷ ts) all
-field-behind t o p cs os is begins link ts all e = in-command (t ∷ []) (Some p) (Some o) cs os ts all e (record {
-  whole = e.ends.whole;
-  others = e.ends.others;
-  chain = t ∷ e.ends.chain;
-  rest = e.ends.rest;
-  tokens_are = ap (λ us. t ∷ us) e.ends.tokens_are;
-  more_are = e.ends.more_are;
-  extends = (is, begins, (p, link, e.ends.extends));
-  spells = e.ends.spells;
-})
+is-one : (t : Token) (o : Operand) → IsOperand t o → IsOne o × ((ts : List Token) → IsChained o [] ts → SpellsOperand o ts)
+is-one t _ (operand.field is begins) = (tt, λ ts c. c)
+is-one t o (operand.a_constant is) = constant-one t o is
+is-one _ _ _ = (tt, λ ts c. c)
 
--- ---- an operand
+module _ (t : Token) (is : t.kind ≡ kind.Field) (begins : begins_name (name_in t) ≡ true) where
+  chain-more : (ns : List (List ℕ)) (ts : List Token) → IsChain ns ts → IsChain (ns ++ name_in t ∷ []) (ts ++ t ∷ [])
+  chain-more [] ts c = (t, [], ap (λ us. us ++ t ∷ []) c, is, begins, refl, refl)
+  chain-more (n ∷ ns) ts (s, us, at, field, first, name, rest) =
+      (s, us ++ t ∷ [], ap (λ xs. xs ++ t ∷ []) at, field, first, name, chain-more ns us rest)
 
--- these tokens spell an operand, and so with any chain behind them
-abbrev Spells : Operand → List Token → Type 0
-Spells o us = (ts : List Token) (p : Operand) → Extends o ts p → SpellsOperand p (us ++ ts)
+  chained-more : (o : Operand) (ns : List (List ℕ)) (ts : List Token) → IsChained o ns ts → IsChained o (ns ++ name_in t ∷ []) (ts ++ t ∷ [])
+  chained-more o ns ts (s, us, at, one, rest) = (s, us ++ t ∷ [], ap (λ xs. xs ++ t ∷ []) at, one, chain-more ns us rest)
+
+  linked-spells : (o p : Operand) (ts : List Token) → linked o (name_in t) ≡ Some p → SpellsOperand o ts → SpellsOperand p (ts ++ t ∷ [])
+  linked-spells (tree.fields []) p ts e s = absurd (is-one s.0 (tree.fields []) s.3).0
+  linked-spells (tree.fields (n ∷ ns)) p ts e s =
+      subst (λ p. SpellsOperand p (ts ++ t ∷ [])) (same_Some _ p e) (chained-more (tree.fields (n ∷ [])) ns ts s)
+  linked-spells (tree.variable x ns) p ts e s =
+      subst (λ p. SpellsOperand p (ts ++ t ∷ [])) (same_Some _ p e) (chained-more (tree.variable x []) ns ts s)
+  linked-spells (tree.group cs ns) p ts e (l, inner, r, us, at, left, right, whole, chain) =
+      subst (λ p. SpellsOperand p (ts ++ t ∷ [])) (same_Some _ p e) (
+        l,
+        inner,
+        r,
+        us ++ t ∷ [],
+        ap (λ xs. xs ++ t ∷ []) at ∙ ap (λ xs. l ∷ xs) (append_assoc inner (r ∷ us) (t ∷ [])),
+        left,
+        right,
+        whole,
+        chain-more ns us chain,
+      )
+  linked-spells _ p ts e s = no-value p e
 
 abbrev begins_or : Option Operand → Bool
 begins_or None = true
@@ -180,233 +198,133 @@ link-stands [] os o p name link = refl
 link-stands (c ∷ cs) [] o p name link = ap begins_or (sym link) ∙ link-begins o name
 link-stands (c ∷ cs) (q ∷ os) o p name link = refl
 
-extends-stands : (cs : List Operands) (os : List Operand) (o p : Operand) (ts : List Token) → Extends o ts p → may_stand cs os o ≡ true
-    → may_stand cs os p ≡ true
-extends-stands cs os o p [] e may = ap (may_stand cs os) (sym e) ∙ may
-extends-stands cs os o p (t ∷ ts) (is, begins, (q, link, rest)) may = extends-stands cs os q p ts rest (link-stands cs os o q (name_in t) link)
-
--- an operand before what ends a command or a pipeline
-operand-before : (us : List Token) (o : Operand) (cs : List Operands) (os : List Operand) → Spells o us → may_stand cs os o ≡ true
-    → (ts : List Token) (all : List Operands) → EndsPartial (Some o) cs os ts all → EndsPartial None cs os (us ++ ts) all
-operand-before us o cs os spells may ts all e =
-    in-command us (Some o) None cs os ts all e (subst (λ more. EndsCommand None cs os more (us ++ e.front)) (sym e.ends.more_are) (by os may))
-  where
-    command : SpellsCommand (tree.operand e.ends.whole e.ends.others) (us ++ e.front)
-    command = (
-      [],
-      us ++ e.ends.chain,
-      e.ends.rest,
-      ap (λ vs. us ++ vs) e.ends.tokens_are ∙ sym (append_assoc us e.ends.chain e.ends.rest),
-      tt,
-      spells e.ends.chain e.ends.whole e.ends.extends,
-      e.ends.spells,
-    )
-
-    by : (os : List Operand) → may_stand cs os o ≡ true → EndsCommand None cs os (tree.operand e.ends.whole e.ends.others) (us ++ e.front)
-    by [] may = (command, extends-stands cs [] o e.ends.whole e.ends.chain e.ends.extends may)
-    by (q ∷ os) may = command
-
-operand-within : (ls : List Partial) (us : List Token) (o : Operand) (cs : List Operands) (os : List Operand) → Spells o us
-    → may_stand cs os o ≡ true → (ts : List Token) (all : List Operands) → EndsIn ls (Some o) cs os ts all
-    → EndsIn ls None cs os (us ++ ts) all
-operand-within ls us o cs os spells may = within-partial ls us (Some o) None cs cs os os (operand-before us o cs os spells may)
-
-chained : (f : List (List ℕ) → Operand) → Chains f → (ns : List (List ℕ)) (ts : List Token) (p : Operand) → Extends (f ns) ts p
-    → (names : List (List ℕ)) × (p ≡ f (ns ++ names)) × IsChain names ts
-chained f can ns [] p e = ([], sym e ∙ ap f (sym (append-nil ns)), refl)
-chained f can ns (t ∷ ts) p (is, begins, (q, link, rest)) =
-    let same : f (ns ++ name_in t ∷ []) ≡ q = same_Some _ _ (sym (can ns (name_in t)) ∙ link) in
-    let behind = chained f can (ns ++ name_in t ∷ []) ts p (subst (λ o. Extends o ts p) (sym same) rest) in
-    (name_in t ∷ behind.0, behind.1 ∙ ap f (append_assoc ns (name_in t ∷ []) behind.0), (t, ts, refl, is, begins, refl, behind.2))
-
--- what may have no chain
-unchained : (o : Operand) → ((n : List ℕ) → linked o n ≡ None) → (ts : List Token) (p : Operand) → Extends o ts p → (o ≡ p) × (ts ≡ [])
-unchained o cannot [] p e = (e, refl)
-unchained o cannot (t ∷ ts) p (is, begins, (q, link, rest)) = absurd (let c = cannot (name_in t) in let g : ⊥ = cc in g)
-
-one-spells : (o : Operand) (t : Token) → IsOperand t o → ((n : List ℕ) → linked o n ≡ None)
-    → ((ts : List Token) → IsChained o [] ts → SpellsOperand o ts) → Spells o (t ∷ [])
-one-spells o t is cannot spells ts p e =
-    let u = unchained o cannot ts p e in
-    subst (λ p. SpellsOperand p (t ∷ ts)) u.0 (spells (t ∷ ts) (t, ts, refl, is, u.1))
-
-token-spells : (t : Token) (o : Operand) → operand_at t ≡ Some o → Spells o (t ∷ [])
-token-spells t o at = by o (is-computed-operand t o at) (subst IsToken at (token-form t))
-  where
-    by : (o : Operand) → IsOperand t o → IsToken (Some o) → Spells o (t ∷ [])
-    by (tree.fields names) at (n, is) = λ ts p e.
-        let c = chained tree.fields fields-chain names ts p e in
-        subst (λ p. SpellsOperand p (t ∷ ts)) (sym (c.1 ∙ ap (λ ns. tree.fields (ns ++ c.0)) is))
-        (t, ts, refl, subst (λ ns. IsOperand t (tree.fields ns)) is at, c.2)
-    by (tree.variable x names) at is = λ ts p e.
-        let c = chained (tree.variable x) (variable-chain x) names ts p e in
-        subst (λ p. SpellsOperand p (t ∷ ts)) (sym (c.1 ∙ ap (λ ns. tree.variable x (ns ++ c.0)) is))
-        (t, ts, refl, subst (λ ns. IsOperand t (tree.variable x ns)) is at, c.2)
-    by (tree.group commands names) at form = absurd form
-    by o at form = one-spells o t at (λ n. refl) (λ ts c. c)
-
-group-spells : (cs : Pipeline) (l r : Token) (a : List Token) → l.kind ≡ kind.LeftParenthesis → r.kind ≡ kind.RightParenthesis
-    → SpellsPipeline cs a → Spells (tree.group cs []) (l ∷ a ++ (r ∷ []))
-group-spells cs l r a left right s ts p e =
-    let c = chained (tree.group cs) (group-chain cs) [] ts p e in
-    subst (λ p. SpellsOperand p (l ∷ (a ++ (r ∷ [])) ++ ts)) (sym c.1) (l, a, r, ts, ap (λ us. l ∷ us) (append_assoc a (r ∷ []) ts), left, right, s, c.2)
-
--- a whole pipeline
-partial-spells : (ts : List Token) (all : List Operands) → EndsPartial None [] [] ts all → SpellsPipeline (commands_from all) ts
-partial-spells ts all e =
-    let is : commands_from all ≡ tree.command e.more e.later = ap commands_from e.all_are
-    ∙ ap (λ os. tree.command os (commands_from (command_list e.later))) (operands-back e.more) ∙ ap (tree.command e.more) (commands-back e.later) in
-    subst (λ cs. SpellsPipeline cs ts) (sym is) (e.front, e.back, e.tokens_are, e.ends.0, e.spells)
-
--- ---- ends
-
--- a command that may end here
-pub record EndsNow (last : Option Operand) (cs : List Operands) (os : List Operand) (done : List Operands) : Type 0 where
-  pub more : Operands
-  pub ends : EndsCommand last cs os more []
-  pub done_is : done ≡ cs ++ operands_from (os ++ operand_list more) ∷ []
-
-ends-now : (last : Option Operand) (cs : List Operands) (os : List Operand) (done : List Operands)
-    → more_commands cs (settled last os) ≡ Some done → EndsNow last cs os done
-ends-now None cs [] done e = absurd (cc)
-ends-now None cs (o ∷ os) done e = record {
-  more = tree.no_operand;
-  ends = tt;
-  done_is = sym (same_Some _ done e) ∙ ap (λ qs. cs ++ operands_from qs ∷ []) (sym (append-nil (o ∷ os)));
-}
-ends-now (Some o) cs os done e = record {
-  more = tree.operand o tree.no_operand;
-  ends = record { whole = o; others = tree.no_operand; chain = []; rest = []; tokens_are = refl; more_are = refl; extends = refl; spells = tt };
-  done_is = by os e;
-}
-  where
-    by : (os : List Operand) → more_commands cs (os ++ o ∷ []) ≡ Some done → done ≡ cs ++ operands_from (os ++ o ∷ []) ∷ []
-    by [] e = cc
-    by (q ∷ os) e = cc
-
-partial-end : (last : Option Operand) (cs : List Operands) (os : List Operand) (done : List Operands)
-    → more_commands cs (settled last os) ≡ Some done → EndsPartial last cs os [] done
-partial-end last cs os done e =
-    let n = ends-now last cs os done e in
-    record { more = n.more; later = tree.no_command; front = []; back = []; tokens_are = refl; ends = n.ends; spells = refl; all_are = n.done_is }
-
-later-of : (cs : List Operands) (x : Operands) (more : Operands) → MayBegin (cs ++ x ∷ []) more → MayBeLater more
-later-of cs x tree.no_operand may = absurd may
-later-of [] x (tree.operand o os) may = may
-later-of (c ∷ cs) x (tree.operand o os) may = may
-
--- a bar behind a command
-bar-behind : (t : Token) (last : Option Operand) (cs : List Operands) (os : List Operand) (done : List Operands) → t.kind ≡ kind.Pipe
-    → more_commands cs (settled last os) ≡ Some done → (ts : List Token) (all : List Operands) → EndsPartial None done [] ts all
-    → EndsPartial last cs os (t ∷ ts) all
-bar-behind t last cs os done is whole ts all e =
-    let n = ends-now last cs os done whole in
-    record {
-      more = n.more;
-      later = tree.command e.more e.later;
-      front = [];
-      back = t ∷ ts;
-      tokens_are = refl;
-      ends = n.ends;
-      spells = (
-        t,
-        e.front,
-        e.back,
-        ap (λ us. t ∷ us) e.tokens_are,
-        is,
-        later-of cs _ e.more (subst (λ ds. MayBegin ds e.more) n.done_is e.ends.1),
-        e.ends.0,
-        e.spells,
-      );
-      all_are = e.all_are
-          ∙ ap (λ ds. ds ++ operands_from (operand_list e.more) ∷ command_list e.later) n.done_is
-          ∙ append_assoc cs (operands_from (os ++ operand_list n.more) ∷ []) (operands_from (operand_list e.more) ∷ command_list e.later)
-          ∙ ap (λ ms. cs ++ operands_from (os ++ operand_list n.more) ∷ ms ∷ command_list e.later) (operands-back e.more);
-    }
-
--- ---- one token
-
-abbrev EndsOpt : Option Parser → List Token → List Operands → Type 0
-EndsOpt None ts all = ⊥
-EndsOpt (Some h) ts all = EndsParser h ts all
-
 group-stands : (cs : List Operands) (os : List Operand) (commands : Pipeline) → may_stand cs os (tree.group commands []) ≡ true
 group-stands [] os commands = refl
 group-stands (c ∷ cs) [] commands = refl
 group-stands (c ∷ cs) (q ∷ os) commands = refl
 
-module _ (t : Token) (cs : List Operands) (os : List Operand) (ts : List Token) (all : List Operands) where
-  space-ends : (ls : List Partial) (last : Option Operand) → t.kind ≡ kind.Space
-      → EndsParser (parser.apart (parser_at ls cs os last)) ts all → EndsIn ls last cs os (t ∷ ts) all
-  space-ends ls None is e = within-partial ls (t ∷ []) None None cs cs os os (space-before t cs os is) ts all e
-  space-ends ls (Some o) is e = within-partial ls (t ∷ []) None (Some o) cs cs (os ++ o ∷ []) os (space-behind t o cs os is) ts all e
+-- ---- one token
 
-  bar-ends : (ls : List Partial) (last : Option Operand) → t.kind ≡ kind.Pipe → (done : Option (List Operands))
-      → more_commands cs (settled last os) ≡ done → EndsOpt (option_map (parser.barred (parser_at ls cs os last)) done) ts all
-      → EndsIn ls last cs os (t ∷ ts) all
-  bar-ends ls last is None whole e = absurd e
-  bar-ends ls last is (Some done) whole e = within-partial ls (t ∷ []) None last done cs [] os (bar-behind t last cs os done is whole) ts all e
+-- the tokens of a pipeline, and of those around it
+abbrev HasRead : List Partial → List Operands → List Operand → Option Operand → List Token → Type 0
+HasRead [] cs os last ts = Reads cs os last ts
+HasRead (l ∷ ls) cs os last ts =
+    (a : List Token) × (t : Token) × (b : List Token) × (ts ≡ a ++ t ∷ b) × (t.kind ≡ kind.LeftParenthesis)
+    × HasRead ls l.commands l.operands None a × Reads cs os last b
 
-  open-ends : (ls : List Partial) (last : Option Operand) → t.kind ≡ kind.LeftParenthesis
-      → EndsOpt (parser.opened last (parser_at ls cs os last)) ts all → EndsIn ls last cs os (t ∷ ts) all
-  open-ends ls None is (a, r, b, inner, at, right, partial, rest) =
-      subst (λ us. EndsIn ls None cs os us all) (ap (λ us. t ∷ us) (append_assoc a (r ∷ []) b ∙ sym at))
-      (operand-within ls (t ∷ a ++ (r ∷ [])) (tree.group (commands_from inner) []) cs os
-      (group-spells (commands_from inner) t r a is right (partial-spells a inner partial)) (group-stands cs os (commands_from inner)) b all rest)
-  open-ends ls (Some o) is e = absurd e
+abbrev Read : Option Parser → List Token → Type 0
+Read None ts = Unit {0}
+Read (Some h) ts = HasRead h.outer h.inner.commands h.inner.operands h.last ts
 
-  close-ends : (ls : List Partial) (last : Option Operand) → t.kind ≡ kind.RightParenthesis → (done : Option (List Operands))
-      → more_commands cs (settled last os) ≡ done → EndsOpt (parser.left_with ls done) ts all → EndsIn ls last cs os (t ∷ ts) all
-  close-ends [] last is o whole e = absurd e
-  close-ends (l ∷ ls) last is None whole e = absurd e
-  close-ends (l ∷ ls) last is (Some done) whole e = ([], t, ts, done, refl, is, partial-end last cs os done whole, e)
+-- where tokens only change the innermost pipeline
+within : (ls : List Partial) (cs ds : List Operands) (os qs : List Operand) (last next : Option Operand) (us : List Token)
+    → ((ts : List Token) → Reads cs os last ts → Reads ds qs next (ts ++ us)) → (ts : List Token) → HasRead ls cs os last ts
+    → HasRead ls ds qs next (ts ++ us)
+within [] cs ds os qs last next us f ts r = f ts r
+within (l ∷ ls) cs ds os qs last next us f ts (a, t, b, is, left, outer, r) =
+    (a, t, b ++ us, ap (λ xs. xs ++ us) is ∙ append_assoc a (t ∷ b) us, left, outer, f b r)
 
-  kept-ends : (ls : List Partial) (o : Operand) → operand_at t ≡ Some o → (b : Bool) → may_stand cs os o ≡ b
-      → EndsOpt (kept_if b (parser_at ls cs os (Some o))) ts all → EndsIn ls None cs os (t ∷ ts) all
-  kept-ends ls o at true may e = operand-within ls (t ∷ []) o cs os (token-spells t o at) may ts all e
-  kept-ends ls o at false may e = absurd e
+module _ (t : Token) (ls : List Partial) (cs : List Operands) (os : List Operand) (ts : List Token) where
+  space-read : (last : Option Operand) → t.kind ≡ kind.Space → HasRead ls cs os last ts
+      → Read (Some (parser.apart (parser_at ls cs os last))) (ts ++ t ∷ [])
+  space-read None is r = within ls cs cs os os None None (t ∷ []) (λ us f. begins-spaced t is cs os us f) ts r
+  space-read (Some o) is r =
+      within ls cs cs os (os ++ o ∷ []) (Some o) None (t ∷ [])
+      (λ us r. subst (λ xs. Begins cs (os ++ o ∷ []) (xs ++ t ∷ [])) (sym r.2) (begins-operand t is cs os o r.0 r.1 r.3 r.4 r.5)) ts r
 
-  placed-ends : (ls : List Partial) (last o : Option Operand) → operand_at t ≡ o
-      → EndsOpt (parser.placed last o (parser_at ls cs os last)) ts all → EndsIn ls last cs os (t ∷ ts) all
-  placed-ends ls None None at e = absurd e
-  placed-ends ls None (Some o) at e = kept-ends ls o at (may_stand cs os o) refl e
-  placed-ends ls (Some p) o at e = absurd e
+  bar-read : (last : Option Operand) → t.kind ≡ kind.Pipe → (done : Option (List Operands)) → more_commands cs (settled last os) ≡ done
+      → HasRead ls cs os last ts → Read (option_map (parser.barred (parser_at ls cs os last)) done) (ts ++ t ∷ [])
+  bar-read last is None e r = tt
+  bar-read last is (Some done) e r =
+      within ls cs done os [] last None (t ∷ [])
+      (λ us r. begins-barred t done us is (λ ms may. may-be-later cs (settled last os) done ms e may) (reads-end cs os last done us e r)) ts r
 
-  link-ends : (ls : List Partial) (o : Operand) → t.kind ≡ kind.Field → (b : Bool) → begins_name (name_in t) ≡ b → (p : Option Operand)
-      → linked_by b o (name_in t) ≡ p → EndsOpt (option_map (parser.ending_with (parser_at ls cs os (Some o))) p) ts all
-      → EndsIn ls (Some o) cs os (t ∷ ts) all
-  link-ends ls o is b begins None link e = absurd e
-  link-ends ls o is true begins (Some p) link e = within-partial ls (t ∷ []) (Some p) (Some o) cs cs os os (field-behind t o p cs os is begins link) ts all e
-  link-ends ls o is false begins (Some p) link e = absurd (cc)
+  open-read : (last : Option Operand) → t.kind ≡ kind.LeftParenthesis → HasRead ls cs os last ts
+      → Read (parser.opened last (parser_at ls cs os last)) (ts ++ t ∷ [])
+  open-read None is r = (ts, t, [], refl, is, r, begins-start)
+  open-read (Some o) is r = tt
 
-  field-ends : (ls : List Partial) (last : Option Operand) → t.kind ≡ kind.Field
-      → EndsOpt (parser.fielded last t (parser_at ls cs os last)) ts all → EndsIn ls last cs os (t ∷ ts) all
-  field-ends ls None is e = placed-ends ls None (operand_at t) refl e
-  field-ends ls (Some o) is e = link-ends ls o is (begins_name (name_in t)) refl _ refl e
+  kept-read : (o : Operand) → IsOperand t o → (b : Bool) → may_stand cs os o ≡ b → HasRead ls cs os None ts
+      → Read (kept_if b (parser_at ls cs os (Some o))) (ts ++ t ∷ [])
+  kept-read o is true may r =
+      within ls cs cs os os None (Some o) (t ∷ []) (λ us f. (us, t ∷ [], refl, f, (is-one t o is).1 (t ∷ []) (t, [], refl, is, refl), may)) ts r
+  kept-read o is false may r = tt
 
-  step-ends : (k : TokenKind) → t.kind ≡ k → (ls : List Partial) (last : Option Operand)
-      → EndsOpt (step_by k t (parser_at ls cs os last)) ts all → EndsIn ls last cs os (t ∷ ts) all
-  step-ends kind.Space is ls last e = space-ends ls last is e
-  step-ends kind.Pipe is ls last e = bar-ends ls last is _ refl e
-  step-ends kind.LeftParenthesis is ls last e = open-ends ls last is e
-  step-ends kind.RightParenthesis is ls last e = close-ends ls last is _ refl e
-  step-ends kind.Field is ls last e = field-ends ls last is e
-  step-ends _ is ls last e = placed-ends ls last (operand_at t) refl e
+  placed-read : (last o : Option Operand) → operand_at t ≡ o → HasRead ls cs os last ts
+      → Read (parser.placed last o (parser_at ls cs os last)) (ts ++ t ∷ [])
+  placed-read None None e r = tt
+  placed-read None (Some o) e r = kept-read o (is-computed-operand t o e) (may_stand cs os o) refl r
+  placed-read (Some p) o e r = tt
+
+  link-read : (o : Operand) → t.kind ≡ kind.Field → (b : Bool) → begins_name (name_in t) ≡ b → (p : Option Operand) → linked_by b o (name_in t) ≡ p
+      → HasRead ls cs os (Some o) ts → Read (option_map (parser.ending_with (parser_at ls cs os (Some o))) p) (ts ++ t ∷ [])
+  link-read o is b begins None link r = tt
+  link-read o is true begins (Some p) link r =
+      within ls cs cs os os (Some o) (Some p) (t ∷ [])
+      (λ us r. (
+        r.0,
+        r.1 ++ t ∷ [],
+        ap (λ xs. xs ++ t ∷ []) r.2 ∙ append_assoc r.0 r.1 (t ∷ []),
+        r.3,
+        linked-spells t is begins o p r.1 link r.4,
+        link-stands cs os o p (name_in t) link,
+      )) ts r
+  link-read o is false begins (Some p) link r = absurd (cc)
+
+  field-read : (last : Option Operand) → t.kind ≡ kind.Field → HasRead ls cs os last ts
+      → Read (parser.fielded last t (parser_at ls cs os last)) (ts ++ t ∷ [])
+  field-read None is r = placed-read None (operand_at t) refl r
+  field-read (Some o) is r = link-read o is (begins_name (name_in t)) refl _ refl r
+
+close-read : (t : Token) (ls : List Partial) (cs : List Operands) (os : List Operand) (ts : List Token) (last : Option Operand)
+    → t.kind ≡ kind.RightParenthesis → (done : Option (List Operands)) → more_commands cs (settled last os) ≡ done → HasRead ls cs os last ts
+    → Read (parser.left_with ls done) (ts ++ t ∷ [])
+close-read t [] cs os ts last is o e r = tt
+close-read t (l ∷ ls) cs os ts last is None e r = tt
+close-read t (l ∷ ls) cs os ts last is (Some done) e (a, u, b, at, left, outer, r) =
+    subst (HasRead ls l.commands l.operands (Some (tree.group (commands_from done) [])))
+    (sym (ap (λ xs. xs ++ t ∷ []) at ∙ append_assoc a (u ∷ b) (t ∷ [])))
+    (within ls l.commands l.commands l.operands l.operands None (Some (tree.group (commands_from done) [])) (u ∷ b ++ t ∷ [])
+    (λ us f. (
+      us,
+      u ∷ b ++ t ∷ [],
+      refl,
+      f,
+      (u, b, t, [], refl, left, is, ends-whole done b (reads-end cs os last done b e r), refl),
+      group-stands l.commands l.operands (commands_from done),
+    )) a outer)
+
+step-read : (t : Token) (k : TokenKind) → t.kind ≡ k → (ls : List Partial) (cs : List Operands) (os : List Operand) (last : Option Operand) (ts : List Token)
+    → HasRead ls cs os last ts → Read (step_by k t (parser_at ls cs os last)) (ts ++ t ∷ [])
+step-read t kind.Space is ls cs os last ts r = space-read t ls cs os ts last is r
+step-read t kind.Pipe is ls cs os last ts r = bar-read t ls cs os ts last is _ refl r
+step-read t kind.LeftParenthesis is ls cs os last ts r = open-read t ls cs os ts last is r
+step-read t kind.RightParenthesis is ls cs os last ts r = close-read t ls cs os ts last is _ refl r
+step-read t kind.Field is ls cs os last ts r = field-read t ls cs os ts last is r
+step-read t _ is ls cs os last ts r = placed-read t ls cs os ts last (operand_at t) refl r
 
 -- ---- all of them
 
-finished-ends : (ls : List Partial) (last : Option Operand) (cs : List Operands) (os : List Operand) (all : List Operands)
-    → finished_with ls (more_commands cs (settled last os)) ≡ Some all → EndsIn ls last cs os [] all
-finished-ends [] last cs os all e = partial-end last cs os all e
-finished-ends (l ∷ ls) last cs os all e = absurd (cc)
+finished-read : (ls : List Partial) (cs : List Operands) (os : List Operand) (last : Option Operand) (ts : List Token) (all : List Operands)
+    → HasRead ls cs os last ts → finished_with ls (more_commands cs (settled last os)) ≡ Some all → SpellsPipeline (commands_from all) ts
+finished-read [] cs os last ts all r e = ends-whole all ts (reads-end cs os last all ts e r)
+finished-read (l ∷ ls) cs os last ts all r e = absurd (cc)
 
-steps-end : (o : Option Parser) (ts : List Token) (all : List Operands) → option_and_then finished (steps o ts) ≡ Some all → EndsOpt o ts all
-unfolding finished step
-steps-end None [] all e = absurd (cc)
-steps-end (Some h) [] all e = finished-ends h.outer h.last h.inner.commands h.inner.operands all e
-steps-end None (t ∷ ts) all e = steps-end None ts all e
-steps-end (Some h) (t ∷ ts) all e = step-ends t h.inner.commands h.inner.operands ts all t.kind refl h.outer h.last (steps-end (step t h) ts all e)
+one-read : (o : Option Parser) (t : Token) (ts : List Token) → Read o ts → Read (option_and_then (step t) o) (ts ++ t ∷ [])
+unfolding step
+one-read None t ts r = tt
+one-read (Some h) t ts r = step-read t t.kind refl h.outer h.inner.commands h.inner.operands h.last ts r
+
+steps-read : (o : Option Parser) (ts rest : List Token) (all : List Operands) → Read o ts → option_and_then finished (steps o rest) ≡ Some all
+    → SpellsPipeline (commands_from all) (ts ++ rest)
+unfolding finished
+steps-read None ts [] all r e = absurd (cc)
+steps-read (Some h) ts [] all r e =
+    subst (SpellsPipeline (commands_from all)) (sym (append-nil ts)) (finished-read h.outer h.inner.commands h.inner.operands h.last ts all r e)
+steps-read o ts (t ∷ rest) all r e =
+    subst (SpellsPipeline (commands_from all)) (append_assoc ts (t ∷ []) rest)
+    (steps-read (option_and_then (step t) o) (ts ++ t ∷ []) rest all (one-read o t ts r) e)
 
 -- what is read is spelled
 pub read-spells : (ts : List Token) (all : List Operands) → commands_after parser.start ts ≡ Some all → SpellsPipeline (commands_from all) ts
-read-spells ts all e = partial-spells ts all (steps-end (Some parser.start) ts all e)
+read-spells ts all e = steps-read (Some parser.start) [] ts all begins-start e

@@ -93,6 +93,3 @@ then-led Is Rest ts other (ws, t, us, at, blank, is, rest) = record {
 pub led-then : (Is : Token → Type 0) (Rest : List Token → Type 0) (ts : List Token) (t : Token) (us : List Token) → next ts ≡ Some (t, us)
     → Is t → Rest us → Then Is Rest ts
 led-then Is Rest ts t us e is rest = let b = begins ts t us e in (b.front, t, us, b.tokens_are, b.blank, is, rest)
-
-pub then-map : (Is : Token → Type 0) (R S : List Token → Type 0) → ((us : List Token) → R us → S us) → (ts : List Token) → Then Is R ts → Then Is S ts
-then-map Is R S f ts (ws, t, us, at, blank, is, rest) = (ws, t, us, at, blank, is, f us rest)

@@ -5,7 +5,7 @@ ghost use Rattle.tmpl_grammar.specs.Header.{may_bind};
 ghost use Rattle.tmpl_grammar.specs.View.{binding_of, header_of};
 ghost use Rattle.tmpl_grammar.specs.computed.Depth.{limited_header};
 ghost use Rattle.tmpl_grammar.specs.computed.Reading as spec;
-ghost use Rattle.tmpl_grammar.specs.computed.View.{front_of, name_of, split_of};
+ghost use Rattle.tmpl_grammar.specs.computed.View.{front_of, signed_of, split_of};
 
 use crate::operand::{name_in, next};
 use crate::pipeline::pipeline;
@@ -26,9 +26,17 @@ enum Front<'t, 'b> {
     DeclarePair(&'b [u8], &'b [u8], &'t [Token<'b>]),
 }
 
-/// The variable that comes first, by its name of at least one byte, and the tokens behind it.
-fn first_variable<'t, 'b>(tokens: &'t [Token<'b>]) -> Option<(&'b [u8], &'t [Token<'b>])>
-    ensures { option_map name_of result ≡ spec.named (map token_of tokens.now) }
+/// A variable by its name, the kind of the next token that is no white space, and the tokens behind that.
+#[derive(Clone, Copy)]
+struct Signed<'t, 'b> {
+    name: &'b [u8],
+    sign: TokenKind,
+    rest: &'t [Token<'b>],
+}
+
+/// The variable that comes first, of a name of at least one byte, and what stands behind it.
+fn first_variable<'t, 'b>(tokens: &'t [Token<'b>]) -> Option<Signed<'t, 'b>>
+    ensures { option_map signed_of result ≡ spec.signed (map token_of tokens.now) }
 {
     let (first, rest) = next(tokens)?;
     match first.kind {
@@ -37,16 +45,20 @@ fn first_variable<'t, 'b>(tokens: &'t [Token<'b>]) -> Option<(&'b [u8], &'t [Tok
     }
 }
 
-/// A name of at least one byte, and the tokens behind it.
-fn variable_named<'t, 'b>(
-    name: &'b [u8],
-    rest: &'t [Token<'b>],
-) -> Option<(&'b [u8], &'t [Token<'b>])>
-    ensures { option_map name_of result ≡ spec.named_by name.now (map token_of rest.now) }
+/// A name of at least one byte, and what stands behind it.
+fn variable_named<'t, 'b>(name: &'b [u8], rest: &'t [Token<'b>]) -> Option<Signed<'t, 'b>>
+    ensures { option_map signed_of result ≡ spec.signed_by name.now (map token_of rest.now) }
 {
     match name {
         [] => None,
-        _ => Some((name, rest)),
+        _ => {
+            let (sign, rest) = next(rest)?;
+            Some(Signed {
+                name,
+                sign: sign.kind,
+                rest,
+            })
+        }
     }
 }
 
@@ -54,32 +66,26 @@ fn variable_named<'t, 'b>(
 fn header_front<'t, 'b>(tokens: &'t [Token<'b>]) -> Front<'t, 'b>
     ensures { front_of result ≡ spec.front_in (map token_of tokens.now) }
 {
-    let Some((name, rest)) = first_variable(tokens) else {
+    let Some(first) = first_variable(tokens) else {
         return Front::Plain;
     };
-    let Some((sign, rest)) = next(rest) else {
-        return Front::Plain;
-    };
-    match sign.kind {
-        TokenKind::Declare => Front::Declare(name, rest),
-        TokenKind::Assign => Front::Assign(name, rest),
-        TokenKind::Comma => second_name(name, rest),
+    match first.sign {
+        TokenKind::Declare => Front::Declare(first.name, first.rest),
+        TokenKind::Assign => Front::Assign(first.name, first.rest),
+        TokenKind::Comma => second_name(first.name, first.rest),
         _ => Front::Plain,
     }
 }
 
 /// The second of two variables, behind the comma.
 fn second_name<'t, 'b>(key: &'b [u8], tokens: &'t [Token<'b>]) -> Front<'t, 'b>
-    ensures { front_of result ≡ spec.second_named key.now (spec.named (map token_of tokens.now)) }
+    ensures { front_of result ≡ spec.second_signed key.now (spec.signed (map token_of tokens.now)) }
 {
-    let Some((name, rest)) = first_variable(tokens) else {
+    let Some(second) = first_variable(tokens) else {
         return Front::Plain;
     };
-    let Some((sign, rest)) = next(rest) else {
-        return Front::Plain;
-    };
-    match sign.kind {
-        TokenKind::Declare => Front::DeclarePair(key, name, rest),
+    match second.sign {
+        TokenKind::Declare => Front::DeclarePair(key, second.name, second.rest),
         _ => Front::Plain,
     }
 }

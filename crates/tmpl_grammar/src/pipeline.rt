@@ -1,42 +1,47 @@
 //! The reading of pipelines.
-ghost use Rattle.std.specs.Prelude.{◌≡◌, ◌+◌, ◌-◌, ◌<◌, ◌^◌, IfOk, map, option_map};
+ghost use Rattle.std.specs.Prelude.{◌≡◌, ◌≤◌, IfOk, map, nat_le, option_map};
 ghost use Rattle.tmpl_lex.specs.View.{token_of};
-ghost use Rattle.tmpl_grammar.specs.computed.Reading as spec;
-ghost use Rattle.tmpl_grammar.specs.computed.Limited as limited;
-ghost use Rattle.tmpl_grammar.specs.computed.Parser.{finished, kept_if};
-ghost use Rattle.tmpl_grammar.specs.View.{operand_of, pipeline_of};
+ghost use Rattle.tmpl_grammar.specs.Depth.{most_deep};
+ghost use Rattle.tmpl_grammar.specs.View.{command_of, pipeline_of};
 ghost use Rattle.tmpl_grammar.specs.computed.Depth.{limited_pipeline};
-ghost use Rattle.tmpl_grammar.specs.computed.View.{parser_of, limited_of};
+ghost use Rattle.tmpl_grammar.specs.computed.Limited.{deepest, depth_behind, limited_commands, pruned_commands};
+ghost use Rattle.tmpl_grammar.specs.computed.Parser.{start};
+ghost use Rattle.tmpl_grammar.specs.computed.Reading as spec;
 
 mod parser;
 
-use crate::pipeline::parser::{PartialPipeline, PipelineParser};
-use crate::tree::{Operand, Pipeline};
+use crate::pipeline::parser::PipelineParser;
+use crate::tree::{Command, Pipeline};
 use std::alloc::{AllocError, Global};
-use tmpl_lex::Token;
+use tmpl_lex::{Token, TokenKind};
 
 /// How deep parentheses may nest (our own limit).
 const MOST_DEEP: usize = 100;
 
-/// A parser that keeps no more than `MOST_DEEP` pipelines around the one that it reads. Any further one is forgotten
-/// and only counted: from then on the action is too deep, so all that is left to tell is whether its tokens are a
-/// pipeline, and behind `)` the same tokens may stand whatever was read before its `(`.
-#[derive(Drop)]
-struct LimitedParser {
-    parser: PipelineParser,
-    /// How many pipelines around it are forgotten; `None` while none ever was.
-    beyond: Option<usize>,
-}
-
-/// The pipeline that these tokens spell, left out where its parentheses nest too deep. No call is recursive, however
-/// deep they nest.
+/// The pipeline that these tokens spell, left out where its parentheses nest too deep. Then all that is left to tell is
+/// whether the tokens are a pipeline, and what stands in parentheses is let go of as it is read, so that no tree is
+/// deep. No call is recursive.
 pub(crate) fn pipeline(alloc: Global, tokens: &[Token<'_>]) -> Result<Option<Pipeline>, AllocError>
     ensures { IfOk result (λ o. option_map pipeline_of o
         ≡ option_map limited_pipeline (spec.pipeline_in (map token_of tokens.now))) }
 {
-    let mut parser = LimitedParser::new(alloc);
+    let keeps = is_shallow(tokens);
+    let commands = commands_in(alloc, keeps, tokens)?;
+    Ok(limited(alloc, keeps, commands))
+}
+
+/// The commands of the pipeline that these tokens spell, with what stands in parentheses or without it.
+fn commands_in(
+    alloc: Global,
+    keeps: bool,
+    tokens: &[Token<'_>],
+) -> Result<Option<Vec<Command>>, AllocError>
+    ensures { IfOk result (λ o. option_map (λ v. map command_of v.items) o
+        ≡ pruned_commands keeps start (map token_of tokens.now)) }
+{
+    let mut parser = PipelineParser::new(alloc);
     for token in tokens {
-        let stands = parser.step(alloc, token)?;
+        let stands = parser.pass(alloc, keeps, token)?;
         if !stands {
             return Ok(None);
         }
@@ -44,87 +49,45 @@ pub(crate) fn pipeline(alloc: Global, tokens: &[Token<'_>]) -> Result<Option<Pip
     parser.finish(alloc)
 }
 
-impl LimitedParser {
-    /// Nothing is read yet.
-    fn new(alloc: Global) -> LimitedParser
-        ensures { limited_of result ≡ limited.limited_start }
-    {
-        LimitedParser {
-            parser: PipelineParser::new(alloc),
-            beyond: None,
-        }
-    }
-
-    /// Takes in this token; `false` where it may not stand.
-    #[tactic(auto, unfolding(crate::specs::computed::Limited::limited_step))]
-    fn step(&mut self, alloc: Global, token: &Token<'_>) -> Result<bool, AllocError>
-        ensures { IfOk result (λ b. kept_if b (limited_of self.new)
-            ≡ limited.limited_step (token_of token.now) (limited_of self.old)) }
-    {
-        self.restore(alloc)?;
-        let stands = self.parser.step(alloc, token)?;
-        self.forget();
-        Ok(stands)
-    }
-
-    /// Before a token: puts an empty pipeline in place of the innermost that is forgotten.
-    fn restore(&mut self, alloc: Global) -> Result<(), AllocError>
-        ensures parser { IfOk result (λ u. limited_of self.new ≡ limited.restored (limited_of self.old)) }
-        ensures room { IfOk result (λ u. limited.count self.new.beyond + 1 < 2 ^ 64) }
-    {
-        let Some(count) = self.beyond else {
-            return Ok(());
-        };
-        if count > 0 {
-            self.parser.outer.push(PartialPipeline::new(alloc))?;
-        }
-        empty(alloc, &mut self.parser.last);
-        self.beyond = Some(one_less(count));
-        Ok(())
-    }
-
-    /// Behind a token: lets go of the innermost of the pipelines around it, where that is one too many.
-    fn forget(&mut self)
-        requires { limited.count self.old.beyond + 1 < 2 ^ 64 }
-        ensures { limited_of self.new ≡ limited.forgotten (limited_of self.old) }
-    {
-        if self.parser.outer.len() > MOST_DEEP {
-            self.parser.outer.pop();
-            self.beyond = Some(self.beyond.unwrap_or(0) + 1);
-        }
-    }
-
-    /// What is read where the tokens end here.
-    fn finish(self, alloc: Global) -> Result<Option<Pipeline>, AllocError>
-        ensures { IfOk result (λ o. option_map pipeline_of o
-            ≡ limited.pipeline_by self.beyond (finished (parser_of self.parser))) }
-    {
-        match (self.parser.finish(alloc)?, self.beyond) {
-            (Some(commands), None) => Ok(Some(Pipeline { commands })),
-            (Some(_), Some(0)) => Ok(Some(Pipeline {
+/// The pipeline of these commands, which are left out where nothing in parentheses was kept.
+fn limited(alloc: Global, keeps: bool, commands: Option<Vec<Command>>) -> Option<Pipeline>
+    ensures { option_map pipeline_of result
+        ≡ limited_commands keeps (option_map (λ v. map command_of v.items) commands) }
+{
+    match commands {
+        Some(commands) => if keeps {
+            Some(Pipeline { commands })
+        } else {
+            Some(Pipeline {
                 commands: Vec::new(alloc),
-            })),
-            _ => Ok(None),
-        }
+            })
+        },
+        None => None,
     }
 }
 
-/// The number before, or 0.
-fn one_less(count: usize) -> usize
-    ensures value { result ≡ count - 1 }
-    ensures room { result + 1 < 2 ^ 64 }
+/// Whether parentheses nest no deeper than they may.
+fn is_shallow(tokens: &[Token<'_>]) -> bool
+    ensures { result ≡ nat_le (deepest 0 (map token_of tokens.now)) most_deep }
 {
-    count.saturating_sub(1)
+    let mut depth = 0;
+    for token in tokens {
+        depth = depth_behind(token, depth);
+        if depth > MOST_DEEP {
+            return false;
+        }
+    }
+    true
 }
 
-/// Empties the operand if it is a group: else trees would be as deep as the parentheses.
-fn empty(alloc: Global, last: &mut Option<Operand>)
-    ensures { option_map operand_of last.new ≡ option_map limited.emptied (option_map operand_of last.old) }
+/// How many parentheses are open behind a token, where so many are before it.
+fn depth_behind(token: &Token<'_>, before: usize) -> usize
+    requires { before ≤ most_deep }
+    ensures { result ≡ depth_behind token.now.kind before }
 {
-    if matches!(last, Some(Operand::Group { .. })) {
-        *last = Some(Operand::Group {
-            commands: Vec::new(alloc),
-            fields: Vec::new(alloc),
-        });
+    match token.kind {
+        TokenKind::LeftParenthesis => before + 1,
+        TokenKind::RightParenthesis => before.saturating_sub(1),
+        _ => before,
     }
 }

@@ -1,67 +1,49 @@
--- A parser of pipelines that keeps no more than a hundred around the one that it reads, and only counts further ones.
--- Whether tokens are a pipeline it tells for all that: behind `)` the same may stand whatever was read before its `(`.
-use Rattle.std.specs.Prelude.{ℕ, zero, suc, ◌+◌, Bool, true, false, List, [], ◌∷◌, length, drop, nat_lt, Option}
-use Rattle.std.specs.Prelude.{Some, None, option_map}
+-- A parser of pipelines for tokens whose parentheses nest too deep: it lets go of what stands in them, and tells for
+-- all that whether the tokens are a pipeline.
+use Rattle.std.specs.Prelude.{ℕ, suc, ◌-◌, max, Bool, true, false, List, [], ◌∷◌, Option, Some}
+use Rattle.std.specs.Prelude.{option_map, option_and_then}
+use Rattle.tmpl_lex.specs.declared.piece.TokenKind.{TokenKind}
+use Rattle.tmpl_lex.specs.declared.piece.TokenKind.TheVariants as kind
 use Rattle.tmpl_lex.specs.Piece.{Token}
 use Rattle.tmpl_grammar.specs.Tree as tree
-use Rattle.tmpl_grammar.specs.Tree.{Operand, Operands, Pipeline, no_command, commands_from}
-use Rattle.tmpl_grammar.specs.computed.Parser.{Parser, empty_partial, start, step}
-use Rattle.tmpl_grammar.specs.Depth.{most_deep}
+use Rattle.tmpl_grammar.specs.Tree.{Operand, Operands, Pipeline, commands_from}
+use Rattle.tmpl_grammar.specs.computed.Depth.{limited_by}
+use Rattle.tmpl_grammar.specs.computed.Parser.{Parser, step, finished}
 
-pub record Limited : Type 0 where
-  pub parser : Parser
-  -- how many pipelines around it are forgotten, once one was
-  pub beyond : Option ℕ
+-- how many parentheses are open behind a token
+abbrev pub depth_behind : TokenKind → ℕ → ℕ
+depth_behind kind.LeftParenthesis n = suc n
+depth_behind kind.RightParenthesis n = n - 1
+depth_behind k n = n
 
--- nothing is read yet
-abbrev pub limited_start : Limited
-limited_start = record { parser = start; beyond = None }
-
-abbrev pub count : Option ℕ → ℕ
-count None = 0
-count (Some n) = n
+-- the most that are open at any place, where so many are at first
+abbrev pub deepest : ℕ → List Token → ℕ
+deepest n [] = n
+deepest n (t ∷ ts) = max n (deepest (depth_behind t.kind n) ts)
 
 -- an operand, with nothing in it
 abbrev pub emptied : Operand → Operand
 emptied (tree.group commands names) = tree.group tree.no_command []
 emptied o = o
 
--- before a token: an empty pipeline in place of the innermost that is forgotten, and nothing in the last operand
-abbrev pub restored_by : Option ℕ → Parser → Limited
-restored_by None h = record { parser = h; beyond = None }
-restored_by (Some zero) h = record {
-  parser = record { outer = h.outer; inner = h.inner; last = option_map emptied h.last };
-  beyond = Some 0;
-}
-restored_by (Some (suc n)) h = record {
-  parser = record { outer = empty_partial ∷ h.outer; inner = h.inner; last = option_map emptied h.last };
-  beyond = Some n;
-}
-
-abbrev pub restored : Limited → Limited
-restored l = restored_by l.beyond l.parser
-
--- behind a token: without the innermost of the pipelines around it, where that is one too many
-abbrev pub forgotten_if : Bool → Limited → Limited
-forgotten_if true l = record {
-  parser = record { outer = drop 1 l.parser.outer; inner = l.parser.inner; last = l.parser.last };
-  beyond = Some (count l.beyond + 1);
-}
-forgotten_if false l = l
-
-abbrev pub forgotten : Limited → Limited
-forgotten l = forgotten_if (nat_lt most_deep (length l.parser.outer)) l
-
--- behind a step of the unlimited parser
-abbrev pub behind_step : Option ℕ → Parser → Limited
-behind_step b h = forgotten (record { parser = h; beyond = b })
+-- with what stands in parentheses, or without it
+abbrev pub pruned : Bool → Parser → Parser
+pruned true h = h
+pruned false h = record { outer = h.outer; inner = h.inner; last = option_map emptied h.last }
 
 -- behind a token
-unfoldable pub limited_step : Token → Limited → Option Limited
-limited_step t l = option_map (behind_step (restored l).beyond) (step t (restored l).parser)
+unfoldable pub pruned_step : Bool → Token → Parser → Option Parser
+pruned_step keeps t h = option_map (pruned keeps) (step t h)
 
--- what is read, where the parser ends with these commands
-abbrev pub pipeline_by : Option ℕ → Option (List Operands) → Option Pipeline
-pipeline_by None (Some cs) = Some (commands_from cs)
-pipeline_by (Some zero) (Some cs) = Some no_command
-pipeline_by b o = None
+-- behind tokens, where each may stand
+abbrev pub pruned_steps : Bool → Option Parser → List Token → Option Parser
+pruned_steps keeps h [] = h
+pruned_steps keeps h (t ∷ ts) = pruned_steps keeps (option_and_then (pruned_step keeps t) h) ts
+
+-- the commands of the pipeline whose rest these tokens are
+abbrev pub pruned_commands : Bool → Parser → List Token → Option (List Operands)
+pruned_commands keeps h ts = option_and_then finished (pruned_steps keeps (Some h) ts)
+
+-- the pipeline of these commands, left out where nothing in parentheses was kept
+abbrev pub limited_commands : Bool → Option (List Operands) → Option Pipeline
+limited_commands keeps o = option_map (λ cs. limited_by keeps (commands_from cs)) o

@@ -86,11 +86,10 @@ between quote bs =
 abbrev pub unquoted : ℕ → List ℕ → Option (List ℕ)
 unquoted quote bs = option_map (flat_map bytes_in) (parts quote bs)
 
-abbrev pub one_code : List Rune → Option ℕ
-one_code [] = None
-one_code (p ∷ []) = Some (code_of p)
-one_code (p ∷ q ∷ ps) = None
+-- the code of a part that takes so many bytes
+abbrev pub whole_code : ℕ → Spelled → Option ℕ
+whole_code count p = if p.1 == count then Some (code_of p.0) else None
 
 -- the code of a character
 abbrev pub rune_code : ℕ → List ℕ → Option ℕ
-rune_code quote bs = option_and_then one_code (parts quote bs)
+rune_code quote bs = option_and_then (whole_code (length bs)) (part_at quote bs)

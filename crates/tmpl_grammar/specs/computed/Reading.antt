@@ -33,22 +33,32 @@ pipeline_in ts = option_map commands_from (commands_after start ts)
 
 -- ---- headers
 
+-- a variable by its name, the kind of the next token that is no white space, and the tokens behind that
+pub record Signed : Type 0 where
+  pub name : List ℕ
+  pub sign : TokenKind
+  pub rest : List Token
+
+abbrev pub sign_behind : List ℕ → Option (Token × List Token) → Option Signed
+sign_behind name None = None
+sign_behind name (Some p) = Some (record { name = name; sign = p.0.kind; rest = p.1 })
+
 -- a name of a variable has at least one byte
-abbrev pub named_by : List ℕ → List Token → Option (List ℕ × List Token)
-named_by [] ts = None
-named_by (b ∷ bs) ts = Some (b ∷ bs, ts)
+abbrev pub signed_by : List ℕ → List Token → Option Signed
+signed_by [] ts = None
+signed_by (b ∷ bs) ts = sign_behind (b ∷ bs) (next ts)
 
-abbrev pub named_kind : TokenKind → Token → List Token → Option (List ℕ × List Token)
-named_kind kind.Variable t ts = named_by (name_in t) ts
-named_kind k t ts = None
+abbrev pub signed_kind : TokenKind → Token → List Token → Option Signed
+signed_kind kind.Variable t ts = signed_by (name_in t) ts
+signed_kind k t ts = None
 
-abbrev pub named_at : Option (Token × List Token) → Option (List ℕ × List Token)
-named_at None = None
-named_at (Some p) = named_kind p.0.kind p.0 p.1
+abbrev pub signed_at : Option (Token × List Token) → Option Signed
+signed_at None = None
+signed_at (Some p) = signed_kind p.0.kind p.0 p.1
 
--- the variable that comes first, and the tokens behind it
-abbrev pub named : List Token → Option (List ℕ × List Token)
-named ts = named_at (next ts)
+-- where a variable comes first
+abbrev pub signed : List Token → Option Signed
+signed ts = signed_at (next ts)
 
 -- what comes first in a header: variables and a sign, or neither, and the tokens behind them
 pub data Front : Type 0 where
@@ -60,31 +70,23 @@ abbrev pub second_by : TokenKind → List ℕ → List ℕ → List Token → Fr
 second_by kind.Declare key name ts = bound (declare_pair key name) ts
 second_by k key name ts = plain
 
-abbrev pub second_signed : List ℕ → List ℕ → Option (Token × List Token) → Front
-second_signed key name None = plain
-second_signed key name (Some p) = second_by p.0.kind key name p.1
-
-abbrev pub second_named : List ℕ → Option (List ℕ × List Token) → Front
-second_named key None = plain
-second_named key (Some p) = second_signed key p.0 (next p.1)
+abbrev pub second_signed : List ℕ → Option Signed → Front
+second_signed key None = plain
+second_signed key (Some s) = second_by s.sign key s.name s.rest
 
 -- behind `$x`
 abbrev pub front_by : TokenKind → List ℕ → List Token → Front
 front_by kind.Declare name ts = bound (declare name) ts
 front_by kind.Assign name ts = bound (assign name) ts
-front_by kind.Comma name ts = second_named name (named ts)
+front_by kind.Comma name ts = second_signed name (signed ts)
 front_by k name ts = plain
 
-abbrev pub front_signed : List ℕ → Option (Token × List Token) → Front
-front_signed name None = plain
-front_signed name (Some p) = front_by p.0.kind name p.1
-
-abbrev pub front_named : Option (List ℕ × List Token) → Front
-front_named None = plain
-front_named (Some p) = front_signed p.0 (next p.1)
+abbrev pub front_signed : Option Signed → Front
+front_signed None = plain
+front_signed (Some s) = front_by s.sign s.name s.rest
 
 abbrev pub front_in : List Token → Front
-front_in ts = front_named (named ts)
+front_in ts = front_signed (signed ts)
 
 -- the binding, and the tokens of the pipeline
 abbrev pub split_by : Front → List Token → Binding × List Token

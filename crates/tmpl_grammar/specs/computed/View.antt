@@ -10,17 +10,16 @@ use Rattle.tmpl_grammar.specs.computed.Depth as depth
 use Rattle.tmpl_grammar.specs.View.{operand_of, command_of, binding_of, action_of}
 use Rattle.tmpl_grammar.specs.computed.Reading as reading
 use Rattle.tmpl_grammar.specs.computed.Parser as parser
-use Rattle.tmpl_grammar.specs.computed.Limited as limited
 use Rattle.tmpl_grammar.specs.declared.tree.Binding as held_binding
 use Rattle.tmpl_grammar.specs.declared.action.Reading as held_reading
 use Rattle.tmpl_grammar.specs.declared.action.Reading.TheVariants as held
 use Rattle.tmpl_grammar.specs.declared.constant.quoted.Part.{Part}
 use Rattle.tmpl_grammar.specs.declared.constant.quoted.Part.TheVariants as part
+use Rattle.tmpl_grammar.specs.declared.header.Signed.{Signed}
 use Rattle.tmpl_grammar.specs.declared.header.Front.{Front}
 use Rattle.tmpl_grammar.specs.declared.header.Front.TheVariants as front
 use Rattle.tmpl_grammar.specs.declared.pipeline.parser.PipelineParser.{PipelineParser}
 use Rattle.tmpl_grammar.specs.declared.pipeline.parser.PartialPipeline.{PartialPipeline}
-use Rattle.tmpl_grammar.specs.declared.pipeline.LimitedParser.{LimitedParser}
 
 abbrev pub action_reading : held_reading.Reading → depth.Reading
 action_reading held.Unread = depth.unread
@@ -33,8 +32,8 @@ quoted_of p = (p.0, map token_of p.1.now)
 abbrev pub next_of : held_token.Token × Bor (List held_token.Token) → Token × List Token
 next_of p = (token_of p.0, map token_of p.1.now)
 
-abbrev pub name_of : Bor (List ℕ) × Bor (List held_token.Token) → List ℕ × List Token
-name_of p = (p.0.now, map token_of p.1.now)
+abbrev pub signed_of : Signed → reading.Signed
+signed_of s = record { name = s.name.now; sign = s.sign; rest = map token_of s.rest.now }
 
 abbrev pub front_of : Front → reading.Front
 front_of front.Plain = reading.plain
@@ -54,9 +53,6 @@ parser_of h = record {
   inner = partial_of h.inner;
   last = option_map operand_of h.last;
 }
-
-abbrev pub limited_of : LimitedParser → limited.Limited
-limited_of l = record { parser = parser_of l.parser; beyond = l.beyond }
 
 -- what a part between quotes stands for, and how many bytes spell it
 abbrev pub rune_of : Part → Rune

@@ -1,6 +1,7 @@
 //! A parser of pipelines, token by token.
 ghost use Rattle.std.specs.Prelude.{◌≡◌, ◌++◌, ◌∷◌, [], IfOk, OnOk, None, map, option_map};
 ghost use Rattle.tmpl_lex.specs.View.{token_of};
+ghost use Rattle.tmpl_grammar.specs.computed.Limited as limited;
 ghost use Rattle.tmpl_grammar.specs.computed.Parser as spec;
 ghost use Rattle.tmpl_grammar.specs.computed.View.{parser_of, partial_of};
 ghost use Rattle.tmpl_grammar.specs.View.{command_of, operand_of};
@@ -16,26 +17,26 @@ use tmpl_values::Bytes;
 
 /// A pipeline that is read in part.
 #[derive(Drop)]
-pub(crate) struct PartialPipeline {
+struct PartialPipeline {
     /// Its whole commands.
-    pub(crate) commands: Vec<Command>,
+    commands: Vec<Command>,
     /// The operands of the next command that have white space behind them.
-    pub(crate) operands: Vec<Operand>,
+    operands: Vec<Operand>,
 }
 
 /// The pipeline that is read, as far as it is, with those around it.
 #[derive(Drop)]
 pub(crate) struct PipelineParser {
     /// The pipelines in whose parentheses this one stands, the innermost last.
-    pub(crate) outer: Vec<PartialPipeline>,
-    pub(crate) inner: PartialPipeline,
+    outer: Vec<PartialPipeline>,
+    inner: PartialPipeline,
     /// The operand that has no white space behind it.
-    pub(crate) last: Option<Operand>,
+    last: Option<Operand>,
 }
 
 impl PartialPipeline {
     /// Nothing is read yet.
-    pub(crate) fn new(alloc: Global) -> PartialPipeline
+    fn new(alloc: Global) -> PartialPipeline
         ensures { partial_of result ≡ spec.empty_partial }
     {
         PartialPipeline {
@@ -135,7 +136,7 @@ impl PipelineParser {
 
     /// Takes in this token; `false` where it may not stand.
     #[tactic(auto, unfolding(crate::specs::computed::Parser::step))]
-    pub(crate) fn step(&mut self, alloc: Global, token: &Token<'_>) -> Result<bool, AllocError>
+    fn step(&mut self, alloc: Global, token: &Token<'_>) -> Result<bool, AllocError>
         ensures { IfOk result (λ b. spec.kept_if b (parser_of self.new)
             ≡ spec.step (token_of token.now) (parser_of self.old)) }
     {
@@ -153,6 +154,25 @@ impl PipelineParser {
                 Ok(self.place(operand))
             }
         }
+    }
+
+    /// Takes in this token, and keeps what stands in parentheses or lets go of it; `false` where the token may not
+    /// stand.
+    #[tactic(auto, unfolding(crate::specs::computed::Limited::pruned_step))]
+    pub(crate) fn pass(
+        &mut self,
+        alloc: Global,
+        keeps: bool,
+        token: &Token<'_>,
+    ) -> Result<bool, AllocError>
+        ensures { IfOk result (λ b. spec.kept_if b (parser_of self.new)
+            ≡ limited.pruned_step keeps (token_of token.now) (parser_of self.old)) }
+    {
+        let stands = self.step(alloc, token)?;
+        if !keeps {
+            empty(alloc, &mut self.last);
+        }
+        Ok(stands)
     }
 
     /// Ends the newest command; `false` where it has no operand.
@@ -259,5 +279,17 @@ fn link_named(alloc: Global, operand: &mut Operand, name: &[u8]) -> Result<bool,
         link(operand, Bytes::new(name.to_vec(alloc)?))
     } else {
         Ok(false)
+    }
+}
+
+/// Empties the operand if it is a group: else trees would be as deep as the parentheses.
+fn empty(alloc: Global, last: &mut Option<Operand>)
+    ensures { option_map operand_of last.new ≡ option_map limited.emptied (option_map operand_of last.old) }
+{
+    if matches!(last, Some(Operand::Group { .. })) {
+        *last = Some(Operand::Group {
+            commands: Vec::new(alloc),
+            fields: Vec::new(alloc),
+        });
     }
 }
