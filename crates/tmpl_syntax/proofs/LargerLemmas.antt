@@ -1,5 +1,5 @@
 -- For `more_branches`: what a language accepts, one with more else branches accepts.
-use Rattle.std.proofs.Common.{◌≡◌, ◌∙◌, ℕ, true, suc, List, [], ◌∷◌, Option, Some, None, Ok, refl, ap, sym, length}
+use Rattle.std.proofs.Common.{◌≡◌, ◌∙◌, ℕ, true, suc, List, [], ◌∷◌, Option, Some, None, Result, Ok, Err, refl, ap, sym, length}
 use Rattle.std.specs.Prelude.{slice_get}
 use Rattle.tmpl_lex.specs.Piece.{Piece}
 use Rattle.tmpl_grammar.specs.Action.{Action, else_branch}
@@ -11,11 +11,11 @@ use Rattle.tmpl_syntax.specs.Place.Role.{Role, unread_role, role_of, roles_of}
 use Rattle.tmpl_syntax.specs.Place.Body.{NoneRefused, unread as unread_applies}
 use Rattle.tmpl_syntax.specs.Laws.{IsLarger, AcceptsInLarger}
 use Rattle.tmpl_syntax.proofs.OneVerdictLemmas.{within}
-use Rattle.tmpl_syntax.proofs.ReadingLemmas.{value_or, no-value, parsed-accepted}
+use Rattle.tmpl_syntax.proofs.ReadingLemmas.{parsed-accepted}
 use Rattle.tmpl_syntax.specs.Fault.{Reason}
 use Rattle.tmpl_syntax.specs.Set.{Template}
 use Rattle.tmpl_syntax.specs.Parse.{IsAccepted}
-use Rattle.tmpl_syntax.specs.computed.Parse.{IsRefusal, parsed}
+use Rattle.tmpl_syntax.specs.computed.Parse.{Refusal, IsRefusal, parsed}
 
 -- no item of these is unread
 abbrev AllRead : List Role → Type 0
@@ -60,8 +60,8 @@ module _ (old : List Template) (file bytes : List ℕ) (set : List Template) (ac
   parsed-before = parsed-accepted old file bytes set (accepts-in-larger every_branch go_1_22 (λ b t. refl) old file bytes set accepted)
 
   pub same-before : (new : List Template) → parsed old file bytes ≡ Ok new → new ≡ set
-  same-before new e = ap (value_or new) (sym e ∙ parsed-before)
+  same-before new e = let same : ◌≡◌ {A = Result (List Template) Refusal} (Ok new) (Ok set) = sym e ∙ parsed-before in cc
 
   pub only-memory : (line : ℕ) (o : Option Reason) → IsRefusal (parsed old file bytes) line o → o ≡ None
   only-memory line None r = refl
-  only-memory line (Some reason) r = no-value set (line, reason) (sym parsed-before ∙ r)
+  only-memory line (Some reason) r = let same : ◌≡◌ {A = Result (List Template) Refusal} (Ok set) (Err (line, reason)) = sym parsed-before ∙ r in absurd (cc)

@@ -20,7 +20,6 @@ pub mod LargerLemmas
 pub mod NamedLemmas
 pub mod NeedExamples
 pub mod NeedLemmas
-pub mod OneSpellingLemmas
 pub mod OneVerdictLemmas
 pub mod OpenLemmas
 pub mod PageLemmas
