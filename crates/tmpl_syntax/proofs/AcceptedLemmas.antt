@@ -1,6 +1,7 @@
 -- For `accepted_back`: what the own template of an accepted file says is accepted when it is printed.
 use Rattle.std.proofs.Common.{arith, ◌≡◌, ◌∙◌, ℕ, ◌+◌, ◌≤◌, Bool, true, false, not, ◌&&◌, leb, List, [], ◌∷◌, ◌++◌, length, take, Some, None}
-use Rattle.std.proofs.Common.{refl, sym, ap, subst, length-append, length-take}
+use Rattle.std.proofs.Common.{refl, sym, ap, subst, map, append_assoc, length-append, length-take}
+use Rattle.std.proofs.Math.Bool.{and_assoc}
 use Rattle.std.proofs.lemmas.Bool.{false≢true, and_parts}
 use Rattle.std.proofs.lemmas.List.{append-nil, take-take, take-append-le}
 use Rattle.std.proofs.Math.Seq.{take-append_seam}
@@ -13,14 +14,14 @@ use Rattle.tmpl_syntax.specs.computed.Frames.{Frame}
 use Rattle.tmpl_syntax.specs.Place.Opening.{Opening}
 use Rattle.tmpl_syntax.specs.Place.Opening as opened
 use Rattle.tmpl_grammar.specs.Tree.{Header}
-use Rattle.tmpl_syntax.specs.Tree.{NodeKind, control_node, Nodes, none, then, Definition}
-use Rattle.tmpl_grammar.specs.Action.{else_branch, end_action}
-use Rattle.tmpl_grammar.specs.Action.{define_action, block_action, control_in}
-use Rattle.tmpl_syntax.specs.Item.{Item, item, action_item}
-use Rattle.tmpl_syntax.specs.Place.Role.{Name, no_names, names_of, names_given, roles_of}
+use Rattle.tmpl_syntax.specs.Tree.{NodeKind, text, action, control_node, break_node, continue_node, template_node, Nodes, none, then, Definition}
+use Rattle.tmpl_grammar.specs.Action.{end_action}
+use Rattle.tmpl_grammar.specs.Action.{control_in}
+use Rattle.tmpl_syntax.specs.Item.{Item}
+use Rattle.tmpl_syntax.specs.Place.Role.{Name, no_names, names_of, names_given, opener, act_of, Role, text_role, act_role, roles_of}
 use Rattle.tmpl_syntax.specs.Place.Open.{is_template}
 use Rattle.tmpl_syntax.specs.Place.Body.{joins, most_levels, fine, Judged}
-use Rattle.tmpl_syntax.specs.computed.Frames.{top, loops, in_loop, levels, takes_else, knows, first_fault, part_of, entered, parted}
+use Rattle.tmpl_syntax.specs.computed.Frames.{top, loops, in_loop, levels, takes_else, knows, first_fault, fault_in, part_of, entered, parted}
 use Rattle.tmpl_syntax.specs.computed.Frames.{Known, with_inner, opened_names, closed_if, none_known, verdict_of}
 use Rattle.tmpl_syntax.specs.Spelling.{a_text, an_action, a_break, a_continue, a_template, Leads, nothing, a_node, a_control, a_define, a_block}
 use Rattle.tmpl_syntax.specs.Spelling.{Closes, an_end, an_else, an_else_branch}
@@ -28,9 +29,8 @@ use Rattle.tmpl_syntax.specs.Print.Printed.{Said, said_text, said, else_said, no
 use Rattle.tmpl_syntax.specs.Print.Laws.{Says, says_nothing, says_text, says, AcceptsBack}
 use Rattle.tmpl_syntax.proofs.OneVerdictLemmas.{one-verdict}
 use Rattle.tmpl_syntax.proofs.VerdictLemmas.{judged-all}
-use Rattle.tmpl_syntax.proofs.PrintedNodeLemmas.{spells-alike}
-use Rattle.tmpl_syntax.proofs.FitLemmas.{no_fault, passes, is_fine, fine-back, passes-fine, headed, part_names, seen_behind, loops_in}
-use Rattle.tmpl_syntax.proofs.FitLemmas.{fits_node, fits, fits-lower, nodes-unlined, take-seen, first-none, opener-test}
+use Rattle.tmpl_syntax.proofs.FitLemmas.{no_fault, passes, is_fine, fine-back, passes-fine, headed, part_names, seen_past, seen_behind, loops_in}
+use Rattle.tmpl_syntax.proofs.FitLemmas.{fits_node, fits, fits-lower, take-seen, first-none, opener-test}
 
 -- ---- frames and names
 
@@ -202,127 +202,82 @@ mutual
 
 -- ---- a printed list
 
--- no item is an else part that begins with a control, or opens a template
-abbrev NoBranch : List Item → Type 0
-NoBranch [] = Unit {0}
-NoBranch (item line (action_item (else_branch br h)) ∷ xs) = ⊥
-NoBranch (item line (action_item (define_action name)) ∷ xs) = ⊥
-NoBranch (item line (action_item (block_action name p)) ∷ xs) = ⊥
-NoBranch (x ∷ xs) = NoBranch xs
+abbrev role_said : Said → Role
+role_said (said_text t) = text_role
+role_said (said a) = act_role (act_of a)
+
+abbrev roles_said : List Said → List Role
+roles_said ss = map role_said ss
+
+says-roles : {ss : List Said} {xs : List Item} → Says ss xs → roles_of xs ≡ roles_said ss
+says-roles says_nothing = refl
+says-roles (says_text s) = ap (λ rs. text_role ∷ rs) (says-roles s)
+says-roles (says {a = a} s) = ap (λ rs. act_role (act_of a) ∷ rs) (says-roles s)
+
+abbrev control_frame : Control → Bool → ℕ → ℕ → ℕ → Frame
+control_frame c around n start part =
+    record { opening = opened.control c; has_else = false; around = around; levels = n; start = start; part = part }
+
+-- what nodes say passes where they fit and what is said behind them passes
+abbrev Passes : Nodes → Type 0
+Passes ns =
+    (fs : List Frame) (known : Known) (ss : List Said) → passes fs known (roles_said (nodes_said ns ++ ss))
+    ≡ (fits ns (in_loop (top fs)) (levels (top fs)) known.inner && passes fs (with_inner known (seen_behind known.inner ns)) (roles_said ss))
+
+-- .. an else part with the `end` behind it
+else-passes : (c : Control) (other : Nodes) → Passes other → (around : Bool) (n start part : ℕ) (fs : List Frame) (known : Known) (ss : List Said)
+    → start ≤ part → part ≤ length known.inner
+    → passes (control_frame c around n start part ∷ fs) known (roles_said (else_said other (nodes_said other) ++ said end_action ∷ ss))
+    ≡ (fits other (loops_in c true around) n (take part known.inner) && passes fs (with_inner known (take start known.inner)) (roles_said ss))
+else-passes c none in_other around n start part fs known ss low high = refl
+else-passes c (then line m ms) in_other around n start part fs known ss low high =
+    let other : Nodes = then line m ms in
+    let seen : List Name = take part known.inner in
+    let fits_in = length-take part known.inner in
+    in_other (parted false (length seen) (control_frame c around n start part) ∷ fs) (with_inner known seen) (said end_action ∷ ss)
+    ∙ ap (λ ns. fits other (loops_in c true around) n seen && passes fs (with_inner known ns) (roles_said ss))
+    (take-seen start other seen (omega arith) ∙ take-take start part known.inner low)
 
 mutual
-  leads-rest : {xs ys : List Item} {ds es : List Definition} {ns : Nodes} → Leads xs ds ns ys es → NoBranch xs → NoBranch ys
-  leads-rest nothing h = h
-  leads-rest (a_node a_text l) h = leads-rest l h
-  leads-rest (a_node _ l) h = leads-rest l h
-  leads-rest (a_control b o l) h = leads-rest l (closes-rest o (leads-rest b h))
-  leads-rest _ h = absurd h
-
-  closes-rest : {xs ys : List Item} {ds es : List Definition} {ns : Nodes} → Closes xs ds ns ys es → NoBranch xs → NoBranch ys
-  closes-rest an_end h = h
-  closes-rest (an_else l) h = leads-rest l h
-  closes-rest (an_else_branch l o) h = absurd h
-
-mutual
-  leads-pass : {xs ys : List Item} {ds es : List Definition} {ns : Nodes} → Leads xs ds ns ys es → NoBranch xs → (fs : List Frame) (known : Known)
-      → fits ns (in_loop (top fs)) (levels (top fs)) known.inner ≡ true → passes fs (with_inner known (seen_behind known.inner ns)) (roles_of ys) ≡ true
-      → passes fs known (roles_of xs) ≡ true
-  leads-pass nothing n fs known h k = k
-  leads-pass (a_node a_text l) n fs known h k = leads-pass l n fs known h k
-  leads-pass (a_node {ns = ns} (an_action {h = r}) l) n fs known h k =
+  node-passes : (n : NodeKind) (fs : List Frame) (known : Known) (ss : List Said) → passes fs known (roles_said (node_said n ++ ss))
+      ≡ (fits_node n (in_loop (top fs)) (levels (top fs)) known.inner && passes fs (with_inner known (seen_past known.inner n)) (roles_said ss))
+  node-passes (text bytes) fs known ss = refl
+  node-passes (action h) fs known ss =
+      ap (λ b. b && passes fs (with_inner known (known.inner ++ (names_of h).declares)) (roles_said ss)) (first-none false (knows known.inner (names_of h).uses))
+  node-passes (control_node c h body other) fs known ss =
       let names : List Name = known.inner in
-      let past : List Name = names ++ (names_of r).declares in
-      let e = and_parts (knows names (names_of r).uses) (fits ns (in_loop (top fs)) (levels (top fs)) past) h in
-      both_true (first-none false (knows names (names_of r).uses) ∙ e.0) (leads-pass l n fs (with_inner known past) e.1 k)
-  leads-pass (a_node {ns = ns} a_break l) n fs known h k =
-      let e = and_parts (in_loop (top fs)) (fits ns (in_loop (top fs)) (levels (top fs)) known.inner) h in
-      both_true (jump-test (in_loop (top fs)) ∙ e.0) (leads-pass l n fs known e.1 k)
-  leads-pass (a_node {ns = ns} a_continue l) n fs known h k =
-      let e = and_parts (in_loop (top fs)) (fits ns (in_loop (top fs)) (levels (top fs)) known.inner) h in
-      both_true (jump-test (in_loop (top fs)) ∙ e.0) (leads-pass l n fs known e.1 k)
-  leads-pass (a_node {xs = xs} {ns = ns} (a_template {given = given}) l) n fs known h k =
-      let e = and_parts (knows known.inner (names_given given).uses) (fits ns (in_loop (top fs)) (levels (top fs)) known.inner) h in
-      both_true (first-none false (knows known.inner (names_given given).uses) ∙ e.0)
-      (subst (λ names. passes fs (with_inner known names) (roles_of xs) ≡ true) (sym (append-nil known.inner)) (leads-pass l n fs known e.1 k))
-  leads-pass (a_control {c = c} {h = r} {zs = zs} {body = body} {other = other} {ns = ns} b o l) n fs known h k =
-      let names : List Name = known.inner in
-      let loop : Bool = in_loop (top fs) in
-      let f : Frame = entered (opened.control c) (names_of r) (top fs) (length names) in
-      let inside : List Name = names ++ (names_of r).declares in
-      let within_body = leads-rest b n in
-      let e = and_parts (fits_node (control_node c r body other) loop (levels (top fs)) names) (fits ns loop (levels (top fs)) names) h in
-      let d = and_parts (headed (levels (top fs)) names r) (fits body (loops_in c false loop) (levels (top fs) + 1) inside && fits other (loops_in c true loop)
-      (levels (top fs) + 1) (part_names c names (names_of r).declares))
-      e.0 in
-      let parts = and_parts (fits body (loops_in c false loop) (levels (top fs) + 1) inside)
-      (fits other (loops_in c true loop) (levels (top fs) + 1) (part_names c names (names_of r).declares)) d.1 in
-      let others = subst (λ k. fits other (loops_in c true loop) (levels (top fs) + 1) k ≡ true) (sym (part-seen c r names body)) parts.1 in
-      let more = leads-pass l (closes-rest o within_body) fs known e.1 k in
-      let behind = closes-pass o within_body f fs (with_inner known (seen_behind inside body)) refl refl
-      (part-low c (length names) (length (names_of r).declares)) (within-seen c r names body) others
-      (subst (λ k. passes fs (with_inner known k) (roles_of zs) ≡ true) (sym (control-names r names body)) more) in
-      both_true (opener-test c r (top fs) names ∙ d.0) (leads-pass b n (f ∷ fs) (with_inner known inside) parts.0 behind)
-  leads-pass _ n fs known h k = absurd n
+      let f : Frame = entered (opened.control c) (names_of h) (top fs) (length names) in
+      let inside : List Name = names ++ (names_of h).declares in
+      let ends : List Said = else_said other (nodes_said other) in
+      let rest : List Said = said end_action ∷ ss in
+      let more : Bool = passes fs known (roles_said ss) in
+      let in_body : Bool = fits body (loops_in c false (in_loop (top fs))) (levels (top fs) + 1) inside in
+      let in_other : List Name → Bool = fits other (loops_in c true (in_loop (top fs))) (levels (top fs) + 1) in
+      let behind : List Name = seen_behind inside body in
+      ap (λ ts. no_fault (fault_in (opener (opened.control c) (names_of h)) (top fs) names) && passes (f ∷ fs) (with_inner known inside) (roles_said ts))
+      (append_assoc (nodes_said body) (ends ++ said end_action ∷ []) ss ∙ ap (λ ts. nodes_said body ++ ts) (append_assoc ends (said end_action ∷ []) ss))
+      ∙ ap (λ b. b && passes (f ∷ fs) (with_inner known inside) (roles_said (nodes_said body ++ (ends ++ rest)))) (opener-test c h (top fs) names)
+      ∙ ap (λ b. headed (levels (top fs)) names h && b) (nodes-passes body (f ∷ fs) (with_inner known inside) (ends ++ rest)
+      ∙ ap (λ b. in_body && b) (else-passes c other (nodes-passes other) f.around f.levels f.start f.part fs (with_inner known behind) ss
+      (part-low c (length names) (length (names_of h).declares)) (within-seen c h names body)
+      ∙ ap (λ ns. in_other ns && passes fs (with_inner known (take f.start behind)) (roles_said ss)) (part-seen c h names body)
+      ∙ ap (λ ns. in_other (part_names c names (names_of h).declares) && passes fs (with_inner known ns) (roles_said ss)) (control-names h names body))
+      ∙ sym (and_assoc in_body (in_other (part_names c names (names_of h).declares)) more))
+      ∙ sym (and_assoc (headed (levels (top fs)) names h) (in_body && in_other (part_names c names (names_of h).declares)) more)
+  node-passes (template_node name given) fs known ss =
+      ap (λ b. b && passes fs (with_inner known (known.inner ++ [])) (roles_said ss)) (first-none false (knows known.inner (names_given given).uses))
+      ∙ ap (λ ns. knows known.inner (names_given given).uses && passes fs (with_inner known ns) (roles_said ss)) (append-nil known.inner)
+  node-passes break_node fs known ss = ap (λ b. b && passes fs known (roles_said ss)) (jump-test (in_loop (top fs)))
+  node-passes continue_node fs known ss = ap (λ b. b && passes fs known (roles_said ss)) (jump-test (in_loop (top fs)))
 
-  closes-pass : {xs zs : List Item} {ds es : List Definition} {other : Nodes} → Closes xs ds other zs es → NoBranch xs
-      → (f : Frame) (fs : List Frame) (known : Known) → f.has_else ≡ false → is_template f.opening ≡ false → f.start ≤ f.part
-      → f.part ≤ length known.inner
-      → fits other (loops f.opening true f.around) f.levels (take f.part known.inner) ≡ true
-      → passes fs (with_inner known (take f.start known.inner)) (roles_of zs) ≡ true → passes (f ∷ fs) known (roles_of xs) ≡ true
-  closes-pass (an_end {xs = xs}) n f fs known first own low high h k =
-      subst (λ t. passes fs (closed_if t (with_inner known (take f.start known.inner))) (roles_of xs) ≡ true) (sym own) k
-  closes-pass (an_else {ys = ys} {other = other} l) n f fs known first own low high h k =
-      let seen : List Name = take f.part known.inner in
-      let fits_in = length-take f.part known.inner in
-      let placed : takes_else None (Some f) ≡ true = ap (λ t. t && not f.has_else) (own-joins f.opening own) ∙ ap not first in
-      let at_end = subst (λ k. passes fs (with_inner known k) (roles_of ys) ≡ true)
-      (sym (take-seen f.start other seen (omega arith) ∙ take-take f.start f.part known.inner low)) k in
-      both_true (ap (λ t. no_fault (first_fault t false true)) placed)
-      (leads-pass l n (parted false (length seen) f ∷ fs) (with_inner known seen) h
-      (subst (λ t. passes fs (closed_if t (with_inner known (take f.start (seen_behind seen other))))
-      (roles_of ys) ≡ true) (sym own) at_end))
-  closes-pass (an_else_branch l o) n f fs known first own low high h k = absurd n
-
--- ---- what nodes say has no such item
-
-abbrev Plain : List Said → Type 0
-Plain [] = Unit {0}
-Plain (said_text t ∷ ss) = Plain ss
-Plain (said (else_branch br h) ∷ ss) = ⊥
-Plain (said (define_action name) ∷ ss) = ⊥
-Plain (said (block_action name p) ∷ ss) = ⊥
-Plain (said a ∷ ss) = Plain ss
-
-plain-append : (ss ts : List Said) → Plain ss → Plain ts → Plain (ss ++ ts)
-plain-append [] ts h k = k
-plain-append (said_text t ∷ ss) ts h k = plain-append ss ts h k
-plain-append (said (else_branch br r) ∷ ss) ts h k = absurd h
-plain-append (said (define_action name) ∷ ss) ts h k = absurd h
-plain-append (said (block_action name p) ∷ ss) ts h k = absurd h
-plain-append (said _ ∷ ss) ts h k = plain-append ss ts h k
-
-control-plain : (body : List Said) (other : Nodes) → Plain body → Plain (nodes_said other)
-    → Plain (body ++ (else_said other (nodes_said other) ++ said end_action ∷ []))
-control-plain body none p k = plain-append body (said end_action ∷ []) p tt
-control-plain body (then line n ns) p k = plain-append body (else_said (then line n ns) (nodes_said (then line n ns)) ++ said end_action ∷ []) p
-    (plain-append (nodes_said (then line n ns)) (said end_action ∷ []) k tt)
-
-mutual
-  node-plain : (n : NodeKind) → Plain (node_said n)
-  node-plain (control_node c h body other) = control-plain (nodes_said body) other (nodes-plain body) (nodes-plain other)
-  node-plain _ = tt
-
-  nodes-plain : (ns : Nodes) → Plain (nodes_said ns)
-  nodes-plain none = tt
-  nodes-plain (then line n ns) = plain-append (node_said n) (nodes_said ns) (node-plain n) (nodes-plain ns)
-
-no_branch : {ss : List Said} {xs : List Item} → Says ss xs → Plain ss → NoBranch xs
-no_branch says_nothing h = tt
-no_branch (says_text s) h = no_branch s h
-no_branch (says {a = else_branch br r} s) h = absurd h
-no_branch (says {a = define_action name} s) h = absurd h
-no_branch (says {a = block_action name p} s) h = absurd h
-no_branch (says s) h = no_branch s h
+  nodes-passes : (ns : Nodes) → Passes ns
+  nodes-passes none fs known ss = refl
+  nodes-passes (then line n ns) fs known ss =
+      let past : Known = with_inner known (seen_past known.inner n) in
+      let here : Bool = fits_node n (in_loop (top fs)) (levels (top fs)) known.inner in
+      ap (λ ts. passes fs known (roles_said ts)) (append_assoc (node_said n) (nodes_said ns) ss)
+      ∙ node-passes n fs known (nodes_said ns ++ ss) ∙ ap (λ b. here && b) (nodes-passes ns fs past ss)
+      ∙ sym (and_assoc here (fits ns (in_loop (top fs)) (levels (top fs)) past.inner) (passes fs (with_inner past (seen_behind past.inner ns)) (roles_said ss)))
 
 -- ---- the law
 
@@ -337,11 +292,9 @@ all-fit items ds own judged spells =
 
 printed-fine : (own : Nodes) (read : List Item) → Says (nodes_said own) read → fits own false 0 [] ≡ true → verdict_of (roles_of read) ≡ fine
 unfolding verdict_of
-printed-fine own read s fit =
-    let p = spells-alike own read s in
-    let same = sym (nodes-unlined p.nodes false 0 []) ∙ ap (λ ms. fits ms false 0 []) p.alike ∙ nodes-unlined own false 0 [] in
-    let pass = leads-pass p.spells (no_branch s (nodes-plain own)) [] none_known (same ∙ fit) refl in
-    fine-back (verdict_of (roles_of read)) (passes-fine (roles_of read) 0 [] none_known ∙ pass)
+printed-fine own read s fit = fine-back (verdict_of (roles_of read))
+    (passes-fine (roles_of read) 0 [] none_known ∙ ap (passes [] none_known) (says-roles s ∙ ap roles_said (sym (append-nil (nodes_said own))))
+    ∙ nodes-passes own [] none_known [] ∙ ap (λ b. b && true) fit)
 
 pub accepts-back : AcceptsBack
 accepts-back items ds own judged spells read s =

@@ -14,7 +14,6 @@ use Rattle.tmpl_syntax.specs.Place.Role.{Name, names_of, names_given, opener, Ro
 use Rattle.tmpl_syntax.specs.Place.Body.{most_levels, Verdict, fine}
 use Rattle.tmpl_syntax.specs.computed.Frames.{top, loops, levels, knows, first_fault, fault_in, part_of, seen_at, fault_at, frames_past}
 use Rattle.tmpl_syntax.specs.computed.Frames.{unless_fault, Known, with_inner, known_past, verdict_from}
-use Rattle.tmpl_syntax.specs.Print.Printed.{unlined_node, unlined}
 
 -- ---- what the judge asks, as a test
 
@@ -78,18 +77,15 @@ seen_behind names (then line n ns) = seen_behind (seen_past names n) ns
 abbrev pub loops_in : Control → Bool → Bool → Bool
 loops_in c has_else around = loops (opened.control c) has_else around
 
-abbrev pub fits_control : Bool → ℕ → List Name → Control → Header → (Bool → ℕ → List Name → Bool) → (Bool → ℕ → List Name → Bool) → Bool
-fits_control loop n names c h body other =
-    headed n names h
-    && (body (loops_in c false loop) (n + 1) (names ++ (names_of h).declares)
-    && other (loops_in c true loop) (n + 1) (part_names c names (names_of h).declares))
-
 -- inside a loop or not, where so many levels stand and these names are seen
 abbrev mutual
   pub fits_node : NodeKind → Bool → ℕ → List Name → Bool
   fits_node (text bytes) = λ loop n names. true
   fits_node (action h) = λ loop n names. knows names (names_of h).uses
-  fits_node (control_node c h body other) = λ loop n names. fits_control loop n names c h (fits body) (fits other)
+  fits_node (control_node c h body other) = λ loop n names.
+      headed n names h
+      && (fits body (loops_in c false loop) (n + 1) (names ++ (names_of h).declares)
+      && fits other (loops_in c true loop) (n + 1) (part_names c names (names_of h).declares))
   fits_node (template_node name given) = λ loop n names. knows names (names_given given).uses
   fits_node _ = λ loop n names. loop
 
@@ -120,31 +116,6 @@ mutual
   fits-lower (then line k ns) loop n m names le e =
       let p = and_parts (fits_node k loop n names) (fits ns loop n (seen_past names k)) e in
       both_true (node-lower k loop n m names le p.0) (fits-lower ns loop n m (seen_past names k) le p.1)
-
--- lines play no part
-past-unlined : (n : NodeKind) (names : List Name) → seen_past names (unlined_node n) ≡ seen_past names n
-past-unlined (text bytes) names = refl
-past-unlined _ names = refl
-
-alike-control : (c : Control) (r : Header) (f g h k : Bool → ℕ → List Name → Bool)
-    → ((l : Bool) (n : ℕ) (ns : List Name) → f l n ns ≡ g l n ns) → ((l : Bool) (n : ℕ) (ns : List Name) → h l n ns ≡ k l n ns)
-    → (loop : Bool) (n : ℕ) (names : List Name) → fits_control loop n names c r f h ≡ fits_control loop n names c r g k
-alike-control c r f g h k e d loop n names =
-    ap (λ b. headed n names r && (b && h (loops_in c true loop) (n + 1) (part_names c names (names_of r).declares))) (e _ _ _)
-    ∙ ap (λ b. headed n names r && (g (loops_in c false loop) (n + 1) (names ++ (names_of r).declares) && b)) (d _ _ _)
-
-mutual
-  node-unlined : (m : NodeKind) (loop : Bool) (n : ℕ) (names : List Name) → fits_node (unlined_node m) loop n names ≡ fits_node m loop n names
-  node-unlined (control_node c h body other) loop n names =
-      alike-control c h (fits (unlined body)) (fits body) (fits (unlined other)) (fits other) (nodes-unlined body) (nodes-unlined other) loop n names
-  node-unlined _ loop n names = refl
-
-  pub nodes-unlined : (ms : Nodes) (loop : Bool) (n : ℕ) (names : List Name) → fits (unlined ms) loop n names ≡ fits ms loop n names
-  nodes-unlined none loop n names = refl
-  nodes-unlined (then line m ms) loop n names =
-      ap (λ b. b && fits (unlined ms) loop n (seen_past names (unlined_node m))) (node-unlined m loop n names)
-      ∙ ap (λ ns. fits_node m loop n names && fits (unlined ms) loop n ns) (past-unlined m names)
-      ∙ ap (λ b. fits_node m loop n names && b) (nodes-unlined ms loop n (seen_past names m))
 
 -- ---- the names in sight
 
