@@ -1,10 +1,10 @@
 -- For `accepted_back`: what the own template of an accepted file says is accepted when it is printed.
 use Rattle.std.proofs.Common.{arith, ◌≡◌, ◌∙◌, ℕ, ◌+◌, ◌≤◌, Bool, true, false, not, ◌&&◌, leb, List, [], ◌∷◌, ◌++◌, length, take, Some, None}
-use Rattle.std.proofs.Common.{refl, sym, ap, subst, map, append_assoc, length-append, length-take}
+use Rattle.std.proofs.Common.{refl, sym, ap, subst, map, append_assoc, length-take}
 use Rattle.std.proofs.Math.Bool.{and_assoc}
 use Rattle.std.proofs.lemmas.Bool.{false≢true, and_parts}
-use Rattle.std.proofs.lemmas.List.{append-nil, take-take, take-append-le}
-use Rattle.std.proofs.Math.Seq.{take-append_seam}
+use Rattle.std.proofs.lemmas.List.{append-nil, take-take}
+use Rattle.tmpl_syntax.proofs.NameLemmas.{with-longer, take-with, take-before, part-low, part-high}
 use Rattle.std.specs.Cmp.Derive.{both_true}
 use Rattle.tmpl_grammar.specs.declared.action.Branch.{Branch}
 use Rattle.tmpl_grammar.specs.declared.action.Branch.TheVariants as branch
@@ -22,7 +22,7 @@ use Rattle.tmpl_syntax.specs.Place.Role.{Name, no_names, names_of, names_given, 
 use Rattle.tmpl_syntax.specs.Place.Open.{is_template}
 use Rattle.tmpl_syntax.specs.Place.Body.{joins, most_levels, fine, Judged}
 use Rattle.tmpl_syntax.specs.computed.Frames.{top, loops, in_loop, levels, takes_else, knows, first_fault, fault_in, part_of, entered, parted}
-use Rattle.tmpl_syntax.specs.computed.Frames.{Known, with_inner, opened_names, closed_if, none_known, verdict_of}
+use Rattle.tmpl_syntax.specs.computed.Frames.{Known, with_inner, with_names, opened_names, closed_if, none_known, verdict_of}
 use Rattle.tmpl_syntax.specs.Spelling.{a_text, an_action, a_break, a_continue, a_template, Leads, nothing, a_node, a_control, a_define, a_block}
 use Rattle.tmpl_syntax.specs.Spelling.{Closes, an_end, an_else, an_else_branch}
 use Rattle.tmpl_syntax.specs.Print.Printed.{Said, said_text, said, else_said, node_said, nodes_said}
@@ -33,17 +33,6 @@ use Rattle.tmpl_syntax.proofs.FitLemmas.{no_fault, passes, is_fine, fine-back, p
 use Rattle.tmpl_syntax.proofs.FitLemmas.{fits_node, fits, fits-lower, take-seen, first-none, opener-test}
 
 -- ---- frames and names
-
-part-low : (k : Control) (n d : ℕ) → n ≤ part_of k n (n + d)
-part-low If n d = omega arith
-part-low _ n d = omega arith
-
-part-high : (k : Control) (n d : ℕ) → part_of k n (n + d) ≤ n + d
-part-high If n d = omega arith
-part-high _ n d = omega arith
-
-part-within : (k : Control) (names ds : List Name) → part_of k (length names) (length names + length ds) ≤ length (names ++ ds)
-part-within k names ds = omega (arith, part-high k (length names) (length ds), length-append names ds)
 
 jump-test : (l : Bool) → no_fault (first_fault l false true) ≡ l
 jump-test true = refl
@@ -76,23 +65,23 @@ branch-fits branch.If line r body other loop n names e = e
 branch-fits branch.With line r body other loop n names e = e
 
 -- the names before a control are those behind it
-control-names : (r : Header) (names : List Name) (body : Nodes) → take (length names) (seen_behind (names ++ (names_of r).declares) body) ≡ names
+control-names : (r : Header) (names : List Name) (body : Nodes) → take (length names) (seen_behind (with_names names (names_of r).declares) body) ≡ names
 control-names r names body =
     let ds : List Name = (names_of r).declares in
-    take-seen (length names) body (names ++ ds) (omega (arith, length-append names ds)) ∙ take-append_seam names ds
+    take-seen (length names) body (with_names names ds) (with-longer names ds) ∙ take-before names ds
 
 part-seen : (c : Control) (r : Header) (names : List Name) (body : Nodes)
-    → take (part_of c (length names) (length names + length (names_of r).declares)) (seen_behind (names ++ (names_of r).declares) body)
+    → take (part_of c (length names) (length (with_names names (names_of r).declares))) (seen_behind (with_names names (names_of r).declares) body)
     ≡ part_names c names (names_of r).declares
-part-seen c r names body = take-seen _ body (names ++ (names_of r).declares) (part-within c names (names_of r).declares)
+part-seen c r names body = take-seen _ body (with_names names (names_of r).declares) (part-high c names (names_of r).declares)
 
 -- no names are lost
 part-long : (names : List Name) (ns : Nodes) (k : ℕ) → k ≤ length names → k ≤ length (seen_behind names ns)
 part-long names ns k h = omega (arith, ap length (take-seen k ns names h), length-take k (seen_behind names ns), length-take k names)
 
 within-seen : (c : Control) (r : Header) (names : List Name) (body : Nodes)
-    → part_of c (length names) (length names + length (names_of r).declares) ≤ length (seen_behind (names ++ (names_of r).declares) body)
-within-seen c r names body = part-long (names ++ (names_of r).declares) body _ (part-within c names (names_of r).declares)
+    → part_of c (length names) (length (with_names names (names_of r).declares)) ≤ length (seen_behind (with_names names (names_of r).declares) body)
+within-seen c r names body = part-long (with_names names (names_of r).declares) body _ (part-high c names (names_of r).declares)
 
 -- ---- an accepted list
 
@@ -114,7 +103,7 @@ mutual
   leads-fit nothing fs known h = (refl, h, λ k. k)
   leads-fit (a_node a_text l) fs known h = leads-fit l fs known h
   leads-fit (a_node {xs = xs} (an_action {h = r}) l) fs known h =
-      let past : Known = with_inner known (known.inner ++ (names_of r).declares) in
+      let past : Known = with_inner known (with_names known.inner (names_of r).declares) in
       let e = and_parts (no_fault (first_fault true false (knows known.inner (names_of r).uses))) (passes fs past (roles_of xs)) h in
       let more = leads-fit l fs past e.1 in
       (both_true (sym (first-none false (knows known.inner (names_of r).uses)) ∙ e.0) more.0, more.1, more.2)
@@ -127,19 +116,18 @@ mutual
       let more = leads-fit l fs known e.1 in
       (both_true (sym (jump-test (in_loop (top fs))) ∙ e.0) more.0, more.1, more.2)
   leads-fit (a_node {xs = xs} (a_template {given = given}) l) fs known h =
-      let past : Known = with_inner known (known.inner ++ (names_given given).declares) in
-      let e = and_parts _ (passes fs past (roles_of xs)) h in
-      let more = leads-fit l fs known (subst (λ k. passes fs (with_inner known k) (roles_of xs) ≡ true) (append-nil known.inner) e.1) in
+      let e = and_parts _ (passes fs known (roles_of xs)) h in
+      let more = leads-fit l fs known e.1 in
       (both_true (sym (first-none false (knows known.inner (names_given given).uses)) ∙ e.0) more.0, more.1, more.2)
   leads-fit (a_define {xs = xs} {body = body} b l) fs known h =
-      let f : Frame = entered opened.define no_names (top fs) (length known.inner) in
+      let f : Frame = entered opened.define no_names (top fs) known.inner in
       let e = and_parts _ (passes (f ∷ fs) (opened_names opened.define [] known) (roles_of xs)) h in
       let inner = leads-fit b (f ∷ fs) (opened_names opened.define [] known) e.1 in
       let more = leads-fit l fs known inner.1 in
       (more.0, more.1, λ k. (fits-lower body false f.levels 0 [] (omega arith) inner.0, inner.2 (more.2 k)))
   leads-fit (a_block {p = p} {xs = xs} {body = body} b l) fs known h =
       let names : List Name = (names_given (Some p)).uses in
-      let f : Frame = entered opened.block (names_given (Some p)) (top fs) (length known.inner) in
+      let f : Frame = entered opened.block (names_given (Some p)) (top fs) known.inner in
       let e = and_parts _ (passes (f ∷ fs) (opened_names opened.block [] known) (roles_of xs)) h in
       let t = placed-test true (leb most_levels (levels (top fs))) (knows known.inner names) e.0 in
       let k = and_parts (not (leb most_levels (levels (top fs)))) (knows known.inner names) t.1 in
@@ -148,11 +136,11 @@ mutual
       (both_true k.1 more.0, more.1, λ k. (fits-lower body false f.levels 0 [] (omega arith) inner.0, inner.2 (more.2 k)))
   leads-fit (a_control {c = c} {h = r} {xs = xs} {zs = zs} {body = body} {other = other} b o l) fs known h =
       let names : List Name = known.inner in
-      let f : Frame = entered (opened.control c) (names_of r) (top fs) (length names) in
-      let inside : Known = with_inner known (names ++ (names_of r).declares) in
+      let f : Frame = entered (opened.control c) (names_of r) (top fs) names in
+      let inside : Known = with_inner known (with_names names (names_of r).declares) in
       let e = and_parts _ (passes (f ∷ fs) inside (roles_of xs)) h in
       let inner = leads-fit b (f ∷ fs) inside e.1 in
-      let behind = closes-fit o f fs (with_inner known (seen_behind inside.inner body)) refl (part-low c (length names) (length (names_of r).declares))
+      let behind = closes-fit o f fs (with_inner known (seen_behind inside.inner body)) refl (part-low c names (names_of r).declares)
       (within-seen c r names body) inner.1 in
       let other_fits = subst (λ k. fits other (loops_in c true (in_loop (top fs))) (levels (top fs) + 1) k ≡ true) (part-seen c r names body) behind.0 in
       let here = both_true (sym (opener-test c r (top fs) names) ∙ e.0) (both_true inner.0 other_fits) in
@@ -180,23 +168,23 @@ mutual
   closes-fit (an_else_branch {line = line} {branch = b} {h = r} {xs = xs} {zs = zs} {body = body} {other = other} l o) f fs known own low high h =
       let seen : List Name = take f.part known.inner in
       let declares : List Name = (names_of r).declares in
-      let inside : List Name = seen ++ declares in
-      let g : Frame = parted true (length seen + length declares) f in
+      let inside : List Name = with_names seen declares in
+      let g : Frame = parted true (length inside) f in
       let e = and_parts _ (passes (g ∷ fs) (with_inner known inside) (roles_of xs)) h in
       let t = placed-test (takes_else (Some b) (Some f)) (leb most_levels f.levels) (knows seen (names_of r).uses) e.0 in
       let control_is = joins-control b f.opening (and_parts (joins (Some b) f.opening) (not f.has_else) t.0).0 in
       let inner = leads-fit l (g ∷ fs) (with_inner known inside) e.1 in
-      let count = length-append seen declares in
+      let count = with-longer seen declares in
       let fits_in = length-take f.part known.inner in
       let behind = closes-fit o g fs (with_inner known (seen_behind inside body)) own (omega arith)
-      (part-long inside body (length seen + length declares) (omega arith)) inner.1 in
+      (part-long inside body (length inside) (omega arith)) inner.1 in
       let body_fits = subst (λ k. fits body k (f.levels + 1) inside ≡ true) (branch-loops b f.opening f.has_else f.around control_is
       ∙ sym (branch-loops b f.opening true f.around control_is)) inner.0 in
       let other_fits = subst (λ k. fits other (loops f.opening true f.around) (f.levels + 1) k ≡ true)
-      (take-seen (length seen + length declares) body inside (omega arith)) behind.0 in (
+      (take-seen (length inside) body inside (omega arith)) behind.0 in (
         branch-fits b line r body other (loops f.opening true f.around) f.levels seen (both_true (both_true t.1 (both_true body_fits other_fits)) refl),
         subst (λ k. passes fs (with_inner known k) (roles_of zs) ≡ true) (take-seen f.start body inside (omega arith)
-            ∙ take-append-le f.start seen declares (omega arith) ∙ take-take f.start f.part known.inner low) behind.1,
+            ∙ take-with f.start seen declares (omega arith) ∙ take-take f.start f.part known.inner low) behind.1,
         λ k. inner.2 (behind.2 k),
       )
 
@@ -243,11 +231,11 @@ mutual
       ≡ (fits_node n (in_loop (top fs)) (levels (top fs)) known.inner && passes fs (with_inner known (seen_past known.inner n)) (roles_said ss))
   node-passes (text bytes) fs known ss = refl
   node-passes (action h) fs known ss =
-      ap (λ b. b && passes fs (with_inner known (known.inner ++ (names_of h).declares)) (roles_said ss)) (first-none false (knows known.inner (names_of h).uses))
+      ap (λ b. b && passes fs (with_inner known (with_names known.inner (names_of h).declares)) (roles_said ss)) (first-none false (knows known.inner (names_of h).uses))
   node-passes (control_node c h body other) fs known ss =
       let names : List Name = known.inner in
-      let f : Frame = entered (opened.control c) (names_of h) (top fs) (length names) in
-      let inside : List Name = names ++ (names_of h).declares in
+      let f : Frame = entered (opened.control c) (names_of h) (top fs) names in
+      let inside : List Name = with_names names (names_of h).declares in
       let ends : List Said = else_said other (nodes_said other) in
       let rest : List Said = said end_action ∷ ss in
       let more : Bool = passes fs known (roles_said ss) in
@@ -259,14 +247,13 @@ mutual
       ∙ ap (λ b. b && passes (f ∷ fs) (with_inner known inside) (roles_said (nodes_said body ++ (ends ++ rest)))) (opener-test c h (top fs) names)
       ∙ ap (λ b. headed (levels (top fs)) names h && b) (nodes-passes body (f ∷ fs) (with_inner known inside) (ends ++ rest)
       ∙ ap (λ b. in_body && b) (else-passes c other (nodes-passes other) f.around f.levels f.start f.part fs (with_inner known behind) ss
-      (part-low c (length names) (length (names_of h).declares)) (within-seen c h names body)
+      (part-low c names (names_of h).declares) (within-seen c h names body)
       ∙ ap (λ ns. in_other ns && passes fs (with_inner known (take f.start behind)) (roles_said ss)) (part-seen c h names body)
       ∙ ap (λ ns. in_other (part_names c names (names_of h).declares) && passes fs (with_inner known ns) (roles_said ss)) (control-names h names body))
       ∙ sym (and_assoc in_body (in_other (part_names c names (names_of h).declares)) more))
       ∙ sym (and_assoc (headed (levels (top fs)) names h) (in_body && in_other (part_names c names (names_of h).declares)) more)
   node-passes (template_node name given) fs known ss =
-      ap (λ b. b && passes fs (with_inner known (known.inner ++ [])) (roles_said ss)) (first-none false (knows known.inner (names_given given).uses))
-      ∙ ap (λ ns. knows known.inner (names_given given).uses && passes fs (with_inner known ns) (roles_said ss)) (append-nil known.inner)
+      ap (λ b. b && passes fs known (roles_said ss)) (first-none false (knows known.inner (names_given given).uses))
   node-passes break_node fs known ss = ap (λ b. b && passes fs known (roles_said ss)) (jump-test (in_loop (top fs)))
   node-passes continue_node fs known ss = ap (λ b. b && passes fs known (roles_said ss)) (jump-test (in_loop (top fs)))
 

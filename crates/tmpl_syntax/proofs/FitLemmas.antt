@@ -1,8 +1,7 @@
 -- For `accepted_back`: whether the items of a template are accepted depends on its nodes alone.
-use Rattle.std.proofs.Common.{arith, ◌≡◌, ◌∙◌, ℕ, ◌+◌, ◌≤◌, Bool, true, false, not, ◌&&◌, leb, List, [], ◌∷◌, ◌++◌, length, take, Option}
-use Rattle.std.proofs.Common.{Some, None, refl, ap, length-append}
+use Rattle.std.proofs.Common.{arith, ◌≡◌, ◌∙◌, ℕ, ◌+◌, ◌≤◌, Bool, true, false, not, ◌&&◌, leb, List, [], ◌∷◌, length, take, Option}
+use Rattle.std.proofs.Common.{Some, None, refl, ap}
 use Rattle.std.proofs.lemmas.Bool.{false≢true, and_parts, lt-leb, leb-false, not-true}
-use Rattle.std.proofs.lemmas.List.{take-append-le}
 use Rattle.std.specs.Cmp.Derive.{both_true}
 use Rattle.tmpl_grammar.specs.Tree.{Header}
 use Rattle.tmpl_grammar.specs.declared.tree.Control.{Control}
@@ -13,7 +12,8 @@ use Rattle.tmpl_syntax.specs.Tree.{NodeKind, text, action, control_node, templat
 use Rattle.tmpl_syntax.specs.Place.Role.{Name, names_of, names_given, opener, Role}
 use Rattle.tmpl_syntax.specs.Place.Body.{most_levels, Verdict, fine}
 use Rattle.tmpl_syntax.specs.computed.Frames.{top, loops, levels, knows, first_fault, fault_in, part_of, seen_at, fault_at, frames_past}
-use Rattle.tmpl_syntax.specs.computed.Frames.{unless_fault, Known, with_inner, known_past, verdict_from}
+use Rattle.tmpl_syntax.proofs.NameLemmas.{with-longer, take-with}
+use Rattle.tmpl_syntax.specs.computed.Frames.{with_names, unless_fault, Known, with_inner, known_past, verdict_from}
 
 -- ---- what the judge asks, as a test
 
@@ -31,7 +31,7 @@ passes fs known [] = no_frame fs
 passes fs known (x ∷ xs) =
     let seen = seen_at x (top fs) known.inner in
     no_fault (fault_at x (top fs) seen)
-    && passes (frames_past x fs (length seen)) (known_past x (top fs) (with_inner known seen)) xs
+    && passes (frames_past x fs seen) (known_past x (top fs) (with_inner known seen)) xs
 
 abbrev pub is_fine : Verdict → Bool
 is_fine fine = true
@@ -46,7 +46,7 @@ passes-fine [] i [] known = refl
 passes-fine [] i (f ∷ fs) known = refl
 passes-fine (x ∷ xs) i fs known =
     let seen : List Name = seen_at x (top fs) known.inner in
-    let next : List Frame = frames_past x fs (length seen) in
+    let next : List Frame = frames_past x fs seen in
     let past : Known = known_past x (top fs) (with_inner known seen) in
     go (fault_at x (top fs) seen) (verdict_from (i + 1) next past xs) (passes next past xs) (passes-fine xs (i + 1) next past)
   where
@@ -64,10 +64,10 @@ abbrev pub headed : ℕ → List Name → Header → Bool
 headed n names h = room n && knows names (names_of h).uses
 
 abbrev pub part_names : Control → List Name → List Name → List Name
-part_names k names declares = take (part_of k (length names) (length names + length declares)) (names ++ declares)
+part_names k names declares = take (part_of k (length names) (length (with_names names declares))) (with_names names declares)
 
 abbrev pub seen_past : List Name → NodeKind → List Name
-seen_past names (action h) = names ++ (names_of h).declares
+seen_past names (action h) = with_names names (names_of h).declares
 seen_past names _ = names
 
 abbrev pub seen_behind : List Name → Nodes → List Name
@@ -84,7 +84,7 @@ abbrev mutual
   fits_node (action h) = λ loop n names. knows names (names_of h).uses
   fits_node (control_node c h body other) = λ loop n names.
       headed n names h
-      && (fits body (loops_in c false loop) (n + 1) (names ++ (names_of h).declares)
+      && (fits body (loops_in c false loop) (n + 1) (with_names names (names_of h).declares)
       && fits other (loops_in c true loop) (n + 1) (part_names c names (names_of h).declares))
   fits_node (template_node name given) = λ loop n names. knows names (names_given given).uses
   fits_node _ = λ loop n names. loop
@@ -105,9 +105,9 @@ mutual
   node-lower : (k : NodeKind) (loop : Bool) (n m : ℕ) (names : List Name) → m ≤ n → fits_node k loop n names ≡ true → fits_node k loop m names ≡ true
   node-lower (control_node c h body other) loop n m names le e =
       let p = and_parts (headed n names h) _ e in
-      let q = and_parts (fits body (loops_in c false loop) (n + 1) (names ++ (names_of h).declares)) _ p.1 in
+      let q = and_parts (fits body (loops_in c false loop) (n + 1) (with_names names (names_of h).declares)) _ p.1 in
       both_true (headed-lower h n m names le p.0)
-      (both_true (fits-lower body (loops_in c false loop) (n + 1) (m + 1) (names ++ (names_of h).declares) (omega (arith, le)) q.0)
+      (both_true (fits-lower body (loops_in c false loop) (n + 1) (m + 1) (with_names names (names_of h).declares) (omega (arith, le)) q.0)
       (fits-lower other (loops_in c true loop) (n + 1) (m + 1) (part_names c names (names_of h).declares) (omega (arith, le)) q.1))
   node-lower _ loop n m names le e = e
 
@@ -121,11 +121,11 @@ mutual
 
 -- the first names stay
 take-past : (k : ℕ) (n : NodeKind) (names : List Name) → k ≤ length names → take k (seen_past names n) ≡ take k names
-take-past k (action r) names h = take-append-le k names (names_of r).declares h
+take-past k (action r) names h = take-with k names (names_of r).declares h
 take-past k _ names h = refl
 
 past-longer : (n : NodeKind) (names : List Name) → length names ≤ length (seen_past names n)
-past-longer (action h) names = omega (arith, length-append names (names_of h).declares)
+past-longer (action h) names = with-longer names (names_of h).declares
 past-longer _ names = omega arith
 
 pub take-seen : (k : ℕ) (ns : Nodes) (names : List Name) → k ≤ length names → take k (seen_behind names ns) ≡ take k names

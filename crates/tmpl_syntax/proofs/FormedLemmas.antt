@@ -1,10 +1,10 @@
 -- For `formed`: what an accepted list spells is formed, its definitions and its own template.
-use Rattle.std.proofs.Common.{arith, ◌≡◌, ◌∙◌, ℕ, ◌+◌, Bool, true, false, ◌||◌, ◌&&◌, List, [], ◌∷◌, ◌++◌, length, take}
-use Rattle.std.proofs.Common.{refl, sym, ap, subst, length-append, leb, nat_lt}
+use Rattle.std.proofs.Common.{arith, ◌≡◌, ◌∙◌, ℕ, ◌+◌, Bool, true, false, ◌||◌, ◌&&◌, List, [], ◌∷◌}
+use Rattle.std.proofs.Common.{refl, sym, ap, subst, leb, nat_lt}
 use Rattle.std.proofs.lemmas.Bool.{false≢true, and_parts, lt-ltb, leb-false, not-true}
-use Rattle.std.proofs.lemmas.List.{take_all}
-use Rattle.std.proofs.Math.Seq.{take-append_seam}
-use Rattle.std.proofs.lemmas.List.Folds.{list_any-append}
+use Rattle.std.proofs.Math.Seq.{take-length}
+use Rattle.tmpl_syntax.specs.computed.Frames.{with_names}
+use Rattle.tmpl_syntax.proofs.NameLemmas.{with-known, take-before}
 use Rattle.std.specs.Str.{bytes_eq}
 use Rattle.std.specs.Cmp.Derive.{both_true}
 use Rattle.tmpl_grammar.specs.Tree.{Binding, unbound, declare, assign, declare_pair, Header}
@@ -59,21 +59,18 @@ older-there (declare name) scope x e = or-right (bytes_eq x name) (is_among scop
 older-there (declare_pair key name) scope x e =
     or-right (bytes_eq x name) (bytes_eq x key || is_among scope x) (or-right (bytes_eq x key) (is_among scope x) e)
 
-all-declared : (h : Header) (names scope : List Name) → AllAmong names scope → AllAmong (names ++ (names_of h).declares) (declared_to h.binding scope)
+all-declared : (h : Header) (names scope : List Name) → AllAmong names scope → AllAmong (with_names names (names_of h).declares) (declared_to h.binding scope)
 all-declared h names scope more x e =
     or-cases (is_among names x) (is_among (declared_by h.binding) x) _ (λ f. older-there h.binding scope x (more x f)) (declared-there h.binding scope x)
-    (sym (list_any-append (bytes_eq x) names (declared_by h.binding)) ∙ e)
-
-part-whole : (names ds : List Name) → take (length names + length ds) (names ++ ds) ≡ names ++ ds
-part-whole names ds = take_all _ (names ++ ds) (omega (arith, length-append names ds))
+    (sym (with-known names (declared_by h.binding) x) ∙ e)
 
 all-else : (c : Control) (h : Header) (names scope : List Name) → AllAmong names scope
     → AllAmong (part_names c names (names_of h).declares) (else_scope c h.binding scope)
 all-else If h names scope more x e =
-    all-declared h names scope more x (sym (ap (λ l. is_among l x) (part-whole names (names_of h).declares)) ∙ e)
+    all-declared h names scope more x (sym (ap (λ l. is_among l x) (take-length (with_names names (names_of h).declares))) ∙ e)
 all-else With h names scope more x e =
-    all-declared h names scope more x (sym (ap (λ l. is_among l x) (part-whole names (names_of h).declares)) ∙ e)
-all-else Range h names scope more x e = more x (sym (ap (λ l. is_among l x) (take-append_seam names (names_of h).declares)) ∙ e)
+    all-declared h names scope more x (sym (ap (λ l. is_among l x) (take-length (with_names names (names_of h).declares))) ∙ e)
+all-else Range h names scope more x e = more x (sym (ap (λ l. is_among l x) (take-before names (names_of h).declares)) ∙ e)
 
 all-behind : (n : NodeKind) (names scope : List Name) → AllAmong names scope → AllAmong (seen_past names n) (scope_behind n scope)
 all-behind (action h) names scope more = all-declared h names scope more
@@ -98,10 +95,10 @@ mutual
   fits-formed (control_node c h body other) loop levels names scope more e =
       let p = and_parts (headed levels names h) _ e in
       let q = and_parts (room levels) (are_among names (names_of h).uses) p.0 in
-      let r = and_parts (fits body (loops_in c false loop) (levels + 1) (names ++ (names_of h).declares)) _ p.1 in
+      let r = and_parts (fits body (loops_in c false loop) (levels + 1) (with_names names (names_of h).declares)) _ p.1 in
       let inside = all-declared h names scope more in
       let others = all-else c h names scope more in
-      let body_formed = all-formed body (loops_in c false loop) (levels + 1) (names ++ (names_of h).declares) (declared_to h.binding scope) inside r.0 in
+      let body_formed = all-formed body (loops_in c false loop) (levels + 1) (with_names names (names_of h).declares) (declared_to h.binding scope) inside r.0 in
       let other_names = part_names c names (names_of h).declares in
       let other_formed = all-formed other (loops_in c true loop) (levels + 1) other_names (else_scope c h.binding scope) others r.1 in
       both_true (both_true (both_true (are-among names scope (names_of h).uses more q.1) (within levels q.0))

@@ -2,7 +2,6 @@ pub mod AcceptedLemmas
 pub mod BodyExamples
 pub mod BuildLemmas
 pub mod CheckLemmas
-pub mod CountLemmas
 pub mod ElseLemmas
 pub mod ElsePartLemmas
 pub mod FaultLemmas
@@ -17,6 +16,7 @@ pub mod JudgeLemmas
 pub mod KeptLemmas
 pub mod LanguageExamples
 pub mod LargerLemmas
+pub mod NameLemmas
 pub mod NamedLemmas
 pub mod NeedExamples
 pub mod NeedLemmas

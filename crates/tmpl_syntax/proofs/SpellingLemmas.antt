@@ -1,5 +1,5 @@
 -- For `one_spelling`: the items of an accepted file spell what is built from them.
-use Rattle.std.proofs.Common.{◌≡◌, ℕ, Bool, true, false, not, ◌||◌, List, [], ◌∷◌, refl, sym, ap, ◌∙◌, subst, length, Option, Some, None}
+use Rattle.std.proofs.Common.{◌≡◌, ℕ, Bool, true, false, not, ◌||◌, List, [], ◌∷◌, refl, sym, ap, ◌∙◌, subst, Option, Some, None}
 use Rattle.std.proofs.lemmas.Bool.{and_parts, not-true, or_right}
 use Rattle.tmpl_syntax.specs.Fault.{Reason}
 use Rattle.tmpl_syntax.specs.computed.Frames.{Frame}
@@ -90,7 +90,7 @@ module _ (names : List Name) (xs : List Item) (p : build.Parts) where
   at-node {n = n} fs line is r = rest-node fs _ xs p.definitions p.definitions line n p.inner p.around (λ ns ys es d. a_node is d) r
 
   step : (x : Item) (fs : List Frame) → fault_at (role_of x) (top fs) names ≡ None
-      → Rest (frames_past (role_of x) fs (length names)) xs p.definitions p.inner p.around
+      → Rest (frames_past (role_of x) fs names) xs p.definitions p.inner p.around
       → Rest fs (x ∷ xs) (parts_with x p).definitions (parts_with x p).inner (parts_with x p).around
   step (item line (text_item bytes)) fs e r = at-node fs line a_text r
   step (item line unreadable_item) fs e r = cc

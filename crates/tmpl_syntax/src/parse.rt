@@ -1,9 +1,8 @@
 //! Reading a file into the set.
-ghost use Rattle.std.specs.Prelude.{◌≡◌, ◌≤◌, ◌==◌, ◌++◌, ◌∷◌, [], IfOk, IsTrue, length, map, not};
+ghost use Rattle.std.specs.Prelude.{◌≡◌, ◌≤◌, ◌==◌, IfOk, length, map, not};
 ghost use Rattle.std.specs.List.{suffix_len};
 ghost use Rattle.tmpl_syntax.specs.View.{set_view, template_of};
-ghost use Rattle.tmpl_syntax.specs.computed.Frames.{is_known};
-ghost use Rattle.tmpl_syntax.specs.computed.View.{definition_of, item_of, seen_in};
+ghost use Rattle.tmpl_syntax.specs.computed.View.{definition_of, item_of};
 ghost use Rattle.tmpl_syntax.specs.Parse as spec;
 ghost use Rattle.tmpl_syntax.specs.Parse.{IsAsBefore, IsReading, template_in};
 ghost use Rattle.tmpl_syntax.specs.computed.Parse.{IsAdded, IsOnce, IsParse, items_of, with_file};
@@ -14,9 +13,9 @@ use crate::fault::{ParseFault, ParseKind, Refusal};
 use crate::item::{Item, read_all};
 use crate::name_hash::NameHash;
 use crate::place::check::check;
+use crate::place::names::KnownNames;
 use crate::set::Set;
 use crate::tree::{Definition, Tree};
-use indexmap::IndexSet;
 use std::alloc::{AllocError, Global};
 use std::rc::Rc;
 use tmpl_values::Bytes;
@@ -131,10 +130,11 @@ fn add_items(
     requires within { length bytes.now ≤ 16777216 }
     ensures { IsAdded (set_view set.old) file.now bytes.now (set_view set.new) result }
 {
-    check(alloc, items.as_slice(), bytes)?;
+    let hash = set.name_hash();
+    check(alloc, hash, items.as_slice(), bytes)?;
     let name = Bytes::new(copy_of(alloc, base_name(file))?);
     let definitions = build(alloc, items, name)?;
-    refuse_second(alloc, set.name_hash(), definitions.as_slice())?;
+    refuse_second(alloc, hash, definitions.as_slice())?;
     set.define_all(templates_of(alloc, file, definitions)?)?;
     Ok(())
 }
@@ -147,12 +147,12 @@ fn refuse_second(alloc: Global, hash: NameHash, definitions: &[Definition]) -> R
     if definitions.len() < 2 {
         return Ok(());
     }
-    let mut names = IndexSet::with_capacity_and_hasher(alloc, definitions.len(), hash)?;
+    let mut names = KnownNames::new(alloc, hash);
     for definition in definitions {
         if is_blank(definition.nodes.as_slice()) {
             continue;
         }
-        if !is_added(&mut names, definition.name.as_slice())? {
+        if !names.push(definition.name.as_slice())? {
             return Err(Refusal {
                 line: definition.line,
                 kind: ParseKind::SecondDefinition,
@@ -160,17 +160,6 @@ fn refuse_second(alloc: Global, hash: NameHash, definitions: &[Definition]) -> R
         }
     }
     Ok(())
-}
-
-/// Adds a name, and says whether it is new.
-fn is_added<'d>(
-    names: &mut IndexSet<&'d [u8], NameHash>,
-    name: &'d [u8],
-) -> Result<bool, AllocError>
-    ensures new { IfOk result (λ b. b ≡ not (is_known (seen_in names.old.keys) name.now)) }
-    ensures names { IfOk result (λ b. IsTrue b → seen_in names.new.keys ≡ seen_in names.old.keys ++ name.now ∷ []) }
-{
-    Ok(names.insert(name)?)
 }
 
 /// The definitions as templates in this file.
