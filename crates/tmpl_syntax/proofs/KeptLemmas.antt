@@ -23,7 +23,7 @@ use Rattle.tmpl_syntax.specs.computed.Build.{nodes_from, definitions_from}
 use Rattle.tmpl_syntax.specs.computed.Parse.{by_verdict, checked, all_from, items_of}
 use Rattle.tmpl_syntax.proofs.ItemLemmas.{has-items}
 use Rattle.tmpl_syntax.proofs.SpellingLemmas.{spells-fine}
-use Rattle.tmpl_syntax.proofs.FormedLemmas.{spells-formed}
+use Rattle.tmpl_syntax.proofs.AcceptedLemmas.{spells-formed}
 use Rattle.tmpl_syntax.proofs.VerdictLemmas.{judged-all}
 use Rattle.tmpl_syntax.proofs.NeedLemmas.{need-most}
 use Rattle.tmpl_syntax.proofs.PrintableNodeLemmas.{keeps-printable}

@@ -6,7 +6,6 @@ pub mod ElseLemmas
 pub mod ElsePartLemmas
 pub mod FaultLemmas
 pub mod FileLemmas
-pub mod FitLemmas
 pub mod FormedExamples
 pub mod FormedLemmas
 pub mod ItemLemmas

@@ -58,7 +58,7 @@ take-with k names ds le = let m = with-names names ds in ap (take k) m.1 ∙ tak
 pub take-before : (names ds : List Name) → take (length names) (with_names names ds) ≡ names
 take-before names ds = take-with (length names) names ds (omega arith) ∙ take-length names
 
-one-known : (names : List Name) (d x : Name) → is_known (with_name names d) x ≡ (is_known names x || bytes_eq x d)
+pub one-known : (names : List Name) (d x : Name) → is_known (with_name names d) x ≡ (is_known names x || bytes_eq x d)
 one-known names d x = by (is_known names d) refl
   where
     there : (b : Bool) → bytes_eq x d ≡ b → is_known names d ≡ true → is_known names x ≡ (is_known names x || b)
@@ -69,7 +69,7 @@ one-known names d x = by (is_known names d) refl
     by true k = there (bytes_eq x d) refl k
     by false k = list_any-append (bytes_eq x) names (d ∷ []) ∙ ap (λ b. is_known names x || b) (or-false (bytes_eq x d))
 
-pub with-known : (names ds : List Name) (x : Name) → is_known (with_names names ds) x ≡ (is_known names x || is_known ds x)
+with-known : (names ds : List Name) (x : Name) → is_known (with_names names ds) x ≡ (is_known names x || is_known ds x)
 with-known names [] x = sym (or-false (is_known names x))
 with-known names (d ∷ ds) x =
     with-known (with_name names d) ds x ∙ ap (λ b. b || is_known ds x) (one-known names d x) ∙ or_assoc (is_known names x) (bytes_eq x d) (is_known ds x)
