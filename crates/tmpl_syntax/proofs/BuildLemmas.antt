@@ -4,6 +4,7 @@ use Rattle.std.proofs.lemmas.List.{reverse-append}
 use Rattle.tmpl_syntax.specs.Tree.{NodeKind, Nodes, Definition}
 use Rattle.tmpl_syntax.specs.Item.{Item}
 use Rattle.tmpl_syntax.specs.computed.Build as build
+use Rattle.tmpl_syntax.proofs.ViewLemmas.{node_of-Node, kind_of-Control, control_of-ControlNode}
 
 -- a part of these nodes, those around it, and definitions
 abbrev pub seen_parts : Nodes → Nodes → List build.Level → List Definition → build.Parts
@@ -36,3 +37,5 @@ same-before line n m l k a b ds e f g =
 pub before-last : (xs : List Item) (x : Item) (p : build.Parts) → build.parts_before (xs ++ x ∷ []) p ≡ build.parts_before xs (build.parts_with x p)
 before-last [] x p = refl
 before-last (y ∷ xs) x p = ap (build.parts_with y) (before-last xs x p)
+
+pub ruleset built = (before-last, reverse-push, node_of-Node, kind_of-Control, control_of-ControlNode)

@@ -98,3 +98,5 @@ module _ (bytes : List ℕ) (items : List Item) where
   pub checked-open : (fs : List Frame) → length fs ≢ 0 → verdict_of (roles_of items) ≡ at_end fs → checked bytes items ≡ Err (last_line bytes, open_at_end)
   checked-open [] n e = absurd (n refl)
   checked-open (f ∷ fs) n e = by left_open e
+
+pub ruleset checks = (checking-start, checking-past, checking-refused, checking-ended, item-at, role-here, checked-refused, checked-fine, checked-open)

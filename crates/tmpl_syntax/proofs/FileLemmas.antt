@@ -44,3 +44,7 @@ module _ (set : List Template) (file bytes : List ℕ) where
       → IsRefusal (parsed set file bytes) f.line (reason_of f.kind) → IsAdded set file bytes set r
   adding-ends (Ok u) f h k = absurd h
   adding-ends (Err e) f h k = (refl, subst (λ (g : held_refusal.Refusal). IsRefusal (parsed set file bytes) g.line (reason_of g.kind)) (sym h) k)
+
+pub ruleset long = parsed-long
+
+pub ruleset added_items = (refusal-placed, second-placed, fine-placed, adding-ends)

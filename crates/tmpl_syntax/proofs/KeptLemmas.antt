@@ -109,3 +109,5 @@ file-kept file bytes ts name h within passed built =
 pub each-kept : (set ts : List Template) → AreKept set → AreKept ts → AreKept (defined_each set ts)
 each-kept set [] h k = h
 each-kept set (t ∷ ts) h k = each-kept (defined set t.0 t.1) ts (defined-kept set t.0 t.1 h k.0 k.1) k.2
+
+pub ruleset kept = (each-kept, file-kept)

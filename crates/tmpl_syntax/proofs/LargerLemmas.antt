@@ -41,8 +41,8 @@ module _ (large small : Branches) (more : IsLarger large small) where
   same-items (p ∷ ps) (x ∷ xs) is h = (same-item is.0 (λ e. h 0 (ap (λ r. Some r) e)), same-items ps xs is.1 (λ k e. h (suc k) e))
   same-items _ _ is h = absurd is
 
-pub accepts-in-larger : AcceptsInLarger
-accepts-in-larger large small more old file bytes new h = record {
+pub accepts_in_larger : AcceptsInLarger
+accepts_in_larger large small more old file bytes new h = record {
   short = h.short;
   items = h.items;
   has = (h.has.0, h.has.1, same-items large small more h.has.0 h.items h.has.2 (all-read (roles_of h.items) h.judged.0));
@@ -57,7 +57,7 @@ accepts-in-larger large small more old file bytes new h = record {
 -- what Go 1.22 makes of a file is what is parsed
 module _ (old : List Template) (file bytes : List ℕ) (set : List Template) (accepted : IsAccepted go_1_22 old file bytes set) where
   parsed-before : parsed old file bytes ≡ Ok set
-  parsed-before = parsed-accepted old file bytes set (accepts-in-larger every_branch go_1_22 (λ b t. refl) old file bytes set accepted)
+  parsed-before = parsed-accepted old file bytes set (accepts_in_larger every_branch go_1_22 (λ b t. refl) old file bytes set accepted)
 
   pub same-before : (new : List Template) → parsed old file bytes ≡ Ok new → new ≡ set
   same-before new e = let same : ◌≡◌ {A = Result (List Template) Refusal} (Ok new) (Ok set) = sym e ∙ parsed-before in cc

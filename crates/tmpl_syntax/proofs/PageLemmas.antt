@@ -11,6 +11,7 @@ use Rattle.tmpl_syntax.specs.Print.Join.{Part, a_text, an_action, ends_brace, fi
 use Rattle.tmpl_grammar.specs.Action.{Action, plain_else}
 use Rattle.tmpl_syntax.specs.View.{nodes_in}
 use Rattle.tmpl_syntax.specs.declared.tree.Node as held
+use Rattle.tmpl_syntax.proofs.ViewLemmas.{control_of-fields}
 use Rattle.tmpl_syntax.specs.Print.Printed.{Said, said, said_text, else_said, nodes_said, part_of}
 use Rattle.tmpl_syntax.specs.computed.Print.{Page, last_text, page_with}
 
@@ -103,3 +104,5 @@ no_else p (n ∷ ns) e = let none = eqb-true (length (n ∷ ns)) 0 (sym e) in ab
 pub some_else : (ns : List held.Node) (ss : List Said) → false ≡ (length ns == 0) → else_said (nodes_in ns) ss ≡ said plain_else ∷ ss
 some_else [] ss e = absurd (cc)
 some_else (n ∷ ns) ss e = refl
+
+pub ruleset pages = (action-put, text-put, control-put, page_append, page_nothing, no_else, some_else, control_of-fields)

@@ -230,3 +230,5 @@ few-second (d ∷ []) lt = by (is_blank d.nodes)
     by true = refl
     by false = refl
 few-second (d ∷ e ∷ ds) lt = absurd (omega (arith, lt))
+
+pub ruleset seconds = (few-second, next-blank, next-known, next-new, not-swapped)

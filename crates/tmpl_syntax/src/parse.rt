@@ -47,6 +47,7 @@ const TOO_LONG: Refusal = Refusal {
 /// After an error the set is as it was.
 ///
 /// `else with` is there since Go 1.23. A file that is accepted without it makes the same set with it.
+#[tactic(auto, using(crate::proofs::WithFileLemmas::with_files))]
 pub fn parse_file<'f>(
     alloc: Global,
     set: &mut Set,
@@ -66,6 +67,7 @@ pub fn parse_file<'f>(
 /// # Errors
 ///
 /// Those of `parse_file`.
+#[tactic(auto, using(crate::proofs::WithFileLemmas::with_files))]
 pub fn parse_owned<'f>(
     alloc: Global,
     set: &mut Set,
@@ -90,6 +92,7 @@ fn with_file(file: &str, added: Result<(), Refusal>) -> Result<(), ParseFault<'_
 }
 
 /// Adds the templates of a file to the set, and copies its bytes unless they are too many.
+#[tactic(auto, using(crate::proofs::FileLemmas::long))]
 fn add_copy(alloc: Global, set: &mut Set, file: &str, bytes: &[u8]) -> Result<(), Refusal>
     ensures { IsAdded (set_view set.old) file.now bytes.now (set_view set.new) result }
 {
@@ -100,6 +103,7 @@ fn add_copy(alloc: Global, set: &mut Set, file: &str, bytes: &[u8]) -> Result<()
 }
 
 /// Adds the templates of a file of these bytes to the set.
+#[tactic(auto, using(crate::proofs::FileLemmas::long))]
 fn add_file(alloc: Global, set: &mut Set, file: &str, bytes: Vec<u8>) -> Result<(), Refusal>
     ensures { IsAdded (set_view set.old) file.now bytes.items (set_view set.new) result }
 {
@@ -119,6 +123,7 @@ fn shared(alloc: Global, bytes: Vec<u8>) -> Result<Rc<Bytes>, AllocError>
 }
 
 /// Adds the templates of a file with these items and bytes to the set.
+#[tactic(auto, using(crate::proofs::FileLemmas::added_items, crate::proofs::KeptLemmas::kept))]
 fn add_items(
     alloc: Global,
     set: &mut Set,
@@ -141,6 +146,7 @@ fn add_items(
 
 /// Refuses the first definition that has an earlier one of its name, neither being blank. Their names are hashed as
 /// those of the set are.
+#[tactic(auto, using(crate::proofs::SecondLemmas::seconds), unfolding(crate::specs::computed::Parse::second_in))]
 fn refuse_second(alloc: Global, hash: NameHash, definitions: &[Definition]) -> Result<(), Refusal>
     ensures { IsOnce (map definition_of definitions.now) result }
 {
@@ -176,6 +182,7 @@ fn templates_of(
 }
 
 /// The definitions as templates in the file of this path, which they share.
+#[tactic(auto)]
 fn templates_at(
     alloc: Global,
     path: &Rc<Bytes>,
