@@ -99,4 +99,4 @@ module _ (bytes : List ℕ) (items : List Item) where
   checked-open [] n e = absurd (n refl)
   checked-open (f ∷ fs) n e = by left_open e
 
-pub ruleset checks = (checking-start, checking-past, checking-refused, checking-ended, item-at, role-here, checked-refused, checked-fine, checked-open)
+pub ruleset checks = (checking-refused, item-at, role-here, checked-refused)

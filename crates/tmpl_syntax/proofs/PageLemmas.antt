@@ -87,15 +87,6 @@ last_brace (b ∷ t) =
     let at : length {A = ℕ} (b ∷ t) - 1 ≡ length t = omega arith in
     ap (λ n. pointwise nat_eq (123 ∷ []) (drop n (b ∷ t))) at ∙ last-at b t
 
--- a control, put part by part
-pub control-put : (p : Page) (o e : Said) (body other : List Said) {first second third fourth : Page} → first ≡ page_with p (o ∷ [])
-    → second ≡ page_with first body → third ≡ page_with second other → fourth ≡ page_with third (e ∷ [])
-    → fourth ≡ page_with p (o ∷ (body ++ (other ++ e ∷ [])))
-control-put p o e body other {first} {second} {third} {fourth} h i j k =
-    let ends : fourth ≡ page_with second (other ++ e ∷ []) = k ∙ ap (λ q. page_with q (e ∷ [])) j ∙ page_append second other (e ∷ []) in
-    ends ∙ ap (λ q. page_with q (other ++ e ∷ [])) i ∙ page_append first body (other ++ e ∷ []) ∙ ap (λ q. page_with q (body ++ (other ++ e ∷ []))) h
-    ∙ page_append p (o ∷ []) (body ++ (other ++ e ∷ []))
-
 -- an else part of no nodes, and one of nodes
 pub no_else : (p : Page) (ns : List held.Node) → true ≡ (length ns == 0) → p ≡ page_with p (else_said (nodes_in ns) (nodes_said (nodes_in ns)))
 no_else p [] e = sym (page_nothing p)
@@ -105,4 +96,4 @@ pub some_else : (ns : List held.Node) (ss : List Said) → false ≡ (length ns 
 some_else [] ss e = absurd (cc)
 some_else (n ∷ ns) ss e = refl
 
-pub ruleset pages = (action-put, text-put, control-put, page_append, page_nothing, no_else, some_else, control_of-fields)
+pub ruleset pages = (action-put, text-put, page_append, page_nothing, no_else, some_else, control_of-fields)

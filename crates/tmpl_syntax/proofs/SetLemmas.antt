@@ -6,7 +6,6 @@ use Rattle.std.specs.List.{find, list_all, position, position_or_len}
 use Rattle.std.specs.Str.{bytes_eq}
 use Rattle.std.specs.Map.{lookup, keys_of}
 use Rattle.std.proofs.lemmas.Bool.{and_parts}
-use Rattle.std.proofs.lemmas.List.{length-map}
 use Rattle.tmpl_syntax.specs.View.{tree_of, node_of, nodes_in, template_of}
 use Rattle.tmpl_syntax.specs.Tree.{Tree}
 use Rattle.tmpl_syntax.specs.declared.tree.Tree as held
@@ -100,7 +99,4 @@ number-view name es =
     ap (λ place. within place (length (keys_of es))) (place-view name es)
     ∙ ap (λ count. within (position_or_len (has_name name) (map template_of es)) count) (count-view es)
 
-pub len-view : (es : List Entry) → length es ≡ length (map template_of es)
-len-view es = sym (length-map es template_of)
-
-pub ruleset views = (names-view, len-view, number-view, lookup-view, kept-as-is, defined-insert)
+pub ruleset views = (names-view, kept-as-is)
