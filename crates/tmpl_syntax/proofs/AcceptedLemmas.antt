@@ -1,9 +1,11 @@
--- For `accepted_back`: what the own template of an accepted file says is accepted when it is printed.
-use Rattle.std.proofs.Common.{arith, ◌≡◌, ◌∙◌, ℕ, ◌+◌, ◌≤◌, Bool, true, false, not, ◌&&◌, leb, List, [], ◌∷◌, ◌++◌, length, take, Some, None}
-use Rattle.std.proofs.Common.{refl, sym, ap, subst, length-append, length-take}
+-- For `formed` and `accepted_back`: what an accepted list spells is formed, and what formed nodes say is accepted.
+use Rattle.std.proofs.Common.{arith, ◌≡◌, ◌∙◌, ℕ, ◌+◌, ◌≤◌, Bool, true, false, not, ◌&&◌, leb, nat_lt, List, [], ◌∷◌, ◌++◌, length, take, Some}
+use Rattle.std.proofs.Common.{refl, sym, ap, subst, map, append_assoc, length-take}
+use Rattle.std.proofs.Math.Bool.{and_assoc}
+use Rattle.std.proofs.Math.Seq.{take-length}
 use Rattle.std.proofs.lemmas.Bool.{false≢true, and_parts}
-use Rattle.std.proofs.lemmas.List.{append-nil, take-take, take-append-le}
-use Rattle.std.proofs.Math.Seq.{take-append_seam}
+use Rattle.std.proofs.lemmas.List.{append-nil, take-take}
+use Rattle.tmpl_syntax.proofs.NameLemmas.{with-longer, take-with, part-low, part-high}
 use Rattle.std.specs.Cmp.Derive.{both_true}
 use Rattle.tmpl_grammar.specs.declared.action.Branch.{Branch}
 use Rattle.tmpl_grammar.specs.declared.action.Branch.TheVariants as branch
@@ -13,46 +15,26 @@ use Rattle.tmpl_syntax.specs.computed.Frames.{Frame}
 use Rattle.tmpl_syntax.specs.Place.Opening.{Opening}
 use Rattle.tmpl_syntax.specs.Place.Opening as opened
 use Rattle.tmpl_grammar.specs.Tree.{Header}
-use Rattle.tmpl_syntax.specs.Tree.{NodeKind, control_node, Nodes, none, then, Definition}
-use Rattle.tmpl_grammar.specs.Action.{else_branch, end_action}
-use Rattle.tmpl_grammar.specs.Action.{define_action, block_action, control_in}
-use Rattle.tmpl_syntax.specs.Item.{Item, item, action_item}
-use Rattle.tmpl_syntax.specs.Place.Role.{Name, no_names, names_of, names_given, roles_of}
+use Rattle.tmpl_syntax.specs.Tree.{NodeKind, text, action, control_node, break_node, continue_node, template_node, Nodes, none, then, Definition}
+use Rattle.tmpl_grammar.specs.Action.{end_action}
+use Rattle.tmpl_grammar.specs.Action.{control_in}
+use Rattle.tmpl_syntax.specs.Item.{Item}
+use Rattle.tmpl_syntax.specs.Place.Role.{Name, no_names, names_of, names_given, opener, act_of, Role, text_role, act_role, roles_of}
 use Rattle.tmpl_syntax.specs.Place.Open.{is_template}
 use Rattle.tmpl_syntax.specs.Place.Body.{joins, most_levels, fine, Judged}
-use Rattle.tmpl_syntax.specs.computed.Frames.{top, loops, in_loop, levels, takes_else, knows, first_fault, part_of, entered, parted}
-use Rattle.tmpl_syntax.specs.computed.Frames.{Known, with_inner, opened_names, closed_if, none_known, verdict_of}
+use Rattle.tmpl_syntax.specs.computed.Frames.{top, loops, in_loop, levels, takes_else, is_known, knows, entered, parted}
+use Rattle.tmpl_syntax.specs.computed.Frames.{Known, with_inner, with_names, opened_names, closed_if, none_known, verdict_of}
 use Rattle.tmpl_syntax.specs.Spelling.{a_text, an_action, a_break, a_continue, a_template, Leads, nothing, a_node, a_control, a_define, a_block}
 use Rattle.tmpl_syntax.specs.Spelling.{Closes, an_end, an_else, an_else_branch}
 use Rattle.tmpl_syntax.specs.Print.Printed.{Said, said_text, said, else_said, node_said, nodes_said}
 use Rattle.tmpl_syntax.specs.Print.Laws.{Says, says_nothing, says_text, says, AcceptsBack}
 use Rattle.tmpl_syntax.proofs.OneVerdictLemmas.{one-verdict}
 use Rattle.tmpl_syntax.proofs.VerdictLemmas.{judged-all}
-use Rattle.tmpl_syntax.proofs.PrintedNodeLemmas.{spells-alike}
-use Rattle.tmpl_syntax.proofs.FitLemmas.{no_fault, passes, is_fine, fine-back, passes-fine, headed, part_names, seen_behind, loops_in}
-use Rattle.tmpl_syntax.proofs.FitLemmas.{fits_node, fits, fits-lower, nodes-unlined, take-seen, first-none, opener-test}
-
--- ---- frames and names
-
-part-low : (k : Control) (n d : ℕ) → n ≤ part_of k n (n + d)
-part-low If n d = omega arith
-part-low _ n d = omega arith
-
-part-high : (k : Control) (n d : ℕ) → part_of k n (n + d) ≤ n + d
-part-high If n d = omega arith
-part-high _ n d = omega arith
-
-part-within : (k : Control) (names ds : List Name) → part_of k (length names) (length names + length ds) ≤ length (names ++ ds)
-part-within k names ds = omega (arith, part-high k (length names) (length ds), length-append names ds)
-
-jump-test : (l : Bool) → no_fault (first_fault l false true) ≡ l
-jump-test true = refl
-jump-test false = refl
-
--- what a fault that is none says
-placed-test : (p d k : Bool) → no_fault (first_fault p d k) ≡ true → (p ≡ true) × ((not d && k) ≡ true)
-placed-test true d k e = (refl, sym (first-none d k) ∙ e)
-placed-test false d k e = absurd (false≢true e)
+use Rattle.tmpl_syntax.specs.Formed.{are_among, declared_to, else_scope, is_looped, scope_behind, is_formed, are_formed, AreFormed}
+use Rattle.tmpl_syntax.specs.Laws.{SpellsFormed}
+use Rattle.tmpl_syntax.proofs.FormedLemmas.{passes, is_fine, fine-back, passes-fine, seen_past, seen_behind, take-seen, part-long, control-names}
+use Rattle.tmpl_syntax.proofs.FormedLemmas.{Alike, alike-uses, alike-declared, alike-part, alike-past, placed-test, headed, alone-passes, opened-passes}
+use Rattle.tmpl_syntax.proofs.FormedLemmas.{looped, unlooped, formed-lower}
 
 -- an else branch joins the control with which it begins, and that is no range
 joins-control : (b : Branch) (o : Opening) → joins (Some b) o ≡ true → o ≡ opened.control (control_in b)
@@ -60,116 +42,81 @@ joins-control branch.If (opened.control If) e = refl
 joins-control branch.With (opened.control With) e = refl
 joins-control _ _ e = absurd (false≢true e)
 
--- an else may stand in each control
-own-joins : (o : Opening) → is_template o ≡ false → joins None o ≡ true
-own-joins (opened.control c) e = refl
-own-joins _ e = absurd (false≢true (sym e))
-
 branch-loops : (b : Branch) (o : Opening) (x a : Bool) → o ≡ opened.control (control_in b) → loops o x a ≡ a
 branch-loops branch.If o x a e = ap (λ j. loops j x a) e
 branch-loops branch.With o x a e = ap (λ j. loops j x a) e
 
-branch-fits : (b : Branch) (line : ℕ) (r : Header) (body other : Nodes) (loop : Bool) (n : ℕ) (names : List Name)
-    → fits (then line (control_node If r body other) none) loop n names ≡ true
-    → fits (then line (control_node (control_in b) r body other) none) loop n names ≡ true
-branch-fits branch.If line r body other loop n names e = e
-branch-fits branch.With line r body other loop n names e = e
-
--- the names before a control are those behind it
-control-names : (r : Header) (names : List Name) (body : Nodes) → take (length names) (seen_behind (names ++ (names_of r).declares) body) ≡ names
-control-names r names body =
-    let ds : List Name = (names_of r).declares in
-    take-seen (length names) body (names ++ ds) (omega (arith, length-append names ds)) ∙ take-append_seam names ds
-
-part-seen : (c : Control) (r : Header) (names : List Name) (body : Nodes)
-    → take (part_of c (length names) (length names + length (names_of r).declares)) (seen_behind (names ++ (names_of r).declares) body)
-    ≡ part_names c names (names_of r).declares
-part-seen c r names body = take-seen _ body (names ++ (names_of r).declares) (part-within c names (names_of r).declares)
-
--- no names are lost
-part-long : (names : List Name) (ns : Nodes) (k : ℕ) → k ≤ length names → k ≤ length (seen_behind names ns)
-part-long names ns k h = omega (arith, ap length (take-seen k ns names h), length-take k (seen_behind names ns), length-take k names)
-
-within-seen : (c : Control) (r : Header) (names : List Name) (body : Nodes)
-    → part_of c (length names) (length names + length (names_of r).declares) ≤ length (seen_behind (names ++ (names_of r).declares) body)
-within-seen c r names body = part-long (names ++ (names_of r).declares) body _ (part-within c names (names_of r).declares)
+branch-formed : (b : Branch) (line : ℕ) (r : Header) (body other : Nodes) (scope : List Name) (loop : Bool) (n : ℕ)
+    → are_formed (then line (control_node If r body other) none) scope loop n ≡ true
+    → are_formed (then line (control_node (control_in b) r body other) none) scope loop n ≡ true
+branch-formed branch.If line r body other scope loop n e = e
+branch-formed branch.With line r body other scope loop n e = e
 
 -- ---- an accepted list
 
--- each of these definitions fits on its own, in no loop, at no level and with no name
-abbrev pub FitEach : List Definition → Type 0
-FitEach [] = Unit {0}
-FitEach (d ∷ ds) = (fits d.nodes false 0 [] ≡ true) × FitEach ds
-
--- the nodes that stand here fit, the rest of the list passes, and the definitions fit if those behind them do
-abbrev Fit : Bool → ℕ → List Name → Nodes → List Frame → Known → List Item → List Definition → List Definition → Type 0
-Fit loop n names ns fs behind ys ds es =
-    (fits ns loop n names ≡ true) × (passes fs behind (roles_of ys) ≡ true) × (FitEach es → FitEach ds)
+-- the nodes that stand here are formed, the rest of the list passes, and the definitions are formed if those behind them are
+abbrev Formed : List Name → Bool → ℕ → Nodes → List Frame → Known → List Item → List Definition → List Definition → Type 0
+Formed scope loop n ns fs behind ys ds es =
+    (are_formed ns scope loop n ≡ true) × (passes fs behind (roles_of ys) ≡ true) × (AreFormed es → AreFormed ds)
 
 -- behind the `end` of a definition or a block the names are those before it, whatever its body is
 mutual
-  leads-fit : {xs ys : List Item} {ds es : List Definition} {ns : Nodes} → Leads xs ds ns ys es → (fs : List Frame) (known : Known)
-      → passes fs known (roles_of xs) ≡ true
-      → Fit (in_loop (top fs)) (levels (top fs)) known.inner ns fs (with_inner known (seen_behind known.inner ns)) ys ds es
-  leads-fit nothing fs known h = (refl, h, λ k. k)
-  leads-fit (a_node a_text l) fs known h = leads-fit l fs known h
-  leads-fit (a_node {xs = xs} (an_action {h = r}) l) fs known h =
-      let past : Known = with_inner known (known.inner ++ (names_of r).declares) in
-      let e = and_parts (no_fault (first_fault true false (knows known.inner (names_of r).uses))) (passes fs past (roles_of xs)) h in
-      let more = leads-fit l fs past e.1 in
-      (both_true (sym (first-none false (knows known.inner (names_of r).uses)) ∙ e.0) more.0, more.1, more.2)
-  leads-fit (a_node {xs = xs} a_break l) fs known h =
-      let e = and_parts (no_fault (first_fault (in_loop (top fs)) false true)) (passes fs known (roles_of xs)) h in
-      let more = leads-fit l fs known e.1 in
-      (both_true (sym (jump-test (in_loop (top fs))) ∙ e.0) more.0, more.1, more.2)
-  leads-fit (a_node {xs = xs} a_continue l) fs known h =
-      let e = and_parts (no_fault (first_fault (in_loop (top fs)) false true)) (passes fs known (roles_of xs)) h in
-      let more = leads-fit l fs known e.1 in
-      (both_true (sym (jump-test (in_loop (top fs))) ∙ e.0) more.0, more.1, more.2)
-  leads-fit (a_node {xs = xs} (a_template {given = given}) l) fs known h =
-      let past : Known = with_inner known (known.inner ++ (names_given given).declares) in
-      let e = and_parts _ (passes fs past (roles_of xs)) h in
-      let more = leads-fit l fs known (subst (λ k. passes fs (with_inner known k) (roles_of xs) ≡ true) (append-nil known.inner) e.1) in
-      (both_true (sym (first-none false (knows known.inner (names_given given).uses)) ∙ e.0) more.0, more.1, more.2)
-  leads-fit (a_define {xs = xs} {body = body} b l) fs known h =
-      let f : Frame = entered opened.define no_names (top fs) (length known.inner) in
+  leads-formed : {xs ys : List Item} {ds es : List Definition} {ns : Nodes} → Leads xs ds ns ys es → (fs : List Frame) (known : Known) (scope : List Name)
+      → Alike known.inner scope → passes fs known (roles_of xs) ≡ true
+      → Formed scope (in_loop (top fs)) (levels (top fs)) ns fs (with_inner known (seen_behind known.inner ns)) ys ds es
+  leads-formed nothing fs known scope a h = (refl, h, λ k. k)
+  leads-formed (a_node {line = line} {n = n} {xs = xs} is l) fs known scope a h =
+      let past : Known = with_inner known (seen_past known.inner n) in
+      let e = and_parts (is_formed n scope (in_loop (top fs)) (levels (top fs))) (passes fs past (roles_of xs))
+      (sym (alone-passes fs known scope (roles_of xs) a line is) ∙ h) in
+      let more = leads-formed l fs past (scope_behind n scope) (alike-past n known.inner scope a) e.1 in
+      (both_true e.0 more.0, more.1, more.2)
+  leads-formed (a_define {xs = xs} {body = body} b l) fs known scope a h =
+      let f : Frame = entered opened.define no_names (top fs) known.inner in
       let e = and_parts _ (passes (f ∷ fs) (opened_names opened.define [] known) (roles_of xs)) h in
-      let inner = leads-fit b (f ∷ fs) (opened_names opened.define [] known) e.1 in
-      let more = leads-fit l fs known inner.1 in
-      (more.0, more.1, λ k. (fits-lower body false f.levels 0 [] (omega arith) inner.0, inner.2 (more.2 k)))
-  leads-fit (a_block {p = p} {xs = xs} {body = body} b l) fs known h =
+      let inner = leads-formed b (f ∷ fs) (opened_names opened.define [] known) [] (λ x. refl) e.1 in
+      let more = leads-formed l fs known scope a inner.1 in
+      (more.0, more.1, λ k. (formed-lower body [] false f.levels 0 (omega arith) inner.0, inner.2 (more.2 k)))
+  leads-formed (a_block {p = p} {xs = xs} {body = body} b l) fs known scope a h =
       let names : List Name = (names_given (Some p)).uses in
-      let f : Frame = entered opened.block (names_given (Some p)) (top fs) (length known.inner) in
+      let f : Frame = entered opened.block (names_given (Some p)) (top fs) known.inner in
       let e = and_parts _ (passes (f ∷ fs) (opened_names opened.block [] known) (roles_of xs)) h in
       let t = placed-test true (leb most_levels (levels (top fs))) (knows known.inner names) e.0 in
       let k = and_parts (not (leb most_levels (levels (top fs)))) (knows known.inner names) t.1 in
-      let inner = leads-fit b (f ∷ fs) (opened_names opened.block [] known) e.1 in
-      let more = leads-fit l fs known inner.1 in
-      (both_true k.1 more.0, more.1, λ k. (fits-lower body false f.levels 0 [] (omega arith) inner.0, inner.2 (more.2 k)))
-  leads-fit (a_control {c = c} {h = r} {xs = xs} {zs = zs} {body = body} {other = other} b o l) fs known h =
+      let inner = leads-formed b (f ∷ fs) (opened_names opened.block [] known) [] (λ x. refl) e.1 in
+      let more = leads-formed l fs known scope a inner.1 in (
+        both_true (sym (alike-uses known.inner scope names a) ∙ k.1) more.0,
+        more.1,
+        λ k. (formed-lower body [] false f.levels 0 (omega arith) inner.0, inner.2 (more.2 k)),
+      )
+  leads-formed (a_control {c = c} {h = r} {xs = xs} {zs = zs} {body = body} {other = other} b o l) fs known scope a h =
       let names : List Name = known.inner in
-      let f : Frame = entered (opened.control c) (names_of r) (top fs) (length names) in
-      let inside : Known = with_inner known (names ++ (names_of r).declares) in
-      let e = and_parts _ (passes (f ∷ fs) inside (roles_of xs)) h in
-      let inner = leads-fit b (f ∷ fs) inside e.1 in
-      let behind = closes-fit o f fs (with_inner known (seen_behind inside.inner body)) refl (part-low c (length names) (length (names_of r).declares))
-      (within-seen c r names body) inner.1 in
-      let other_fits = subst (λ k. fits other (loops_in c true (in_loop (top fs))) (levels (top fs) + 1) k ≡ true) (part-seen c r names body) behind.0 in
-      let here = both_true (sym (opener-test c r (top fs) names) ∙ e.0) (both_true inner.0 other_fits) in
-      let more = leads-fit l fs known (subst (λ k. passes fs (with_inner known k) (roles_of zs) ≡ true) (control-names r names body) behind.1) in
+      let ds : List Name = (names_of r).declares in
+      let n : ℕ = levels (top fs) in
+      let f : Frame = entered (opened.control c) (names_of r) (top fs) names in
+      let inside : Known = with_inner known (with_names names ds) in
+      let e = and_parts (are_among scope (names_of r).uses && nat_lt n most_levels) (passes (f ∷ fs) inside (roles_of xs))
+      (sym (opened-passes fs known scope (roles_of xs) a c r) ∙ h) in
+      let inner = leads-formed b (f ∷ fs) inside (declared_to r.binding scope) (alike-declared r.binding names scope a) e.1 in
+      let behind = closes-formed o f fs (with_inner known (seen_behind inside.inner body)) (else_scope c r.binding scope) (alike-part c r names scope body a)
+      refl (part-low c names ds) (part-long inside.inner body _ (part-high c names ds)) inner.1 in
+      let here = both_true (both_true e.0
+      (subst (λ k. are_formed body (declared_to r.binding scope) k (n + 1) ≡ true) (looped c (in_loop (top fs))) inner.0))
+      (subst (λ k. are_formed other (else_scope c r.binding scope) k (n + 1) ≡ true) (unlooped c (in_loop (top fs))) behind.0) in
+      let more = leads-formed l fs known scope a (subst (λ k. passes fs (with_inner known k) (roles_of zs) ≡ true) (control-names names ds body) behind.1) in
       (both_true here more.0, more.1, λ k. inner.2 (behind.2 (more.2 k)))
 
-  closes-fit : {xs zs : List Item} {ds es : List Definition} {other : Nodes} → Closes xs ds other zs es
-      → (f : Frame) (fs : List Frame) (known : Known) → is_template f.opening ≡ false → f.start ≤ f.part → f.part ≤ length known.inner
-      → passes (f ∷ fs) known (roles_of xs) ≡ true
-      → Fit (loops f.opening true f.around) f.levels (take f.part known.inner) other fs (with_inner known (take f.start known.inner)) zs ds es
-  closes-fit (an_end {xs = xs}) f fs known own low high h =
+  closes-formed : {xs zs : List Item} {ds es : List Definition} {other : Nodes} → Closes xs ds other zs es
+      → (f : Frame) (fs : List Frame) (known : Known) (scope : List Name) → Alike (take f.part known.inner) scope
+      → is_template f.opening ≡ false → f.start ≤ f.part → f.part ≤ length known.inner → passes (f ∷ fs) known (roles_of xs) ≡ true
+      → Formed scope (loops f.opening true f.around) f.levels other fs (with_inner known (take f.start known.inner)) zs ds es
+  closes-formed (an_end {xs = xs}) f fs known scope a own low high h =
       (refl, subst (λ t. passes fs (closed_if t (with_inner known (take f.start known.inner))) (roles_of xs) ≡ true) own h, λ k. k)
-  closes-fit (an_else {xs = xs} {ys = ys} {other = other} l) f fs known own low high h =
+  closes-formed (an_else {xs = xs} {ys = ys} {other = other} l) f fs known scope a own low high h =
       let seen : List Name = take f.part known.inner in
       let g : Frame = parted false (length seen) f in
       let e = and_parts _ (passes (g ∷ fs) (with_inner known seen) (roles_of xs)) h in
-      let inner = leads-fit l (g ∷ fs) (with_inner known seen) e.1 in
+      let inner = leads-formed l (g ∷ fs) (with_inner known seen) scope a e.1 in
       let fits_in = length-take f.part known.inner in
       let last = subst (λ t. passes fs (closed_if t (with_inner known (take f.start (seen_behind seen other)))) (roles_of ys) ≡ true) own inner.1 in (
         inner.0,
@@ -177,172 +124,124 @@ mutual
             last,
         inner.2,
       )
-  closes-fit (an_else_branch {line = line} {branch = b} {h = r} {xs = xs} {zs = zs} {body = body} {other = other} l o) f fs known own low high h =
+  closes-formed (an_else_branch {line = line} {branch = b} {h = r} {xs = xs} {zs = zs} {body = body} {other = other} l o) f fs known scope a own low high h =
       let seen : List Name = take f.part known.inner in
-      let declares : List Name = (names_of r).declares in
-      let inside : List Name = seen ++ declares in
-      let g : Frame = parted true (length seen + length declares) f in
+      let ds : List Name = (names_of r).declares in
+      let inside : List Name = with_names seen ds in
+      let g : Frame = parted true (length inside) f in
       let e = and_parts _ (passes (g ∷ fs) (with_inner known inside) (roles_of xs)) h in
       let t = placed-test (takes_else (Some b) (Some f)) (leb most_levels f.levels) (knows seen (names_of r).uses) e.0 in
       let control_is = joins-control b f.opening (and_parts (joins (Some b) f.opening) (not f.has_else) t.0).0 in
-      let inner = leads-fit l (g ∷ fs) (with_inner known inside) e.1 in
-      let count = length-append seen declares in
+      let alike : Alike inside (declared_to r.binding scope) = alike-declared r.binding seen scope a in
+      let inner = leads-formed l (g ∷ fs) (with_inner known inside) (declared_to r.binding scope) alike e.1 in
+      let count = with-longer seen ds in
       let fits_in = length-take f.part known.inner in
-      let behind = closes-fit o g fs (with_inner known (seen_behind inside body)) own (omega arith)
-      (part-long inside body (length seen + length declares) (omega arith)) inner.1 in
-      let body_fits = subst (λ k. fits body k (f.levels + 1) inside ≡ true) (branch-loops b f.opening f.has_else f.around control_is
+      let whole = take-seen (length inside) body inside (omega arith) ∙ take-length inside in
+      let behind = closes-formed o g fs (with_inner known (seen_behind inside body)) (declared_to r.binding scope)
+      (λ x. ap (λ ns. is_known ns x) whole ∙ alike x) own (omega arith) (part-long inside body (length inside) (omega arith)) inner.1 in
+      let in_body = subst (λ k. are_formed body (declared_to r.binding scope) k (f.levels + 1) ≡ true) (branch-loops b f.opening f.has_else f.around control_is
       ∙ sym (branch-loops b f.opening true f.around control_is)) inner.0 in
-      let other_fits = subst (λ k. fits other (loops f.opening true f.around) (f.levels + 1) k ≡ true)
-      (take-seen (length seen + length declares) body inside (omega arith)) behind.0 in (
-        branch-fits b line r body other (loops f.opening true f.around) f.levels seen (both_true (both_true t.1 (both_true body_fits other_fits)) refl),
+      let heads = sym (headed seen scope (names_of r).uses f.levels a) ∙ t.1 in (
+        branch-formed b line r body other scope (loops f.opening true f.around) f.levels (both_true (both_true (both_true heads in_body) behind.0) refl),
         subst (λ k. passes fs (with_inner known k) (roles_of zs) ≡ true) (take-seen f.start body inside (omega arith)
-            ∙ take-append-le f.start seen declares (omega arith) ∙ take-take f.start f.part known.inner low) behind.1,
+            ∙ take-with f.start seen ds (omega arith) ∙ take-take f.start f.part known.inner low) behind.1,
         λ k. inner.2 (behind.2 k),
       )
 
+pub spells-formed : SpellsFormed
+unfolding verdict_of
+spells-formed items ds own judged spells =
+    let v = one-verdict (roles_of items) (verdict_of (roles_of items)) fine (judged-all (roles_of items)) judged in
+    let fit = leads-formed spells [] none_known [] (λ x. refl) (sym (passes-fine (roles_of items) 0 [] none_known) ∙ ap is_fine v) in
+    (fit.2 tt, fit.0)
+
 -- ---- a printed list
 
--- no item is an else part that begins with a control, or opens a template
-abbrev NoBranch : List Item → Type 0
-NoBranch [] = Unit {0}
-NoBranch (item line (action_item (else_branch br h)) ∷ xs) = ⊥
-NoBranch (item line (action_item (define_action name)) ∷ xs) = ⊥
-NoBranch (item line (action_item (block_action name p)) ∷ xs) = ⊥
-NoBranch (x ∷ xs) = NoBranch xs
+abbrev role_said : Said → Role
+role_said (said_text t) = text_role
+role_said (said a) = act_role (act_of a)
+
+abbrev roles_said : List Said → List Role
+roles_said ss = map role_said ss
+
+says-roles : {ss : List Said} {xs : List Item} → Says ss xs → roles_of xs ≡ roles_said ss
+says-roles says_nothing = refl
+says-roles (says_text s) = ap (λ rs. text_role ∷ rs) (says-roles s)
+says-roles (says {a = a} s) = ap (λ rs. act_role (act_of a) ∷ rs) (says-roles s)
+
+abbrev control_frame : Control → Bool → ℕ → ℕ → ℕ → Frame
+control_frame c around n start part =
+    record { opening = opened.control c; has_else = false; around = around; levels = n; start = start; part = part }
+
+-- what nodes say passes where they are formed and what is said behind them passes
+abbrev Passes : Nodes → Type 0
+Passes ns =
+    (fs : List Frame) (known : Known) (scope : List Name) (ss : List Said) → Alike known.inner scope
+    → passes fs known (roles_said (nodes_said ns ++ ss))
+    ≡ (are_formed ns scope (in_loop (top fs)) (levels (top fs)) && passes fs (with_inner known (seen_behind known.inner ns)) (roles_said ss))
+
+-- .. an else part with the `end` behind it
+else-passes : (c : Control) (other : Nodes) → Passes other → (around : Bool) (n start part : ℕ) (fs : List Frame) (known : Known) (scope : List Name)
+    (ss : List Said) → Alike (take part known.inner) scope → start ≤ part → part ≤ length known.inner
+    → passes (control_frame c around n start part ∷ fs) known (roles_said (else_said other (nodes_said other) ++ said end_action ∷ ss))
+    ≡ (are_formed other scope around n && passes fs (with_inner known (take start known.inner)) (roles_said ss))
+else-passes c none in_other around n start part fs known scope ss a low high = refl
+else-passes c (then line m ms) in_other around n start part fs known scope ss a low high =
+    let other : Nodes = then line m ms in
+    let seen : List Name = take part known.inner in
+    let fits_in = length-take part known.inner in
+    in_other (parted false (length seen) (control_frame c around n start part) ∷ fs) (with_inner known seen) scope (said end_action ∷ ss) a
+    ∙ ap (λ ns. are_formed other scope (loops (opened.control c) true around) n && passes fs (with_inner known ns) (roles_said ss))
+    (take-seen start other seen (omega arith) ∙ take-take start part known.inner low)
+    ∙ ap (λ l. are_formed other scope l n && passes fs (with_inner known (take start known.inner)) (roles_said ss)) (unlooped c around)
 
 mutual
-  leads-rest : {xs ys : List Item} {ds es : List Definition} {ns : Nodes} → Leads xs ds ns ys es → NoBranch xs → NoBranch ys
-  leads-rest nothing h = h
-  leads-rest (a_node a_text l) h = leads-rest l h
-  leads-rest (a_node _ l) h = leads-rest l h
-  leads-rest (a_control b o l) h = leads-rest l (closes-rest o (leads-rest b h))
-  leads-rest _ h = absurd h
-
-  closes-rest : {xs ys : List Item} {ds es : List Definition} {ns : Nodes} → Closes xs ds ns ys es → NoBranch xs → NoBranch ys
-  closes-rest an_end h = h
-  closes-rest (an_else l) h = leads-rest l h
-  closes-rest (an_else_branch l o) h = absurd h
-
-mutual
-  leads-pass : {xs ys : List Item} {ds es : List Definition} {ns : Nodes} → Leads xs ds ns ys es → NoBranch xs → (fs : List Frame) (known : Known)
-      → fits ns (in_loop (top fs)) (levels (top fs)) known.inner ≡ true → passes fs (with_inner known (seen_behind known.inner ns)) (roles_of ys) ≡ true
-      → passes fs known (roles_of xs) ≡ true
-  leads-pass nothing n fs known h k = k
-  leads-pass (a_node a_text l) n fs known h k = leads-pass l n fs known h k
-  leads-pass (a_node {ns = ns} (an_action {h = r}) l) n fs known h k =
+  node-passes : (n : NodeKind) (fs : List Frame) (known : Known) (scope : List Name) (ss : List Said) → Alike known.inner scope
+      → passes fs known (roles_said (node_said n ++ ss))
+      ≡ (is_formed n scope (in_loop (top fs)) (levels (top fs)) && passes fs (with_inner known (seen_past known.inner n)) (roles_said ss))
+  node-passes (control_node c h body other) fs known scope ss a =
       let names : List Name = known.inner in
-      let past : List Name = names ++ (names_of r).declares in
-      let e = and_parts (knows names (names_of r).uses) (fits ns (in_loop (top fs)) (levels (top fs)) past) h in
-      both_true (first-none false (knows names (names_of r).uses) ∙ e.0) (leads-pass l n fs (with_inner known past) e.1 k)
-  leads-pass (a_node {ns = ns} a_break l) n fs known h k =
-      let e = and_parts (in_loop (top fs)) (fits ns (in_loop (top fs)) (levels (top fs)) known.inner) h in
-      both_true (jump-test (in_loop (top fs)) ∙ e.0) (leads-pass l n fs known e.1 k)
-  leads-pass (a_node {ns = ns} a_continue l) n fs known h k =
-      let e = and_parts (in_loop (top fs)) (fits ns (in_loop (top fs)) (levels (top fs)) known.inner) h in
-      both_true (jump-test (in_loop (top fs)) ∙ e.0) (leads-pass l n fs known e.1 k)
-  leads-pass (a_node {xs = xs} {ns = ns} (a_template {given = given}) l) n fs known h k =
-      let e = and_parts (knows known.inner (names_given given).uses) (fits ns (in_loop (top fs)) (levels (top fs)) known.inner) h in
-      both_true (first-none false (knows known.inner (names_given given).uses) ∙ e.0)
-      (subst (λ names. passes fs (with_inner known names) (roles_of xs) ≡ true) (sym (append-nil known.inner)) (leads-pass l n fs known e.1 k))
-  leads-pass (a_control {c = c} {h = r} {zs = zs} {body = body} {other = other} {ns = ns} b o l) n fs known h k =
-      let names : List Name = known.inner in
+      let ds : List Name = (names_of h).declares in
+      let n : ℕ = levels (top fs) in
       let loop : Bool = in_loop (top fs) in
-      let f : Frame = entered (opened.control c) (names_of r) (top fs) (length names) in
-      let inside : List Name = names ++ (names_of r).declares in
-      let within_body = leads-rest b n in
-      let e = and_parts (fits_node (control_node c r body other) loop (levels (top fs)) names) (fits ns loop (levels (top fs)) names) h in
-      let d = and_parts (headed (levels (top fs)) names r) (fits body (loops_in c false loop) (levels (top fs) + 1) inside && fits other (loops_in c true loop)
-      (levels (top fs) + 1) (part_names c names (names_of r).declares))
-      e.0 in
-      let parts = and_parts (fits body (loops_in c false loop) (levels (top fs) + 1) inside)
-      (fits other (loops_in c true loop) (levels (top fs) + 1) (part_names c names (names_of r).declares)) d.1 in
-      let others = subst (λ k. fits other (loops_in c true loop) (levels (top fs) + 1) k ≡ true) (sym (part-seen c r names body)) parts.1 in
-      let more = leads-pass l (closes-rest o within_body) fs known e.1 k in
-      let behind = closes-pass o within_body f fs (with_inner known (seen_behind inside body)) refl refl
-      (part-low c (length names) (length (names_of r).declares)) (within-seen c r names body) others
-      (subst (λ k. passes fs (with_inner known k) (roles_of zs) ≡ true) (sym (control-names r names body)) more) in
-      both_true (opener-test c r (top fs) names ∙ d.0) (leads-pass b n (f ∷ fs) (with_inner known inside) parts.0 behind)
-  leads-pass _ n fs known h k = absurd n
+      let f : Frame = entered (opened.control c) (names_of h) (top fs) names in
+      let inside : Known = with_inner known (with_names names ds) in
+      let behind : Known = with_inner known (seen_behind inside.inner body) in
+      let ends : List Said = else_said other (nodes_said other) in
+      let rest : List Said = said end_action ∷ ss in
+      let more : Bool = passes fs known (roles_said ss) in
+      let head : Bool = are_among scope (names_of h).uses && nat_lt n most_levels in
+      let in_body : Bool = are_formed body (declared_to h.binding scope) (is_looped c loop) (n + 1) in
+      let in_other : Bool = are_formed other (else_scope c h.binding scope) loop (n + 1) in
+      ap (λ ts. passes fs known (act_role (opener (opened.control c) (names_of h)) ∷ roles_said ts))
+      (append_assoc (nodes_said body) (ends ++ said end_action ∷ []) ss ∙ ap (λ ts. nodes_said body ++ ts) (append_assoc ends (said end_action ∷ []) ss))
+      ∙ opened-passes fs known scope (roles_said (nodes_said body ++ (ends ++ rest))) a c h
+      ∙ ap (λ b. head && b) (nodes-passes body (f ∷ fs) inside (declared_to h.binding scope) (ends ++ rest) (alike-declared h.binding names scope a)
+      ∙ ap (λ l. are_formed body (declared_to h.binding scope) l (n + 1) && passes (f ∷ fs) behind (roles_said (ends ++ rest))) (looped c loop)
+      ∙ ap (λ b. in_body && b) (else-passes c other (nodes-passes other) f.around f.levels f.start f.part fs behind (else_scope c h.binding scope) ss
+      (alike-part c h names scope body a) (part-low c names ds) (part-long inside.inner body _ (part-high c names ds))
+      ∙ ap (λ ns. in_other && passes fs (with_inner known ns) (roles_said ss)) (control-names names ds body)))
+      ∙ sym (and_assoc head in_body (in_other && more)) ∙ sym (and_assoc (head && in_body) in_other more)
+  node-passes (text bytes) fs known scope ss a = alone-passes fs known scope (roles_said ss) a 0 (a_text {bytes = bytes})
+  node-passes (action h) fs known scope ss a = alone-passes fs known scope (roles_said ss) a 0 (an_action {h = h})
+  node-passes (template_node name given) fs known scope ss a = alone-passes fs known scope (roles_said ss) a 0 (a_template {name = name} {given = given})
+  node-passes break_node fs known scope ss a = alone-passes fs known scope (roles_said ss) a 0 a_break
+  node-passes continue_node fs known scope ss a = alone-passes fs known scope (roles_said ss) a 0 a_continue
 
-  closes-pass : {xs zs : List Item} {ds es : List Definition} {other : Nodes} → Closes xs ds other zs es → NoBranch xs
-      → (f : Frame) (fs : List Frame) (known : Known) → f.has_else ≡ false → is_template f.opening ≡ false → f.start ≤ f.part
-      → f.part ≤ length known.inner
-      → fits other (loops f.opening true f.around) f.levels (take f.part known.inner) ≡ true
-      → passes fs (with_inner known (take f.start known.inner)) (roles_of zs) ≡ true → passes (f ∷ fs) known (roles_of xs) ≡ true
-  closes-pass (an_end {xs = xs}) n f fs known first own low high h k =
-      subst (λ t. passes fs (closed_if t (with_inner known (take f.start known.inner))) (roles_of xs) ≡ true) (sym own) k
-  closes-pass (an_else {ys = ys} {other = other} l) n f fs known first own low high h k =
-      let seen : List Name = take f.part known.inner in
-      let fits_in = length-take f.part known.inner in
-      let placed : takes_else None (Some f) ≡ true = ap (λ t. t && not f.has_else) (own-joins f.opening own) ∙ ap not first in
-      let at_end = subst (λ k. passes fs (with_inner known k) (roles_of ys) ≡ true)
-      (sym (take-seen f.start other seen (omega arith) ∙ take-take f.start f.part known.inner low)) k in
-      both_true (ap (λ t. no_fault (first_fault t false true)) placed)
-      (leads-pass l n (parted false (length seen) f ∷ fs) (with_inner known seen) h
-      (subst (λ t. passes fs (closed_if t (with_inner known (take f.start (seen_behind seen other))))
-      (roles_of ys) ≡ true) (sym own) at_end))
-  closes-pass (an_else_branch l o) n f fs known first own low high h k = absurd n
+  nodes-passes : (ns : Nodes) → Passes ns
+  nodes-passes none fs known scope ss a = refl
+  nodes-passes (then line n ns) fs known scope ss a =
+      let past : Known = with_inner known (seen_past known.inner n) in
+      let loop : Bool = in_loop (top fs) in
+      let here : Bool = is_formed n scope loop (levels (top fs)) in
+      ap (λ ts. passes fs known (roles_said ts)) (append_assoc (node_said n) (nodes_said ns) ss) ∙ node-passes n fs known scope (nodes_said ns ++ ss) a
+      ∙ ap (λ b. here && b) (nodes-passes ns fs past (scope_behind n scope) ss (alike-past n known.inner scope a))
+      ∙ sym (and_assoc here (are_formed ns (scope_behind n scope) loop (levels (top fs))) (passes fs (with_inner past (seen_behind past.inner ns)) (roles_said ss)))
 
--- ---- what nodes say has no such item
-
-abbrev Plain : List Said → Type 0
-Plain [] = Unit {0}
-Plain (said_text t ∷ ss) = Plain ss
-Plain (said (else_branch br h) ∷ ss) = ⊥
-Plain (said (define_action name) ∷ ss) = ⊥
-Plain (said (block_action name p) ∷ ss) = ⊥
-Plain (said a ∷ ss) = Plain ss
-
-plain-append : (ss ts : List Said) → Plain ss → Plain ts → Plain (ss ++ ts)
-plain-append [] ts h k = k
-plain-append (said_text t ∷ ss) ts h k = plain-append ss ts h k
-plain-append (said (else_branch br r) ∷ ss) ts h k = absurd h
-plain-append (said (define_action name) ∷ ss) ts h k = absurd h
-plain-append (said (block_action name p) ∷ ss) ts h k = absurd h
-plain-append (said _ ∷ ss) ts h k = plain-append ss ts h k
-
-control-plain : (body : List Said) (other : Nodes) → Plain body → Plain (nodes_said other)
-    → Plain (body ++ (else_said other (nodes_said other) ++ said end_action ∷ []))
-control-plain body none p k = plain-append body (said end_action ∷ []) p tt
-control-plain body (then line n ns) p k = plain-append body (else_said (then line n ns) (nodes_said (then line n ns)) ++ said end_action ∷ []) p
-    (plain-append (nodes_said (then line n ns)) (said end_action ∷ []) k tt)
-
-mutual
-  node-plain : (n : NodeKind) → Plain (node_said n)
-  node-plain (control_node c h body other) = control-plain (nodes_said body) other (nodes-plain body) (nodes-plain other)
-  node-plain _ = tt
-
-  nodes-plain : (ns : Nodes) → Plain (nodes_said ns)
-  nodes-plain none = tt
-  nodes-plain (then line n ns) = plain-append (node_said n) (nodes_said ns) (node-plain n) (nodes-plain ns)
-
-no_branch : {ss : List Said} {xs : List Item} → Says ss xs → Plain ss → NoBranch xs
-no_branch says_nothing h = tt
-no_branch (says_text s) h = no_branch s h
-no_branch (says {a = else_branch br r} s) h = absurd h
-no_branch (says {a = define_action name} s) h = absurd h
-no_branch (says {a = block_action name p} s) h = absurd h
-no_branch (says s) h = no_branch s h
-
--- ---- the law
-
--- the own template of an accepted list, and its definitions
-pub all-fit : (items : List Item) (ds : List Definition) (own : Nodes) → Judged (roles_of items) fine → Leads items ds own [] []
-    → (fits own false 0 [] ≡ true) × FitEach ds
-unfolding verdict_of
-all-fit items ds own judged spells =
-    let v = one-verdict (roles_of items) (verdict_of (roles_of items)) fine (judged-all (roles_of items)) judged in
-    let fit = leads-fit spells [] none_known (sym (passes-fine (roles_of items) 0 [] none_known) ∙ ap is_fine v) in
-    (fit.0, fit.2 tt)
-
-printed-fine : (own : Nodes) (read : List Item) → Says (nodes_said own) read → fits own false 0 [] ≡ true → verdict_of (roles_of read) ≡ fine
-unfolding verdict_of
-printed-fine own read s fit =
-    let p = spells-alike own read s in
-    let same = sym (nodes-unlined p.nodes false 0 []) ∙ ap (λ ms. fits ms false 0 []) p.alike ∙ nodes-unlined own false 0 [] in
-    let pass = leads-pass p.spells (no_branch s (nodes-plain own)) [] none_known (same ∙ fit) refl in
-    fine-back (verdict_of (roles_of read)) (passes-fine (roles_of read) 0 [] none_known ∙ pass)
-
+-- the own template of an accepted list
 pub accepts-back : AcceptsBack
+unfolding verdict_of
 accepts-back items ds own judged spells read s =
-    subst (Judged (roles_of read)) (printed-fine own read s (all-fit items ds own judged spells).0) (judged-all (roles_of read))
+    let passed = passes-fine (roles_of read) 0 [] none_known ∙ ap (passes [] none_known) (says-roles s ∙ ap roles_said (sym (append-nil (nodes_said own))))
+    ∙ nodes-passes own [] none_known [] [] (λ x. refl) ∙ ap (λ b. b && true) (spells-formed items ds own judged spells).1 in
+    subst (Judged (roles_of read)) (fine-back (verdict_of (roles_of read)) passed) (judged-all (roles_of read))

@@ -40,12 +40,12 @@ module _ (xs : List Role) (i : ℕ) (known : Known) (fs : List Frame) (x : Role)
   next names = known_past x (top fs) (with_inner known names)
 
   here : (o : Option Reason) → fault_at x (top fs) seen ≡ o
-      → verdict_of xs ≡ unless_fault o i (verdict_from (i + 1) (frames_past x fs (length seen)) (next seen) (drop (i + 1) xs))
+      → verdict_of xs ≡ unless_fault o i (verdict_from (i + 1) (frames_past x fs seen) (next seen) (drop (i + 1) xs))
   here o e =
       c.goes ∙ ap (verdict_from i fs known) (drop-next xs i x at)
-      ∙ ap (λ p. unless_fault p i (verdict_from (i + 1) (frames_past x fs (length seen)) (next seen) (drop (i + 1) xs))) e
+      ∙ ap (λ p. unless_fault p i (verdict_from (i + 1) (frames_past x fs seen) (next seen) (drop (i + 1) xs))) e
 
-  past : fault_at x (top fs) seen ≡ None → IsChecking xs (i + 1) (next seen) (frames_past x fs (length seen))
+  past : fault_at x (top fs) seen ≡ None → IsChecking xs (i + 1) (next seen) (frames_past x fs seen)
   past none = record {
     sound = sound-past xs i known fs x at (subst (TellsRole x (top fs) seen) none (tells x (top fs) seen)) c.sound;
     goes = here None none;
@@ -58,10 +58,10 @@ module _ (xs : List Role) (i : ℕ) (known : Known) (fs : List Frame) (x : Role)
     fault-same : (o : Option Reason) → fault_at x t ms ≡ o → fault_at x (top fs) seen ≡ o
     fault-same o e = sym (ap (λ u. fault_at x u ms) same ∙ ap (fault_at x (top fs)) sees') ∙ e
 
-    pub checking-past : (k : Known) (gs : List Frame) → k ≡ next ms → gs ≡ frames_past x fs (length ms) → fault_at x t ms ≡ None → IsChecking xs (i + 1) k gs
+    pub checking-past : (k : Known) (gs : List Frame) → k ≡ next ms → gs ≡ frames_past x fs ms → fault_at x t ms ≡ None → IsChecking xs (i + 1) k gs
     checking-past k gs e f none =
         subst (λ n. IsChecking xs (i + 1) n gs) (sym (e ∙ ap next sees'))
-        (subst (λ s. IsChecking xs (i + 1) (next seen) s) (sym (f ∙ ap (λ l. frames_past x fs (length l)) sees')) (past (fault-same None none)))
+        (subst (λ s. IsChecking xs (i + 1) (next seen) s) (sym (f ∙ ap (frames_past x fs) sees')) (past (fault-same None none)))
 
     pub checking-refused : (f : Reason) → fault_at x t ms ≡ Some f → verdict_of xs ≡ refused i f
     checking-refused f e = here (Some f) (fault-same (Some f) e)
@@ -98,3 +98,5 @@ module _ (bytes : List ℕ) (items : List Item) where
   pub checked-open : (fs : List Frame) → length fs ≢ 0 → verdict_of (roles_of items) ≡ at_end fs → checked bytes items ≡ Err (last_line bytes, open_at_end)
   checked-open [] n e = absurd (n refl)
   checked-open (f ∷ fs) n e = by left_open e
+
+pub ruleset checks = (checking-refused, item-at, role-here, checked-refused)

@@ -1,24 +1,25 @@
 -- For `one_verdict`: what stands after an else, a plain one or one that begins with a control.
-use Rattle.std.proofs.Common.{arith, ◌≡◌, ◌≢◌, ℕ, ◌+◌, ◌<◌, Bool, true, false, not, List, ◌∷◌, ◌++◌, refl, sym, ap, ◌∙◌, subst, length}
+use Rattle.std.proofs.Common.{arith, ◌≡◌, ◌≢◌, ℕ, ◌+◌, ◌<◌, Bool, true, false, not, List, ◌∷◌, refl, sym, ap, ◌∙◌, subst, length}
 use Rattle.std.proofs.Common.{take, Option, Some, None, inl, inr, ⊎_elim, ◌⊎◌}
 use Rattle.std.specs.Prelude.{slice_get, Contains, is_some}
 use Rattle.std.specs.Bool.{Decides}
 use Rattle.std.proofs.lemmas.Bool.{cases_order, cases_lt, and_parts}
 use Rattle.std.proofs.lemmas.Bool.Decides.{Decides-like}
-use Rattle.std.proofs.lemmas.List.Elements.{Contains-append_left, Contains-append_right, Contains-append_cases}
-use Rattle.std.proofs.lemmas.List.{length-append, length-take-le, take-take, take_all, take-append-le}
+use Rattle.std.proofs.lemmas.List.{length-take-le, take-take}
+use Rattle.std.proofs.Math.Seq.{take-length}
 use Rattle.tmpl_grammar.specs.declared.action.Branch.{Branch}
 use Rattle.tmpl_grammar.specs.declared.action.Branch.TheVariants.{If as if_branch, With as with_branch}
 use Rattle.tmpl_syntax.specs.computed.Frames.{Frame}
 use Rattle.tmpl_syntax.specs.Place.Open.{opens, ends, IsLast, IsElseOf, HasElse, is_template}
 use Rattle.tmpl_syntax.specs.Place.Body.{joins, is_level, IsLoop, Levels, names_in}
-use Rattle.tmpl_syntax.specs.computed.Frames.{top, loops, else_came, else_levels, parted, is_placed, Known, with_inner, closed_if}
+use Rattle.tmpl_syntax.specs.computed.Frames.{top, loops, else_came, else_levels, parted, is_placed, Known, with_inner, with_names, closed_if}
 use Rattle.tmpl_syntax.proofs.OpenLemmas.{count-split, same-opening, cut, through, Even, shut-at, even-step}
 use Rattle.tmpl_syntax.proofs.PlaceLemmas.{alike-back, alike-even, alike-last, template-moves, levels-else, InLoop, loop-moves, else_before, has-before}
 use Rattle.tmpl_syntax.proofs.ScopeLemmas.{Reaches, from_top, from_inside, from_header, from_else_branch, BroughtFrom}
 use Rattle.tmpl_syntax.proofs.ElsePartLemmas.{Part, earlier, header, branch_header, part-later, to-part, from-part}
 use Rattle.tmpl_syntax.proofs.StandLemmas.{Here, Stood, closed_at, Stands, here-of}
 use Rattle.tmpl_syntax.proofs.FaultLemmas.{in-nothing}
+use Rattle.tmpl_syntax.proofs.NameLemmas.{with-longer, take-with, with-left, with-right, with-cases}
 use Rattle.tmpl_syntax.specs.Place.Opening.{Opening}
 use Rattle.tmpl_syntax.specs.Place.Opening as opened
 use Rattle.tmpl_grammar.specs.declared.tree.Control.TheVariants.{Range}
@@ -185,7 +186,7 @@ module _ (xs : List Role) (i : ℕ) (known : Known) (f : Frame) (fs : List Frame
   seen n k = from-part xs s.1 i (i + 1) (i + 1) last-after own-after b part low (omega arith) (omega arith) (omega arith) ranged-last below-here.template
       below-here.is_template_here n k
 
-  here-parted : Here xs (i + 1) (Some (parted (is_some b) (f.part + length ds) f)) (take f.part names ++ ds)
+  here-parted : Here xs (i + 1) (Some (parted (is_some b) (length (with_names (take f.part names) ds)) f)) (with_names (take f.part names) ds)
   here-parted = record {
     template = s.0.template;
     is_template_here = template-moves xs i (i + 1) (alike-even xs i (i + 1) even) s.0.template s.0.is_template_here;
@@ -204,20 +205,20 @@ module _ (xs : List Role) (i : ℕ) (known : Known) (f : Frame) (fs : List Frame
           );
           reaches = new n r;
         })
-        (Contains-append_cases (take f.part names) ds n k);
+        (with-cases (take f.part names) ds n k);
     back = λ n v. ⊎_elim
-        (λ lt. Contains-append_left (take f.part names) ds n (s.2.back own n
+        (λ lt. with-left (take f.part names) ds n (s.2.back own n
         (to-part xs s.1 i (i + 1) (i + 1) last-after own-after b part low (omega arith) (omega arith) (omega arith) ranged-last n
         (record { by = v.by; before = lt; template = v.template; reaches = v.reaches }))))
-        (λ ge. let u = v.before in let e : v.by ≡ i = omega arith in Contains-append_right (take f.part names) ds n
+        (λ ge. let u = v.before in let e : v.by ≡ i = omega arith in with-right (take f.part names) ds n
         (old n (subst (λ k. Reaches xs k (i + 1) (i + 1) n) e v.reaches)))
         (cases_lt v.by i);
   }
 
-  whole : take (f.part + length ds) (take f.part names ++ ds) ≡ take f.part names ++ ds
-  whole = take_all (f.part + length ds) (take f.part names ++ ds) (omega (arith, front, length-append (take f.part names) ds))
+  whole : take (length (with_names (take f.part names) ds)) (with_names (take f.part names) ds) ≡ with_names (take f.part names) ds
+  whole = take-length (with_names (take f.part names) ds)
 
-  stood-parted : Stood xs (i + 1) (take f.part names ++ ds) (parted (is_some b) (f.part + length ds) f) s.1
+  stood-parted : Stood xs (i + 1) (with_names (take f.part names) ds) (parted (is_some b) (length (with_names (take f.part names) ds)) f) s.1
   stood-parted = record {
     names = s.2.names;
     opened = s.2.opened;
@@ -232,20 +233,20 @@ module _ (xs : List Role) (i : ℕ) (known : Known) (f : Frame) (fs : List Frame
     );
     has = has-is;
     around = s.2.around;
-    within = record { started = let a = s.2.within.started in omega arith; parted = omega (arith, front, length-append (take f.part names) ds) };
+    within = record { started = let a = s.2.within.started in omega (arith, front, with-longer (take f.part names) ds); parted = omega arith };
     to = λ o n k. ⊎_elim
         (λ l. part-later xs s.1 i (i + 1) n (omega arith) (s.2.to own n l))
         (λ r. new-part n r)
-        (Contains-append_cases (take f.part names) ds n (subst (λ l. Contains l n) whole k));
+        (with-cases (take f.part names) ds n (subst (λ l. Contains l n) whole k));
     back = λ o n k. subst (λ l. Contains l n) (sym whole) (⊎_elim
-        (λ l. Contains-append_left (take f.part names) ds n (s.2.back own n l))
-        (λ r. Contains-append_right (take f.part names) ds n r)
+        (λ l. with-left (take f.part names) ds n (s.2.back own n l))
+        (λ r. with-right (take f.part names) ds n r)
         (old-part n k));
   }
 
-  below : take f.start (take f.part names ++ ds) ≡ take f.start names
+  below : take f.start (with_names (take f.part names) ds) ≡ take f.start names
   below =
-      take-append-le f.start (take f.part names) ds (let a = s.2.within.started in omega (arith, front)) ∙ take-take f.start f.part names s.2.within.started
+      take-with f.start (take f.part names) ds (let a = s.2.within.started in omega (arith, front)) ∙ take-take f.start f.part names s.2.within.started
 
-  pub stands-parted : Stands xs (i + 1) (with_inner known (take f.part names ++ ds)) (parted (is_some b) (f.part + length ds) f ∷ fs)
+  pub stands-parted : Stands xs (i + 1) (with_inner known (with_names (take f.part names) ds)) (parted (is_some b) (length (with_names (take f.part names) ds)) f ∷ fs)
   stands-parted = (here-parted, s.1, stood-parted, subst (λ l. Stands xs s.1 (closed_if (is_template f.opening) (with_inner known l)) fs) (sym below) s.3)

@@ -1,10 +1,11 @@
 -- For `one_verdict`: what the reason that is found at an item says, and the places that a frame holds.
 use Rattle.std.proofs.Common.{arith, ◌≡◌, ℕ, ◌≤◌, Bool, true, false, ◌||◌, List, [], ◌∷◌, refl, sym, ap, subst, Option, Some, None, ⊎_elim}
+use Rattle.std.proofs.lemmas.Map.Views.{Contains-from_any}
 use Rattle.std.specs.Prelude.{Contains}
 use Rattle.std.specs.Str.{bytes_eq}
 use Rattle.std.proofs.lemmas.Slice.Eq.{bytes_eq-Decides}
 use Rattle.std.proofs.lemmas.List.Elements.{Contains-append_left, Contains-append_right, Contains-push, Contains-push_cases, Contains-append_cases}
-use Rattle.std.proofs.lemmas.Bool.{both_ways, and_parts, and_cases, or_cases, or_right}
+use Rattle.std.proofs.lemmas.Bool.{both_ways, and_parts, and_cases, or_right}
 use Rattle.tmpl_syntax.specs.Fault.{Reason}
 use Rattle.tmpl_syntax.specs.Fault as reason
 use Rattle.tmpl_syntax.specs.computed.Frames.{Frame}
@@ -41,25 +42,17 @@ TellsRole (act_role a) t names r = Tells a t names r
 pub in-nothing : {A : Type 0} (n : Name) → Contains {X = Name} [] n → A
 in-nothing n c = let lt = c.1 in absurd (omega arith)
 
-module _ (n : Name) where
-  one : (m : Name) → n ≡ m → Contains (m ∷ []) n
-  one m e = subst (λ z. Contains (m ∷ []) z) (sym e) (Contains-push [] m)
+pub found : (n : Name) (names : List Name) → is_known names n ≡ true → Contains names n
+found n names e = Contains-from_any (λ x y. (bytes_eq-Decides x y).0) n names e
 
-  found : (names : List Name) → is_known names n ≡ true → Contains names n
-  found [] e = cc
-  found (m ∷ ms) e = ⊎_elim
-      (λ s. Contains-append_left (m ∷ []) ms n (one m ((bytes_eq-Decides n m).0 s)))
-      (λ r. Contains-append_right (m ∷ []) ms n (found ms r))
-      (or_cases (bytes_eq n m) (is_known ms n) e)
-
-  has : (names : List Name) → Contains names n → is_known names n ≡ true
-  has [] c = in-nothing n c
-  has (m ∷ ms) c = ⊎_elim
-      (λ o. ⊎_elim (in-nothing n)
-      (λ e. ap (λ b. b || is_known ms n) ((bytes_eq-Decides n m).1 (sym e)))
-      (Contains-push_cases [] m n o))
-      (λ r. or_right (bytes_eq n m) (is_known ms n) (has ms r))
-      (Contains-append_cases (m ∷ []) ms n c)
+pub has : (n : Name) (names : List Name) → Contains names n → is_known names n ≡ true
+has n [] c = in-nothing n c
+has n (m ∷ ms) c = ⊎_elim
+    (λ o. ⊎_elim (in-nothing n)
+    (λ e. ap (λ b. b || is_known ms n) ((bytes_eq-Decides n m).1 (sym e)))
+    (Contains-push_cases [] m n o))
+    (λ r. or_right (bytes_eq n m) (is_known ms n) (has n ms r))
+    (Contains-append_cases (m ∷ []) ms n c)
 
 module _ (names : List Name) where
   known : (uses : List Name) → knows names uses ≡ true → IsKnown uses names

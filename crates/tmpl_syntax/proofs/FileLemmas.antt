@@ -1,12 +1,10 @@
 -- For `add_file`: a file and the set before and after it, by where the file is refused.
-use Rattle.std.proofs.Common.{◌≡◌, ◌<◌, ◌≤◌, ℕ, List, Option, Some, None, Result, Ok, Err, refl, sym, ap, subst, ◌∙◌, length, cond}
+use Rattle.std.proofs.Common.{◌≡◌, ◌<◌, ◌≤◌, ℕ, List, Option, Some, None, Ok, Err, sym, ap, ◌∙◌, length, cond}
 use Rattle.std.proofs.lemmas.Bool.{lt-ltb, le-ltb}
-use Rattle.std.specs.Result.{IsErrAnd}
-use Rattle.tmpl_syntax.specs.Fault.{Reason, too_long, reason_of}
-use Rattle.tmpl_syntax.specs.declared.fault.Refusal as held_refusal
+use Rattle.tmpl_syntax.specs.Fault.{Reason, too_long}
 use Rattle.tmpl_syntax.specs.Set.{Template}
 use Rattle.tmpl_syntax.specs.computed.Parse.{Refusal, IsRefusal, checked, second_in, unless_second, IsSecondAt, definitions_or, bodies_of}
-use Rattle.tmpl_syntax.specs.computed.Parse.{all_from, items_of, placed, parsed, IsAdded}
+use Rattle.tmpl_syntax.specs.computed.Parse.{all_from, items_of, placed, parsed}
 use Rattle.tmpl_syntax.specs.Parse.{base_name, most_bytes}
 
 module _ (set : List Template) (file bytes : List ℕ) where
@@ -40,7 +38,6 @@ module _ (set : List Template) (file bytes : List ℕ) where
       let ds = all_from (base_name file) (items_of bytes) in
       fine-placed h e ∙ ap (λ k. placed set file (unless_second k ds)) s.0 ∙ ap (λ r. Err (line, r)) (sym s.1)
 
-  pub adding-ends : (r : Result (Unit {0}) held_refusal.Refusal) (f : held_refusal.Refusal) → IsErrAnd r (λ e. e ≡ f)
-      → IsRefusal (parsed set file bytes) f.line (reason_of f.kind) → IsAdded set file bytes set r
-  adding-ends (Ok u) f h k = absurd h
-  adding-ends (Err e) f h k = (refl, subst (λ (g : held_refusal.Refusal). IsRefusal (parsed set file bytes) g.line (reason_of g.kind)) (sym h) k)
+pub ruleset long = parsed-long
+
+pub ruleset added_items = (refusal-placed, second-placed)

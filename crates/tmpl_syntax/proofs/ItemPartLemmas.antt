@@ -12,7 +12,7 @@ use Rattle.tmpl_syntax.specs.computed.Parse.{items_of}
 abbrev pub AreSoFar : List ℕ → List Item → held.Rest → Type 0
 AreSoFar file xs rest = (more : List Piece) → Cuts rest.trims rest.line rest.bytes.now more → items_of file ≡ xs ++ items_in more
 
-pub none-so-far : (file : List ℕ) (rest : held.Rest) (xs : List Item) → rest.bytes.now ≡ file → rest.line ≡ 1 → rest.trims ≡ false → xs ≡ []
+pub none_so_far : (file : List ℕ) (rest : held.Rest) (xs : List Item) → rest.bytes.now ≡ file → rest.line ≡ 1 → rest.trims ≡ false → xs ≡ []
     → AreSoFar file xs rest
-none-so-far file rest xs b l t e = λ more cuts.
+none_so_far file rest xs b l t e = λ more cuts.
     ap items_in (whole-cut file rest more b l t cuts) ∙ ap (λ (ys : List Item). ys ++ items_in more) (sym e)

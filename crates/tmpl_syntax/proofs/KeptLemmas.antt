@@ -23,7 +23,7 @@ use Rattle.tmpl_syntax.specs.computed.Build.{nodes_from, definitions_from}
 use Rattle.tmpl_syntax.specs.computed.Parse.{by_verdict, checked, all_from, items_of}
 use Rattle.tmpl_syntax.proofs.ItemLemmas.{has-items}
 use Rattle.tmpl_syntax.proofs.SpellingLemmas.{spells-fine}
-use Rattle.tmpl_syntax.proofs.FormedLemmas.{spells-formed}
+use Rattle.tmpl_syntax.proofs.AcceptedLemmas.{spells-formed}
 use Rattle.tmpl_syntax.proofs.VerdictLemmas.{judged-all}
 use Rattle.tmpl_syntax.proofs.NeedLemmas.{need-most}
 use Rattle.tmpl_syntax.proofs.PrintableNodeLemmas.{keeps-printable}
@@ -77,28 +77,18 @@ checked-verdict : (bytes : List ℕ) (items : List Item) → checked bytes items
 unfolding checked
 checked-verdict bytes items e = verdict-fine (last_line bytes) items (verdict_of (roles_of items)) e
 
--- templates that are formed, can be printed and are bounded
-abbrev AllFormed : List Template → Type 0
-AllFormed [] = Unit {0}
-AllFormed (t ∷ ts) = IsFormed t.1.nodes × AllFormed ts
-
-all-kept : (ts : List Template) → AllFormed ts → ArePrintable ts → NeedAtMost most_need ts → AreKept ts
-all-kept [] f p n = tt
-all-kept (t ∷ ts) f p n = (p.0, record { formed = f.0; printable = p.1; need = n.0 }, all-kept ts f.1 p.2 n.1)
-
 -- templates that are kept can be printed
 pub kept-printable : (ts : List Template) → AreKept ts → ArePrintable ts
 kept-printable [] h = tt
 kept-printable (t ∷ ts) h = (h.0, h.1.printable, kept-printable ts h.2)
 
-printable-all : (file : List ℕ) (ds : List Definition) (own : Nodes) → AreBytes (base_name file) → ArePrintable (map (template_in file) ds)
-    → IsPrintable own → ArePrintable (map (template_in file) (all_defined file ds own))
-printable-all file [] own name p o = (name, o, tt)
-printable-all file (d ∷ ds) own name p o = (p.0, p.1, printable-all file ds own name p.2 o)
-
-formed-all : (file : List ℕ) (ds : List Definition) (own : Nodes) → AreFormed ds → IsFormed own → AllFormed (map (template_in file) (all_defined file ds own))
-formed-all file [] own h o = (o, tt)
-formed-all file (d ∷ ds) own h o = (h.0, formed-all file ds own h.1 o)
+-- the templates of a file that are formed, can be printed and are bounded
+all-kept : (file : List ℕ) (ds : List Definition) (own : Nodes) → AreBytes (base_name file) → AreFormed ds × IsFormed own
+    → ArePrintable (map (template_in file) ds) → IsPrintable own → NeedAtMost most_need (map (template_in file) (all_defined file ds own))
+    → AreKept (map (template_in file) (all_defined file ds own))
+all-kept file [] own name f p o n = (name, record { formed = f.1; printable = o; need = n.0 }, tt)
+all-kept file (d ∷ ds) own name f p o n =
+    (p.0, record { formed = f.0.0; printable = p.1; need = n.0 }, all-kept file ds own name (f.0.1, f.1) p.2 o n.1)
 
 -- the templates of a file are kept; these are those that were built
 pub file-kept : (file bytes : List ℕ) (ts : List Template) → AreBytes (base_name file) → AreBytes bytes → length bytes ≤ most_bytes
@@ -111,8 +101,7 @@ file-kept file bytes ts name h within passed built =
     let spelled = spells-fine items accepted in
     let formed = spells-formed items ds own (subst (Judged (roles_of items)) accepted (judged-all (roles_of items))) spelled in
     let printable = keeps-printable every_branch bytes items ds own h (has-items bytes) spelled in
-    subst AreKept (sym built)
-    (all-kept _ (formed-all file ds own formed.0 formed.1) (printable-all file ds own name (printable.0 file) printable.1)
+    subst AreKept (sym built) (all-kept file ds own name formed (printable.0 file) printable.1
     (need-most every_branch file bytes items ds own within (has-items bytes) spelled))
 
 -- ---- definitions one by one
@@ -120,3 +109,5 @@ file-kept file bytes ts name h within passed built =
 pub each-kept : (set ts : List Template) → AreKept set → AreKept ts → AreKept (defined_each set ts)
 each-kept set [] h k = h
 each-kept set (t ∷ ts) h k = each-kept (defined set t.0 t.1) ts (defined-kept set t.0 t.1 h k.0 k.1) k.2
+
+pub ruleset kept = (each-kept, file-kept)

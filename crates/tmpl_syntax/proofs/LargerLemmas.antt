@@ -1,5 +1,5 @@
 -- For `more_branches`: what a language accepts, one with more else branches accepts.
-use Rattle.std.proofs.Common.{◌≡◌, ◌∙◌, ℕ, true, suc, List, [], ◌∷◌, Option, Some, None, Ok, refl, ap, sym, length}
+use Rattle.std.proofs.Common.{◌≡◌, ◌∙◌, ℕ, true, suc, List, [], ◌∷◌, Option, Some, None, Result, Ok, Err, refl, ap, sym, length}
 use Rattle.std.specs.Prelude.{slice_get}
 use Rattle.tmpl_lex.specs.Piece.{Piece}
 use Rattle.tmpl_grammar.specs.Action.{Action, else_branch}
@@ -11,11 +11,11 @@ use Rattle.tmpl_syntax.specs.Place.Role.{Role, unread_role, role_of, roles_of}
 use Rattle.tmpl_syntax.specs.Place.Body.{NoneRefused, unread as unread_applies}
 use Rattle.tmpl_syntax.specs.Laws.{IsLarger, AcceptsInLarger}
 use Rattle.tmpl_syntax.proofs.OneVerdictLemmas.{within}
-use Rattle.tmpl_syntax.proofs.ReadingLemmas.{value_or, no-value, parsed-accepted}
+use Rattle.tmpl_syntax.proofs.ReadingLemmas.{parsed-accepted}
 use Rattle.tmpl_syntax.specs.Fault.{Reason}
 use Rattle.tmpl_syntax.specs.Set.{Template}
 use Rattle.tmpl_syntax.specs.Parse.{IsAccepted}
-use Rattle.tmpl_syntax.specs.computed.Parse.{IsRefusal, parsed}
+use Rattle.tmpl_syntax.specs.computed.Parse.{Refusal, IsRefusal, parsed}
 
 -- no item of these is unread
 abbrev AllRead : List Role → Type 0
@@ -41,8 +41,8 @@ module _ (large small : Branches) (more : IsLarger large small) where
   same-items (p ∷ ps) (x ∷ xs) is h = (same-item is.0 (λ e. h 0 (ap (λ r. Some r) e)), same-items ps xs is.1 (λ k e. h (suc k) e))
   same-items _ _ is h = absurd is
 
-pub accepts-in-larger : AcceptsInLarger
-accepts-in-larger large small more old file bytes new h = record {
+pub accepts_in_larger : AcceptsInLarger
+accepts_in_larger large small more old file bytes new h = record {
   short = h.short;
   items = h.items;
   has = (h.has.0, h.has.1, same-items large small more h.has.0 h.items h.has.2 (all-read (roles_of h.items) h.judged.0));
@@ -57,11 +57,11 @@ accepts-in-larger large small more old file bytes new h = record {
 -- what Go 1.22 makes of a file is what is parsed
 module _ (old : List Template) (file bytes : List ℕ) (set : List Template) (accepted : IsAccepted go_1_22 old file bytes set) where
   parsed-before : parsed old file bytes ≡ Ok set
-  parsed-before = parsed-accepted old file bytes set (accepts-in-larger every_branch go_1_22 (λ b t. refl) old file bytes set accepted)
+  parsed-before = parsed-accepted old file bytes set (accepts_in_larger every_branch go_1_22 (λ b t. refl) old file bytes set accepted)
 
   pub same-before : (new : List Template) → parsed old file bytes ≡ Ok new → new ≡ set
-  same-before new e = ap (value_or new) (sym e ∙ parsed-before)
+  same-before new e = let same : ◌≡◌ {A = Result (List Template) Refusal} (Ok new) (Ok set) = sym e ∙ parsed-before in cc
 
   pub only-memory : (line : ℕ) (o : Option Reason) → IsRefusal (parsed old file bytes) line o → o ≡ None
   only-memory line None r = refl
-  only-memory line (Some reason) r = no-value set (line, reason) (sym parsed-before ∙ r)
+  only-memory line (Some reason) r = let same : ◌≡◌ {A = Result (List Template) Refusal} (Ok set) (Err (line, reason)) = sym parsed-before ∙ r in absurd (cc)

@@ -1,12 +1,10 @@
 pub mod AcceptedLemmas
 pub mod BuildLemmas
 pub mod CheckLemmas
-pub mod CountLemmas
 pub mod ElseLemmas
 pub mod ElsePartLemmas
 pub mod FaultLemmas
 pub mod FileLemmas
-pub mod FitLemmas
 pub mod FormedExamples
 pub mod FormedLemmas
 pub mod ItemLemmas
@@ -16,9 +14,9 @@ pub mod JudgeLemmas
 pub mod KeptLemmas
 pub mod LanguageExamples
 pub mod LargerLemmas
+pub mod NameLemmas
 pub mod NamedLemmas
 pub mod NeedLemmas
-pub mod OneSpellingLemmas
 pub mod OneVerdictLemmas
 pub mod OpenLemmas
 pub mod PageLemmas

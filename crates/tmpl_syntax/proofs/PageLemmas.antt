@@ -11,6 +11,7 @@ use Rattle.tmpl_syntax.specs.Print.Join.{Part, a_text, an_action, ends_brace, fi
 use Rattle.tmpl_grammar.specs.Action.{Action, plain_else}
 use Rattle.tmpl_syntax.specs.View.{nodes_in}
 use Rattle.tmpl_syntax.specs.declared.tree.Node as held
+use Rattle.tmpl_syntax.proofs.ViewLemmas.{control_of-fields}
 use Rattle.tmpl_syntax.specs.Print.Printed.{Said, said, said_text, else_said, nodes_said, part_of}
 use Rattle.tmpl_syntax.specs.computed.Print.{Page, last_text, page_with}
 
@@ -86,15 +87,6 @@ last_brace (b ∷ t) =
     let at : length {A = ℕ} (b ∷ t) - 1 ≡ length t = omega arith in
     ap (λ n. pointwise nat_eq (123 ∷ []) (drop n (b ∷ t))) at ∙ last-at b t
 
--- a control, put part by part
-pub control-put : (p : Page) (o e : Said) (body other : List Said) {first second third fourth : Page} → first ≡ page_with p (o ∷ [])
-    → second ≡ page_with first body → third ≡ page_with second other → fourth ≡ page_with third (e ∷ [])
-    → fourth ≡ page_with p (o ∷ (body ++ (other ++ e ∷ [])))
-control-put p o e body other {first} {second} {third} {fourth} h i j k =
-    let ends : fourth ≡ page_with second (other ++ e ∷ []) = k ∙ ap (λ q. page_with q (e ∷ [])) j ∙ page_append second other (e ∷ []) in
-    ends ∙ ap (λ q. page_with q (other ++ e ∷ [])) i ∙ page_append first body (other ++ e ∷ []) ∙ ap (λ q. page_with q (body ++ (other ++ e ∷ []))) h
-    ∙ page_append p (o ∷ []) (body ++ (other ++ e ∷ []))
-
 -- an else part of no nodes, and one of nodes
 pub no_else : (p : Page) (ns : List held.Node) → true ≡ (length ns == 0) → p ≡ page_with p (else_said (nodes_in ns) (nodes_said (nodes_in ns)))
 no_else p [] e = sym (page_nothing p)
@@ -103,3 +95,5 @@ no_else p (n ∷ ns) e = let none = eqb-true (length (n ∷ ns)) 0 (sym e) in ab
 pub some_else : (ns : List held.Node) (ss : List Said) → false ≡ (length ns == 0) → else_said (nodes_in ns) ss ≡ said plain_else ∷ ss
 some_else [] ss e = absurd (cc)
 some_else (n ∷ ns) ss e = refl
+
+pub ruleset pages = (action-put, text-put, page_append, page_nothing, no_else, some_else, control_of-fields)

@@ -92,8 +92,8 @@ has-said ss h =
     let i = items-said ss c.pieces h c.same in
     record { items = i.items; has = (c.pieces, c.cuts, i.are); say = i.say }
 
-pub reads-same : ReadsSame
-reads-same ns h =
+pub reads_same : ReadsSame
+reads_same ns h =
     let i = has-said (nodes_said ns) h in
     let s = spells-alike ns i.items i.say in
     record {
@@ -115,8 +115,8 @@ set-is-said [] h = tt
 set-is-said (t ∷ ts) h = said-append (template_said t) (flat_map template_said ts)
     (h.0, said-append (nodes_said t.1.nodes) (said end_action ∷ said_text (codes "\n") ∷ []) h.1 (tt, (newline-is-text, tt))) (set-is-said ts h.2)
 
-pub set-reads-same : SetReadsSame
-set-reads-same ts h =
+pub set_reads_same : SetReadsSame
+set_reads_same ts h =
     let i = has-said (flat_map template_said ts) (set-is-said ts h) in
     let s = set-leads ts i.items i.say in
     record {

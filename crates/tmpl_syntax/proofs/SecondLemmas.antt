@@ -1,8 +1,7 @@
 -- For `refuse_second`: the second definition of a name that is found is the first there is.
 use Rattle.std.proofs.Common.{arith, ◌≡◌, ◌∙◌, ℕ, ◌+◌, Bool, true, false, ◌||◌, List, [], ◌∷◌, ◌++◌, Option, Some, None, refl, sym, ap}
 use Rattle.std.proofs.Common.{subst, append_assoc, append-nil, length, length-append, bytes_eq, drop, get_or, map, suc, add-one, ◌<◌, ◌⊎◌}
-use Rattle.std.proofs.Common.{inl, inr, ⊎_elim, Bor, not}
-use Rattle.std.specs.List.{list_any}
+use Rattle.std.proofs.Common.{inl, inr, ⊎_elim}
 use Rattle.std.specs.Prelude.{slice_get}
 use Rattle.std.proofs.lemmas.List.Elements.{Contains-append_left, Contains-append_right, Contains-push, Contains-push_cases, Contains-append_cases}
 use Rattle.std.specs.Option.{option_map}
@@ -12,7 +11,7 @@ use Rattle.std.proofs.lemmas.Option.{slice_get_read, slice_get_within, slice_get
 use lib.Pointwise.{bytes_decides}
 use Rattle.tmpl_syntax.specs.Tree.{Definition}
 use Rattle.tmpl_syntax.specs.View.{nodes_in}
-use Rattle.tmpl_syntax.specs.computed.View.{definition_of, seen_in}
+use Rattle.tmpl_syntax.specs.computed.View.{definition_of}
 use Rattle.tmpl_syntax.specs.declared.tree.Definition as held
 use Rattle.tmpl_syntax.specs.Place.Role.{Name}
 use Rattle.tmpl_syntax.specs.Set.{is_blank}
@@ -215,18 +214,6 @@ module _ (names : List Name) (held_ds : List held.Definition) (i : ℕ) (d : hel
   pub next-new : is_blank (nodes_in d.nodes.items) ≡ false → is_known names d.name ≡ false → second_from names (drop i ds) ≡ with_it
   next-new blank known = some false blank known
 
--- ---- the names that a set has
-
-pub seen-any : (name : List ℕ) (keys : List (Bor (List ℕ))) → list_any (λ (k : Bor (List ℕ)). bytes_eq name k.now) keys ≡ is_known (seen_in keys) name
-seen-any name [] = refl
-seen-any name (k ∷ ks) = ap (λ b. bytes_eq name k.now || b) (seen-any name ks)
-
-pub not-swapped : (a b : Bool) → a ≡ not b → b ≡ not a
-not-swapped true true e = e
-not-swapped true false e = refl
-not-swapped false true e = refl
-not-swapped false false e = e
-
 -- a single definition is no second one
 pub few-second : (ds : List Definition) → length ds < 2 → second_in ds ≡ None
 unfolding second_in
@@ -237,3 +224,5 @@ few-second (d ∷ []) lt = by (is_blank d.nodes)
     by true = refl
     by false = refl
 few-second (d ∷ e ∷ ds) lt = absurd (omega (arith, lt))
+
+pub ruleset seconds = (next-blank, next-known, next-new)

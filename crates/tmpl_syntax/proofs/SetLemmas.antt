@@ -98,3 +98,5 @@ pub number-view : (name : List ℕ) (es : List Entry) → position (λ (k : Vec 
 number-view name es =
     ap (λ place. within place (length (keys_of es))) (place-view name es)
     ∙ ap (λ count. within (position_or_len (has_name name) (map template_of es)) count) (count-view es)
+
+pub ruleset views = (names-view, kept-as-is)

@@ -1,15 +1,14 @@
 -- For `one_verdict`: so far nothing is refused, and the stack is what is open.
-use Rattle.std.proofs.Common.{arith, ◌≡◌, ℕ, ◌+◌, ◌<◌, true, false, List, [], ◌∷◌, ◌++◌, take, refl, sym, subst, length, Some, None, ⊎_elim}
+use Rattle.std.proofs.Common.{arith, ◌≡◌, ℕ, ◌+◌, ◌<◌, true, false, List, [], ◌∷◌, refl, sym, subst, length, Some, None, ⊎_elim}
 use Rattle.std.specs.Prelude.{slice_get}
 use Rattle.std.proofs.lemmas.Bool.{cases_lt}
-use Rattle.std.proofs.lemmas.List.{append-nil, length-take-le}
 use Rattle.tmpl_syntax.specs.Fault.{Reason, rank}
 use Rattle.tmpl_syntax.specs.Fault as reason
 use Rattle.tmpl_syntax.specs.computed.Frames.{Frame}
 use Rattle.tmpl_syntax.specs.Place.Body.{IsMisplaced, none, IsTooDeep, IsUndeclared, Applies, unreadable, unread, misplaced}
 use Rattle.tmpl_syntax.specs.Place.Body.{too_deep, undeclared, NoneRefused, refused, Judged}
 use Rattle.tmpl_syntax.specs.computed.Frames.{top, is_placed, is_too_deep, names_at, seen_at, frames_after, frames_past}
-use Rattle.tmpl_syntax.specs.computed.Frames.{parted, at_end, Known, with_inner, known_after, known_past, none_known}
+use Rattle.tmpl_syntax.specs.computed.Frames.{at_end, Known, with_inner, known_after, known_past, none_known}
 use Rattle.tmpl_syntax.proofs.FaultLemmas.{Tells, TellsRole, in-nothing}
 use Rattle.tmpl_syntax.proofs.StandLemmas.{Here, Stands, here-of}
 use Rattle.tmpl_syntax.proofs.StepLemmas.{stands-opened, stands-ended, stands-declared, stands-still}
@@ -122,17 +121,11 @@ module _ (xs : List Role) (i : ℕ) (known : Known) (fs : List Frame) (s : Sound
 
 after : (xs : List Role) (i : ℕ) (known : Known) (fs : List Frame) (a : Act) → slice_get xs i ≡ Some (act_role a) → is_placed a (top fs) ≡ true
     → Stands xs i known fs → Stands xs (i + 1) (known_after a (top fs) (with_inner known (names_at a (top fs) known.inner)))
-    (frames_after a fs (length (names_at a (top fs) known.inner)))
+    (frames_after a fs (names_at a (top fs) known.inner))
 after xs i known fs (plain p) at e s = stands-declared xs i known p fs at s
 after xs i known fs (opener c p) at e s = stands-opened xs i known p fs s c at
-after xs i known (f ∷ fs) (else_part None) at e s =
-    let names = take f.part known.inner in
-    let n : f.part + 0 ≡ length names = omega (arith, length-take-le f.part known.inner s.2.within.parted) in
-    subst (λ k. Stands xs (i + 1) (with_inner known names) (parted false k f ∷ fs)) n
-    (subst (λ l. Stands xs (i + 1) (with_inner known l) (parted false (f.part + 0) f ∷ fs)) (append-nil names) (stands-parted xs i known f fs s None at e))
-after xs i known (f ∷ fs) (else_part (Some (b, p))) at e s =
-    subst (λ n. Stands xs (i + 1) (with_inner known (take f.part known.inner ++ p.declares)) (parted true (n + length p.declares) f ∷ fs))
-    (sym (length-take-le f.part known.inner s.2.within.parted)) (stands-parted xs i known f fs s (Some (b, p)) at e)
+after xs i known (f ∷ fs) (else_part None) at e s = stands-parted xs i known f fs s None at e
+after xs i known (f ∷ fs) (else_part (Some (b, p))) at e s = stands-parted xs i known f fs s (Some (b, p)) at e
 after xs i known (f ∷ fs) closer at e s = stands-ended xs i known f fs at s
 after xs i known fs (nested d) at e s = stands-still xs i known (act_role (nested d)) fs at refl refl (λ q g. cc) (λ c q g. cc) (λ b g. cc) s
 after xs i known fs jump at e s = stands-still xs i known (act_role jump) fs at refl refl (λ q g. cc) (λ c q g. cc) (λ b g. cc) s
@@ -142,7 +135,7 @@ after xs i known [] _ at e s = cc
 -- what stands after an item that is not refused
 pub sound-past : (xs : List Role) (i : ℕ) (known : Known) (fs : List Frame) (x : Role) → slice_get xs i ≡ Some x
     → TellsRole x (top fs) (seen_at x (top fs) known.inner) None → Sound xs i known fs
-    → Sound xs (i + 1) (known_past x (top fs) (with_inner known (seen_at x (top fs) known.inner))) (frames_past x fs (length (seen_at x (top fs) known.inner)))
+    → Sound xs (i + 1) (known_past x (top fs) (with_inner known (seen_at x (top fs) known.inner))) (frames_past x fs (seen_at x (top fs) known.inner))
 sound-past xs i known fs text_role at e s = record {
   stands = stands-still xs i known text_role fs at refl refl (λ q g. cc) (λ c q g. cc) (λ b g. cc) s.stands;
   none_refused = more xs i known fs s text_role at e;

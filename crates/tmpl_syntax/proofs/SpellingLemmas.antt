@@ -1,5 +1,5 @@
 -- For `one_spelling`: the items of an accepted file spell what is built from them.
-use Rattle.std.proofs.Common.{◌≡◌, ℕ, Bool, true, false, not, ◌||◌, List, [], ◌∷◌, refl, sym, ap, ◌∙◌, subst, length, Option, Some, None}
+use Rattle.std.proofs.Common.{◌≡◌, ℕ, Bool, true, false, not, ◌||◌, List, [], ◌∷◌, refl, sym, ap, ◌∙◌, subst, Option, Some, None}
 use Rattle.std.proofs.lemmas.Bool.{and_parts, not-true, or_right}
 use Rattle.tmpl_syntax.specs.Fault.{Reason}
 use Rattle.tmpl_syntax.specs.computed.Frames.{Frame}
@@ -18,7 +18,10 @@ use Rattle.tmpl_syntax.specs.computed.Frames.{unless_fault, verdict_from, verdic
 use Rattle.tmpl_syntax.specs.Spelling.{IsNode, a_text, an_action, a_break, a_continue, a_template, Leads, nothing, a_node, a_control, a_define, a_block}
 use Rattle.tmpl_syntax.specs.Spelling.{Closes, an_end, an_else, an_else_branch, Spells}
 use Rattle.tmpl_syntax.specs.computed.Build as build
-use Rattle.tmpl_syntax.specs.computed.Build.{no_parts, first_of, rest_of, with_node_before, parts_with, parts_before, nodes_from, definitions_from}
+use Rattle.tmpl_syntax.specs.computed.Build.{no_parts, first_of, rest_of, with_node_before, put_before, control_before, definition_before, else_before}
+use Rattle.tmpl_syntax.specs.computed.Build.{branch_before, end_before, parts_with, parts_before, nodes_from, definitions_from}
+use Rattle.tmpl_syntax.specs.Laws.{SpellsAtMostOne}
+use Rattle.tmpl_syntax.proofs.BuildLemmas.{seen_parts, parts_at}
 use Rattle.tmpl_syntax.proofs.FaultLemmas.{TellsRole, tells}
 
 -- a part behind which an else may stand
@@ -87,7 +90,7 @@ module _ (names : List Name) (xs : List Item) (p : build.Parts) where
   at-node {n = n} fs line is r = rest-node fs _ xs p.definitions p.definitions line n p.inner p.around (λ ns ys es d. a_node is d) r
 
   step : (x : Item) (fs : List Frame) → fault_at (role_of x) (top fs) names ≡ None
-      → Rest (frames_past (role_of x) fs (length names)) xs p.definitions p.inner p.around
+      → Rest (frames_past (role_of x) fs names) xs p.definitions p.inner p.around
       → Rest fs (x ∷ xs) (parts_with x p).definitions (parts_with x p).inner (parts_with x p).around
   step (item line (text_item bytes)) fs e r = at-node fs line a_text r
   step (item line unreadable_item) fs e r = cc
@@ -152,3 +155,38 @@ rest-from (x ∷ xs) i known fs e =
 pub spells-fine : (items : List Item) → verdict_of (roles_of items) ≡ fine → Spells items (definitions_from items) (nodes_from items)
 unfolding verdict_of nodes_from definitions_from
 spells-fine items e = rest-from items 0 none_known [] e
+
+-- ---- what items spell is built from them, so they spell nothing else
+
+node-built : {what : ItemKind} {n : NodeKind} (line : ℕ) (p : build.Parts) → IsNode what n → parts_with (item line what) p ≡ put_before line n p
+node-built line p a_text = refl
+node-built line p _ = refl
+
+-- what is built of the items before others, by what is built of those others
+mutual
+  leads-built : {xs ys : List Item} {ds es : List Definition} {ns : Nodes} → Leads xs ds ns ys es → (other : Nodes) (around : List build.Level)
+      → parts_before ys no_parts ≡ seen_parts none other around es → parts_before xs no_parts ≡ seen_parts ns other around ds
+  leads-built nothing other around e = e
+  leads-built (a_node {line = line} {n = n} is l) other around e = node-built line _ is ∙ ap (put_before line n) (leads-built l other around e)
+  leads-built (a_control {line = line} {c = c} {h = h} b o l) other around e =
+      ap (control_before line c h) (leads-built b _ _ (closes-built o _ _ (leads-built l other around e)))
+  leads-built (a_define {line = line} {name = name} b l) other around e =
+      ap (definition_before line name) (leads-built b _ _ (ap end_before (leads-built l other around e)))
+  leads-built (a_block {line = line} {name = name} {p = p} b l) other around e =
+      ap (λ q. put_before line (template_node name (Some p)) (definition_before line name q)) (leads-built b _ _ (ap end_before (leads-built l other around e)))
+
+  closes-built : {xs ys : List Item} {ds es : List Definition} {ns : Nodes} → Closes xs ds ns ys es → (l : build.Level) (around : List build.Level)
+      → parts_before ys no_parts ≡ parts_at l around es → parts_before xs no_parts ≡ seen_parts none ns (l ∷ around) ds
+  closes-built an_end l around e = ap end_before e
+  closes-built (an_else d) l around e = ap else_before (leads-built d _ _ (ap end_before e))
+  closes-built (an_else_branch {line = line} {branch = branch} {h = h} d o) l around e =
+      ap (branch_before line branch h) (leads-built d _ _ (closes-built o l around e))
+
+pub spells-built : (items : List Item) (ds : List Definition) (ns : Nodes) → Spells items ds ns → (definitions_from items ≡ ds) × (nodes_from items ≡ ns)
+unfolding nodes_from definitions_from
+spells-built items ds ns d =
+    let e = leads-built d none [] refl in (ap (λ (p : build.Parts). p.definitions) e, ap (λ (p : build.Parts). p.inner.nodes) e)
+
+pub one-spelling : SpellsAtMostOne
+one-spelling items ds es ns ms d e =
+    let p = spells-built items ds ns d in let q = spells-built items es ms e in (sym p.0 ∙ q.0, sym p.1 ∙ q.1)

@@ -1,17 +1,16 @@
 -- For `one_verdict`: what stands on the stack is what is open, and the names are those in scope.
-use Rattle.std.proofs.Common.{arith, ◌≡◌, ◌≢◌, ℕ, ◌+◌, ◌≤◌, Bool, true, false, List, [], ◌∷◌, ◌++◌, refl, sym, ap, ◌∙◌, subst, length, take}
+use Rattle.std.proofs.Common.{arith, ◌≡◌, ◌≢◌, ℕ, ◌+◌, ◌≤◌, Bool, true, false, List, [], ◌∷◌, refl, sym, ap, ◌∙◌, subst, length, take}
 use Rattle.std.proofs.Common.{Option, Some, None, ⊎_elim}
 use Rattle.std.specs.Prelude.{slice_get, Contains}
 use Rattle.std.specs.Bool.{Decides}
 use Rattle.std.proofs.lemmas.Bool.{cases_lt}
 use Rattle.std.proofs.lemmas.Bool.Decides.{Decides-like}
-use Rattle.std.proofs.lemmas.List.{length-append, take-append-le}
-use Rattle.std.proofs.lemmas.List.Elements.{Contains-append_left, Contains-append_right, Contains-append_cases}
 use Rattle.tmpl_syntax.specs.computed.Frames.{Frame}
 use Rattle.tmpl_syntax.specs.Place.Open.{opens, ends, NothingOpen, IsLast, HasElse, is_template, IsTemplate}
 use Rattle.tmpl_syntax.specs.Place.Body.{IsLoop, Levels}
-use Rattle.tmpl_syntax.specs.computed.Frames.{top, loops, in_loop, levels, entered, Known, with_inner, closed_if, closed_names}
+use Rattle.tmpl_syntax.specs.computed.Frames.{top, loops, in_loop, levels, entered, Known, with_inner, closed_if, closed_names, with_names}
 use Rattle.tmpl_syntax.proofs.FaultLemmas.{IsWithin, in-nothing}
+use Rattle.tmpl_syntax.proofs.NameLemmas.{with-longer, take-with, with-left, with-right, with-cases}
 use Rattle.tmpl_syntax.proofs.OpenLemmas.{ups, downs, count-split, same-opening, cut, Same, opened-keeps, opened_new}
 use Rattle.tmpl_syntax.proofs.PlaceLemmas.{alike-back, alike-even, alike-opened, template-moves, template-opened, template-apart}
 use Rattle.tmpl_syntax.proofs.PlaceLemmas.{levels-same, levels-opened, InLoop, loop-moves, else_before, else-same, loop-same}
@@ -64,25 +63,25 @@ module _ (xs : List Role) (j m : ℕ) (s : Same xs j m) (known : Known) (ds : Li
   abbrev names : List Name
   names = known.inner
 
-  here-moves : (t : Option Frame) → Here xs j t names → Here xs m t (names ++ ds)
+  here-moves : (t : Option Frame) → Here xs j t names → Here xs m t (with_names names ds)
   here-moves t h = record {
     template = h.template;
     is_template_here = template-moves xs j m (alike-even xs j m s.even) h.template h.is_template_here;
     levels_are = levels-same xs j m (levels t) s h.levels_are;
     looped = Decides-like (in_loop t) (loop-same xs j m s) (loop-same-back xs j m s) h.looped;
-    to = λ n c. ⊎_elim (λ l. brought-same xs j m n s (h.to n l)) (λ r. new n r) (Contains-append_cases names ds n c);
+    to = λ n c. ⊎_elim (λ l. brought-same xs j m n s (h.to n l)) (λ r. new n r) (with-cases names ds n c);
     back = λ n b. ⊎_elim
-        (λ lt. Contains-append_left names ds n (h.back n (brought-same-back xs j m n s b lt)))
-        (λ ge. Contains-append_right names ds n (old n b ge))
+        (λ lt. with-left names ds n (h.back n (brought-same-back xs j m n s b lt)))
+        (λ ge. with-right names ds n (old n b ge))
         (cases_lt b.by j);
   }
 
-  stood-moves : (f : Frame) (q : ℕ) → Stood xs j names f q → Stood xs m (names ++ ds) f q
+  stood-moves : (f : Frame) (q : ℕ) → Stood xs j names f q → Stood xs m (with_names names ds) f q
   stood-moves f q h =
       let o = h.last.is_open in
       let lt = o.before in
       let le = s.even.le in
-      let e : take f.part (names ++ ds) ≡ take f.part names = take-append-le f.part names ds h.within.parted in
+      let e : take f.part (with_names names ds) ≡ take f.part names = take-with f.part names ds h.within.parted in
       record {
         names = h.names;
         opened = h.opened;
@@ -90,16 +89,16 @@ module _ (xs : List Role) (j m : ℕ) (s : Same xs j m) (known : Known) (ds : Li
         over = omega (arith, h.over, s.even.balance, count-split opens xs (q + 1) j m (omega arith) le, count-split ends xs (q + 1) j m (omega arith) le);
         has = Decides-like f.has_else (else_before xs q j m le) (else-same xs q j m s o) h.has;
         around = h.around;
-        within = record { started = h.within.started; parted = let p = h.within.parted in omega (arith, length-append names ds) };
+        within = record { started = h.within.started; parted = let p = h.within.parted in omega (arith, with-longer names ds) };
         to = λ own n c. part-later xs q j m n le (h.to own n (subst (λ l. Contains l n) e c));
         back = λ own n p. subst (λ l. Contains l n) (sym e) (h.back own n (part-sooner xs q j m n (λ b k from to. s.no_else b q k from to o) p));
       }
 
-  pub stands-moves : (fs : List Frame) → Stands xs j known fs → Stands xs m (with_inner known (names ++ ds)) fs
+  pub stands-moves : (fs : List Frame) → Stands xs j known fs → Stands xs m (with_inner known (with_names names ds)) fs
   stands-moves [] h = (λ k o. h.0 k (s.even.only k o), here-moves None h.1)
   stands-moves (f ∷ fs) h =
       let w = h.2.within in
-      let e : take f.start (names ++ ds) ≡ take f.start names = take-append-le f.start names ds (let p = w.parted in let q = w.started in omega arith) in
+      let e : take f.start (with_names names ds) ≡ take f.start names = take-with f.start names ds (let p = w.parted in let q = w.started in omega arith) in
       (here-moves (Some f) h.0, h.1, stood-moves f h.1 h.2, subst (λ l. Stands xs h.1 (closed_if (is_template f.opening) (with_inner known l)) fs) (sym e) h.3)
 
 loops-template : (c : Opening) (has around : Bool) → is_template c ≡ true → loops c has around ≡ false
@@ -133,7 +132,7 @@ module _ (xs : List Role) (i : ℕ) (names : List Name) (c : Opening) (p : Names
 
   module _ (own : is_template c ≡ false) where
     here-plain : (l : Bool) → Decides l (InLoop xs (i + 1)) → l ≡ loops c false (in_loop t)
-        → Here xs (i + 1) (Some (entered c p t (length names))) (names ++ p.declares)
+        → Here xs (i + 1) (Some (entered c p t names)) (with_names names p.declares)
     here-plain l d dl = record {
       template = h.template;
       is_template_here = template-moves xs i (i + 1) (alike-opened xs i c p at own) h.template h.is_template_here;
@@ -142,10 +141,10 @@ module _ (xs : List Role) (i : ℕ) (names : List Name) (c : Opening) (p : Names
       to = λ n k. ⊎_elim
           (λ l. brought-opened xs i n c p at own (h.to n l))
           (λ r. brought-header xs i n h.template c p at own h.is_template_here r)
-          (Contains-append_cases names p.declares n k);
+          (with-cases names p.declares n k);
       back = λ n b. ⊎_elim
-          (λ old. Contains-append_left names p.declares n (h.back n old))
-          (λ new. Contains-append_right names p.declares n new)
+          (λ old. with-left names p.declares n (h.back n old))
+          (λ new. with-right names p.declares n new)
           (brought-opened-back xs i n c p at own b);
     }
 
@@ -154,7 +153,7 @@ module _ (xs : List Role) (i : ℕ) (names : List Name) (c : Opening) (p : Names
         let moved = template-moves xs i (i + 1) (alike-opened xs i c p at own) h.template h.is_template_here in
         (i, (opened_new xs i c p at, e, (h.template, h.is_template_here, moved), none-of-it))
 
-    pub here-control : (d : Control) → c ≡ opened.control d → Here xs (i + 1) (Some (entered c p t (length names))) (names ++ p.declares)
+    pub here-control : (d : Control) → c ≡ opened.control d → Here xs (i + 1) (Some (entered c p t names)) (with_names names p.declares)
     here-control If e = here-plain (in_loop t) (Decides-like (in_loop t) (loop-on own)
         (loop-off own (λ r. cc)) h.looped) (ap (λ z. loops z false (in_loop t)) (sym e))
     here-control With e = here-plain (in_loop t) (Decides-like (in_loop t) (loop-on own)
@@ -162,7 +161,7 @@ module _ (xs : List Role) (i : ℕ) (names : List Name) (c : Opening) (p : Names
     here-control Range e = here-plain true (λ g. new-loop e, λ l. refl) (ap (λ z. loops z false (in_loop t)) (sym e))
 
   -- in a template nothing is known, and no loop is around it
-  pub here-template : is_template c ≡ true → Here xs (i + 1) (Some (entered c p t (length names))) []
+  pub here-template : is_template c ≡ true → Here xs (i + 1) (Some (entered c p t names)) []
   here-template own =
       let body = template-opened xs i c p at own in
       record {

@@ -1,15 +1,15 @@
 -- For `one_verdict`: what stands after an opening, an end, a declaration, and what changes no frame.
-use Rattle.std.proofs.Common.{arith, ◌≡◌, ◌≢◌, ℕ, ◌+◌, ◌<◌, ◌≤◌, true, false, List, [], ◌∷◌, ◌++◌, refl, sym, ◌∙◌, subst, length}
+use Rattle.std.proofs.Common.{arith, ◌≡◌, ◌≢◌, ℕ, ◌+◌, ◌<◌, true, false, List, [], ◌∷◌, refl, sym, ◌∙◌, subst, length}
 use Rattle.std.proofs.Common.{take, Option, Some, inl, inr, ⊎_elim, ◌⊎◌}
 use Rattle.std.specs.Prelude.{slice_get, Contains}
 use Rattle.std.proofs.lemmas.Bool.{cases_lt}
-use Rattle.std.proofs.lemmas.List.Elements.{Contains-append_left, Contains-append_right, Contains-append_cases}
-use Rattle.std.proofs.lemmas.List.{append-nil, length-append, take_at, take_all}
+use Rattle.std.proofs.Math.Seq.{take-length}
 use Rattle.tmpl_grammar.specs.declared.action.Branch.{Branch}
 use Rattle.tmpl_syntax.specs.computed.Frames.{Frame}
 use Rattle.tmpl_syntax.specs.Place.Open.{opens, ends, NothingOpen, IsLast, is_template}
-use Rattle.tmpl_syntax.specs.computed.Frames.{top, part_of, entered, Known, with_inner, opened_names}
+use Rattle.tmpl_syntax.specs.computed.Frames.{top, part_of, entered, Known, with_inner, with_names, opened_names}
 use Rattle.tmpl_syntax.proofs.FaultLemmas.{IsWithin, in-nothing}
+use Rattle.tmpl_syntax.proofs.NameLemmas.{take-before, with-left, with-right, with-cases, part-low, part-high}
 use Rattle.tmpl_syntax.proofs.OpenLemmas.{count-none, same-piece, cut, Same, shut-at, same-ended, same-still, opened_new}
 use Rattle.tmpl_syntax.proofs.PlaceLemmas.{alike-even, template-moves, no-else}
 use Rattle.tmpl_syntax.proofs.ScopeLemmas.{Reaches, from_top, from_inside, from_header, from_else_branch, Brought, wrong-piece, brought-late}
@@ -36,51 +36,40 @@ module _ (xs : List Role) (i : ℕ) (names : List Name) (c : Opening) (p : Names
       inr (subst (λ z. Contains z.declares n) (sym gp) k, λ z. r (sym gc ∙ z))
   part-new n (branch_header lt e k) = not-after _ lt e.belongs
 
-  -- an else part sees no fewer names than there were before, and no more than there are in the body
-  part-above : (d : Control) → length names ≤ part_of d (length names) (length names + length p.declares)
-  part-above If = omega arith
-  part-above _ = omega arith
-
-  part-below : (d : Control) → part_of d (length names) (length names + length p.declares) ≤ length names + length p.declares
-  part-below If = omega arith
-  part-below _ = omega arith
-
   -- what the parts see at first: for an if or with
-  part-wide : c ≢ opened.control Range → (n : Name) → Contains (take (length names + length p.declares) (names ++ p.declares)) n → Part xs i (i + 1) n
+  part-wide : c ≢ opened.control Range → (n : Name) → Contains (take (length (with_names names p.declares)) (with_names names p.declares)) n → Part xs i (i + 1) n
   part-wide nr n k =
-      let e : take (length names + length p.declares) (names ++ p.declares) ≡ names ++ p.declares =
-      take_all (length names + length p.declares) (names ++ p.declares) (omega (arith, length-append names p.declares)) in
+      let e = take-length (with_names names p.declares) in
       ⊎_elim (λ l. earlier (h.to n l)) (λ r. header at r nr)
-      (Contains-append_cases names p.declares n (subst (λ l. Contains l n) e k))
+      (with-cases names p.declares n (subst (λ l. Contains l n) e k))
 
-  part-wide-back : (n : Name) → Part xs i (i + 1) n → Contains (take (length names + length p.declares) (names ++ p.declares)) n
+  part-wide-back : (n : Name) → Part xs i (i + 1) n → Contains (take (length (with_names names p.declares)) (with_names names p.declares)) n
   part-wide-back n k =
-      let e : take (length names + length p.declares) (names ++ p.declares) ≡ names ++ p.declares =
-      take_all (length names + length p.declares) (names ++ p.declares) (omega (arith, length-append names p.declares)) in
+      let e = take-length (with_names names p.declares) in
       subst (λ l. Contains l n) (sym e) (⊎_elim
-      (λ b. Contains-append_left names p.declares n (h.back n b))
-      (λ r. Contains-append_right names p.declares n r.0)
+      (λ b. with-left names p.declares n (h.back n b))
+      (λ r. with-right names p.declares n r.0)
       (part-new n k))
 
   part-first : (d : Control) → c ≡ opened.control d → (n : Name)
-      → Contains (take (part_of d (length names) (length names + length p.declares)) (names ++ p.declares)) n → Part xs i (i + 1) n
+      → Contains (take (part_of d (length names) (length (with_names names p.declares))) (with_names names p.declares)) n → Part xs i (i + 1) n
   part-first If e n k = part-wide (λ r. cc) n k
   part-first With e n k = part-wide (λ r. cc) n k
   part-first Range e n k =
-      let s : take (length names) (names ++ p.declares) ≡ names = take_at names p.declares (length names) refl in
+      let s : take (length names) (with_names names p.declares) ≡ names = take-before names p.declares in
       earlier (h.to n (subst (λ l. Contains l n) s k))
 
   part-first-back : (d : Control) → c ≡ opened.control d → (n : Name) → Part xs i (i + 1) n
-      → Contains (take (part_of d (length names) (length names + length p.declares)) (names ++ p.declares)) n
+      → Contains (take (part_of d (length names) (length (with_names names p.declares))) (with_names names p.declares)) n
   part-first-back Range e n k =
-      let s : take (length names) (names ++ p.declares) ≡ names = take_at names p.declares (length names) refl in
+      let s : take (length names) (with_names names p.declares) ≡ names = take-before names p.declares in
       subst (λ l. Contains l n) (sym s) (⊎_elim (λ b. h.back n b) (λ r. absurd (r.1 e)) (part-new n k))
   part-first-back _ e n k = part-wide-back n k
 
-  stood-opened : (ns : List Name) → IsWithin (entered c p t (length names)) (length ns)
-      → (is_template c ≡ false → (n : Name) → Contains (take (entered c p t (length names)).part ns) n → Part xs i (i + 1) n)
-      → (is_template c ≡ false → (n : Name) → Part xs i (i + 1) n → Contains (take (entered c p t (length names)).part ns) n)
-      → Stood xs (i + 1) ns (entered c p t (length names)) i
+  stood-opened : (ns : List Name) → IsWithin (entered c p t names) (length ns)
+      → (is_template c ≡ false → (n : Name) → Contains (take (entered c p t names).part ns) n → Part xs i (i + 1) n)
+      → (is_template c ≡ false → (n : Name) → Part xs i (i + 1) n → Contains (take (entered c p t names).part ns) n)
+      → Stood xs (i + 1) ns (entered c p t names) i
   stood-opened ns within to back = record {
     names = p;
     opened = at;
@@ -95,25 +84,25 @@ module _ (xs : List Role) (i : ℕ) (names : List Name) (c : Opening) (p : Names
 
 module _ (xs : List Role) (i : ℕ) (known : Known) (p : Names) (fs : List Frame) (s : Stands xs i known fs) where
   control-opened : (d : Control) → slice_get xs i ≡ Some (act_role (opener (opened.control d) p))
-      → Stands xs (i + 1) (opened_names (opened.control d) p.declares known) (entered (opened.control d) p (top fs) (length known.inner) ∷ fs)
+      → Stands xs (i + 1) (opened_names (opened.control d) p.declares known) (entered (opened.control d) p (top fs) known.inner ∷ fs)
   control-opened d at =
       let c = opened.control d in
       let h = here-of xs i known fs s in (
         here-control xs i known.inner c p at (top fs) h refl d refl,
         i,
-        stood-opened xs i known.inner c p at (top fs) h (known.inner ++ p.declares)
+        stood-opened xs i known.inner c p at (top fs) h (with_names known.inner p.declares)
             (record {
-              started = part-above xs i known.inner c p at (top fs) h d;
-              parted = let b = part-below xs i known.inner c p at (top fs) h d in omega (arith, length-append known.inner p.declares);
+              started = part-low d known.inner p.declares;
+              parted = part-high d known.inner p.declares;
             })
             (λ own n k. part-first xs i known.inner c p at (top fs) h d refl n k)
             (λ own n k. part-first-back xs i known.inner c p at (top fs) h d refl n k),
-        subst (λ l. Stands xs i (with_inner known l) fs) (sym (take_at known.inner p.declares (length known.inner) refl)) s,
+        subst (λ l. Stands xs i (with_inner known l) fs) (sym (take-before known.inner p.declares)) s,
       )
 
-  template-opened : (c : Opening) → is_template c ≡ true → IsWithin (entered c p (top fs) (length known.inner)) 0
+  template-opened : (c : Opening) → is_template c ≡ true → IsWithin (entered c p (top fs) known.inner) 0
       → slice_get xs i ≡ Some (act_role (opener c p))
-      → Here xs (i + 1) (Some (entered c p (top fs) (length known.inner))) [] × Stood xs (i + 1) [] (entered c p (top fs) (length known.inner)) i
+      → Here xs (i + 1) (Some (entered c p (top fs) known.inner)) [] × Stood xs (i + 1) [] (entered c p (top fs) known.inner) i
   template-opened c own within at =
       let h = here-of xs i known fs s in (
         here-template xs i known.inner c p at (top fs) h own,
@@ -123,7 +112,7 @@ module _ (xs : List Role) (i : ℕ) (known : Known) (p : Names) (fs : List Frame
 
   -- in a template nothing is known, and behind it what is known here
   pub stands-opened : (c : Opening) → slice_get xs i ≡ Some (act_role (opener c p))
-      → Stands xs (i + 1) (opened_names c p.declares known) (entered c p (top fs) (length known.inner) ∷ fs)
+      → Stands xs (i + 1) (opened_names c p.declares known) (entered c p (top fs) known.inner ∷ fs)
   stands-opened (opened.control d) at = control-opened d at
   stands-opened opened.define at =
       let t = template-opened opened.define refl (record { started = omega arith; parted = omega arith }) at in (t.0, i, t.1, s)
@@ -134,16 +123,14 @@ pub stands-ended : (xs : List Role) (i : ℕ) (known : Known) (f : Frame) (fs : 
     → Stands xs i known (f ∷ fs) → Stands xs (i + 1) (closed_at f known) fs
 stands-ended xs i known f fs at s =
     let same = same-ended xs s.1 i s.2.last s.2.over at in
-    let back = closed_at f known in
-    subst (λ l. Stands xs (i + 1) (with_inner back l) fs) (append-nil back.inner)
-    (stands-moves xs s.1 (i + 1) same back [] (λ n c. in-nothing n c)
+    stands-moves xs s.1 (i + 1) same (closed_at f known) [] (λ n c. in-nothing n c)
     (λ n b ge. absurd (brought-late xs s.1 (i + 1) n b.by same ge b.before b.reaches (λ p e c o. ⊎_elim
     (λ lt. let open_at = cut xs s.1 b.by i lt (let u = b.before in omega arith) s.2.last.is_open in
     ⊎_elim (λ z. z s.1 open_at) (λ q. q.1.last s.1 q.2.before open_at) o)
     (λ le. let m : b.by ≡ s.1 = omega arith in shut-at xs (act_role (plain p)) s.1 i (subst (λ z. slice_get xs z ≡ Some (act_role (plain p))) m e) refl
     s.2.last.is_open)
     (cases_lt s.1 b.by))))
-    fs s.3)
+    fs s.3
 
 -- what is open last, if anything is
 pub last-of : (xs : List Role) (i : ℕ) (known : Known) (fs : List Frame) → Stands xs i known fs → NothingOpen xs i ⊎ ((j : ℕ) × IsLast xs j i)
@@ -151,7 +138,7 @@ last-of xs i known [] s = inl s.0
 last-of xs i known (f ∷ fs) s = inr (s.1, s.2.last)
 
 pub stands-declared : (xs : List Role) (i : ℕ) (known : Known) (p : Names) (fs : List Frame) → slice_get xs i ≡ Some (act_role (plain p))
-    → Stands xs i known fs → Stands xs (i + 1) (with_inner known (known.inner ++ p.declares)) fs
+    → Stands xs i known fs → Stands xs (i + 1) (with_inner known (with_names known.inner p.declares)) fs
 stands-declared xs i known p fs at s = stands-moves xs i (i + 1) same known p.declares new
     (λ n b ge. let u = b.before in let e : b.by ≡ i = omega arith in old n (subst (λ k. Reaches xs k (i + 1) (i + 1) n) e b.reaches)) fs s
   where
@@ -191,8 +178,7 @@ pub stands-still : (xs : List Role) (i : ℕ) (known : Known) (x : Role) (fs : L
     → ends x ≡ false → ((p : Names) → x ≢ act_role (plain p)) → ((c : Opening) (p : Names) → x ≢ act_role (opener c p))
     → ((b : Option (Branch × Names)) → x ≢ act_role (else_part b)) → Stands xs i known fs → Stands xs (i + 1) known fs
 stands-still xs i known x fs at o e np nopen nt s =
-    subst (λ l. Stands xs (i + 1) (with_inner known l) fs) (append-nil known.inner)
-    (stands-moves xs i (i + 1) (same-still xs x i at o e nt) known [] (λ n c. in-nothing n c)
+    stands-moves xs i (i + 1) (same-still xs x i at o e nt) known [] (λ n c. in-nothing n c)
     (λ n b ge. let u = b.before in let m : b.by ≡ i = omega arith in absurd (wrong-piece xs i (i + 1) (i + 1) n x at np nopen nt
     (subst (λ k. Reaches xs k (i + 1) (i + 1) n) m b.reaches)))
-    fs s)
+    fs s

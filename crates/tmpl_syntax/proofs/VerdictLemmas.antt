@@ -30,8 +30,8 @@ module _ (xs : List Role) where
       let at = at-drop xs i x ys e in
       let seen = seen_at x (top fs) known.inner in
       let next = known_past x (top fs) (with_inner known seen) in
-      go at.0 (fault_at x (top fs) seen) (tells x (top fs) seen) (verdict_from (i + 1) (frames_past x fs (length seen)) next ys)
-      (λ h. judged-from ys (i + 1) next (frames_past x fs (length seen)) at.1 (omega arith) (sound-past xs i known fs x at.0 h s))
+      go at.0 (fault_at x (top fs) seen) (tells x (top fs) seen) (verdict_from (i + 1) (frames_past x fs seen) next ys)
+      (λ h. judged-from ys (i + 1) next (frames_past x fs seen) at.1 (omega arith) (sound-past xs i known fs x at.0 h s))
     where
       go : slice_get xs i ≡ Some x → (o : Option Reason) → TellsRole x (top fs) (seen_at x (top fs) known.inner) o → (v : Verdict)
           → (TellsRole x (top fs) (seen_at x (top fs) known.inner) None → Judged xs v) → Judged xs (unless_fault o i v)

@@ -11,15 +11,15 @@ use Rattle.tmpl_syntax.proofs.ReadingLemmas.{accepted, refusal-for}
 use Rattle.tmpl_syntax.proofs.LargerLemmas.{same-before, only-memory}
 
 module _ (old : List Template) (file : Bor (List ℕ)) (bytes : List ℕ) (new : List Template) where
-  reading-with : (r : Result (Unit {0}) held.Refusal) → IsAdded old file.now bytes new r → IsReading old file bytes new (with_file file r)
+  pub reading-with : (r : Result (Unit {0}) held.Refusal) → IsAdded old file.now bytes new r → IsReading old file bytes new (with_file file r)
   reading-with (Ok u) is = accepted old file.now bytes new is
   reading-with (Err r) (same, is) = (refl, same, refusal-for old file.now bytes r.line (reason_of r.kind) is)
 
-  parse-with : (r : Result (Unit {0}) held.Refusal) → IsAdded old file.now bytes new r → IsParse old file bytes new (with_file file r)
+  pub parse-with : (r : Result (Unit {0}) held.Refusal) → IsAdded old file.now bytes new r → IsParse old file bytes new (with_file file r)
   parse-with (Ok u) is = is
   parse-with (Err r) (same, is) = (refl, same, is)
 
-  before-with : (r : Result (Unit {0}) held.Refusal) → IsAdded old file.now bytes new r → IsAsBefore old file bytes new (with_file file r)
+  pub before-with : (r : Result (Unit {0}) held.Refusal) → IsAdded old file.now bytes new r → IsAsBefore old file bytes new (with_file file r)
   before-with (Ok u) is = λ set go. same-before old file.now bytes set go new is
   before-with (Err r) (same, is) = λ set go. only-memory old file.now bytes set go r.line (reason_of r.kind) is
 
@@ -32,3 +32,5 @@ module _ (old : List Template) (file : Bor (List ℕ)) (bytes : List ℕ) (new :
   pub added : (result : Result (Unit {0}) ParseFault) (r : Result (Unit {0}) held.Refusal) → result ≡ with_file file r → IsAdded old file.now bytes new r
       → Added result
   added result r e is = subst Added (sym e) (record { reading = reading-with r is; value = parse-with r is; before = before-with r is })
+
+pub ruleset with_files = (reading-with, parse-with, before-with)

@@ -1,5 +1,4 @@
 pub mod Build
-pub mod Count
 pub mod Fault
 pub mod Frames
 pub mod Item

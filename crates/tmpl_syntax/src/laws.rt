@@ -45,6 +45,7 @@ pub fn one_outcome()
 
 /// The law that a language with more else branches accepts each file that one with fewer accepts, and makes the same
 /// set of it.
+#[tactic(auto, using(crate::proofs::LargerLemmas::accepts_in_larger))]
 pub fn more_branches()
     ensures { AcceptsInLarger }
 {}
@@ -62,6 +63,7 @@ pub fn cut_back()
 {}
 
 /// The law that printed nodes are read as the same nodes, apart from lines.
+#[tactic(auto, using(crate::proofs::PrintedItemLemmas::reads_same))]
 pub fn printed_back()
     ensures { ReadsSame }
 {}
@@ -77,6 +79,7 @@ pub fn accepted_back()
 {}
 
 /// The law that a printed set is read as the same definitions, apart from lines.
+#[tactic(auto, using(crate::proofs::PrintedItemLemmas::set_reads_same))]
 pub fn set_back()
     ensures { SetReadsSame }
 {}

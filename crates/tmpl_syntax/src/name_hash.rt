@@ -6,10 +6,11 @@ ghost use Rattle.tmpl_syntax.specs.Set.{first_hasher};
 use core::hash::keyed_hasher;
 use std::hash::{BuildHasher, DefaultHasher};
 
-/// How a set hashes the names of its templates. What it holds, and in which order, is the same for every choice.
+/// How a set hashes the names of its templates, and a reader those of their variables. What the set holds, and in which
+/// order, is the same for every choice.
 ///
-/// Who knows how names are hashed can choose many of one hash, and to define n of these takes time in n squared. So a
-/// host that takes templates from strangers gives keys that they cannot know.
+/// Who knows how names are hashed can choose many of one hash, and to define or declare n of these takes time in n
+/// squared. So a host that takes templates from strangers gives keys that they cannot know.
 #[derive(Clone, Copy)]
 pub struct NameHash {
     first: u64,

@@ -1,9 +1,8 @@
 //! Reading a file into the set.
-ghost use Rattle.std.specs.Prelude.{◌≡◌, ◌≤◌, ◌==◌, ◌++◌, ◌∷◌, [], IfOk, IsTrue, length, map, not};
+ghost use Rattle.std.specs.Prelude.{◌≡◌, ◌≤◌, ◌==◌, IfOk, length, map, not};
 ghost use Rattle.std.specs.List.{suffix_len};
 ghost use Rattle.tmpl_syntax.specs.View.{set_view, template_of};
-ghost use Rattle.tmpl_syntax.specs.computed.Frames.{is_known};
-ghost use Rattle.tmpl_syntax.specs.computed.View.{definition_of, item_of, seen_in};
+ghost use Rattle.tmpl_syntax.specs.computed.View.{definition_of, item_of};
 ghost use Rattle.tmpl_syntax.specs.Parse as spec;
 ghost use Rattle.tmpl_syntax.specs.Parse.{IsAsBefore, IsReading, template_in};
 ghost use Rattle.tmpl_syntax.specs.computed.Parse.{IsAdded, IsOnce, IsParse, items_of, with_file};
@@ -14,9 +13,9 @@ use crate::fault::{ParseFault, ParseKind, Refusal};
 use crate::item::{Item, read_all};
 use crate::name_hash::NameHash;
 use crate::place::check::check;
+use crate::place::names::KnownNames;
 use crate::set::Set;
 use crate::tree::{Definition, Tree};
-use indexmap::IndexSet;
 use std::alloc::{AllocError, Global};
 use std::rc::Rc;
 use tmpl_values::Bytes;
@@ -48,6 +47,7 @@ const TOO_LONG: Refusal = Refusal {
 /// After an error the set is as it was.
 ///
 /// `else with` is there since Go 1.23. A file that is accepted without it makes the same set with it.
+#[tactic(auto, using(crate::proofs::WithFileLemmas::with_files))]
 pub fn parse_file<'f>(
     alloc: Global,
     set: &mut Set,
@@ -67,6 +67,7 @@ pub fn parse_file<'f>(
 /// # Errors
 ///
 /// Those of `parse_file`.
+#[tactic(auto, using(crate::proofs::WithFileLemmas::with_files))]
 pub fn parse_owned<'f>(
     alloc: Global,
     set: &mut Set,
@@ -91,6 +92,7 @@ fn with_file(file: &str, added: Result<(), Refusal>) -> Result<(), ParseFault<'_
 }
 
 /// Adds the templates of a file to the set, and copies its bytes unless they are too many.
+#[tactic(auto, using(crate::proofs::FileLemmas::long))]
 fn add_copy(alloc: Global, set: &mut Set, file: &str, bytes: &[u8]) -> Result<(), Refusal>
     ensures { IsAdded (set_view set.old) file.now bytes.now (set_view set.new) result }
 {
@@ -101,6 +103,7 @@ fn add_copy(alloc: Global, set: &mut Set, file: &str, bytes: &[u8]) -> Result<()
 }
 
 /// Adds the templates of a file of these bytes to the set.
+#[tactic(auto, using(crate::proofs::FileLemmas::long))]
 fn add_file(alloc: Global, set: &mut Set, file: &str, bytes: Vec<u8>) -> Result<(), Refusal>
     ensures { IsAdded (set_view set.old) file.now bytes.items (set_view set.new) result }
 {
@@ -120,6 +123,7 @@ fn shared(alloc: Global, bytes: Vec<u8>) -> Result<Rc<Bytes>, AllocError>
 }
 
 /// Adds the templates of a file with these items and bytes to the set.
+#[tactic(auto, using(crate::proofs::FileLemmas::added_items, crate::proofs::KeptLemmas::kept))]
 fn add_items(
     alloc: Global,
     set: &mut Set,
@@ -131,28 +135,30 @@ fn add_items(
     requires within { length bytes.now ≤ 16777216 }
     ensures { IsAdded (set_view set.old) file.now bytes.now (set_view set.new) result }
 {
-    check(alloc, items.as_slice(), bytes)?;
+    let hash = set.name_hash();
+    check(alloc, hash, items.as_slice(), bytes)?;
     let name = Bytes::new(copy_of(alloc, base_name(file))?);
     let definitions = build(alloc, items, name)?;
-    refuse_second(alloc, set.name_hash(), definitions.as_slice())?;
+    refuse_second(alloc, hash, definitions.as_slice())?;
     set.define_all(templates_of(alloc, file, definitions)?)?;
     Ok(())
 }
 
 /// Refuses the first definition that has an earlier one of its name, neither being blank. Their names are hashed as
 /// those of the set are.
+#[tactic(auto, using(crate::proofs::SecondLemmas::seconds), unfolding(crate::specs::computed::Parse::second_in))]
 fn refuse_second(alloc: Global, hash: NameHash, definitions: &[Definition]) -> Result<(), Refusal>
     ensures { IsOnce (map definition_of definitions.now) result }
 {
     if definitions.len() < 2 {
         return Ok(());
     }
-    let mut names = IndexSet::with_capacity_and_hasher(alloc, definitions.len(), hash)?;
+    let mut names = KnownNames::new(alloc, hash);
     for definition in definitions {
         if is_blank(definition.nodes.as_slice()) {
             continue;
         }
-        if !is_added(&mut names, definition.name.as_slice())? {
+        if !names.push(definition.name.as_slice())? {
             return Err(Refusal {
                 line: definition.line,
                 kind: ParseKind::SecondDefinition,
@@ -160,17 +166,6 @@ fn refuse_second(alloc: Global, hash: NameHash, definitions: &[Definition]) -> R
         }
     }
     Ok(())
-}
-
-/// Adds a name, and says whether it is new.
-fn is_added<'d>(
-    names: &mut IndexSet<&'d [u8], NameHash>,
-    name: &'d [u8],
-) -> Result<bool, AllocError>
-    ensures new { IfOk result (λ b. b ≡ not (is_known (seen_in names.old.keys) name.now)) }
-    ensures names { IfOk result (λ b. IsTrue b → seen_in names.new.keys ≡ seen_in names.old.keys ++ name.now ∷ []) }
-{
-    Ok(names.insert(name)?)
 }
 
 /// The definitions as templates in this file.
@@ -187,6 +182,7 @@ fn templates_of(
 }
 
 /// The definitions as templates in the file of this path, which they share.
+#[tactic(auto)]
 fn templates_at(
     alloc: Global,
     path: &Rc<Bytes>,

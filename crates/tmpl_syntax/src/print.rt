@@ -26,6 +26,7 @@ pub(crate) struct Page<'t> {
 /// A set as one template file: each template as a definition with a newline behind it, in the order of the set.
 ///
 /// Read as a file, it makes the same templates in the same order, apart from files and lines.
+#[tactic(auto, using(crate::proofs::PageLemmas::pages), unfolding(crate::specs::View::set_view))]
 pub fn print_set(alloc: Global, set: &Set) -> Result<Vec<u8>, AllocError>
     ensures printed { IfOk result (λ v. v.items ≡ printed_set (set_view set.now)) }
     ensures read_back { IfOk result (λ v. SetBack v.items (set_view set.now)) }
@@ -38,6 +39,7 @@ pub fn print_set(alloc: Global, set: &Set) -> Result<Vec<u8>, AllocError>
 }
 
 /// The body of a template as a template file.
+#[tactic(auto, using(crate::proofs::PageLemmas::pages), unfolding(crate::specs::computed::View::page_of, crate::specs::computed::Print::page_with))]
 pub fn print_tree(alloc: Global, tree: &Tree) -> Result<Vec<u8>, AllocError>
     ensures { IfOk result (λ v. v.items ≡ printed (tree_of tree.now).nodes) }
 {
@@ -59,6 +61,7 @@ impl<'t> Page<'t> {
     }
 
     /// Adds a template as a definition, and a newline.
+    #[tactic(auto, using(crate::proofs::PageLemmas::pages))]
     fn template(&mut self, name: &[u8], tree: &'t Tree) -> Result<(), AllocError>
         ensures { OnOk result (page_of self.new
             ≡ page_with (page_of self.old) (template_said (name.now, tree_of tree.now))) }
@@ -71,6 +74,7 @@ impl<'t> Page<'t> {
 
     /// Adds nodes.
     #[cycle(print)]
+    #[tactic(auto, using(crate::proofs::PageLemmas::pages))]
     fn nodes(&mut self, nodes: &'t [Node]) -> Result<(), AllocError>
         ensures { OnOk result (page_of self.new ≡ page_with (page_of self.old) (nodes_said (nodes_in nodes.now))) }
     {
@@ -100,6 +104,7 @@ impl<'t> Page<'t> {
 
     /// Adds a control with its parts.
     #[cycle(print)]
+    #[tactic(auto, using(crate::proofs::PageLemmas::pages))]
     fn control(&mut self, control: &'t ControlNode) -> Result<(), AllocError>
         ensures { OnOk result (page_of self.new ≡ page_with (page_of self.old) (node_said (control_of control.now))) }
     {
@@ -111,6 +116,7 @@ impl<'t> Page<'t> {
 
     /// Adds an else part, where it has nodes.
     #[cycle(print)]
+    #[tactic(auto, using(crate::proofs::PageLemmas::pages))]
     fn else_part(&mut self, nodes: &'t [Node]) -> Result<(), AllocError>
         ensures { OnOk result (page_of self.new
             ≡ page_with (page_of self.old) (else_said (nodes_in nodes.now) (nodes_said (nodes_in nodes.now)))) }
@@ -123,6 +129,7 @@ impl<'t> Page<'t> {
     }
 
     /// Adds an action.
+    #[tactic(auto, using(crate::proofs::PageLemmas::pages), unfolding(crate::specs::computed::View::page_of))]
     fn action(&mut self, action: PrintedAction<'_>) -> Result<(), AllocError>
         ensures { OnOk result (page_of self.new
             ≡ page_with (page_of self.old) (said (printed_of action.entry) ∷ [])) }
@@ -135,6 +142,7 @@ impl<'t> Page<'t> {
     }
 
     /// Adds a text.
+    #[tactic(auto, using(crate::proofs::PageLemmas::pages), unfolding(crate::specs::computed::View::page_of))]
     fn text(&mut self, text: &'t [u8]) -> Result<(), AllocError>
         ensures { OnOk result (page_of self.new ≡ page_with (page_of self.old) (said_text text.now ∷ [])) }
     {
@@ -170,6 +178,7 @@ fn parting(before: Option<&[u8]>) -> &'static [u8]
 }
 
 /// Whether a text ends in `{`.
+#[tactic(auto, using(crate::proofs::PageLemmas::last_brace))]
 fn ends_in_brace(text: &[u8]) -> bool
     ensures { result ≡ ends_brace text.now }
 {

@@ -58,6 +58,7 @@ impl Set {
     }
 
     /// A set of no templates, whose names are hashed so.
+    #[tactic(auto, using(crate::proofs::SetLemmas::views), unfolding(crate::specs::View::set_view))]
     pub fn with_hash(alloc: Global, names: NameHash) -> Set
         ensures { set_view result ≡ [] }
     {
@@ -75,6 +76,7 @@ impl Set {
     }
 
     /// How many templates there are.
+    #[tactic(auto, using(crate::proofs::SetLemmas::views), unfolding(crate::specs::View::set_view))]
     pub fn len(&self) -> usize
         ensures { result ≡ length (set_view self.now) }
     {
@@ -89,6 +91,7 @@ impl Set {
     }
 
     /// The name and the tree of the template of this number.
+    #[tactic(auto, using(crate::proofs::SetLemmas::views), unfolding(crate::specs::View::set_view))]
     pub fn template(&self, number: usize) -> (&[u8], &Tree)
         requires { number < length (set_view self.now) }
         ensures value { slice_get (set_view self.now) number ≡ Some (result.0.now, tree_of result.1.now) }
@@ -107,6 +110,7 @@ impl Set {
 
     /// Adds templates, one by one: a new name goes last, and a name that is there keeps its place and gets
     /// the new body, unless that is blank. All of them are added, or the set is as it was.
+    #[tactic(auto, using(crate::proofs::KeptLemmas::kept))]
     pub(crate) fn define_all(&mut self, templates: Vec<(Vec<u8>, Tree)>) -> Result<(), AllocError>
         requires { AreKept (map template_of templates.items) }
         ensures ok { OnOk result (set_view self.new
@@ -120,6 +124,7 @@ impl Set {
     }
 
     /// The names, in the order in which they were first defined.
+    #[tactic(auto, using(crate::proofs::SetLemmas::views), unfolding(crate::specs::View::set_view))]
     pub fn names(&self) -> Names<'_>
         ensures { names_left result ≡ map (λ t. t.0) (set_view self.now) }
     {
@@ -145,6 +150,7 @@ impl<'s> Iterator for Names<'s> {
 }
 
 /// Adds templates, one by one, for each of which there is room.
+#[tactic(auto, using(crate::proofs::SetLemmas::views), unfolding(crate::specs::View::set_view))]
 fn define_each(set: &mut IndexMap<Vec<u8>, Tree, NameHash>, templates: Vec<(Vec<u8>, Tree)>)
     requires { length templates.items ≤ spare set.old }
     ensures { set_view set.new.entries
@@ -156,6 +162,7 @@ fn define_each(set: &mut IndexMap<Vec<u8>, Tree, NameHash>, templates: Vec<(Vec<
 }
 
 /// Adds a template, for which there is room.
+#[tactic(auto, using(crate::proofs::SetLemmas::views), unfolding(crate::specs::View::set_view))]
 fn define(set: &mut IndexMap<Vec<u8>, Tree, NameHash>, name: Vec<u8>, tree: Tree)
     requires { 0 < spare set.old }
     ensures defined { set_view set.new.entries ≡ defined (set_view set.old.entries) name.items (tree_of tree) }
@@ -168,6 +175,7 @@ fn define(set: &mut IndexMap<Vec<u8>, Tree, NameHash>, name: Vec<u8>, tree: Tree
 }
 
 /// Whether a definition leaves the set as it is: a blank one of a name that is there.
+#[tactic(auto, using(crate::proofs::SetLemmas::views), unfolding(crate::specs::View::set_view))]
 fn keeps(set: &IndexMap<Vec<u8>, Tree, NameHash>, name: &[u8], tree: &Tree) -> bool
     ensures { result ≡ (is_blank (tree_of tree.now).nodes && is_some (tree_named name.now (set_view set.now.entries))) }
 {

@@ -1,7 +1,7 @@
 -- The verdict in one pass: what stands at a place is a stack of frames, the newest first, and the names that were
--- declared so far.
+-- declared so far, each once.
 use Rattle.std.specs.Prelude.{ℕ, ◌+◌, Bool, true, false, not, ◌&&◌, ◌||◌, leb, List}
-use Rattle.std.specs.Prelude.{[], ◌∷◌, ◌++◌, length, take, Option, Some, None}
+use Rattle.std.specs.Prelude.{[], ◌∷◌, ◌++◌, length, take, Option, Some, None, if◌then◌else◌}
 use Rattle.std.specs.List.{list_any, list_all}
 use Rattle.std.specs.Str.{bytes_eq}
 use Rattle.tmpl_grammar.specs.declared.action.Branch.{Branch}
@@ -86,6 +86,15 @@ is_known names name = list_any (λ n. bytes_eq name n) names
 abbrev pub knows : List Name → List Name → Bool
 knows names uses = list_all (is_known names) uses
 
+-- names with one more, which goes last unless it is there
+abbrev pub with_name : List Name → Name → List Name
+with_name names name = if is_known names name then names else names ++ name ∷ []
+
+-- .. with more, one by one
+abbrev pub with_names : List Name → List Name → List Name
+with_names names [] = names
+with_names names (d ∷ ds) = with_names (with_name names d) ds
+
 -- the first fault, of an action that is placed, is too deep and knows its names, or not
 abbrev pub first_fault : Bool → Bool → Bool → Option Reason
 first_fault false deep known = Some reason.out_of_place
@@ -116,15 +125,15 @@ abbrev pub else_start : Opening → ℕ → ℕ → ℕ
 else_start (opened.control c) before after = part_of c before after
 else_start c before after = 0
 
--- an opening in whose outside this frame is the newest and there are n names
-abbrev pub entered : Opening → Names → Option Frame → ℕ → Frame
-entered c p t n = record {
+-- an opening in whose outside this frame is the newest and these names are known
+abbrev pub entered : Opening → Names → Option Frame → List Name → Frame
+entered c p t names = record {
   opening = c;
   has_else = false;
   around = in_loop t;
   levels = levels t + level_of c;
-  start = start_of c n;
-  part = else_start c n (n + length p.declares);
+  start = start_of c (length names);
+  part = else_start c (length names) (length (with_names names p.declares));
 }
 
 -- whether a plain else came, behind an else that begins with a control or does not
@@ -149,15 +158,15 @@ abbrev pub ended_all : List Frame → List Frame
 ended_all [] = []
 ended_all (f ∷ fs) = fs
 
--- the frames after an action that is in place, and sees n names
-abbrev pub frames_after : Act → List Frame → ℕ → List Frame
-frames_after (plain p) fs n = fs
-frames_after (opener c p) fs n = entered c p (top fs) n ∷ fs
-frames_after (else_part None) fs n = parted_all false n fs
-frames_after (else_part (Some (b, p))) fs n = parted_all true (n + length p.declares) fs
-frames_after closer fs n = ended_all fs
-frames_after jump fs n = fs
-frames_after (nested b) fs n = fs
+-- the frames after an action that is in place, and sees these names
+abbrev pub frames_after : Act → List Frame → List Name → List Frame
+frames_after (plain p) fs names = fs
+frames_after (opener c p) fs names = entered c p (top fs) names ∷ fs
+frames_after (else_part None) fs names = parted_all false (length names) fs
+frames_after (else_part (Some (b, p))) fs names = parted_all true (length (with_names names p.declares)) fs
+frames_after closer fs names = ended_all fs
+frames_after jump fs names = fs
+frames_after (nested b) fs names = fs
 
 -- the names of the template in which a place stands, and those of the templates around it, the nearest first
 pub record Known : Type 0 where
@@ -177,7 +186,7 @@ rest_names (ns ∷ nss) = nss
 
 -- behind an opening: a control adds what its header declares, and in a template nothing is known yet
 abbrev pub opened_names : Opening → List Name → Known → Known
-opened_names (opened.control c) declares k = with_inner k (k.inner ++ declares)
+opened_names (opened.control c) declares k = with_inner k (with_names k.inner declares)
 opened_names c declares k = record { inner = []; around = k.inner ∷ k.around }
 
 abbrev pub closed_if : Bool → Known → Known
@@ -191,10 +200,10 @@ closed_names (Some f) k = closed_if (is_template f.opening) k
 
 -- the names behind an action that is in place and sees these
 abbrev pub known_after : Act → Option Frame → Known → Known
-known_after (plain p) t k = with_inner k (k.inner ++ p.declares)
+known_after (plain p) t k = with_inner k (with_names k.inner p.declares)
 known_after (opener c p) t k = opened_names c p.declares k
 known_after (else_part None) t k = k
-known_after (else_part (Some (b, p))) t k = with_inner k (k.inner ++ p.declares)
+known_after (else_part (Some (b, p))) t k = with_inner k (with_names k.inner p.declares)
 known_after closer t k = closed_names t k
 known_after jump t k = k
 known_after (nested b) t k = k
@@ -210,9 +219,9 @@ fault_at unreadable_role t names = Some reason.unreadable
 fault_at unread_role t names = Some reason.not_an_action
 fault_at (act_role a) t names = fault_in a t names
 
-abbrev pub frames_past : Role → List Frame → ℕ → List Frame
-frames_past (act_role a) fs n = frames_after a fs n
-frames_past x fs n = fs
+abbrev pub frames_past : Role → List Frame → List Name → List Frame
+frames_past (act_role a) fs names = frames_after a fs names
+frames_past x fs names = fs
 
 abbrev pub known_past : Role → Option Frame → Known → Known
 known_past (act_role a) t k = known_after a t k
@@ -232,7 +241,7 @@ verdict_from i fs known [] = at_end fs
 verdict_from i fs known (x ∷ xs) =
     let seen = seen_at x (top fs) known.inner in
     unless_fault (fault_at x (top fs) seen) i
-    (verdict_from (i + 1) (frames_past x fs (length seen)) (known_past x (top fs) (with_inner known seen)) xs)
+    (verdict_from (i + 1) (frames_past x fs seen) (known_past x (top fs) (with_inner known seen)) xs)
 
 abbrev pub none_known : Known
 none_known = record { inner = []; around = [] }

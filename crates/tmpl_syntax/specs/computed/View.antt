@@ -42,11 +42,7 @@ item_of x = item x.line (item_kind x.what)
 -- ---- the check of places
 
 unfoldable pub known_names : KnownNames → List Name
-known_names d = map (λ (n : Bor (List ℕ)). n.now) d.names.items
-
--- the names that a set of them has, in its order
-abbrev pub seen_in : List (Bor (List ℕ)) → List Name
-seen_in names = map (λ (n : Bor (List ℕ)). n.now) names
+known_names d = map (λ (n : Bor (List ℕ)). n.now) d.names.keys
 
 unfoldable pub scopes_of : Scopes → Known
 scopes_of s = record { inner = known_names s.inner; around = map known_names (reverse s.around.items) }

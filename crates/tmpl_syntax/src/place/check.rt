@@ -6,19 +6,26 @@ ghost use Rattle.tmpl_syntax.specs.computed.Parse.{IsChecked};
 
 use crate::fault::{ParseKind, Refusal};
 use crate::item::Item;
+use crate::name_hash::NameHash;
 use crate::place::frame::Frame;
 use crate::place::pass::{forget, newest, take_in};
 use crate::place::rules::fault_of;
 use crate::place::scopes::Scopes;
 use std::alloc::Global;
 
-/// Refuses the first action that is refused, or else at its last line a file in which something is open at the end.
-#[tactic(auto, unfolding(crate::specs::computed::View::scopes_of))]
-pub(crate) fn check(alloc: Global, items: &[Item], bytes: &[u8]) -> Result<(), Refusal>
+/// Refuses the first action that is refused, or else at its last line a file in which something is open at the end. The
+/// names in it are hashed so.
+#[tactic(auto, using(crate::proofs::CheckLemmas::checks), unfolding(crate::specs::computed::View::scopes_of))]
+pub(crate) fn check(
+    alloc: Global,
+    hash: NameHash,
+    items: &[Item],
+    bytes: &[u8],
+) -> Result<(), Refusal>
     ensures { IsChecked bytes.now (map item_of items.now) result }
 {
     let mut stack: Vec<Frame> = Vec::new(alloc);
-    let mut scopes = Scopes::new(alloc);
+    let mut scopes = Scopes::new(alloc, hash);
     for item in items {
         let outside = newest(&stack);
         forget(&mut scopes.inner, item, outside);

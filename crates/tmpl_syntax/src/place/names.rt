@@ -1,19 +1,56 @@
 //! The names that are known at a place.
-ghost use Rattle.std.specs.Prelude.{◌≡◌, ℕ, List};
-ghost use Rattle.std.specs.List.{count_by};
-ghost use Rattle.std.specs.Str.{bytes_eq};
-ghost use Rattle.tmpl_syntax.specs.computed.Count.{count_of};
+ghost use Rattle.std.specs.Prelude.{◌≡◌, [], IfOk, length, not, take};
+ghost use Rattle.tmpl_syntax.specs.computed.View.{known_names};
+ghost use Rattle.tmpl_syntax.specs.computed.Frames.{is_known, with_name};
 
-mod count;
-mod methods;
+use crate::name_hash::NameHash;
+use indexmap::IndexSet;
+use std::alloc::{AllocError, Global};
 
-use std::collections::BTreeMap;
-
-/// The names that were declared so far and are not out of scope, the newest last, and how often each
-/// of them is there, so that one is found without a walk over all.
+/// The names that were declared so far and are not out of scope, each of them once and the newest last, so that one is
+/// found without a walk over all.
 #[derive(Drop)]
 pub(crate) struct KnownNames<'i> {
-    names: Vec<&'i [u8]>,
-    counts: BTreeMap<&'i [u8], usize>,
-    ghost counted: { (q : List ℕ) → count_of counts q ≡ count_by (λ n. bytes_eq n.now q) names.items },
+    names: IndexSet<&'i [u8], NameHash>,
+}
+
+#[tactic(auto, unfolding(crate::specs::computed::View::known_names))]
+impl<'i> KnownNames<'i> {
+    /// No names, which are to be hashed so.
+    pub(crate) fn new(alloc: Global, hash: NameHash) -> KnownNames<'i>
+        ensures { known_names result ≡ [] }
+    {
+        KnownNames {
+            names: IndexSet::with_hasher(alloc, hash),
+        }
+    }
+
+    /// How many names are known.
+    pub(crate) fn len(&self) -> usize
+        ensures { result ≡ length (known_names self.now) }
+    {
+        self.names.len()
+    }
+
+    /// Adds a name, and says whether it is new. After an error the names are as they were.
+    pub(crate) fn push(&mut self, name: &'i [u8]) -> Result<bool, AllocError>
+        ensures new { IfOk result (λ b. b ≡ not (is_known (known_names self.old) name.now)) }
+        ensures names { IfOk result (λ b. known_names self.new ≡ with_name (known_names self.old) name.now) }
+    {
+        Ok(self.names.insert(name)?)
+    }
+
+    /// Forgets all but this many names.
+    pub(crate) fn truncate(&mut self, count: usize)
+        ensures { known_names self.new ≡ take count (known_names self.old) }
+    {
+        self.names.truncate(count);
+    }
+
+    /// Whether this name is known.
+    pub(crate) fn knows(&self, name: &[u8]) -> bool
+        ensures { result ≡ is_known (known_names self.now) name.now }
+    {
+        self.names.contains(name)
+    }
 }

@@ -12,7 +12,7 @@ ghost use Rattle.tmpl_syntax.specs.computed.Frames as spec;
 ghost use Rattle.tmpl_syntax.specs.computed.Frames.{closed_names, ended_all, fault_at, is_too_deep, known_after};
 ghost use Rattle.tmpl_syntax.specs.computed.Frames.{known_past, levels, names_at, opened_names};
 ghost use Rattle.tmpl_syntax.specs.computed.Frames.{entered, frames_after, frames_past, parted_all};
-ghost use Rattle.tmpl_syntax.specs.computed.Frames.{seen_at, top};
+ghost use Rattle.tmpl_syntax.specs.computed.Frames.{seen_at, top, with_names};
 ghost use Rattle.tmpl_syntax.specs.Place.Opening as opening;
 
 use crate::item::{Item, ItemKind};
@@ -66,8 +66,7 @@ pub(super) fn take_in<'i>(
     requires { fault_at (role_of (item_of item.now)) (top (frames_in stack.old.items))
         (scopes_of scopes.old).inner ≡ None }
     ensures frames { IfOk result (λ u. frames_in stack.new.items
-        ≡ frames_past (role_of (item_of item.now)) (frames_in stack.old.items)
-        (length (scopes_of scopes.old).inner)) }
+        ≡ frames_past (role_of (item_of item.now)) (frames_in stack.old.items) (scopes_of scopes.old).inner) }
     ensures names { IfOk result (λ u. scopes_of scopes.new
         ≡ known_past (role_of (item_of item.now)) (top (frames_in stack.old.items)) (scopes_of scopes.old)) }
 {
@@ -87,8 +86,7 @@ fn take_in_action<'i>(
 ) -> Result<(), AllocError>
     requires { is_too_deep (act_of (action_of action.now)) (top (frames_in stack.old.items)) ≡ false }
     ensures frames { IfOk result (λ u. frames_in stack.new.items
-        ≡ frames_after (act_of (action_of action.now)) (frames_in stack.old.items)
-        (length (scopes_of scopes.old).inner)) }
+        ≡ frames_after (act_of (action_of action.now)) (frames_in stack.old.items) (scopes_of scopes.old).inner) }
     ensures names { IfOk result (λ u. scopes_of scopes.new
         ≡ known_after (act_of (action_of action.now)) (top (frames_in stack.old.items)) (scopes_of scopes.old)) }
 {
@@ -133,7 +131,7 @@ fn enter_template(
     requires levels { is_level (opening_of opening) ≡ true
         → levels (top (frames_in stack.old.items)) < body.most_levels }
     ensures frames { IfOk result (λ u. frames_in stack.new.items
-        ≡ entered (opening_of opening) no_names (top (frames_in stack.old.items)) (length (scopes_of scopes.old).inner)
+        ≡ entered (opening_of opening) no_names (top (frames_in stack.old.items)) (scopes_of scopes.old).inner
         ∷ frames_in stack.old.items) }
     ensures names { IfOk result (λ u. scopes_of scopes.new
         ≡ opened_names (opening_of opening) [] (scopes_of scopes.old)) }
@@ -154,16 +152,19 @@ fn enter_template(
 /// Adds the names that a header declares.
 fn declare<'i>(names: &mut KnownNames<'i>, binding: &'i Binding) -> Result<(), AllocError>
     ensures { IfOk result (λ u. known_names names.new
-        ≡ known_names names.old ++ role.declared_by (binding_of binding.now)) }
+        ≡ with_names (known_names names.old) (role.declared_by (binding_of binding.now))) }
 {
     match binding {
-        Binding::Declare(name) => names.push(name.as_slice()),
+        Binding::Declare(name) => {
+            names.push(name.as_slice())?;
+        }
         Binding::DeclarePair(pair) => {
             names.push(pair.key.as_slice())?;
-            names.push(pair.element.as_slice())
+            names.push(pair.element.as_slice())?;
         }
-        Binding::Unbound | Binding::Assign(_) => Ok(()),
+        Binding::Unbound | Binding::Assign(_) => {}
     }
+    Ok(())
 }
 
 /// Opens a control.
@@ -175,10 +176,10 @@ fn enter<'i>(
 ) -> Result<(), AllocError>
     requires { levels (top (frames_in stack.old.items)) < body.most_levels }
     ensures frames { let h = names_of (header_of header.now) in IfOk result (λ u. frames_in stack.new.items
-        ≡ entered (opening.control control) h (top (frames_in stack.old.items)) (length (known_names names.old))
+        ≡ entered (opening.control control) h (top (frames_in stack.old.items)) (known_names names.old)
         ∷ frames_in stack.old.items) }
     ensures names { let h = names_of (header_of header.now) in IfOk result (λ u. known_names names.new
-        ≡ known_names names.old ++ h.declares) }
+        ≡ with_names (known_names names.old) h.declares) }
 {
     let outside = newest(stack);
     let start = names.len();

@@ -3,6 +3,7 @@ ghost use Rattle.std.specs.Prelude.{◌≡◌, ◌∷◌, [], IfOk, true};
 ghost use Rattle.tmpl_syntax.specs.computed.View.{known_names, scopes_of};
 ghost use Rattle.tmpl_syntax.specs.computed.Frames.{closed_if, none_known};
 
+use crate::name_hash::NameHash;
 use crate::place::names::KnownNames;
 use std::alloc::{AllocError, Global};
 use std::mem;
@@ -14,17 +15,20 @@ pub(crate) struct Scopes<'i> {
     pub(crate) inner: KnownNames<'i>,
     /// Those of the templates around it, the nearest last.
     around: Vec<KnownNames<'i>>,
+    /// How all of them are hashed.
+    hash: NameHash,
 }
 
 impl<'i> Scopes<'i> {
-    /// No names.
+    /// No names, which are to be hashed so.
     #[tactic(auto, unfolding(crate::specs::computed::View::scopes_of))]
-    pub(crate) fn new(alloc: Global) -> Scopes<'i>
+    pub(crate) fn new(alloc: Global, hash: NameHash) -> Scopes<'i>
         ensures { scopes_of result ≡ none_known }
     {
         Scopes {
-            inner: KnownNames::new(alloc),
+            inner: KnownNames::new(alloc, hash),
             around: Vec::new(alloc),
+            hash,
         }
     }
 
@@ -35,7 +39,7 @@ impl<'i> Scopes<'i> {
         ensures around { IfOk result (λ u. (scopes_of self.new).around
             ≡ (scopes_of self.old).inner ∷ (scopes_of self.old).around) }
     {
-        let outer = mem::replace(&mut self.inner, KnownNames::new(alloc));
+        let outer = mem::replace(&mut self.inner, KnownNames::new(alloc, self.hash));
         self.around.push(outer)?;
         Ok(())
     }
@@ -47,7 +51,7 @@ impl<'i> Scopes<'i> {
     {
         self.inner = match self.around.pop() {
             Some(outer) => outer,
-            None => KnownNames::new(alloc),
+            None => KnownNames::new(alloc, self.hash),
         };
     }
 }

@@ -1,4 +1,4 @@
-use Rattle.tmpl_syntax.proofs.FormedLemmas.{spells-formed}
+use Rattle.tmpl_syntax.proofs.AcceptedLemmas.{spells-formed}
 use Rattle.tmpl_syntax.proofs.laws.formed.Goals as goal
 
 pub returns : goal.returns

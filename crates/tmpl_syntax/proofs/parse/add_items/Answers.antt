@@ -1,17 +1,14 @@
-use Rattle.std.proofs.Common.{◌≡◌, arith, List, [], ◌∷◌, ℕ, None, Ok, refl, sym, ap, subst, ◌∙◌, map}
+use Rattle.std.proofs.Common.{◌≡◌, arith, List, [], ◌∷◌, ℕ, None, Ok, refl, sym, ap, ◌∙◌, map}
 use Rattle.tmpl_values.proofs.RuneLemmas.{are_bytes}
 use Rattle.tmpl_syntax.specs.declared.tree.Definition as held
-use Rattle.tmpl_syntax.specs.Tree.{Definition}
-use Rattle.tmpl_syntax.specs.Item.{Item}
 use Rattle.tmpl_syntax.specs.Set.{Template, defined_each}
 use Rattle.tmpl_syntax.specs.View.{set_view, template_of}
 use Rattle.tmpl_syntax.specs.computed.View.{definition_of, item_of}
 use Rattle.tmpl_syntax.specs.Parse.{base_name, template_in}
-use Rattle.tmpl_syntax.specs.Fault.{reason_of}
-use Rattle.tmpl_syntax.specs.computed.Parse.{IsRefusal, checked, second_in, unless_second, IsSecondAt, all_from, items_of, placed}
+use Rattle.tmpl_syntax.specs.computed.Parse.{checked, second_in, unless_second, all_from, items_of, placed}
 use Rattle.tmpl_grammar.proofs.PrintableTokenLemmas.{bytes-drop}
 use Rattle.tmpl_syntax.proofs.KeptLemmas.{file-kept}
-use Rattle.tmpl_syntax.proofs.FileLemmas.{refusal-placed, fine-placed, second-placed, adding-ends}
+use Rattle.tmpl_syntax.proofs.FileLemmas.{fine-placed}
 use Rattle.tmpl_syntax.proofs.parse.add_items.Goals as goal
 
 -- definitions as templates in a file, one after the other
@@ -19,30 +16,6 @@ in-file : (file : List ℕ) (ds : List held.Definition)
     → map (λ (d : held.Definition). template_in file (definition_of d)) ds ≡ map (template_in file) (map definition_of ds)
 in-file file [] = refl
 in-file file (d ∷ ds) = ap (λ ts. template_in file (definition_of d) ∷ ts) (in-file file ds)
-
-pub returns-in_err-check : goal.returns-in_err-check
-returns-in_err-check c =
-    let refusal = c.in_err-check.field-0.0 in
-    let bytes = c.args.bytes.now in
-    let items : map item_of c.as_slice.result.now ≡ items_of bytes = ap (map item_of) c.as_slice.ensures.value ∙ c.requires.read in
-    adding-ends (set_view c.args.set.now) c.args.file.now bytes c.from_residual.result refusal c.from_residual.ensures.1
-    (refusal-placed (set_view c.args.set.now) c.args.file.now bytes refusal.line (reason_of refusal.kind) c.requires.within
-    (subst (λ (xs : List Item). IsRefusal (checked bytes xs) refusal.line (reason_of refusal.kind)) items c.in_err-check.ensures))
-
-pub returns-in_err-refuse_second : goal.returns-in_err-refuse_second
-returns-in_err-refuse_second c =
-    let refusal = c.in_err-refuse_second.field-0.0 in
-    let bytes = c.args.bytes.now in
-    let file = c.args.file.now in
-    let read : map item_of c.args.items.items ≡ items_of bytes = c.requires.read in
-    let passed : checked bytes (items_of bytes) ≡ Ok tt = ap (checked bytes) (sym (ap (map item_of) c.as_slice.ensures.value ∙ read)) ∙ c.in_ok-check.ensures in
-    let name : c.new-name.result ≡ base_name file = c.new-name.ensures ∙ c.in_ok-copy_of.ensures ∙ c.base_name.ensures in
-    let built : map definition_of c.as_slice-2.result.now ≡ all_from (base_name file) (items_of bytes) =
-    ap (map definition_of) c.as_slice-2.ensures.value ∙ c.in_ok-definitions.ensures ∙ ap (λ n. all_from n (map item_of c.args.items.items)) name
-    ∙ ap (all_from (base_name file)) read in
-    adding-ends (set_view c.args.set.now) file bytes c.from_residual-in_err-refuse_second.result refusal c.from_residual-in_err-refuse_second.ensures.1
-    (second-placed (set_view c.args.set.now) file bytes refusal.line (reason_of refusal.kind) c.requires.within passed
-    (subst (λ (ds : List Definition). IsSecondAt (second_in ds) refusal.line (reason_of refusal.kind)) built c.in_err-refuse_second.ensures))
 
 pub define_all-requires : goal.define_all-requires
 define_all-requires c =

@@ -1,32 +1,16 @@
-use Rattle.std.proofs.Common.{◌∙◌, ◌++◌, List, ap, map, subst, sym}
+use Rattle.std.proofs.Common.{◌∙◌, List, ap, map, subst, sym}
 use Rattle.tmpl_syntax.specs.Kept.{AreKept}
-use Rattle.tmpl_syntax.specs.View.{set_view, template_of, tree_of}
+use Rattle.tmpl_syntax.specs.View.{set_view, template_of}
 use Rattle.tmpl_syntax.specs.computed.View.{page_of}
 use Rattle.tmpl_syntax.specs.Print.Laws.{SetBack}
 use Rattle.std.specs.List.{flat_map}
 use Rattle.tmpl_syntax.specs.Print.Printed.{template_said}
 use Rattle.tmpl_syntax.specs.computed.Print.{page_with}
 use Rattle.tmpl_syntax.proofs.KeptLemmas.{kept-printable}
-use Rattle.tmpl_syntax.proofs.PageLemmas.{page_append, page_nothing}
-use Rattle.tmpl_syntax.proofs.PrintedItemLemmas.{set-reads-same}
+use Rattle.tmpl_syntax.proofs.PageLemmas.{page_nothing}
+use Rattle.tmpl_syntax.proofs.PrintedItemLemmas.{set_reads_same}
 use Rattle.tmpl_syntax.proofs.SetLemmas.{Entry}
 use Rattle.tmpl_syntax.proofs.print.print_set.Goals as goal
-
-pub loop-name-init : goal.loop-name-init
-unfolding set_view
-loop-name-init c =
-    ap (λ (es : List Entry). page_with (page_of c.new-page.result) (flat_map template_said (map template_of es)))
-    (c.into_iter-name-iterator.ensures.into_iter_gives ∙ c.iter-name-items.ensures.rest ∙ c.set.view_is)
-
-pub loop-name-preserved : goal.loop-name-preserved
-loop-name-preserved c =
-    let p = page_of c.loop-name.page in
-    let rest = flat_map template_said (map template_of c.next.new.self) in
-    ap (λ q. page_with q rest) c.in_ok-template.ensures
-    ∙ page_append p (template_said (c.as_slice.result.now, tree_of c.in-Some.tree.now)) rest
-    ∙ ap (λ name. page_with p (template_said (name, tree_of c.in-Some.tree.now) ++ rest)) c.as_slice.ensures.value
-    ∙ ap (λ (es : List Entry). page_with p (flat_map template_said (map template_of es))) (sym c.in-Some.ensures.steps)
-    ∙ c.loop-name.invariant
 
 pub returns-clause-printed : goal.returns-clause-printed
 unfolding page_of page_with
@@ -41,4 +25,4 @@ pub returns-clause-read_back : goal.returns-clause-read_back
 returns-clause-read_back c =
     let ts = set_view c.args.set.now in
     let kept = subst (λ (es : List Entry). AreKept (set_view es)) c.set.view_is c.set.invariant in
-    subst (λ bytes. SetBack bytes ts) (sym (returns-clause-printed c)) (set-reads-same ts (kept-printable ts kept))
+    subst (λ bytes. SetBack bytes ts) (sym (returns-clause-printed c)) (set_reads_same ts (kept-printable ts kept))

@@ -1,31 +1,16 @@
-use Rattle.std.proofs.Common.{refl, arith, ◌≡◌, ◌≢◌, ◌≤◌, reverse, length, map, sym, ap, ◌∙◌, Err}
+use Rattle.std.proofs.Common.{arith, ◌≡◌, ◌≢◌, ◌≤◌, reverse, length, map, sym, ap, ◌∙◌, Err}
 use Rattle.std.specs.Option.{option_map}
 use Rattle.std.proofs.lemmas.Grind.{common_steps}
 use Rattle.std.proofs.lemmas.List.{length-map, length-reverse}
-use Rattle.tmpl_syntax.specs.Fault.{open_at_end, reason_of}
+use Rattle.tmpl_syntax.specs.Fault.{open_at_end}
 use Rattle.tmpl_syntax.specs.computed.View.{item_of, frame_of, frames_in, known_names, scopes_of}
 use Rattle.tmpl_syntax.specs.Place.Role.{role_of, roles_of}
-use Rattle.tmpl_syntax.specs.computed.Fault.{of_action}
-use Rattle.tmpl_syntax.proofs.CheckLemmas.{checking-start, checking-past, checking-refused, checking-ended, item-at, role-here}
-use Rattle.tmpl_syntax.proofs.CheckLemmas.{checked-refused, checked-fine, checked-open}
+use Rattle.tmpl_syntax.proofs.CheckLemmas.{checking-start, checking-past, checking-ended, role-here}
+use Rattle.tmpl_syntax.proofs.CheckLemmas.{checked-fine, checked-open}
 use Rattle.tmpl_syntax.proofs.place.check.check.Goals as goal
 
 pub loop-item-init : goal.loop-item-init
 loop-item-init c = checking-start (roles_of (map item_of c.args.items.now)) _ _ c.new-scopes.ensures (ap frames_in c.new-stack.ensures.items)
-
-pub returns-in-Some : goal.returns-in-Some
-unfolding scopes_of
-returns-in-Some c =
-    let items = c.args.items.now in
-    let i = c.loop-item.item-index in
-    let x = c.item-item.result in
-    checked-refused c.args.bytes.now (map item_of items) i (item_of x) (of_action c.in-Some.fault) x.line (reason_of c.kind.result)
-    (item-at items i x c.loop-item-test.true c.item-item.is)
-    (checking-refused (roles_of (map item_of items)) i (scopes_of c.loop-item.scopes) (frames_in c.loop-item.stack.items) (role_of (item_of x))
-    (role-here items i x c.loop-item-test.true c.item-item.is) c.loop-item.invariant
-    (option_map frame_of c.newest-outside.result) (known_names c.forget.new.names) c.newest-outside.ensures c.forget.ensures (of_action c.in-Some.fault)
-    (sym c.in-Some.ensures))
-    refl c.kind.ensures
 
 pub loop-item-preserved : goal.loop-item-preserved
 unfolding scopes_of

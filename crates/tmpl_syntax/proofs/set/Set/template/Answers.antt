@@ -1,7 +1,6 @@
-use Rattle.std.proofs.Common.{◌≡◌, ◌<◌, ℕ, zero, suc, List, [], ◌∷◌, Option, Some, None, sym, ap, subst, ◌∙◌, map, option_map, slice_get, length, arith}
-use Rattle.std.proofs.lemmas.List.{length-map}
+use Rattle.std.proofs.Common.{◌≡◌, ℕ, List, Option, Some, sym, ap, subst, ◌∙◌, map, option_map, slice_get}
 use Rattle.std.proofs.lemmas.Option.{slice_get-map}
-use Rattle.tmpl_syntax.specs.View.{tree_of, template_of, set_view}
+use Rattle.tmpl_syntax.specs.View.{template_of, set_view}
 use Rattle.tmpl_syntax.specs.Kept.{AreKept}
 use Rattle.tmpl_syntax.proofs.SetLemmas.{Entry}
 use Rattle.tmpl_syntax.proofs.KeptLemmas.{at-kept}
@@ -14,18 +13,6 @@ at-number number es fs found is same =
     ap (option_map template_of) is ∙ sym (slice_get-map template_of es number)
     ∙ ap (λ (es : List Entry). slice_get (map template_of es) number) same
 
-none-past : (es : List Entry) (number : ℕ) → None ≡ slice_get es number → number < length es → ⊥
-none-past [] number at h = omega arith
-none-past (e ∷ es) zero at h = cc
-none-past (e ∷ es) (suc number) at h = none-past es number at (omega arith)
-
-pub returns-clause-value : goal.returns-clause-value
-unfolding set_view
-returns-clause-value c =
-    sym (ap (λ (name : List ℕ). Some (name, tree_of c.in-Some.tree.now)) c.as_slice-in-Some.ensures.value
-    ∙ at-number c.args.number c.as_slice.result c.args.self.now (Some (c.in-Some.name.now, c.in-Some.tree.now))
-    c.in-Some.ensures.entry (c.as_slice.ensures.entries ∙ c.self.view_is))
-
 pub returns-clause-kept : goal.returns-clause-kept
 unfolding set_view
 returns-clause-kept c =
@@ -33,11 +20,3 @@ returns-clause-kept c =
     (subst (λ (es : List Entry). AreKept (set_view es)) c.self.view_is c.self.invariant)
     (at-number c.args.number c.as_slice.result c.args.self.now (Some (c.in-Some.name.now, c.in-Some.tree.now))
     c.in-Some.ensures.entry (c.as_slice.ensures.entries ∙ c.self.view_is))
-
-pub unreachable-requires : goal.unreachable-requires
-unfolding set_view
-unreachable-requires c =
-    let same = c.as_slice.ensures.entries ∙ c.self.view_is in
-    let count = ap (λ (es : List Entry). length es) same in
-    let seen = length-map c.args.self.now template_of in
-    none-past c.as_slice.result c.args.number c.in-None.ensures.entry (omega (arith, c.requires, count, seen))

@@ -1,8 +1,8 @@
-use Rattle.std.proofs.Common.{ap, ◌∙◌, nat_lt}
+use Rattle.std.proofs.Common.{◌∙◌}
 use Rattle.tmpl_syntax.specs.computed.View.{known_names}
-use Rattle.tmpl_syntax.proofs.CountLemmas.{is-there}
+use Rattle.tmpl_syntax.proofs.NameLemmas.{known-held}
 use Rattle.tmpl_syntax.proofs.place.names.KnownNames.knows.Goals as goal
 
 pub returns : goal.returns
 unfolding known_names
-returns c = ap (nat_lt 0) (c.count.ensures ∙ c.args.self.now.counted c.args.name.now) ∙ is-there c.args.name.now c.args.self.now.names.items
+returns c = c.contains.ensures ∙ known-held c.args.self.now.names.keys c.args.name.now

@@ -1,9 +1,12 @@
-use Rattle.std.proofs.Common.{ℕ, List, [], ◌∷◌, Bor, map, ap, ◌∙◌}
-use Rattle.std.proofs.lemmas.List.{map-append}
+use Rattle.std.proofs.Common.{ap, ◌∙◌, not}
 use Rattle.tmpl_syntax.specs.computed.View.{known_names}
+use Rattle.tmpl_syntax.proofs.NameLemmas.{seen, known-held, with-held}
 use Rattle.tmpl_syntax.proofs.place.names.KnownNames.push.Goals as goal
 
-pub returns-in-Ok : goal.returns-in-Ok
+pub returns-clause-new : goal.returns-clause-new
 unfolding known_names
-returns-in-Ok c =
-    ap (map (λ (n : Bor (List ℕ)). n.now)) c.in_ok-push.ensures.items ∙ map-append (λ (n : Bor (List ℕ)). n.now) c.args.self.now.names.items (c.args.name ∷ [])
+returns-clause-new c = c.in_ok-insert.ensures.added ∙ ap not (known-held c.args.self.now.names.keys c.args.name.now)
+
+pub returns-clause-names : goal.returns-clause-names
+unfolding known_names
+returns-clause-names c = ap seen c.in_ok-insert.ensures.keys ∙ with-held c.args.self.now.names.keys c.args.name

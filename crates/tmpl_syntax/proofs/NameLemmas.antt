@@ -1,0 +1,95 @@
+-- For `KnownNames` and `one_verdict`: the names that are known, as they are held, and with more behind them.
+use Rattle.std.proofs.Common.{arith, ◌≡◌, ℕ, ◌≤◌, Bool, true, false, ◌||◌, List, [], ◌∷◌, ◌++◌, refl, sym, ap, ◌∙◌, length, take, map, Bor, ⊎_elim, ◌⊎◌}
+use Rattle.std.proofs.Common.{inl, inr, append_assoc, append-nil, length-append, if◌then◌else◌}
+use Rattle.std.specs.Prelude.{Contains}
+use Rattle.std.specs.List.{list_any}
+use Rattle.std.specs.Str.{bytes_eq}
+use Rattle.std.proofs.Math.Bool.{or-false, or_assoc}
+use Rattle.std.proofs.Math.Seq.{take-length}
+use Rattle.std.proofs.lemmas.Bool.{or_cases, or_right}
+use Rattle.std.proofs.lemmas.List.{map-append, take-append-le}
+use Rattle.std.proofs.lemmas.List.Folds.{list_any-append}
+use Rattle.std.proofs.lemmas.Slice.Eq.{bytes_eq-Decides}
+use Rattle.tmpl_grammar.specs.declared.tree.Control.{Control}
+use Rattle.tmpl_grammar.specs.declared.tree.Control.TheVariants.{Range}
+use Rattle.tmpl_syntax.specs.Place.Role.{Name}
+use Rattle.tmpl_syntax.specs.computed.Frames.{is_known, part_of, with_name, with_names}
+use Rattle.tmpl_syntax.proofs.FaultLemmas.{found, has}
+
+-- ---- as they are held
+
+abbrev pub seen : List (Bor (List ℕ)) → List Name
+seen keys = map (λ (k : Bor (List ℕ)). k.now) keys
+
+abbrev is_held : List (Bor (List ℕ)) → Name → Bool
+is_held keys name = list_any (λ (k : Bor (List ℕ)). bytes_eq name k.now) keys
+
+pub known-held : (keys : List (Bor (List ℕ))) (name : Name) → is_held keys name ≡ is_known (seen keys) name
+known-held [] name = refl
+known-held (k ∷ keys) name = ap (λ b. bytes_eq name k.now || b) (known-held keys name)
+
+pub with-held : (keys : List (Bor (List ℕ))) (name : Bor (List ℕ))
+    → seen (if is_held keys name.now then keys else keys ++ name ∷ []) ≡ with_name (seen keys) name.now
+with-held keys name =
+    by (is_held keys name.now) ∙ ap (λ b. if b then seen keys else seen keys ++ name.now ∷ []) (known-held keys name.now)
+  where
+    by : (b : Bool) → seen (if b then keys else keys ++ name ∷ []) ≡ (if b then seen keys else seen keys ++ name.now ∷ [])
+    by true = refl
+    by false = map-append (λ (k : Bor (List ℕ)). k.now) keys (name ∷ [])
+
+-- ---- names with more
+
+-- they are those names, and others behind them
+with-names : (names ds : List Name) → (new : List Name) × (with_names names ds ≡ names ++ new)
+with-names names [] = ([], sym (append-nil names))
+with-names names (d ∷ ds) = by (is_known names d) (with-names (with_name names d) ds)
+  where
+    by : (b : Bool) → (new : List Name) × (with_names (with_name names d) ds ≡ (if b then names else names ++ d ∷ []) ++ new)
+        → (new : List Name) × (with_names (with_name names d) ds ≡ names ++ new)
+    by true m = m
+    by false m = (d ∷ m.0, m.1 ∙ append_assoc names (d ∷ []) m.0)
+
+pub with-longer : (names ds : List Name) → length names ≤ length (with_names names ds)
+with-longer names ds = let m = with-names names ds in omega (arith, ap length m.1, length-append names m.0)
+
+pub take-with : (k : ℕ) (names ds : List Name) → k ≤ length names → take k (with_names names ds) ≡ take k names
+take-with k names ds le = let m = with-names names ds in ap (take k) m.1 ∙ take-append-le k names m.0 le
+
+pub take-before : (names ds : List Name) → take (length names) (with_names names ds) ≡ names
+take-before names ds = take-with (length names) names ds (omega arith) ∙ take-length names
+
+pub one-known : (names : List Name) (d x : Name) → is_known (with_name names d) x ≡ (is_known names x || bytes_eq x d)
+one-known names d x = by (is_known names d) refl
+  where
+    there : (b : Bool) → bytes_eq x d ≡ b → is_known names d ≡ true → is_known names x ≡ (is_known names x || b)
+    there true e k = ap (is_known names) ((bytes_eq-Decides x d).0 e) ∙ k ∙ sym (or_right (is_known names x) true refl)
+    there false e k = sym (or-false (is_known names x))
+
+    by : (b : Bool) → is_known names d ≡ b → is_known (if b then names else names ++ d ∷ []) x ≡ (is_known names x || bytes_eq x d)
+    by true k = there (bytes_eq x d) refl k
+    by false k = list_any-append (bytes_eq x) names (d ∷ []) ∙ ap (λ b. is_known names x || b) (or-false (bytes_eq x d))
+
+with-known : (names ds : List Name) (x : Name) → is_known (with_names names ds) x ≡ (is_known names x || is_known ds x)
+with-known names [] x = sym (or-false (is_known names x))
+with-known names (d ∷ ds) x =
+    with-known (with_name names d) ds x ∙ ap (λ b. b || is_known ds x) (one-known names d x) ∙ or_assoc (is_known names x) (bytes_eq x d) (is_known ds x)
+
+module _ (names ds : List Name) (n : Name) where
+  pub with-left : Contains names n → Contains (with_names names ds) n
+  with-left c = found n (with_names names ds) (with-known names ds n ∙ ap (λ b. b || is_known ds n) (has n names c))
+
+  pub with-right : Contains ds n → Contains (with_names names ds) n
+  with-right c = found n (with_names names ds) (with-known names ds n ∙ or_right (is_known names n) (is_known ds n) (has n ds c))
+
+  pub with-cases : Contains (with_names names ds) n → Contains names n ⊎ Contains ds n
+  with-cases c = ⊎_elim (λ l. inl (found n names l)) (λ r. inr (found n ds r))
+      (or_cases (is_known names n) (is_known ds n) (sym (with-known names ds n) ∙ has n (with_names names ds) c))
+
+-- an else part sees no fewer names than there were before the header, and no more than there are in the body
+pub part-low : (c : Control) (names ds : List Name) → length names ≤ part_of c (length names) (length (with_names names ds))
+part-low Range names ds = omega arith
+part-low _ names ds = with-longer names ds
+
+pub part-high : (c : Control) (names ds : List Name) → part_of c (length names) (length (with_names names ds)) ≤ length (with_names names ds)
+part-high Range names ds = with-longer names ds
+part-high _ names ds = omega arith
