@@ -24,7 +24,7 @@ use Rattle.tmpl_run.specs.State.{Plan, State}
 use Rattle.tmpl_run.specs.Machine.{deepened, frame, goes, invoked, paid_if, returned_if}
 use Rattle.tmpl_run.specs.Ends.{Comes, Ends}
 use Rattle.tmpl_run.proofs.CallingLemmas.{entered}
-use Rattle.tmpl_run.proofs.HeaderLemmas.{Pipelines, run_at, value-leads, valued, with_left}
+use Rattle.tmpl_run.proofs.HeaderLemmas.{run_at, value-leads, valued, with_left}
 use Rattle.tmpl_run.proofs.NodeLemmas as nodes
 use Rattle.tmpl_run.proofs.PlaceLemmas.{ahead, ahead-one}
 use Rattle.tmpl_run.proofs.SlotLemmas.{Frame, below, below-same, env_of, frame_of, length-frame, run_of}
@@ -95,7 +95,7 @@ abbrev pub Deeper : Plan → ℕ → Ran → ℕ → Type 0
 Deeper plan room f zero = Unit {0}
 Deeper plan room f (suc n) = TemplateLeads plan room f n
 
-module _ (way : Way) (pipes : Pipelines way) (first : 1 ≤ way.who.depth) (linked : Starts way.plan.templates way.plan.templates way.plan.starts way.plan.code)
+module _ (way : Way) (first : 1 ≤ way.who.depth) (linked : Starts way.plan.templates way.plan.templates way.plan.starts way.plan.code)
   where
     abbrev calls_of : ℕ → Calls
     calls_of n = calls_within way.plan.rules way.plan.templates n
@@ -197,7 +197,7 @@ module _ (way : Way) (pipes : Pipelines way) (first : 1 ≤ way.who.depth) (link
     pub call-leads : (n : ℕ) → Deeper way.plan way.room way.end n → way.who.depth + n ≡ way.plan.rules.depth_limit → (base spare : ℕ)
         → Left way.plan.templates way.room n way.who.number base
         → way.room ≤ base + need way.me.1 + spare → (line : ℕ) (name : List ℕ) (given : Option Pipeline) → NodesName name way.me.1.nodes
-        → nodes.StepLeads way (calls_of n) spare pipes line (tree.template_node name given)
+        → nodes.StepLeads way (calls_of n) spare line (tree.template_node name given)
     call-leads n deeper depth base spare left tight line name given is-named g lay fr here start rest s l at-node st inside fits more-fits k =
         by (number_of name way.plan.templates) refl l at-node
       where
@@ -275,8 +275,8 @@ module _ (way : Way) (pipes : Pipelines way) (first : 1 ≤ way.who.depth) (link
                     (ahead way.plan.code (code.invoke number ∷ rest) (s.place + 1) 0 (code.act code.push_nothing)
                     (there ∙ l)) k)
                 hands (Some p) l fits k =
-                    value-leads way (calls_of (suc m)) pipes A g line (s.left - 1) p lay fr start (code.invoke number ∷ rest) next body l
-                    (record { at = there; runs = st.runs; frame = st.frame; deep = st.deep }) refl refl (omega arith) k
+                    value-leads way (calls_of (suc m)) A g line (s.left - 1) p lay fr start (code.invoke number ∷ rest) next body l
+                    (record { at = there; runs = st.runs; frame = st.frame; deep = st.deep }) refl (omega arith) k
                     (λ v made place at k. gets v made place at k)
 
             pays : (b : Bool) → nat_eq s.left 0 ≡ b → ways.After way A g (spend_if b (set_of n) line (meaning.calling (set_of n) line name given s.dot)

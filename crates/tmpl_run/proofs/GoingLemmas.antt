@@ -36,10 +36,8 @@ use Rattle.tmpl_run.specs.declared.halt.Halt.{Halt}
 use Rattle.tmpl_run.specs.declared.halt.Halt.TheVariants as stop
 use Rattle.tmpl_run.specs.declared.machine.Machine.{Machine}
 use Rattle.tmpl_run.proofs.LoopLemmas.{ends-so, falls, finds, goes-on, is-next, ready, some-template, within-code, work}
-use Rattle.tmpl_run.proofs.MoveLemmas.{each-lessens, mark-stays, mark_next, next-depth, text-begins}
-use Rattle.tmpl_run.proofs.PastLemmas.{after_past, done-past, past-again, with_past}
+use Rattle.tmpl_run.proofs.DoneLemmas.{after_past, done-past, each-lessens, mark-stays, mark_next, next-depth, next-within, past-again, text-begins, with_past}
 use Rattle.tmpl_run.proofs.QuietLemmas.{neither}
-use Rattle.tmpl_run.proofs.RoomLemmas.{next-within}
 use Rattle.tmpl_run.proofs.ShownLemmas.{ends-shown, mark-once, puts-once, quiet-once, shown-once, shown-within}
 
 -- what is told of a run that has put nothing out yet, in the template that a machine runs

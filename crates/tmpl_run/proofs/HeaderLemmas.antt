@@ -1,58 +1,29 @@
 -- For the law `comes_to_meaning`: the pipeline of a header and what is bound to its value, which actions and controls share.
-use Rattle.std.proofs.Common.{arith, ◌≡◌, ◌∙◌, ◌+◌, ◌≤◌, ◌||◌, ℕ, Bool, true, false, List, [], ◌∷◌, length, drop, refl, ap, sym, subst}
+use Rattle.std.proofs.Common.{arith, ◌≡◌, ◌∙◌, ◌+◌, ◌≤◌, ◌||◌, ℕ, Bool, true, false, List, ◌∷◌, length, drop, refl, ap, sym}
 use Rattle.std.proofs.Common.{Option, Some, None, Result, Ok, Err}
 use Rattle.std.specs.Prelude.{slice_set}
 use Rattle.std.proofs.lemmas.List.{length-set}
 use Rattle.tmpl_values.specs.Value.{Value, nothing}
 use Rattle.tmpl_grammar.specs.Tree.{Binding, unbound, declare, assign, declare_pair, Header, Pipeline}
 use Rattle.tmpl_grammar.specs.Need.{declared_count, need_of_pipeline}
-use Rattle.tmpl_syntax.specs.Set.{Template}
 use Rattle.tmpl_meaning.specs.Fault.{Cause}
-use Rattle.tmpl_meaning.specs.Pipeline.{Environment, Given, pipeline_value}
-use Rattle.tmpl_meaning.specs.Meaning.{Calls, Next, Ran, Run, without_key, assigned, with_bound, with_pipeline, with_value}
+use Rattle.tmpl_meaning.specs.Pipeline.{Environment}
+use Rattle.tmpl_meaning.specs.Meaning.{Calls, Next, Run, without_key, assigned, with_bound, with_pipeline, with_value}
 use Rattle.tmpl_code.specs.Instruction as code
 use Rattle.tmpl_code.specs.Layout.{Layout, bound_on, declares, slot_named}
 use Rattle.tmpl_code.specs.Code.{BindAt, Code, HeaderAt, PipelineAt, SetAt}
 use Rattle.tmpl_run.specs.Cell.{Cell, fresh}
-use Rattle.tmpl_run.specs.State.{Plan, State}
+use Rattle.tmpl_run.specs.State.{State}
 use Rattle.tmpl_run.specs.Machine.{fault_in, kept_on, ran_so}
-use Rattle.tmpl_run.proofs.ExecLemmas.{op_in}
-use Rattle.tmpl_run.proofs.AbleLemmas.{found-within}
+use Rattle.tmpl_run.proofs.PipelineLemmas.{FollowsBy, Puts, found-within, given_in, pipeline-leads}
 use Rattle.tmpl_run.proofs.PlaceLemmas.{ahead-one}
 use Rattle.tmpl_run.proofs.SlotLemmas.{Frame, bound_in, env_of, frame-set, frame_of, length-frame, run_of, stored, stored-none}
 use Rattle.tmpl_run.proofs.WayLemmas as ways
 use Rattle.tmpl_run.proofs.WayLemmas.{Ring, Stands, Way, Who, seen, who_of}
 
--- no step of a pipeline stands first
-abbrev pub Plain : Code → Type 0
-Plain [] = Unit {0}
-Plain (i ∷ is) = op_in i ≡ None
-
--- where a header binds nothing, nor writes
-abbrev pub PlainFor : Binding → Code → Type 0
-PlainFor unbound mid = Plain mid
-PlainFor (declare x) mid = Unit {0}
-PlainFor (assign x) mid = Plain mid
-PlainFor (declare_pair k x) mid = Unit {0}
-
 -- behind the value of a pipeline
 abbrev pub valued : Value → Bool → ℕ → State → State
 valued v m place s = record s { cells = fresh v ∷ s.cells; made_text = m; place = place }
-
-abbrev pub Gives : Plan → Template → (State → Type 0) → Ran → Code → State → Result Value Cause → Bool → Type 0
-Gives plan me After f rest s (Ok v) m = (place : ℕ) → drop place plan.code ≡ rest → After (valued v m place s)
-Gives plan me After f rest s (Err cause) m = ran_so (record s { made_text = m }) (Some (fault_in me s.line cause)) ≡ f
-
-abbrev pub given_in : Plan → Layout → State → Pipeline → Given Value
-given_in plan lay s p = pipeline_value (record { missing_key = plan.rules.missing_key; dot = s.dot; env = env_of lay s.cells }) p
-
--- what pipelines do
-abbrev pub Pipelines : Way → Type 0
-Pipelines way =
-    (p : Pipeline) (lay : Layout) (start rest : Code) (s : State) → who_of s ≡ way.who → PipelineAt p lay start rest → drop s.place way.plan.code ≡ start
-    → length lay ≤ length s.cells → length s.cells + need_of_pipeline p ≤ way.room → Plain rest
-    → Gives way.plan way.me (ways.Leading way) way.end rest s (given_in way.plan lay s p).result (s.made_text || (given_in way.plan lay s p).made_text)
-    → ways.Leading way s
 
 -- what a binding does to the variables that are there
 abbrev pub written : Binding → Value → Environment → Environment
@@ -79,10 +50,7 @@ run_at lay m s = record { env = env_of lay s.cells; text = s.text; left = s.left
 abbrev pub with_left : ℕ → Run → Run
 with_left left r = record r { left = left }
 
-pub plain-is : (a b : Code) → a ≡ b → Plain b → Plain a
-plain-is a b e p = subst Plain (sym e) p
-
-module _ (way : Way) (calls : Calls) (pipes : Pipelines way) where
+module _ (way : Way) (calls : Calls) where
   -- with a value on the stack goes on behind what binds it
   set-leads : (x : List ℕ) (o : Option ℕ) (lay : Layout) (fr : Frame) (v : Value) (mid rest : Code) (s : State) (m : Bool) (place : ℕ) → who_of s ≡ way.who
       → slot_named x lay ≡ o → SetAt o mid rest → drop place way.plan.code ≡ mid
@@ -113,37 +81,27 @@ module _ (way : Way) (calls : Calls) (pipes : Pipelines way) where
       ways.takes way (valued v m place s) (code.hold true) rest same (at ∙ l) (omega arith)
       (more s.cells (place + 1) (ahead-one way.plan.code rest place (code.hold true) (at ∙ l)) frame deep refl)
 
-  bind-plain : (b : Binding) (lay : Layout) (mid rest : Code) → BindAt b lay mid rest → PlainFor b rest → Plain mid
-  bind-plain unbound lay mid rest l p = plain-is mid rest l p
-  bind-plain (declare x) lay mid rest l p = plain-is mid (code.hold false ∷ rest) l refl
-  bind-plain (assign x) lay mid rest l p = by (slot_named x lay) l
-    where
-      by : (o : Option ℕ) → SetAt o mid rest → Plain mid
-      by None l = plain-is mid rest l p
-      by (Some k) l = plain-is mid (code.set k ∷ rest) l refl
-  bind-plain (declare_pair k x) lay mid rest l p = plain-is mid (code.hold true ∷ rest) l refl
-
   -- a pipeline, behind whose value the meaning goes on
   pub value-leads : (A : Run → Type 0) (g : Option Ring) (line left : ℕ) (p : Pipeline) (lay : Layout) (fr : Frame) (start mid : Code) (s : State)
       (go : Value → Next)
-      → PipelineAt p lay start mid → Stands way.plan way.who start lay fr s → s.line ≡ line → Plain mid → length fr + need_of_pipeline p ≤ way.room
+      → PipelineAt p lay start mid → Stands way.plan way.who start lay fr s → s.line ≡ line → length fr + need_of_pipeline p ≤ way.room
       → ways.After way A g (with_pipeline (ways.setting way calls) line p s.dot go (with_left left (run_of lay s)))
       → ((v : Value) (m : Bool) (place : ℕ) → drop place way.plan.code ≡ mid → ways.After way A g (go v (with_left left (run_at lay m s)))
       → ways.Leading way (valued v m place s))
       → ways.Leading way s
-  value-leads A g line left p lay fr start mid s go l st same-line plain fits k more =
-      pipes p lay start mid s st.runs l st.at st.deep (let long = length-frame lay s.cells st.deep in let same = ap length st.frame in omega arith) plain
-      (by (given_in way.plan lay s p).result (s.made_text || (given_in way.plan lay s p).made_text) k)
+  value-leads A g line left p lay fr start mid s go l st same-line fits k more =
+      pipeline-leads way p lay start mid s st.runs l st.at st.deep (let long = length-frame lay s.cells st.deep in let same = ap length st.frame in omega arith)
+      (by (given_in way lay s p).result (s.made_text || (given_in way lay s p).made_text) k)
     where
       by : (r : Result Value Cause) (m : Bool)
           → ways.After way A g (with_value (ways.setting way calls) line r go (with_left left (run_at lay m s)))
-          → Gives way.plan way.me (ways.Leading way) way.end mid s r m
+          → FollowsBy way s r m (Puts way s mid s.cells)
       by (Ok v) m k = λ place at. more v m place at k
       by (Err cause) m k = ap (λ n. ran_so (record s { made_text = m }) (Some (fault_in way.me n cause))) same-line ∙ k
 
   -- a header
   pub header-leads : (A : Run → Type 0) (g : Option Ring) (line : ℕ) (h : Header) (lay : Layout) (fr : Frame) (start mid : Code) (s : State) (go : Value → Next)
-      → HeaderAt h lay start mid → Stands way.plan way.who start lay fr s → s.line ≡ line → PlainFor h.binding mid
+      → HeaderAt h lay start mid → Stands way.plan way.who start lay fr s → s.line ≡ line
       → length fr + need_of_pipeline h.pipeline ≤ way.room
       → length fr + declared_count h.binding ≤ way.room
       → ways.After way A g (with_pipeline (ways.setting way calls) line h.pipeline s.dot go (run_of lay s))
@@ -151,8 +109,8 @@ module _ (way : Way) (calls : Calls) (pipes : Pipelines way) where
       → env_of lay cs ≡ written h.binding v (env_of lay s.cells)
       → ways.After way A g (go v (run_at lay m s)) → ways.Leading way (headed h.binding v cs m place s))
       → ways.Leading way s
-  header-leads A g line h lay fr start mid s go l st same-line plain fits more-fits k more =
-      value-leads A g line s.left h.pipeline lay fr start l.0 s go l.1 st same-line (bind-plain h.binding lay l.0 mid l.2 plain) fits k
+  header-leads A g line h lay fr start mid s go l st same-line fits more-fits k more =
+      value-leads A g line s.left h.pipeline lay fr start l.0 s go l.1 st same-line fits k
       (λ v m place at k. bind-leads h.binding lay fr v l.0 mid s m place st.runs l.2 at st.frame st.deep
       (let long = length-frame lay s.cells st.deep in let same = ap length st.frame in omega arith)
       (λ cs place at frame deep env. more v cs m place at frame deep env k))

@@ -11,7 +11,7 @@ use Rattle.tmpl_run.specs.Machine.{Turn, done, done_in, ended, goes, next_of, st
 use Rattle.tmpl_run.specs.Ready.{Has}
 use Rattle.tmpl_run.specs.Ends.{Comes, Ends, IsReady, Leads}
 use Rattle.tmpl_run.specs.Laws.{Lessens}
-use Rattle.tmpl_run.proofs.MoveLemmas.{each-lessens, next-depth}
+use Rattle.tmpl_run.proofs.DoneLemmas.{each-lessens, next-depth}
 
 -- what is left of a run at most: steps and open templates, and places within one of these
 abbrev pub work : ℕ → State → ℕ

@@ -22,7 +22,7 @@ use Rattle.tmpl_run.specs.State.{State}
 use Rattle.tmpl_run.specs.Machine.{branch, goes, kept_on, top, with_dot}
 use Rattle.tmpl_run.specs.Ready.{RoomIf}
 use Rattle.tmpl_run.specs.Ends.{Comes}
-use Rattle.tmpl_run.proofs.HeaderLemmas.{Pipelines, Plain, PlainFor, bound-deep, bound-env, bound-frame, header-leads, headed, run_at, under, written}
+use Rattle.tmpl_run.proofs.HeaderLemmas.{bound-deep, bound-env, bound-frame, header-leads, headed, run_at, under, written}
 use Rattle.tmpl_run.proofs.PlaceLemmas.{ahead, ahead-one}
 use Rattle.tmpl_run.proofs.SlotLemmas.{First, Frame, Over, all_grown, all_grown_in, bound_in, cut-drop, env_of, first-saved, frame-binding}
 use Rattle.tmpl_run.proofs.SlotLemmas.{frame-bound, frame-drop, frame-grown, frame_of, grown_in, length-env, length-frame, named}
@@ -59,18 +59,6 @@ pub length-grown : (n : NodeKind) (fr : Frame) → length (grown_in n fr) ≡ le
 length-grown (tree.action a) fr = length-bound a.binding fr
 length-grown _ fr = omega arith
 
-shown-plain : (b : Binding) (mid rest : Code) → ShownAt b mid rest → PlainFor b mid
-shown-plain unbound mid rest l = subst Plain (sym l) refl
-shown-plain (declare x) mid rest l = tt
-shown-plain (assign x) mid rest l = subst Plain (sym l) refl
-shown-plain (declare_pair k x) mid rest l = tt
-
-pub plain-for : (b : Binding) (mid : Code) → Plain mid → PlainFor b mid
-plain-for unbound mid h = h
-plain-for (declare x) mid h = tt
-plain-for (assign x) mid h = h
-plain-for (declare_pair k x) mid h = tt
-
 -- the value of a header, and the variables under it
 length-under : (b : Binding) (cs : List Cell) (room n : ℕ) → length cs + (1 + declared_count b + n) ≤ room
     → RoomIf (declares b) (suc (length (under b cs))) room
@@ -83,7 +71,7 @@ named-bound : (b : Binding) (lay : Layout) → named lay ≤ named (bound_on b l
 named-bound unbound lay = omega arith
 named-bound _ lay = omega arith
 
-module _ (way : Way) (calls : Calls) (spare : ℕ) (pipes : Pipelines way) where
+module _ (way : Way) (calls : Calls) (spare : ℕ) where
   -- what is to be shown of nodes, and of a node whose step is taken; so many cells are left for calls
   abbrev pub NodesLead : Nodes → Type 0
   NodesLead ns =
@@ -139,8 +127,8 @@ module _ (way : Way) (calls : Calls) (spare : ℕ) (pipes : Pipelines way) where
 
   pub action-leads : (line : ℕ) (h : Header) → NodeLeads line (tree.action h)
   action-leads line h g lay fr here rest s l st same-line inside fits more-fits k =
-      header-leads way calls pipes (ways.Onward way rest (bound_on h.binding lay) (bound_in h.binding fr) s.dot) g line h lay fr here l.0 s (shown h.binding)
-      l.1 st same-line (shown-plain h.binding l.0 rest l.2) (omega arith) more-fits k
+      header-leads way calls (ways.Onward way rest (bound_on h.binding lay) (bound_in h.binding fr) s.dot) g line h lay fr here l.0 s (shown h.binding)
+      l.1 st same-line (omega arith) more-fits k
       (λ v cs m place at frame deep env k. acted h.binding g lay fr l.0 rest s v cs m place st.runs l.2 at frame deep env k)
 
   -- ---- parts of controls
@@ -180,7 +168,7 @@ module _ (way : Way) (calls : Calls) (spare : ℕ) (pipes : Pipelines way) where
 
   -- a header, and in its scope one of two parts, by its value
   choosing-leads : (line : ℕ) (h : Header) (body : Value → Next) (other : Next) (g : Option Ring) (lay : Layout) (fr : Frame) (here mid rest : Code) (s : State)
-      → HeaderAt h lay here mid → PlainFor h.binding mid → Stands way.plan way.who here lay fr s → s.line ≡ line → Inside way.home g lay fr
+      → HeaderAt h lay here mid → Stands way.plan way.who here lay fr s → s.line ≡ line → Inside way.home g lay fr
       → length fr + need_of_pipeline h.pipeline ≤ way.room → length fr + declared_count h.binding ≤ way.room
       → ways.After way (ways.Onward way rest lay fr s.dot) g (scope (choosing (ways.setting way calls) line h s.dot body other) (run_of lay s))
       → ((v : Value) (cs : List Cell) (m : Bool) (place : ℕ) → drop place way.plan.code ≡ mid → frame_of lay cs ≡ fr → length lay ≤ length cs
@@ -189,9 +177,9 @@ module _ (way : Way) (calls : Calls) (spare : ℕ) (pipes : Pipelines way) where
       (one_of (truth v) (body v) other (with_bound h.binding (without_key v) (run_at lay m s)))
       → ways.Leading way (headed h.binding v cs m place s))
       → ways.Leading way s
-  choosing-leads line h body other g lay fr here mid rest s l plain st same-line inside fits more-fits k more =
-      header-leads way calls pipes (λ r. ways.Onward way rest lay fr s.dot (cut_to (named lay) r)) g line h lay fr here mid s
-      (λ v r. one_of (truth v) (body v) other (with_bound h.binding (without_key v) r)) l st same-line plain fits more-fits
+  choosing-leads line h body other g lay fr here mid rest s l st same-line inside fits more-fits k more =
+      header-leads way calls (λ r. ways.Onward way rest lay fr s.dot (cut_to (named lay) r)) g line h lay fr here mid s
+      (λ v r. one_of (truth v) (body v) other (with_bound h.binding (without_key v) r)) l st same-line fits more-fits
       (ways.unscope way (ways.Onward way rest lay fr s.dot) g lay fr (length (env_of lay s.cells))
       (choosing (ways.setting way calls) line h s.dot body other (run_of lay s)) (length-env lay s.cells st.deep) inside k) more
 
@@ -200,7 +188,7 @@ module _ (way : Way) (calls : Calls) (spare : ℕ) (pipes : Pipelines way) where
   pub if-leads : (line : ℕ) (h : Header) (body other : Nodes) → NodesLead body → NodesLead other → NodeLeads line (tree.control_node control.If h body other)
   if-leads line h body other ih-body ih-other g lay fr here rest s l st same-line inside fits more-fits k =
       choosing-leads line h (λ v. meanings (ways.setting way calls) body s.dot) (meanings (ways.setting way calls) other s.dot) g lay fr here l.0 rest s
-      l.1 (plain-for h.binding l.0 (subst Plain (sym l.2.4) refl)) st same-line inside (omega arith) (omega arith) k
+      l.1 st same-line inside (omega arith) (omega arith) k
       (λ v cs m place at frame deep env k. ways.takes way (headed h.binding v cs m place s) (code.unless (declares h.binding) l.2.2) l.2.0 st.runs (at ∙ l.2.4)
       tt
       (by v cs m place (at ∙ l.2.4) frame deep env (truth v) k))
@@ -260,7 +248,7 @@ module _ (way : Way) (calls : Calls) (spare : ℕ) (pipes : Pipelines way) where
       → NodeLeads line (tree.control_node control.With h body other)
   with-leads line h body other ih-body ih-other g lay fr here rest s l st same-line inside fits more-fits k =
       choosing-leads line h (λ v. meanings (ways.setting way calls) body v) (meanings (ways.setting way calls) other s.dot) g lay fr here l.0 rest s
-      l.1 (plain-for h.binding l.0 (subst Plain (sym l.2.4) refl)) st same-line inside (omega arith) (omega arith) k
+      l.1 st same-line inside (omega arith) (omega arith) k
       (λ v cs m place at frame deep env k. ways.takes way (headed h.binding v cs m place s) (code.enter_with (declares h.binding) l.2.2) l.2.0 st.runs
       (at ∙ l.2.4)
       (length-under h.binding cs way.room (need_of_nodes body) (let long = length-frame lay cs deep in let same = ap length frame in omega arith))

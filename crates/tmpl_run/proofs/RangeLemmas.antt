@@ -23,10 +23,10 @@ use Rattle.tmpl_run.specs.Cell.{Cell, cell, fresh}
 use Rattle.tmpl_run.specs.State.{State}
 use Rattle.tmpl_run.specs.Machine.{again, elements_for, elements_in, fault_in, goes, left_in, onto, opened, paid_if, ran_so, ring, turned, variables_on}
 use Rattle.tmpl_run.specs.Ends.{Comes}
-use Rattle.tmpl_run.proofs.AbleLemmas.{found-within}
-use Rattle.tmpl_run.proofs.HeaderLemmas.{Pipelines, Plain, run_at, value-leads, valued}
+use Rattle.tmpl_run.proofs.HeaderLemmas.{run_at, value-leads, valued}
 use Rattle.tmpl_run.proofs.NodeLemmas as nodes
 use Rattle.tmpl_run.proofs.NodeLemmas.{length-bound}
+use Rattle.tmpl_run.proofs.PipelineLemmas.{found-within}
 use Rattle.tmpl_run.proofs.PlaceLemmas.{ahead, ahead-one}
 use Rattle.tmpl_run.proofs.SlotLemmas.{First, Frame, all_grown, all_grown_in, bound_in, cut-drop, env_of, first-saved, frame-binding}
 use Rattle.tmpl_run.proofs.SlotLemmas.{frame-bound, frame-drop, frame-set, frame_of, length-env, length-frame, named, over-binding}
@@ -59,9 +59,9 @@ elements-are true (string s) es e = cc
 elements-are true (sequence vs) es e = ap elements_in e
 elements-are true (mapping entries) es e = ap elements_in e
 
-module _ (way : Way) (calls : Calls) (spare : ℕ) (pipes : Pipelines way) where
+module _ (way : Way) (calls : Calls) (spare : ℕ) where
   abbrev NodesLead : Nodes → Type 0
-  NodesLead = nodes.NodesLead way calls spare pipes
+  NodesLead = nodes.NodesLead way calls spare
 
   -- ---- the cells of the range around
 
@@ -104,7 +104,7 @@ module _ (way : Way) (calls : Calls) (spare : ℕ) (pipes : Pipelines way) where
       count : length lay - 3 ≡ w.n
       count = let size = w.over.size in omega arith
 
-  pub break-leads : (line : ℕ) → nodes.NodeLeads way calls spare pipes line tree.break_node
+  pub break-leads : (line : ℕ) → nodes.NodeLeads way calls spare line tree.break_node
   break-leads line None lay fr here rest s l st same-line w fits more-fits k = k s (returning lay fr here rest s l st w) refl
   break-leads line (Some g) lay fr here rest s l st same-line w fits more-fits k =
       ways.takes way s (code.leave l.0 l.1) rest st.runs (st.at ∙ l.3) tt
@@ -119,7 +119,7 @@ module _ (way : Way) (calls : Calls) (spare : ℕ) (pipes : Pipelines way) where
       count : l.0 ≡ w.n
       count = let size = w.over.size in let depth = w.depth in let above = l.2 in omega arith
 
-  pub continue-leads : (line : ℕ) → nodes.NodeLeads way calls spare pipes line tree.continue_node
+  pub continue-leads : (line : ℕ) → nodes.NodeLeads way calls spare line tree.continue_node
   continue-leads line None lay fr here rest s l st same-line w fits more-fits k = k s (returning lay fr here rest s l st w) refl
   continue-leads line (Some g) lay fr here rest s l st same-line w fits more-fits k =
       k s (record {
@@ -354,10 +354,10 @@ module _ (way : Way) (calls : Calls) (spare : ℕ) (pipes : Pipelines way) where
   -- ---- ranges
 
   pub range-leads : (line : ℕ) (h : Header) (body other : Nodes) → NodesLead body → NodesLead other
-      → nodes.NodeLeads way calls spare pipes line (tree.control_node control.Range h body other)
+      → nodes.NodeLeads way calls spare line (tree.control_node control.Range h body other)
   range-leads line h body other ih-body ih-other g lay fr here rest s l st same-line inside fits more-fits k =
-      value-leads way calls pipes B g line s.left h.pipeline lay fr here l.0 s go
-      l.1 st same-line (subst Plain (sym l.2.5) refl) (omega arith)
+      value-leads way calls B g line s.left h.pipeline lay fr here l.0 s go
+      l.1 st same-line (omega arith)
       (ways.unscope way A g lay fr (length (env_of lay s.cells)) (ranging (ways.setting way calls) line h s.dot (λ v. meanings (ways.setting way calls) body v)
       (meanings (ways.setting way calls) other s.dot) (run_of lay s)) (length-env lay s.cells st.deep) inside k)
       (λ v m place at k. ways.takes way (valued v m place s) (code.enter (declares_key h.binding) l.2.3) l.2.0 st.runs (at ∙ l.2.5)
@@ -383,7 +383,7 @@ module _ (way : Way) (calls : Calls) (spare : ℕ) (pipes : Pipelines way) where
           → Comes (ways.Leading way) (opened way.plan way.me l.2.3 (fresh v) s.cells o (valued v m place s)) way.end
       by v m place at None e k = ap (λ n. ran_so (valued v m place s) (Some (fault_in way.me n not_a_range))) same-line ∙ k
       by v m place at (Some []) e k =
-          nodes.part-leads way calls spare pipes other ih-other unbound g lay fr l.2.2 rest rest 0 s.dot (run_at lay m s) _
+          nodes.part-leads way calls spare other ih-other unbound g lay fr l.2.2 rest rest 0 s.dot (run_at lay m s) _
           (subst (λ n. Ended n 0 (NodesAt way.plan.templates other lay (exit_of g)) l.2.2 rest) zero-more l.2.8) refl inside (omega arith)
           (record {
             at = ahead way.plan.code l.2.0 place l.2.3 (code.enter (declares_key h.binding) l.2.3) at

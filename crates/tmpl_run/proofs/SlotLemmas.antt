@@ -14,7 +14,17 @@ use Rattle.tmpl_syntax.specs.Need.{left_behind}
 use Rattle.tmpl_code.specs.Layout.{Layout, bound_on, declared_in, found_at, grown, slot_named}
 use Rattle.tmpl_run.specs.Cell.{Cell, fresh, slot}
 use Rattle.tmpl_run.specs.State.{State}
-use Rattle.tmpl_run.proofs.PipelineLemmas.{Slots}
+
+-- the slots under so many operands are the variables
+pub record Slots (n : ℕ) (lay : Layout) (cs : List Cell) (env : Environment) : Type 0 where
+  pub found : (x : List ℕ) (k : ℕ) → slot_named x lay ≡ Some k → slot (n + k) cs ≡ lookup x env
+  pub none : (x : List ℕ) → slot_named x lay ≡ None → lookup x env ≡ nothing
+
+pub slots-more : (n : ℕ) (lay : Layout) (v : Value) (cs : List Cell) (env : Environment) → Slots n lay cs env → Slots (suc n) lay (fresh v ∷ cs) env
+slots-more n lay v cs env h = record {
+  found = λ x k e. (let one : suc n + k ≡ suc (n + k) = omega arith in ap (λ m. slot m (fresh v ∷ cs)) one ∙ h.found x k e);
+  none = h.none;
+}
 
 -- the variables that the cells hold
 abbrev pub env_of : Layout → List Cell → Environment

@@ -21,22 +21,17 @@ use Rattle.tmpl_run.specs.State.{Plan, State, starting}
 use Rattle.tmpl_run.specs.Machine.{returned_if}
 use Rattle.tmpl_run.specs.Ends.{Comes, Ends}
 use Rattle.tmpl_run.proofs.CallLemmas.{Deeper, Left, Started, TemplateLeads, call-leads, need-is, starts-at}
-use Rattle.tmpl_run.proofs.HeaderLemmas.{Pipelines}
 use Rattle.tmpl_run.proofs.NodeLemmas as nodes
 use Rattle.tmpl_run.proofs.NodeLemmas.{action-leads, if-leads, inside-grown, length-grown, spent, with-leads}
 use Rattle.tmpl_run.proofs.PlaceLemmas.{ahead-one}
 use Rattle.tmpl_run.proofs.RangeLemmas.{break-leads, continue-leads, range-leads}
 use Rattle.tmpl_run.proofs.SlotLemmas.{Frame, all_grown, all_grown_in, frame-drop, frame-grown, frame_of, grown_in, over-grown, over-none, run_of}
-use Rattle.tmpl_run.proofs.StepLemmas.{pipelines-lead}
 use Rattle.tmpl_run.proofs.WayLemmas as ways
 use Rattle.tmpl_run.proofs.WayLemmas.{Ring, Stands, Way, Who, bare, exit_of, seen, way_of, who_of}
 
 module _ (way : Way) (first : 1 ≤ way.who.depth) (linked : Starts way.plan.templates way.plan.templates way.plan.starts way.plan.code)
     (n : ℕ) (deeper : Deeper way.plan way.room way.end n) (depth : way.who.depth + n ≡ way.plan.rules.depth_limit) (base : ℕ)
     (tall : length way.home ≡ 3 + base) (left : Left way.plan.templates way.room n way.who.number base) where
-  abbrev pipes : Pipelines way
-  pipes = pipelines-lead way
-
   abbrev calls : Calls
   calls = calls_within way.plan.rules way.plan.templates n
 
@@ -54,34 +49,34 @@ module _ (way : Way) (first : 1 ≤ way.who.depth) (linked : Starts way.plan.tem
   abbrev set : Setting
   set = setting_of way.plan.rules calls way.me.0 way.me.1
 
-  control-leads : (line : ℕ) (c : Control) (h : Header) (body other : Nodes) → nodes.NodesLead way calls spare pipes body
-      → nodes.NodesLead way calls spare pipes other
-      → nodes.NodeLeads way calls spare pipes line (tree.control_node c h body other)
-  control-leads line control.If h body other ih-body ih-other = if-leads way calls spare pipes line h body other ih-body ih-other
-  control-leads line control.With h body other ih-body ih-other = with-leads way calls spare pipes line h body other ih-body ih-other
+  control-leads : (line : ℕ) (c : Control) (h : Header) (body other : Nodes) → nodes.NodesLead way calls spare body
+      → nodes.NodesLead way calls spare other
+      → nodes.NodeLeads way calls spare line (tree.control_node c h body other)
+  control-leads line control.If h body other ih-body ih-other = if-leads way calls spare line h body other ih-body ih-other
+  control-leads line control.With h body other ih-body ih-other = with-leads way calls spare line h body other ih-body ih-other
   control-leads line control.Range h body other ih-body ih-other =
-      range-leads way calls spare pipes line h body other ih-body ih-other
+      range-leads way calls spare line h body other ih-body ih-other
 
-  text-leads : (line : ℕ) (bytes : List ℕ) → nodes.NodeLeads way calls spare pipes line (tree.text bytes)
+  text-leads : (line : ℕ) (bytes : List ℕ) → nodes.NodeLeads way calls spare line (tree.text bytes)
   text-leads line bytes g lay fr here rest s l st same-line inside fits more-fits k =
       ways.takes way s (code.put bytes) rest st.runs (st.at ∙ l) tt
       (k _ (record { at = ahead-one way.plan.code rest s.place (code.put bytes) (st.at ∙ l); runs = st.runs; frame = st.frame; deep = st.deep }) refl refl)
 
   mutual
-    step-leads : (line : ℕ) (n : NodeKind) → Mine (λ name. NodeNames name n) → nodes.StepLeads way calls spare pipes line n
-    step-leads line (tree.text bytes) mine = spent way calls spare pipes line (tree.text bytes) refl (text-leads line bytes)
-    step-leads line (tree.action h) mine = spent way calls spare pipes line (tree.action h) refl (action-leads way calls spare pipes line h)
+    step-leads : (line : ℕ) (n : NodeKind) → Mine (λ name. NodeNames name n) → nodes.StepLeads way calls spare line n
+    step-leads line (tree.text bytes) mine = spent way calls spare line (tree.text bytes) refl (text-leads line bytes)
+    step-leads line (tree.action h) mine = spent way calls spare line (tree.action h) refl (action-leads way calls spare line h)
     step-leads line (tree.control_node c h body other) mine =
-        spent way calls spare pipes line (tree.control_node c h body other) refl
+        spent way calls spare line (tree.control_node c h body other) refl
         (control-leads line c h body other (λ g lay fr here rest s l st inside fits k. nodes-lead body (λ name names. mine name (inl names)) g lay fr here rest
         s l st inside fits k)
         (λ g lay fr here rest s l st inside fits k. nodes-lead other (λ name names. mine name (inr names)) g lay fr here rest s l st inside fits k))
-    step-leads line tree.break_node mine = spent way calls spare pipes line tree.break_node refl (break-leads way calls spare pipes line)
-    step-leads line tree.continue_node mine = spent way calls spare pipes line tree.continue_node refl (continue-leads way calls spare pipes line)
+    step-leads line tree.break_node mine = spent way calls spare line tree.break_node refl (break-leads way calls spare line)
+    step-leads line tree.continue_node mine = spent way calls spare line tree.continue_node refl (continue-leads way calls spare line)
     step-leads line (tree.template_node name given) mine =
-        call-leads way pipes first linked n deeper depth base spare left (let own = fits-here in omega arith) line name given (mine name refl)
+        call-leads way first linked n deeper depth base spare left (let own = fits-here in omega arith) line name given (mine name refl)
 
-    nodes-lead : (ns : Nodes) → Mine (λ name. NodesName name ns) → nodes.NodesLead way calls spare pipes ns
+    nodes-lead : (ns : Nodes) → Mine (λ name. NodesName name ns) → nodes.NodesLead way calls spare ns
     nodes-lead tree.none mine g lay fr here rest s l st inside fits k = k s (record { at = st.at ∙ l; runs = st.runs; frame = st.frame; deep = st.deep }) refl
         refl
     nodes-lead (tree.then line n ns) mine g lay fr here rest s l st inside fits k =
