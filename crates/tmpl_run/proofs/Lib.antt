@@ -1,16 +1,12 @@
 pub mod DepthLemmas
-pub mod PlaceLemmas
 pub mod SlotLemmas
 pub mod WayLemmas
 pub mod PipelineLemmas
-pub mod HeaderLemmas
 pub mod NodeLemmas
 pub mod QuietLemmas
 pub mod RangeLemmas
-pub mod CallLemmas
 pub mod TreeLemmas
 pub mod DoneLemmas
-pub mod LoopLemmas
 pub mod StackLemmas
 pub mod TurnLemmas
 pub mod ReadyLemmas

@@ -1,7 +1,7 @@
 -- For the law `comes_to_meaning`: the code of a pipeline finds its cells and has room for its need, and the run goes on behind it with the value that the
 -- pipeline gives, or stops as the pipeline does.
-use Rattle.std.proofs.Common.{arith, ◌≡◌, ◌∙◌, ◌+◌, ◌≤◌, ◌<◌, ◌||◌, ◌++◌, ℕ, zero, suc, Bool, true, false, List, [], ◌∷◌, length, map, take}
-use Rattle.std.proofs.Common.{drop, reverse, refl, ap, sym, subst, Option, Some, None, Result, Ok, Err, is_some, append_assoc}
+use Rattle.std.proofs.Common.{arith, ◌≡◌, ◌∙◌, ◌+◌, ◌≤◌, ◌<◌, ◌||◌, ◌++◌, ℕ, zero, suc, Bool, true, false, List, [], ◌∷◌, length, map, take, drop, reverse}
+use Rattle.std.proofs.Common.{refl, ap, sym, subst, Option, Some, None, Result, Ok, Err, is_some, append_assoc}
 use Rattle.std.proofs.lemmas.List.{length-map, reverse-append, reverse-reverse, length-reverse}
 use Rattle.std.proofs.Math.Bool.{or-false, or_assoc}
 use Rattle.std.proofs.Math.Seq.{drop-append_seam, take-append_seam}
@@ -10,8 +10,7 @@ use Rattle.tmpl_funcs.specs.Dispatch.{called}
 use Rattle.tmpl_funcs.specs.Func.{is_called, makes_text, takes}
 use Rattle.tmpl_funcs.specs.declared.func.Func.{Func}
 use Rattle.tmpl_funcs.specs.declared.func.Func.TheVariants.{And, Or}
-use Rattle.tmpl_grammar.specs.Tree.{Operand, dot, fields, variable, nil, function, group}
-use Rattle.tmpl_grammar.specs.Tree.{Operands, no_operand, operand, Pipeline, no_command, command}
+use Rattle.tmpl_grammar.specs.Tree.{Operand, dot, fields, variable, nil, function, group, Operands, no_operand, operand, Pipeline, no_command, command}
 use Rattle.tmpl_grammar.specs.Need.{need_of_arguments, need_of_command, need_of_commands, need_of_operand, need_of_pipeline}
 use Rattle.tmpl_meaning.specs.Fault.{Cause}
 use Rattle.tmpl_meaning.specs.Pipeline as meaning
@@ -19,18 +18,17 @@ use Rattle.tmpl_meaning.specs.Pipeline.{Environment, Given, Place, chain, comman
 use Rattle.tmpl_meaning.specs.Pipeline.{lookup, operand_value, operand_values, or_call_failed, piped_after, pipeline_value, without_null}
 use Rattle.tmpl_code.specs.Instruction.{Operation, Refusal, act, call_with, chained, decide, refuse, settle}
 use Rattle.tmpl_code.specs.Layout.{Layout, found_at, is_named, slot_named}
-use Rattle.tmpl_code.specs.Code.{BareAt, CallBy, Code, CommandAt, CommandsAt, CountedAt, DecideAt, FirstAt, JunctionAt, OperandAt, OperandsAt, Part}
-use Rattle.tmpl_code.specs.Code.{PipelineAt, VariableAt, chain_before, is_last, operand_count, piped_count}
+use Rattle.tmpl_code.specs.Code.{BareAt, CallBy, Code, CommandAt, CommandsAt, CountedAt, DecideAt, FirstAt, JunctionAt, OperandAt, OperandsAt, Part, PipelineAt}
+use Rattle.tmpl_code.specs.Code.{VariableAt, chain_before, is_last, operand_count, piped_count}
 use Rattle.tmpl_run.specs.Cell.{Cell, fresh, values_in}
 use Rattle.tmpl_run.specs.State.{State}
 use Rattle.tmpl_run.specs.Step.{Went, called_on, cause_of, decided_by, halted, lacks, made_by, on, pushed, step}
 use Rattle.tmpl_run.specs.Machine.{fault_in, piped, ran_so}
 use Rattle.tmpl_run.specs.Ready.{Fits}
 use Rattle.tmpl_run.specs.Ends.{Comes}
-use Rattle.tmpl_run.proofs.PlaceLemmas.{ahead}
+use Rattle.tmpl_run.proofs.WayLemmas.{ahead, Way, who_of}
 use Rattle.tmpl_run.proofs.SlotLemmas.{Slots, env_of, slots-are, slots-more}
 use Rattle.tmpl_run.proofs.WayLemmas as ways
-use Rattle.tmpl_run.proofs.WayLemmas.{Way, who_of}
 
 pub found-within : (x : List ℕ) (lay : Layout) (k : ℕ) → slot_named x lay ≡ Some k → k < length lay
 found-within x [] k e = cc

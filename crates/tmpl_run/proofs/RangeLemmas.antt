@@ -1,6 +1,6 @@
 -- For the law `comes_to_meaning`: the code of ranges, breaks and continues.
-use Rattle.std.proofs.Common.{arith, ◌≡◌, ◌∙◌, ◌+◌, ◌-◌, ◌≤◌, nat_eq, ℕ, suc, Bool, true, false, List, [], ◌∷◌, length, drop, refl}
-use Rattle.std.proofs.Common.{add-one, ap, sym, subst, Option, Some, None, drop-drop, length-drop}
+use Rattle.std.proofs.Common.{arith, ◌≡◌, ◌∙◌, ◌+◌, ◌-◌, ◌≤◌, nat_eq, ℕ, suc, Bool, true, false, List, [], ◌∷◌, length, drop, refl, add-one, ap, sym, subst}
+use Rattle.std.proofs.Common.{Option, Some, None, drop-drop, length-drop}
 use Rattle.std.specs.Prelude.{slice_set}
 use Rattle.std.proofs.lemmas.List.{length-set}
 use Rattle.tmpl_values.specs.Value.{Value, nothing, null, boolean, number, string, sequence, mapping}
@@ -14,26 +14,22 @@ use Rattle.tmpl_syntax.specs.Need.{need_of_nodes}
 use Rattle.tmpl_meaning.specs.Fault.{not_a_range}
 use Rattle.tmpl_meaning.specs.Pipeline.{Environment}
 use Rattle.tmpl_meaning.specs.Meaning as meaning
-use Rattle.tmpl_meaning.specs.Meaning.{Calls, End, Next, Ran, Run, Setting, after_turn, assigned, bound, meanings, oldest, on_turn, over}
-use Rattle.tmpl_meaning.specs.Meaning.{ranging, scope, scoped, setting_of, spend_if, turns, visited, with_bound}
+use Rattle.tmpl_meaning.specs.Meaning.{Calls, End, Next, Ran, Run, Setting, after_turn, assigned, bound, meanings, oldest, on_turn, over, ranging, scope}
+use Rattle.tmpl_meaning.specs.Meaning.{scoped, setting_of, spend_if, turns, visited, with_bound}
 use Rattle.tmpl_code.specs.Instruction as code
-use Rattle.tmpl_code.specs.Layout.{Layout, bound_on, declared_in, declares_key, slot_named}
+use Rattle.tmpl_code.specs.Layout.{Layout, bound_on, declared_in, declares_key, slot_named, first_layout}
 use Rattle.tmpl_code.specs.Code.{Code, Ended, NodesAt, SetDotAt, TurnAt}
 use Rattle.tmpl_run.specs.Cell.{Cell, cell, fresh}
 use Rattle.tmpl_run.specs.State.{State}
 use Rattle.tmpl_run.specs.Machine.{again, elements_for, elements_in, fault_in, goes, left_in, onto, opened, paid_if, ran_so, ring, turned, variables_on}
 use Rattle.tmpl_run.specs.Ends.{Comes}
-use Rattle.tmpl_run.proofs.HeaderLemmas.{run_at, value-leads, valued}
+use Rattle.tmpl_run.proofs.NodeLemmas.{run_at, value-leads, valued, length-bound}
 use Rattle.tmpl_run.proofs.NodeLemmas as nodes
-use Rattle.tmpl_run.proofs.NodeLemmas.{length-bound}
 use Rattle.tmpl_run.proofs.PipelineLemmas.{found-within}
-use Rattle.tmpl_run.proofs.PlaceLemmas.{ahead, ahead-one}
-use Rattle.tmpl_run.proofs.SlotLemmas.{First, Frame, all_grown, all_grown_in, bound_in, cut-drop, env_of, first-saved, frame-binding}
-use Rattle.tmpl_run.proofs.SlotLemmas.{frame-bound, frame-drop, frame-set, frame_of, length-env, length-frame, named, over-binding}
-use Rattle.tmpl_run.proofs.SlotLemmas.{over-bound, over-none, run_of, stored, stored-none}
+use Rattle.tmpl_run.proofs.WayLemmas.{ahead, ahead-one, Inside, Ring, Rooted, Stands, Way, Who, Within, bare, cut_to, exit_of}
+use Rattle.tmpl_run.proofs.SlotLemmas.{First, Frame, all_grown, all_grown_in, bound_in, cut-drop, env_of, first-saved, frame-binding, frame-bound, frame-drop}
+use Rattle.tmpl_run.proofs.SlotLemmas.{frame-set, frame_of, length-env, length-frame, named, over-binding, over-bound, over-none, run_of, stored, stored-none}
 use Rattle.tmpl_run.proofs.WayLemmas as ways
-use Rattle.tmpl_run.proofs.WayLemmas.{Inside, Ring, Rooted, Stands, Way, Who, Within, bare, cut_to, exit_of}
-use Rattle.tmpl_code.specs.Layout.{first_layout}
 
 -- ---- elements
 
@@ -274,7 +270,7 @@ module _ (way : Way) (calls : Calls) (spare : ℕ) where
                 (let below = found-within x (None ∷ None ∷ lay) i is-slot in omega arith)
                 (more (slice_set (saved ∷ cell v k ∷ cs) i (fresh e.1)) (s.place + 1 + 1)
                 (ahead-one way.plan.code first (s.place + 1) (code.set_dot i) (there ∙ l))
-                (frame-set x (None ∷ None ∷ lay) (saved ∷ cell v k ∷ cs) i (fresh e.1) is-slot (omega arith) ∙ ap (λ l. Some saved ∷ Some (cell v k) ∷ l) frame)
+                (frame-set x (None ∷ None ∷ lay) (saved ∷ cell v k ∷ cs) i e.1 is-slot (omega arith) ∙ ap (λ l. Some saved ∷ Some (cell v k) ∷ l) frame)
                 (omega (arith, length-set (saved ∷ cell v k ∷ cs) i (fresh e.1)))
                 (stored x (None ∷ None ∷ lay) (saved ∷ cell v k ∷ cs) i e.1 is-slot (omega arith)))
 
