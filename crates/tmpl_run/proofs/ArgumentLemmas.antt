@@ -1,8 +1,8 @@
 -- For `Stack::call`: the cells that a call takes are the values of its arguments, and those below stay.
-use Rattle.std.proofs.Common.{arith, ◌≡◌, ◌∙◌, ◌+◌, ◌≤◌, ◌++◌, ℕ, zero, suc, Bool, true, false, List, [], ◌∷◌, length, drop, take}
-use Rattle.std.proofs.Common.{map, reverse, refl, ap, sym, subst, Result}
-use Rattle.std.proofs.lemmas.List.{drop_at, length-drop, length-map, length-reverse, length-take-le, map-append, reverse-append}
-use Rattle.std.proofs.lemmas.List.{reverse-reverse, take-map, take_at}
+use Rattle.std.proofs.Common.{arith, ◌≡◌, ◌∙◌, ◌+◌, ◌≤◌, ◌++◌, ℕ, zero, suc, Bool, true, false, List, [], ◌∷◌, length, drop, take, map, reverse, refl, ap, sym}
+use Rattle.std.proofs.Common.{subst, Result}
+use Rattle.std.proofs.lemmas.List.{drop_at, length-drop, length-map, length-reverse, length-take-le, map-append, reverse-append, reverse-reverse, take-map}
+use Rattle.std.proofs.lemmas.List.{take_at}
 use Rattle.std.proofs.lemmas.Simd.{map-map}
 use Rattle.std.specs.List.{drop-map}
 use Rattle.std.proofs.Math.Seq.{take-add}

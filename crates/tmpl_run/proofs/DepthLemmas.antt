@@ -1,6 +1,6 @@
 -- For the law `depth_by_chains`: a template means the same where those that it calls do.
-use Rattle.std.proofs.Common.{◌≡◌, ◌∙◌, ◌||◌, ◌-◌, ◌≤◌, arith, inl, inr, sym, ℕ, zero, suc, Bool, true, false, nat_eq, List, [], ◌∷◌, length, refl, ap}
-use Rattle.std.proofs.Common.{Option, Some, None, Result, Ok, Err}
+use Rattle.std.proofs.Common.{◌≡◌, ◌∙◌, ◌||◌, ◌-◌, ◌≤◌, arith, inl, inr, sym, ℕ, zero, suc, Bool, true, false, nat_eq, List, [], ◌∷◌, length, refl, ap, Option}
+use Rattle.std.proofs.Common.{Some, None, Result, Ok, Err}
 use Rattle.std.specs.Prelude.{slice_get}
 use Rattle.tmpl_values.specs.Value.{Value}
 use Rattle.tmpl_values.specs.Elements.{Element}
@@ -15,10 +15,8 @@ use Rattle.tmpl_syntax.proofs.NamedLemmas.{Named, numbered, unnumbered}
 use Rattle.tmpl_meaning.specs.Fault as fault
 use Rattle.tmpl_meaning.specs.Pipeline.{pipeline_value}
 use Rattle.tmpl_meaning.specs.Meaning.{Calls, Cause, Next, Rules, Run, Setting, after, after_turn, without_key, apart, run_called, calls_within, choosing}
-use Rattle.tmpl_meaning.specs.Meaning.{controlled}
-use Rattle.tmpl_meaning.specs.Meaning.{handing}
-use Rattle.tmpl_meaning.specs.Meaning.{meanings, one_of, over, ran_of, ranging, scope, scoped, setting_of, shown, spend, spend_if}
-use Rattle.tmpl_meaning.specs.Meaning.{started, starting_dot, stepped, turn, turns, uncalled, visited, with_bound, with_pipeline, with_value}
+use Rattle.tmpl_meaning.specs.Meaning.{controlled, handing, meanings, one_of, over, ran_of, ranging, scope, scoped, setting_of, shown, spend, spend_if, started}
+use Rattle.tmpl_meaning.specs.Meaning.{starting_dot, stepped, turn, turns, uncalled, visited, with_bound, with_pipeline, with_value}
 use Rattle.tmpl_code.specs.Calls.{IsChain, NodeNames, NodesName}
 use Rattle.tmpl_run.specs.Laws.{DepthByChains}
 

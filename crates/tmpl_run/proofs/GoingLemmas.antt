@@ -1,6 +1,6 @@
 -- For `turns`: what the loop of a run keeps from turn to turn, said of a machine and of what was put out, and what it comes to where it ends.
-use Rattle.std.proofs.Common.{arith, inl, inr, ◌≡◌, ◌∙◌, ◌+◌, ◌||◌, ◌++◌, ◌-◌, ◌^◌, ◌<◌, ◌≤◌, ℕ, suc, Bool, true, false, List, [], ◌∷◌, length}
-use Rattle.std.proofs.Common.{get_or, refl, ap, sym, subst, append-nil, Option, Some, None, Result, Ok, Err}
+use Rattle.std.proofs.Common.{arith, inl, inr, ◌≡◌, ◌∙◌, ◌+◌, ◌||◌, ◌++◌, ◌-◌, ◌^◌, ◌<◌, ◌≤◌, ℕ, suc, Bool, true, false, List, [], ◌∷◌, length, get_or, refl}
+use Rattle.std.proofs.Common.{ap, sym, subst, append-nil, Option, Some, None, Result, Ok, Err}
 use Rattle.std.specs.Prelude.{option_map, slice_get}
 use Rattle.std.proofs.lemmas.List.{length-map}
 use Rattle.std.proofs.lemmas.Option.{get_or_from_slice_get, slice_get-get_or, slice_get-map}
@@ -35,11 +35,9 @@ use Rattle.tmpl_run.specs.declared.flow.Flow.TheVariants as flow
 use Rattle.tmpl_run.specs.declared.halt.Halt.{Halt}
 use Rattle.tmpl_run.specs.declared.halt.Halt.TheVariants as stop
 use Rattle.tmpl_run.specs.declared.machine.Machine.{Machine}
-use Rattle.tmpl_run.proofs.LoopLemmas.{ends-so, falls, finds, goes-on, is-next, ready, some-template, within-code, work}
-use Rattle.tmpl_run.proofs.MoveLemmas.{each-lessens, mark-stays, mark_next, next-depth, text-begins}
-use Rattle.tmpl_run.proofs.PastLemmas.{after_past, done-past, past-again, with_past}
+use Rattle.tmpl_run.proofs.DoneLemmas.{ends-so, falls, finds, goes-on, is-next, ready, some-template, within-code, work, after_past, done-past, each-lessens}
+use Rattle.tmpl_run.proofs.DoneLemmas.{mark-stays, mark_next, next-depth, next-within, past-again, text-begins, with_past}
 use Rattle.tmpl_run.proofs.QuietLemmas.{neither}
-use Rattle.tmpl_run.proofs.RoomLemmas.{next-within}
 use Rattle.tmpl_run.proofs.ShownLemmas.{ends-shown, mark-once, puts-once, quiet-once, shown-once, shown-within}
 
 -- what is told of a run that has put nothing out yet, in the template that a machine runs

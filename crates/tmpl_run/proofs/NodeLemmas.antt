@@ -1,34 +1,154 @@
--- For the law `comes_to_meaning`: what is to be shown of the code of a node, and that of actions, `if` and `with`.
-use Rattle.std.proofs.Common.{arith, ◌≡◌, ◌∙◌, ◌+◌, ◌≤◌, ◌++◌, ℕ, suc, Bool, true, false, List, ◌∷◌, length, drop, refl, ap, sym, subst}
-use Rattle.std.proofs.Common.{Option, Some, None, length-drop}
-use Rattle.tmpl_values.specs.Value.{Value}
+-- For the law `comes_to_meaning`: headers, what is to be shown of the code of a node, and that of actions, `if` and `with`.
+use Rattle.std.proofs.Common.{arith, ◌≡◌, ◌∙◌, ◌+◌, ◌≤◌, ◌||◌, ℕ, Bool, true, false, List, ◌∷◌, length, drop, refl, ap, sym, Option, Some, None, Result, Ok}
+use Rattle.std.proofs.Common.{Err, ◌++◌, suc, subst, length-drop}
+use Rattle.std.specs.Prelude.{slice_set}
+use Rattle.std.proofs.lemmas.List.{length-set}
+use Rattle.tmpl_values.specs.Value.{Value, nothing}
 use Rattle.tmpl_values.specs.Text.{text_of}
 use Rattle.tmpl_values.specs.Truth.{truth}
-use Rattle.tmpl_grammar.specs.Tree.{Binding, unbound, declare, assign, declare_pair, Header}
+use Rattle.tmpl_grammar.specs.Tree.{Binding, unbound, declare, assign, declare_pair, Header, Pipeline}
 use Rattle.tmpl_grammar.specs.Need.{declared_count, need_of_pipeline}
 use Rattle.tmpl_grammar.specs.declared.tree.Control.TheVariants as control
 use Rattle.tmpl_syntax.specs.Tree as tree
 use Rattle.tmpl_syntax.specs.Tree.{NodeKind, Nodes}
 use Rattle.tmpl_syntax.specs.Need.{left_behind, need_of_node, need_of_nodes}
+use Rattle.tmpl_meaning.specs.Fault.{Cause}
 use Rattle.tmpl_meaning.specs.Pipeline.{Environment}
+use Rattle.tmpl_meaning.specs.Meaning.{Calls, Next, Run, without_key, assigned, with_bound, with_pipeline, with_value, End, Ran, Setting, choosing, meanings}
+use Rattle.tmpl_meaning.specs.Meaning.{oldest, one_of, setting_of, shown, stepped, scope}
 use Rattle.tmpl_meaning.specs.Meaning as meaning
-use Rattle.tmpl_meaning.specs.Meaning.{Calls, End, Next, Ran, Run, Setting, without_key, choosing, meanings, oldest, one_of, setting_of, shown, stepped}
-use Rattle.tmpl_meaning.specs.Meaning.{scope, with_bound}
 use Rattle.tmpl_code.specs.Instruction as code
-use Rattle.tmpl_code.specs.Layout.{Layout, bound_on, declared_in, declares, grown}
-use Rattle.tmpl_code.specs.Code.{Code, Ended, HeaderAt, NodeAt, NodesAt, ShownAt, step_of}
+use Rattle.tmpl_code.specs.Layout.{Layout, bound_on, declares, slot_named, declared_in, grown}
+use Rattle.tmpl_code.specs.Code.{BindAt, Code, HeaderAt, PipelineAt, SetAt, Ended, NodeAt, NodesAt, ShownAt, step_of}
 use Rattle.tmpl_run.specs.Cell.{Cell, fresh}
 use Rattle.tmpl_run.specs.State.{State}
-use Rattle.tmpl_run.specs.Machine.{branch, goes, kept_on, top, with_dot}
+use Rattle.tmpl_run.specs.Machine.{fault_in, kept_on, ran_so, branch, goes, top, with_dot}
 use Rattle.tmpl_run.specs.Ready.{RoomIf}
 use Rattle.tmpl_run.specs.Ends.{Comes}
-use Rattle.tmpl_run.proofs.HeaderLemmas.{Pipelines, Plain, PlainFor, bound-deep, bound-env, bound-frame, header-leads, headed, run_at, under, written}
-use Rattle.tmpl_run.proofs.PlaceLemmas.{ahead, ahead-one}
-use Rattle.tmpl_run.proofs.SlotLemmas.{First, Frame, Over, all_grown, all_grown_in, bound_in, cut-drop, env_of, first-saved, frame-binding}
-use Rattle.tmpl_run.proofs.SlotLemmas.{frame-bound, frame-drop, frame-grown, frame_of, grown_in, length-env, length-frame, named}
-use Rattle.tmpl_run.proofs.SlotLemmas.{over-binding, over-bound, over-grown, run_of}
+use Rattle.tmpl_run.proofs.PipelineLemmas.{FollowsBy, Puts, found-within, given_in, pipeline-leads}
+use Rattle.tmpl_run.proofs.WayLemmas.{ahead-one, ahead, Ring, Stands, Way, Who, seen, who_of, Inside, cut_to, exit_of}
+use Rattle.tmpl_run.proofs.SlotLemmas.{Frame, bound_in, env_of, frame-set, frame_of, length-frame, run_of, stored, stored-none, First, Over, all_grown}
+use Rattle.tmpl_run.proofs.SlotLemmas.{all_grown_in, cut-drop, first-saved, frame-binding, frame-bound, frame-drop, frame-grown, grown_in, length-env, named}
+use Rattle.tmpl_run.proofs.SlotLemmas.{over-binding, over-bound, over-grown}
 use Rattle.tmpl_run.proofs.WayLemmas as ways
-use Rattle.tmpl_run.proofs.WayLemmas.{Inside, Ring, Stands, Way, Who, cut_to, exit_of}
+
+-- behind the value of a pipeline
+abbrev pub valued : Value → Bool → ℕ → State → State
+valued v m place s = record s { cells = fresh v ∷ s.cells; made_text = m; place = place }
+
+-- what a binding does to the variables that are there
+abbrev pub written : Binding → Value → Environment → Environment
+written unbound v env = env
+written (declare x) v env = env
+written (assign x) v env = assigned x v env
+written (declare_pair k x) v env = env
+
+-- what lies under the value that was bound
+abbrev pub under : Binding → List Cell → List Cell
+under unbound cs = cs
+under (declare x) cs = cs
+under (assign x) cs = cs
+under (declare_pair k x) cs = fresh nothing ∷ cs
+
+-- behind a header
+abbrev pub headed : Binding → Value → List Cell → Bool → ℕ → State → State
+headed b v cs m place s = record s { cells = fresh v ∷ under b cs; made_text = m; place = place }
+
+abbrev pub run_at : Layout → Bool → State → Run
+run_at lay m s = record { env = env_of lay s.cells; text = s.text; left = s.left; made_text = m }
+
+-- .. with so many steps left
+abbrev pub with_left : ℕ → Run → Run
+with_left left r = record r { left = left }
+
+module _ (way : Way) (calls : Calls) where
+  -- with a value on the stack goes on behind what binds it
+  set-leads : (x : List ℕ) (o : Option ℕ) (lay : Layout) (fr : Frame) (v : Value) (mid rest : Code) (s : State) (m : Bool) (place : ℕ) → who_of s ≡ way.who
+      → slot_named x lay ≡ o → SetAt o mid rest → drop place way.plan.code ≡ mid
+      → frame_of lay s.cells ≡ fr → length lay ≤ length s.cells
+      → ((cs : List Cell) (place : ℕ) → drop place way.plan.code ≡ rest → frame_of lay cs ≡ fr → length lay ≤ length cs
+      → env_of lay cs ≡ assigned x v (env_of lay s.cells) → ways.Leading way (record s { cells = fresh v ∷ cs; made_text = m; place = place }))
+      → ways.Leading way (record s { cells = fresh v ∷ s.cells; made_text = m; place = place })
+  set-leads x None lay fr v mid rest s m place same e l at frame deep more = more s.cells place (at ∙ l) frame deep (sym (stored-none x lay s.cells v e deep))
+  set-leads x (Some k) lay fr v mid rest s m place same e l at frame deep more =
+      ways.takes way (record s { cells = fresh v ∷ s.cells; made_text = m; place = place }) (code.set k) rest same (at ∙ l)
+      (let below = found-within x lay k e in omega arith)
+      (more (slice_set s.cells k (fresh v)) (place + 1) (ahead-one way.plan.code rest place (code.set k) (at ∙ l))
+      (frame-set x lay s.cells k v e deep ∙ frame) (omega (arith, length-set s.cells k (fresh v))) (stored x lay s.cells k v e deep))
+
+  bind-leads : (b : Binding) (lay : Layout) (fr : Frame) (v : Value) (mid rest : Code) (s : State) (m : Bool) (place : ℕ) → who_of s ≡ way.who
+      → BindAt b lay mid rest → drop place way.plan.code ≡ mid
+      → frame_of lay s.cells ≡ fr → length lay ≤ length s.cells → length s.cells + declared_count b ≤ way.room
+      → ((cs : List Cell) (place : ℕ) → drop place way.plan.code ≡ rest → frame_of lay cs ≡ fr → length lay ≤ length cs
+      → env_of lay cs ≡ written b v (env_of lay s.cells) → ways.Leading way (headed b v cs m place s))
+      → ways.Leading way (valued v m place s)
+  bind-leads unbound lay fr v mid rest s m place same l at frame deep fits more = more s.cells place (at ∙ l) frame deep refl
+  bind-leads (declare x) lay fr v mid rest s m place same l at frame deep fits more =
+      ways.takes way (valued v m place s) (code.hold false) rest same (at ∙ l) tt
+      (more s.cells (place + 1) (ahead-one way.plan.code rest place (code.hold false) (at ∙ l)) frame deep refl)
+  bind-leads (assign x) lay fr v mid rest s m place same l at frame deep fits more =
+      set-leads x (slot_named x lay) lay fr v mid rest s m place same refl l at frame deep more
+  bind-leads (declare_pair k x) lay fr v mid rest s m place same l at frame deep fits more =
+      ways.takes way (valued v m place s) (code.hold true) rest same (at ∙ l) (omega arith)
+      (more s.cells (place + 1) (ahead-one way.plan.code rest place (code.hold true) (at ∙ l)) frame deep refl)
+
+  -- a pipeline, behind whose value the meaning goes on
+  pub value-leads : (A : Run → Type 0) (g : Option Ring) (line left : ℕ) (p : Pipeline) (lay : Layout) (fr : Frame) (start mid : Code) (s : State)
+      (go : Value → Next)
+      → PipelineAt p lay start mid → Stands way.plan way.who start lay fr s → s.line ≡ line → length fr + need_of_pipeline p ≤ way.room
+      → ways.After way A g (with_pipeline (ways.setting way calls) line p s.dot go (with_left left (run_of lay s)))
+      → ((v : Value) (m : Bool) (place : ℕ) → drop place way.plan.code ≡ mid → ways.After way A g (go v (with_left left (run_at lay m s)))
+      → ways.Leading way (valued v m place s))
+      → ways.Leading way s
+  value-leads A g line left p lay fr start mid s go l st same-line fits k more =
+      pipeline-leads way p lay start mid s st.runs l st.at st.deep (let long = length-frame lay s.cells st.deep in let same = ap length st.frame in omega arith)
+      (by (given_in way lay s p).result (s.made_text || (given_in way lay s p).made_text) k)
+    where
+      by : (r : Result Value Cause) (m : Bool)
+          → ways.After way A g (with_value (ways.setting way calls) line r go (with_left left (run_at lay m s)))
+          → FollowsBy way s r m (Puts way s mid s.cells)
+      by (Ok v) m k = λ place at. more v m place at k
+      by (Err cause) m k = ap (λ n. ran_so (record s { made_text = m }) (Some (fault_in way.me n cause))) same-line ∙ k
+
+  -- a header
+  pub header-leads : (A : Run → Type 0) (g : Option Ring) (line : ℕ) (h : Header) (lay : Layout) (fr : Frame) (start mid : Code) (s : State) (go : Value → Next)
+      → HeaderAt h lay start mid → Stands way.plan way.who start lay fr s → s.line ≡ line
+      → length fr + need_of_pipeline h.pipeline ≤ way.room
+      → length fr + declared_count h.binding ≤ way.room
+      → ways.After way A g (with_pipeline (ways.setting way calls) line h.pipeline s.dot go (run_of lay s))
+      → ((v : Value) (cs : List Cell) (m : Bool) (place : ℕ) → drop place way.plan.code ≡ mid → frame_of lay cs ≡ fr → length lay ≤ length cs
+      → env_of lay cs ≡ written h.binding v (env_of lay s.cells)
+      → ways.After way A g (go v (run_at lay m s)) → ways.Leading way (headed h.binding v cs m place s))
+      → ways.Leading way s
+  header-leads A g line h lay fr start mid s go l st same-line fits more-fits k more =
+      value-leads A g line s.left h.pipeline lay fr start l.0 s go l.1 st same-line fits k
+      (λ v m place at k. bind-leads h.binding lay fr v l.0 mid s m place st.runs l.2 at st.frame st.deep
+      (let long = length-frame lay s.cells st.deep in let same = ap length st.frame in omega arith)
+      (λ cs place at frame deep env. more v cs m place at frame deep env k))
+
+-- what a control keeps of its header
+pub bound-env : (b : Binding) (lay : Layout) (v : Value) (cs : List Cell) (s : State) (m : Bool) → env_of lay cs ≡ written b v (env_of lay s.cells)
+    → record { env = env_of (bound_on b lay) (kept_on (declares b) (fresh v) (under b cs)); text = s.text; left = s.left; made_text = m }
+    ≡ with_bound b (without_key v) (run_at lay m s)
+bound-env unbound lay v cs s m e = ap (λ (w : Environment). let r : Run = record { env = w; text = s.text; left = s.left; made_text = m } in r) e
+bound-env (declare x) lay v cs s m e = ap (λ (w : Environment). let r : Run = record { env = (x, v) ∷ w; text = s.text; left = s.left; made_text = m } in r) e
+bound-env (assign x) lay v cs s m e = ap (λ (w : Environment). let r : Run = record { env = w; text = s.text; left = s.left; made_text = m } in r) e
+bound-env (declare_pair k x) lay v cs s m e =
+    ap (λ (w : Environment). let r : Run = record { env = (x, v) ∷ (k, nothing) ∷ w; text = s.text; left = s.left; made_text = m } in r) e
+
+pub bound-frame : (b : Binding) (lay : Layout) (fr : Frame) (v : Value) (cs : List Cell) → frame_of lay cs ≡ fr
+    → frame_of (bound_on b lay) (kept_on (declares b) (fresh v) (under b cs)) ≡ bound_in b fr
+bound-frame unbound lay fr v cs e = e
+bound-frame (declare x) lay fr v cs e = ap (λ l. None ∷ l) e
+bound-frame (assign x) lay fr v cs e = e
+bound-frame (declare_pair k x) lay fr v cs e = ap (λ l. None ∷ None ∷ l) e
+
+pub bound-deep : (b : Binding) (lay : Layout) (v : Value) (cs : List Cell) → length lay ≤ length cs
+    → length (bound_on b lay) ≤ length (kept_on (declares b) (fresh v) (under b cs))
+bound-deep unbound lay v cs h = h
+bound-deep (declare x) lay v cs h = omega arith
+bound-deep (assign x) lay v cs h = h
+bound-deep (declare_pair k x) lay v cs h = omega arith
 
 -- a cell more above those of the range around
 pub inside-more : (home : Frame) (g : Option Ring) (lay : Layout) (fr : Frame) (p : Option (List ℕ)) (c : Option Cell) → Inside home g lay fr
@@ -59,18 +179,6 @@ pub length-grown : (n : NodeKind) (fr : Frame) → length (grown_in n fr) ≡ le
 length-grown (tree.action a) fr = length-bound a.binding fr
 length-grown _ fr = omega arith
 
-shown-plain : (b : Binding) (mid rest : Code) → ShownAt b mid rest → PlainFor b mid
-shown-plain unbound mid rest l = subst Plain (sym l) refl
-shown-plain (declare x) mid rest l = tt
-shown-plain (assign x) mid rest l = subst Plain (sym l) refl
-shown-plain (declare_pair k x) mid rest l = tt
-
-pub plain-for : (b : Binding) (mid : Code) → Plain mid → PlainFor b mid
-plain-for unbound mid h = h
-plain-for (declare x) mid h = tt
-plain-for (assign x) mid h = h
-plain-for (declare_pair k x) mid h = tt
-
 -- the value of a header, and the variables under it
 length-under : (b : Binding) (cs : List Cell) (room n : ℕ) → length cs + (1 + declared_count b + n) ≤ room
     → RoomIf (declares b) (suc (length (under b cs))) room
@@ -83,7 +191,7 @@ named-bound : (b : Binding) (lay : Layout) → named lay ≤ named (bound_on b l
 named-bound unbound lay = omega arith
 named-bound _ lay = omega arith
 
-module _ (way : Way) (calls : Calls) (spare : ℕ) (pipes : Pipelines way) where
+module _ (way : Way) (calls : Calls) (spare : ℕ) where
   -- what is to be shown of nodes, and of a node whose step is taken; so many cells are left for calls
   abbrev pub NodesLead : Nodes → Type 0
   NodesLead ns =
@@ -139,8 +247,8 @@ module _ (way : Way) (calls : Calls) (spare : ℕ) (pipes : Pipelines way) where
 
   pub action-leads : (line : ℕ) (h : Header) → NodeLeads line (tree.action h)
   action-leads line h g lay fr here rest s l st same-line inside fits more-fits k =
-      header-leads way calls pipes (ways.Onward way rest (bound_on h.binding lay) (bound_in h.binding fr) s.dot) g line h lay fr here l.0 s (shown h.binding)
-      l.1 st same-line (shown-plain h.binding l.0 rest l.2) (omega arith) more-fits k
+      header-leads way calls (ways.Onward way rest (bound_on h.binding lay) (bound_in h.binding fr) s.dot) g line h lay fr here l.0 s (shown h.binding)
+      l.1 st same-line (omega arith) more-fits k
       (λ v cs m place at frame deep env k. acted h.binding g lay fr l.0 rest s v cs m place st.runs l.2 at frame deep env k)
 
   -- ---- parts of controls
@@ -180,7 +288,7 @@ module _ (way : Way) (calls : Calls) (spare : ℕ) (pipes : Pipelines way) where
 
   -- a header, and in its scope one of two parts, by its value
   choosing-leads : (line : ℕ) (h : Header) (body : Value → Next) (other : Next) (g : Option Ring) (lay : Layout) (fr : Frame) (here mid rest : Code) (s : State)
-      → HeaderAt h lay here mid → PlainFor h.binding mid → Stands way.plan way.who here lay fr s → s.line ≡ line → Inside way.home g lay fr
+      → HeaderAt h lay here mid → Stands way.plan way.who here lay fr s → s.line ≡ line → Inside way.home g lay fr
       → length fr + need_of_pipeline h.pipeline ≤ way.room → length fr + declared_count h.binding ≤ way.room
       → ways.After way (ways.Onward way rest lay fr s.dot) g (scope (choosing (ways.setting way calls) line h s.dot body other) (run_of lay s))
       → ((v : Value) (cs : List Cell) (m : Bool) (place : ℕ) → drop place way.plan.code ≡ mid → frame_of lay cs ≡ fr → length lay ≤ length cs
@@ -189,9 +297,9 @@ module _ (way : Way) (calls : Calls) (spare : ℕ) (pipes : Pipelines way) where
       (one_of (truth v) (body v) other (with_bound h.binding (without_key v) (run_at lay m s)))
       → ways.Leading way (headed h.binding v cs m place s))
       → ways.Leading way s
-  choosing-leads line h body other g lay fr here mid rest s l plain st same-line inside fits more-fits k more =
-      header-leads way calls pipes (λ r. ways.Onward way rest lay fr s.dot (cut_to (named lay) r)) g line h lay fr here mid s
-      (λ v r. one_of (truth v) (body v) other (with_bound h.binding (without_key v) r)) l st same-line plain fits more-fits
+  choosing-leads line h body other g lay fr here mid rest s l st same-line inside fits more-fits k more =
+      header-leads way calls (λ r. ways.Onward way rest lay fr s.dot (cut_to (named lay) r)) g line h lay fr here mid s
+      (λ v r. one_of (truth v) (body v) other (with_bound h.binding (without_key v) r)) l st same-line fits more-fits
       (ways.unscope way (ways.Onward way rest lay fr s.dot) g lay fr (length (env_of lay s.cells))
       (choosing (ways.setting way calls) line h s.dot body other (run_of lay s)) (length-env lay s.cells st.deep) inside k) more
 
@@ -200,7 +308,7 @@ module _ (way : Way) (calls : Calls) (spare : ℕ) (pipes : Pipelines way) where
   pub if-leads : (line : ℕ) (h : Header) (body other : Nodes) → NodesLead body → NodesLead other → NodeLeads line (tree.control_node control.If h body other)
   if-leads line h body other ih-body ih-other g lay fr here rest s l st same-line inside fits more-fits k =
       choosing-leads line h (λ v. meanings (ways.setting way calls) body s.dot) (meanings (ways.setting way calls) other s.dot) g lay fr here l.0 rest s
-      l.1 (plain-for h.binding l.0 (subst Plain (sym l.2.4) refl)) st same-line inside (omega arith) (omega arith) k
+      l.1 st same-line inside (omega arith) (omega arith) k
       (λ v cs m place at frame deep env k. ways.takes way (headed h.binding v cs m place s) (code.unless (declares h.binding) l.2.2) l.2.0 st.runs (at ∙ l.2.4)
       tt
       (by v cs m place (at ∙ l.2.4) frame deep env (truth v) k))
@@ -260,7 +368,7 @@ module _ (way : Way) (calls : Calls) (spare : ℕ) (pipes : Pipelines way) where
       → NodeLeads line (tree.control_node control.With h body other)
   with-leads line h body other ih-body ih-other g lay fr here rest s l st same-line inside fits more-fits k =
       choosing-leads line h (λ v. meanings (ways.setting way calls) body v) (meanings (ways.setting way calls) other s.dot) g lay fr here l.0 rest s
-      l.1 (plain-for h.binding l.0 (subst Plain (sym l.2.4) refl)) st same-line inside (omega arith) (omega arith) k
+      l.1 st same-line inside (omega arith) (omega arith) k
       (λ v cs m place at frame deep env k. ways.takes way (headed h.binding v cs m place s) (code.enter_with (declares h.binding) l.2.2) l.2.0 st.runs
       (at ∙ l.2.4)
       (length-under h.binding cs way.room (need_of_nodes body) (let long = length-frame lay cs deep in let same = ap length frame in omega arith))

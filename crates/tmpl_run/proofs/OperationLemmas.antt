@@ -1,6 +1,6 @@
 -- For the functions that carry out a step of a pipeline: what the step does, by what is found on the stack.
-use Rattle.std.proofs.Common.{arith, ◌≡◌, ◌∙◌, ◌+◌, ◌<◌, ◌≤◌, ◌||◌, ◌++◌, ◌^◌, ℕ, Bool, true, false, List, [], ◌∷◌, length, drop, take}
-use Rattle.std.proofs.Common.{reverse, refl, ap, sym, Result, Ok, Err, add-zero, append-nil, subst}
+use Rattle.std.proofs.Common.{arith, ◌≡◌, ◌∙◌, ◌+◌, ◌<◌, ◌≤◌, ◌||◌, ◌++◌, ◌^◌, ℕ, Bool, true, false, List, [], ◌∷◌, length, drop, take, reverse, refl, ap, sym}
+use Rattle.std.proofs.Common.{Result, Ok, Err, add-zero, append-nil, subst}
 use Rattle.std.proofs.lemmas.List.{length-drop, map-append}
 use Rattle.std.proofs.Math.Seq.{drop-drop}
 use Rattle.tmpl_values.specs.Value.{Value}
@@ -117,4 +117,10 @@ module _ (plan : Plan) (t : Template) (s : State) where
       by [] is = let none : length s.cells ≡ 0 = ap length is in absurd (omega arith)
       by (c ∷ cs) is = subst Lands (decide-stays c cs is is_or p skip (ap (decides is_or) (sym (ap (slot 0) is)) ∙ e)) lands
 
-pub ruleset operations = (call-gives, call-fails, fields-give, fields-fail, chain-gives, chain-fails, settles, decide-stays, decide-leaves, slot-first)
+pub ruleset calls = (call-gives, call-fails)
+
+pub ruleset fields = (fields-give, fields-fail)
+
+pub ruleset chains = (chain-gives, chain-fails)
+
+pub ruleset decisions = (decide-stays, decide-leaves, slot-first)

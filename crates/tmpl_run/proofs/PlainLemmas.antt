@@ -1,6 +1,5 @@
 -- For the clauses `plain`: live cells of which none holds a made text stay so, by which a run that makes no text is refused no memory.
-use Rattle.std.proofs.Common.{arith, ◌≡◌, ◌∙◌, ◌+◌, ◌-◌, ◌<◌, ◌≤◌, ℕ, zero, suc, true, false, List, [], ◌∷◌, length, take, set, get_or}
-use Rattle.std.proofs.Common.{refl, ap, sym, subst}
+use Rattle.std.proofs.Common.{arith, ◌≡◌, ◌∙◌, ◌+◌, ◌-◌, ◌<◌, ◌≤◌, ℕ, zero, suc, true, false, List, [], ◌∷◌, length, take, set, get_or, refl, ap, sym, subst}
 use Rattle.std.proofs.Math.Numerals.{add-one}
 use Rattle.tmpl_values.specs.View.{is_made}
 use Rattle.tmpl_values.specs.declared.value.Cell as held

@@ -1,7 +1,7 @@
 -- For the law `text_is_named` and the clause `spared` of `run`: a template of a set that names no function which makes a text
 -- calls none, so the mark of its run stays as it is.
-use Rattle.std.proofs.Common.{◌≡◌, ◌≢◌, ◌∙◌, ◌||◌, ◌<◌, IfSome, length, ℕ, zero, suc, nat_eq, Bool, true, false, List, [], ◌∷◌, Option}
-use Rattle.std.proofs.Common.{Some, None, Result, Ok, Err, ap, refl, subst, sym}
+use Rattle.std.proofs.Common.{◌≡◌, ◌≢◌, ◌∙◌, ◌||◌, ◌<◌, IfSome, length, ℕ, zero, suc, nat_eq, Bool, true, false, List, [], ◌∷◌, Option, Some, None, Result, Ok}
+use Rattle.std.proofs.Common.{Err, ap, refl, subst, sym}
 use Rattle.std.specs.Prelude.{◌-◌, find, get_or, option_map, slice_get, if◌then◌else◌}
 use Rattle.std.proofs.lemmas.Option.{slice_get-get_or}
 use Rattle.tmpl_values.specs.Value.{Value, nothing}
@@ -10,8 +10,7 @@ use Rattle.tmpl_values.specs.Truth.{truth}
 use Rattle.tmpl_funcs.specs.Func.{makes_text, takes}
 use Rattle.tmpl_funcs.specs.declared.func.Func.{Func}
 use Rattle.tmpl_funcs.specs.declared.func.Func.TheVariants.{And, Or}
-use Rattle.tmpl_grammar.specs.Tree.{Operand, nil, function, group, Operands, no_operand, operand, Pipeline, no_command, command}
-use Rattle.tmpl_grammar.specs.Tree.{Binding, unbound, Header}
+use Rattle.tmpl_grammar.specs.Tree.{Operand, nil, function, group, Operands, no_operand, operand, Pipeline, no_command, command, Binding, unbound, Header}
 use Rattle.tmpl_grammar.specs.declared.tree.Control.{Control}
 use Rattle.tmpl_grammar.specs.declared.tree.Control.TheVariants as control
 use Rattle.tmpl_syntax.specs.Tree as tree
@@ -19,14 +18,13 @@ use Rattle.tmpl_syntax.specs.Tree.{NodeKind, Nodes, Tree, text, action, control_
 use Rattle.tmpl_syntax.specs.Set.{Template, has_name, tree_named}
 use Rattle.tmpl_meaning.specs.Fault.{Cause}
 use Rattle.tmpl_meaning.specs.Pipeline as meaning
-use Rattle.tmpl_meaning.specs.Pipeline.{Given, Place, command_value, commands_value, decided, decides, given, given_then, go_on, junction}
-use Rattle.tmpl_meaning.specs.Pipeline.{operand_value, operand_values, pipeline_value}
-use Rattle.tmpl_meaning.specs.Meaning.{Calls, End, Next, Rules, Run, Setting, after, after_turn, without_key, broke, calls_within}
-use Rattle.tmpl_meaning.specs.Meaning.{controlled, done, faulted, handing, meanings, one_of, over, ran, scope}
-use Rattle.tmpl_meaning.specs.Meaning.{setting_of, shown, spend, spend_if, started, starting_dot, stepped, turn, turns, uncalled, run_called}
-use Rattle.tmpl_meaning.specs.Meaning.{apart, visited, with_bound, with_pipeline, with_value}
-use Rattle.tmpl_code.specs.MakesText.{commands_make_text, given_makes_text, node_makes_text, nodes_make_text, operand_makes_text}
-use Rattle.tmpl_code.specs.MakesText.{operands_make_text, pipeline_makes_text, set_makes_text}
+use Rattle.tmpl_meaning.specs.Pipeline.{Given, Place, command_value, commands_value, decided, decides, given, given_then, go_on, junction, operand_value}
+use Rattle.tmpl_meaning.specs.Pipeline.{operand_values, pipeline_value}
+use Rattle.tmpl_meaning.specs.Meaning.{Calls, End, Next, Rules, Run, Setting, after, after_turn, without_key, broke, calls_within, controlled, done, faulted}
+use Rattle.tmpl_meaning.specs.Meaning.{handing, meanings, one_of, over, ran, scope, setting_of, shown, spend, spend_if, started, starting_dot, stepped, turn}
+use Rattle.tmpl_meaning.specs.Meaning.{turns, uncalled, run_called, apart, visited, with_bound, with_pipeline, with_value}
+use Rattle.tmpl_code.specs.MakesText.{commands_make_text, given_makes_text, node_makes_text, nodes_make_text, operand_makes_text, operands_make_text}
+use Rattle.tmpl_code.specs.MakesText.{pipeline_makes_text, set_makes_text}
 use Rattle.tmpl_meaning.specs.Sink.{Sunk}
 use Rattle.tmpl_run.specs.Laws.{TextIsNamed}
 use Rattle.tmpl_run.specs.Run.{IsRun}

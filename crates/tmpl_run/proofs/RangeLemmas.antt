@@ -1,6 +1,6 @@
 -- For the law `comes_to_meaning`: the code of ranges, breaks and continues.
-use Rattle.std.proofs.Common.{arith, ◌≡◌, ◌∙◌, ◌+◌, ◌-◌, ◌≤◌, nat_eq, ℕ, suc, Bool, true, false, List, [], ◌∷◌, length, drop, refl}
-use Rattle.std.proofs.Common.{add-one, ap, sym, subst, Option, Some, None, drop-drop, length-drop}
+use Rattle.std.proofs.Common.{arith, ◌≡◌, ◌∙◌, ◌+◌, ◌-◌, ◌≤◌, nat_eq, ℕ, suc, Bool, true, false, List, [], ◌∷◌, length, drop, refl, add-one, ap, sym, subst}
+use Rattle.std.proofs.Common.{Option, Some, None, drop-drop, length-drop}
 use Rattle.std.specs.Prelude.{slice_set}
 use Rattle.std.proofs.lemmas.List.{length-set}
 use Rattle.tmpl_values.specs.Value.{Value, nothing, null, boolean, number, string, sequence, mapping}
@@ -14,26 +14,22 @@ use Rattle.tmpl_syntax.specs.Need.{need_of_nodes}
 use Rattle.tmpl_meaning.specs.Fault.{not_a_range}
 use Rattle.tmpl_meaning.specs.Pipeline.{Environment}
 use Rattle.tmpl_meaning.specs.Meaning as meaning
-use Rattle.tmpl_meaning.specs.Meaning.{Calls, End, Next, Ran, Run, Setting, after_turn, assigned, bound, meanings, oldest, on_turn, over}
-use Rattle.tmpl_meaning.specs.Meaning.{ranging, scope, scoped, setting_of, spend_if, turns, visited, with_bound}
+use Rattle.tmpl_meaning.specs.Meaning.{Calls, End, Next, Ran, Run, Setting, after_turn, assigned, bound, meanings, oldest, on_turn, over, ranging, scope}
+use Rattle.tmpl_meaning.specs.Meaning.{scoped, setting_of, spend_if, turns, visited, with_bound}
 use Rattle.tmpl_code.specs.Instruction as code
-use Rattle.tmpl_code.specs.Layout.{Layout, bound_on, declared_in, declares_key, slot_named}
+use Rattle.tmpl_code.specs.Layout.{Layout, bound_on, declared_in, declares_key, slot_named, first_layout}
 use Rattle.tmpl_code.specs.Code.{Code, Ended, NodesAt, SetDotAt, TurnAt}
 use Rattle.tmpl_run.specs.Cell.{Cell, cell, fresh}
 use Rattle.tmpl_run.specs.State.{State}
 use Rattle.tmpl_run.specs.Machine.{again, elements_for, elements_in, fault_in, goes, left_in, onto, opened, paid_if, ran_so, ring, turned, variables_on}
 use Rattle.tmpl_run.specs.Ends.{Comes}
-use Rattle.tmpl_run.proofs.AbleLemmas.{found-within}
-use Rattle.tmpl_run.proofs.HeaderLemmas.{Pipelines, Plain, run_at, value-leads, valued}
+use Rattle.tmpl_run.proofs.NodeLemmas.{run_at, value-leads, valued, length-bound}
 use Rattle.tmpl_run.proofs.NodeLemmas as nodes
-use Rattle.tmpl_run.proofs.NodeLemmas.{length-bound}
-use Rattle.tmpl_run.proofs.PlaceLemmas.{ahead, ahead-one}
-use Rattle.tmpl_run.proofs.SlotLemmas.{First, Frame, all_grown, all_grown_in, bound_in, cut-drop, env_of, first-saved, frame-binding}
-use Rattle.tmpl_run.proofs.SlotLemmas.{frame-bound, frame-drop, frame-set, frame_of, length-env, length-frame, named, over-binding}
-use Rattle.tmpl_run.proofs.SlotLemmas.{over-bound, over-none, run_of, stored, stored-none}
+use Rattle.tmpl_run.proofs.PipelineLemmas.{found-within}
+use Rattle.tmpl_run.proofs.WayLemmas.{ahead, ahead-one, Inside, Ring, Rooted, Stands, Way, Who, Within, bare, cut_to, exit_of}
+use Rattle.tmpl_run.proofs.SlotLemmas.{First, Frame, all_grown, all_grown_in, bound_in, cut-drop, env_of, first-saved, frame-binding, frame-bound, frame-drop}
+use Rattle.tmpl_run.proofs.SlotLemmas.{frame-set, frame_of, length-env, length-frame, named, over-binding, over-bound, over-none, run_of, stored, stored-none}
 use Rattle.tmpl_run.proofs.WayLemmas as ways
-use Rattle.tmpl_run.proofs.WayLemmas.{Inside, Ring, Rooted, Stands, Way, Who, Within, bare, cut_to, exit_of}
-use Rattle.tmpl_code.specs.Layout.{first_layout}
 
 -- ---- elements
 
@@ -59,9 +55,9 @@ elements-are true (string s) es e = cc
 elements-are true (sequence vs) es e = ap elements_in e
 elements-are true (mapping entries) es e = ap elements_in e
 
-module _ (way : Way) (calls : Calls) (spare : ℕ) (pipes : Pipelines way) where
+module _ (way : Way) (calls : Calls) (spare : ℕ) where
   abbrev NodesLead : Nodes → Type 0
-  NodesLead = nodes.NodesLead way calls spare pipes
+  NodesLead = nodes.NodesLead way calls spare
 
   -- ---- the cells of the range around
 
@@ -104,7 +100,7 @@ module _ (way : Way) (calls : Calls) (spare : ℕ) (pipes : Pipelines way) where
       count : length lay - 3 ≡ w.n
       count = let size = w.over.size in omega arith
 
-  pub break-leads : (line : ℕ) → nodes.NodeLeads way calls spare pipes line tree.break_node
+  pub break-leads : (line : ℕ) → nodes.NodeLeads way calls spare line tree.break_node
   break-leads line None lay fr here rest s l st same-line w fits more-fits k = k s (returning lay fr here rest s l st w) refl
   break-leads line (Some g) lay fr here rest s l st same-line w fits more-fits k =
       ways.takes way s (code.leave l.0 l.1) rest st.runs (st.at ∙ l.3) tt
@@ -119,7 +115,7 @@ module _ (way : Way) (calls : Calls) (spare : ℕ) (pipes : Pipelines way) where
       count : l.0 ≡ w.n
       count = let size = w.over.size in let depth = w.depth in let above = l.2 in omega arith
 
-  pub continue-leads : (line : ℕ) → nodes.NodeLeads way calls spare pipes line tree.continue_node
+  pub continue-leads : (line : ℕ) → nodes.NodeLeads way calls spare line tree.continue_node
   continue-leads line None lay fr here rest s l st same-line w fits more-fits k = k s (returning lay fr here rest s l st w) refl
   continue-leads line (Some g) lay fr here rest s l st same-line w fits more-fits k =
       k s (record {
@@ -274,7 +270,7 @@ module _ (way : Way) (calls : Calls) (spare : ℕ) (pipes : Pipelines way) where
                 (let below = found-within x (None ∷ None ∷ lay) i is-slot in omega arith)
                 (more (slice_set (saved ∷ cell v k ∷ cs) i (fresh e.1)) (s.place + 1 + 1)
                 (ahead-one way.plan.code first (s.place + 1) (code.set_dot i) (there ∙ l))
-                (frame-set x (None ∷ None ∷ lay) (saved ∷ cell v k ∷ cs) i (fresh e.1) is-slot (omega arith) ∙ ap (λ l. Some saved ∷ Some (cell v k) ∷ l) frame)
+                (frame-set x (None ∷ None ∷ lay) (saved ∷ cell v k ∷ cs) i e.1 is-slot (omega arith) ∙ ap (λ l. Some saved ∷ Some (cell v k) ∷ l) frame)
                 (omega (arith, length-set (saved ∷ cell v k ∷ cs) i (fresh e.1)))
                 (stored x (None ∷ None ∷ lay) (saved ∷ cell v k ∷ cs) i e.1 is-slot (omega arith)))
 
@@ -354,10 +350,10 @@ module _ (way : Way) (calls : Calls) (spare : ℕ) (pipes : Pipelines way) where
   -- ---- ranges
 
   pub range-leads : (line : ℕ) (h : Header) (body other : Nodes) → NodesLead body → NodesLead other
-      → nodes.NodeLeads way calls spare pipes line (tree.control_node control.Range h body other)
+      → nodes.NodeLeads way calls spare line (tree.control_node control.Range h body other)
   range-leads line h body other ih-body ih-other g lay fr here rest s l st same-line inside fits more-fits k =
-      value-leads way calls pipes B g line s.left h.pipeline lay fr here l.0 s go
-      l.1 st same-line (subst Plain (sym l.2.5) refl) (omega arith)
+      value-leads way calls B g line s.left h.pipeline lay fr here l.0 s go
+      l.1 st same-line (omega arith)
       (ways.unscope way A g lay fr (length (env_of lay s.cells)) (ranging (ways.setting way calls) line h s.dot (λ v. meanings (ways.setting way calls) body v)
       (meanings (ways.setting way calls) other s.dot) (run_of lay s)) (length-env lay s.cells st.deep) inside k)
       (λ v m place at k. ways.takes way (valued v m place s) (code.enter (declares_key h.binding) l.2.3) l.2.0 st.runs (at ∙ l.2.5)
@@ -383,7 +379,7 @@ module _ (way : Way) (calls : Calls) (spare : ℕ) (pipes : Pipelines way) where
           → Comes (ways.Leading way) (opened way.plan way.me l.2.3 (fresh v) s.cells o (valued v m place s)) way.end
       by v m place at None e k = ap (λ n. ran_so (valued v m place s) (Some (fault_in way.me n not_a_range))) same-line ∙ k
       by v m place at (Some []) e k =
-          nodes.part-leads way calls spare pipes other ih-other unbound g lay fr l.2.2 rest rest 0 s.dot (run_at lay m s) _
+          nodes.part-leads way calls spare other ih-other unbound g lay fr l.2.2 rest rest 0 s.dot (run_at lay m s) _
           (subst (λ n. Ended n 0 (NodesAt way.plan.templates other lay (exit_of g)) l.2.2 rest) zero-more l.2.8) refl inside (omega arith)
           (record {
             at = ahead way.plan.code l.2.0 place l.2.3 (code.enter (declares_key h.binding) l.2.3) at

@@ -1,15 +1,14 @@
 -- For `execute`: what an instruction asks for is there in a state that comes to an end, so it does not get stuck, and its place can be counted.
 use Rattle.std.proofs.lemmas.Bool.Decides.{nat_tests}
-use Rattle.std.proofs.Common.{arith, nat_lt, ◌≡◌, ◌+◌, ◌-◌, ◌^◌, ◌<◌, ◌≤◌, ℕ, zero, suc, true, false, List, [], ◌∷◌, length, drop}
-use Rattle.std.proofs.Common.{refl, subst, Option, Some, None, length-drop}
+use Rattle.std.proofs.Common.{arith, nat_lt, ◌≡◌, ◌+◌, ◌-◌, ◌^◌, ◌<◌, ◌≤◌, ℕ, zero, suc, true, false, List, [], ◌∷◌, length, drop, refl, subst, Option, Some}
+use Rattle.std.proofs.Common.{None, length-drop}
 use Rattle.std.specs.Prelude.{slice_get}
 use Rattle.tmpl_values.specs.Elements.{Element, element_at, elements, item_at}
 use Rattle.tmpl_syntax.specs.Set.{Template}
 use Rattle.tmpl_code.specs.Instruction as code
 use Rattle.tmpl_run.specs.Cell.{Cell, slot_cell}
 use Rattle.tmpl_run.specs.State.{Plan, State}
-use Rattle.tmpl_run.specs.Machine.{Turn, again, done, elements_in, has_more, invoked, left_in, returned_if}
-use Rattle.tmpl_run.specs.Machine.{ring, top, turned}
+use Rattle.tmpl_run.specs.Machine.{Turn, again, done, elements_in, has_more, invoked, left_in, returned_if, ring, top, turned}
 use Rattle.tmpl_run.specs.Ready.{Lands}
 use Rattle.tmpl_run.proofs.TurnLemmas.{none-left}
 

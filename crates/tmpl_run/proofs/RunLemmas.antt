@@ -1,6 +1,6 @@
 -- For `run`: what it comes to, by what the loop came to and what its output then gave.
-use Rattle.std.proofs.Common.{inl, inr, ◌≡◌, ◌∙◌, ◌++◌, add-zero, ℕ, List, [], refl, ap, sym, subst, Option, Some, None, Result, Ok, Err}
-use Rattle.std.proofs.Common.{append-nil, append_assoc}
+use Rattle.std.proofs.Common.{inl, inr, ◌≡◌, ◌∙◌, ◌++◌, add-zero, ℕ, List, [], refl, ap, sym, subst, Option, Some, None, Result, Ok, Err, append-nil}
+use Rattle.std.proofs.Common.{append_assoc}
 use Rattle.std.proofs.lemmas.List.{append_cancel_left}
 use Rattle.tmpl_values.specs.Put.{Begins, IsPut, Puts, appended}
 use Rattle.tmpl_values.proofs.PutLemmas.{IsPut-along, IsPut-append, appended-nil}

@@ -1,6 +1,5 @@
 -- For `turns`: what three instructions come to that are carried out at once, of which the first puts a value and the others settle and show it.
-use Rattle.std.proofs.Common.{arith, ◌≡◌, ◌∙◌, ◌+◌, ◌<◌, ◌&&◌, ◌++◌, ℕ, Bool, true, false, [], ◌∷◌, length, refl, ap, sym, subst}
-use Rattle.std.proofs.Common.{Option, Some, Ok}
+use Rattle.std.proofs.Common.{arith, ◌≡◌, ◌∙◌, ◌+◌, ◌<◌, ◌&&◌, ◌++◌, ℕ, Bool, true, false, [], ◌∷◌, length, refl, ap, sym, subst, Option, Some, Ok}
 use Rattle.std.specs.Prelude.{slice_get}
 use Rattle.std.proofs.lemmas.Option.{slice_get_within}
 use Rattle.tmpl_values.specs.Text.{text_of}
@@ -18,7 +17,7 @@ use Rattle.tmpl_run.specs.Machine.{done, goes}
 use Rattle.tmpl_run.specs.State.{Plan, State}
 use Rattle.tmpl_run.specs.Step.{on}
 use Rattle.tmpl_run.specs.computed.Turned.{added, at_once, is_shown, settles, shows, value_by}
-use Rattle.tmpl_run.proofs.LoopLemmas.{goes-on}
+use Rattle.tmpl_run.proofs.DoneLemmas.{goes-on}
 use Rattle.tmpl_run.proofs.OperationLemmas as operation
 
 -- ---- the code behind a place

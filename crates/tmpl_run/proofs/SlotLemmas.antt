@@ -1,6 +1,6 @@
 -- For the law `comes_to_meaning`: the slots of a layout are the variables of the meaning, and a part leaves all other cells equal.
-use Rattle.std.proofs.Common.{arith, ◌≡◌, ◌∙◌, ◌+◌, ◌-◌, ◌≤◌, ℕ, zero, suc, Bool, true, false, List, [], ◌∷◌, length, drop, set, refl, ap}
-use Rattle.std.proofs.Common.{sym, Option, Some, None, drop-drop}
+use Rattle.std.proofs.Common.{arith, ◌≡◌, ◌∙◌, ◌+◌, ◌-◌, ◌≤◌, ℕ, zero, suc, Bool, true, false, List, [], ◌∷◌, length, drop, set, refl, ap, sym, Option, Some}
+use Rattle.std.proofs.Common.{None, drop-drop}
 use Rattle.std.specs.Prelude.{if◌then◌else◌}
 use Rattle.std.specs.Str.{bytes_eq}
 use Rattle.tmpl_values.specs.Value.{Value, nothing}
@@ -14,7 +14,17 @@ use Rattle.tmpl_syntax.specs.Need.{left_behind}
 use Rattle.tmpl_code.specs.Layout.{Layout, bound_on, declared_in, found_at, grown, slot_named}
 use Rattle.tmpl_run.specs.Cell.{Cell, fresh, slot}
 use Rattle.tmpl_run.specs.State.{State}
-use Rattle.tmpl_run.proofs.PipelineLemmas.{Slots}
+
+-- the slots under so many operands are the variables
+pub record Slots (n : ℕ) (lay : Layout) (cs : List Cell) (env : Environment) : Type 0 where
+  pub found : (x : List ℕ) (k : ℕ) → slot_named x lay ≡ Some k → slot (n + k) cs ≡ lookup x env
+  pub none : (x : List ℕ) → slot_named x lay ≡ None → lookup x env ≡ nothing
+
+pub slots-more : (n : ℕ) (lay : Layout) (v : Value) (cs : List Cell) (env : Environment) → Slots n lay cs env → Slots (suc n) lay (fresh v ∷ cs) env
+slots-more n lay v cs env h = record {
+  found = λ x k e. (let one : suc n + k ≡ suc (n + k) = omega arith in ap (λ m. slot m (fresh v ∷ cs)) one ∙ h.found x k e);
+  none = h.none;
+}
 
 -- the variables that the cells hold
 abbrev pub env_of : Layout → List Cell → Environment
@@ -71,23 +81,30 @@ abbrev by_slot : {A : Type 0} → Option ℕ → A → (ℕ → A) → A
 by_slot None a f = a
 by_slot (Some k) a f = f k
 
--- the cell of a slot has the value of the variable
-looked_up : (x : List ℕ) (lay : Layout) (cs : List Cell) → length lay ≤ length cs
-    → lookup x (env_of lay cs) ≡ by_slot (slot_named x lay) nothing (λ k. slot k cs)
-looked_up x [] cs h = refl
-looked_up x (p ∷ ps) [] h = absurd (omega arith)
-looked_up x (None ∷ ps) (c ∷ cs) h = looked_up x ps cs (omega arith) ∙ by (slot_named x ps)
+-- by the slot of a name: the value of the variable, the variables behind an assignment to it, and that this leaves the other cells
+record Slotted (lay : Layout) (cs : List Cell) (o : Option ℕ) (v value : Value) (env : Environment) : Type 0 where
+  pub found : value ≡ by_slot o nothing (λ k. slot k cs)
+  pub write : env ≡ env_of lay (by_slot o cs (λ k. set cs k (fresh v)))
+  pub others : frame_of lay (by_slot o cs (λ k. set cs k (fresh v))) ≡ frame_of lay cs
+
+slotted : (x : List ℕ) (lay : Layout) (cs : List Cell) (v : Value) → length lay ≤ length cs
+    → Slotted lay cs (slot_named x lay) v (lookup x (env_of lay cs)) (assigned x v (env_of lay cs))
+slotted x [] cs v h = record { found = refl; write = refl; others = refl }
+slotted x (p ∷ ps) [] v h = absurd (omega arith)
+slotted x (None ∷ ps) (c ∷ cs) v h = by (slot_named x ps) (slotted x ps cs v (omega arith))
   where
-    by : (o : Option ℕ) → by_slot o nothing (λ k. slot k cs) ≡ by_slot (found_at false o) nothing (λ k. slot k (c ∷ cs))
-    by None = refl
-    by (Some j) = refl
-looked_up x (Some y ∷ ps) (c ∷ cs) h = by (bytes_eq y x) (slot_named x ps) (looked_up x ps cs (omega arith))
+    by : (o : Option ℕ) → Slotted ps cs o v (lookup x (env_of ps cs)) (assigned x v (env_of ps cs))
+        → Slotted (None ∷ ps) (c ∷ cs) (found_at false o) v (lookup x (env_of ps cs)) (assigned x v (env_of ps cs))
+    by None f = record { found = f.found; write = f.write; others = refl }
+    by (Some j) f = record { found = f.found; write = f.write; others = ap (λ t. Some c ∷ t) f.others }
+slotted x (Some y ∷ ps) (c ∷ cs) v h = by (bytes_eq y x) (slot_named x ps) (slotted x ps cs v (omega arith))
   where
-    by : (b : Bool) (o : Option ℕ) → lookup x (env_of ps cs) ≡ by_slot o nothing (λ k. slot k cs)
-        → (if b then c.val else lookup x (env_of ps cs)) ≡ by_slot (found_at b o) nothing (λ k. slot k (c ∷ cs))
-    by true o e = refl
-    by false None e = e
-    by false (Some j) e = e
+    by : (b : Bool) (o : Option ℕ) → Slotted ps cs o v (lookup x (env_of ps cs)) (assigned x v (env_of ps cs))
+        → Slotted (Some y ∷ ps) (c ∷ cs) (found_at b o) v (if b then c.val else lookup x (env_of ps cs))
+        (if b then (y, v) ∷ env_of ps cs else (y, c.val) ∷ assigned x v (env_of ps cs))
+    by true o f = record { found = refl; write = refl; others = refl }
+    by false None f = record { found = f.found; write = ap (λ t. (y, c.val) ∷ t) f.write; others = refl }
+    by false (Some j) f = record { found = f.found; write = ap (λ t. (y, c.val) ∷ t) f.write; others = ap (λ t. None ∷ t) f.others }
 
 pub slots-are : (lay : Layout) (cs : List Cell) → length lay ≤ length cs → Slots 0 lay cs (env_of lay cs)
 slots-are lay cs h = record {
@@ -96,58 +113,17 @@ slots-are lay cs h = record {
 }
   where
     is : (x : List ℕ) (o : Option ℕ) → slot_named x lay ≡ o → lookup x (env_of lay cs) ≡ by_slot o nothing (λ k. slot k cs)
-    is x o e = looked_up x lay cs h ∙ ap (λ o. by_slot o nothing (λ k. slot k cs)) e
+    is x o e = (slotted x lay cs nothing h).found ∙ ap (λ o. by_slot o nothing (λ k. slot k cs)) e
 
--- a write to the slot is the assignment
-stored-by : (x : List ℕ) (lay : Layout) (cs : List Cell) (v : Value) → length lay ≤ length cs
-    → assigned x v (env_of lay cs) ≡ env_of lay (by_slot (slot_named x lay) cs (λ k. set cs k (fresh v)))
-stored-by x [] cs v h = refl
-stored-by x (p ∷ ps) [] v h = absurd (omega arith)
-stored-by x (None ∷ ps) (c ∷ cs) v h = stored-by x ps cs v (omega arith) ∙ by (slot_named x ps)
-  where
-    by : (o : Option ℕ) → env_of ps (by_slot o cs (λ k. set cs k (fresh v)))
-        ≡ env_of (None ∷ ps) (by_slot (found_at false o) (c ∷ cs) (λ k. set (c ∷ cs) k (fresh v)))
-    by None = refl
-    by (Some j) = refl
-stored-by x (Some y ∷ ps) (c ∷ cs) v h = by (bytes_eq y x) (slot_named x ps) (stored-by x ps cs v (omega arith))
-  where
-    by : (b : Bool) (o : Option ℕ) → assigned x v (env_of ps cs) ≡ env_of ps (by_slot o cs (λ k. set cs k (fresh v)))
-        → (if b then (y, v) ∷ env_of ps cs else (y, c.val) ∷ assigned x v (env_of ps cs))
-        ≡ env_of (Some y ∷ ps) (by_slot (found_at b o) (c ∷ cs) (λ k. set (c ∷ cs) k (fresh v)))
-    by true o e = refl
-    by false None e = ap (λ t. (y, c.val) ∷ t) e
-    by false (Some j) e = ap (λ t. (y, c.val) ∷ t) e
+module _ (x : List ℕ) (lay : Layout) (cs : List Cell) where
+  pub stored : (k : ℕ) (v : Value) → slot_named x lay ≡ Some k → length lay ≤ length cs → env_of lay (set cs k (fresh v)) ≡ assigned x v (env_of lay cs)
+  stored k v e h = sym ((slotted x lay cs v h).write ∙ ap (λ o. env_of lay (by_slot o cs (λ k. set cs k (fresh v)))) e)
 
-pub stored : (x : List ℕ) (lay : Layout) (cs : List Cell) (k : ℕ) (v : Value) → slot_named x lay ≡ Some k → length lay ≤ length cs
-    → env_of lay (set cs k (fresh v)) ≡ assigned x v (env_of lay cs)
-stored x lay cs k v e h = sym (stored-by x lay cs v h ∙ ap (λ o. env_of lay (by_slot o cs (λ k. set cs k (fresh v)))) e)
+  pub stored-none : (v : Value) → slot_named x lay ≡ None → length lay ≤ length cs → assigned x v (env_of lay cs) ≡ env_of lay cs
+  stored-none v e h = (slotted x lay cs v h).write ∙ ap (λ o. env_of lay (by_slot o cs (λ k. set cs k (fresh v)))) e
 
-pub stored-none : (x : List ℕ) (lay : Layout) (cs : List Cell) (v : Value) → slot_named x lay ≡ None → length lay ≤ length cs
-    → assigned x v (env_of lay cs) ≡ env_of lay cs
-stored-none x lay cs v e h = stored-by x lay cs v h ∙ ap (λ o. env_of lay (by_slot o cs (λ k. set cs k (fresh v)))) e
-
--- which leaves the other cells
-frame-by : (x : List ℕ) (lay : Layout) (cs : List Cell) (d : Cell) → length lay ≤ length cs
-    → frame_of lay (by_slot (slot_named x lay) cs (λ k. set cs k d)) ≡ frame_of lay cs
-frame-by x [] cs d h = refl
-frame-by x (p ∷ ps) [] d h = absurd (omega arith)
-frame-by x (None ∷ ps) (c ∷ cs) d h = by (slot_named x ps) (frame-by x ps cs d (omega arith))
-  where
-    by : (o : Option ℕ) → frame_of ps (by_slot o cs (λ k. set cs k d)) ≡ frame_of ps cs
-        → frame_of (None ∷ ps) (by_slot (found_at false o) (c ∷ cs) (λ k. set (c ∷ cs) k d)) ≡ Some c ∷ frame_of ps cs
-    by None e = refl
-    by (Some j) e = ap (λ t. Some c ∷ t) e
-frame-by x (Some y ∷ ps) (c ∷ cs) d h = by (bytes_eq y x) (slot_named x ps) (frame-by x ps cs d (omega arith))
-  where
-    by : (b : Bool) (o : Option ℕ) → frame_of ps (by_slot o cs (λ k. set cs k d)) ≡ frame_of ps cs
-        → frame_of (Some y ∷ ps) (by_slot (found_at b o) (c ∷ cs) (λ k. set (c ∷ cs) k d)) ≡ None ∷ frame_of ps cs
-    by true o e = refl
-    by false None e = refl
-    by false (Some j) e = ap (λ t. None ∷ t) e
-
-pub frame-set : (x : List ℕ) (lay : Layout) (cs : List Cell) (k : ℕ) (d : Cell) → slot_named x lay ≡ Some k → length lay ≤ length cs
-    → frame_of lay (set cs k d) ≡ frame_of lay cs
-frame-set x lay cs k d e h = ap (λ o. frame_of lay (by_slot o cs (λ k. set cs k d))) (sym e) ∙ frame-by x lay cs d h
+  pub frame-set : (k : ℕ) (v : Value) → slot_named x lay ≡ Some k → length lay ≤ length cs → frame_of lay (set cs k (fresh v)) ≡ frame_of lay cs
+  frame-set k v e h = ap (λ o. frame_of lay (by_slot o cs (λ k. set cs k (fresh v)))) (sym e) ∙ (slotted x lay cs v h).others
 
 length-below : (cs : List Cell) → length (below cs) ≡ length cs
 length-below [] = refl

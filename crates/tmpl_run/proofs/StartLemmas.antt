@@ -13,8 +13,7 @@ use Rattle.tmpl_run.specs.computed.View.{size_of}
 use Rattle.tmpl_run.specs.declared.machine.Machine.{Machine}
 use Rattle.tmpl_run.specs.Ends.{Ends}
 use Rattle.tmpl_run.specs.State.{Plan, State, starting}
-use Rattle.tmpl_run.proofs.CallLemmas.{Started, need-is, starts-at}
-use Rattle.tmpl_run.proofs.TreeLemmas.{run-leads}
+use Rattle.tmpl_run.proofs.TreeLemmas.{Started, need-is, starts-at, run-leads}
 
 -- the run of the template that a state runs, over its dot
 abbrev pub ran_from : Plan → State → Ran

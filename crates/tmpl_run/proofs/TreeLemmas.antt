@@ -1,42 +1,297 @@
--- For the law `comes_to_meaning`: the code of a template comes to what the template means, by induction on the depth of calls.
-use Rattle.std.proofs.Common.{arith, ◌≡◌, ◌∙◌, ◌+◌, ◌-◌, ◌≤◌, nat_lt, ℕ, zero, suc, List, [], ◌∷◌, length, drop, refl, ap, sym, subst, inl, inr, Some, None}
+-- For the law `comes_to_meaning`: the code of a call and of a template comes to what they mean, by induction on the depth of calls.
+use Rattle.std.proofs.lemmas.Bool.Decides.{nat_tests}
+use Rattle.std.proofs.Common.{arith, ◌≡◌, ◌∙◌, ◌+◌, ◌-◌, ◌≤◌, ◌<◌, nat_eq, nat_lt, ℕ, zero, suc, Bool, true, false, List, [], ◌∷◌, length, drop, refl, ap, sym}
+use Rattle.std.proofs.Common.{subst, Option, Some, None, Err, inl, inr}
 use Rattle.std.specs.Prelude.{slice_get}
-use Rattle.tmpl_grammar.specs.Tree.{Header}
+use Rattle.tmpl_values.specs.Value.{Value, nothing}
+use Rattle.tmpl_grammar.specs.Tree.{Pipeline, Header}
+use Rattle.tmpl_grammar.specs.Need.{need_of_given}
 use Rattle.tmpl_grammar.specs.declared.tree.Control.{Control}
 use Rattle.tmpl_grammar.specs.declared.tree.Control.TheVariants as control
-use Rattle.tmpl_values.specs.Value.{Value, nothing}
 use Rattle.tmpl_syntax.specs.Tree as tree
-use Rattle.tmpl_syntax.specs.Tree.{NodeKind, Nodes}
 use Rattle.tmpl_syntax.specs.Need.{need}
-use Rattle.tmpl_syntax.specs.Set.{Template}
+use Rattle.tmpl_syntax.specs.Set.{Template, number_of, tree_named}
+use Rattle.tmpl_syntax.proofs.NamedLemmas.{Named, numbered, unnumbered}
+use Rattle.tmpl_syntax.specs.Tree.{NodeKind, Nodes}
+use Rattle.tmpl_meaning.specs.Fault as fault
 use Rattle.tmpl_meaning.specs.Meaning as meaning
-use Rattle.tmpl_meaning.specs.Meaning.{Calls, End, Next, Ran, Run, Setting, calls_within, meanings, ran_of, ran_with, setting_of, started, stepped}
+use Rattle.tmpl_meaning.specs.Meaning.{Calls, End, Next, Ran, Rules, Run, Setting, apart, run_called, calls_within, handing, left_by, meanings, setting_of}
+use Rattle.tmpl_meaning.specs.Meaning.{spend_if, uncalled, with_value, ran_of, ran_with, started, stepped}
 use Rattle.tmpl_code.specs.Instruction as code
-use Rattle.tmpl_code.specs.Layout.{declared_in, first_layout, grown}
-use Rattle.tmpl_code.specs.Calls.{NodeNames, NodesName}
-use Rattle.tmpl_code.specs.Room.{Suffices}
-use Rattle.tmpl_code.specs.Code.{Code, NodesAt, Starts}
-use Rattle.tmpl_run.specs.Cell.{cell}
+use Rattle.tmpl_code.specs.Layout.{Layout, first_layout, declared_in, grown}
+use Rattle.tmpl_code.specs.Calls.{IsChain, NodesName, NodeNames}
+use Rattle.tmpl_code.specs.Room.{need_at, need_found, needs_along, Suffices}
+use Rattle.tmpl_code.specs.Code.{CallAt, Code, GivenAt, Starts, TreeAt, step_of_call, NodesAt}
+use Rattle.tmpl_run.specs.Cell.{Cell, cell, fresh}
 use Rattle.tmpl_run.specs.State.{Plan, State, starting}
-use Rattle.tmpl_run.specs.Machine.{returned_if}
+use Rattle.tmpl_run.specs.Machine.{deepened, frame, goes, invoked, paid_if, returned_if}
 use Rattle.tmpl_run.specs.Ends.{Comes, Ends}
-use Rattle.tmpl_run.proofs.CallLemmas.{Deeper, Left, Started, TemplateLeads, call-leads, need-is, starts-at}
-use Rattle.tmpl_run.proofs.HeaderLemmas.{Pipelines}
+use Rattle.tmpl_run.proofs.CallingLemmas.{entered}
+use Rattle.tmpl_run.proofs.NodeLemmas.{run_at, value-leads, valued, with_left, action-leads, if-leads, inside-grown, length-grown, spent, with-leads}
 use Rattle.tmpl_run.proofs.NodeLemmas as nodes
-use Rattle.tmpl_run.proofs.NodeLemmas.{action-leads, if-leads, inside-grown, length-grown, spent, with-leads}
-use Rattle.tmpl_run.proofs.PlaceLemmas.{ahead-one}
-use Rattle.tmpl_run.proofs.RangeLemmas.{break-leads, continue-leads, range-leads}
-use Rattle.tmpl_run.proofs.SlotLemmas.{Frame, all_grown, all_grown_in, frame-drop, frame-grown, frame_of, grown_in, over-grown, over-none, run_of}
-use Rattle.tmpl_run.proofs.StepLemmas.{pipelines-lead}
+use Rattle.tmpl_run.proofs.WayLemmas.{ahead, ahead-one, Ring, Stands, Way, Who, way_of, who_of, bare, exit_of, seen}
+use Rattle.tmpl_run.proofs.SlotLemmas.{Frame, below, below-same, env_of, frame_of, length-frame, run_of, all_grown, all_grown_in, frame-drop, frame-grown}
+use Rattle.tmpl_run.proofs.SlotLemmas.{grown_in, over-grown, over-none}
 use Rattle.tmpl_run.proofs.WayLemmas as ways
-use Rattle.tmpl_run.proofs.WayLemmas.{Ring, Stands, Way, Who, bare, exit_of, seen, way_of, who_of}
+use Rattle.tmpl_run.proofs.RangeLemmas.{break-leads, continue-leads, range-leads}
+
+-- what names call
+calls-none : (rules : Rules) (ts : List Template) (n : ℕ) (name : List ℕ) → tree_named name ts ≡ None
+    → calls_within rules ts n name ≡ Err (fault.no_template name)
+calls-none rules ts zero name e = ap (uncalled rules name) e
+calls-none rules ts (suc n) name e = ap (run_called rules (calls_within rules ts n) name) e
+
+-- the code of each template lies where it starts
+pub record Started (all : List Template) (t : Template) (places : List ℕ) (code : Code) (k : ℕ) : Type 0 where
+  pub place : ℕ
+  pub at : slice_get places k ≡ Some place
+  pub rest : Code
+  pub laid : TreeAt all t.1.nodes (drop place code) rest
+
+pub starts-at : (all ts : List Template) (places : List ℕ) (code : Code) (k : ℕ) (t : Template) → Starts all ts places code → slice_get ts k ≡ Some t
+    → Started all t places code k
+starts-at all [] [] code k t l e = cc
+starts-at all [] (p ∷ places) code k t l e = absurd l
+starts-at all (u ∷ ts) [] code k t l e = absurd l
+starts-at all (u ∷ ts) (p ∷ places) code zero t l e =
+    let same : u ≡ t = cc in record { place = p; at = refl; rest = l.0.0; laid = subst (λ (v : Template). TreeAt all v.1.nodes (drop p code) l.0.0) same l.0.1 }
+starts-at all (u ∷ ts) (p ∷ places) code (suc k) t l e =
+    let more = starts-at all ts places code k t l.1 e in record { place = more.place; at = more.at; rest = more.rest; laid = more.laid }
+
+-- what the template of a number needs
+pub need-is : (ts : List Template) (k : ℕ) (t : Template) → slice_get ts k ≡ Some t → need_at ts k ≡ need t.1
+need-is ts k t e = ap need_found e
+
+-- above so many cells there is room for a template and for each chain of so many more calls from it
+abbrev pub Left : List Template → ℕ → ℕ → ℕ → ℕ → Type 0
+Left ts room n number base = (rest : List ℕ) → IsChain ts number rest → length rest ≤ n → base + needs_along ts number rest ≤ room
+
+-- ---- calls
+
+-- the three cells of a template that is called
+abbrev called_frame : Cell → Cell → List Cell → Frame
+called_frame back saved cs = None ∷ Some back ∷ Some saved ∷ below cs
+
+framed : (ds : List Cell) (back saved : Cell) (cs : List Cell) → frame_of first_layout ds ≡ called_frame back saved cs
+    → (c : Cell) × (ds ≡ c ∷ back ∷ saved ∷ cs)
+framed [] back saved cs e = cc
+framed (c ∷ []) back saved cs e = let no : [] ≡ Some back ∷ Some saved ∷ below cs = ap (drop 1) e in cc
+framed (c ∷ b ∷ []) back saved cs e = let no : [] ≡ Some saved ∷ below cs = ap (drop 2) e in cc
+framed (c ∷ b ∷ d ∷ ds) back saved cs e =
+    let first : Some b ∷ Some d ∷ below ds ≡ Some back ∷ Some saved ∷ below cs = ap (drop 1) e in
+    let second : Some d ∷ below ds ≡ Some saved ∷ below cs = ap (drop 1) first in
+    let same : b ≡ back = cc in
+    let same-too : d ≡ saved = cc in
+    (c, ap (λ x. c ∷ x ∷ d ∷ ds) same ∙ ap (λ x. c ∷ back ∷ x ∷ ds) same-too ∙ ap (λ l. c ∷ back ∷ saved ∷ l) (below-same ds cs (ap (drop 1) second)))
+
+-- a template from its start, inside which so many calls may still be made
+abbrev pub TemplateLeads : Plan → ℕ → Ran → ℕ → Type 0
+TemplateLeads plan room f n =
+    (who : Who) (me : Template) (is-me : slice_get plan.templates who.number ≡ Some me) → 1 ≤ who.depth → who.depth + n ≡ plan.rules.depth_limit
+    → (home : Frame) (s : State) → who_of s ≡ who → slice_get plan.starts who.number ≡ Some s.place → frame_of first_layout s.cells ≡ home → 3 ≤ length s.cells
+    → (base : ℕ) → length home ≡ 3 + base → Left plan.templates room n who.number base
+    → ways.After (way_of plan room f who me is-me home) (ways.Leaves (way_of plan room f who me is-me home)) None
+    (meanings (setting_of plan.rules (calls_within plan.rules plan.templates n) me.0 me.1) me.1.nodes s.dot (run_of first_layout s))
+    → Ends plan room s f
+
+-- what is known of the templates that may be called
+abbrev pub Deeper : Plan → ℕ → Ran → ℕ → Type 0
+Deeper plan room f zero = Unit {0}
+Deeper plan room f (suc n) = TemplateLeads plan room f n
+
+module _ (way : Way) (first : 1 ≤ way.who.depth) (linked : Starts way.plan.templates way.plan.templates way.plan.starts way.plan.code)
+  where
+    abbrev calls_of : ℕ → Calls
+    calls_of n = calls_within way.plan.rules way.plan.templates n
+
+    abbrev set_of : ℕ → Setting
+    set_of n = ways.setting way (calls_of n)
+
+    -- inside a template that a state calls
+    abbrev inside-of : State → (number : ℕ) (t : Template) → slice_get way.plan.templates number ≡ Some t → ℕ → Way
+    inside-of s number t is-t place =
+        way_of way.plan way.room way.end (record { number = number; depth = suc s.depth }) t is-t
+        (called_frame (cell nothing (place + 1)) (cell s.dot s.template) s.cells)
+
+    -- a template that is called goes back to its caller
+    goes-back : (A : Run → Type 0) (g : Option Ring) (lay : Layout) (fr : Frame) (rest : Code) (s : State) (number : ℕ) (t : Template)
+        (is-t : slice_get way.plan.templates number ≡ Some t) (v : Value) (place : ℕ)
+        → Stands way.plan way.who rest lay fr (record s { place = place + 1 })
+        → (x : Run × End) → ways.After way (ways.Onward way rest lay fr s.dot) g (meaning.returned (env_of lay s.cells) x)
+        → ways.After (inside-of s number t is-t place) (ways.Leaves (inside-of s number t is-t place)) None x
+    goes-back A g lay fr rest s number t is-t v place st x k = by x.1 k
+      where
+        callee : Way
+        callee = inside-of s number t is-t place
+
+        back : ways.Onward way rest lay fr s.dot (record x.0 { env = env_of lay s.cells }) → ways.Leaves callee x.0
+        back h u ret same =
+            ways.takes callee u (code.return_from ret.n) ret.more ret.runs ret.at tt
+            (subst (λ b. Comes (ways.Leading way) (returned_if b (drop ret.n u.cells) u) way.end) (sym inner)
+            (subst (λ cs. Comes (ways.Leading way) (frame cs (λ back saved cs. goes
+            (record u { cells = cs; dot = saved.val; template = saved.num; depth = u.depth - 1; place = back.num }))) way.end) (sym cells.1)
+            (h (record u { cells = s.cells; dot = s.dot; template = s.template; depth = u.depth - 1; place = place + 1 })
+            (record {
+              at = st.at;
+              runs = ap (λ n. let w : Who = record { number = s.template; depth = n } in w)
+                  (let d = deep in let same : u.depth - 1 ≡ s.depth = omega arith in same) ∙ st.runs;
+              frame = st.frame;
+              deep = st.deep;
+            })
+            refl (ap (λ (r : Run). record r { env = env_of lay s.cells }) same))))
+          where
+            deep : u.depth ≡ suc s.depth
+            deep = ap (λ (w : Who). w.depth) ret.runs
+
+            inner : nat_lt 1 u.depth ≡ true
+            inner = let d = deep in let one = first in let same : s.depth ≡ way.who.depth = ap (λ (w : Who). w.depth) st.runs in let other : 2 ≤ u.depth =
+                omega arith in grind (arith, nat_tests)
+
+            cells : (c : Cell) × (drop ret.n u.cells ≡ c ∷ cell nothing (place + 1) ∷ cell s.dot s.template ∷ s.cells)
+            cells = framed (drop ret.n u.cells) (cell nothing (place + 1)) (cell s.dot s.template) s.cells ret.frame
+
+        by : (e : End) → ways.Then way (ways.Onward way rest lay fr s.dot) g (record x.0 { env = env_of lay s.cells }) (left_by e)
+            → ways.Then callee (ways.Leaves callee) None x.0 e
+        by meaning.done k = back k
+        by meaning.broke k = back k
+        by meaning.continued k = back k
+        by (meaning.faulted w) k = k
+
+    -- the call itself, with its value on the stack
+    invokes : (m : ℕ) → TemplateLeads way.plan way.room way.end m → way.who.depth + suc m ≡ way.plan.rules.depth_limit
+        → (g : Option Ring) (lay : Layout) (fr : Frame) (rest : Code) (s : State) (name : List ℕ) (number : ℕ) (named : Named name way.plan.templates number)
+        (v : Value) (made : Bool) (place : ℕ)
+        → nat_eq s.left 0 ≡ false → Stands way.plan way.who rest lay fr (record s { place = place + 1 }) → drop place way.plan.code ≡ code.invoke number ∷ rest
+        → Left way.plan.templates way.room m number (length s.cells)
+        → ways.After way (ways.Onward way rest lay fr s.dot) g (apart v (meanings (setting_of way.plan.rules (calls_of m) name named.t.1) named.t.1.nodes v)
+        (with_left (s.left - 1) (run_at lay made s)))
+        → ways.Leading way (valued v made place s)
+    invokes m callee depth g lay fr rest s name number named v made place some st at left k =
+        ways.takes way (valued v made place s) (code.invoke number) rest st.runs at
+        (let a = own in let b = most in omega arith)
+        (subst (λ o. Comes (ways.Leading way) (invoked way.plan way.me number o (fresh v) s.cells (valued v made place s)) way.end) (sym start.at)
+        (subst
+        (λ b. Comes (ways.Leading way) (paid_if b way.plan way.me s.line (valued v made place s) (λ t. goes (entered number start.place v s.cells t))) way.end)
+        (sym some)
+        (callee (record { number = number; depth = suc s.depth }) named.t named.at (omega arith)
+        (let same : s.depth ≡ way.who.depth = ap (λ (w : Who). w.depth) st.runs in omega arith)
+        (called_frame (cell nothing (place + 1)) (cell s.dot s.template) s.cells) inside refl start.at refl (omega arith) (length s.cells) length-called left
+        (goes-back (ways.Onward way rest lay fr s.dot) g lay fr rest (record s { made_text = made }) number named.t named.at v place
+        (record { at = st.at; runs = st.runs; frame = st.frame; deep = st.deep })
+        (meanings (setting_of way.plan.rules (calls_of m) named.t.0 named.t.1) named.t.1.nodes v (run_of first_layout inside))
+        (subst (λ (n : List ℕ). ways.After way (ways.Onward way rest lay fr s.dot) g
+        (apart v (meanings (setting_of way.plan.rules (calls_of m) n named.t.1) named.t.1.nodes v) (with_left (s.left - 1) (run_at lay made s)))) named.same
+        k)))))
+      where
+        start : Started way.plan.templates named.t way.plan.starts way.plan.code number
+        start = starts-at way.plan.templates way.plan.templates way.plan.starts way.plan.code number named.t linked named.at
+
+        inside : State
+        inside = entered number start.place v s.cells (record s { left = s.left - 1; made_text = made; place = place })
+
+        own : length s.cells + need_at way.plan.templates number ≤ way.room
+        own = left [] tt (omega arith)
+
+        most : need_at way.plan.templates number ≡ need named.t.1
+        most = need-is way.plan.templates number named.t named.at
+
+        length-called : length (called_frame (cell nothing (place + 1)) (cell s.dot s.template) s.cells) ≡ 3 + length s.cells
+        length-called = let same = length-frame [] s.cells (omega arith) in omega arith
+
+    pub call-leads : (n : ℕ) → Deeper way.plan way.room way.end n → way.who.depth + n ≡ way.plan.rules.depth_limit → (base spare : ℕ)
+        → Left way.plan.templates way.room n way.who.number base
+        → way.room ≤ base + need way.me.1 + spare → (line : ℕ) (name : List ℕ) (given : Option Pipeline) → NodesName name way.me.1.nodes
+        → nodes.StepLeads way (calls_of n) spare line (tree.template_node name given)
+    call-leads n deeper depth base spare left tight line name given is-named g lay fr here start rest s l at-node st inside fits more-fits k =
+        by (number_of name way.plan.templates) refl l at-node
+      where
+        A : Run → Type 0
+        A = ways.Onward way rest lay fr s.dot
+
+        by : (o : Option ℕ) → number_of name way.plan.templates ≡ o → here ≡ step_of_call line o ∷ start
+            → CallAt name o given lay start rest → ways.Leading way s
+        by None e l at-node =
+            ways.spends way (calls_of n) A g lay line start s (meaning.calling (set_of n) line name given s.dot) st.runs (st.at ∙ l) k
+            (λ at k. ways.takes way (ways.step_taken line s) (code.act (code.refuse (code.no_template name))) rest st.runs (at ∙ at-node) tt
+            (subst (λ c. ways.After way A g (with_value (set_of n) line c (handing (set_of n) line given s.dot) (run_of lay (ways.step_taken line s))))
+            (calls-none way.plan.rules way.plan.templates n name (unnumbered name way.plan.templates e)) k))
+        by (Some number) e l at-node =
+            ways.takes way s (code.deepen line) start st.runs (st.at ∙ l) tt (pays (nat_eq s.left 0) refl k)
+          where
+            named : Named name way.plan.templates number
+            named = numbered name way.plan.templates number e
+
+            same-depth : s.depth ≡ way.who.depth
+            same-depth = ap (λ (w : Who). w.depth) st.runs
+
+            next : State
+            next = record s { line = line; place = s.place + 1 }
+
+            there : drop (s.place + 1) way.plan.code ≡ start
+            there = ahead-one way.plan.code start s.place (code.deepen line) (st.at ∙ l)
+
+            -- a chain of calls from there is one from here, with one call more
+            deeper-left : (m : ℕ) → Left way.plan.templates way.room (suc m) way.who.number base → length fr + spare ≤ way.room
+                → Left way.plan.templates way.room m number (length s.cells)
+            deeper-left m left fits rest chain short =
+                let long : length fr ≡ length s.cells = sym (ap length st.frame) ∙ length-frame lay s.cells st.deep in
+                let mine = need-is way.plan.templates way.who.number way.me way.is-me in
+                let all = left (number ∷ rest) (record { caller = way.me; at = way.is-me; name = name; named = is-named; number = e }, chain) (omega arith) in
+                omega arith
+
+            enters : (n : ℕ) → Deeper way.plan way.room way.end n → way.who.depth + n ≡ way.plan.rules.depth_limit
+                → Left way.plan.templates way.room n way.who.number base → length fr + need_of_given given + spare ≤ way.room
+                → nat_eq s.left 0 ≡ false
+                → ways.After way A g
+                (with_value (set_of n) line (calls_of n name) (handing (set_of n) line given s.dot) (with_left (s.left - 1) (run_of lay s)))
+                → Comes (ways.Leading way) (deepened false (nat_lt s.depth way.plan.rules.depth_limit) way.plan way.me line s) way.end
+            enters zero deeper depth left fits some k =
+                subst (λ b. Comes (ways.Leading way) (deepened false b way.plan way.me line s) way.end) (sym closed)
+                (subst (λ c. ways.After way A g (with_value (set_of zero) line c (handing (set_of zero) line given s.dot)
+                (with_left (s.left - 1) (run_of lay s)))) (ap (uncalled way.plan.rules name) named.tree) k)
+              where
+                closed : nat_lt s.depth way.plan.rules.depth_limit ≡ false
+                closed = let same = same-depth in let under : way.plan.rules.depth_limit ≤ s.depth = omega arith in grind (arith, nat_tests)
+            enters (suc m) deeper depth left fits some k =
+                subst (λ b. Comes (ways.Leading way) (deepened false b way.plan way.me line s) way.end) (sym is-open)
+                (hands given at-node fits (subst (λ c. ways.After way A g (with_value (set_of (suc m)) line c (handing (set_of (suc m)) line given s.dot)
+                (with_left (s.left - 1) (run_of lay s)))) (ap (run_called way.plan.rules (calls_of m) name) named.tree) k))
+              where
+                is-open : nat_lt s.depth way.plan.rules.depth_limit ≡ true
+                is-open = let same = same-depth in let over : s.depth < way.plan.rules.depth_limit = omega arith in grind (arith, nat_tests)
+
+                body : Value → Next
+                body v = apart v (meanings (setting_of way.plan.rules (calls_of m) name named.t.1) named.t.1.nodes v)
+
+                gets : (v : Value) (made : Bool) (place : ℕ) → drop place way.plan.code ≡ code.invoke number ∷ rest
+                    → ways.After way A g (body v (with_left (s.left - 1) (run_at lay made s))) → ways.Leading way (valued v made place next)
+                gets v made place at k = invokes m deeper depth g lay fr rest next name number named v made place some
+                    (record { at = ahead-one way.plan.code rest place (code.invoke number) at; runs = st.runs; frame = st.frame; deep = st.deep }) at
+                    (deeper-left m left (omega arith)) k
+
+                hands : (given : Option Pipeline) → GivenAt given lay start (code.invoke number ∷ rest)
+                    → length fr + need_of_given given + spare ≤ way.room
+                    → ways.After way A g (handing (set_of (suc m)) line given s.dot body (with_left (s.left - 1) (run_of lay s))) → ways.Leading way next
+                hands None l fits k =
+                    ways.takes way next (code.act code.push_nothing) (code.invoke number ∷ rest) st.runs (there ∙ l)
+                    (let long = sym (ap length st.frame) ∙ length-frame lay s.cells st.deep in omega arith)
+                    (gets nothing s.made_text (s.place + 1 + 1 + 0)
+                    (ahead way.plan.code (code.invoke number ∷ rest) (s.place + 1) 0 (code.act code.push_nothing)
+                    (there ∙ l)) k)
+                hands (Some p) l fits k =
+                    value-leads way (calls_of (suc m)) A g line (s.left - 1) p lay fr start (code.invoke number ∷ rest) next body l
+                    (record { at = there; runs = st.runs; frame = st.frame; deep = st.deep }) refl (omega arith) k
+                    (λ v made place at k. gets v made place at k)
+
+            pays : (b : Bool) → nat_eq s.left 0 ≡ b → ways.After way A g (spend_if b (set_of n) line (meaning.calling (set_of n) line name given s.dot)
+                (run_of lay s))
+                → Comes (ways.Leading way) (deepened b (nat_lt s.depth way.plan.rules.depth_limit) way.plan way.me line s) way.end
+            pays true is k = k
+            pays false is k = enters n deeper depth left fits is k
 
 module _ (way : Way) (first : 1 ≤ way.who.depth) (linked : Starts way.plan.templates way.plan.templates way.plan.starts way.plan.code)
     (n : ℕ) (deeper : Deeper way.plan way.room way.end n) (depth : way.who.depth + n ≡ way.plan.rules.depth_limit) (base : ℕ)
     (tall : length way.home ≡ 3 + base) (left : Left way.plan.templates way.room n way.who.number base) where
-  abbrev pipes : Pipelines way
-  pipes = pipelines-lead way
-
   abbrev calls : Calls
   calls = calls_within way.plan.rules way.plan.templates n
 
@@ -54,34 +309,34 @@ module _ (way : Way) (first : 1 ≤ way.who.depth) (linked : Starts way.plan.tem
   abbrev set : Setting
   set = setting_of way.plan.rules calls way.me.0 way.me.1
 
-  control-leads : (line : ℕ) (c : Control) (h : Header) (body other : Nodes) → nodes.NodesLead way calls spare pipes body
-      → nodes.NodesLead way calls spare pipes other
-      → nodes.NodeLeads way calls spare pipes line (tree.control_node c h body other)
-  control-leads line control.If h body other ih-body ih-other = if-leads way calls spare pipes line h body other ih-body ih-other
-  control-leads line control.With h body other ih-body ih-other = with-leads way calls spare pipes line h body other ih-body ih-other
+  control-leads : (line : ℕ) (c : Control) (h : Header) (body other : Nodes) → nodes.NodesLead way calls spare body
+      → nodes.NodesLead way calls spare other
+      → nodes.NodeLeads way calls spare line (tree.control_node c h body other)
+  control-leads line control.If h body other ih-body ih-other = if-leads way calls spare line h body other ih-body ih-other
+  control-leads line control.With h body other ih-body ih-other = with-leads way calls spare line h body other ih-body ih-other
   control-leads line control.Range h body other ih-body ih-other =
-      range-leads way calls spare pipes line h body other ih-body ih-other
+      range-leads way calls spare line h body other ih-body ih-other
 
-  text-leads : (line : ℕ) (bytes : List ℕ) → nodes.NodeLeads way calls spare pipes line (tree.text bytes)
+  text-leads : (line : ℕ) (bytes : List ℕ) → nodes.NodeLeads way calls spare line (tree.text bytes)
   text-leads line bytes g lay fr here rest s l st same-line inside fits more-fits k =
       ways.takes way s (code.put bytes) rest st.runs (st.at ∙ l) tt
       (k _ (record { at = ahead-one way.plan.code rest s.place (code.put bytes) (st.at ∙ l); runs = st.runs; frame = st.frame; deep = st.deep }) refl refl)
 
   mutual
-    step-leads : (line : ℕ) (n : NodeKind) → Mine (λ name. NodeNames name n) → nodes.StepLeads way calls spare pipes line n
-    step-leads line (tree.text bytes) mine = spent way calls spare pipes line (tree.text bytes) refl (text-leads line bytes)
-    step-leads line (tree.action h) mine = spent way calls spare pipes line (tree.action h) refl (action-leads way calls spare pipes line h)
+    step-leads : (line : ℕ) (n : NodeKind) → Mine (λ name. NodeNames name n) → nodes.StepLeads way calls spare line n
+    step-leads line (tree.text bytes) mine = spent way calls spare line (tree.text bytes) refl (text-leads line bytes)
+    step-leads line (tree.action h) mine = spent way calls spare line (tree.action h) refl (action-leads way calls spare line h)
     step-leads line (tree.control_node c h body other) mine =
-        spent way calls spare pipes line (tree.control_node c h body other) refl
+        spent way calls spare line (tree.control_node c h body other) refl
         (control-leads line c h body other (λ g lay fr here rest s l st inside fits k. nodes-lead body (λ name names. mine name (inl names)) g lay fr here rest
         s l st inside fits k)
         (λ g lay fr here rest s l st inside fits k. nodes-lead other (λ name names. mine name (inr names)) g lay fr here rest s l st inside fits k))
-    step-leads line tree.break_node mine = spent way calls spare pipes line tree.break_node refl (break-leads way calls spare pipes line)
-    step-leads line tree.continue_node mine = spent way calls spare pipes line tree.continue_node refl (continue-leads way calls spare pipes line)
+    step-leads line tree.break_node mine = spent way calls spare line tree.break_node refl (break-leads way calls spare line)
+    step-leads line tree.continue_node mine = spent way calls spare line tree.continue_node refl (continue-leads way calls spare line)
     step-leads line (tree.template_node name given) mine =
-        call-leads way pipes first linked n deeper depth base spare left (let own = fits-here in omega arith) line name given (mine name refl)
+        call-leads way first linked n deeper depth base spare left (let own = fits-here in omega arith) line name given (mine name refl)
 
-    nodes-lead : (ns : Nodes) → Mine (λ name. NodesName name ns) → nodes.NodesLead way calls spare pipes ns
+    nodes-lead : (ns : Nodes) → Mine (λ name. NodesName name ns) → nodes.NodesLead way calls spare ns
     nodes-lead tree.none mine g lay fr here rest s l st inside fits k = k s (record { at = st.at ∙ l; runs = st.runs; frame = st.frame; deep = st.deep }) refl
         refl
     nodes-lead (tree.then line n ns) mine g lay fr here rest s l st inside fits k =

@@ -1,6 +1,6 @@
 -- For the law `comes_to_meaning`: how an end is come to from a place is a function of how a part of the meaning ends, which says where the run goes on.
-use Rattle.std.proofs.Common.{arith, ◌≡◌, ◌∙◌, ◌+◌, ◌-◌, ◌≤◌, nat_eq, ℕ, zero, suc, Bool, true, false, List, [], ◌∷◌, length, drop, refl}
-use Rattle.std.proofs.Common.{ap, sym, subst, Option, Some, None, drop-drop, length-drop}
+use Rattle.std.proofs.Common.{arith, ◌≡◌, ◌∙◌, ◌+◌, ℕ, zero, suc, [], ◌∷◌, drop, ap, Some, ◌-◌, ◌≤◌, nat_eq, Bool, true, false, List, length, refl, sym, subst}
+use Rattle.std.proofs.Common.{Option, None, drop-drop, length-drop}
 use Rattle.std.specs.Prelude.{slice_get}
 use Rattle.tmpl_values.specs.Value.{Value}
 use Rattle.tmpl_syntax.specs.Set.{Template}
@@ -8,17 +8,37 @@ use Rattle.tmpl_meaning.specs.Fault.{Fault}
 use Rattle.tmpl_meaning.specs.Pipeline.{Environment}
 use Rattle.tmpl_meaning.specs.Meaning as meaning
 use Rattle.tmpl_meaning.specs.Meaning.{Calls, End, Next, Ran, Run, Setting, oldest, on_end, scoped, setting_of, spend_if}
-use Rattle.tmpl_code.specs.Instruction as code
 use Rattle.tmpl_code.specs.Instruction.{Instruction}
+use Rattle.tmpl_code.specs.Code.{Code, Around, EndAt, Exit}
+use Rattle.tmpl_code.specs.Instruction as code
 use Rattle.tmpl_code.specs.Layout.{Layout, first_layout}
-use Rattle.tmpl_code.specs.Code.{Around, Code, EndAt, Exit}
 use Rattle.tmpl_run.specs.Cell.{Cell, cell}
 use Rattle.tmpl_run.specs.State.{Plan, State}
 use Rattle.tmpl_run.specs.Machine.{Turn, done, done_in, ended, goes, next_of, onto, paid_if, stuck}
 use Rattle.tmpl_run.specs.Ready.{Has}
 use Rattle.tmpl_run.specs.Ends.{Comes, Ends, IsReady, Leads}
-use Rattle.tmpl_run.proofs.PlaceLemmas.{ahead, ahead-one, here}
 use Rattle.tmpl_run.proofs.SlotLemmas.{Frame, Over, cut-drop, frame-drop, frame_of, named, named-less, run_of}
+
+pub here : (code is : Code) (pc : ℕ) (i : Instruction) → drop pc code ≡ i ∷ is → slice_get code pc ≡ Some i
+here [] is zero i e = cc
+here [] is (suc pc) i e = cc
+here (j ∷ code) is zero i e = let same : j ≡ i = cc in ap (λ x. Some x) same
+here (j ∷ code) is (suc pc) i e = here code is pc i e
+
+-- behind the next instruction and so many more
+pub ahead : (code is : Code) (pc k : ℕ) (i : Instruction) → drop pc code ≡ i ∷ is → drop (pc + 1 + k) code ≡ drop k is
+ahead [] is zero k i e = cc
+ahead [] is (suc pc) k i e = cc
+ahead (j ∷ code) is zero k i e =
+    let one : 0 + 1 + k ≡ suc k = omega arith in
+    let same : code ≡ is = cc in
+    ap (λ n. drop n (j ∷ code)) one ∙ ap (drop k) same
+ahead (j ∷ code) is (suc pc) k i e =
+    let one : suc pc + 1 + k ≡ suc (pc + 1 + k) = omega arith in
+    ap (λ n. drop n (j ∷ code)) one ∙ ahead code is pc k i e
+
+pub ahead-one : (prog is : Code) (pc : ℕ) (i : Instruction) → drop pc prog ≡ i ∷ is → drop (pc + 1) prog ≡ is
+ahead-one prog is pc i e = let same : pc + 1 ≡ pc + 1 + 0 = omega arith in ap (λ n. drop n prog) same ∙ ahead prog is pc 0 i e
 
 -- the run as it is seen
 abbrev pub seen : Run → Option Fault → Ran

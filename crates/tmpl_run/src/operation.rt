@@ -68,7 +68,7 @@ impl<'m, 'a> Machine<'m, 'a> {
     }
 
     /// The field of the field of .. of dot, by these names.
-    #[tactic(auto, using(crate::proofs::OperationLemmas::operations))]
+    #[tactic(auto, using(crate::proofs::OperationLemmas::fields))]
     #[inline(always)]
     pub(crate) fn field_of_dot(
         &self,
@@ -86,7 +86,7 @@ impl<'m, 'a> Machine<'m, 'a> {
     }
 
     /// Puts the field of the field of .. of dot, by these names.
-    #[tactic(auto, using(crate::proofs::OperationLemmas::operations))]
+    #[tactic(auto, using(crate::proofs::OperationLemmas::fields))]
     pub(crate) fn push_fields(
         &mut self,
         missing_key: MissingKey,
@@ -121,7 +121,7 @@ impl<'m, 'a> Machine<'m, 'a> {
     }
 
     /// Takes the newest value for its field of a field of .., by these names.
-    #[tactic(auto, using(crate::proofs::OperationLemmas::operations))]
+    #[tactic(auto, using(crate::proofs::OperationLemmas::chains))]
     pub(crate) fn chain(
         &mut self,
         missing_key: MissingKey,
@@ -143,7 +143,7 @@ impl<'m, 'a> Machine<'m, 'a> {
     }
 
     /// Calls a function over the newest so many values, and a piped one, if it lies below them.
-    #[tactic(auto, using(crate::proofs::OperationLemmas::operations))]
+    #[tactic(auto, using(crate::proofs::OperationLemmas::calls))]
     pub(crate) fn call(&mut self, func: Func, count: usize, piped: bool) -> Result<Flow, Halt<'a>>
         ghost run: { Told }
         requires called { is_called func ≡ true }
@@ -167,7 +167,7 @@ impl<'m, 'a> Machine<'m, 'a> {
 
     /// A value that decides an `or`, or else an `and`, stays, and so many instructions are passed over; a piped one
     /// below it goes. Another goes.
-    #[tactic(auto, using(crate::proofs::OperationLemmas::operations))]
+    #[tactic(auto, using(crate::proofs::OperationLemmas::decisions))]
     pub(crate) fn decide(&mut self, is_or: bool, piped: bool, skip: usize) -> Flow
         ghost run: { Told }
         requires found { 1 + piped_count piped ≤ length (cells_of self.old.stack) }
@@ -190,7 +190,7 @@ impl<'m, 'a> Machine<'m, 'a> {
     }
 
     /// A null on top becomes nothing.
-    #[tactic(auto, using(crate::proofs::OperationLemmas::operations))]
+    #[tactic(auto, using(crate::proofs::OperationLemmas::settles))]
     pub(crate) fn settle(&mut self) -> Flow
         ghost run: { Told }
         requires found { 1 ≤ length (cells_of self.old.stack) }

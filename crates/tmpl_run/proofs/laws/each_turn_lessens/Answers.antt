@@ -1,4 +1,4 @@
-use Rattle.tmpl_run.proofs.MoveLemmas.{each-lessens}
+use Rattle.tmpl_run.proofs.DoneLemmas.{each-lessens}
 use Rattle.tmpl_run.proofs.laws.each_turn_lessens.Goals as goal
 
 pub returns : goal.returns

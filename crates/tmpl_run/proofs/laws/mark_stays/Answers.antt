@@ -1,4 +1,4 @@
-use Rattle.tmpl_run.proofs.MoveLemmas.{mark-stays}
+use Rattle.tmpl_run.proofs.DoneLemmas.{mark-stays}
 use Rattle.tmpl_run.proofs.laws.mark_stays.Goals as goal
 
 pub returns : goal.returns

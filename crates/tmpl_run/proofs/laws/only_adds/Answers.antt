@@ -1,4 +1,4 @@
-use Rattle.tmpl_run.proofs.MoveLemmas.{text-begins}
+use Rattle.tmpl_run.proofs.DoneLemmas.{text-begins}
 use Rattle.tmpl_run.proofs.laws.only_adds.Goals as goal
 
 pub returns : goal.returns

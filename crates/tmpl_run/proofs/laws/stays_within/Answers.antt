@@ -1,4 +1,4 @@
-use Rattle.tmpl_run.proofs.RoomLemmas.{next-within}
+use Rattle.tmpl_run.proofs.DoneLemmas.{next-within}
 use Rattle.tmpl_run.proofs.laws.stays_within.Goals as goal
 
 pub returns : goal.returns

@@ -5,7 +5,7 @@ use Rattle.tmpl_run.specs.computed.Machines.{state_of}
 use Rattle.tmpl_run.specs.computed.Output.{Grows, given_of}
 use Rattle.tmpl_run.specs.computed.Plan.{plan_of}
 use Rattle.tmpl_run.proofs.GoingLemmas.{Stands, told_at}
-use Rattle.tmpl_run.proofs.LoopLemmas.{work}
+use Rattle.tmpl_run.proofs.DoneLemmas.{work}
 use Rattle.tmpl_run.proofs.machine.Machine.turns.Given as goal
 
 abbrev pub ghost-execute : goal.ghost-execute
