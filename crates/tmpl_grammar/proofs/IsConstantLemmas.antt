@@ -4,7 +4,7 @@ use Rattle.std.proofs.Common.{take, drop, get_or, Some, None, refl, sym, ap, sub
 use Rattle.std.specs.Option.{option_map, option_and_then}
 use Rattle.std.specs.List.{flat_map}
 use Rattle.std.proofs.Math.Seq.{take-append_seam, get_or-append_seam}
-use Rattle.std.proofs.lemmas.Bool.{and_parts}
+use Rattle.std.proofs.lemmas.Bool.{and_parts, eqb-true}
 use Rattle.std.proofs.lemmas.Bool.Decides.{nat_tests}
 use Rattle.std.proofs.lemmas.Option.{same_Some}
 use Rattle.tmpl_lex.specs.declared.piece.TokenKind.{TokenKind}
@@ -51,15 +51,12 @@ last-split zero (b ∷ []) h = refl
 last-split zero (b ∷ c ∷ bs) h = absurd (omega arith)
 last-split (suc n) (b ∷ bs) h = ap (λ l. b ∷ l) (last-split n bs (omega arith))
 
-same : (b k : ℕ) → nat_eq b k ≡ true → b ≡ k
-same b k h = grind (arith, nat_tests)
-
 quotes-round : (quote : ℕ) (bs : List ℕ) → quoted quote bs ≡ true → quote ∷ (take (length bs - 2) (drop 1 bs) ++ quote ∷ []) ≡ bs
 quotes-round quote bs h =
     let long = and_parts (nat_le 2 (length bs)) (nat_eq (get_or bs 0 0) quote && nat_eq (get_or bs (length bs - 1) 0) quote) h in
     let ends = and_parts (nat_eq (get_or bs 0 0) quote) (nat_eq (get_or bs (length bs - 1) 0) quote) long.1 in
-    go bs (length bs - 2) (let two : 2 ≤ length bs = grind (arith, nat_tests) in omega arith) (same (get_or bs 0 0) quote ends.0)
-    (same (get_or bs (length bs - 1) 0) quote ends.1)
+    go bs (length bs - 2) (let two : 2 ≤ length bs = grind (arith, nat_tests) in omega arith) (eqb-true (get_or bs 0 0) quote ends.0)
+    (eqb-true (get_or bs (length bs - 1) 0) quote ends.1)
   where
     go : (bs : List ℕ) (m : ℕ) → length bs ≡ suc (suc m) → get_or bs 0 0 ≡ quote → get_or bs (length bs - 1) 0 ≡ quote
         → quote ∷ (take m (drop 1 bs) ++ quote ∷ []) ≡ bs
