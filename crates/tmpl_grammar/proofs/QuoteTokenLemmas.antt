@@ -36,11 +36,7 @@ plain-at [] f = tt
 plain-at (b ∷ s) f = let h = f 0 (omega arith) in (h.0, h.1, h.2, plain-at s (λ k l. f (suc k) (omega arith)))
 
 plain-digit : (d : ℕ) → d < 16 → ArePlain (digit_char d ∷ [])
-plain-digit d h = by (nat_lt d 10) refl
-  where
-    by : (t : Bool) → nat_lt d 10 ≡ t → ArePlain ((if t then 48 + d else 87 + d) ∷ [])
-    by true e = (grind (arith, nat_tests), grind (arith, nat_tests), grind (arith, nat_tests), tt)
-    by false e = (grind (arith, nat_tests), grind (arith, nat_tests), grind (arith, nat_tests), tt)
+plain-digit d h = (grind (arith, nat_tests), grind (arith, nat_tests), grind (arith, nat_tests), tt)
 
 plain-hexes : (k c : ℕ) → ArePlain (hexes k c)
 unfolding hexes
