@@ -1,21 +1,18 @@
 -- For `one_constant`: the constants that are computed are those that the relation admits.
-use Rattle.std.proofs.Common.{◌≡◌, ◌∙◌, ℕ, zero, suc, pos, ◌-◌, ◌≤◌, Bool, true, false, ◌&&◌, nat_eq, nat_le, List, [], ◌∷◌, ◌++◌, length}
-use Rattle.std.proofs.Common.{take, drop, get_or, Some, None, refl, sym, ap, subst, arith, length-append, if◌then◌else◌}
+use Rattle.std.proofs.Common.{◌≡◌, ◌∙◌, ℕ, zero, suc, pos, ◌-◌, ◌≤◌, List, [], ◌∷◌, ◌++◌, length}
+use Rattle.std.proofs.Common.{take, drop, get_or, Some, refl, sym, ap, subst, arith, length-append}
 use Rattle.std.specs.Option.{option_map, option_and_then}
 use Rattle.std.specs.List.{flat_map}
 use Rattle.std.proofs.Math.Seq.{take-append_seam, get_or-append_seam}
-use Rattle.std.proofs.lemmas.Bool.{and_parts, eqb-true}
 use Rattle.std.proofs.lemmas.Bool.Decides.{nat_tests}
-use Rattle.std.proofs.lemmas.Option.{same_Some}
 use Rattle.tmpl_lex.specs.declared.piece.TokenKind.{TokenKind}
 use Rattle.tmpl_lex.specs.declared.piece.TokenKind.TheVariants as kind
-use Rattle.tmpl_values.specs.Rune.{Rune, bytes_in}
+use Rattle.tmpl_values.specs.Rune.{bytes_in}
 use Rattle.tmpl_grammar.specs.Token.{token}
 use Rattle.tmpl_grammar.specs.Tree.{Operand, number_constant, text_constant}
 use Rattle.tmpl_grammar.specs.Constant as constant
 use Rattle.tmpl_grammar.specs.Constant.{IsConstant}
 use Rattle.tmpl_grammar.specs.computed.Integer.{integer}
-use Rattle.tmpl_grammar.specs.Constant.Quoted.{SpellsRunes, code_of}
 use Rattle.tmpl_grammar.specs.Laws.{IsAdmitted, IsComputed}
 use Rattle.tmpl_grammar.specs.computed.Constant.{constant_of, constant_by, string_in, raw_string_in, character_in}
 use Rattle.tmpl_grammar.specs.computed.Quoted.{between, parts, unquoted, rune_code}
