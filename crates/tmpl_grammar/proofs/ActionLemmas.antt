@@ -1,7 +1,8 @@
 -- For `one_action`: the grammar of an action and its reading agree, keyword by keyword.
-use Rattle.std.proofs.Common.{◌≡◌, ◌∙◌, ℕ, Bool, true, false, cond, List, Option, Some, None, refl, ap, sym, subst, bytes_eq}
+use Rattle.std.proofs.Common.{arith, ◌≡◌, ◌∙◌, ℕ, Bool, true, false, cond, List, Option, Some, None, refl, ap, sym, subst, bytes_eq}
 use Rattle.std.specs.Option.{option_map}
 use Rattle.std.proofs.lemmas.Option.{same_Some}
+use Rattle.std.proofs.lemmas.Bool.Decides.{nat_tests}
 use lib.Pointwise.{bytes_decides}
 use Rattle.tmpl_lex.specs.declared.piece.TokenKind.{TokenKind}
 use Rattle.tmpl_lex.specs.declared.piece.TokenKind.TheVariants as kind
@@ -245,11 +246,7 @@ reads-action ts (block_action name cs) s =
     (λ us t. named-read block_by name Rest (block_action name cs) us (λ vs b. ap (option_map (block_action name)) (reads-spelled vs cs b)) t) ts s
 
 alone-blank : (a c : Action) (us : List Token) → without_tokens a us ≡ Some c → IsBlank us × (a ≡ c)
-alone-blank a c us e = by (is_blank us) refl e
-  where
-    by : (b : Bool) → is_blank us ≡ b → cond b (Some a) None ≡ Some c → IsBlank us × (a ≡ c)
-    by true is e = (all-blank us is, same_Some a c e)
-    by false is e = no-value c e
+alone-blank a c us e = (all-blank us (grind (arith, nat_tests)), grind (arith, nat_tests))
 
 module _ (ts : List Token) (a : Action) where
   -- an action with a header, by the tokens of the header

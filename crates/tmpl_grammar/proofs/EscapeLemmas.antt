@@ -1,14 +1,15 @@
 -- For `one_constant`: the escapes that are computed are those that the relation admits.
-use Rattle.std.proofs.Common.{◌≡◌, ◌∙◌, ℕ, ◌+◌, ◌<◌, ◌≤◌, Bool, true, false, nat_eq, nat_lt, List, [], ◌∷◌, ◌++◌, length, Option, Some}
-use Rattle.std.proofs.Common.{None, option_and_then, drop, refl, ap, sym, subst, arith, append_assoc, if◌then◌else◌}
+use Rattle.std.proofs.Common.{◌≡◌, ◌∙◌, ℕ, ◌+◌, ◌<◌, ◌≤◌, Bool, true, false, ◌&&◌, nat_eq, nat_lt, List, [], ◌∷◌, ◌++◌, length, Option, Some}
+use Rattle.std.proofs.Common.{None, option_and_then, refl, ap, sym, subst, arith, append_assoc, if◌then◌else◌}
 use Rattle.std.specs.Str.Parse.{digits_value}
+use Rattle.std.proofs.lemmas.Bool.{eqb-true, and_parts}
 use Rattle.std.proofs.lemmas.Bool.Decides.{nat_tests}
 use lib.Utf8.{scalar}
 use Rattle.tmpl_values.specs.Rune.{Rune, char, byte}
 use Rattle.tmpl_values.specs.Quote.{letters, letter_of}
 use Rattle.tmpl_grammar.specs.Constant.Quoted.{AreDigits, IsEscape, a_letter, the_quote, octal, two_digits, four_digits, eight_digits}
 use Rattle.tmpl_grammar.specs.computed.Quoted.{Spelled, as_byte, as_char, code, byte_named, coded, escape_by, escape, part_at}
-use Rattle.tmpl_grammar.proofs.DigitLemmas.{code-digits, FrontDigits, HasDigits, code-has, octal-digit, hex-byte}
+use Rattle.tmpl_grammar.proofs.DigitLemmas.{code-digits, FrontDigits, code-tells, octal-digit, hex-byte}
 
 -- what ends a string, and what ends a character
 pub data IsMark : ℕ → Type 0 where
@@ -22,11 +23,7 @@ not-named _ e double low high = grind (arith, nat_tests)
 not-named _ e single low high = grind (arith, nat_tests)
 
 not-lettered : (e : ℕ) (bs : List ℕ) → 48 ≤ e → e < 56 → coded e bs ≡ option_and_then (as_byte 4) (code 8 3 (e ∷ bs))
-not-lettered e bs low high =
-    let x : nat_eq e 120 ≡ false = grind (arith, nat_tests) in
-    let u : nat_eq e 117 ≡ false = grind (arith, nat_tests) in
-    let U : nat_eq e 85 ≡ false = grind (arith, nat_tests) in
-    rw (x, u, U) refl
+not-lettered e bs low high = grind (arith, nat_tests)
 
 byte-read : (base count : ℕ) (ds rest : List ℕ) → AreDigits base count ds → digits_value base ds < 256
     → option_and_then (as_byte 4) (code base count (ds ++ rest)) ≡ Some (byte (digits_value base ds), 4)
@@ -59,36 +56,16 @@ quote-read : (quote : ℕ) (rest : List ℕ) → IsMark quote → escape quote (
 quote-read _ rest double = refl
 quote-read _ rest single = refl
 
--- the letters of a quote, one after the other
-module _ (quote c e : ℕ) (rest : List ℕ) where
-  abbrev Lettered : Type 0
-  Lettered = escape quote (e ∷ rest) ≡ Some (byte c, 2)
-
-  or-next : (k j : ℕ) (ps : List (ℕ × ℕ)) → escape quote (j ∷ rest) ≡ Some (byte k, 2) → (letter_of c ps ≡ Some e → Lettered)
-      → letter_of c ((k, j) ∷ ps) ≡ Some e → Lettered
-  or-next k j ps here more is = go (nat_eq c k) refl is
-    where
-      go : (t : Bool) → nat_eq c k ≡ t → (if t then Some j else letter_of c ps) ≡ Some e → Lettered
-      go true h is = let same_code : c ≡ k = grind (arith, nat_tests) in let same_letter : j ≡ e = cc in
-          subst (λ x. escape quote (x ∷ rest) ≡ Some (byte c, 2)) same_letter (subst (λ x. escape quote (j ∷ rest) ≡ Some (byte x, 2)) (sym same_code) here)
-      go false h is = more is
-
-  letter-read : letter_of c letters ≡ Some e → (c ≡ 34 → ⊥) → Lettered
-  letter-read is other = go (nat_eq c 34) refl is
-    where
-      go : (t : Bool) → nat_eq c 34 ≡ t → (if t then Some 34 else letter_of c (drop 1 letters)) ≡ Some e → Lettered
-      go true h is = absurd (other (grind (arith, nat_tests)))
-      go false h is =
-          or-next 92 92 (drop 2 letters) refl (or-next 7 97 (drop 3 letters) refl (or-next 8 98 (drop 4 letters) refl
-          (or-next 9 116 (drop 5 letters) refl (or-next 10 110 (drop 6 letters) refl (or-next 11 118 (drop 7 letters) refl
-          (or-next 12 102 (drop 8 letters) refl (or-next 13 114 [] refl (λ none. absurd (cc))))))))) is
+named : (quote c e : ℕ) → IsMark quote → letter_of c letters ≡ Some e → (c ≡ 34 → ⊥) → byte_named quote e ≡ Some c
+named _ c e double is other = grind (arith, nat_tests)
+named _ c e single is other = grind (arith, nat_tests)
 
 sized : (p : Rune) (m n : ℕ) (o : Option Spelled) → o ≡ Some (p, m) → m ≡ n → o ≡ Some (p, n)
 sized p m n o is e = is ∙ ap (λ k. Some (p, k)) e
 
 pub escape-at : (quote : ℕ) (s rest : List ℕ) (p : Rune) → IsMark quote → IsEscape quote s p → part_at quote (s ++ rest) ≡ Some (p, length s)
 unfolding part_at
-escape-at quote _ rest _ m (a_letter {c = c} {letter = e} is other) = letter-read quote c e rest is other
+escape-at quote _ rest _ m (a_letter {c = c} {letter = e} is other) = ap (λ o. escape_by o e rest) (named quote c e m is other)
 escape-at quote _ rest _ m the_quote = quote-read quote rest m
 escape-at quote _ rest _ m (octal {ds = ds} are h) = sized _ 4 (length (92 ∷ ds)) _ (octal-read quote ds rest m are h) (omega (arith, are.0))
 escape-at quote _ rest _ m (two_digits {ds = ds} are) =
@@ -122,35 +99,31 @@ if-escape quote bs true o p h k = h refl
 if-escape quote bs false o p h k = k
 
 same : (e k : ℕ) → nat_eq e k ≡ true → k ≡ e
-same e k h = grind (arith, nat_tests)
+same e k h = sym (eqb-true e k h)
 
--- what a letter stands for
-abbrev HasLetter : ℕ → ℕ → Option ℕ → Type 0
-HasLetter quote e None = Unit {0}
-HasLetter quote e (Some b) = IsEscape quote (92 ∷ e ∷ []) (byte b)
+-- what stands for a byte is the letter of it, or the mark
+letter-named : (quote e b : ℕ) → byte_named quote e ≡ Some b → (nat_eq b quote && nat_eq e quote) ≡ false → letter_of b letters ≡ Some e
+letter-named quote e b is other = grind (arith, nat_tests)
 
-letter : (quote e k b : ℕ) (o : Option ℕ) → IsEscape quote (92 ∷ k ∷ []) (byte b) → HasLetter quote e o → HasLetter quote e (if nat_eq e k then Some b else o)
-letter quote e k b o is more = go (nat_eq e k) refl
+no-mark : (quote e b : ℕ) → byte_named quote e ≡ Some b → (nat_eq b quote && nat_eq e quote) ≡ false → b ≡ 34 → ⊥
+no-mark quote e b is other same = grind (arith, nat_tests)
+
+lettered : (quote e b : ℕ) → byte_named quote e ≡ Some b → IsEscape quote (92 ∷ e ∷ []) (byte b)
+lettered quote e b is = by (nat_eq b quote && nat_eq e quote) refl
   where
-    go : (t : Bool) → nat_eq e k ≡ t → HasLetter quote e (if t then Some b else o)
-    go true h = subst (λ x. IsEscape quote (92 ∷ x ∷ []) (byte b)) (same e k h) is
-    go false h = more
-
-lettered : (quote e : ℕ) → HasLetter quote e (byte_named quote e)
-lettered quote e =
-    named 97 7 _ refl (λ h. omega (arith, h)) (named 98 8 _ refl (λ h. omega (arith, h)) (named 102 12 _ refl (λ h. omega (arith, h))
-    (named 110 10 _ refl (λ h. omega (arith, h)) (named 114 13 _ refl (λ h. omega (arith, h)) (named 116 9 _ refl (λ h. omega (arith, h))
-    (named 118 11 _ refl (λ h. omega (arith, h)) (named 92 92 _ refl (λ h. omega (arith, h)) (letter quote e quote quote None the_quote tt))))))))
-  where
-    named : (k c : ℕ) (o : Option ℕ) → letter_of c letters ≡ Some k → (c ≡ 34 → ⊥) → HasLetter quote e o → HasLetter quote e (if nat_eq e k then Some c else o)
-    named k c o is other more = letter quote e k c o (a_letter is other) more
+    by : (t : Bool) → (nat_eq b quote && nat_eq e quote) ≡ t → IsEscape quote (92 ∷ e ∷ []) (byte b)
+    by true h =
+        let both = and_parts (nat_eq b quote) (nat_eq e quote) h in
+        subst (λ x. IsEscape quote (92 ∷ x ∷ []) (byte b)) (same e quote both.1)
+        (subst (λ x. IsEscape quote (92 ∷ quote ∷ []) (byte x)) (same b quote both.0) the_quote)
+    by false h = a_letter (letter-named quote e b is h) (λ e34. no-mark quote e b is h e34)
 
 -- so many digits behind these bytes
 has-digits : (quote base count len : ℕ) (front : List ℕ) (made : ℕ → Rune) (test : ℕ → Bool) (bs : List ℕ)
     → ((ds : List ℕ) → length ds ≡ count → length (92 ∷ front ++ ds) ≡ len)
     → ((ds : List ℕ) → AreDigits base count ds → test (digits_value base ds) ≡ true → IsEscape quote (92 ∷ (front ++ ds)) (made (digits_value base ds)))
     → HasEscape quote (92 ∷ (front ++ bs)) (option_and_then (λ n. if test n then Some (made n, len) else None) (code base count bs))
-has-digits quote base count len front made test bs long escapes = go (code base count bs) (code-has base count bs)
+has-digits quote base count len front made test bs long escapes = go (code base count bs) refl
   where
     by : (n : ℕ) → FrontDigits base count bs n → (t : Bool) → test n ≡ t → HasEscape quote (92 ∷ (front ++ bs)) (if t then Some (made n, len) else None)
     by n d false e = tt
@@ -162,10 +135,10 @@ has-digits quote base count len front made test bs long escapes = go (code base 
       escapes = subst (λ k. IsEscape quote (92 ∷ (front ++ d.ds)) (made k)) d.value (escapes d.ds d.are (ap test d.value ∙ e));
     }
 
-    go : (o : Option ℕ) → HasDigits base count bs o
+    go : (o : Option ℕ) → code base count bs ≡ o
         → HasEscape quote (92 ∷ (front ++ bs)) (option_and_then (λ n. if test n then Some (made n, len) else None) o)
-    go None d = tt
-    go (Some n) d = by n d (test n) refl
+    go None e = tt
+    go (Some n) e = by n (code-tells base count bs n e) (test n) refl
 
 has-octal : (quote : ℕ) (bs : List ℕ) → HasEscape quote (92 ∷ bs) (option_and_then (as_byte 4) (code 8 3 bs))
 has-octal quote bs = has-digits quote 8 3 4 [] byte (λ n. nat_lt n 256) bs (λ ds h. omega (arith, h)) (λ ds are e. octal are (grind (arith, nat_tests)))
@@ -191,8 +164,8 @@ has-coded quote e bs =
 
 pub has-escape : (quote : ℕ) (bs : List ℕ) → HasEscape quote (92 ∷ bs) (escape quote bs)
 has-escape quote [] = tt
-has-escape quote (e ∷ bs) = go (byte_named quote e) (lettered quote e)
+has-escape quote (e ∷ bs) = go (byte_named quote e) refl
   where
-    go : (o : Option ℕ) → HasLetter quote e o → HasEscape quote (92 ∷ e ∷ bs) (escape_by o e bs)
+    go : (o : Option ℕ) → byte_named quote e ≡ o → HasEscape quote (92 ∷ e ∷ bs) (escape_by o e bs)
     go None is = has-coded quote e bs
-    go (Some b) is = record { spelling = 92 ∷ e ∷ []; rest = bs; is = refl; count = refl; escapes = is }
+    go (Some b) is = record { spelling = 92 ∷ e ∷ []; rest = bs; is = refl; count = refl; escapes = lettered quote e b is }

@@ -4,6 +4,7 @@ use Rattle.std.proofs.Common.{Option, Some, None, option_and_then, refl, sym, ap
 use Rattle.std.specs.Char.{encode_utf8, len_utf8, IsScalar}
 use Rattle.std.proofs.Math.Seq.{drop-append_seam}
 use Rattle.std.proofs.lemmas.List.{take-append-drop, drop_all}
+use Rattle.std.proofs.lemmas.Bool.{eqb-true}
 use Rattle.std.proofs.lemmas.Bool.Decides.{nat_tests}
 use Rattle.std.proofs.lemmas.Option.{same_Some}
 use Rattle.std.proofs.lemmas.Str.{length-encode, len_utf8_bounds, char_from_byte, encode_ascii}
@@ -13,46 +14,37 @@ use Rattle.tmpl_values.proofs.HasRunesLemmas.{begins-none, byte-first}
 use Rattle.tmpl_values.proofs.RuneLemmas.{first_rune-encode, Front, encoding, lone, front}
 use Rattle.tmpl_grammar.specs.Constant.Quoted.{code_of, SpellsRunes, at_end, a_char, a_byte, an_escape}
 use Rattle.tmpl_grammar.specs.computed.Quoted.{Spelled, rune_part, escape, part_at, with_part, parts, whole_code, rune_code}
-use Rattle.tmpl_grammar.proofs.EscapeLemmas.{IsMark, double, single, escape-at, escape-some, HasEscape, has-escape}
-use Rattle.tmpl_grammar.proofs.OptionLemmas.{no-value, mapped, Chained, chained}
+use Rattle.tmpl_grammar.proofs.EscapeLemmas.{IsMark, double, single, escape-at, escape-some, FrontEscape, HasEscape, has-escape}
+use Rattle.tmpl_grammar.proofs.OptionLemmas.{no-value, mapped, chained}
 use Rattle.tmpl_grammar.proofs.QuotedLemmas.{parts-nil, parts-first, parts-none}
 
 -- ---- what the relation admits is computed
 
-other-first : (t : Bool) (m b c : ℕ) (bs rest : List ℕ) → b ∷ bs ≡ encode_utf8 c ++ rest → m < 128 → (c ≡ m → ⊥) → nat_eq b m ≡ t → t ≡ false
-other-first true m b c bs rest e low other h =
-    let is : b ≡ m = grind (arith, nat_tests) in
-    absurd (other (char_from_byte (b ∷ bs) rest c e (omega arith) (omega arith) ∙ is))
-other-first false m b c bs rest e low other h = refl
+-- neither a backslash nor the quote comes first
+part-rune : (quote b : ℕ) (bs : List ℕ) → (b ≡ 92 → ⊥) → (b ≡ quote → ⊥) → part_at quote (b ∷ bs) ≡ Some (rune_part (first_rune (b ∷ bs)))
+unfolding part_at
+part-rune quote b bs slash other = grind (arith, nat_tests)
 
 -- a character as it is
 char-at : (quote c : ℕ) (rest : List ℕ) → quote < 128 → IsScalar c → (c ≡ 92 → ⊥) → (c ≡ quote → ⊥)
     → part_at quote (encode_utf8 c ++ rest) ≡ Some (char c, len_utf8 c)
-unfolding part_at
 char-at quote c rest low s slash other = split (encode_utf8 c ++ rest) refl
   where
     split : (bs : List ℕ) → bs ≡ encode_utf8 c ++ rest → part_at quote bs ≡ Some (char c, len_utf8 c)
     split [] e = absurd (omega (arith, ap length e, length-append (encode_utf8 c) rest, length-encode c, len_utf8_bounds c))
     split (b ∷ bs) e =
-        ap (λ t. if t then escape quote bs else (if nat_eq b quote then None else Some (rune_part (first_rune (b ∷ bs)))))
-        (other-first (nat_eq b 92) 92 b c bs rest e (omega arith) slash refl)
-        ∙ ap (λ t. if t then None else Some (rune_part (first_rune (b ∷ bs)))) (other-first (nat_eq b quote) quote b c bs rest e low other refl)
+        part-rune quote b bs (λ is. slash (char_from_byte (b ∷ bs) rest c e (omega arith) (omega arith) ∙ is))
+        (λ is. other (char_from_byte (b ∷ bs) rest c e (omega arith) (omega arith) ∙ is))
         ∙ ap (λ r. Some (rune_part r)) (ap first_rune e ∙ first_rune-encode c rest s)
 
 -- where no character begins stands no byte of ASCII
-not-ascii : (t : Bool) (b k : ℕ) (rest : List ℕ) → BeginsNoChar (b ∷ rest) → k < 128 → IsScalar k → nat_eq b k ≡ t → t ≡ false
-not-ascii true b k rest none low s h =
-    let is : b ≡ k = grind (arith, nat_tests) in
-    absurd (none k rest s (ap (λ x. x ∷ rest) is ∙ ap (λ t. t ++ rest) (sym (encode_ascii k low))))
-not-ascii false b k rest none low s h = refl
-
 byte-at : (quote b : ℕ) (rest : List ℕ) → quote < 128 → IsScalar quote → BeginsNoChar (b ∷ rest) → part_at quote (b ∷ rest) ≡ Some (char 65533, 1)
-unfolding part_at
 byte-at quote b rest low s none =
-    ap (λ t. if t then escape quote rest else (if nat_eq b quote then None else Some (rune_part (first_rune (b ∷ rest)))))
-    (not-ascii (nat_eq b 92) b 92 rest none (omega arith) refl refl)
-    ∙ ap (λ t. if t then None else Some (rune_part (first_rune (b ∷ rest)))) (not-ascii (nat_eq b quote) b quote rest none low s refl)
+    part-rune quote b rest (begun 92 (omega arith) refl) (begun quote low s)
     ∙ ap (λ r. Some (rune_part r)) (byte-first b rest none (first_rune (b ∷ rest)) (front (b ∷ rest)))
+  where
+    begun : (k : ℕ) → k < 128 → IsScalar k → b ≡ k → ⊥
+    begun k low s is = none k rest s (ap (λ x. x ∷ rest) is ∙ ap (λ t. t ++ rest) (sym (encode_ascii k low)))
 
 mark-low : (quote : ℕ) → IsMark quote → quote < 128
 mark-low _ double = omega arith
@@ -122,18 +114,8 @@ record FirstPart (quote : ℕ) (bs : List ℕ) (p : Spelled) : Type 0 where
   high : p.1 ≤ length bs
   leads : (ps : List Rune) → SpellsRunes quote (drop p.1 bs) ps → SpellsRunes quote bs (p.0 ∷ ps)
 
-abbrev HasFirst : ℕ → List ℕ → Option Spelled → Type 0
-HasFirst quote bs None = Unit {0}
-HasFirst quote bs (Some p) = FirstPart quote bs p
-
-if-first : (quote : ℕ) (bs : List ℕ) (t : Bool) (o p : Option Spelled) → (t ≡ true → HasFirst quote bs o)
-    → (t ≡ false → HasFirst quote bs p) → HasFirst quote bs (if t then o else p)
-if-first quote bs true o p h k = h refl
-if-first quote bs false o p h k = k refl
-
-escape-first : (quote : ℕ) (bs : List ℕ) (o : Option Spelled) → HasEscape quote bs o → HasFirst quote bs o
-escape-first quote bs None h = tt
-escape-first quote bs (Some p) h =
+escape-first : (quote : ℕ) (bs : List ℕ) (p : Spelled) → FrontEscape quote bs p → FirstPart quote bs p
+escape-first quote bs p h =
     let count : length h.spelling ≡ p.1 = h.count in
     let behind : drop p.1 bs ≡ h.rest = ap (λ n. drop n bs) (sym count) ∙ ap (drop (length h.spelling)) h.is ∙ drop-append_seam h.spelling h.rest in
     record {
@@ -146,7 +128,7 @@ other-char : (b k c : ℕ) (bs rest : List ℕ) → encode_utf8 c ++ rest ≡ b 
 other-char b k c bs rest is low h e =
     let first : k ∷ rest ≡ b ∷ bs = ap (λ t. t ++ rest) (sym (encode_ascii k low)) ∙ ap (λ x. encode_utf8 x ++ rest) (sym e) ∙ is in
     let same : k ≡ b = ap (λ l. get_or l 0 0) first in
-    let g : true ≡ false = sym (let t : nat_eq b k ≡ true = grind (arith, nat_tests) in t) ∙ h in cc
+    grind (arith, nat_tests)
 
 rune-first : (quote b : ℕ) (bs : List ℕ) (r : Rune) → quote < 128 → nat_eq b 92 ≡ false → nat_eq b quote ≡ false → first_rune (b ∷ bs) ≡ r
     → Front (b ∷ bs) r → FirstPart quote (b ∷ bs) (rune_part r)
@@ -165,26 +147,31 @@ rune-first quote b bs _ low slash other is (encoding c s e) =
           (a_char s (other-char b quote c bs rest whole low other) (other-char b 92 c bs rest whole (omega arith) slash) more);
     }
 
-has-first : (quote : ℕ) (bs : List ℕ) → quote < 128 → HasFirst quote bs (part_at quote bs)
+first-part : (quote : ℕ) (bs : List ℕ) (p : Spelled) → quote < 128 → part_at quote bs ≡ Some p → FirstPart quote bs p
 unfolding part_at
-has-first quote [] low = tt
-has-first quote (b ∷ bs) low =
-    if-first quote (b ∷ bs) (nat_eq b 92) _ _
-    (λ h. subst (λ x. HasFirst quote (x ∷ bs) (escape quote bs)) (let is : 92 ≡ b = grind (arith, nat_tests) in is)
-    (escape-first quote (92 ∷ bs) _ (has-escape quote bs)))
-    (λ slash. if-first quote (b ∷ bs) (nat_eq b quote) _ _ (λ h. tt)
-    (λ other. rune-first quote b bs (first_rune (b ∷ bs)) low slash other refl (front (b ∷ bs))))
+first-part quote [] p low e = no-value p e
+first-part quote (b ∷ bs) p low e = by (nat_eq b 92) refl (nat_eq b quote) refl e
+  where
+    by : (s : Bool) → nat_eq b 92 ≡ s → (q : Bool) → nat_eq b quote ≡ q
+        → (if s then escape quote bs else (if q then None else Some (rune_part (first_rune (b ∷ bs))))) ≡ Some p → FirstPart quote (b ∷ bs) p
+    by true h q k e =
+        subst (λ x. FirstPart quote (x ∷ bs) p) (sym (eqb-true b 92 h))
+        (escape-first quote (92 ∷ bs) p (subst (HasEscape quote (92 ∷ bs)) e (has-escape quote bs)))
+    by false h true k e = no-value p e
+    by false h false k e =
+        subst (FirstPart quote (b ∷ bs)) (same_Some _ p e) (rune-first quote b bs (first_rune (b ∷ bs)) low h k refl (front (b ∷ bs)))
 
 parts-in : (n quote : ℕ) (bs : List ℕ) (ps : List Rune) → length bs ≤ n → quote < 128 → parts quote bs ≡ Some ps → SpellsRunes quote bs ps
 parts-in n quote [] ps h low e = subst (SpellsRunes quote []) (same_Some [] ps (sym (parts-nil quote) ∙ e)) at_end
 parts-in zero quote (b ∷ bs) ps h low e = absurd (omega arith)
 parts-in (suc n) quote (b ∷ bs) ps h low e =
-    go (λ rest qs fits is. parts-in n quote rest qs fits low is) (part_at quote (b ∷ bs)) refl (has-first quote (b ∷ bs) low)
+    go (λ rest qs fits is. parts-in n quote rest qs fits low is) (part_at quote (b ∷ bs)) refl
   where
     go : ((rest : List ℕ) (qs : List Rune) → length rest ≤ n → parts quote rest ≡ Some qs → SpellsRunes quote rest qs)
-        → (o : Option Spelled) → part_at quote (b ∷ bs) ≡ o → HasFirst quote (b ∷ bs) o → SpellsRunes quote (b ∷ bs) ps
-    go behind None is f = no-value ps (sym (parts-none quote (b ∷ bs) (omega arith) is) ∙ e)
-    go behind (Some p) is f =
+        → (o : Option Spelled) → part_at quote (b ∷ bs) ≡ o → SpellsRunes quote (b ∷ bs) ps
+    go behind None is = no-value ps (sym (parts-none quote (b ∷ bs) (omega arith) is) ∙ e)
+    go behind (Some p) is =
+        let f = first-part quote (b ∷ bs) p low is in
         let rest : List ℕ = drop p.1 (b ∷ bs) in
         let some : 0 < p.1 = f.low in
         let whole = sym (parts-first quote (b ∷ bs) p (omega arith) is f.low f.high) ∙ e in
@@ -196,14 +183,13 @@ parts-admitted quote bs ps m e = parts-in (length bs) quote bs ps (omega arith) 
 
 pub rune-admitted : (quote : ℕ) (bs : List ℕ) (n : ℕ) → IsMark quote → rune_code quote bs ≡ Some n
     → (r : Rune) × SpellsRunes quote bs (r ∷ []) × (code_of r ≡ n)
-rune-admitted quote bs n m e = by p.source (subst (HasFirst quote bs) p.is (has-first quote bs (mark-low quote m))) (nat_eq p.source.1 (length bs)) refl p.to
+rune-admitted quote bs n m e =
+    let c = chained (whole_code (length bs)) (part_at quote bs) n e in
+    by c.source (first-part quote bs c.source (mark-low quote m) c.is) c.to
   where
-    p : Chained (whole_code (length bs)) (part_at quote bs) n
-    p = chained (whole_code (length bs)) (part_at quote bs) n e
-
-    by : (p : Spelled) → FirstPart quote bs p → (t : Bool) → nat_eq p.1 (length bs) ≡ t → (if t then Some (code_of p.0) else None) ≡ Some n
-        → (r : Rune) × SpellsRunes quote bs (r ∷ []) × (code_of r ≡ n)
-    by p f true h k =
-        let none : drop p.1 bs ≡ [] = drop_all p.1 bs (grind (arith, nat_tests)) in
-        (p.0, f.leads [] (subst (λ xs. SpellsRunes quote xs []) (sym none) at_end), same_Some _ n k)
-    by p f false h k = no-value n k
+    by : (p : Spelled) → FirstPart quote bs p → whole_code (length bs) p ≡ Some n → (r : Rune) × SpellsRunes quote bs (r ∷ []) × (code_of r ≡ n)
+    by p f k =
+        let whole : length bs ≤ p.1 = grind (arith, nat_tests) in
+        let code : code_of p.0 ≡ n = grind (arith, nat_tests) in
+        let none : drop p.1 bs ≡ [] = drop_all p.1 bs whole in
+        (p.0, f.leads [] (subst (λ xs. SpellsRunes quote xs []) (sym none) at_end), code)

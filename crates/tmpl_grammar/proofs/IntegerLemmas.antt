@@ -1,6 +1,6 @@
 -- For `integer` and what it calls: digits, read from left to right by a loop.
-use Rattle.std.proofs.Common.{◌≡◌, ◌∙◌, ℕ, ◌+◌, ◌-◌, ◌*◌, ◌^◌, ◌<◌, ◌≤◌, Bool, true, false, ◌&&◌, List, [], ◌∷◌, Option, Some, None}
-use Rattle.std.proofs.Common.{if◌then◌else◌, cond, nat_le, nat_lt, pos, neg_ℤ, filter, length, take, drop, get_or, refl, sym, ap, arith}
+use Rattle.std.proofs.Common.{◌≡◌, ◌∙◌, ℕ, ◌+◌, ◌-◌, ◌*◌, ◌^◌, ◌<◌, ◌≤◌, Bool, true, false, List, [], ◌∷◌, Option, Some, None}
+use Rattle.std.proofs.Common.{if◌then◌else◌, filter, length, take, drop, get_or, refl, sym, ap, arith}
 use Rattle.std.proofs.Common.{le_refl, le_trans, mul-le-mul_left, option_and_then}
 use Rattle.std.specs.List.{list_all}
 use Rattle.std.specs.Char.{is_digit, digit_value}
@@ -21,14 +21,8 @@ number_after base n ds = number_if (list_all (λ d. is_digit d base) ds) (digits
 abbrev pub left : ℕ → ℕ → List ℕ → Option ℕ
 left base n bs = within (number_after base n (filter is_plain bs))
 
-plain : (base n b : ℕ) (bs : List ℕ) → is_plain b ≡ true → left base n (b ∷ bs) ≡ within (number_after base n (b ∷ filter is_plain bs))
-plain base n b bs p = ap (λ t. within (number_after base n (cond t (b ∷ filter is_plain bs) (filter is_plain bs)))) p
-
 pub left-digit : (base n b : ℕ) (bs : List ℕ) → is_plain b ≡ true → is_digit b base ≡ true → left base n (b ∷ bs) ≡ left base (n * base + digit_value b) bs
-left-digit base n b bs p d =
-    plain base n b bs p
-    ∙ ap (λ t. within (number_if (t && list_all (λ d. is_digit d base) (filter is_plain bs))
-    (digits_value_after base (n * base + digit_value b) (filter is_plain bs)))) d
+left-digit base n b bs p d = grind (arith, nat_tests)
 
 -- more digits only make the number larger
 grown : (base n : ℕ) (ds : List ℕ) → 1 ≤ base → n ≤ digits_value_after base n ds
@@ -38,40 +32,27 @@ grown base n (d ∷ ds) h =
     le_trans step (grown base (n * base + digit_value d) ds h)
 
 too-large : (b : Bool) (n : ℕ) → 2 ^ 63 < n → within (number_if b n) ≡ None
-too-large false n h = refl
-too-large true n h =
-    let past : nat_le n (2 ^ 63) ≡ false = grind (arith, nat_tests) in
-    ap (λ t. if t then Some n else None) past
+too-large b n h = grind (arith, nat_tests)
 
 pub left-large : (base n : ℕ) (bs : List ℕ) → 1 ≤ base → 2 ^ 63 < n → left base n bs ≡ None
 left-large base n bs h large = too-large _ (digits_value_after base n (filter is_plain bs)) (omega (arith, grown base n (filter is_plain bs) h))
 
-pub underscore : (d base : ℕ) → base ≤ 16 → is_digit d base ≡ true → is_plain d ≡ false → ⊥
-underscore d base h e o = let is : d ≡ 95 = grind (arith, nat_tests) in let none = rw is at e in grind (arith, nat_tests)
-
-one-plain : (digit own : Bool) (base d : ℕ) (ds : List ℕ) → base ≤ 16 → is_digit d base ≡ digit → is_plain d ≡ own
-    → (digit && list_all (λ d. is_digit d base) ds) ≡ true
-    → (list_all (λ d. is_digit d base) ds ≡ true → filter is_plain ds ≡ ds) → cond own (d ∷ filter is_plain ds) (filter is_plain ds) ≡ d ∷ ds
-one-plain true true base d ds h e o all more = ap (λ t. d ∷ t) (more all)
-one-plain true false base d ds h e o all more = absurd (underscore d base h e o)
-one-plain false own base d ds h e o all more = cc
+first-digit : (base d : ℕ) (ds : List ℕ) → base ≤ 16 → list_all (λ d. is_digit d base) (d ∷ ds) ≡ true
+    → (list_all (λ d. is_digit d base) ds ≡ true) × (filter is_plain (d ∷ ds) ≡ d ∷ filter is_plain ds)
+first-digit base d ds h all = (grind (arith, nat_tests), grind (arith, nat_tests))
 
 -- digits have no underscores among them
 pub digits-plain : (base : ℕ) (ds : List ℕ) → base ≤ 16 → list_all (λ d. is_digit d base) ds ≡ true → filter is_plain ds ≡ ds
 digits-plain base [] h all = refl
-digits-plain base (d ∷ ds) h all = one-plain _ _ base d ds h refl refl all (digits-plain base ds h)
-
-signed-fits : (b negative : Bool) (n : ℕ) → nat_le n (2 ^ 63) ≡ b → option_and_then (signed negative) (if b then Some n else None) ≡ signed negative n
-signed-fits true negative n e = refl
-signed-fits false true n e = ap (λ t. if t then Some (neg_ℤ (pos n)) else None) (sym e)
-signed-fits false false n e =
-    let past : nat_lt n (2 ^ 63) ≡ false = grind (arith, nat_tests) in
-    ap (λ t. if t then Some (pos n) else None) (sym past)
+digits-plain base (d ∷ ds) h all =
+    let f = first-digit base d ds h all in
+    f.1 ∙ ap (λ t. d ∷ t) (digits-plain base ds h f.0)
 
 -- no number past 2^63 in magnitude fits
 pub signed-within : (negative : Bool) (o : Option ℕ) → option_and_then (signed negative) (within o) ≡ option_and_then (signed negative) o
 signed-within negative None = refl
-signed-within negative (Some n) = signed-fits _ negative n refl
+signed-within true (Some n) = grind (arith, nat_tests)
+signed-within false (Some n) = grind (arith, nat_tests)
 
 -- the byte of a sign
 abbrev pub sign_byte : Bool → ℕ

@@ -1,21 +1,18 @@
 -- For `one_constant`: the constants that are computed are those that the relation admits.
-use Rattle.std.proofs.Common.{◌≡◌, ◌∙◌, ℕ, zero, suc, pos, ◌-◌, ◌≤◌, Bool, true, false, ◌&&◌, nat_eq, nat_le, List, [], ◌∷◌, ◌++◌, length}
-use Rattle.std.proofs.Common.{take, drop, get_or, Some, None, refl, sym, ap, subst, arith, length-append, if◌then◌else◌}
+use Rattle.std.proofs.Common.{◌≡◌, ◌∙◌, ℕ, zero, suc, pos, ◌-◌, ◌≤◌, List, [], ◌∷◌, ◌++◌, length}
+use Rattle.std.proofs.Common.{take, drop, get_or, Some, refl, sym, ap, subst, arith, length-append}
 use Rattle.std.specs.Option.{option_map, option_and_then}
 use Rattle.std.specs.List.{flat_map}
 use Rattle.std.proofs.Math.Seq.{take-append_seam, get_or-append_seam}
-use Rattle.std.proofs.lemmas.Bool.{and_parts}
 use Rattle.std.proofs.lemmas.Bool.Decides.{nat_tests}
-use Rattle.std.proofs.lemmas.Option.{same_Some}
 use Rattle.tmpl_lex.specs.declared.piece.TokenKind.{TokenKind}
 use Rattle.tmpl_lex.specs.declared.piece.TokenKind.TheVariants as kind
-use Rattle.tmpl_values.specs.Rune.{Rune, bytes_in}
+use Rattle.tmpl_values.specs.Rune.{bytes_in}
 use Rattle.tmpl_grammar.specs.Token.{token}
 use Rattle.tmpl_grammar.specs.Tree.{Operand, number_constant, text_constant}
 use Rattle.tmpl_grammar.specs.Constant as constant
 use Rattle.tmpl_grammar.specs.Constant.{IsConstant}
 use Rattle.tmpl_grammar.specs.computed.Integer.{integer}
-use Rattle.tmpl_grammar.specs.Constant.Quoted.{SpellsRunes, code_of}
 use Rattle.tmpl_grammar.specs.Laws.{IsAdmitted, IsComputed}
 use Rattle.tmpl_grammar.specs.computed.Constant.{constant_of, constant_by, string_in, raw_string_in, character_in}
 use Rattle.tmpl_grammar.specs.computed.Quoted.{between, parts, unquoted, rune_code}
@@ -26,24 +23,14 @@ use Rattle.tmpl_grammar.proofs.OptionLemmas.{no-value, mapped, chained}
 
 -- ---- the quotes
 
--- the tests of the two quotes
-abbrev quoted : ℕ → List ℕ → Bool
-quoted quote bs = nat_le 2 (length bs) && (nat_eq (get_or bs 0 0) quote && nat_eq (get_or bs (length bs - 1) 0) quote)
-
 between-quotes : (quote : ℕ) (xs : List ℕ) → between quote (quote ∷ (xs ++ quote ∷ [])) ≡ Some xs
 between-quotes quote xs =
     let bs : List ℕ = quote ∷ (xs ++ quote ∷ []) in
     let n : length bs - 1 ≡ suc (length xs) = omega (arith, length-append xs (quote ∷ [])) in
-    let m : length bs - 2 ≡ length xs = omega (arith, length-append xs (quote ∷ [])) in
-    let long : nat_le 2 (length bs) ≡ true = grind (arith, nat_tests, length-append xs (quote ∷ [])) in
-    let first : nat_eq quote quote ≡ true = grind (arith, nat_tests) in
     let at_last : get_or bs (length bs - 1) 0 ≡ quote = ap (λ k. get_or bs k 0) n ∙ get_or-append_seam xs quote [] 0 in
-    let last : nat_eq (get_or bs (length bs - 1) 0) quote ≡ true = ap (λ b. nat_eq b quote) at_last ∙ first in
-    let all : quoted quote bs ≡ true =
-    ap (λ t. t && (nat_eq quote quote && nat_eq (get_or bs (length bs - 1) 0) quote)) long
-    ∙ ap (λ t. t && nat_eq (get_or bs (length bs - 1) 0) quote) first ∙ last in
-    ap (λ t. if t then Some (take (length bs - 2) (xs ++ quote ∷ [])) else None) all
-    ∙ ap (λ k. Some (take k (xs ++ quote ∷ []))) m ∙ ap Some (take-append_seam xs (quote ∷ []))
+    let inside : take (length bs - 2) (xs ++ quote ∷ []) ≡ xs =
+    ap (λ k. take k (xs ++ quote ∷ [])) (let m : length bs - 2 ≡ length xs = omega arith in m) ∙ take-append_seam xs (quote ∷ []) in
+    grind (arith, nat_tests, length-append xs (quote ∷ []))
 
 last-split : (n : ℕ) (bs : List ℕ) → length bs ≡ suc n → take n bs ++ get_or bs n 0 ∷ [] ≡ bs
 last-split n [] h = absurd (omega arith)
@@ -51,15 +38,25 @@ last-split zero (b ∷ []) h = refl
 last-split zero (b ∷ c ∷ bs) h = absurd (omega arith)
 last-split (suc n) (b ∷ bs) h = ap (λ l. b ∷ l) (last-split n bs (omega arith))
 
-same : (b k : ℕ) → nat_eq b k ≡ true → b ≡ k
-same b k h = grind (arith, nat_tests)
+-- what the tests of the two quotes tell
+record Between (quote : ℕ) (bs xs : List ℕ) : Type 0 where
+  long : 2 ≤ length bs
+  first : get_or bs 0 0 ≡ quote
+  last : get_or bs (length bs - 1) 0 ≡ quote
+  inside : take (length bs - 2) (drop 1 bs) ≡ xs
 
-quotes-round : (quote : ℕ) (bs : List ℕ) → quoted quote bs ≡ true → quote ∷ (take (length bs - 2) (drop 1 bs) ++ quote ∷ []) ≡ bs
-quotes-round quote bs h =
-    let long = and_parts (nat_le 2 (length bs)) (nat_eq (get_or bs 0 0) quote && nat_eq (get_or bs (length bs - 1) 0) quote) h in
-    let ends = and_parts (nat_eq (get_or bs 0 0) quote) (nat_eq (get_or bs (length bs - 1) 0) quote) long.1 in
-    go bs (length bs - 2) (let two : 2 ≤ length bs = grind (arith, nat_tests) in omega arith) (same (get_or bs 0 0) quote ends.0)
-    (same (get_or bs (length bs - 1) 0) quote ends.1)
+between-tells : (quote : ℕ) (bs xs : List ℕ) → between quote bs ≡ Some xs → Between quote bs xs
+between-tells quote bs xs e = record {
+  long = grind (arith, nat_tests);
+  first = grind (arith, nat_tests);
+  last = grind (arith, nat_tests);
+  inside = grind (arith, nat_tests);
+}
+
+between-is : (quote : ℕ) (bs xs : List ℕ) → between quote bs ≡ Some xs → quote ∷ (xs ++ quote ∷ []) ≡ bs
+between-is quote bs xs e =
+    let b = between-tells quote bs xs e in
+    ap (λ ys. quote ∷ (ys ++ quote ∷ [])) (sym b.inside) ∙ go bs (length bs - 2) (omega (arith, b.long)) b.first b.last
   where
     go : (bs : List ℕ) (m : ℕ) → length bs ≡ suc (suc m) → get_or bs 0 0 ≡ quote → get_or bs (length bs - 1) 0 ≡ quote
         → quote ∷ (take m (drop 1 bs) ++ quote ∷ []) ≡ bs
@@ -70,13 +67,6 @@ quotes-round quote bs h =
         ap (λ x. x ∷ (take m bs ++ quote ∷ [])) (sym first)
         ∙ ap (λ x. b ∷ (take m bs ++ x ∷ [])) (sym at_last)
         ∙ ap (λ l. b ∷ l) (last-split m bs (omega arith))
-
-between-is : (quote : ℕ) (bs xs : List ℕ) → between quote bs ≡ Some xs → quote ∷ (xs ++ quote ∷ []) ≡ bs
-between-is quote bs xs e = go (quoted quote bs) refl e
-  where
-    go : (t : Bool) → quoted quote bs ≡ t → (if t then Some (take (length bs - 2) (drop 1 bs)) else None) ≡ Some xs → quote ∷ (xs ++ quote ∷ []) ≡ bs
-    go false h e = no-value xs e
-    go true h e = ap (λ ys. quote ∷ (ys ++ quote ∷ [])) (sym (same_Some _ _ e)) ∙ quotes-round quote bs h
 
 -- ---- what the relation admits is computed
 

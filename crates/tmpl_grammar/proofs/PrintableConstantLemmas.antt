@@ -39,7 +39,7 @@ OfRune (byte b) = b < 256
 OfRune (char c) = IsScalar c
 
 escape-rune : {quote : ℕ} {s : List ℕ} {r : Rune} → quote < 256 → IsEscape quote s r → OfRune r
-escape-rune h (a_letter {c = c} {letter = e} is other) = let ascii = letter-ascii c e is in grind (arith, nat_tests)
+escape-rune h (a_letter {c = c} {letter = e} is other) = let low = letter-ascii c e is in omega (arith, low)
 escape-rune h the_quote = h
 escape-rune h (octal are low) = low
 escape-rune h (two_digits {ds = ds} are) = hex-byte ds are

@@ -3,6 +3,7 @@ use Rattle.std.proofs.Common.{◌≡◌, ◌∙◌, ℕ, ◌^◌, ◌<◌, Bool,
 use Rattle.std.proofs.Common.{refl, sym, ap, subst, arith, drop, if◌then◌else◌}
 use Rattle.std.specs.List.{flat_map}
 use Rattle.std.specs.Char.{encode_utf8, IsScalar}
+use Rattle.std.proofs.lemmas.Bool.{eqb-true}
 use Rattle.std.proofs.lemmas.Bool.Decides.{nat_tests}
 use Rattle.std.proofs.lemmas.Str.{encode_ascii}
 use lib.Utf8.{scalar, scalar_fits}
@@ -25,28 +26,11 @@ escaped {r = r} e t = record { parts = r ∷ t.parts; spells = an_escape e t.spe
 
 -- ---- letters
 
-abbrev pub AllOf : (ℕ → ℕ → Type 0) → List (ℕ × ℕ) → Type 0
-AllOf P [] = Unit {0}
-AllOf P (p ∷ ps) = P p.0 p.1 × AllOf P ps
-
-found-at : (P : ℕ → ℕ → Type 0) (b : Bool) (c e k l : ℕ) (o : Option ℕ) → nat_eq c k ≡ b → P k l → (o ≡ Some e → P c e)
-    → (if b then Some l else o) ≡ Some e → P c e
-found-at P true c e k l o t h rest is =
-    let same : k ≡ c = grind (arith, nat_tests) in
-    let letter : l ≡ e = cc in
-    subst (λ x. P x e) same (subst (P k) letter h)
-found-at P false c e k l o t h rest is = rest is
-
--- what holds of each code and letter holds of a code and the letter that is found
-found : (P : ℕ → ℕ → Type 0) (c e : ℕ) (ps : List (ℕ × ℕ)) → AllOf P ps → letter_of c ps ≡ Some e → P c e
-found P c e [] h is = cc
-found P c e (p ∷ ps) h is = found-at P (nat_eq c p.0) c e p.0 p.1 (letter_of c ps) refl h.0 (λ i. found P c e ps h.1 i) is
-
-pub letter-ascii : (c e : ℕ) → letter_of c letters ≡ Some e → nat_lt c 128 ≡ true
-letter-ascii c e = found (λ c e. nat_lt c 128 ≡ true) c e letters (refl, (refl, (refl, (refl, (refl, (refl, (refl, (refl, (refl, tt)))))))))
+pub letter-ascii : (c e : ℕ) → letter_of c letters ≡ Some e → c < 128
+letter-ascii c e is = grind (arith, nat_tests)
 
 pub letter-no-newline : (c e : ℕ) → letter_of c letters ≡ Some e → nat_eq e 10 ≡ false
-letter-no-newline c e = found (λ c e. nat_eq e 10 ≡ false) c e letters (refl, (refl, (refl, (refl, (refl, (refl, (refl, (refl, (refl, tt)))))))))
+letter-no-newline c e is = grind (arith, nat_tests)
 
 pub unlettered : (c k e : ℕ) → letter_of k letters ≡ Some e → letter_of c letters ≡ None → c ≡ k → ⊥
 unlettered c k e there none same = let n : Some e ≡ None = sym there ∙ sym (ap (λ x. letter_of x letters) same) ∙ none in cc
@@ -58,7 +42,7 @@ letter-escape c e is = by (nat_eq c 34) refl is
   where
     by : (b : Bool) → nat_eq c 34 ≡ b → (if b then Some 34 else letter_of c (drop 1 letters)) ≡ Some e → IsEscape 34 (92 ∷ e ∷ []) (byte c)
     by true h k =
-        let same : 34 ≡ c = grind (arith, nat_tests) in
+        let same : 34 ≡ c = sym (eqb-true c 34 h) in
         let letter : 34 ≡ e = cc in
         subst (λ x. IsEscape 34 (92 ∷ x ∷ []) (byte c)) letter (subst (λ x. IsEscape 34 (92 ∷ 34 ∷ []) (byte x)) same the_quote)
     by false h k = a_letter is (λ same. grind (arith, nat_tests))
@@ -100,9 +84,7 @@ module _ (rest text : List ℕ) (t : SpellsText rest text) where
   spelled-char : (prints : ℕ → Bool) (c : ℕ) (o : Option ℕ) → letter_of c letters ≡ o → IsScalar c
       → SpellsText (rune_spelling prints c o ++ rest) (encode_utf8 c ++ text)
   spelled-char prints c (Some e) is s =
-      let ascii = letter-ascii c e is in
-      let low : c < 128 = grind (arith, nat_tests) in
-      as-char c low (escaped (letter-escape c e is) t)
+      as-char c (letter-ascii c e is) (escaped (letter-escape c e is) t)
   spelled-char prints c None is s = spelled-code (prints c) _ _ c s is refl refl
 
   spelled-rune : (prints : ℕ → Bool) (r : Rune) → IsRune r → SpellsText (spelling prints r ++ rest) (bytes_in r ++ text)

@@ -1,6 +1,6 @@
 -- For `printed_tokens`: a quote is one string token, whatever stands behind it.
-use Rattle.std.proofs.Common.{◌≡◌, ◌∙◌, ℕ, zero, suc, ◌+◌, ◌/◌, ◌%◌, ◌<◌, Bool, true, false, nat_eq, List, [], ◌∷◌, ◌++◌, length, get_or}
-use Rattle.std.proofs.Common.{Option, Some, None, nat_lt, if◌then◌else◌, refl, sym, arith, append-nil}
+use Rattle.std.proofs.Common.{◌≡◌, ◌∙◌, ℕ, zero, suc, ◌/◌, ◌%◌, ◌<◌, Bool, true, false, nat_eq, List, [], ◌∷◌, ◌++◌, length, get_or}
+use Rattle.std.proofs.Common.{Option, Some, None, if◌then◌else◌, refl, sym, arith, append-nil}
 use Rattle.std.specs.List.{flat_map}
 use Rattle.std.specs.Char.{encode_utf8, digit_char}
 use Rattle.std.proofs.lemmas.Bool.Decides.{nat_tests}
@@ -36,11 +36,7 @@ plain-at [] f = tt
 plain-at (b ∷ s) f = let h = f 0 (omega arith) in (h.0, h.1, h.2, plain-at s (λ k l. f (suc k) (omega arith)))
 
 plain-digit : (d : ℕ) → d < 16 → ArePlain (digit_char d ∷ [])
-plain-digit d h = by (nat_lt d 10) refl
-  where
-    by : (t : Bool) → nat_lt d 10 ≡ t → ArePlain ((if t then 48 + d else 87 + d) ∷ [])
-    by true e = (grind (arith, nat_tests), grind (arith, nat_tests), grind (arith, nat_tests), tt)
-    by false e = (grind (arith, nat_tests), grind (arith, nat_tests), grind (arith, nat_tests), tt)
+plain-digit d h = (grind (arith, nat_tests), grind (arith, nat_tests), grind (arith, nat_tests), tt)
 
 plain-hexes : (k c : ℕ) → ArePlain (hexes k c)
 unfolding hexes

@@ -1,4 +1,5 @@
-use Rattle.std.proofs.Common.{◌∙◌, ◌++◌, ap, sym}
+use Rattle.std.proofs.Common.{arith, ◌∙◌, ◌++◌, ap, sym}
+use Rattle.std.proofs.lemmas.Grind.{common_steps}
 use Rattle.std.proofs.lemmas.Result.{on_ok_weaker}
 use Rattle.tmpl_grammar.specs.Print.{bytes_of, chain_tokens, pipeline_tokens, operand_tokens}
 use Rattle.tmpl_grammar.specs.View.{commands_in, operand_of}
@@ -18,3 +19,9 @@ print_operand-returns-in_ok-extend_from_slice-in-Group-2 t c =
     (e ∙ ap (λ ns. c.extend_from_slice-in-Group-2.new.self.items ++ bytes_of (chain_tokens ns)) c.as_slice-in-Group-2.ensures.value)
     ∙ ap (λ bs. c.args.bytes.now.items ++ bs) (sym printed ∙ ap (λ o. bytes_of (operand_tokens (operand_of o))) (sym group.is)))
     c.print_chain-in-Group.ensures
+
+pub print_commands-loop-command-preserved : goal.print_commands-loop-command-preserved
+print_commands-loop-command-preserved t c = grind (arith, common_steps)
+
+pub print_operands-loop-operand-preserved : goal.print_operands-loop-operand-preserved
+print_operands-loop-operand-preserved t c = grind (arith, common_steps)
