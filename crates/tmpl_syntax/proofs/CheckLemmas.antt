@@ -18,7 +18,7 @@ use Rattle.tmpl_syntax.specs.computed.Parse.{IsRefusal, line_in, by_verdict, che
 use Rattle.tmpl_syntax.specs.Parse.{last_line}
 use Rattle.tmpl_syntax.proofs.FaultLemmas.{TellsRole, tells}
 use Rattle.tmpl_syntax.proofs.SecondLemmas.{drop-next}
-use Rattle.tmpl_syntax.proofs.SoundLemmas.{Sound, sound-start, sound-past}
+use Rattle.tmpl_syntax.proofs.VerdictLemmas.{Sound, sound-start, sound-past}
 
 -- up to the place i none is refused, and there these frames and names stand
 pub record IsChecking (xs : List Role) (i : ℕ) (known : Known) (fs : List Frame) : Type 0 where

@@ -2,14 +2,11 @@ pub mod AcceptedLemmas
 pub mod BodyExamples
 pub mod BuildLemmas
 pub mod CheckLemmas
-pub mod ElseLemmas
-pub mod ElsePartLemmas
 pub mod FaultLemmas
 pub mod FileLemmas
 pub mod FormedExamples
 pub mod FormedLemmas
 pub mod ItemLemmas
-pub mod ItemPartLemmas
 pub mod JoinLemmas
 pub mod JudgeLemmas
 pub mod KeptLemmas
@@ -19,7 +16,6 @@ pub mod NameLemmas
 pub mod NamedLemmas
 pub mod NeedExamples
 pub mod NeedLemmas
-pub mod OneVerdictLemmas
 pub mod OpenLemmas
 pub mod PageLemmas
 pub mod PlaceLemmas
@@ -32,10 +28,8 @@ pub mod ReadingLemmas
 pub mod ScopeLemmas
 pub mod SecondLemmas
 pub mod SetLemmas
-pub mod SoundLemmas
 pub mod SpellingLemmas
 pub mod StandLemmas
 pub mod StepLemmas
 pub mod VerdictLemmas
 pub mod ViewLemmas
-pub mod WithFileLemmas

@@ -47,7 +47,7 @@ const TOO_LONG: Refusal = Refusal {
 /// After an error the set is as it was.
 ///
 /// `else with` is there since Go 1.23. A file that is accepted without it makes the same set with it.
-#[tactic(auto, using(crate::proofs::WithFileLemmas::with_files))]
+#[tactic(auto, using(crate::proofs::LargerLemmas::with_files))]
 pub fn parse_file<'f>(
     alloc: Global,
     set: &mut Set,
@@ -67,7 +67,7 @@ pub fn parse_file<'f>(
 /// # Errors
 ///
 /// Those of `parse_file`.
-#[tactic(auto, using(crate::proofs::WithFileLemmas::with_files))]
+#[tactic(auto, using(crate::proofs::LargerLemmas::with_files))]
 pub fn parse_owned<'f>(
     alloc: Global,
     set: &mut Set,

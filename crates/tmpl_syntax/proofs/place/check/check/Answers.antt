@@ -5,8 +5,7 @@ use Rattle.std.proofs.lemmas.List.{length-map, length-reverse}
 use Rattle.tmpl_syntax.specs.Fault.{open_at_end}
 use Rattle.tmpl_syntax.specs.computed.View.{item_of, frame_of, frames_in, known_names, scopes_of}
 use Rattle.tmpl_syntax.specs.Place.Role.{role_of, roles_of}
-use Rattle.tmpl_syntax.proofs.CheckLemmas.{checking-start, checking-past, checking-ended, role-here}
-use Rattle.tmpl_syntax.proofs.CheckLemmas.{checked-fine, checked-open}
+use Rattle.tmpl_syntax.proofs.CheckLemmas.{checking-start, checking-past, checking-ended, role-here, checked-fine, checked-open}
 use Rattle.tmpl_syntax.proofs.place.check.check.Goals as goal
 
 pub loop-item-init : goal.loop-item-init
