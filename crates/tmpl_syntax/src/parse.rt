@@ -175,7 +175,7 @@ fn templates_of(
     definitions: Vec<Definition>,
 ) -> Result<Vec<(Vec<u8>, Tree)>, AllocError>
     ensures { IfOk result (λ v. map template_of v.items
-        ≡ map (λ d. template_in file.now (definition_of d)) definitions.items) }
+        ≡ map (template_in file.now) (map definition_of definitions.items)) }
 {
     let path = Rc::new(alloc, Bytes::new(copy_of(alloc, file.as_bytes())?))?;
     templates_at(alloc, &path, definitions)
@@ -189,7 +189,7 @@ fn templates_at(
     definitions: Vec<Definition>,
 ) -> Result<Vec<(Vec<u8>, Tree)>, AllocError>
     ensures { IfOk result (λ v. map template_of v.items
-        ≡ map (λ d. template_in path.now.value (definition_of d)) definitions.items) }
+        ≡ map (template_in path.now.value) (map definition_of definitions.items)) }
 {
     let mut templates = Vec::with_capacity(alloc, definitions.len())?;
     for definition in definitions {
