@@ -1,6 +1,5 @@
 pub mod AcceptedLemmas
 pub mod BodyExamples
-pub mod BuildLemmas
 pub mod CheckLemmas
 pub mod FaultLemmas
 pub mod FileLemmas

@@ -100,31 +100,24 @@ module _ (xs : List Role) (i : ℕ) (known : Known) (fs : List Frame) (s : Sound
     fine-action e _ (too_deep f m) = not-deep e.1 (too_deep f m)
     fine-action e _ (undeclared {a = b} f m) = none-unknown xs i known fs s.stands a at e.0 e.2 (own (IsUndeclared xs i) b f m)
 
+    -- no reason that is asked for before it applies
+    first : (fault : Reason) → Tells a (top fs) (names_at a (top fs) known.inner) (Some fault) → (f : Reason) → rank f < rank fault → Applies xs i f → ⊥
+    first fault e _ lt (unreadable f) = cc
+    first fault e _ lt (unread f) = cc
+    first reason.out_of_place e _ lt _ = absurd (omega arith)
+    first reason.nested_too_deeply e _ lt (misplaced f m) = not-misplaced e.0 (misplaced f m)
+    first reason.nested_too_deeply e _ lt _ = absurd (omega arith)
+    first reason.undeclared_variable e _ lt (misplaced f m) = not-misplaced e.0 (misplaced f m)
+    first reason.undeclared_variable e _ lt (too_deep f m) = not-deep e.1 (too_deep f m)
+    first reason.undeclared_variable e _ lt _ = absurd (omega arith)
+    first _ e f lt g = absurd e
+
     refused-action : (fault : Reason) → Tells a (top fs) (names_at a (top fs) known.inner) (Some fault) → Judged xs (refused i fault)
-    refused-action reason.out_of_place e =
-        (misplaced at (unplaced xs i known fs a s.stands e), first, s.none_refused)
-      where
-        first : (f : Reason) → rank f < rank reason.out_of_place → Applies xs i f → ⊥
-        first _ lt (unreadable f) = cc
-        first _ lt (unread f) = cc
-        first _ lt _ = absurd (omega arith)
+    refused-action reason.out_of_place e = (misplaced at (unplaced xs i known fs a s.stands e), first reason.out_of_place e, s.none_refused)
     refused-action reason.nested_too_deeply e =
-        (too_deep at (deep xs i a (top fs) known.inner h e.1), first, s.none_refused)
-      where
-        first : (f : Reason) → rank f < rank reason.nested_too_deeply → Applies xs i f → ⊥
-        first _ lt (unreadable f) = cc
-        first _ lt (unread f) = cc
-        first _ lt (misplaced h m) = not-misplaced e.0 (misplaced h m)
-        first _ lt _ = absurd (omega arith)
+        (too_deep at (deep xs i a (top fs) known.inner h e.1), first reason.nested_too_deeply e, s.none_refused)
     refused-action reason.undeclared_variable e =
-        (undeclared at (unknown xs i known fs s.stands a at e.0 e.2), first, s.none_refused)
-      where
-        first : (f : Reason) → rank f < rank reason.undeclared_variable → Applies xs i f → ⊥
-        first _ lt (unreadable f) = cc
-        first _ lt (unread f) = cc
-        first _ lt (misplaced h m) = not-misplaced e.0 (misplaced h m)
-        first _ lt (too_deep h m) = not-deep e.1 (too_deep h m)
-        first _ lt _ = absurd (omega arith)
+        (undeclared at (unknown xs i known fs s.stands a at e.0 e.2), first reason.undeclared_variable e, s.none_refused)
     refused-action _ e = absurd e
 
   none-before : (f : Reason) → rank f < rank reason.unreadable → Applies xs i f → ⊥
@@ -138,11 +131,11 @@ module _ (xs : List Role) (i : ℕ) (known : Known) (fs : List Frame) (s : Sound
   refused-here unreadable_role fault at e = let g : fault ≡ reason.unreadable = cc in
       subst (λ r. Judged xs (refused i r)) (sym g) (unreadable at, none-before, s.none_refused)
   refused-here unread_role fault at e = let g : fault ≡ reason.not_an_action = cc in
-      subst (λ r. Judged xs (refused i r)) (sym g) (unread at, first, s.none_refused)
+      subst (λ r. Judged xs (refused i r)) (sym g) (unread at, readable, s.none_refused)
     where
-      first : (f : Reason) → rank f < rank reason.not_an_action → Applies xs i f → ⊥
-      first _ lt (unreadable f) = cc
-      first _ lt _ = absurd (omega arith)
+      readable : (f : Reason) → rank f < rank reason.not_an_action → Applies xs i f → ⊥
+      readable _ lt (unreadable f) = cc
+      readable _ lt _ = absurd (omega arith)
 
   fine-here : (x : Role) → slice_get xs i ≡ Some x → TellsRole x (top fs) (seen_at x (top fs) known.inner) None → (f : Reason) → Applies xs i f → ⊥
   fine-here text_role at e = fine-text at
