@@ -28,8 +28,7 @@ use Rattle.tmpl_syntax.specs.Spelling.{a_text, an_action, a_break, a_continue, a
 use Rattle.tmpl_syntax.specs.Spelling.{Closes, an_end, an_else, an_else_branch}
 use Rattle.tmpl_syntax.specs.Print.Printed.{Said, said_text, said, else_said, node_said, nodes_said}
 use Rattle.tmpl_syntax.specs.Print.Laws.{Says, says_nothing, says_text, says, AcceptsBack}
-use Rattle.tmpl_syntax.proofs.OneVerdictLemmas.{one-verdict}
-use Rattle.tmpl_syntax.proofs.VerdictLemmas.{judged-all}
+use Rattle.tmpl_syntax.proofs.VerdictLemmas.{one-verdict, judged-all}
 use Rattle.tmpl_syntax.specs.Formed.{are_among, declared_to, else_scope, is_looped, scope_behind, is_formed, are_formed, AreFormed}
 use Rattle.tmpl_syntax.specs.Laws.{SpellsFormed}
 use Rattle.tmpl_syntax.proofs.FormedLemmas.{passes, is_fine, fine-back, passes-fine, seen_past, seen_behind, take-seen, part-long, control-names}

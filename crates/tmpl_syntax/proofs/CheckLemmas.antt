@@ -1,15 +1,16 @@
 -- For `check`: the verdict, from item to item.
-use Rattle.std.proofs.Common.{arith, ◌≡◌, ◌≢◌, ℕ, ◌+◌, ◌<◌, ◌≤◌, List, [], ◌∷◌, refl, sym, ap, ◌∙◌, subst, length, map, drop, get_or}
+use Rattle.std.proofs.Common.{arith, ◌≡◌, ◌≢◌, ℕ, ◌+◌, ◌<◌, ◌≤◌, List, [], ◌∷◌, refl, sym, ap, ◌∙◌, subst, length, map, drop, get_or, reverse}
 use Rattle.std.proofs.Common.{Option, Some, None, Ok, Err}
 use Rattle.std.specs.Prelude.{slice_get}
 use Rattle.std.specs.Option.{option_map}
-use Rattle.std.proofs.lemmas.List.{drop_all}
+use Rattle.std.proofs.lemmas.List.{drop_all, length-map, length-reverse}
 use Rattle.std.proofs.lemmas.Option.{slice_get_read, slice_get-map}
 use Rattle.tmpl_syntax.specs.computed.Frames.{Frame}
 use Rattle.tmpl_syntax.specs.declared.item.Item as held
+use Rattle.tmpl_syntax.specs.declared.place.frame.Frame as held_frame
 use Rattle.tmpl_syntax.specs.Fault.{Reason, open_at_end}
 use Rattle.tmpl_syntax.specs.Item.{Item}
-use Rattle.tmpl_syntax.specs.computed.View.{item_of}
+use Rattle.tmpl_syntax.specs.computed.View.{item_of, frame_of, frames_in}
 use Rattle.tmpl_syntax.specs.Place.Role.{Name, Role, role_of, roles_of}
 use Rattle.tmpl_syntax.specs.Place.Body.{Verdict, fine, refused, left_open}
 use Rattle.tmpl_syntax.specs.computed.Frames.{top, seen_at, fault_at, frames_past, at_end, Known, with_inner, known_past, none_known}
@@ -18,7 +19,7 @@ use Rattle.tmpl_syntax.specs.computed.Parse.{IsRefusal, line_in, by_verdict, che
 use Rattle.tmpl_syntax.specs.Parse.{last_line}
 use Rattle.tmpl_syntax.proofs.FaultLemmas.{TellsRole, tells}
 use Rattle.tmpl_syntax.proofs.SecondLemmas.{drop-next}
-use Rattle.tmpl_syntax.proofs.SoundLemmas.{Sound, sound-start, sound-past}
+use Rattle.tmpl_syntax.proofs.VerdictLemmas.{Sound, sound-start, sound-past}
 
 -- up to the place i none is refused, and there these frames and names stand
 pub record IsChecking (xs : List Role) (i : ℕ) (known : Known) (fs : List Frame) : Type 0 where
@@ -77,9 +78,6 @@ pub role-here : (items : List held.Item) (i : ℕ) (x : held.Item) → i < lengt
     → slice_get (roles_of (map item_of items)) i ≡ Some (role_of (item_of x))
 role-here items i x lt is = role-at (map item_of items) i (item_of x) (item-at items i x lt is)
 
-pub checking-ended : (xs : List Role) (i : ℕ) (known : Known) (fs : List Frame) → length xs ≤ i → IsChecking xs i known fs → verdict_of xs ≡ at_end fs
-checking-ended xs i known fs le c = c.goes ∙ ap (verdict_from i fs known) (drop_all i xs le)
-
 module _ (bytes : List ℕ) (items : List Item) where
   by : (v : Verdict) → verdict_of (roles_of items) ≡ v → checked bytes items ≡ by_verdict (last_line bytes) items v
   unfolding checked
@@ -91,12 +89,28 @@ module _ (bytes : List ℕ) (items : List Item) where
       subst (λ n. IsRefusal (checked bytes items) n o) (sym is) (subst (λ z. IsRefusal (checked bytes items) (line_in (Some x)) z) (sym named)
       (by (refused i f) e ∙ ap (λ y. Err (line_in y, f)) at))
 
-  pub checked-fine : (fs : List Frame) → length fs ≡ 0 → verdict_of (roles_of items) ≡ at_end fs → checked bytes items ≡ Ok tt
-  checked-fine [] n e = by fine e
-  checked-fine (f ∷ fs) n e = absurd (omega arith)
+  fine-at : (fs : List Frame) → length fs ≡ 0 → verdict_of (roles_of items) ≡ at_end fs → checked bytes items ≡ Ok tt
+  fine-at [] n e = by fine e
+  fine-at (f ∷ fs) n e = absurd (omega arith)
 
-  pub checked-open : (fs : List Frame) → length fs ≢ 0 → verdict_of (roles_of items) ≡ at_end fs → checked bytes items ≡ Err (last_line bytes, open_at_end)
-  checked-open [] n e = absurd (n refl)
-  checked-open (f ∷ fs) n e = by left_open e
+  open-at : (fs : List Frame) → length fs ≢ 0 → verdict_of (roles_of items) ≡ at_end fs → checked bytes items ≡ Err (last_line bytes, open_at_end)
+  open-at [] n e = absurd (n refl)
+  open-at (f ∷ fs) n e = by left_open e
 
-pub ruleset checks = (checking-refused, item-at, role-here, checked-refused)
+-- at the end
+module _ (bytes : List ℕ) (items : List held.Item) (i : ℕ) (known : Known) (stack : List held_frame.Frame) (le : length items ≤ i)
+    (c : IsChecking (roles_of (map item_of items)) i known (frames_in stack)) where
+  count : length (frames_in stack) ≡ length stack
+  count = length-map (reverse stack) frame_of ∙ length-reverse stack
+
+  ended : verdict_of (roles_of (map item_of items)) ≡ at_end (frames_in stack)
+  ended = c.goes ∙ ap (verdict_from i (frames_in stack) known)
+      (drop_all i (roles_of (map item_of items)) (omega (arith, length-map (map item_of items) role_of, length-map items item_of)))
+
+  pub checked-fine : length stack ≡ 0 → checked bytes (map item_of items) ≡ Ok tt
+  checked-fine n = fine-at bytes (map item_of items) (frames_in stack) (count ∙ n) ended
+
+  pub checked-open : length stack ≢ 0 → checked bytes (map item_of items) ≡ Err (last_line bytes, open_at_end)
+  checked-open n = open-at bytes (map item_of items) (frames_in stack) (λ e. n (sym count ∙ e)) ended
+
+pub ruleset checks = (checking-refused, item-at, role-here, checked-refused, checked-fine, checked-open)

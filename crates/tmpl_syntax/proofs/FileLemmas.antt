@@ -1,11 +1,11 @@
 -- For `add_file`: a file and the set before and after it, by where the file is refused.
-use Rattle.std.proofs.Common.{◌≡◌, ◌<◌, ◌≤◌, ℕ, List, Option, Some, None, Ok, Err, sym, ap, ◌∙◌, length, cond}
+use Rattle.std.proofs.Common.{◌≡◌, ◌<◌, ◌≤◌, ℕ, List, Option, Some, None, Ok, Err, sym, ap, ◌∙◌, length, cond, map}
 use Rattle.std.proofs.lemmas.Bool.{lt-ltb, le-ltb}
 use Rattle.tmpl_syntax.specs.Fault.{Reason, too_long}
-use Rattle.tmpl_syntax.specs.Set.{Template}
+use Rattle.tmpl_syntax.specs.Set.{Template, defined_each}
 use Rattle.tmpl_syntax.specs.computed.Parse.{Refusal, IsRefusal, checked, second_in, unless_second, IsSecondAt, definitions_or, bodies_of}
 use Rattle.tmpl_syntax.specs.computed.Parse.{all_from, items_of, placed, parsed}
-use Rattle.tmpl_syntax.specs.Parse.{base_name, most_bytes}
+use Rattle.tmpl_syntax.specs.Parse.{base_name, most_bytes, template_in}
 
 module _ (set : List Template) (file bytes : List ℕ) where
   pub parsed-long : most_bytes < length bytes → parsed set file bytes ≡ Err (1, too_long)
@@ -26,9 +26,13 @@ module _ (set : List Template) (file bytes : List ℕ) where
   refusal-placed line (Some reason) h e = refused-short (line, reason) h e
 
   -- a file all of whose items are in place
-  pub fine-placed : length bytes ≤ most_bytes → checked bytes (items_of bytes) ≡ Ok tt
+  in-place : length bytes ≤ most_bytes → checked bytes (items_of bytes) ≡ Ok tt
       → let ds = all_from (base_name file) (items_of bytes) in parsed set file bytes ≡ placed set file (unless_second (second_in ds) ds)
-  fine-placed h e = parsed-short h ∙ ap (λ c. placed set file (definitions_or c (all_from (base_name file) (items_of bytes)))) e
+  in-place h e = parsed-short h ∙ ap (λ c. placed set file (definitions_or c (all_from (base_name file) (items_of bytes)))) e
+
+  pub fine-placed : length bytes ≤ most_bytes → checked bytes (items_of bytes) ≡ Ok tt → second_in (all_from (base_name file) (items_of bytes)) ≡ None
+      → parsed set file bytes ≡ Ok (defined_each set (map (template_in file) (all_from (base_name file) (items_of bytes))))
+  fine-placed h e none = in-place h e ∙ ap (λ k. placed set file (unless_second k (all_from (base_name file) (items_of bytes)))) none
 
   -- the refusal of a second definition is that of its file
   pub second-placed : (line : ℕ) (o : Option Reason) → length bytes ≤ most_bytes → checked bytes (items_of bytes) ≡ Ok tt
@@ -36,8 +40,8 @@ module _ (set : List Template) (file bytes : List ℕ) where
   second-placed line None h e s = s
   second-placed line (Some reason) h e s =
       let ds = all_from (base_name file) (items_of bytes) in
-      fine-placed h e ∙ ap (λ k. placed set file (unless_second k ds)) s.0 ∙ ap (λ r. Err (line, r)) (sym s.1)
+      in-place h e ∙ ap (λ k. placed set file (unless_second k ds)) s.0 ∙ ap (λ r. Err (line, r)) (sym s.1)
 
 pub ruleset long = parsed-long
 
-pub ruleset added_items = (refusal-placed, second-placed)
+pub ruleset added_items = (refusal-placed, second-placed, fine-placed)

@@ -1,5 +1,5 @@
--- For `one_list_of_items`: the pieces of a file are read as the items that are computed.
-use Rattle.std.proofs.Common.{◌≡◌, ◌∙◌, ◌≤◌, ◌<◌, ℕ, Bool, true, false, List, [], ◌∷◌, map, Option, Some, None, refl, ap, sym, subst, ⊎_elim}
+-- For `one_list_of_items` and `read_all`: the pieces of a file are read as the items that are computed, also part by part.
+use Rattle.std.proofs.Common.{◌≡◌, ◌∙◌, ◌≤◌, ◌<◌, ℕ, Bool, true, false, List, [], ◌∷◌, map, Option, Some, None, refl, ap, sym, subst, ⊎_elim, ◌++◌}
 use Rattle.std.proofs.lemmas.Bool.{le-leb, cases_lt}
 use Rattle.std.proofs.lemmas.Option.{same_Some}
 use Rattle.tmpl_lex.specs.computed.Cut.{cut_of}
@@ -17,6 +17,9 @@ use Rattle.tmpl_syntax.specs.Laws.{HasItemsOf, HasOneList, HasSomeItems}
 use Rattle.tmpl_syntax.specs.computed.Parse.{items_of}
 use Rattle.tmpl_grammar.proofs.LimitLemmas.{nat_le-false}
 use Rattle.tmpl_grammar.proofs.ActionLemmas.{reads-action, spells-action, none-spelled}
+use Rattle.tmpl_lex.specs.declared.part.Rest as held
+use Rattle.tmpl_lex.specs.Cut.{Cuts}
+use Rattle.tmpl_lex.proofs.FirstPartLemmas.{whole-cut}
 
 -- ---- the limit
 
@@ -138,3 +141,12 @@ has-items bytes = subst (HasItems every_branch bytes) (in-every (cut_of bytes)) 
 
 pub no-others : (bytes : List ℕ) (items : List Item) → HasItems every_branch bytes items → items ≡ items_of bytes
 no-others bytes items h = one-list every_branch bytes items (items_of bytes) h (has-items bytes)
+
+-- the file's items are these, and those of what the rest is cut into
+abbrev pub AreSoFar : List ℕ → List Item → held.Rest → Type 0
+AreSoFar file xs rest = (more : List Piece) → Cuts rest.trims rest.line rest.bytes.now more → items_of file ≡ xs ++ items_in more
+
+pub none_so_far : (file : List ℕ) (rest : held.Rest) (xs : List Item) → rest.bytes.now ≡ file → rest.line ≡ 1 → rest.trims ≡ false → xs ≡ []
+    → AreSoFar file xs rest
+none_so_far file rest xs b l t e = λ more cuts.
+    ap items_in (whole-cut file rest more b l t cuts) ∙ ap (λ (ys : List Item). ys ++ items_in more) (sym e)

@@ -15,10 +15,9 @@ use Rattle.tmpl_syntax.specs.computed.Frames.{is_too_deep, names_at, Known}
 use Rattle.tmpl_syntax.proofs.FaultLemmas.{IsKnown, IsUnknown, in-nothing}
 use Rattle.tmpl_syntax.proofs.OpenLemmas.{same-opening, one-last}
 use Rattle.tmpl_syntax.proofs.PlaceLemmas.{levels-unique, no-else}
-use Rattle.tmpl_syntax.proofs.ScopeLemmas.{to-scope, from-scope, at-place, at-place-back}
-use Rattle.tmpl_syntax.proofs.ElsePartLemmas.{to-part, from-part}
+use Rattle.tmpl_syntax.proofs.ScopeLemmas.{to-scope, from-scope, at-place, at-place-back, to-part, from-part}
 use Rattle.tmpl_syntax.proofs.StandLemmas.{Here, closed_at, Stands, here-of}
-use Rattle.tmpl_syntax.proofs.ElseLemmas.{joins-own, joins-no-range}
+use Rattle.tmpl_syntax.proofs.StepLemmas.{joins-own, joins-no-range}
 use Rattle.tmpl_syntax.specs.Place.Opening.{Opening}
 use Rattle.tmpl_syntax.specs.Place.Opening as opened
 use Rattle.tmpl_grammar.specs.declared.tree.Control.TheVariants.{Range}

@@ -1,5 +1,6 @@
--- For `more_branches`: what a language accepts, one with more else branches accepts.
-use Rattle.std.proofs.Common.{◌≡◌, ◌∙◌, ℕ, true, suc, List, [], ◌∷◌, Option, Some, None, Result, Ok, Err, refl, ap, sym, length}
+-- For `more_branches`, `parse_file` and `parse_owned`: what a language accepts, one with more else branches accepts, and what
+-- was added of a file, with its path at a refusal, is what each clause says.
+use Rattle.std.proofs.Common.{◌≡◌, ◌∙◌, ℕ, true, suc, List, [], ◌∷◌, Option, Some, None, Result, Ok, Err, refl, ap, sym, length, subst}
 use Rattle.std.specs.Prelude.{slice_get}
 use Rattle.tmpl_lex.specs.Piece.{Piece}
 use Rattle.tmpl_grammar.specs.Action.{Action, else_branch}
@@ -10,12 +11,15 @@ use Rattle.std.specs.List.{AllZip}
 use Rattle.tmpl_syntax.specs.Place.Role.{Role, unread_role, role_of, roles_of}
 use Rattle.tmpl_syntax.specs.Place.Body.{NoneRefused, unread as unread_applies}
 use Rattle.tmpl_syntax.specs.Laws.{IsLarger, AcceptsInLarger}
-use Rattle.tmpl_syntax.proofs.OneVerdictLemmas.{within}
-use Rattle.tmpl_syntax.proofs.ReadingLemmas.{parsed-accepted}
-use Rattle.tmpl_syntax.specs.Fault.{Reason}
+use Rattle.tmpl_syntax.proofs.VerdictLemmas.{within}
+use Rattle.tmpl_syntax.proofs.ReadingLemmas.{parsed-accepted, accepted, refusal-for}
+use Rattle.tmpl_syntax.specs.Fault.{Reason, reason_of}
 use Rattle.tmpl_syntax.specs.Set.{Template}
-use Rattle.tmpl_syntax.specs.Parse.{IsAccepted}
-use Rattle.tmpl_syntax.specs.computed.Parse.{Refusal, IsRefusal, parsed}
+use Rattle.tmpl_syntax.specs.Parse.{IsAccepted, IsReading, IsAsBefore}
+use Rattle.tmpl_syntax.specs.computed.Parse.{Refusal, IsRefusal, parsed, IsAdded, IsParse, with_file}
+use Rattle.std.specs.Borrow.{Bor}
+use Rattle.tmpl_syntax.specs.declared.fault.ParseFault.{ParseFault}
+use Rattle.tmpl_syntax.specs.declared.fault.Refusal as held
 
 -- no item of these is unread
 abbrev AllRead : List Role → Type 0
@@ -65,3 +69,28 @@ module _ (old : List Template) (file bytes : List ℕ) (set : List Template) (ac
   pub only-memory : (line : ℕ) (o : Option Reason) → IsRefusal (parsed old file bytes) line o → o ≡ None
   only-memory line None r = refl
   only-memory line (Some reason) r = let same : ◌≡◌ {A = Result (List Template) Refusal} (Ok set) (Err (line, reason)) = sym parsed-before ∙ r in absurd (cc)
+
+module _ (old : List Template) (file : Bor (List ℕ)) (bytes : List ℕ) (new : List Template) where
+  pub reading-with : (r : Result (Unit {0}) held.Refusal) → IsAdded old file.now bytes new r → IsReading old file bytes new (with_file file r)
+  reading-with (Ok u) is = accepted old file.now bytes new is
+  reading-with (Err r) (same, is) = (refl, same, refusal-for old file.now bytes r.line (reason_of r.kind) is)
+
+  pub parse-with : (r : Result (Unit {0}) held.Refusal) → IsAdded old file.now bytes new r → IsParse old file bytes new (with_file file r)
+  parse-with (Ok u) is = is
+  parse-with (Err r) (same, is) = (refl, same, is)
+
+  pub before-with : (r : Result (Unit {0}) held.Refusal) → IsAdded old file.now bytes new r → IsAsBefore old file bytes new (with_file file r)
+  before-with (Ok u) is = λ set go. same-before old file.now bytes set go new is
+  before-with (Err r) (same, is) = λ set go. only-memory old file.now bytes set go r.line (reason_of r.kind) is
+
+  -- what the three clauses say
+  pub record Added (result : Result (Unit {0}) ParseFault) : Type 0 where
+    pub reading : IsReading old file bytes new result
+    pub value : IsParse old file bytes new result
+    pub before : IsAsBefore old file bytes new result
+
+  pub added : (result : Result (Unit {0}) ParseFault) (r : Result (Unit {0}) held.Refusal) → result ≡ with_file file r → IsAdded old file.now bytes new r
+      → Added result
+  added result r e is = subst Added (sym e) (record { reading = reading-with r is; value = parse-with r is; before = before-with r is })
+
+pub ruleset with_files = (reading-with, parse-with, before-with)

@@ -1,14 +1,10 @@
 pub mod AcceptedLemmas
-pub mod BuildLemmas
 pub mod CheckLemmas
-pub mod ElseLemmas
-pub mod ElsePartLemmas
 pub mod FaultLemmas
 pub mod FileLemmas
 pub mod FormedExamples
 pub mod FormedLemmas
 pub mod ItemLemmas
-pub mod ItemPartLemmas
 pub mod JoinLemmas
 pub mod JudgeLemmas
 pub mod KeptLemmas
@@ -17,7 +13,6 @@ pub mod LargerLemmas
 pub mod NameLemmas
 pub mod NamedLemmas
 pub mod NeedLemmas
-pub mod OneVerdictLemmas
 pub mod OpenLemmas
 pub mod PageLemmas
 pub mod PlaceLemmas
@@ -29,10 +24,8 @@ pub mod ReadingLemmas
 pub mod ScopeLemmas
 pub mod SecondLemmas
 pub mod SetLemmas
-pub mod SoundLemmas
 pub mod SpellingLemmas
 pub mod StandLemmas
 pub mod StepLemmas
 pub mod VerdictLemmas
 pub mod ViewLemmas
-pub mod WithFileLemmas

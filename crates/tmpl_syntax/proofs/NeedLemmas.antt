@@ -43,63 +43,45 @@ parts-within : (c : Control) (declared body other : ℕ) → need_of_parts c dec
 parts-within control.If declared body other = omega arith
 parts-within _ declared body other = omega arith
 
-mutual
-  leads-within : {xs ys : List Item} {ds es : List Definition} {ns : Nodes} → Leads xs ds ns ys es → need_of_nodes ns + cells ys ≤ cells xs
-  leads-within nothing = omega arith
-  leads-within (a_node a_text l) = let more = leads-within l in omega (arith, more)
-  leads-within (a_node _ l) = let more = leads-within l in omega (arith, more)
-  leads-within (a_control {c = c} {h = h} {body = body} {other = other} b o l) =
-      let inner = leads-within b in
-      let behind = closes-within o in
-      let more = leads-within l in
-      omega (arith, inner, behind, more, parts-within c (declared_count h.binding) (need_of_nodes body) (need_of_nodes other))
-  leads-within (a_define b l) =
-      let inner = leads-within b in
-      let more = leads-within l in
-      omega (arith, inner, more)
-  leads-within (a_block b l) =
-      let inner = leads-within b in
-      let more = leads-within l in
-      omega (arith, inner, more)
-
-  closes-within : {xs ys : List Item} {ds es : List Definition} {other : Nodes} → Closes xs ds other ys es → need_of_nodes other + cells ys ≤ cells xs
-  closes-within an_end = omega arith
-  closes-within (an_else l) = let more = leads-within l in omega (arith, more)
-  closes-within (an_else_branch {branch = branch} {h = h} {body = body} {other = other} b o) =
-      let inner = leads-within b in
-      let behind = closes-within o in
-      omega (arith, inner, behind, parts-within (control_in branch) (declared_count h.binding) (need_of_nodes body) (need_of_nodes other))
-
--- ---- definitions
-
 -- the nodes of each need at most so many
 abbrev Within : ℕ → List Definition → Type 0
 Within n [] = Unit {0}
 Within n (d ∷ ds) = (need_of_nodes d.nodes ≤ n) × Within n ds
 
-mutual
-  leads-defined : {xs ys : List Item} {ds es : List Definition} {ns : Nodes} → Leads xs ds ns ys es → (n : ℕ) → cells xs ≤ n → Within n es → Within n ds
-  leads-defined nothing n le w = w
-  leads-defined (a_node _ l) n le w = leads-defined l n (omega (arith, le)) w
-  leads-defined (a_control {h = h} b o l) n le w =
-      let inner = leads-within b in
-      let behind = closes-within o in
-      leads-defined b n (omega (arith, le))
-      (closes-defined o n (omega (arith, le, inner))
-      (leads-defined l n (omega (arith, le, inner, behind)) w))
-  leads-defined (a_define b l) n le w =
-      let inner = leads-within b in
-      (omega (arith, inner, le), leads-defined b n (omega (arith, le)) (leads-defined l n (omega (arith, le, inner)) w))
-  leads-defined (a_block b l) n le w =
-      let inner = leads-within b in
-      (omega (arith, inner, le), leads-defined b n (omega (arith, le)) (leads-defined l n (omega (arith, le, inner)) w))
+-- what these nodes and the items behind them need, the first items have, and the definitions need no more than the items before
+abbrev Bound : List Item → List Definition → Nodes → List Item → List Definition → Type 0
+Bound xs ds ns ys es = (need_of_nodes ns + cells ys ≤ cells xs) × ((n : ℕ) → cells xs ≤ n → Within n es → Within n ds)
 
-  closes-defined : {xs ys : List Item} {ds es : List Definition} {other : Nodes} → Closes xs ds other ys es → (n : ℕ) → cells xs ≤ n → Within n es → Within n ds
-  closes-defined an_end n le w = w
-  closes-defined (an_else l) n le w = leads-defined l n (omega (arith, le)) w
-  closes-defined (an_else_branch {h = h} b o) n le w =
-      let inner = leads-within b in
-      leads-defined b n (omega (arith, le)) (closes-defined o n (omega (arith, le, inner)) w)
+mutual
+  leads-within : {xs ys : List Item} {ds es : List Definition} {ns : Nodes} → Leads xs ds ns ys es → Bound xs ds ns ys es
+  leads-within nothing = (omega arith, λ n le w. w)
+  leads-within (a_node a_text l) = let m = leads-within l in (omega (arith, m.0), λ n le w. m.1 n (omega (arith, le)) w)
+  leads-within (a_node _ l) = let m = leads-within l in (omega (arith, m.0), λ n le w. m.1 n (omega (arith, le)) w)
+  leads-within (a_control {c = c} {h = h} {body = body} {other = other} b o l) =
+      let i = leads-within b in
+      let e = closes-within o in
+      let m = leads-within l in (
+        omega (arith, i.0, e.0, m.0, parts-within c (declared_count h.binding) (need_of_nodes body) (need_of_nodes other)),
+        λ n le w. i.1 n (omega (arith, le)) (e.1 n (omega (arith, le, i.0)) (m.1 n (omega (arith, le, i.0, e.0)) w)),
+      )
+  leads-within (a_define b l) =
+      let i = leads-within b in
+      let m = leads-within l in
+      (omega (arith, i.0, m.0), λ n le w. (omega (arith, i.0, le), i.1 n (omega (arith, le)) (m.1 n (omega (arith, le, i.0)) w)))
+  leads-within (a_block b l) =
+      let i = leads-within b in
+      let m = leads-within l in
+      (omega (arith, i.0, m.0), λ n le w. (omega (arith, i.0, le), i.1 n (omega (arith, le)) (m.1 n (omega (arith, le, i.0)) w)))
+
+  closes-within : {xs ys : List Item} {ds es : List Definition} {other : Nodes} → Closes xs ds other ys es → Bound xs ds other ys es
+  closes-within an_end = (omega arith, λ n le w. w)
+  closes-within (an_else l) = let m = leads-within l in (omega (arith, m.0), λ n le w. m.1 n (omega (arith, le)) w)
+  closes-within (an_else_branch {branch = branch} {h = h} {body = body} {other = other} b o) =
+      let i = leads-within b in
+      let e = closes-within o in (
+        omega (arith, i.0, e.0, parts-within (control_in branch) (declared_count h.binding) (need_of_nodes body) (need_of_nodes other)),
+        λ n le w. i.1 n (omega (arith, le)) (e.1 n (omega (arith, le, i.0)) w),
+      )
 
 -- ---- files
 
@@ -110,10 +92,10 @@ all-within file n (d ∷ ds) own w le = let here = w.0 in (omega (arith, here), 
 
 pub need-within : NeedsAtMostBytes
 need-within branches file bytes items ds own has spells =
-    let nodes = leads-within spells in
+    let spelled = leads-within spells in
     let read = items-within branches has.0 items has.2 in
     let cut = weight-within has.1 in
-    all-within file (length bytes) ds own (leads-defined spells (length bytes) (omega (arith, read, cut)) tt) (omega (arith, nodes, read, cut))
+    all-within file (length bytes) ds own (spelled.1 (length bytes) (omega (arith, read, cut)) tt) (omega (arith, spelled.0, read, cut))
 
 need-less : (n m : ℕ) (ts : List Template) → n ≤ m → NeedAtMost n ts → NeedAtMost m ts
 need-less n m [] le h = tt

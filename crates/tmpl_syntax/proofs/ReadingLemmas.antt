@@ -18,8 +18,7 @@ use Rattle.tmpl_syntax.specs.computed.Parse.{Refusal, IsRefusal, line_in, line_a
 use Rattle.tmpl_syntax.specs.computed.Parse.{all_from, items_of, placed, parsed}
 use Rattle.tmpl_syntax.specs.Parse.{last_line, base_name, most_bytes, all_defined, IsAccepted, IsRefusedBy, Parses, ParsesUnless}
 use Rattle.tmpl_syntax.proofs.ItemLemmas.{has-items, no-others}
-use Rattle.tmpl_syntax.proofs.OneVerdictLemmas.{within, one-verdict}
-use Rattle.tmpl_syntax.proofs.VerdictLemmas.{judged-all}
+use Rattle.tmpl_syntax.proofs.VerdictLemmas.{within, one-verdict, judged-all}
 use Rattle.tmpl_syntax.proofs.SecondLemmas.{none-second, has-second, second-none, second-some}
 use Rattle.tmpl_syntax.proofs.SpellingLemmas.{spells-fine, spells-built}
 use Rattle.tmpl_syntax.proofs.FileLemmas.{parsed-long, parsed-short}

@@ -1,5 +1,5 @@
--- For `one_spelling`: the items of an accepted file spell what is built from them.
-use Rattle.std.proofs.Common.{◌≡◌, ℕ, Bool, true, false, not, ◌||◌, List, [], ◌∷◌, refl, sym, ap, ◌∙◌, subst, Option, Some, None}
+-- For `one_spelling` and `parts_before`: the items of an accepted file spell what is built from them, and nothing else.
+use Rattle.std.proofs.Common.{◌≡◌, ℕ, Bool, true, false, not, ◌||◌, List, [], ◌∷◌, ◌++◌, refl, sym, ap, ◌∙◌, subst, Option, Some, None}
 use Rattle.std.proofs.lemmas.Bool.{and_parts, not-true, or_right}
 use Rattle.tmpl_syntax.specs.Fault.{Reason}
 use Rattle.tmpl_syntax.specs.computed.Frames.{Frame}
@@ -12,7 +12,7 @@ use Rattle.tmpl_syntax.specs.Place.Open.{is_template}
 use Rattle.tmpl_syntax.specs.Place.Body.{Verdict, fine}
 use Rattle.tmpl_syntax.specs.computed.Frames.{Known, none_known, top, takes_else, seen_at, fault_at, frames_past}
 use Rattle.tmpl_syntax.specs.Place.Body.{joins}
-use Rattle.tmpl_syntax.proofs.ElseLemmas.{joins-own}
+use Rattle.tmpl_syntax.proofs.StepLemmas.{joins-own}
 use Rattle.tmpl_grammar.specs.declared.action.Branch.{Branch}
 use Rattle.tmpl_syntax.specs.computed.Frames.{unless_fault, verdict_from, verdict_of}
 use Rattle.tmpl_syntax.specs.Spelling.{IsNode, a_text, an_action, a_break, a_continue, a_template, Leads, nothing, a_node, a_control, a_define, a_block}
@@ -21,7 +21,6 @@ use Rattle.tmpl_syntax.specs.computed.Build as build
 use Rattle.tmpl_syntax.specs.computed.Build.{no_parts, first_of, rest_of, with_node_before, put_before, control_before, definition_before, else_before}
 use Rattle.tmpl_syntax.specs.computed.Build.{branch_before, end_before, parts_with, parts_before, nodes_from, definitions_from}
 use Rattle.tmpl_syntax.specs.Laws.{SpellsAtMostOne}
-use Rattle.tmpl_syntax.proofs.BuildLemmas.{seen_parts, parts_at}
 use Rattle.tmpl_syntax.proofs.FaultLemmas.{TellsRole, tells}
 
 -- a part behind which an else may stand
@@ -158,6 +157,14 @@ spells-fine items e = rest-from items 0 none_known [] e
 
 -- ---- what items spell is built from them, so they spell nothing else
 
+-- a part of these nodes, those around it, and definitions
+abbrev seen_parts : Nodes → Nodes → List build.Level → List Definition → build.Parts
+seen_parts nodes other around ds = record { inner = record { nodes = nodes; other = other }; around = around; definitions = ds }
+
+-- .. by the whole part
+abbrev parts_at : build.Level → List build.Level → List Definition → build.Parts
+parts_at l around ds = record { inner = l; around = around; definitions = ds }
+
 node-built : {what : ItemKind} {n : NodeKind} (line : ℕ) (p : build.Parts) → IsNode what n → parts_with (item line what) p ≡ put_before line n p
 node-built line p a_text = refl
 node-built line p _ = refl
@@ -190,3 +197,9 @@ spells-built items ds ns d =
 pub one-spelling : SpellsAtMostOne
 one-spelling items ds es ns ms d e =
     let p = spells-built items ds ns d in let q = spells-built items es ms e in (sym p.0 ∙ q.0, sym p.1 ∙ q.1)
+
+-- ---- the last item's part, which is built first
+
+pub before-last : (xs : List Item) (x : Item) (p : build.Parts) → parts_before (xs ++ x ∷ []) p ≡ parts_before xs (parts_with x p)
+before-last [] x p = refl
+before-last (y ∷ xs) x p = ap (parts_with y) (before-last xs x p)

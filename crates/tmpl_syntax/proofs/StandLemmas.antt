@@ -13,10 +13,9 @@ use Rattle.tmpl_syntax.proofs.FaultLemmas.{IsWithin, in-nothing}
 use Rattle.tmpl_syntax.proofs.NameLemmas.{with-longer, take-with, with-left, with-right, with-cases}
 use Rattle.tmpl_syntax.proofs.OpenLemmas.{ups, downs, count-split, same-opening, cut, Same, opened-keeps, opened_new}
 use Rattle.tmpl_syntax.proofs.PlaceLemmas.{alike-back, alike-even, alike-opened, template-moves, template-opened, template-apart}
-use Rattle.tmpl_syntax.proofs.PlaceLemmas.{levels-same, levels-opened, InLoop, loop-moves, else_before, else-same, loop-same}
-use Rattle.tmpl_syntax.proofs.PlaceLemmas.{loop-same-back, has-before}
+use Rattle.tmpl_syntax.proofs.PlaceLemmas.{levels-same, levels-opened, InLoop, loop-moves, else_before, else-same, loop-same, loop-same-back, has-before}
 use Rattle.tmpl_syntax.proofs.ScopeLemmas.{Brought, brought-same, brought-same-back, brought-opened, brought-header, brought-opened-back}
-use Rattle.tmpl_syntax.proofs.ElsePartLemmas.{Part, part-later, part-sooner}
+use Rattle.tmpl_syntax.proofs.ScopeLemmas.{Part, part-later, part-sooner}
 use Rattle.tmpl_syntax.specs.Place.Opening.{Opening}
 use Rattle.tmpl_syntax.specs.Place.Opening as opened
 use Rattle.tmpl_grammar.specs.declared.tree.Control.{Control}

@@ -38,3 +38,5 @@ pub kind_of-fields : (c : Box held_node_control.ControlNode Global) → kind_of 
 kind_of-fields c = kind_of-Control c ∙ control_of-fields c.value
 
 pub ruleset controls = (kind_of-fields, kind_of-Control, control_of-fields)
+
+pub ruleset nodes = node_of-Node

@@ -38,7 +38,7 @@ pub(crate) struct Parts {
 /// The templates that a file's items define, each of which stands where it may, in the order of their headers; the
 /// file's own, of this name, is the last. They are built from the last item to the first, so that an else part is
 /// there before the control to which it belongs.
-#[tactic(auto, using(crate::proofs::BuildLemmas::built), unfolding(crate::specs::computed::View::parts_of, crate::specs::computed::Build::nodes_from, crate::specs::computed::Build::definitions_from))]
+#[tactic(auto, using(crate::proofs::ViewLemmas::nodes), unfolding(crate::specs::computed::View::parts_of, crate::specs::computed::Build::nodes_from, crate::specs::computed::Build::definitions_from))]
 pub(crate) fn build(
     alloc: Global,
     items: Vec<Item>,
@@ -62,7 +62,7 @@ pub(crate) fn build(
 }
 
 /// The parts from the first of these items on.
-#[tactic(auto, using(crate::proofs::BuildLemmas::built), unfolding(crate::specs::computed::View::parts_of))]
+#[tactic(auto, using(crate::proofs::ViewLemmas::nodes), unfolding(crate::specs::computed::View::parts_of))]
 fn parts_before(alloc: Global, items: Vec<Item>) -> Result<Parts, AllocError>
     ensures { IfOk result (λ p. parts_of p ≡ spec.parts_before (map item_of items.items) spec.no_parts) }
 {
@@ -136,7 +136,7 @@ fn put_action(alloc: Global, parts: &mut Parts, line: u64, action: Action) -> Re
 }
 
 /// Puts a definition before the others: its body is the innermost part.
-#[tactic(auto, using(crate::proofs::BuildLemmas::built), unfolding(crate::specs::computed::View::parts_of))]
+#[tactic(auto, using(crate::proofs::ViewLemmas::nodes), unfolding(crate::specs::computed::View::parts_of))]
 fn put_definition(
     alloc: Global,
     parts: &mut Parts,
@@ -172,7 +172,7 @@ fn put_block(
 }
 
 /// Puts a node before those of the innermost part.
-#[tactic(auto, using(crate::proofs::BuildLemmas::built), unfolding(crate::specs::computed::View::parts_of))]
+#[tactic(auto, using(crate::proofs::ViewLemmas::nodes), unfolding(crate::specs::computed::View::parts_of))]
 fn put_node(parts: &mut Parts, line: u64, what: NodeKind) -> Result<(), AllocError>
     ensures { IfOk result (λ u. parts_of parts.new ≡ spec.put_before line (kind_of what) (parts_of parts.old)) }
 {
@@ -192,7 +192,7 @@ fn add_node(nodes: &mut Vec<Node>, node: Node) -> Result<(), AllocError>
 }
 
 /// Puts a control before those of the part around: its body is the innermost part, behind which its else part stands.
-#[tactic(auto, using(crate::proofs::BuildLemmas::built), unfolding(crate::specs::computed::View::parts_of))]
+#[tactic(auto, using(crate::proofs::ViewLemmas::nodes), unfolding(crate::specs::computed::View::parts_of))]
 fn put_control(
     alloc: Global,
     parts: &mut Parts,
@@ -210,7 +210,7 @@ fn put_control(
 }
 
 /// A control whose body, and the else part behind it, are these.
-#[tactic(auto, using(crate::proofs::BuildLemmas::built), unfolding(crate::specs::computed::View::parts_of))]
+#[tactic(auto, using(crate::proofs::ViewLemmas::nodes), unfolding(crate::specs::computed::View::parts_of))]
 fn control_kind(
     alloc: Global,
     control: Control,
@@ -241,7 +241,7 @@ fn outer(alloc: Global, around: &mut Vec<Level>) -> Level
 }
 
 /// Begins a part before an else part.
-#[tactic(auto, using(crate::proofs::BuildLemmas::built), unfolding(crate::specs::computed::View::parts_of))]
+#[tactic(auto, using(crate::proofs::ViewLemmas::nodes), unfolding(crate::specs::computed::View::parts_of))]
 fn begin_else(alloc: Global, parts: &mut Parts)
     ensures { parts_of parts.new ≡ spec.else_before (parts_of parts.old) }
 {
@@ -250,7 +250,7 @@ fn begin_else(alloc: Global, parts: &mut Parts)
 }
 
 /// Begins a part before an else part that is a control of its own.
-#[tactic(auto, using(crate::proofs::BuildLemmas::built), unfolding(crate::specs::computed::View::parts_of))]
+#[tactic(auto, using(crate::proofs::ViewLemmas::nodes), unfolding(crate::specs::computed::View::parts_of))]
 fn begin_branch(
     alloc: Global,
     parts: &mut Parts,
@@ -268,7 +268,7 @@ fn begin_branch(
 }
 
 /// Begins a part before an `end`.
-#[tactic(auto, using(crate::proofs::BuildLemmas::built), unfolding(crate::specs::computed::View::parts_of))]
+#[tactic(auto, using(crate::proofs::ViewLemmas::nodes), unfolding(crate::specs::computed::View::parts_of))]
 fn end(alloc: Global, parts: &mut Parts) -> Result<(), AllocError>
     ensures { IfOk result (λ u. parts_of parts.new ≡ spec.end_before (parts_of parts.old)) }
 {

@@ -36,7 +36,7 @@ pub(crate) enum ItemKind {
 }
 
 /// The items of a file with these contents, of which each part is read as it is cut.
-#[tactic(auto, using(crate::proofs::ItemPartLemmas::none_so_far))]
+#[tactic(auto, using(crate::proofs::ItemLemmas::none_so_far))]
 pub(crate) fn read_all(alloc: Global, contents: &Rc<Bytes>) -> Result<Vec<Item>, AllocError>
     requires { length contents.now.value ≤ 16777216 }
     ensures { IfOk result (λ v. map item_of v.items ≡ items_of contents.now.value) }

@@ -47,7 +47,7 @@ const TOO_LONG: Refusal = Refusal {
 /// After an error the set is as it was.
 ///
 /// `else with` is there since Go 1.23. A file that is accepted without it makes the same set with it.
-#[tactic(auto, using(crate::proofs::WithFileLemmas::with_files))]
+#[tactic(auto, using(crate::proofs::LargerLemmas::with_files))]
 pub fn parse_file<'f>(
     alloc: Global,
     set: &mut Set,
@@ -67,7 +67,7 @@ pub fn parse_file<'f>(
 /// # Errors
 ///
 /// Those of `parse_file`.
-#[tactic(auto, using(crate::proofs::WithFileLemmas::with_files))]
+#[tactic(auto, using(crate::proofs::LargerLemmas::with_files))]
 pub fn parse_owned<'f>(
     alloc: Global,
     set: &mut Set,
@@ -175,7 +175,7 @@ fn templates_of(
     definitions: Vec<Definition>,
 ) -> Result<Vec<(Vec<u8>, Tree)>, AllocError>
     ensures { IfOk result (λ v. map template_of v.items
-        ≡ map (λ d. template_in file.now (definition_of d)) definitions.items) }
+        ≡ map (template_in file.now) (map definition_of definitions.items)) }
 {
     let path = Rc::new(alloc, Bytes::new(copy_of(alloc, file.as_bytes())?))?;
     templates_at(alloc, &path, definitions)
@@ -189,7 +189,7 @@ fn templates_at(
     definitions: Vec<Definition>,
 ) -> Result<Vec<(Vec<u8>, Tree)>, AllocError>
     ensures { IfOk result (λ v. map template_of v.items
-        ≡ map (λ d. template_in path.now.value (definition_of d)) definitions.items) }
+        ≡ map (template_in path.now.value) (map definition_of definitions.items)) }
 {
     let mut templates = Vec::with_capacity(alloc, definitions.len())?;
     for definition in definitions {

@@ -3,7 +3,7 @@ use Rattle.std.proofs.lemmas.List.{map-append}
 use Rattle.tmpl_syntax.specs.computed.View.{item_of}
 use Rattle.tmpl_syntax.specs.computed.Build.{parts_before}
 use Rattle.tmpl_syntax.specs.computed.View.{parts_of}
-use Rattle.tmpl_syntax.proofs.BuildLemmas.{before-last}
+use Rattle.tmpl_syntax.proofs.SpellingLemmas.{before-last}
 use Rattle.tmpl_syntax.proofs.build.parts_before.Goals as goal
 
 pub loop-item-preserved : goal.loop-item-preserved

@@ -1,7 +1,7 @@
 use Rattle.std.proofs.Common.{map, length}
 use Rattle.tmpl_lex.specs.Part.{IsLeft}
 use Rattle.tmpl_syntax.specs.computed.View.{item_of}
-use Rattle.tmpl_syntax.proofs.ItemPartLemmas.{AreSoFar}
+use Rattle.tmpl_syntax.proofs.ItemLemmas.{AreSoFar}
 use Rattle.tmpl_syntax.proofs.item.read_all.Given as goal
 
 abbrev pub invariant-loop-tokens : goal.invariant-loop-tokens

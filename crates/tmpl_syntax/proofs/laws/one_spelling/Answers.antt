@@ -1,9 +1,8 @@
 use Rattle.tmpl_syntax.specs.Place.Role.{roles_of}
 use Rattle.tmpl_syntax.specs.Place.Body.{fine}
 use Rattle.tmpl_syntax.specs.computed.Frames.{verdict_of}
-use Rattle.tmpl_syntax.proofs.OneVerdictLemmas.{one-verdict}
+use Rattle.tmpl_syntax.proofs.VerdictLemmas.{one-verdict, judged-all}
 use Rattle.tmpl_syntax.proofs.SpellingLemmas.{spells-fine, one-spelling}
-use Rattle.tmpl_syntax.proofs.VerdictLemmas.{judged-all}
 use Rattle.tmpl_syntax.proofs.laws.one_spelling.Goals as goal
 
 pub returns-clause-exists : goal.returns-clause-exists
