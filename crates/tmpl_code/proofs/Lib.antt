@@ -1,6 +1,5 @@
 pub mod BackwardLemmas
 pub mod BoundLemmas
-pub mod CostLemmas
 pub mod FormedLemmas
 pub mod HeldLemmas
 pub mod NodeLemmas

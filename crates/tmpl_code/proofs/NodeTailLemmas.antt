@@ -32,15 +32,13 @@ set_ends (Some k) code rest l = ends_one _ code rest l
 
 bind_ends : (b : Binding) (lay : Layout) → PartEnds (BindAt b lay)
 bind_ends unbound lay code rest l = ends_same code rest l
-bind_ends (declare x) lay code rest l = ends_one _ code rest l
 bind_ends (assign x) lay code rest l = set_ends (slot_named x lay) code rest l
-bind_ends (declare_pair k x) lay code rest l = ends_one _ code rest l
+bind_ends _ lay code rest l = ends_one _ code rest l
 
 shown_ends : (b : Binding) → PartEnds (ShownAt b)
-shown_ends unbound code rest l = ends_one _ code rest l
 shown_ends (declare x) code rest l = ends_same code rest l
-shown_ends (assign x) code rest l = ends_one _ code rest l
 shown_ends (declare_pair k x) code rest l = ends_same code rest l
+shown_ends _ code rest l = ends_one _ code rest l
 
 header_ends : (h : Header) (lay : Layout) → PartEnds (HeaderAt h lay)
 header_ends h lay code rest l = ends_both code l.0 rest (pipeline_ends h.pipeline lay code l.0 l.1) (bind_ends h.binding lay l.0 rest l.2)
@@ -50,10 +48,8 @@ set_dot_ends None code rest l = ends_same code rest l
 set_dot_ends (Some k) code rest l = ends_one _ code rest l
 
 pub turn_ends : (b : Binding) (lay : Layout) → PartEnds (TurnAt b lay)
-turn_ends unbound lay code rest l = ends_one _ code rest l
-turn_ends (declare x) lay code rest l = ends_one _ code rest l
 turn_ends (assign x) lay code rest l = ends_on _ code l.0 rest l.1 (set_dot_ends (slot_named x lay) l.0 rest l.2)
-turn_ends (declare_pair k x) lay code rest l = ends_one _ code rest l
+turn_ends _ lay code rest l = ends_one _ code rest l
 
 break_ends : (exit : Exit) (lay : Layout) → PartEnds (BreakAt exit lay)
 break_ends None lay code rest l = ends_one _ code rest l
@@ -75,14 +71,12 @@ template_ends name (Some n) given lay code rest l = ends_under (invoke n) code r
 
 pub end_ends : (n to : ℕ) → PartEnds (EndAt n to)
 end_ends zero zero code rest l = ends_same code rest l
-end_ends zero (suc to) code rest l = ends_one _ code rest l
-end_ends (suc n) to code rest l = ends_one _ code rest l
+end_ends _ _ code rest l = ends_one _ code rest l
 
 -- what forgets cells or passes over instructions ends a part
 pub end_at : (n to : ℕ) (code rest : Code) → (n ≡ 0 → to ≡ 0 → ⊥) → code ≡ cut n to ∷ rest → EndAt n to code rest
 end_at zero zero code rest some is = absurd (some refl refl)
-end_at zero (suc to) code rest some is = is
-end_at (suc n) to code rest some is = is
+end_at _ _ code rest some is = is
 
 -- a part that ends so, and one behind it
 parts : (n to : ℕ) (P : Part) (first second rest : Code) → Ends second first → PartEnds P → Ended n to P second rest → Ends rest first

@@ -5,7 +5,7 @@ use Rattle.std.proofs.Math.Seq.{drop-append_seam}
 use Rattle.tmpl_funcs.specs.Func.{takes}
 use Rattle.tmpl_funcs.specs.declared.func.Func.{Func}
 use Rattle.tmpl_funcs.specs.declared.func.Func.TheVariants.{And, Or}
-use Rattle.tmpl_grammar.specs.Tree.{Operand, dot, fields, variable, bool_constant, number_constant, text_constant, nil, function, group, Operands, no_operand}
+use Rattle.tmpl_grammar.specs.Tree.{Operand, variable, nil, function, group, Operands, no_operand}
 use Rattle.tmpl_grammar.specs.Tree.{operand, Pipeline, no_command, command}
 use Rattle.tmpl_code.specs.Instruction.{Instruction, act, settle, call_with}
 use Rattle.tmpl_code.specs.Layout.{Layout, slot_named}
@@ -80,17 +80,12 @@ decide_ends false is_or piped Others h code rest l = ends_on _ code l.1 rest l.2
 
 mutual
   pub operand_ends : (o : Operand) (n : ℕ) (lay : Layout) (code rest : Code) → OperandAt o n lay code rest → Ends rest code
-  operand_ends dot n lay code rest l = ends_one _ code rest l
-  operand_ends (fields names) n lay code rest l = ends_one _ code rest l
   operand_ends (variable x names) n lay code rest l =
       ends_both code (chain_before names rest) rest (variable_ends (slot_named x lay) n code (chain_before names rest) l) (chain_ends names rest)
-  operand_ends (bool_constant b) n lay code rest l = ends_one _ code rest l
-  operand_ends (number_constant k) n lay code rest l = ends_one _ code rest l
-  operand_ends (text_constant bytes) n lay code rest l = ends_one _ code rest l
-  operand_ends nil n lay code rest l = ends_one _ code rest l
   operand_ends (function f) n lay code rest l = bare_ends (takes f 0) f code rest l
   operand_ends (group cs names) n lay code rest l =
       ends_both code (chain_before names rest) rest (commands_ends cs false n lay code (chain_before names rest) l) (chain_ends names rest)
+  operand_ends _ n lay code rest l = ends_one _ code rest l
 
   pub operands_ends : (os : Operands) (n : ℕ) (lay : Layout) (code rest : Code) → OperandsAt os n lay code rest → Ends rest code
   operands_ends no_operand n lay code rest l = ends_same code rest l
