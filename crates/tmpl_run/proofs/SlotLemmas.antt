@@ -193,10 +193,9 @@ frame-all n m gr mid fr a b =
 
 -- what is bound
 pub over-binding : (b : Binding) (lay : Layout) → Over (declared_count b) (bound_on b lay) lay
-over-binding unbound lay = over-none lay
 over-binding (declare x) lay = record { rest = refl; size = omega arith }
-over-binding (assign x) lay = over-none lay
 over-binding (declare_pair k x) lay = record { rest = refl; size = omega arith }
+over-binding _ lay = over-none lay
 
 pub frame-binding : (b : Binding) (fr : Frame) → drop (declared_count b) (bound_in b fr) ≡ fr
 frame-binding unbound fr = refl
