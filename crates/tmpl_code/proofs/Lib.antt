@@ -3,7 +3,6 @@ pub mod BoundLemmas
 pub mod FormedLemmas
 pub mod HeldLemmas
 pub mod NodeLemmas
-pub mod NodeTailLemmas
 pub mod OperandLemmas
 pub mod ProgramLemmas
 pub mod RoomExamples

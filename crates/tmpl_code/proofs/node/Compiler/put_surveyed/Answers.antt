@@ -6,7 +6,7 @@ use Rattle.tmpl_code.specs.MakesText.{nodes_make_text}
 use Rattle.tmpl_code.specs.computed.Held.{code_of}
 use Rattle.tmpl_code.proofs.BackwardLemmas.{at-first}
 use Rattle.tmpl_code.proofs.NodeLemmas.{nodes_from}
-use Rattle.tmpl_code.proofs.NodeTailLemmas as tail
+use Rattle.tmpl_code.proofs.TailLemmas as tail
 use Rattle.tmpl_code.proofs.node.Compiler.put_surveyed.Goals as goal
 
 pub put_node-requires : goal.put_node-requires
