@@ -9,9 +9,9 @@ use Rattle.tmpl_syntax.specs.Tree.{NodeKind, Nodes, text, action, control_node, 
 use Rattle.tmpl_syntax.specs.Need.{need}
 use Rattle.tmpl_syntax.specs.Set.{Template, number_of}
 use Rattle.tmpl_syntax.proofs.NamedLemmas.{Named, numbered}
-use Rattle.tmpl_code.specs.Calls.{Calls, IsChain, NodeNames, NodesName, node_calls, nodes_call, set_calls}
+use Rattle.tmpl_code.specs.Calls.{Calls, IsChain, NodeNames, NodesName}
 use Rattle.tmpl_code.specs.Room.{Suffices, largest_need, need_at, need_found, needs_along, room}
-use Rattle.tmpl_code.specs.computed.Weights.{Hold, IsBound, heaviest_of_node, heaviest_of_nodes, weight_found}
+use Rattle.tmpl_code.specs.computed.Weights.{Hold, IsBound, heaviest_of_node, heaviest_of_nodes, node_calls, nodes_call, set_calls, weight_found}
 
 -- ---- a set in which none calls one
 
