@@ -1,5 +1,5 @@
 -- For `put_operands` and `put_commands`, which go from the last to the first: what the relation says of one more in front.
-use Rattle.std.proofs.Common.{arith, ◌≡◌, ◌∙◌, ◌+◌, ◌-◌, ◌<◌, ◌≤◌, ℕ, zero, suc, Bool, true, false, List, [], ◌∷◌, length, drop, get_or, refl, ap, sym, subst}
+use Rattle.std.proofs.Common.{◌≡◌, ◌∙◌, ◌+◌, ◌-◌, ◌<◌, ℕ, Bool, true, false, List, ◌∷◌, length, drop, get_or, refl, ap, sym, subst}
 use Rattle.std.proofs.lemmas.List.{at_drop_more}
 use Rattle.tmpl_grammar.specs.Tree.{Operands, no_operand, operand}
 use Rattle.tmpl_grammar.specs.View.{operand_of, operands_in, commands_in}
@@ -9,12 +9,6 @@ use Rattle.tmpl_code.specs.computed.Held.{decided}
 use Rattle.tmpl_code.specs.Layout.{Layout}
 use Rattle.tmpl_code.specs.Code.{Code, is_last, DecideAt, OperandAt, JunctionAt}
 use Rattle.tmpl_code.proofs.TailLemmas.{passes, junction_ends}
-
-pub drop-all : {X : Type 0} (xs : List X) (i : ℕ) → length xs ≤ i → drop i xs ≡ []
-drop-all [] zero h = refl
-drop-all [] (suc i) h = refl
-drop-all (x ∷ xs) zero h = absurd (omega arith)
-drop-all (x ∷ xs) (suc i) h = drop-all xs i (omega arith)
 
 -- a loop to the first that ended there says of all what it kept
 pub at-first : {A B : Type 0} (f : List A → B) (xs : List A) {i : ℕ} {v : B} → v ≡ f (drop i xs) → i ≡ 0 → v ≡ f xs

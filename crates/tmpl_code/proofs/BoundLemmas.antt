@@ -1,6 +1,6 @@
 -- For `bound_of` and `Program::cells`: how many cells are enough for every chain of calls.
-use Rattle.std.proofs.Common.{arith, ◌≡◌, ◌∙◌, ◌||◌, ◌+◌, ◌*◌, ◌≤◌, ◌<◌, inl, inr, ℕ, zero, suc, Bool, true, false, List, [], ◌∷◌, length, get_or}
-use Rattle.std.proofs.Common.{refl, ap, sym, subst, Option, Some, None}
+use Rattle.std.proofs.Common.{arith, ◌≡◌, ◌∙◌, ◌||◌, ◌+◌, ◌*◌, ◌≤◌, ◌<◌, inl, inr, ℕ, zero, suc, Bool, true, false, List, [], ◌∷◌, length, get_or, refl, ap}
+use Rattle.std.proofs.Common.{sym, subst, Option, Some, None}
 use Rattle.std.specs.Prelude.{slice_get}
 use Rattle.std.proofs.Math.Bool.{or-true}
 use Rattle.std.proofs.Math.Nat.{mul-le-mul_right, suc-mul}
@@ -9,22 +9,19 @@ use Rattle.tmpl_syntax.specs.Tree.{NodeKind, Nodes, text, action, control_node, 
 use Rattle.tmpl_syntax.specs.Need.{need}
 use Rattle.tmpl_syntax.specs.Set.{Template, number_of}
 use Rattle.tmpl_syntax.proofs.NamedLemmas.{Named, numbered}
-use Rattle.tmpl_code.specs.Calls.{Calls, IsChain, NodeNames, NodesName, node_calls, nodes_call, set_calls}
+use Rattle.tmpl_code.specs.Calls.{Calls, IsChain, NodeNames, NodesName}
 use Rattle.tmpl_code.specs.Room.{Suffices, largest_need, need_at, need_found, needs_along, room}
-use Rattle.tmpl_code.specs.computed.Weights.{Hold, IsBound, heaviest_of_node, heaviest_of_nodes, weight_found}
+use Rattle.tmpl_code.specs.computed.Weights.{Hold, IsBound, heaviest_of_node, heaviest_of_nodes, node_calls, nodes_call, set_calls, weight_found}
 
 -- ---- a set in which none calls one
 
 module _ (name : List ℕ) where
   mutual
     pub node-called : (n : NodeKind) → NodeNames name n → node_calls n ≡ true
-    node-called (text bytes) h = absurd h
-    node-called (action a) h = absurd h
     node-called (control_node c a body other) (inl h) = ap (λ b. b || nodes_call other) (nodes-called body h)
     node-called (control_node c a body other) (inr h) = ap (λ b. nodes_call body || b) (nodes-called other h) ∙ or-true (nodes_call body)
-    node-called break_node h = absurd h
-    node-called continue_node h = absurd h
     node-called (template_node called given) h = refl
+    node-called _ h = absurd h
 
     pub nodes-called : (ns : Nodes) → NodesName name ns → nodes_call ns ≡ true
     nodes-called tree.none h = absurd h
@@ -78,15 +75,12 @@ none-is-bound ts none depth first (j ∷ more) chain short =
 module _ (ts : List Template) (weights : List ℕ) where
   mutual
     node-heavy : (n : NodeKind) (name : List ℕ) (j : ℕ) → NodeNames name n → number_of name ts ≡ Some j → get_or weights j 0 ≤ heaviest_of_node ts weights n
-    node-heavy (text bytes) name j h e = absurd h
-    node-heavy (action a) name j h e = absurd h
     node-heavy (control_node c a body other) name j (inl h) e = let part = nodes-heavy body name j h e in omega arith
     node-heavy (control_node c a body other) name j (inr h) e = let part = nodes-heavy other name j h e in omega arith
-    node-heavy break_node name j h e = absurd h
-    node-heavy continue_node name j h e = absurd h
     node-heavy (template_node called given) name j h e =
         let found : weight_found weights (number_of called ts) ≡ get_or weights j 0 = ap (weight_found weights) (ap (λ n. number_of n ts) (sym h) ∙ e) in
         omega arith
+    node-heavy _ name j h e = absurd h
 
     nodes-heavy : (ns : Nodes) (name : List ℕ) (j : ℕ) → NodesName name ns → number_of name ts ≡ Some j → get_or weights j 0 ≤ heaviest_of_nodes ts weights ns
     nodes-heavy tree.none name j h e = absurd h
@@ -125,4 +119,3 @@ module _ (ts : List Template) (weights : List ℕ) where
             let most = (hold first t e).most in
             let more : suc (length rest) * each ≤ depth * each = mul-le-mul_right each (omega arith) in
             omega arith
-        -- ---- the look at each template

@@ -59,17 +59,12 @@ body-slots control.Range b scope cells h =
 
 other-slots : (c : Control) (b : Binding) (scope : List Name) (cells : Layout) → HaveSlots scope cells
     → HaveSlots (else_scope c b scope) (other_layout c b cells)
-other-slots control.If b scope cells h = bound-slots b scope cells h
-other-slots control.With b scope cells h = bound-slots b scope cells h
 other-slots control.Range b scope cells h = h
+other-slots _ b scope cells h = bound-slots b scope cells h
 
 grown-slots : (n : NodeKind) (scope : List Name) (cells : Layout) → HaveSlots scope cells → HaveSlots (scope_behind n scope) (grown n cells)
 grown-slots (action h) scope cells k = bound-slots h.binding scope cells k
-grown-slots (text bytes) scope cells k = k
-grown-slots (control_node c h body other) scope cells k = k
-grown-slots break_node scope cells k = k
-grown-slots continue_node scope cells k = k
-grown-slots (template_node name given) scope cells k = k
+grown-slots _ scope cells k = k
 
 all-slots : (names : List Name) (scope : List Name) (cells : Layout) → HaveSlots scope cells → are_among scope names ≡ true → have_slots names cells ≡ true
 all-slots names scope cells h e = both_true h.0 (go names e)
@@ -90,9 +85,8 @@ mutual
       (nodes-placed body (declared_to a.binding scope) (body_layout c a.binding cells) (is_looped c loop) (levels + 1) inside parts.in_body))
       (nodes-placed other (else_scope c a.binding scope) (other_layout c a.binding cells) loop (levels + 1) (other-slots c a.binding scope cells h)
       parts.in_other)
-  node-placed break_node scope cells loop levels h e = e
-  node-placed continue_node scope cells loop levels h e = e
   node-placed (template_node name given) scope cells loop levels h e = all-slots (names_given given).uses scope cells h e
+  node-placed _ scope cells loop levels h e = e
 
   nodes-placed : (ns : Nodes) (scope : List Name) (cells : Layout) (loop : Bool) (levels : ℕ) → HaveSlots scope cells
       → are_formed ns scope loop levels ≡ true → are_placed ns cells loop ≡ true

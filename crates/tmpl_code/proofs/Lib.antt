@@ -1,10 +1,8 @@
 pub mod BackwardLemmas
 pub mod BoundLemmas
-pub mod CostLemmas
 pub mod FormedLemmas
 pub mod HeldLemmas
 pub mod NodeLemmas
-pub mod NodeTailLemmas
 pub mod OperandLemmas
 pub mod ProgramLemmas
 pub mod ScopeLemmas

@@ -57,13 +57,9 @@ pub ruleset offs = (bound_off-on, bound-longer)
 
 pub all_grown-longer : (ns : Nodes) (lay : Layout) → length lay ≤ length (all_grown ns lay)
 all_grown-longer tree.none lay = omega arith
-all_grown-longer (tree.then line (text bytes) ns) lay = all_grown-longer ns lay
 all_grown-longer (tree.then line (action h) ns) lay = let one = bound-longer h.binding lay in let rest = all_grown-longer ns (bound_on h.binding lay) in
     omega arith
-all_grown-longer (tree.then line (control_node c h body other) ns) lay = all_grown-longer ns lay
-all_grown-longer (tree.then line break_node ns) lay = all_grown-longer ns lay
-all_grown-longer (tree.then line continue_node ns) lay = all_grown-longer ns lay
-all_grown-longer (tree.then line (template_node name given) ns) lay = all_grown-longer ns lay
+all_grown-longer (tree.then line _ ns) lay = all_grown-longer ns lay
 
 -- the layout before a node, and behind it
 module _ (ns : List held.Node) (i j : ℕ) (n : held.Node) (lay now : Layout) (h : j < length ns) (next : i ≡ j + 1) (is : n ≡ get_or ns j n)

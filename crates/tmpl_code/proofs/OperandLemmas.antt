@@ -1,5 +1,6 @@
 -- For `put_operand` and `cost_of_operand`: the weight of operands one level at a time, by which their recursion ends.
 use Rattle.std.proofs.Common.{arith, ◌≡◌, ◌+◌, ◌<◌, ◌≤◌, ℕ, zero, suc, Bool, true, false, not, List, [], ◌∷◌, length, get_or, refl, ap, sym, subst}
+use Rattle.tmpl_grammar.specs.Need.{need_of_arguments}
 use Rattle.tmpl_grammar.specs.Tree.{Operand, group, Operands, no_operand, operand, Pipeline, no_command, command}
 use Rattle.tmpl_grammar.specs.View.{operand_of, operands_in, command_of, commands_in}
 use Rattle.tmpl_grammar.specs.declared.tree.Operand as held
@@ -56,3 +57,7 @@ pub slice-weights : (cs : List held_command.Command) (i : ℕ) (c : held_command
 slice-weights cs i c os h is = subst (λ (ps : List held.Operand). weights (operands_in ps) < all_weight (commands_in cs)) (sym is) (weights-at cs i c h)
 
 pub ruleset lighter = (item-weight, slice-weights)
+
+-- arguments from one to the next, which a loop adds up
+pub no_argument : (n : ℕ) → need_of_arguments n no_operand ≡ n
+no_argument n = refl

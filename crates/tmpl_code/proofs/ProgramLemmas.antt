@@ -7,8 +7,7 @@ use Rattle.tmpl_code.specs.Layout.{declared_in, first_layout}
 use Rattle.tmpl_code.specs.Instruction.{return_from}
 use Rattle.tmpl_code.specs.Code.{Code, TreeAt, Starts}
 use Rattle.tmpl_code.specs.computed.Held.{last_of, places, LastStarts}
-use Rattle.tmpl_code.proofs.TailLemmas.{Ends, ends_under, longer}
-use Rattle.tmpl_code.proofs.NodeTailLemmas.{nodes_ends, last-on}
+use Rattle.tmpl_code.proofs.TailLemmas.{Ends, ends_under, longer, nodes_ends, last-on}
 
 tree_ends : (all : List Template) (ns : Nodes) (code rest : Code) → TreeAt all ns code rest → Ends rest code
 tree_ends all ns code rest l = ends_under (return_from (declared_in ns)) code rest

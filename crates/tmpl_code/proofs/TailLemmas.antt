@@ -1,16 +1,31 @@
--- For `put_junction`: code of operands ends with what stands behind it, so a jump over them is as long as what was put.
+-- For `put_junction`, `Compiler::put_nodes` and what they call: code ends with what stands behind it, so a jump is as long as what was put, and one
+-- out of a range still leads behind it; controls from their parts, and nodes one by one.
 use Rattle.std.proofs.Common.{arith, ◌≡◌, ◌∙◌, ◌+◌, ◌-◌, ◌≤◌, ℕ, suc, Bool, true, false, List, [], ◌∷◌, ◌++◌, length, drop, refl, ap, sym, Option, Some, None}
-use Rattle.std.proofs.Common.{append_assoc, length-append}
+use Rattle.std.proofs.Common.{append_assoc, length-append, ◌<◌, zero, take, get_or, subst, Result, Ok, Err, OnOk}
 use Rattle.std.proofs.Math.Seq.{drop-append_seam}
 use Rattle.tmpl_funcs.specs.Func.{takes}
 use Rattle.tmpl_funcs.specs.declared.func.Func.{Func}
 use Rattle.tmpl_funcs.specs.declared.func.Func.TheVariants.{And, Or}
-use Rattle.tmpl_grammar.specs.Tree.{Operand, dot, fields, variable, bool_constant, number_constant, text_constant, nil, function, group, Operands, no_operand}
-use Rattle.tmpl_grammar.specs.Tree.{operand, Pipeline, no_command, command}
-use Rattle.tmpl_code.specs.Instruction.{Instruction, act, settle, call_with}
-use Rattle.tmpl_code.specs.Layout.{Layout, slot_named}
+use Rattle.tmpl_grammar.specs.Tree.{Operand, variable, nil, function, group, Operands, no_operand, operand, Pipeline, no_command, command, Binding, unbound}
+use Rattle.tmpl_grammar.specs.Tree.{declare, assign, declare_pair, Header}
+use Rattle.tmpl_grammar.specs.Need.{declared_count}
+use Rattle.tmpl_grammar.specs.declared.tree.Control.{Control}
+use Rattle.tmpl_grammar.specs.declared.tree.Control.TheVariants as control
+use Rattle.tmpl_syntax.specs.Tree as tree
+use Rattle.tmpl_syntax.specs.Tree.{NodeKind, text, action, control_node, break_node, continue_node, template_node, Nodes}
+use Rattle.tmpl_syntax.specs.Set.{Template, number_of}
+use Rattle.tmpl_syntax.specs.View.{node_of, nodes_in}
+use Rattle.tmpl_syntax.specs.declared.tree.Node as held_node
+use Rattle.tmpl_code.specs.Instruction.{Instruction, act, settle, call_with, unless, enter_with, end_with, cut, enter, next, invoke}
+use Rattle.tmpl_code.specs.Layout.{Layout, slot_named, bound_on, declares, declares_key, grown, declared_in}
 use Rattle.tmpl_code.specs.Code.{Code, Part, chain_before, VariableAt, BareAt, is_last, FirstAt, CountedAt, CallBy, DecideAt, OperandAt, OperandsAt, JunctionAt}
-use Rattle.tmpl_code.specs.Code.{CommandAt, CommandsAt, argument_count, operand_count, piped_count}
+use Rattle.tmpl_code.specs.Code.{CommandAt, CommandsAt, argument_count, operand_count, piped_count, NodesPart, Exit, PipelineAt, SetAt, BindAt, ShownAt}
+use Rattle.tmpl_code.specs.Code.{SetDotAt, TurnAt, BreakAt, ContinueAt, GivenAt, CallAt, HeaderAt, EndAt, Ended, IfAt, WithAt, RangeAt, ControlAt, NodeAt}
+use Rattle.tmpl_code.specs.Code.{NodesAt, step_of}
+use Rattle.tmpl_code.specs.computed.Held.{BoundPart, DottedPart, EndedPart, IsOpen, Put, TurnsPart, all_grown, code_of, exit_seen, last_of, layout_of, shrunk}
+use Rattle.tmpl_code.specs.declared.node.Around as held_around
+use Rattle.tmpl_code.specs.declared.node.Compiler as held_compiler
+use Rattle.tmpl_code.proofs.NodeLemmas.{all_grown-longer, grows, nodes_more, shrinks}
 
 -- the code ends with this
 pub record Ends (rest code : Code) : Type 0 where
@@ -80,17 +95,12 @@ decide_ends false is_or piped Others h code rest l = ends_on _ code l.1 rest l.2
 
 mutual
   pub operand_ends : (o : Operand) (n : ℕ) (lay : Layout) (code rest : Code) → OperandAt o n lay code rest → Ends rest code
-  operand_ends dot n lay code rest l = ends_one _ code rest l
-  operand_ends (fields names) n lay code rest l = ends_one _ code rest l
   operand_ends (variable x names) n lay code rest l =
       ends_both code (chain_before names rest) rest (variable_ends (slot_named x lay) n code (chain_before names rest) l) (chain_ends names rest)
-  operand_ends (bool_constant b) n lay code rest l = ends_one _ code rest l
-  operand_ends (number_constant k) n lay code rest l = ends_one _ code rest l
-  operand_ends (text_constant bytes) n lay code rest l = ends_one _ code rest l
-  operand_ends nil n lay code rest l = ends_one _ code rest l
   operand_ends (function f) n lay code rest l = bare_ends (takes f 0) f code rest l
   operand_ends (group cs names) n lay code rest l =
       ends_both code (chain_before names rest) rest (commands_ends cs false n lay code (chain_before names rest) l) (chain_ends names rest)
+  operand_ends _ n lay code rest l = ends_one _ code rest l
 
   pub operands_ends : (os : Operands) (n : ℕ) (lay : Layout) (code rest : Code) → OperandsAt os n lay code rest → Ends rest code
   operands_ends no_operand n lay code rest l = ends_same code rest l
@@ -123,3 +133,375 @@ mutual
   commands_ends (command os cs) piped n lay code rest l =
       ends_both code l.0 rest (ends_under (act settle) code l.0 (command_ends os piped (n + piped_count piped) lay code (act settle ∷ l.0) l.1))
       (commands_ends cs true n lay l.0 rest l.2)
+
+-- ---- what a node is made of
+
+pipeline_ends : (p : Pipeline) (lay : Layout) → PartEnds (PipelineAt p lay)
+pipeline_ends cs lay code rest l = commands_ends cs false 0 lay code rest l
+
+set_ends : (slot : Option ℕ) → PartEnds (SetAt slot)
+set_ends None code rest l = ends_same code rest l
+set_ends (Some k) code rest l = ends_one _ code rest l
+
+bind_ends : (b : Binding) (lay : Layout) → PartEnds (BindAt b lay)
+bind_ends unbound lay code rest l = ends_same code rest l
+bind_ends (assign x) lay code rest l = set_ends (slot_named x lay) code rest l
+bind_ends _ lay code rest l = ends_one _ code rest l
+
+shown_ends : (b : Binding) → PartEnds (ShownAt b)
+shown_ends (declare x) code rest l = ends_same code rest l
+shown_ends (declare_pair k x) code rest l = ends_same code rest l
+shown_ends _ code rest l = ends_one _ code rest l
+
+header_ends : (h : Header) (lay : Layout) → PartEnds (HeaderAt h lay)
+header_ends h lay code rest l = ends_both code l.0 rest (pipeline_ends h.pipeline lay code l.0 l.1) (bind_ends h.binding lay l.0 rest l.2)
+
+set_dot_ends : (slot : Option ℕ) → PartEnds (SetDotAt slot)
+set_dot_ends None code rest l = ends_same code rest l
+set_dot_ends (Some k) code rest l = ends_one _ code rest l
+
+pub turn_ends : (b : Binding) (lay : Layout) → PartEnds (TurnAt b lay)
+turn_ends (assign x) lay code rest l = ends_on _ code l.0 rest l.1 (set_dot_ends (slot_named x lay) l.0 rest l.2)
+turn_ends _ lay code rest l = ends_one _ code rest l
+
+break_ends : (exit : Exit) (lay : Layout) → PartEnds (BreakAt exit lay)
+break_ends None lay code rest l = ends_one _ code rest l
+break_ends (Some a) lay code rest l = ends_one _ code rest l.3
+
+continue_ends : (exit : Exit) (lay : Layout) → PartEnds (ContinueAt exit lay)
+continue_ends None lay code rest l = ends_one _ code rest l
+continue_ends (Some a) lay code rest l = ends_one _ code rest l.3
+
+given_ends : (given : Option Pipeline) (lay : Layout) → PartEnds (GivenAt given lay)
+given_ends None lay code rest l = ends_one _ code rest l
+given_ends (Some p) lay code rest l = pipeline_ends p lay code rest l
+
+template_ends : (name : List ℕ) (number : Option ℕ) (given : Option Pipeline) (lay : Layout) → PartEnds (CallAt name number given lay)
+template_ends name None given lay code rest l = ends_one _ code rest l
+template_ends name (Some n) given lay code rest l = ends_under (invoke n) code rest (given_ends given lay code (invoke n ∷ rest) l)
+
+-- ---- controls
+
+pub end_ends : (n to : ℕ) → PartEnds (EndAt n to)
+end_ends zero zero code rest l = ends_same code rest l
+end_ends _ _ code rest l = ends_one _ code rest l
+
+-- what forgets cells or passes over instructions ends a part
+pub end_at : (n to : ℕ) (code rest : Code) → (n ≡ 0 → to ≡ 0 → ⊥) → code ≡ cut n to ∷ rest → EndAt n to code rest
+end_at zero zero code rest some is = absurd (some refl refl)
+end_at _ _ code rest some is = is
+
+-- a part that ends so, and one behind it
+parts : (n to : ℕ) (P : Part) (first second rest : Code) → Ends second first → PartEnds P → Ended n to P second rest → Ends rest first
+parts n to P first second rest a p l = ends_both first second rest a (ends_both second l.0 rest (p second l.0 l.1) (end_ends n to l.0 rest l.2))
+
+if_ends : (b : Binding) (n m : ℕ) (Body Other : Part) → PartEnds Body → PartEnds Other → PartEnds (IfAt b n m Body Other)
+if_ends b n m Body Other f g code rest i =
+    ends_on _ code i.0 rest i.4 (parts (declared_count b + m) 0 Other i.0 i.1 rest
+    (parts (declared_count b + n) i.3 Body i.0 i.0 i.1 (ends_same i.0 i.0 refl) f i.5) g i.6)
+
+with_ends : (b : Binding) (n m : ℕ) (Body Other : Part) → PartEnds Body → PartEnds Other → PartEnds (WithAt b n m Body Other)
+with_ends b n m Body Other f g code rest i =
+    ends_on _ code i.0 rest i.4 (parts (declared_count b + m) 0 Other i.0 i.1 rest (ends_under _ i.0 i.1 (f i.0 (end_with n (declared_count b) i.3 ∷ i.1) i.5))
+    g i.6)
+
+range_ends : (line : ℕ) (b : Binding) (n m : ℕ) (Turn Body Other : Part) → PartEnds Turn → PartEnds Body → PartEnds Other
+    → PartEnds (RangeAt line b n m Turn Body Other)
+range_ends line b n m Turn Body Other t f g code rest i =
+    ends_on _ code i.0 rest i.5 (ends_both i.0 i.1 rest (t i.0 i.1 i.6)
+    (parts m 0 Other i.1 i.2 rest (ends_under _ i.1 i.2 (f i.1 (next (declared_count b + n) i.4 line ∷ i.2) i.7)) g i.8))
+
+abbrev AllEnd : NodesPart → Type 0
+AllEnd P = (lay : Layout) (exit : Exit) → PartEnds (P lay exit)
+
+control_ends : (line : ℕ) (c : Control) (h : Header) (n m : ℕ) (Body Other : NodesPart) → AllEnd Body → AllEnd Other
+    → AllEnd (ControlAt line c h n m Body Other)
+control_ends line control.If h n m Body Other f g lay exit code rest l =
+    ends_both code l.0 rest (header_ends h lay code l.0 l.1)
+    (if_ends h.binding n m (Body (bound_on h.binding lay) exit) (Other (bound_on h.binding lay) exit)
+    (f (bound_on h.binding lay) exit) (g (bound_on h.binding lay) exit) l.0 rest l.2)
+control_ends line control.With h n m Body Other f g lay exit code rest l =
+    ends_both code l.0 rest (header_ends h lay code l.0 l.1)
+    (with_ends h.binding n m (Body (None ∷ bound_on h.binding lay) exit) (Other (bound_on h.binding lay) exit)
+    (f (None ∷ bound_on h.binding lay) exit) (g (bound_on h.binding lay) exit) l.0 rest l.2)
+control_ends line control.Range h n m Body Other f g lay exit code rest l =
+    let inner : Exit = Some (record { out = rest; line = line; below = length lay }) in
+    let within = bound_on h.binding (None ∷ None ∷ lay) in
+    ends_both code l.0 rest (pipeline_ends h.pipeline lay code l.0 l.1)
+    (range_ends line h.binding n m (TurnAt h.binding (None ∷ None ∷ lay)) (Body within inner) (Other lay exit)
+    (turn_ends h.binding (None ∷ None ∷ lay)) (f within inner) (g lay exit) l.0 rest l.2)
+
+mutual
+  pub node_ends : (ts : List Template) (line : ℕ) (n : NodeKind) (lay : Layout) (exit : Exit) (code rest : Code) → NodeAt ts line n lay exit code rest
+      → Ends rest code
+  node_ends ts line (text bytes) lay exit code rest l = ends_one _ code rest l
+  node_ends ts line (action h) lay exit code rest l = ends_both code l.0 rest (header_ends h lay code l.0 l.1) (shown_ends h.binding l.0 rest l.2)
+  node_ends ts line (control_node c h body other) lay exit code rest l =
+      control_ends line c h (declared_in body) (declared_in other) (NodesAt ts body) (NodesAt ts other)
+      (λ lay exit code rest l. nodes_ends ts body lay exit code rest l) (λ lay exit code rest l. nodes_ends ts other lay exit code rest l) lay exit code rest l
+  node_ends ts line break_node lay exit code rest l = break_ends exit lay code rest l
+  node_ends ts line continue_node lay exit code rest l = continue_ends exit lay code rest l
+  node_ends ts line (template_node name given) lay exit code rest l = template_ends name (number_of name ts) given lay code rest l
+
+  pub nodes_ends : (ts : List Template) (ns : Nodes) (lay : Layout) (exit : Exit) (code rest : Code) → NodesAt ts ns lay exit code rest → Ends rest code
+  nodes_ends ts tree.none lay exit code rest l = ends_same code rest l
+  nodes_ends ts (tree.then line n ns) lay exit code rest l =
+      ends_on (step_of ts line n) code l.0 rest l.2
+      (ends_both l.0 l.1 rest (node_ends ts line n lay exit l.0 l.1 l.3) (nodes_ends ts ns (grown n lay) exit l.1 rest l.4))
+
+-- ---- the range around
+
+pub last-on : (front old : Code) (n : ℕ) → n ≤ length old → last_of n (front ++ old) ≡ last_of n old
+last-on [] old n h = refl
+last-on (i ∷ front) old n h =
+    let more : length (front ++ old) ≡ length front + length old = length-append front old in
+    let one : suc (length (front ++ old)) - n ≡ suc (length (front ++ old) - n) = omega arith in
+    ap (λ k. drop k (i ∷ (front ++ old))) one ∙ last-on front old n h
+
+pub exit_on : (e : Option held_around.Around) (old new : Code) (lay : Layout) → IsOpen e old lay → Ends old new → exit_seen e new ≡ exit_seen e old
+exit_on None old new lay h t = refl
+exit_on (Some a) old new lay h t =
+    ap (λ (c : Code). exit_seen (Some a) c) t.is
+    ∙ ap (λ (out : Code). Some (record { out = out; line = a.line; below = a.below })) (last-on t.front old a.after h.0)
+
+pub open_on : (e : Option held_around.Around) (old new : Code) (lay more : Layout) → Ends old new → length lay ≤ length more → IsOpen e old lay
+    → IsOpen e new more
+open_on None old new lay more t g h = tt
+open_on (Some a) old new lay more t g h =
+    let l = longer old new t in
+    let after = h.0 in
+    let below = h.1 in
+    (omega arith, omega arith)
+
+-- ---- what was put, and what stands behind it
+
+abbrev Compiler : Type 0
+Compiler = held_compiler.Compiler
+
+module _ {P : NodesPart} {e : Option held_around.Around} {old mid : Compiler} (ends : AllEnd P) (p : Put P e old mid) where
+  pub tail : Ends (code_of old.code) (code_of mid.code)
+  tail = ends (layout_of old.scope) (exit_seen e (code_of old.code)) (code_of mid.code) (code_of old.code) p.code
+
+  pub more_code : length (code_of old.code) ≤ length (code_of mid.code)
+  more_code = longer (code_of old.code) (code_of mid.code) tail
+
+  pub skips : (n : ℕ) → n ≡ length (code_of mid.code) - length (code_of old.code) → drop n (code_of mid.code) ≡ code_of old.code
+  skips n is = ap (λ n. drop n (code_of mid.code)) is ∙ passes (code_of old.code) (code_of mid.code) tail
+
+  pub still_open : IsOpen e (code_of old.code) (layout_of old.scope) → IsOpen e (code_of mid.code) (layout_of mid.scope)
+  still_open h =
+      let same = ap (λ (l : Layout). length l) p.scope in
+      open_on e (code_of old.code) (code_of mid.code) (layout_of old.scope) (layout_of mid.scope) tail (omega (arith, same)) h
+
+-- a part that is put behind code which ends with the old one
+put_on : {P : NodesPart} {e : Option held_around.Around} (old : Compiler) {mid new : Compiler} → IsOpen e (code_of old.code) (layout_of old.scope)
+    → Ends (code_of old.code) (code_of mid.code)
+    → layout_of mid.scope ≡ layout_of old.scope → Put P e mid new
+    → P (layout_of old.scope) (exit_seen e (code_of old.code)) (code_of new.code) (code_of mid.code)
+put_on {P} {e} old {mid} {new} h t same p =
+    subst (λ (l : Layout). P l (exit_seen e (code_of old.code)) (code_of new.code) (code_of mid.code)) same
+    (subst (λ (x : Exit). P (layout_of mid.scope) x (code_of new.code) (code_of mid.code))
+    (exit_on e (code_of old.code) (code_of mid.code) (layout_of old.scope) h t) p.code)
+
+pub nodes_part : (ts : List Template) (ns : Nodes) → AllEnd (NodesAt ts ns)
+nodes_part ts ns lay exit code rest l = nodes_ends ts ns lay exit code rest l
+
+pub dotted_part : (ts : List Template) (b : Binding) (ns : Nodes) → AllEnd (DottedPart ts b ns)
+dotted_part ts b ns lay exit code rest l = nodes_ends ts ns (None ∷ bound_on b lay) exit code rest l
+
+pub ended_part : (ts : List Template) (b : Binding) (ns : Nodes) (skip : ℕ) → AllEnd (EndedPart ts b ns skip)
+ended_part ts b ns skip lay exit code rest l =
+    ends_both code l.0 rest (nodes_ends ts ns (bound_on b lay) exit code l.0 l.1) (end_ends (declared_count b + declared_in ns) skip l.0 rest l.2)
+
+pub turns_part : (ts : List Template) (b : Binding) (ns : Nodes) → AllEnd (TurnsPart ts b ns)
+turns_part ts b ns lay exit code rest l =
+    ends_both code l.0 rest (turn_ends b (None ∷ None ∷ lay) code l.0 l.1) (nodes_ends ts ns (bound_on b (None ∷ None ∷ lay)) exit l.0 rest l.2)
+
+pub on_ok : {T E : Type 0} (r : Result T E) (P Q : Type 0) → (P → Q) → OnOk r P → OnOk r Q
+on_ok (Ok x) P Q f p = f p
+on_ok (Err e) P Q f p = tt
+
+-- ---- a part with its end, and controls
+
+module _ (ts : List Template) {e : Option held_around.Around} {old : Compiler} (h : IsOpen e (code_of old.code) (layout_of old.scope)) where
+  pub put_ended : (b : Binding) (ns : Nodes) (skip n : ℕ) {mid new : Compiler} → layout_of mid.scope ≡ layout_of old.scope
+      → n ≡ declared_count b + declared_in ns
+      → EndAt n skip (code_of mid.code) (code_of old.code) → Put (BoundPart ts b ns) e mid new → Put (EndedPart ts b ns skip) e old new
+  put_ended b ns skip n {mid} {new} same count end p = record {
+    code = (
+      code_of mid.code,
+      put_on {P = BoundPart ts b ns} old h (end_ends n skip (code_of mid.code) (code_of old.code) end) same p,
+      subst
+          (λ k. EndAt k skip (code_of mid.code) (code_of old.code)) count end,
+    );
+    scope = p.scope ∙ same;
+  }
+
+  module _ (head : Header) (body others : Nodes) where
+    pub put_if : {second first new : Compiler} {start : Code} (to skip : ℕ) (kept : Bool) → Put (EndedPart ts head.binding others 0) e old second
+        → Put (EndedPart ts head.binding body to) e second first
+        → to ≡ length (code_of second.code) - length (code_of old.code) → skip ≡ length (code_of first.code) - length (code_of second.code)
+        → kept ≡ declares head.binding → start ≡ unless kept skip ∷ code_of first.code → layout_of new.scope ≡ layout_of first.scope
+        → HeaderAt head (layout_of first.scope) (code_of new.code) start
+        → Put (NodeAt ts 0 (control_node control.If head body others)) e old new
+    put_if {second} {first} {new} {start} to skip kept p q tos skipped keeps is same headed =
+        let scope = q.scope ∙ p.scope in
+        let part = put_on {P = EndedPart ts head.binding body to} old h (tail (ended_part ts head.binding others 0) p) p.scope q in
+        record {
+          code = (
+            start,
+            subst (λ (l : Layout). HeaderAt head l (code_of new.code) start) scope headed,
+            (
+              code_of first.code,
+              code_of second.code,
+              skip,
+              to,
+              is ∙ ap (λ k. unless k skip ∷ code_of first.code) keeps,
+              part,
+              p.code,
+              skips (ended_part ts head.binding body to) q skip skipped,
+              skips (ended_part ts head.binding others 0) p to tos,
+            ),
+          );
+          scope = same ∙ scope;
+        }
+
+    pub put_with : {second mid first new : Compiler} {start : Code} (to skip n v : ℕ) (kept : Bool) → Put (EndedPart ts head.binding others 0) e old second
+        → layout_of mid.scope ≡ layout_of second.scope → code_of mid.code ≡ end_with n v to ∷ code_of second.code
+        → Put (DottedPart ts head.binding body) e mid first
+        → n ≡ declared_in body → v ≡ declared_count head.binding → to ≡ length (code_of second.code) - length (code_of old.code)
+        → skip ≡ length (code_of first.code) - length (code_of second.code)
+        → kept ≡ declares head.binding → start ≡ enter_with kept skip ∷ code_of first.code → layout_of new.scope ≡ layout_of first.scope
+        → HeaderAt head (layout_of first.scope) (code_of new.code) start
+        → Put (NodeAt ts 0 (control_node control.With head body others)) e old new
+    put_with {second} {mid} {first} {new} {start} to skip n v kept p saved goes q ns vs tos skipped keeps is same headed =
+        let scope = q.scope ∙ saved ∙ p.scope in
+        let one = ends_one (end_with n v to) (code_of mid.code) (code_of second.code) goes in
+        let behind = ends_both (code_of first.code) (code_of mid.code) (code_of second.code) (tail (dotted_part ts head.binding body) q) one in
+        let before = ends_both (code_of mid.code) (code_of second.code) (code_of old.code) one (tail (ended_part ts head.binding others 0) p) in
+        let part = put_on {P = DottedPart ts head.binding body} old h before (saved ∙ p.scope) q in
+        record {
+          code = (
+            start,
+            subst (λ (l : Layout). HeaderAt head l (code_of new.code) start) scope headed,
+            (
+              code_of first.code,
+              code_of second.code,
+              skip,
+              to,
+              is ∙ ap (λ k. enter_with k skip ∷ code_of first.code) keeps,
+              subst (λ (c : Code). DottedPart ts head.binding body (layout_of old.scope) (exit_seen e (code_of old.code)) (code_of first.code) c)
+                  (goes ∙ (λ j. end_with (ns j) (vs j) to ∷ code_of second.code)) part,
+              p.code,
+              ap (λ k. drop k (code_of first.code)) skipped ∙ passes (code_of second.code) (code_of first.code) behind,
+              skips (ended_part ts head.binding others 0) p to tos,
+            ),
+          );
+          scope = same ∙ scope;
+        }
+
+    pub put_range : {end second mid first new : Compiler} {start : Code} (line to skip n m : ℕ) (key : Bool) (a : held_around.Around)
+        → layout_of end.scope ≡ layout_of old.scope → m ≡ declared_in others → EndAt m 0 (code_of end.code) (code_of old.code)
+        → Put (NodesAt ts others) e end second
+        → layout_of mid.scope ≡ layout_of second.scope → code_of mid.code ≡ next n to line ∷ code_of second.code
+        → a.after ≡ length (code_of old.code) → a.line ≡ line → a.below ≡ length (layout_of mid.scope) → Put (TurnsPart ts head.binding body) (Some a) mid first
+        → n ≡ declared_count head.binding + declared_in body → to ≡ length (code_of second.code) - length (code_of old.code)
+        → skip ≡ length (code_of first.code) - length (code_of second.code)
+        → key ≡ declares_key head.binding → start ≡ enter key skip ∷ code_of first.code → layout_of new.scope ≡ layout_of first.scope
+        → PipelineAt head.pipeline (layout_of first.scope) (code_of new.code) start
+        → Put (NodeAt ts line (control_node control.Range head body others)) e old new
+    put_range {end} {second} {mid} {first} {new} {start} line to skip n m key a ended ms close p saved goes after lines below q ns tos skipped keys is same
+        piped =
+        let scope = q.scope ∙ saved ∙ p.scope ∙ ended in
+        let closed = end_ends m 0 (code_of end.code) (code_of old.code) close in
+        let before = ends_both (code_of second.code) (code_of end.code) (code_of old.code) (tail (nodes_part ts others) p) closed in
+        let one = ends_one (next n to line) (code_of mid.code) (code_of second.code) goes in
+        let all = ends_both (code_of mid.code) (code_of second.code) (code_of old.code) one before in
+        let behind = ends_both (code_of first.code) (code_of mid.code) (code_of second.code) (tail (turns_part ts head.binding body) q) one in
+        let out : last_of a.after (code_of mid.code) ≡ code_of old.code = ap (λ n. last_of n (code_of mid.code)) after
+        ∙ passes (code_of old.code) (code_of mid.code) all in
+        let lay = saved ∙ p.scope ∙ ended in
+        let around : exit_seen (Some a) (code_of mid.code) ≡ Some (record { out = code_of old.code; line = line; below = length (layout_of old.scope) }) =
+        (λ j. Some (record { out = out j; line = lines j; below = (below ∙ ap (λ (l : Layout). length l) lay) j })) in
+        let inner : Exit = Some (record { out = code_of old.code; line = line; below = length (layout_of old.scope) }) in
+        let turns = subst (λ (l : Layout). TurnsPart ts head.binding body l inner (code_of first.code) (code_of mid.code)) lay
+        (subst (λ (x : Exit). TurnsPart ts head.binding body (layout_of mid.scope) x (code_of first.code) (code_of mid.code)) around q.code) in
+        record {
+          code = (
+            start,
+            subst (λ (l : Layout). PipelineAt head.pipeline l (code_of new.code) start) scope piped,
+            (
+              code_of first.code,
+              turns.0,
+              code_of second.code,
+              skip,
+              to,
+              is ∙ ap (λ k. enter k skip ∷ code_of first.code) keys,
+              turns.1,
+              subst (λ (c : Code). NodesAt ts body (bound_on head.binding (None ∷ None ∷ layout_of old.scope)) inner turns.0 c)
+                  (goes ∙ ap (λ k. next k to line ∷ code_of second.code) ns) turns.2,
+              (code_of end.code, put_on {P = NodesAt ts others} old h closed ended p, subst (λ k. EndAt k 0 (code_of end.code) (code_of old.code)) ms close),
+              ap (λ k. drop k (code_of first.code)) skipped ∙ passes (code_of second.code) (code_of first.code) behind,
+              ap (λ k. drop k (code_of second.code)) tos ∙ passes (code_of old.code) (code_of second.code) before,
+            ),
+          );
+          scope = same ∙ scope;
+        }
+
+-- ---- nodes, from the last to the first
+
+-- those from a place on are put, and the variables that those before it leave are in scope
+pub record Putting (ts : List Template) (e : Option held_around.Around) (ns : List held_node.Node) (i : ℕ) (old now : Compiler) : Type 0 where
+  pub within : i ≤ length ns
+  pub layout : layout_of now.scope ≡ all_grown (nodes_in (take i ns)) (layout_of old.scope)
+  pub put : NodesAt ts (nodes_in (drop i ns)) (layout_of now.scope) (exit_seen e (code_of old.code)) (code_of now.code) (code_of old.code)
+
+pub put_all : {ts : List Template} {e : Option held_around.Around} {ns : List held_node.Node} {i : ℕ} {old now : Compiler} → i ≡ 0 → Putting ts e ns i old now
+    → Put (NodesAt ts (nodes_in ns)) e old now
+put_all {ts} {e} {ns} {i} {old} {now} none l =
+    let scope : layout_of now.scope ≡ layout_of old.scope = l.layout ∙ ap (λ k. all_grown (nodes_in (take k ns)) (layout_of old.scope)) none in
+    record {
+      code = subst (λ (y : Layout). NodesAt ts (nodes_in ns) y (exit_seen e (code_of old.code)) (code_of now.code) (code_of old.code)) scope
+          (subst (λ k. NodesAt ts (nodes_in (drop k ns)) (layout_of now.scope) (exit_seen e (code_of old.code)) (code_of now.code) (code_of old.code)) none
+          l.put);
+      scope = scope;
+    }
+
+-- a node more, whose variables went out of scope
+module _ {ts : List Template} {e : Option held_around.Around} {ns : List held_node.Node} {i : ℕ} {old now : Compiler} (start : Compiler)
+    (h : IsOpen e (code_of old.code) (layout_of old.scope)) (l : Putting ts e ns i old now) (j : ℕ) (n : held_node.Node) (here : j < length ns)
+    (next : i ≡ j + 1) (is : n ≡ get_or ns j n)
+    (same : code_of start.code ≡ code_of now.code) (fewer : layout_of start.scope ≡ shrunk (node_of n).what (layout_of now.scope)) where
+  layout : layout_of start.scope ≡ all_grown (nodes_in (take j ns)) (layout_of old.scope)
+  layout = fewer ∙ shrinks ns i j n (layout_of old.scope) (layout_of now.scope) here next is l.layout
+
+  behind : Ends (code_of old.code) (code_of start.code)
+  behind = subst (Ends (code_of old.code)) (sym same) (nodes_ends ts (nodes_in (drop i ns)) (layout_of now.scope) (exit_seen e (code_of old.code))
+      (code_of now.code) (code_of old.code) l.put)
+
+  pub node_open : IsOpen e (code_of start.code) (layout_of start.scope)
+  node_open =
+      let more = all_grown-longer (nodes_in (take j ns)) (layout_of old.scope) in
+      let long = ap (λ (x : Layout). length x) layout in
+      open_on e (code_of old.code) (code_of start.code) (layout_of old.scope) (layout_of start.scope) behind (omega (arith, more, long)) h
+
+  pub put_more : {mid new : Compiler} → Put (NodeAt ts (node_of n).line (node_of n).what) e start mid
+      → code_of new.code ≡ step_of ts (node_of n).line (node_of n).what ∷ code_of mid.code → layout_of new.scope ≡ layout_of mid.scope
+      → Putting ts e ns j old new
+  put_more {mid} {new} p step kept =
+      let line = (node_of n).line in
+      let what = (node_of n).what in
+      let x = exit_seen e (code_of old.code) in
+      let before = all_grown (nodes_in (take j ns)) (layout_of old.scope) in
+      let seen = subst (λ (y : Exit). NodeAt ts line what (layout_of start.scope) y (code_of mid.code) (code_of start.code))
+      (exit_on e (code_of old.code) (code_of start.code) (layout_of old.scope) h behind) p.code in
+      let one = subst (λ (y : Layout). NodeAt ts line what y x (code_of mid.code) (code_of now.code)) layout
+      (subst (λ (c : Code). NodeAt ts line what (layout_of start.scope) x (code_of mid.code) c) same seen) in
+      let put = nodes_more ts ns i j n x before (layout_of now.scope) (code_of new.code) (code_of mid.code) (code_of now.code) (code_of old.code) here next is
+      (grows ns i j n (layout_of old.scope) (layout_of now.scope) here next is l.layout) step one l.put in
+      let scope = kept ∙ p.scope ∙ layout in
+      record {
+        within = omega arith;
+        layout = scope;
+        put = subst (λ (y : Layout). NodesAt ts (nodes_in (drop j ns)) y x (code_of new.code) (code_of old.code)) (sym scope) put;
+      }

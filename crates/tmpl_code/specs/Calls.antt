@@ -1,27 +1,8 @@
 -- Which templates call which, and how many can be inside one another.
-use Rattle.std.specs.Prelude.{◌≡◌, ◌⊎◌, ℕ, Bool, true, false, ◌||◌, List, [], ◌∷◌, Some, slice_get}
+use Rattle.std.specs.Prelude.{◌≡◌, ◌⊎◌, ℕ, List, [], ◌∷◌, Some, slice_get}
 use Rattle.tmpl_syntax.specs.Tree as tree
 use Rattle.tmpl_syntax.specs.Tree.{NodeKind, control_node, template_node, Nodes}
 use Rattle.tmpl_syntax.specs.Set.{Template, number_of}
-
--- ---- whether there is a call
-
-abbrev mutual
-  pub node_calls : NodeKind → Bool
-  node_calls (control_node c h body other) = nodes_call body || nodes_call other
-  node_calls (template_node name given) = true
-  node_calls n = false
-
-  pub nodes_call : Nodes → Bool
-  nodes_call tree.none = false
-  nodes_call (tree.then line n ns) = node_calls n || nodes_call ns
-
--- whether some template does
-abbrev pub set_calls : List Template → Bool
-set_calls [] = false
-set_calls (t ∷ ts) = nodes_call t.1.nodes || set_calls ts
-
--- ---- chains of calls
 
 -- a template of this name is called, by the node or in one of its parts
 abbrev mutual

@@ -2,7 +2,7 @@
 ghost use Rattle.std.specs.Prelude.{◌≡◌, ◌+◌, ◌≤◌, IfOk, map, true};
 ghost use Rattle.tmpl_syntax.specs.Need.{need};
 ghost use Rattle.tmpl_syntax.specs.View.{set_view};
-ghost use Rattle.tmpl_code.specs.Calls.{set_calls};
+ghost use Rattle.tmpl_code.specs.computed.Weights.{set_calls};
 ghost use Rattle.tmpl_code.specs.Room.{largest_need};
 ghost use Rattle.tmpl_code.specs.computed.Weights.{Hold, IsBound};
 

@@ -2,7 +2,7 @@
 ghost use Rattle.std.specs.Prelude.{◌≡◌, ◌+◌, IfOk, OnOk, reverse};
 ghost use Rattle.tmpl_syntax.specs.Need.{need_of_nodes};
 ghost use Rattle.tmpl_syntax.specs.View.{nodes_in, set_view};
-ghost use Rattle.tmpl_code.specs.Calls.{nodes_call};
+ghost use Rattle.tmpl_code.specs.computed.Weights.{nodes_call};
 ghost use Rattle.tmpl_code.specs.Code as spec;
 ghost use Rattle.tmpl_code.specs.Layout.{first_layout};
 ghost use Rattle.tmpl_code.specs.MakesText.{nodes_make_text};

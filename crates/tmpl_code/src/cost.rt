@@ -122,7 +122,7 @@ fn cost_of_command(piped: usize, operands: &[Operand]) -> Result<Cost, AllocErro
 
 /// What the arguments of a call cost, above so many values.
 #[cycle(pipes)]
-#[tactic(auto, using(crate::proofs::CostLemmas::no_argument, crate::proofs::OperandLemmas::lighter))]
+#[tactic(auto, using(crate::proofs::OperandLemmas::no_argument, crate::proofs::OperandLemmas::lighter))]
 fn cost_of_arguments(held: usize, operands: &[Operand]) -> Result<Cost, AllocError>
     ensures need { IfOk result (λ c. c.need ≡ needs.need_of_arguments held (operands_in operands.now)) }
     ensures text { IfOk result (λ c. c.makes_text ≡ texts.operands_make_text (operands_in operands.now)) }

@@ -220,7 +220,7 @@ pub(crate) fn first_instruction<'s>(set: &Set, node: &Node) -> Instruction<'s>
 
 /// Puts what ends a part: it forgets so many cells and passes over so many instructions. Where there is none of
 /// either, nothing ends it.
-#[tactic(auto, using(crate::proofs::NodeTailLemmas::end_at))]
+#[tactic(auto, using(crate::proofs::TailLemmas::end_at))]
 fn put_end(code: &mut Code<'_>, count: u32, skip: u32) -> Result<(), AllocError>
     ensures { OnOk result (spec.EndAt count skip (code_of code.new) (code_of code.old)) }
 {

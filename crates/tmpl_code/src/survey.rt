@@ -1,6 +1,6 @@
 //! What templates need and do, told in one walk over their nodes.
 ghost use Rattle.std.specs.Prelude.{◌≡◌, ◌+◌, ◌||◌, false, IfOk, max};
-ghost use Rattle.tmpl_code.specs.Calls as calling;
+ghost use Rattle.tmpl_code.specs.computed.Weights as calling;
 ghost use Rattle.tmpl_code.specs.MakesText as texts;
 ghost use Rattle.tmpl_syntax.specs.Need as needs;
 ghost use Rattle.tmpl_syntax.specs.View.{control_of, node_of, nodes_in};

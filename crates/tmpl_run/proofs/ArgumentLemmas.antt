@@ -1,11 +1,14 @@
 -- For `Stack::call`: the cells that a call takes are the values of its arguments, and those below stay.
-use Rattle.std.proofs.Common.{arith, ◌≡◌, ◌∙◌, ◌+◌, ◌≤◌, ◌++◌, ℕ, zero, suc, Bool, true, false, List, [], ◌∷◌, length, drop, take, map, reverse, refl, ap, sym}
+use Rattle.std.proofs.Common.{arith, ◌≡◌, ◌∙◌, ◌+◌, ◌≤◌, ◌++◌, ℕ, Bool, true, false, List, [], ◌∷◌, length, drop, take, map, reverse, refl, ap, sym}
 use Rattle.std.proofs.Common.{subst, Result}
 use Rattle.std.proofs.lemmas.List.{drop_at, length-drop, length-map, length-reverse, length-take-le, map-append, reverse-append, reverse-reverse, take-map}
 use Rattle.std.proofs.lemmas.List.{take_at}
+use Rattle.std.proofs.lemmas.List.{drop-take}
+use Rattle.std.proofs.lemmas.List.Elements.{All-append, All-drop, All-from_recursion, All-take, recursion_from_All}
 use Rattle.std.proofs.lemmas.Simd.{map-map}
-use Rattle.std.specs.List.{drop-map}
+use Rattle.std.specs.List.{All, drop-map}
 use Rattle.std.proofs.Math.Seq.{take-add}
+use Rattle.tmpl_values.specs.View.{is_made}
 use Rattle.tmpl_values.specs.declared.value.Cell as held
 use Rattle.tmpl_values.specs.declared.value.Val.{Val}
 use Rattle.tmpl_funcs.specs.Answer.{AreBorrowed}
@@ -80,33 +83,15 @@ table-is f r count top p below n from cs is e m h call =
 
 -- ---- made texts
 
-borrowed-take : (n : ℕ) (l : List held.Cell) → AreBorrowed l → AreBorrowed (take n l)
-borrowed-take zero l h = tt
-borrowed-take (suc n) [] h = tt
-borrowed-take (suc n) (c ∷ l) h = (h.0, borrowed-take n l h.1)
-
-borrowed-drop : (n : ℕ) (l : List held.Cell) → AreBorrowed l → AreBorrowed (drop n l)
-borrowed-drop zero l h = h
-borrowed-drop (suc n) [] h = tt
-borrowed-drop (suc n) (c ∷ l) h = borrowed-drop n l h.1
-
-borrowed-append : (k l : List held.Cell) → AreBorrowed k → AreBorrowed l → AreBorrowed (k ++ l)
-borrowed-append [] l g h = h
-borrowed-append (c ∷ k) l g h = (g.0, borrowed-append k l g.1 h)
-
-borrowed-part : (from n : ℕ) (l : List held.Cell) → AreBorrowed (take (from + n) l) → AreBorrowed (take n (drop from l))
-borrowed-part zero n l h = let none : 0 + n ≡ n = omega arith in subst (λ k. AreBorrowed (take k l)) none h
-borrowed-part (suc from) zero [] h = tt
-borrowed-part (suc from) (suc n) [] h = tt
-borrowed-part (suc from) n (c ∷ l) h =
-    let one : suc from + n ≡ suc (from + n) = omega arith in borrowed-part from n l (subst (λ k. AreBorrowed (take k (c ∷ l))) one h).1
-
 -- the arguments of a call
 pub borrowed-turned : (from n top below : ℕ) (l : List held.Cell) → from + n ≡ top → AreBorrowed (take top l)
     → AreBorrowed (drop below (take n (drop from l)) ++ take below (take n (drop from l)))
 borrowed-turned from n top below l e h =
-    let part = borrowed-part from n l (subst (λ k. AreBorrowed (take k l)) (sym e) h) in
-    borrowed-append (drop below (take n (drop from l))) (take below (take n (drop from l))) (borrowed-drop below (take n (drop from l)) part)
-    (borrowed-take below (take n (drop from l)) part)
+    let Plain : held.Cell → Type 0 = λ c. is_made c.val ≡ false in
+    let part : All Plain (take n (drop from l)) = subst (All Plain) (drop-take from n l) (All-drop Plain from (take (from + n) l)
+    (All-from_recursion Plain (take (from + n) l) (subst (λ k. AreBorrowed (take k l)) (sym e) h))) in
+    recursion_from_All Plain (drop below (take n (drop from l)) ++ take below (take n (drop from l)))
+    (All-append Plain (drop below (take n (drop from l))) (take below (take n (drop from l))) (All-drop Plain below (take n (drop from l)) part)
+    (All-take Plain below (take n (drop from l)) part))
 
 pub ruleset arguments = (table-is, borrowed-turned)

@@ -77,18 +77,16 @@ module _ (s : Setting) (depth : ℕ) (calls : Calls) where
 
   mutual
     stepped-same : (n : NodeKind) → Agree (λ name. NodeNames name n) → (line : ℕ) (d : Value) (r : Run) → stepped other line n d r ≡ stepped s line n d r
-    stepped-same (text bytes) agree line d r = refl
     stepped-same (action h) agree line d r = pipeline-same line h.pipeline d (shown h.binding) r
     stepped-same (control_node c h body els) agree line d r =
         (λ i. scoped (length r.env) (controlled-same line c h d (λ v. meanings other body v) (meanings other els d) r i))
         ∙ (λ i. scoped (length r.env) (controlled s line c h d (λ v t. meanings-same body (λ name names. agree name (inl names)) v t i)
         (λ t. meanings-same els (λ name names. agree name (inr names)) d t i) r))
-    stepped-same break_node agree line d r = refl
-    stepped-same continue_node agree line d r = refl
     stepped-same (template_node name given) agree line d r =
         (λ i. with_value other line (agree name refl i) (handing other line given d) r)
         ∙ value-same (s.calls name) line (handing other line given d) r
         ∙ (λ i. with_value s line (s.calls name) (λ body t. handing-same line given d body t i) r)
+    stepped-same _ agree line d r = refl
 
     meanings-same : (ns : Nodes) → Agree (λ name. NodesName name ns) → (d : Value) (r : Run) → meanings other ns d r ≡ meanings s ns d r
     meanings-same tree.none agree d r = refl
@@ -98,7 +96,8 @@ module _ (s : Setting) (depth : ℕ) (calls : Calls) where
 
 -- ---- chains of calls
 
-absent : (rules : Rules) (ts : List Template) (n : ℕ) (name : List ℕ) → tree_named name ts ≡ None → calls_within rules ts n name ≡ Err (fault.no_template name)
+pub absent : (rules : Rules) (ts : List Template) (n : ℕ) (name : List ℕ) → tree_named name ts ≡ None
+    → calls_within rules ts n name ≡ Err (fault.no_template name)
 absent rules ts zero name e = ap (uncalled rules name) e
 absent rules ts (suc n) name e = ap (run_called rules (calls_within rules ts n) name) e
 

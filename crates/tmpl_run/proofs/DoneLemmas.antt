@@ -278,9 +278,6 @@ past-again x a m b s = λ j. record s { text = sym (append-nil (x ++ a)) j; made
 
 -- ---- a turn
 
-begins-same : (a : List ℕ) → Begins a a
-begins-same a = ([], sym (append-nil a))
-
 begins-on : (a b c : List ℕ) → Begins a b → Begins b c → Begins a c
 begins-on a b c x y = (x.0 ++ y.0, y.1 ∙ ap (λ l. l ++ y.0) x.1 ∙ append_assoc a x.0 y.0)
 

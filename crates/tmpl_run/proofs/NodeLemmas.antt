@@ -182,10 +182,9 @@ length-grown _ fr = omega arith
 -- the value of a header, and the variables under it
 length-under : (b : Binding) (cs : List Cell) (room n : ℕ) → length cs + (1 + declared_count b + n) ≤ room
     → RoomIf (declares b) (suc (length (under b cs))) room
-length-under unbound cs room n h = tt
 length-under (declare x) cs room n h = omega arith
-length-under (assign x) cs room n h = tt
 length-under (declare_pair k x) cs room n h = omega arith
+length-under _ cs room n h = tt
 
 named-bound : (b : Binding) (lay : Layout) → named lay ≤ named (bound_on b lay)
 named-bound unbound lay = omega arith

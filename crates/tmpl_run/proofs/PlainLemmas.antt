@@ -1,20 +1,19 @@
 -- For the clauses `plain`: live cells of which none holds a made text stay so, by which a run that makes no text is refused no memory.
 use Rattle.std.proofs.Common.{arith, ◌≡◌, ◌∙◌, ◌+◌, ◌-◌, ◌<◌, ◌≤◌, ℕ, zero, suc, true, false, List, [], ◌∷◌, length, take, set, get_or, refl, ap, sym, subst}
 use Rattle.std.proofs.Math.Numerals.{add-one}
+use Rattle.std.proofs.lemmas.List.{take-take}
+use Rattle.std.proofs.lemmas.List.Elements.{All-from_recursion, All-take, recursion_from_All}
 use Rattle.tmpl_values.specs.View.{is_made}
 use Rattle.tmpl_values.specs.declared.value.Cell as held
 use Rattle.tmpl_funcs.specs.Answer.{AreBorrowed}
 use Rattle.tmpl_run.specs.computed.Held.{made_at}
 
 -- none of fewer
-borrowed-fewer : (m n : ℕ) (cs : List held.Cell) → m ≤ n → AreBorrowed (take n cs) → AreBorrowed (take m cs)
-borrowed-fewer zero n cs h p = tt
-borrowed-fewer (suc m) zero cs h p = absurd (omega arith)
-borrowed-fewer (suc m) (suc n) [] h p = tt
-borrowed-fewer (suc m) (suc n) (c ∷ cs) h p = (p.0, borrowed-fewer m n cs (omega arith) p.1)
-
 pub borrowed-popped : (m n : ℕ) (old new : List held.Cell) → m ≤ n → take m new ≡ take m old → AreBorrowed (take n old) → AreBorrowed (take m new)
-borrowed-popped m n old new h left p = subst AreBorrowed (sym left) (borrowed-fewer m n old h p)
+borrowed-popped m n old new h left p =
+    let Plain : held.Cell → Type 0 = λ c. is_made c.val ≡ false in
+    subst AreBorrowed (take-take m n old h ∙ sym left)
+    (recursion_from_All Plain (take m (take n old)) (All-take Plain m (take n old) (All-from_recursion Plain (take n old) p)))
 
 -- nor does one of them
 pub borrowed-at : (n i : ℕ) (cs : List held.Cell) → i < n → AreBorrowed (take n cs) → made_at cs i ≡ false

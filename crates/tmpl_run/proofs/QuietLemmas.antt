@@ -199,16 +199,14 @@ handing-quiet s line (Some p) d go named quiet = with_pipeline-quiet s line p d 
 module _ (s : Setting) (calls : CallsQuietly s.calls) where
   mutual
     step-quiet : (n : NodeKind) (line : ℕ) (d : Value) → node_makes_text n ≡ false → Quiet (stepped s line n d)
-    step-quiet (text bytes) line d named r e = e
     step-quiet (action h) line d named r e = with_pipeline-quiet s line h.pipeline d (shown h.binding) named (λ v. shown-quiet h.binding v) r e
     step-quiet (control_node c h body other) line d named r e =
         let n = neither (pipeline_makes_text h.pipeline) (nodes_make_text body || nodes_make_text other) named in
         let m = neither (nodes_make_text body) (nodes_make_text other) n.1 in
         control-quiet s line c h d (λ v. meanings s body v) (meanings s other d) n.0 (λ v. nodes-quiet body v m.0) (nodes-quiet other d m.1) r e
-    step-quiet break_node line d named r e = e
-    step-quiet continue_node line d named r e = e
     step-quiet (template_node name given) line d named r e =
         value-quiet s line (s.calls name) (handing s line given d) (λ body is. handing-quiet s line given d body named (calls name body is)) r e
+    step-quiet _ line d named r e = e
 
     nodes-quiet : (ns : Nodes) (d : Value) → nodes_make_text ns ≡ false → Quiet (meanings s ns d)
     nodes-quiet tree.none d named r e = e

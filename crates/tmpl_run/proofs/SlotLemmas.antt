@@ -1,7 +1,8 @@
 -- For the law `comes_to_meaning`: the slots of a layout are the variables of the meaning, and a part leaves all other cells equal.
 use Rattle.std.proofs.Common.{arith, ◌≡◌, ◌∙◌, ◌+◌, ◌-◌, ◌≤◌, ℕ, zero, suc, Bool, true, false, List, [], ◌∷◌, length, drop, set, refl, ap, sym, Option, Some}
 use Rattle.std.proofs.Common.{None, drop-drop}
-use Rattle.std.specs.Prelude.{if◌then◌else◌}
+use Rattle.std.specs.Prelude.{if◌then◌else◌, map}
+use Rattle.std.proofs.lemmas.List.{length-map}
 use Rattle.std.specs.Str.{bytes_eq}
 use Rattle.tmpl_values.specs.Value.{Value, nothing}
 use Rattle.tmpl_meaning.specs.Pipeline.{Environment, lookup}
@@ -38,8 +39,7 @@ abbrev pub Frame : Type 0
 Frame = List (Option Cell)
 
 abbrev pub below : List Cell → Frame
-below [] = []
-below (c ∷ cs) = Some c ∷ below cs
+below cs = map (λ c. Some c) cs
 
 abbrev pub frame_of : Layout → List Cell → Frame
 frame_of [] cs = below cs
@@ -125,12 +125,8 @@ module _ (x : List ℕ) (lay : Layout) (cs : List Cell) where
   pub frame-set : (k : ℕ) (v : Value) → slot_named x lay ≡ Some k → length lay ≤ length cs → frame_of lay (set cs k (fresh v)) ≡ frame_of lay cs
   frame-set k v e h = ap (λ o. frame_of lay (by_slot o cs (λ k. set cs k (fresh v)))) (sym e) ∙ (slotted x lay cs v h).others
 
-length-below : (cs : List Cell) → length (below cs) ≡ length cs
-length-below [] = refl
-length-below (c ∷ cs) = ap suc (length-below cs)
-
 pub length-frame : (lay : Layout) (cs : List Cell) → length lay ≤ length cs → length (frame_of lay cs) ≡ length cs
-length-frame [] cs h = length-below cs
+length-frame [] cs h = length-map cs (λ c. Some c)
 length-frame (p ∷ ps) [] h = absurd (omega arith)
 length-frame (None ∷ ps) (c ∷ cs) h = ap suc (length-frame ps cs (omega arith))
 length-frame (Some x ∷ ps) (c ∷ cs) h = ap suc (length-frame ps cs (omega arith))
@@ -193,10 +189,9 @@ frame-all n m gr mid fr a b =
 
 -- what is bound
 pub over-binding : (b : Binding) (lay : Layout) → Over (declared_count b) (bound_on b lay) lay
-over-binding unbound lay = over-none lay
 over-binding (declare x) lay = record { rest = refl; size = omega arith }
-over-binding (assign x) lay = over-none lay
 over-binding (declare_pair k x) lay = record { rest = refl; size = omega arith }
+over-binding _ lay = over-none lay
 
 pub frame-binding : (b : Binding) (fr : Frame) → drop (declared_count b) (bound_in b fr) ≡ fr
 frame-binding unbound fr = refl

@@ -1,7 +1,7 @@
 -- For the law `comes_to_meaning`: the code of a call and of a template comes to what they mean, by induction on the depth of calls.
 use Rattle.std.proofs.lemmas.Bool.Decides.{nat_tests}
 use Rattle.std.proofs.Common.{arith, ◌≡◌, ◌∙◌, ◌+◌, ◌-◌, ◌≤◌, ◌<◌, nat_eq, nat_lt, ℕ, zero, suc, Bool, true, false, List, [], ◌∷◌, length, drop, refl, ap, sym}
-use Rattle.std.proofs.Common.{subst, Option, Some, None, Err, inl, inr}
+use Rattle.std.proofs.Common.{subst, Option, Some, None, inl, inr}
 use Rattle.std.specs.Prelude.{slice_get}
 use Rattle.tmpl_values.specs.Value.{Value, nothing}
 use Rattle.tmpl_grammar.specs.Tree.{Pipeline, Header}
@@ -10,10 +10,9 @@ use Rattle.tmpl_grammar.specs.declared.tree.Control.{Control}
 use Rattle.tmpl_grammar.specs.declared.tree.Control.TheVariants as control
 use Rattle.tmpl_syntax.specs.Tree as tree
 use Rattle.tmpl_syntax.specs.Need.{need}
-use Rattle.tmpl_syntax.specs.Set.{Template, number_of, tree_named}
+use Rattle.tmpl_syntax.specs.Set.{Template, number_of}
 use Rattle.tmpl_syntax.proofs.NamedLemmas.{Named, numbered, unnumbered}
 use Rattle.tmpl_syntax.specs.Tree.{NodeKind, Nodes}
-use Rattle.tmpl_meaning.specs.Fault as fault
 use Rattle.tmpl_meaning.specs.Meaning as meaning
 use Rattle.tmpl_meaning.specs.Meaning.{Calls, End, Next, Ran, Rules, Run, Setting, apart, run_called, calls_within, handing, left_by, meanings, setting_of}
 use Rattle.tmpl_meaning.specs.Meaning.{spend_if, uncalled, with_value, ran_of, ran_with, started, stepped}
@@ -28,18 +27,13 @@ use Rattle.tmpl_run.specs.Machine.{deepened, frame, goes, invoked, paid_if, retu
 use Rattle.tmpl_run.specs.Ends.{Comes, Ends}
 use Rattle.tmpl_run.proofs.CallingLemmas.{entered}
 use Rattle.tmpl_run.proofs.NodeLemmas.{run_at, value-leads, valued, with_left, action-leads, if-leads, inside-grown, length-grown, spent, with-leads}
+use Rattle.tmpl_run.proofs.DepthLemmas.{absent}
 use Rattle.tmpl_run.proofs.NodeLemmas as nodes
 use Rattle.tmpl_run.proofs.WayLemmas.{ahead, ahead-one, Ring, Stands, Way, Who, way_of, who_of, bare, exit_of, seen}
 use Rattle.tmpl_run.proofs.SlotLemmas.{Frame, below, below-same, env_of, frame_of, length-frame, run_of, all_grown, all_grown_in, frame-drop, frame-grown}
 use Rattle.tmpl_run.proofs.SlotLemmas.{grown_in, over-grown, over-none}
 use Rattle.tmpl_run.proofs.WayLemmas as ways
 use Rattle.tmpl_run.proofs.RangeLemmas.{break-leads, continue-leads, range-leads}
-
--- what names call
-calls-none : (rules : Rules) (ts : List Template) (n : ℕ) (name : List ℕ) → tree_named name ts ≡ None
-    → calls_within rules ts n name ≡ Err (fault.no_template name)
-calls-none rules ts zero name e = ap (uncalled rules name) e
-calls-none rules ts (suc n) name e = ap (run_called rules (calls_within rules ts n) name) e
 
 -- the code of each template lies where it starts
 pub record Started (all : List Template) (t : Template) (places : List ℕ) (code : Code) (k : ℕ) : Type 0 where
@@ -214,7 +208,7 @@ module _ (way : Way) (first : 1 ≤ way.who.depth) (linked : Starts way.plan.tem
             ways.spends way (calls_of n) A g lay line start s (meaning.calling (set_of n) line name given s.dot) st.runs (st.at ∙ l) k
             (λ at k. ways.takes way (ways.step_taken line s) (code.act (code.refuse (code.no_template name))) rest st.runs (at ∙ at-node) tt
             (subst (λ c. ways.After way A g (with_value (set_of n) line c (handing (set_of n) line given s.dot) (run_of lay (ways.step_taken line s))))
-            (calls-none way.plan.rules way.plan.templates n name (unnumbered name way.plan.templates e)) k))
+            (absent way.plan.rules way.plan.templates n name (unnumbered name way.plan.templates e)) k))
         by (Some number) e l at-node =
             ways.takes way s (code.deepen line) start st.runs (st.at ∙ l) tt (pays (nat_eq s.left 0) refl k)
           where

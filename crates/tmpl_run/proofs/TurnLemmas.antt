@@ -1,7 +1,9 @@
 -- For the functions that carry out an instruction: what it does, by what is found on the stack.
 use Rattle.std.proofs.lemmas.Bool.Decides.{nat_tests}
-use Rattle.std.proofs.Common.{arith, ◌≡◌, ◌≢◌, ◌∙◌, ◌+◌, ◌-◌, ◌≤◌, ◌<◌, nat_eq, ℕ, zero, suc, Bool, true, false, List, [], ◌∷◌, length, drop, refl, ap, sym}
-use Rattle.std.proofs.Common.{Option, Some, None}
+use Rattle.std.proofs.Common.{arith, ◌≡◌, ◌≢◌, ◌∙◌, ◌+◌, ◌-◌, ◌≤◌, ◌<◌, nat_eq, ℕ, suc, Bool, true, false, List, [], ◌∷◌, length, drop, refl, ap, sym}
+use Rattle.std.proofs.Common.{Option, Some, None, drop-cons, drop-drop, get_or}
+use Rattle.std.proofs.lemmas.List.{drop_all}
+use Rattle.std.proofs.lemmas.Option.{get_or_from_slice_get, slice_get_within}
 use Rattle.std.specs.Prelude.{option_map, slice_get, slice_set}
 use Rattle.tmpl_values.specs.Value.{nothing}
 use Rattle.tmpl_values.specs.Elements.{Element, element_at, elements, item_at}
@@ -67,9 +69,7 @@ pub ruleset opens = (enter-not, enter-none, enter-other, enter-spent, enter-some
 
 -- the elements from a place on
 got : (es : List Element) (i : ℕ) (e : Element) → slice_get es i ≡ Some e → drop i es ≡ e ∷ drop (suc i) es
-got [] i e h = cc
-got (x ∷ es) zero e h = let same : x ≡ e = cc in ap (λ y. y ∷ es) same
-got (x ∷ es) (suc i) e h = got es i e h
+got es i e h = drop-cons es i e (slice_get_within es i e h) ∙ ap (λ x. x ∷ drop (suc i) es) (get_or_from_slice_get es i e e h)
 
 left-at : (v : Cell) (e : Element) → Some e ≡ item_at v.num v.val → left_in v ≡ e ∷ drop (suc v.num) (elements_in (elements v.val))
 left-at v e h = by (elements v.val) h
@@ -88,25 +88,17 @@ pub ruleset turns = turn-is
 
 -- behind a turn
 more-left : (v : Cell) → has_more v ≡ true → (e : Element) × (es : List Element) × (drop 1 (left_in v) ≡ e ∷ es)
-more-left v h = by (elements_in (elements v.val)) v.num (grind (arith, nat_tests))
-  where
-    by : (es : List Element) (i : ℕ) → i < length es - 1 → (e : Element) × (more : List Element) × (drop 1 (drop i es) ≡ e ∷ more)
-    by [] i h = absurd (omega arith)
-    by (x ∷ []) i h = absurd (omega arith)
-    by (x ∷ y ∷ es) zero h = (y, es, refl)
-    by (x ∷ y ∷ es) (suc i) h = by (y ∷ es) i (omega arith)
+more-left v h =
+    let es = elements_in (elements v.val) in
+    let inside : v.num + 1 < length es = (let less : v.num < length es - 1 = grind (arith, nat_tests) in omega arith) in
+    let none : Element = (nothing, nothing) in
+    (get_or es (v.num + 1) none, drop (suc (v.num + 1)) es, drop-drop 1 v.num es ∙ drop-cons es (v.num + 1) none inside)
 
 pub none-left : (v : Cell) → has_more v ≡ false → drop 1 (left_in v) ≡ []
-none-left v h = by (elements_in (elements v.val)) v.num (grind (arith, nat_tests))
-  where
-    by : (es : List Element) (i : ℕ) → length es - 1 ≤ i → drop 1 (drop i es) ≡ []
-    by [] zero h = refl
-    by [] (suc i) h = refl
-    by (x ∷ []) zero h = refl
-    by (x ∷ []) (suc zero) h = refl
-    by (x ∷ []) (suc (suc i)) h = refl
-    by (x ∷ y ∷ es) zero h = absurd (omega arith)
-    by (x ∷ y ∷ es) (suc i) h = by (y ∷ es) i (omega arith)
+none-left v h =
+    let es = elements_in (elements v.val) in
+    let past : length es ≤ v.num + 1 = (let last : length es - 1 ≤ v.num = grind (arith, nat_tests) in omega arith) in
+    drop-drop 1 v.num es ∙ drop_all (v.num + 1) es past
 
 -- the second cell counts something else
 recounted : (cs : List Cell) (k : ℕ) → 2 ≤ length cs → slice_set cs 1 (cell (slot 1 cs) k) ≡ slot_cell 0 cs ∷ cell (slot_cell 1 cs).val k ∷ drop 2 cs

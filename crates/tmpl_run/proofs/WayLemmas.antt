@@ -27,18 +27,10 @@ here (j ∷ code) is (suc pc) i e = here code is pc i e
 
 -- behind the next instruction and so many more
 pub ahead : (code is : Code) (pc k : ℕ) (i : Instruction) → drop pc code ≡ i ∷ is → drop (pc + 1 + k) code ≡ drop k is
-ahead [] is zero k i e = cc
-ahead [] is (suc pc) k i e = cc
-ahead (j ∷ code) is zero k i e =
-    let one : 0 + 1 + k ≡ suc k = omega arith in
-    let same : code ≡ is = cc in
-    ap (λ n. drop n (j ∷ code)) one ∙ ap (drop k) same
-ahead (j ∷ code) is (suc pc) k i e =
-    let one : suc pc + 1 + k ≡ suc (pc + 1 + k) = omega arith in
-    ap (λ n. drop n (j ∷ code)) one ∙ ahead code is pc k i e
+ahead code is pc k i e = sym (drop-drop k (pc + 1) code) ∙ ap (drop k) (sym (drop-drop 1 pc code) ∙ ap (drop 1) e)
 
 pub ahead-one : (prog is : Code) (pc : ℕ) (i : Instruction) → drop pc prog ≡ i ∷ is → drop (pc + 1) prog ≡ is
-ahead-one prog is pc i e = let same : pc + 1 ≡ pc + 1 + 0 = omega arith in ap (λ n. drop n prog) same ∙ ahead prog is pc 0 i e
+ahead-one prog is pc i e = sym (drop-drop 1 pc prog) ∙ ap (drop 1) e
 
 -- the run as it is seen
 abbrev pub seen : Run → Option Fault → Ran

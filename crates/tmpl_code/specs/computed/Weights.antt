@@ -1,10 +1,30 @@
--- Weights of templates, by which one look at each call says how many cells are enough for all chains of calls.
-use Rattle.std.specs.Prelude.{◌≡◌, ℕ, ◌+◌, ◌*◌, ◌≤◌, max, List, get_or, Option, Some, None, slice_get}
+-- Whether templates call others, and their weights, by which one look at each call says how many cells are enough for
+-- all chains of calls.
+use Rattle.std.specs.Prelude.{◌≡◌, ℕ, ◌+◌, ◌*◌, ◌≤◌, ◌||◌, Bool, true, false, max, List, [], ◌∷◌, get_or, Option}
+use Rattle.std.specs.Prelude.{Some, None, slice_get}
 use Rattle.tmpl_syntax.specs.Need.{need}
 use Rattle.tmpl_syntax.specs.Set.{Template, number_of}
 use Rattle.tmpl_syntax.specs.Tree as tree
 use Rattle.tmpl_syntax.specs.Tree.{NodeKind, control_node, template_node, Nodes}
 use Rattle.tmpl_code.specs.Room.{Suffices}
+
+-- whether there is a call
+abbrev mutual
+  pub node_calls : NodeKind → Bool
+  node_calls (control_node c h body other) = nodes_call body || nodes_call other
+  node_calls (template_node name given) = true
+  node_calls n = false
+
+  pub nodes_call : Nodes → Bool
+  nodes_call tree.none = false
+  nodes_call (tree.then line n ns) = node_calls n || nodes_call ns
+
+-- whether some template does
+abbrev pub set_calls : List Template → Bool
+set_calls [] = false
+set_calls (t ∷ ts) = nodes_call t.1.nodes || set_calls ts
+
+-- ---- weights
 
 abbrev pub weight_found : List ℕ → Option ℕ → ℕ
 weight_found weights None = 0

@@ -5,7 +5,7 @@ use Rattle.tmpl_syntax.specs.Need.{need, need_of_nodes}
 use Rattle.tmpl_syntax.specs.Set.{Template}
 use Rattle.tmpl_syntax.specs.Tree.{Nodes}
 use Rattle.tmpl_syntax.specs.View.{nodes_in, set_view, tree_of}
-use Rattle.tmpl_code.specs.Calls.{nodes_call, set_calls}
+use Rattle.tmpl_code.specs.computed.Weights.{nodes_call, set_calls}
 use Rattle.tmpl_code.specs.Code.{Code, Starts, TreeAt}
 use Rattle.tmpl_code.specs.MakesText.{nodes_make_text, set_makes_text}
 use Rattle.tmpl_code.specs.Room.{largest_need}

@@ -1,7 +1,7 @@
 use Rattle.std.proofs.Common.{◌≡◌, ◌≤◌, drop, length, map, reverse}
 use Rattle.tmpl_syntax.specs.Need.{most_need, need}
 use Rattle.tmpl_syntax.specs.View.{set_view}
-use Rattle.tmpl_code.specs.Calls.{set_calls}
+use Rattle.tmpl_code.specs.computed.Weights.{set_calls}
 use Rattle.tmpl_code.specs.MakesText.{set_makes_text}
 use Rattle.tmpl_code.specs.Room.{largest_need}
 use Rattle.tmpl_code.specs.computed.Held.{LastStarts, code_of}

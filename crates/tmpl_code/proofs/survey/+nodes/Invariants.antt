@@ -1,7 +1,7 @@
 use Rattle.std.proofs.Common.{◌≡◌, ◌≤◌, ◌+◌, ◌*◌, drop, length}
 use Rattle.tmpl_syntax.specs.Need.{need_of_nodes}
 use Rattle.tmpl_syntax.specs.View.{control_of, node_of, nodes_in}
-use Rattle.tmpl_code.specs.Calls.{nodes_call}
+use Rattle.tmpl_code.specs.computed.Weights.{nodes_call}
 use Rattle.tmpl_code.specs.MakesText.{nodes_make_text}
 use Rattle.tmpl_code.proofs.NodeLemmas.{node_weight, nodes_weight}
 use Rattle.tmpl_code.proofs.survey.+nodes.Given as goal

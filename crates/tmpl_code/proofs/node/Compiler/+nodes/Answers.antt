@@ -3,9 +3,8 @@ use Rattle.tmpl_grammar.specs.View.{binding_of, header_of}
 use Rattle.tmpl_syntax.specs.View.{nodes_in, set_view}
 use Rattle.tmpl_code.specs.computed.Held.{code_of, layout_of}
 use Rattle.tmpl_code.proofs.NodeLemmas.{item-weight}
-use Rattle.tmpl_code.proofs.NodeTailLemmas as tail
-use Rattle.tmpl_code.proofs.NodeTailLemmas.{dotted_part, end_ends, ended_part, nodes_part, on_ok, open_on, turns_part}
-use Rattle.tmpl_code.proofs.TailLemmas.{ends_one, longer}
+use Rattle.tmpl_code.proofs.TailLemmas as tail
+use Rattle.tmpl_code.proofs.TailLemmas.{dotted_part, end_ends, ended_part, nodes_part, on_ok, open_on, turns_part, ends_one, longer}
 use Rattle.tmpl_code.proofs.node.Compiler.+nodes.Goals as goal
 
 pub put_nodes-put_node-requires : goal.put_nodes-put_node-requires

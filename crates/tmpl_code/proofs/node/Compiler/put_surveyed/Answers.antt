@@ -1,12 +1,12 @@
 use Rattle.std.proofs.Common.{◌∙◌, ◌+◌, ◌-◌, ◌∷◌, ◌||◌, max, refl, ap, arith}
 use Rattle.tmpl_syntax.specs.Need.{need_of_nodes}
 use Rattle.tmpl_syntax.specs.View.{nodes_in}
-use Rattle.tmpl_code.specs.Calls.{nodes_call}
+use Rattle.tmpl_code.specs.computed.Weights.{nodes_call}
 use Rattle.tmpl_code.specs.MakesText.{nodes_make_text}
 use Rattle.tmpl_code.specs.computed.Held.{code_of}
 use Rattle.tmpl_code.proofs.BackwardLemmas.{at-first}
 use Rattle.tmpl_code.proofs.NodeLemmas.{nodes_from}
-use Rattle.tmpl_code.proofs.NodeTailLemmas as tail
+use Rattle.tmpl_code.proofs.TailLemmas as tail
 use Rattle.tmpl_code.proofs.node.Compiler.put_surveyed.Goals as goal
 
 pub put_node-requires : goal.put_node-requires

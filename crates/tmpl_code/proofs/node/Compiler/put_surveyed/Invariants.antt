@@ -1,9 +1,9 @@
 use Rattle.std.proofs.Common.{◌≡◌, drop}
 use Rattle.tmpl_syntax.specs.Need.{need_of_nodes}
 use Rattle.tmpl_syntax.specs.View.{nodes_in, set_view}
-use Rattle.tmpl_code.specs.Calls.{nodes_call}
+use Rattle.tmpl_code.specs.computed.Weights.{nodes_call}
 use Rattle.tmpl_code.specs.MakesText.{nodes_make_text}
-use Rattle.tmpl_code.proofs.NodeTailLemmas.{Putting}
+use Rattle.tmpl_code.proofs.TailLemmas.{Putting}
 use Rattle.tmpl_code.proofs.node.Compiler.put_surveyed.Given as goal
 
 abbrev pub decreases-loop-i : goal.decreases-loop-i
