@@ -6,9 +6,8 @@ use Rattle.tmpl_lex.specs.declared.piece.Token as declared
 use Rattle.tmpl_lex.specs.Piece.{Token}
 use Rattle.tmpl_lex.specs.View.{token_of}
 use Rattle.tmpl_lex.specs.computed.Trim.{End, ended_by, has_right_delimiter, right_marked, right_delimiter}
-use Rattle.tmpl_lex.specs.computed.Token.{front_token}
+use Rattle.tmpl_lex.specs.computed.Token.{Begun, begun, front_token, token_from}
 use Rattle.tmpl_lex.specs.computed.Action.{Inside, inside, inside_after, inside_from, with_token}
-use Rattle.tmpl_lex.proofs.TokenLemmas.{token-front, front-length}
 
 -- more tokens before what is inside further on
 abbrev pub behind : List Token → Option Inside → Option Inside
@@ -20,15 +19,14 @@ inside_after-drop zero bs = refl
 inside_after-drop (suc n) [] = refl
 inside_after-drop (suc n) (b ∷ bs) = inside_after-drop n bs
 
--- a token has at least one byte, and no more than there are
-pub record IsWithin (bs : List ℕ) (t : Token) : Type 0 where
-  pub some : 0 < length t.bytes
-  pub most : length t.bytes ≤ length bs
+-- a token has at least one byte
+token_from-some : (b : ℕ) (o : Option Begun) (t : Token) → Some t ≡ token_from b o → 0 < length t.bytes
+token_from-some b None t e = cc
+token_from-some b (Some p) t e = let same : t ≡ record { kind = p.0; bytes = b ∷ p.1 } = cc in omega (arith, ap (λ (u : Token). length u.bytes) same)
 
-pub IsWithin-front_token : (bs : List ℕ) (t : Token) → Some t ≡ front_token bs → IsWithin bs t
-IsWithin-front_token bs t e =
-    let h = token-front bs t (sym e) in
-    record { some = h.some; most = front-length t.bytes bs h.front }
+pub front_token-some : (bs : List ℕ) (t : Token) → Some t ≡ front_token bs → 0 < length t.bytes
+front_token-some [] t e = cc
+front_token-some (b ∷ bs) t e = token_from-some b (begun b bs) t e
 
 -- ---- where it ends
 
@@ -69,7 +67,7 @@ inside-token (b ∷ bs) t e f =
     ap (λ o. inside_from o (front_token (b ∷ bs)) (λ t. inside_after (length t.bytes - 1) bs)) (sym e)
     ∙ ap (λ o. inside_from None o (λ t. inside_after (length t.bytes - 1) bs)) (sym f)
     ∙ ap (with_token t) (inside_after-drop (length t.bytes - 1) bs ∙ ap (inside_after 0)
-    (drop-sub_one (length t.bytes) b bs (IsWithin-front_token (b ∷ bs) t f).some))
+    (drop-sub_one (length t.bytes) b bs (front_token-some (b ∷ bs) t f)))
 
 -- ---- token by token
 
@@ -137,4 +135,4 @@ pub inside-shorter : (bs : List ℕ) (i : Inside) → inside bs ≡ Some i → l
 unfolding inside
 inside-shorter bs i e = inside_after-shorter 0 bs i e
 
-pub ruleset reading = (IsWithin-front_token, IsReadTo-start, IsReadTo-more, inside-read, inside-unread)
+pub ruleset reading = (IsReadTo-start, IsReadTo-more, inside-read, inside-unread)

@@ -17,7 +17,7 @@ use Rattle.tmpl_lex.specs.computed.Bytes.{split_pair}
 use Rattle.tmpl_lex.specs.computed.Cut.{pieces_of, ends_at}
 use Rattle.tmpl_lex.specs.computed.Token.{front_token}
 use Rattle.tmpl_lex.specs.computed.Trim.{End, right_delimiter}
-use Rattle.tmpl_lex.proofs.ActionLemmas.{drop-sub_one, inside-closed, inside-token, IsWithin-front_token}
+use Rattle.tmpl_lex.proofs.ActionLemmas.{drop-sub_one, inside-closed, inside-token, front_token-some}
 use Rattle.tmpl_lex.proofs.PartLemmas.{same-pair, absent-split, split-is}
 use Rattle.tmpl_lex.proofs.StandLemmas.{found-ends, closes-found, found, stands}
 
@@ -59,7 +59,7 @@ inside_after-reads zero (b ∷ bs) i e =
     add t on at None ih h = cc
     add t on at (Some j) ih h =
         let same : ◌≡◌ {A = Inside} (t ∷ j.0, j.1) i = cc in
-        let left = drop-sub_one (length t.bytes) b bs (IsWithin-front_token (b ∷ bs) t (sym at)).some in
+        let left = drop-sub_one (length t.bytes) b bs (front_token-some (b ∷ bs) t (sym at)) in
         subst (λ (k : Inside). Reads (b ∷ bs) k.0 k.1) same
         (reads-token (b ∷ bs) t j.0 j.1 on at (subst (λ (xs : List ℕ). Reads xs j.0 j.1) left (ih j refl)))
 
