@@ -1,5 +1,5 @@
 -- For `read_inside`: what an action has inside, from token to token.
-use Rattle.std.proofs.Common.{arith, ◌≡◌, ℕ, zero, suc, ◌-◌, ◌<◌, ◌≤◌, Bool, true, false, List, [], ◌∷◌, ◌++◌, Option}
+use Rattle.std.proofs.Common.{arith, ◌≡◌, ℕ, zero, suc, ◌-◌, ◌<◌, Bool, true, false, List, [], ◌∷◌, ◌++◌, Option}
 use Rattle.std.proofs.Common.{Some, None, refl, sym, ap, ◌∙◌, length, drop, append_assoc, append-nil, length-drop, map}
 use Rattle.std.proofs.lemmas.List.{map-append}
 use Rattle.tmpl_lex.specs.declared.piece.Token as declared

@@ -1,18 +1,10 @@
 -- For `front_token`: the token at the front is made of the first bytes.
-use Rattle.std.proofs.Common.{arith, ◌≡◌, ◌∙◌, ℕ, suc, ◌+◌, ◌-◌, ◌<◌, ◌≤◌, Bool, true, false, not, ◌&&◌, nat_eq, List}
-use Rattle.std.proofs.Common.{◌||◌, if◌then◌else◌, [], ◌∷◌, Option, Some, None, refl, sym, ap, subst, length, take, drop, get_or}
-use Rattle.std.proofs.Common.{length-append, length-drop}
-use Rattle.std.specs.List.{prefix_len}
-use Rattle.std.specs.Char.{is_ascii_digit}
-use Rattle.std.proofs.lemmas.Bool.{eqb-true}
+use Rattle.std.proofs.Common.{arith, ◌≡◌, ◌∙◌, ℕ, suc, ◌+◌, ◌-◌, ◌≤◌, List}
+use Rattle.std.proofs.Common.{[], ◌∷◌, Some, ap, subst, length, take, drop, get_or}
+use Rattle.std.proofs.Common.{length-drop}
 use Rattle.std.proofs.lemmas.List.{take_all}
 use Rattle.tmpl_lex.specs.declared.piece.TokenKind.{TokenKind}
-use Rattle.tmpl_lex.specs.declared.piece.TokenKind.TheVariants as kind
-use Rattle.tmpl_lex.specs.Bytes.{is_space, is_name_byte, is_number_byte}
-use Rattle.tmpl_lex.specs.Piece.{Token}
-use Rattle.tmpl_lex.specs.computed.Quoted.{up_to, unless, through, quoted}
-use Rattle.tmpl_lex.specs.computed.Token.{Begun, front_token, marked, begun, token_from, number, signed, dotted, declare, assigned, of_kind}
-use Rattle.tmpl_lex.proofs.RunLemmas.{IsFront, front-nil, front-cons, front-take, space_run-front}
+use Rattle.tmpl_lex.specs.computed.Token.{front_token, begun, token_from}
 
 -- all but the first byte, as code borrows them
 pub take-rest : (bs : List ℕ) → take (length bs - 1) (drop 1 bs) ≡ drop 1 bs
