@@ -1,11 +1,11 @@
 -- For `read_inside`: what an action has inside, from token to token.
-use Rattle.std.proofs.Common.{arith, ◌≡◌, ℕ, zero, suc, ◌-◌, ◌<◌, Bool, true, false, List, [], ◌∷◌, ◌++◌, Option}
-use Rattle.std.proofs.Common.{Some, None, refl, sym, ap, ◌∙◌, length, drop, append_assoc, append-nil, length-drop, map}
+use Rattle.std.proofs.Common.{arith, ◌≡◌, ℕ, zero, suc, ◌-◌, ◌<◌, List, [], ◌∷◌, ◌++◌, Option}
+use Rattle.std.proofs.Common.{Some, None, refl, sym, ap, ◌∙◌, length, drop, append_assoc, append-nil, map}
 use Rattle.std.proofs.lemmas.List.{map-append}
 use Rattle.tmpl_lex.specs.declared.piece.Token as declared
 use Rattle.tmpl_lex.specs.Piece.{Token}
 use Rattle.tmpl_lex.specs.View.{token_of}
-use Rattle.tmpl_lex.specs.computed.Trim.{End, ended_by, has_right_delimiter, right_marked, right_delimiter}
+use Rattle.tmpl_lex.specs.computed.Trim.{End, right_delimiter}
 use Rattle.tmpl_lex.specs.computed.Token.{Begun, begun, front_token, token_from}
 use Rattle.tmpl_lex.specs.computed.Action.{Inside, inside, inside_after, inside_from, with_token}
 
@@ -29,19 +29,6 @@ front_token-some [] t e = cc
 front_token-some (b ∷ bs) t e = token_from-some b (begun b bs) t e
 
 -- ---- where it ends
-
-pub right_delimiter-shorter : (bs : List ℕ) (e : End) → right_delimiter bs ≡ Some e → length e.rest < length bs
-right_delimiter-shorter [] e h = cc
-right_delimiter-shorter (b ∷ bs) e h = go (has_right_delimiter (b ∷ bs)) (right_marked (b ∷ bs)) h
-  where
-    go : (c r : Bool) → ended_by c r (b ∷ bs) ≡ Some e → length e.rest < length (b ∷ bs)
-    go true r h =
-        let same : record { trims = false; rest = drop 2 (b ∷ bs) } ≡ e = cc in
-        omega (arith, length-drop 2 (b ∷ bs), ap (λ (i : End). length i.rest) same)
-    go false true h =
-        let same : record { trims = true; rest = drop 4 (b ∷ bs) } ≡ e = cc in
-        omega (arith, length-drop 4 (b ∷ bs), ap (λ (i : End). length i.rest) same)
-    go false false h = cc
 
 pub inside-closed : (bs : List ℕ) (e : End) → Some e ≡ right_delimiter bs → inside bs ≡ Some ([], e)
 unfolding inside
@@ -107,32 +94,5 @@ inside-read all bs ts e so_far h =
 -- no token begins
 pub inside-unread : (all bs : List ℕ) (ts : List Token) → IsReadTo all ts bs → None ≡ right_delimiter bs → None ≡ front_token bs → None ≡ inside all
 inside-unread all bs ts so_far e f = sym (so_far.same ∙ ap (behind ts) (inside-none bs e f))
-
-inside_after-shorter : (n : ℕ) (bs : List ℕ) (i : Inside) → inside_after n bs ≡ Some i → length i.1.rest < length bs
-inside_after-shorter n [] i e = cc
-inside_after-shorter (suc n) (b ∷ bs) i e = omega (arith, inside_after-shorter n bs i e)
-inside_after-shorter zero (b ∷ bs) i e =
-    go (λ t j f. inside_after-shorter (length t.bytes - 1) bs j f) (right_delimiter (b ∷ bs)) refl (front_token (b ∷ bs)) e
-  where
-    add : (t : Token) (o : Option Inside) → ((j : Inside) → o ≡ Some j → length j.1.rest < length bs) → with_token t o ≡ Some i
-        → length i.1.rest < length (b ∷ bs)
-    add t None ih h = cc
-    add t (Some j) ih h =
-        let same : ◌≡◌ {A = Inside} (t ∷ j.0, j.1) i = cc in
-        omega (arith, ih j refl, ap (λ (k : Inside). length k.1.rest) same)
-
-    go : ((t : Token) (j : Inside) → inside_after (length t.bytes - 1) bs ≡ Some j → length j.1.rest < length bs) → (c : Option End)
-        → right_delimiter (b ∷ bs) ≡ c → (o : Option Token) → inside_from c o (λ t. inside_after (length t.bytes - 1) bs) ≡ Some i
-        → length i.1.rest < length (b ∷ bs)
-    go ih (Some end) at o h =
-        let same : ◌≡◌ {A = Inside} ([], end) i = cc in
-        omega (arith, right_delimiter-shorter (b ∷ bs) end at, ap (λ (k : Inside). length k.1.rest) same)
-    go ih None at None h = cc
-    go ih None at (Some t) h = add t (inside_after (length t.bytes - 1) bs) (ih t) h
-
--- what stands behind an action is shorter than what stands behind its `{{`
-pub inside-shorter : (bs : List ℕ) (i : Inside) → inside bs ≡ Some i → length i.1.rest < length bs
-unfolding inside
-inside-shorter bs i e = inside_after-shorter 0 bs i e
 
 pub ruleset reading = (IsReadTo-start, IsReadTo-more, inside-read, inside-unread)
