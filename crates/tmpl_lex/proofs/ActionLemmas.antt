@@ -1,14 +1,13 @@
 -- For `read_inside`: what an action has inside, from token to token.
-use Rattle.std.proofs.Common.{arith, ◌≡◌, ℕ, zero, suc, ◌-◌, ◌<◌, ◌≤◌, Bool, true, false, List, [], ◌∷◌, ◌++◌, Option}
-use Rattle.std.proofs.Common.{Some, None, refl, sym, ap, ◌∙◌, length, drop, append_assoc, append-nil, length-drop, map}
+use Rattle.std.proofs.Common.{arith, ◌≡◌, ℕ, zero, suc, ◌-◌, ◌<◌, List, [], ◌∷◌, ◌++◌, Option}
+use Rattle.std.proofs.Common.{Some, None, refl, sym, ap, ◌∙◌, length, drop, append_assoc, append-nil, map}
 use Rattle.std.proofs.lemmas.List.{map-append}
 use Rattle.tmpl_lex.specs.declared.piece.Token as declared
 use Rattle.tmpl_lex.specs.Piece.{Token}
 use Rattle.tmpl_lex.specs.View.{token_of}
-use Rattle.tmpl_lex.specs.computed.Trim.{End, ended_by, has_right_delimiter, right_marked, right_delimiter}
-use Rattle.tmpl_lex.specs.computed.Token.{front_token}
+use Rattle.tmpl_lex.specs.computed.Trim.{End, right_delimiter}
+use Rattle.tmpl_lex.specs.computed.Token.{Begun, begun, front_token, token_from}
 use Rattle.tmpl_lex.specs.computed.Action.{Inside, inside, inside_after, inside_from, with_token}
-use Rattle.tmpl_lex.proofs.TokenLemmas.{token-front, front-length}
 
 -- more tokens before what is inside further on
 abbrev pub behind : List Token → Option Inside → Option Inside
@@ -20,30 +19,16 @@ inside_after-drop zero bs = refl
 inside_after-drop (suc n) [] = refl
 inside_after-drop (suc n) (b ∷ bs) = inside_after-drop n bs
 
--- a token has at least one byte, and no more than there are
-pub record IsWithin (bs : List ℕ) (t : Token) : Type 0 where
-  pub some : 0 < length t.bytes
-  pub most : length t.bytes ≤ length bs
+-- a token has at least one byte
+token_from-some : (b : ℕ) (o : Option Begun) (t : Token) → Some t ≡ token_from b o → 0 < length t.bytes
+token_from-some b None t e = cc
+token_from-some b (Some p) t e = let same : t ≡ record { kind = p.0; bytes = b ∷ p.1 } = cc in omega (arith, ap (λ (u : Token). length u.bytes) same)
 
-pub IsWithin-front_token : (bs : List ℕ) (t : Token) → Some t ≡ front_token bs → IsWithin bs t
-IsWithin-front_token bs t e =
-    let h = token-front bs t (sym e) in
-    record { some = h.some; most = front-length t.bytes bs h.front }
+pub front_token-some : (bs : List ℕ) (t : Token) → Some t ≡ front_token bs → 0 < length t.bytes
+front_token-some [] t e = cc
+front_token-some (b ∷ bs) t e = token_from-some b (begun b bs) t e
 
 -- ---- where it ends
-
-pub right_delimiter-shorter : (bs : List ℕ) (e : End) → right_delimiter bs ≡ Some e → length e.rest < length bs
-right_delimiter-shorter [] e h = cc
-right_delimiter-shorter (b ∷ bs) e h = go (has_right_delimiter (b ∷ bs)) (right_marked (b ∷ bs)) h
-  where
-    go : (c r : Bool) → ended_by c r (b ∷ bs) ≡ Some e → length e.rest < length (b ∷ bs)
-    go true r h =
-        let same : record { trims = false; rest = drop 2 (b ∷ bs) } ≡ e = cc in
-        omega (arith, length-drop 2 (b ∷ bs), ap (λ (i : End). length i.rest) same)
-    go false true h =
-        let same : record { trims = true; rest = drop 4 (b ∷ bs) } ≡ e = cc in
-        omega (arith, length-drop 4 (b ∷ bs), ap (λ (i : End). length i.rest) same)
-    go false false h = cc
 
 pub inside-closed : (bs : List ℕ) (e : End) → Some e ≡ right_delimiter bs → inside bs ≡ Some ([], e)
 unfolding inside
@@ -69,7 +54,7 @@ inside-token (b ∷ bs) t e f =
     ap (λ o. inside_from o (front_token (b ∷ bs)) (λ t. inside_after (length t.bytes - 1) bs)) (sym e)
     ∙ ap (λ o. inside_from None o (λ t. inside_after (length t.bytes - 1) bs)) (sym f)
     ∙ ap (with_token t) (inside_after-drop (length t.bytes - 1) bs ∙ ap (inside_after 0)
-    (drop-sub_one (length t.bytes) b bs (IsWithin-front_token (b ∷ bs) t f).some))
+    (drop-sub_one (length t.bytes) b bs (front_token-some (b ∷ bs) t f)))
 
 -- ---- token by token
 
@@ -110,31 +95,4 @@ inside-read all bs ts e so_far h =
 pub inside-unread : (all bs : List ℕ) (ts : List Token) → IsReadTo all ts bs → None ≡ right_delimiter bs → None ≡ front_token bs → None ≡ inside all
 inside-unread all bs ts so_far e f = sym (so_far.same ∙ ap (behind ts) (inside-none bs e f))
 
-inside_after-shorter : (n : ℕ) (bs : List ℕ) (i : Inside) → inside_after n bs ≡ Some i → length i.1.rest < length bs
-inside_after-shorter n [] i e = cc
-inside_after-shorter (suc n) (b ∷ bs) i e = omega (arith, inside_after-shorter n bs i e)
-inside_after-shorter zero (b ∷ bs) i e =
-    go (λ t j f. inside_after-shorter (length t.bytes - 1) bs j f) (right_delimiter (b ∷ bs)) refl (front_token (b ∷ bs)) e
-  where
-    add : (t : Token) (o : Option Inside) → ((j : Inside) → o ≡ Some j → length j.1.rest < length bs) → with_token t o ≡ Some i
-        → length i.1.rest < length (b ∷ bs)
-    add t None ih h = cc
-    add t (Some j) ih h =
-        let same : ◌≡◌ {A = Inside} (t ∷ j.0, j.1) i = cc in
-        omega (arith, ih j refl, ap (λ (k : Inside). length k.1.rest) same)
-
-    go : ((t : Token) (j : Inside) → inside_after (length t.bytes - 1) bs ≡ Some j → length j.1.rest < length bs) → (c : Option End)
-        → right_delimiter (b ∷ bs) ≡ c → (o : Option Token) → inside_from c o (λ t. inside_after (length t.bytes - 1) bs) ≡ Some i
-        → length i.1.rest < length (b ∷ bs)
-    go ih (Some end) at o h =
-        let same : ◌≡◌ {A = Inside} ([], end) i = cc in
-        omega (arith, right_delimiter-shorter (b ∷ bs) end at, ap (λ (k : Inside). length k.1.rest) same)
-    go ih None at None h = cc
-    go ih None at (Some t) h = add t (inside_after (length t.bytes - 1) bs) (ih t) h
-
--- what stands behind an action is shorter than what stands behind its `{{`
-pub inside-shorter : (bs : List ℕ) (i : Inside) → inside bs ≡ Some i → length i.1.rest < length bs
-unfolding inside
-inside-shorter bs i e = inside_after-shorter 0 bs i e
-
-pub ruleset reading = (IsWithin-front_token, IsReadTo-start, IsReadTo-more, inside-read, inside-unread)
+pub ruleset reading = (IsReadTo-start, IsReadTo-more, inside-read, inside-unread)

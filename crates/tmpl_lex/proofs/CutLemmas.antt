@@ -1,7 +1,7 @@
 -- For `cut` and the law `one_cut`: the pieces of a whole file, from action to action.
 use Rattle.std.proofs.Common.{arith, ◌≡◌, ℕ, zero, suc, ◌+◌, ◌-◌, ◌<◌, ◌≤◌, Bool, true, false, ◌&&◌, List, [], ◌∷◌}
 use Rattle.std.proofs.Common.{◌++◌, Option, Some, None, refl, sym, ap, subst, ◌∙◌, length, take, drop, cond}
-use Rattle.std.proofs.Common.{append_assoc, length-take, length-drop, length-append, nat_eq}
+use Rattle.std.proofs.Common.{append_assoc, length-take, length-append, nat_eq}
 use Rattle.std.proofs.lemmas.Bool.{eqb-true, and_parts, both_ways, false_from_ne_true}
 use Rattle.std.proofs.lemmas.List.{take_all}
 use Rattle.std.proofs.lemmas.List.Sums.{count_by-le-length, sum_by-append, sum_by-cons}
@@ -11,58 +11,14 @@ use Rattle.tmpl_lex.specs.Cut.{Leads, Cuts, last, closed, unclosed}
 use Rattle.tmpl_lex.specs.Delimiter.{IsLeftMarker, left_marker, Opens, opens, opens_marked}
 use Rattle.tmpl_lex.specs.Piece.{Piece, action, unreadable}
 use Rattle.tmpl_lex.specs.Text.{text_piece, newlines}
-use Rattle.tmpl_lex.specs.computed.Action.{inside, Inside, Opened, comment, tokens, neither, opened, opened_by, comment_end, comment_closed, opens_comment}
-use Rattle.tmpl_lex.specs.computed.Bytes.{split_pair}
+use Rattle.tmpl_lex.specs.computed.Action.{Opened, comment, tokens, neither, opened}
 use Rattle.tmpl_lex.specs.computed.Cut.{stretch, split_open, pieces_at, pieces_from, cut_within, cut_of, pieces_of, ends_at}
 use Rattle.tmpl_lex.specs.computed.Text.{leading, without_leading, without_trailing, texts}
 use Rattle.tmpl_lex.specs.computed.Trim.{End, left_marked, past_left, behind_marker}
-use Rattle.tmpl_lex.proofs.ActionLemmas.{right_delimiter-shorter, inside-shorter}
 use Rattle.tmpl_lex.proofs.PairLemmas.{split_pair-lengths}
 use Rattle.tmpl_lex.proofs.PartLemmas.{absent-none, none-absent, absent-split, split-is}
-use Rattle.tmpl_lex.proofs.SpellsLemmas.{opened-closed, closed-opened, neither-closed, closed-neither}
+use Rattle.tmpl_lex.proofs.SpellsLemmas.{closed-shorter, opened-closed, closed-opened, neither-closed, closed-neither}
 use Rattle.tmpl_lex.proofs.TextLemmas.{texts-made, texts-only}
-
--- ---- what stands behind a comment or an action is shorter than what stands behind its `{{`
-
-comment_closed-shorter : (t : Bool) (o : Option (List ℕ × List ℕ)) (n : ℕ) (e : End) → ((p : List ℕ × List ℕ) → o ≡ Some p → length p.1 ≤ n)
-    → comment_closed t o ≡ Some e → length e.rest < n
-comment_closed-shorter false o n e within h = cc
-comment_closed-shorter true None n e within h = cc
-comment_closed-shorter true (Some p) n e within h = omega (arith, right_delimiter-shorter p.1 e h, within p refl)
-
-pub comment_end-shorter : (bs : List ℕ) (e : End) → comment_end bs ≡ Some e → length e.rest < length bs
-unfolding comment_end
-comment_end-shorter bs e h =
-    comment_closed-shorter (opens_comment bs) (split_pair 42 47 (drop 2 bs)) (length bs) e
-    (λ p at. omega (arith, split_pair-lengths 42 47 (drop 2 bs) p.0 p.1 at, length-drop 2 bs)) h
-
-opened-shorter : (bs : List ℕ) (e : End) → Some e ≡ ends_at (opened bs) → length e.rest < length bs
-unfolding opened
-opened-shorter bs e h = go (comment_end bs) refl (inside bs) refl h
-  where
-    go : (o : Option End) → comment_end bs ≡ o → (i : Option Inside) → inside bs ≡ i → Some e ≡ ends_at (opened_by o i) → length e.rest < length bs
-    go (Some end) c i d h =
-        let same : end ≡ e = cc in
-        omega (arith, comment_end-shorter bs end c, ap (λ (x : End). length x.rest) same)
-    go None c (Some i) d h =
-        let same : i.1 ≡ e = cc in
-        omega (arith, inside-shorter bs i d, ap (λ (x : End). length x.rest) same)
-    go None c None d h = cc
-
-pub past_left-within : (bs : List ℕ) → length (past_left bs) ≤ length bs
-past_left-within bs = go (left_marked bs)
-  where
-    go : (t : Bool) → length (behind_marker t bs) ≤ length bs
-    go true = omega (arith, length-drop 2 bs)
-    go false = omega arith
-
-pub opened-past_left-shorter : (after : List ℕ) (e : End) → Some e ≡ ends_at (opened (past_left after)) → length e.rest < length after
-opened-past_left-shorter after e h = omega (arith, opened-shorter (past_left after) e h, past_left-within after)
-
--- the rest behind what a `{{` begins is shorter
-pub split_open-shorter : (bs before after : List ℕ) (e : End) → Some (before, after) ≡ split_open bs → Some e ≡ ends_at (opened (past_left after))
-    → (length before + length after + 2 ≡ length bs) × (length e.rest < length after)
-split_open-shorter bs before after e h f = (split_pair-lengths 123 123 bs before after (sym h), opened-past_left-shorter after e f)
 
 -- a line and what follows it take no more than the bytes that there were
 pub newlines-within : (before after rest : List ℕ) → length rest < length after
@@ -116,6 +72,14 @@ has-marker after = go (left_marked after) refl
       opens = opens (λ xs ys m is. both_ways (left_marked after) e (ap left_marked is ∙ marker-marked ys m));
       is = refl;
     }
+
+-- the rest behind what a `{{` begins is shorter
+pub split_open-shorter : (bs before after : List ℕ) (e : End) → Some (before, after) ≡ split_open bs → Some e ≡ ends_at (opened (past_left after))
+    → (length before + length after + 2 ≡ length bs) × (length e.rest < length after)
+split_open-shorter bs before after e h f =
+    let m = has-marker after in
+    let shorter = closed-shorter (opened-closed 0 (past_left after) (opened (past_left after)) e refl (sym f)) in
+    (split_pair-lengths 123 123 bs before after (sym h), omega (arith, shorter, ap length m.is, length-append m.marker (past_left after)))
 
 -- what is computed of what opens
 record IsMarked (left : Bool) (opening rest : List ℕ) : Type 0 where

@@ -7,7 +7,6 @@ pub mod PartLemmas
 pub mod PairLemmas
 pub mod PlaceLemmas
 pub mod QuotedLemmas
-pub mod RunLemmas
 pub mod StandLemmas
 pub mod SpellsLemmas
 pub mod TextLemmas

@@ -1,6 +1,6 @@
 -- For `split_pair`, which skips by `memchr`: where two bytes first follow one another.
 use Rattle.std.proofs.Common.{arith, ◌≡◌, ◌∙◌, ℕ, zero, suc, ◌+◌, ◌≤◌, Bool, true, false, List, [], ◌∷◌, ◌++◌, Option}
-use Rattle.std.proofs.Common.{Some, None, refl, sym, ap, length, take, drop, nat_eq, ◌&&◌, length-drop, append_assoc}
+use Rattle.std.proofs.Common.{Some, None, refl, sym, ap, length, take, drop, nat_eq, ◌&&◌, length-append, length-drop, append_assoc}
 use Rattle.std.proofs.Common.{get_or, ◌<◌}
 use Rattle.std.proofs.lemmas.Bool.{eqb-true, and_parts, false_from_ne_true}
 use Rattle.std.proofs.Math.Seq.{take-add}
@@ -8,6 +8,7 @@ use lib.Seq.{drop-drop}
 use Rattle.memchr.specs.Find.{Nowhere, Passes, is_byte}
 use Rattle.tmpl_lex.specs.computed.Bytes.{split_pair, split_here, with_first}
 use Rattle.tmpl_lex.specs.computed.Bytes.{behind, split_from}
+use Rattle.tmpl_lex.proofs.PartLemmas.{split-is}
 
 pub split_pair-short : (x y : ℕ) (bs : List ℕ) (i : ℕ) → length bs ≤ i + 1 → split_pair x y (drop i bs) ≡ None
 split_pair-short x y bs i h = go (drop i bs) (omega (arith, length-drop i bs))
@@ -17,26 +18,11 @@ split_pair-short x y bs i h = go (drop i bs) (omega (arith, length-drop i bs))
     go (a ∷ []) h = refl
     go (a ∷ b ∷ s) h = absurd (omega arith)
 
-some_pair : (p q : List ℕ × List ℕ) → Some p ≡ Some q → p ≡ q
-some_pair p q e = cc
-
 -- the bytes on both sides of the pair, and it, are as many as there are
 pub split_pair-lengths : (x y : ℕ) (bs before after : List ℕ) → split_pair x y bs ≡ Some (before, after) → length before + length after + 2 ≡ length bs
-split_pair-lengths x y [] before after e = cc
-split_pair-lengths x y (a ∷ []) before after e = cc
-split_pair-lengths x y (a ∷ b ∷ bs) before after e = go (nat_eq a x && nat_eq b y) (split_pair x y (b ∷ bs)) (λ c d. split_pair-lengths x y (b ∷ bs) c d) e
-  where
-    go : (t : Bool) (o : Option (List ℕ × List ℕ)) → ((c d : List ℕ) → o ≡ Some (c, d) → length c + length d + 2 ≡ length (b ∷ bs))
-        → split_here t a (b ∷ bs) o ≡ Some (before, after) → length before + length after + 2 ≡ length (a ∷ b ∷ bs)
-    go true o ih h =
-        let first : [] ≡ before = ap (λ (q : List ℕ × List ℕ). q.0) (some_pair ([], bs) (before, after) h) in
-        let same : bs ≡ after = ap (λ (q : List ℕ × List ℕ). q.1) (some_pair ([], bs) (before, after) h) in
-        omega (arith, ap length first, ap length same)
-    go false None ih h = cc
-    go false (Some p) ih h =
-        let first : a ∷ p.0 ≡ before = ap (λ (q : List ℕ × List ℕ). q.0) (some_pair (a ∷ p.0, p.1) (before, after) h) in
-        let same : p.1 ≡ after = ap (λ (q : List ℕ × List ℕ). q.1) (some_pair (a ∷ p.0, p.1) (before, after) h) in
-        omega (arith, ih p.0 p.1 refl, ap length first, ap length same)
+split_pair-lengths x y bs before after e =
+    let split = split-is x y bs (before, after) e in
+    omega (arith, ap length split.is, length-append before (x ∷ y ∷ after))
 
 -- ---- from one place of the first byte to the next
 

@@ -1,6 +1,6 @@
 -- For the law `one_cut`: what is computed behind a `{{` is what the relations say.
 use Rattle.std.proofs.Common.{◌≡◌, ◌∙◌, ℕ, zero, suc, ◌-◌, Bool, true, false, ◌&&◌, nat_eq, List, [], ◌∷◌, ◌++◌, Option}
-use Rattle.std.proofs.Common.{Some, None, refl, sym, ap, subst, length, drop, append_assoc, arith}
+use Rattle.std.proofs.Common.{Some, None, refl, sym, ap, subst, length, drop, append_assoc, arith, length-append, ◌<◌, ◌≤◌}
 use Rattle.std.proofs.Math.Seq.{drop-append_seam}
 use Rattle.std.proofs.lemmas.Bool.{eqb-true, and_parts, false_from_ne_true}
 use Rattle.std.proofs.lemmas.Bool.Decides.{nat_tests}
@@ -17,7 +17,7 @@ use Rattle.tmpl_lex.specs.computed.Bytes.{split_pair}
 use Rattle.tmpl_lex.specs.computed.Cut.{pieces_of, ends_at}
 use Rattle.tmpl_lex.specs.computed.Token.{front_token}
 use Rattle.tmpl_lex.specs.computed.Trim.{End, right_delimiter}
-use Rattle.tmpl_lex.proofs.ActionLemmas.{drop-sub_one, inside-closed, inside-token, IsWithin-front_token}
+use Rattle.tmpl_lex.proofs.ActionLemmas.{drop-sub_one, inside-closed, inside-token, front_token-some}
 use Rattle.tmpl_lex.proofs.PartLemmas.{same-pair, absent-split, split-is}
 use Rattle.tmpl_lex.proofs.StandLemmas.{found-ends, closes-found, found, stands}
 
@@ -59,7 +59,7 @@ inside_after-reads zero (b ∷ bs) i e =
     add t on at None ih h = cc
     add t on at (Some j) ih h =
         let same : ◌≡◌ {A = Inside} (t ∷ j.0, j.1) i = cc in
-        let left = drop-sub_one (length t.bytes) b bs (IsWithin-front_token (b ∷ bs) t (sym at)).some in
+        let left = drop-sub_one (length t.bytes) b bs (front_token-some (b ∷ bs) t (sym at)) in
         subst (λ (k : Inside). Reads (b ∷ bs) k.0 k.1) same
         (reads-token (b ∷ bs) t j.0 j.1 on at (subst (λ (xs : List ℕ). Reads xs j.0 j.1) left (ih j refl)))
 
@@ -123,6 +123,18 @@ pub record HasClosed (line : ℕ) (bs : List ℕ) (end : End) (ps : List Piece) 
   pub body : List ℕ
   pub closed : Closed line body end.trims end.rest ps
   pub is : bs ≡ body ++ end.rest
+
+closes-some : {t : Bool} {closing : List ℕ} → Closes t closing → 1 ≤ length closing
+closes-some closes = omega arith
+closes-some (closes_marked h) = omega arith
+
+closed-some : {line : ℕ} {body : List ℕ} {trims : Bool} {rest : List ℕ} {ps : List Piece} → Closed line body trims rest ps → 1 ≤ length body
+closed-some (a_comment inside_is h c) = omega arith
+closed-some (an_action {ts = ts} {closing = closing} s c) = omega (arith, closes-some c, length-append (bytes_of ts) closing)
+
+-- what stands behind it is shorter
+pub closed-shorter : {line : ℕ} {bs : List ℕ} {end : End} {ps : List Piece} → HasClosed line bs end ps → length end.rest < length bs
+closed-shorter {end = end} c = omega (arith, closed-some c.closed, ap length c.is, length-append c.body end.rest)
 
 slash-is : (bs : List ℕ) → opens_comment bs ≡ true → bs ≡ 47 ∷ 42 ∷ drop 2 bs
 slash-is [] h = cc

@@ -1,12 +1,15 @@
 -- For the law `one_token`: the token that is computed at the front of bytes is the one of the table, row by row.
-use Rattle.std.proofs.Common.{arith, ◌≡◌, ◌∙◌, ℕ, Bool, true, false, ◌||◌, ◌&&◌, not, nat_eq, List, [], ◌∷◌, ◌++◌}
-use Rattle.std.proofs.Common.{Option, Some, None, refl, sym, ap, subst, length, drop, length-append, if◌then◌else◌}
+use Rattle.std.proofs.Common.{arith, ◌≡◌, ◌∙◌, ℕ, zero, suc, ◌+◌, ◌-◌, Bool, true, false, cond, ◌||◌, ◌&&◌, not, nat_eq, List, [], ◌∷◌, ◌++◌}
+use Rattle.std.proofs.Common.{Option, Some, None, refl, sym, ap, subst, length, take, drop, length-append, append_assoc, if◌then◌else◌}
 use Rattle.std.proofs.Common.{codes, ◌⊎◌, ⊎_elim}
 use Rattle.std.specs.Char.{is_ascii_digit}
 use Rattle.std.specs.List.{prefix_len, list_all, take_while}
 use Rattle.std.proofs.lemmas.Bool.{eqb-true, and_parts, both_ways, false_from_ne_true}
 use Rattle.std.proofs.lemmas.Bool.Decides.{nat_tests}
 use Rattle.std.proofs.Math.Bool.{and-false}
+use Rattle.std.proofs.lemmas.List.{take-append-drop}
+use Rattle.std.proofs.lemmas.List.Folds.{list_all-append}
+use Rattle.std.proofs.Math.Seq.{take-append_seam, drop-append_seam}
 use Rattle.std.proofs.lemmas.Option.{same_Some}
 use Rattle.tmpl_lex.specs.declared.piece.TokenKind.{TokenKind}
 use Rattle.tmpl_lex.specs.declared.piece.TokenKind.TheVariants as kind
@@ -18,9 +21,9 @@ use Rattle.tmpl_lex.specs.Token as table
 use Rattle.tmpl_lex.specs.Token.{IsToken, IsQuoted, no_byte, a_byte, an_escape, IsSign, no_sign, plus, minus, EndsSpace, at_byte, at_marker}
 use Rattle.tmpl_lex.specs.computed.Quoted.{with_byte, up_to, unless, through, quoted}
 use Rattle.tmpl_lex.specs.computed.Token.{Begun, marked, begun, token_from, number, signed, dotted, declare}
-use Rattle.tmpl_lex.specs.computed.Token.{assigned, of_kind, space_run, kept_while, name_run}
+use Rattle.tmpl_lex.specs.computed.Token.{assigned, of_kind, space_run, unmarked, name_run}
 use Rattle.tmpl_lex.specs.computed.Trim.{End, ended_by, has_right_delimiter, has_dashed_delimiter, right_marked, right_delimiter}
-use Rattle.tmpl_lex.proofs.PartLemmas.{same-first, same-rest, same-test, same-pair, run-taken, taken-run, taken-rest}
+use Rattle.tmpl_lex.proofs.PartLemmas.{same-first, same-rest, same-test, same-pair, run-length, run-taken, taken-run, taken-rest}
 
 -- ---- where an action ends
 
@@ -89,15 +92,6 @@ ends-undashed (at_marker rest c) = marker-undashed c
         let other : nat_eq w 45 ≡ false = grind (arith, nat_tests) in
         ap (λ k. k && false) other
 
-ends-run : {rest : List ℕ} → EndsSpace rest → space_run rest ≡ []
-ends-run (at_byte {rest = []} s n) = refl
-ends-run (at_byte {rest = b ∷ bs} s n) = ap (λ k. kept_while (k && not (k && has_dashed_delimiter bs)) b (space_run bs)) s
-ends-run (at_marker rest c) = marker-run c
-  where
-    marker-run : {t : Bool} {marker : List ℕ} → Closes t marker → space_run (marker ++ rest) ≡ []
-    marker-run closes = refl
-    marker-run (closes_marked {w = w} h) = ap (λ k. kept_while (k && not (k && true)) w (space_run (45 ∷ 125 ∷ 125 ∷ rest))) h
-
 spaces-undashed : (bs rest : List ℕ) → list_all is_space bs ≡ true → EndsSpace rest → has_dashed_delimiter (bs ++ rest) ≡ false
 spaces-undashed [] rest h e = ends-undashed e
 spaces-undashed (b ∷ bs) rest h e =
@@ -105,13 +99,50 @@ spaces-undashed (b ∷ bs) rest h e =
     let other : nat_eq b 45 ≡ false = grind (arith, nat_tests) in
     ap (λ k. k && has_right_delimiter (bs ++ rest)) other
 
+-- the white space at the front, before this rest
+run-space : (bs rest : List ℕ) → IsRun is_space bs rest
+    → space_run (bs ++ rest) ≡ take (unmarked (has_dashed_delimiter rest) (length bs)) (bs ++ rest)
+run-space bs rest run =
+    ap (λ n. take (unmarked (has_dashed_delimiter (drop n (bs ++ rest))) n) (bs ++ rest)) (run-length is_space bs rest run)
+    ∙ ap (λ l. take (unmarked (has_dashed_delimiter l) (length bs)) (bs ++ rest)) (drop-append_seam bs rest)
+
 spaces-run : (bs rest : List ℕ) → list_all is_space bs ≡ true → EndsSpace rest → space_run (bs ++ rest) ≡ bs
-spaces-run [] rest h e = ends-run e
-spaces-run (b ∷ bs) rest h e =
-    let both = and_parts (is_space b) (list_all is_space bs) h in
-    ap (λ k. kept_while (k && not (k && has_dashed_delimiter (bs ++ rest))) b (space_run (bs ++ rest))) both.0
-    ∙ ap (λ k. kept_while (not k) b (space_run (bs ++ rest))) (spaces-undashed bs rest both.1 e)
-    ∙ ap (λ l. b ∷ l) (spaces-run bs rest both.1 e)
+spaces-run bs _ h (at_byte {rest = rest} s n) =
+    run-space bs rest (record { passes = h; longest = s })
+    ∙ ap (λ k. take (unmarked k (length bs)) (bs ++ rest)) (ends-undashed (at_byte s n))
+    ∙ take-append_seam bs rest
+spaces-run bs _ h (at_marker rest c) = before c
+  where
+    before : {t : Bool} {marker : List ℕ} → Closes t marker → space_run (bs ++ (marker ++ rest)) ≡ bs
+    before closes = run-space bs (125 ∷ 125 ∷ rest) (record { passes = h; longest = refl }) ∙ take-append_seam bs (125 ∷ 125 ∷ rest)
+    before (closes_marked {w = w} white) =
+        let dashed : List ℕ = 45 ∷ 125 ∷ 125 ∷ rest in
+        let passes = list_all-append is_space bs (w ∷ []) ∙ ap (λ k. k && (is_space w && true)) h ∙ ap (λ k. k && true) white in
+        let less : length (bs ++ w ∷ []) - 1 ≡ length bs = omega (arith, length-append bs (w ∷ [])) in
+        ap space_run (sym (append_assoc bs (w ∷ []) dashed))
+        ∙ run-space (bs ++ w ∷ []) dashed (record { passes = passes; longest = refl })
+        ∙ ap (λ n. take n ((bs ++ w ∷ []) ++ dashed)) less
+        ∙ ap (take (length bs)) (append_assoc bs (w ∷ []) dashed)
+        ∙ take-append_seam bs (w ∷ dashed)
+
+-- the last byte of the white space at the front, and what stands before and behind it
+record LastWhite (m : ℕ) (bs : List ℕ) : Type 0 where
+  w : ℕ
+  white : is_space w ≡ true
+  before : list_all is_space (take m bs) ≡ true
+  behind : drop m bs ≡ w ∷ drop (suc m) bs
+
+last-white : (bs : List ℕ) (m : ℕ) → prefix_len is_space bs ≡ suc m → LastWhite m bs
+last-white [] m e = absurd (omega (arith, e))
+last-white (b ∷ bs) m e = go (is_space b) refl m e (λ k f. last-white bs k f)
+  where
+    go : (t : Bool) → is_space b ≡ t → (m : ℕ) → cond t (1 + prefix_len is_space bs) 0 ≡ suc m
+        → ((k : ℕ) → prefix_len is_space bs ≡ suc k → LastWhite k bs) → LastWhite m (b ∷ bs)
+    go false h m e ih = absurd (omega (arith, e))
+    go true h zero e ih = record { w = b; white = h; before = refl; behind = refl }
+    go true h (suc m) e ih =
+        let more = ih m (omega (arith, e)) in
+        record { w = more.w; white = more.white; before = ap (λ k. k && list_all is_space (take m bs)) h ∙ more.before; behind = more.behind }
 
 -- white space at the front, up to where it ends
 record Spaces (bs : List ℕ) : Type 0 where
@@ -120,38 +151,34 @@ record Spaces (bs : List ℕ) : Type 0 where
   white : list_all is_space (space_run bs) ≡ true
   ends : EndsSpace rest
 
+spaces-of : (bs : List ℕ) (n : ℕ) → space_run bs ≡ take n bs → list_all is_space (take n bs) ≡ true → EndsSpace (drop n bs) → Spaces bs
+spaces-of bs n run white ends = record {
+  rest = drop n bs;
+  is = sym (ap (λ l. l ++ drop n bs) run ∙ take-append-drop n bs);
+  white = ap (list_all is_space) run ∙ white;
+  ends = ends;
+}
+
 undashed-begins : (bs : List ℕ) → has_dashed_delimiter bs ≡ false → BeginsNone (λ xs. xs ≡ codes "-}}") bs
 undashed-begins bs h xs ys e f = both_ways (has_dashed_delimiter bs) h (ap has_dashed_delimiter (f ∙ ap (λ l. l ++ ys) e))
 
-abbrev run : ℕ → List ℕ → Bool → Bool → List ℕ
-run b bs s d = kept_while (s && not (s && d)) b (space_run bs)
-
 run-spaces : (bs : List ℕ) → has_dashed_delimiter bs ≡ false → Spaces bs
-run-spaces [] h = record { rest = []; is = refl; white = refl; ends = at_byte tt (undashed-begins [] h) }
-run-spaces (b ∷ bs) h = go (is_space b) refl (has_dashed_delimiter bs) refl (run-spaces bs)
+run-spaces bs h = go (has_dashed_delimiter (drop len bs)) refl len refl
   where
-    stops : (s d : Bool) → is_space b ≡ s → has_dashed_delimiter bs ≡ d → run b bs s d ≡ [] → EndsSpace (b ∷ bs) → Spaces (b ∷ bs)
-    stops s d e f none ends =
-        let run_is : space_run (b ∷ bs) ≡ [] = (λ i. run b bs (e i) (f i)) ∙ none in record {
-          rest = b ∷ bs;
-          is = sym (ap (λ l. l ++ b ∷ bs) run_is);
-          white = ap (list_all is_space) run_is;
-          ends = ends;
-        }
+    len : ℕ
+    len = prefix_len is_space bs
 
-    go : (s : Bool) → is_space b ≡ s → (d : Bool) → has_dashed_delimiter bs ≡ d → (has_dashed_delimiter bs ≡ false → Spaces bs) → Spaces (b ∷ bs)
-    go false e d f ih = stops false d e f refl (at_byte e (undashed-begins (b ∷ bs) h))
-    go true e true f ih =
-        let is : b ∷ bs ≡ (b ∷ 45 ∷ 125 ∷ 125 ∷ []) ++ drop 3 bs = ap (λ l. b ∷ l) (dashed-is bs f) in
-        stops true true e f refl (subst EndsSpace (sym is) (at_marker (drop 3 bs) (closes_marked e)))
-    go true e false f ih =
-        let more = ih f in
-        let run_is : space_run (b ∷ bs) ≡ b ∷ space_run bs = (λ i. run b bs (e i) (f i)) in record {
-          rest = more.rest;
-          is = ap (λ l. b ∷ l) more.is ∙ sym (ap (λ l. l ++ more.rest) run_is);
-          white = ap (list_all is_space) run_is ∙ ap (λ k. k && list_all is_space (space_run bs)) e ∙ more.white;
-          ends = more.ends;
-        }
+    go : (d : Bool) → has_dashed_delimiter (drop len bs) ≡ d → (n : ℕ) → len ≡ n → Spaces bs
+    go false d n e =
+        let run = taken-run is_space bs in
+        spaces-of bs len (ap (λ k. take (unmarked k len) bs) d) run.passes (at_byte run.longest (undashed-begins (drop len bs) d))
+    go true d zero e = absurd (both_ways (has_dashed_delimiter bs) h (ap (λ n. has_dashed_delimiter (drop n bs)) (sym e) ∙ d))
+    go true d (suc m) e =
+        let last = last-white bs m e in
+        let dashed = dashed-is (drop (suc m) bs) (ap (λ n. has_dashed_delimiter (drop n bs)) (sym e) ∙ d) in
+        let count : len - 1 ≡ m = omega (arith, e) in
+        spaces-of bs m (ap (λ k. take (unmarked k len) bs) d ∙ ap (λ n. take n bs) count) last.before
+        (subst EndsSpace (sym (last.behind ∙ ap (λ l. last.w ∷ l) dashed)) (at_marker (drop 3 (drop (suc m) bs)) (closes_marked last.white)))
 
 -- ---- quotes
 

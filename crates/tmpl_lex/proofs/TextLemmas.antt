@@ -1,5 +1,5 @@
 -- For the law `one_cut`: what trim markers leave of a text, as it is computed and as the relation says.
-use Rattle.std.proofs.Common.{arith, ◌≡◌, ◌∙◌, ℕ, zero, suc, ◌+◌, ◌-◌, ◌≤◌, Bool, true, false, ◌&&◌, List, [], ◌∷◌}
+use Rattle.std.proofs.Common.{arith, ◌≡◌, ◌∙◌, ℕ, ◌+◌, ◌-◌, Bool, true, false, ◌&&◌, List, [], ◌∷◌}
 use Rattle.std.proofs.Common.{◌++◌, refl, sym, ap, subst, length, take, drop, append_assoc, length-append, length-take}
 use Rattle.std.proofs.Common.{reverse}
 use Rattle.std.specs.List.{prefix_len, suffix_len, list_all}
@@ -7,6 +7,7 @@ use Rattle.std.proofs.lemmas.Bool.{and_parts}
 use Rattle.std.proofs.lemmas.List.{take_all, take-append-drop, reverse-append, reverse-reverse, length-reverse}
 use Rattle.std.proofs.lemmas.List.Folds.{list_all-append}
 use Rattle.std.proofs.lemmas.List.Sums.{suffix_len-le-length}
+use Rattle.std.proofs.Math.ListN.{drop_of_length-le}
 use Rattle.std.proofs.Math.Seq.{take-append_seam, drop-append_seam}
 use Rattle.tmpl_lex.specs.Bytes.{is_space, Stops}
 use Rattle.tmpl_lex.specs.Piece.{Piece}
@@ -67,12 +68,6 @@ taken-end bs =
     let k = suffix_len is_space bs in
     at-seam drop bs ∙ drop-append_seam (reverse (drop k (reverse bs))) (reverse (take k (reverse bs)))
 
-drop-all : (n : ℕ) (xs : List ℕ) → length xs ≤ n → drop n xs ≡ []
-drop-all zero [] h = refl
-drop-all zero (x ∷ xs) h = absurd (omega arith)
-drop-all (suc n) [] h = refl
-drop-all (suc n) (x ∷ xs) h = drop-all n xs (omega arith)
-
 end-made : (left : Bool) (bs : List ℕ) → TrimsEnd left (take (length bs - trailing left bs) bs) (drop (length bs - trailing left bs) bs)
 end-made true bs =
     let k = suffix_len is_space bs in
@@ -82,7 +77,7 @@ end-made true bs =
     (subst (Stops is_space) (sym (ap reverse (kept-end bs) ∙ reverse-reverse (drop k (reverse bs)))) run.longest)
 end-made false bs =
     let all : take (length bs - 0) bs ≡ bs = take_all (length bs - 0) bs (omega arith) in
-    let none : drop (length bs - 0) bs ≡ [] = drop-all (length bs - 0) bs (omega arith) in
+    let none : drop (length bs - 0) bs ≡ [] = drop_of_length-le bs (omega arith) in
     subst (λ (xs : List ℕ). TrimsEnd false xs (drop (length bs - 0) bs)) (sym all) (subst (TrimsEnd false bs) (sym none) keeps_end)
 
 pub texts-made : (right left : Bool) (line : ℕ) (bs : List ℕ) → Texts right left line bs (texts right left line bs)

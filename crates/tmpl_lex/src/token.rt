@@ -1,5 +1,5 @@
 //! The tokens of an action.
-ghost use Rattle.std.specs.Prelude.{◌≡◌, ◌≤◌, ◌∷◌, IfSome, length, option_map, take};
+ghost use Rattle.std.specs.Prelude.{◌≡◌, ◌<◌, ◌≤◌, ◌∷◌, IfSome, length, option_map, take};
 ghost use Rattle.tmpl_lex.specs.View.{token_of};
 ghost use Rattle.tmpl_lex.specs.computed.Token as spec;
 ghost use Rattle.tmpl_lex.specs.computed.View.{begun_of};
@@ -11,7 +11,8 @@ use crate::trim::has_dashed_delimiter;
 
 /// The token at the front of the bytes, if one begins there.
 pub(crate) fn front_token(bytes: &[u8]) -> Option<Token<'_>>
-    ensures { option_map token_of result ≡ spec.front_token bytes.now }
+    ensures value { option_map token_of result ≡ spec.front_token bytes.now }
+    ensures within { IfSome result (λ t. length t.bytes.now ≤ length bytes.now) }
 {
     let [first, rest @ ..] = bytes else {
         return None;

@@ -1,9 +1,10 @@
 -- The token at the front of bytes of an action, computed: the twin of `IsToken`.
-use Rattle.std.specs.Prelude.{ℕ, Bool, true, false, ◌||◌, ◌&&◌, not, ◌==◌, List, [], ◌∷◌, take_while, Option, Some}
+use Rattle.std.specs.Prelude.{ℕ, ◌-◌, Bool, true, false, ◌||◌, ◌==◌, List, [], ◌∷◌, take, drop, take_while, Option, Some}
 use Rattle.std.specs.Prelude.{None, option_map, if◌then◌else◌}
 use Rattle.std.specs.Char.{is_ascii_digit}
+use Rattle.std.specs.List.{prefix_len}
 use Rattle.tmpl_lex.specs.Bytes.{is_space, is_name_byte, is_number_byte}
-use Rattle.tmpl_lex.specs.computed.Trim.{right_marked}
+use Rattle.tmpl_lex.specs.computed.Trim.{has_dashed_delimiter}
 use Rattle.tmpl_lex.specs.computed.Quoted.{through, quoted}
 use Rattle.tmpl_lex.specs.Piece.{Token}
 use Rattle.tmpl_lex.specs.declared.piece.TokenKind.{TokenKind}
@@ -11,15 +12,17 @@ use Rattle.tmpl_lex.specs.declared.piece.TokenKind.TheVariants.{Space, Word, Num
 use Rattle.tmpl_lex.specs.declared.piece.TokenKind.TheVariants.{RawString, Character, Declare, Assign, Comma, Pipe}
 use Rattle.tmpl_lex.specs.declared.piece.TokenKind.TheVariants.{LeftParenthesis, RightParenthesis}
 
--- a byte and the run behind it, where the byte is kept
-abbrev pub kept_while : Bool → ℕ → List ℕ → List ℕ
-kept_while true b bs = b ∷ bs
-kept_while false b bs = []
+-- how many bytes are left of white space before what ends a right trim marker or does not, whose last byte is the marker's
+abbrev pub unmarked : Bool → ℕ → ℕ
+unmarked true n = n - 1
+unmarked false n = n
 
--- the white space at the front, up to the first other byte or the first right trim marker
+-- how much white space stands at the front, up to the first other byte or the first right trim marker
+abbrev pub space_len : List ℕ → ℕ
+space_len bs = unmarked (has_dashed_delimiter (drop (prefix_len is_space bs) bs)) (prefix_len is_space bs)
+
 abbrev pub space_run : List ℕ → List ℕ
-space_run [] = []
-space_run (b ∷ bs) = kept_while (is_space b && not (right_marked (b ∷ bs))) b (space_run bs)
+space_run bs = take (space_len bs) bs
 
 -- the kind of a token, and its bytes behind the first
 abbrev pub Begun : Type 0

@@ -1,19 +1,16 @@
 use Rattle.std.proofs.Common.{ap, arith, length, length-drop, map}
 use Rattle.tmpl_lex.specs.View.{token_of}
 use Rattle.tmpl_lex.specs.computed.View.{end_of}
-use Rattle.tmpl_lex.proofs.ActionLemmas.{IsWithin-front_token, inside-read}
+use Rattle.tmpl_lex.proofs.ActionLemmas.{front_token-some, inside-read}
 use Rattle.tmpl_lex.proofs.action.read_inside.Goals as goal
 
 pub returns-in-Some : goal.returns-in-Some
 returns-in-Some c =
     inside-read c.args.bytes.now c.loop-end.rest.now (map token_of c.loop-end.tokens.items) (end_of c.in-Some.end) c.loop-end.invariant c.in-Some.ensures
 
-pub skip-rest-requires : goal.skip-rest-requires
-skip-rest-requires c = (IsWithin-front_token c.loop-end.rest.now (token_of c.in-Some-front_token.token) c.in-Some-front_token.ensures).most
-
 pub loop-end-smaller : goal.loop-end-smaller
 loop-end-smaller c =
     let rest = c.loop-end.rest.now in
     let token = token_of c.in-Some-front_token.token in
-    let within = IsWithin-front_token rest token c.in-Some-front_token.ensures in
-    omega (arith, within, ap length c.skip-rest.ensures, length-drop (length token.bytes) rest)
+    let some = front_token-some rest token c.in-Some-front_token.ensures.value in
+    omega (arith, some, c.in-Some-front_token.ensures.within, ap length c.skip-rest.ensures, length-drop (length token.bytes) rest)
