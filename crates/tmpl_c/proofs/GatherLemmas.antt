@@ -1,11 +1,10 @@
 -- For `fill`: what was gathered is what a call comes to, as far as no memory was refused.
-use Rattle.std.proofs.Common.{◌≡◌, ◌≢◌, ◌∙◌, ◌+◌, ◌++◌, ◌<◌, ◌≤◌, ℕ, Bool, true, false, List, [], Option, Some, ap, arith, length, refl, subst, sym, inl, inr}
+use Rattle.std.proofs.Common.{◌≡◌, ◌≢◌, ◌∙◌, ◌+◌, ◌++◌, ◌<◌, ◌≤◌, ℕ, Bool, true, false, [], Some, ap, arith, length, refl, subst, sym, inl, inr}
 use Rattle.std.specs.Prelude.{if◌then◌else◌}
 use Rattle.std.proofs.lemmas.Bool.{le-leb, lt-leb}
 use Rattle.std.proofs.lemmas.List.{append-nil}
-use Rattle.tmpl_values.specs.Put.{Begins}
-use Rattle.tmpl_meaning.specs.Sink.{Sunk, Told, Whole, sunk}
-use Rattle.tmpl_tool.specs.Outcome.{Answer, BegunIf, Outcome, Says, memory_line, write_line}
+use Rattle.tmpl_meaning.specs.Sink.{Sunk, Told, sunk}
+use Rattle.tmpl_tool.specs.Outcome.{Answer, BegunIf, Outcome, memory_line, write_line}
 use Rattle.tmpl_tool.specs.Source.{Bytes}
 use Rattle.tmpl_c.specs.Filled.{Fills, Rendered, Seen, fits}
 

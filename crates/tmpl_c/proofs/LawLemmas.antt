@@ -1,13 +1,12 @@
 -- For the laws: what a call comes to, stage by stage, and the same of the command.
-use Rattle.std.proofs.Common.{◌≡◌, ◌≢◌, ◌∙◌, ◌++◌, ℕ, suc, Bool, true, false, not, List, [], ◌∷◌, Option, Some, None, Result, Ok, Err, ap, codes, refl}
+use Rattle.std.proofs.Common.{◌≡◌, ◌∙◌, ◌++◌, ℕ, suc, Bool, true, false, not, List, [], ◌∷◌, Option, Some, None, Result, Ok, Err, ap, codes, refl}
 use Rattle.std.proofs.Common.{sym, inl, inr}
 use Rattle.std.specs.Option.{ok_or}
 use Rattle.std.specs.Result.{result_map_both}
 use Rattle.std.specs.Str.{is_utf8}
 use Rattle.tmpl_values.specs.Json.{Flaw, data_of}
 use Rattle.tmpl_values.specs.Value.{Value}
-use Rattle.tmpl_syntax.specs.Set.{Template, tree_named}
-use Rattle.tmpl_syntax.specs.Parse.{Refusal}
+use Rattle.tmpl_syntax.specs.Set.{Template}
 use Rattle.tmpl_meaning.specs.Meaning.{Rules, ran}
 use Rattle.tmpl_tool.specs.Outcome.{Answer}
 use Rattle.tmpl_tool.specs.Source.{Bytes, Files}
@@ -18,7 +17,7 @@ use Rattle.tmpl_tool.specs.Tool.{stop_answer, stop_if, with_file}
 use Rattle.tmpl_tool.proofs.StageLemmas.{and_then-and_then, with_words}
 use Rattle.tmpl_c.specs.Laws.{AddsInTurn, AnswersAsCommand, AnswersButForName, LendsData, LendsFiles, Prints, RefusesName, Runs, SameBut, StopsAtData}
 use Rattle.tmpl_c.specs.Laws.{RendersAsKept, StopsAtFile, StopsAtTemplate}
-use Rattle.tmpl_c.specs.Lent.{data_lent, each_added, lent_answer, render_answer, with_lent}
+use Rattle.tmpl_c.specs.Lent.{data_lent, each_added, render_answer, with_lent}
 
 same_behind : (r : Result (List Template) Stop) (f g : List Template → Result (List Template) Stop) → ((s : List Template) → f s ≡ g s)
     → and_then r f ≡ and_then r g

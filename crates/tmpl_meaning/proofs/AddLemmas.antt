@@ -14,7 +14,7 @@ use Rattle.tmpl_syntax.specs.Set.{Template, tree_named}
 use Rattle.tmpl_meaning.specs.Fault.{Cause}
 use Rattle.tmpl_meaning.specs.Meaning.{Calls, End, Next, Rules, Run, Setting, after, without_key, broke, run_called}
 use Rattle.tmpl_meaning.specs.Meaning.{calls_within, choosing, continued, controlled, done, faulted, handing, meaning, meanings, on_end}
-use Rattle.tmpl_meaning.specs.Meaning.{on_turn, one_of, over, scope, setting_of, shown, spend, spend_if, stepped, turn, turns}
+use Rattle.tmpl_meaning.specs.Meaning.{on_turn, one_of, over, setting_of, shown, spend, spend_if, stepped, turn, turns}
 use Rattle.tmpl_meaning.specs.Meaning.{uncalled, visited, with_bound, with_pipeline, with_value}
 use Rattle.tmpl_meaning.specs.Laws.{OnlyAdds, NodeAdds, NodesAdd}
 

@@ -4,7 +4,7 @@ use Rattle.std.specs.Prelude.{ℕ, suc, ◌+◌, Bool, true, false, not, ◌||�
 use Rattle.std.specs.Prelude.{None, Result, Ok, Err, length, option_to_list, if◌then◌else◌}
 use Rattle.std.specs.Result.{result_map_both}
 use Rattle.std.specs.Str.{bytes_eq}
-use Rattle.tmpl_values.specs.Value.{Value, nothing, null, boolean, number, string, sequence, mapping}
+use Rattle.tmpl_values.specs.Value.{Value, nothing, null, boolean, number, string}
 use Rattle.tmpl_values.specs.Stage.{and_then}
 use Rattle.tmpl_values.specs.Truth.{truth}
 use Rattle.tmpl_values.specs.Field.{FieldValue, found, missing, of_nothing, no_field, field_at}

@@ -18,7 +18,7 @@ use Rattle.tmpl_tool.specs.Source.{Asked, Bytes, Files}
 use Rattle.tmpl_tool.specs.Outcome.{Answer, Outcome, Says}
 use Rattle.tmpl_tool.specs.Tool as tool
 use Rattle.tmpl_tool.specs.Tool.{Failing, Follows, MadeOf, Parse, Stop, answer_of, asked_by, data_found, data_wanted, file_reads}
-use Rattle.tmpl_tool.specs.Tool.{loaded, named_run, no_read, reads_behind, stop_answer, stop_if, tool_answer, tool_reads}
+use Rattle.tmpl_tool.specs.Tool.{loaded, no_read, reads_behind, stop_answer, stop_if, tool_answer, tool_reads}
 use Rattle.tmpl_values.specs.Stage.{and_then}
 use Rattle.tmpl_tool.specs.Inputs.{Counts, StopsAt, inputs_of, inputs_reads, refusal_seen, said_of, stop_seen}
 use Rattle.tmpl_tool.specs.computed.Load.{after_set, after_words, finished, rendered}

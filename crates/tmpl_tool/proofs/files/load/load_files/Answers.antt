@@ -1,10 +1,10 @@
-use Rattle.std.proofs.Common.{◌+◌, map, drop, subst, refl, List, Bor, ◌∙◌, sym}
-use Rattle.std.proofs.lemmas.List.{append-nil, drop_all, drop_more}
+use Rattle.std.proofs.Common.{◌+◌, map, drop, subst, List, Bor, ◌∙◌}
+use Rattle.std.proofs.lemmas.List.{drop_more}
 use Rattle.tmpl_syntax.specs.View.{set_view}
 use Rattle.tmpl_syntax.specs.computed.Parse.{parsed}
 use Rattle.tmpl_meaning.proofs.ToldLemmas.{err_up, if_told, of_told}
 use Rattle.tmpl_tool.specs.Source.{Asked, Bytes}
-use Rattle.tmpl_tool.specs.Tool.{file_reads, loaded, no_read}
+use Rattle.tmpl_tool.specs.Tool.{file_reads, loaded}
 use Rattle.tmpl_tool.specs.Inputs.{ComesOf, stop_seen}
 use Rattle.tmpl_tool.proofs.LoadLemmas.{ComesTo, all_come, one_more, stops_there}
 use Rattle.tmpl_tool.proofs.files.load.load_files.Goals as goal
