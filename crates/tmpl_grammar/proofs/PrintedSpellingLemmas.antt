@@ -129,13 +129,13 @@ mutual
         f.spells,
       )
 
-pub spells-pipeline : (cs : Pipeline) → OfPipeline cs → SpellsPipeline cs (pipeline_tokens cs)
+spells-pipeline : (cs : Pipeline) → OfPipeline cs → SpellsPipeline cs (pipeline_tokens cs)
 spells-pipeline cs h = spells-commands cs h.0
 
 -- ---- actions
 
 -- a pipeline behind white space
-pub spaced-pipeline : (cs : Pipeline) → OfPipeline cs → SpellsPipeline cs (space ∷ pipeline_tokens cs)
+spaced-pipeline : (cs : Pipeline) → OfPipeline cs → SpellsPipeline cs (space ∷ pipeline_tokens cs)
 spaced-pipeline tree.no_command h = h.0
 spaced-pipeline (tree.command os cs) h =
     let s = spells-pipeline (tree.command os cs) h in
@@ -169,19 +169,16 @@ paired key name p h i k ws w = (
   ([], token kind.Comma (44 ∷ []), _, refl, tt, refl, signed name p (token kind.Declare (58 ∷ 61 ∷ [])) i k (space ∷ []) (refl, tt)),
 )
 
--- a header behind a space, and at the front
-spells-bound : (b : Binding) (p : Pipeline) → OfBinding b → OfPipeline p
-    → SpellsBinding b (SpellsPipeline p) (space ∷ (binding_tokens b ++ pipeline_tokens p))
-    × SpellsBinding b (SpellsPipeline p) (binding_tokens b ++ pipeline_tokens p)
-spells-bound unbound p h k = (spaced-pipeline p k, spells-pipeline p k)
-spells-bound (declare name) p h k =
-    (signed name p (token kind.Declare (58 ∷ 61 ∷ [])) h.0 k (space ∷ []) (refl, tt), signed name p (token kind.Declare (58 ∷ 61 ∷ [])) h.0 k [] tt)
-spells-bound (assign name) p h k =
-    (signed name p (token kind.Assign (61 ∷ [])) h.0 k (space ∷ []) (refl, tt), signed name p (token kind.Assign (61 ∷ [])) h.0 k [] tt)
-spells-bound (declare_pair key name) p h k = (paired key name p h.0.0 h.1.0 k (space ∷ []) (refl, tt), paired key name p h.0.0 h.1.0 k [] tt)
+-- a header behind white space
+spells-bound : (b : Binding) (p : Pipeline) → OfBinding b → OfPipeline p → (ws : List Token) → IsBlank ws → SpellsPipeline p (ws ++ pipeline_tokens p)
+    → SpellsBinding b (SpellsPipeline p) (ws ++ (binding_tokens b ++ pipeline_tokens p))
+spells-bound unbound p h k ws w s = s
+spells-bound (declare name) p h k ws w s = signed name p (token kind.Declare (58 ∷ 61 ∷ [])) h.0 k ws w
+spells-bound (assign name) p h k ws w s = signed name p (token kind.Assign (61 ∷ [])) h.0 k ws w
+spells-bound (declare_pair key name) p h k ws w s = paired key name p h.0.0 h.1.0 k ws w
 
 spells-header : (in_range : Bool) (h : Header) → OfHeader in_range h → SpellsHeader in_range h (space ∷ header_tokens h)
-spells-header in_range h of = (of.0, (spells-bound h.binding h.pipeline of.1 of.2).0)
+spells-header in_range h of = (of.0, spells-bound h.binding h.pipeline of.1 of.2 (space ∷ []) (refl, tt) (spaced-pipeline h.pipeline of.2))
 
 spells-given : (given : Option Pipeline) → OfGiven given → SpellsGiven given (given_tokens given)
 spells-given None h = tt
@@ -197,7 +194,7 @@ named : (name : List ℕ) (Rest : List Token → Type 0) (ts : List Token) → A
 named name Rest ts h r = (space ∷ [], token kind.String (quote name), ts, refl, (refl, tt), quoted-constant name h, r)
 
 pub spells-tokens : (a : Action) → OfAction a → SpellsAction a (action_tokens a)
-spells-tokens (pipeline_action h) of = (of.0, (spells-bound h.binding h.pipeline of.1 of.2).1)
+spells-tokens (pipeline_action h) of = (of.0, spells-bound h.binding h.pipeline of.1 of.2 [] tt (spells-pipeline h.pipeline of.2))
 spells-tokens (opening c h) of = keyed [] _ (SpellsHeader (is_range c) h) _ tt (spells-header (is_range c) h of)
 spells-tokens (else_branch br h) of =
     keyed [] _ (Then (IsWord (control_spelling (control_in br))) (SpellsHeader false h)) _ tt

@@ -8,8 +8,11 @@ use Rattle.tmpl_lex.specs.Piece.{Token}
 use Rattle.tmpl_grammar.specs.Token.{begins_name, name_in}
 use Rattle.tmpl_grammar.specs.Tree as tree
 use Rattle.tmpl_grammar.specs.Tree.{Operand, Operands, Pipeline, operands_from, commands_from}
+use Rattle.tmpl_grammar.specs.Constant as constant
+use Rattle.tmpl_grammar.specs.Constant.{IsConstant}
+use Rattle.tmpl_grammar.specs.Operand as operand
 use Rattle.tmpl_grammar.specs.Operand.{IsOperand, begins_later}
-use Rattle.tmpl_grammar.specs.computed.Operand.{operand_at, operand_by}
+use Rattle.tmpl_grammar.specs.computed.Operand.{operand_at}
 use Rattle.tmpl_grammar.specs.computed.Parser as parser
 use Rattle.tmpl_grammar.specs.computed.Parser.{Parser, Partial, settled, more_commands, closed, may_stand, kept_if, linked, linked_by, step, step_by, steps}
 use Rattle.tmpl_grammar.specs.Pipeline.{IsBlank, IsChain, IsChained, MayBeLater, SpellsOperand, SpellsMore, SpellsCommand, SpellsLater, SpellsPipeline}
@@ -43,7 +46,7 @@ steps-append o [] us = refl
 steps-append o (t ∷ ts) us = steps-append (option_and_then (step t) o) ts us
 
 -- where tokens lead, and from there on others
-pub along : (o p : Option Parser) (ts us vs : List Token) → ts ≡ us ++ vs → steps o us ≡ p → steps o ts ≡ steps p vs
+along : (o p : Option Parser) (ts us vs : List Token) → ts ≡ us ++ vs → steps o us ≡ p → steps o ts ≡ steps p vs
 along o p ts us vs is to = ap (steps o) is ∙ steps-append o us vs ∙ ap (λ q. steps q vs) to
 
 pub step-at : (k : TokenKind) (t : Token) (h : Parser) → t.kind ≡ k → step t h ≡ step_by k t h
@@ -60,29 +63,28 @@ white-steps : (ls : List Partial) (cs : List Operands) (os : List Operand) (o : 
 white-steps ls cs os o t ts b = ap (λ p. steps p ts) (step-at kind.Space t (parser_at ls cs os (Some o)) b.0) ∙ blank-steps ls cs (os ++ o ∷ []) ts b.1
 
 -- a token that is an operand of its own, of whatever kind it is
+constant-step : (t : Token) (o : Operand) → IsConstant t o → (h : Parser) → step t h ≡ parser.placed h.last (operand_at t) h
+unfolding step
+constant-step _ _ (constant.number is) h = refl
+constant-step _ _ _ h = refl
+
+operand-step : (t : Token) (o : Operand) → IsOperand t o → (ls : List Partial) (cs : List Operands) (os : List Operand)
+    → step t (parser_at ls cs os None) ≡ parser.placed None (operand_at t) (parser_at ls cs os None)
+unfolding step
+operand-step t _ (operand.field is begins) ls cs os = ap (λ k. step_by k t (parser_at ls cs os None)) is
+operand-step t _ (operand.variable is) ls cs os = ap (λ k. step_by k t (parser_at ls cs os None)) is
+operand-step t o (operand.a_constant is) ls cs os = constant-step t o is (parser_at ls cs os None)
+operand-step _ _ _ ls cs os = refl
+
 placed-step : (t : Token) (o : Operand) (ls : List Partial) (cs : List Operands) (os : List Operand) → IsOperand t o
     → may_stand cs os o ≡ true → step t (parser_at ls cs os None) ≡ Some (parser_at ls cs os (Some o))
-unfolding step operand_at
-placed-step t o ls cs os admitted may = by t.kind refl
-  where
-    is : operand_at t ≡ Some o
-    is = computes-operand t o admitted
-
-    same : parser.placed None (operand_at t) (parser_at ls cs os None) ≡ Some (parser_at ls cs os (Some o))
-    same = ap (λ p. parser.placed None p (parser_at ls cs os None)) is ∙ ap (λ b. kept_if b (parser_at ls cs os (Some o))) may
-
-    none : {A : Type 0} → ◌≡◌ {A = Option Operand} None (Some o) → A
-    none e = absurd (cc)
-
-    by : (k : TokenKind) → t.kind ≡ k → step_by t.kind t (parser_at ls cs os None) ≡ Some (parser_at ls cs os (Some o))
-    by kind.Space e = none (ap (λ k. operand_by k t) (sym e) ∙ is)
-    by kind.Pipe e = none (ap (λ k. operand_by k t) (sym e) ∙ is)
-    by kind.LeftParenthesis e = none (ap (λ k. operand_by k t) (sym e) ∙ is)
-    by kind.RightParenthesis e = none (ap (λ k. operand_by k t) (sym e) ∙ is)
-    by _ e = ap (λ k. step_by k t (parser_at ls cs os None)) e ∙ same
+placed-step t o ls cs os is may =
+    operand-step t o is ls cs os
+    ∙ ap (λ p. parser.placed None p (parser_at ls cs os None)) (computes-operand t o is)
+    ∙ ap (λ b. kept_if b (parser_at ls cs os (Some o))) may
 
 -- an operand that chains may be added to
-abbrev pub Chains : (List (List ℕ) → Operand) → Type 0
+abbrev Chains : (List (List ℕ) → Operand) → Type 0
 Chains f = (ns : List (List ℕ)) (n : List ℕ) → linked (f ns) n ≡ Some (f (ns ++ n ∷ []))
 
 link-step : (f : List (List ℕ) → Operand) → Chains f
@@ -107,13 +109,13 @@ chain-steps f can ls cs os (n ∷ names) ns ts (t, us, is, field, begins, name, 
     ∙ ap (λ m. Some (parser_at ls cs os (Some (f m)))) (append_assoc ns (name_in t ∷ []) names)
     ∙ ap (λ m. Some (parser_at ls cs os (Some (f (ns ++ m ∷ names))))) name
 
-pub fields-chain : Chains tree.fields
+fields-chain : Chains tree.fields
 fields-chain ns n = refl
 
-pub variable-chain : (x : List ℕ) → Chains (tree.variable x)
+variable-chain : (x : List ℕ) → Chains (tree.variable x)
 variable-chain x ns n = refl
 
-pub group-chain : (cs : Pipeline) → Chains (tree.group cs)
+group-chain : (cs : Pipeline) → Chains (tree.group cs)
 group-chain cs ns n = refl
 
 one-steps : (o : Operand) (ls : List Partial) (cs : List Operands) (os : List Operand) (ts : List Token) → IsChained o [] ts
