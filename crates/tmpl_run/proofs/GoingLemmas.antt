@@ -19,14 +19,14 @@ use Rattle.tmpl_code.specs.View.{instruction_of, instructions_of}
 use Rattle.tmpl_code.specs.declared.instruction.Instruction as held
 use Rattle.tmpl_run.specs.Cell.{fresh}
 use Rattle.tmpl_run.specs.Ends.{Ends}
-use Rattle.tmpl_run.specs.Laws.{Lessens, mark_behind}
+use Rattle.tmpl_run.specs.Laws.{Lessens}
 use Rattle.tmpl_run.specs.Machine.{Turn, done, ended, fault_in, goes, next_of, ran_so, stuck}
-use Rattle.tmpl_run.specs.Ready.{Has, Lands}
+use Rattle.tmpl_run.specs.Ready.{Has}
 use Rattle.tmpl_run.specs.State.{Plan, State}
 use Rattle.tmpl_run.specs.computed.Came.{Came, ComesTo, IsStopped, no_template}
 use Rattle.tmpl_run.specs.computed.Machines.{Told, state_of}
 use Rattle.tmpl_run.specs.computed.Plain.{IsPlain, SparedOr}
-use Rattle.tmpl_run.specs.computed.Turned.{Executed, IsThere, Shown, TurnedBy, added, at_once, is_shown, put_by, put_out, text_in, told_behind, value_by}
+use Rattle.tmpl_run.specs.computed.Turned.{Executed, IsThere, Lands, Shown, TurnedBy, added, at_once, is_shown, mark_behind, put_by, put_out, text_in, told_behind, value_by}
 use Rattle.tmpl_run.specs.computed.View.{cells_of, size_of}
 use Rattle.tmpl_run.specs.declared.fault.RunError.{RunError}
 use Rattle.tmpl_run.specs.declared.fault.RunError.TheVariants as error

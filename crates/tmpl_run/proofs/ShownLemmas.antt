@@ -12,11 +12,10 @@ use Rattle.tmpl_code.specs.Instruction as code
 use Rattle.tmpl_code.specs.Instruction.{Instruction, act}
 use Rattle.tmpl_run.specs.Cell.{fresh, slot}
 use Rattle.tmpl_run.specs.Ends.{Ends}
-use Rattle.tmpl_run.specs.Laws.{mark_behind}
 use Rattle.tmpl_run.specs.Machine.{done, goes}
 use Rattle.tmpl_run.specs.State.{Plan, State}
 use Rattle.tmpl_run.specs.Step.{on}
-use Rattle.tmpl_run.specs.computed.Turned.{added, at_once, is_shown, settles, shows, value_by}
+use Rattle.tmpl_run.specs.computed.Turned.{added, at_once, is_shown, mark_behind, settles, shows, value_by}
 use Rattle.tmpl_run.proofs.DoneLemmas.{goes-on}
 use Rattle.tmpl_run.proofs.OperationLemmas as operation
 
