@@ -26,7 +26,8 @@ use Rattle.tmpl_run.specs.State.{Plan, State}
 use Rattle.tmpl_run.specs.computed.Came.{Came, ComesTo, IsStopped, no_template}
 use Rattle.tmpl_run.specs.computed.Machines.{Told, state_of}
 use Rattle.tmpl_run.specs.computed.Plain.{IsPlain, SparedOr}
-use Rattle.tmpl_run.specs.computed.Turned.{Executed, IsThere, Lands, Shown, TurnedBy, added, at_once, is_shown, mark_behind, put_by, put_out, text_in, told_behind, value_by}
+use Rattle.tmpl_run.specs.computed.Turned.{Executed, IsThere, Lands, Shown, TurnedBy, added, at_once, is_shown, mark_behind, put_by, put_out, text_in}
+use Rattle.tmpl_run.specs.computed.Turned.{told_behind, value_by}
 use Rattle.tmpl_run.specs.computed.View.{cells_of, size_of}
 use Rattle.tmpl_run.specs.declared.fault.RunError.{RunError}
 use Rattle.tmpl_run.specs.declared.fault.RunError.TheVariants as error
