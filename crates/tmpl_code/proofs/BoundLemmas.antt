@@ -1,8 +1,9 @@
 -- For `bound_of` and `Program::cells`: how many cells are enough for every chain of calls.
-use Rattle.std.proofs.Common.{arith, ◌≡◌, ◌∙◌, ◌||◌, ◌+◌, ◌*◌, ◌≤◌, ◌<◌, inl, inr, ℕ, zero, suc, Bool, true, false, List, [], ◌∷◌, length, get_or, refl, ap}
+use Rattle.std.proofs.Common.{arith, ◌≡◌, ◌∙◌, ◌||◌, ◌+◌, ◌*◌, ◌≤◌, ◌<◌, inl, inr, ℕ, zero, suc, true, false, List, [], ◌∷◌, length, get_or, refl, ap}
 use Rattle.std.proofs.Common.{sym, subst, Option, Some, None}
 use Rattle.std.specs.Prelude.{slice_get}
 use Rattle.std.proofs.Math.Bool.{or-true}
+use Rattle.std.proofs.lemmas.Bool.{or_parts}
 use Rattle.std.proofs.Math.Nat.{mul-le-mul_right, suc-mul}
 use Rattle.tmpl_syntax.specs.Tree as tree
 use Rattle.tmpl_syntax.specs.Tree.{NodeKind, Nodes, text, action, control_node, break_node, continue_node, template_node}
@@ -28,10 +29,6 @@ module _ (name : List ℕ) where
     nodes-called (tree.then line n ns) (inl h) = ap (λ b. b || nodes_call ns) (node-called n h)
     nodes-called (tree.then line n ns) (inr h) = ap (λ b. node_calls n || b) (nodes-called ns h) ∙ or-true (node_calls n)
 
-later : (a b : Bool) → a || b ≡ false → b ≡ false
-later true b e = cc
-later false b e = e
-
 no-call : (ts : List Template) (i : ℕ) (t : Template) (name : List ℕ) → set_calls ts ≡ false → slice_get ts i ≡ Some t → NodesName name t.1.nodes → ⊥
 no-call [] i t name none at h = cc
 no-call (u ∷ ts) zero t name none at h =
@@ -39,7 +36,7 @@ no-call (u ∷ ts) zero t name none at h =
     let called : nodes_call u.1.nodes ≡ true = ap (λ (v : Template). nodes_call v.1.nodes) same ∙ nodes-called name t.1.nodes h in
     let both : true ≡ false = sym (ap (λ b. b || set_calls ts) called) ∙ none in
     cc
-no-call (u ∷ ts) (suc i) t name none at h = no-call ts i t name (later (nodes_call u.1.nodes) (set_calls ts) none) at h
+no-call (u ∷ ts) (suc i) t name none at h = no-call ts i t name (or_parts (nodes_call u.1.nodes) (set_calls ts) none).1 at h
 
 -- ---- the room of a set
 

@@ -29,7 +29,8 @@ use Rattle.tmpl_run.specs.Machine.{Turn, again, branch, deepened, done, done_in,
 use Rattle.tmpl_run.specs.Machine.{opened, paid_if, piped, returned_if, ring, stuck, top, turned, with_dot}
 use Rattle.tmpl_run.specs.Ready.{Fits, Has, RoomIf}
 use Rattle.tmpl_run.specs.Ends.{Comes, Ends, IsReady, Leads}
-use Rattle.tmpl_run.specs.Laws.{Begins, Lessens, mark_behind}
+use Rattle.tmpl_run.specs.Laws.{Begins, Lessens}
+use Rattle.tmpl_run.specs.computed.Turned.{mark_behind}
 
 -- ---- how many cells a step of a pipeline leaves
 

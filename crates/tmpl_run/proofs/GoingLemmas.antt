@@ -2,6 +2,7 @@
 use Rattle.std.proofs.Common.{arith, inl, inr, ◌≡◌, ◌∙◌, ◌+◌, ◌||◌, ◌++◌, ◌-◌, ◌^◌, ◌<◌, ◌≤◌, ℕ, suc, Bool, true, false, List, [], ◌∷◌, length, get_or, refl}
 use Rattle.std.proofs.Common.{ap, sym, subst, append-nil, Option, Some, None, Result, Ok, Err}
 use Rattle.std.specs.Prelude.{option_map, slice_get}
+use Rattle.std.proofs.lemmas.Bool.{or_parts}
 use Rattle.std.proofs.lemmas.List.{length-map}
 use Rattle.std.proofs.lemmas.Option.{get_or_from_slice_get, slice_get-get_or, slice_get-map}
 use Rattle.tmpl_values.specs.Put.{Puts, IsPut}
@@ -19,14 +20,15 @@ use Rattle.tmpl_code.specs.View.{instruction_of, instructions_of}
 use Rattle.tmpl_code.specs.declared.instruction.Instruction as held
 use Rattle.tmpl_run.specs.Cell.{fresh}
 use Rattle.tmpl_run.specs.Ends.{Ends}
-use Rattle.tmpl_run.specs.Laws.{Lessens, mark_behind}
+use Rattle.tmpl_run.specs.Laws.{Lessens}
 use Rattle.tmpl_run.specs.Machine.{Turn, done, ended, fault_in, goes, next_of, ran_so, stuck}
-use Rattle.tmpl_run.specs.Ready.{Has, Lands}
+use Rattle.tmpl_run.specs.Ready.{Has}
 use Rattle.tmpl_run.specs.State.{Plan, State}
 use Rattle.tmpl_run.specs.computed.Came.{Came, ComesTo, IsStopped, no_template}
 use Rattle.tmpl_run.specs.computed.Machines.{Told, state_of}
 use Rattle.tmpl_run.specs.computed.Plain.{IsPlain, SparedOr}
-use Rattle.tmpl_run.specs.computed.Turned.{Executed, IsThere, Shown, TurnedBy, added, at_once, is_shown, put_by, put_out, text_in, told_behind, value_by}
+use Rattle.tmpl_run.specs.computed.Turned.{Executed, IsThere, Lands, Shown, TurnedBy, added, at_once, is_shown, mark_behind, put_by, put_out, text_in}
+use Rattle.tmpl_run.specs.computed.Turned.{told_behind, value_by}
 use Rattle.tmpl_run.specs.computed.View.{cells_of, size_of}
 use Rattle.tmpl_run.specs.declared.fault.RunError.{RunError}
 use Rattle.tmpl_run.specs.declared.fault.RunError.TheVariants as error
@@ -37,7 +39,6 @@ use Rattle.tmpl_run.specs.declared.halt.Halt.TheVariants as stop
 use Rattle.tmpl_run.specs.declared.machine.Machine.{Machine}
 use Rattle.tmpl_run.proofs.DoneLemmas.{ends-so, falls, finds, goes-on, is-next, ready, some-template, within-code, work, after_past, done-past, each-lessens}
 use Rattle.tmpl_run.proofs.DoneLemmas.{mark-stays, mark_next, next-depth, next-within, past-again, text-begins, with_past}
-use Rattle.tmpl_run.proofs.QuietLemmas.{neither}
 use Rattle.tmpl_run.proofs.ShownLemmas.{ends-shown, mark-once, puts-once, quiet-once, shown-once, shown-within}
 
 -- what is told of a run that has put nothing out yet, in the template that a machine runs
@@ -156,7 +157,7 @@ module _ {plan : Plan} {end : Ran} {m : Machine} {before now : Puts} (inv : Stan
         ends = subst
             (λ k. Ends plan k (with_past (inv.text ++ u.text) (inv.made || u.made_text) (record u { text = []; made_text = false })) end) (sym size)
             (subst (λ v. Ends plan room v end) (past-again inv.text u.text inv.made u.made_text u) (next-ends u step));
-        plain = λ e. let both = neither inv.made u.made_text e in plain (sym (mark-behind-told i s told) ∙ both.1) (inv.plain both.0);
+        plain = λ e. let both = or_parts inv.made u.made_text e in plain (sym (mark-behind-told i s told) ∙ both.1) (inv.plain both.0);
       }
         where
           u : State

@@ -160,10 +160,9 @@ inside-more home (Some g) lay fr p c h =
 
 pub inside-bound : (home : Frame) (g : Option Ring) (b : Binding) (lay : Layout) (fr : Frame) → Inside home g lay fr
     → Inside home g (bound_on b lay) (bound_in b fr)
-inside-bound home g unbound lay fr h = h
 inside-bound home g (declare x) lay fr h = inside-more home g lay fr (Some x) None h
-inside-bound home g (assign x) lay fr h = h
 inside-bound home g (declare_pair k x) lay fr h = inside-more home g (Some k ∷ lay) (None ∷ fr) (Some x) None (inside-more home g lay fr (Some k) None h)
+inside-bound home g _ lay fr h = h
 
 pub inside-grown : (home : Frame) (g : Option Ring) (n : NodeKind) (lay : Layout) (fr : Frame) → Inside home g lay fr
     → Inside home g (grown n lay) (grown_in n fr)

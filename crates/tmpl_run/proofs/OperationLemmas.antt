@@ -17,7 +17,7 @@ use Rattle.tmpl_run.specs.Cell.{Cell, fresh, slot, values_in}
 use Rattle.tmpl_run.specs.State.{Plan, State}
 use Rattle.tmpl_run.specs.Step.{Went, called_on, decided_by, made_by, newest, on, pushed, step}
 use Rattle.tmpl_run.specs.Machine.{done, failed, goes, piped}
-use Rattle.tmpl_run.specs.Ready.{Lands}
+use Rattle.tmpl_run.specs.computed.Turned.{Lands}
 
 -- a call over the cells that it takes
 called-is : (f : Func) (n : ℕ) (p : Bool) (cs : List Cell) → n + piped_count p ≤ length cs

@@ -3,6 +3,7 @@
 use Rattle.std.proofs.Common.{◌≡◌, ◌≢◌, ◌∙◌, ◌||◌, ◌<◌, IfSome, length, ℕ, zero, suc, nat_eq, Bool, true, false, List, [], ◌∷◌, Option, Some, None, Result, Ok}
 use Rattle.std.proofs.Common.{Err, ap, refl, subst, sym}
 use Rattle.std.specs.Prelude.{◌-◌, find, get_or, option_map, slice_get, if◌then◌else◌}
+use Rattle.std.proofs.lemmas.Bool.{or_parts}
 use Rattle.std.proofs.lemmas.Option.{slice_get-get_or}
 use Rattle.tmpl_values.specs.Value.{Value, nothing}
 use Rattle.tmpl_values.specs.Elements.{Element}
@@ -31,10 +32,6 @@ use Rattle.tmpl_run.specs.Run.{IsRun}
 use Rattle.tmpl_run.specs.computed.Came.{no_template}
 use Rattle.tmpl_run.specs.declared.fault.RunError.{RunError}
 use Rattle.tmpl_run.specs.declared.fault.RunError.TheVariants as error
-
-pub neither : (a b : Bool) → (a || b) ≡ false → (a ≡ false) × (b ≡ false)
-neither false b e = (refl, e)
-neither true b e = cc
 
 both : (a b : Bool) → a ≡ false → b ≡ false → (a || b) ≡ false
 both a b e f = ap (λ c. c || b) e ∙ f
@@ -78,7 +75,7 @@ mutual
   operands-quiet : (os : Operands) (s : Place) → operands_make_text os ≡ false → (operand_values s os).made_text ≡ false
   operands-quiet no_operand s e = refl
   operands-quiet (operand o os) s e =
-      let n = neither (operand_makes_text o) (operands_make_text os) e in
+      let n = or_parts (operand_makes_text o) (operands_make_text os) e in
       then-quiet (operand_value s o) (λ v. given_then (operand_values s os) (λ vs. given (Ok (v ∷ vs)))) (operand-quiet o s n.0) (λ v.
       then-quiet (operand_values s os) (λ vs. given (Ok (v ∷ vs))) (operands-quiet os s n.1) (λ vs. refl))
 
@@ -87,14 +84,14 @@ mutual
   junction-quiet no_operand stop s last None e = refl
   junction-quiet no_operand stop s last (Some v) e = refl
   junction-quiet (operand o os) stop s last piped e =
-      let n = neither (operand_makes_text o) (operands_make_text os) e in
+      let n = or_parts (operand_makes_text o) (operands_make_text os) e in
       then-quiet (operand_value s o) (λ v. decided (decides stop v) v (junction stop s v os piped)) (operand-quiet o s n.0)
       (λ v. decided-quiet (decides stop v) v (junction stop s v os piped) (junction-quiet os stop s v piped n.1))
 
   command-quiet : (os : Operands) (s : Place) (piped : Option Value) → operands_make_text os ≡ false → (command_value s os piped).made_text ≡ false
   command-quiet no_operand s piped e = refl
   command-quiet (operand (function f) os) s piped e =
-      let n = neither (makes_text f) (operands_make_text os) e in
+      let n = or_parts (makes_text f) (operands_make_text os) e in
       let all : Given Value = given_then (operand_values s os) (λ vs. meaning.applied f (meaning.piped_after vs piped)) in
       counted-quiet (takes f (meaning.argument_count os piped)) f (meaning.by_function f all (junction false s nothing os piped)
       (junction true s nothing os piped))
@@ -102,13 +99,13 @@ mutual
       (then-quiet (operand_values s os) (λ vs. meaning.applied f (meaning.piped_after vs piped)) (operands-quiet os s n.1) (λ vs. n.0))
       (junction-quiet os false s nothing piped n.1) (junction-quiet os true s nothing piped n.1))
   command-quiet (operand o os) s piped e =
-      alone-quiet (meaning.stands_alone os piped) o (operand_value s o) (operand-quiet o s (neither (operand_makes_text o) (operands_make_text os) e).0)
+      alone-quiet (meaning.stands_alone os piped) o (operand_value s o) (operand-quiet o s (or_parts (operand_makes_text o) (operands_make_text os) e).0)
 
   commands-quiet : (cs : Pipeline) (s : Place) (piped : Option Value) → commands_make_text cs ≡ false → (commands_value s cs piped).made_text ≡ false
   commands-quiet no_command s None e = refl
   commands-quiet no_command s (Some v) e = refl
   commands-quiet (command os cs) s piped e =
-      let n = neither (operands_make_text os) (commands_make_text cs) e in
+      let n = or_parts (operands_make_text os) (commands_make_text cs) e in
       then-quiet (command_value s os piped) (λ v. commands_value s cs (Some (meaning.without_null v))) (command-quiet os s piped n.0)
       (λ v. commands-quiet cs s (Some (meaning.without_null v)) n.1)
 
@@ -201,8 +198,8 @@ module _ (s : Setting) (calls : CallsQuietly s.calls) where
     step-quiet : (n : NodeKind) (line : ℕ) (d : Value) → node_makes_text n ≡ false → Quiet (stepped s line n d)
     step-quiet (action h) line d named r e = with_pipeline-quiet s line h.pipeline d (shown h.binding) named (λ v. shown-quiet h.binding v) r e
     step-quiet (control_node c h body other) line d named r e =
-        let n = neither (pipeline_makes_text h.pipeline) (nodes_make_text body || nodes_make_text other) named in
-        let m = neither (nodes_make_text body) (nodes_make_text other) n.1 in
+        let n = or_parts (pipeline_makes_text h.pipeline) (nodes_make_text body || nodes_make_text other) named in
+        let m = or_parts (nodes_make_text body) (nodes_make_text other) n.1 in
         control-quiet s line c h d (λ v. meanings s body v) (meanings s other d) n.0 (λ v. nodes-quiet body v m.0) (nodes-quiet other d m.1) r e
     step-quiet (template_node name given) line d named r e =
         value-quiet s line (s.calls name) (handing s line given d) (λ body is. handing-quiet s line given d body named (calls name body is)) r e
@@ -211,7 +208,7 @@ module _ (s : Setting) (calls : CallsQuietly s.calls) where
     nodes-quiet : (ns : Nodes) (d : Value) → nodes_make_text ns ≡ false → Quiet (meanings s ns d)
     nodes-quiet tree.none d named r e = e
     nodes-quiet (tree.then line n ns) d named r e =
-        let m = neither (node_makes_text n) (nodes_make_text ns) named in
+        let m = or_parts (node_makes_text n) (nodes_make_text ns) named in
         after-quiet (spend s line (stepped s line n d) r) (meanings s ns d)
         (spend-quiet s line (stepped s line n d) (step-quiet n line d m.0) r e) (nodes-quiet ns d m.1)
 
@@ -227,7 +224,7 @@ find-quiet : (name : List ℕ) (ts : List Template) (t : Template) → find (has
     → nodes_make_text t.1.nodes ≡ false
 find-quiet name [] t is named = cc
 find-quiet name (x ∷ ts) t is named =
-    let n = neither (nodes_make_text x.1.nodes) (set_makes_text ts) named in
+    let n = or_parts (nodes_make_text x.1.nodes) (set_makes_text ts) named in
     found-quiet (has_name name x) x t (find (has_name name) ts) n.0 (λ e. find-quiet name ts t e n.1) is
 
 named-quiet : (name : List ℕ) (ts : List Template) (t : Tree) → tree_named name ts ≡ Some t → set_makes_text ts ≡ false → nodes_make_text t.nodes ≡ false
@@ -241,8 +238,8 @@ at-quiet : (ts : List Template) (number : ℕ) (t : Template) → slice_get ts n
     → nodes_make_text t.1.nodes ≡ false
 at-quiet [] number t is named = cc
 at-quiet (x ∷ ts) zero t is named =
-    let same : x ≡ t = cc in ap (λ u. nodes_make_text u.1.nodes) (sym same) ∙ (neither (nodes_make_text x.1.nodes) (set_makes_text ts) named).0
-at-quiet (x ∷ ts) (suc n) t is named = at-quiet ts n t is (neither (nodes_make_text x.1.nodes) (set_makes_text ts) named).1
+    let same : x ≡ t = cc in ap (λ u. nodes_make_text u.1.nodes) (sym same) ∙ (or_parts (nodes_make_text x.1.nodes) (set_makes_text ts) named).0
+at-quiet (x ∷ ts) (suc n) t is named = at-quiet ts n t is (or_parts (nodes_make_text x.1.nodes) (set_makes_text ts) named).1
 
 module _ (rules : Rules) (ts : List Template) (named : set_makes_text ts ≡ false) where
   -- a call of a template, by what it calls in turn

@@ -8,8 +8,9 @@ use Rattle.tmpl_syntax.specs.Set.{Template}
 use Rattle.tmpl_code.specs.Instruction as code
 use Rattle.tmpl_run.specs.Cell.{Cell, slot_cell}
 use Rattle.tmpl_run.specs.State.{Plan, State}
-use Rattle.tmpl_run.specs.Machine.{Turn, again, done, elements_in, has_more, invoked, left_in, returned_if, ring, top, turned}
-use Rattle.tmpl_run.specs.Ready.{Lands}
+use Rattle.tmpl_run.specs.Machine.{Turn, again, done, elements_in, invoked, left_in, returned_if, ring, top, turned}
+use Rattle.tmpl_run.specs.computed.Turned.{Lands}
+use Rattle.tmpl_run.specs.computed.Held.{has_more}
 use Rattle.tmpl_run.proofs.TurnLemmas.{none-left}
 
 pub top-found : (cs : List Cell) (go : Cell → List Cell → Turn) → Lands (top cs go) → 1 ≤ length cs

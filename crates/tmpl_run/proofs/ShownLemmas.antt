@@ -1,6 +1,7 @@
 -- For `turns`: what three instructions come to that are carried out at once, of which the first puts a value and the others settle and show it.
-use Rattle.std.proofs.Common.{arith, ◌≡◌, ◌∙◌, ◌+◌, ◌<◌, ◌&&◌, ◌++◌, ℕ, Bool, true, false, [], ◌∷◌, length, refl, ap, sym, subst, Option, Some, Ok}
+use Rattle.std.proofs.Common.{arith, ◌≡◌, ◌∙◌, ◌+◌, ◌<◌, ◌++◌, ℕ, true, false, [], ◌∷◌, length, refl, ap, sym, subst, Option, Some, Ok}
 use Rattle.std.specs.Prelude.{slice_get}
+use Rattle.std.proofs.lemmas.Bool.{and_parts}
 use Rattle.std.proofs.lemmas.Option.{slice_get_within}
 use Rattle.tmpl_values.specs.Text.{text_of}
 use Rattle.tmpl_values.specs.Value.{Value, null}
@@ -12,11 +13,10 @@ use Rattle.tmpl_code.specs.Instruction as code
 use Rattle.tmpl_code.specs.Instruction.{Instruction, act}
 use Rattle.tmpl_run.specs.Cell.{fresh, slot}
 use Rattle.tmpl_run.specs.Ends.{Ends}
-use Rattle.tmpl_run.specs.Laws.{mark_behind}
 use Rattle.tmpl_run.specs.Machine.{done, goes}
 use Rattle.tmpl_run.specs.State.{Plan, State}
 use Rattle.tmpl_run.specs.Step.{on}
-use Rattle.tmpl_run.specs.computed.Turned.{added, at_once, is_shown, settles, shows, value_by}
+use Rattle.tmpl_run.specs.computed.Turned.{added, at_once, is_shown, mark_behind, settles, shows, value_by}
 use Rattle.tmpl_run.proofs.DoneLemmas.{goes-on}
 use Rattle.tmpl_run.proofs.OperationLemmas as operation
 
@@ -29,10 +29,6 @@ settles-is o e = cc
 shows-is : (o : Option Instruction) → shows o ≡ true → o ≡ Some code.show
 shows-is (Some code.show) e = refl
 shows-is o e = cc
-
-both : (a b : Bool) → (a && b) ≡ true → (a ≡ true) × (b ≡ true)
-both true b e = (refl, e)
-both false b e = cc
 
 -- ---- an instruction that is carried out so
 
@@ -75,7 +71,7 @@ text-settled _ = refl
 module _ (plan : Plan) (room : ℕ) (f : Ran) (i : Instruction) (t : Template) (s : State) (here : slice_get plan.code s.place ≡ Some i)
     (runs : slice_get plan.templates s.template ≡ Some t) (shown : is_shown plan.code s.place ≡ true) where
   two : (settles (slice_get plan.code (s.place + 1)) ≡ true) × (shows (slice_get plan.code (s.place + 2)) ≡ true)
-  two = both _ _ shown
+  two = and_parts _ _ shown
 
   last : slice_get plan.code (s.place + 2) ≡ Some code.show
   last = shows-is _ two.1

@@ -12,7 +12,8 @@ use Rattle.tmpl_meaning.specs.Fault.{not_a_range, steps_spent}
 use Rattle.tmpl_code.specs.Instruction as code
 use Rattle.tmpl_run.specs.Cell.{Cell, cell, fresh, slot, slot_cell}
 use Rattle.tmpl_run.specs.State.{Plan, State}
-use Rattle.tmpl_run.specs.Machine.{again, done, elements_for, elements_in, failed, goes, has_more, left_in, onto, opened, paid_if, top, turned, variables_on}
+use Rattle.tmpl_run.specs.Machine.{again, done, elements_for, elements_in, failed, goes, left_in, onto, opened, paid_if, top, turned, variables_on}
+use Rattle.tmpl_run.specs.computed.Held.{has_more}
 use Rattle.tmpl_run.proofs.StackLemmas.{ring-is}
 
 -- ---- ranges

@@ -1,15 +1,13 @@
 -- Laws of the machine.
-use Rattle.std.specs.Prelude.{◌≡◌, ◌<◌, ◌≤◌, ◌⊎◌, ℕ, Bool, true, List, ◌++◌, length, Option, Some, slice_get}
+use Rattle.std.specs.Prelude.{◌≡◌, ◌<◌, ◌≤◌, ◌⊎◌, ℕ, true, List, ◌++◌, length, Option, Some, slice_get}
 use Rattle.tmpl_values.specs.Value.{Value}
 use Rattle.tmpl_syntax.specs.Set.{Template}
 use Rattle.tmpl_meaning.specs.Meaning.{Ran, Rules, ran, starting_dot}
 use Rattle.tmpl_code.specs.Calls.{IsChain}
 use Rattle.tmpl_code.specs.Code.{Starts}
-use Rattle.tmpl_code.specs.Instruction.{Instruction, act}
 use Rattle.tmpl_code.specs.MakesText.{set_makes_text}
 use Rattle.tmpl_code.specs.Room.{Suffices}
 use Rattle.tmpl_run.specs.State.{Plan, State, starting}
-use Rattle.tmpl_run.specs.Step.{made_by}
 use Rattle.tmpl_run.specs.Machine.{goes, next_of}
 use Rattle.tmpl_run.specs.Ends.{Ends}
 
@@ -65,12 +63,7 @@ Begins a b = (more : List ℕ) × (b ≡ a ++ more)
 abbrev pub OnlyAdds : Type 0
 OnlyAdds = (plan : Plan) (size : ℕ) (s : State) (end : Ran) → Ends plan size s end → Begins s.text end.text
 
--- whether a function that makes a text was called with all its arguments, behind an instruction
-abbrev pub mark_behind : Instruction → Bool → Bool
-mark_behind (act o) made = made_by o made
-mark_behind i made = made
-
--- where one was called so far, the end says so
+-- where a function that makes a text was called so far, the end says so
 abbrev pub MarkStays : Type 0
 MarkStays =
     (plan : Plan) (size : ℕ) (s : State) (end : Ran) → Ends plan size s end → s.made_text ≡ true → end.made_text ≡ true

@@ -1,6 +1,6 @@
 -- What one instruction does.
 use Rattle.std.specs.Prelude.{ℕ, zero, suc, ◌+◌, ◌-◌, nat_eq, nat_lt, Bool, true, false, List, [], ◌∷◌, ◌++◌}
-use Rattle.std.specs.Prelude.{length, drop}
+use Rattle.std.specs.Prelude.{drop}
 use Rattle.std.specs.Prelude.{Option, Some, None, slice_get, slice_set}
 use Rattle.tmpl_values.specs.Value.{Value, nothing}
 use Rattle.tmpl_values.specs.Elements.{Element, elements, pairs}
@@ -125,10 +125,6 @@ elements_in (Some es) = es
 -- the elements of a range from the one that is visited on
 abbrev pub left_in : Cell → List Element
 left_in v = drop v.num (elements_in (elements v.val))
-
--- whether there is one behind that
-abbrev pub has_more : Cell → Bool
-has_more v = nat_lt v.num (length (elements_in (elements v.val)) - 1)
 
 -- so many variables: the element, above its index or key
 abbrev pub variables_on : ℕ → Element → List Cell → List Cell

@@ -1,7 +1,6 @@
 -- What an instruction needs of the stack: that the cells which it takes or looks at are there, and that there is room
 -- for those which it puts, where there may be so many.
-use Rattle.std.specs.Prelude.{◌≡◌, ℕ, suc, ◌+◌, ◌-◌, ◌^◌, ◌≤◌, ◌<◌, Bool, true, false}
-use Rattle.tmpl_run.specs.Machine.{Turn, goes, ended, stuck}
+use Rattle.std.specs.Prelude.{◌≡◌, ℕ, suc, ◌+◌, ◌-◌, ◌≤◌, ◌<◌, Bool, true, false}
 use Rattle.tmpl_funcs.specs.Func.{is_called}
 use Rattle.tmpl_code.specs.Code.{piped_count}
 use Rattle.tmpl_code.specs.Instruction as code
@@ -35,9 +34,3 @@ Has (code.enter key skip) n room = n < room
 Has (code.turn m) n room = n + m ≤ room
 Has (code.invoke number) n room = n + 2 ≤ room
 Has i n room = Unit {0}
-
--- a turn finds its cells, and goes to a place that can be counted
-abbrev pub Lands : Turn → Type 0
-Lands (goes t) = t.place < 2 ^ 64
-Lands (ended r) = Unit {0}
-Lands stuck = ⊥

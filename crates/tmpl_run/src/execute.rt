@@ -2,14 +2,13 @@
 ghost use Rattle.std.specs.Prelude.{◌≡◌, ◌+◌, ◌-◌, ◌<◌, ◌≤◌, ◌^◌, false, length};
 ghost use Rattle.tmpl_meaning.specs.Sink.{IsPut};
 ghost use Rattle.tmpl_code.specs.View.{instruction_of, instructions_of};
-ghost use Rattle.tmpl_run.specs.Laws.{mark_behind};
 ghost use Rattle.tmpl_run.specs.Machine.{done};
 ghost use Rattle.tmpl_run.specs.computed.Machines.{Told, state_of};
 ghost use Rattle.tmpl_run.specs.computed.Output.{Grows, given_of};
 ghost use Rattle.tmpl_run.specs.computed.Plain.{IsPlain, SparedOr};
-ghost use Rattle.tmpl_run.specs.Ready.{Has, Lands};
+ghost use Rattle.tmpl_run.specs.Ready.{Has};
 ghost use Rattle.tmpl_run.specs.computed.Plan.{plan_of};
-ghost use Rattle.tmpl_run.specs.computed.Turned.{TurnedBy, at_once, put_by, put_out};
+ghost use Rattle.tmpl_run.specs.computed.Turned.{Lands, TurnedBy, at_once, mark_behind, put_by, put_out};
 ghost use Rattle.tmpl_run.specs.computed.View.{cells_of, size_of};
 
 use crate::flow::Flow;

@@ -6,11 +6,12 @@ ghost use Rattle.tmpl_values.specs.View.{is_made, val_of};
 ghost use Rattle.tmpl_meaning.specs.View.{rules_of};
 ghost use Rattle.tmpl_code.specs.Instruction as code;
 ghost use Rattle.tmpl_run.specs.Cell.{slot, slot_cell};
-ghost use Rattle.tmpl_run.specs.Machine.{elements_for, has_more, variables_on};
+ghost use Rattle.tmpl_run.specs.Machine.{elements_for, variables_on};
 ghost use Rattle.tmpl_run.specs.computed.Machines.{Told, state_of};
 ghost use Rattle.tmpl_run.specs.computed.Plain.{IsPlain, Spared, SparedOr};
 ghost use Rattle.tmpl_run.specs.computed.Turned.{Executed, TurnedOr};
 ghost use Rattle.tmpl_run.specs.computed.View.{cells_of, size_of};
+ghost use Rattle.tmpl_run.specs.computed.Held.{has_more};
 
 use crate::flow::Flow;
 use crate::halt::Halt;

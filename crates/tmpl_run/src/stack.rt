@@ -18,8 +18,7 @@ ghost use Rattle.tmpl_meaning.specs.Pipeline.{without_null};
 ghost use Rattle.tmpl_meaning.specs.Sink.{IsPut};
 ghost use Rattle.tmpl_code.specs.Code.{piped_count};
 ghost use Rattle.tmpl_run.specs.Cell.{cell};
-ghost use Rattle.tmpl_run.specs.Machine.{has_more};
-ghost use Rattle.tmpl_run.specs.computed.Held.{cell_at, cell_of, cells_in, made_at};
+ghost use Rattle.tmpl_run.specs.computed.Held.{cell_at, cell_of, cells_in, has_more, made_at};
 ghost use Rattle.tmpl_run.specs.computed.Output.{Grows, given_of};
 
 use crate::piece::Piece;

@@ -1,9 +1,11 @@
 -- What cells stand for, apart from how they are held.
-use Rattle.std.specs.Prelude.{ℕ, zero, suc, Bool, false, List, [], ◌∷◌, map, reverse, take}
+use Rattle.std.specs.Prelude.{ℕ, zero, suc, ◌-◌, Bool, false, List, [], ◌∷◌, length, map, nat_lt, reverse, take}
+use Rattle.tmpl_values.specs.Elements.{elements}
 use Rattle.tmpl_values.specs.Value.{nothing}
 use Rattle.tmpl_values.specs.View.{val_of, is_made}
 use Rattle.tmpl_values.specs.declared.value.Cell as held
 use Rattle.tmpl_run.specs.Cell.{Cell, fresh}
+use Rattle.tmpl_run.specs.Machine.{elements_in}
 
 abbrev pub cell_of : held.Cell → Cell
 cell_of c = record { val = val_of c.val; num = c.num }
@@ -23,3 +25,7 @@ abbrev pub made_at : List held.Cell → ℕ → Bool
 made_at [] i = false
 made_at (c ∷ cs) zero = is_made c.val
 made_at (c ∷ cs) (suc i) = made_at cs i
+
+-- whether a range has an element behind the one that is visited
+abbrev pub has_more : Cell → Bool
+has_more v = nat_lt v.num (length (elements_in (elements v.val)) - 1)

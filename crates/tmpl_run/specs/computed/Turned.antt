@@ -1,6 +1,6 @@
 -- What a turn of a machine in memory is.
 use Rattle.std.specs.Prelude.{◌≡◌, ◌&&◌, Bool, true, false, List, ℕ, [], ◌++◌, ◌+◌, Option, None, Some, Result, Ok, Err}
-use Rattle.std.specs.Prelude.{slice_get}
+use Rattle.std.specs.Prelude.{◌<◌, ◌^◌, slice_get}
 use Rattle.tmpl_values.specs.Text.{text_of}
 use Rattle.tmpl_values.specs.Value.{Value, nothing}
 use Rattle.tmpl_values.specs.View.{val_of}
@@ -16,13 +16,24 @@ use Rattle.tmpl_code.specs.Instruction.{Instruction, Operation}
 use Rattle.tmpl_run.specs.Cell.{slot}
 use Rattle.tmpl_run.specs.State.{Plan, State}
 use Rattle.tmpl_run.specs.Step.{made_by}
-use Rattle.tmpl_run.specs.Machine.{done, ended, failed, goes, ran_so}
+use Rattle.tmpl_run.specs.Machine.{Turn, done, ended, failed, goes, ran_so, stuck}
 use Rattle.tmpl_run.specs.declared.flow.Flow.{Flow}
 use Rattle.tmpl_run.specs.declared.flow.Flow.TheVariants as flow
 use Rattle.tmpl_run.specs.computed.Machines.{Told, state_of}
 use Rattle.tmpl_run.specs.declared.machine.Machine.{Machine}
 use Rattle.tmpl_run.specs.declared.halt.Halt.{Halt}
 use Rattle.tmpl_run.specs.declared.halt.Halt.TheVariants as stop
+
+-- a turn finds its cells, and goes to a place that can be counted
+abbrev pub Lands : Turn → Type 0
+Lands (goes t) = t.place < 2 ^ 64
+Lands (ended r) = Unit {0}
+Lands stuck = ⊥
+
+-- whether a function that makes a text was called with all its arguments, behind an instruction
+abbrev pub mark_behind : Instruction → Bool → Bool
+mark_behind (code.act o) made = made_by o made
+mark_behind i made = made
 
 -- what is told behind a step of a pipeline
 abbrev pub behind : Operation → Told → Told

@@ -5,9 +5,10 @@ use Rattle.tmpl_code.specs.Code.{piped_count}
 use Rattle.tmpl_code.specs.View.{instruction_of}
 use Rattle.tmpl_run.specs.Machine.{done}
 use Rattle.tmpl_run.specs.computed.Machines.{state_of}
-use Rattle.tmpl_run.specs.Ready.{Has, Lands}
+use Rattle.tmpl_run.specs.Ready.{Has}
 use Rattle.tmpl_run.specs.State.{Plan, State}
 use Rattle.tmpl_run.specs.computed.View.{size_of}
+use Rattle.tmpl_run.specs.computed.Turned.{Lands}
 use Rattle.tmpl_run.proofs.OperationLemmas.{decides-over}
 use Rattle.tmpl_run.proofs.ReadyLemmas as ready
 use Rattle.tmpl_run.proofs.machine.Machine.execute.Goals as goal
