@@ -235,7 +235,8 @@ mutual
       let here : Bool = is_formed n scope loop (levels (top fs)) in
       ap (λ ts. passes fs known (roles_said ts)) (append_assoc (node_said n) (nodes_said ns) ss) ∙ node-passes n fs known scope (nodes_said ns ++ ss) a
       ∙ ap (λ b. here && b) (nodes-passes ns fs past (scope_behind n scope) ss (alike-past n known.inner scope a))
-      ∙ sym (and_assoc here (are_formed ns (scope_behind n scope) loop (levels (top fs))) (passes fs (with_inner past (seen_behind past.inner ns)) (roles_said ss)))
+      ∙ sym (and_assoc here (are_formed ns (scope_behind n scope) loop (levels (top fs)))
+      (passes fs (with_inner past (seen_behind past.inner ns)) (roles_said ss)))
 
 -- the own template of an accepted list
 pub accepts-back : AcceptsBack

@@ -1,9 +1,10 @@
 -- For `print_set` and `print_tree`: what is said first and what is said next are one page.
-use Rattle.std.proofs.Common.{◌≡◌, ◌∙◌, ℕ, Bool, true, false, List, [], ◌∷◌, ◌++◌, refl, sym, ap, append_assoc, append-nil, Option, Some}
-use Rattle.std.proofs.Common.{None, map, codes, nat_eq, length, drop, arith, ◌-◌, ◌==◌}
+use Rattle.std.proofs.Common.{◌≡◌, ◌∙◌, ℕ, true, false, List, [], ◌∷◌, ◌++◌, refl, sym, ap, append_assoc, append-nil, Option, Some}
+use Rattle.std.proofs.Common.{None, codes, nat_eq, length, drop, arith, ◌-◌, ◌==◌}
+use Rattle.std.proofs.lemmas.Bool.Decides.{nat_tests}
 use Rattle.std.proofs.lemmas.List.{map-append}
 use Rattle.std.proofs.Math.Bool.{and-true}
-use Rattle.std.proofs.lemmas.Bool.{both_ways, eqb-true, false_from_ne_true}
+use Rattle.std.proofs.lemmas.Bool.{eqb-true}
 use Rattle.std.specs.List.{ends_with}
 use Rattle.std.specs.Cmp.Lexicographic.{pointwise}
 use Rattle.tmpl_grammar.specs.Print.{action_tokens, bytes_of}
@@ -12,21 +13,13 @@ use Rattle.tmpl_grammar.specs.Action.{Action, plain_else}
 use Rattle.tmpl_syntax.specs.View.{nodes_in}
 use Rattle.tmpl_syntax.specs.declared.tree.Node as held
 use Rattle.tmpl_syntax.proofs.ViewLemmas.{control_of-fields}
-use Rattle.tmpl_syntax.specs.Print.Printed.{Said, said, said_text, else_said, nodes_said, part_of}
+use Rattle.tmpl_syntax.specs.Print.Printed.{Said, said, said_text, else_said, nodes_said}
 use Rattle.tmpl_syntax.specs.computed.Print.{Page, last_text, page_with}
 
 joined-append : (before : Option (List ℕ)) (ps qs : List Part) → file_of before (ps ++ qs) ≡ file_of before ps ++ file_of (last_text before ps) qs
 joined-append before [] qs = refl
-joined-append before (a_text t ∷ ps) qs =
-    ap (λ bs. parting before ++ (t ++ bs)) (joined-append (Some t) ps qs) ∙
-    sym (append_assoc (parting before) (t ++ file_of (Some t) ps) (file_of (last_text (Some t) ps) qs)
-    ∙ ap (λ bs. parting before ++ bs) (append_assoc t (file_of (Some t) ps) (file_of (last_text (Some t) ps) qs)))
-joined-append before (an_action ts ∷ ps) qs =
-    let rest = file_of None ps in
-    let more = file_of (last_text None ps) qs in
-    ap (λ bs. opening before ++ (bytes_of ts ++ (codes "}}" ++ bs))) (joined-append None ps qs) ∙
-    sym (append_assoc (opening before) (bytes_of ts ++ (codes "}}" ++ rest)) more
-    ∙ ap (λ bs. opening before ++ bs) (append_assoc (bytes_of ts) (codes "}}" ++ rest) more))
+joined-append before (a_text t ∷ ps) qs = simp (joined-append (Some t) ps qs, append_assoc)
+joined-append before (an_action ts ∷ ps) qs = simp (joined-append None ps qs, append_assoc)
 
 last-append : (before : Option (List ℕ)) (ps qs : List Part) → last_text before (ps ++ qs) ≡ last_text (last_text before ps) qs
 last-append before [] qs = refl
@@ -35,15 +28,7 @@ last-append before (an_action ts ∷ ps) qs = last-append None ps qs
 
 pub page_append : (p : Page) (ss rs : List Said) → page_with (page_with p ss) rs ≡ page_with p (ss ++ rs)
 unfolding page_with
-page_append p ss rs =
-    let ps = map part_of ss in
-    let qs = map part_of rs in
-    let bytes : (p.0 ++ file_of p.1 ps) ++ file_of (last_text p.1 ps) qs ≡ p.0 ++ file_of p.1 (map part_of (ss ++ rs)) =
-    append_assoc p.0 (file_of p.1 ps) (file_of (last_text p.1 ps) qs) ∙ ap (λ bs. p.0 ++ bs)
-    (sym (joined-append p.1 ps qs) ∙ ap (file_of p.1) (sym (map-append part_of ss rs))) in
-    let end : last_text (last_text p.1 ps) qs ≡ last_text p.1 (map part_of (ss ++ rs)) = sym (last-append p.1 ps qs)
-    ∙ ap (last_text p.1) (sym (map-append part_of ss rs)) in
-    ap (λ bs. (bs, last_text (last_text p.1 ps) qs)) bytes ∙ ap (λ (b : Option (List ℕ)). (p.0 ++ file_of p.1 (map part_of (ss ++ rs)), b)) end
+page_append p ss rs = simp (map-append, joined-append, last-append, append_assoc)
 
 pub page_nothing : (p : Page) → page_with p [] ≡ p
 unfolding page_with
@@ -53,28 +38,16 @@ page_nothing p = ap (λ bs. (bs, p.1)) (append-nil p.0)
 pub action-put : (before : Option (List ℕ)) (a : Action) (old : List ℕ) {opened inside closed : List ℕ} → opened ≡ old ++ opening before
     → inside ≡ opened ++ bytes_of (action_tokens a) → closed ≡ inside ++ codes "}}" → (closed, None) ≡ page_with (old, before) (said a ∷ [])
 unfolding page_with
-action-put before a old {opened} {inside} {closed} h i j =
-    let tokens = bytes_of (action_tokens a) in
-    ap (λ (bs : List ℕ). (bs, None)) (j ∙ ap (λ bs. bs ++ codes "}}") (i ∙ ap (λ bs. bs ++ tokens) h)
-    ∙ append_assoc (old ++ opening before) tokens (codes "}}") ∙ append_assoc old (opening before) (tokens ++ codes "}}"))
+action-put before a old h i j = simp (j, i, h, append_assoc)
 
 -- a text, put piece by piece
 pub text-put : (before : Option (List ℕ)) (t old : List ℕ) {parted ended : List ℕ} → parted ≡ old ++ parting before → ended ≡ parted ++ t
     → (ended, Some t) ≡ page_with (old, before) (said_text t ∷ [])
 unfolding page_with
-text-put before t old {parted} {ended} h i =
-    ap (λ (bs : List ℕ). (bs, Some t)) (i ∙ ap (λ bs. bs ++ t) h ∙ append_assoc old (parting before) t
-    ∙ ap (λ bs. old ++ (parting before ++ bs)) (sym (append-nil t)))
-
-same-flipped : (a b : ℕ) → nat_eq a b ≡ true → nat_eq b a ≡ nat_eq a b
-same-flipped a b e = let same = eqb-true a b e in ap (λ x. nat_eq x a) (sym same) ∙ ap (nat_eq a) same
+text-put before t old h i = simp (i, h, append_assoc, append-nil)
 
 flip : (a b : ℕ) → nat_eq a b ≡ nat_eq b a
-flip a b = go (nat_eq a b) refl
-  where
-    go : (r : Bool) → nat_eq a b ≡ r → nat_eq a b ≡ nat_eq b a
-    go true e = sym (same-flipped a b e)
-    go false e = e ∙ sym (false_from_ne_true (nat_eq b a) (λ k. both_ways (nat_eq a b) e (same-flipped b a k ∙ k)))
+flip a b = grind (arith, nat_tests)
 
 last-at : (b : ℕ) (t : List ℕ) → pointwise nat_eq (123 ∷ []) (drop (length t) (b ∷ t)) ≡ ends_brace (b ∷ t)
 last-at b [] = and-true (nat_eq 123 b) ∙ flip 123 b

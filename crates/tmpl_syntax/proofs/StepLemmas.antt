@@ -44,7 +44,8 @@ module _ (xs : List Role) (i : ℕ) (names : List Name) (c : Opening) (p : Names
   part-new n (branch_header lt e k) = not-after _ lt e.belongs
 
   -- what the parts see at first: for an if or with
-  part-wide : c ≢ opened.control Range → (n : Name) → Contains (take (length (with_names names p.declares)) (with_names names p.declares)) n → Part xs i (i + 1) n
+  part-wide : c ≢ opened.control Range → (n : Name) → Contains (take (length (with_names names p.declares)) (with_names names p.declares)) n
+      → Part xs i (i + 1) n
   part-wide nr n k =
       let e = take-length (with_names names p.declares) in
       ⊎_elim (λ l. earlier (h.to n l)) (λ r. header at r nr)
@@ -413,5 +414,6 @@ module _ (xs : List Role) (i : ℕ) (known : Known) (f : Frame) (fs : List Frame
   below =
       take-with f.start (take f.part names) ds (let a = s.2.within.started in omega (arith, front)) ∙ take-take f.start f.part names s.2.within.started
 
-  pub stands-parted : Stands xs (i + 1) (with_inner known (with_names (take f.part names) ds)) (parted (is_some b) (length (with_names (take f.part names) ds)) f ∷ fs)
+  pub stands-parted : Stands xs (i + 1) (with_inner known (with_names (take f.part names) ds))
+      (parted (is_some b) (length (with_names (take f.part names) ds)) f ∷ fs)
   stands-parted = (here-parted, s.1, stood-parted, subst (λ l. Stands xs s.1 (closed_if (is_template f.opening) (with_inner known l)) fs) (sym below) s.3)
