@@ -1,4 +1,4 @@
--- For `pipeline`: a pipeline is as deep as the parentheses of its tokens are open at most.
+-- For `is_shallow` and `pipeline`: a pipeline is as deep as the parentheses of its tokens are open at most.
 use Rattle.std.proofs.Common.{arith, ◌≡◌, ◌∙◌, ◌≤◌, ℕ, suc, ◌+◌, ◌-◌, ◌<◌, max, nat_le, false, List, [], ◌∷◌, ◌++◌}
 use Rattle.std.proofs.Common.{refl, sym, ap, subst, append_assoc, append-nil}
 use Rattle.std.proofs.lemmas.Bool.Decides.{nat_tests}

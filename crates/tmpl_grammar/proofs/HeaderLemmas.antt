@@ -9,9 +9,10 @@ use Rattle.tmpl_grammar.specs.computed.Token.{is_space_kind, is_white, next}
 use Rattle.tmpl_grammar.specs.Tree.{Pipeline, Binding, unbound, declare, assign, declare_pair, Header}
 use Rattle.tmpl_grammar.specs.Pipeline.{SpellsPipeline}
 use Rattle.tmpl_grammar.specs.Header.{IsSign, IsVariable, Then, may_bind, SpellsBinding, SpellsHeader}
-use Rattle.tmpl_grammar.specs.computed.Reading.{pipeline_in, Signed, sign_behind, signed_by, signed_kind, signed_at, signed, Front, plain}
-use Rattle.tmpl_grammar.specs.computed.Reading.{second_by, second_signed, front_by, front_signed, front_in, split_by, split}
-use Rattle.tmpl_grammar.specs.computed.Reading.{header_with, header_if, header_by, header_in}
+use Rattle.tmpl_grammar.specs.computed.Reading.{pipeline_in, VariableFront, variable_before, variable_front_by}
+use Rattle.tmpl_grammar.specs.computed.Reading.{variable_front_kind, variable_front_at, variable_front, Front, plain}
+use Rattle.tmpl_grammar.specs.computed.Reading.{second_by, second_variable, front_by, front_of_variable, front_in}
+use Rattle.tmpl_grammar.specs.computed.Reading.{split_by, split, header_with, header_if, header_by, header_in}
 use Rattle.tmpl_grammar.proofs.PipelineLemmas.{reads-spelled, spells-read}
 use Rattle.tmpl_grammar.proofs.OptionLemmas.{no-value, mapped}
 use Rattle.tmpl_grammar.proofs.TokenLemmas.{then-led, led-then}
@@ -23,51 +24,51 @@ pub variable-other : (name : List ℕ) (t : Token) → IsVariable name t → is_
 variable-other name t v = ap is_space_kind v.0
 
 -- what stands behind the variable that comes first, and a sign
-record SignedBy (name : List ℕ) (k : TokenKind) (Rest : List Token → Type 0) (ts : List Token) : Type 0 where
+record VariableBy (name : List ℕ) (k : TokenKind) (Rest : List Token → Type 0) (ts : List Token) : Type 0 where
   rest : List Token
-  is : signed ts ≡ Some (record { name = name; sign = k; rest = rest })
+  is : variable_front ts ≡ Some (record { name = name; next_kind = k; rest = rest })
   behind : Rest rest
 
-then-signed : (name : List ℕ) (k : TokenKind) (Rest : List Token → Type 0) (ts : List Token) → is_space_kind k ≡ false
-    → Then (IsVariable name) (Then (IsSign k) Rest) ts → SignedBy name k Rest ts
-then-signed name k Rest ts other s =
+then-variable : (name : List ℕ) (k : TokenKind) (Rest : List Token → Type 0) (ts : List Token) → is_space_kind k ≡ false
+    → Then (IsVariable name) (Then (IsSign k) Rest) ts → VariableBy name k Rest ts
+then-variable name k Rest ts other s =
     let v = then-led (IsVariable name) (Then (IsSign k) Rest) ts (variable-other name) s in
     let l = then-led (IsSign k) Rest v.rest (λ t is. ap is_space_kind is ∙ other) v.behind in
     record {
       rest = l.rest;
-      is = ap signed_at v.first_is ∙ ap (λ k. signed_kind k v.token v.rest) v.is.0 ∙ ap (λ n. signed_by n v.rest) v.is.1
-          ∙ by name v.is.2 v.rest ∙ ap (sign_behind name) l.first_is ∙ ap (λ k. Some (record { name = name; sign = k; rest = l.rest })) l.is;
+      is = ap variable_front_at v.first_is ∙ ap (λ k. variable_front_kind k v.token v.rest) v.is.0 ∙ ap (λ n. variable_front_by n v.rest) v.is.1
+          ∙ by name v.is.2 v.rest ∙ ap (variable_before name) l.first_is ∙ ap (λ k. Some (record { name = name; next_kind = k; rest = l.rest })) l.is;
       behind = l.behind;
     }
   where
-    by : (name : List ℕ) → 0 < length name → (us : List Token) → signed_by name us ≡ sign_behind name (next us)
+    by : (name : List ℕ) → 0 < length name → (us : List Token) → variable_front_by name us ≡ variable_before name (next us)
     by [] h us = absurd (omega (arith, h))
     by (b ∷ bs) h us = refl
 
 -- what they tell
-abbrev SignedAs : List Token → Option Signed → Type 1
-SignedAs ts None = Unit {1}
-SignedAs ts (Some s) = (Rest : List Token → Type 0) → Rest s.rest → Then (IsVariable s.name) (Then (IsSign s.sign) Rest) ts
+abbrev VariableAs : List Token → Option VariableFront → Type 1
+VariableAs ts None = Unit {1}
+VariableAs ts (Some s) = (Rest : List Token → Type 0) → Rest s.rest → Then (IsVariable s.name) (Then (IsSign s.next_kind) Rest) ts
 
-signed-tells : (ts : List Token) → SignedAs ts (signed ts)
-signed-tells ts = by (next ts) refl
+variable-tells : (ts : List Token) → VariableAs ts (variable_front ts)
+variable-tells ts = by (next ts) refl
   where
     by-sign : (t : Token) (us : List Token) → next ts ≡ Some (t, us) → (name : List ℕ) → IsVariable name t → (o : Option (Token × List Token))
-        → next us ≡ o → SignedAs ts (sign_behind name o)
+        → next us ≡ o → VariableAs ts (variable_before name o)
     by-sign t us e name v None is = tt
     by-sign t us e name v (Some p) is = λ Rest rest.
         led-then (IsVariable name) (Then (IsSign p.0.kind) Rest) ts t us e v (led-then (IsSign p.0.kind) Rest us p.0 p.1 is refl rest)
 
     by-name : (t : Token) (us : List Token) → next ts ≡ Some (t, us) → t.kind ≡ kind.Variable → (name : List ℕ) → name_in t ≡ name
-        → SignedAs ts (signed_by name us)
+        → VariableAs ts (variable_front_by name us)
     by-name t us e k [] is = tt
     by-name t us e k (b ∷ bs) is = by-sign t us e (b ∷ bs) (k, is, omega arith) (next us) refl
 
-    by-kind : (t : Token) (us : List Token) → next ts ≡ Some (t, us) → (k : TokenKind) → t.kind ≡ k → SignedAs ts (signed_kind k t us)
+    by-kind : (t : Token) (us : List Token) → next ts ≡ Some (t, us) → (k : TokenKind) → t.kind ≡ k → VariableAs ts (variable_front_kind k t us)
     by-kind t us e kind.Variable is = by-name t us e is (name_in t) refl
     by-kind t us e k is = tt
 
-    by : (o : Option (Token × List Token)) → next ts ≡ o → SignedAs ts (signed_at o)
+    by : (o : Option (Token × List Token)) → next ts ≡ o → VariableAs ts (variable_front_at o)
     by None e = tt
     by (Some p) e = by-kind p.0 p.1 e p.0.kind refl
 
@@ -75,25 +76,25 @@ signed-tells ts = by (next ts) refl
 
 -- tokens of a pipeline have nothing in front of it
 plain-front : (ts : List Token) (cs : Pipeline) → SpellsPipeline cs ts → front_in ts ≡ plain
-plain-front ts cs s = by (signed ts) (signed-tells ts)
+plain-front ts cs s = by (variable_front ts) (variable-tells ts)
   where
     -- a sign behind another token is in no pipeline
     none : (name : List ℕ) (k : TokenKind) (us : List Token) (f : Front) → ((t : Token) → t.kind ≡ k → IsStray t)
-        → SignedAs ts (Some (record { name = name; sign = k; rest = us })) → f ≡ plain
+        → VariableAs ts (Some (record { name = name; next_kind = k; rest = us })) → f ≡ plain
     none name k us f stray v =
         let Any : List Token → Type 0 = λ us. Unit {0} in
         spelled-lives ts cs s (dead-read ts (then-dead (IsVariable name) (Then (IsSign k) Any) ts (λ us r. then-stray (IsSign k) Any us stray r) (v Any tt)))
 
-    by-kind : (name : List ℕ) (k : TokenKind) (us : List Token) → SignedAs ts (Some (record { name = name; sign = k; rest = us }))
+    by-kind : (name : List ℕ) (k : TokenKind) (us : List Token) → VariableAs ts (Some (record { name = name; next_kind = k; rest = us }))
         → front_by k name us ≡ plain
     by-kind name kind.Declare us v = none name kind.Declare us _ (sign-stray kind.Declare (λ t h. refl) (λ t. refl)) v
     by-kind name kind.Assign us v = none name kind.Assign us _ (sign-stray kind.Assign (λ t h. refl) (λ t. refl)) v
     by-kind name kind.Comma us v = none name kind.Comma us _ (sign-stray kind.Comma (λ t h. refl) (λ t. refl)) v
     by-kind name _ us v = refl
 
-    by : (o : Option Signed) → SignedAs ts o → front_signed o ≡ plain
+    by : (o : Option VariableFront) → VariableAs ts o → front_of_variable o ≡ plain
     by None v = refl
-    by (Some p) v = by-kind p.name p.sign p.rest v
+    by (Some p) v = by-kind p.name p.next_kind p.rest v
 
 -- the tokens behind a binding
 record SplitAs (b : Binding) (Rest : List Token → Type 0) (ts : List Token) : Type 0 where
@@ -105,17 +106,17 @@ split-bound : (b : Binding) (p : Pipeline) (ts : List Token) → SpellsBinding b
 unfolding split
 split-bound unbound p ts s = record { rest = ts; is = ap (λ f. split_by f ts) (plain-front ts p s); behind = s }
 split-bound (declare name) p ts s =
-    let r = then-signed name kind.Declare (SpellsPipeline p) ts refl s in
-    record { rest = r.rest; is = ap (λ o. split_by (front_signed o) ts) r.is; behind = r.behind }
+    let r = then-variable name kind.Declare (SpellsPipeline p) ts refl s in
+    record { rest = r.rest; is = ap (λ o. split_by (front_of_variable o) ts) r.is; behind = r.behind }
 split-bound (assign name) p ts s =
-    let r = then-signed name kind.Assign (SpellsPipeline p) ts refl s in
-    record { rest = r.rest; is = ap (λ o. split_by (front_signed o) ts) r.is; behind = r.behind }
+    let r = then-variable name kind.Assign (SpellsPipeline p) ts refl s in
+    record { rest = r.rest; is = ap (λ o. split_by (front_of_variable o) ts) r.is; behind = r.behind }
 split-bound (declare_pair key name) p ts s =
-    let r = then-signed key kind.Comma (Then (IsVariable name) (Then (IsSign kind.Declare) (SpellsPipeline p))) ts refl s in
-    let q = then-signed name kind.Declare (SpellsPipeline p) r.rest refl r.behind in
+    let r = then-variable key kind.Comma (Then (IsVariable name) (Then (IsSign kind.Declare) (SpellsPipeline p))) ts refl s in
+    let q = then-variable name kind.Declare (SpellsPipeline p) r.rest refl r.behind in
     record {
       rest = q.rest;
-      is = ap (λ o. split_by (front_signed o) ts) r.is ∙ ap (λ o. split_by (second_signed key o) ts) q.is;
+      is = ap (λ o. split_by (front_of_variable o) ts) r.is ∙ ap (λ o. split_by (second_variable key o) ts) q.is;
       behind = q.behind;
     }
 
@@ -142,7 +143,7 @@ if-read in_range b o h e = by (may_bind in_range b) refl e
 
 pub header-spelled : (in_range : Bool) (h : Header) (ts : List Token) → header_in in_range ts ≡ Some h → SpellsHeader in_range h ts
 unfolding split
-header-spelled in_range h ts e = by (signed ts) (signed-tells ts) e
+header-spelled in_range h ts e = by (variable_front ts) (variable-tells ts) e
   where
     bound-spelled : (b : Binding) (us : List Token) → ((R : List Token → Type 0) → R us → SpellsBinding b R ts) → header_by in_range (b, us) ≡ Some h
         → SpellsHeader in_range h ts
@@ -150,25 +151,25 @@ header-spelled in_range h ts e = by (signed ts) (signed-tells ts) e
         let r = if-read in_range b (pipeline_in us) h e in
         subst (λ x. SpellsHeader in_range x ts) r.to (r.may, f (SpellsPipeline r.source) (spells-read us r.source r.is))
 
-    by-second : (key : List ℕ) (us : List Token) → SignedAs ts (Some (record { name = key; sign = kind.Comma; rest = us }))
-        → (name : List ℕ) (k : TokenKind) (vs : List Token) → SignedAs us (Some (record { name = name; sign = k; rest = vs }))
+    by-second : (key : List ℕ) (us : List Token) → VariableAs ts (Some (record { name = key; next_kind = kind.Comma; rest = us }))
+        → (name : List ℕ) (k : TokenKind) (vs : List Token) → VariableAs us (Some (record { name = name; next_kind = k; rest = vs }))
         → header_by in_range (split_by (second_by k key name vs) ts) ≡ Some h → SpellsHeader in_range h ts
     by-second key us v name kind.Declare vs w e =
         bound-spelled (declare_pair key name) vs (λ R r. v (Then (IsVariable name) (Then (IsSign kind.Declare) R)) (w R r)) e
     by-second key us v name _ vs w e = bound-spelled unbound ts (λ R r. r) e
 
-    behind-comma : (key : List ℕ) (us : List Token) → SignedAs ts (Some (record { name = key; sign = kind.Comma; rest = us }))
-        → (o : Option Signed) → SignedAs us o → header_by in_range (split_by (second_signed key o) ts) ≡ Some h → SpellsHeader in_range h ts
+    behind-comma : (key : List ℕ) (us : List Token) → VariableAs ts (Some (record { name = key; next_kind = kind.Comma; rest = us }))
+        → (o : Option VariableFront) → VariableAs us o → header_by in_range (split_by (second_variable key o) ts) ≡ Some h → SpellsHeader in_range h ts
     behind-comma key us v None w e = bound-spelled unbound ts (λ R r. r) e
-    behind-comma key us v (Some s) w e = by-second key us v s.name s.sign s.rest w e
+    behind-comma key us v (Some s) w e = by-second key us v s.name s.next_kind s.rest w e
 
-    by-kind : (name : List ℕ) (k : TokenKind) (us : List Token) → SignedAs ts (Some (record { name = name; sign = k; rest = us }))
+    by-kind : (name : List ℕ) (k : TokenKind) (us : List Token) → VariableAs ts (Some (record { name = name; next_kind = k; rest = us }))
         → header_by in_range (split_by (front_by k name us) ts) ≡ Some h → SpellsHeader in_range h ts
     by-kind name kind.Declare us v e = bound-spelled (declare name) us v e
     by-kind name kind.Assign us v e = bound-spelled (assign name) us v e
-    by-kind name kind.Comma us v e = behind-comma name us v (signed us) (signed-tells us) e
+    by-kind name kind.Comma us v e = behind-comma name us v (variable_front us) (variable-tells us) e
     by-kind name _ us v e = bound-spelled unbound ts (λ R r. r) e
 
-    by : (o : Option Signed) → SignedAs ts o → header_by in_range (split_by (front_signed o) ts) ≡ Some h → SpellsHeader in_range h ts
+    by : (o : Option VariableFront) → VariableAs ts o → header_by in_range (split_by (front_of_variable o) ts) ≡ Some h → SpellsHeader in_range h ts
     by None v e = bound-spelled unbound ts (λ R r. r) e
-    by (Some s) v e = by-kind s.name s.sign s.rest v e
+    by (Some s) v e = by-kind s.name s.next_kind s.rest v e

@@ -1,5 +1,5 @@
--- For `pipeline`, which lets go of what stands in parentheses where they nest too deep: it reads just the tokens that are read
--- without a limit.
+-- For `pipeline` and `commands_in`, which let go of what stands in parentheses where they nest too deep: they read just
+-- the tokens that are read without a limit.
 use Rattle.std.proofs.Common.{arith, ◌≡◌, ◌∙◌, ◌<◌, ℕ, Bool, true, false, nat_le, List, [], ◌∷◌, ◌++◌, Option, Some, None}
 use Rattle.std.proofs.Common.{refl, ap, sym, map, ⊎_elim}
 use Rattle.std.proofs.lemmas.Bool.Decides.{leb_tells}

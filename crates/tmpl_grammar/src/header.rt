@@ -5,7 +5,7 @@ ghost use Rattle.tmpl_grammar.specs.Header.{may_bind};
 ghost use Rattle.tmpl_grammar.specs.View.{binding_of, header_of};
 ghost use Rattle.tmpl_grammar.specs.computed.Depth.{limited_header};
 ghost use Rattle.tmpl_grammar.specs.computed.Reading as spec;
-ghost use Rattle.tmpl_grammar.specs.computed.View.{front_of, signed_of, split_of};
+ghost use Rattle.tmpl_grammar.specs.computed.View.{front_of, split_of, variable_front_of};
 
 use crate::operand::{name_in, next};
 use crate::pipeline::pipeline;
@@ -26,17 +26,18 @@ enum Front<'t, 'b> {
     DeclarePair(&'b [u8], &'b [u8], &'t [Token<'b>]),
 }
 
-/// A variable by its name, the kind of the next token that is no white space, and the tokens behind that.
+/// A variable that comes first: its name, the kind of the next token that is no white space, and the tokens behind
+/// that.
 #[derive(Clone, Copy)]
-struct Signed<'t, 'b> {
+struct VariableFront<'t, 'b> {
     name: &'b [u8],
-    sign: TokenKind,
+    next_kind: TokenKind,
     rest: &'t [Token<'b>],
 }
 
 /// The variable that comes first, of a name of at least one byte, and what stands behind it.
-fn first_variable<'t, 'b>(tokens: &'t [Token<'b>]) -> Option<Signed<'t, 'b>>
-    ensures { option_map signed_of result ≡ spec.signed (map token_of tokens.now) }
+fn first_variable<'t, 'b>(tokens: &'t [Token<'b>]) -> Option<VariableFront<'t, 'b>>
+    ensures { option_map variable_front_of result ≡ spec.variable_front (map token_of tokens.now) }
 {
     let (first, rest) = next(tokens)?;
     match first.kind {
@@ -46,16 +47,16 @@ fn first_variable<'t, 'b>(tokens: &'t [Token<'b>]) -> Option<Signed<'t, 'b>>
 }
 
 /// A name of at least one byte, and what stands behind it.
-fn variable_named<'t, 'b>(name: &'b [u8], rest: &'t [Token<'b>]) -> Option<Signed<'t, 'b>>
-    ensures { option_map signed_of result ≡ spec.signed_by name.now (map token_of rest.now) }
+fn variable_named<'t, 'b>(name: &'b [u8], rest: &'t [Token<'b>]) -> Option<VariableFront<'t, 'b>>
+    ensures { option_map variable_front_of result ≡ spec.variable_front_by name.now (map token_of rest.now) }
 {
     match name {
         [] => None,
         _ => {
-            let (sign, rest) = next(rest)?;
-            Some(Signed {
+            let (token, rest) = next(rest)?;
+            Some(VariableFront {
                 name,
-                sign: sign.kind,
+                next_kind: token.kind,
                 rest,
             })
         }
@@ -69,7 +70,7 @@ fn header_front<'t, 'b>(tokens: &'t [Token<'b>]) -> Front<'t, 'b>
     let Some(first) = first_variable(tokens) else {
         return Front::Plain;
     };
-    match first.sign {
+    match first.next_kind {
         TokenKind::Declare => Front::Declare(first.name, first.rest),
         TokenKind::Assign => Front::Assign(first.name, first.rest),
         TokenKind::Comma => second_name(first.name, first.rest),
@@ -79,12 +80,12 @@ fn header_front<'t, 'b>(tokens: &'t [Token<'b>]) -> Front<'t, 'b>
 
 /// The second of two variables, behind the comma.
 fn second_name<'t, 'b>(key: &'b [u8], tokens: &'t [Token<'b>]) -> Front<'t, 'b>
-    ensures { front_of result ≡ spec.second_signed key.now (spec.signed (map token_of tokens.now)) }
+    ensures { front_of result ≡ spec.second_variable key.now (spec.variable_front (map token_of tokens.now)) }
 {
     let Some(second) = first_variable(tokens) else {
         return Front::Plain;
     };
-    match second.sign {
+    match second.next_kind {
         TokenKind::Declare => Front::DeclarePair(key, second.name, second.rest),
         _ => Front::Plain,
     }

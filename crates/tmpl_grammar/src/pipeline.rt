@@ -19,7 +19,7 @@ use tmpl_lex::{Token, TokenKind};
 const MOST_DEEP: usize = 100;
 
 /// The pipeline that these tokens spell, left out where its parentheses nest too deep. Then all that is left to tell is
-/// whether the tokens are a pipeline, and what stands in parentheses is let go of as it is read, so that no tree is
+/// whether the tokens are a pipeline, and what stands in parentheses is let go of once they close, so that no tree is
 /// deep. No call is recursive.
 pub(crate) fn pipeline(alloc: Global, tokens: &[Token<'_>]) -> Result<Option<Pipeline>, AllocError>
     ensures { IfOk result (λ o. option_map pipeline_of o
@@ -27,7 +27,7 @@ pub(crate) fn pipeline(alloc: Global, tokens: &[Token<'_>]) -> Result<Option<Pip
 {
     let keeps = is_shallow(tokens);
     let commands = commands_in(alloc, keeps, tokens)?;
-    Ok(limited(alloc, keeps, commands))
+    Ok(make_pipeline(alloc, keeps, commands))
 }
 
 /// The commands of the pipeline that these tokens spell, with what stands in parentheses or without it.
@@ -50,20 +50,14 @@ fn commands_in(
 }
 
 /// The pipeline of these commands, which are left out where nothing in parentheses was kept.
-fn limited(alloc: Global, keeps: bool, commands: Option<Vec<Command>>) -> Option<Pipeline>
+fn make_pipeline(alloc: Global, keeps: bool, commands: Option<Vec<Command>>) -> Option<Pipeline>
     ensures { option_map pipeline_of result
         ≡ limited_commands keeps (option_map (λ v. map command_of v.items) commands) }
 {
-    match commands {
-        Some(commands) => if keeps {
-            Some(Pipeline { commands })
-        } else {
-            Some(Pipeline {
-                commands: Vec::new(alloc),
-            })
-        },
-        None => None,
-    }
+    let commands = commands?;
+    Some(Pipeline {
+        commands: if keeps { commands } else { Vec::new(alloc) },
+    })
 }
 
 /// Whether parentheses nest no deeper than they may.

@@ -1,5 +1,5 @@
--- A parser of pipelines for tokens whose parentheses nest too deep: it lets go of what stands in them, and tells for
--- all that whether the tokens are a pipeline.
+-- The parser of pipelines as the code has it: where parentheses nest too deep it lets go of what stands in them once
+-- they close, and tells for all that whether the tokens are a pipeline.
 use Rattle.std.specs.Prelude.{ℕ, suc, ◌-◌, max, Bool, true, false, List, [], ◌∷◌, Option, Some}
 use Rattle.std.specs.Prelude.{option_map, option_and_then}
 use Rattle.tmpl_lex.specs.declared.piece.TokenKind.{TokenKind}
@@ -21,7 +21,7 @@ abbrev pub deepest : ℕ → List Token → ℕ
 deepest n [] = n
 deepest n (t ∷ ts) = max n (deepest (depth_behind t.kind n) ts)
 
--- an operand, with nothing in it
+-- an operand, with nothing in its parentheses and no chain behind them
 abbrev pub emptied : Operand → Operand
 emptied (tree.group commands names) = tree.group tree.no_command []
 emptied o = o

@@ -33,32 +33,32 @@ pipeline_in ts = option_map commands_from (commands_after start ts)
 
 -- ---- headers
 
--- a variable by its name, the kind of the next token that is no white space, and the tokens behind that
-pub record Signed : Type 0 where
+-- a variable that comes first: its name, the kind of the next token that is no white space, and the tokens behind that
+pub record VariableFront : Type 0 where
   pub name : List ℕ
-  pub sign : TokenKind
+  pub next_kind : TokenKind
   pub rest : List Token
 
-abbrev pub sign_behind : List ℕ → Option (Token × List Token) → Option Signed
-sign_behind name None = None
-sign_behind name (Some p) = Some (record { name = name; sign = p.0.kind; rest = p.1 })
+abbrev pub variable_before : List ℕ → Option (Token × List Token) → Option VariableFront
+variable_before name None = None
+variable_before name (Some p) = Some (record { name = name; next_kind = p.0.kind; rest = p.1 })
 
 -- a name of a variable has at least one byte
-abbrev pub signed_by : List ℕ → List Token → Option Signed
-signed_by [] ts = None
-signed_by (b ∷ bs) ts = sign_behind (b ∷ bs) (next ts)
+abbrev pub variable_front_by : List ℕ → List Token → Option VariableFront
+variable_front_by [] ts = None
+variable_front_by (b ∷ bs) ts = variable_before (b ∷ bs) (next ts)
 
-abbrev pub signed_kind : TokenKind → Token → List Token → Option Signed
-signed_kind kind.Variable t ts = signed_by (name_in t) ts
-signed_kind k t ts = None
+abbrev pub variable_front_kind : TokenKind → Token → List Token → Option VariableFront
+variable_front_kind kind.Variable t ts = variable_front_by (name_in t) ts
+variable_front_kind k t ts = None
 
-abbrev pub signed_at : Option (Token × List Token) → Option Signed
-signed_at None = None
-signed_at (Some p) = signed_kind p.0.kind p.0 p.1
+abbrev pub variable_front_at : Option (Token × List Token) → Option VariableFront
+variable_front_at None = None
+variable_front_at (Some p) = variable_front_kind p.0.kind p.0 p.1
 
 -- where a variable comes first
-abbrev pub signed : List Token → Option Signed
-signed ts = signed_at (next ts)
+abbrev pub variable_front : List Token → Option VariableFront
+variable_front ts = variable_front_at (next ts)
 
 -- what comes first in a header: variables and a sign, or neither, and the tokens behind them
 pub data Front : Type 0 where
@@ -70,23 +70,23 @@ abbrev pub second_by : TokenKind → List ℕ → List ℕ → List Token → Fr
 second_by kind.Declare key name ts = bound (declare_pair key name) ts
 second_by k key name ts = plain
 
-abbrev pub second_signed : List ℕ → Option Signed → Front
-second_signed key None = plain
-second_signed key (Some s) = second_by s.sign key s.name s.rest
+abbrev pub second_variable : List ℕ → Option VariableFront → Front
+second_variable key None = plain
+second_variable key (Some s) = second_by s.next_kind key s.name s.rest
 
 -- behind `$x`
 abbrev pub front_by : TokenKind → List ℕ → List Token → Front
 front_by kind.Declare name ts = bound (declare name) ts
 front_by kind.Assign name ts = bound (assign name) ts
-front_by kind.Comma name ts = second_signed name (signed ts)
+front_by kind.Comma name ts = second_variable name (variable_front ts)
 front_by k name ts = plain
 
-abbrev pub front_signed : Option Signed → Front
-front_signed None = plain
-front_signed (Some s) = front_by s.sign s.name s.rest
+abbrev pub front_of_variable : Option VariableFront → Front
+front_of_variable None = plain
+front_of_variable (Some s) = front_by s.next_kind s.name s.rest
 
 abbrev pub front_in : List Token → Front
-front_in ts = front_signed (signed ts)
+front_in ts = front_of_variable (variable_front ts)
 
 -- the binding, and the tokens of the pipeline
 abbrev pub split_by : Front → List Token → Binding × List Token

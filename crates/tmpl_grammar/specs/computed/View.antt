@@ -15,7 +15,7 @@ use Rattle.tmpl_grammar.specs.declared.action.Reading as held_reading
 use Rattle.tmpl_grammar.specs.declared.action.Reading.TheVariants as held
 use Rattle.tmpl_grammar.specs.declared.constant.quoted.Part.{Part}
 use Rattle.tmpl_grammar.specs.declared.constant.quoted.Part.TheVariants as part
-use Rattle.tmpl_grammar.specs.declared.header.Signed.{Signed}
+use Rattle.tmpl_grammar.specs.declared.header.VariableFront.{VariableFront}
 use Rattle.tmpl_grammar.specs.declared.header.Front.{Front}
 use Rattle.tmpl_grammar.specs.declared.header.Front.TheVariants as front
 use Rattle.tmpl_grammar.specs.declared.pipeline.parser.PipelineParser.{PipelineParser}
@@ -32,8 +32,8 @@ quoted_of p = (p.0, map token_of p.1.now)
 abbrev pub next_of : held_token.Token × Bor (List held_token.Token) → Token × List Token
 next_of p = (token_of p.0, map token_of p.1.now)
 
-abbrev pub signed_of : Signed → reading.Signed
-signed_of s = record { name = s.name.now; sign = s.sign; rest = map token_of s.rest.now }
+abbrev pub variable_front_of : VariableFront → reading.VariableFront
+variable_front_of s = record { name = s.name.now; next_kind = s.next_kind; rest = map token_of s.rest.now }
 
 abbrev pub front_of : Front → reading.Front
 front_of front.Plain = reading.plain

@@ -1,6 +1,6 @@
 -- The token at the front of bytes of an action, computed: the twin of `IsToken`.
-use Rattle.std.specs.Prelude.{ℕ, ◌-◌, Bool, true, false, ◌||◌, ◌==◌, List, [], ◌∷◌, take, drop, take_while, Option, Some}
-use Rattle.std.specs.Prelude.{None, option_map, if◌then◌else◌}
+use Rattle.std.specs.Prelude.{ℕ, ◌-◌, Bool, true, false, ◌||◌, ◌==◌, List, [], ◌∷◌, take, drop, take_while, Option}
+use Rattle.std.specs.Prelude.{Some, None, option_map, if◌then◌else◌}
 use Rattle.std.specs.Char.{is_ascii_digit}
 use Rattle.std.specs.List.{prefix_len}
 use Rattle.tmpl_lex.specs.Bytes.{is_space, is_name_byte, is_number_byte}
@@ -12,7 +12,8 @@ use Rattle.tmpl_lex.specs.declared.piece.TokenKind.TheVariants.{Space, Word, Num
 use Rattle.tmpl_lex.specs.declared.piece.TokenKind.TheVariants.{RawString, Character, Declare, Assign, Comma, Pipe}
 use Rattle.tmpl_lex.specs.declared.piece.TokenKind.TheVariants.{LeftParenthesis, RightParenthesis}
 
--- how many bytes are left of white space before what ends a right trim marker or does not, whose last byte is the marker's
+-- how much is left of so much white space where the rest of a right trim marker stands behind it, since its last byte
+-- is the marker's then, or where none does
 abbrev pub unmarked : Bool → ℕ → ℕ
 unmarked true n = n - 1
 unmarked false n = n

@@ -8,7 +8,7 @@ use Rattle.tmpl_grammar.proofs.pipeline.pipeline.Goals as goal
 pub returns : goal.returns
 returns c =
     let ts = map token_of c.args.tokens.now in
-    c.limited.ensures
+    c.make_pipeline.ensures
     ∙ ap (limited_commands c.is_shallow-keeps.result) c.in_ok-commands.ensures
     ∙ ap (λ (keeps : Bool). limited_commands keeps (pruned_commands keeps start ts)) c.is_shallow-keeps.ensures
     ∙ limited-read ts
