@@ -1,4 +1,4 @@
--- For `check`: the verdict, from item to item.
+-- For `check`: the verdict, from item to item and at the end.
 use Rattle.std.proofs.Common.{arith, ◌≡◌, ◌≢◌, ℕ, ◌+◌, ◌<◌, ◌≤◌, List, [], ◌∷◌, refl, sym, ap, ◌∙◌, subst, length, map, drop, get_or, reverse}
 use Rattle.std.proofs.Common.{Option, Some, None, Ok, Err}
 use Rattle.std.specs.Prelude.{slice_get}

@@ -1,4 +1,4 @@
--- For `add_file`: a file and the set before and after it, by where the file is refused.
+-- For `add_copy`, `add_file` and `add_items`: a file and the set before and after it, by where the file is refused.
 use Rattle.std.proofs.Common.{◌≡◌, ◌<◌, ◌≤◌, ℕ, List, Option, Some, None, Ok, Err, sym, ap, ◌∙◌, length, cond, map}
 use Rattle.std.proofs.lemmas.Bool.{lt-ltb, le-ltb}
 use Rattle.tmpl_syntax.specs.Fault.{Reason, too_long}

@@ -1,6 +1,6 @@
 -- For `more_branches`, `parse_file` and `parse_owned`: what a language accepts, one with more else branches accepts, and what
 -- was added of a file, with its path at a refusal, is what each clause says.
-use Rattle.std.proofs.Common.{◌≡◌, ◌∙◌, ℕ, true, suc, List, [], ◌∷◌, Option, Some, None, Result, Ok, Err, refl, ap, sym, length, subst}
+use Rattle.std.proofs.Common.{◌≡◌, ◌∙◌, ℕ, true, suc, List, [], ◌∷◌, Option, Some, None, Result, Ok, Err, refl, ap, sym, length}
 use Rattle.std.specs.Prelude.{slice_get}
 use Rattle.tmpl_lex.specs.Piece.{Piece}
 use Rattle.tmpl_grammar.specs.Action.{Action, else_branch}
@@ -18,7 +18,6 @@ use Rattle.tmpl_syntax.specs.Set.{Template}
 use Rattle.tmpl_syntax.specs.Parse.{IsAccepted, IsReading, IsAsBefore}
 use Rattle.tmpl_syntax.specs.computed.Parse.{Refusal, IsRefusal, parsed, IsAdded, IsParse, with_file}
 use Rattle.std.specs.Borrow.{Bor}
-use Rattle.tmpl_syntax.specs.declared.fault.ParseFault.{ParseFault}
 use Rattle.tmpl_syntax.specs.declared.fault.Refusal as held
 
 -- no item of these is unread
@@ -82,15 +81,5 @@ module _ (old : List Template) (file : Bor (List ℕ)) (bytes : List ℕ) (new :
   pub before-with : (r : Result (Unit {0}) held.Refusal) → IsAdded old file.now bytes new r → IsAsBefore old file bytes new (with_file file r)
   before-with (Ok u) is = λ set go. same-before old file.now bytes set go new is
   before-with (Err r) (same, is) = λ set go. only-memory old file.now bytes set go r.line (reason_of r.kind) is
-
-  -- what the three clauses say
-  pub record Added (result : Result (Unit {0}) ParseFault) : Type 0 where
-    pub reading : IsReading old file bytes new result
-    pub value : IsParse old file bytes new result
-    pub before : IsAsBefore old file bytes new result
-
-  pub added : (result : Result (Unit {0}) ParseFault) (r : Result (Unit {0}) held.Refusal) → result ≡ with_file file r → IsAdded old file.now bytes new r
-      → Added result
-  added result r e is = subst Added (sym e) (record { reading = reading-with r is; value = parse-with r is; before = before-with r is })
 
 pub ruleset with_files = (reading-with, parse-with, before-with)

@@ -1,4 +1,5 @@
--- For `KnownNames` and `one_verdict`: the names that are known, as they are held, and with more behind them.
+-- For `KnownNames`, `one_verdict`, `formed` and `accepted_back`: the names that are known, as they are held, and with more
+-- behind them.
 use Rattle.std.proofs.Common.{arith, ◌≡◌, ℕ, ◌≤◌, Bool, true, false, ◌||◌, List, [], ◌∷◌, ◌++◌, refl, sym, ap, ◌∙◌, length, take, map, Bor, ⊎_elim, ◌⊎◌}
 use Rattle.std.proofs.Common.{inl, inr, append_assoc, append-nil, length-append, if◌then◌else◌}
 use Rattle.std.specs.Prelude.{Contains}

@@ -1,5 +1,5 @@
--- For `one_verdict`: each list has one verdict, the one that is found in one pass: up to each place nothing is refused, and
--- the stack is what is open.
+-- For `one_verdict`, `check` and `more_branches`: each list has one verdict, the one that is found in one pass: up to each
+-- place nothing is refused, and the stack is what is open.
 use Rattle.std.proofs.Common.{arith, ◌≡◌, ℕ, ◌<◌, List, length, refl, subst, ⊎_elim, ◌+◌, true, false, [], ◌∷◌, sym, Some, None, suc, ap, ◌∙◌, drop, get_or}
 use Rattle.std.proofs.Common.{length-drop, get_or-drop, Option}
 use Rattle.std.proofs.lemmas.Bool.{cases_order, cases_lt}

@@ -1,15 +1,12 @@
 -- For code on nodes: nodes, seen by their parts.
-use Rattle.std.proofs.Common.{rules, ◌≡◌, ◌∙◌, ℕ, Vec, Box, Global}
+use Rattle.std.proofs.Common.{rules, ◌≡◌, ◌∙◌, ℕ, Box, Global}
 use Rattle.tmpl_grammar.specs.View.{header_of}
-use Rattle.tmpl_grammar.specs.declared.tree.Control as held_control
-use Rattle.tmpl_grammar.specs.declared.tree.Header as held_header
 use Rattle.tmpl_syntax.specs.Tree.{NodeKind, control_node}
 use Rattle.tmpl_syntax.specs.View.{control_of, node_of, nodes_in}
 use Rattle.tmpl_syntax.specs.computed.View.{kind_of}
-use Rattle.tmpl_syntax.specs.declared.tree.Node as held_node
-use Rattle.tmpl_syntax.specs.declared.tree.Node.{out-Node, roll-Node}
+use Rattle.tmpl_syntax.specs.declared.tree.Node.{roll-Node}
 use Rattle.tmpl_syntax.specs.declared.tree.ControlNode as held_node_control
-use Rattle.tmpl_syntax.specs.declared.tree.ControlNode.{out-ControlNode, roll-ControlNode}
+use Rattle.tmpl_syntax.specs.declared.tree.ControlNode.{out-ControlNode}
 use Rattle.tmpl_syntax.specs.declared.tree.NodeKind as held_kind
 use Rattle.tmpl_syntax.specs.declared.tree.NodeKind.{Control, the_lemmas}
 
@@ -19,11 +16,6 @@ node_of-Node line what = search (rules, the_lemmas)
 
 pub kind_of-Control : (c : Box held_node_control.ControlNode Global) → kind_of (Control c) ≡ control_of c.value
 kind_of-Control c = search (rules, the_lemmas)
-
-pub control_of-ControlNode : (c : held_control.Control) (h : held_header.Header) (body other : Vec held_node.Node Global)
-    → control_of (roll-ControlNode (record { control = c; header = h; body = body; other = other }))
-    ≡ control_node c (header_of h) (nodes_in body.items) (nodes_in other.items)
-control_of-ControlNode c h body other = search (rules, the_lemmas)
 
 -- .. and so by its fields
 abbrev pub control_seen : held_node_control.ControlNode → NodeKind

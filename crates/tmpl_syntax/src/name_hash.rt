@@ -1,4 +1,4 @@
-//! How a set hashes names.
+//! How names are hashed.
 ghost use Rattle.std.specs.Prelude.{◌≡◌};
 ghost use Rattle.core.specs.Hash.DefaultHasher.{with_keys};
 ghost use Rattle.tmpl_syntax.specs.Set.{first_hasher};

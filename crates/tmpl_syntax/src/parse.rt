@@ -158,7 +158,7 @@ fn refuse_second(alloc: Global, hash: NameHash, definitions: &[Definition]) -> R
         if is_blank(definition.nodes.as_slice()) {
             continue;
         }
-        if !names.push(definition.name.as_slice())? {
+        if !names.insert(definition.name.as_slice())? {
             return Err(Refusal {
                 line: definition.line,
                 kind: ParseKind::SecondDefinition,

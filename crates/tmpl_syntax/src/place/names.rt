@@ -1,4 +1,4 @@
-//! The names that are known at a place.
+//! Names, each of them once: those that are known at a place, and those of a file's definitions.
 ghost use Rattle.std.specs.Prelude.{◌≡◌, [], IfOk, length, not, take};
 ghost use Rattle.tmpl_syntax.specs.computed.View.{known_names};
 ghost use Rattle.tmpl_syntax.specs.computed.Frames.{is_known, with_name};
@@ -7,8 +7,8 @@ use crate::name_hash::NameHash;
 use indexmap::IndexSet;
 use std::alloc::{AllocError, Global};
 
-/// The names that were declared so far and are not out of scope, each of them once and the newest last, so that one is
-/// found without a walk over all.
+/// Names, each of them once and in the order in which they were first added, so that one is found without a walk over
+/// all: the variables that were declared so far and are not out of scope, or the names that a file defined so far.
 #[derive(Drop)]
 pub(crate) struct KnownNames<'i> {
     names: IndexSet<&'i [u8], NameHash>,
@@ -33,7 +33,7 @@ impl<'i> KnownNames<'i> {
     }
 
     /// Adds a name, and says whether it is new. After an error the names are as they were.
-    pub(crate) fn push(&mut self, name: &'i [u8]) -> Result<bool, AllocError>
+    pub(crate) fn insert(&mut self, name: &'i [u8]) -> Result<bool, AllocError>
         ensures new { IfOk result (λ b. b ≡ not (is_known (known_names self.old) name.now)) }
         ensures names { IfOk result (λ b. known_names self.new ≡ with_name (known_names self.old) name.now) }
     {

@@ -156,11 +156,11 @@ fn declare<'i>(names: &mut KnownNames<'i>, binding: &'i Binding) -> Result<(), A
 {
     match binding {
         Binding::Declare(name) => {
-            names.push(name.as_slice())?;
+            names.insert(name.as_slice())?;
         }
         Binding::DeclarePair(pair) => {
-            names.push(pair.key.as_slice())?;
-            names.push(pair.element.as_slice())?;
+            names.insert(pair.key.as_slice())?;
+            names.insert(pair.element.as_slice())?;
         }
         Binding::Unbound | Binding::Assign(_) => {}
     }

@@ -1,7 +1,7 @@
 use Rattle.std.proofs.Common.{ap, ◌∙◌, not}
 use Rattle.tmpl_syntax.specs.computed.View.{known_names}
 use Rattle.tmpl_syntax.proofs.NameLemmas.{seen, known-held, with-held}
-use Rattle.tmpl_syntax.proofs.place.names.KnownNames.push.Goals as goal
+use Rattle.tmpl_syntax.proofs.place.names.KnownNames.insert.Goals as goal
 
 pub returns-clause-new : goal.returns-clause-new
 unfolding known_names
