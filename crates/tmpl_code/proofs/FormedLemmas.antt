@@ -9,7 +9,7 @@ use Rattle.tmpl_grammar.specs.Tree.{Binding, unbound, declare, assign, declare_p
 use Rattle.tmpl_grammar.specs.declared.tree.Control.{Control}
 use Rattle.tmpl_grammar.specs.declared.tree.Control.TheVariants as control
 use Rattle.tmpl_syntax.specs.Tree as tree
-use Rattle.tmpl_syntax.specs.Tree.{NodeKind, Nodes, text, action, control_node, break_node, continue_node, template_node}
+use Rattle.tmpl_syntax.specs.Tree.{NodeKind, Nodes, text, action, control_node, template_node}
 use Rattle.tmpl_syntax.specs.Place.Role.{Name, names_of, names_given}
 use Rattle.tmpl_syntax.specs.Formed.{is_among, are_among, declared_to, else_scope, is_looped, scope_behind, is_formed, are_formed}
 use Rattle.tmpl_syntax.proofs.FormedLemmas.{control-formed}

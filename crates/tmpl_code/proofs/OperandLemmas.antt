@@ -1,4 +1,5 @@
--- For `put_operand` and `cost_of_operand`: the weight of operands one level at a time, by which their recursion ends.
+-- For `put_operand`, `cost_of_operand` and what they call: the weight of operands one level at a time, by which their
+-- recursion ends, and how many there are.
 use Rattle.std.proofs.Common.{arith, ◌≡◌, ◌+◌, ◌<◌, ◌≤◌, ℕ, zero, suc, Bool, true, false, not, List, [], ◌∷◌, length, get_or, refl, ap, sym, subst}
 use Rattle.tmpl_grammar.specs.Need.{need_of_arguments}
 use Rattle.tmpl_grammar.specs.Tree.{Operand, group, Operands, no_operand, operand, Pipeline, no_command, command}
@@ -58,6 +59,6 @@ slice-weights cs i c os h is = subst (λ (ps : List held.Operand). weights (oper
 
 pub ruleset lighter = (item-weight, slice-weights)
 
--- arguments from one to the next, which a loop adds up
+-- where no argument is left, what is held is the need
 pub no_argument : (n : ℕ) → need_of_arguments n no_operand ≡ n
 no_argument n = refl

@@ -1,9 +1,8 @@
--- For `turns` and the laws `each_turn_lessens`, `only_adds`, `mark_stays`, `stays_within` and `one_end`: what each instruction does to steps, depth,
--- place and cells, and that it adds to text and mark and does nothing else by what they were.
+-- For `turns` and the laws `each_turn_lessens`, `only_adds`, `mark_stays`, `stays_within` and `one_end`: `does` goes over the instructions once. The turn
+-- of each is that over no text and no mark, told behind those that were there; it lessens the measure and keeps the cells within the stack.
 use Rattle.std.proofs.lemmas.Bool.Decides.{nat_tests}
-use Rattle.std.proofs.Common.{arith, inl, inr, ◌≡◌, ◌≢◌, ◌∙◌, ◌+◌, ◌-◌, ◌<◌, ◌≤◌, ◌||◌, ◌++◌, nat_eq, nat_lt, ℕ, zero, suc, Bool, true, false, List, [], ◌∷◌}
+use Rattle.std.proofs.Common.{arith, inl, inr, ◌≡◌, ◌≢◌, ◌∙◌, ◌+◌, ◌-◌, ◌*◌, ◌<◌, ◌≤◌, ◌||◌, ◌++◌, nat_eq, nat_lt, ℕ, zero, suc, Bool, true, false, List, [], ◌∷◌}
 use Rattle.std.proofs.Common.{length, drop, take, reverse, refl, ap, sym, subst, Option, Some, None, Result, Ok, Err, append-nil, append_assoc, length-drop}
-use Rattle.std.proofs.Common.{◌*◌}
 use Rattle.std.proofs.Math.Bool.{or-false, or_assoc}
 use Rattle.std.proofs.lemmas.List.{length-set}
 use Rattle.std.specs.Prelude.{slice_get}
@@ -35,6 +34,7 @@ use Rattle.tmpl_run.specs.computed.Turned.{mark_behind}
 -- ---- how many cells a step of a pipeline leaves
 
 module _ (size : ℕ) where
+  -- what a step leaves fits the stack
   abbrev StepWithin : Went → Type 0
   StepWithin (on skip cs) = length cs ≤ size
   StepWithin (halted cause) = Unit {0}
@@ -67,27 +67,28 @@ module _ (size : ℕ) where
   step-within (code.refuse why) s cs fits h = tt
   step-within o s cs fits h = fits
 
--- ---- what an instruction does, whatever was told before it
+-- ---- what an instruction does, whatever was put out before it
 
 -- a turn that tells this text and this mark
-abbrev told : List ℕ → Bool → Turn → Turn
-told x m (goes t) = goes (record t { text = x; made_text = m })
-told x m (ended r) = ended (record r { text = x; made_text = m })
-told x m stuck = stuck
+abbrev tell : List ℕ → Bool → Turn → Turn
+tell x m (goes t) = goes (record t { text = x; made_text = m })
+tell x m (ended r) = ended (record r { text = x; made_text = m })
+tell x m stuck = stuck
 
 abbrev with_told : List ℕ → Bool → State → State
 with_told x m s = record s { text = x; made_text = m }
 
--- behind a text the bytes that are put, if there are some
-abbrev behind : List ℕ → List ℕ → List ℕ
-behind [] x = x
-behind (b ∷ bs) x = x ++ b ∷ bs
+-- a text with bytes behind it; by cases, so that it computes to the text where there are none
+abbrev extend : List ℕ → List ℕ → List ℕ
+extend [] x = x
+extend (b ∷ bs) x = x ++ b ∷ bs
 
-behind-is : (x bytes : List ℕ) → x ++ bytes ≡ behind bytes x
-behind-is x [] = append-nil x
-behind-is x (b ∷ bs) = refl
+extend-is : (x bytes : List ℕ) → x ++ bytes ≡ extend bytes x
+extend-is x [] = append-nil x
+extend-is x (b ∷ bs) = refl
 
--- by the size of the stack, and what an instruction asks of it: the measure is lessened, and the cells stay within the stack
+-- by the size of the stack, and what an instruction asks of it: the measure is lessened, at most one template more is open, and the cells
+-- stay within the stack
 abbrev Lawful : ℕ → State → Type 0 → Turn → Type 0
 Lawful size s Fit (goes t) = Lessens s t × (t.depth ≤ suc s.depth) × (length s.cells ≤ size → Fit → length t.cells ≤ size)
 Lawful size s Fit (ended r) = Unit {0}
@@ -96,41 +97,43 @@ Lawful size s Fit stuck = Unit {0}
 -- a turn by text and mark: what it does hangs on neither
 record Does (size : ℕ) (s : State) (Fit : Type 0) (mark : Bool → Bool) (turn : List ℕ → Bool → Turn) : Type 0 where
   pub bytes : List ℕ
-  pub same : (x : List ℕ) (m : Bool) → turn x m ≡ told (behind bytes x) (mark m) (turn [] false)
+  pub same : (x : List ℕ) (m : Bool) → turn x m ≡ tell (extend bytes x) (mark m) (turn [] false)
   pub lawful : Lawful size s Fit (turn [] false)
 
 module _ (size : ℕ) (plan : Plan) (me : Template) (s : State) where
-  abbrev Quiet : Type 0 → (List ℕ → Bool → Turn) → Type 0
-  Quiet Fit turn = Does size s Fit (λ m. m) turn
+  -- a turn behind which the mark is as before
+  abbrev Unmarked : Type 0 → (List ℕ → Bool → Turn) → Type 0
+  Unmarked Fit turn = Does size s Fit (λ m. m) turn
 
-  -- nothing is put out
-  quiet : {Fit : Type 0} {turn : List ℕ → Bool → Turn} → ((x : List ℕ) (m : Bool) → turn x m ≡ told x m (turn [] false)) → Lawful size s Fit (turn [] false)
-      → Quiet Fit turn
+  -- nothing is put out, and the mark stays
+  quiet : {Fit : Type 0} {turn : List ℕ → Bool → Turn} → ((x : List ℕ) (m : Bool) → turn x m ≡ tell x m (turn [] false)) → Lawful size s Fit (turn [] false)
+      → Unmarked Fit turn
   quiet same lawful = record { bytes = []; same = same; lawful = lawful }
 
+  -- these bytes are put out
   puts : {Fit : Type 0} (bytes : List ℕ) (cs : List Cell) → (length s.cells ≤ size → Fit → length cs ≤ size)
-      → Quiet Fit (λ x m. goes (record s { cells = cs; text = x ++ bytes; made_text = m; place = s.place + 1 }))
+      → Unmarked Fit (λ x m. goes (record s { cells = cs; text = x ++ bytes; made_text = m; place = s.place + 1 }))
   puts bytes cs h = record {
     bytes = bytes;
-    same = λ x m. ap (λ l. goes (record s { cells = cs; text = l; made_text = m; place = s.place + 1 })) (behind-is x bytes);
+    same = λ x m. ap (λ l. goes (record s { cells = cs; text = l; made_text = m; place = s.place + 1 })) (extend-is x bytes);
     lawful = (inr (refl, inr (refl, omega arith)), omega arith, h);
   }
 
   -- ---- the cells that are found
 
   top-does : {Fit : Type 0} (cs : List Cell) (go : List ℕ → Bool → Cell → List Cell → Turn)
-      → ((c : Cell) (ds : List Cell) → length cs ≡ suc (length ds) → Quiet Fit (λ x m. go x m c ds)) → Quiet Fit (λ x m. top cs (go x m))
+      → ((c : Cell) (ds : List Cell) → length cs ≡ suc (length ds) → Unmarked Fit (λ x m. go x m c ds)) → Unmarked Fit (λ x m. top cs (go x m))
   top-does [] go h = quiet (λ x m. refl) tt
   top-does (c ∷ cs) go h = h c cs refl
 
   ring-does : {Fit : Type 0} (cs : List Cell) (go : List ℕ → Bool → Cell → Cell → List Cell → Turn)
-      → ((c d : Cell) (ds : List Cell) → length cs ≡ suc (suc (length ds)) → Quiet Fit (λ x m. go x m c d ds)) → Quiet Fit (λ x m. ring cs (go x m))
+      → ((c d : Cell) (ds : List Cell) → length cs ≡ suc (suc (length ds)) → Unmarked Fit (λ x m. go x m c d ds)) → Unmarked Fit (λ x m. ring cs (go x m))
   ring-does [] go h = quiet (λ x m. refl) tt
   ring-does (c ∷ []) go h = quiet (λ x m. refl) tt
   ring-does (c ∷ d ∷ cs) go h = h c d cs refl
 
   frame-does : {Fit : Type 0} (cs : List Cell) (go : List ℕ → Bool → Cell → Cell → List Cell → Turn)
-      → ((c d : Cell) (ds : List Cell) → length ds ≤ length cs → Quiet Fit (λ x m. go x m c d ds)) → Quiet Fit (λ x m. frame cs (go x m))
+      → ((c d : Cell) (ds : List Cell) → length ds ≤ length cs → Unmarked Fit (λ x m. go x m c d ds)) → Unmarked Fit (λ x m. frame cs (go x m))
   frame-does [] go h = quiet (λ x m. refl) tt
   frame-does (c ∷ []) go h = quiet (λ x m. refl) tt
   frame-does (c ∷ d ∷ []) go h = quiet (λ x m. refl) tt
@@ -139,11 +142,11 @@ module _ (size : ℕ) (plan : Plan) (me : Template) (s : State) where
   -- ---- the parts of instructions
 
   paid-does : {Fit : Type 0} (line : ℕ) (go : State → Turn)
-      → (s.left - 1 < s.left → Quiet Fit (λ x m. go (record s { text = x; made_text = m; left = s.left - 1; line = line })))
-      → Quiet Fit (λ x m. paid_if (nat_eq s.left 0) plan me line (with_told x m s) go)
+      → (s.left - 1 < s.left → Unmarked Fit (λ x m. go (record s { text = x; made_text = m; left = s.left - 1; line = line })))
+      → Unmarked Fit (λ x m. paid_if (nat_eq s.left 0) plan me line (with_told x m s) go)
   paid-does {Fit} line go h = by (nat_eq s.left 0) refl
     where
-      by : (b : Bool) → nat_eq s.left 0 ≡ b → Quiet Fit (λ x m. paid_if b plan me line (with_told x m s) go)
+      by : (b : Bool) → nat_eq s.left 0 ≡ b → Unmarked Fit (λ x m. paid_if b plan me line (with_told x m s) go)
       by true e = quiet (λ x m. refl) tt
       by false e = h (let some : s.left ≢ 0 = (λ z. absurd (grind arith)) in omega arith)
 
@@ -163,45 +166,45 @@ module _ (size : ℕ) (plan : Plan) (me : Template) (s : State) where
   kept-within false c cs e w = omega arith
 
   branch-does : (t kept : Bool) (skip : ℕ) (c : Cell) (cs : List Cell) → length s.cells ≡ suc (length cs)
-      → Quiet (Unit {0}) (λ x m. branch t kept skip c cs (with_told x m s))
+      → Unmarked (Unit {0}) (λ x m. branch t kept skip c cs (with_told x m s))
   branch-does true kept skip c cs e = quiet (λ x m. refl) (inr (refl, inr (refl, omega arith)), omega arith, λ w h. kept-within kept c cs e w)
   branch-does false kept skip c cs e = quiet (λ x m. refl) (inr (refl, inr (refl, omega arith)), omega arith, λ w h. kept-within kept c cs e w)
 
   with-does : (t kept : Bool) (skip : ℕ) (c : Cell) (cs : List Cell) → length s.cells ≡ suc (length cs)
-      → Quiet (RoomIf kept (length s.cells) size) (λ x m. with_dot t kept skip c cs (with_told x m s))
+      → Unmarked (RoomIf kept (length s.cells) size) (λ x m. with_dot t kept skip c cs (with_told x m s))
   with-does true true skip c cs e = quiet (λ x m. refl) (inr (refl, inr (refl, omega arith)), omega arith, λ w h. omega arith)
   with-does true false skip c cs e = quiet (λ x m. refl) (inr (refl, inr (refl, omega arith)), omega arith, λ w h. omega arith)
   with-does false kept skip c cs e = quiet (λ x m. refl) (inr (refl, inr (refl, omega arith)), omega arith, λ w h. kept-within kept c cs e w)
 
   opened-does : (skip : ℕ) (c : Cell) (cs : List Cell) (o : Option (List Element)) → length s.cells ≡ suc (length cs)
-      → Quiet (length s.cells < size) (λ x m. opened plan me skip c cs o (with_told x m s))
+      → Unmarked (length s.cells < size) (λ x m. opened plan me skip c cs o (with_told x m s))
   opened-does skip c cs None e = quiet (λ x m. refl) tt
   opened-does skip c cs (Some []) e = quiet (λ x m. refl) (inr (refl, inr (refl, omega arith)), omega arith, λ w h. omega arith)
   opened-does skip c cs (Some (x ∷ xs)) e = paid-does s.line _ (λ less. quiet (λ x m. refl) (inl less, omega arith, λ w h. omega arith))
 
-  turned-does : (n : ℕ) (es : List Element) → Quiet (length s.cells + n ≤ size) (λ x m. turned n es (with_told x m s))
+  turned-does : (n : ℕ) (es : List Element) → Unmarked (length s.cells + n ≤ size) (λ x m. turned n es (with_told x m s))
   turned-does n [] = quiet (λ x m. refl) tt
   turned-does zero (e ∷ es) = quiet (λ x m. refl) (inr (refl, inr (refl, omega arith)), omega arith, λ w h. w)
   turned-does (suc zero) (e ∷ es) = quiet (λ x m. refl) (inr (refl, inr (refl, omega arith)), omega arith, λ w h. omega arith)
   turned-does (suc (suc n)) (e ∷ es) = quiet (λ x m. refl) (inr (refl, inr (refl, omega arith)), omega arith, λ w h. omega arith)
 
   again-does : (skip line : ℕ) (d v : Cell) (cs : List Cell) (es : List Element) → suc (suc (length cs)) ≤ length s.cells
-      → Quiet (Unit {0}) (λ x m. again plan me skip line d v cs es (with_told x m s))
+      → Unmarked (Unit {0}) (λ x m. again plan me skip line d v cs es (with_told x m s))
   again-does skip line d v cs [] e = quiet (λ x m. refl) (inr (refl, inr (refl, omega arith)), omega arith, λ w h. omega arith)
   again-does skip line d v cs (f ∷ es) e = paid-does line _ (λ less. quiet (λ x m. refl) (inl less, omega arith, λ w h. omega arith))
 
-  deepened-does : (b c : Bool) (line : ℕ) → Quiet (Unit {0}) (λ x m. deepened b c plan me line (with_told x m s))
+  deepened-does : (b c : Bool) (line : ℕ) → Unmarked (Unit {0}) (λ x m. deepened b c plan me line (with_told x m s))
   deepened-does true c line = quiet (λ x m. refl) tt
   deepened-does false true line = quiet (λ x m. refl) (inr (refl, inr (refl, omega arith)), omega arith, λ w h. w)
   deepened-does false false line = quiet (λ x m. refl) tt
 
   invoked-does : (number : ℕ) (o : Option ℕ) (c : Cell) (cs : List Cell) → length s.cells ≡ suc (length cs)
-      → Quiet (length s.cells + 2 ≤ size) (λ x m. invoked plan me number o c cs (with_told x m s))
+      → Unmarked (length s.cells + 2 ≤ size) (λ x m. invoked plan me number o c cs (with_told x m s))
   invoked-does number None c cs e = quiet (λ x m. refl) tt
   invoked-does number (Some start) c cs e = paid-does s.line _ (λ less. quiet (λ x m. refl) (inl less, omega arith, λ w h. omega arith))
 
   returned-does : (b : Bool) (cs : List Cell) → nat_lt 1 s.depth ≡ b → length cs ≤ length s.cells
-      → Quiet (Unit {0}) (λ x m. returned_if b cs (with_told x m s))
+      → Unmarked (Unit {0}) (λ x m. returned_if b cs (with_told x m s))
   returned-does false cs e less = quiet (λ x m. refl) tt
   returned-does true cs e less = frame-does cs _ (λ back saved ds fewer. quiet (λ x m. refl)
       (inr (refl, inl (let deep : 1 < s.depth = grind (arith, nat_tests) in omega arith)), omega arith, λ w h. omega arith))
@@ -245,14 +248,14 @@ after_past x m (goes t) = goes (with_past x m t)
 after_past x m (ended r) = ended (record r { text = x ++ r.text; made_text = m || r.made_text })
 after_past x m stuck = stuck
 
-told-past : (x y : List ℕ) (m b : Bool) (u : Turn) → told (x ++ y) (m || b) u ≡ after_past x m (told y b u)
-told-past x y m b (goes t) = refl
-told-past x y m b (ended r) = refl
-told-past x y m b stuck = refl
+tell-past : (x y : List ℕ) (m b : Bool) (u : Turn) → tell (x ++ y) (m || b) u ≡ after_past x m (tell y b u)
+tell-past x y m b (goes t) = refl
+tell-past x y m b (ended r) = refl
+tell-past x y m b stuck = refl
 
-behind-past : (bytes x y : List ℕ) → behind bytes (x ++ y) ≡ x ++ behind bytes y
-behind-past [] x y = refl
-behind-past (b ∷ bs) x y = append_assoc x y (b ∷ bs)
+extend-past : (bytes x y : List ℕ) → extend bytes (x ++ y) ≡ x ++ extend bytes y
+extend-past [] x y = refl
+extend-past (b ∷ bs) x y = append_assoc x y (b ∷ bs)
 
 -- a step of a pipeline tells of its own function alone
 made-past : (o : Operation) (m b : Bool) → made_by o (m || b) ≡ (m || made_by o b)
@@ -268,8 +271,8 @@ pub done-past : (x : List ℕ) (m : Bool) (plan : Plan) (t : Template) (i : Inst
 done-past x m plan t i s =
     let d = does 0 plan t s i in
     d.same (x ++ s.text) (m || s.made_text)
-    ∙ (λ j. told (behind-past d.bytes x s.text j) (mark-past i m s.made_text j) (done plan t i (with_told [] false s)))
-    ∙ told-past x (behind d.bytes s.text) m (mark_behind i s.made_text) (done plan t i (with_told [] false s))
+    ∙ (λ j. tell (extend-past d.bytes x s.text j) (mark-past i m s.made_text j) (done plan t i (with_told [] false s)))
+    ∙ tell-past x (extend d.bytes s.text) m (mark_behind i s.made_text) (done plan t i (with_told [] false s))
     ∙ ap (after_past x m) (sym (d.same s.text s.made_text))
 
 -- what was put out since may be counted to the past
@@ -297,10 +300,10 @@ next-moves : (plan : Plan) (size : ℕ) (s : State)
     → Moves size s (IsReady size (slice_get plan.code s.place) s) (mark_at (slice_get plan.code s.place) s.made_text) (next_of plan s)
 next-moves plan size s = by (slice_get plan.templates s.template) (slice_get plan.code s.place)
   where
-    told-moves : (Fit : Type 0) (bytes : List ℕ) (m : Bool) (u : Turn) → Lawful size s Fit u → Moves size s Fit m (told (behind bytes s.text) m u)
-    told-moves Fit bytes m (goes t) h = (h, (bytes, sym (behind-is s.text bytes)), refl)
-    told-moves Fit bytes m (ended r) h = ((bytes, sym (behind-is s.text bytes)), refl)
-    told-moves Fit bytes m stuck h = tt
+    tell-moves : (Fit : Type 0) (bytes : List ℕ) (m : Bool) (u : Turn) → Lawful size s Fit u → Moves size s Fit m (tell (extend bytes s.text) m u)
+    tell-moves Fit bytes m (goes t) h = (h, (bytes, sym (extend-is s.text bytes)), refl)
+    tell-moves Fit bytes m (ended r) h = ((bytes, sym (extend-is s.text bytes)), refl)
+    tell-moves Fit bytes m stuck h = tt
 
     by : (t : Option Template) (i : Option Instruction) → Moves size s (IsReady size i s) (mark_at i s.made_text) (done_in plan t i s)
     by None i = tt
@@ -308,7 +311,7 @@ next-moves plan size s = by (slice_get plan.templates s.template) (slice_get pla
     by (Some t) (Some i) =
         let d = does size plan t s i in
         subst (Moves size s (Has i (length s.cells) size) (mark_behind i s.made_text)) (sym (d.same s.text s.made_text))
-        (told-moves (Has i (length s.cells) size) d.bytes (mark_behind i s.made_text) (done plan t i (with_told [] false s)) d.lawful)
+        (tell-moves (Has i (length s.cells) size) d.bytes (mark_behind i s.made_text) (done plan t i (with_told [] false s)) d.lawful)
 
 next-goes : (plan : Plan) (size : ℕ) (s t : State) → next_of plan s ≡ goes t
     → Lawful size s (IsReady size (slice_get plan.code s.place) s) (goes t)
@@ -321,7 +324,7 @@ next-depth plan s t e = (next-goes plan 0 s t e).1
 pub each-lessens : (plan : Plan) (s t : State) → next_of plan s ≡ goes t → Lessens s t
 each-lessens plan s t e = (next-goes plan 0 s t e).0
 
--- a state that comes to an end has its cells within the stack, and so have those that follow
+-- where the cells of a state that comes to an end lie within the stack, so do those of the next
 pub next-within : (size : ℕ) (plan : Plan) (s t : State) (f : Ran) → Ends plan size s f → length s.cells ≤ size → next_of plan s ≡ goes t
     → length t.cells ≤ size
 next-within size plan s t f h within e = (next-goes plan size s t e).2 within (ready h.0 h.1)

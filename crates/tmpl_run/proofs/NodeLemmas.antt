@@ -1,4 +1,5 @@
--- For the law `comes_to_meaning`: headers, what is to be shown of the code of a node, and that of actions, `if` and `with`.
+-- For the law `comes_to_meaning`: the pipeline of a header and what is bound to its value, what is to be shown of the
+-- code of a node, and that the code of actions, `if` and `with` comes to what they mean.
 use Rattle.std.proofs.Common.{arith, ◌≡◌, ◌∙◌, ◌+◌, ◌≤◌, ◌||◌, ℕ, Bool, true, false, List, ◌∷◌, length, drop, refl, ap, sym, Option, Some, None, Result, Ok}
 use Rattle.std.proofs.Common.{Err, ◌++◌, suc, subst, length-drop}
 use Rattle.std.specs.Prelude.{slice_set}
@@ -14,8 +15,8 @@ use Rattle.tmpl_syntax.specs.Tree.{NodeKind, Nodes}
 use Rattle.tmpl_syntax.specs.Need.{left_behind, need_of_node, need_of_nodes}
 use Rattle.tmpl_meaning.specs.Fault.{Cause}
 use Rattle.tmpl_meaning.specs.Pipeline.{Environment}
-use Rattle.tmpl_meaning.specs.Meaning.{Calls, Next, Run, without_key, assigned, with_bound, with_pipeline, with_value, End, Ran, Setting, choosing, meanings}
-use Rattle.tmpl_meaning.specs.Meaning.{oldest, one_of, setting_of, shown, stepped, scope}
+use Rattle.tmpl_meaning.specs.Meaning.{Calls, Next, Run, without_key, assigned, with_bound, with_pipeline, with_value, End, choosing, meanings}
+use Rattle.tmpl_meaning.specs.Meaning.{oldest, one_of, shown, stepped, scope}
 use Rattle.tmpl_meaning.specs.Meaning as meaning
 use Rattle.tmpl_code.specs.Instruction as code
 use Rattle.tmpl_code.specs.Layout.{Layout, bound_on, declares, slot_named, declared_in, grown}
@@ -26,7 +27,7 @@ use Rattle.tmpl_run.specs.Machine.{fault_in, kept_on, ran_so, branch, goes, top,
 use Rattle.tmpl_run.specs.Ready.{RoomIf}
 use Rattle.tmpl_run.specs.Ends.{Comes}
 use Rattle.tmpl_run.proofs.PipelineLemmas.{FollowsBy, Puts, found-within, given_in, pipeline-leads}
-use Rattle.tmpl_run.proofs.WayLemmas.{ahead-one, ahead, Ring, Stands, Way, Who, seen, who_of, Inside, cut_to, exit_of}
+use Rattle.tmpl_run.proofs.WayLemmas.{ahead-one, ahead, Ring, Stands, Way, who_of, Inside, cut_to, exit_of}
 use Rattle.tmpl_run.proofs.SlotLemmas.{Frame, bound_in, env_of, frame-set, frame_of, length-frame, run_of, stored, stored-none, First, Over, all_grown}
 use Rattle.tmpl_run.proofs.SlotLemmas.{all_grown_in, cut-drop, first-saved, frame-binding, frame-bound, frame-drop, frame-grown, grown_in, length-env, named}
 use Rattle.tmpl_run.proofs.SlotLemmas.{over-binding, over-bound, over-grown}

@@ -30,6 +30,7 @@ use Rattle.tmpl_run.proofs.WayLemmas.{ahead, Way, who_of}
 use Rattle.tmpl_run.proofs.SlotLemmas.{Slots, env_of, slots-are, slots-more}
 use Rattle.tmpl_run.proofs.WayLemmas as ways
 
+-- the slot of a variable is one of the layout's
 pub found-within : (x : List ℕ) (lay : Layout) (k : ℕ) → slot_named x lay ≡ Some k → k < length lay
 found-within x [] k e = cc
 found-within x (cell ∷ lay) k e = by (is_named x cell) (slot_named x lay) (found-within x lay) e
@@ -45,6 +46,7 @@ bare-called And e = cc
 bare-called Or e = cc
 bare-called _ e = refl
 
+-- a function that does not go without arguments is called with one at least
 some-both : (f g : Func) (n : ℕ) → (takes g 0 ≡ true → ⊥) → f ≡ g → takes f n ≡ true → 1 ≤ n
 some-both f g zero none e t = absurd (none (sym (ap (λ h. takes h 0) e) ∙ t))
 some-both f g (suc n) none e t = omega arith
@@ -155,6 +157,7 @@ module _ (way : Way) (s : State) where
     abbrev here : Place
     here = spot env
 
+    -- the machine carries out an operation, if the run goes on from what its step leaves
     steps : (o : Operation) (code is : Code) (cs : List Cell) (m : Bool) → code ≡ act o ∷ is → Fits o (length cs) way.room
         → Gone is (made_by o m) (step (spot []) o cs) → Goes code cs m
     steps o code is cs m l fits k place at = ways.takes way now (act o) is same (at ∙ l) fits (by (step (spot []) o cs) k)

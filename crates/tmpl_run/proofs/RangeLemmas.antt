@@ -14,8 +14,8 @@ use Rattle.tmpl_syntax.specs.Need.{need_of_nodes}
 use Rattle.tmpl_meaning.specs.Fault.{not_a_range}
 use Rattle.tmpl_meaning.specs.Pipeline.{Environment}
 use Rattle.tmpl_meaning.specs.Meaning as meaning
-use Rattle.tmpl_meaning.specs.Meaning.{Calls, End, Next, Ran, Run, Setting, after_turn, assigned, bound, meanings, oldest, on_turn, over, ranging, scope}
-use Rattle.tmpl_meaning.specs.Meaning.{scoped, setting_of, spend_if, turns, visited, with_bound}
+use Rattle.tmpl_meaning.specs.Meaning.{Calls, End, Next, Run, after_turn, bound, meanings, oldest, on_turn, over, ranging, scope}
+use Rattle.tmpl_meaning.specs.Meaning.{scoped, spend_if, turns, visited, with_bound}
 use Rattle.tmpl_code.specs.Instruction as code
 use Rattle.tmpl_code.specs.Layout.{Layout, bound_on, declared_in, declares_key, slot_named, first_layout}
 use Rattle.tmpl_code.specs.Code.{Code, Ended, NodesAt, SetDotAt, TurnAt}
@@ -26,7 +26,7 @@ use Rattle.tmpl_run.specs.Ends.{Comes}
 use Rattle.tmpl_run.proofs.NodeLemmas.{run_at, value-leads, valued, length-bound}
 use Rattle.tmpl_run.proofs.NodeLemmas as nodes
 use Rattle.tmpl_run.proofs.PipelineLemmas.{found-within}
-use Rattle.tmpl_run.proofs.WayLemmas.{ahead, ahead-one, Inside, Ring, Rooted, Stands, Way, Who, Within, bare, cut_to, exit_of}
+use Rattle.tmpl_run.proofs.WayLemmas.{ahead, ahead-one, Ring, Rooted, Stands, Way, Within, cut_to, exit_of}
 use Rattle.tmpl_run.proofs.SlotLemmas.{First, Frame, all_grown, all_grown_in, bound_in, cut-drop, env_of, first-saved, frame-binding, frame-bound, frame-drop}
 use Rattle.tmpl_run.proofs.SlotLemmas.{frame-set, frame_of, length-env, length-frame, named, over-binding, over-bound, over-none, run_of, stored, stored-none}
 use Rattle.tmpl_run.proofs.WayLemmas as ways

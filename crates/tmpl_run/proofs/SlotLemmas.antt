@@ -10,7 +10,7 @@ use Rattle.tmpl_meaning.specs.Meaning.{Run, assigned, oldest}
 use Rattle.tmpl_grammar.specs.Tree.{Binding, unbound, declare, assign, declare_pair}
 use Rattle.tmpl_grammar.specs.Need.{declared_count}
 use Rattle.tmpl_syntax.specs.Tree as tree
-use Rattle.tmpl_syntax.specs.Tree.{NodeKind, text, action, control_node, break_node, continue_node, template_node, Nodes}
+use Rattle.tmpl_syntax.specs.Tree.{NodeKind, text, action, Nodes}
 use Rattle.tmpl_syntax.specs.Need.{left_behind}
 use Rattle.tmpl_code.specs.Layout.{Layout, bound_on, declared_in, found_at, grown, slot_named}
 use Rattle.tmpl_run.specs.Cell.{Cell, fresh, slot}
@@ -116,6 +116,7 @@ slots-are lay cs h = record {
     is x o e = (slotted x lay cs nothing h).found ∙ ap (λ o. by_slot o nothing (λ k. slot k cs)) e
 
 module _ (x : List ℕ) (lay : Layout) (cs : List Cell) where
+  -- an assignment to a variable is a write to its slot, and leaves the other cells
   pub stored : (k : ℕ) (v : Value) → slot_named x lay ≡ Some k → length lay ≤ length cs → env_of lay (set cs k (fresh v)) ≡ assigned x v (env_of lay cs)
   stored k v e h = sym ((slotted x lay cs v h).write ∙ ap (λ o. env_of lay (by_slot o cs (λ k. set cs k (fresh v)))) e)
 

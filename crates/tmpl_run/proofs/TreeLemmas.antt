@@ -14,7 +14,7 @@ use Rattle.tmpl_syntax.specs.Set.{Template, number_of}
 use Rattle.tmpl_syntax.proofs.NamedLemmas.{Named, numbered, unnumbered}
 use Rattle.tmpl_syntax.specs.Tree.{NodeKind, Nodes}
 use Rattle.tmpl_meaning.specs.Meaning as meaning
-use Rattle.tmpl_meaning.specs.Meaning.{Calls, End, Next, Ran, Rules, Run, Setting, apart, run_called, calls_within, handing, left_by, meanings, setting_of}
+use Rattle.tmpl_meaning.specs.Meaning.{Calls, End, Next, Ran, Run, Setting, apart, run_called, calls_within, handing, left_by, meanings, setting_of}
 use Rattle.tmpl_meaning.specs.Meaning.{spend_if, uncalled, with_value, ran_of, ran_with, started, stepped}
 use Rattle.tmpl_code.specs.Instruction as code
 use Rattle.tmpl_code.specs.Layout.{Layout, first_layout, declared_in, grown}
@@ -29,11 +29,13 @@ use Rattle.tmpl_run.proofs.CallingLemmas.{entered}
 use Rattle.tmpl_run.proofs.NodeLemmas.{run_at, value-leads, valued, with_left, action-leads, if-leads, inside-grown, length-grown, spent, with-leads}
 use Rattle.tmpl_run.proofs.DepthLemmas.{absent}
 use Rattle.tmpl_run.proofs.NodeLemmas as nodes
-use Rattle.tmpl_run.proofs.WayLemmas.{ahead, ahead-one, Ring, Stands, Way, Who, way_of, who_of, bare, exit_of, seen}
+use Rattle.tmpl_run.proofs.WayLemmas.{ahead, ahead-one, Ring, Stands, Way, Who, way_of, who_of, bare, seen}
 use Rattle.tmpl_run.proofs.SlotLemmas.{Frame, below, below-same, env_of, frame_of, length-frame, run_of, all_grown, all_grown_in, frame-drop, frame-grown}
 use Rattle.tmpl_run.proofs.SlotLemmas.{grown_in, over-grown, over-none}
 use Rattle.tmpl_run.proofs.WayLemmas as ways
 use Rattle.tmpl_run.proofs.RangeLemmas.{break-leads, continue-leads, range-leads}
+
+-- ---- a template, by its number
 
 -- the code of each template lies where it starts
 pub record Started (all : List Template) (t : Template) (places : List ℕ) (code : Code) (k : ℕ) : Type 0 where
@@ -108,12 +110,12 @@ module _ (way : Way) (first : 1 ≤ way.who.depth) (linked : Starts way.plan.tem
         (called_frame (cell nothing (place + 1)) (cell s.dot s.template) s.cells)
 
     -- a template that is called goes back to its caller
-    goes-back : (A : Run → Type 0) (g : Option Ring) (lay : Layout) (fr : Frame) (rest : Code) (s : State) (number : ℕ) (t : Template)
-        (is-t : slice_get way.plan.templates number ≡ Some t) (v : Value) (place : ℕ)
+    goes-back : (g : Option Ring) (lay : Layout) (fr : Frame) (rest : Code) (s : State) (number : ℕ) (t : Template)
+        (is-t : slice_get way.plan.templates number ≡ Some t) (place : ℕ)
         → Stands way.plan way.who rest lay fr (record s { place = place + 1 })
         → (x : Run × End) → ways.After way (ways.Onward way rest lay fr s.dot) g (meaning.returned (env_of lay s.cells) x)
         → ways.After (inside-of s number t is-t place) (ways.Leaves (inside-of s number t is-t place)) None x
-    goes-back A g lay fr rest s number t is-t v place st x k = by x.1 k
+    goes-back g lay fr rest s number t is-t place st x k = by x.1 k
       where
         callee : Way
         callee = inside-of s number t is-t place
@@ -170,7 +172,7 @@ module _ (way : Way) (first : 1 ≤ way.who.depth) (linked : Starts way.plan.tem
         (callee (record { number = number; depth = suc s.depth }) named.t named.at (omega arith)
         (let same : s.depth ≡ way.who.depth = ap (λ (w : Who). w.depth) st.runs in omega arith)
         (called_frame (cell nothing (place + 1)) (cell s.dot s.template) s.cells) inside refl start.at refl (omega arith) (length s.cells) length-called left
-        (goes-back (ways.Onward way rest lay fr s.dot) g lay fr rest (record s { made_text = made }) number named.t named.at v place
+        (goes-back g lay fr rest (record s { made_text = made }) number named.t named.at place
         (record { at = st.at; runs = st.runs; frame = st.frame; deep = st.deep })
         (meanings (setting_of way.plan.rules (calls_of m) named.t.0 named.t.1) named.t.1.nodes v (run_of first_layout inside))
         (subst (λ (n : List ℕ). ways.After way (ways.Onward way rest lay fr s.dot) g

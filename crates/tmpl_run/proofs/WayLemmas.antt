@@ -1,4 +1,5 @@
--- For the law `comes_to_meaning`: how an end is come to from a place is a function of how a part of the meaning ends, which says where the run goes on.
+-- For the law `comes_to_meaning`: what is shown of each part, said backwards. If the run comes to its end from wherever
+-- the meaning of a part hands it on to (`After`), it comes to it from the start of the part's code (`Leading`).
 use Rattle.std.proofs.Common.{arith, ◌≡◌, ◌∙◌, ◌+◌, ℕ, zero, suc, [], ◌∷◌, drop, ap, Some, ◌-◌, ◌≤◌, nat_eq, Bool, true, false, List, length, refl, sym, subst}
 use Rattle.std.proofs.Common.{Option, None, drop-drop, length-drop}
 use Rattle.std.specs.Prelude.{slice_get}
