@@ -1,11 +1,11 @@
 """Reads every front of every template and data file of the rows and examples: its first n bytes, for each n, of files of up to 20,000
 bytes whole. Of longer ones, whose fronts are too many bytes (those of 16 MiB are 1.4e14), it reads the first 2,000, and where they have up
-to a million bytes 16 that lie evenly behind these, and the last 4 before the whole file. `fronts.py --long` reads all those of files of up
+to 1,048,576 bytes 16 that lie evenly behind these, and the last 4 before the whole file. `fronts.py --long` reads all those of files of up
 to 262,144 bytes, and these 20 of all longer ones. They are read in memory, many in one process, by the probe. What a front comes
 to is told by meaning.py and reading.py, which share no code with the program: a template is refused at a line for a reason, or runs over
 the row's data to a text and an end; data is refused, or put out whole by `{{.}}`. Of the fronts of a file of more than
-1,000 bytes that are accepted, of which meaning.py is slow to tell, it tells each 64th and the last, and none of a file of more than
-20,000; the others must be accepted."""
+1,000 bytes that are accepted, of which meaning.py is slow to tell, it tells each 64th and the last, and none of those behind the first
+2,000 of a file of more than 20,000; the others must be accepted."""
 import bisect
 import itertools
 import os

@@ -69,7 +69,8 @@ pub fn tool<S: Source, O: Sink, E: Sink>(
 }
 
 /// Does what `tool` does, and hands back what was read in place of giving back its memory: a program that ends next can
-/// leave that to the system. The names of templates are hashed as it is told, which makes no difference to any answer.
+/// leave that to the system. The names of templates and of variables are hashed as it is told, which makes no
+/// difference to any answer.
 pub fn tool_keeping<S: Source, O: Sink, E: Sink>(
     alloc: Global,
     names: NameHash,
