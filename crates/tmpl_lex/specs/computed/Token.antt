@@ -1,5 +1,5 @@
 -- The token at the front of bytes of an action, computed: the twin of `IsToken`.
-use Rattle.std.specs.Prelude.{ℕ, ◌-◌, Bool, true, false, ◌||◌, ◌==◌, List, [], ◌∷◌, take, drop, take_while, Option}
+use Rattle.std.specs.Prelude.{ℕ, ◌-◌, Bool, true, false, ◌==◌, List, [], ◌∷◌, take, drop, take_while, Option}
 use Rattle.std.specs.Prelude.{Some, None, option_map, if◌then◌else◌}
 use Rattle.std.specs.Char.{is_ascii_digit}
 use Rattle.std.specs.List.{prefix_len}
@@ -65,7 +65,8 @@ of_kind kind o = option_map (λ bs. (kind, bs)) o
 -- the token that begins with this byte, which is neither white space nor of a name, where these bytes stand behind it
 abbrev pub marked : ℕ → List ℕ → Option Begun
 marked b bs =
-    if b == 43 || b == 45 then signed bs
+    if b == 43 then signed bs
+    else if b == 45 then signed bs
     else if b == 46 then Some (dotted (name_run bs))
     else if b == 36 then Some (Variable, name_run bs)
     else if b == 34 then of_kind String (quoted 34 false bs)
