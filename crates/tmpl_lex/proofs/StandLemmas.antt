@@ -59,18 +59,20 @@ marked-is (a ∷ bs) h =
     let both = and_parts (is_space a) (has_dashed_delimiter bs) h in
     (a, (both.0, ap (λ l. a ∷ l) (dashed-is bs both.1)))
 
-pub found-ends : (bs : List ℕ) (e : End) → right_delimiter bs ≡ Some e → Ends bs e
-found-ends bs e h = go (has_right_delimiter bs) refl (right_marked bs) refl h
+-- .. if one does
+abbrev pub AtEnd : List ℕ → Option End → Type 0
+AtEnd bs None = Unit {0}
+AtEnd bs (Some e) = Ends bs e
+
+pub found-ends : (bs : List ℕ) → AtEnd bs (right_delimiter bs)
+found-ends bs = go (has_right_delimiter bs) refl (right_marked bs) refl
   where
-    go : (c : Bool) → has_right_delimiter bs ≡ c → (m : Bool) → right_marked bs ≡ m → ended_by c m bs ≡ Some e → Ends bs e
-    go true c m d h =
-        let same : record { trims = false; rest = drop 2 bs } ≡ e = cc in
-        subst (Ends bs) same (record { closing = 125 ∷ 125 ∷ []; closes = closes; is = braces-is bs c })
-    go false c true d h =
-        let same : record { trims = true; rest = drop 4 bs } ≡ e = cc in
+    go : (c : Bool) → has_right_delimiter bs ≡ c → (m : Bool) → right_marked bs ≡ m → AtEnd bs (ended_by c m bs)
+    go true c m d = record { closing = 125 ∷ 125 ∷ []; closes = closes; is = braces-is bs c }
+    go false c true d =
         let marked = marked-is bs d in
-        subst (Ends bs) same (record { closing = marked.0 ∷ 45 ∷ 125 ∷ 125 ∷ []; closes = closes_marked marked.1.0; is = marked.1.1 })
-    go false c false d h = cc
+        record { closing = marked.0 ∷ 45 ∷ 125 ∷ 125 ∷ []; closes = closes_marked marked.1.0; is = marked.1.1 }
+    go false c false d = tt
 
 no-closes : (b : ℕ) (bs : List ℕ) → nat_eq b 125 ≡ false → has_right_delimiter (b ∷ bs) ≡ false
 no-closes b [] e = refl
