@@ -1,5 +1,5 @@
 -- For `one_constant`: the escapes that are computed are those that the relation admits.
-use Rattle.std.proofs.Common.{◌≡◌, ◌∙◌, ℕ, ◌+◌, ◌<◌, ◌≤◌, Bool, true, false, ◌&&◌, nat_eq, nat_lt, List, [], ◌∷◌, ◌++◌, length, Option, Some}
+use Rattle.std.proofs.Common.{◌≡◌, ◌∙◌, ℕ, ◌+◌, ◌<◌, ◌≤◌, Bool, true, false, ◌&&◌, nat_eq, nat_lt, List, [], ◌∷◌, ◌++◌, length, Option, Some, IfSome}
 use Rattle.std.proofs.Common.{None, option_and_then, refl, ap, sym, subst, arith, append_assoc, if◌then◌else◌}
 use Rattle.std.specs.Str.Parse.{digits_value}
 use Rattle.std.proofs.lemmas.Bool.{eqb-true, and_parts}
@@ -29,28 +29,24 @@ byte-read : (base count : ℕ) (ds rest : List ℕ) → AreDigits base count ds 
     → option_and_then (as_byte 4) (code base count (ds ++ rest)) ≡ Some (byte (digits_value base ds), 4)
 byte-read base count ds rest are h =
     let low : nat_lt (digits_value base ds) 256 ≡ true = grind (arith, nat_tests) in
-    ap (option_and_then (as_byte 4)) (code-digits base count ds rest are)
-    ∙ ap (λ t. if t then Some (byte (digits_value base ds), 4) else None) low
+    simp (code-digits base count ds rest are, low)
 
 char-read : (len count : ℕ) (ds rest : List ℕ) → AreDigits 16 count ds → scalar (digits_value 16 ds) ≡ true
     → option_and_then (as_char len) (code 16 count (ds ++ rest)) ≡ Some (char (digits_value 16 ds), len)
 char-read len count ds rest are s =
-    ap (option_and_then (as_char len)) (code-digits 16 count ds rest are)
-    ∙ ap (λ t. if t then Some (char (digits_value 16 ds), len) else None) s
+    simp (code-digits 16 count ds rest are, s)
 
 octal-read : (quote : ℕ) (ds rest : List ℕ) → IsMark quote → AreDigits 8 3 ds → digits_value 8 ds < 256
     → escape quote (ds ++ rest) ≡ Some (byte (digits_value 8 ds), 4)
 octal-read quote [] rest m are h = absurd (omega (arith, are.0))
 octal-read quote (e ∷ ds) rest m are h =
     let range = octal-digit e are.1.0 in
-    ap (λ o. escape_by o e (ds ++ rest)) (not-named quote e m range.0 range.1)
-    ∙ not-lettered e (ds ++ rest) range.0 range.1
-    ∙ byte-read 8 3 (e ∷ ds) rest are h
+    simp (not-named quote e m range.0 range.1) (not-lettered e (ds ++ rest) range.0 range.1 ∙ byte-read 8 3 (e ∷ ds) rest are h)
 
 -- a byte that no letter is, whichever mark ends the text
 coded-read : (quote e : ℕ) (bs : List ℕ) → IsMark quote → byte_named 34 e ≡ None → byte_named 39 e ≡ None → escape quote (e ∷ bs) ≡ coded e bs
-coded-read _ e bs double h k = ap (λ o. escape_by o e bs) h
-coded-read _ e bs single h k = ap (λ o. escape_by o e bs) k
+coded-read _ e bs double h k = simp h
+coded-read _ e bs single h k = simp k
 
 quote-read : (quote : ℕ) (rest : List ℕ) → IsMark quote → escape quote (quote ∷ rest) ≡ Some (byte quote, 2)
 quote-read _ rest double = refl
@@ -89,9 +85,8 @@ pub record FrontEscape (quote : ℕ) (bs : List ℕ) (p : Spelled) : Type 0 wher
   pub count : length spelling ≡ p.1
   pub escapes : IsEscape quote spelling p.0
 
-abbrev pub HasEscape : ℕ → List ℕ → Option Spelled → Type 0
-HasEscape quote bs None = Unit {0}
-HasEscape quote bs (Some p) = FrontEscape quote bs p
+abbrev HasEscape : ℕ → List ℕ → Option Spelled → Type 0
+HasEscape quote bs o = IfSome o (FrontEscape quote bs)
 
 if-escape : (quote : ℕ) (bs : List ℕ) (t : Bool) (o p : Option Spelled) → (t ≡ true → HasEscape quote bs o) → HasEscape quote bs p
     → HasEscape quote bs (if t then o else p)
