@@ -88,13 +88,14 @@ pub record FrontEscape (quote : ℕ) (bs : List ℕ) (p : Spelled) : Type 0 wher
 abbrev HasEscape : ℕ → List ℕ → Option Spelled → Type 0
 HasEscape quote bs o = IfSome o (FrontEscape quote bs)
 
-if-escape : (quote : ℕ) (bs : List ℕ) (t : Bool) (o p : Option Spelled) → (t ≡ true → HasEscape quote bs o) → HasEscape quote bs p
-    → HasEscape quote bs (if t then o else p)
-if-escape quote bs true o p h k = h refl
-if-escape quote bs false o p h k = k
-
-same : (e k : ℕ) → nat_eq e k ≡ true → k ≡ e
-same e k h = sym (eqb-true e k h)
+-- by whether this byte comes first
+if-byte : (quote e k : ℕ) (bs : List ℕ) (o p : Option Spelled) → HasEscape quote (92 ∷ k ∷ bs) o → HasEscape quote (92 ∷ e ∷ bs) p
+    → HasEscape quote (92 ∷ e ∷ bs) (if nat_eq e k then o else p)
+if-byte quote e k bs o p this that = by (nat_eq e k) refl
+  where
+    by : (t : Bool) → nat_eq e k ≡ t → HasEscape quote (92 ∷ e ∷ bs) (if t then o else p)
+    by true h = subst (λ x. HasEscape quote (92 ∷ x ∷ bs) o) (sym (eqb-true e k h)) this
+    by false h = that
 
 -- what stands for a byte is the letter of it, or the mark
 letter-named : (quote e b : ℕ) → byte_named quote e ≡ Some b → (nat_eq b quote && nat_eq e quote) ≡ false → letter_of b letters ≡ Some e
@@ -109,8 +110,7 @@ lettered quote e b is = by (nat_eq b quote && nat_eq e quote) refl
     by : (t : Bool) → (nat_eq b quote && nat_eq e quote) ≡ t → IsEscape quote (92 ∷ e ∷ []) (byte b)
     by true h =
         let both = and_parts (nat_eq b quote) (nat_eq e quote) h in
-        subst (λ x. IsEscape quote (92 ∷ x ∷ []) (byte b)) (same e quote both.1)
-        (subst (λ x. IsEscape quote (92 ∷ quote ∷ []) (byte x)) (same b quote both.0) the_quote)
+        rw (eqb-true e quote both.1, eqb-true b quote both.0) the_quote
     by false h = a_letter (letter-named quote e b is h) (λ e34. no-mark quote e b is h e34)
 
 -- so many digits behind these bytes
@@ -149,13 +149,9 @@ has-char quote head count bs made = has-digits quote 16 count (2 + count) (head 
 
 has-coded : (quote e : ℕ) (bs : List ℕ) → HasEscape quote (92 ∷ e ∷ bs) (coded e bs)
 has-coded quote e bs =
-    if-escape quote _ (nat_eq e 120) _ _ (λ h. subst (λ x. HasEscape quote (92 ∷ x ∷ bs) (option_and_then (as_byte 4) (code 16 2 bs))) (same e 120 h)
-    (has-hex quote bs))
-    (if-escape quote _ (nat_eq e 117) _ _ (λ h. subst (λ x. HasEscape quote (92 ∷ x ∷ bs) (option_and_then (as_char 6) (code 16 4 bs))) (same e 117 h)
-    (has-char quote 117 4 bs (λ ds are s. four_digits are s)))
-    (if-escape quote _ (nat_eq e 85) _ _ (λ h. subst (λ x. HasEscape quote (92 ∷ x ∷ bs) (option_and_then (as_char 10) (code 16 8 bs))) (same e 85 h)
-    (has-char quote 85 8 bs (λ ds are s. eight_digits are s)))
-    (has-octal quote (e ∷ bs))))
+    if-byte quote e 120 bs _ _ (has-hex quote bs)
+    (if-byte quote e 117 bs _ _ (has-char quote 117 4 bs (λ ds are s. four_digits are s))
+    (if-byte quote e 85 bs _ _ (has-char quote 85 8 bs (λ ds are s. eight_digits are s)) (has-octal quote (e ∷ bs))))
 
 pub has-escape : (quote : ℕ) (bs : List ℕ) → HasEscape quote (92 ∷ bs) (escape quote bs)
 has-escape quote [] = tt

@@ -1,14 +1,14 @@
 -- For `one_constant`: the whole constants that are computed are those that the relation admits.
 use Rattle.std.proofs.Common.{arith, ◌≡◌, ◌∙◌, ℕ, ℤ, pos, neg_ℤ, ◌^◌, ◌<◌, ◌≤◌, Bool, true, false, nat_eq}
-use Rattle.std.proofs.Common.{List, [], ◌∷◌, filter, Option, Some, None, IfSome, option_and_then, refl, sym, ap, subst, if◌then◌else◌}
+use Rattle.std.proofs.Common.{List, [], ◌∷◌, filter, Option, Some, None, IfSome, option_and_then, refl, sym, subst, if◌then◌else◌}
 use Rattle.std.specs.List.{list_all}
 use Rattle.std.specs.Char.{is_digit}
 use Rattle.std.specs.Str.Parse.{digits_value}
-use Rattle.std.proofs.lemmas.Bool.{eqb-true}
+use Rattle.std.proofs.lemmas.Bool.{eqb-true, and_parts}
 use Rattle.std.proofs.lemmas.Bool.Decides.{nat_tests}
 use Rattle.tmpl_grammar.specs.Constant.Integer.{AreParted, no_digit, digit, parted, base_named, IsMagnitude, decimal, octal, based, IsInteger, minus, plus}
 use Rattle.tmpl_grammar.specs.Constant.Integer.{unsigned}
-use Rattle.tmpl_grammar.specs.computed.Integer.{is_plain, begins_plain, underscores_part, parted_number, number_by, behind_zero}
+use Rattle.tmpl_grammar.specs.computed.Integer.{is_plain, underscores_part, parted_number, number_by, behind_zero}
 use Rattle.tmpl_grammar.specs.computed.Integer.{magnitude, signed, integer}
 use Rattle.tmpl_grammar.proofs.OptionLemmas.{told, chained}
 
@@ -28,23 +28,16 @@ record Computed (base : ℕ) (bs ds : List ℕ) : Type 0 where
 first-digit : (base d : ℕ) (ds : List ℕ) → are_digits base (d ∷ ds) ≡ true → is_digit d base ≡ true
 first-digit base d ds h = grind (arith, nat_tests)
 
-one-digit : (base d : ℕ) (bs ds : List ℕ) → is_plain d ≡ true → is_digit d base ≡ true → Computed base bs ds → Computed base (d ∷ bs) (d ∷ ds)
-one-digit base d bs ds p is c = record {
-  part = grind (arith, nat_tests, c.part);
-  kept = grind (arith, nat_tests, c.kept);
-  all = grind (arith, nat_tests, c.all);
-}
-
-one-underscore : (base d : ℕ) (bs ds : List ℕ) → is_plain d ≡ true → Computed base (d ∷ bs) ds → Computed base (95 ∷ d ∷ bs) ds
-one-underscore base d bs ds p c = record { part = grind (arith, nat_tests, c.part); kept = c.kept; all = c.all }
-
 parted-computed : (base : ℕ) → base ≤ 16 → {bs ds : List ℕ} → AreParted base bs ds → Computed base bs ds
 parted-computed base low no_digit = record { part = refl; kept = refl; all = refl }
-parted-computed base low (digit {d = d} {bs = bs} {ds = ds} is rest) =
-    one-digit base d bs ds (digit-plain base d low is) is (parted-computed base low rest)
-parted-computed base low (parted {d = d} {bs = bs} {ds = ds} rest) =
+parted-computed base low (digit {d = d} is rest) =
     let c = parted-computed base low rest in
-    one-underscore base d bs (d ∷ ds) (digit-plain base d low (first-digit base d ds c.all)) c
+    let plain = digit-plain base d low is in
+    record { part = simp (plain, c.part); kept = simp (plain, c.kept); all = simp (is, c.all) }
+parted-computed base low (parted {d = d} {ds = ds} rest) =
+    let c = parted-computed base low rest in
+    let plain = digit-plain base d low (first-digit base d ds c.all) in
+    record { part = simp plain (simp plain at c.part); kept = c.kept; all = c.all }
 
 parted-number : (base : ℕ) → base ≤ 16 → {bs ds : List ℕ} → AreParted base bs ds → parted_number base bs ≡ Some (digits_value base ds)
 parted-number base low {bs} {ds} a =
@@ -53,36 +46,19 @@ parted-number base low {bs} {ds} a =
 
 parted-admitted : (base : ℕ) (bs : List ℕ) → underscores_part bs ≡ true → are_digits base (filter is_plain bs) ≡ true → AreParted base bs (filter is_plain bs)
 parted-admitted base [] part all = no_digit
-parted-admitted base (b ∷ bs) part all = by (λ p a. parted-admitted base bs p a) (is_plain b) refl
+parted-admitted base (b ∷ bs) part all = by (nat_eq b 95) refl bs (parted-admitted base bs) part all
   where
-    plain-here : (b : ℕ) (bs : List ℕ) → is_plain b ≡ true → filter is_plain (b ∷ bs) ≡ b ∷ filter is_plain bs
-    plain-here b bs p = grind (arith, nat_tests)
-
-    none-here : (b : ℕ) (bs : List ℕ) → is_plain b ≡ false → filter is_plain (b ∷ bs) ≡ filter is_plain bs
-    none-here b bs p = grind (arith, nat_tests)
-
-    behind : (bs : List ℕ) → is_plain b ≡ false → underscores_part (b ∷ bs) ≡ true → begins_plain bs ≡ true
-    behind bs p h = grind (arith, nat_tests)
-
-    under : (bs : List ℕ) → AreParted base bs (filter is_plain bs) → is_plain b ≡ false → begins_plain bs ≡ true
-        → AreParted base (b ∷ bs) (filter is_plain (b ∷ bs))
-    under [] r p q = absurd (cc)
-    under (c ∷ cs) r p q =
-        let line : 95 ≡ b = grind (arith, nat_tests) in
-        subst (AreParted base (b ∷ c ∷ cs)) (sym (none-here b (c ∷ cs) p ∙ plain-here c cs q))
-        (subst (λ x. AreParted base (x ∷ c ∷ cs) (c ∷ filter is_plain cs)) line (parted (subst (AreParted base (c ∷ cs)) (plain-here c cs q) r)))
-
-    by : (underscores_part bs ≡ true → are_digits base (filter is_plain bs) ≡ true → AreParted base bs (filter is_plain bs)) → (t : Bool) → is_plain b ≡ t
-        → AreParted base (b ∷ bs) (filter is_plain (b ∷ bs))
-    by more true p =
-        let here : are_digits base (b ∷ filter is_plain bs) ≡ true = ap (are_digits base) (sym (plain-here b bs p)) ∙ all in
-        let rest : are_digits base (filter is_plain bs) ≡ true = grind (arith, nat_tests) in
-        let parts : underscores_part bs ≡ true = grind (arith, nat_tests) in
-        subst (AreParted base (b ∷ bs)) (sym (plain-here b bs p)) (digit (first-digit base b (filter is_plain bs) here) (more parts rest))
-    by more false p =
-        let rest : are_digits base (filter is_plain bs) ≡ true = ap (are_digits base) (sym (none-here b bs p)) ∙ all in
-        let parts : underscores_part bs ≡ true = grind (arith, nat_tests) in
-        under bs (more parts rest) p (behind bs p part)
+    by : (t : Bool) → nat_eq b 95 ≡ t → (bs : List ℕ)
+        → (underscores_part bs ≡ true → are_digits base (filter is_plain bs) ≡ true → AreParted base bs (filter is_plain bs))
+        → underscores_part (b ∷ bs) ≡ true → are_digits base (filter is_plain (b ∷ bs)) ≡ true → AreParted base (b ∷ bs) (filter is_plain (b ∷ bs))
+    by false e bs more part all =
+        let both = and_parts (is_digit b base) (are_digits base (filter is_plain bs)) (simp e at all) in
+        simp e (digit both.0 (more (simp e at part) both.1))
+    by true e [] more part all = absurd (let none = simp e at part in cc)
+    by true e (c ∷ cs) more part all =
+        let both = and_parts (is_plain c) (underscores_part (c ∷ cs)) (simp e at part) in
+        let r = simp both.0 at (more both.1 (simp e at all)) in
+        simp (e, both.0) (rw (eqb-true b 95 e) (parted r))
 
 number-parted : (base : ℕ) (bs : List ℕ) (P : ℕ → Type 0) → ((ds : List ℕ) → AreParted base bs ds → P (digits_value base ds))
     → IfSome (parted_number base bs) P
