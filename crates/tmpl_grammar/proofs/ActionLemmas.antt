@@ -16,7 +16,7 @@ use Rattle.tmpl_grammar.specs.Pipeline.{IsBlank, SpellsPipeline}
 use Rattle.tmpl_grammar.specs.Header.{is_range, IsSign, IsVariable, Then, SpellsBinding, SpellsHeader}
 use Rattle.tmpl_grammar.specs.Keyword.{IsWord}
 use Rattle.tmpl_grammar.specs.computed.Keyword.{spelling}
-use Rattle.tmpl_grammar.specs.computed.Reading.{header_in, spells_keyword, keyword_by, keyword_of, without_tokens, branch_of, text_in, quoted_before}
+use Rattle.tmpl_grammar.specs.computed.Reading.{header_in, spells_keyword, keyword_by, keyword_of, branch_of, text_in, quoted_before}
 use Rattle.tmpl_grammar.specs.computed.Reading.{quoted_at, with_name, named_action, define_by, call_with, template_by, block_by, pipeline_in}
 use Rattle.tmpl_grammar.specs.computed.Reading.{else_branched, else_keyword, else_by, action_by, action_behind, action_at, action_in}
 use Rattle.tmpl_grammar.specs.computed.Constant.{constant_by, constant_of}
@@ -70,24 +70,12 @@ word-other k t w = ap is_space_kind w.0
 -- ---- actions
 
 -- behind a keyword
-pub record Keyed (k : Keyword) (Rest : List Token → Type 0) (ts : List Token) : Type 0 where
-  pub rest : List Token
-  pub is : action_in ts ≡ action_by k rest
-  pub behind : Rest rest
-
-then-keyed : (k : Keyword) (Rest : List Token → Type 0) (ts : List Token) → Then (IsWord (spelling k)) Rest ts → Keyed k Rest ts
-unfolding action_in
-then-keyed k Rest ts s =
-    let l = then-led (IsWord (spelling k)) Rest ts (word-other k) s in
-    record {
-      rest = l.rest;
-      is = simp (l.first_is, word-known k l.token l.is);
-      behind = l.behind;
-    }
-
 keyed : (k : Keyword) (Rest : List Token → Type 0) (a : Action) → ((us : List Token) → Rest us → action_by k us ≡ Some a)
     → (ts : List Token) → Then (IsWord (spelling k)) Rest ts → action_in ts ≡ Some a
-keyed k Rest a f ts s = let r = then-keyed k Rest ts s in r.is ∙ f r.rest r.behind
+unfolding action_in
+keyed k Rest a f ts s =
+    let l = then-led (IsWord (spelling k)) Rest ts (word-other k) s in
+    simp (l.first_is, word-known k l.token l.is) (f l.rest l.behind)
 
 -- no keyword comes first in a header
 pub record Plain (ts : List Token) : Type 0 where
@@ -124,18 +112,11 @@ header-plain (assign name) p ts s = named-plain name (Then (IsSign kind.Assign) 
 header-plain (declare_pair key name) p ts s =
     named-plain key (Then (IsSign kind.Comma) (Then (IsVariable name) (Then (IsSign kind.Declare) (SpellsPipeline p)))) ts s
 
-bound-read : (in_range : Bool) (made : Header → Action) (h : Header) (ts : List Token) → SpellsHeader in_range h ts
-    → option_map made (header_in in_range ts) ≡ Some (made h)
-bound-read in_range made h ts spelled = simp (header-read in_range h ts spelled)
-
 plain-read : (h : Header) (ts : List Token) → SpellsHeader false h ts → action_in ts ≡ Some (pipeline_action h)
 unfolding action_in
 plain-read h ts s =
     let l = header-plain h.binding h.pipeline ts s.1 in
-    simp (l.first_is, l.other) (bound-read false pipeline_action h ts s)
-
-alone-read : (a : Action) (us : List Token) → IsBlank us → without_tokens a us ≡ Some a
-alone-read a us b = simp (blank-all us b)
+    simp (l.first_is, l.other) (simp (header-read false h ts s))
 
 else-read : (k : Keyword) (us : List Token) (Rest : List Token → Type 0) (a : Action)
     → ((vs : List Token) → Rest vs → else_keyword (Some k) vs ≡ Some a) → Then (IsWord (spelling k)) Rest us
@@ -181,19 +162,19 @@ given-read name (Some cs) vs s = by (is_blank vs) refl
 pub reads-action : IsComputed IsAction action_in
 reads-action ts (pipeline_action h) s = plain-read h ts s
 reads-action ts (opening c h) s =
-    keyed (word.Control c) (SpellsHeader (is_range c) h) (opening c h) (λ us spelled. bound-read (is_range c) (opening c) h us spelled) ts s
+    keyed (word.Control c) (SpellsHeader (is_range c) h) (opening c h) (λ us spelled. simp (header-read (is_range c) h us spelled)) ts s
 reads-action ts plain_else s = keyed word.Else IsBlank plain_else (λ us b. simp (blank-next us b)) ts s
 reads-action ts (else_branch br h) s =
     let Spelled : List Token → Type 0 = SpellsHeader false h in
     keyed word.Else (Then (IsWord (spelling (word.Control (control_in br)))) Spelled) (else_branch br h)
     (λ us t. else-read (word.Control (control_in br)) us Spelled (else_branch br h)
-    (λ vs spelled. simp (branch-known br) (bound-read false (else_branch br) h vs spelled)) t) ts s
-reads-action ts end_action s = keyed word.End IsBlank end_action (alone-read end_action) ts s
-reads-action ts break_action s = keyed word.Break IsBlank break_action (alone-read break_action) ts s
-reads-action ts continue_action s = keyed word.Continue IsBlank continue_action (alone-read continue_action) ts s
+    (λ vs spelled. simp (branch-known br) (simp (header-read false h vs spelled))) t) ts s
+reads-action ts end_action s = keyed word.End IsBlank end_action (λ us b. simp (blank-all us b)) ts s
+reads-action ts break_action s = keyed word.Break IsBlank break_action (λ us b. simp (blank-all us b)) ts s
+reads-action ts continue_action s = keyed word.Continue IsBlank continue_action (λ us b. simp (blank-all us b)) ts s
 reads-action ts (define_action name) s =
     keyed word.Define (Then (IsQuoted name) IsBlank) (define_action name)
-    (λ us t. named-read define_by name IsBlank (define_action name) us (λ vs b. alone-read (define_action name) vs b) t) ts s
+    (λ us t. named-read define_by name IsBlank (define_action name) us (λ vs b. simp (blank-all vs b)) t) ts s
 reads-action ts (template_action name given) s =
     keyed word.Template (Then (IsQuoted name) (SpellsGiven given)) (template_action name given)
     (λ us t. named-read template_by name (SpellsGiven given) (template_action name given) us (λ vs b. given-read name given vs b) t) ts s

@@ -1,9 +1,10 @@
 -- For `one_constant`: the constants that are computed are those that the relation admits.
-use Rattle.std.proofs.Common.{◌≡◌, ◌∙◌, ℕ, zero, suc, pos, ◌-◌, ◌≤◌, List, [], ◌∷◌, ◌++◌, length}
-use Rattle.std.proofs.Common.{take, drop, get_or, Option, Some, None, IfSome, refl, sym, ap, subst, arith, length-append}
+use Rattle.std.proofs.Common.{◌≡◌, ◌∙◌, ℕ, suc, pos, ◌-◌, ◌≤◌, List, [], ◌∷◌, ◌++◌, length}
+use Rattle.std.proofs.Common.{take, drop, get_or, Option, Some, None, IfSome, sym, ap, subst, arith, length-append}
 use Rattle.std.specs.Option.{option_map, option_and_then}
 use Rattle.std.specs.List.{flat_map}
-use Rattle.std.proofs.Math.Seq.{take-append_seam, get_or-append_seam}
+use Rattle.std.proofs.Math.Seq.{take-suc, take-append_seam, get_or-append_seam}
+use Rattle.std.proofs.lemmas.List.{take_all}
 use Rattle.std.proofs.lemmas.Bool.Decides.{nat_tests}
 use Rattle.tmpl_lex.specs.declared.piece.TokenKind.{TokenKind}
 use Rattle.tmpl_lex.specs.declared.piece.TokenKind.TheVariants as kind
@@ -30,36 +31,21 @@ between-quotes : (quote : ℕ) (xs : List ℕ) → between quote (quote ∷ (xs 
 between-quotes quote xs =
     let bs : List ℕ = quote ∷ (xs ++ quote ∷ []) in
     let n : length bs - 1 ≡ suc (length xs) = omega (arith, length-append xs (quote ∷ [])) in
-    let at_last : get_or bs (length bs - 1) 0 ≡ quote = ap (λ k. get_or bs k 0) n ∙ get_or-append_seam xs quote [] 0 in
-    let inside : take (length bs - 2) (xs ++ quote ∷ []) ≡ xs =
-    ap (λ k. take k (xs ++ quote ∷ [])) (let m : length bs - 2 ≡ length xs = omega arith in m) ∙ take-append_seam xs (quote ∷ []) in
+    let m : length bs - 2 ≡ length xs = omega arith in
+    let at_last : get_or bs (length bs - 1) 0 ≡ quote = rw n (get_or-append_seam xs quote [] 0) in
+    let inside : take (length bs - 2) (xs ++ quote ∷ []) ≡ xs = rw m (take-append_seam xs (quote ∷ [])) in
     grind (arith, nat_tests, length-append xs (quote ∷ []))
 
 last-split : (n : ℕ) (bs : List ℕ) → length bs ≡ suc n → take n bs ++ get_or bs n 0 ∷ [] ≡ bs
-last-split n [] h = absurd (omega arith)
-last-split zero (b ∷ []) h = refl
-last-split zero (b ∷ c ∷ bs) h = absurd (omega arith)
-last-split (suc n) (b ∷ bs) h = ap (λ l. b ∷ l) (last-split n bs (omega arith))
-
--- what the tests of the two quotes tell
-record Between (quote : ℕ) (bs xs : List ℕ) : Type 0 where
-  long : 2 ≤ length bs
-  first : get_or bs 0 0 ≡ quote
-  last : get_or bs (length bs - 1) 0 ≡ quote
-  inside : take (length bs - 2) (drop 1 bs) ≡ xs
-
-between-tells : (quote : ℕ) (bs xs : List ℕ) → between quote bs ≡ Some xs → Between quote bs xs
-between-tells quote bs xs e = record {
-  long = grind (arith, nat_tests);
-  first = grind (arith, nat_tests);
-  last = grind (arith, nat_tests);
-  inside = grind (arith, nat_tests);
-}
+last-split n bs h = sym (take-suc bs n 0 (omega (arith, h))) ∙ take_all (suc n) bs (omega (arith, h))
 
 between-is : (quote : ℕ) (bs xs : List ℕ) → between quote bs ≡ Some xs → quote ∷ (xs ++ quote ∷ []) ≡ bs
 between-is quote bs xs e =
-    let b = between-tells quote bs xs e in
-    ap (λ ys. quote ∷ (ys ++ quote ∷ [])) (sym b.inside) ∙ go bs (length bs - 2) (omega (arith, b.long)) b.first b.last
+    let long : 2 ≤ length bs = grind (arith, nat_tests) in
+    let first : get_or bs 0 0 ≡ quote = grind (arith, nat_tests) in
+    let last : get_or bs (length bs - 1) 0 ≡ quote = grind (arith, nat_tests) in
+    let inside : take (length bs - 2) (drop 1 bs) ≡ xs = grind (arith, nat_tests) in
+    rw (sym inside) (go bs (length bs - 2) (omega (arith, long)) first last)
   where
     go : (bs : List ℕ) (m : ℕ) → length bs ≡ suc (suc m) → get_or bs 0 0 ≡ quote → get_or bs (length bs - 1) 0 ≡ quote
         → quote ∷ (take m (drop 1 bs) ++ quote ∷ []) ≡ bs
@@ -67,9 +53,7 @@ between-is quote bs xs e =
     go (b ∷ bs) m n first last =
         let back : length (b ∷ bs) - 1 ≡ suc m = omega arith in
         let at_last : get_or bs m 0 ≡ quote = sym (ap (λ k. get_or (b ∷ bs) k 0) back) ∙ last in
-        ap (λ x. x ∷ (take m bs ++ quote ∷ [])) (sym first)
-        ∙ ap (λ x. b ∷ (take m bs ++ x ∷ [])) (sym at_last)
-        ∙ ap (λ l. b ∷ l) (last-split m bs (omega arith))
+        ap (λ x. x ∷ (take m bs ++ quote ∷ [])) (sym first) ∙ ap (λ l. b ∷ l) (rw (sym at_last) (last-split m bs (omega arith)))
 
 -- ---- what the relation admits is computed
 

@@ -1,5 +1,5 @@
 -- For `first_part`: a part, and the rest behind it, are those that are computed. For `cut`: part by part all of a file is cut.
-use Rattle.std.proofs.Common.{arith, ◌≡◌, ◌∙◌, ℕ, ◌+◌, ◌-◌, ◌<◌, ◌^◌, Bool, false, List, [], ◌∷◌, ◌++◌, Option, Some, None, refl, sym, ap}
+use Rattle.std.proofs.Common.{arith, ◌≡◌, ◌∙◌, ℕ, ◌+◌, ◌-◌, ◌<◌, ◌^◌, Bool, false, List, [], ◌∷◌, ◌++◌, Option, Some, None, IfSome, refl, sym, ap}
 use Rattle.std.proofs.Common.{length, take, append-nil, append_assoc, length-append, nat_eq, cond, option_map}
 use Rattle.std.proofs.lemmas.List.{take_all}
 use Rattle.std.proofs.lemmas.List.Sums.{count_by-le-length, sum_by-append, sum_by-cons}
@@ -50,11 +50,7 @@ ends-same ts us (variant.Action e) = refl
 ends-same ts us variant.Neither = refl
 
 -- the bytes end with what stands behind the end, if there is one
-abbrev AtEnds : List ℕ → Option End → Type 0
-AtEnds bs None = Unit {0}
-AtEnds bs (Some e) = EndsWith bs e.rest
-
-at-ends : (after : List ℕ) → AtEnds after (ends_at (opened (past_left after)))
+at-ends : (after : List ℕ) → IfSome (ends_at (opened (past_left after))) (λ e. EndsWith after e.rest)
 at-ends after = go (opened (past_left after)) (opened-closed 0 (past_left after))
   where
     behind : (e : End) (ps : List Piece) → HasClosed 0 (past_left after) e ps → EndsWith after e.rest
@@ -62,7 +58,7 @@ at-ends after = go (opened (past_left after)) (opened-closed 0 (past_left after)
         let m = has-marker after in
         record { front = m.marker ++ c.body; is = m.is ∙ ap (λ l. m.marker ++ l) c.is ∙ sym (append_assoc m.marker c.body e.rest) }
 
-    go : (o : Opened) → AtOpened 0 (past_left after) o → AtEnds after (ends_at o)
+    go : (o : Opened) → AtOpened 0 (past_left after) o → IfSome (ends_at o) (λ e. EndsWith after e.rest)
     go (comment e) c = behind e [] c
     go (tokens ts e) c = behind e (action 0 ts ∷ []) c
     go neither c = tt
@@ -78,7 +74,7 @@ module _ (file : List ℕ) (rest : held.Rest) (left : IsLeft file rest) (before 
   pub end-within : length file + 1 < 2 ^ 64 → IsEndWithin after here (ends_at (opened (past_left after)))
   end-within fits = by (ends_at (opened (past_left after))) (at-ends after)
     where
-      by : (e : Option End) → AtEnds after e → IsEndWithin after here e
+      by : (e : Option End) → IfSome e (λ e. EndsWith after e.rest) → IsEndWithin after here e
       by None at = tt
       by (Some e) at =
           let a = count_by-le-length (λ b. nat_eq b 10) before in
@@ -88,7 +84,8 @@ module _ (file : List ℕ) (rest : held.Rest) (left : IsLeft file rest) (before 
           (omega (arith, parts), simp (stretch-is after at.front e.rest at.is) (omega (arith, left.lines, ap length is, whole, parts, a, b, fits)))
 
   -- what is left behind an end is so also of the whole rest
-  rest-same : (e : Option End) → AtEnds after e → option_map (rest_behind after here) e ≡ option_map (rest_behind rest.bytes.now rest.line) e
+  rest-same : (e : Option End) → IfSome e (λ e. EndsWith after e.rest)
+      → option_map (rest_behind after here) e ≡ option_map (rest_behind rest.bytes.now rest.line) e
   rest-same None at = refl
   rest-same (Some e) at =
       let front : List ℕ = before ++ 123 ∷ 123 ∷ at.front in

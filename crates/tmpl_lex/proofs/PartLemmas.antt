@@ -1,6 +1,6 @@
 -- For the laws `one_cut` and `one_token`: what is computed of a list, told by the parts that it is put together from.
 use Rattle.std.proofs.Common.{arith, ◌≡◌, ◌∙◌, ℕ, suc, ◌+◌, Bool, true, false, ◌&&◌, nat_eq, cond, List, [], ◌∷◌, ◌++◌}
-use Rattle.std.proofs.Common.{Option, Some, None, refl, sym, ap, subst, length, take, drop, get_or, append_assoc}
+use Rattle.std.proofs.Common.{Option, Some, None, IfSome, refl, sym, ap, subst, length, take, drop, get_or, append_assoc}
 use Rattle.std.proofs.Common.{length-append}
 use Rattle.std.specs.List.{prefix_len, list_all, take_while}
 use Rattle.std.proofs.lemmas.Bool.{eqb-true, eq-eqb, and_parts, false_from_ne_true}
@@ -82,24 +82,22 @@ split-first : (x y b : ℕ) (bs before after : List ℕ) → b ∷ bs ≡ before
 split-first x y b bs [] after e = cc
 split-first x y b bs (c ∷ before) after e = cc
 
-pub split-is : (x y : ℕ) (bs : List ℕ) (p : List ℕ × List ℕ) → split_pair x y bs ≡ Some p → IsSplit x y bs p.0 p.1
-split-is x y [] p e = cc
-split-is x y (a ∷ []) p e = cc
-split-is x y (a ∷ b ∷ bs) p e = go (nat_eq a x && nat_eq b y) refl (split_pair x y (b ∷ bs)) (λ q f. split-is x y (b ∷ bs) q f) e
+splits : (x y : ℕ) (bs : List ℕ) → IfSome (split_pair x y bs) (λ p. IsSplit x y bs p.0 p.1)
+splits x y [] = tt
+splits x y (a ∷ []) = tt
+splits x y (a ∷ b ∷ bs) = go (nat_eq a x && nat_eq b y) refl (split_pair x y (b ∷ bs)) (splits x y (b ∷ bs))
   where
-    go : (t : Bool) → (nat_eq a x && nat_eq b y) ≡ t → (o : Option (List ℕ × List ℕ))
-        → ((q : List ℕ × List ℕ) → o ≡ Some q → IsSplit x y (b ∷ bs) q.0 q.1) → split_here t a (b ∷ bs) o ≡ Some p → IsSplit x y (a ∷ b ∷ bs) p.0 p.1
-    go true t o ih h =
-        let same : ◌≡◌ {A = List ℕ × List ℕ} ([], bs) p = cc in
-        subst (λ (q : List ℕ × List ℕ). IsSplit x y (a ∷ b ∷ bs) q.0 q.1) same (record { is = same-pair x y a b bs t; first = absent-one x y })
-    go false t None ih h = cc
-    go false t (Some q) ih h =
-        let same : ◌≡◌ {A = List ℕ × List ℕ} (a ∷ q.0, q.1) p = cc in
-        let more = ih q refl in
-        subst (λ (q : List ℕ × List ℕ). IsSplit x y (a ∷ b ∷ bs) q.0 q.1) same (record {
-          is = ap (λ l. a ∷ l) more.is;
-          first = absent-cons x y a (q.0 ++ x ∷ []) (simp (split-first x y b bs q.0 q.1 more.is, t)) more.first;
-        })
+    go : (t : Bool) → (nat_eq a x && nat_eq b y) ≡ t → (o : Option (List ℕ × List ℕ)) → IfSome o (λ p. IsSplit x y (b ∷ bs) p.0 p.1)
+        → IfSome (split_here t a (b ∷ bs) o) (λ p. IsSplit x y (a ∷ b ∷ bs) p.0 p.1)
+    go true t o more = record { is = same-pair x y a b bs t; first = absent-one x y }
+    go false t None more = tt
+    go false t (Some p) more = record {
+      is = ap (λ l. a ∷ l) more.is;
+      first = absent-cons x y a (p.0 ++ x ∷ []) (simp (split-first x y b bs p.0 p.1 more.is, t)) more.first;
+    }
+
+pub split-is : (x y : ℕ) (bs : List ℕ) (p : List ℕ × List ℕ) → split_pair x y bs ≡ Some p → IsSplit x y bs p.0 p.1
+split-is x y bs p e = subst (λ o. IfSome o (λ p. IsSplit x y bs p.0 p.1)) e (splits x y bs)
 
 -- ---- runs
 

@@ -1,5 +1,5 @@
 -- For the law `one_cut`: what is computed behind a `{{` is what the relations say.
-use Rattle.std.proofs.Common.{◌≡◌, ◌∙◌, ℕ, zero, suc, ◌-◌, Bool, true, false, ◌&&◌, nat_eq, List, [], ◌∷◌, ◌++◌, Option}
+use Rattle.std.proofs.Common.{◌≡◌, ◌∙◌, ℕ, zero, suc, ◌-◌, Bool, true, false, ◌&&◌, nat_eq, List, [], ◌∷◌, ◌++◌, Option, IfSome}
 use Rattle.std.proofs.Common.{Some, None, refl, sym, ap, length, drop, append_assoc, arith, ◌<◌}
 use Rattle.std.proofs.Math.Seq.{drop-append_seam}
 use Rattle.std.proofs.lemmas.Bool.{eqb-true, and_parts, false_from_ne_true}
@@ -19,25 +19,20 @@ use Rattle.tmpl_lex.specs.computed.Token.{front_token}
 use Rattle.tmpl_lex.specs.computed.Trim.{End, right_delimiter}
 use Rattle.tmpl_lex.proofs.ActionLemmas.{drop-sub_one, inside-closed, inside-token, front_token-some}
 use Rattle.tmpl_lex.proofs.PartLemmas.{same-pair, absent-split, split-is}
-use Rattle.tmpl_lex.proofs.StandLemmas.{AtEnd, found-ends, closes-found, found, stands}
+use Rattle.tmpl_lex.proofs.StandLemmas.{Ends, found-ends, closes-found, found, stands}
 
 -- ---- tokens and an end
 
 -- these tokens and then this end stand at the front
-pub record Reads (bs : List ℕ) (ts : List Token) (end : End) : Type 0 where
+pub record Reads (bs : List ℕ) (i : Inside) : Type 0 where
   pub closing : List ℕ
-  pub spells : Spells ts (closing ++ end.rest)
-  pub closes : Closes end.trims closing
-  pub is : bs ≡ bytes_of ts ++ closing ++ end.rest
-
--- .. if they were found
-abbrev AtInside : List ℕ → Option Inside → Type 0
-AtInside bs None = Unit {0}
-AtInside bs (Some i) = Reads bs i.0 i.1
+  pub spells : Spells i.0 (closing ++ i.1.rest)
+  pub closes : Closes i.1.trims closing
+  pub is : bs ≡ bytes_of i.0 ++ closing ++ i.1.rest
 
 -- a token before others
-reads-token : (bs : List ℕ) (t : Token) (ts : List Token) (end : End) → BeginsWith bs t → Reads (drop (length t.bytes) bs) ts end → Reads bs (t ∷ ts) end
-reads-token bs t ts end here more =
+reads-token : (bs : List ℕ) (t : Token) (i : Inside) → BeginsWith bs t → Reads (drop (length t.bytes) bs) i → Reads bs (t ∷ i.0, i.1)
+reads-token bs t i here more =
     let left = sym (ap (drop (length t.bytes)) here.is ∙ drop-append_seam t.bytes here.rest) ∙ more.is in record {
       closing = more.closing;
       spells = (simp (left, append_assoc) at here.stands, more.spells);
@@ -45,26 +40,26 @@ reads-token bs t ts end here more =
       is = here.is ∙ simp (left, append_assoc);
     }
 
-inside_after-reads : (n : ℕ) (bs : List ℕ) → AtInside (drop n bs) (inside_after n bs)
+inside_after-reads : (n : ℕ) (bs : List ℕ) → IfSome (inside_after n bs) (Reads (drop n bs))
 inside_after-reads n [] = tt
 inside_after-reads (suc n) (b ∷ bs) = inside_after-reads n bs
 inside_after-reads zero (b ∷ bs) =
     go (right_delimiter (b ∷ bs)) refl (found-ends (b ∷ bs)) (front_token (b ∷ bs)) refl (λ t. inside_after-reads (length t.bytes - 1) bs)
   where
-    add : (t : Token) → BeginsWith (b ∷ bs) t → 0 < length t.bytes → (o : Option Inside) → AtInside (drop (length t.bytes - 1) bs) o
-        → AtInside (b ∷ bs) (with_token t o)
+    add : (t : Token) → BeginsWith (b ∷ bs) t → 0 < length t.bytes → (o : Option Inside) → IfSome o (Reads (drop (length t.bytes - 1) bs))
+        → IfSome (with_token t o) (Reads (b ∷ bs))
     add t here some None more = tt
-    add t here some (Some j) more = reads-token (b ∷ bs) t j.0 j.1 here (rw (drop-sub_one (length t.bytes) b bs some) at more)
+    add t here some (Some i) more = reads-token (b ∷ bs) t i here (rw (drop-sub_one (length t.bytes) b bs some) at more)
 
-    go : (c : Option End) → right_delimiter (b ∷ bs) ≡ c → AtEnd (b ∷ bs) c → (o : Option Token) → front_token (b ∷ bs) ≡ o
-        → ((t : Token) → AtInside (drop (length t.bytes - 1) bs) (inside_after (length t.bytes - 1) bs))
-        → AtInside (b ∷ bs) (inside_from c o (λ t. inside_after (length t.bytes - 1) bs))
+    go : (c : Option End) → right_delimiter (b ∷ bs) ≡ c → IfSome c (Ends (b ∷ bs)) → (o : Option Token) → front_token (b ∷ bs) ≡ o
+        → ((t : Token) → IfSome (inside_after (length t.bytes - 1) bs) (Reads (drop (length t.bytes - 1) bs)))
+        → IfSome (inside_from c o (λ t. inside_after (length t.bytes - 1) bs)) (Reads (b ∷ bs))
     go (Some end) on e o at ih = record { closing = e.closing; spells = tt; closes = e.closes; is = e.is }
     go None on e None at ih = tt
     go None on e (Some t) at ih =
         add t (stands (b ∷ bs) t (record { no_end = on; front = at })) (front_token-some (b ∷ bs) t (sym at)) (inside_after (length t.bytes - 1) bs) (ih t)
 
-inside-reads : (bs : List ℕ) → AtInside bs (inside bs)
+inside-reads : (bs : List ℕ) → IfSome (inside bs) (Reads bs)
 unfolding inside
 inside-reads bs = inside_after-reads 0 bs
 
@@ -124,16 +119,12 @@ slash-is [] h = cc
 slash-is (a ∷ []) h = cc
 slash-is (a ∷ b ∷ bs) h = same-pair 47 42 a b bs h
 
--- a closed comment, if there is one
-abbrev AtComment : ℕ → List ℕ → Option End → Type 0
-AtComment line bs None = Unit {0}
-AtComment line bs (Some end) = HasClosed line bs end []
-
-comment-is : (line : ℕ) (bs : List ℕ) → AtComment line bs (comment_end bs)
+comment-is : (line : ℕ) (bs : List ℕ) → IfSome (comment_end bs) (λ end. HasClosed line bs end [])
 unfolding comment_end
 comment-is line bs = go (opens_comment bs) refl (split_pair 42 47 (drop 2 bs)) refl
   where
-    closed : (p : List ℕ × List ℕ) → opens_comment bs ≡ true → split_pair 42 47 (drop 2 bs) ≡ Some p → (o : Option End) → AtEnd p.1 o → AtComment line bs o
+    closed : (p : List ℕ × List ℕ) → opens_comment bs ≡ true → split_pair 42 47 (drop 2 bs) ≡ Some p → (o : Option End) → IfSome o (Ends p.1)
+        → IfSome o (λ end. HasClosed line bs end [])
     closed p t s None ends = tt
     closed p t s (Some end) ends =
         let split = split-is 42 47 (drop 2 bs) p s in record {
@@ -144,7 +135,8 @@ comment-is line bs = go (opens_comment bs) refl (split_pair 42 47 (drop 2 bs)) r
               ∙ sym (append_assoc (p.0 ++ 42 ∷ 47 ∷ []) ends.closing end.rest ∙ append_assoc p.0 (42 ∷ 47 ∷ []) (ends.closing ++ end.rest)));
         }
 
-    go : (t : Bool) → opens_comment bs ≡ t → (o : Option (List ℕ × List ℕ)) → split_pair 42 47 (drop 2 bs) ≡ o → AtComment line bs (comment_closed t o)
+    go : (t : Bool) → opens_comment bs ≡ t → (o : Option (List ℕ × List ℕ)) → split_pair 42 47 (drop 2 bs) ≡ o
+        → IfSome (comment_closed t o) (λ end. HasClosed line bs end [])
     go false t o s = tt
     go true t None s = tt
     go true t (Some p) s = closed p t s (right_delimiter p.1) (found-ends p.1)
@@ -158,7 +150,7 @@ pub opened-closed : (line : ℕ) (bs : List ℕ) → AtOpened line bs (opened bs
 unfolding opened
 opened-closed line bs = go (comment_end bs) (comment-is line bs) (inside bs) (inside-reads bs)
   where
-    go : (c : Option End) → AtComment line bs c → (i : Option Inside) → AtInside bs i → AtOpened line bs (opened_by c i)
+    go : (c : Option End) → IfSome c (λ end. HasClosed line bs end []) → (i : Option Inside) → IfSome i (Reads bs) → AtOpened line bs (opened_by c i)
     go (Some end) at i reads = at
     go None at (Some i) r = record { body = bytes_of i.0 ++ r.closing; closed = an_action r.spells r.closes; is = r.is }
     go None at None r = tt

@@ -1,6 +1,6 @@
 -- For the law `one_token`: the token that is computed at the front of bytes is the one of the table, row by row.
-use Rattle.std.proofs.Common.{arith, ◌≡◌, ◌∙◌, ℕ, zero, suc, ◌+◌, ◌-◌, Bool, true, false, cond, ◌&&◌, not, nat_eq, List, [], ◌∷◌, ◌++◌}
-use Rattle.std.proofs.Common.{Option, Some, None, refl, sym, ap, subst, length, take, drop, length-append, append_assoc, if◌then◌else◌}
+use Rattle.std.proofs.Common.{arith, ◌≡◌, ◌∙◌, ℕ, zero, suc, ◌-◌, Bool, true, false, ◌&&◌, not, nat_eq, List, [], ◌∷◌, ◌++◌}
+use Rattle.std.proofs.Common.{Option, Some, None, IfSome, get_or, ◌<◌, refl, sym, ap, subst, length, take, drop, length-append, append_assoc, if◌then◌else◌}
 use Rattle.std.proofs.Common.{codes}
 use Rattle.std.specs.Char.{is_ascii_digit}
 use Rattle.std.specs.List.{prefix_len, list_all, take_while}
@@ -9,7 +9,8 @@ use Rattle.std.proofs.lemmas.Bool.Decides.{nat_tests}
 use Rattle.std.proofs.Math.Bool.{and-false, and-true}
 use Rattle.std.proofs.lemmas.List.{take-append-drop}
 use Rattle.std.proofs.lemmas.List.Folds.{list_all-append}
-use Rattle.std.proofs.Math.Seq.{take-append_seam, drop-append_seam}
+use Rattle.std.proofs.lemmas.List.Sums.{prefix_len-le-length, prefix_len_passes}
+use Rattle.std.proofs.Math.Seq.{take-suc, drop-cons, take-append_seam, drop-append_seam}
 use Rattle.std.proofs.lemmas.Option.{same_Some}
 use Rattle.tmpl_lex.specs.declared.piece.TokenKind.{TokenKind}
 use Rattle.tmpl_lex.specs.declared.piece.TokenKind.TheVariants as kind
@@ -59,15 +60,10 @@ marked-is (a ∷ bs) h =
     let both = and_parts (is_space a) (has_dashed_delimiter bs) h in
     (a, (both.0, ap (λ l. a ∷ l) (dashed-is bs both.1)))
 
--- .. if one does
-abbrev pub AtEnd : List ℕ → Option End → Type 0
-AtEnd bs None = Unit {0}
-AtEnd bs (Some e) = Ends bs e
-
-pub found-ends : (bs : List ℕ) → AtEnd bs (right_delimiter bs)
+pub found-ends : (bs : List ℕ) → IfSome (right_delimiter bs) (Ends bs)
 found-ends bs = go (has_right_delimiter bs) refl (right_marked bs) refl
   where
-    go : (c : Bool) → has_right_delimiter bs ≡ c → (m : Bool) → right_marked bs ≡ m → AtEnd bs (ended_by c m bs)
+    go : (c : Bool) → has_right_delimiter bs ≡ c → (m : Bool) → right_marked bs ≡ m → IfSome (ended_by c m bs) (Ends bs)
     go true c m d = record { closing = 125 ∷ 125 ∷ []; closes = closes; is = braces-is bs c }
     go false c true d =
         let marked = marked-is bs d in
@@ -79,8 +75,7 @@ no-closes b [] e = refl
 no-closes b (c ∷ bs) e = simp e
 
 pub no-end : (b : ℕ) (bs : List ℕ) → nat_eq b 125 ≡ false → is_space b ≡ false → right_delimiter (b ∷ bs) ≡ None
-no-end b bs e s =
-    simp (no-closes b bs e, s)
+no-end b bs e s = simp (no-closes b bs e, s)
 
 -- ---- white space
 
@@ -102,8 +97,7 @@ spaces-undashed (b ∷ bs) rest h e =
 -- the white space at the front, before this rest
 run-space : (bs rest : List ℕ) → IsRun is_space bs rest
     → space_run (bs ++ rest) ≡ take (unmarked (has_dashed_delimiter rest) (length bs)) (bs ++ rest)
-run-space bs rest run =
-    simp (run-length is_space bs rest run, drop-append_seam)
+run-space bs rest run = simp (run-length is_space bs rest run, drop-append_seam)
 
 spaces-run : (bs rest : List ℕ) → list_all is_space bs ≡ true → EndsSpace rest → space_run (bs ++ rest) ≡ bs
 spaces-run bs _ h (at_byte {rest = rest} s n) =
@@ -117,25 +111,6 @@ spaces-run bs _ h (at_marker rest c) = before c
         let run = run-space (bs ++ w ∷ []) dashed (record { passes = simp (list_all-append, h, white); longest = refl }) in
         let less : length (bs ++ w ∷ []) - 1 ≡ length bs = omega (arith, length-append bs (w ∷ [])) in
         simp append_assoc at (rw less at run) ∙ take-append_seam bs (w ∷ dashed)
-
--- the last byte of the white space at the front, and what stands before and behind it
-record LastWhite (m : ℕ) (bs : List ℕ) : Type 0 where
-  w : ℕ
-  white : is_space w ≡ true
-  before : list_all is_space (take m bs) ≡ true
-  behind : drop m bs ≡ w ∷ drop (suc m) bs
-
-last-white : (bs : List ℕ) (m : ℕ) → prefix_len is_space bs ≡ suc m → LastWhite m bs
-last-white [] m e = absurd (omega (arith, e))
-last-white (b ∷ bs) m e = go (is_space b) refl m e (λ k f. last-white bs k f)
-  where
-    go : (t : Bool) → is_space b ≡ t → (m : ℕ) → cond t (1 + prefix_len is_space bs) 0 ≡ suc m
-        → ((k : ℕ) → prefix_len is_space bs ≡ suc k → LastWhite k bs) → LastWhite m (b ∷ bs)
-    go false h m e ih = absurd (omega (arith, e))
-    go true h zero e ih = record { w = b; white = h; before = refl; behind = refl }
-    go true h (suc m) e ih =
-        let more = ih m (omega (arith, e)) in
-        record { w = more.w; white = more.white; before = simp (h, more.before); behind = more.behind }
 
 -- white space at the front, up to where it ends
 record Spaces (bs : List ℕ) : Type 0 where
@@ -167,35 +142,32 @@ run-spaces bs h = go (has_dashed_delimiter (drop len bs)) refl len refl
         spaces-of bs len (simp d) run.passes (at_byte run.longest (undashed-begins (drop len bs) d))
     go true d zero e = absurd (both_ways (has_dashed_delimiter bs) h (ap (λ n. has_dashed_delimiter (drop n bs)) (sym e) ∙ d))
     go true d (suc m) e =
-        let last = last-white bs m e in
-        let dashed = dashed-is (drop (suc m) bs) (ap (λ n. has_dashed_delimiter (drop n bs)) (sym e) ∙ d) in
+        let w = get_or bs m 0 in
         let count : len - 1 ≡ m = omega (arith, e) in
-        spaces-of bs m (simp (d, count)) last.before
-        (subst EndsSpace (sym (last.behind ∙ ap (λ l. last.w ∷ l) dashed)) (at_marker (drop 3 (drop (suc m) bs)) (closes_marked last.white)))
+        let within : m < prefix_len is_space bs = omega (arith, e) in
+        let long : m < length bs = omega (arith, within, prefix_len-le-length is_space bs) in
+        let run : list_all is_space (take (suc m) bs) ≡ true = rw (sym e) (let r = taken-run is_space bs in r.passes) in
+        let both = and_parts (list_all is_space (take m bs)) (is_space w && true) (simp (take-suc bs m 0 long, list_all-append) at run) in
+        let dashed = dashed-is (drop (suc m) bs) (ap (λ n. has_dashed_delimiter (drop n bs)) (sym e) ∙ d) in
+        let marker : drop m bs ≡ w ∷ 45 ∷ 125 ∷ 125 ∷ drop 3 (drop (suc m) bs) = drop-cons bs m 0 long ∙ ap (λ l. w ∷ l) dashed in
+        spaces-of bs m (simp (d, count)) both.0
+        (rw marker (at_marker (drop 3 (drop (suc m) bs)) (closes_marked (prefix_len_passes is_space bs m 0 within))))
 
 -- ---- quotes
 
 quoted-found : (q : ℕ) (bs rest : List ℕ) → nat_eq 92 q ≡ false → nat_eq q 10 ≡ false → IsQuoted q bs
     → quoted q false (bs ++ q ∷ [] ++ rest) ≡ Some (bs ++ q ∷ [])
-quoted-found q _ rest e n no_byte =
-    simp (n, eq-eqb q q refl)
-quoted-found q _ rest e n (a_byte {b = b} {bs = bs} l s c h) =
-    simp (l, s, c, quoted-found q bs rest e n h)
-quoted-found q _ rest e n (an_escape {b = b} {bs = bs} l h) =
-    simp (e, l, and-false, quoted-found q bs rest e n h)
+quoted-found q _ rest e n no_byte = simp (n, eq-eqb q q refl)
+quoted-found q _ rest e n (a_byte {b = b} {bs = bs} l s c h) = simp (l, s, c, quoted-found q bs rest e n h)
+quoted-found q _ rest e n (an_escape {b = b} {bs = bs} l h) = simp (e, l, and-false, quoted-found q bs rest e n h)
 
 -- what was found: the bytes up to the quote, the quote, and what stands behind it
 data IsUpTo (Form : List ℕ → Type 0) (q : ℕ) : List ℕ → List ℕ → Type 0 where
   at_quote : (inside rest : List ℕ) → Form inside → IsUpTo Form q (inside ++ q ∷ [] ++ rest) (inside ++ q ∷ [])
 
--- .. if anything was
-abbrev UpTo : (List ℕ → Type 0) → ℕ → List ℕ → Option (List ℕ) → Type 0
-UpTo Form q bs None = Unit {0}
-UpTo Form q bs (Some xs) = IsUpTo Form q bs xs
-
 -- one byte more: it is the quote, or what was found behind it goes on
 up-to-is : (F G : List ℕ → Type 0) (q b : ℕ) (bs : List ℕ) (t : Bool) → (t ≡ true → (b ≡ q) × G []) → (t ≡ false → (ys : List ℕ) → F ys → G (b ∷ ys))
-    → (o : Option (List ℕ)) → UpTo F q bs o → UpTo G q (b ∷ bs) (up_to t b o)
+    → (o : Option (List ℕ)) → IfSome o (IsUpTo F q bs) → IfSome (up_to t b o) (IsUpTo G q (b ∷ bs))
 up-to-is F G q b bs true end step o at = let here = end refl in subst (λ (k : ℕ). IsUpTo G q (k ∷ bs) (k ∷ [])) (sym here.0) (at_quote [] bs here.1)
 up-to-is F G q b bs false end step None at = tt
 up-to-is F G q b _ false end step (Some _) (at_quote inside rest form) = at_quote (b ∷ inside) rest (step refl inside form)
@@ -210,7 +182,7 @@ escape-behind : (q b : ℕ) (bs : List ℕ) → b ≡ 92 → Behind q true bs �
 escape-behind q b [] e h = absurd h
 escape-behind q b (c ∷ bs) e h = subst (λ (k : ℕ). IsQuoted q (k ∷ c ∷ bs)) (sym e) (an_escape h.0 h.1)
 
-quoted-is : (q : ℕ) (e : Bool) (bs : List ℕ) → UpTo (Behind q e) q bs (quoted q e bs)
+quoted-is : (q : ℕ) (e : Bool) (bs : List ℕ) → IfSome (quoted q e bs) (IsUpTo (Behind q e) q bs)
 quoted-is q e [] = tt
 quoted-is q e (b ∷ bs) = go (nat_eq b 10) refl e (λ s. quoted-is q s bs)
   where
@@ -218,8 +190,8 @@ quoted-is q e (b ∷ bs) = go (nat_eq b 10) refl e (λ s. quoted-is q s bs)
     step el t false es ys f = a_byte el es t f
     step el t true es ys f = escape-behind q b ys (eqb-true b 92 es) f
 
-    go : (l : Bool) → nat_eq b 10 ≡ l → (e : Bool) → ((s : Bool) → UpTo (Behind q s) q bs (quoted q s bs))
-        → UpTo (Behind q e) q (b ∷ bs) (unless l (up_to (nat_eq b q && not e) b (quoted q (nat_eq b 92 && not e) bs)))
+    go : (l : Bool) → nat_eq b 10 ≡ l → (e : Bool) → ((s : Bool) → IfSome (quoted q s bs) (IsUpTo (Behind q s) q bs))
+        → IfSome (unless l (up_to (nat_eq b q && not e) b (quoted q (nat_eq b 92 && not e) bs))) (IsUpTo (Behind q e) q (b ∷ bs))
     go true el e ih = tt
     go false el false ih =
         rw (and-true (nat_eq b q), and-true (nat_eq b 92)) (up-to-is (Behind q (nat_eq b 92)) (IsQuoted q) q b bs (nat_eq b q)
@@ -238,7 +210,7 @@ absent-more : (q b : ℕ) (bs : List ℕ) → nat_eq b q ≡ false → Absent (q
 absent-more q b bs n h [] ys e = let same : b ≡ q = cc in both_ways (nat_eq b q) n (eq-eqb b q same)
 absent-more q b bs n h (x ∷ xs) ys e = h xs ys (let rest : bs ≡ xs ++ q ∷ [] ++ ys = cc in rest)
 
-raw-is : (q : ℕ) (bs : List ℕ) → UpTo (Absent (q ∷ [])) q bs (through q bs)
+raw-is : (q : ℕ) (bs : List ℕ) → IfSome (through q bs) (IsUpTo (Absent (q ∷ [])) q bs)
 raw-is q [] = tt
 raw-is q (b ∷ bs) = up-to-is (Absent (q ∷ [])) (Absent (q ∷ [])) q b bs (nat_eq b q)
     (λ e. (eqb-true b q e, λ us ys f. absurd (omega (arith, ap length f, length-append (us ++ q ∷ []) ys, length-append us (q ∷ [])))))
@@ -307,15 +279,11 @@ record StandsAt (b : ℕ) (bs : List ℕ) (p : Begun) : Type 0 where
   stands : IsToken p.0 (b ∷ p.1) rest
   is : bs ≡ p.1 ++ rest
 
-abbrev AtBegun : ℕ → List ℕ → Option Begun → Type 0
-AtBegun b bs None = Unit {0}
-AtBegun b bs (Some p) = StandsAt b bs p
-
-number-stands : (c : ℕ) → IsSign (c ∷ []) → (bs : List ℕ) → AtBegun c bs (signed bs)
+number-stands : (c : ℕ) → IsSign (c ∷ []) → (bs : List ℕ) → IfSome (signed bs) (StandsAt c bs)
 number-stands c s [] = tt
 number-stands c s (d ∷ bs) = go (is_ascii_digit d) refl
   where
-    go : (t : Bool) → is_ascii_digit d ≡ t → AtBegun c (d ∷ bs) (number t d bs)
+    go : (t : Bool) → is_ascii_digit d ≡ t → IfSome (number t d bs) (StandsAt c (d ∷ bs))
     go true h = record {
       rest = drop (prefix_len is_number_byte bs) bs;
       stands = table.number d s h (taken-run is_number_byte bs);
@@ -328,16 +296,16 @@ dotted-stands [] rest bs run is = record { rest = rest; stands = table.dot run.l
 dotted-stands (c ∷ name) rest bs run is = record { rest = rest; stands = table.field run; is = is }
 
 quote-stands : (k : TokenKind) (q : ℕ) (Form : List ℕ → Type 0) → ((xs rest : List ℕ) → Form xs → IsToken k (q ∷ (xs ++ q ∷ [])) rest)
-    → (bs : List ℕ) (o : Option (List ℕ)) → UpTo Form q bs o → AtBegun q bs (of_kind k o)
+    → (bs : List ℕ) (o : Option (List ℕ)) → IfSome o (IsUpTo Form q bs) → IfSome (of_kind k o) (StandsAt q bs)
 quote-stands k q Form row bs None at = tt
 quote-stands k q Form row _ (Some _) (at_quote inside rest form) =
     record { rest = rest; stands = row inside rest form; is = refl }
 
-declare-stands : (bs : List ℕ) → AtBegun 58 bs (assigned bs)
+declare-stands : (bs : List ℕ) → IfSome (assigned bs) (StandsAt 58 bs)
 declare-stands [] = tt
 declare-stands (c ∷ bs) = go (nat_eq c 61) refl
   where
-    go : (t : Bool) → nat_eq c 61 ≡ t → AtBegun 58 (c ∷ bs) (declare t)
+    go : (t : Bool) → nat_eq c 61 ≡ t → IfSome (declare t) (StandsAt 58 (c ∷ bs))
     go true h = record { rest = bs; stands = table.declare; is = ap (λ n. n ∷ bs) (eqb-true c 61 h) }
     go false h = tt
 
@@ -354,17 +322,18 @@ alone-stands : (k : TokenKind) (b : ℕ) (bs : List ℕ) → IsToken k (b ∷ []
 alone-stands k b bs h = record { rest = bs; stands = h; is = refl }
 
 -- either of two, by a test
-by-test : (t : Bool) (b : ℕ) (bs : List ℕ) (o p : Option Begun) → (t ≡ true → AtBegun b bs o) → (t ≡ false → AtBegun b bs p)
-    → AtBegun b bs (if t then o else p)
+by-test : (t : Bool) (b : ℕ) (bs : List ℕ) (o p : Option Begun) → (t ≡ true → IfSome o (StandsAt b bs))
+    → (t ≡ false → IfSome p (StandsAt b bs)) → IfSome (if t then o else p) (StandsAt b bs)
 by-test true b bs o p this that = this refl
 by-test false b bs o p this that = that refl
 
 -- .. by whether the first byte is this one
-by-byte : (b c : ℕ) (bs : List ℕ) (o p : Option Begun) → AtBegun c bs o → AtBegun b bs p → AtBegun b bs (if nat_eq b c then o else p)
+by-byte : (b c : ℕ) (bs : List ℕ) (o p : Option Begun) → IfSome o (StandsAt c bs) → IfSome p (StandsAt b bs)
+    → IfSome (if nat_eq b c then o else p) (StandsAt b bs)
 by-byte b c bs o p this that =
-    by-test (nat_eq b c) b bs o p (λ e. subst (λ (k : ℕ). AtBegun k bs o) (sym (eqb-true b c e)) this) (λ e. that)
+    by-test (nat_eq b c) b bs o p (λ e. subst (λ (k : ℕ). IfSome o (StandsAt k bs)) (sym (eqb-true b c e)) this) (λ e. that)
 
-marked-stands : (b : ℕ) (bs : List ℕ) → AtBegun b bs (marked b bs)
+marked-stands : (b : ℕ) (bs : List ℕ) → IfSome (marked b bs) (StandsAt b bs)
 marked-stands b bs =
     let name = taken-run is_name_byte bs in
     by-byte b 43 bs _ _ (number-stands 43 plus bs)
@@ -381,7 +350,7 @@ marked-stands b bs =
     (by-byte b 40 bs _ _ (alone-stands kind.LeftParenthesis 40 bs table.left_parenthesis)
     (by-byte b 41 bs _ _ (alone-stands kind.RightParenthesis 41 bs table.right_parenthesis) tt))))))))))))
 
-begun-stands : (b : ℕ) (bs : List ℕ) → right_marked (b ∷ bs) ≡ false → AtBegun b bs (begun b bs)
+begun-stands : (b : ℕ) (bs : List ℕ) → right_marked (b ∷ bs) ≡ false → IfSome (begun b bs) (StandsAt b bs)
 begun-stands b bs m =
     let name = taken-run is_name_byte bs in
     by-test (is_space b) b bs _ _ (λ h. space-stands b bs h m) (λ s.
@@ -399,7 +368,7 @@ pub stands : (bs : List ℕ) (t : Token) → IsFound bs t → BeginsWith bs t
 stands [] t h = cc
 stands (b ∷ bs) t h = go (begun b bs) (begun-stands b bs (no-marker (has_right_delimiter (b ∷ bs)) (right_marked (b ∷ bs)) (b ∷ bs) h.no_end)) h.front
   where
-    go : (o : Option Begun) → AtBegun b bs o → token_from b o ≡ Some t → BeginsWith (b ∷ bs) t
+    go : (o : Option Begun) → IfSome o (StandsAt b bs) → token_from b o ≡ Some t → BeginsWith (b ∷ bs) t
     go None at e = cc
     go (Some p) at e =
         let same : record { kind = p.0; bytes = b ∷ p.1 } ≡ t = cc in
