@@ -33,8 +33,7 @@ byte-read base count ds rest are h =
 
 char-read : (len count : ℕ) (ds rest : List ℕ) → AreDigits 16 count ds → scalar (digits_value 16 ds) ≡ true
     → option_and_then (as_char len) (code 16 count (ds ++ rest)) ≡ Some (char (digits_value 16 ds), len)
-char-read len count ds rest are s =
-    simp (code-digits 16 count ds rest are, s)
+char-read len count ds rest are s = simp (code-digits 16 count ds rest are, s)
 
 octal-read : (quote : ℕ) (ds rest : List ℕ) → IsMark quote → AreDigits 8 3 ds → digits_value 8 ds < 256
     → escape quote (ds ++ rest) ≡ Some (byte (digits_value 8 ds), 4)
@@ -94,7 +93,7 @@ if-byte : (quote e k : ℕ) (bs : List ℕ) (o p : Option Spelled) → HasEscape
 if-byte quote e k bs o p this that = by (nat_eq e k) refl
   where
     by : (t : Bool) → nat_eq e k ≡ t → HasEscape quote (92 ∷ e ∷ bs) (if t then o else p)
-    by true h = subst (λ x. HasEscape quote (92 ∷ x ∷ bs) o) (sym (eqb-true e k h)) this
+    by true h = rw (eqb-true e k h) this
     by false h = that
 
 -- what stands for a byte is the letter of it, or the mark

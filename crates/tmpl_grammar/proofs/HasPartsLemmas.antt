@@ -154,8 +154,7 @@ first-part quote (b ∷ bs) low = by (nat_eq b 92) refl (nat_eq b quote) refl
   where
     by : (s : Bool) → nat_eq b 92 ≡ s → (q : Bool) → nat_eq b quote ≡ q
         → IfSome (if s then escape quote bs else (if q then None else Some (rune_part (first_rune (b ∷ bs))))) (FirstPart quote (b ∷ bs))
-    by true h q k = subst (λ x. IfSome (escape quote bs) (FirstPart quote (x ∷ bs))) (sym (eqb-true b 92 h))
-        (IfSome_then (escape quote bs) (has-escape quote bs) (λ p f. escape-first quote (92 ∷ bs) p f))
+    by true h q k = rw (eqb-true b 92 h) (IfSome_then (escape quote bs) (has-escape quote bs) (λ p f. escape-first quote (92 ∷ bs) p f))
     by false h true k = tt
     by false h false k = rune-first quote b bs (first_rune (b ∷ bs)) low h k refl (front (b ∷ bs))
 

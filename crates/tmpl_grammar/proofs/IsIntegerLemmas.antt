@@ -1,6 +1,6 @@
 -- For `one_constant`: the whole constants that are computed are those that the relation admits.
 use Rattle.std.proofs.Common.{arith, ◌≡◌, ◌∙◌, ℕ, ℤ, pos, neg_ℤ, ◌^◌, ◌<◌, ◌≤◌, Bool, true, false, nat_eq}
-use Rattle.std.proofs.Common.{List, [], ◌∷◌, filter, Option, Some, None, IfSome, option_and_then, refl, sym, subst, if◌then◌else◌}
+use Rattle.std.proofs.Common.{List, [], ◌∷◌, filter, Option, Some, None, IfSome, option_and_then, refl, subst, if◌then◌else◌}
 use Rattle.std.specs.List.{list_all}
 use Rattle.std.specs.Char.{is_digit}
 use Rattle.std.specs.Str.Parse.{digits_value}
@@ -81,8 +81,7 @@ digit-unnamed d is = grind (arith, nat_tests)
 
 octal-computed : {bs ds : List ℕ} → AreParted 8 bs ds → behind_zero bs ≡ Some (digits_value 8 ds)
 octal-computed no_digit = refl
-octal-computed (digit {d = d} {bs = bs} is rest) =
-    simp (digit-unnamed d is) (parted-number 8 (omega arith) (digit is rest))
+octal-computed (digit {d = d} {bs = bs} is rest) = simp (digit-unnamed d is) (parted-number 8 (omega arith) (digit is rest))
 octal-computed (parted rest) = parted-number 8 (omega arith) (parted rest)
 
 decimal-computed : (d : ℕ) (bs : List ℕ) → is_digit d 10 ≡ true → (d ≡ 48 → ⊥) → magnitude (d ∷ bs) ≡ parted_number 10 (d ∷ bs)
@@ -113,7 +112,7 @@ magnitude-admitted (b ∷ bs) = go (nat_eq b 48) refl (nat_eq b 95) refl
   where
     go : (z : Bool) → nat_eq b 48 ≡ z → (u : Bool) → nat_eq b 95 ≡ u
         → IfSome (if z then behind_zero bs else (if u then None else parted_number 10 (b ∷ bs))) (IsMagnitude (b ∷ bs))
-    go true h u k = subst (λ x. IfSome (behind_zero bs) (IsMagnitude (x ∷ bs))) (sym (eqb-true b 48 h)) (zero-admitted bs)
+    go true h u k = rw (eqb-true b 48 h) (zero-admitted bs)
     go false h true k = tt
     go false h false k =
         let other : b ≡ 48 → ⊥ = λ is. grind (arith, nat_tests) in
@@ -168,10 +167,7 @@ integer-admitted (b ∷ bs) = go (nat_eq b 45) refl (nat_eq b 43) refl
         → IfSome (if s then option_and_then (signed true) (magnitude bs) else (if p then option_and_then (signed false) (magnitude bs)
         else option_and_then (signed false) (magnitude (b ∷ bs)))) (IsInteger (b ∷ bs))
     go true h p k =
-        subst (λ x. IfSome (option_and_then (signed true) (magnitude bs)) (IsInteger (x ∷ bs))) (sym (eqb-true b 45 h))
-        (chained (signed true) (IsMagnitude bs) (IsInteger (45 ∷ bs)) (magnitude bs) (magnitude-admitted bs) (λ n m.
+        rw (eqb-true b 45 h) (chained (signed true) (IsMagnitude bs) (IsInteger (45 ∷ bs)) (magnitude bs) (magnitude-admitted bs) (λ n m.
         told (IsInteger (45 ∷ bs)) (signed true n) (λ i e. let is = is-negative n i e in subst (IsInteger (45 ∷ bs)) is.1 (minus m is.0))))
-    go false h true k =
-        subst (λ x. IfSome (option_and_then (signed false) (magnitude bs)) (IsInteger (x ∷ bs))) (sym (eqb-true b 43 k))
-        (positive-admitted (43 ∷ bs) bs (λ n m. plus m))
+    go false h true k = rw (eqb-true b 43 k) (positive-admitted (43 ∷ bs) bs (λ n m. plus m))
     go false h false k = positive-admitted (b ∷ bs) (b ∷ bs) (λ n m. unsigned m)

@@ -1,5 +1,5 @@
 -- For `one_operand`: the operands of one token that are computed are those that the relation admits.
-use Rattle.std.proofs.Common.{◌≡◌, ◌∙◌, ℕ, Bool, true, false, cond, List, [], ◌∷◌, Option, Some, IfSome, refl, sym, subst, bytes_eq, codes, find}
+use Rattle.std.proofs.Common.{◌≡◌, ◌∙◌, ℕ, Bool, true, false, cond, List, [], ◌∷◌, Option, Some, IfSome, refl, subst, bytes_eq, codes, find}
 use Rattle.std.proofs.Common.{drop}
 use Rattle.std.proofs.lemmas.Slice.Eq.{bytes_eq-Decides}
 use Rattle.std.proofs.lemmas.Option.{IfSome_then}
@@ -74,7 +74,7 @@ is-named name =
     at word o is q more = go (bytes_eq name word) refl
       where
         go : (b : Bool) → bytes_eq name word ≡ b → IfSome (cond b (Some o) q) (IsOperand (token kind.Word name))
-        go true h = subst (λ bs. IsOperand (token kind.Word bs) o) (sym ((bytes_eq-Decides name word).0 h)) is
+        go true h = rw ((bytes_eq-Decides name word).0 h) is
         go false h = more
 
 is-operand : (k : TokenKind) (bs : List ℕ) → IfSome (operand_by k (token k bs)) (IsOperand (token k bs))

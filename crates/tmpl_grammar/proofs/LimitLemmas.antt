@@ -52,12 +52,10 @@ from-emptied (o ∷ os) = ap (tree.operand (emptied o)) (from-emptied os)
 more-emptied : (cs : List Operands) (os : List Operand)
     → more_commands (emptied_commands cs) (map emptied os) ≡ option_map emptied_commands (more_commands cs os)
 more-emptied cs [] = refl
-more-emptied cs (o ∷ os) =
-    simp (from-emptied os, map-append)
+more-emptied cs (o ∷ os) = simp (from-emptied os, map-append)
 
 closed-emptied : (h : Parser) → closed (emptied_parser h) ≡ option_map emptied_commands (closed h)
-closed-emptied h =
-    simp (settled-emptied h.last h.inner.operands, more-emptied h.inner.commands (settled h.last h.inner.operands))
+closed-emptied h = simp (settled-emptied h.last h.inner.operands, more-emptied h.inner.commands (settled h.last h.inner.operands))
 
 stands-emptied : (cs : List Operands) (os : List Operand) (o : Operand) → may_stand (emptied_commands cs) (map emptied os) o ≡ may_stand cs os o
 stands-emptied [] os o = refl
@@ -146,8 +144,7 @@ none-steps keeps (t ∷ ts) = none-steps keeps ts
 -- a token that may not stand
 pub none-read : (keeps : Bool) (h : Parser) (ts : List Token) (t : Token) (us : List Token) → ts ≡ t ∷ us → pruned_step keeps t h ≡ None
     → pruned_commands keeps h ts ≡ None
-none-read keeps h ts t us is e =
-    simp (is, e, none-steps keeps us)
+none-read keeps h ts t us is e = simp (is, e, none-steps keeps us)
 
 -- ---- the limit
 

@@ -18,8 +18,8 @@ use Rattle.tmpl_grammar.proofs.PrintableTokenLemmas.{IsRead, AreRead}
 use Rattle.tmpl_grammar.proofs.PrintableConstantLemmas.{of-constant}
 
 of-token : (t : Token) (o : Operand) → IsRead t → IsOperand t o → OfOperand o
-of-token t _ r (operand.field is begins) = ((begins, subst (λ k. OfKind k (name_in t)) is r.names), tt)
-of-token t _ r (operand.variable is) = (subst (λ k. OfKind k (name_in t)) is r.names, tt)
+of-token t _ r (operand.field is begins) = ((begins, rw is at r.names), tt)
+of-token t _ r (operand.variable is) = (rw is at r.names, tt)
 of-token t o r (operand.a_constant is) = of-constant t o r.bytes is
 of-token _ _ r _ = tt
 

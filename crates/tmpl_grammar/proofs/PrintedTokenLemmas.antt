@@ -25,7 +25,7 @@ use Rattle.tmpl_values.specs.Text.{truth_text}
 use Rattle.tmpl_grammar.specs.Print.{bytes_of, Spells, IsInside, token, space, word, variable_token, chain_tokens, operand_tokens, more_tokens}
 use Rattle.tmpl_grammar.specs.Print.{command_tokens, later_tokens, pipeline_tokens, header_tokens, action_tokens}
 use Rattle.tmpl_grammar.specs.Print.{binding_tokens, given_tokens}
-use Rattle.tmpl_grammar.specs.Printable.{IsNamed, IsFieldName, AreFieldNames, IsFieldChain, OfOperand, OfMore, OfCommand, OfLater, OfCommands}
+use Rattle.tmpl_grammar.specs.Printable.{IsNamed, IsFieldName, AreFieldNames, OfOperand, OfMore, OfCommand, OfLater, OfCommands}
 use Rattle.tmpl_grammar.specs.Printable.{OfPipeline, OfBinding, OfGiven, OfAction}
 use Rattle.tmpl_grammar.specs.declared.tree.Control.{Control}
 use Rattle.tmpl_grammar.specs.declared.tree.Control.TheVariants as control
@@ -70,10 +70,6 @@ chain-spells : (ns : List (List ℕ)) (rest : List ℕ) → AreFieldNames ns →
 chain-spells [] rest h stop = tt
 chain-spells (n ∷ ns) rest h stop = (field-stands n (bytes_of (chain_tokens ns) ++ rest) h.0 (chain-stops ns rest stop), chain-spells ns rest h.1 stop)
 
-fields-reads : (ns : List (List ℕ)) (rest : List ℕ) → IsFieldChain ns → EndsToken rest → Reads (chain_tokens ns) rest
-fields-reads [] rest h stop = absurd h
-fields-reads (n ∷ ns) rest h stop = record { spells = chain-spells (n ∷ ns) rest h stop; firm = solid refl refl }
-
 -- ---- operands of one token
 
 function-reads : (f : Func) (rest : List ℕ) → EndsToken rest → Reads (word (name_of f) ∷ []) rest
@@ -108,7 +104,8 @@ reads-append ts us rest r l = record { spells = spells-append ts us rest r.spell
 mutual
   operand-reads : (o : Operand) (rest : List ℕ) → OfOperand o → EndsToken rest → Reads (operand_tokens o) rest
   operand-reads tree.dot rest h stop = one (token kind.Dot (46 ∷ [])) rest (row.dot (stops-name rest stop)) (solid refl refl)
-  operand-reads (tree.fields names) rest h stop = fields-reads names rest h stop
+  operand-reads (tree.fields []) rest h stop = absurd h
+  operand-reads (tree.fields (n ∷ ns)) rest h stop = record { spells = chain-spells (n ∷ ns) rest h stop; firm = solid refl refl }
   operand-reads (tree.variable name names) rest h stop = record {
     spells = (variable-front name (bytes_of (chain_tokens names) ++ rest) h.0 (chain-stops names rest stop), chain-spells names rest h.1 stop);
     firm = solid refl refl;

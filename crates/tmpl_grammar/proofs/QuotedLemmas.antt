@@ -44,8 +44,7 @@ text-with p (Some ps) = refl
 
 pub unquoted-first : (quote : ℕ) (s bs : List ℕ) (p : Spelled) → 0 < length bs → part_at quote bs ≡ Some p → 0 < p.1 → p.1 ≤ length bs
     → led s (unquoted quote bs) ≡ led (s ++ bytes_in p.0) (unquoted quote (drop p.1 bs))
-unquoted-first quote s bs p h is low high =
-    simp (parts-first quote bs p h is low high, text-with, led-led)
+unquoted-first quote s bs p h is low high = simp (parts-first quote bs p h is low high, text-with, led-led)
 
 pub unquoted-none : (quote : ℕ) (s bs : List ℕ) → 0 < length bs → part_at quote bs ≡ None → led s (unquoted quote bs) ≡ None
 unquoted-none quote s bs h is = simp (parts-none quote bs h is)

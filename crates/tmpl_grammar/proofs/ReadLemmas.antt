@@ -1,5 +1,5 @@
 -- For `one_reading`: what is read is what the grammar spells, by induction on the tokens.
-use Rattle.std.proofs.Common.{◌≡◌, ◌∙◌, ℕ, true, false, Bool, List, [], ◌∷◌, ◌++◌, Option, Some, None, IfSome, refl, ap, sym, subst, append_assoc}
+use Rattle.std.proofs.Common.{◌≡◌, ◌∙◌, ℕ, true, false, Bool, List, [], ◌∷◌, ◌++◌, Option, Some, None, IfSome, refl, ap, sym, append_assoc}
 use Rattle.std.proofs.lemmas.List.{append-nil}
 use Rattle.std.specs.Option.{option_map, option_and_then}
 use Rattle.std.proofs.lemmas.Option.{IfSome_then}
@@ -190,7 +190,7 @@ module _ (t : Token) (ls : List Partial) (cs : List Operands) (os : List Operand
   space-read None is r = within ls cs cs os os None None (t ∷ []) (λ us f. begins-spaced t is cs os us f) ts r
   space-read (Some o) is r =
       within ls cs cs os (os ++ o ∷ []) (Some o) None (t ∷ [])
-      (λ us r. subst (λ xs. Begins cs (os ++ o ∷ []) (xs ++ t ∷ [])) (sym r.2) (begins-operand t is cs os o r.0 r.1 r.3 r.4 r.5)) ts r
+      (λ us r. rw r.2 (begins-operand t is cs os o r.0 r.1 r.3 r.4 r.5)) ts r
 
   bar-read : (last : Option Operand) → t.kind ≡ kind.Pipe → (done : Option (List Operands)) → IfSome done (Completes cs os last)
       → HasRead ls cs os last ts → Read (option_map (parser.barred (parser_at ls cs os last)) done) (ts ++ t ∷ [])

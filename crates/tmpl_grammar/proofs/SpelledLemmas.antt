@@ -84,8 +84,7 @@ link-step : (f : List (List ℕ) → Operand) → Chains f
     → (ls : List Partial) (cs : List Operands) (os : List Operand) (ns : List (List ℕ)) (t : Token) → t.kind ≡ kind.Field
     → begins_name (name_in t) ≡ true
     → step t (parser_at ls cs os (Some (f ns))) ≡ Some (parser_at ls cs os (Some (f (ns ++ name_in t ∷ []))))
-link-step f can ls cs os ns t is begins =
-    simp (step-at kind.Field t (parser_at ls cs os (Some (f ns))) is, begins, can ns (name_in t))
+link-step f can ls cs os ns t is begins = simp (step-at kind.Field t (parser_at ls cs os (Some (f ns))) is, begins, can ns (name_in t))
 
 chain-steps : (f : List (List ℕ) → Operand) → Chains f
     → (ls : List Partial) (cs : List Operands) (os : List Operand) (names ns : List (List ℕ)) (ts : List Token) → IsChain names ts
@@ -96,8 +95,7 @@ chain-steps f can ls cs os (n ∷ names) ns ts (t, us, is, field, begins, name, 
 
 one-steps : (o : Operand) (ls : List Partial) (cs : List Operands) (os : List Operand) (ts : List Token) → IsChained o [] ts
     → may_stand cs os o ≡ true → steps (Some (parser_at ls cs os None)) ts ≡ Some (parser_at ls cs os (Some o))
-one-steps o ls cs os ts (t, us, is, at, rest) may =
-    simp (is, rest, placed-step t o ls cs os at may)
+one-steps o ls cs os ts (t, us, is, at, rest) may = simp (is, rest, placed-step t o ls cs os at may)
 
 chained-steps : (f : List (List ℕ) → Operand) → Chains f
     → (ns names : List (List ℕ)) (ls : List Partial) (cs : List Operands) (os : List Operand) (ts : List Token) → IsChained (f ns) names ts
@@ -156,13 +154,11 @@ blank-ended ls cs os o (t ∷ ts) b =
 
 bar-step : (h : Parser) (ls : List Partial) (cs : List Operands) (t : Token) → t.kind ≡ kind.Pipe → h.outer ≡ ls → closed h ≡ Some cs
     → step t h ≡ Some (parser_at ls cs [] None)
-bar-step h ls cs t is outer whole =
-    simp (step-at kind.Pipe t h is, whole, outer)
+bar-step h ls cs t is outer whole = simp (step-at kind.Pipe t h is, whole, outer)
 
 close-step : (h : Parser) (l : Partial) (ls : List Partial) (cs : List Operands) (t : Token) → t.kind ≡ kind.RightParenthesis
     → h.outer ≡ l ∷ ls → closed h ≡ Some cs → step t h ≡ Some (parser_at ls l.commands l.operands (Some (tree.group (commands_from cs) [])))
-close-step h l ls cs t is outer whole =
-    simp (step-at kind.RightParenthesis t h is, whole, outer)
+close-step h l ls cs t is outer whole = simp (step-at kind.RightParenthesis t h is, whole, outer)
 
 mutual
   operand-read : (o : Operand) (ts : List Token) → SpellsOperand o ts → (ls : List Partial) (cs : List Operands) (os : List Operand)

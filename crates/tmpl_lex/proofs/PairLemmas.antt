@@ -55,8 +55,7 @@ split_pair-passed x y (a ∷ b ∷ bs) (suc k) within none =
 -- so it stands where it stands from there on
 pub split_from-passed : (x y : ℕ) (bs : List ℕ) (i k : ℕ) → k ≤ length (drop i bs) → Nowhere (Passes (is_byte x) (drop i bs)) 0 k
     → split_from x y i bs ≡ split_from x y (i + k) bs
-split_from-passed x y bs i k within none =
-    simp (split_pair-passed x y (drop i bs) k within none, behind-behind, take-add, drop-drop)
+split_from-passed x y bs i k within none = simp (split_pair-passed x y (drop i bs) k within none, behind-behind, take-add, drop-drop)
 
 -- where the pair does not stand at a place, it stands where it stands from the next place on
 split_from-suc : (x y : ℕ) (bs : List ℕ) (i : ℕ) → suc i < length bs → (get_or bs i 0 ≡ x → get_or bs (suc i) 0 ≡ y → ⊥)

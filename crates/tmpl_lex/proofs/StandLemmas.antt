@@ -21,7 +21,7 @@ use Rattle.tmpl_lex.specs.Piece.{Token}
 use Rattle.tmpl_lex.specs.Token as table
 use Rattle.tmpl_lex.specs.Token.{IsToken, IsQuoted, no_byte, a_byte, an_escape, IsSign, no_sign, plus, minus, EndsSpace, at_byte, at_marker}
 use Rattle.tmpl_lex.specs.computed.Quoted.{up_to, unless, through, quoted}
-use Rattle.tmpl_lex.specs.computed.Token.{Begun, marked, begun, token_from, number, signed, dotted, declare}
+use Rattle.tmpl_lex.specs.computed.Token.{Begun, marked, begun, token_from, signed, dotted}
 use Rattle.tmpl_lex.specs.computed.Token.{assigned, of_kind, space_run, unmarked, name_run}
 use Rattle.tmpl_lex.specs.computed.Trim.{End, ended_by, has_right_delimiter, has_dashed_delimiter, right_marked, right_delimiter}
 use Rattle.tmpl_lex.proofs.PartLemmas.{same-pair, run-length, run-taken, taken-run, taken-rest}
@@ -168,7 +168,7 @@ data IsUpTo (Form : List ℕ → Type 0) (q : ℕ) : List ℕ → List ℕ → T
 -- one byte more: it is the quote, or what was found behind it goes on
 up-to-is : (F G : List ℕ → Type 0) (q b : ℕ) (bs : List ℕ) (t : Bool) → (t ≡ true → (b ≡ q) × G []) → (t ≡ false → (ys : List ℕ) → F ys → G (b ∷ ys))
     → (o : Option (List ℕ)) → IfSome o (IsUpTo F q bs) → IfSome (up_to t b o) (IsUpTo G q (b ∷ bs))
-up-to-is F G q b bs true end step o at = let here = end refl in subst (λ (k : ℕ). IsUpTo G q (k ∷ bs) (k ∷ [])) (sym here.0) (at_quote [] bs here.1)
+up-to-is F G q b bs true end step o at = let here = end refl in rw here.0 (at_quote [] bs here.1)
 up-to-is F G q b bs false end step None at = tt
 up-to-is F G q b _ false end step (Some _) (at_quote inside rest form) = at_quote (b ∷ inside) rest (step refl inside form)
 
@@ -180,7 +180,7 @@ Behind q true (b ∷ bs) = (nat_eq b 10 ≡ false) × IsQuoted q bs
 
 escape-behind : (q b : ℕ) (bs : List ℕ) → b ≡ 92 → Behind q true bs → IsQuoted q (b ∷ bs)
 escape-behind q b [] e h = absurd h
-escape-behind q b (c ∷ bs) e h = subst (λ (k : ℕ). IsQuoted q (k ∷ c ∷ bs)) (sym e) (an_escape h.0 h.1)
+escape-behind q b (c ∷ bs) e h = rw e (an_escape h.0 h.1)
 
 quoted-is : (q : ℕ) (e : Bool) (bs : List ℕ) → IfSome (quoted q e bs) (IsUpTo (Behind q e) q bs)
 quoted-is q e [] = tt
@@ -279,17 +279,19 @@ record StandsAt (b : ℕ) (bs : List ℕ) (p : Begun) : Type 0 where
   stands : IsToken p.0 (b ∷ p.1) rest
   is : bs ≡ p.1 ++ rest
 
+-- either of two, by a test
+by-test : (t : Bool) (b : ℕ) (bs : List ℕ) (o p : Option Begun) → (t ≡ true → IfSome o (StandsAt b bs))
+    → (t ≡ false → IfSome p (StandsAt b bs)) → IfSome (if t then o else p) (StandsAt b bs)
+by-test true b bs o p this that = this refl
+by-test false b bs o p this that = that refl
+
 number-stands : (c : ℕ) → IsSign (c ∷ []) → (bs : List ℕ) → IfSome (signed bs) (StandsAt c bs)
 number-stands c s [] = tt
-number-stands c s (d ∷ bs) = go (is_ascii_digit d) refl
-  where
-    go : (t : Bool) → is_ascii_digit d ≡ t → IfSome (number t d bs) (StandsAt c (d ∷ bs))
-    go true h = record {
-      rest = drop (prefix_len is_number_byte bs) bs;
-      stands = table.number d s h (taken-run is_number_byte bs);
-      is = ap (λ l. d ∷ l) (sym (taken-rest is_number_byte bs));
-    }
-    go false h = tt
+number-stands c s (d ∷ bs) = by-test (is_ascii_digit d) c (d ∷ bs) _ None (λ h. record {
+  rest = drop (prefix_len is_number_byte bs) bs;
+  stands = table.number d s h (taken-run is_number_byte bs);
+  is = ap (λ l. d ∷ l) (sym (taken-rest is_number_byte bs));
+}) (λ h. tt)
 
 dotted-stands : (name rest bs : List ℕ) → IsRun is_name_byte name rest → bs ≡ name ++ rest → StandsAt 46 bs (dotted name)
 dotted-stands [] rest bs run is = record { rest = rest; stands = table.dot run.longest; is = is }
@@ -303,11 +305,8 @@ quote-stands k q Form row _ (Some _) (at_quote inside rest form) =
 
 declare-stands : (bs : List ℕ) → IfSome (assigned bs) (StandsAt 58 bs)
 declare-stands [] = tt
-declare-stands (c ∷ bs) = go (nat_eq c 61) refl
-  where
-    go : (t : Bool) → nat_eq c 61 ≡ t → IfSome (declare t) (StandsAt 58 (c ∷ bs))
-    go true h = record { rest = bs; stands = table.declare; is = ap (λ n. n ∷ bs) (eqb-true c 61 h) }
-    go false h = tt
+declare-stands (c ∷ bs) = by-test (nat_eq c 61) 58 (c ∷ bs) _ None
+    (λ h. record { rest = bs; stands = table.declare; is = ap (λ n. n ∷ bs) (eqb-true c 61 h) }) (λ h. tt)
 
 space-stands : (b : ℕ) (bs : List ℕ) → is_space b ≡ true → right_marked (b ∷ bs) ≡ false → StandsAt b bs (kind.Space, space_run bs)
 space-stands b bs h m =
@@ -321,17 +320,11 @@ run-stands k p b bs h = record { rest = drop (prefix_len p bs) bs; stands = h; i
 alone-stands : (k : TokenKind) (b : ℕ) (bs : List ℕ) → IsToken k (b ∷ []) bs → StandsAt b bs (k, [])
 alone-stands k b bs h = record { rest = bs; stands = h; is = refl }
 
--- either of two, by a test
-by-test : (t : Bool) (b : ℕ) (bs : List ℕ) (o p : Option Begun) → (t ≡ true → IfSome o (StandsAt b bs))
-    → (t ≡ false → IfSome p (StandsAt b bs)) → IfSome (if t then o else p) (StandsAt b bs)
-by-test true b bs o p this that = this refl
-by-test false b bs o p this that = that refl
-
--- .. by whether the first byte is this one
+-- either of two, by whether the first byte is this one
 by-byte : (b c : ℕ) (bs : List ℕ) (o p : Option Begun) → IfSome o (StandsAt c bs) → IfSome p (StandsAt b bs)
     → IfSome (if nat_eq b c then o else p) (StandsAt b bs)
 by-byte b c bs o p this that =
-    by-test (nat_eq b c) b bs o p (λ e. subst (λ (k : ℕ). IfSome o (StandsAt k bs)) (sym (eqb-true b c e)) this) (λ e. that)
+    by-test (nat_eq b c) b bs o p (λ e. rw (eqb-true b c e) this) (λ e. that)
 
 marked-stands : (b : ℕ) (bs : List ℕ) → IfSome (marked b bs) (StandsAt b bs)
 marked-stands b bs =
@@ -375,7 +368,7 @@ stands (b ∷ bs) t h = go (begun b bs) (begun-stands b bs (no-marker (has_right
         subst (BeginsWith (b ∷ bs)) same (record { rest = at.rest; stands = at.stands; is = ap (λ l. b ∷ l) at.is })
 
 pub found-at : (bs : List ℕ) (t : Token) → BeginsWith bs t → IsFound bs t
-found-at bs t h = subst (λ (xs : List ℕ). IsFound xs t) (sym h.is) (found h.stands)
+found-at bs t h = rw h.is (found h.stands)
 
 pub one : (bs : List ℕ) (t u : Token) → BeginsWith bs t → BeginsWith bs u → t ≡ u
 one bs t u h k = same_Some t u (sym (found-at bs t h).front ∙ (found-at bs u k).front)

@@ -29,15 +29,10 @@ space_run bs = take (space_len bs) bs
 abbrev pub Begun : Type 0
 Begun = TokenKind × List ℕ
 
--- a number whose first byte behind the sign is this one, if it is a digit
-abbrev pub number : Bool → ℕ → List ℕ → Option Begun
-number true b bs = Some (Number, b ∷ take_while is_number_byte bs)
-number false b bs = None
-
 -- behind a `+` or `-`: a digit, and the longest run of bytes of a number
 abbrev pub signed : List ℕ → Option Begun
 signed [] = None
-signed (b ∷ bs) = number (is_ascii_digit b) b bs
+signed (b ∷ bs) = if is_ascii_digit b then Some (Number, b ∷ take_while is_number_byte bs) else None
 
 -- the longest name at the front, perhaps empty
 abbrev pub name_run : List ℕ → List ℕ
@@ -48,15 +43,10 @@ abbrev pub dotted : List ℕ → Begun
 dotted [] = (Dot, [])
 dotted (b ∷ bs) = (Field, b ∷ bs)
 
--- `:=`, where the byte behind the colon is an equals sign
-abbrev pub declare : Bool → Option Begun
-declare true = Some (Declare, 61 ∷ [])
-declare false = None
-
--- behind a colon: an equals sign
+-- behind a colon: an equals sign, which makes `:=`
 abbrev pub assigned : List ℕ → Option Begun
 assigned [] = None
-assigned (b ∷ bs) = declare (b == 61)
+assigned (b ∷ bs) = if b == 61 then Some (Declare, 61 ∷ []) else None
 
 -- a token of this kind, where its closing quote was found
 abbrev pub of_kind : TokenKind → Option (List ℕ) → Option Begun
